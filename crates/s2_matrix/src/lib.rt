@@ -1,0 +1,2 @@
+//! The parity checks of a code.
+#![tactic(auto)]

@@ -1,0 +1,4 @@
+pub mod Counts
+pub mod Symbols
+pub mod Shape
+pub mod Mode
