@@ -1,0 +1,3 @@
+pub mod Cost
+pub mod Split
+pub mod Hard
