@@ -128,10 +128,10 @@ pub record AreRows (checks count : ℕ) (rows : List (List ℕ)) : Type 0 where
   pub long : length rows ≡ count
   pub each : (g : ℕ) → g < count → IsRow checks (get_or rows g [])
 
-no_rows : (checks count : ℕ) → count ≡ 0 → AreRows checks count []
+pub no_rows : (checks count : ℕ) → count ≡ 0 → AreRows checks count []
 no_rows checks count e = record { long = omega arith; each = λ g h. absurd (omega arith) }
 
-one_more_row : (checks count : ℕ) (row : List ℕ) (rows : List (List ℕ)) → 0 < count → IsRow checks row → AreRows checks (count - 1) rows → AreRows checks count (row ∷ rows)
+pub one_more_row : (checks count : ℕ) (row : List ℕ) (rows : List (List ℕ)) → 0 < count → IsRow checks row → AreRows checks (count - 1) rows → AreRows checks count (row ∷ rows)
 one_more_row checks count row rows some is are = record { long = omega (arith, are.long); each = each }
   where
     each : (g : ℕ) → g < count → IsRow checks (get_or (row ∷ rows) g [])
@@ -152,8 +152,9 @@ line_by_line checks (line ∷ lines) left n rows h =
     subst (AreRows checks left) all (one_more_row checks left row others (above_zero left some) (line_is_row checks n (words_of line) row over first) (line_by_line checks lines (left - 1) (n + 1) others rest)) in
     bool_cases (is_passed_over (words_of line)) on_over on_spoken
 
+pub are_rows : (shape : Shape) (rows : List (List ℕ)) → IsShape shape → AreRows (check_count shape) shape.groups rows → IsRows (rows_value shape rows)
+are_rows shape rows shaped are = record { shaped = shaped; long = are.long; each = λ g below. (are.each g below).are; some = λ g below. (are.each g below).some; short = λ g below. (are.each g below).short }
+
 -- an accepted text gives the rows of its shape
 pub is_rows : (text : List ℕ) (shape : Shape) (rows : List (List ℕ)) → IsShape shape → reading text shape ≡ Ok rows → IsRows (rows_value shape rows)
-is_rows text shape rows shaped h =
-    let are = line_by_line (check_count shape) (lines_of text) shape.groups 1 rows h in
-    record { shaped = shaped; long = are.long; each = λ g below. (are.each g below).are; some = λ g below. (are.each g below).some; short = λ g below. (are.each g below).short }
+is_rows text shape rows shaped h = are_rows shape rows shaped (line_by_line (check_count shape) (lines_of text) shape.groups 1 rows h)
