@@ -1,12 +1,12 @@
 -- The table of CRC-8: a byte that is added to a remainder, and then eight times x.
-use Rattle.std.proofs.Common.{◌≡◌, ◌≢◌, ℕ, zero, suc, ◌+◌, ◌-◌, ◌*◌, ◌/◌, ◌%◌, ◌<◌, ◌≤◌, Bool, true, false, List, [], ◌∷◌, ◌++◌, get_or, refl, sym, ap, subst, ◌∙◌, arith, inl, inr}
+use Rattle.std.proofs.Common.{◌≡◌, ℕ, zero, suc, ◌-◌, ◌*◌, ◌/◌, ◌%◌, ◌<◌, ◌≤◌, Bool, true, false, List, [], ◌∷◌, ◌++◌, get_or, refl, sym, ap, subst, ◌∙◌, arith, inl, inr}
 use Rattle.std.specs.Prelude.{◌==◌, ◌&&◌, not, nat_le, nat_lt, if◌then◌else◌, bit_xor}
-use Rattle.std.specs.Int.Bits.{xor_assoc, xor_self, xor_zero_l, xor_zero_r, xor_step}
+use Rattle.std.specs.Int.Bits.{xor_assoc, xor_self, xor_zero_r, xor_step}
 use Rattle.std.proofs.lemmas.Nat.{xor_comm, xor_lt}
-use Rattle.std.proofs.lemmas.Bool.{eqb-true, leb-true, cases_lt}
-use Rattle.std.proofs.lemmas.Bool.Decides.{leb_tells, eqb_tells}
-use Rattle.s2_bbframe.proofs.Finite.{passes_below, both, at_number}
-use Rattle.s2_bbframe.specs.Crc.{generator, times_x, next_bit, remainder, bits_of, next_byte, crc8}
+use Rattle.std.proofs.lemmas.Bool.{eqb-true, leb-true}
+use Rattle.std.proofs.lemmas.Bool.Decides.{leb_tells}
+use Rattle.s2_bbframe.proofs.Finite.{both, at_number}
+use Rattle.s2_bbframe.specs.Crc.{generator, times_x, next_bit, remainder, bits_of, next_byte}
 
 -- ---- a remainder times x
 

@@ -1,6 +1,6 @@
 -- CRC-8: the remainder by x^8 + x^7 + x^6 + x^4 + x^2 + 1 (EN 302 307-1, 5.1.4).
 -- A polynomial of degree below 8 is a byte, the coefficient of x^7 its highest bit.
-use Rattle.std.specs.Prelude.{ℕ, ◌+◌, ◌*◌, ◌/◌, ◌%◌, ◌==◌, nat_le, Bool, List, [], ◌∷◌, map, bit_xor, if◌then◌else◌}
+use Rattle.std.specs.Prelude.{ℕ, ◌*◌, ◌/◌, ◌%◌, ◌==◌, nat_le, Bool, List, [], ◌∷◌, map, bit_xor, if◌then◌else◌}
 use Rattle.std.specs.List.{flat_map}
 
 -- the nine coefficients, 1 1101 0101

@@ -1,5 +1,5 @@
 -- The BBHEADER's ten bytes: MATYPE (2), UPL (2), DFL (2), SYNC, SYNCD (2) and CRC-8 (EN 302 307-1, 5.1.6).
-use Rattle.std.specs.Prelude.{ℕ, ◌+◌, ◌-◌, ◌*◌, ◌/◌, ◌%◌, ◌==◌, ◌&&◌, ◌||◌, nat_le, nat_lt, Bool, not, List, [], ◌∷◌, ◌++◌, take, slice_index, Result, Ok, Err, if◌then◌else◌}
+use Rattle.std.specs.Prelude.{ℕ, ◌+◌, ◌-◌, ◌/◌, ◌%◌, ◌==◌, ◌&&◌, ◌||◌, nat_le, nat_lt, Bool, not, List, [], ◌∷◌, ◌++◌, take, slice_index, Result, Ok, Err, if◌then◌else◌}
 use Rattle.std.specs.Int.{w16, from_be_bytes, to_be_bytes}
 use Rattle.s2_mode.specs.Mode.{Mode, kbch_of}
 use Rattle.s2_bbframe.specs.Crc.{crc8}

@@ -1,6 +1,7 @@
 //! CRC-8, headers and fields by their worked values.
 use crate::{Header, HeaderFault, NO_PLACE, NoSync, Slicer, crc8};
 use s2_mode::Mode;
+use std::process::Abort;
 use std::test::Fail;
 
 #[test]
@@ -106,9 +107,12 @@ fn judges_forged_headers(rt: HostRuntime) -> Result<(), Fail> {
 fn slices_one_packet(rt: HostRuntime) -> Result<(), Fail> {
     let mode = Mode::of(1, false, false).ok_or("none")?;
     let mut slicer = Slicer::new(rt.alloc(), mode)?;
-    assert_eq!(rt; slicer.size(), 1991);
+    assert!(rt; slicer.size() == 1991 && !slicer.ready());
     let mut packet = [0; 188];
-    assert_eq!(rt; slicer.put(&packet), Err(NoSync));
+    let refused = slicer.put(&packet);
+    assert_eq!(rt; refused, Err(NoSync));
+    slicer.restart();
+    assert!(rt; slicer.size() == 1991 && !slicer.ready());
     packet[0] = 0x47;
     slicer.put(&packet)?;
     assert!(rt; !slicer.ready());
@@ -116,17 +120,52 @@ fn slices_one_packet(rt: HostRuntime) -> Result<(), Fail> {
     assert!(rt; slicer.ready());
     let mut field = [0xff; 1991];
     let header = slicer.take(0, &mut field);
-    assert_eq!(rt;
-        header,
-        Some(Header {
-            roll_off: 0,
-            second: 0,
-            dfl: 1512,
-            syncd: 0
-        })
-    );
+    let want = Header {
+        roll_off: 0,
+        second: 0,
+        dfl: 1512,
+        syncd: 0,
+    };
+    assert_eq!(rt; header, Some(want));
     assert_eq!(rt; &field[..189], [0; 189].as_slice());
     assert_eq!(rt; &field[189..191], [0xff; 2].as_slice());
+    assert!(rt; slicer.size() == 1991);
+    assert_eq!(rt; slicer.take(0, &mut field), None);
+    Ok(())
+}
+
+// Two packets in a full field and a last one, whatever was put before.
+fn slice_two_packets(rt: &impl Abort, slicer: &mut Slicer) -> Result<(), Fail> {
+    slicer.restart();
+    let mut packet = [1; 188];
+    packet[0] = 0x47;
+    let crc = crc8(&packet[1..]);
+    assert!(rt; slicer.size() == 374 && !slicer.ready());
+    slicer.put(&packet)?;
+    assert!(rt; slicer.size() == 374 && !slicer.ready());
+    slicer.put(&packet)?;
+    let mut field = [0; 374];
+    let mut bytes = [0; 10];
+    assert!(rt; slicer.size() == 374);
+    let header = slicer.take(0, &mut field).ok_or("none")?;
+    assert!(rt; header.roll_off <= 3);
+    header.write(&mut bytes);
+    assert_eq!(rt; bytes, [0xf0, 0, 0x05, 0xe0, 0x0b, 0xb0, 0x47, 0, 0, 0xab]);
+    assert_eq!(rt;
+        [field[0], field[1], field[187], field[188]],
+        [0, 1, 1, crc]
+    );
+    slicer.close();
+    assert!(rt; slicer.size() == 374);
+    let header = slicer.take(0, &mut field).ok_or("none")?;
+    assert!(rt; header.roll_off <= 3);
+    header.write(&mut bytes);
+    assert_eq!(rt;
+        bytes,
+        [0xf0, 0, 0x05, 0xe0, 0x00, 0x18, 0x47, 0, 0x10, 0xe8]
+    );
+    assert_eq!(rt; &field[..3], [1, 1, crc].as_slice());
+    assert!(rt; slicer.size() == 374);
     assert_eq!(rt; slicer.take(0, &mut field), None);
     Ok(())
 }
@@ -135,31 +174,6 @@ fn slices_one_packet(rt: HostRuntime) -> Result<(), Fail> {
 fn slices_two_packets_into_two_fields(rt: HostRuntime) -> Result<(), Fail> {
     let mode = Mode::of(1, true, false).ok_or("none")?;
     let mut slicer = Slicer::new(rt.alloc(), mode)?;
-    let mut packet = [1; 188];
-    packet[0] = 0x47;
-    let mut field = [0; 374];
-    for turn in 0..2u32 {
-        slicer.put(&packet)?;
-        assert_eq!(rt; slicer.take(2, &mut field), None);
-        slicer.put(&packet)?;
-        let mut bytes = [0; 10];
-        let header = slicer.take(0, &mut field).ok_or("none")?;
-        header.write(&mut bytes);
-        assert_eq!(rt; bytes, [0xf0, 0, 0x05, 0xe0, 0x0b, 0xb0, 0x47, 0, 0, 0xab]);
-        assert_eq!(rt;
-            [field[0], field[1], field[187], field[188]],
-            [0, 1, 1, crc8(&packet[1..])]
-        );
-        slicer.close();
-        let header = slicer.take(0, &mut field).ok_or("none")?;
-        header.write(&mut bytes);
-        assert_eq!(rt;
-            bytes,
-            [0xf0, 0, 0x05, 0xe0, 0x00, 0x18, 0x47, 0, 0x10, 0xe8]
-        );
-        assert_eq!(rt; &field[..3], [1, 1, crc8(&packet[1..])].as_slice());
-        assert_eq!(rt; slicer.take(0, &mut field), None, "at {turn}");
-        slicer.restart();
-    }
-    Ok(())
+    slice_two_packets(&rt, &mut slicer)?;
+    slice_two_packets(&rt, &mut slicer)
 }

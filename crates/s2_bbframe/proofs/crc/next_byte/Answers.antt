@@ -1,7 +1,6 @@
-use Rattle.std.proofs.Common.{◌≡◌, ◌<◌, ◌∙◌, ap, sym, refl, arith}
+use Rattle.std.proofs.Common.{◌≡◌, ◌<◌, ◌∙◌, ap, sym, arith}
 use Rattle.std.specs.Prelude.{bit_xor}
 use Rattle.std.proofs.lemmas.Nat.{xor_of_8}
-use Rattle.s2_bbframe.specs.Crc.{next_byte}
 use Rattle.s2_bbframe.proofs.Remainders.{times, table-times, next_byte-times}
 use Rattle.s2_bbframe.proofs.crc.next_byte.Goals as goal
 

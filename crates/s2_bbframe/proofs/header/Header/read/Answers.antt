@@ -1,4 +1,4 @@
-use Rattle.std.proofs.Common.{◌≡◌, ap, sym, ◌∙◌, subst, true, false, Ok}
+use Rattle.std.proofs.Common.{ap, sym, ◌∙◌, Ok}
 use Rattle.s2_bbframe.specs.Headers.{has_valid_lengths}
 use Rattle.s2_bbframe.proofs.Headers.{reading-bad_crc, reading-other, reading-bad_lengths, reading-accepted}
 use Rattle.s2_bbframe.proofs.header.Header.read.Goals as goal

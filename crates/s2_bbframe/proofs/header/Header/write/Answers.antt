@@ -1,5 +1,4 @@
 use Rattle.std.proofs.Common.{◌≡◌, rules, arith, sym, subst, Ok}
-use Rattle.std.proofs.lemmas.Grind.{common_steps}
 use Rattle.s2_bbframe.specs.Headers.{reading}
 use Rattle.s2_bbframe.proofs.Headers.{reading-header_bytes}
 use Rattle.s2_bbframe.proofs.header.Header.write.Goals as goal

@@ -1,6 +1,6 @@
-use Rattle.std.proofs.Common.{◌≡◌, ℕ, ◌+◌, true, false, List, [], ◌∷◌, ◌++◌, length, take, drop, ap, sym, ◌∙◌, append_assoc, rules, arith, subst}
+use Rattle.std.proofs.Common.{[], ◌∷◌, ◌++◌, sym, arith, subst}
 use Rattle.std.proofs.lemmas.Grind.{common_steps}
-use Rattle.s2_bbframe.specs.DataStream.{after_packet, gained, Sliced}
+use Rattle.s2_bbframe.specs.DataStream.{Sliced}
 use Rattle.s2_bbframe.proofs.Streams.{Sliced-packet}
 use Rattle.s2_bbframe.proofs.slicer.Slicer.put.Goals as goal
 use Rattle.s2_bbframe.proofs.slicer.Slicer.put.Goals.{then-not-self, else-not-self}
