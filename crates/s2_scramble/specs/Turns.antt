@@ -1,19 +1,13 @@
 -- Symbols turned by quarters (EN 302 307-1, 5.5.4), over numbers of 16 bits.
-use Rattle.std.specs.Prelude.{◌≡◌, ℕ, zero, suc, ◌+◌, ◌<◌, ◌≤◌, ℤ, pos, negsuc, neg_ℤ, ◌<ℤ◌, ◌≤ℤ◌, List, length, slice_index, slice_index_or}
+use Rattle.std.specs.Prelude.{◌≡◌, ℕ, zero, suc, ◌+◌, ◌<◌, ◌≤◌, ℤ, pos, negsuc, neg_ℤ, ◌<ℤ◌, ◌≤ℤ◌, List, length, slice_index}
 use Rattle.std.specs.Int.{int_min}
 use Rattle.s2_mode.specs.declared.symbols.Symbol.{Symbol}
+use Rattle.s2_mode.specs.Symbols.{symbol}
 use Rattle.s2_scramble.specs.Gold.{quarter_turns}
 
 -- the negative, and 32767 for -32768
 abbrev pub negative : ℤ → ℤ
 negative c = int_min (neg_ℤ c) (pos 32767)
-
-abbrev pub symbol : ℤ → ℤ → Symbol
-symbol i q = record { i = i; q = q }
-
--- the symbol at a place, and the origin past the end
-abbrev pub symbol_at : List Symbol → ℕ → Symbol
-symbol_at symbols k = slice_index_or symbols k (symbol (pos 0) (pos 0))
 
 -- by one quarter (-Q, I), by two (-I, -Q), by three (Q, -I)
 abbrev pub turned : ℕ → Symbol → Symbol
