@@ -9,4 +9,7 @@ pub mod ZeroShares
 pub mod FileLemmas
 pub mod Pages
 pub mod ShareBytes
+pub mod ByteBits
+pub mod ReadBack
+pub mod UnsplitSplits
 mod Examples

@@ -7,7 +7,8 @@ use Rattle.std.specs.Int.{w8, w16, w32, cast_signed, from_be_bytes}
 use Rattle.s2_mode.specs.Shape.{Shape, IsShape, shape_of, code_bits}
 use Rattle.s2_bits.specs.Bits.{bit_of_bytes}
 use Rattle.s2_matrix.specs.Total.{upto}
-use Rattle.s2_check.specs.declared.limits.TheConstants.{MOST_SOFT, MOST_SCALE, MOST_SHARES}
+use Rattle.s2_rows.specs.Values.{is_value}
+use Rattle.s2_check.specs.declared.limits.TheConstants.{MOST_SCALE, MOST_SHARES}
 use Rattle.s2_check.specs.declared.fault.CertFault.{CertFault}
 use Rattle.s2_check.specs.declared.fault.CertFault.TheVariants as faults
 use Rattle.s2_check.specs.declared.header.Header.{Header}
@@ -28,7 +29,7 @@ abbrev pub soft_of : ℕ → ℤ
 soft_of byte = cast_signed w8 byte
 
 abbrev pub is_soft : ℕ → Bool
-is_soft byte = not (int_lt (soft_of byte) (neg_ℤ (pos MOST_SOFT))) && not (int_lt (pos MOST_SOFT) (soft_of byte))
+is_soft byte = is_value (soft_of byte)
 
 -- share i of the bytes of the shares
 abbrev pub share_of : List ℕ → ℕ → ℤ

@@ -2,9 +2,10 @@
 use Rattle.std.specs.Prelude.{◌≡◌, ℕ, ◌≤◌, Bool, List, length, All, replicate, ℤ, pos, neg_ℤ, ◌≤ℤ◌, FitsSigned}
 use Rattle.std.specs.Int.{w32}
 use Rattle.s2_mode.specs.Shape.{Shape, IsShape, code_bits}
+use Rattle.s2_rows.specs.declared.limits.TheConstants.{MOST_SOFT}
 use Rattle.s2_rows.specs.Rows.{Rows}
 use Rattle.s2_matrix.specs.Code.{code_of, first_edge}
-use Rattle.s2_check.specs.declared.limits.TheConstants.{MOST_SOFT, MOST_SCALE, MOST_SHARES}
+use Rattle.s2_check.specs.declared.limits.TheConstants.{MOST_SCALE, MOST_SHARES}
 
 pub record View : Type 0 where
   pub shape : Shape

@@ -20,5 +20,8 @@ pub use certificate::Certificate;
 pub use checker::{Answer, Refusal, check};
 pub use fault::CertFault;
 pub use hard::{cost, hard_into, judge_unsplit};
-pub use limits::{MOST_SCALE, MOST_SHARES, MOST_SOFT};
+pub use limits::{MOST_SCALE, MOST_SHARES};
 pub use view::CertView;
+
+#[cfg(test)]
+mod tests;

@@ -4,6 +4,7 @@ ghost use Rattle.std.specs.Io.KnownBytes.{Appends};
 ghost use Rattle.s2_mode.specs.Counts.{CountsFault};
 ghost use Rattle.s2_mode.specs.Shape.{code_bits};
 ghost use Rattle.s2_check.specs.CertificateBytes.{bytes_of};
+ghost use Rattle.s2_check.specs.CertificateFiles.{reading};
 ghost use Rattle.s2_bits.specs.Bits.{bit_at};
 ghost use Rattle.s2_check.specs.Cost.{value_at};
 ghost use Rattle.s2_matrix.specs.Code.{code_of};
@@ -79,7 +80,7 @@ impl<'a> CertView<'a> {
     pub(crate) fn is_of_shape(&self, matrix: &Matrix) -> bool
         ensures { IsTrue result ↔ IsOfShape matrix.now self.now }
     {
-        self.shape == matrix.shape() && self.share_count() == matrix.edges()
+        matrix.shape() == self.shape && self.share_count() == matrix.edges()
     }
 
     /// The bound that the split shows.
@@ -157,6 +158,7 @@ impl<'a> CertView<'a> {
     pub fn write<W: CountedWrite>(&self, out: &mut W) -> Result<(), WriteFault>
         requires { W.count out.old < 2 ^ 64 - 1 }
         ensures bytes { OnOk result (Appends (W.contents out.old) (W.contents out.new) (bytes_of self.now)) }
+        ensures read_back { OnOk result (reading (bytes_of self.now) ≡ Ok self.now) }
         ensures cause { CountsFault (W.count out.old) (W.count out.new) result }
     {
         let mut page = ArrayVec::new();

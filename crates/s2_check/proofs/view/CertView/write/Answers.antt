@@ -1,10 +1,12 @@
-use Rattle.std.proofs.Common.{◌≡◌, ℕ, ◌++◌, List, length, map, ap, sym, subst, ◌∙◌}
+use Rattle.std.proofs.Common.{◌≡◌, ℕ, Ok, ◌++◌, List, length, map, ap, sym, subst, ◌∙◌}
 use Rattle.std.proofs.KnownBytes.{Appends-trans}
 use Rattle.std.specs.Io.KnownBytes.{Appends}
 use Rattle.s2_check.specs.Views.{View}
 use Rattle.s2_check.specs.Held.{shares_of}
 use Rattle.s2_check.specs.CertificateBytes.{header_bytes, soft_byte, word_bytes, share_bytes, bytes_of}
 use Rattle.s2_check.proofs.Pages.{all_out}
+use Rattle.s2_check.specs.CertificateFiles.{reading}
+use Rattle.s2_check.proofs.ReadBack.{read_back_lem}
 use Rattle.s2_check.proofs.view.CertView.write.Goals as goal
 
 pub returns-clause-bytes : goal.returns-clause-bytes
@@ -20,3 +22,7 @@ returns-clause-bytes g c =
     let Q : ℕ → Type 0 = λ n. Appends before after (header_bytes inside.shape inside.scale n ++ (map soft_byte inside.soft.now ++ (word_bytes inside.word.now ++ share_bytes (shares_of inside.shares)))) in
     let P : View → Type 0 = λ v. Appends before after (bytes_of v) in
     subst P c.self.view_is (subst Q count out)
+
+pub returns-clause-read_back : goal.returns-clause-read_back
+returns-clause-read_back g c =
+    let P : View → Type 0 = λ v. reading (bytes_of v) ≡ Ok v in subst P c.self.view_is (read_back_lem _ c.self.invariant)
