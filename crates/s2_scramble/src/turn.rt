@@ -1,31 +1,22 @@
 //! Quarter turns.
-ghost use Rattle.std.specs.Prelude.{◌≡◌, ℕ, ◌<◌, length, slice_index};
+ghost use Rattle.std.specs.Prelude.{◌≡◌, ℕ, ◌<◌, length, slice_index, if◌then◌else◌};
 ghost use Rattle.s2_mode.specs.Symbols.{symbol_at};
-ghost use Rattle.s2_scramble.specs.Turns.{turned, turned_back};
+ghost use Rattle.s2_scramble.specs.Turns.{negative, turned, turned_back};
 
 use s2_mode::Symbol;
 
-/// The symbol turned by so many quarters.
+/// The symbol turned by so many quarters: an odd number exchanges the components, and one of them
+/// or both change their sign. Nothing branches on the quarters, which follow no pattern.
 #[inline(always)]
 pub(crate) fn turned(quarters: u8, symbol: Symbol) -> Symbol
     requires { quarters < 4 }
     ensures { result ≡ turned quarters symbol }
 {
     let Symbol { i, q } = symbol;
-    match quarters {
-        0 => symbol,
-        1 => Symbol {
-            i: q.saturating_neg(),
-            q: i,
-        },
-        2 => Symbol {
-            i: i.saturating_neg(),
-            q: q.saturating_neg(),
-        },
-        _ => Symbol {
-            i: q,
-            q: i.saturating_neg(),
-        },
+    let odd = quarters % 2 == 1;
+    Symbol {
+        i: signed((quarters + 1) % 4 >= 2, chosen(odd, q, i)),
+        q: signed(quarters >= 2, chosen(odd, i, q)),
     }
 }
 
@@ -35,21 +26,26 @@ pub(crate) fn turned_back(quarters: u8, symbol: Symbol) -> Symbol
     requires { quarters < 4 }
     ensures { result ≡ turned_back quarters symbol }
 {
-    let Symbol { i, q } = symbol;
-    match quarters {
-        0 => symbol,
-        1 => Symbol {
-            i: q,
-            q: i.saturating_neg(),
-        },
-        2 => Symbol {
-            i: i.saturating_neg(),
-            q: q.saturating_neg(),
-        },
-        _ => Symbol {
-            i: q.saturating_neg(),
-            q: i,
-        },
+    turned((4 - quarters) % 4, symbol)
+}
+
+/// One of two components.
+#[inline(always)]
+fn chosen(first: bool, a: i16, b: i16) -> i16
+    ensures { result ≡ (if first then a else b) }
+{
+    if first { a } else { b }
+}
+
+/// A component, or its negative.
+#[inline(always)]
+fn signed(negate: bool, component: i16) -> i16
+    ensures { result ≡ (if negate then negative component else component) }
+{
+    if negate {
+        component.saturating_neg()
+    } else {
+        component
     }
 }
 
