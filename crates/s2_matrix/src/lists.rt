@@ -1,5 +1,6 @@
 //! The flat lists of a matrix.
-ghost use Rattle.std.specs.Prelude.{◌≡◌, ◌<◌, ◌≤◌, ◌^◌, IfOk, map, length};
+ghost use Rattle.std.specs.Prelude.{◌≡◌, ◌<◌, ◌≤◌, ◌^◌, IfOk, map, length, sum_by};
+ghost use Rattle.s2_rows.specs.Rows.{row_of};
 ghost use Rattle.s2_matrix.specs.Total.{upto};
 ghost use Rattle.s2_matrix.specs.Code.{code_of, members, checks_of, edges_at};
 ghost use Rattle.s2_matrix.specs.Joined.{joined};
@@ -36,16 +37,30 @@ pub(crate) fn copy_rows(alloc: Global, rows: &Rows) -> Result<Vec<ArrayVec<u32, 
     Ok(copy)
 }
 
-/// The members of the checks.
+/// How many addresses all rows have.
+fn address_count(rows: &Rows) -> usize
+    ensures is { result ≡ sum_by (λ g. length (row_of rows.now g)) (upto rows.now.shape.groups) }
+    ensures few { result ≤ 1555200 }
+{
+    let mut count = 0;
+    for g in 0..rows.shape().groups() {
+        count += rows.row(g).len();
+    }
+    count
+}
+
+/// The members of the checks. All storage is taken before the first edge is written.
 pub(crate) fn members(alloc: Global, rows: &Rows) -> Result<Table, AllocError>
     ensures are { IfOk result (λ t. t ≡ map (members (code_of rows.now)) (upto (code_of rows.now).checks)) }
     ensures few { IfOk result (λ t. length (joined t) ≤ 1555200) }
 {
-    let mut checks = Vec::new(alloc);
-    let mut bits = Vec::new(alloc);
+    let shape = rows.shape();
+    let count = shape.checks();
+    let edges = shape.group() * address_count(rows) + 2 * count;
+    let mut checks = Vec::with_capacity(alloc, edges)?;
+    let mut bits = Vec::with_capacity(alloc, edges)?;
     join_info(&mut checks, &mut bits, rows)?;
     join_parities(&mut checks, &mut bits, rows)?;
-    let count = rows.shape().checks();
     let by_check = share_out(alloc, &checks, &bits, count)?;
     Ok(by_check)
 }

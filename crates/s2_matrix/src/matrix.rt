@@ -1,4 +1,4 @@
-//! The matrix.
+//! The matrix and its reads.
 ghost use Rattle.std.specs.Prelude.{◌≡◌, ◌+◌, ◌<◌, ◌≤◌, ◌%◌, ◌↔◌, All, IsTrue, IfOk, MatchOption, length, slice_index, count_by};
 ghost use Rattle.s2_bits.specs.Bits.{bit_at};
 ghost use Rattle.s2_mode.specs.Shape.{IsShape, check_count};
@@ -14,7 +14,8 @@ use s2_rows::Rows;
 use std::alloc::{AllocError, Global};
 use std::marker::Model;
 
-/// The parity checks that accepted rows give, in flat lists.
+/// The parity checks that accepted rows give (EN 302 307-1, 5.3.2), in flat lists. To contracts it
+/// is the rows.
 #[derive(Drop)]
 pub struct Matrix {
     shape: Shape,
@@ -37,7 +38,7 @@ impl Model for Matrix {
 }
 
 impl Matrix {
-    /// The matrix of these rows.
+    /// The matrix of these rows. It fails only where memory is refused, and then holds none.
     pub fn build(alloc: Global, rows: &Rows) -> Result<Matrix, AllocError>
         ensures { IfOk result (λ m. m ≡ rows.now) }
     {
@@ -72,7 +73,7 @@ impl Matrix {
         self.rows[group].as_slice()
     }
 
-    /// How many bits.
+    /// n, how many bits a codeword has: at most 64800.
     pub fn bits(&self) -> usize
         ensures is { result ≡ (code_of self.now).bits }
         ensures few { result ≤ 64800 }
@@ -80,7 +81,7 @@ impl Matrix {
         self.edges.len()
     }
 
-    /// How many checks.
+    /// n - k, how many checks there are, and as many parity bits.
     pub fn check_count(&self) -> usize
         ensures is { result ≡ (code_of self.now).checks }
         ensures few { result ≤ 64800 }
@@ -88,7 +89,7 @@ impl Matrix {
         self.members.len()
     }
 
-    /// How many edges.
+    /// How many edges there are, the pairs of a check and a member.
     pub fn edges(&self) -> usize
         ensures is { result ≡ first_edge (code_of self.now) (code_of self.now).checks }
         ensures few { result ≤ 1555200 }
@@ -96,7 +97,7 @@ impl Matrix {
         self.members.all().len()
     }
 
-    /// How many edges the checks before this one have.
+    /// The number of the first edge of this check: how many edges the checks before it have.
     pub fn first_edge(&self, check: usize) -> usize
         requires { check ≤ (code_of self.now).checks }
         ensures { result ≡ first_edge (code_of self.now) check }
@@ -115,7 +116,7 @@ impl Matrix {
         self.members.row(check)
     }
 
-    /// The edges of a bit, its checks rising.
+    /// The numbers of the edges of a bit, in the order of its checks: at most 24.
     pub fn edges_at(&self, bit: usize) -> &[u32]
         requires { bit < (code_of self.now).bits }
         ensures are { result.now ≡ edges_at (code_of self.now) bit }
@@ -125,7 +126,7 @@ impl Matrix {
         self.edges.row(bit)
     }
 
-    /// The checks of a bit, rising.
+    /// The checks of a bit, rising: at most 24.
     pub fn checks_at(&self, bit: usize) -> &[u32]
         requires { bit < (code_of self.now).bits }
         ensures are { result.now ≡ checks_of (code_of self.now) bit }
@@ -135,7 +136,7 @@ impl Matrix {
         self.checks.row(bit)
     }
 
-    /// How many bits a check has.
+    /// How many members a check has.
     pub fn degree(&self, check: usize) -> usize
         requires { check < (code_of self.now).checks }
         ensures is { result ≡ length (members (code_of self.now) check) }
@@ -145,7 +146,7 @@ impl Matrix {
         self.members_at(check).len()
     }
 
-    /// One bit of a check.
+    /// The member of a check at a place, counted from 0.
     pub fn members(&self, check: usize, at: usize) -> usize
         requires check { check < (code_of self.now).checks }
         requires at { at < length (members (code_of self.now) check) }
@@ -164,7 +165,7 @@ impl Matrix {
         self.checks_at(bit).len()
     }
 
-    /// One check of a bit.
+    /// The check of a bit at a place, counted from 0.
     pub fn checks_of(&self, bit: usize, at: usize) -> usize
         requires bit { bit < (code_of self.now).bits }
         requires at { at < length (checks_of (code_of self.now) bit) }
@@ -174,7 +175,7 @@ impl Matrix {
         self.checks_at(bit)[at] as usize
     }
 
-    /// The first check with an odd number of ones.
+    /// The first check with an odd number of ones. `None` exactly for a codeword.
     pub fn odd_check(&self, word: &Bits) -> Option<usize>
         requires { length word.now ≡ (code_of self.now).bits }
         ensures { MatchOption result (IsCodeword (code_of self.now) word.now) (IsOddCheck (code_of self.now) word.now) }
@@ -188,7 +189,7 @@ impl Matrix {
         None
     }
 
-    /// Whether the word satisfies every check.
+    /// Whether the word satisfies every check, which is to say that it is a codeword.
     pub fn satisfied(&self, word: &Bits) -> bool
         requires { length word.now ≡ (code_of self.now).bits }
         ensures { IsTrue result ↔ IsCodeword (code_of self.now) word.now }

@@ -1,0 +1,103 @@
+//! A small code, check by check.
+use crate::{Matrix, laws};
+use s2_bits::Bits;
+use s2_mode::Shape;
+use s2_rows::read_rows;
+use std::process::Abort;
+use std::test::Fail;
+
+/// Group 4, two groups, q 3: bits 0 to 7 are information bits, bits 8 to 19 parity bits.
+const CHECKS: [&[u32]; 12] = [
+    &[0, 4, 8],
+    &[3, 4, 8, 9],
+    &[2, 4, 9, 10],
+    &[1, 5, 10, 11],
+    &[0, 5, 11, 12],
+    &[3, 5, 12, 13],
+    &[2, 6, 13, 14],
+    &[1, 6, 14, 15],
+    &[0, 6, 15, 16],
+    &[3, 7, 16, 17],
+    &[2, 7, 17, 18],
+    &[1, 7, 18, 19],
+];
+
+fn small<R: Abort + AllocGlobal>(rt: &R) -> Result<Matrix, Fail> {
+    let shape = Shape::new(4, 2, 3).expect(rt, "a shape");
+    let rows = read_rows(rt.alloc(), b"0 4 8\n0 1 2\n", shape)?;
+    Ok(Matrix::build(rt.alloc(), &rows)?)
+}
+
+#[test]
+fn builds_the_checks_of_a_small_code(rt: HostRuntime) -> Result<(), Fail> {
+    let matrix = small(&rt)?;
+    assert_eq!(rt;
+        [matrix.bits(), matrix.check_count(), matrix.edges()],
+        [20, 12, 47]
+    );
+    assert_eq!(rt; [matrix.shape().k(), matrix.shape().n()], [8, 20]);
+    let mut edge = 0usize;
+    for j in 0..matrix.check_count() {
+        let check = CHECKS.get(j).copied().unwrap_or(&[]);
+        assert_eq!(rt; matrix.members_at(j), check);
+        assert_eq!(rt; matrix.degree(j), check.len());
+        assert_eq!(rt; matrix.first_edge(j), edge);
+        edge = edge.wrapping_add(check.len());
+        for at in 0..matrix.degree(j) {
+            assert_eq!(rt; Some(matrix.members(j, at) as u32), check.get(at).copied());
+        }
+    }
+    Ok(())
+}
+
+#[test]
+fn gives_the_checks_and_edges_of_a_bit(rt: HostRuntime) -> Result<(), Fail> {
+    let matrix = small(&rt)?;
+    let cases: [(usize, &[u32], &[u32]); 3] = [
+        (0, &[0, 4, 8], &[0, 15, 31]),
+        (8, &[0, 1], &[2, 5]),
+        (19, &[11], &[46]),
+    ];
+    for (bit, checks, edges) in cases {
+        if bit < matrix.bits() {
+            assert_eq!(rt; matrix.checks_at(bit), checks);
+            assert_eq!(rt; matrix.edges_at(bit), edges);
+            assert_eq!(rt; matrix.bit_degree(bit), checks.len());
+            for at in 0..matrix.bit_degree(bit) {
+                assert_eq!(rt;
+                    Some(matrix.checks_of(bit, at) as u32),
+                    checks.get(at).copied()
+                );
+            }
+        }
+    }
+    let rows: [&[u32]; 2] = [&[0, 4, 8], &[0, 1, 2]];
+    for group in 0..matrix.shape().groups() {
+        assert_eq!(rt; Some(matrix.addresses(group)), rows.get(group).copied());
+    }
+    laws::members();
+    Ok(())
+}
+
+#[test]
+fn finds_the_first_odd_check(rt: HostRuntime) -> Result<(), Fail> {
+    let matrix = small(&rt)?;
+    // The codeword of bit 0 alone, and words that differ from it or from zero in one bit.
+    let cases: [([u8; 3], Option<usize>); 5] = [
+        ([0x80, 0xf0, 0xf0], None),
+        ([0x00, 0x00, 0x00], None),
+        ([0x80, 0x00, 0x00], Some(0)),
+        ([0x80, 0xf0, 0xe0], Some(11)),
+        ([0x00, 0x10, 0x00], Some(3)),
+    ];
+    assert_eq!(rt; matrix.bits(), 20);
+    for (bytes, odd) in cases {
+        if matrix.bits() > 24 {
+            continue;
+        }
+        let word = Bits::from_bytes(rt.alloc(), &bytes, matrix.bits())?;
+        assert_eq!(rt; matrix.odd_check(&word), odd);
+        assert_eq!(rt; matrix.satisfied(&word), odd.is_none());
+    }
+    Ok(())
+}
