@@ -16,3 +16,6 @@ pub mod laws;
 mod planes;
 
 pub use encode::encode_into;
+
+#[cfg(test)]
+mod tests;
