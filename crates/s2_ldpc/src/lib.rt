@@ -1,4 +1,14 @@
-//! Codewords of a code by parity checks: the encoder.
+//! Codewords of a code by parity checks (EN 302 307-1, 5.3.2): the encoder.
+//!
+//! [`encode_into`] writes the codeword that begins with given information bits: its contract says
+//! that the word is a codeword of the matrix and begins with them, and [`laws::unique`] that no
+//! other does. It takes no memory.
+//!
+//! ```
+//! let mut word = Bits::zeroed(alloc, matrix.bits())?;
+//! encode_into(&matrix, &info, &mut word);
+//! assert!(matrix.satisfied(&word));
+//! ```
 #![tactic(auto)]
 
 mod encode;
@@ -6,3 +16,6 @@ pub mod laws;
 mod planes;
 
 pub use encode::encode_into;
+
+#[cfg(test)]
+mod tests;

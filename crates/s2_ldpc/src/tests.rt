@@ -1,0 +1,64 @@
+//! Codewords that were computed by hand or by another program.
+use crate::{encode_into, laws};
+use s2_bits::Bits;
+use s2_matrix::Matrix;
+use s2_mode::Shape;
+use s2_rows::read_rows;
+use std::process::Abort;
+use std::test::Fail;
+
+/// Bits from bytes, each byte's highest bit first.
+fn spell(bytes: &[u8], bits: &mut [bool]) {
+    for i in 0..bits.len() {
+        let byte = bytes.get(i / 8).copied().unwrap_or(0);
+        bits[i] = (byte >> (7 - i % 8)) % 2 == 1;
+    }
+}
+
+/// The codeword of these information bits, over a word of ones.
+fn encoded<R: Abort + AllocGlobal>(
+    rt: &R,
+    shape: Option<Shape>,
+    rows: &[u8],
+    info: &[u8],
+) -> Result<Bits, Fail> {
+    let shape = shape.expect(rt, "a shape");
+    let rows = read_rows(rt.alloc(), rows, shape)?;
+    let matrix = Matrix::build(rt.alloc(), &rows)?;
+    let mut bits = Bits::zeroed(rt.alloc(), matrix.shape().k())?;
+    spell(info, bits.truths_mut());
+    let mut word = Bits::zeroed(rt.alloc(), matrix.shape().n())?;
+    word.truths_mut().fill(true);
+    encode_into(&matrix, &bits, &mut word);
+    Ok(word)
+}
+
+#[test]
+fn encodes_bit_0_alone(rt: HostRuntime) -> Result<(), Fail> {
+    let word = encoded(&rt, Shape::new(4, 2, 3), b"0 4 8\n0 1 2\n", &[0x80])?;
+    assert_eq!(rt; word.len(), 20);
+    assert_eq!(rt;
+        [word.byte(0), word.byte(1), word.byte(2)],
+        [0x80, 0xf0, 0xf0]
+    );
+    let zero = encoded(&rt, Shape::new(4, 2, 3), b"0 4 8\n0 1 2\n", &[0])?;
+    assert_eq!(rt; zero.count_ones(), 0);
+    laws::unique();
+    Ok(())
+}
+
+#[test]
+fn encodes_random_bits_as_another_program_does(rt: HostRuntime) -> Result<(), Fail> {
+    let rows = b"10 9 11\n12 9 18 2\n10 14\n";
+    let word = encoded(&rt, Shape::new(5, 3, 4), rows, &[0x54, 0x46])?;
+    assert_eq!(rt; word.len(), 35);
+    let bytes = [
+        word.byte(0),
+        word.byte(1),
+        word.byte(2),
+        word.byte(3),
+        word.byte(4),
+    ];
+    assert_eq!(rt; bytes, [0x54, 0x46, 0xb1, 0x6c, 0x00]);
+    Ok(())
+}
