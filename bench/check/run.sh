@@ -16,5 +16,5 @@ cp "$here/main.rt" "$scratch/crates/check_bench/src/main.rt"
 cc -O3 -o "$scratch/check" "$here/check.c"
 git -C "$scratch" init -q
 "$scratch/check"
-(cd "$scratch/crates/check_bench" && ${RT:-rt} try)
+(cd "$scratch/crates/check_bench" && ${RT:-rt} run)
 "$scratch/check"
