@@ -1,4 +1,21 @@
-//! Hard decisions, their costs, and certificates that a word is most likely.
+//! Hard decisions, their costs, and certificates that a word is most likely: what a receiver's
+//! verdict rests on, between the soft values and the BCH code.
+//!
+//! A codeword is most likely if no codeword costs less, where a word's cost is the sum of the soft
+//! values over its ones. [`judge_unsplit`] is true exactly where the hard decision is a codeword,
+//! which then is most likely. Any other word needs a split of its soft values over the checks:
+//! [`check`] answers Yes exactly for a [`CertView`] whose split is accepted for its word, and the
+//! word is then most likely by weak duality ([`laws::weak_duality`]), whoever made the split.
+//! [`Certificate::read`] accepts exactly the files of the format, and what [`CertView::write`]
+//! writes is accepted as the same view. Only `read` takes memory.
+//!
+//! ```
+//! let certificate = Certificate::read(alloc, &bytes)?;
+//! match check(&matrix, &certificate.view()) {
+//!     Answer::Yes => println!(rt; "yes")?,
+//!     Answer::No(refusal) => println!(rt; "{refusal:?}")?,
+//! }
+//! ```
 #![tactic(auto)]
 
 mod certificate;
