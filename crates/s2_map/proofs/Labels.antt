@@ -1,5 +1,5 @@
 -- Payload symbols of QPSK and of 8PSK, each bit of a label named.
-use Rattle.std.proofs.Common.{◌≡◌, ℕ, ◌+◌, ◌*◌, ◌/◌, ◌%◌, ◌<◌, Bool, true, false, List, length, refl, ap, sym, ◌∙◌, arith}
+use Rattle.std.proofs.Common.{◌≡◌, ℕ, ◌+◌, ◌*◌, ◌/◌, ◌%◌, ◌<◌, Bool, true, false, List, refl, ap, ◌∙◌, arith}
 use Rattle.std.specs.Prelude.{◌==◌}
 use Rattle.s2_mode.specs.Symbols.{symbol_at}
 use Rattle.s2_mode.specs.Mode.{Mode, is_qpsk, n_of, width_of}

@@ -31,3 +31,30 @@ fn reads_columns_backwards_at_rate_3_5(rt: HostRuntime) -> Result<(), Fail> {
     assert_eq!(rt; places, [43200, 21600, 0, 43201]);
     Ok(())
 }
+
+#[test]
+fn points_by_label(rt: HostRuntime) -> Result<(), Fail> {
+    let qpsk = Mode::of(4, false, false).ok_or("no mode")?;
+    assert_eq!(rt; qpsk.width(), 2);
+    assert_eq!(rt; point(qpsk, 1), Symbol { i: 700, q: -700 });
+    let psk = Mode::of(14, false, false).ok_or("no mode")?;
+    assert_eq!(rt; psk.width(), 3);
+    assert_eq!(rt; point(psk, 1), Symbol { i: 990, q: 0 });
+    assert_eq!(rt; point(psk, 7), Symbol { i: 0, q: -990 });
+    Ok(())
+}
+
+#[test]
+fn maps_a_codeword(rt: HostRuntime) -> Result<(), Fail> {
+    let mode = Mode::of(12, true, false).ok_or("no mode")?;
+    let mut word = Bits::zeroed(rt.alloc(), mode.n())?;
+    assert_eq!(rt; word.len(), 16200);
+    word.set(5400, true);
+    assert_eq!(rt; word.len(), mode.n());
+    let mut payload = vec![in rt.alloc(); Symbol { i: 0, q: 0 }; 90 * mode.slots()]?;
+    map_into(mode, &word, &mut payload);
+    assert_eq!(rt; payload.len(), 5400);
+    assert_eq!(rt; payload[0], Symbol { i: -990, q: 0 });
+    assert_eq!(rt; payload[1], Symbol { i: 700, q: 700 });
+    Ok(())
+}

@@ -1,5 +1,5 @@
 -- Symbols after a header, block by block.
-use Rattle.std.proofs.Common.{◌≡◌, ℕ, ◌+◌, ◌-◌, ◌*◌, ◌/◌, ◌%◌, ◌<◌, ◌≤◌, Bool, true, false, List, ◌++◌, length, get_or, take, drop, inl, inr, refl, sym, ap, subst, ◌∙◌, arith, pos}
+use Rattle.std.proofs.Common.{◌≡◌, ℕ, ◌+◌, ◌-◌, ◌*◌, ◌/◌, ◌%◌, ◌<◌, ◌≤◌, Bool, true, false, List, ◌++◌, length, drop, inl, inr, refl, sym, ap, subst, ◌∙◌, arith, pos}
 use Rattle.std.proofs.lemmas.Bool.{cases_lt, lt-ltb, le-ltb}
 use Rattle.std.proofs.lemmas.List.{get_or-take, get_or-drop, get_or_append_left, get_or-append_right}
 use Rattle.s2_mode.specs.declared.symbols.Symbol.{Symbol}
@@ -10,7 +10,7 @@ use Rattle.s2_scramble.specs.Gold.{quarter_turns}
 use Rattle.s2_scramble.specs.Turns.{turned}
 use Rattle.s2_scramble.proofs.Pieces.{put_mid_below, put_mid_at}
 use Rattle.s2_plframe.specs.Header.{header_symbol}
-use Rattle.s2_plframe.specs.Frame.{pilot, spaced_symbol, slot_symbol, frame_symbol}
+use Rattle.s2_plframe.specs.Frame.{spaced_symbol, slot_symbol, frame_symbol}
 use Rattle.s2_plframe.specs.Slots.{with_pilots, block_symbol}
 use borrow.Rule.Slice.PartMut.{put_mid, mid_of}
 

@@ -1,5 +1,5 @@
 -- The header of a physical frame (EN 302 307-1, 5.5.2): 26 bits that mark the start of a frame, and 64 bits that code MODCOD and TYPE.
-use Rattle.std.specs.Prelude.{ℕ, zero, suc, ◌+◌, ◌-◌, ◌*◌, ◌/◌, ◌%◌, ◌^◌, ◌<◌, ◌==◌, ◌&&◌, Bool, false, List, [], ◌∷◌, pos, negsuc, slice_index, nat_lt, if◌then◌else◌}
+use Rattle.std.specs.Prelude.{ℕ, zero, suc, ◌+◌, ◌-◌, ◌*◌, ◌/◌, ◌%◌, ◌^◌, ◌==◌, ◌&&◌, Bool, false, List, [], ◌∷◌, pos, negsuc, slice_index, nat_lt, if◌then◌else◌}
 use Rattle.s2_mode.specs.declared.symbols.Symbol.{Symbol}
 use Rattle.s2_mode.specs.Symbols.{symbol}
 use Rattle.s2_mode.specs.Mode.{Mode}

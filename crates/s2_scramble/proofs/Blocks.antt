@@ -1,5 +1,5 @@
 -- Blocks of the baseband scrambler's sequence: the first one, how one becomes the next place by place, how one is added to bits, and what the bits are then.
-use Rattle.std.proofs.Common.{◌≡◌, ℕ, ◌+◌, ◌-◌, ◌<◌, ◌≤◌, ◌≢◌, Bool, true, false, List, [], ◌∷◌, length, set, refl, sym, ap, subst, ◌∙◌, arith, get_or, get_or-set_other, get_or-set_same, length-set}
+use Rattle.std.proofs.Common.{◌≡◌, ℕ, ◌+◌, ◌-◌, ◌<◌, ◌≤◌, ◌≢◌, Bool, false, List, [], ◌∷◌, length, set, refl, sym, ap, subst, ◌∙◌, arith, get_or, get_or-set_other, get_or-set_same, length-set}
 use Rattle.s2_bits.specs.Bits.{xor, bit_at, Rewritten}
 use Rattle.s2_bits.proofs.Steps.{by_order}
 use Rattle.s2_scramble.specs.Baseband.{initial_bits, baseband_bit, scrambling_bit, scrambled, HoldsBlock}

@@ -1,12 +1,10 @@
 -- The recurrences of x and y, as the code computes them.
-use Rattle.std.proofs.Common.{◌≡◌, ℕ, zero, suc, ◌+◌, ◌-◌, ◌*◌, ◌%◌, ◌<◌, ◌≤◌, Bool, true, false, not, eqb, List, [], ◌∷◌, replicate, length, get_or, set, refl, sym, ap, ◌∙◌, arith, lit<}
+use Rattle.std.proofs.Common.{◌≡◌, ℕ, zero, suc, ◌+◌, ◌-◌, ◌<◌, ◌≤◌, Bool, true, false, not, eqb, List, [], ◌∷◌, replicate, set, refl, sym, ap, ◌∙◌, arith, lit<}
 use Rattle.std.specs.Bool.{beq}
-use Rattle.std.proofs.Math.Nat.{mod-eq_of_lt}
 use Rattle.std.proofs.lemmas.Bool.{ne_eqb}
 use Rattle.std.proofs.lemmas.List.{get_or-replicate}
-use Rattle.s2_bits.specs.Bits.{xor, bit_at, number}
-use Rattle.s2_scramble.specs.Sequence.{sum_at, sequence_bit}
-use Rattle.s2_scramble.specs.Gold.{x, y, z, quarter_turns}
+use Rattle.s2_bits.specs.Bits.{xor, bit_at}
+use Rattle.s2_scramble.specs.Gold.{x, y}
 use Rattle.s2_scramble.proofs.Sequences.{first-sequence_bit, next-sequence_bit}
 use Rattle.s2_scramble.proofs.Squares.{xor-false, xor-code}
 use Rattle.s2_scramble.proofs.Filled.{Filled, Filled-set}

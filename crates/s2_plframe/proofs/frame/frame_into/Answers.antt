@@ -2,7 +2,6 @@ use Rattle.std.proofs.Common.{◌≡◌, ◌+◌, ◌*◌, ◌∙◌, ℕ, lengt
 use Rattle.std.proofs.lemmas.List.FromFn.{fill_by_all}
 use Rattle.s2_mode.specs.Symbols.{symbol, symbol_at}
 use Rattle.s2_mode.specs.Mode.{symbols_in, slots_of, pilot_blocks_of}
-use Rattle.s2_mode.proofs.Modes.{frame_sizes}
 use Rattle.s2_scramble.specs.Gold.{quarter_turns}
 use Rattle.s2_scramble.specs.Turns.{turned}
 use Rattle.s2_plframe.specs.Frame.{frame_symbol}

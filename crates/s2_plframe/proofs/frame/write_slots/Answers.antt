@@ -1,4 +1,4 @@
-use Rattle.std.proofs.Common.{◌≡◌, ◌+◌, ◌-◌, ◌*◌, ◌<◌, ◌≤◌, ℕ, ◌∙◌, ap, length, arith, length-take, length-drop}
+use Rattle.std.proofs.Common.{◌≡◌, ◌+◌, ◌-◌, ◌*◌, ◌≤◌, ◌∙◌, ap, length, arith, length-take, length-drop}
 use Rattle.s2_scramble.specs.Gold.{quarter_turns}
 use Rattle.s2_scramble.specs.Turns.{turned}
 use Rattle.s2_plframe.specs.Slots.{block_symbol}

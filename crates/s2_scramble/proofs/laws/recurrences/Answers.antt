@@ -1,4 +1,4 @@
-use Rattle.std.proofs.Common.{◌≡◌, ◌+◌, ℕ, ap, ◌∙◌, arith}
+use Rattle.std.proofs.Common.{◌≡◌, ◌+◌, ap, ◌∙◌, arith}
 use Rattle.s2_bits.specs.Bits.{xor}
 use Rattle.s2_scramble.specs.Baseband.{baseband_bit, scrambling_bit}
 use Rattle.s2_scramble.proofs.Squares.{once}
