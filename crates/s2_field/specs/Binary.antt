@@ -131,7 +131,7 @@ module _ (m low : ℕ) (positive : 0 < m) where
   top_power : 2 ^ (m - 1) * 2 ≡ 2 ^ m
   top_power = let e : suc (m - 1) ≡ m = omega arith in sym (pow-suc 2 (m - 1)) ∙ ap (λ x. 2 ^ x) e
 
-  times_x-small : (a : ℕ) → a < 2 ^ (m - 1) → times_x m low a ≡ a * 2
+  pub times_x-small : (a : ℕ) → a < 2 ^ (m - 1) → times_x m low a ≡ a * 2
   times_x-small a h =
       let t = top_power in
       let e : a * 2 < 2 ^ m = omega arith in
