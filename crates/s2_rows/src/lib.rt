@@ -1,4 +1,17 @@
-//! Row files and value files.
+//! Row files and value files: the address rows of an LDPC code (EN 302 307-1, 5.3.2) and the soft
+//! values of a codeword, as text.
+//!
+//! It stands on the shapes of `s2_mode`, and `s2_matrix` builds a code's checks of its `Rows`.
+//! `read_rows` and `read_values` answer exactly what the formats say of every text: what it holds,
+//! or its first fault in reading order. `make_rows` gives the rows that a shape, a weight and a seed
+//! determine, `write_rows` writes exactly their text, and `laws` says that it is read again as the
+//! same rows.
+//!
+//! ```text
+//! let shape = Shape::new(4, 2, 3).ok_or(..)?;
+//! let rows = read_rows(alloc, b"0 4 8\n0 1 2\n", shape)?;
+//! assert_eq!(rt; rows.row(1), [0, 1, 2].as_slice());
+//! ```
 #![tactic(auto)]
 
 pub mod laws;
