@@ -1,0 +1,36 @@
+-- The line of a fault on standard error.
+use Rattle.std.specs.Prelude.{ℕ, List, ◌++◌, codes, decimal}
+use Rattle.s2_rows.specs.declared.row_file.RowFault.{RowFault}
+use Rattle.s2_rows.specs.declared.row_file.RowFault.TheVariants as row_faults
+use Rattle.s2_rows.specs.declared.values.ValueFault.{ValueFault}
+use Rattle.s2_rows.specs.declared.values.ValueFault.TheVariants as value_faults
+use Rattle.s2_tool.specs.declared.fault.Fault.{Fault}
+use Rattle.s2_tool.specs.declared.fault.Fault.TheVariants as faults
+
+abbrev pub row_fault_text : RowFault → List ℕ
+row_fault_text (row_faults.NotNumber line) = codes "not a number in line " ++ decimal line
+row_fault_text row_faults.TooFewRows = codes "too few rows"
+row_fault_text row_faults.TooManyRows = codes "too many rows"
+row_fault_text (row_faults.AddressTooLarge line) = codes "address too large in line " ++ decimal line
+row_fault_text (row_faults.Repeated line) = codes "repeated address in line " ++ decimal line
+row_fault_text (row_faults.RowTooLong line) = codes "row too long in line " ++ decimal line
+row_fault_text row_faults.NoMemory = codes "no memory"
+
+abbrev pub value_fault_text : ValueFault → List ℕ
+value_fault_text (value_faults.NotNumber line) = codes "not a number in line " ++ decimal line
+value_fault_text (value_faults.OutOfRange line) = codes "out of range in line " ++ decimal line
+value_fault_text value_faults.TooFew = codes "too few"
+value_fault_text value_faults.TooMany = codes "too many"
+value_fault_text value_faults.NoMemory = codes "no memory"
+
+abbrev pub fault_text : Fault → List ℕ
+fault_text faults.Read = codes "cannot read"
+fault_text faults.Write = codes "cannot write"
+fault_text faults.TooLong = codes "file too long"
+fault_text faults.NoMemory = codes "no memory"
+fault_text faults.Weight = codes "no such weight"
+fault_text (faults.Rows fault) = codes "rows: " ++ row_fault_text fault
+fault_text (faults.Values fault) = codes "values: " ++ value_fault_text fault
+
+abbrev pub fault_line : Fault → List ℕ
+fault_line fault = codes "s2: " ++ fault_text fault ++ codes "\n"

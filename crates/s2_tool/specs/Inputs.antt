@@ -1,0 +1,45 @@
+-- What the files of a command say, or the fault that is told.
+use Rattle.std.specs.Prelude.{◌≡◌, ℕ, ℤ, nat_le, List, length, Result, Ok, Err, if◌then◌else◌}
+use Rattle.s2_mode.specs.Shape.{Shape, code_bits}
+use Rattle.s2_rows.specs.Rows.{Rows, rows_value}
+use Rattle.s2_rows.specs.MadeRows.{is_weight, made_rows}
+use Rattle.s2_rows.specs.RowFiles as row_files
+use Rattle.s2_rows.specs.Values as values
+use Rattle.s2_rows.specs.declared.row_file.RowFault.{RowFault}
+use Rattle.s2_rows.specs.declared.values.ValueFault.{ValueFault}
+use Rattle.s2_tool.specs.declared.files.TheConstants.{MOST_BYTES}
+use Rattle.s2_tool.specs.declared.fault.Fault.{Fault}
+use Rattle.s2_tool.specs.declared.fault.Fault.TheVariants as faults
+
+abbrev pub rows_said : Shape → Result (List (List ℕ)) RowFault → Result Rows Fault
+rows_said shape (Ok rows) = Ok (rows_value shape rows)
+rows_said shape (Err e) = Err (faults.Rows e)
+
+-- the bytes of a file, at most 16,777,216
+abbrev pub taken : List ℕ → Result (List ℕ) Fault
+taken bytes = if nat_le (length bytes) MOST_BYTES then Ok bytes else Err faults.TooLong
+
+-- the rows of a row file, at most 16,777,216 bytes
+abbrev pub rows_in : Shape → List ℕ → Result Rows Fault
+rows_in shape bytes = if nat_le (length bytes) MOST_BYTES then rows_said shape (row_files.reading bytes shape) else Err faults.TooLong
+
+-- the rows that a shape, a weight and a seed determine
+abbrev pub rows_made : Shape → ℕ → ℕ → Result (List (List ℕ)) Fault
+rows_made shape weight seed = if is_weight shape weight then Ok (made_rows shape weight seed) else Err faults.Weight
+
+abbrev pub values_said : Result (List ℤ) ValueFault → Result (List ℤ) Fault
+values_said (Ok vs) = Ok vs
+values_said (Err e) = Err (faults.Values e)
+
+-- the values of a value file, at most 16,777,216 bytes
+abbrev pub values_in : Shape → List ℕ → Result (List ℤ) Fault
+values_in shape bytes = if nat_le (length bytes) MOST_BYTES then values_said (values.reading bytes (code_bits shape)) else Err faults.TooLong
+
+-- the rows, then the values
+abbrev pub then_values : Result Rows Fault → Result (List ℤ) Fault → Result (Rows × List ℤ) Fault
+then_values (Err f) values = Err f
+then_values (Ok rows) (Err f) = Err f
+then_values (Ok rows) (Ok vs) = Ok (rows, vs)
+
+abbrev pub inputs : Shape → List ℕ → List ℕ → Result (Rows × List ℤ) Fault
+inputs shape rows soft = then_values (rows_in shape rows) (values_in shape soft)

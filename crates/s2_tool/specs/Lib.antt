@@ -1,0 +1,5 @@
+pub mod Faults
+pub mod Exits
+pub mod Lines
+pub mod Inputs
+pub mod Judging

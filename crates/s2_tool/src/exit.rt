@@ -1,0 +1,24 @@
+//! How a command ends.
+use std::process::ExitCode;
+
+/// How a command ends.
+#[derive(Clone, Copy, Debug, PartialEq, Eq)]
+pub enum Exit {
+    /// All went well.
+    Fine,
+    /// A usage fault, or a fault whose line is on standard error.
+    Fault,
+    /// The answer is no, or a word is not known to be most likely.
+    No,
+}
+
+impl Exit {
+    /// The code that the program answers: 0, 1 or 2.
+    pub fn code(self) -> ExitCode {
+        match self {
+            Exit::Fine => ExitCode::SUCCESS,
+            Exit::Fault => ExitCode::FAILURE,
+            Exit::No => ExitCode::from(2),
+        }
+    }
+}

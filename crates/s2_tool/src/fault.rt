@@ -1,0 +1,106 @@
+//! Faults, and their lines on standard error.
+ghost use Rattle.std.specs.Prelude.{◌≡◌, ◌≢◌, ◌-◌, ◌^◌, ◌<◌, OnOk};
+ghost use Rattle.std.specs.Io.KnownBytes.{Appends};
+ghost use Rattle.s2_mode.specs.Counts.{CountsFault};
+ghost use Rattle.s2_tool.specs.Exits.{exit_of, Complains};
+ghost use Rattle.s2_tool.specs.Faults.{row_fault_text, value_fault_text, fault_text, fault_line};
+
+use crate::exit::Exit;
+use crate::writing::{write_at_line, write_text};
+use s2_mode::{CountedWrite, WriteFault};
+use s2_rows::{RowFault, ValueFault};
+
+/// Why a command failed.
+#[derive(Clone, Copy, Debug, PartialEq, Eq)]
+pub enum Fault {
+    Read,
+    Write,
+    TooLong,
+    NoMemory,
+    Weight,
+    Rows(RowFault),
+    Values(ValueFault),
+}
+
+fn write_row_fault<W: CountedWrite>(out: &mut W, fault: RowFault) -> Result<(), WriteFault>
+    requires { W.count out.old < 2 ^ 64 - 1 }
+    ensures bytes { OnOk result (Appends (W.contents out.old) (W.contents out.new) (row_fault_text fault)) }
+    ensures cause { CountsFault (W.count out.old) (W.count out.new) result }
+{
+    match fault {
+        RowFault::NotNumber { line } => write_at_line(out, "not a number in line ", line),
+        RowFault::TooFewRows => write_text(out, "too few rows"),
+        RowFault::TooManyRows => write_text(out, "too many rows"),
+        RowFault::AddressTooLarge { line } => write_at_line(
+            out,
+            "address too large in line ",
+            line,
+        ),
+        RowFault::Repeated { line } => write_at_line(out, "repeated address in line ", line),
+        RowFault::RowTooLong { line } => write_at_line(out, "row too long in line ", line),
+        RowFault::NoMemory => write_text(out, "no memory"),
+    }
+}
+
+fn write_value_fault<W: CountedWrite>(out: &mut W, fault: ValueFault) -> Result<(), WriteFault>
+    requires { W.count out.old < 2 ^ 64 - 1 }
+    ensures bytes { OnOk result (Appends (W.contents out.old) (W.contents out.new) (value_fault_text fault)) }
+    ensures cause { CountsFault (W.count out.old) (W.count out.new) result }
+{
+    match fault {
+        ValueFault::NotNumber { line } => write_at_line(out, "not a number in line ", line),
+        ValueFault::OutOfRange { line } => write_at_line(out, "out of range in line ", line),
+        ValueFault::TooFew => write_text(out, "too few"),
+        ValueFault::TooMany => write_text(out, "too many"),
+        ValueFault::NoMemory => write_text(out, "no memory"),
+    }
+}
+
+fn write_fault_text<W: CountedWrite>(out: &mut W, fault: Fault) -> Result<(), WriteFault>
+    requires { W.count out.old < 2 ^ 64 - 1 }
+    ensures bytes { OnOk result (Appends (W.contents out.old) (W.contents out.new) (fault_text fault)) }
+    ensures cause { CountsFault (W.count out.old) (W.count out.new) result }
+{
+    match fault {
+        Fault::Read => write_text(out, "cannot read"),
+        Fault::Write => write_text(out, "cannot write"),
+        Fault::TooLong => write_text(out, "file too long"),
+        Fault::NoMemory => write_text(out, "no memory"),
+        Fault::Weight => write_text(out, "no such weight"),
+        Fault::Rows(fault) => {
+            write_text(out, "rows: ")?;
+            write_row_fault(out, fault)
+        }
+        Fault::Values(fault) => {
+            write_text(out, "values: ")?;
+            write_value_fault(out, fault)
+        }
+    }
+}
+
+/// Writes the line of a fault.
+pub fn write_fault<W: CountedWrite>(out: &mut W, fault: Fault) -> Result<(), WriteFault>
+    requires { W.count out.old < 2 ^ 64 - 1 }
+    ensures line { OnOk result (Appends (W.contents out.old) (W.contents out.new) (fault_line fault)) }
+    ensures cause { CountsFault (W.count out.old) (W.count out.new) result }
+{
+    write_text(out, "s2: ")?;
+    write_fault_text(out, fault)?;
+    write_text(out, "\n")
+}
+
+/// The exit of what ended so. A fault's line is written; where that fails, nothing is left to tell.
+pub fn conclude<E: CountedWrite>(ended: Result<Exit, Fault>, errors: &mut E) -> Exit
+    requires { E.count errors.old < 2 ^ 64 - 1 }
+    ensures exit { result ≡ exit_of ended }
+    ensures quiet { result ≢ Exit.Fault → E.count errors.new ≡ E.count errors.old }
+    ensures told { Complains ended (E.count errors.old) (E.count errors.new) (E.contents errors.old) (E.contents errors.new) }
+{
+    match ended {
+        Ok(exit) => exit,
+        Err(fault) => {
+            let _ = write_fault(errors, fault);
+            Exit::Fault
+        }
+    }
+}

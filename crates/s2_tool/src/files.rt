@@ -1,0 +1,71 @@
+//! Row files and value files.
+ghost use Rattle.std.specs.Prelude.{◌≡◌, ◌≢◌, ◌+◌, ◌-◌, ◌^◌, ◌<◌, ◌≤◌, Err, IfOk, IfSome, length};
+ghost use Rattle.s2_mode.specs.Shape.{code_bits};
+ghost use Rattle.s2_tool.specs.Exits.{Follows};
+ghost use Rattle.s2_tool.specs.Inputs.{taken, rows_in, values_in};
+
+use crate::fault::Fault;
+use s2_mode::{CountedRead, FileFault, Shape, read_all};
+use s2_rows::{RowFault, Rows, ValueFault, read_rows, read_values};
+use std::alloc::Global;
+
+/// The most bytes of a file that is read into memory.
+pub const MOST_BYTES: usize = 16_777_216;
+
+/// The bytes of a file.
+fn read_bytes<R: CountedRead>(alloc: Global, reader: &mut R) -> Result<Vec<u8>, Fault>
+    requires { R.count reader.old < 2 ^ 64 - 1 }
+    ensures bytes { IfSome (R.remaining reader.old) (λ xs. Follows (λ v. v.items) result (taken xs)) }
+    ensures read { result ≡ Err Fault.Read → R.count reader.new ≡ R.count reader.old + 1 }
+    ensures no_other { result ≢ Err Fault.Read → R.count reader.new ≡ R.count reader.old }
+    ensures write { result ≢ Err Fault.Write }
+{
+    match read_all(alloc, reader, MOST_BYTES) {
+        Ok(bytes) => Ok(bytes),
+        Err(FileFault::Read) => Err(Fault::Read),
+        Err(FileFault::TooLong) => Err(Fault::TooLong),
+        Err(FileFault::NoMemory) => Err(Fault::NoMemory),
+    }
+}
+
+/// The rows of a row file.
+pub fn read_row_file<R: CountedRead>(
+    alloc: Global,
+    reader: &mut R,
+    shape: Shape,
+) -> Result<Rows, Fault>
+    requires { R.count reader.old < 2 ^ 64 - 1 }
+    ensures rows { IfSome (R.remaining reader.old) (λ xs. Follows (λ r. r) result (rows_in shape xs)) }
+    ensures shape { IfOk result (λ r. r.shape ≡ shape) }
+    ensures read { result ≡ Err Fault.Read → R.count reader.new ≡ R.count reader.old + 1 }
+    ensures no_other { result ≢ Err Fault.Read → R.count reader.new ≡ R.count reader.old }
+    ensures write { result ≢ Err Fault.Write }
+{
+    let text = read_bytes(alloc, reader)?;
+    match read_rows(alloc, &text, shape) {
+        Ok(rows) => Ok(rows),
+        Err(RowFault::NoMemory) => Err(Fault::NoMemory),
+        Err(fault) => Err(Fault::Rows(fault)),
+    }
+}
+
+/// The values of a value file, as many as a codeword has bits.
+pub fn read_value_file<R: CountedRead>(
+    alloc: Global,
+    reader: &mut R,
+    shape: Shape,
+) -> Result<Vec<i16>, Fault>
+    requires { R.count reader.old < 2 ^ 64 - 1 }
+    ensures values { IfSome (R.remaining reader.old) (λ xs. Follows (λ v. v.items) result (values_in shape xs)) }
+    ensures long { IfOk result (λ v. length v.items ≡ code_bits shape) }
+    ensures read { result ≡ Err Fault.Read → R.count reader.new ≡ R.count reader.old + 1 }
+    ensures no_other { result ≢ Err Fault.Read → R.count reader.new ≡ R.count reader.old }
+    ensures write { result ≢ Err Fault.Write }
+{
+    let text = read_bytes(alloc, reader)?;
+    match read_values(alloc, &text, shape.n()) {
+        Ok(values) => Ok(values),
+        Err(ValueFault::NoMemory) => Err(Fault::NoMemory),
+        Err(fault) => Err(Fault::Values(fault)),
+    }
+}

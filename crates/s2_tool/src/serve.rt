@@ -1,0 +1,98 @@
+//! The commands on the files and streams that they name.
+ghost use Rattle.std.specs.Prelude.{◌≡◌, ◌≢◌, ◌-◌, ◌^◌, ◌<◌};
+
+use crate::exit::Exit;
+use crate::fault::{Fault, conclude};
+use crate::judge::{judge_command, self_command};
+use crate::rows::rows_command;
+use crate::words::{Request, ShapeWords};
+use crate::writing::write_text;
+use s2_mode::{CountedRead, CountedWrite, Counting, Shape, WriteFault};
+use std::fs;
+use std::rt::Files;
+
+/// Writes a fault line of two parts. Where that fails, nothing is left to tell.
+pub fn complain<E: CountedWrite>(errors: &mut E, text: &str, name: &str) -> Exit
+    requires { E.count errors.old < 2 ^ 64 - 1 }
+    ensures { result ≡ Exit.Fault }
+{
+    let _ = write_complaint(errors, text, name);
+    Exit::Fault
+}
+
+fn write_complaint<E: CountedWrite>(
+    errors: &mut E,
+    text: &str,
+    name: &str,
+) -> Result<(), WriteFault>
+    requires { E.count errors.old < 2 ^ 64 - 1 }
+{
+    write_text(errors, "s2: ")?;
+    write_text(errors, text)?;
+    write_text(errors, name)?;
+    write_text(errors, "\n")
+}
+
+/// The shape of three words.
+fn shape_of(words: ShapeWords) -> Option<Shape> {
+    Shape::new(
+        usize::from(words.group),
+        usize::from(words.groups),
+        usize::from(words.q),
+    )
+}
+
+/// Serves a request. Nothing is on the output before `out` is flushed.
+pub fn serve<R: Files + AllocGlobal, S: CountedRead, O: CountedWrite, E: CountedWrite>(
+    rt: &R,
+    request: Request<'_>,
+    input: &mut S,
+    out: &mut O,
+    errors: &mut E,
+) -> Exit
+    requires input { S.count input.old < 2 ^ 64 - 1 }
+    requires out { O.count out.old < 2 ^ 64 - 1 }
+    requires errors { E.count errors.old < 2 ^ 64 - 1 }
+    ensures { result ≢ Exit.Fault → E.count errors.new ≡ E.count errors.old }
+{
+    match request {
+        Request::Own => self_command(rt.alloc(), input, out, errors),
+        Request::Rows {
+            shape,
+            weight,
+            seed,
+        } => match shape_of(shape) {
+            Some(shape) => {
+                rows_command(rt.alloc(), shape, usize::from(weight), seed, out, errors)
+            }
+            None => complain(errors, "no such shape", ""),
+        },
+        Request::Judge { shape, rows, soft } => match shape_of(shape) {
+            Some(shape) => serve_judge(rt, shape, rows, soft, out, errors),
+            None => complain(errors, "no such shape", ""),
+        },
+    }
+}
+
+fn serve_judge<R: Files + AllocGlobal, O: CountedWrite, E: CountedWrite>(
+    rt: &R,
+    shape: Shape,
+    rows: &str,
+    soft: &str,
+    out: &mut O,
+    errors: &mut E,
+) -> Exit
+    requires out { O.count out.old < 2 ^ 64 - 1 }
+    requires errors { E.count errors.old < 2 ^ 64 - 1 }
+    ensures { result ≢ Exit.Fault → E.count errors.new ≡ E.count errors.old }
+{
+    let Ok(row_file) = fs::open(rt, rows) else {
+        return complain(errors, "cannot open ", rows);
+    };
+    let Ok(soft_file) = fs::open(rt, soft) else {
+        return complain(errors, "cannot open ", soft);
+    };
+    let mut rows = Counting::new(row_file);
+    let mut soft = Counting::new(soft_file);
+    judge_command(rt.alloc(), shape, &mut rows, &mut soft, out, errors)
+}

@@ -1,0 +1,158 @@
+//! The commands over memory, and the words of the command line.
+use crate::exit::Exit;
+use crate::judge::{TOY_ROWS, judge_command, self_command};
+use crate::rows::rows_command;
+use crate::words::{Request, ShapeWords, read_words};
+use s2_mode::{ByOne, Counting, Endless, FailAt, InMemory, Shape};
+use std::process::Abort;
+use std::test::Fail;
+
+fn shape<R: Abort>(rt: &R, group: usize, groups: usize, q: usize) -> Shape {
+    Shape::new(group, groups, q).expect(rt, "a shape")
+}
+
+fn judged<R: Abort + AllocGlobal>(rt: &R, rows: &[u8], soft: &[u8]) -> (Exit, Vec<u8>, Vec<u8>) {
+    let mut rows = InMemory::new(rows);
+    let mut soft = Counting::new(ByOne::new(soft));
+    let mut out = Counting::new(Vec::new(rt.alloc()));
+    let mut errors = Counting::new(Vec::new(rt.alloc()));
+    let toy = shape(rt, 4, 2, 3);
+    let exit = judge_command(rt.alloc(), toy, &mut rows, &mut soft, &mut out, &mut errors);
+    (exit, out.into_inner(), errors.into_inner())
+}
+
+#[test]
+fn judges_under_the_toy_rows(rt: HostRuntime) {
+    let cases: [(&[u8], Exit, &[u8], &[u8]); 9] = [
+        (b"-5 7 7 7 7 7 7 7 -5 -5 -5 -5 7 7 7 7 -5 -5 -5 -5", Exit::Fine, b"most-likely cost -45\n", b""),
+        (b"10 10 10 10 10 10 10 10 10 10 10 10 10 10 10 10 10 10 10 10", Exit::Fine, b"most-likely cost 0\n", b""),
+        (b"0 0 0 0 0 0 0 0 0 0 0 0 0 0 0 0 0 0 0 0", Exit::Fine, b"most-likely cost 0\n", b""),
+        (b"-4 10 10 10 10 10 10 10 10 10 10 10 10 10 10 10 10 10 10 10", Exit::No, b"broken cost -4 check 0\n", b""),
+        (b"0 0 0 0 0 0 0 0 0 0 0 0 0 0 0 0 0 0 0", Exit::Fault, b"", b"s2: values: too few\n"),
+        (b"0 0 0 0 0 0 0 0 0 0 0 0 0 0 0 0 0 0 0 0 0", Exit::Fault, b"", b"s2: values: too many\n"),
+        (b"0 0\n64 0 0 0 0 0 0 0 0 0 0 0 0 0 0 0 0 0 0", Exit::Fault, b"", b"s2: values: out of range in line 2\n"),
+        (b"x 0 0 0 0 0 0 0 0 0 0 0 0 0 0 0 0 0 0 0", Exit::Fault, b"", b"s2: values: not a number in line 1\n"),
+        (b"# all\n0 0 0 0 0 0 0 0 0 0\r\n0 0 0 0 0 0 0 0 0 0", Exit::Fine, b"most-likely cost 0\n", b""),
+    ];
+    for (soft, exit, out, errors) in cases {
+        let answer = judged(&rt, TOY_ROWS, soft);
+        assert_eq!(rt; answer.0, exit);
+        assert_eq!(rt; answer.1.as_slice(), out);
+        assert_eq!(rt; answer.2.as_slice(), errors);
+    }
+}
+
+#[test]
+fn names_the_fault_of_a_row_file(rt: HostRuntime) {
+    let cases: [(&[u8], &[u8]); 6] = [
+        (b"", b"s2: rows: too few rows\n"),
+        (b"0\n1\n2\n", b"s2: rows: too many rows\n"),
+        (b"0 4 12\n0 1 2\n", b"s2: rows: address too large in line 1\n"),
+        (b"0 4\n0 0\n", b"s2: rows: repeated address in line 2\n"),
+        (b"0 x\n", b"s2: rows: not a number in line 1\n"),
+        (b"0 1 2 3 4 5 6 7 8 9 10 11 0", b"s2: rows: repeated address in line 1\n"),
+    ];
+    for (rows, errors) in cases {
+        let answer = judged(&rt, rows, b"x");
+        assert_eq!(rt; answer.0, Exit::Fault);
+        assert_eq!(rt; answer.1.as_slice(), b"".as_slice());
+        assert_eq!(rt; answer.2.as_slice(), errors);
+    }
+}
+
+#[test]
+fn names_a_device_that_fails(rt: HostRuntime) {
+    let zeros = b"0 0 0 0 0 0 0 0 0 0 0 0 0 0 0 0 0 0 0 0";
+    let mut out = Counting::new(Vec::new(rt.alloc()));
+    let mut errors = Counting::new(Vec::new(rt.alloc()));
+    let mut broken = Counting::new(FailAt::new(ByOne::new(zeros), 3));
+    let exit = self_command(rt.alloc(), &mut broken, &mut out, &mut errors);
+    assert_eq!(rt; exit, Exit::Fault);
+    let mut endless = Counting::new(Endless::new(b"# x "));
+    let mut more = Counting::new(Vec::new(rt.alloc()));
+    assert_eq!(rt; self_command(rt.alloc(), &mut endless, &mut out, &mut more), Exit::Fault);
+    let mut soft = InMemory::new(zeros);
+    let mut full = Counting::new(FailAt::new(Vec::new(rt.alloc()), 0));
+    let mut last = Counting::new(Vec::new(rt.alloc()));
+    assert_eq!(rt; self_command(rt.alloc(), &mut soft, &mut full, &mut last), Exit::Fault);
+    assert_eq!(rt; out.into_inner().len(), 0);
+    assert_eq!(rt; errors.into_inner().as_slice(), b"s2: cannot read\n".as_slice());
+    assert_eq!(rt; more.into_inner().as_slice(), b"s2: file too long\n".as_slice());
+    assert_eq!(rt; last.into_inner().as_slice(), b"s2: cannot write\n".as_slice());
+}
+
+#[test]
+fn prints_made_rows(rt: HostRuntime) {
+    let cases: [(usize, Exit, &[u8], &[u8]); 2] = [
+        (1, Exit::Fine, b"0\n", b""),
+        (2, Exit::Fault, b"", b"s2: no such weight\n"),
+    ];
+    for (weight, exit, text, fault) in cases {
+        let mut out = Counting::new(Vec::new(rt.alloc()));
+        let mut errors = Counting::new(Vec::new(rt.alloc()));
+        let one = shape(&rt, 1, 1, 1);
+        let answer = rows_command(rt.alloc(), one, weight, 1, &mut out, &mut errors);
+        assert_eq!(rt; answer, exit);
+        assert_eq!(rt; out.into_inner().as_slice(), text);
+        assert_eq!(rt; errors.into_inner().as_slice(), fault);
+    }
+}
+
+fn words_of<R: AllocGlobal>(rt: &R, line: &str) -> Result<Vec<String>, Fail> {
+    let mut words = Vec::new(rt.alloc());
+    for word in line.split(' ') {
+        words.push(String::from_str(rt.alloc(), word)?)?;
+    }
+    Ok(words)
+}
+
+#[test]
+fn reads_the_words_of_a_command(rt: HostRuntime) -> Result<(), Fail> {
+    let toy = ShapeWords {
+        group: 4,
+        groups: 2,
+        q: 3,
+    };
+    let own = words_of(&rt, "s2")?;
+    assert_eq!(rt; read_words(rt.alloc(), &own).ok(), Some(Some(Request::Own)));
+    let judge = words_of(&rt, "s2 judge --group 4 --groups 2 --q 3 r s")?;
+    let wanted = Request::Judge {
+        shape: toy,
+        rows: "r",
+        soft: "s",
+    };
+    assert_eq!(rt; read_words(rt.alloc(), &judge).ok(), Some(Some(wanted)));
+    let rows = words_of(
+        &rt,
+        "s2 rows --group 4 --groups 2 --q 3 --weight 24 --seed 18446744073709551615",
+    )?;
+    let wanted = Request::Rows {
+        shape: toy,
+        weight: 24,
+        seed: 18446744073709551615,
+    };
+    assert_eq!(rt; read_words(rt.alloc(), &rows).ok(), Some(Some(wanted)));
+    Ok(())
+}
+
+#[test]
+fn refuses_other_words(rt: HostRuntime) -> Result<(), Fail> {
+    for (line, on_errors) in [
+        ("s2 --help", false),
+        ("s2 judge --help", false),
+        ("s2 demod", true),
+        ("s2 judge r s", true),
+        ("s2 judge --group 361 --groups 2 --q 3 r s", true),
+        ("s2 judge --group 4 --groups 0 --q 3 r s", true),
+        ("s2 judge --group 4 --groups 2 --q 64800 r s", true),
+        ("s2 judge --group 4 --groups 2 --q 3 r", true),
+        ("s2 rows --group 1 --groups 1 --q 1 --weight 25 --seed 1", true),
+        ("s2 rows --group 1 --groups 1 --q 1 --weight 0 --seed 1", true),
+        ("s2 rows --group 1 --groups 1 --q 1 --weight 1 --seed -1", true),
+    ] {
+        let words = words_of(&rt, line)?;
+        let refused = read_words(rt.alloc(), &words).err();
+        assert_eq!(rt; refused.map(|e| e.use_stderr()), Some(on_errors), "{line}");
+    }
+    Ok(())
+}
