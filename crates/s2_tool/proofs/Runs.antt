@@ -37,3 +37,11 @@ no_failed_rows ended a b w v h =
     let P : ℕ → Type 0 = λ x. Counts ended x b w v in
     let Q : ℕ → Type 0 = λ y. Counts ended (0 + a) y w v in
     subst P p (subst Q q h)
+
+-- the same rows by other names
+pub at_rows : (Says : Rows × List ℤ → Exit → List ℕ → Type 0) (known_soft : Option (List ℕ)) (ended : Result Exit Fault) (old new : Option (List ℕ)) (shape shape' : Shape) (xs xs' : List ℕ)
+    → shape ≡ shape' → xs ≡ xs' → IfSome known_soft (λ ys. Runs Says ended (inputs shape xs ys) old new) → IfSome known_soft (λ ys. Runs Says ended (inputs shape' xs' ys) old new)
+at_rows Says known_soft ended old new shape shape' xs xs' p q h =
+    let P : Shape → Type 0 = λ s. IfSome known_soft (λ ys. Runs Says ended (inputs s xs ys) old new) in
+    let Q : List ℕ → Type 0 = λ x. IfSome known_soft (λ ys. Runs Says ended (inputs shape' x ys) old new) in
+    subst Q q (subst P p h)
