@@ -4,6 +4,7 @@
 mod framer;
 mod outcome;
 mod sending;
+mod spelling;
 
 pub use framer::Framer;
 pub use outcome::{Counts, SendFault};
