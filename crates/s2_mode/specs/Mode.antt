@@ -39,10 +39,10 @@ abbrev pub is_qpsk : Mode → Bool
 is_qpsk m = nat_le m.modcod 11
 
 -- which line of the table
-abbrev pub rate_index : Mode → ℕ
+unfoldable pub rate_index : Mode → ℕ
 rate_index m = if is_qpsk m then m.modcod - 1 else slice_index psk_rates (m.modcod - 12)
 
-abbrev pub rate_of : Mode → Rate
+unfoldable pub rate_of : Mode → Rate
 rate_of m = get_or rates (rate_index m) (rate 0 0 0 0 0)
 
 -- MODCOD 1 to 17; 9/10, which is 11 and 17, has no short frames
@@ -52,42 +52,70 @@ pub record IsMode (m : Mode) : Type 0 where
   pub held : m.short ≡ true → (m.modcod ≢ 11) × (m.modcod ≢ 17)
 
 -- Kbch, the bits of a message
-abbrev pub kbch_of : Mode → ℕ
+unfoldable pub kbch_of : Mode → ℕ
 kbch_of m = if m.short then (rate_of m).short_kbch else (rate_of m).kbch
 
 -- k, which is Nbch too
-abbrev pub k_of : Mode → ℕ
+unfoldable pub k_of : Mode → ℕ
 k_of m = if m.short then (rate_of m).short_k else (rate_of m).k
 
 -- n
-abbrev pub n_of : Mode → ℕ
+unfoldable pub n_of : Mode → ℕ
 n_of m = if m.short then 16200 else 64800
 
 -- how many errors of a BCH word can be corrected
-abbrev pub t_of : Mode → ℕ
+unfoldable pub t_of : Mode → ℕ
 t_of m = if m.short then 12 else (rate_of m).t
 
-abbrev pub q_of : Mode → ℕ
+-- by how many checks each next bit of a group moves on
+unfoldable pub q_of : Mode → ℕ
 q_of m = (n_of m - k_of m) / 360
 
 -- how many bits a symbol carries
-abbrev pub width_of : Mode → ℕ
+unfoldable pub width_of : Mode → ℕ
 width_of m = if is_qpsk m then 2 else 3
 
 -- slots of 90 symbols
-abbrev pub slots_of : Mode → ℕ
+unfoldable pub slots_of : Mode → ℕ
 slots_of m = n_of m / width_of m / 90
 
 -- a pilot block after each 16 slots, but not at the frame's end
-abbrev pub pilot_blocks_of : Mode → ℕ
+unfoldable pub pilot_blocks_of : Mode → ℕ
 pilot_blocks_of m = if m.pilots then (slots_of m - 1) / 16 else 0
 
 -- the header's 90 symbols, the slots, and the pilot blocks of 36
-abbrev pub symbols_in : Mode → ℕ
+unfoldable pub symbols_in : Mode → ℕ
 symbols_in m = 90 + 90 * slots_of m + 36 * pilot_blocks_of m
 
+-- groups of 360 bits
 abbrev pub shape_in : Mode → Shape
 shape_in m = shape_of 360 (k_of m / 360) (q_of m)
 
 abbrev pub mode_of : ℕ → Bool → Bool → Mode
 mode_of modcod short pilots = record { modcod = modcod; short = short; pilots = pilots }
+
+-- how the sizes of a mode's two codes go together: each minimal polynomial of the BCH code has degree 16, in short frames
+-- 14; the LDPC code has groups of 360; a data field behind the header of 80 bits has whole bytes
+pub record HasCodeSizes (m : Mode) : Type 0 where
+  pub normal_code : m.short ≡ false → k_of m ≡ kbch_of m + 16 * t_of m
+  pub short_code : m.short ≡ true → k_of m ≡ kbch_of m + 14 * t_of m
+  pub groups : k_of m ≡ 360 * (k_of m / 360)
+  pub checks : n_of m ≡ k_of m + 360 * q_of m
+  pub groups_some : 1 ≤ k_of m / 360
+  pub q_some : 1 ≤ q_of m
+  pub t_least : 8 ≤ t_of m
+  pub t_most : t_of m ≤ 12
+  pub n_most : n_of m ≤ 64800
+  pub field : kbch_of m ≡ 80 + 8 * ((kbch_of m - 80) / 8)
+  pub field_least : 374 ≤ (kbch_of m - 80) / 8
+  pub field_most : (kbch_of m - 80) / 8 ≤ 7264
+
+-- how the sizes of a mode's frame go together
+pub record HasFrameSizes (m : Mode) : Type 0 where
+  pub payload : n_of m ≡ width_of m * (90 * slots_of m)
+  pub slots_least : 60 ≤ slots_of m
+  pub slots_most : slots_of m ≤ 360
+  pub blocks : m.pilots ≡ true → (16 * pilot_blocks_of m < slots_of m) × (slots_of m ≤ 16 * pilot_blocks_of m + 16)
+  pub no_blocks : m.pilots ≡ false → pilot_blocks_of m ≡ 0
+  pub symbols : symbols_in m ≡ 90 + 90 * slots_of m + 36 * pilot_blocks_of m
+  pub symbols_most : symbols_in m ≤ 33282

@@ -1,9 +1,9 @@
 //! Modes.
-ghost use Rattle.std.specs.Prelude.{◌≡◌, ◌↔◌, IsSome, IfSome, IsTrue};
-ghost use Rattle.s2_mode.specs.Shape.{IsShape};
-ghost use Rattle.s2_mode.specs.Mode.{mode_of, IsMode, is_qpsk, rate_index, kbch_of, k_of, n_of, t_of, q_of, rate_of, width_of, slots_of, pilot_blocks_of, symbols_in};
+ghost use Rattle.std.specs.Prelude.{◌≡◌, ◌<◌, ◌↔◌, IsSome, IfSome};
+ghost use Rattle.s2_mode.specs.Mode.{mode_of, IsMode, is_qpsk, rate_index, kbch_of, k_of, n_of, t_of, q_of, rate_of, width_of, slots_of, pilot_blocks_of, symbols_in, shape_in, HasCodeSizes, HasFrameSizes};
 
 use crate::rates::{RATES, Rate};
+use crate::shape::Shape;
 use std::marker::Model;
 
 /// A mode.
@@ -48,13 +48,17 @@ impl Mode {
 
     /// Whether symbols carry two bits (QPSK), and not three (8PSK).
     pub fn is_qpsk(&self) -> bool
-        ensures { result ≡ is_qpsk self.now }
+        ensures is { result ≡ is_qpsk self.now }
+        ensures valid { IsMode self.now }
     {
         self.modcod <= 11
     }
 
+    #[tactic(auto, unfolding(crate::specs::Mode::rate_index))]
     fn rate_index(&self) -> usize
-        ensures { result ≡ rate_index self.now }
+        ensures is { result ≡ rate_index self.now }
+        ensures within { result < 11 }
+        ensures valid { IsMode self.now }
     {
         const PSK: [usize; 6] = [4, 5, 6, 8, 9, 10];
         if self.is_qpsk() {
@@ -64,8 +68,10 @@ impl Mode {
         }
     }
 
+    #[tactic(auto, unfolding(crate::specs::Mode::rate_of))]
     fn rate(&self) -> Rate
-        ensures { result ≡ rate_of self.now }
+        ensures is { result ≡ rate_of self.now }
+        ensures valid { IsMode self.now }
     {
         RATES[self.rate_index()]
     }
@@ -80,21 +86,26 @@ impl Mode {
 
     /// Whether frames have 16200 bits, and not 64800.
     pub fn is_short(&self) -> bool
-        ensures { result ≡ self.now.short }
+        ensures is { result ≡ self.now.short }
+        ensures valid { IsMode self.now }
     {
         self.short
     }
 
     /// Whether frames have pilot blocks.
     pub fn has_pilots(&self) -> bool
-        ensures { result ≡ self.now.pilots }
+        ensures is { result ≡ self.now.pilots }
+        ensures valid { IsMode self.now }
     {
         self.pilots
     }
 
-    /// How many bits a message of the BCH code has.
+    /// Kbch, how many bits a message of the BCH code has.
+    #[tactic(auto, unfolding(crate::specs::Mode::kbch_of))]
     pub fn kbch(&self) -> usize
-        ensures { result ≡ kbch_of self.now }
+        ensures is { result ≡ kbch_of self.now }
+        ensures valid { IsMode self.now }
+        ensures sizes { HasCodeSizes self.now }
     {
         if self.short {
             self.rate().short_kbch
@@ -103,9 +114,12 @@ impl Mode {
         }
     }
 
-    /// How many information bits a codeword has, which is the length of a BCH word too.
+    /// k, how many information bits a codeword has, which is the length of a BCH word too.
+    #[tactic(auto, unfolding(crate::specs::Mode::k_of))]
     pub fn k(&self) -> usize
-        ensures { result ≡ k_of self.now }
+        ensures is { result ≡ k_of self.now }
+        ensures valid { IsMode self.now }
+        ensures sizes { HasCodeSizes self.now }
     {
         if self.short {
             self.rate().short_k
@@ -114,44 +128,72 @@ impl Mode {
         }
     }
 
-    /// How many bits a codeword has.
+    /// n, how many bits a codeword has.
+    #[tactic(auto, unfolding(crate::specs::Mode::n_of))]
     pub fn n(&self) -> usize
-        ensures { result ≡ n_of self.now }
+        ensures is { result ≡ n_of self.now }
+        ensures valid { IsMode self.now }
+        ensures sizes { HasCodeSizes self.now }
     {
         if self.short { 16200 } else { 64800 }
     }
 
-    /// How many wrong bits of a BCH word can be corrected.
+    /// t, how many wrong bits of a BCH word can be corrected.
+    #[tactic(auto, unfolding(crate::specs::Mode::t_of))]
     pub fn t(&self) -> usize
-        ensures { result ≡ t_of self.now }
+        ensures is { result ≡ t_of self.now }
+        ensures valid { IsMode self.now }
+        ensures sizes { HasCodeSizes self.now }
     {
         if self.short { 12 } else { self.rate().t }
     }
 
-    /// By how many checks each next bit of a group moves on.
+    /// q, by how many checks each next bit of a group moves on.
+    #[tactic(auto, unfolding(crate::specs::Mode::q_of))]
     pub fn q(&self) -> usize
-        ensures { result ≡ q_of self.now }
+        ensures is { result ≡ q_of self.now }
+        ensures valid { IsMode self.now }
+        ensures sizes { HasCodeSizes self.now }
     {
         (self.n() - self.k()) / 360
     }
 
+    /// The shape of the LDPC code: groups of 360 bits.
+    #[tactic(auto, using(crate::proofs::Modes::valid_shape))]
+    pub fn shape(&self) -> Shape
+        ensures is { result ≡ shape_in self.now }
+        ensures valid { IsMode self.now }
+        ensures sizes { HasCodeSizes self.now }
+    {
+        Shape::of(360, self.k() / 360, self.q())
+    }
+
     /// How many bits a symbol carries.
+    #[tactic(auto, unfolding(crate::specs::Mode::width_of))]
     pub fn width(&self) -> usize
-        ensures { result ≡ width_of self.now }
+        ensures is { result ≡ width_of self.now }
+        ensures valid { IsMode self.now }
+        ensures sizes { HasFrameSizes self.now }
     {
         if self.is_qpsk() { 2 } else { 3 }
     }
 
     /// How many slots of 90 symbols a frame has.
+    #[tactic(auto, using(crate::proofs::Modes::frame_sizes), unfolding(crate::specs::Mode::slots_of))]
     pub fn slots(&self) -> usize
-        ensures { result ≡ slots_of self.now }
+        ensures is { result ≡ slots_of self.now }
+        ensures valid { IsMode self.now }
+        ensures sizes { HasFrameSizes self.now }
     {
         self.n() / self.width() / 90
     }
 
     /// How many pilot blocks of 36 symbols a frame has.
+    #[tactic(auto, unfolding(crate::specs::Mode::pilot_blocks_of))]
     pub fn pilot_blocks(&self) -> usize
-        ensures { result ≡ pilot_blocks_of self.now }
+        ensures is { result ≡ pilot_blocks_of self.now }
+        ensures valid { IsMode self.now }
+        ensures sizes { HasFrameSizes self.now }
     {
         if self.pilots {
             (self.slots() - 1) / 16
@@ -162,7 +204,9 @@ impl Mode {
 
     /// How many symbols a frame has, header and pilots included.
     pub fn symbols(&self) -> usize
-        ensures { result ≡ symbols_in self.now }
+        ensures is { result ≡ symbols_in self.now }
+        ensures valid { IsMode self.now }
+        ensures sizes { HasFrameSizes self.now }
     {
         90 + 90 * self.slots() + 36 * self.pilot_blocks()
     }

@@ -51,6 +51,14 @@ impl Shape {
         Some(Shape { group, groups, q })
     }
 
+    /// The shape of numbers that are known to be one's.
+    pub(crate) fn of(group: usize, groups: usize, q: usize) -> Shape
+        requires { IsShape (shape_of group groups q) }
+        ensures { result ≡ shape_of group groups q }
+    {
+        Shape { group, groups, q }
+    }
+
     /// How many bits a group has.
     pub fn group(&self) -> usize
         ensures is { result ≡ self.now.group }
