@@ -1,5 +1,5 @@
 -- A code by its parity checks, and its codewords (EN 302 307-1, 5.3.2).
-use Rattle.std.specs.Prelude.{◌≡◌, ℕ, ◌+◌, ◌*◌, ◌/◌, ◌%◌, ◌<◌, Bool, ◌||◌, nat_lt, ◌==◌, if◌then◌else◌, List, [], length, get_or, count_by, filter, map, sum_by}
+use Rattle.std.specs.Prelude.{◌≡◌, ℕ, ◌+◌, ◌*◌, ◌/◌, ◌%◌, ◌<◌, Bool, ◌||◌, nat_lt, ◌==◌, if◌then◌else◌, List, length, count_by, filter, map, sum_by}
 use Rattle.std.specs.List.{list_any, position_or_len}
 use Rattle.s2_bits.specs.Bits.{bit_at}
 use Rattle.s2_mode.specs.Shape.{information_bits, check_count, code_bits}

@@ -1,0 +1,11 @@
+pub mod Totals
+pub mod Members
+pub mod Counts
+pub mod Cuts
+pub mod Joins
+pub mod Degrees
+pub mod Edging
+pub mod Flats
+pub mod FlatReads
+pub mod RelationLemmas
+mod Toy

@@ -1,0 +1,37 @@
+-- Edges as two lists, a check and a bit at each place, and the flat lists of a matrix.
+use Rattle.std.specs.Prelude.{◌≡◌, ℕ, ◌+◌, ◌*◌, ◌<◌, ◌≤◌, Bool, if◌then◌else◌, All, filter, List, [], ◌∷◌, ◌++◌, map, length, get_or, replicate}
+use Rattle.s2_matrix.specs.Total.{upto}
+use Rattle.s2_rows.specs.Rows.{Rows, IsRows}
+use Rattle.s2_matrix.specs.Code.{Code, code_of, members, checks_of, first_edge, edges_at}
+use Rattle.s2_matrix.specs.Share.{shared}
+use Rattle.s2_matrix.specs.Joined.{joined}
+
+-- the checks that the test names gain the bit, by at most so many new edges
+pub record Gains (count : ℕ) (cs bs cs' bs' : List ℕ) (test : ℕ → Bool) (bit most : ℕ) : Type 0 where
+  pub paired : length bs' ≡ length cs'
+  pub below : All (λ k. k < count) cs'
+  pub few : length cs' ≤ length cs + most
+  pub gained : (j : ℕ) → j < count → shared cs' bs' j ≡ shared cs bs j ++ (if test j then bit ∷ [] else [])
+
+-- the edges of the bits below n
+pub record AreEdges (code : Code) (n : ℕ) (cs bs : List ℕ) : Type 0 where
+  pub paired : length bs ≡ length cs
+  pub below : All (λ k. k < code.checks) cs
+  pub few : length cs ≤ 24 * n
+  pub are : (j : ℕ) → j < code.checks → shared cs bs j ≡ filter (code.has j) (upto n)
+
+-- the checks of all edges, in the order of the edges of the checks below n
+abbrev pub owners : List (List ℕ) → ℕ → List ℕ
+owners lists n = joined (map (λ j. replicate (length (get_or lists j [])) j) (upto n))
+
+-- what the flat lists of a matrix hold
+pub record IsMatrix (r : Rows) (by_check edges checks : List (List ℕ)) : Type 0 where
+  pub rows : IsRows r
+  pub few_edges : first_edge (code_of r) (code_of r).checks ≤ 1555200
+  pub by_check_is : by_check ≡ map (members (code_of r)) (upto (code_of r).checks)
+  pub edges_is : edges ≡ map (edges_at (code_of r)) (upto (code_of r).bits)
+  pub checks_is : checks ≡ map (checks_of (code_of r)) (upto (code_of r).bits)
+
+-- the members of the checks below n, check by check
+abbrev pub flat : Code → ℕ → List ℕ
+flat code n = joined (map (members code) (upto n))

@@ -1,0 +1,210 @@
+//! The matrix.
+ghost use Rattle.std.specs.Prelude.{◌≡◌, ◌+◌, ◌<◌, ◌≤◌, ◌%◌, ◌↔◌, All, IsTrue, IfOk, MatchOption, length, slice_index, count_by};
+ghost use Rattle.s2_bits.specs.Bits.{bit_at};
+ghost use Rattle.s2_mode.specs.Shape.{IsShape, check_count};
+ghost use Rattle.s2_rows.specs.Rows.{AreAddresses, row_of};
+ghost use Rattle.s2_matrix.specs.Code.{code_of, members, checks_of, edges_at, first_edge, ones_in, IsCodeword, IsOddCheck};
+
+use crate::lists;
+use crate::table::Table;
+use arrayvec::ArrayVec;
+use s2_bits::Bits;
+use s2_mode::Shape;
+use s2_rows::Rows;
+use std::alloc::{AllocError, Global};
+use std::marker::Model;
+
+/// The parity checks that accepted rows give, in flat lists.
+#[derive(Drop)]
+pub struct Matrix {
+    shape: Shape,
+    rows: Vec<ArrayVec<u32, 24>>,
+    members: Table,
+    edges: Table,
+    checks: Table,
+}
+
+impl Model for Matrix {
+    ghost use Rattle.std.specs.Prelude.{map};
+    ghost use Rattle.s2_rows.specs.Rows.{Rows as RowsValue};
+    ghost use Rattle.s2_matrix.specs.Edges.{IsMatrix};
+
+    ghost Value = { RowsValue };
+
+    ghost view = { λ m. record { shape = m.shape; rows = map (λ row. row.items) m.rows.items } };
+
+    ghost invariant = { λ m. IsMatrix (record { shape = m.shape; rows = map (λ row. row.items) m.rows.items }) m.members m.edges m.checks };
+}
+
+impl Matrix {
+    /// The matrix of these rows.
+    pub fn build(alloc: Global, rows: &Rows) -> Result<Matrix, AllocError>
+        ensures { IfOk result (λ m. m ≡ rows.now) }
+    {
+        let copy = lists::copy_rows(alloc, rows)?;
+        let members = lists::members(alloc, rows)?;
+        let edges = lists::edges(alloc, rows, &members)?;
+        let checks = lists::checks(alloc, rows, &members)?;
+        Ok(Matrix {
+            shape: rows.shape(),
+            rows: copy,
+            members,
+            edges,
+            checks,
+        })
+    }
+
+    /// The shape whose checks these are.
+    pub fn shape(&self) -> Shape
+        ensures is { result ≡ self.now.shape }
+        ensures valid { IsShape self.now.shape }
+    {
+        self.shape
+    }
+
+    /// The addresses of a group's first bit, in the order of the row file.
+    pub fn addresses(&self, group: usize) -> &[u32]
+        requires { group < self.now.shape.groups }
+        ensures are { result.now ≡ row_of self.now group }
+        ensures addresses { AreAddresses (check_count self.now.shape) result.now }
+        ensures short { length result.now ≤ 24 }
+    {
+        self.rows[group].as_slice()
+    }
+
+    /// How many bits.
+    pub fn bits(&self) -> usize
+        ensures is { result ≡ (code_of self.now).bits }
+        ensures few { result ≤ 64800 }
+    {
+        self.edges.len()
+    }
+
+    /// How many checks.
+    pub fn check_count(&self) -> usize
+        ensures is { result ≡ (code_of self.now).checks }
+        ensures few { result ≤ 64800 }
+    {
+        self.members.len()
+    }
+
+    /// How many edges.
+    pub fn edges(&self) -> usize
+        ensures is { result ≡ first_edge (code_of self.now) (code_of self.now).checks }
+        ensures few { result ≤ 1555200 }
+    {
+        self.members.all().len()
+    }
+
+    /// How many edges the checks before this one have.
+    pub fn first_edge(&self, check: usize) -> usize
+        requires { check ≤ (code_of self.now).checks }
+        ensures { result ≡ first_edge (code_of self.now) check }
+    {
+        self.members.first(check)
+    }
+
+    /// The bits of a check, rising.
+    pub fn members_at(&self, check: usize) -> &[u32]
+        requires { check < (code_of self.now).checks }
+        ensures are { result.now ≡ members (code_of self.now) check }
+        ensures below { All (λ i. i < (code_of self.now).bits) result.now }
+        ensures short { length result.now ≤ 64800 }
+        ensures within { first_edge (code_of self.now) check + length result.now ≤ first_edge (code_of self.now) (code_of self.now).checks }
+    {
+        self.members.row(check)
+    }
+
+    /// The edges of a bit, its checks rising.
+    pub fn edges_at(&self, bit: usize) -> &[u32]
+        requires { bit < (code_of self.now).bits }
+        ensures are { result.now ≡ edges_at (code_of self.now) bit }
+        ensures below { All (λ e. e < first_edge (code_of self.now) (code_of self.now).checks) result.now }
+        ensures few { length result.now ≤ 24 }
+    {
+        self.edges.row(bit)
+    }
+
+    /// The checks of a bit, rising.
+    pub fn checks_at(&self, bit: usize) -> &[u32]
+        requires { bit < (code_of self.now).bits }
+        ensures are { result.now ≡ checks_of (code_of self.now) bit }
+        ensures below { All (λ j. j < (code_of self.now).checks) result.now }
+        ensures few { length result.now ≤ 24 }
+    {
+        self.checks.row(bit)
+    }
+
+    /// How many bits a check has.
+    pub fn degree(&self, check: usize) -> usize
+        requires { check < (code_of self.now).checks }
+        ensures is { result ≡ length (members (code_of self.now) check) }
+        ensures short { result ≤ 64800 }
+        ensures within { first_edge (code_of self.now) check + result ≤ first_edge (code_of self.now) (code_of self.now).checks }
+    {
+        self.members_at(check).len()
+    }
+
+    /// One bit of a check.
+    pub fn members(&self, check: usize, at: usize) -> usize
+        requires check { check < (code_of self.now).checks }
+        requires at { at < length (members (code_of self.now) check) }
+        ensures is { result ≡ slice_index (members (code_of self.now) check) at }
+        ensures below { result < (code_of self.now).bits }
+    {
+        self.members_at(check)[at] as usize
+    }
+
+    /// How many checks a bit has.
+    pub fn bit_degree(&self, bit: usize) -> usize
+        requires { bit < (code_of self.now).bits }
+        ensures is { result ≡ length (checks_of (code_of self.now) bit) }
+        ensures few { result ≤ 24 }
+    {
+        self.checks_at(bit).len()
+    }
+
+    /// One check of a bit.
+    pub fn checks_of(&self, bit: usize, at: usize) -> usize
+        requires bit { bit < (code_of self.now).bits }
+        requires at { at < length (checks_of (code_of self.now) bit) }
+        ensures is { result ≡ slice_index (checks_of (code_of self.now) bit) at }
+        ensures below { result < (code_of self.now).checks }
+    {
+        self.checks_at(bit)[at] as usize
+    }
+
+    /// The first check with an odd number of ones.
+    pub fn odd_check(&self, word: &Bits) -> Option<usize>
+        requires { length word.now ≡ (code_of self.now).bits }
+        ensures { MatchOption result (IsCodeword (code_of self.now) word.now) (IsOddCheck (code_of self.now) word.now) }
+    {
+        let word = word.truths();
+        for check in 0..self.check_count() {
+            if ones_in(word, self.members_at(check)) % 2 == 1 {
+                return Some(check);
+            }
+        }
+        None
+    }
+
+    /// Whether the word satisfies every check.
+    pub fn satisfied(&self, word: &Bits) -> bool
+        requires { length word.now ≡ (code_of self.now).bits }
+        ensures { IsTrue result ↔ IsCodeword (code_of self.now) word.now }
+    {
+        self.odd_check(word).is_none()
+    }
+}
+
+/// How many of these places hold a one.
+fn ones_in(word: &[bool], places: &[u32]) -> usize
+    requires { All (λ i. i < length word.now) places.now }
+    ensures { result ≡ count_by (bit_at word.now) places.now }
+{
+    let mut ones = 0usize;
+    for place in places {
+        ones += usize::from(word[*place as usize]);
+    }
+    ones
+}
