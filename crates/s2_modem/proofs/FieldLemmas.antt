@@ -1,27 +1,29 @@
 -- Cuts of a stream that is put together from its fields.
-use Rattle.std.proofs.Common.{◌≡◌, ℕ, zero, suc, ◌+◌, ◌-◌, ◌*◌, ◌/◌, ◌<◌, ◌≤◌, List, [], ◌∷◌, ◌++◌, All, length, take, drop, refl, sym, ap, ◌∙◌, append_assoc, append-nil, length-append, add_assoc, arith}
+use Rattle.std.proofs.Common.{◌≡◌, ℕ, zero, suc, ◌+◌, ◌-◌, ◌*◌, ◌/◌, ◌<◌, ◌≤◌, List, [], ◌∷◌, ◌++◌, All, length, take, drop, refl, sym, ap, subst, ◌∙◌, append_assoc, append-nil, length-append, add_assoc, arith}
 use Rattle.std.specs.List.{flat_map}
 use Rattle.std.proofs.lemmas.List.{take_at, drop_at, take_all, drop_all}
 use Rattle.std.proofs.lemmas.List.Concat.{flat_map-append}
 use Rattle.std.proofs.lemmas.List.Elements.{All-head, All-tail}
 use Rattle.std.proofs.lemmas.Nat.{div-mul-add}
-use Rattle.s2_bbframe.specs.declared.header.Header.{Header}
+use Rattle.s2_modem.specs.Link.{Link}
+use Rattle.s2_modem.specs.Frames.{IsFrameOf}
 use Rattle.s2_bbframe.specs.DataStream.{cuts, full_fields, fields_of, header_at}
-use Rattle.s2_modem.specs.Sending.{joined, frames_from}
+use Rattle.s2_modem.specs.Sending.{joined, AreFrames}
 
 pub joined-push : (ls : List (List ℕ)) (l : List ℕ) → joined (ls ++ l ∷ []) ≡ joined ls ++ l
 joined-push ls l = flat_map-append (λ x. x) ls (l ∷ []) ∙ ap (λ k. joined ls ++ k) (append-nil l)
 
-pub frames_from-push : (frame : Header → List ℕ → List ℕ) (ro at : ℕ) (fs : List (List ℕ)) (f : List ℕ)
-    → frames_from frame ro at (fs ++ f ∷ []) ≡ frames_from frame ro at fs ++ frame (header_at ro (at + length (joined fs)) f) f
-frames_from-push frame ro at [] f =
+-- the frames so far, and one more
+pub AreFrames-push : (link : Link) (at : ℕ) (fields frames : List (List ℕ)) (field frame : List ℕ) → AreFrames link at fields frames
+    → IsFrameOf link (header_at link.setup.roll_off (at + length (joined fields)) field) field frame → AreFrames link at (fields ++ field ∷ []) (frames ++ frame ∷ [])
+AreFrames-push link at [] [] field frame h k =
     let e : at + 0 ≡ at = omega arith in
-    append-nil (frame (header_at ro at f) f) ∙ ap (λ n. frame (header_at ro n f) f) (sym e)
-frames_from-push frame ro at (g ∷ fs) f =
-    let e : (at + length g) + length (joined fs) ≡ at + length (g ++ joined fs) = omega (arith, length-append g (joined fs)) in
-    ap (λ l. frame (header_at ro at g) g ++ l) (frames_from-push frame ro (at + length g) fs f)
-    ∙ sym (append_assoc (frame (header_at ro at g) g) (frames_from frame ro (at + length g) fs) (frame (header_at ro ((at + length g) + length (joined fs)) f) f))
-    ∙ ap (λ n. (frame (header_at ro at g) g ++ frames_from frame ro (at + length g) fs) ++ frame (header_at ro n f) f) e
+    (subst (λ n. IsFrameOf link (header_at link.setup.roll_off n field) field frame) e k, tt)
+AreFrames-push link at [] (g ∷ gs) field frame h k = absurd h
+AreFrames-push link at (f ∷ fs) [] field frame h k = absurd h
+AreFrames-push link at (f ∷ fs) (g ∷ gs) field frame h k =
+    let e : at + length (f ++ joined fs) ≡ (at + length f) + length (joined fs) = omega (arith, length-append f (joined fs)) in
+    (h.0, AreFrames-push link (at + length f) fs gs field frame h.1 (subst (λ n. IsFrameOf link (header_at link.setup.roll_off n field) field frame) e k))
 
 module _ (size : ℕ) where
   abbrev pub IsFull : List ℕ → Type 0

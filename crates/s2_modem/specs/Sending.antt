@@ -2,24 +2,24 @@
 use Rattle.std.specs.Prelude.{◌≡◌, ◌≢◌, ℕ, ◌+◌, ◌<◌, Bool, true, false, List, [], ◌∷◌, ◌++◌, length, All, slice_index, Option, Result, Ok, Err, ⊤}
 use Rattle.std.specs.List.{flat_map}
 use Rattle.std.specs.Io.KnownBytes.{Consumes, Appends, IsAtEnd}
-use Rattle.s2_bbframe.specs.declared.header.Header.{Header}
 use Rattle.s2_bbframe.specs.DataStream.{IsPacket, stream_of, full_fields, fields_of, header_at, Slicing, Sliced, IsReady, next_field, after_field}
+use Rattle.s2_modem.specs.Link.{Link}
+use Rattle.s2_modem.specs.Frames.{IsFrameOf}
 use Rattle.s2_modem.specs.declared.outcome.Counts.{Counts}
 use Rattle.s2_modem.specs.declared.outcome.SendFault.{SendFault}
 use Rattle.s2_modem.specs.declared.outcome.SendFault.TheVariants.{NotWholePacket, NoSync, Read, Write}
-
--- what makes the bytes of a frame of a header and its data field
-abbrev pub FrameOf : Type 0
-FrameOf = Header → List ℕ → List ℕ
 
 -- what stands in one list after another
 abbrev pub joined : List (List ℕ) → List ℕ
 joined lists = flat_map (λ list. list) lists
 
 -- the frames of consecutive data fields, the first of which begins at this byte of the stream
-abbrev pub frames_from : FrameOf → ℕ → ℕ → List (List ℕ) → List ℕ
-frames_from frame roll_off at [] = []
-frames_from frame roll_off at (field ∷ fields) = frame (header_at roll_off at field) field ++ frames_from frame roll_off (at + length field) fields
+abbrev pub AreFrames : Link → ℕ → List (List ℕ) → List (List ℕ) → Type 0
+AreFrames link at [] [] = ⊤
+AreFrames link at [] (frame ∷ frames) = ⊥
+AreFrames link at (field ∷ fields) [] = ⊥
+AreFrames link at (field ∷ fields) (frame ∷ frames) =
+    IsFrameOf link (header_at link.setup.roll_off at field) field frame × AreFrames link (at + length field) fields frames
 
 -- By the answer: what is left behind the accepted packets, and which data fields have their frames written.
 -- All of them only where the reader ends behind a whole packet, else those that were full.
@@ -42,22 +42,24 @@ EndsThere (Err Write) behind reader_new = ⊤
 
 -- A run accepted these packets, read the rest behind them, and wrote the frames of these data fields and nothing else.
 -- After a write that failed nothing is said. `MayFail` says of a number of packets that a read may fail behind them.
-pub record Runs (size : ℕ) (MayFail : ℕ → Type 0) (frame : FrameOf) (roll_off : ℕ) (reader_old reader_new writer_old writer_new : Option (List ℕ)) (result : Result Counts SendFault) : Type 0 where
+pub record Runs (link : Link) (size : ℕ) (MayFail : ℕ → Type 0) (reader_old reader_new writer_old writer_new : Option (List ℕ)) (result : Result Counts SendFault) : Type 0 where
   pub packets : List (List ℕ)
   pub rest : List ℕ
   pub fields : List (List ℕ)
+  pub frames : List (List ℕ)
   -- the reader behind the rest
   pub behind : Option (List ℕ)
   pub each_is_packet : All IsPacket packets
   pub read : Consumes reader_old behind (joined packets ++ rest)
   pub ends : EndsThere result behind reader_new
   pub outcome : Outcome size MayFail packets rest fields result
-  pub written : result ≢ Err Write → Appends writer_old writer_new (frames_from frame roll_off 0 fields)
+  pub are_frames : AreFrames link 0 fields frames
+  pub written : result ≢ Err Write → Appends writer_old writer_new (joined frames)
 
 -- The next data field's frame is written exactly where a field can be taken.
-abbrev pub Sends : FrameOf → ℕ → Slicing → Slicing → Option (List ℕ) → Option (List ℕ) → Bool → Type 0
-Sends frame roll_off old new writer_old writer_new true =
+abbrev pub Sends : Link → Slicing → Slicing → Option (List ℕ) → Option (List ℕ) → Bool → Type 0
+Sends link old new writer_old writer_new true =
     IsReady old × (new ≡ after_field old)
     × ((packets fields : List (List ℕ)) → Sliced packets fields old → Sliced packets (fields ++ next_field old ∷ []) new
-        × Appends writer_old writer_new (frame (header_at roll_off (length (joined fields)) (next_field old)) (next_field old)))
-Sends frame roll_off old new writer_old writer_new false = (IsReady old → ⊥) × (new ≡ old) × (writer_new ≡ writer_old)
+        × ((frame : List ℕ) × IsFrameOf link (header_at link.setup.roll_off (length (joined fields)) (next_field old)) (next_field old) frame × Appends writer_old writer_new frame))
+Sends link old new writer_old writer_new false = (IsReady old → ⊥) × (new ≡ old) × (writer_new ≡ writer_old)

@@ -2,18 +2,19 @@
 ghost use Rattle.std.specs.Prelude.{◌≡◌, ◌-◌, ◌^◌, ◌<◌, ◌≤◌, ℕ, List, OnOk, length};
 ghost use Rattle.std.specs.Io.KnownBytes.{Appends};
 ghost use Rattle.s2_mode.specs.Counts.{CountsFault};
-ghost use Rattle.s2_bbframe.specs.declared.header.Header.{Header as HeaderValue};
+ghost use Rattle.s2_modem.specs.Link.{Link};
+ghost use Rattle.s2_modem.specs.Frames.{IsFrameOf};
 
 use s2_bbframe::Header;
 use s2_mode::{CountedWrite, WriteFault};
 
 /// Makes the frame of a header and its data field.
 pub trait Framer {
+    /// What both ends share.
+    ghost link: { Self → Link };
+
     /// The bytes of a full data field.
     ghost size: { Self → ℕ };
-
-    /// The bytes of the frame of a header and a data field.
-    ghost frame_of: { Self → HeaderValue → List ℕ → List ℕ };
 
     /// Writes the frame of a header and a data field.
     fn write_frame<W: CountedWrite>(
@@ -24,8 +25,8 @@ pub trait Framer {
     ) -> Result<(), WriteFault>
         requires count { W.count writer.old < 2 ^ 64 - 1 }
         requires size { length field.now ≤ size self.old }
-        ensures frame { OnOk result (Appends (W.contents writer.old) (W.contents writer.new) (frame_of self.old header.now field.now)) }
+        ensures frame { OnOk result ((frame : List ℕ) × IsFrameOf (link self.old) header.now field.now frame × Appends (W.contents writer.old) (W.contents writer.new) frame) }
         ensures cause { CountsFault (W.count writer.old) (W.count writer.new) result }
         ensures same_size { size self.new ≡ size self.old }
-        ensures same_frames { frame_of self.new ≡ frame_of self.old };
+        ensures same_link { link self.new ≡ link self.old };
 }

@@ -22,10 +22,11 @@ fn send_ready<F: Framer, W: CountedWrite>(
     requires count { W.count writer.old < 2 ^ 64 - 1 }
     requires field { length field.old ≡ slicer.old.size }
     requires size { slicer.old.size ≡ F.size framer.old }
-    ensures sends { IfOk result (Sends (F.frame_of framer.old) roll_off slicer.old slicer.new (W.contents writer.old) (W.contents writer.new)) }
+    requires roll_off { roll_off ≡ (F.link framer.old).setup.roll_off }
+    ensures sends { IfOk result (Sends (F.link framer.old) slicer.old slicer.new (W.contents writer.old) (W.contents writer.new)) }
     ensures cause { CountsFault (W.count writer.old) (W.count writer.new) result }
     ensures same_size { F.size framer.new ≡ F.size framer.old }
-    ensures same_frames { F.frame_of framer.new ≡ F.frame_of framer.old }
+    ensures same_link { F.link framer.new ≡ F.link framer.old }
 {
     let Some(header) = slicer.take(roll_off, field) else {
         return Ok(false);
@@ -48,9 +49,10 @@ pub fn send_all<F: Framer, R: CountedRead, W: CountedWrite>(
     requires writer { W.count writer.old < 2 ^ 64 - 1 }
     requires field { length field.old ≡ slicer.old.size }
     requires size { slicer.old.size ≡ F.size framer.old }
+    requires roll_off { roll_off ≡ (F.link framer.old).setup.roll_off }
     requires packet { 189 ≤ slicer.old.size }
-    ensures runs { Runs slicer.old.size (λ packets. R.count reader.new ≡ R.count reader.old → packets ≡ MOST_PACKETS)
-        (F.frame_of framer.old) roll_off (R.remaining reader.old) (R.remaining reader.new) (W.contents writer.old) (W.contents writer.new) result }
+    ensures runs { Runs (F.link framer.old) slicer.old.size (λ packets. R.count reader.new ≡ R.count reader.old → packets ≡ MOST_PACKETS)
+        (R.remaining reader.old) (R.remaining reader.new) (W.contents writer.old) (W.contents writer.new) result }
     ensures read { result ≢ Err SendFault.Read → R.count reader.new ≡ R.count reader.old }
     ensures write { IsErrOf result SendFault.Write → W.count writer.new ≡ W.count writer.old + 1 }
     ensures wrote { result ≢ Err SendFault.Write → W.count writer.new ≡ W.count writer.old }
