@@ -1,4 +1,18 @@
-//! Readers and writers that count their failed calls.
+//! What every other crate begins with: the modes of a DVB-S2 modem, the shape of a code, symbols, and
+//! readers and writers that count their failed calls.
+//!
+//! A [`Mode`] is made by [`Mode::of`] alone, so it is one that EN 302 307-1 has; its numbers are those of
+//! the standard's tables 5a and 5b, from one table ([`Mode::kbch`] to [`Mode::symbols`]), and
+//! [`Mode::shape`] is the shape of its LDPC code. [`Shape::new`] makes any other shape of at most 64800
+//! bits. A call that reads or writes takes what is [`Counted`]: over memory its contract names the
+//! bytes, and a failed call raises the count, so no fault is answered where nothing failed.
+//! [`Counting`] counts for any reader or writer of std, [`InMemory`] reads a slice.
+//!
+//! ```
+//! let mode = Mode::of(4, true, false)?;
+//! assert_eq!((mode.kbch(), mode.k(), mode.n()), (7032, 7200, 16200));
+//! assert_eq!(mode.symbols(), 8190);
+//! ```
 #![tactic(auto)]
 
 mod counts;

@@ -1,0 +1,47 @@
+//! Bit lists by their worked values.
+use crate::Bits;
+use std::test::Fail;
+
+#[test]
+fn reads_the_highest_bit_first(rt: HostRuntime) -> Result<(), Fail> {
+    let bits = Bits::from_bytes(rt.alloc(), &[0xa0], 4)?;
+    assert_eq!(rt; bits.truths(), [true, false, true, false].as_slice());
+    assert_eq!(rt; bits.len(), 4);
+    assert!(rt; bits.get(2) && !bits.get(3) && !bits.is_empty());
+    let bits = Bits::from_bytes(rt.alloc(), &[0x01, 0x80, 0xff], 10)?;
+    assert_eq!(rt; bits.count_ones(), 2);
+    assert_eq!(rt;
+        [
+            bits.byte(0),
+            bits.byte(1),
+            bits.byte(2),
+            bits.byte(usize::MAX)
+        ],
+        [0x01, 0x80, 0, 0]
+    );
+    Ok(())
+}
+
+#[test]
+fn holds_no_bits(rt: HostRuntime) -> Result<(), Fail> {
+    let bits = Bits::zeroed(rt.alloc(), 0)?;
+    assert!(rt; bits.is_empty());
+    assert_eq!(rt; [bits.len(), bits.count_ones()], [0, 0]);
+    assert_eq!(rt; bits.byte(0), 0);
+    Ok(())
+}
+
+#[test]
+fn adds_and_copies_prefixes(rt: HostRuntime) -> Result<(), Fail> {
+    let ones = Bits::from_bytes(rt.alloc(), &[0xff, 0xff], 16)?;
+    let mut bits = Bits::from_bytes(rt.alloc(), &[0xc3, 0x5a], 16)?;
+    bits.xor_prefix(&ones, 5);
+    assert_eq!(rt; [bits.byte(0), bits.byte(1)], [0x3b, 0x5a]);
+    assert_eq!(rt; bits.distance(&ones), 3 + 4);
+    bits.copy_prefix(&ones, 9);
+    assert_eq!(rt; [bits.byte(0), bits.byte(1)], [0xff, 0xda]);
+    bits.set(0, false);
+    bits.truths_mut()[15] = true;
+    assert_eq!(rt; [bits.byte(0), bits.byte(1)], [0x7f, 0xdb]);
+    Ok(())
+}
