@@ -17,3 +17,7 @@ bits_of bytes = flat_map byte_bits bytes
 -- the bytes of some symbols, four each
 abbrev pub bytes_of : List Symbol → List ℕ
 bytes_of symbols = flat_map symbol_bytes symbols
+
+-- the bits of a header and of its data field, and zeros to a length
+abbrev pub padded_bits : ℕ → List ℕ → List ℕ → List Bool
+padded_bits size header field = bits_of (header ++ field) ++ replicate (size - 8 * length (header ++ field)) false

@@ -1,7 +1,7 @@
 //! Bytes spelt as bits, and symbols as bytes.
-ghost use Rattle.std.specs.Prelude.{◌≡◌, ◌*◌, ◌≤◌, ◌++◌, length, take, drop};
+ghost use Rattle.std.specs.Prelude.{◌≡◌, ◌+◌, ◌*◌, ◌≤◌, length};
 ghost use Rattle.s2_mode.specs.Symbols.{symbol_bytes};
-ghost use Rattle.s2_modem.specs.Spelling.{byte_bits, bits_of, bytes_of};
+ghost use Rattle.s2_modem.specs.Spelling.{byte_bits, bits_of, padded_bits, bytes_of};
 
 use s2_mode::Symbol;
 
@@ -28,8 +28,27 @@ pub(crate) fn bits_into(bytes: &[u8], bits: &mut [bool])
 {
     for i in 0..bytes.len() {
         let at = 8 * i;
-        bits[at..at + 8].copy_from_slice(&byte_bits(bytes[i]));
+        let [a, b, c, d, e, f, g, h] = byte_bits(bytes[i]);
+        bits[at] = a;
+        bits[at + 1] = b;
+        bits[at + 2] = c;
+        bits[at + 3] = d;
+        bits[at + 4] = e;
+        bits[at + 5] = f;
+        bits[at + 6] = g;
+        bits[at + 7] = h;
     }
+}
+/// Writes the bits of a header and of its data field, and zeros behind them.
+pub(crate) fn frame_bits_into(header: &[u8; 10], field: &[u8], bits: &mut [bool])
+    requires { 80 + 8 * length field.now ≤ length bits.old }
+    ensures { bits.new ≡ padded_bits (length bits.old) header.now field.now }
+{
+    let (front, behind) = bits.split_at_mut(80);
+    let (middle, rest) = behind.split_at_mut(8 * field.len());
+    bits_into(header, front);
+    bits_into(field, middle);
+    rest.fill(false);
 }
 
 /// The four bytes of a symbol: I, then Q, big endian.
@@ -48,6 +67,10 @@ pub(crate) fn bytes_into(symbols: &[Symbol], bytes: &mut [u8])
 {
     for i in 0..symbols.len() {
         let at = 4 * i;
-        bytes[at..at + 4].copy_from_slice(&symbol_bytes(symbols[i]));
+        let [a, b, c, d] = symbol_bytes(symbols[i]);
+        bytes[at] = a;
+        bytes[at + 1] = b;
+        bytes[at + 2] = c;
+        bytes[at + 3] = d;
     }
 }
