@@ -1,0 +1,7 @@
+//! Codewords of a code by parity checks: the encoder.
+#![tactic(auto)]
+
+mod encode;
+pub mod laws;
+
+pub use encode::encode_into;
