@@ -1,0 +1,105 @@
+//! Physical layer scrambling (EN 302 307-1, 5.5.4).
+ghost use Rattle.std.specs.Prelude.{◌≡◌, ℕ, ◌+◌, ◌<◌, ◌≤◌, ◌↔◌, IfOk, IsErrOf, length};
+ghost use Rattle.s2_mode.specs.declared.symbols.Symbol.{Symbol};
+ghost use Rattle.s2_scramble.specs.Gold.{quarter_turns};
+ghost use Rattle.s2_scramble.specs.Turns.{turned, turned_back, symbol_at, CanTurnBack};
+
+use crate::tables::quarter_turns;
+use crate::turn::{turn_each, turned, turned_back};
+use s2_mode::Symbol;
+use std::alloc::Global;
+use std::marker::Model;
+use thiserror::Error;
+
+/// The largest scrambling number.
+pub const MOST_NUMBER: u32 = 262141;
+
+/// How many symbols can follow a frame's header: those of QPSK in normal frames with pilots.
+pub const MOST_SYMBOLS: usize = 33192;
+
+/// Why there is no scrambler.
+#[derive(Clone, Copy, Debug, PartialEq, Eq, Error)]
+pub enum GoldFault {
+    #[error("no such scrambling number")]
+    BadNumber,
+    #[error("no memory")]
+    NoMemory,
+}
+
+/// The scrambler of the physical layer for one scrambling number, which turns each symbol after a
+/// frame's header by quarters. Its value is that number.
+#[derive(Drop)]
+pub struct Gold {
+    number: u32,
+    quarters: Vec<u8>,
+}
+
+impl Model for Gold {
+    ghost use Rattle.std.specs.Prelude.{ℕ};
+    ghost use Rattle.s2_scramble.specs.Turns.{HoldsTurns};
+
+    ghost Value = { ℕ };
+
+    ghost view = { λ g. g.number };
+
+    ghost invariant = { λ g. HoldsTurns g.number g.quarters.items };
+}
+
+impl Gold {
+    /// The scrambler of a number, which is at most 262141.
+    pub fn new(alloc: Global, number: u32) -> Result<Gold, GoldFault>
+        ensures number { IfOk result (λ g. g ≡ number) }
+        ensures bad_number { IsErrOf result GoldFault.BadNumber ↔ (262141 < number) }
+    {
+        if number > MOST_NUMBER {
+            return Err(GoldFault::BadNumber);
+        }
+        match quarter_turns(alloc, number) {
+            Ok(quarters) => Ok(Gold { number, quarters }),
+            Err(_) => Err(GoldFault::NoMemory),
+        }
+    }
+
+    /// The scrambling number.
+    pub fn number(&self) -> u32
+        ensures is { result ≡ self.now }
+        ensures few { result ≤ 262141 }
+    {
+        self.number
+    }
+
+    /// By how many quarter turns symbol `i` after the header is turned, 0 to 3.
+    pub fn quarter(&self, i: usize) -> u8
+        requires { i < 33192 }
+        ensures { result ≡ quarter_turns self.now i }
+    {
+        self.quarters[i]
+    }
+
+    /// Turns a symbol as symbol `i` after the header. The negative of -32768 is 32767.
+    pub fn turn(&self, i: usize, symbol: Symbol) -> Symbol
+        requires { i < 33192 }
+        ensures { result ≡ turned (quarter_turns self.now i) symbol }
+    {
+        turned(self.quarter(i), symbol)
+    }
+
+    /// Turns symbol `i` after the header back.
+    pub fn unturn(&self, i: usize, symbol: Symbol) -> Symbol
+        requires { i < 33192 }
+        ensures is { result ≡ turned_back (quarter_turns self.now i) symbol }
+        ensures undoes { (sent : Symbol) → CanTurnBack sent → symbol ≡ turned (quarter_turns self.now i) sent → result ≡ sent }
+    {
+        turned_back(self.quarter(i), symbol)
+    }
+
+    /// Turns symbols as those from symbol `at` after the header on.
+    pub fn turn_into(&self, at: usize, symbols: &[Symbol], out: &mut [Symbol])
+        requires same { length out.old ≡ length symbols.now }
+        requires within { at + length symbols.now ≤ 33192 }
+        ensures { (k : ℕ) → k < length symbols.now → symbol_at out.new k ≡ turned (quarter_turns self.now (at + k)) (symbol_at symbols.now k) }
+    {
+        let quarters = &self.quarters[at..at + symbols.len()];
+        turn_each(quarters, symbols, out);
+    }
+}
