@@ -9,7 +9,7 @@ use Rattle.std.proofs.lemmas.List.Elements.{All-push, All-nil}
 use Rattle.std.proofs.lemmas.List.{length_push}
 use Rattle.s2_modem.specs.Link.{Link}
 use Rattle.s2_modem.specs.Frames.{IsFrameOf}
-use Rattle.s2_bbframe.specs.DataStream.{IsPacket, Slicing, Sliced, IsReady, next_field, after_field, after_packet, gained, header_at, stream_of, full_fields, fields_of}
+use Rattle.s2_bbframe.specs.DataStream.{IsPacket, Slicing, Sliced, IsReady, next_field, after_field, after_packet, gained, header_at, stream_of, full_fields, fields_of, field_bytes}
 use Rattle.s2_bbframe.specs.Crc.{crc8}
 use Rattle.s2_modem.specs.declared.outcome.Counts.{Counts}
 use Rattle.s2_modem.specs.declared.outcome.SendFault.{SendFault}
@@ -43,7 +43,10 @@ ready_full s e h = subst (λ b. MatchBool b (0 < length s.waiting) (s.size ≤ l
 full_ready : (s : Slicing) → s.closed ≡ false → s.size ≤ length s.waiting → IsReady s
 full_ready s e h = subst (λ b. MatchBool b (0 < length s.waiting) (s.size ≤ length s.waiting)) (sym e) h
 
-module _ (link : Link) (size : ℕ) (r0 w0 : Option (List ℕ)) where
+module _ (link : Link) (r0 w0 : Option (List ℕ)) where
+  abbrev size : ℕ
+  size = field_bytes link.setup.mode
+
   -- a frame more is written
   more_frames : (w w' : Option (List ℕ)) (gs : List (List ℕ)) (g : List ℕ) → Appends w0 w (joined gs) → Appends w w' g → Appends w0 w' (joined (gs ++ g ∷ []))
   more_frames w w' gs g h k = subst (Appends w0 w') (sym (joined-push gs g)) (Appends-trans w0 w w' (joined gs) g h k)
@@ -123,7 +126,7 @@ module _ (link : Link) (size : ℕ) (r0 w0 : Option (List ℕ)) where
   -- a run that stops keeps what it has done
   pub stops : (r left w : Option (List ℕ)) (s : Slicing) (p f : ℕ) (MayFail : ℕ → Type 0) (reader_new : Option (List ℕ)) (rest : List ℕ) (result : Result Counts SendFault)
       → (h : Sending link size r0 r w0 w s p f) → Consumes r left rest → EndsThere result left reader_new → Outcome size MayFail h.ps rest h.fs result
-      → Runs link size MayFail r0 reader_new w0 w result
+      → Runs link MayFail r0 reader_new w0 w result
   stops r left w s p f MayFail reader_new rest result h more end outcome = record {
     packets = h.ps;
     rest = rest;
@@ -141,7 +144,7 @@ module _ (link : Link) (size : ℕ) (r0 w0 : Option (List ℕ)) where
   -- the end, with the last field
   pub ends : (r r' w w' : Option (List ℕ)) (s s1 s2 : Slicing) (p f : ℕ) (b : Bool) (MayFail : ℕ → Type 0)
       → Sending link size r0 r w0 w s p f → 189 ≤ size → Consumes r r' [] → IsAtEnd r' → s1 ≡ record s { closed = true }
-      → (link' : Link) → link' ≡ link → Sends link' s1 s2 w w' b → Runs link size MayFail r0 r' w0 w' (Ok (record { packets = p; frames = f + bool_byte b }))
+      → (link' : Link) → link' ≡ link → Sends link' s1 s2 w w' b → Runs link MayFail r0 r' w0 w' (Ok (record { packets = p; frames = f + bool_byte b }))
   ends r r' w w' s s1 s2 p f true MayFail h large none end is link' same_link sent =
       let sends = subst (λ x. Sends x s1 s2 w w' true) same_link sent in
       let size1 : s1.size ≡ size = ap (λ x. x.size) is ∙ h.size_is in
@@ -189,7 +192,7 @@ module _ (link : Link) (size : ℕ) (r0 w0 : Option (List ℕ)) where
       }
 
   -- nothing is said after a failed write
-  pub gives_up : (r' w : Option (List ℕ)) (MayFail : ℕ → Type 0) → Runs link size MayFail r0 r' w0 w (Err Write)
+  pub gives_up : (r' w : Option (List ℕ)) (MayFail : ℕ → Type 0) → Runs link MayFail r0 r' w0 w (Err Write)
   gives_up r' w MayFail = record {
     packets = [];
     rest = [];

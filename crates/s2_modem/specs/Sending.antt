@@ -2,7 +2,7 @@
 use Rattle.std.specs.Prelude.{◌≡◌, ◌≢◌, ℕ, ◌+◌, ◌<◌, Bool, true, false, List, [], ◌∷◌, ◌++◌, length, All, slice_index, Option, Result, Ok, Err, ⊤}
 use Rattle.std.specs.List.{flat_map}
 use Rattle.std.specs.Io.KnownBytes.{Consumes, Appends, IsAtEnd}
-use Rattle.s2_bbframe.specs.DataStream.{IsPacket, stream_of, full_fields, fields_of, header_at, Slicing, Sliced, IsReady, next_field, after_field}
+use Rattle.s2_bbframe.specs.DataStream.{IsPacket, stream_of, full_fields, fields_of, header_at, field_bytes, Slicing, Sliced, IsReady, next_field, after_field}
 use Rattle.s2_modem.specs.Link.{Link}
 use Rattle.s2_modem.specs.Frames.{IsFrameOf}
 use Rattle.s2_modem.specs.declared.outcome.Counts.{Counts}
@@ -42,7 +42,7 @@ EndsThere (Err Write) behind reader_new = ⊤
 
 -- A run accepted these packets, read the rest behind them, and wrote the frames of these data fields and nothing else.
 -- After a write that failed nothing is said. `MayFail` says of a number of packets that a read may fail behind them.
-pub record Runs (link : Link) (size : ℕ) (MayFail : ℕ → Type 0) (reader_old reader_new writer_old writer_new : Option (List ℕ)) (result : Result Counts SendFault) : Type 0 where
+pub record Runs (link : Link) (MayFail : ℕ → Type 0) (reader_old reader_new writer_old writer_new : Option (List ℕ)) (result : Result Counts SendFault) : Type 0 where
   pub packets : List (List ℕ)
   pub rest : List ℕ
   pub fields : List (List ℕ)
@@ -52,7 +52,7 @@ pub record Runs (link : Link) (size : ℕ) (MayFail : ℕ → Type 0) (reader_ol
   pub each_is_packet : All IsPacket packets
   pub read : Consumes reader_old behind (joined packets ++ rest)
   pub ends : EndsThere result behind reader_new
-  pub outcome : Outcome size MayFail packets rest fields result
+  pub outcome : Outcome (field_bytes link.setup.mode) MayFail packets rest fields result
   pub are_frames : AreFrames link 0 fields frames
   pub written : result ≢ Err Write → Appends writer_old writer_new (joined frames)
 

@@ -1,32 +1,94 @@
-//! What makes frames of data fields.
+//! Makes frames of data fields.
 ghost use Rattle.std.specs.Prelude.{◌≡◌, ◌-◌, ◌^◌, ◌<◌, ◌≤◌, ℕ, List, OnOk, length};
 ghost use Rattle.std.specs.Io.KnownBytes.{Appends};
 ghost use Rattle.s2_mode.specs.Counts.{CountsFault};
-ghost use Rattle.s2_modem.specs.Link.{Link};
+ghost use Rattle.s2_bbframe.specs.DataStream.{field_bytes};
 ghost use Rattle.s2_modem.specs.Frames.{IsFrameOf};
+ghost use Rattle.s2_modem.specs.Link.{Answers};
 
+use crate::coder::Coder;
+use crate::modulator::Modulator;
+use crate::setup::{MOST_ROLL_OFF, Setup, SetupFault};
 use s2_bbframe::Header;
-use s2_mode::{CountedWrite, WriteFault};
+use s2_matrix::Matrix;
+use s2_mode::{CountedWrite, WriteFault, write_full};
+use s2_scramble::{Gold, MOST_NUMBER};
+use std::alloc::Global;
+use std::marker::Model;
 
-/// Makes the frame of a header and its data field.
-pub trait Framer {
-    /// What both ends share.
-    ghost link: { Self → Link };
+/// Makes the frames of one link.
+#[derive(Drop)]
+pub(crate) struct Framer<'a> {
+    setup: Setup,
+    coder: Coder<'a>,
+    modulator: Modulator,
+}
 
-    /// The bytes of a full data field.
-    ghost size: { Self → ℕ };
+impl<'a> Model for Framer<'a> {
+    ghost use Rattle.std.specs.Prelude.{◌≡◌, ◌≤◌};
+    ghost use Rattle.s2_mode.specs.Mode.{shape_in};
+    ghost use Rattle.s2_modem.specs.Link.{Link};
 
-    /// Writes the frame of a header and a data field.
-    fn write_frame<W: CountedWrite>(
+    ghost Value = { Link };
+
+    ghost view = { λ f. record { setup = f.setup; rows = f.coder.rows } };
+
+    ghost invariant = { λ f. (f.coder.mode ≡ f.setup.mode) × (f.modulator.mode ≡ f.setup.mode) × (f.modulator.number ≡ f.setup.number) × (f.setup.roll_off ≤ 2) };
+}
+
+impl<'a> Framer<'a> {
+    /// The maker of a link's frames, or the first refusal.
+    pub(crate) fn new(
+        alloc: Global,
+        setup: Setup,
+        matrix: &'a Matrix,
+    ) -> Result<Framer<'a>, SetupFault>
+        ensures { Answers setup matrix.now result }
+    {
+        if matrix.shape() != setup.mode.shape() {
+            return Err(SetupFault::OtherShape);
+        }
+        if setup.number > MOST_NUMBER {
+            return Err(SetupFault::BadNumber);
+        }
+        if setup.roll_off > MOST_ROLL_OFF {
+            return Err(SetupFault::BadRollOff);
+        }
+        let gold = Gold::new(alloc, setup.number).map_err(|_| SetupFault::NoMemory)?;
+        let coder = Coder::new(alloc, setup.mode, matrix).map_err(|_| SetupFault::NoMemory)?;
+        let modulator =
+            Modulator::new(alloc, setup.mode, gold).map_err(|_| SetupFault::NoMemory)?;
+        Ok(Framer {
+            setup,
+            coder,
+            modulator,
+        })
+    }
+
+    /// The roll-off that headers tell.
+    pub(crate) fn roll_off(&self) -> u8
+        ensures is { result ≡ self.now.setup.roll_off }
+        ensures most { result ≤ 2 }
+    {
+        self.setup.roll_off
+    }
+
+    /// Writes the frame of a header and its data field.
+    pub(crate) fn write_frame<W: CountedWrite>(
         &mut self,
         header: &Header,
         field: &[u8],
         writer: &mut W,
     ) -> Result<(), WriteFault>
         requires count { W.count writer.old < 2 ^ 64 - 1 }
-        requires size { length field.now ≤ size self.old }
-        ensures frame { OnOk result ((frame : List ℕ) × IsFrameOf (link self.old) header.now field.now frame × Appends (W.contents writer.old) (W.contents writer.new) frame) }
+        requires roll_off { header.now.roll_off ≤ 3 }
+        requires size { length field.now ≤ field_bytes self.old.setup.mode }
+        ensures frame { OnOk result ((frame : List ℕ) × IsFrameOf self.old header.now field.now frame × Appends (W.contents writer.old) (W.contents writer.new) frame) }
         ensures cause { CountsFault (W.count writer.old) (W.count writer.new) result }
-        ensures same_size { size self.new ≡ size self.old }
-        ensures same_link { link self.new ≡ link self.old };
+        ensures same { self.new ≡ self.old }
+    {
+        self.coder.encode(header, field);
+        self.modulator.modulate(self.coder.codeword());
+        write_full(writer, self.modulator.bytes())
+    }
 }

@@ -1,13 +1,16 @@
 //! Both ends of the link: packets in, symbols out.
 #![tactic(auto)]
 
+mod coder;
 mod framer;
+mod modulator;
 mod outcome;
 mod sending;
 mod setup;
 mod spelling;
+mod transmitter;
 
-pub use framer::Framer;
 pub use outcome::{Counts, SendFault};
-pub use sending::{MOST_PACKETS, send_all};
-pub use setup::{MOST_NUMBER, MOST_ROLL_OFF, Setup, SetupFault};
+pub use sending::MOST_PACKETS;
+pub use setup::{MOST_ROLL_OFF, Setup, SetupFault};
+pub use transmitter::Transmitter;

@@ -1,6 +1,7 @@
-//! The loop that sends: packets in, frames out.
-ghost use Rattle.std.specs.Prelude.{◌≡◌, ◌≢◌, ◌+◌, ◌-◌, ◌^◌, ◌<◌, ◌≤◌, ℕ, Err, IsErrOf, IfOk, length};
+//! The loop that sends.
+ghost use Rattle.std.specs.Prelude.{◌≡◌, ◌≢◌, ◌+◌, ◌-◌, ◌^◌, ◌<◌, ◌≤◌, ◌⊎◌, Err, IsErrOf, IfOk, length};
 ghost use Rattle.s2_mode.specs.Counts.{CountsFault};
+ghost use Rattle.s2_bbframe.specs.DataStream.{field_bytes};
 ghost use Rattle.s2_modem.specs.Sending.{Runs, Sends};
 
 use crate::framer::Framer;
@@ -12,23 +13,20 @@ use s2_mode::{CountedRead, CountedWrite, WriteFault, read_full};
 pub const MOST_PACKETS: u64 = 1 << 32;
 
 /// Writes the next data field's frame where a field can be taken, and says whether it did.
-fn send_ready<F: Framer, W: CountedWrite>(
-    framer: &mut F,
+fn send_ready<W: CountedWrite>(
+    framer: &mut Framer<'_>,
     slicer: &mut Slicer,
-    roll_off: u8,
     field: &mut [u8],
     writer: &mut W,
 ) -> Result<bool, WriteFault>
     requires count { W.count writer.old < 2 ^ 64 - 1 }
     requires field { length field.old ≡ slicer.old.size }
-    requires size { slicer.old.size ≡ F.size framer.old }
-    requires roll_off { roll_off ≡ (F.link framer.old).setup.roll_off }
-    ensures sends { IfOk result (Sends (F.link framer.old) slicer.old slicer.new (W.contents writer.old) (W.contents writer.new)) }
+    requires size { slicer.old.size ≡ field_bytes framer.old.setup.mode }
+    ensures sends { IfOk result (Sends framer.old slicer.old slicer.new (W.contents writer.old) (W.contents writer.new)) }
     ensures cause { CountsFault (W.count writer.old) (W.count writer.new) result }
-    ensures same_size { F.size framer.new ≡ F.size framer.old }
-    ensures same_link { F.link framer.new ≡ F.link framer.old }
+    ensures same { framer.new ≡ framer.old }
 {
-    let Some(header) = slicer.take(roll_off, field) else {
+    let Some(header) = slicer.take(framer.roll_off(), field) else {
         return Ok(false);
     };
     let bytes = usize::from(header.dfl / 8);
@@ -37,10 +35,9 @@ fn send_ready<F: Framer, W: CountedWrite>(
 }
 
 /// Sends the packets of a reader to its end, as frames of a new stream.
-pub fn send_all<F: Framer, R: CountedRead, W: CountedWrite>(
-    framer: &mut F,
+pub(crate) fn send_all<R: CountedRead, W: CountedWrite>(
+    framer: &mut Framer<'_>,
     slicer: &mut Slicer,
-    roll_off: u8,
     field: &mut [u8],
     reader: &mut R,
     writer: &mut W,
@@ -48,14 +45,16 @@ pub fn send_all<F: Framer, R: CountedRead, W: CountedWrite>(
     requires reader { R.count reader.old < 2 ^ 64 - 1 }
     requires writer { W.count writer.old < 2 ^ 64 - 1 }
     requires field { length field.old ≡ slicer.old.size }
-    requires size { slicer.old.size ≡ F.size framer.old }
-    requires roll_off { roll_off ≡ (F.link framer.old).setup.roll_off }
+    requires size { slicer.old.size ≡ field_bytes framer.old.setup.mode }
     requires packet { 189 ≤ slicer.old.size }
-    ensures runs { Runs (F.link framer.old) slicer.old.size (λ packets. R.count reader.new ≡ R.count reader.old → packets ≡ MOST_PACKETS)
+    ensures runs { Runs framer.old
+        (λ packets. (R.count reader.new ≡ R.count reader.old + 1) ⊎ ((R.count reader.new ≡ R.count reader.old) × (packets ≡ MOST_PACKETS)))
         (R.remaining reader.old) (R.remaining reader.new) (W.contents writer.old) (W.contents writer.new) result }
-    ensures read { result ≢ Err SendFault.Read → R.count reader.new ≡ R.count reader.old }
+    ensures no_read { result ≢ Err SendFault.Read → R.count reader.new ≡ R.count reader.old }
     ensures write { IsErrOf result SendFault.Write → W.count writer.new ≡ W.count writer.old + 1 }
-    ensures wrote { result ≢ Err SendFault.Write → W.count writer.new ≡ W.count writer.old }
+    ensures no_write { result ≢ Err SendFault.Write → W.count writer.new ≡ W.count writer.old }
+    ensures same { framer.new ≡ framer.old }
+    ensures size { slicer.new.size ≡ slicer.old.size }
 {
     slicer.restart();
     let mut packets: u64 = 0;
@@ -67,7 +66,7 @@ pub fn send_all<F: Framer, R: CountedRead, W: CountedWrite>(
         };
         if n == 0 {
             slicer.close();
-            let Ok(last) = send_ready(framer, slicer, roll_off, field, writer) else {
+            let Ok(last) = send_ready(framer, slicer, field, writer) else {
                 return Err(SendFault::Write);
             };
             frames += u64::from(last);
@@ -77,10 +76,12 @@ pub fn send_all<F: Framer, R: CountedRead, W: CountedWrite>(
             return Err(SendFault::NotWholePacket);
         }
         let Ok(()) = slicer.put(&packet) else {
-            return Err(SendFault::NoSync { packet: packets + 1 });
+            return Err(SendFault::NoSync {
+                packet: packets + 1,
+            });
         };
         packets += 1;
-        let Ok(sent) = send_ready(framer, slicer, roll_off, field, writer) else {
+        let Ok(sent) = send_ready(framer, slicer, field, writer) else {
             return Err(SendFault::Write);
         };
         frames += u64::from(sent);

@@ -2,17 +2,14 @@
 use s2_mode::Mode;
 use thiserror::Error;
 
-/// The highest physical layer scrambling number (EN 302 307-1, 5.5.4).
-pub const MOST_NUMBER: u32 = 262141;
-
-/// The highest roll-off (EN 302 307-1, 5.1.6): 0 is 0.35, 1 is 0.25 and 2 is 0.20.
+/// The highest number of a roll-off (EN 302 307-1, 5.1.6): 0 is 0.35, 1 is 0.25 and 2 is 0.20.
 pub const MOST_ROLL_OFF: u8 = 2;
 
 /// What both ends of a link agree on, besides the address rows.
 #[derive(Clone, Copy, Debug, PartialEq, Eq)]
 pub struct Setup {
     pub mode: Mode,
-    /// The physical layer scrambling number.
+    /// The physical layer scrambling number, at most 262141 (EN 302 307-1, 5.5.4).
     pub number: u32,
     /// The roll-off that headers tell.
     pub roll_off: u8,
