@@ -1,0 +1,4 @@
+pub mod Finite
+pub mod Remainders
+pub mod Headers
+pub mod Streams

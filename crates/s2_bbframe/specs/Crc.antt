@@ -1,0 +1,33 @@
+-- CRC-8: the remainder by x^8 + x^7 + x^6 + x^4 + x^2 + 1 (EN 302 307-1, 5.1.4).
+-- A polynomial of degree below 8 is a byte, the coefficient of x^7 its highest bit.
+use Rattle.std.specs.Prelude.{ℕ, ◌*◌, ◌/◌, ◌%◌, ◌==◌, nat_le, Bool, List, [], ◌∷◌, map, bit_xor, if◌then◌else◌}
+use Rattle.std.specs.List.{flat_map}
+
+-- the nine coefficients, 1 1101 0101
+abbrev pub generator : ℕ
+generator = 469
+
+-- a remainder times x: twice the number, less the generator where x^8 stands
+unfoldable pub times_x : ℕ → ℕ
+times_x r = bit_xor (2 * r) (if nat_le 128 r then generator else 0)
+
+-- the remainder of x^8 times a polynomial with one coefficient more, from that of x^8 times the polynomial
+unfoldable pub next_bit : ℕ → Bool → ℕ
+next_bit r bit = times_x (if bit then bit_xor r 128 else r)
+
+-- the same for more coefficients, the highest first
+unfoldable pub remainder : ℕ → List Bool → ℕ
+remainder r [] = r
+remainder r (bit ∷ bits) = remainder (next_bit r bit) bits
+
+-- the bits of a byte, the highest first
+unfoldable pub bits_of : ℕ → List Bool
+bits_of byte = map (λ weight. byte / weight % 2 == 1) (128 ∷ 64 ∷ 32 ∷ 16 ∷ 8 ∷ 4 ∷ 2 ∷ 1 ∷ [])
+
+-- one byte more
+unfoldable pub next_byte : ℕ → ℕ → ℕ
+next_byte r byte = remainder r (bits_of byte)
+
+-- the remainder of x^8 times the polynomial of all the bits
+unfoldable pub crc8 : List ℕ → ℕ
+crc8 bytes = remainder 0 (flat_map bits_of bytes)

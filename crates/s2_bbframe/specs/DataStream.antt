@@ -1,0 +1,96 @@
+-- The data stream of a list of packets (EN 302 307-1, 5.1.4 and 5.1.5), and its fields with their headers (5.1.6).
+use Rattle.std.specs.Prelude.{◌≡◌, ℕ, zero, suc, ◌+◌, ◌-◌, ◌*◌, ◌/◌, ◌%◌, ◌<◌, ◌≤◌, Bool, true, false, List, [], ◌∷◌, ◌++◌, length, take, drop, slice_index, MatchBool}
+use Rattle.std.specs.List.{flat_map}
+use Rattle.s2_mode.specs.Mode.{Mode, kbch_of}
+use Rattle.s2_bbframe.specs.Crc.{crc8}
+use Rattle.s2_bbframe.specs.declared.header.Header.{Header}
+
+-- a packet has 188 bytes, the first of them 47
+abbrev pub IsPacket : List ℕ → Type 0
+IsPacket packet = (length packet ≡ 188) × (slice_index packet 0 ≡ 71)
+
+-- a packet's body, and behind it the body's CRC-8 in the next packet's sync place
+abbrev pub closed_body : List ℕ → List ℕ
+closed_body packet = drop 1 packet ++ crc8 (drop 1 packet) ∷ []
+
+-- the first sync place
+abbrev pub first_place : List (List ℕ) → List ℕ
+first_place [] = []
+first_place (packet ∷ packets) = 0 ∷ []
+
+-- the data stream of packets
+abbrev pub stream_of : List (List ℕ) → List ℕ
+stream_of packets = first_place packets ++ flat_map closed_body packets
+
+-- what the stream gains by one packet more
+abbrev pub gained : Bool → List ℕ → List ℕ
+gained true packet = closed_body packet
+gained false packet = 0 ∷ closed_body packet
+
+abbrev pub is_begun : List (List ℕ) → Bool
+is_begun [] = false
+is_begun (packet ∷ packets) = true
+
+-- so many consecutive cuts of a stream
+abbrev pub cuts : ℕ → ℕ → List ℕ → List (List ℕ)
+cuts size zero stream = []
+cuts size (suc n) stream = take size stream ∷ cuts size n (drop size stream)
+
+-- the fields of a stream that goes on: those that are full
+abbrev pub full_fields : ℕ → List ℕ → List (List ℕ)
+full_fields size stream = cuts size (length stream / size) stream
+
+-- the fields of a stream that has ended: the last one is what remains
+abbrev pub fields_of : ℕ → List ℕ → List (List ℕ)
+fields_of size stream = cuts size ((length stream + (size - 1)) / size) stream
+
+-- the distance in bytes from a stream byte to the next sync place
+abbrev pub to_place : ℕ → ℕ
+to_place at = (188 - at % 188) % 188
+
+-- the header of the field at a stream byte
+abbrev pub header_at : ℕ → ℕ → List ℕ → Header
+header_at roll_off at field = record { roll_off = roll_off; second = 0; dfl = 8 * length field; syncd = 8 * to_place at }
+
+-- the bytes of a full data field: Kbch less the 80 bits of the header
+abbrev pub field_bytes : Mode → ℕ
+field_bytes m = (kbch_of m - 80) / 8
+
+-- the slicer, as callers see it
+pub record Slicing : Type 0 where
+  -- the bytes of a full field
+  pub size : ℕ
+  -- whether a packet has come
+  pub begun : Bool
+  -- where the next byte stands in its packet
+  pub phase : ℕ
+  -- the stream's bytes that were not taken yet
+  pub waiting : List ℕ
+  -- whether no packet comes any more
+  pub closed : Bool
+
+-- a slicer that nothing has come to
+abbrev pub starting : ℕ → Slicing
+starting size = record { size = size; begun = false; phase = 0; waiting = []; closed = false }
+
+-- the packets that were accepted, and the fields that were taken
+pub record Sliced (packets fields : List (List ℕ)) (s : Slicing) : Type 0 where
+  pub begun : s.begun ≡ is_begun packets
+  pub phase : s.phase ≡ length (flat_map (λ field. field) fields) % 188
+  pub whole : stream_of packets ≡ flat_map (λ field. field) fields ++ s.waiting
+
+-- the field that is taken next: a full one, or what remains
+abbrev pub next_field : Slicing → List ℕ
+next_field s = take s.size s.waiting
+
+-- the slicer with one packet more
+abbrev pub after_packet : List ℕ → Slicing → Slicing
+after_packet packet s = record { size = s.size; begun = true; phase = s.phase; waiting = s.waiting ++ gained s.begun packet; closed = s.closed }
+
+-- the slicer without its next field
+abbrev pub after_field : Slicing → Slicing
+after_field s = record { size = s.size; begun = s.begun; phase = (s.phase + length (next_field s)) % 188; waiting = drop s.size s.waiting; closed = s.closed }
+
+-- a field can be taken: a full one, or after the last packet what remains
+abbrev pub IsReady : Slicing → Type 0
+IsReady s = MatchBool s.closed (0 < length s.waiting) (s.size ≤ length s.waiting)

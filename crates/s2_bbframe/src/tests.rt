@@ -1,0 +1,179 @@
+//! CRC-8, headers and fields by their worked values.
+use crate::{Header, HeaderFault, NO_PLACE, NoSync, Slicer, crc8};
+use s2_mode::Mode;
+use std::process::Abort;
+use std::test::Fail;
+
+#[test]
+fn has_the_check_values_of_crc8(rt: HostRuntime) {
+    assert_eq!(rt; crc8(&[]), 0);
+    assert_eq!(rt; crc8(&[1]), 0xd5);
+    assert_eq!(rt; crc8(&[0; 187]), 0);
+    assert_eq!(rt; crc8(b"123456789"), 0xbc);
+}
+
+// The header of a full or a last field of QPSK 1/4.
+const SINGLE: [u8; 10] = [0xf0, 0, 0x05, 0xe0, 0x05, 0xe8, 0x47, 0, 0, 0x10];
+
+#[test]
+fn reads_and_writes_a_header(rt: HostRuntime) -> Result<(), Fail> {
+    let mode = Mode::of(1, false, false).ok_or("none")?;
+    let header = Header {
+        roll_off: 0,
+        second: 0,
+        dfl: 1512,
+        syncd: 0,
+    };
+    assert_eq!(rt; Header::read(&SINGLE, mode), Ok(header));
+    let mut bytes = [0xff; 10];
+    header.write(&mut bytes);
+    assert_eq!(rt; bytes, SINGLE);
+    let header = Header {
+        roll_off: 2,
+        second: 0x5a,
+        dfl: 15928,
+        syncd: NO_PLACE,
+    };
+    header.write(&mut bytes);
+    assert_eq!(rt;
+        &bytes[..9],
+        [0xf2, 0x5a, 0x05, 0xe0, 0x3e, 0x38, 0x47, 0xff, 0xff].as_slice()
+    );
+    assert_eq!(rt; Header::read(&bytes, mode), Ok(header));
+    Ok(())
+}
+
+#[test]
+fn refuses_headers_in_order(rt: HostRuntime) -> Result<(), Fail> {
+    let mode = Mode::of(1, false, false).ok_or("none")?;
+    let cases = [
+        (
+            [0xf0, 0, 0x05, 0xe0, 0x05, 0xe8, 0x47, 0, 0, 0x11],
+            HeaderFault::BadCrc,
+        ),
+        (
+            [0xf8, 0, 0x05, 0xe0, 0x05, 0xe9, 0x48, 0, 0, 0x11],
+            HeaderFault::BadCrc,
+        ),
+        (
+            [0xf8, 0, 0x05, 0xe0, 0x05, 0xe8, 0x47, 0, 0, 0x7d],
+            HeaderFault::OtherStream,
+        ),
+        (
+            [0xf0, 0, 0x05, 0xe0, 0x05, 0xe9, 0x47, 0, 0, 0x55],
+            HeaderFault::BadLengths,
+        ),
+    ];
+    for (bytes, want) in cases {
+        assert_eq!(rt; Header::read(&bytes, mode), Err(want));
+    }
+    Ok(())
+}
+
+#[test]
+fn judges_forged_headers(rt: HostRuntime) -> Result<(), Fail> {
+    let mode = Mode::of(1, true, false).ok_or("none")?;
+    let cases: [([u8; 9], Option<HeaderFault>); 7] = [
+        (
+            [0xf0, 0, 0x05, 0xe0, 0x0b, 0xb8, 0x47, 0, 0],
+            Some(HeaderFault::BadLengths),
+        ),
+        (
+            [0xf0, 0, 0x05, 0xe0, 0x00, 0x18, 0x47, 0, 0x18],
+            Some(HeaderFault::BadLengths),
+        ),
+        (
+            [0xf0, 0, 0x05, 0xe0, 0x0b, 0xb0, 0x47, 0x05, 0xe0],
+            Some(HeaderFault::BadLengths),
+        ),
+        (
+            [0xf0, 0, 0x05, 0xe0, 0x0b, 0xb0, 0x48, 0, 0],
+            Some(HeaderFault::OtherStream),
+        ),
+        ([0xf0, 0, 0x05, 0xe0, 0x0b, 0xb0, 0x47, 0xff, 0xff], None),
+        ([0xf0, 0, 0x05, 0xe0, 0x00, 0x00, 0x47, 0, 0x04], None),
+        ([0xf3, 0x5a, 0x05, 0xe0, 0x0b, 0xb0, 0x47, 0, 0], None),
+    ];
+    for (nine, want) in cases {
+        let mut bytes = [0; 10];
+        bytes[..9].copy_from_slice(&nine);
+        bytes[9] = crc8(&nine);
+        assert_eq!(rt; Header::read(&bytes, mode).err(), want);
+    }
+    Ok(())
+}
+
+#[test]
+fn slices_one_packet(rt: HostRuntime) -> Result<(), Fail> {
+    let mode = Mode::of(1, false, false).ok_or("none")?;
+    let mut slicer = Slicer::new(rt.alloc(), mode)?;
+    assert!(rt; slicer.size() == 1991 && !slicer.ready());
+    let mut packet = [0; 188];
+    let refused = slicer.put(&packet);
+    assert_eq!(rt; refused, Err(NoSync));
+    slicer.restart();
+    assert!(rt; slicer.size() == 1991 && !slicer.ready());
+    packet[0] = 0x47;
+    slicer.put(&packet)?;
+    assert!(rt; !slicer.ready());
+    slicer.close();
+    assert!(rt; slicer.ready());
+    let mut field = [0xff; 1991];
+    let header = slicer.take(0, &mut field);
+    let want = Header {
+        roll_off: 0,
+        second: 0,
+        dfl: 1512,
+        syncd: 0,
+    };
+    assert_eq!(rt; header, Some(want));
+    assert_eq!(rt; &field[..189], [0; 189].as_slice());
+    assert_eq!(rt; &field[189..191], [0xff; 2].as_slice());
+    assert!(rt; slicer.size() == 1991);
+    assert_eq!(rt; slicer.take(0, &mut field), None);
+    Ok(())
+}
+
+// Two packets in a full field and a last one, whatever was put before.
+fn slice_two_packets(rt: &impl Abort, slicer: &mut Slicer) -> Result<(), Fail> {
+    slicer.restart();
+    let mut packet = [1; 188];
+    packet[0] = 0x47;
+    let crc = crc8(&packet[1..]);
+    assert!(rt; slicer.size() == 374 && !slicer.ready());
+    slicer.put(&packet)?;
+    assert!(rt; slicer.size() == 374 && !slicer.ready());
+    slicer.put(&packet)?;
+    let mut field = [0; 374];
+    let mut bytes = [0; 10];
+    assert!(rt; slicer.size() == 374);
+    let header = slicer.take(0, &mut field).ok_or("none")?;
+    assert!(rt; header.roll_off <= 3);
+    header.write(&mut bytes);
+    assert_eq!(rt; bytes, [0xf0, 0, 0x05, 0xe0, 0x0b, 0xb0, 0x47, 0, 0, 0xab]);
+    assert_eq!(rt;
+        [field[0], field[1], field[187], field[188]],
+        [0, 1, 1, crc]
+    );
+    slicer.close();
+    assert!(rt; slicer.size() == 374);
+    let header = slicer.take(0, &mut field).ok_or("none")?;
+    assert!(rt; header.roll_off <= 3);
+    header.write(&mut bytes);
+    assert_eq!(rt;
+        bytes,
+        [0xf0, 0, 0x05, 0xe0, 0x00, 0x18, 0x47, 0, 0x10, 0xe8]
+    );
+    assert_eq!(rt; &field[..3], [1, 1, crc].as_slice());
+    assert!(rt; slicer.size() == 374);
+    assert_eq!(rt; slicer.take(0, &mut field), None);
+    Ok(())
+}
+
+#[test]
+fn slices_two_packets_into_two_fields(rt: HostRuntime) -> Result<(), Fail> {
+    let mode = Mode::of(1, true, false).ok_or("none")?;
+    let mut slicer = Slicer::new(rt.alloc(), mode)?;
+    slice_two_packets(&rt, &mut slicer)?;
+    slice_two_packets(&rt, &mut slicer)
+}
