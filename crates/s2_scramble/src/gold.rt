@@ -2,7 +2,8 @@
 ghost use Rattle.std.specs.Prelude.{◌≡◌, ℕ, ◌+◌, ◌<◌, ◌≤◌, ◌↔◌, IfOk, IsErrOf, length};
 ghost use Rattle.s2_mode.specs.declared.symbols.Symbol.{Symbol};
 ghost use Rattle.s2_scramble.specs.Gold.{quarter_turns};
-ghost use Rattle.s2_scramble.specs.Turns.{turned, turned_back, symbol_at, CanTurnBack};
+ghost use Rattle.s2_mode.specs.Symbols.{symbol_at};
+ghost use Rattle.s2_scramble.specs.Turns.{turned, turned_back, CanTurnBack};
 
 use crate::tables::quarter_turns;
 use crate::turn::{turn_each, turned, turned_back};

@@ -1,6 +1,7 @@
 //! Quarter turns.
 ghost use Rattle.std.specs.Prelude.{◌≡◌, ℕ, ◌<◌, length, slice_index};
-ghost use Rattle.s2_scramble.specs.Turns.{turned, turned_back, symbol_at};
+ghost use Rattle.s2_mode.specs.Symbols.{symbol_at};
+ghost use Rattle.s2_scramble.specs.Turns.{turned, turned_back};
 
 use s2_mode::Symbol;
 

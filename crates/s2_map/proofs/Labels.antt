@@ -1,0 +1,80 @@
+-- Payload symbols of QPSK and of 8PSK, each bit of a label named.
+use Rattle.std.proofs.Common.{◌≡◌, ℕ, ◌+◌, ◌*◌, ◌/◌, ◌%◌, ◌<◌, Bool, true, false, List, length, refl, ap, sym, ◌∙◌, arith}
+use Rattle.std.specs.Prelude.{◌==◌}
+use Rattle.s2_mode.specs.Symbols.{symbol_at}
+use Rattle.s2_mode.specs.Mode.{Mode, is_qpsk, n_of, width_of}
+use Rattle.s2_bits.specs.Bits.{bit_at, number}
+use Rattle.s2_map.specs.Mapping.{column_of, place_of, qpsk_points, psk_points, points, point_of, label_of, row_symbol, payload_symbol}
+
+pub width_qpsk : (m : Mode) → is_qpsk m ≡ true → width_of m ≡ 2
+unfolding width_of
+width_qpsk m e = rw e
+
+pub width_psk : (m : Mode) → is_qpsk m ≡ false → width_of m ≡ 3
+unfolding width_of
+width_psk m e = rw e
+
+label_of_two : (bit : ℕ → Bool) → label_of 2 bit ≡ 2 * number (bit 0) + number (bit 1)
+unfolding label_of
+label_of_two bit = omega arith
+
+label_of_three : (bit : ℕ → Bool) → label_of 3 bit ≡ 4 * number (bit 0) + 2 * number (bit 1) + number (bit 2)
+unfolding label_of
+label_of_three bit = omega arith
+
+place_qpsk : (m : Mode) → is_qpsk m ≡ true → (i : ℕ) → place_of m i ≡ i
+place_qpsk m e i = rw e
+
+points_qpsk : (m : Mode) → is_qpsk m ≡ true → points m ≡ qpsk_points
+points_qpsk m e = rw e
+
+points_psk : (m : Mode) → is_qpsk m ≡ false → points m ≡ psk_points
+points_psk m e = rw e
+
+pub qpsk_symbol : (m : Mode) (word : List Bool) (s : ℕ) → is_qpsk m ≡ true → payload_symbol m word s ≡ symbol_at qpsk_points (2 * number (bit_at word (2 * s)) + number (bit_at word (2 * s + 1)))
+qpsk_symbol m word s e =
+    let first : 2 * s + 0 ≡ 2 * s = omega arith in
+    ap (λ w. point_of m (label_of w (λ j. bit_at word (place_of m (w * s + j))))) (width_qpsk m e)
+    ∙ (ap (λ ps. symbol_at ps (label_of 2 (λ j. bit_at word (place_of m (2 * s + j))))) (points_qpsk m e)
+    ∙ ap (symbol_at qpsk_points)
+    (label_of_two (λ j. bit_at word (place_of m (2 * s + j)))
+    ∙ (λ t. 2 * number (bit_at word ((place_qpsk m e (2 * s + 0) ∙ first) t)) + number (bit_at word (place_qpsk m e (2 * s + 1) t)))))
+
+-- row s of column c
+place_psk : (m : Mode) → is_qpsk m ≡ false → (s c : ℕ) → c < 3 → place_of m (3 * s + c) ≡ column_of m c * (n_of m / 3) + s
+place_psk m e s c lt =
+    let row : (3 * s + c) / 3 ≡ s = omega arith in
+    let column : (3 * s + c) % 3 ≡ c = omega arith in
+    rw e (λ t. column_of m (column t) * (n_of m / 3) + row t)
+
+psk_bits : (m : Mode) (word : List Bool) (s : ℕ) (first second third : Bool) → is_qpsk m ≡ false
+    → bit_at word (column_of m 0 * (n_of m / 3) + s) ≡ first
+    → bit_at word (column_of m 1 * (n_of m / 3) + s) ≡ second
+    → bit_at word (column_of m 2 * (n_of m / 3) + s) ≡ third
+    → payload_symbol m word s ≡ symbol_at psk_points (4 * number first + 2 * number second + number third)
+psk_bits m word s first second third e a b c =
+    let x = ap (bit_at word) (place_psk m e s 0 (omega arith)) ∙ a in
+    let y = ap (bit_at word) (place_psk m e s 1 (omega arith)) ∙ b in
+    let z = ap (bit_at word) (place_psk m e s 2 (omega arith)) ∙ c in
+    ap (λ w. point_of m (label_of w (λ j. bit_at word (place_of m (w * s + j))))) (width_psk m e)
+    ∙ (ap (λ ps. symbol_at ps (label_of 3 (λ j. bit_at word (place_of m (3 * s + j))))) (points_psk m e)
+    ∙ ap (symbol_at psk_points)
+    (label_of_three (λ j. bit_at word (place_of m (3 * s + j)))
+    ∙ (λ t. 4 * number (x t) + 2 * number (y t) + number (z t))))
+
+-- the columns by their rows
+psk_rows : (m : Mode) (word : List Bool) (rows s : ℕ) (reversed : Bool) → is_qpsk m ≡ false → n_of m / 3 ≡ rows → (m.modcod == 12) ≡ reversed
+    → payload_symbol m word s ≡ row_symbol word reversed rows s
+psk_rows m word rows s true e long is =
+    let a : column_of m 0 * (n_of m / 3) + s ≡ rows + rows + s = rw is (omega arith) in
+    let b : column_of m 1 * (n_of m / 3) + s ≡ rows + s = rw is (omega arith) in
+    let c : column_of m 2 * (n_of m / 3) + s ≡ s = rw is (omega arith) in
+    psk_bits m word s _ _ _ e (ap (bit_at word) a) (ap (bit_at word) b) (ap (bit_at word) c)
+psk_rows m word rows s false e long is =
+    let a : column_of m 0 * (n_of m / 3) + s ≡ s = rw is (omega arith) in
+    let b : column_of m 1 * (n_of m / 3) + s ≡ rows + s = rw is (omega arith) in
+    let c : column_of m 2 * (n_of m / 3) + s ≡ rows + rows + s = rw is (omega arith) in
+    psk_bits m word s _ _ _ e (ap (bit_at word) a) (ap (bit_at word) b) (ap (bit_at word) c)
+
+pub psk_symbol : (m : Mode) (word : List Bool) (rows s : ℕ) → is_qpsk m ≡ false → n_of m / 3 ≡ rows → payload_symbol m word s ≡ row_symbol word (m.modcod == 12) rows s
+psk_symbol m word rows s e long = psk_rows m word rows s (m.modcod == 12) e long refl

@@ -1,0 +1,65 @@
+-- The bit interleaver and the constellations (EN 302 307-1, 5.3.3 and 5.4).
+use Rattle.std.specs.Prelude.{ℕ, zero, suc, ◌+◌, ◌-◌, ◌*◌, ◌/◌, ◌%◌, ◌==◌, Bool, List, [], ◌∷◌, pos, negsuc, map, if◌then◌else◌}
+use Rattle.std.specs.List.{range_with_len}
+use Rattle.s2_mode.specs.declared.symbols.Symbol.{Symbol}
+use Rattle.s2_mode.specs.Symbols.{symbol, symbol_at}
+use Rattle.s2_mode.specs.Mode.{Mode, is_qpsk, n_of, width_of, slots_of}
+use Rattle.s2_bits.specs.Bits.{bit_at, number}
+
+-- the columns are read in the order 0, 1, 2, at 8PSK 3/5, which is MODCOD 12, in the order 2, 1, 0
+abbrev pub column_of : Mode → ℕ → ℕ
+column_of m c = if m.modcod == 12 then 2 - c else c
+
+-- which codeword bit is payload bit i: QPSK has no interleaver; 8PSK writes the codeword into three columns and reads row by row
+abbrev pub place_of : Mode → ℕ → ℕ
+place_of m i = if is_qpsk m then i else column_of m (i % 3) * (n_of m / 3) + i / 3
+
+-- labels 00, 01, 10, 11: the first bit is the sign of I, the second that of Q
+abbrev pub qpsk_points : List Symbol
+qpsk_points =
+    symbol (pos 700) (pos 700)
+    ∷ symbol (pos 700) (negsuc 699)
+    ∷ symbol (negsuc 699) (pos 700)
+    ∷ symbol (negsuc 699) (negsuc 699)
+    ∷ []
+
+-- labels 000 to 111
+abbrev pub psk_points : List Symbol
+psk_points =
+    symbol (pos 700) (pos 700)
+    ∷ symbol (pos 990) (pos 0)
+    ∷ symbol (negsuc 989) (pos 0)
+    ∷ symbol (negsuc 699) (negsuc 699)
+    ∷ symbol (pos 0) (pos 990)
+    ∷ symbol (pos 700) (negsuc 699)
+    ∷ symbol (negsuc 699) (pos 700)
+    ∷ symbol (pos 0) (negsuc 989)
+    ∷ []
+
+abbrev pub points : Mode → List Symbol
+points m = if is_qpsk m then qpsk_points else psk_points
+
+-- the point of a label
+abbrev pub point_of : Mode → ℕ → Symbol
+point_of m label = symbol_at (points m) label
+
+-- so many bits as a number, the first the highest
+unfoldable pub label_of : ℕ → (ℕ → Bool) → ℕ
+label_of zero bit = 0
+label_of (suc n) bit = 2 * label_of n bit + number (bit n)
+
+-- payload symbol s: the point whose label is the bits of the codeword at the next places
+abbrev pub payload_symbol : Mode → List Bool → ℕ → Symbol
+payload_symbol m word s = point_of m (label_of (width_of m) (λ j. bit_at word (place_of m (width_of m * s + j))))
+
+-- the 8PSK point of row s of three columns
+abbrev pub row_symbol : List Bool → Bool → ℕ → ℕ → Symbol
+row_symbol word reversed rows s =
+    let first = bit_at word (if reversed then rows + rows + s else s) in
+    let second = bit_at word (rows + s) in
+    let third = bit_at word (if reversed then s else rows + rows + s) in
+    symbol_at psk_points (4 * number first + 2 * number second + number third)
+
+-- the payload of a frame: 90 symbols for each slot
+abbrev pub payload_of : Mode → List Bool → List Symbol
+payload_of m word = map (payload_symbol m word) (range_with_len 0 (90 * slots_of m))

@@ -1,0 +1,23 @@
+//! The bit interleaver and the constellations of QPSK and 8PSK (EN 302 307-1, 5.3.3 and 5.4),
+//! between the encoder and the physical frame.
+//!
+//! [`place`] says which bit of a codeword is sent as payload bit `i`, and [`point`] which symbol a
+//! label is sent as. [`map_into`] writes exactly the payload of a codeword: symbol `s` is the point
+//! whose label is the bits of the codeword at the places of its two or three payload bits. No call
+//! takes memory.
+//!
+//! ```text
+//! map_into(mode, &codeword, &mut payload);
+//! ```
+#![tactic(auto)]
+
+mod interleaver;
+mod mapper;
+mod points;
+
+pub use interleaver::place;
+pub use mapper::map_into;
+pub use points::point;
+
+#[cfg(test)]
+mod tests;

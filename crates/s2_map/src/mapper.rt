@@ -1,0 +1,62 @@
+//! Codewords to payload symbols (EN 302 307-1, 5.4).
+ghost use Rattle.std.specs.Prelude.{◌≡◌, ℕ, ◌+◌, ◌*◌, ◌<◌, length};
+ghost use Rattle.s2_mode.specs.Mode.{n_of, slots_of};
+ghost use Rattle.s2_mode.specs.Symbols.{symbol_at};
+ghost use Rattle.s2_bits.specs.Bits.{bit_at, number};
+ghost use Rattle.s2_map.specs.Mapping.{qpsk_points, psk_points, row_symbol, payload_of};
+
+use crate::interleaver::PSK_3_5;
+use crate::points::{PSK, QPSK};
+use s2_bits::Bits;
+use s2_mode::{Mode, Symbol};
+
+/// Writes the payload of a codeword: for each slot of the mode 90 symbols.
+pub fn map_into(mode: Mode, word: &Bits, payload: &mut [Symbol])
+    requires word { length word.now ≡ n_of mode }
+    requires room { length payload.old ≡ 90 * slots_of mode }
+    ensures { payload.new ≡ payload_of mode word.now }
+{
+    let bits = word.truths();
+    if mode.is_qpsk() {
+        map_pairs(bits, payload);
+    } else {
+        map_rows(bits, mode.modcod() == PSK_3_5, payload);
+    }
+}
+
+/// QPSK: each two bits are a symbol.
+fn map_pairs(bits: &[bool], payload: &mut [Symbol])
+    requires { length bits.now ≡ 2 * length payload.old }
+    ensures { (s : ℕ) → s < length payload.old → symbol_at payload.new s ≡ symbol_at qpsk_points (2 * number (bit_at bits.now (2 * s)) + number (bit_at bits.now (2 * s + 1))) }
+{
+    for s in 0..payload.len() {
+        payload[s] = QPSK[2 * usize::from(bits[2 * s]) + usize::from(bits[2 * s + 1])];
+    }
+}
+
+/// 8PSK: the codeword is three columns, which are read from the first or from the last one.
+fn map_rows(bits: &[bool], reversed: bool, payload: &mut [Symbol])
+    requires { length bits.now ≡ 3 * length payload.old }
+    ensures { (s : ℕ) → s < length payload.old → symbol_at payload.new s ≡ row_symbol bits.now reversed (length payload.old) s }
+{
+    let (first, rest) = bits.split_at(payload.len());
+    let (second, third) = rest.split_at(payload.len());
+    if reversed {
+        map_columns(third, second, first, payload);
+    } else {
+        map_columns(first, second, third, payload);
+    }
+}
+
+/// 8PSK: each row of the three columns is a symbol.
+fn map_columns(first: &[bool], second: &[bool], third: &[bool], payload: &mut [Symbol])
+    requires first { length first.now ≡ length payload.old }
+    requires second { length second.now ≡ length payload.old }
+    requires third { length third.now ≡ length payload.old }
+    ensures { (s : ℕ) → s < length payload.old → symbol_at payload.new s ≡ symbol_at psk_points (4 * number (bit_at first.now s) + 2 * number (bit_at second.now s) + number (bit_at third.now s)) }
+{
+    for s in 0..payload.len() {
+        let label = 4 * usize::from(first[s]) + 2 * usize::from(second[s]) + usize::from(third[s]);
+        payload[s] = PSK[label];
+    }
+}

@@ -1,0 +1,27 @@
+use Rattle.std.proofs.Common.{◌≡◌, ◌+◌, ◌-◌, ◌<◌, ◌≤◌, ℕ, ◌∙◌, ap, length, inl, inr, arith, pos}
+use Rattle.std.proofs.lemmas.Bool.{cases_lt, lt-ltb, le-ltb}
+use Rattle.std.proofs.lemmas.List.{get_or_append_left, get_or-append_right, get_or-replicate}
+use Rattle.s2_mode.specs.Symbols.{symbol}
+use Rattle.s2_scramble.specs.Gold.{quarter_turns}
+use Rattle.s2_scramble.specs.Turns.{turned}
+use Rattle.s2_plframe.specs.Frame.{pilot}
+use Rattle.s2_plframe.proofs.frame.write_block.Goals as goal
+
+pub returns : goal.returns
+returns c =
+    let at = c.args.at in
+    let none = symbol (pos 0) (pos 0) in
+    let front = c.turn_into.new.out in
+    let back = c.turn_into-2.new.out in
+    let long : length front ≡ 1440 = c.turn_into.auto.out ∙ (omega (arith, c.split_at_mut-front.ensures.front_len)) in
+    λ k lt. elim (cases_lt k 1440) [
+      | inl slots ↦
+          rw (lt-ltb k 1440 slots) (get_or_append_left front back none k (omega arith) ∙ c.turn_into.ensures k (omega arith))
+      | inr pilots ↦
+          let small : k - 1440 < 36 = omega arith in
+          let same : at + 1440 + (k - 1440) ≡ at + k = omega arith in
+          rw (le-ltb k 1440 pilots)
+          (get_or-append_right front back 1440 k none long pilots
+          ∙ (c.turn_into-2.ensures (k - 1440) small
+          ∙ (λ t. turned (quarter_turns c.args.gold.now (same t)) (get_or-replicate 36 (k - 1440) pilot none small t))))
+    ]

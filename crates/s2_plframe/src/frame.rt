@@ -1,0 +1,64 @@
+//! Frames of a header, slots and pilot blocks (EN 302 307-1, 5.5).
+ghost use Rattle.std.specs.Prelude.{◌≡◌, ℕ, ◌+◌, ◌*◌, ◌<◌, ◌≤◌, length};
+ghost use Rattle.s2_mode.specs.Mode.{slots_of, symbols_in};
+ghost use Rattle.s2_mode.specs.Symbols.{symbol_at};
+ghost use Rattle.s2_scramble.specs.Gold.{quarter_turns};
+ghost use Rattle.s2_scramble.specs.Turns.{turned};
+ghost use Rattle.s2_plframe.specs.Frame.{frame_symbols};
+ghost use Rattle.s2_plframe.specs.Slots.{with_pilots, block_symbol};
+
+use crate::header::{AMPLITUDE, HEADER, write_header};
+use s2_mode::{Mode, Symbol};
+use s2_scramble::Gold;
+
+/// How many symbols are between two pilot blocks: 16 slots.
+const SLOTS: usize = 1440;
+
+/// Those and a pilot block.
+const BLOCK: usize = 1476;
+
+/// A pilot block.
+const PILOTS: [Symbol; 36] = [Symbol {
+    i: AMPLITUDE,
+    q: AMPLITUDE,
+}; 36];
+
+/// Writes the frame of a payload, which has 90 symbols for each slot.
+pub fn frame_into(mode: Mode, gold: &Gold, payload: &[Symbol], frame: &mut [Symbol])
+    requires payload { length payload.now ≡ 90 * slots_of mode }
+    requires room { length frame.old ≡ symbols_in mode }
+    ensures { frame.new ≡ frame_symbols mode gold.now payload.now }
+{
+    let blocks = mode.pilot_blocks();
+    let (header, slots) = frame.split_at_mut(HEADER);
+    write_header(mode, header);
+    write_slots(blocks, gold, payload, slots);
+}
+
+/// Writes what follows the header: so many times 16 slots and a pilot block, and the other slots.
+fn write_slots(blocks: usize, gold: &Gold, payload: &[Symbol], out: &mut [Symbol])
+    requires enough { 1440 * blocks ≤ length payload.now }
+    requires room { length out.old ≡ length payload.now + 36 * blocks }
+    requires most { length out.old ≤ 33192 }
+    ensures { (u : ℕ) → u < length out.old → symbol_at out.new u ≡ turned (quarter_turns gold.now u) (block_symbol blocks payload.now u) }
+{
+    for block in 0..blocks {
+        let slots = &payload[SLOTS * block..SLOTS * block + SLOTS];
+        let at = BLOCK * block;
+        write_block(gold, at, slots, &mut out[at..at + BLOCK]);
+    }
+    let at = BLOCK * blocks;
+    gold.turn_into(at, &payload[SLOTS * blocks..], &mut out[at..]);
+}
+
+/// Writes 16 slots and a pilot block.
+fn write_block(gold: &Gold, at: usize, slots: &[Symbol], out: &mut [Symbol])
+    requires slots { length slots.now ≡ 1440 }
+    requires room { length out.old ≡ 1476 }
+    requires most { at + 1476 ≤ 33192 }
+    ensures { (k : ℕ) → k < 1476 → symbol_at out.new k ≡ turned (quarter_turns gold.now (at + k)) (with_pilots slots.now k) }
+{
+    let (front, pilots) = out.split_at_mut(SLOTS);
+    gold.turn_into(at, slots, front);
+    gold.turn_into(at + SLOTS, &PILOTS, pilots);
+}
