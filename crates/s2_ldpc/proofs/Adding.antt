@@ -1,50 +1,62 @@
 -- How the encoder's sums come to be the parity bits.
-use Rattle.std.proofs.Common.{◌≡◌, ℕ, suc, ◌+◌, ◌-◌, ◌%◌, ◌<◌, ◌≤◌, ◌==◌, ◌&&◌, not, Bool, true, false, List, ◌++◌, length, get_or, set, take, inl, inr, refl, sym, ap, ◌∙◌, arith, eq-eqb, ne_eqb, get_or-set_same, get_or-set_other, length-append}
+use Rattle.std.proofs.Common.{◌≡◌, ℕ, suc, ◌+◌, ◌-◌, ◌*◌, ◌/◌, ◌%◌, ◌<◌, ◌≤◌, ◌==◌, ◌&&◌, Bool, true, false, List, ◌++◌, length, get_or, take, refl, sym, ap, ap₂, subst, ◌∙◌, arith, length-append, mul-le-mul_left}
 use Rattle.std.specs.List.{list_any}
-use Rattle.std.proofs.lemmas.Bool.{cases_eq}
 use Rattle.std.proofs.lemmas.List.{get_or_append_left, get_or-append_right}
-use mathlib.Core.Bool.{beq}
+use Rattle.std.proofs.lemmas.Nat.{div-mul-add, mod-mul-add}
 use Rattle.s2_bits.specs.Bits.{xor, bit_at}
 use Rattle.s2_mode.specs.Shape.{information_bits, check_count, code_bits}
-use Rattle.s2_rows.specs.Rows.{Rows, AreAddresses}
-use Rattle.s2_matrix.specs.Code.{code_of}
-use Rattle.s2_matrix.proofs.Joins.{row_more, row_apart}
+use Rattle.s2_rows.specs.Rows.{Rows, AreAddresses, row_of}
+use Rattle.s2_matrix.specs.Code.{code_of, is_member}
+use Rattle.s2_matrix.proofs.Joins.{row_more, row_apart, info_has}
 use Rattle.s2_ldpc.specs.Encoding.{IsCodewordOf, sum_of, information_sum}
-use Rattle.s2_ldpc.proofs.Sums.{xor_none, xor_assoc, or_apart, sum_of-same}
+use Rattle.s2_ldpc.specs.Planes.{plane_place}
+use Rattle.s2_ldpc.proofs.Sums.{or_apart, sum_of-same, sum_of-xor, sum_of-none, sum_of-add}
 use Rattle.s2_ldpc.proofs.Parities.{codeword_with}
 
-pub flipped : (a b : Bool) → not (beq a b) ≡ xor a b
-flipped true true = refl
-flipped true false = refl
-flipped false true = refl
-flipped false false = refl
+-- one address more of a row, which gives no check twice
+pub row_sum_more : (row : List ℕ) (w : ℕ → Bool) (i q n size j : ℕ) → i < length row → AreAddresses n row → sum_of (λ m. list_any (λ x. (x + m * q) % n == j) (take (i + 1) row) && w m) size ≡ xor (sum_of (λ m. list_any (λ x. (x + m * q) % n == j) (take i row) && w m) size) (sum_of (λ m. ((get_or row i 0 + m * q) % n == j) && w m) size)
+row_sum_more row w i q n size j h addresses =
+    let any = λ (m : ℕ). list_any (λ x. (x + m * q) % n == j) (take i row) in
+    let hit = λ (m : ℕ). (get_or row i 0 + m * q) % n == j in
+    sum_of-same (λ m. list_any (λ x. (x + m * q) % n == j) (take (i + 1) row) && w m) (λ m. xor (any m && w m) (hit m && w m)) size (λ m less. ap (λ b. b && w m) (row_more row i (m * q) n j h) ∙ or_apart (any m) (hit m) (w m) (λ test. row_apart row i (m * q) n j h addresses test))
+    ∙ sum_of-xor (λ m. any m && w m) (λ m. hit m && w m) size
 
--- one address more of a row
-pub added_more : (sums old : List Bool) (row : List ℕ) (turn i c : ℕ) (bit new : Bool) → i < length row → 0 < length old → AreAddresses (length old) row → length sums ≡ length old → c ≡ (get_or row i 0 + turn) % length old → new ≡ xor (bit_at sums c) bit → ((j : ℕ) → j < length old → bit_at sums j ≡ xor (bit_at old j) (list_any (λ x. (x + turn) % length old == j) (take i row) && bit)) → (j : ℕ) → j < length old → bit_at (set sums c new) j ≡ xor (bit_at old j) (list_any (λ x. (x + turn) % length old == j) (take (i + 1) row) && bit)
-added_more sums old row turn i c bit new h some addresses long at is before j low =
-    let n = length old in
-    let any = list_any (λ x. (x + turn) % n == j) (take i row) in
-    let hit = (get_or row i 0 + turn) % n == j in
-    let more = ap (λ b. xor (bit_at old j) (b && bit)) (row_more row i turn n j h) in
-    let apart = or_apart any hit bit (λ test. row_apart row i turn n j h addresses test) in
-    let whole : xor (bit_at old j) (list_any (λ x. (x + turn) % n == j) (take (i + 1) row) && bit) ≡ xor (bit_at sums j) (hit && bit) =
-    more ∙ ap (xor (bit_at old j)) apart ∙ sym (xor_assoc (bit_at old j) (any && bit) (hit && bit)) ∙ ap (λ b. xor b (hit && bit)) (sym (before j low))
-    in
-    elim (cases_eq c j) [
-      | inl same ↦ (
-          let yes_hit : hit ≡ true = eq-eqb ((get_or row i 0 + turn) % n) j (sym at ∙ same) in
-          let within : c < length sums = omega (arith, same) in
-          ap (bit_at (set sums c new)) (sym same) ∙ get_or-set_same sums c new false within ∙ is ∙ ap (λ k. xor (bit_at sums k) bit) same ∙ ap (λ b. xor (bit_at sums j) (b && bit)) (sym yes_hit) ∙ sym whole
-          )
-      | inr other ↦ (
-          let no_hit : hit ≡ false = ne_eqb ((get_or row i 0 + turn) % n) j (λ e. other (at ∙ e)) in
-          get_or-set_other sums c j new false (λ e. other (sym e)) ∙ sym (xor_none (bit_at sums j)) ∙ ap (λ b. xor (bit_at sums j) (b && bit)) (sym no_hit) ∙ sym whole
-          )
-    ]
+-- a row of no addresses
+pub row_sum_none : (w : ℕ → Bool) (size : ℕ) → sum_of (λ m. false && w m) size ≡ false
+row_sum_none w size = sum_of-none (λ m. false && w m) size (λ m less. refl)
+
+-- one group more of information bits
+pub group_sum : (r : Rows) (info bits : List Bool) (g j : ℕ) → 1 ≤ r.shape.group → g < r.shape.groups → ((m : ℕ) → m < r.shape.group → bit_at bits m ≡ bit_at info (r.shape.group * g + m)) → sum_of (λ b. is_member r j b && bit_at info b) (r.shape.group * (g + 1)) ≡ xor (sum_of (λ b. is_member r j b && bit_at info b) (r.shape.group * g)) (sum_of (λ m. list_any (λ x. (x + m * r.shape.q) % check_count r.shape == j) (row_of r g) && bit_at bits m) r.shape.group)
+group_sum r info bits g j some low are =
+    let group = r.shape.group in
+    let f = λ (b : ℕ). is_member r j b && bit_at info b in
+    let more : group * (g + 1) ≡ group * g + group = omega arith in
+    ap (sum_of f) more ∙ sum_of-add f (group * g) group ∙ ap (xor (sum_of f (group * g))) (sum_of-same (λ m. f (group * g + m)) (λ m. list_any (λ x. (x + m * r.shape.q) % check_count r.shape == j) (row_of r g) && bit_at bits m) group (λ m less. ap₂ (λ (a b : Bool). a && b) (member m less) (sym (are m less))))
+  where
+    member : (m : ℕ) → m < r.shape.group → is_member r j (r.shape.group * g + m) ≡ list_any (λ x. (x + m * r.shape.q) % check_count r.shape == j) (row_of r g)
+    member m less =
+        let group = r.shape.group in
+        let b = group * g + m in
+        let turn : group * g + m ≡ g * group + m = omega arith in
+        let div : (group * g + m) / group ≡ g = ap (λ n. n / group) turn ∙ div-mul-add g group m less in
+        let rest : (group * g + m) % group ≡ m = ap (λ n. n % group) turn ∙ mod-mul-add g group m less in
+        let below : group * g + m < information_bits r.shape = (let big = mul-le-mul_left group low in omega (arith, big)) in
+        info_has r (group * g + m) j below ∙ ap₂ (λ (g' m' : ℕ). list_any (λ x. (x + m' * r.shape.q) % check_count r.shape == j) (row_of r g')) div rest
+
+-- what a group adds, by the program's numbers
+pub group_more : (r : Rows) (info bits old new : List Bool) (row : List ℕ) (n q g : ℕ) → n ≡ r.shape.group → q ≡ r.shape.q → row ≡ row_of r g → 1 ≤ r.shape.group → g < r.shape.groups → ((m : ℕ) → m < n → bit_at bits m ≡ bit_at info (n * g + m)) → ((j : ℕ) → j < n * q → bit_at new (plane_place n q j) ≡ xor (bit_at old (plane_place n q j)) (sum_of (λ m. list_any (λ x. (x + m * q) % (n * q) == j) row && bit_at bits m) n)) → ((j : ℕ) → j < check_count r.shape → bit_at old (plane_place r.shape.group r.shape.q j) ≡ sum_of (λ b. is_member r j b && bit_at info b) (r.shape.group * g)) → (j : ℕ) → j < check_count r.shape → bit_at new (plane_place r.shape.group r.shape.q j) ≡ sum_of (λ b. is_member r j b && bit_at info b) (r.shape.group * (g + 1))
+group_more r info bits old new row n q g en eq er some low are added before j h =
+    let P : ℕ → Type 0 = λ k. (j : ℕ) → j < k * q → bit_at new (plane_place k q j) ≡ xor (bit_at old (plane_place k q j)) (sum_of (λ m. list_any (λ x. (x + m * q) % (k * q) == j) row && bit_at bits m) k) in
+    let Q : ℕ → Type 0 = λ k. (j : ℕ) → j < r.shape.group * k → bit_at new (plane_place r.shape.group k j) ≡ xor (bit_at old (plane_place r.shape.group k j)) (sum_of (λ m. list_any (λ x. (x + m * k) % (r.shape.group * k) == j) row && bit_at bits m) r.shape.group) in
+    let S : List ℕ → Type 0 = λ l. (j : ℕ) → j < check_count r.shape → bit_at new (plane_place r.shape.group r.shape.q j) ≡ xor (bit_at old (plane_place r.shape.group r.shape.q j)) (sum_of (λ m. list_any (λ x. (x + m * r.shape.q) % check_count r.shape == j) l && bit_at bits m) r.shape.group) in
+    let B : ℕ → Type 0 = λ k. (m : ℕ) → m < k → bit_at bits m ≡ bit_at info (k * g + m) in
+    let step = subst S er (subst Q eq (subst P en added)) in
+    let bits_are = subst B en are in
+    step j h ∙ ap (λ b. xor b (sum_of (λ m. list_any (λ x. (x + m * r.shape.q) % check_count r.shape == j) (row_of r g) && bit_at bits m) r.shape.group)) (before j h) ∙ sym (group_sum r info bits g j some low bits_are)
 
 -- the information bits, and the sums added up
-pub written : (r : Rows) (info front sums parities : List Bool) → length info ≡ information_bits r.shape → front ≡ info → length parities ≡ check_count r.shape → ((j : ℕ) → j < check_count r.shape → bit_at sums j ≡ information_sum (code_of r) info j) → ((j : ℕ) → j < check_count r.shape → bit_at parities j ≡ sum_of (bit_at sums) (suc j)) → IsCodewordOf (code_of r) info (front ++ parities)
-written r info front sums parities long is size are added =
+pub written : (r : Rows) (info front parities : List Bool) (sums : ℕ → Bool) → length info ≡ information_bits r.shape → front ≡ info → length parities ≡ check_count r.shape → ((j : ℕ) → j < check_count r.shape → sums j ≡ information_sum (code_of r) info j) → ((j : ℕ) → j < check_count r.shape → bit_at parities j ≡ sum_of sums (j + 1)) → IsCodewordOf (code_of r) info (front ++ parities)
+written r info front parities sums long is size are added =
     let k = information_bits r.shape in
     let all : code_bits r.shape ≡ k + check_count r.shape = omega arith in
     let same = ap length is in
@@ -54,5 +66,6 @@ written r info front sums parities long is size are added =
     )) (λ j h. (
     let past : k ≤ k + j = omega arith in
     let at : k + j - k ≡ j = omega arith in
-    get_or-append_right front parities k (k + j) false (same ∙ long) past ∙ ap (bit_at parities) at ∙ added j h ∙ sum_of-same (bit_at sums) (information_sum (code_of r) info) (suc j) (λ i less. are i (omega arith))
+    let one : j + 1 ≡ suc j = omega arith in
+    get_or-append_right front parities k (k + j) false (same ∙ long) past ∙ ap (bit_at parities) at ∙ added j h ∙ ap (sum_of sums) one ∙ sum_of-same sums (information_sum (code_of r) info) (suc j) (λ i less. are i (omega arith))
     ))

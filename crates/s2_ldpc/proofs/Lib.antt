@@ -1,3 +1,4 @@
 pub mod Sums
 pub mod Parities
 pub mod Adding
+pub mod Planing

@@ -3,5 +3,6 @@
 
 mod encode;
 pub mod laws;
+mod planes;
 
 pub use encode::encode_into;

@@ -1,35 +1,43 @@
 //! Address rows.
-ghost use Rattle.std.specs.Prelude.{◌≡◌, ◌<◌, ◌≤◌, length};
+ghost use Rattle.std.specs.Prelude.{◌≡◌, ◌<◌, ◌≤◌, length, map};
 ghost use Rattle.s2_mode.specs.Shape.{check_count};
-ghost use Rattle.s2_rows.specs.Rows.{AreAddresses, IsRows, row_of};
+ghost use Rattle.s2_rows.specs.Rows.{AreAddresses, IsRows, row_of, rows_value};
 
 use arrayvec::ArrayVec;
 use s2_mode::Shape;
 use std::marker::Model;
 
-/// The most addresses of a row.
-pub const MOST_ADDRESSES: usize = 24;
+/// The addresses of one row.
+pub type Row = ArrayVec<u32, 24>;
 
 /// A shape, and for each of its groups of information bits the addresses of the group's first bit
-/// (EN 302 307-1, 5.3.2): at most 24, each once, all of them checks.
+/// (EN 302 307-1, 5.3.2): one to 24, each once, all of them below n - k.
 #[derive(Drop)]
 pub struct Rows {
     shape: Shape,
-    rows: Vec<ArrayVec<u32, 24>>,
+    rows: Vec<Row>,
 }
 
 impl Model for Rows {
     ghost use Rattle.std.specs.Prelude.{map};
-    ghost use Rattle.s2_rows.specs.Rows.{Rows as RowsValue, IsRows};
+    ghost use Rattle.s2_rows.specs.Rows.{Rows as RowsValue, IsRows, rows_value};
 
     ghost Value = { RowsValue };
 
-    ghost view = { λ r. record { shape = r.shape; rows = map (λ row. row.items) r.rows.items } };
+    ghost view = { λ r. rows_value r.shape (map (λ row. row.items) r.rows.items) };
 
-    ghost invariant = { λ r. IsRows (record { shape = r.shape; rows = map (λ row. row.items) r.rows.items }) };
+    ghost invariant = { λ r. IsRows (rows_value r.shape (map (λ row. row.items) r.rows.items)) };
 }
 
 impl Rows {
+    /// The rows of a shape, once they are known to be such.
+    pub(crate) fn from_parts(shape: Shape, rows: Vec<Row>) -> Rows
+        requires { IsRows (rows_value shape (map (λ row. row.items) rows.items)) }
+        ensures { result ≡ rows_value shape (map (λ row. row.items) rows.items) }
+    {
+        Rows { shape, rows }
+    }
+
     /// The shape whose rows these are.
     pub fn shape(&self) -> Shape
         ensures is { result ≡ self.now.shape }

@@ -1,0 +1,12 @@
+pub mod ShareLemmas
+pub mod Listed
+pub mod Products
+pub mod Subsets
+pub mod Least
+pub mod Duality
+pub mod UnsplitLemmas
+pub mod ZeroShares
+pub mod FileLemmas
+pub mod Pages
+pub mod ShareBytes
+mod Examples

@@ -1,0 +1,171 @@
+//! A certificate whose lists are lent.
+ghost use Rattle.std.specs.Prelude.{◌≡◌, ◌<◌, ◌≤◌, ◌↔◌, IsTrue, length, slice_index_or, OnOk, ◌-◌, ◌^◌, All, pos, replicate};
+ghost use Rattle.std.specs.Io.KnownBytes.{Appends};
+ghost use Rattle.s2_mode.specs.Counts.{CountsFault};
+ghost use Rattle.s2_mode.specs.Shape.{code_bits};
+ghost use Rattle.s2_check.specs.CertificateBytes.{bytes_of};
+ghost use Rattle.s2_bits.specs.Bits.{bit_at};
+ghost use Rattle.s2_check.specs.Cost.{value_at};
+ghost use Rattle.s2_matrix.specs.Code.{code_of};
+ghost use Rattle.s2_check.specs.Split.{bound, split_of};
+ghost use Rattle.s2_check.specs.Views.{IsView, IsSoft, IsOfShape, unsplit_view};
+
+use crate::shares::Shares;
+use crate::sums::{bits_bound, checks_bound, unsplit_bound};
+use crate::write::{write_header, write_shares, write_soft, write_word};
+use arrayvec::ArrayVec;
+use s2_bits::Bits;
+use s2_matrix::Matrix;
+use s2_mode::{CountedWrite, Shape, WriteFault, write_full};
+use std::marker::Model;
+
+/// A certificate whose lists are lent: a shape, a scale of 1 to 4096, a soft value of -63 to 63
+/// and a bit for each place of a codeword, and the shares of a split, check by check, bits rising.
+#[derive(Drop)]
+pub struct CertView<'a> {
+    pub(crate) shape: Shape,
+    pub(crate) scale: u16,
+    pub(crate) soft: &'a [i16],
+    pub(crate) word: &'a Bits,
+    pub(crate) shares: Shares<'a>,
+}
+
+impl<'a> Model for CertView<'a> {
+    ghost use Rattle.s2_check.specs.Views.{View, IsView};
+    ghost use Rattle.s2_check.specs.Held.{shares_of};
+
+    ghost Value = { View };
+
+    ghost view = { λ v. record { shape = v.shape; scale = v.scale; soft = v.soft.now; bits = v.word.now; shares = shares_of v.shares } };
+
+    ghost invariant = { λ v. IsView (record { shape = v.shape; scale = v.scale; soft = v.soft.now; bits = v.word.now; shares = shares_of v.shares }) };
+}
+
+impl<'a> CertView<'a> {
+    /// The unsplit certificate: scale 1 and no share. It takes no memory.
+    pub fn unsplit(matrix: &Matrix, soft: &'a [i16], word: &'a Bits) -> CertView<'a>
+        requires soft { length soft.now ≡ (code_of matrix.now).bits }
+        requires range { All IsSoft soft.now }
+        requires word { length word.now ≡ (code_of matrix.now).bits }
+        ensures { result ≡ unsplit_view matrix.now soft.now word.now }
+    {
+        CertView {
+            shape: matrix.shape(),
+            scale: 1,
+            soft,
+            word,
+            shares: Shares::Zeros(matrix.edges()),
+        }
+    }
+
+    /// The soft values.
+    pub(crate) fn soft_values(&self) -> &[i16]
+        ensures is { result.now ≡ self.now.soft }
+        ensures long { length result.now ≡ code_bits self.now.shape }
+        ensures few { length result.now ≤ 64800 }
+    {
+        self.soft
+    }
+
+    /// The word.
+    pub(crate) fn word(&self) -> &Bits
+        ensures is { result.now ≡ self.now.bits }
+        ensures long { length result.now ≡ code_bits self.now.shape }
+    {
+        self.word
+    }
+
+    /// Whether the shape is the matrix's, and there is a share for each edge.
+    pub(crate) fn is_of_shape(&self, matrix: &Matrix) -> bool
+        ensures { IsTrue result ↔ IsOfShape matrix.now self.now }
+    {
+        self.shape == matrix.shape() && self.share_count() == matrix.edges()
+    }
+
+    /// The bound that the split shows.
+    pub(crate) fn bound(&self, matrix: &Matrix) -> i64
+        requires { IsOfShape matrix.now self.now }
+        ensures { result ≡ bound (code_of matrix.now) self.now.soft (split_of (code_of matrix.now) self.now.scale self.now.shares) }
+    {
+        match self.shares {
+            Shares::Zeros(_) => unsplit_bound(self.scale, self.soft),
+            Shares::Listed(list) => {
+                checks_bound(matrix, self.scale, list)
+                    + bits_bound(matrix, self.scale, self.soft, list)
+            }
+        }
+    }
+    /// The shape of the code.
+    pub fn shape(&self) -> Shape
+        ensures is { result ≡ self.now.shape }
+        ensures valid { IsView self.now }
+    {
+        self.shape
+    }
+
+    /// The scale, 1 to 4096.
+    pub fn scale(&self) -> u16
+        ensures is { result ≡ self.now.scale }
+        ensures valid { IsView self.now }
+    {
+        self.scale
+    }
+
+    /// The soft value at a place, -63 to 63.
+    pub fn soft(&self, i: usize) -> i16
+        requires { i < code_bits self.now.shape }
+        ensures { result ≡ value_at self.now.soft i }
+    {
+        let soft = self.soft;
+        soft[i]
+    }
+
+    /// The bit of the word at a place.
+    pub fn bit(&self, i: usize) -> bool
+        requires { i < code_bits self.now.shape }
+        ensures { result ≡ bit_at self.now.bits i }
+    {
+        let word = self.word;
+        word.get(i)
+    }
+
+    /// How many shares.
+    pub fn share_count(&self) -> usize
+        ensures is { result ≡ length self.now.shares }
+        ensures few { result ≤ 1555200 }
+    {
+        match self.shares {
+            Shares::Zeros(count) => count,
+            Shares::Listed(list) => list.len(),
+        }
+    }
+
+    /// The share of an edge: edges count from 0, check by check, bits rising.
+    pub fn share(&self, edge: usize) -> i32
+        requires { edge < length self.now.shares }
+        ensures { result ≡ slice_index_or self.now.shares edge (pos 0) }
+    {
+        match self.shares {
+            Shares::Zeros(_) => 0,
+            Shares::Listed(list) => list[edge],
+        }
+    }
+    /// Writes the certificate's file: the very bytes that [`Certificate::read`] accepts as this
+    /// view. They go out a page of 4096 at a time.
+    ///
+    /// [`Certificate::read`]: crate::Certificate::read
+    pub fn write<W: CountedWrite>(&self, out: &mut W) -> Result<(), WriteFault>
+        requires { W.count out.old < 2 ^ 64 - 1 }
+        ensures bytes { OnOk result (Appends (W.contents out.old) (W.contents out.new) (bytes_of self.now)) }
+        ensures cause { CountsFault (W.count out.old) (W.count out.new) result }
+    {
+        let mut page = ArrayVec::new();
+        let count = self.share_count() as u32;
+        write_header(out, &mut page, self.shape, self.scale, count)?;
+        write_soft(out, &mut page, self.soft)?;
+        write_word(out, &mut page, self.word)?;
+        write_shares(out, &mut page, self.shares)?;
+        write_full(out, page.as_slice())?;
+        Ok(())
+    }
+}

@@ -1,0 +1,46 @@
+-- Made rows: what a shape, a weight and a seed determine.
+use Rattle.std.specs.Prelude.{◌≡◌, ℕ, zero, suc, ◌+◌, ◌%◌, ◌==◌, ◌&&◌, nat_le, IsTrue, List, [], ◌∷◌, ◌++◌, length, Bool, Result, Ok, Err, if◌then◌else◌}
+use Rattle.std.specs.List.{list_any}
+use Rattle.rand_core.specs.Pcg32Seed.{pcg32_seed}
+use Rattle.rand_pcg.specs.Lcg.{Lcg}
+use Rattle.rand_pcg.specs.Pcg.{pcg32, pcg32_of_seed}
+use Rattle.s2_mode.specs.Shape.{Shape, check_count}
+use Rattle.s2_rows.specs.declared.limits.TheConstants.{MOST_ADDRESSES}
+use Rattle.s2_rows.specs.declared.make.MakeFault.{MakeFault}
+use Rattle.s2_rows.specs.declared.make.MakeFault.TheVariants as faults
+
+-- the first of x, x + 1, .. (wrapping at n - k) that isn't in the row, after so many moves at most
+unfoldable pub free_from : ℕ → List ℕ → ℕ → ℕ → ℕ
+free_from checks row zero x = x
+free_from checks row (suc moves) x = if list_any (λ y. y == x) row then free_from checks row moves ((x + 1) % checks) else x
+
+-- the address that is drawn next for a row: a row has fewer addresses than there are checks, so as many moves as it has addresses are enough
+abbrev pub drawn_address : ℕ → List ℕ → Lcg → ℕ
+drawn_address checks row g = free_from checks row (length row) ((pcg32 g).0 % checks)
+
+-- a row with so many drawn addresses more, and the generator after them
+unfoldable pub drawn_row : ℕ → ℕ → List ℕ → Lcg → List ℕ × Lcg
+drawn_row checks zero row g = (row, g)
+drawn_row checks (suc left) row g = drawn_row checks left (row ++ drawn_address checks row g ∷ []) (pcg32 g).1
+
+-- so many rows of a weight, one after the other
+unfoldable pub drawn_rows : ℕ → ℕ → ℕ → Lcg → List (List ℕ)
+drawn_rows checks weight zero g = []
+drawn_rows checks weight (suc left) g = (drawn_row checks weight [] g).0 ∷ drawn_rows checks weight left (drawn_row checks weight [] g).1
+
+-- the rows of a shape
+abbrev pub made_rows : Shape → ℕ → ℕ → List (List ℕ)
+made_rows shape weight seed = drawn_rows (check_count shape) weight shape.groups (pcg32_of_seed (pcg32_seed 16 seed))
+
+-- one to 24 addresses, and no more than there are checks
+abbrev pub is_weight : Shape → ℕ → Bool
+is_weight shape weight = nat_le 1 weight && (nat_le weight MOST_ADDRESSES && nat_le weight (check_count shape))
+
+abbrev pub making : Shape → ℕ → ℕ → Result (List (List ℕ)) MakeFault
+making shape weight seed = if is_weight shape weight then Ok (made_rows shape weight seed) else Err faults.BadWeight
+
+-- What was answered is what is made. Memory may run out only where the weight is one.
+abbrev pub Makes : {V : Type 0} → (V → List (List ℕ)) → Result V MakeFault → Shape → ℕ → ℕ → Type 0
+Makes view (Ok v) shape weight seed = making shape weight seed ≡ Ok (view v)
+Makes view (Err faults.NoMemory) shape weight seed = IsTrue (is_weight shape weight)
+Makes view (Err faults.BadWeight) shape weight seed = making shape weight seed ≡ Err faults.BadWeight

@@ -1,0 +1,53 @@
+-- What a row file says, or its first fault.
+use Rattle.std.specs.Prelude.{◌≡◌, ℕ, ◌+◌, ◌-◌, ◌==◌, nat_lt, List, [], ◌∷◌, ◌++◌, length, Option, Some, None, Result, Ok, Err, ⊤, if◌then◌else◌}
+use Rattle.std.specs.List.{list_any}
+use Rattle.s2_mode.specs.Shape.{Shape, check_count}
+use Rattle.s2_rows.specs.declared.limits.TheConstants.{MOST_ADDRESSES}
+use Rattle.s2_rows.specs.declared.row_file.RowFault.{RowFault}
+use Rattle.s2_rows.specs.declared.row_file.RowFault.TheVariants as faults
+use Rattle.s2_rows.specs.Numbers.{natural_of}
+use Rattle.s2_rows.specs.Readings.{ok_cons}
+use Rattle.s2_rows.specs.Text.{lines_of, words_of, is_passed_over}
+
+-- an address, unless it is none or too large
+abbrev pub address_of : ℕ → ℕ → Option ℕ → Result ℕ RowFault
+address_of checks line None = Err (faults.NotNumber line)
+address_of checks line (Some x) = if nat_lt x checks then Ok x else Err (faults.AddressTooLarge line)
+
+-- a row with one address more, unless it has that already
+abbrev pub with_address : ℕ → List ℕ → Result ℕ RowFault → Result (List ℕ) RowFault
+with_address line row (Err e) = Err e
+with_address line row (Ok x) = if list_any (λ y. y == x) row then Err (faults.Repeated line) else Ok (row ++ x ∷ [])
+
+-- a row with the address of one word more, unless it is full
+abbrev pub with_word : ℕ → ℕ → List ℕ → List ℕ → Result (List ℕ) RowFault
+with_word checks line row word =
+    if nat_lt (length row) MOST_ADDRESSES then with_address line row (address_of checks line (natural_of word)) else Err (faults.RowTooLong line)
+
+-- the row that goes on with these words
+unfoldable pub row_from : ℕ → ℕ → Result (List ℕ) RowFault → List (List ℕ) → Result (List ℕ) RowFault
+row_from checks line (Err e) words = Err e
+row_from checks line (Ok row) [] = Ok row
+row_from checks line (Ok row) (word ∷ words) = row_from checks line (with_word checks line row word) words
+
+-- the row of a line
+abbrev pub row_in : ℕ → ℕ → List (List ℕ) → Result (List ℕ) RowFault
+row_in checks line words = row_from checks line (Ok []) words
+
+-- so many rows more, from these lines
+unfoldable pub rows_of : ℕ → ℕ → ℕ → List (List ℕ) → Result (List (List ℕ)) RowFault
+rows_of checks left number [] = if left == 0 then Ok [] else Err faults.TooFewRows
+rows_of checks left number (line ∷ lines) =
+    if is_passed_over (words_of line) then rows_of checks left (number + 1) lines
+    else (if left == 0 then Err faults.TooManyRows
+    else ok_cons (row_in checks number (words_of line)) (rows_of checks (left - 1) (number + 1) lines))
+
+-- the rows of a text for a shape, or the first fault in reading order
+abbrev pub reading : List ℕ → Shape → Result (List (List ℕ)) RowFault
+reading text shape = rows_of (check_count shape) shape.groups 1 (lines_of text)
+
+-- What was answered is the reading, unless memory ran out.
+abbrev pub Answers : {V : Type 0} → (V → List (List ℕ)) → Result V RowFault → Result (List (List ℕ)) RowFault → Type 0
+Answers view (Ok v) reading = reading ≡ Ok (view v)
+Answers view (Err faults.NoMemory) reading = ⊤
+Answers view (Err e) reading = reading ≡ Err e

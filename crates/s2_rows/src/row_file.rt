@@ -1,0 +1,146 @@
+//! Row files.
+ghost use Rattle.std.specs.Prelude.{◌≡◌, ◌≢◌, ◌+◌, ◌-◌, ◌<◌, ◌≤◌, ◌∷◌, ℕ, List, Ok, Err, map, vec_len, vec_capacity, IfOk, MatchResult};
+ghost use Rattle.s2_mode.specs.Shape.{IsShape, check_count};
+ghost use Rattle.s2_rows.specs.Numbers.{natural_of};
+ghost use Rattle.s2_rows.specs.Readings.{after, GoesOn};
+ghost use Rattle.s2_rows.specs.RowFiles.{address_of, with_word, row_in, rows_of, reading, Answers};
+ghost use Rattle.s2_rows.specs.Text.{words_of};
+
+use crate::numbers::natural;
+use crate::rows::{Row, Rows};
+use crate::text::{cut_line, cut_word, is_passed_over};
+use s2_mode::Shape;
+use std::alloc::{Allocator, Global};
+use thiserror::Error;
+
+/// Why a row file is refused. Lines count from 1.
+#[derive(Clone, Copy, Debug, PartialEq, Eq, Error)]
+pub enum RowFault {
+    #[error("not a number in line {line}")]
+    NotNumber { line: u64 },
+    #[error("too few rows")]
+    TooFewRows,
+    #[error("too many rows")]
+    TooManyRows,
+    #[error("address too large in line {line}")]
+    AddressTooLarge { line: u64 },
+    #[error("repeated address in line {line}")]
+    Repeated { line: u64 },
+    #[error("row too long in line {line}")]
+    RowTooLong { line: u64 },
+    #[error("no memory")]
+    NoMemory,
+}
+
+/// The address that a word says.
+fn address(checks: usize, line: u64, word: &[u8]) -> Result<u32, RowFault>
+    requires { checks ≤ 64800 }
+    ensures { result ≡ address_of checks line (natural_of word.now) }
+{
+    match natural(word) {
+        None => Err(RowFault::NotNumber { line }),
+        Some(x) if x as usize >= checks => Err(RowFault::AddressTooLarge { line }),
+        Some(x) => Ok(x),
+    }
+}
+
+/// Adds the address that a word says to its row.
+fn add_word(row: &mut Row, checks: usize, line: u64, word: &[u8]) -> Result<(), RowFault>
+    requires { checks ≤ 64800 }
+    ensures read { MatchResult result
+        (λ _. with_word checks line row.old.items word.now ≡ Ok row.new.items)
+        (λ e. with_word checks line row.old.items word.now ≡ Err e) }
+    ensures memory { result ≢ Err RowFault.NoMemory }
+{
+    if row.is_full() {
+        return Err(RowFault::RowTooLong { line });
+    }
+    let address = address(checks, line, word)?;
+    if row.as_slice().contains(&address) {
+        return Err(RowFault::Repeated { line });
+    }
+    row.push(address);
+    Ok(())
+}
+
+/// The row of a line.
+fn read_row(checks: usize, number: u64, line: &[u8]) -> Result<Row, RowFault>
+    requires { checks ≤ 64800 }
+    ensures read { MatchResult result
+        (λ row. row_in checks number (words_of line.now) ≡ Ok row.items)
+        (λ e. row_in checks number (words_of line.now) ≡ Err e) }
+    ensures memory { result ≢ Err RowFault.NoMemory }
+{
+    let mut row = Row::new();
+    let mut rest = line;
+    while !rest.is_empty() {
+        let (word, after) = cut_word(rest);
+        if !word.is_empty() {
+            add_word(&mut row, checks, number, word)?;
+        }
+        rest = after;
+    }
+    Ok(row)
+}
+
+/// Reads a line behind the rows so far.
+fn read_line<A: Allocator>(
+    rows: &mut Vec<Row, A>,
+    shape: Shape,
+    number: u64,
+    line: &[u8],
+) -> Result<(), RowFault>
+    requires room { shape.groups ≤ vec_capacity rows.old }
+    requires most { vec_len rows.old ≤ shape.groups }
+    ensures read { (lines : List (List ℕ)) → GoesOn result
+        (after (map (λ row. row.items) rows.old.items) (rows_of (check_count shape) (shape.groups - vec_len rows.old) number (line.now ∷ lines)))
+        (after (map (λ row. row.items) rows.new.items) (rows_of (check_count shape) (shape.groups - vec_len rows.new) (number + 1) lines)) }
+    ensures memory { result ≢ Err RowFault.NoMemory }
+    ensures room { shape.groups ≤ vec_capacity rows.new }
+    ensures most { vec_len rows.new ≤ shape.groups }
+{
+    if is_passed_over(line) {
+        return Ok(());
+    }
+    if rows.len() >= shape.groups() {
+        return Err(RowFault::TooManyRows);
+    }
+    let row = read_row(shape.checks(), number, line)?;
+    rows.push(row).unwrap();
+    Ok(())
+}
+
+/// The rows of a text, as many as the shape has groups.
+pub fn read_lines<A: Allocator>(
+    alloc: A,
+    text: &[u8],
+    shape: Shape,
+) -> Result<Vec<Row, A>, RowFault>
+    ensures read { Answers (λ v. map (λ row. row.items) v.items) result (reading text.now shape) }
+    ensures valid { IsShape shape }
+{
+    let mut rows = Vec::with_capacity(alloc, shape.groups()).map_err(|_| RowFault::NoMemory)?;
+    let mut rest = text;
+    let mut number = 1u64;
+    while !rest.is_empty() {
+        let (line, after) = cut_line(rest);
+        read_line(&mut rows, shape, number, line)?;
+        rest = after;
+        number += 1;
+    }
+    if rows.len() < shape.groups() {
+        return Err(RowFault::TooFewRows);
+    }
+    Ok(rows)
+}
+
+/// The rows that a text holds for a shape, or its first fault. Each line that does not say
+/// nothing is the row of the next group of information bits; its words are decimal addresses
+/// below n - k.
+pub fn read_rows(alloc: Global, text: &[u8], shape: Shape) -> Result<Rows, RowFault>
+    ensures rows { Answers (λ r. r.rows) result (reading text.now shape) }
+    ensures shape { IfOk result (λ r. r.shape ≡ shape) }
+{
+    let rows = read_lines(alloc, text, shape)?;
+    Ok(Rows::from_parts(shape, rows))
+}
