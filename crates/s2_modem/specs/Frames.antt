@@ -6,10 +6,10 @@ use Rattle.s2_matrix.specs.Code.{code_of}
 use Rattle.s2_bbframe.specs.declared.header.Header.{Header}
 use Rattle.s2_bbframe.specs.Headers.{header_bytes}
 use Rattle.s2_scramble.specs.Baseband.{scrambled}
-use Rattle.s2_bch.specs.Bch.{IsBchWordOf}
+use Rattle.s2_bch.specs.Codes.{IsBchWordOf}
 use Rattle.s2_ldpc.specs.Encoding.{IsCodewordOf}
 use Rattle.s2_map.specs.Mapping.{payload_of}
-use Rattle.s2_plframe.specs.Frame.{frame_of}
+use Rattle.s2_plframe.specs.Frame.{frame_symbols}
 use Rattle.s2_modem.specs.Spelling.{padded_bits, bytes_of}
 use Rattle.s2_modem.specs.Link.{Link}
 
@@ -25,7 +25,7 @@ pub record IsCodewordFor (mode : Mode) (rows : Rows) (header : Header) (field : 
 
 -- the bytes of the symbols of the physical layer frame of a codeword (5.3.3 to 5.5)
 abbrev pub frame_bytes : Mode → ℕ → List Bool → List ℕ
-frame_bytes mode number codeword = bytes_of (frame_of mode number (payload_of mode codeword))
+frame_bytes mode number codeword = bytes_of (frame_symbols mode number (payload_of mode codeword))
 
 -- the bytes of the frame of a header and its data field
 pub record IsFrameOf (link : Link) (header : Header) (field bytes : List ℕ) : Type 0 where
@@ -45,10 +45,10 @@ pub record Coding : Type 0 where
 pub record FitsCode (coding : Coding) (bch : Mode) (message bch_word : List Bool) : Type 0 where
   pub sizes : HasCodeSizes coding.mode
   pub shape : coding.rows.shape ≡ shape_in coding.mode
-  pub bch : bch ≡ coding.mode
-  pub message : length message ≡ kbch_of coding.mode
-  pub bch_word : length bch_word ≡ k_of coding.mode
-  pub codeword : length coding.codeword ≡ n_of coding.mode
+  pub outer : bch ≡ coding.mode
+  pub message_bits : length message ≡ kbch_of coding.mode
+  pub bch_bits : length bch_word ≡ k_of coding.mode
+  pub code_bits : length coding.codeword ≡ n_of coding.mode
 
 -- the modulating half: what modulates, and the bytes of the last frame
 pub record Modulation : Type 0 where

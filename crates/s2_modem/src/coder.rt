@@ -1,6 +1,6 @@
 //! From a header and its data field to the codeword (EN 302 307-1, 5.2 and 5.3).
 ghost use Rattle.std.specs.Prelude.{◌≡◌, ◌≤◌, length, IfOk};
-ghost use Rattle.s2_mode.specs.Mode.{shape_in};
+ghost use Rattle.s2_mode.specs.Mode.{n_of, shape_in};
 ghost use Rattle.s2_bbframe.specs.DataStream.{field_bytes};
 ghost use Rattle.s2_modem.specs.Frames.{IsCodewordFor};
 
@@ -74,7 +74,8 @@ impl<'a> Coder<'a> {
 
     /// The last codeword.
     pub(crate) fn codeword(&self) -> &Bits
-        ensures { result.now ≡ self.now.codeword }
+        ensures is { result.now ≡ self.now.codeword }
+        ensures long { length result.now ≡ n_of self.now.mode }
     {
         &self.codeword
     }

@@ -14,3 +14,6 @@ pub use outcome::{Counts, SendFault};
 pub use sending::MOST_PACKETS;
 pub use setup::{MOST_ROLL_OFF, Setup, SetupFault};
 pub use transmitter::Transmitter;
+
+#[cfg(test)]
+mod tests;

@@ -25,6 +25,7 @@ fn send_ready<W: CountedWrite>(
     ensures sends { IfOk result (Sends framer.old slicer.old slicer.new (W.contents writer.old) (W.contents writer.new)) }
     ensures cause { CountsFault (W.count writer.old) (W.count writer.new) result }
     ensures same { framer.new ≡ framer.old }
+    ensures size { slicer.new.size ≡ slicer.old.size }
 {
     let Some(header) = slicer.take(framer.roll_off(), field) else {
         return Ok(false);

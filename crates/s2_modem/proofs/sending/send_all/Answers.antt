@@ -1,4 +1,4 @@
-use Rattle.std.proofs.Common.{◌≡◌, ◌≢◌, ◌+◌, ◌<◌, ◌≤◌, ℕ, List, [], ◌∷◌, Bool, true, false, length, take, ap, sym, subst, refl, ◌∙◌, rules, arith, length-take}
+use Rattle.std.proofs.Common.{◌≡◌, ◌≢◌, ◌+◌, ◌<◌, ◌≤◌, ℕ, List, [], ◌∷◌, Bool, true, false, length, take, ap, sym, subst, refl, ◌∙◌, rules, arith, length-take, inl, inr}
 use Rattle.std.proofs.KnownBytes.{Consumes-nil}
 use Rattle.std.proofs.lemmas.List.{take_all}
 use Rattle.std.specs.Io.KnownBytes.{Consumes}
@@ -14,7 +14,7 @@ pub returns-in_default-clause-runs : goal.returns-in_default-clause-runs
 returns-in_default-clause-runs g c =
     let k = c.in_default.ensures.cause in
     let h = c.packets.invariant.0 in
-    stops _ _ _ _ _ _ _ _ _ _ _ [] _ h (Consumes-nil _) tt (λ same. absurd (omega arith), full_here _ _ _ _ _ _ _ _ h)
+    stops _ _ _ _ _ _ _ _ _ _ _ [] _ h (Consumes-nil _) tt (inl (omega arith), full_here _ _ _ _ _ _ _ _ h)
 
 pub returns-then-n-eq0-clause-runs : goal.returns-then-n-eq0-clause-runs
 returns-then-n-eq0-clause-runs g c =
@@ -22,7 +22,7 @@ returns-then-n-eq0-clause-runs g c =
     let r' = g.R.CountedRead.remaining c.read_full.new.reader in
     let none : Consumes r r' [] = subst (λ n. Consumes r r' (take n c.read_full.new.buf)) c.if-n-eq0.true c.in-Ok.ensures.bytes in
     rw c.from-frames.ensures (ends _ _ _ r r' (g.W.CountedWrite.contents c.packets.writer) (g.W.CountedWrite.contents c.send_ready.new.writer) c.packets.slicer c.close.new.self c.send_ready.new.slicer _ _ c.in-Ok-send_ready.last _
-      c.packets.invariant.0 c.requires.packet none (c.in-Ok.ensures.end (omega arith)) c.close.ensures c.packets.framer c.packets.invariant.5 c.in-Ok-send_ready.ensures.sends)
+      c.packets.invariant.0 (subst (λ n. 189 ≤ n) c.requires.size c.requires.packet) none (c.in-Ok.ensures.end (omega arith)) c.close.ensures c.packets.framer c.packets.invariant.5 c.in-Ok-send_ready.ensures.sends)
 
 pub returns-then-n-lt188-clause-runs : goal.returns-then-n-lt188-clause-runs
 returns-then-n-lt188-clause-runs g c =
@@ -52,14 +52,14 @@ packets-preserved g c =
     let r = g.R.CountedRead.remaining c.packets.reader in
     let r' = g.R.CountedRead.remaining c.read_full.new.reader in
     (rw c.from-frames-in-packets.ensures (one_more _ _ _ r r' (g.W.CountedWrite.contents c.packets.writer) (g.W.CountedWrite.contents c.send_ready-in-packets.new.writer) c.packets.slicer c.put.new.self c.send_ready-in-packets.new.slicer _ _ buf c.in-Ok-send_ready-2.sent
-      c.packets.invariant.0 c.requires.packet (subst (Consumes r r') whole c.in-Ok.ensures.bytes) (omega arith, c.in-Ok-put.ensures.accepts.0 refl) c.in-Ok-put.ensures.packet c.in-Ok-put.ensures.stream c.packets.framer c.packets.invariant.5 c.in-Ok-send_ready-2.ensures.sends),
-     search rules, fewer _ _ c.in-Ok-send_ready-2.sent _ c.packets.invariant.2 c.from-frames-in-packets.ensures, search rules, search rules, search rules, search rules)
+      c.packets.invariant.0 (subst (λ n. 189 ≤ n) c.requires.size c.requires.packet) (subst (Consumes r r') whole c.in-Ok.ensures.bytes) (omega arith, c.in-Ok-put.ensures.accepts.0 refl) c.in-Ok-put.ensures.packet c.in-Ok-put.ensures.stream c.packets.framer c.packets.invariant.5 c.in-Ok-send_ready-2.ensures.sends),
+     search rules, fewer _ _ c.in-Ok-send_ready-2.sent _ c.packets.invariant.2 c.from-frames-in-packets.ensures, search rules, search rules, search rules)
 
 pub returns-clause-runs : goal.returns-clause-runs
 returns-clause-runs g c =
     let h = c.packets.invariant.0 in
     let n = h.packet_count in
-    stops _ _ _ _ _ _ _ _ _ _ _ [] _ h (Consumes-nil _) tt (λ _. omega arith, full_here _ _ _ _ _ _ _ _ h)
+    stops _ _ _ _ _ _ _ _ _ _ _ [] _ h (Consumes-nil _) tt (inr (c.packets.invariant.3, omega arith), full_here _ _ _ _ _ _ _ _ h)
 
 pub returns-in_default-send_ready-clause-runs : goal.returns-in_default-send_ready-clause-runs
 returns-in_default-send_ready-clause-runs g c = gives_up _ _ _ _ _ _
