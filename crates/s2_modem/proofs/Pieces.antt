@@ -8,7 +8,7 @@ module _ {X : Type 0} where
 
   pub eight_more : (n : ℕ) (xs front : List X) (a b c d e f g h : X) → n + 8 ≤ length xs → take n xs ≡ front
       → take (n + 8) (set (set (set (set (set (set (set (set xs n a) (n + 1) b) (n + 2) c) (n + 3) d) (n + 4) e) (n + 5) f) (n + 6) g) (n + 7) h)
-        ≡ front ++ (a ∷ b ∷ c ∷ d ∷ e ∷ f ∷ g ∷ h ∷ [])
+      ≡ front ++ (a ∷ b ∷ c ∷ d ∷ e ∷ f ∷ g ∷ h ∷ [])
   eight_more n xs front a b c d e f g h room is =
       let x1 = set xs n a in let l1 : length x1 ≡ length xs = length-set xs n a in
       let x2 = set x1 (n + 1) b in let l2 : length x2 ≡ length x1 = length-set x1 (n + 1) b in

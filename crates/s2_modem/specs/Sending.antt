@@ -61,5 +61,5 @@ abbrev pub Sends : Link → Slicing → Slicing → Option (List ℕ) → Option
 Sends link old new writer_old writer_new true =
     IsReady old × (new ≡ after_field old)
     × ((packets fields : List (List ℕ)) → Sliced packets fields old → Sliced packets (fields ++ next_field old ∷ []) new
-        × ((frame : List ℕ) × IsFrameOf link (header_at link.setup.roll_off (length (joined fields)) (next_field old)) (next_field old) frame × Appends writer_old writer_new frame))
+    × ((frame : List ℕ) × IsFrameOf link (header_at link.setup.roll_off (length (joined fields)) (next_field old)) (next_field old) frame × Appends writer_old writer_new frame))
 Sends link old new writer_old writer_new false = (IsReady old → ⊥) × (new ≡ old) × (writer_new ≡ writer_old)

@@ -56,8 +56,7 @@ impl<'a> Framer<'a> {
         }
         let gold = Gold::new(alloc, setup.number).map_err(|_| SetupFault::NoMemory)?;
         let coder = Coder::new(alloc, setup.mode, matrix).map_err(|_| SetupFault::NoMemory)?;
-        let modulator =
-            Modulator::new(alloc, setup.mode, gold).map_err(|_| SetupFault::NoMemory)?;
+        let modulator = Modulator::new(alloc, setup.mode, gold).map_err(|_| SetupFault::NoMemory)?;
         Ok(Framer {
             setup,
             coder,

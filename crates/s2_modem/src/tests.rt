@@ -8,7 +8,6 @@ use s2_mode::{ByOne, Counted, Counting, FailAt, InMemory, Mode, Shape};
 use s2_rows::make_rows;
 use s2_scramble::bb_xor_in_place;
 use std::alloc::Global;
-use std::process::Abort;
 use std::test::Fail;
 
 /// A sum of bytes in which each place counts.
@@ -36,11 +35,11 @@ fn matrix_of(alloc: Global, mode: Mode) -> Result<Matrix, Fail> {
 }
 
 /// A packet of zeros.
-const ZEROS: [u8; 188] = {
+fn packet_of_zeros() -> [u8; 188] {
     let mut packet = [0; 188];
     packet[0] = 0x47;
     packet
-};
+}
 
 /// Two packets that count in steps of 7.
 fn counting_packets() -> [u8; 376] {
@@ -71,7 +70,7 @@ const ONE: Counts = Counts {
 
 #[test]
 fn sends_a_single_packet(rt: HostRuntime) -> Result<(), Fail> {
-    let sent = sent(rt.alloc(), setup_of(1, false, false)?, &ZEROS)?;
+    let sent = sent(rt.alloc(), setup_of(1, false, false)?, &packet_of_zeros())?;
     assert_eq!(rt; sent, (ONE, 4 * 32490, 3895363348699734475));
     Ok(())
 }
@@ -81,7 +80,10 @@ fn sends_8psk_with_pilots(rt: HostRuntime) -> Result<(), Fail> {
     let mut setup = setup_of(14, false, true)?;
     setup.number = 5;
     setup.roll_off = 2;
-    assert_eq!(rt; sent(rt.alloc(), setup, &ZEROS)?, (ONE, 4 * 22194, 7255257953277741230));
+    assert_eq!(rt;
+        sent(rt.alloc(), setup, &packet_of_zeros())?,
+        (ONE, 4 * 22194, 7255257953277741230)
+    );
     Ok(())
 }
 
@@ -90,7 +92,10 @@ fn sends_8psk_3_5_short_under_the_last_number(rt: HostRuntime) -> Result<(), Fai
     let mut setup = setup_of(12, true, true)?;
     setup.number = 262141;
     setup.roll_off = 1;
-    assert_eq!(rt; sent(rt.alloc(), setup, &ZEROS)?, (ONE, 4 * 5598, 10383846973982908413));
+    assert_eq!(rt;
+        sent(rt.alloc(), setup, &packet_of_zeros())?,
+        (ONE, 4 * 5598, 10383846973982908413)
+    );
     Ok(())
 }
 
@@ -100,7 +105,10 @@ fn sends_nothing_of_nothing(rt: HostRuntime) -> Result<(), Fail> {
         packets: 0,
         frames: 0,
     };
-    assert_eq!(rt; sent(rt.alloc(), setup_of(1, false, false)?, &[])?, (none, 0, 0));
+    assert_eq!(rt;
+        sent(rt.alloc(), setup_of(1, false, false)?, &[])?,
+        (none, 0, 0)
+    );
     Ok(())
 }
 
@@ -112,7 +120,10 @@ fn sends_two_packets_however_they_are_read(rt: HostRuntime) -> Result<(), Fail> 
         packets: 2,
         frames: 2,
     };
-    assert_eq!(rt; sent(rt.alloc(), setup, &packets)?, (want, 8 * 8190, 2965807906010956920));
+    assert_eq!(rt;
+        sent(rt.alloc(), setup, &packets)?,
+        (want, 8 * 8190, 2965807906010956920)
+    );
     let matrix = matrix_of(rt.alloc(), setup.mode)?;
     let mut transmitter = Transmitter::new(rt.alloc(), setup, &matrix)?;
     let mut reader = Counting::new(ByOne::new(&packets));
@@ -136,7 +147,10 @@ fn begins_a_new_stream_after_a_refusal(rt: HostRuntime) -> Result<(), Fail> {
     let short = transmitter.run(&mut InMemory::new(&packets[..187]), &mut writer);
     assert_eq!(rt; short, Err(SendFault::NotWholePacket));
     assert!(rt; writer.count() < 1);
-    assert_eq!(rt; transmitter.run(&mut InMemory::new(&ZEROS), &mut writer), Ok(ONE));
+    assert_eq!(rt;
+        transmitter.run(&mut InMemory::new(&packet_of_zeros()), &mut writer),
+        Ok(ONE)
+    );
     assert_eq!(rt; sum_of(&writer.into_inner()), 3895363348699734475);
     Ok(())
 }
@@ -149,7 +163,10 @@ fn tells_what_failed(rt: HostRuntime) -> Result<(), Fail> {
     let mut transmitter = Transmitter::new(rt.alloc(), setup, &matrix)?;
     let mut writer = Counting::new(Vec::new(rt.alloc()));
     let mut reader = Counting::new(FailAt::new(ByOne::new(&packets), 376));
-    assert_eq!(rt; transmitter.run(&mut reader, &mut writer), Err(SendFault::Read));
+    assert_eq!(rt;
+        transmitter.run(&mut reader, &mut writer),
+        Err(SendFault::Read)
+    );
     assert_eq!(rt; reader.count(), 1);
     assert_eq!(rt; writer.into_inner().len(), 4 * 8190);
     let mut writer = Counting::new(FailAt::new(Vec::new(rt.alloc()), 1));

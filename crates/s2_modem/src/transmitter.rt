@@ -45,8 +45,9 @@ impl<'a> Transmitter<'a> {
     {
         let framer = Framer::new(alloc, setup, matrix)?;
         let slicer = Slicer::new(alloc, setup.mode).map_err(|_| SetupFault::NoMemory)?;
-        let field =
-            vec![in alloc; 0u8; (setup.mode.kbch() - 80) / 8].map_err(|_| SetupFault::NoMemory)?;
+        let field = vec![in alloc; 0u8; (setup.mode.kbch() - 80) / 8].map_err(
+            |_| SetupFault::NoMemory,
+        )?;
         Ok(Transmitter {
             framer,
             slicer,

@@ -7,7 +7,7 @@ use Rattle.s2_modem.proofs.sending.send_all.Given as goal
 abbrev pub invariant-packets : goal.invariant-packets
 invariant-packets g l =
     Sending l.fn.framer (field_bytes l.fn.framer.setup.mode) (g.R.CountedRead.remaining l.fn.reader) (g.R.CountedRead.remaining l.reader)
-      (g.W.CountedWrite.contents l.fn.writer) (g.W.CountedWrite.contents l.writer) l.slicer l.packets l.frames
+    (g.W.CountedWrite.contents l.fn.writer) (g.W.CountedWrite.contents l.writer) l.slicer l.packets l.frames
     × (l.packets ≡ l._accepted)
     × (l.frames ≤ l.packets)
     × (g.R.Counted.count l.reader ≡ g.R.Counted.count l.fn.reader)

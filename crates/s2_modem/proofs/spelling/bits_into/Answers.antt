@@ -19,4 +19,4 @@ loop-i-preserved c =
     let lt : i < length bytes = c.loop-i-test.true in
     let at : 8 * (i + 1) ≡ 8 * i + 8 = omega arith in
     rw (at, c.byte_bits.ensures)
-      (eight_more (8 * i) c.loop-i.bits (bits_of (take i bytes)) _ _ _ _ _ _ _ _ (omega arith) c.loop-i.invariant ∙ sym (one_byte_more bytes i lt))
+    (eight_more (8 * i) c.loop-i.bits (bits_of (take i bytes)) _ _ _ _ _ _ _ _ (omega arith) c.loop-i.invariant ∙ sym (one_byte_more bytes i lt))

@@ -29,6 +29,6 @@ returns-clause-frame g c =
     let bytes : List ℕ = c.bytes.result.now in
     let made : bytes ≡ frame_bytes inside.modulator.mode inside.modulator.number c.codeword.result.now = c.bytes.ensures ∙ ap (λ m. m.bytes) c.modulate.ensures in
     let is : IsFrameOf c.args.self.now c.args.header.now c.args.field.now bytes =
-          framed c.args.self.now c.args.header.now c.args.field.now inside.setup inside.coder c.encode.new.self inside.modulator c.codeword.result.now bytes
-          c.self.view_is c.self.invariant.0 c.self.invariant.1 c.self.invariant.2 c.encode.ensures.codeword c.codeword.ensures.is made in
+    framed c.args.self.now c.args.header.now c.args.field.now inside.setup inside.coder c.encode.new.self inside.modulator c.codeword.result.now bytes
+    c.self.view_is c.self.invariant.0 c.self.invariant.1 c.self.invariant.2 c.encode.ensures.codeword c.codeword.ensures.is made in
     on_ok c.write_full.result (λ (appended : Appends (g.W.CountedWrite.contents c.args.writer.now) (g.W.CountedWrite.contents c.write_full.new.writer) bytes). (bytes, is, appended)) c.write_full.ensures.bytes
