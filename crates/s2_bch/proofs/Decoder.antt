@@ -1,0 +1,98 @@
+-- The decoder's steps, over plain variables.
+use Rattle.std.specs.Prelude.{ℕ, zero, suc, ◌≡◌, ◌≢◌, ◌+◌, ◌-◌, ◌<◌, ◌≤◌, refl, Bool, true, false, List, [], ◌∷◌, length, take, drop, set, not}
+use Rattle.std.proofs.Common.{sym, ◌∙◌, ap, ap₂, arith, subst, get_or, inl, inr, length-append, length-take, length-drop, drop-cons}
+use Rattle.std.proofs.lemmas.List.{drop-set}
+use Rattle.s2_bits.specs.Bits.{xor}
+use Rattle.std.proofs.lemmas.Bool.{cases_lt}
+use Rattle.s2_field.specs.Laws.{FieldLaws}
+use Rattle.s2_field.specs.Polynomials as P
+use Rattle.s2_bch.specs.Sequences as S
+use Rattle.s2_bch.specs.Values as V
+use Rattle.s2_bch.specs.Flips as flips
+use Rattle.s2_bch.specs.Words.{IsMultiple, IsWordOf, distance, weight, word-unique, product, length-product}
+use Rattle.s2_bch.specs.Roots.{pick, value, horner_from, value-horner}
+use Rattle.s2_bch.specs.Decoding.{decoded}
+
+module _ {F : Type 0} (nil one : F) (add mul : F → F → F) (inv : F → F) (L : FieldLaws nil one add mul inv) where
+  open L use {add_zero}
+
+  same_horner : (v : F) (w : List Bool) (x : F) → horner_from nil one add mul inv L v w x ≡ V.horner_of nil one add mul v w x
+  same_horner v [] x = refl
+  same_horner v (true ∷ w) x = same_horner (add (mul v x) one) w x
+  same_horner v (false ∷ w) x =
+      ap (λ u. horner_from nil one add mul inv L u w x) (add_zero (mul v x)) ∙ same_horner (mul v x) w x
+
+  pub by_horner : (w : List Bool) (x : F) → value nil one add mul inv L w x ≡ V.horner_of nil one add mul nil w x
+  by_horner w x = value-horner nil one add mul inv L w x ∙ same_horner nil w x
+
+  pub only_word : (a : F) (bound t n d : ℕ) (g r v w : List Bool) (S' f b : List F) (delta : F)
+      → a ≢ nil → V.AllPowersDiffer nil one add mul a bound → 0 < length g → V.HasRoots nil one add mul a (t + t) g
+      → n ≡ t + t
+      → ((j : ℕ) → j < n → get_or S' j nil ≡ V.horner_of nil one add mul nil r (P.pow nil one add mul a (suc j)))
+      → S.Shortest nil one add mul n d f b delta (S.sequence_of nil S')
+      → flips.FlipsRoots nil one add mul a f r w
+      → IsMultiple g v → length v ≡ length r → length r ≤ bound → distance r v ≤ t → w ≡ v
+  only_word a bound t n d g r v w S' f b delta na p hg roots en syndromes H k mv e h near =
+      decoded nil one add mul inv L a bound t d g r v w S' f b delta na p.differ hg
+      (λ j hj. by_horner g _ ∙ roots.root j hj) mv (sym e) (omega arith) near
+      (λ j hj. syndromes j (omega arith) ∙ sym (by_horner r _))
+      (subst (λ m. S.Shortest nil one add mul m d f b delta (S.sequence_of nil S')) en H) k
+
+-- the only candidate is no multiple
+pub none_multiple : (t k : ℕ) (tail r w u v : List Bool) → IsWordOf (true ∷ tail) (take k w) u → (u ≡ w → ⊥) → length w ≡ k + length tail
+    → IsMultiple (true ∷ tail) v → (distance r v ≤ t → w ≡ v) → t < distance r v
+none_multiple t k tail r w u v U differ size mv only =
+    let l : length (take k w) ≡ k = omega (arith, length-take {A = Bool}) in
+    elim (cases_lt t (distance r v)) [
+      | inl h ↦ h
+      | inr h ↦ absurd (differ
+          (word-unique tail (take k w) u w U (record {
+            front = ap (λ n. take n w) l;
+            size = omega (arith, l);
+            multiple = subst (IsMultiple (true ∷ tail)) (sym (only h)) mv;
+          })))
+    ]
+
+-- ---- the loop that flips: `now` becomes `next`, whose bit at i is b
+
+module _ {F : Type 0} (nil one : F) (add mul : F → F → F) (a : F) (f : List F) (old now next : List Bool) (i : ℕ) (b : Bool)
+    (h : i < length old) (size : length now ≡ length old) (left : get_or now i false ≡ get_or old i false)
+    (e : drop i next ≡ b ∷ drop (suc i) now) where
+  abbrev at_place : F
+  at_place = P.eval nil one add mul f (P.pow nil one add mul a (length (drop (suc i) now)))
+
+  pub flip_step : (at_place ≡ nil → b ≡ xor true (get_or now i false)) → (at_place ≢ nil → b ≡ get_or now i false)
+      → flips.FlipsRoots nil one add mul a f (drop (suc i) old) (drop (suc i) now)
+      → flips.FlipsRoots nil one add mul a f (drop i old) (drop i next)
+  flip_step root other rest =
+      let l : length (drop (suc i) now) ≡ length (drop (suc i) old) = omega (arith, length-drop (suc i) now, length-drop (suc i) old) in
+      let same : at_place ≡ P.eval nil one add mul f (P.pow nil one add mul a (length (drop (suc i) old))) =
+      ap (λ n. P.eval nil one add mul f (P.pow nil one add mul a n)) l in
+      subst (λ u. flips.FlipsRoots nil one add mul a f (drop i old) u) (sym e)
+      (subst (λ u. flips.FlipsRoots nil one add mul a f u (b ∷ drop (suc i) now)) (sym (drop-cons old i false h))
+      ((λ z. root (same ∙ z) ∙ ap (xor true) left), (λ z. other (λ y. z (sym same ∙ y)) ∙ left), rest))
+
+  count_step : distance (drop i old) (drop i next) ≡ weight (xor (get_or old i false) b) + distance (drop (suc i) old) (drop (suc i) now)
+  count_step = ap₂ distance (drop-cons old i false h) e
+
+  pub count_flipped : b ≡ not (get_or now i false) → distance (drop i old) (drop i next) ≡ distance (drop (suc i) old) (drop (suc i) now) + 1
+  count_flipped eb =
+      let w : weight (xor (get_or old i false) b) ≡ 1 = ap (λ x. weight (xor (get_or old i false) x)) (eb ∙ ap not left) ∙ flipped (get_or old i false) in
+      omega (arith, count_step, w)
+    where
+      flipped : (x : Bool) → weight (xor x (not x)) ≡ 1
+      flipped true = refl
+      flipped false = refl
+
+  pub count_kept : b ≡ get_or now i false → distance (drop i old) (drop i next) ≡ distance (drop (suc i) old) (drop (suc i) now)
+  count_kept eb =
+      let w : weight (xor (get_or old i false) b) ≡ 0 = ap (λ x. weight (xor (get_or old i false) x)) (eb ∙ left) ∙ kept (get_or old i false) in
+      omega (arith, count_step, w)
+    where
+      kept : (x : Bool) → weight (xor x x) ≡ 0
+      kept true = refl
+      kept false = refl
+
+pub not-xor : (b : Bool) → not b ≡ xor true b
+not-xor true = refl
+not-xor false = refl

@@ -1,0 +1,6 @@
+mod Steps
+mod Filters
+mod Shortest
+mod Decoder
+mod CodeFacts
+mod Distances

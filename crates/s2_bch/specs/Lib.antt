@@ -1,0 +1,13 @@
+pub mod Words
+pub mod Generators
+pub mod Sequences
+pub mod Values
+pub mod Flips
+pub mod Theory
+pub mod Roots
+pub mod Codes
+pub mod Room
+pub mod Ready
+pub mod Division
+pub mod Tails
+pub mod Decoding

@@ -1,0 +1,60 @@
+-- Sequences over a field, filters, and the shortest filter: the definitions.
+use Rattle.std.specs.Prelude.{ℕ, zero, suc, ◌≡◌, ◌≢◌, ◌+◌, ◌<◌, ◌≤◌, List, [], ◌∷◌, length}
+use Rattle.std.proofs.Common.{get_or}
+use Rattle.s2_field.specs.Polynomials as P
+
+module _ {F : Type 0} (nil one : F) (add mul : F → F → F) where
+  abbrev power : F → ℕ → F
+  power = P.pow nil one add mul
+
+  -- the sum of c x * x^j over the elements x
+  abbrev pub power_sum : List F → (F → F) → ℕ → F
+  power_sum [] c j = nil
+  power_sum (x ∷ xs) c j = add (mul (c x) (power x j)) (power_sum xs c j)
+
+  -- the sum of f's coefficients (the constant first) times the sequence's first terms
+  abbrev pub dot : List F → (ℕ → F) → F
+  dot [] s = nil
+  dot (c ∷ f) s = add (mul c (s zero)) (dot f (λ j. s (suc j)))
+
+  -- the sequence that has dot f of each rest of s
+  abbrev pub filtered : List F → (ℕ → F) → ℕ → F
+  filtered f s i = dot f (λ j. s (i + j))
+
+  -- f of length d + 1 ends in 1
+  abbrev pub IsMonic : ℕ → List F → Type 0
+  IsMonic d [] = ⊥
+  IsMonic zero (c ∷ f) = (c ≡ one) × (f ≡ [])
+  IsMonic (suc d) (c ∷ f) = IsMonic d f
+
+  -- the filtered sequence is zero as far as the first n terms tell; d is f's degree
+  abbrev pub Annihilates : ℕ → ℕ → List F → (ℕ → F) → Type 0
+  Annihilates n d f s = (i : ℕ) → i + d < n → filtered f s i ≡ nil
+
+  abbrev pub plus : List F → List F → List F
+  plus [] g = g
+  plus (x ∷ f) [] = x ∷ f
+  plus (x ∷ f) (y ∷ g) = add x y ∷ plus f g
+
+  abbrev pub scale : F → List F → List F
+  scale a [] = []
+  scale a (x ∷ f) = mul a x ∷ scale a f
+
+  abbrev pub shift : ℕ → List F → List F
+  shift zero f = f
+  shift (suc k) f = nil ∷ shift k f
+
+  -- f is the shortest monic filter of the first n terms, and b, its spare, fails with delta one place before f's degree
+  pub record Shortest (n d : ℕ) (f b : List F) (delta : F) (s : ℕ → F) : Type 0 where
+    pub monic : IsMonic d f
+    pub fits : d ≤ n
+    pub annihilates : Annihilates n d f s
+    pub least : (e : ℕ) (g : List F) → IsMonic e g → Annihilates n e g s → d ≤ e
+    pub spare_zero : (i : ℕ) → suc i < d → filtered b s i ≡ nil
+    pub spare_top : (i : ℕ) → suc i ≡ d → filtered b s i ≡ delta
+    pub spare_length : length b + d ≤ suc n
+    pub nonzero : delta ≢ nil
+
+-- the list's elements, and then zeros
+abbrev pub sequence_of : {F : Type 0} → F → List F → ℕ → F
+sequence_of nil xs j = get_or xs j nil

@@ -1,0 +1,208 @@
+//! The encoder and decoder of a mode's code.
+ghost use Rattle.std.specs.Prelude.{◌≡◌, ◌+◌, ◌*◌, ◌∷◌, ◌<◌, ◌≤◌, List, Bool, true, false, length, drop, IsTrue, ◌↔◌, IfOk, IfSome, IfNone};
+ghost use Rattle.s2_bits.specs.Bits.{differences};
+ghost use Rattle.s2_mode.specs.Mode.{kbch_of, k_of, t_of, IsMode, HasCodeSizes};
+ghost use Rattle.s2_bch.specs.Words.{distance};
+ghost use Rattle.s2_bch.specs.Generators.{generator_of};
+ghost use Rattle.s2_bch.specs.Ready.{IsFinder};
+ghost use Rattle.s2_bch.specs.Codes.{IsBchWord, IsBchWordOf, IsWithin};
+
+use crate::find::Finder;
+use crate::register::{encode_into, tail_of};
+use s2_bits::Bits;
+use s2_field::{Gf14, Gf16};
+use s2_mode::Mode;
+use std::alloc::{AllocError, Global};
+use std::marker::Model;
+
+/// The places of errors are found over one of two fields.
+#[derive(Drop)]
+pub(crate) enum Finders {
+    Normal(Finder<Gf16>),
+    Short(Finder<Gf14>),
+}
+
+/// The BCH code of a mode (EN 302 307-1, 5.3.1), with tables and room to encode and decode.
+#[derive(Drop)]
+pub struct Bch {
+    mode: Mode,
+    tail: Vec<bool>,
+    candidate: Vec<bool>,
+    again: Vec<bool>,
+    finders: Finders,
+}
+
+impl Model for Bch {
+    ghost use Rattle.std.specs.Prelude.{length};
+    ghost use Rattle.s2_mode.specs.Mode.{Mode as ModeValue};
+    ghost use Rattle.s2_bch.specs.Ready.{IsReady};
+
+    ghost Value = { ModeValue };
+
+    ghost view = { λ b. b.mode };
+
+    ghost invariant = { λ b. IsReady b.mode b.tail.items (length b.candidate.items) (length b.again.items) b.finders };
+}
+
+impl Bch {
+    /// The code of a mode. It takes all the memory that its calls use.
+    pub fn new(alloc: Global, mode: Mode) -> Result<Bch, AllocError>
+        ensures { IfOk result (λ b. b ≡ mode) }
+    {
+        let t = mode.t();
+        let finders = if mode.is_short() {
+            Finders::Short(Finder::new(alloc, t)?)
+        } else {
+            Finders::Normal(Finder::new(alloc, t)?)
+        };
+        Ok(Bch {
+            mode,
+            tail: tail_of(alloc, mode)?,
+            candidate: vec![in alloc; false; mode.k()]?,
+            again: vec![in alloc; false; mode.k()]?,
+            finders,
+        })
+    }
+
+    /// The code's word for a message of Kbch bits, into a word of Nbch bits.
+    pub fn encode_into(&self, message: &Bits, word: &mut Bits)
+        requires message { length message.now ≡ kbch_of self.now }
+        requires word { length word.old ≡ k_of self.now }
+        ensures is { IsBchWordOf self.now message.now word.new }
+        ensures word { IsBchWord self.now word.new }
+    {
+        encode_into(&self.tail, message.truths(), word.truths_mut());
+    }
+
+    /// Changes a word of Nbch bits into the code's word that differs from it in at most t places,
+    /// and answers in how many it differed. `None` where there is none: the word is as it was.
+    pub fn decode_in_place(&mut self, word: &mut Bits) -> Option<u32>
+        requires { length word.old ≡ k_of self.old }
+        ensures same { self.new ≡ self.old }
+        ensures some { IfSome result (λ c. IsWithin self.old word.old word.new × (c ≡ differences (length word.old) word.old word.new)) }
+        ensures only { IfSome result (λ c. (v : List Bool) → IsWithin self.old word.old v → v ≡ word.new) }
+        ensures none { IfNone result ((v : List Bool) → IsWithin self.old word.old v → ⊥) }
+        ensures unchanged { IfNone result (word.new ≡ word.old) }
+    {
+        correct_bits(
+            self.mode,
+            &self.tail,
+            &mut self.finders,
+            word,
+            &mut self.candidate,
+            &mut self.again,
+        )
+    }
+}
+
+fn correct_bits(
+    mode: Mode,
+    tail: &[bool],
+    finders: &mut Finders,
+    word: &mut Bits,
+    candidate: &mut [bool],
+    again: &mut [bool],
+) -> Option<u32>
+    requires valid { IsMode mode }
+    requires sizes { HasCodeSizes mode }
+    requires tail { tail.now ≡ drop 1 (generator_of mode) }
+    requires finder { IsFinder mode finders.old }
+    requires word { length word.old ≡ k_of mode }
+    requires candidate { length candidate.old ≡ k_of mode }
+    requires again { length again.old ≡ k_of mode }
+    ensures finder { IsFinder mode finders.new }
+    ensures some { IfSome result (λ c. IsWithin mode word.old word.new × (c ≡ differences (length word.old) word.old word.new)) }
+    ensures only { IfSome result (λ c. (v : List Bool) → IsWithin mode word.old v → v ≡ word.new) }
+    ensures none { IfNone result ((v : List Bool) → IsWithin mode word.old v → ⊥) }
+    ensures unchanged { IfNone result (word.new ≡ word.old) }
+{
+    decode(mode, tail, finders, word.truths_mut(), candidate, again)
+}
+
+/// Leaves a word of the code as it is, which costs one division, and corrects any other.
+fn decode(
+    mode: Mode,
+    tail: &[bool],
+    finders: &mut Finders,
+    word: &mut [bool],
+    candidate: &mut [bool],
+    again: &mut [bool],
+) -> Option<u32>
+    requires valid { IsMode mode }
+    requires sizes { HasCodeSizes mode }
+    requires tail { tail.now ≡ drop 1 (generator_of mode) }
+    requires finder { IsFinder mode finders.old }
+    requires word { length word.old ≡ k_of mode }
+    requires candidate { length candidate.old ≡ k_of mode }
+    requires again { length again.old ≡ k_of mode }
+    ensures finder { IsFinder mode finders.new }
+    ensures some { IfSome result (λ c. IsBchWord mode word.new × (c ≡ distance word.old word.new) × (c ≤ t_of mode)) }
+    ensures only { IfSome result (λ c. (v : List Bool) → IsBchWord mode v → distance word.old v ≤ t_of mode → word.new ≡ v) }
+    ensures none { IfNone result ((v : List Bool) → IsBchWord mode v → t_of mode < distance word.old v) }
+    ensures unchanged { IfNone result (word.new ≡ word.old) }
+{
+    encode_into(tail, &word[..mode.kbch()], again);
+    if same_bits(again, word) {
+        return Some(0);
+    }
+    correct(mode, tail, finders, word, candidate, again)
+}
+
+/// Flips, in a copy of the word, the only places whose change can make it a word of the code, t at
+/// most, and answers how many they are.
+fn flip_near(finders: &mut Finders, mode: Mode, rest: &[bool], candidate: &mut [bool]) -> usize
+    requires valid { IsMode mode }
+    requires sizes { HasCodeSizes mode }
+    requires finder { IsFinder mode finders.old }
+    requires word { length candidate.old ≡ k_of mode }
+    requires copied { candidate.old ≡ rest.now }
+    ensures finder { IsFinder mode finders.new }
+    ensures size { length candidate.new ≡ k_of mode }
+    ensures count { result ≡ distance rest.now candidate.new }
+    ensures only { (v : List Bool) → IsBchWord mode v → distance rest.now v ≤ t_of mode → candidate.new ≡ v }
+{
+    match finders {
+        Finders::Normal(finder) => finder.flip_near(rest, candidate),
+        Finders::Short(finder) => finder.flip_near(rest, candidate),
+    }
+}
+
+fn correct(
+    mode: Mode,
+    tail: &[bool],
+    finders: &mut Finders,
+    word: &mut [bool],
+    candidate: &mut [bool],
+    again: &mut [bool],
+) -> Option<u32>
+    requires valid { IsMode mode }
+    requires sizes { HasCodeSizes mode }
+    requires tail { tail.now ≡ drop 1 (generator_of mode) }
+    requires finder { IsFinder mode finders.old }
+    requires word { length word.old ≡ k_of mode }
+    requires candidate { length candidate.old ≡ k_of mode }
+    requires again { length again.old ≡ k_of mode }
+    ensures finder { IsFinder mode finders.new }
+    ensures some { IfSome result (λ c. IsBchWord mode word.new × (c ≡ distance word.old word.new) × (c ≤ t_of mode)) }
+    ensures only { IfSome result (λ c. (v : List Bool) → IsBchWord mode v → distance word.old v ≤ t_of mode → word.new ≡ v) }
+    ensures none { IfNone result ((v : List Bool) → IsBchWord mode v → t_of mode < distance word.old v) }
+    ensures unchanged { IfNone result (word.new ≡ word.old) }
+{
+    candidate.copy_from_slice(word);
+    let count = flip_near(finders, mode, word, candidate);
+    if count > mode.t() {
+        return None;
+    }
+    encode_into(tail, &candidate[..mode.kbch()], again);
+    if !same_bits(again, candidate) {
+        return None;
+    }
+    word.copy_from_slice(candidate);
+    Some(count as u32)
+}
+
+fn same_bits(a: &[bool], b: &[bool]) -> bool
+    ensures { IsTrue result ↔ (a.now ≡ b.now) }
+{
+    a == b
+}

@@ -1,0 +1,30 @@
+//! Laws of the codes, each the contract of a call that does nothing.
+ghost use Rattle.std.specs.Prelude.{◌≡◌, ◌≢◌, ◌+◌, ◌<◌, List, Bool, true, false};
+ghost use Rattle.s2_bits.specs.Bits.{differences};
+ghost use Rattle.s2_field.specs.Gf14 as gf14;
+ghost use Rattle.s2_field.specs.Gf16 as gf16;
+ghost use Rattle.s2_mode.specs.Mode.{k_of, t_of};
+ghost use Rattle.s2_bch.specs.Generators.{generator_of};
+ghost use Rattle.s2_bch.specs.Words.{IsMultiple};
+ghost use Rattle.s2_bch.specs.Values.{HasRoots};
+ghost use Rattle.s2_bch.specs.Codes.{IsBchWord};
+
+use s2_mode::Mode;
+
+/// A multiple of the generator, so every word of the code, has a, a^2, .., a^(2t) among its roots.
+pub fn roots(mode: Mode)
+    ensures normal { mode.short ≡ false → (w : List Bool) → IsMultiple (generator_of mode) w
+        → HasRoots gf16.zero gf16.one gf16.sum gf16.product gf16.alpha (t_of mode + t_of mode) w }
+    ensures short { mode.short ≡ true → (w : List Bool) → IsMultiple (generator_of mode) w
+        → HasRoots gf14.zero gf14.one gf14.sum gf14.product gf14.alpha (t_of mode + t_of mode) w }
+{
+    let _ = mode.t();
+}
+
+/// Two different words of the code differ in more than 2t places.
+pub fn distance(mode: Mode)
+    ensures { (u v : List Bool) → IsBchWord mode u → IsBchWord mode v → u ≢ v
+        → t_of mode + t_of mode < differences (k_of mode) u v }
+{
+    let _ = mode.t();
+}

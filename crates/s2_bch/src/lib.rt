@@ -1,0 +1,26 @@
+//! The BCH codes of all modes (EN 302 307-1, 5.3.1): encoder, and decoder to the full radius.
+//!
+//! The transmitter encodes each baseband frame here before the LDPC code; the receiver decodes the
+//! first Nbch decided bits. Promised: `Bch::encode_into` leaves the only word of the code that
+//! begins with the message. `Bch::decode_in_place` answers `Some(c)` exactly where some word of the
+//! code differs from the argument in at most t places: that word is the only one, and is what is
+//! left, at distance c. `None` leaves every bit as it was. `laws` has what holds of the codes
+//! themselves: their roots, and how far words are apart. Only `Bch::new` takes memory.
+//!
+//! ```
+//! let mut bch = Bch::new(alloc, mode)?;
+//! bch.encode_into(&message, &mut word);
+//! assert!(rt; bch.decode_in_place(&mut word) == Some(0));
+//! ```
+#![tactic(auto)]
+
+mod bch;
+mod find;
+pub mod laws;
+mod locate;
+mod register;
+
+pub use bch::Bch;
+
+#[cfg(test)]
+mod tests;

@@ -1,0 +1,75 @@
+-- The field of 2^14 elements, by x^14 + x^5 + x^3 + x + 1.
+use Rattle.std.specs.Prelude.{ℕ, ◌≡◌, ◌<◌, ◌≤◌, ◌^◌, refl, List, [], ◌∷◌}
+use Rattle.std.proofs.Common.{arith}
+use Rattle.std.specs.Coded.{le_prop}
+use mathlib.Core.HLevel.{is_prop→PathP}
+use Rattle.s2_field.specs.declared.gf14.Gf14.{Gf14}
+use Rattle.s2_field.specs.Laws.{FieldLaws, IsNumbered}
+use Rattle.s2_field.specs.Elements.{zero_of, one_of, sum_of, product_of, inverse_of, laws_of}
+use Rattle.s2_field.specs.Facts.{half_list_14, frobenius_14, kernel_14, walk_14, last_14}
+use Rattle.s2_field.specs.Binary.{times}
+use Rattle.s2_field.specs.Order.{order_of}
+use Rattle.s2_field.specs.Polynomials.{HasOrder, eval}
+
+abbrev pub number : Gf14 → ℕ
+number x = x.value
+
+pub below : (x : Gf14) → number x < 2 ^ 14
+below x = x.in_range
+
+abbrev pub make : (n : ℕ) → n < 2 ^ 14 → Gf14
+make n h = record { value = n; in_range = h }
+
+pub same : (x y : Gf14) → number x ≡ number y → x ≡ y
+same x y e = λ i. record { value = e i; in_range = is_prop→PathP (λ i. e i < 2 ^ 14) (λ i. le_prop) x.in_range y.in_range i }
+
+pub fourteen : 0 < 14
+fourteen = omega arith
+
+pub low_fits : 43 < 2 ^ 14
+low_fits = omega arith
+
+abbrev pub zero : Gf14
+zero = zero_of 14 43 fourteen low_fits number below make (λ n h. refl) same
+
+abbrev pub one : Gf14
+one = one_of 14 43 fourteen low_fits number below make (λ n h. refl) same
+
+abbrev pub sum : Gf14 → Gf14 → Gf14
+sum = sum_of 14 43 fourteen low_fits number below make (λ n h. refl) same
+
+abbrev pub product : Gf14 → Gf14 → Gf14
+product = product_of 14 43 fourteen low_fits number below make (λ n h. refl) same
+
+abbrev pub inverse : Gf14 → Gf14
+inverse = inverse_of 14 43 fourteen low_fits number below make (λ n h. refl) same
+
+pub laws : FieldLaws zero one sum product inverse
+laws = laws_of 14 43 fourteen low_fits number below make (λ n h. refl) same half_list_14 frobenius_14 kernel_14
+
+pub two_fits : 2 < 2 ^ 14
+two_fits = omega arith
+
+-- a, the element `x`
+abbrev pub alpha : Gf14
+alpha = make 2 two_fits
+
+pub order : HasOrder zero one sum product alpha 16383
+order = order_of 14 43 fourteen low_fits number below make (λ n h. refl) same two_fits refl 16382 walk_14 last_14
+
+pub numbered : IsNumbered zero number 16383
+numbered = record {
+  at_zero = refl;
+  most = λ a. let h = below a in omega arith;
+  same = same;
+  some = omega arith;
+  small = omega arith;
+}
+
+-- the polynomial of the field, the constant first
+abbrev pub polynomial : List Gf14
+polynomial = one ∷ one ∷ zero ∷ one ∷ zero ∷ one ∷ zero ∷ zero ∷ zero ∷ zero ∷ zero ∷ zero ∷ zero ∷ zero ∷ one ∷ []
+
+pub root : eval zero one sum product polynomial alpha ≡ zero
+unfolding times
+root = same _ _ refl

@@ -1,0 +1,75 @@
+-- The field of 2^16 elements, by x^16 + x^5 + x^3 + x^2 + 1.
+use Rattle.std.specs.Prelude.{ℕ, ◌≡◌, ◌<◌, ◌≤◌, ◌^◌, refl, List, [], ◌∷◌}
+use Rattle.std.proofs.Common.{arith}
+use Rattle.std.specs.Coded.{le_prop}
+use mathlib.Core.HLevel.{is_prop→PathP}
+use Rattle.s2_field.specs.declared.gf16.Gf16.{Gf16}
+use Rattle.s2_field.specs.Laws.{FieldLaws, IsNumbered}
+use Rattle.s2_field.specs.Elements.{zero_of, one_of, sum_of, product_of, inverse_of, laws_of}
+use Rattle.s2_field.specs.Facts.{half_list_16, frobenius_16, kernel_16, walk_16, last_16}
+use Rattle.s2_field.specs.Binary.{times}
+use Rattle.s2_field.specs.Order.{order_of}
+use Rattle.s2_field.specs.Polynomials.{HasOrder, eval}
+
+abbrev pub number : Gf16 → ℕ
+number x = x.value
+
+pub below : (x : Gf16) → number x < 2 ^ 16
+below x = x.in_range
+
+abbrev pub make : (n : ℕ) → n < 2 ^ 16 → Gf16
+make n h = record { value = n; in_range = h }
+
+pub same : (x y : Gf16) → number x ≡ number y → x ≡ y
+same x y e = λ i. record { value = e i; in_range = is_prop→PathP (λ i. e i < 2 ^ 16) (λ i. le_prop) x.in_range y.in_range i }
+
+pub sixteen : 0 < 16
+sixteen = omega arith
+
+pub low_fits : 45 < 2 ^ 16
+low_fits = omega arith
+
+abbrev pub zero : Gf16
+zero = zero_of 16 45 sixteen low_fits number below make (λ n h. refl) same
+
+abbrev pub one : Gf16
+one = one_of 16 45 sixteen low_fits number below make (λ n h. refl) same
+
+abbrev pub sum : Gf16 → Gf16 → Gf16
+sum = sum_of 16 45 sixteen low_fits number below make (λ n h. refl) same
+
+abbrev pub product : Gf16 → Gf16 → Gf16
+product = product_of 16 45 sixteen low_fits number below make (λ n h. refl) same
+
+abbrev pub inverse : Gf16 → Gf16
+inverse = inverse_of 16 45 sixteen low_fits number below make (λ n h. refl) same
+
+pub laws : FieldLaws zero one sum product inverse
+laws = laws_of 16 45 sixteen low_fits number below make (λ n h. refl) same half_list_16 frobenius_16 kernel_16
+
+pub two_fits : 2 < 2 ^ 16
+two_fits = omega arith
+
+-- a, the element `x`
+abbrev pub alpha : Gf16
+alpha = make 2 two_fits
+
+pub order : HasOrder zero one sum product alpha 65535
+order = order_of 16 45 sixteen low_fits number below make (λ n h. refl) same two_fits refl 65534 walk_16 last_16
+
+pub numbered : IsNumbered zero number 65535
+numbered = record {
+  at_zero = refl;
+  most = λ a. let h = below a in omega arith;
+  same = same;
+  some = omega arith;
+  small = omega arith;
+}
+
+-- the polynomial of the field, the constant first
+abbrev pub polynomial : List Gf16
+polynomial = one ∷ zero ∷ one ∷ one ∷ zero ∷ one ∷ zero ∷ zero ∷ zero ∷ zero ∷ zero ∷ zero ∷ zero ∷ zero ∷ zero ∷ zero ∷ one ∷ []
+
+pub root : eval zero one sum product polynomial alpha ≡ zero
+unfolding times
+root = same _ _ refl

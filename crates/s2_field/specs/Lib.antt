@@ -1,0 +1,9 @@
+pub mod Laws
+pub mod Polynomials
+pub mod Binary
+pub mod Inverse
+pub mod Elements
+pub mod Order
+pub mod Facts
+pub mod Gf16
+pub mod Gf14

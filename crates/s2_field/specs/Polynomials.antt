@@ -1,0 +1,28 @@
+-- Powers of an element of a field, and polynomials by their coefficients, the constant first.
+use Rattle.std.specs.Prelude.{ℕ, zero, suc, ◌≡◌, ◌≢◌, ◌+◌, ◌<◌, ◌≤◌, List, [], ◌∷◌, length}
+use Rattle.std.proofs.Common.{get_or}
+
+module _ {F : Type 0} (nil one : F) (add mul : F → F → F) where
+  -- x^n
+  abbrev pub pow : F → ℕ → F
+  pow x zero = one
+  pow x (suc n) = mul x (pow x n)
+
+  -- the polynomial at x
+  abbrev pub eval : List F → F → F
+  eval [] x = nil
+  eval (c ∷ f) x = add c (mul x (eval f x))
+
+  -- a has the order n: a^n is 1, and no smaller power with a positive exponent is
+  pub record HasOrder (a : F) (n : ℕ) : Type 0 where
+    pub power : pow a n ≡ one
+    pub least : (i : ℕ) → 0 < i → i < n → pow a i ≢ one
+
+-- all coefficients from place d on are zero
+abbrev pub IsZeroFrom : {F : Type 0} → F → ℕ → List F → Type 0
+IsZeroFrom nil d f = (i : ℕ) → d ≤ i → get_or f i nil ≡ nil
+
+-- d is the last place with a coefficient that is not zero
+pub record IsDegree {F : Type 0} (nil : F) (d : ℕ) (f : List F) : Type 0 where
+  pub top : get_or f d nil ≢ nil
+  pub above : IsZeroFrom nil (d + 1) f

@@ -1,0 +1,83 @@
+//! Fields, whatever their elements.
+ghost use Rattle.std.specs.Prelude.{◌≡◌, ◌≢◌, ◌↔◌, ◌<◌, ◌≤◌, ℕ, IsTrue};
+ghost use Rattle.s2_field.specs.Laws.{FieldLaws, IsNumbered};
+ghost use Rattle.s2_field.specs.Polynomials.{pow, HasOrder};
+
+/// A finite field in which each element is its own negative, with an element whose powers are all
+/// the others but zero.
+pub trait Field: Copy + Drop {
+    ghost zero: { Self };
+
+    ghost one: { Self };
+
+    ghost sum: { Self → Self → Self };
+
+    ghost product: { Self → Self → Self };
+
+    ghost inverse: { Self → Self };
+
+    ghost alpha: { Self };
+
+    ghost number: { Self → ℕ };
+
+    ghost ORDER: { ℕ };
+
+    /// How many elements there are besides zero, which is the order of `alpha`.
+    const ORDER: usize;
+
+    /// The neutral element of addition.
+    fn zero() -> Self
+        ensures { result ≡ zero };
+
+    /// The neutral element of multiplication.
+    fn one() -> Self
+        ensures { result ≡ one };
+
+    /// The root of the field's polynomial of which all elements but zero are powers.
+    fn alpha() -> Self
+        ensures { result ≡ alpha };
+
+    /// Whether this is zero.
+    fn is_zero(self) -> bool
+        ensures { IsTrue result ↔ (self ≡ zero) };
+
+    /// The sum, which is the difference too.
+    fn add(self, other: Self) -> Self
+        ensures { result ≡ sum self other };
+
+    /// The product.
+    fn mul(self, other: Self) -> Self
+        ensures { result ≡ product self other };
+
+    /// The inverse of an element that is not zero.
+    fn inv(self) -> Self
+        requires { self ≢ zero }
+        ensures { result ≡ inverse self };
+
+    /// The number from 0 to `ORDER` that stands for the element.
+    fn number(self) -> usize
+        ensures { result ≡ number self };
+
+    ghost laws: { FieldLaws zero one sum product inverse };
+
+    ghost order: { HasOrder zero one sum product alpha ORDER };
+
+    ghost numbered: { IsNumbered zero number ORDER };
+}
+
+/// The element multiplied by itself: x^exponent, and 1 for exponent 0.
+pub fn pow<F: Field>(x: F, exponent: u32) -> F
+    ensures { result ≡ pow F.zero F.one F.sum F.product x exponent }
+{
+    let mut power = F::one();
+    let mut square = x;
+    let mut rest = exponent;
+    while rest > 0 {
+        if rest % 2 == 1 {
+            power = power.mul(square);
+        }
+        square = square.mul(square);
+        rest /= 2;
+    }
+    power
+}

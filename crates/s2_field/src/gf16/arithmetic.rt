@@ -1,0 +1,102 @@
+//! The operations of `Gf16`.
+ghost use Rattle.std.specs.Prelude.{◌≡◌, ◌<◌, ◌^◌};
+ghost use Rattle.s2_field.specs.Binary.{times_x, times};
+ghost use Rattle.s2_field.specs.Inverse.{norm, inverse as number_inverse};
+ghost use Rattle.s2_field.specs.Gf16.{zero, one, sum, product, inverse, alpha, number, laws, order, numbered};
+
+use super::Gf16;
+use crate::Field;
+
+fn shift(a: u16) -> u16
+    ensures { result ≡ times_x 16 45 a }
+{
+    (a << 1) ^ ((a >> 15) * 45)
+}
+
+fn multiply(a: u16, b: u16) -> u16
+    ensures { result ≡ times 16 45 a b }
+{
+    let mut rest = a;
+    let mut shifted = b;
+    let mut product = 0;
+    for _ in 0..16u32 {
+        product ^= rest % 2 * shifted;
+        shifted = shift(shifted);
+        rest /= 2;
+    }
+    product
+}
+
+fn invert(a: u16) -> u16
+    ensures { result ≡ number_inverse 16 45 a }
+{
+    let mut power = 1;
+    for _ in 0..15u32 {
+        power = multiply(a, multiply(power, power));
+    }
+    multiply(power, power)
+}
+
+impl Field for Gf16 {
+    ghost zero = { zero };
+
+    ghost one = { one };
+
+    ghost sum = { sum };
+
+    ghost product = { product };
+
+    ghost inverse = { inverse };
+
+    ghost alpha = { alpha };
+
+    ghost number = { number };
+
+    ghost ORDER = { 65535 };
+
+    const ORDER: usize = 65535;
+
+    ghost laws = { laws };
+
+    ghost order = { order };
+
+    ghost numbered = { numbered };
+
+    fn zero() -> Gf16 {
+        Gf16 { value: 0 }
+    }
+
+    fn one() -> Gf16 {
+        Gf16 { value: 1 }
+    }
+
+    fn is_zero(self) -> bool {
+        self.value == 0
+    }
+
+    fn add(self, other: Gf16) -> Gf16 {
+        Gf16 {
+            value: self.value ^ other.value,
+        }
+    }
+
+    fn mul(self, other: Gf16) -> Gf16 {
+        Gf16 {
+            value: multiply(self.value, other.value),
+        }
+    }
+
+    fn inv(self) -> Gf16 {
+        Gf16 {
+            value: invert(self.value),
+        }
+    }
+
+    fn alpha() -> Gf16 {
+        Gf16 { value: 2 }
+    }
+
+    fn number(self) -> usize {
+        usize::from(self.value)
+    }
+}
