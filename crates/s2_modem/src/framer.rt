@@ -1,18 +1,18 @@
 //! Makes frames of data fields.
-ghost use Rattle.std.specs.Prelude.{◌≡◌, ◌-◌, ◌^◌, ◌<◌, ◌≤◌, ℕ, List, OnOk, length};
+ghost use Rattle.std.specs.Prelude.{◌≡◌, ◌-◌, ◌^◌, ◌<◌, ◌≤◌, ℕ, List, IfOk, OnOk, length};
 ghost use Rattle.std.specs.Io.KnownBytes.{Appends};
 ghost use Rattle.s2_mode.specs.Counts.{CountsFault};
+ghost use Rattle.s2_mode.specs.Mode.{shape_in};
 ghost use Rattle.s2_bbframe.specs.DataStream.{field_bytes};
 ghost use Rattle.s2_modem.specs.Frames.{IsFrameOf};
-ghost use Rattle.s2_modem.specs.Link.{Answers};
 
 use crate::coder::Coder;
 use crate::modulator::Modulator;
-use crate::setup::{MOST_ROLL_OFF, Setup, SetupFault};
+use crate::setup::{Setup, SetupFault};
 use s2_bbframe::Header;
 use s2_matrix::Matrix;
 use s2_mode::{CountedWrite, WriteFault, write_full};
-use s2_scramble::{Gold, MOST_NUMBER};
+use s2_scramble::Gold;
 use std::alloc::Global;
 use std::marker::Model;
 
@@ -37,26 +37,26 @@ impl<'a> Model for Framer<'a> {
 }
 
 impl<'a> Framer<'a> {
-    /// The maker of a link's frames, or the first refusal.
+    /// The maker of a link's frames. The only fault is that there is no memory.
     pub(crate) fn new(
         alloc: Global,
         setup: Setup,
         matrix: &'a Matrix,
     ) -> Result<Framer<'a>, SetupFault>
-        ensures { Answers setup matrix.now result }
+        requires shape { matrix.now.shape ≡ shape_in setup.mode }
+        requires roll_off { setup.roll_off ≤ 2 }
+        ensures setup { IfOk result (λ f. f.setup ≡ setup) }
+        ensures rows { IfOk result (λ f. f.rows ≡ matrix.now) }
     {
-        if matrix.shape() != setup.mode.shape() {
-            return Err(SetupFault::OtherShape);
-        }
-        if setup.number > MOST_NUMBER {
-            return Err(SetupFault::BadNumber);
-        }
-        if setup.roll_off > MOST_ROLL_OFF {
-            return Err(SetupFault::BadRollOff);
-        }
-        let gold = Gold::new(alloc, setup.number).map_err(|_| SetupFault::NoMemory)?;
-        let coder = Coder::new(alloc, setup.mode, matrix).map_err(|_| SetupFault::NoMemory)?;
-        let modulator = Modulator::new(alloc, setup.mode, gold).map_err(|_| SetupFault::NoMemory)?;
+        let Ok(gold) = Gold::new(alloc, setup.number) else {
+            return Err(SetupFault::NoMemory);
+        };
+        let Ok(modulator) = Modulator::new(alloc, setup.mode, gold) else {
+            return Err(SetupFault::NoMemory);
+        };
+        let Ok(coder) = Coder::new(alloc, setup.mode, matrix) else {
+            return Err(SetupFault::NoMemory);
+        };
         Ok(Framer {
             setup,
             coder,

@@ -6,10 +6,11 @@ ghost use Rattle.s2_modem.specs.Sending.{Runs};
 use crate::framer::Framer;
 use crate::outcome::{Counts, SendFault};
 use crate::sending::{MOST_PACKETS, send_all};
-use crate::setup::{Setup, SetupFault};
+use crate::setup::{MOST_ROLL_OFF, Setup, SetupFault};
 use s2_bbframe::Slicer;
 use s2_matrix::Matrix;
 use s2_mode::{CountedRead, CountedWrite};
+use s2_scramble::MOST_NUMBER;
 use std::alloc::Global;
 use std::marker::Model;
 
@@ -43,11 +44,20 @@ impl<'a> Transmitter<'a> {
     ) -> Result<Transmitter<'a>, SetupFault>
         ensures { Answers setup matrix.now result }
     {
-        let framer = Framer::new(alloc, setup, matrix)?;
+        if matrix.shape() != setup.mode.shape() {
+            return Err(SetupFault::OtherShape);
+        }
+        if setup.number > MOST_NUMBER {
+            return Err(SetupFault::BadNumber);
+        }
+        if setup.roll_off > MOST_ROLL_OFF {
+            return Err(SetupFault::BadRollOff);
+        }
         let slicer = Slicer::new(alloc, setup.mode).map_err(|_| SetupFault::NoMemory)?;
         let field = vec![in alloc; 0u8; (setup.mode.kbch() - 80) / 8].map_err(
             |_| SetupFault::NoMemory,
         )?;
+        let framer = Framer::new(alloc, setup, matrix).map_err(|_| SetupFault::NoMemory)?;
         Ok(Transmitter {
             framer,
             slicer,
