@@ -1,0 +1,302 @@
+/* A DVB-S2 modulator in plain C (EN 302 307-1, 5.1 to 5.5): the baseline that `s2 mod` is timed against.
+ * mod MODCOD SHORT PILOTS NUMBER ROLL_OFF ROWS PACKETS SYMBOLS; SHORT and PILOTS are 0 or 1. */
+#include <stdint.h>
+#include <stdio.h>
+#include <stdlib.h>
+#include <string.h>
+
+enum { PACKET = 188, HEADER_SYMBOLS = 90, GOLD = 262143, MOST_BITS = 64800, MOST_SYMBOLS = 33282 };
+
+typedef struct { int16_t i, q; } symbol;
+
+/* ---- the mode */
+
+static const int rates[11][5] = {
+    {16008, 16200, 12, 3072, 3240},    {21408, 21600, 12, 5232, 5400},    {25728, 25920, 12, 6312, 6480},
+    {32208, 32400, 12, 7032, 7200},    {38688, 38880, 12, 9552, 9720},    {43040, 43200, 10, 10632, 10800},
+    {48408, 48600, 12, 11712, 11880},  {51648, 51840, 12, 12432, 12600},  {53840, 54000, 10, 13152, 13320},
+    {57472, 57600, 8, 14232, 14400},   {58192, 58320, 8, 0, 0},
+};
+static const int psk_rates[6] = {4, 5, 6, 8, 9, 10};
+
+static int modcod, is_short, pilots, kbch, k, n, t, q, width, slots;
+
+static void set_mode(void) {
+    const int *rate = rates[modcod <= 11 ? modcod - 1 : psk_rates[modcod - 12]];
+    kbch = is_short ? rate[3] : rate[0];
+    k = is_short ? rate[4] : rate[1];
+    t = is_short ? 12 : rate[2];
+    n = is_short ? 16200 : 64800;
+    q = (n - k) / 360;
+    width = modcod <= 11 ? 2 : 3;
+    slots = n / width / 90;
+}
+
+/* ---- address rows */
+
+static int row_length[180];
+static uint16_t rows[180][24];
+
+static void read_rows(const char *name) {
+    FILE *file = fopen(name, "r");
+    static char line[4096];
+    int g = 0;
+    if (!file) exit(1);
+    while (g < k / 360 && fgets(line, sizeof line, file)) {
+        char *word = strtok(line, " \t\r\n");
+        if (!word || *word == '#') continue;
+        for (; word; word = strtok(NULL, " \t\r\n")) rows[g][row_length[g]++] = (uint16_t)atoi(word);
+        g++;
+    }
+    fclose(file);
+}
+
+/* ---- 5.1: packets to a stream of bytes, each sync byte replaced by the CRC-8 of the packet before */
+
+static uint8_t crc_table[256];
+
+static void make_crc_table(void) {
+    for (int b = 0; b < 256; b++) {
+        int crc = b;
+        for (int i = 0; i < 8; i++) crc = crc & 0x80 ? (crc << 1) ^ 0xD5 : crc << 1;
+        crc_table[b] = (uint8_t)crc;
+    }
+}
+
+static uint8_t crc8(const uint8_t *bytes, int count) {
+    uint8_t crc = 0;
+    for (int i = 0; i < count; i++) crc = crc_table[crc ^ bytes[i]];
+    return crc;
+}
+
+/* ---- 5.2: the baseband frame */
+
+static uint8_t message[MOST_BITS], word[MOST_BITS];
+
+static void bits_of(const uint8_t *bytes, int count, uint8_t *bits) {
+    for (int i = 0; i < count; i++)
+        for (int b = 0; b < 8; b++) bits[8 * i + b] = bytes[i] >> (7 - b) & 1;
+}
+
+static void baseband_frame(const uint8_t *field, int bytes, uint64_t at, int roll_off) {
+    int syncd = 8 * (int)((PACKET - at % PACKET) % PACKET), dfl = 8 * bytes;
+    uint8_t header[10] = {(uint8_t)(0xF0 + roll_off), 0, 1504 >> 8, 1504 & 255, (uint8_t)(dfl >> 8),
+                          (uint8_t)dfl, 0x47, (uint8_t)(syncd >> 8), (uint8_t)syncd};
+    uint32_t state = 0x4A80 >> 0; /* o[-1] .. o[-15] = 100101010000000, o[-1] the highest of 15 bits */
+    header[9] = crc8(header, 9);
+    bits_of(header, 10, message);
+    bits_of(field, bytes, message + 80);
+    memset(message + 80 + dfl, 0, (size_t)(kbch - 80 - dfl));
+    for (int i = 0; i < kbch; i++) {
+        uint32_t bit = (state ^ state >> 1) & 1; /* o[i-15] and o[i-14] */
+        state = state >> 1 | bit << 14;
+        message[i] ^= (uint8_t)bit;
+    }
+}
+
+/* ---- 5.3.1: BCH, by a division register of up to 192 bits, bit by bit */
+
+static uint64_t generator[3]; /* without its highest coefficient; the highest power at the top of word 0 */
+
+static void make_generator(void) {
+    int m = is_short ? 14 : 16, order = (1 << m) - 1, low = is_short ? 0x2B : 0x2D, degree = 0;
+    static int power[1 << 16];
+    static uint8_t g[200], product[200];
+    for (int i = 0, x = 1; i < order; i++) {
+        power[i] = x;
+        x <<= 1;
+        if (x >> m) x = (x ^ low) & order;
+    }
+    g[0] = 1;
+    for (int root = 1; root < 2 * t; root += 2) { /* the minimal polynomial of a^root: product of x + a^(root 2^i) */
+        int minimal[18] = {1}, logs = root;
+        static int log_of[1 << 16];
+        for (int i = 0; i < order; i++) log_of[power[i]] = i;
+        for (int i = 0; i < m; i++, logs = logs * 2 % order)
+            for (int d = i + 1; d >= 0; d--) {
+                int times = d <= i && minimal[d] ? power[(log_of[minimal[d]] + logs) % order] : 0;
+                minimal[d] = (d ? minimal[d - 1] : 0) ^ times;
+            }
+        memset(product, 0, sizeof product);
+        for (int a = 0; a <= degree; a++)
+            for (int b = 0; b <= m; b++) product[a + b] ^= g[a] & (uint8_t)minimal[b];
+        degree += m;
+        memcpy(g, product, sizeof g);
+    }
+    for (int d = 0; d < degree; d++) {
+        int place = degree - 1 - d;
+        if (g[d]) generator[place / 64] |= 1ull << (63 - place % 64);
+    }
+}
+
+static void bch_encode(void) {
+    uint64_t a = 0, b = 0, c = 0;
+    memcpy(word, message, (size_t)kbch);
+    for (int i = 0; i < kbch; i++) {
+        uint64_t out = (a >> 63 ^ message[i]) & 1, mask = 0 - out;
+        a = (a << 1 | b >> 63) ^ (generator[0] & mask);
+        b = (b << 1 | c >> 63) ^ (generator[1] & mask);
+        c = c << 1 ^ (generator[2] & mask);
+    }
+    for (int i = 0; i < k - kbch; i++) {
+        uint64_t part = i < 64 ? a : i < 128 ? b : c;
+        word[kbch + i] = part >> (63 - i % 64) & 1;
+    }
+}
+
+/* ---- 5.3.2: LDPC */
+
+static void ldpc_encode(void) {
+    uint8_t *parity = word + k;
+    memset(parity, 0, (size_t)(n - k));
+    for (int g = 0; g < k / 360; g++)
+        for (int e = 0; e < row_length[g]; e++) {
+            int j = rows[g][e];
+            for (int m = 0; m < 360; m++) {
+                parity[j] ^= word[360 * g + m];
+                j += q;
+                if (j >= n - k) j -= n - k;
+            }
+        }
+    for (int j = 1; j < n - k; j++) parity[j] ^= parity[j - 1];
+}
+
+/* ---- 5.3.3 and 5.4: interleaver and points */
+
+static const symbol psk[8] = {{700, 700}, {990, 0}, {-990, 0}, {-700, -700}, {0, 990}, {700, -700}, {-700, 700}, {0, -990}};
+static symbol payload[MOST_SYMBOLS], frame[MOST_SYMBOLS];
+
+static void map_symbols(void) {
+    if (width == 2) {
+        for (int s = 0; s < n / 2; s++) {
+            payload[s].i = word[2 * s] ? -700 : 700;
+            payload[s].q = word[2 * s + 1] ? -700 : 700;
+        }
+    } else {
+        int first = modcod == 12 ? 2 * (n / 3) : 0, last = modcod == 12 ? 0 : 2 * (n / 3);
+        for (int s = 0; s < n / 3; s++) payload[s] = psk[4 * word[first + s] + 2 * word[n / 3 + s] + word[last + s]];
+    }
+}
+
+/* ---- 5.5: the physical layer frame */
+
+static symbol header_symbols[HEADER_SYMBOLS];
+static uint8_t turns[MOST_SYMBOLS];
+
+static void make_header(void) {
+    static const uint32_t code[6] = {0x55555555, 0x33333333, 0x0F0F0F0F, 0x00FF00FF, 0x0000FFFF, 0xFFFFFFFF};
+    uint32_t sum = 0;
+    uint64_t bits = 0;
+    for (int b = 0; b < 5; b++)
+        if (modcod >> (4 - b) & 1) sum ^= code[b];
+    if (is_short) sum ^= code[5];
+    for (int b = 31; b >= 0; b--) {
+        uint64_t y = sum >> b & 1;
+        bits = bits << 2 | y << 1 | (y ^ (uint64_t)pilots);
+    }
+    bits ^= 0x719D83C953422DFAull;
+    for (int s = 0; s < HEADER_SYMBOLS; s++) {
+        int bit = s < 26 ? 0x18D2E82 >> (25 - s) & 1 : (int)(bits >> (63 - (s - 26)) & 1);
+        int16_t a = bit ? -700 : 700;
+        header_symbols[s].i = s % 2 ? (int16_t)-a : a;
+        header_symbols[s].q = a;
+    }
+}
+
+static void make_turns(uint32_t number) {
+    static uint8_t x[GOLD + 18], y[GOLD + 18], z[GOLD];
+    x[0] = 1;
+    memset(y, 1, 18);
+    for (int i = 0; i < GOLD; i++) {
+        x[i + 18] = x[i + 7] ^ x[i];
+        y[i + 18] = y[i + 10] ^ y[i + 7] ^ y[i + 5] ^ y[i];
+    }
+    for (uint32_t i = 0; i < GOLD; i++) z[i] = x[(i + number) % GOLD] ^ y[i];
+    for (uint32_t i = 0; i < MOST_SYMBOLS; i++) turns[i] = (uint8_t)(2 * z[(i + 131072) % GOLD] + z[i]);
+}
+
+static int make_frame(void) {
+    static const symbol pilot = {700, 700};
+    int at = HEADER_SYMBOLS, taken = 0;
+    memcpy(frame, header_symbols, sizeof header_symbols);
+    for (int s = 0; s < slots; s++) {
+        memcpy(frame + at, payload + taken, 90 * sizeof(symbol));
+        at += 90;
+        taken += 90;
+        if (pilots && s % 16 == 15 && s + 1 < slots)
+            for (int p = 0; p < 36; p++) frame[at++] = pilot;
+    }
+    for (int i = HEADER_SYMBOLS; i < at; i++) {
+        symbol s = frame[i];
+        switch (turns[i - HEADER_SYMBOLS]) {
+        case 1: frame[i] = (symbol){(int16_t)-s.q, s.i}; break;
+        case 2: frame[i] = (symbol){(int16_t)-s.i, (int16_t)-s.q}; break;
+        case 3: frame[i] = (symbol){s.q, (int16_t)-s.i}; break;
+        default: break;
+        }
+    }
+    return at;
+}
+
+static void write_frame(FILE *out, int symbols) {
+    static uint8_t bytes[4 * MOST_SYMBOLS];
+    for (int i = 0; i < symbols; i++) {
+        bytes[4 * i] = (uint8_t)((uint16_t)frame[i].i >> 8);
+        bytes[4 * i + 1] = (uint8_t)frame[i].i;
+        bytes[4 * i + 2] = (uint8_t)((uint16_t)frame[i].q >> 8);
+        bytes[4 * i + 3] = (uint8_t)frame[i].q;
+    }
+    if (fwrite(bytes, 4, (size_t)symbols, out) != (size_t)symbols) exit(1);
+}
+
+/* ---- the whole chain */
+
+static void send_field(FILE *out, const uint8_t *field, int bytes, uint64_t at, int roll_off) {
+    baseband_frame(field, bytes, at, roll_off);
+    bch_encode();
+    ldpc_encode();
+    map_symbols();
+    write_frame(out, make_frame());
+}
+
+int main(int argc, char **argv) {
+    static uint8_t waiting[8192 + 2 * PACKET], packet[PACKET];
+    uint64_t packets = 0, frames = 0, at = 0;
+    int held = 0, size;
+    FILE *in, *out;
+    if (argc != 9) return 1;
+    modcod = atoi(argv[1]);
+    is_short = atoi(argv[2]);
+    pilots = atoi(argv[3]);
+    set_mode();
+    size = (kbch - 80) / 8;
+    read_rows(argv[6]);
+    make_crc_table();
+    make_generator();
+    make_header();
+    make_turns((uint32_t)atoi(argv[4]));
+    in = fopen(argv[7], "rb");
+    out = fopen(argv[8], "wb");
+    if (!in || !out) return 1;
+    waiting[held++] = 0;
+    while (fread(packet, 1, PACKET, in) == PACKET) {
+        if (packet[0] != 0x47) return 1;
+        memcpy(waiting + held, packet + 1, PACKET - 1);
+        held += PACKET - 1;
+        waiting[held++] = crc8(packet + 1, PACKET - 1);
+        packets++;
+        while (held >= size) {
+            send_field(out, waiting, size, at, atoi(argv[5]));
+            memmove(waiting, waiting + size, (size_t)(held - size));
+            held -= size;
+            at += (uint64_t)size;
+            frames++;
+        }
+    }
+    if (packets && held) {
+        send_field(out, waiting, held, at, atoi(argv[5]));
+        frames++;
+    }
+    printf("packets %llu frames %llu\n", (unsigned long long)packets, (unsigned long long)frames);
+    return fclose(out) != 0;
+}

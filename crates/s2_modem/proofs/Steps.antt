@@ -1,0 +1,208 @@
+-- What a run has done so far, and its steps.
+use Rattle.std.proofs.Common.{◌≡◌, ◌≢◌, ℕ, suc, ◌+◌, ◌-◌, ◌<◌, ◌≤◌, Bool, true, false, List, [], ◌∷◌, ◌++◌, All, Option, length, take, drop, refl, sym, ap, ◌∙◌, subst, append_assoc, append-nil, length-append, length-drop, length-take, length-take-le, Result, Ok, Err, arith}
+use Rattle.std.specs.Prelude.{MatchBool}
+use mir.Val.{bool_byte}
+use Rattle.std.proofs.lemmas.List.{take_all}
+use Rattle.std.proofs.KnownBytes.{Appends-trans, Consumes-trans, Consumes-nil}
+use Rattle.std.specs.Io.KnownBytes.{Consumes, Appends, IsAtEnd}
+use Rattle.std.proofs.lemmas.List.Elements.{All-push, All-nil}
+use Rattle.std.proofs.lemmas.List.{length_push}
+use Rattle.s2_modem.specs.Link.{Link}
+use Rattle.s2_modem.specs.Frames.{IsFrameOf}
+use Rattle.s2_bbframe.specs.DataStream.{IsPacket, Slicing, Sliced, IsReady, next_field, after_field, after_packet, gained, header_at, stream_of, full_fields, fields_of, field_bytes}
+use Rattle.s2_bbframe.specs.Crc.{crc8}
+use Rattle.s2_modem.specs.declared.outcome.Counts.{Counts}
+use Rattle.s2_modem.specs.declared.outcome.SendFault.{SendFault}
+use Rattle.s2_modem.specs.declared.outcome.SendFault.TheVariants.{Write}
+use Rattle.s2_modem.specs.Sending.{joined, AreFrames, Sends, Runs, Outcome, EndsThere}
+use Rattle.s2_modem.proofs.FieldLemmas.{joined-push, AreFrames-push, IsFull, full_are, fields_are, fields_are_and}
+
+pub record Sending (link : Link) (size : ℕ) (r0 r w0 w : Option (List ℕ)) (s : Slicing) (packets frames : ℕ) : Type 0 where
+  pub ps : List (List ℕ)
+  pub fs : List (List ℕ)
+  pub each : All IsPacket ps
+  pub full : All (IsFull size) fs
+  pub consumed : Consumes r0 r (joined ps)
+  pub gs : List (List ℕ)
+  pub are_frames : AreFrames link 0 fs gs
+  pub written : Appends w0 w (joined gs)
+  pub sliced : Sliced ps fs s
+  pub packet_count : packets ≡ length ps
+  pub frame_count : frames ≡ length fs
+  pub size_is : s.size ≡ size
+  pub goes_on : s.closed ≡ false
+  pub room : length s.waiting < size
+
+length_gained : (b : Bool) (p : List ℕ) → IsPacket p → length (gained b p) ≤ 189
+length_gained true p h = omega (arith, length-append (drop 1 p) (crc8 (drop 1 p) ∷ []), length-drop 1 p, h.0)
+length_gained false p h = omega (arith, length-append (drop 1 p) (crc8 (drop 1 p) ∷ []), length-drop 1 p, h.0)
+
+ready_full : (s : Slicing) → s.closed ≡ false → IsReady s → s.size ≤ length s.waiting
+ready_full s e h = subst (λ b. MatchBool b (0 < length s.waiting) (s.size ≤ length s.waiting)) e h
+
+full_ready : (s : Slicing) → s.closed ≡ false → s.size ≤ length s.waiting → IsReady s
+full_ready s e h = subst (λ b. MatchBool b (0 < length s.waiting) (s.size ≤ length s.waiting)) (sym e) h
+
+module _ (link : Link) (r0 w0 : Option (List ℕ)) where
+  abbrev size : ℕ
+  size = field_bytes link.setup.mode
+
+  -- a frame more is written
+  more_frames : (w w' : Option (List ℕ)) (gs : List (List ℕ)) (g : List ℕ) → Appends w0 w (joined gs) → Appends w w' g → Appends w0 w' (joined (gs ++ g ∷ []))
+  more_frames w w' gs g h k = subst (Appends w0 w') (sym (joined-push gs g)) (Appends-trans w0 w w' (joined gs) g h k)
+
+  are_more : (fs gs : List (List ℕ)) (f g : List ℕ) → AreFrames link 0 fs gs → IsFrameOf link (header_at link.setup.roll_off (length (joined fs)) f) f g → AreFrames link 0 (fs ++ f ∷ []) (gs ++ g ∷ [])
+  are_more fs gs f g h k =
+      let e : length (joined fs) ≡ 0 + length (joined fs) = omega arith in
+      AreFrames-push link 0 fs gs f g h (subst (λ n. IsFrameOf link (header_at link.setup.roll_off n f) f g) e k)
+
+  more_packets : (r r' : Option (List ℕ)) (ps : List (List ℕ)) (p : List ℕ) → Consumes r0 r (joined ps) → Consumes r r' p → Consumes r0 r' (joined (ps ++ p ∷ []))
+  more_packets r r' ps p h k = subst (Consumes r0 r') (sym (joined-push ps p)) (Consumes-trans r0 r r' (joined ps) p h k)
+
+  pub one_more : (r r' w w' : Option (List ℕ)) (s s1 s2 : Slicing) (p f : ℕ) (buf : List ℕ) (b : Bool)
+      → Sending link size r0 r w0 w s p f → 189 ≤ size → Consumes r r' buf → IsPacket buf
+      → s1 ≡ after_packet buf s → ((ps fs : List (List ℕ)) → Sliced ps fs s → Sliced (ps ++ buf ∷ []) fs s1)
+      → (link' : Link) → link' ≡ link → Sends link' s1 s2 w w' b → Sending link size r0 r' w0 w' s2 (p + 1) (f + bool_byte b)
+  one_more r r' w w' s s1 s2 p f buf true h large consumes packet is more link' same_link sent =
+      let sends = subst (λ x. Sends x s1 s2 w w' true) same_link sent in
+      let closed : s1.closed ≡ false = ap (λ x. x.closed) is ∙ h.goes_on in
+      let size1 : s1.size ≡ size = ap (λ x. x.size) is ∙ h.size_is in
+      let length1 : length s1.waiting ≡ length (s.waiting ++ gained s.begun buf) = ap (λ x. length x.waiting) is in
+      let length2 : length (s.waiting ++ gained s.begun buf) ≡ length s.waiting + length (gained s.begun buf) = length-append s.waiting (gained s.begun buf) in
+      let short : length (gained s.begun buf) ≤ 189 = length_gained s.begun buf packet in
+      let room0 : length s.waiting < size = h.room in
+      let enough : s1.size ≤ length s1.waiting = ready_full s1 closed sends.0 in
+      let taken : length (take s1.size s1.waiting) ≡ size = length-take-le s1.size s1.waiting enough ∙ size1 in
+      let next = sends.2 (h.ps ++ buf ∷ []) h.fs (more h.ps h.fs h.sliced) in
+      let left : length s2.waiting ≡ length s1.waiting - s1.size = ap (λ x. length x.waiting) sends.1 ∙ length-drop s1.size s1.waiting in
+      let p0 : p ≡ length h.ps = h.packet_count in
+      let f0 : f ≡ length h.fs = h.frame_count in
+      record {
+        ps = h.ps ++ buf ∷ [];
+        fs = h.fs ++ next_field s1 ∷ [];
+        each = All-push IsPacket h.ps buf h.each packet;
+        full = All-push (IsFull size) h.fs (next_field s1) h.full taken;
+        consumed = more_packets r r' h.ps buf h.consumed consumes;
+        gs = h.gs ++ next.1.0 ∷ [];
+        are_frames = are_more h.fs h.gs (next_field s1) next.1.0 h.are_frames next.1.1;
+        written = more_frames w w' h.gs next.1.0 h.written next.1.2;
+        sliced = next.0;
+        packet_count = omega (arith, length_push h.ps buf);
+        frame_count = omega (arith, length_push h.fs (next_field s1));
+        size_is = ap (λ x. x.size) sends.1 ∙ size1;
+        goes_on = ap (λ x. x.closed) sends.1 ∙ closed;
+        room = omega arith;
+      }
+  one_more r r' w w' s s1 s2 p f buf false h large consumes packet is more link' same_link sent =
+      let sends = subst (λ x. Sends x s1 s2 w w' false) same_link sent in
+      let closed : s1.closed ≡ false = ap (λ x. x.closed) is ∙ h.goes_on in
+      let size1 : s1.size ≡ size = ap (λ x. x.size) is ∙ h.size_is in
+      let same : s2 ≡ s1 = sends.1 in
+      let here : length s2.waiting ≡ length s1.waiting = ap (λ x. length x.waiting) same in
+      let p0 : p ≡ length h.ps = h.packet_count in
+      let f0 : f ≡ length h.fs = h.frame_count in
+      let few : (s1.size ≤ length s1.waiting) → ⊥ = λ k. sends.0 (full_ready s1 closed k) in
+      record {
+        ps = h.ps ++ buf ∷ [];
+        fs = h.fs;
+        each = All-push IsPacket h.ps buf h.each packet;
+        full = h.full;
+        consumed = more_packets r r' h.ps buf h.consumed consumes;
+        gs = h.gs;
+        are_frames = h.are_frames;
+        written = subst (λ x. Appends w0 x (joined h.gs)) (sym sends.2) h.written;
+        sliced = subst (Sliced (h.ps ++ buf ∷ []) h.fs) (sym same) (more h.ps h.fs h.sliced);
+        packet_count = omega (arith, length_push h.ps buf);
+        frame_count = omega arith;
+        size_is = ap (λ x. x.size) same ∙ size1;
+        goes_on = ap (λ x. x.closed) same ∙ closed;
+        room = omega arith;
+      }
+
+  -- the fields so far are the full fields of the packets so far
+  pub full_here : (r w : Option (List ℕ)) (s : Slicing) (p f : ℕ) → (h : Sending link size r0 r w0 w s p f) → h.fs ≡ full_fields size (stream_of h.ps)
+  full_here r w s p f h = full_are size h.fs s.waiting (stream_of h.ps) h.sliced.whole h.full h.room
+
+  -- a run that stops keeps what it has done
+  pub stops : (r left w : Option (List ℕ)) (s : Slicing) (p f : ℕ) (MayFail : ℕ → Type 0) (reader_new : Option (List ℕ)) (rest : List ℕ) (result : Result Counts SendFault)
+      → (h : Sending link size r0 r w0 w s p f) → Consumes r left rest → EndsThere result left reader_new → Outcome size MayFail h.ps rest h.fs result
+      → Runs link MayFail r0 reader_new w0 w result
+  stops r left w s p f MayFail reader_new rest result h more end outcome = record {
+    packets = h.ps;
+    rest = rest;
+    fields = h.fs;
+    behind = left;
+    each_is_packet = h.each;
+    read = Consumes-trans r0 r left (joined h.ps) rest h.consumed more;
+    ends = end;
+    outcome = outcome;
+    frames = h.gs;
+    are_frames = h.are_frames;
+    written = λ _. h.written;
+  }
+
+  -- the end, with the last field
+  pub ends : (r r' w w' : Option (List ℕ)) (s s1 s2 : Slicing) (p f : ℕ) (b : Bool) (MayFail : ℕ → Type 0)
+      → Sending link size r0 r w0 w s p f → 189 ≤ size → Consumes r r' [] → IsAtEnd r' → s1 ≡ record s { closed = true }
+      → (link' : Link) → link' ≡ link → Sends link' s1 s2 w w' b → Runs link MayFail r0 r' w0 w' (Ok (record { packets = p; frames = f + bool_byte b }))
+  ends r r' w w' s s1 s2 p f true MayFail h large none end is link' same_link sent =
+      let sends = subst (λ x. Sends x s1 s2 w w' true) same_link sent in
+      let size1 : s1.size ≡ size = ap (λ x. x.size) is ∙ h.size_is in
+      let closed : s1.closed ≡ true = ap (λ x. x.closed) is in
+      let some1 : 0 < length s1.waiting = subst (λ b. MatchBool b (0 < length s1.waiting) (s1.size ≤ length s1.waiting)) closed sends.0 in
+      let same : s1.waiting ≡ s.waiting = ap (λ x. x.waiting) is in
+      let room0 : length s1.waiting < size = subst (λ l. length l < size) (sym same) h.room in
+      let whole : next_field s1 ≡ s1.waiting = take_all s1.size s1.waiting (omega arith) in
+      let old : Sliced h.ps h.fs s1 = subst (Sliced h.ps h.fs) (sym is) (record { begun = h.sliced.begun; phase = h.sliced.phase; whole = h.sliced.whole }) in
+      let next = sends.2 h.ps h.fs old in
+      let f0 : f ≡ length h.fs = h.frame_count in
+      let all : h.fs ++ s1.waiting ∷ [] ≡ fields_of size (stream_of h.ps) = fields_are_and size h.fs s1.waiting (stream_of h.ps) old.whole h.full some1 room0 in
+      record {
+        packets = h.ps;
+        rest = [];
+        fields = h.fs ++ next_field s1 ∷ [];
+        behind = r';
+        each_is_packet = h.each;
+        read = Consumes-trans r0 r r' (joined h.ps) [] h.consumed none;
+        ends = (refl, end);
+        outcome = (refl, ap (λ x. h.fs ++ x ∷ []) whole ∙ all, h.packet_count, omega (arith, length_push h.fs (next_field s1)));
+        frames = h.gs ++ next.1.0 ∷ [];
+        are_frames = are_more h.fs h.gs (next_field s1) next.1.0 h.are_frames next.1.1;
+        written = λ _. more_frames w w' h.gs next.1.0 h.written next.1.2;
+      }
+  ends r r' w w' s s1 s2 p f false MayFail h large none end is link' same_link sent =
+      let sends = subst (λ x. Sends x s1 s2 w w' false) same_link sent in
+      let closed : s1.closed ≡ true = ap (λ x. x.closed) is in
+      let same : s1.waiting ≡ s.waiting = ap (λ x. x.waiting) is in
+      let few : (0 < length s1.waiting) → ⊥ = λ k. sends.0 (subst (λ b. MatchBool b (0 < length s1.waiting) (s1.size ≤ length s1.waiting)) (sym closed) k) in
+      let few0 : length s.waiting ≡ 0 = ap length (sym same) ∙ omega arith in
+      let f0 : f ≡ length h.fs = h.frame_count in
+      record {
+        packets = h.ps;
+        rest = [];
+        fields = h.fs;
+        behind = r';
+        each_is_packet = h.each;
+        read = Consumes-trans r0 r r' (joined h.ps) [] h.consumed none;
+        ends = (refl, end);
+        outcome = (refl, fields_are size h.fs s.waiting (stream_of h.ps) h.sliced.whole h.full few0 (omega arith), h.packet_count, omega arith);
+        frames = h.gs;
+        are_frames = h.are_frames;
+        written = λ _. subst (λ x. Appends w0 x (joined h.gs)) (sym sends.2) h.written;
+      }
+
+  -- nothing is said after a failed write
+  pub gives_up : (r' w : Option (List ℕ)) (MayFail : ℕ → Type 0) → Runs link MayFail r0 r' w0 w (Err Write)
+  gives_up r' w MayFail = record {
+    packets = [];
+    rest = [];
+    fields = [];
+    frames = [];
+    behind = r0;
+    each_is_packet = All-nil IsPacket;
+    read = Consumes-nil r0;
+    ends = tt;
+    outcome = tt;
+    are_frames = tt;
+    written = λ k. absurd (k refl);
+  }

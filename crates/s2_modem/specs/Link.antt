@@ -1,0 +1,25 @@
+-- What both ends of a link share, and which setups are refused.
+use Rattle.std.specs.Prelude.{◌≡◌, ◌≢◌, ◌<◌, ◌≤◌, Result, Ok, Err}
+use Rattle.s2_mode.specs.Mode.{shape_in}
+use Rattle.s2_rows.specs.Rows.{Rows}
+use Rattle.s2_modem.specs.declared.setup.Setup.{Setup}
+use Rattle.s2_modem.specs.declared.setup.SetupFault.{SetupFault}
+use Rattle.s2_modem.specs.declared.setup.SetupFault.TheVariants as faults
+
+-- a setup, and the address rows
+pub record Link : Type 0 where
+  pub setup : Setup
+  pub rows : Rows
+
+-- the rows are of the mode's shape
+abbrev pub HasShape : Setup → Rows → Type 0
+HasShape setup rows = rows.shape ≡ shape_in setup.mode
+
+-- the answer for a setup and rows: the first of three refusals, or else the link, unless there is no memory
+abbrev pub Answers : Setup → Rows → Result Link SetupFault → Type 0
+Answers setup rows (Ok link) = HasShape setup rows × (setup.number ≤ 262141) × (setup.roll_off ≤ 2) × (link ≡ record { setup = setup; rows = rows })
+Answers setup rows (Err faults.OtherShape) = rows.shape ≢ shape_in setup.mode
+Answers setup rows (Err faults.BadNumber) = HasShape setup rows × (262141 < setup.number)
+Answers setup rows (Err faults.BadRollOff) = HasShape setup rows × (setup.number ≤ 262141) × (2 < setup.roll_off)
+Answers setup rows (Err faults.BadRounds) = ⊥
+Answers setup rows (Err faults.NoMemory) = HasShape setup rows × (setup.number ≤ 262141) × (setup.roll_off ≤ 2)

@@ -1,0 +1,76 @@
+//! Bytes spelt as bits, and symbols as bytes.
+ghost use Rattle.std.specs.Prelude.{◌≡◌, ◌+◌, ◌*◌, ◌≤◌, length};
+ghost use Rattle.s2_mode.specs.Symbols.{symbol_bytes};
+ghost use Rattle.s2_modem.specs.Spelling.{byte_bits, bits_of, padded_bits, bytes_of};
+
+use s2_mode::Symbol;
+
+/// The bits of a byte, the highest first.
+fn byte_bits(byte: u8) -> [bool; 8]
+    ensures { result ≡ byte_bits byte }
+{
+    [
+        byte / 128 % 2 == 1,
+        byte / 64 % 2 == 1,
+        byte / 32 % 2 == 1,
+        byte / 16 % 2 == 1,
+        byte / 8 % 2 == 1,
+        byte / 4 % 2 == 1,
+        byte / 2 % 2 == 1,
+        byte % 2 == 1,
+    ]
+}
+
+/// Writes the bits of bytes.
+pub(crate) fn bits_into(bytes: &[u8], bits: &mut [bool])
+    requires { length bits.old ≡ 8 * length bytes.now }
+    ensures { bits.new ≡ bits_of bytes.now }
+{
+    for i in 0..bytes.len() {
+        let at = 8 * i;
+        let [a, b, c, d, e, f, g, h] = byte_bits(bytes[i]);
+        bits[at] = a;
+        bits[at + 1] = b;
+        bits[at + 2] = c;
+        bits[at + 3] = d;
+        bits[at + 4] = e;
+        bits[at + 5] = f;
+        bits[at + 6] = g;
+        bits[at + 7] = h;
+    }
+}
+/// Writes the bits of a header and of its data field, and zeros behind them.
+pub(crate) fn frame_bits_into(header: &[u8; 10], field: &[u8], bits: &mut [bool])
+    requires { 80 + 8 * length field.now ≤ length bits.old }
+    ensures { bits.new ≡ padded_bits (length bits.old) header.now field.now }
+{
+    let (front, behind) = bits.split_at_mut(80);
+    let (middle, rest) = behind.split_at_mut(8 * field.len());
+    bits_into(header, front);
+    bits_into(field, middle);
+    rest.fill(false);
+}
+
+/// The four bytes of a symbol: I, then Q, big endian.
+fn symbol_bytes(symbol: Symbol) -> [u8; 4]
+    ensures { result ≡ symbol_bytes symbol }
+{
+    let [a, b] = symbol.i.to_be_bytes();
+    let [c, d] = symbol.q.to_be_bytes();
+    [a, b, c, d]
+}
+
+/// Writes the bytes of symbols.
+pub(crate) fn bytes_into(symbols: &[Symbol], bytes: &mut [u8])
+    requires { length bytes.old ≡ 4 * length symbols.now }
+    ensures { bytes.new ≡ bytes_of symbols.now }
+{
+    for i in 0..symbols.len() {
+        let at = 4 * i;
+        let [a, b, c, d] = symbol_bytes(symbols[i]);
+        bytes[at] = a;
+        bytes[at + 1] = b;
+        bytes[at + 2] = c;
+        bytes[at + 3] = d;
+    }
+}

@@ -1,0 +1,99 @@
+//! The transmitter: packets in, symbols out.
+ghost use Rattle.std.specs.Prelude.{◌≡◌, ◌≢◌, ◌+◌, ◌-◌, ◌^◌, ◌<◌, ◌⊎◌, Err, IsErrOf};
+ghost use Rattle.s2_modem.specs.Link.{Answers};
+ghost use Rattle.s2_modem.specs.Sending.{Runs};
+
+use crate::framer::Framer;
+use crate::outcome::{Counts, SendFault};
+use crate::sending::{MOST_PACKETS, send_all};
+use crate::setup::{MOST_ROLL_OFF, Setup, SetupFault};
+use s2_bbframe::Slicer;
+use s2_matrix::Matrix;
+use s2_mode::{CountedRead, CountedWrite};
+use s2_scramble::MOST_NUMBER;
+use std::alloc::Global;
+use std::marker::Model;
+
+/// Sends packets as frames of symbols. To contracts it is the link that it sends on.
+#[derive(Drop)]
+pub struct Transmitter<'a> {
+    framer: Framer<'a>,
+    slicer: Slicer,
+    field: Vec<u8>,
+}
+
+impl<'a> Model for Transmitter<'a> {
+    ghost use Rattle.std.specs.Prelude.{◌≡◌, ◌≤◌, length};
+    ghost use Rattle.s2_bbframe.specs.DataStream.{field_bytes};
+    ghost use Rattle.s2_modem.specs.Link.{Link};
+
+    ghost Value = { Link };
+
+    ghost view = { λ t. t.framer };
+
+    ghost invariant = { λ t. (t.slicer.size ≡ field_bytes t.framer.setup.mode) × (length t.field.items ≡ field_bytes t.framer.setup.mode)
+        × (189 ≤ field_bytes t.framer.setup.mode) };
+}
+
+impl<'a> Transmitter<'a> {
+    /// A transmitter with all the memory that it needs, for a matrix of the mode's shape.
+    pub fn new(
+        alloc: Global,
+        setup: Setup,
+        matrix: &'a Matrix,
+    ) -> Result<Transmitter<'a>, SetupFault>
+        ensures { Answers setup matrix.now result }
+    {
+        if matrix.shape() != setup.mode.shape() {
+            return Err(SetupFault::OtherShape);
+        }
+        if setup.number > MOST_NUMBER {
+            return Err(SetupFault::BadNumber);
+        }
+        if setup.roll_off > MOST_ROLL_OFF {
+            return Err(SetupFault::BadRollOff);
+        }
+        let slicer = Slicer::new(alloc, setup.mode).map_err(|_| SetupFault::NoMemory)?;
+        let field = vec![in alloc; 0u8; (setup.mode.kbch() - 80) / 8].map_err(
+            |_| SetupFault::NoMemory,
+        )?;
+        let framer = Framer::new(alloc, setup, matrix).map_err(|_| SetupFault::NoMemory)?;
+        Ok(Transmitter {
+            framer,
+            slicer,
+            field,
+        })
+    }
+
+    /// Reads packets of 188 bytes to the reader's end, and writes the frames of their data stream,
+    /// which begins anew with each run. It takes no memory, and reads and writes piece by piece: a
+    /// packet, and a frame.
+    ///
+    /// `Ok` means that all packets were taken and that the writer has gained exactly their frames.
+    /// `NotWholePacket` and `NoSync` tell what the packets lack, and `Read` that a read failed or
+    /// that 2^32 packets were read: then the writer has gained exactly the frames that were full.
+    /// After `Write` nothing is said of the last frame.
+    pub fn run<R: CountedRead, W: CountedWrite>(
+        &mut self,
+        reader: &mut R,
+        writer: &mut W,
+    ) -> Result<Counts, SendFault>
+        requires reader { R.count reader.old < 2 ^ 64 - 1 }
+        requires writer { W.count writer.old < 2 ^ 64 - 1 }
+        ensures runs { Runs self.old
+            (λ packets. (R.count reader.new ≡ R.count reader.old + 1) ⊎ ((R.count reader.new ≡ R.count reader.old) × (packets ≡ MOST_PACKETS)))
+            (R.remaining reader.old) (R.remaining reader.new) (W.contents writer.old) (W.contents writer.new) result }
+        ensures no_read { result ≢ Err SendFault.Read → R.count reader.new ≡ R.count reader.old }
+        ensures write { IsErrOf result SendFault.Write → W.count writer.new ≡ W.count writer.old + 1 }
+        ensures no_write { result ≢ Err SendFault.Write → W.count writer.new ≡ W.count writer.old }
+        ensures same { self.new ≡ self.old }
+    {
+        send_all(
+            &mut self.framer,
+            &mut self.slicer,
+            &mut self.field,
+            reader,
+            writer,
+        )
+    }
+}
