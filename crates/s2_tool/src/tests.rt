@@ -24,15 +24,60 @@ fn judged<R: Abort + AllocGlobal>(rt: &R, rows: &[u8], soft: &[u8]) -> (Exit, Ve
 #[test]
 fn judges_under_the_toy_rows(rt: HostRuntime) {
     let cases: [(&[u8], Exit, &[u8], &[u8]); 9] = [
-        (b"-5 7 7 7 7 7 7 7 -5 -5 -5 -5 7 7 7 7 -5 -5 -5 -5", Exit::Fine, b"most-likely cost -45\n", b""),
-        (b"10 10 10 10 10 10 10 10 10 10 10 10 10 10 10 10 10 10 10 10", Exit::Fine, b"most-likely cost 0\n", b""),
-        (b"0 0 0 0 0 0 0 0 0 0 0 0 0 0 0 0 0 0 0 0", Exit::Fine, b"most-likely cost 0\n", b""),
-        (b"-4 10 10 10 10 10 10 10 10 10 10 10 10 10 10 10 10 10 10 10", Exit::No, b"broken cost -4 check 0\n", b""),
-        (b"0 0 0 0 0 0 0 0 0 0 0 0 0 0 0 0 0 0 0", Exit::Fault, b"", b"s2: values: too few\n"),
-        (b"0 0 0 0 0 0 0 0 0 0 0 0 0 0 0 0 0 0 0 0 0", Exit::Fault, b"", b"s2: values: too many\n"),
-        (b"0 0\n64 0 0 0 0 0 0 0 0 0 0 0 0 0 0 0 0 0 0", Exit::Fault, b"", b"s2: values: out of range in line 2\n"),
-        (b"x 0 0 0 0 0 0 0 0 0 0 0 0 0 0 0 0 0 0 0", Exit::Fault, b"", b"s2: values: not a number in line 1\n"),
-        (b"# all\n0 0 0 0 0 0 0 0 0 0\r\n0 0 0 0 0 0 0 0 0 0", Exit::Fine, b"most-likely cost 0\n", b""),
+        (
+            b"-5 7 7 7 7 7 7 7 -5 -5 -5 -5 7 7 7 7 -5 -5 -5 -5",
+            Exit::Fine,
+            b"most-likely cost -45\n",
+            b"",
+        ),
+        (
+            b"10 10 10 10 10 10 10 10 10 10 10 10 10 10 10 10 10 10 10 10",
+            Exit::Fine,
+            b"most-likely cost 0\n",
+            b"",
+        ),
+        (
+            b"0 0 0 0 0 0 0 0 0 0 0 0 0 0 0 0 0 0 0 0",
+            Exit::Fine,
+            b"most-likely cost 0\n",
+            b"",
+        ),
+        (
+            b"-4 10 10 10 10 10 10 10 10 10 10 10 10 10 10 10 10 10 10 10",
+            Exit::No,
+            b"broken cost -4 check 0\n",
+            b"",
+        ),
+        (
+            b"0 0 0 0 0 0 0 0 0 0 0 0 0 0 0 0 0 0 0",
+            Exit::Fault,
+            b"",
+            b"s2: values: too few\n",
+        ),
+        (
+            b"0 0 0 0 0 0 0 0 0 0 0 0 0 0 0 0 0 0 0 0 0",
+            Exit::Fault,
+            b"",
+            b"s2: values: too many\n",
+        ),
+        (
+            b"0 0\n64 0 0 0 0 0 0 0 0 0 0 0 0 0 0 0 0 0 0",
+            Exit::Fault,
+            b"",
+            b"s2: values: out of range in line 2\n",
+        ),
+        (
+            b"x 0 0 0 0 0 0 0 0 0 0 0 0 0 0 0 0 0 0 0",
+            Exit::Fault,
+            b"",
+            b"s2: values: not a number in line 1\n",
+        ),
+        (
+            b"# all\n0 0 0 0 0 0 0 0 0 0\r\n0 0 0 0 0 0 0 0 0 0",
+            Exit::Fine,
+            b"most-likely cost 0\n",
+            b"",
+        ),
     ];
     for (soft, exit, out, errors) in cases {
         let answer = judged(&rt, TOY_ROWS, soft);
@@ -47,10 +92,16 @@ fn names_the_fault_of_a_row_file(rt: HostRuntime) {
     let cases: [(&[u8], &[u8]); 6] = [
         (b"", b"s2: rows: too few rows\n"),
         (b"0\n1\n2\n", b"s2: rows: too many rows\n"),
-        (b"0 4 12\n0 1 2\n", b"s2: rows: address too large in line 1\n"),
+        (
+            b"0 4 12\n0 1 2\n",
+            b"s2: rows: address too large in line 1\n",
+        ),
         (b"0 4\n0 0\n", b"s2: rows: repeated address in line 2\n"),
         (b"0 x\n", b"s2: rows: not a number in line 1\n"),
-        (b"0 1 2 3 4 5 6 7 8 9 10 11 0", b"s2: rows: repeated address in line 1\n"),
+        (
+            b"0 1 2 3 4 5 6 7 8 9 10 11 0",
+            b"s2: rows: repeated address in line 1\n",
+        ),
     ];
     for (rows, errors) in cases {
         let answer = judged(&rt, rows, b"x");
@@ -70,15 +121,30 @@ fn names_a_device_that_fails(rt: HostRuntime) {
     assert_eq!(rt; exit, Exit::Fault);
     let mut endless = Counting::new(Endless::new(b"# x "));
     let mut more = Counting::new(Vec::new(rt.alloc()));
-    assert_eq!(rt; self_command(rt.alloc(), &mut endless, &mut out, &mut more), Exit::Fault);
+    assert_eq!(rt;
+        self_command(rt.alloc(), &mut endless, &mut out, &mut more),
+        Exit::Fault
+    );
     let mut soft = InMemory::new(zeros);
     let mut full = Counting::new(FailAt::new(Vec::new(rt.alloc()), 0));
     let mut last = Counting::new(Vec::new(rt.alloc()));
-    assert_eq!(rt; self_command(rt.alloc(), &mut soft, &mut full, &mut last), Exit::Fault);
+    assert_eq!(rt;
+        self_command(rt.alloc(), &mut soft, &mut full, &mut last),
+        Exit::Fault
+    );
     assert_eq!(rt; out.into_inner().len(), 0);
-    assert_eq!(rt; errors.into_inner().as_slice(), b"s2: cannot read\n".as_slice());
-    assert_eq!(rt; more.into_inner().as_slice(), b"s2: file too long\n".as_slice());
-    assert_eq!(rt; last.into_inner().as_slice(), b"s2: cannot write\n".as_slice());
+    assert_eq!(rt;
+        errors.into_inner().as_slice(),
+        b"s2: cannot read\n".as_slice()
+    );
+    assert_eq!(rt;
+        more.into_inner().as_slice(),
+        b"s2: file too long\n".as_slice()
+    );
+    assert_eq!(rt;
+        last.into_inner().as_slice(),
+        b"s2: cannot write\n".as_slice()
+    );
 }
 
 #[test]
@@ -146,9 +212,18 @@ fn refuses_other_words(rt: HostRuntime) -> Result<(), Fail> {
         ("s2 judge --group 4 --groups 0 --q 3 r s", true),
         ("s2 judge --group 4 --groups 2 --q 64800 r s", true),
         ("s2 judge --group 4 --groups 2 --q 3 r", true),
-        ("s2 rows --group 1 --groups 1 --q 1 --weight 25 --seed 1", true),
-        ("s2 rows --group 1 --groups 1 --q 1 --weight 0 --seed 1", true),
-        ("s2 rows --group 1 --groups 1 --q 1 --weight 1 --seed -1", true),
+        (
+            "s2 rows --group 1 --groups 1 --q 1 --weight 25 --seed 1",
+            true,
+        ),
+        (
+            "s2 rows --group 1 --groups 1 --q 1 --weight 0 --seed 1",
+            true,
+        ),
+        (
+            "s2 rows --group 1 --groups 1 --q 1 --weight 1 --seed -1",
+            true,
+        ),
     ] {
         let words = words_of(&rt, line)?;
         let refused = read_words(rt.alloc(), &words).err();
