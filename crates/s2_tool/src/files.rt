@@ -13,7 +13,7 @@ use std::alloc::Global;
 pub const MOST_BYTES: usize = 16_777_216;
 
 /// The bytes of a file.
-fn read_bytes<R: CountedRead>(alloc: Global, reader: &mut R) -> Result<Vec<u8>, Fault>
+pub fn read_bytes<R: CountedRead>(alloc: Global, reader: &mut R) -> Result<Vec<u8>, Fault>
     requires { R.count reader.old < 2 ^ 64 - 1 }
     ensures bytes { IfSome (R.remaining reader.old) (λ xs. Follows (λ v. v.items) result (taken xs)) }
     ensures read { result ≡ Err Fault.Read → R.count reader.new ≡ R.count reader.old + 1 }

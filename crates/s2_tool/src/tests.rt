@@ -1,4 +1,5 @@
 //! The commands over memory, and the words of the command line.
+use crate::check::check_command;
 use crate::exit::Exit;
 use crate::judge::{TOY_ROWS, judge_command, self_command};
 use crate::rows::rows_command;
@@ -24,15 +25,60 @@ fn judged<R: Abort + AllocGlobal>(rt: &R, rows: &[u8], soft: &[u8]) -> (Exit, Ve
 #[test]
 fn judges_under_the_toy_rows(rt: HostRuntime) {
     let cases: [(&[u8], Exit, &[u8], &[u8]); 9] = [
-        (b"-5 7 7 7 7 7 7 7 -5 -5 -5 -5 7 7 7 7 -5 -5 -5 -5", Exit::Fine, b"most-likely cost -45\n", b""),
-        (b"10 10 10 10 10 10 10 10 10 10 10 10 10 10 10 10 10 10 10 10", Exit::Fine, b"most-likely cost 0\n", b""),
-        (b"0 0 0 0 0 0 0 0 0 0 0 0 0 0 0 0 0 0 0 0", Exit::Fine, b"most-likely cost 0\n", b""),
-        (b"-4 10 10 10 10 10 10 10 10 10 10 10 10 10 10 10 10 10 10 10", Exit::No, b"broken cost -4 check 0\n", b""),
-        (b"0 0 0 0 0 0 0 0 0 0 0 0 0 0 0 0 0 0 0", Exit::Fault, b"", b"s2: values: too few\n"),
-        (b"0 0 0 0 0 0 0 0 0 0 0 0 0 0 0 0 0 0 0 0 0", Exit::Fault, b"", b"s2: values: too many\n"),
-        (b"0 0\n64 0 0 0 0 0 0 0 0 0 0 0 0 0 0 0 0 0 0", Exit::Fault, b"", b"s2: values: out of range in line 2\n"),
-        (b"x 0 0 0 0 0 0 0 0 0 0 0 0 0 0 0 0 0 0 0", Exit::Fault, b"", b"s2: values: not a number in line 1\n"),
-        (b"# all\n0 0 0 0 0 0 0 0 0 0\r\n0 0 0 0 0 0 0 0 0 0", Exit::Fine, b"most-likely cost 0\n", b""),
+        (
+            b"-5 7 7 7 7 7 7 7 -5 -5 -5 -5 7 7 7 7 -5 -5 -5 -5",
+            Exit::Fine,
+            b"most-likely cost -45\n",
+            b"",
+        ),
+        (
+            b"10 10 10 10 10 10 10 10 10 10 10 10 10 10 10 10 10 10 10 10",
+            Exit::Fine,
+            b"most-likely cost 0\n",
+            b"",
+        ),
+        (
+            b"0 0 0 0 0 0 0 0 0 0 0 0 0 0 0 0 0 0 0 0",
+            Exit::Fine,
+            b"most-likely cost 0\n",
+            b"",
+        ),
+        (
+            b"-4 10 10 10 10 10 10 10 10 10 10 10 10 10 10 10 10 10 10 10",
+            Exit::No,
+            b"broken cost -4 check 0\n",
+            b"",
+        ),
+        (
+            b"0 0 0 0 0 0 0 0 0 0 0 0 0 0 0 0 0 0 0",
+            Exit::Fault,
+            b"",
+            b"s2: values: too few\n",
+        ),
+        (
+            b"0 0 0 0 0 0 0 0 0 0 0 0 0 0 0 0 0 0 0 0 0",
+            Exit::Fault,
+            b"",
+            b"s2: values: too many\n",
+        ),
+        (
+            b"0 0\n64 0 0 0 0 0 0 0 0 0 0 0 0 0 0 0 0 0 0",
+            Exit::Fault,
+            b"",
+            b"s2: values: out of range in line 2\n",
+        ),
+        (
+            b"x 0 0 0 0 0 0 0 0 0 0 0 0 0 0 0 0 0 0 0",
+            Exit::Fault,
+            b"",
+            b"s2: values: not a number in line 1\n",
+        ),
+        (
+            b"# all\n0 0 0 0 0 0 0 0 0 0\r\n0 0 0 0 0 0 0 0 0 0",
+            Exit::Fine,
+            b"most-likely cost 0\n",
+            b"",
+        ),
     ];
     for (soft, exit, out, errors) in cases {
         let answer = judged(&rt, TOY_ROWS, soft);
@@ -47,10 +93,16 @@ fn names_the_fault_of_a_row_file(rt: HostRuntime) {
     let cases: [(&[u8], &[u8]); 6] = [
         (b"", b"s2: rows: too few rows\n"),
         (b"0\n1\n2\n", b"s2: rows: too many rows\n"),
-        (b"0 4 12\n0 1 2\n", b"s2: rows: address too large in line 1\n"),
+        (
+            b"0 4 12\n0 1 2\n",
+            b"s2: rows: address too large in line 1\n",
+        ),
         (b"0 4\n0 0\n", b"s2: rows: repeated address in line 2\n"),
         (b"0 x\n", b"s2: rows: not a number in line 1\n"),
-        (b"0 1 2 3 4 5 6 7 8 9 10 11 0", b"s2: rows: repeated address in line 1\n"),
+        (
+            b"0 1 2 3 4 5 6 7 8 9 10 11 0",
+            b"s2: rows: repeated address in line 1\n",
+        ),
     ];
     for (rows, errors) in cases {
         let answer = judged(&rt, rows, b"x");
@@ -70,15 +122,30 @@ fn names_a_device_that_fails(rt: HostRuntime) {
     assert_eq!(rt; exit, Exit::Fault);
     let mut endless = Counting::new(Endless::new(b"# x "));
     let mut more = Counting::new(Vec::new(rt.alloc()));
-    assert_eq!(rt; self_command(rt.alloc(), &mut endless, &mut out, &mut more), Exit::Fault);
+    assert_eq!(rt;
+        self_command(rt.alloc(), &mut endless, &mut out, &mut more),
+        Exit::Fault
+    );
     let mut soft = InMemory::new(zeros);
     let mut full = Counting::new(FailAt::new(Vec::new(rt.alloc()), 0));
     let mut last = Counting::new(Vec::new(rt.alloc()));
-    assert_eq!(rt; self_command(rt.alloc(), &mut soft, &mut full, &mut last), Exit::Fault);
+    assert_eq!(rt;
+        self_command(rt.alloc(), &mut soft, &mut full, &mut last),
+        Exit::Fault
+    );
     assert_eq!(rt; out.into_inner().len(), 0);
-    assert_eq!(rt; errors.into_inner().as_slice(), b"s2: cannot read\n".as_slice());
-    assert_eq!(rt; more.into_inner().as_slice(), b"s2: file too long\n".as_slice());
-    assert_eq!(rt; last.into_inner().as_slice(), b"s2: cannot write\n".as_slice());
+    assert_eq!(rt;
+        errors.into_inner().as_slice(),
+        b"s2: cannot read\n".as_slice()
+    );
+    assert_eq!(rt;
+        more.into_inner().as_slice(),
+        b"s2: file too long\n".as_slice()
+    );
+    assert_eq!(rt;
+        last.into_inner().as_slice(),
+        b"s2: cannot write\n".as_slice()
+    );
 }
 
 #[test]
@@ -122,6 +189,12 @@ fn reads_the_words_of_a_command(rt: HostRuntime) -> Result<(), Fail> {
         soft: "s",
     };
     assert_eq!(rt; read_words(rt.alloc(), &judge).ok(), Some(Some(wanted)));
+    let check = words_of(&rt, "s2 check r c")?;
+    let wanted = Request::Check {
+        rows: "r",
+        certificate: "c",
+    };
+    assert_eq!(rt; read_words(rt.alloc(), &check).ok(), Some(Some(wanted)));
     let rows = words_of(
         &rt,
         "s2 rows --group 4 --groups 2 --q 3 --weight 24 --seed 18446744073709551615",
@@ -146,13 +219,173 @@ fn refuses_other_words(rt: HostRuntime) -> Result<(), Fail> {
         ("s2 judge --group 4 --groups 0 --q 3 r s", true),
         ("s2 judge --group 4 --groups 2 --q 64800 r s", true),
         ("s2 judge --group 4 --groups 2 --q 3 r", true),
-        ("s2 rows --group 1 --groups 1 --q 1 --weight 25 --seed 1", true),
-        ("s2 rows --group 1 --groups 1 --q 1 --weight 0 --seed 1", true),
-        ("s2 rows --group 1 --groups 1 --q 1 --weight 1 --seed -1", true),
+        ("s2 check r", true),
+        (
+            "s2 rows --group 1 --groups 1 --q 1 --weight 25 --seed 1",
+            true,
+        ),
+        (
+            "s2 rows --group 1 --groups 1 --q 1 --weight 0 --seed 1",
+            true,
+        ),
+        (
+            "s2 rows --group 1 --groups 1 --q 1 --weight 1 --seed -1",
+            true,
+        ),
     ] {
         let words = words_of(&rt, line)?;
         let refused = read_words(rt.alloc(), &words).err();
         assert_eq!(rt; refused.map(|e| e.use_stderr()), Some(on_errors), "{line}");
     }
     Ok(())
+}
+
+/// The soft value of bit 0 is -4, all others are 10, and check 0 moves 4 to bit 0.
+fn wrong_bit() -> [u8; 228] {
+    let mut file = [0; 228];
+    let header = [
+        0x53, 0x32, 0x4D, 0x4C, 1, 0, 4, 0, 2, 0, 3, 0, 1, 0, 0, 0, 0x2F,
+    ];
+    file[..17].copy_from_slice(&header);
+    for place in 17..37usize {
+        file[place] = 10;
+    }
+    file[17] = 0xFC;
+    let shares = [0xFF, 0xFF, 0xFF, 0xFC, 0, 0, 0, 4, 0, 0, 0, 4];
+    file[40..52].copy_from_slice(&shares);
+    file
+}
+
+/// The wrong bit's file with another byte at a place.
+fn with_byte(at: usize, byte: u8) -> [u8; 228] {
+    let mut file = wrong_bit();
+    if at < 228 {
+        file[at] = byte;
+    }
+    file
+}
+
+fn checked<R: AllocGlobal>(rt: &R, rows: &[u8], file: &[u8]) -> (Exit, Vec<u8>, Vec<u8>) {
+    let mut rows = InMemory::new(rows);
+    let mut file = Counting::new(ByOne::new(file));
+    let mut out = Counting::new(Vec::new(rt.alloc()));
+    let mut errors = Counting::new(Vec::new(rt.alloc()));
+    let exit = check_command(rt.alloc(), &mut rows, &mut file, &mut out, &mut errors);
+    (exit, out.into_inner(), errors.into_inner())
+}
+
+#[test]
+fn checks_a_certificate(rt: HostRuntime) {
+    let cases: [(&[u8], [u8; 228], usize, Exit, &[u8], &[u8]); 12] = [
+        (TOY_ROWS, wrong_bit(), 228, Exit::Fine, b"yes cost 0\n", b""),
+        (
+            TOY_ROWS,
+            with_byte(16, 0x2E),
+            224,
+            Exit::No,
+            b"no shape\n",
+            b"",
+        ),
+        (
+            TOY_ROWS,
+            with_byte(37, 0x80),
+            228,
+            Exit::No,
+            b"no check 0\n",
+            b"",
+        ),
+        (
+            TOY_ROWS,
+            with_byte(47, 3),
+            228,
+            Exit::No,
+            b"no bound\n",
+            b"",
+        ),
+        (
+            TOY_ROWS,
+            with_byte(0, 0x54),
+            228,
+            Exit::Fault,
+            b"",
+            b"s2: certificate: magic\n",
+        ),
+        (
+            TOY_ROWS,
+            wrong_bit(),
+            227,
+            Exit::Fault,
+            b"",
+            b"s2: certificate: cut\n",
+        ),
+        (
+            TOY_ROWS,
+            wrong_bit(),
+            0,
+            Exit::Fault,
+            b"",
+            b"s2: certificate: cut\n",
+        ),
+        (
+            TOY_ROWS,
+            with_byte(16, 0x2E),
+            228,
+            Exit::Fault,
+            b"",
+            b"s2: certificate: extra\n",
+        ),
+        (
+            TOY_ROWS,
+            with_byte(12, 0),
+            228,
+            Exit::Fault,
+            b"",
+            b"s2: certificate: range\n",
+        ),
+        (
+            TOY_ROWS,
+            with_byte(10, 0),
+            228,
+            Exit::Fault,
+            b"",
+            b"s2: certificate: shape\n",
+        ),
+        (
+            b"x",
+            with_byte(0, 0x54),
+            228,
+            Exit::Fault,
+            b"",
+            b"s2: certificate: magic\n",
+        ),
+        (
+            b"x",
+            wrong_bit(),
+            228,
+            Exit::Fault,
+            b"",
+            b"s2: rows: not a number in line 1\n",
+        ),
+    ];
+    for (rows, file, size, exit, out, errors) in cases {
+        let answer = checked(&rt, rows, &file[..size]);
+        assert_eq!(rt; answer.0, exit);
+        assert_eq!(rt; answer.1.as_slice(), out);
+        assert_eq!(rt; answer.2.as_slice(), errors);
+    }
+}
+
+#[test]
+fn reads_rows_before_the_certificate(rt: HostRuntime) {
+    let mut rows = Counting::new(Endless::new(b"# x "));
+    let mut file = Counting::new(FailAt::new(ByOne::new(b"S"), 0));
+    let mut out = Counting::new(Vec::new(rt.alloc()));
+    let mut errors = Counting::new(Vec::new(rt.alloc()));
+    let exit = check_command(rt.alloc(), &mut rows, &mut file, &mut out, &mut errors);
+    assert_eq!(rt; exit, Exit::Fault);
+    assert_eq!(rt; out.into_inner().len(), 0);
+    assert_eq!(rt;
+        errors.into_inner().as_slice(),
+        b"s2: file too long\n".as_slice()
+    );
 }

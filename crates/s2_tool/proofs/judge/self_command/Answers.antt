@@ -9,10 +9,10 @@ pub returns-clause-run : goal.returns-clause-run
 returns-clause-run g c =
     let (ended, is, run, counts, told) = c.judge_command.ensures.run in
     let V : Option Shape → Type 0 = λ o. IfSome o (λ s. s ≡ shape_of 4 2 3) in
-    let toy : c.in-Some.shape ≡ shape_of 4 2 3 = subst V c.in-Some.is c.new.ensures.value in
-    ( ended
-    , is
-    , at_rows (λ i. Judges i.0 i.1) (g.S.CountedRead.remaining c.args.soft.now) ended (g.O.CountedWrite.contents c.args.out.now) _ c.in-Some.shape (shape_of 4 2 3) c.new-rows.result.bytes.now (codes "0 4 8\n0 1 2\n") toy c.new-rows.ensures run
-    , no_failed_rows ended _ _ _ _ counts
-    , told
+    let toy : c.in-Some.shape ≡ shape_of 4 2 3 = subst V c.in-Some.is c.new.ensures.value in (
+      ended,
+      is,
+      at_rows (λ i. Judges i.0 i.1) (g.S.CountedRead.remaining c.args.soft.now) ended (g.O.CountedWrite.contents c.args.out.now) _ c.in-Some.shape (shape_of 4 2 3) c.new-rows.result.bytes.now (codes "0 4 8\n0 1 2\n") toy c.new-rows.ensures run,
+      no_failed_rows ended _ _ _ _ counts,
+      told,
     )
