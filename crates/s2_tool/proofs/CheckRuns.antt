@@ -1,6 +1,6 @@
 -- A check whose two files are in memory.
-use Rattle.std.proofs.Common.{◌≡◌, ℕ, List, Option, Some, None, Result, Ok, Err, ap, ◌∙◌, sym, subst}
-use Rattle.std.specs.Prelude.{IfSome, ⊤}
+use Rattle.std.proofs.Common.{◌≡◌, ℕ, List, Option, Some, None, Result, Ok, ap, ◌∙◌, sym, subst}
+use Rattle.std.specs.Prelude.{IfSome}
 use Rattle.s2_rows.specs.Rows.{Rows}
 use Rattle.s2_check.specs.Views.{View}
 use Rattle.s2_tool.specs.declared.exit.Exit.{Exit}

@@ -1,4 +1,4 @@
-use Rattle.std.proofs.Common.{rules, ℕ, List, subst}
+use Rattle.std.proofs.Common.{ℕ, List, subst}
 use Rattle.s2_tool.specs.Exits.{Runs}
 use Rattle.s2_tool.specs.Checking.{parts_in, SaysAnswer}
 use Rattle.s2_tool.proofs.CheckRuns.{runs_on_bytes}

@@ -1,4 +1,4 @@
-use Rattle.std.proofs.Common.{rules, codes, subst, sym, ◌++◌}
+use Rattle.std.proofs.Common.{codes, subst, sym, ◌++◌}
 use Rattle.std.specs.Prelude.{OnOk}
 use Rattle.std.specs.Io.KnownBytes.{Appends}
 use Rattle.std.proofs.KnownBytes.{Appends-trans}
