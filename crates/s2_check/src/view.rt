@@ -6,11 +6,12 @@ ghost use Rattle.s2_mode.specs.Shape.{code_bits};
 ghost use Rattle.s2_check.specs.CertificateBytes.{bytes_of};
 ghost use Rattle.s2_check.specs.CertificateFiles.{reading};
 ghost use Rattle.s2_bits.specs.Bits.{bit_at};
-ghost use Rattle.s2_check.specs.Cost.{value_at};
+ghost use Rattle.s2_check.specs.Cost.{cost, value_at};
 ghost use Rattle.s2_matrix.specs.Code.{code_of};
 ghost use Rattle.s2_check.specs.Split.{bound, split_of};
 ghost use Rattle.s2_check.specs.Views.{IsView, IsSoft, IsOfShape, unsplit_view};
 
+use crate::hard::cost;
 use crate::shares::Shares;
 use crate::sums::{bits_bound, checks_bound, unsplit_bound};
 use crate::write::{write_header, write_shares, write_soft, write_word};
@@ -128,6 +129,13 @@ impl<'a> CertView<'a> {
     {
         let word = self.word;
         word.get(i)
+    }
+
+    /// The cost of the word under the soft values.
+    pub fn cost(&self) -> i64
+        ensures { result ≡ cost self.now.soft self.now.bits }
+    {
+        cost(self.soft_values(), self.word())
     }
 
     /// How many shares.

@@ -1,6 +1,6 @@
 -- A command whose input is there.
 use Rattle.std.proofs.Common.{◌≡◌, ℕ, ℤ, List, Option, Some, None, Result, Ok, Err, ◌+◌, subst, arith, ap, ◌∙◌}
-use Rattle.std.specs.Prelude.{IfSome, ⊤}
+use Rattle.std.specs.Prelude.{IfSome}
 use Rattle.s2_mode.specs.Shape.{Shape}
 use Rattle.s2_rows.specs.Rows.{Rows}
 use Rattle.s2_tool.specs.declared.exit.Exit.{Exit}
@@ -12,7 +12,7 @@ use Rattle.s2_tool.specs.Inputs.{rows_in, values_in, inputs, then_values}
 both : (a : Result Rows Fault) (b : Result (List ℤ) Fault) (rows : Rows) (soft : List ℤ) → a ≡ Ok rows → b ≡ Ok soft → then_values a b ≡ Ok (rows, soft)
 both a b rows soft p q = ap (λ x. then_values x b) p ∙ ap (then_values (Ok rows)) q
 
-runs : {I : Type 0} → (Says : I → Exit → List ℕ → Type 0) (input : I) (planned : Result I Fault) (ended : Result Exit Fault) (old new : Option (List ℕ)) → planned ≡ Ok input → IsPrinting ended → Prints ended (Says input) old new → Runs Says ended planned old new
+pub runs : {I : Type 0} → (Says : I → Exit → List ℕ → Type 0) (input : I) (planned : Result I Fault) (ended : Result Exit Fault) (old new : Option (List ℕ)) → planned ≡ Ok input → IsPrinting ended → Prints ended (Says input) old new → Runs Says ended planned old new
 runs Says input planned (Ok exit) old new e w (text, says, wrote) = (input, e, text, says, wrote)
 runs Says input planned (Err faults.Write) old new e w p = p
 runs Says input planned (Err faults.NoMemory) old new e w p = p
@@ -21,6 +21,7 @@ runs Says input planned (Err faults.TooLong) old new e w p = absurd w
 runs Says input planned (Err faults.Weight) old new e w p = absurd w
 runs Says input planned (Err (faults.Rows f)) old new e w p = absurd w
 runs Says input planned (Err (faults.Values f)) old new e w p = absurd w
+runs Says input planned (Err (faults.Certificate f)) old new e w p = absurd w
 
 pub runs_on_files : (shape : Shape) (Says : Rows × List ℤ → Exit → List ℕ → Type 0) (known_rows known_soft : Option (List ℕ)) (rows : Rows) (soft : List ℤ) (ended : Result Exit Fault) (old new : Option (List ℕ))
     → IfSome known_rows (λ xs. rows_in shape xs ≡ Ok rows) → IfSome known_soft (λ ys. values_in shape ys ≡ Ok soft) → IsPrinting ended → Prints ended (Says (rows, soft)) old new

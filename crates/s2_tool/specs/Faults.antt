@@ -4,6 +4,8 @@ use Rattle.s2_rows.specs.declared.row_file.RowFault.{RowFault}
 use Rattle.s2_rows.specs.declared.row_file.RowFault.TheVariants as row_faults
 use Rattle.s2_rows.specs.declared.values.ValueFault.{ValueFault}
 use Rattle.s2_rows.specs.declared.values.ValueFault.TheVariants as value_faults
+use Rattle.s2_check.specs.declared.fault.CertFault.{CertFault}
+use Rattle.s2_check.specs.declared.fault.CertFault.TheVariants as cert_faults
 use Rattle.s2_tool.specs.declared.fault.Fault.{Fault}
 use Rattle.s2_tool.specs.declared.fault.Fault.TheVariants as faults
 
@@ -23,6 +25,14 @@ value_fault_text value_faults.TooFew = codes "too few"
 value_fault_text value_faults.TooMany = codes "too many"
 value_fault_text value_faults.NoMemory = codes "no memory"
 
+abbrev pub certificate_fault_text : CertFault → List ℕ
+certificate_fault_text cert_faults.Magic = codes "magic"
+certificate_fault_text cert_faults.Cut = codes "cut"
+certificate_fault_text cert_faults.Extra = codes "extra"
+certificate_fault_text cert_faults.Range = codes "range"
+certificate_fault_text cert_faults.Shape = codes "shape"
+certificate_fault_text cert_faults.NoMemory = codes "no memory"
+
 abbrev pub fault_text : Fault → List ℕ
 fault_text faults.Read = codes "cannot read"
 fault_text faults.Write = codes "cannot write"
@@ -31,6 +41,7 @@ fault_text faults.NoMemory = codes "no memory"
 fault_text faults.Weight = codes "no such weight"
 fault_text (faults.Rows fault) = codes "rows: " ++ row_fault_text fault
 fault_text (faults.Values fault) = codes "values: " ++ value_fault_text fault
+fault_text (faults.Certificate fault) = codes "certificate: " ++ certificate_fault_text fault
 
 abbrev pub fault_line : Fault → List ℕ
 fault_line fault = codes "s2: " ++ fault_text fault ++ codes "\n"

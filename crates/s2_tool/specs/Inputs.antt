@@ -1,5 +1,5 @@
 -- What the files of a command say, or the fault that is told.
-use Rattle.std.specs.Prelude.{◌≡◌, ℕ, ℤ, nat_le, List, length, Result, Ok, Err, if◌then◌else◌}
+use Rattle.std.specs.Prelude.{ℕ, ℤ, nat_le, List, length, Result, Ok, Err, if◌then◌else◌}
 use Rattle.s2_mode.specs.Shape.{Shape, code_bits}
 use Rattle.s2_rows.specs.Rows.{Rows, rows_value}
 use Rattle.s2_rows.specs.MadeRows.{is_weight, made_rows}

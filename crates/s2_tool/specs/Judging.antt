@@ -1,6 +1,6 @@
 -- What `judge` prints of soft values.
 use Rattle.std.specs.Prelude.{◌≡◌, ℕ, ℤ, List, ◌⊎◌}
-use Rattle.s2_matrix.specs.Code.{Code, IsOddCheck, code_of}
+use Rattle.s2_matrix.specs.Code.{IsOddCheck, code_of}
 use Rattle.s2_rows.specs.Rows.{Rows}
 use Rattle.s2_check.specs.Cost.{cost, IsMostLikely}
 use Rattle.s2_check.specs.Hard.{hard_decision}

@@ -3,3 +3,4 @@ pub mod Exits
 pub mod Lines
 pub mod Inputs
 pub mod Judging
+pub mod Checking

@@ -3,10 +3,11 @@ ghost use Rattle.std.specs.Prelude.{◌≡◌, ◌≢◌, ◌-◌, ◌^◌, ◌<
 ghost use Rattle.std.specs.Io.KnownBytes.{Appends};
 ghost use Rattle.s2_mode.specs.Counts.{CountsFault};
 ghost use Rattle.s2_tool.specs.Exits.{exit_of, Complains};
-ghost use Rattle.s2_tool.specs.Faults.{row_fault_text, value_fault_text, fault_text, fault_line};
+ghost use Rattle.s2_tool.specs.Faults.{row_fault_text, value_fault_text, certificate_fault_text, fault_text, fault_line};
 
 use crate::exit::Exit;
 use crate::writing::{write_at_line, write_text};
+use s2_check::CertFault;
 use s2_mode::{CountedWrite, WriteFault};
 use s2_rows::{RowFault, ValueFault};
 
@@ -20,6 +21,7 @@ pub enum Fault {
     Weight,
     Rows(RowFault),
     Values(ValueFault),
+    Certificate(CertFault),
 }
 
 fn write_row_fault<W: CountedWrite>(out: &mut W, fault: RowFault) -> Result<(), WriteFault>
@@ -56,6 +58,21 @@ fn write_value_fault<W: CountedWrite>(out: &mut W, fault: ValueFault) -> Result<
     }
 }
 
+fn write_certificate_fault<W: CountedWrite>(out: &mut W, fault: CertFault) -> Result<(), WriteFault>
+    requires { W.count out.old < 2 ^ 64 - 1 }
+    ensures bytes { OnOk result (Appends (W.contents out.old) (W.contents out.new) (certificate_fault_text fault)) }
+    ensures cause { CountsFault (W.count out.old) (W.count out.new) result }
+{
+    match fault {
+        CertFault::Magic => write_text(out, "magic"),
+        CertFault::Cut => write_text(out, "cut"),
+        CertFault::Extra => write_text(out, "extra"),
+        CertFault::Range => write_text(out, "range"),
+        CertFault::Shape => write_text(out, "shape"),
+        CertFault::NoMemory => write_text(out, "no memory"),
+    }
+}
+
 fn write_fault_text<W: CountedWrite>(out: &mut W, fault: Fault) -> Result<(), WriteFault>
     requires { W.count out.old < 2 ^ 64 - 1 }
     ensures bytes { OnOk result (Appends (W.contents out.old) (W.contents out.new) (fault_text fault)) }
@@ -74,6 +91,10 @@ fn write_fault_text<W: CountedWrite>(out: &mut W, fault: Fault) -> Result<(), Wr
         Fault::Values(fault) => {
             write_text(out, "values: ")?;
             write_value_fault(out, fault)
+        }
+        Fault::Certificate(fault) => {
+            write_text(out, "certificate: ")?;
+            write_certificate_fault(out, fault)
         }
     }
 }

@@ -1,5 +1,6 @@
 //! Row files and value files.
-ghost use Rattle.std.specs.Prelude.{◌≡◌, ◌≢◌, ◌+◌, ◌-◌, ◌^◌, ◌<◌, ◌≤◌, Err, IfOk, IfSome, length};
+ghost use Rattle.std.specs.Prelude.{◌≡◌, ◌≢◌, ◌+◌, ◌-◌, ◌^◌, ◌<◌, ◌≤◌, All, Err, IfOk, IfSome, length};
+ghost use Rattle.s2_check.specs.Views.{IsSoft};
 ghost use Rattle.s2_mode.specs.Shape.{code_bits};
 ghost use Rattle.s2_tool.specs.Exits.{Follows};
 ghost use Rattle.s2_tool.specs.Inputs.{taken, rows_in, values_in};
@@ -13,7 +14,7 @@ use std::alloc::Global;
 pub const MOST_BYTES: usize = 16_777_216;
 
 /// The bytes of a file.
-fn read_bytes<R: CountedRead>(alloc: Global, reader: &mut R) -> Result<Vec<u8>, Fault>
+pub fn read_bytes<R: CountedRead>(alloc: Global, reader: &mut R) -> Result<Vec<u8>, Fault>
     requires { R.count reader.old < 2 ^ 64 - 1 }
     ensures bytes { IfSome (R.remaining reader.old) (λ xs. Follows (λ v. v.items) result (taken xs)) }
     ensures read { result ≡ Err Fault.Read → R.count reader.new ≡ R.count reader.old + 1 }
@@ -58,6 +59,7 @@ pub fn read_value_file<R: CountedRead>(
     requires { R.count reader.old < 2 ^ 64 - 1 }
     ensures values { IfSome (R.remaining reader.old) (λ xs. Follows (λ v. v.items) result (values_in shape xs)) }
     ensures long { IfOk result (λ v. length v.items ≡ code_bits shape) }
+    ensures range { IfOk result (λ v. All IsSoft v.items) }
     ensures read { result ≡ Err Fault.Read → R.count reader.new ≡ R.count reader.old + 1 }
     ensures no_other { result ≢ Err Fault.Read → R.count reader.new ≡ R.count reader.old }
     ensures write { result ≢ Err Fault.Write }

@@ -3,6 +3,7 @@
 
 ghost use Rattle.std.specs.Prelude.{◌-◌, ◌^◌, ◌<◌};
 
+mod check;
 mod exit;
 mod fault;
 mod files;

@@ -1,6 +1,7 @@
 //! The commands on the files and streams that they name.
 ghost use Rattle.std.specs.Prelude.{◌≡◌, ◌≢◌, ◌-◌, ◌^◌, ◌<◌};
 
+use crate::check::check_command;
 use crate::exit::Exit;
 use crate::fault::{Fault, conclude};
 use crate::judge::{judge_command, self_command};
@@ -71,6 +72,7 @@ pub fn serve<R: Files + AllocGlobal, S: CountedRead, O: CountedWrite, E: Counted
             Some(shape) => serve_judge(rt, shape, rows, soft, out, errors),
             None => complain(errors, "no such shape", ""),
         },
+        Request::Check { rows, certificate } => serve_check(rt, rows, certificate, out, errors),
     }
 }
 
@@ -95,4 +97,26 @@ fn serve_judge<R: Files + AllocGlobal, O: CountedWrite, E: CountedWrite>(
     let mut rows = Counting::new(row_file);
     let mut soft = Counting::new(soft_file);
     judge_command(rt.alloc(), shape, &mut rows, &mut soft, out, errors)
+}
+
+fn serve_check<R: Files + AllocGlobal, O: CountedWrite, E: CountedWrite>(
+    rt: &R,
+    rows: &str,
+    certificate: &str,
+    out: &mut O,
+    errors: &mut E,
+) -> Exit
+    requires out { O.count out.old < 2 ^ 64 - 1 }
+    requires errors { E.count errors.old < 2 ^ 64 - 1 }
+    ensures { result ≢ Exit.Fault → E.count errors.new ≡ E.count errors.old }
+{
+    let Ok(row_file) = fs::open(rt, rows) else {
+        return complain(errors, "cannot open ", rows);
+    };
+    let Ok(certificate_file) = fs::open(rt, certificate) else {
+        return complain(errors, "cannot open ", certificate);
+    };
+    let mut rows = Counting::new(row_file);
+    let mut certificate = Counting::new(certificate_file);
+    check_command(rt.alloc(), &mut rows, &mut certificate, out, errors)
 }

@@ -25,6 +25,10 @@ pub enum Request<'a> {
         rows: &'a str,
         soft: &'a str,
     },
+    Check {
+        rows: &'a str,
+        certificate: &'a str,
+    },
 }
 
 fn number<'a>(alloc: Global, name: &'a str, parser: ValueParser<'a>, value: &'a str) -> Arg<'a> {
@@ -69,6 +73,13 @@ fn judge_words<'a>(alloc: Global) -> Result<Command<'a>, AllocError> {
         ))
 }
 
+fn check_words<'a>(alloc: Global) -> Result<Command<'a>, AllocError> {
+    Command::new(alloc, "check")
+        .about("Checks a certificate that its word is most likely")
+        .arg(file(alloc, "ROWS", "Row file"))?
+        .arg(file(alloc, "CERT", "Certificate file"))
+}
+
 /// All that the program understands.
 fn command<'a>(alloc: Global) -> Result<Command<'a>, AllocError> {
     Command::new(alloc, "s2")
@@ -76,7 +87,8 @@ fn command<'a>(alloc: Global) -> Result<Command<'a>, AllocError> {
             "A DVB-S2 modem with maximum-likelihood certificates. Without a command it judges the 20 soft values of standard input under a toy code",
         )
         .subcommand(rows_words(alloc)?)?
-        .subcommand(judge_words(alloc)?)
+        .subcommand(judge_words(alloc)?)?
+        .subcommand(check_words(alloc)?)
 }
 
 fn shape_of(m: &ArgMatches<'_>) -> Option<ShapeWords> {
@@ -98,6 +110,10 @@ fn request_of<'a>(name: &str, m: &ArgMatches<'a>) -> Option<Request<'a>> {
             shape: shape_of(m)?,
             rows: m.get_str("ROWS")?,
             soft: m.get_str("SOFT")?,
+        }),
+        "check" => Some(Request::Check {
+            rows: m.get_str("ROWS")?,
+            certificate: m.get_str("CERT")?,
         }),
         _ => None,
     }

@@ -1,4 +1,4 @@
-use Rattle.std.proofs.Common.{rules, ◌≡◌, ℤ, List, subst}
+use Rattle.std.proofs.Common.{ℤ, List, subst}
 use Rattle.s2_rows.specs.Rows.{Rows}
 use Rattle.s2_tool.specs.Exits.{Prints}
 use Rattle.s2_tool.specs.Judging.{Judges}

@@ -1,4 +1,4 @@
-use Rattle.std.proofs.Common.{rules, w64, ◌≡◌, ap, ◌∙◌, inl, inr, refl, sym, subst, List, Bool}
+use Rattle.std.proofs.Common.{rules, w64, ◌≡◌, ap, ◌∙◌, inl, inr, refl, subst, List, Bool}
 use Rattle.std.proofs.lemmas.Int.{to_z-of_z}
 use Rattle.s2_matrix.specs.Code.{code_of, IsOddCheck}
 use Rattle.s2_check.specs.Cost.{cost, IsMostLikely}
