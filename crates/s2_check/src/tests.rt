@@ -152,6 +152,12 @@ fn keeps_to_the_limits(rt: HostRuntime) -> Result<(), Fail> {
             "at {at}"
         );
     }
+    Ok(())
+}
+
+#[test]
+fn keeps_to_the_largest_scale(rt: HostRuntime) -> Result<(), Fail> {
+    let alloc = rt.alloc();
     let mut most = with_byte(11, 0x10);
     most[12] = 0;
     assert_eq!(rt; Certificate::read(alloc, &most)?.view().scale(), 4096);
@@ -160,9 +166,17 @@ fn keeps_to_the_limits(rt: HostRuntime) -> Result<(), Fail> {
         Certificate::read(alloc, &most).err(),
         Some(CertFault::Range)
     );
-    // 1,555,200 shares are allowed, and their bytes wanted; one more is not
+    Ok(())
+}
+
+// 1,555,200 shares are allowed, and their bytes wanted; one more is not.
+#[test]
+fn keeps_to_the_most_shares(rt: HostRuntime) -> Result<(), Fail> {
+    let alloc = rt.alloc();
     let mut many = wrong_bit();
-    many[13..17].copy_from_slice(&[0x00, 0x17, 0xBB, 0x00]);
+    many[14] = 0x17;
+    many[15] = 0xBB;
+    many[16] = 0x00;
     assert_eq!(rt; Certificate::read(alloc, &many).err(), Some(CertFault::Cut));
     many[16] = 1;
     assert_eq!(rt;
