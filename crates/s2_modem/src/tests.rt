@@ -144,7 +144,7 @@ fn begins_a_new_stream_after_a_refusal(rt: HostRuntime) -> Result<(), Fail> {
     let no_sync = transmitter.run(&mut InMemory::new(&packets), &mut writer);
     assert_eq!(rt; no_sync, Err(SendFault::NoSync { packet: 2 }));
     assert!(rt; writer.count() < 1);
-    let short = transmitter.run(&mut InMemory::new(&packets[..187]), &mut writer);
+    let short = transmitter.run(&mut InMemory::new(&[0x47; 187]), &mut writer);
     assert_eq!(rt; short, Err(SendFault::NotWholePacket));
     assert!(rt; writer.count() < 1);
     assert_eq!(rt;
