@@ -1,5 +1,5 @@
 //! The encoder.
-ghost use Rattle.std.specs.Prelude.{◌≡◌, ℕ, ◌+◌, ◌*◌, ◌<◌, ◌≤◌, length};
+ghost use Rattle.std.specs.Prelude.{◌≡◌, ℕ, ◌+◌, ◌*◌, ◌<◌, ◌≤◌, false, length};
 ghost use Rattle.s2_bits.specs.Bits.{bit_at};
 ghost use Rattle.s2_mode.specs.Shape.{information_bits, check_count};
 ghost use Rattle.s2_matrix.specs.Code.{code_of};
@@ -20,18 +20,18 @@ fn part(bits: &[bool], start: usize, len: usize) -> &[bool]
     &bits[start..start + len]
 }
 
-/// Adds the information bits to the sums of their checks.
+/// Adds up the information bits of each check, in planes that are empty.
 fn add_groups(matrix: &Matrix, info: &[bool], planes: &mut [bool])
     requires info { length info.now ≡ information_bits matrix.now.shape }
     requires room { check_count matrix.now.shape ≤ length planes.old }
     requires few { length planes.old ≤ 64800 }
+    requires empty { (k : ℕ) → bit_at planes.old k ≡ false }
     ensures long { length planes.new ≡ length planes.old }
     ensures are { (j : ℕ) → j < check_count matrix.now.shape → bit_at planes.new (plane_place matrix.now.shape.group matrix.now.shape.q j) ≡ information_sum (code_of matrix.now) info.now j }
 {
     let shape = matrix.shape();
     let group = shape.group();
     let q = shape.q();
-    planes.fill(false);
     for g in 0..shape.groups() {
         let bits = part(info, group * g, group);
         add_row(planes, q, bits, matrix.addresses(g));

@@ -1,4 +1,4 @@
-use Rattle.std.proofs.Common.{◌≡◌, ◌+◌, ◌*◌, ◌<◌, ap, sym, ◌∙◌, arith}
+use Rattle.std.proofs.Common.{◌+◌, ◌*◌, ◌<◌, ap, sym, ◌∙◌, arith}
 use Rattle.s2_bits.specs.Bits.{bit_at}
 use Rattle.s2_mode.specs.Shape.{Shape}
 use Rattle.s2_ldpc.proofs.Adding.{group_more}

@@ -1,9 +1,8 @@
-use Rattle.std.proofs.Common.{◌≡◌, ◌+◌, ◌-◌, ◌*◌, ◌<◌, ◌≤◌, ℕ, length, ap, ap₂, sym, ◌∙◌, arith, length-set}
+use Rattle.std.proofs.Common.{◌+◌, ◌*◌, ◌<◌, ◌≤◌, ℕ, ap, ap₂, sym, ◌∙◌, arith, length-set}
 use Rattle.s2_bits.specs.Bits.{xor, bit_at}
-use Rattle.s2_ldpc.specs.Encoding.{sum_of}
 use Rattle.s2_ldpc.specs.Planes.{plane_place}
 use Rattle.s2_ldpc.proofs.Sums.{flipped, sum_more, sums_set}
-use Rattle.s2_ldpc.proofs.Planing.{next_place, next_wrapped, place_within}
+use Rattle.s2_ldpc.proofs.Planing.{next_place, next_wrapped}
 use Rattle.s2_ldpc.proofs.planes.accumulate.Goals as goal
 use Rattle.s2_ldpc.proofs.planes.accumulate.Goals.{then-at-group, else-at-group}
 

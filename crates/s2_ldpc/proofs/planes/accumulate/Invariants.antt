@@ -1,4 +1,4 @@
-use Rattle.std.proofs.Common.{◌≡◌, ℕ, ◌+◌, ◌<◌, ◌≤◌, length}
+use Rattle.std.proofs.Common.{◌≡◌, ℕ, ◌+◌, ◌<◌, length}
 use Rattle.s2_bits.specs.Bits.{bit_at}
 use Rattle.s2_ldpc.specs.Encoding.{sum_of}
 use Rattle.s2_ldpc.specs.Planes.{plane_place}

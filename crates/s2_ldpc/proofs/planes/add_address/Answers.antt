@@ -1,4 +1,4 @@
-use Rattle.std.proofs.Common.{◌*◌, ◌%◌, length, take, drop, ap, ◌∙◌, arith}
+use Rattle.std.proofs.Common.{length, take, drop, ap, ◌∙◌}
 use Rattle.s2_bits.specs.Bits.{bit_at}
 use Rattle.s2_ldpc.proofs.Planing.{plane_added}
 use Rattle.s2_ldpc.proofs.planes.add_address.Goals as goal
