@@ -3,7 +3,6 @@ use Rattle.std.proofs.Common.{◌≡◌, ◌≢◌, ℕ, zero, suc, ◌+◌, ◌
 use Rattle.std.proofs.Math.Nat.{mod-eq_of_lt, add-mod_right, add-mul-mod_self_right, mul-le-mul_right}
 use Rattle.std.proofs.lemmas.Bool.{cases_eq, cases_lt}
 use Rattle.std.proofs.lemmas.List.{get_or_append_left, get_or-append_right, get_or-take, get_or-drop, length-take-le}
-use Rattle.std.proofs.lemmas.Nat.{div-mul-add, mod-mul-add}
 use Rattle.s2_bits.specs.Bits.{xor, bit_at}
 use Rattle.s2_matrix.proofs.Joins.{div_below, mod_cancel}
 use Rattle.s2_bits.proofs.Steps.{by_order}
@@ -165,47 +164,6 @@ plane_added w planes before plane plane' after n q x j some hx hj room eb ep ea 
                 get_or-append_right before (plane' ++ after) (a * n) (r * n + c) false front past ∙ get_or-append_right plane' after n (r * n + c - a * n) false long past' ∙ ap (λ l. bit_at l (r * n + c - a * n - n)) ea ∙ get_or-drop n (drop (a * n) planes) (r * n + c - a * n - n) false ∙ get_or-drop (a * n) planes (n + (r * n + c - a * n - n)) false ∙ ap (bit_at planes) back ∙ sym none
                 )
           ]
-          )
-    ]
-
--- ---- the places in the order of the checks
-
-next_layer : (n q j : ℕ) → j % q + 1 < q → plane_place n q (j + 1) ≡ plane_place n q j + n
-next_layer n q j h =
-    let e : j + 1 ≡ j / q * q + (j % q + 1) = omega arith in
-    let layer : (j + 1) % q ≡ j % q + 1 = ap (λ k. k % q) e ∙ mod-mul-add (j / q) q (j % q + 1) h in
-    let lane : (j + 1) / q ≡ j / q = ap (λ k. k / q) e ∙ div-mul-add (j / q) q (j % q + 1) h in
-    ap₂ (λ (a b : ℕ). a * n + b) layer lane ∙ omega arith
-
-next_lane : (n q j : ℕ) → 1 ≤ q → j % q + 1 ≡ q → plane_place n q (j + 1) ≡ j / q + 1
-next_lane n q j some h =
-    let e : j + 1 ≡ (j / q + 1) * q + 0 = omega (arith, h) in
-    let layer : (j + 1) % q ≡ 0 = ap (λ k. k % q) e ∙ mod-mul-add (j / q + 1) q 0 (omega arith) in
-    let lane : (j + 1) / q ≡ j / q + 1 = ap (λ k. k / q) e ∙ div-mul-add (j / q + 1) q 0 (omega arith) in
-    ap₂ (λ (a b : ℕ). a * n + b) layer lane ∙ omega arith
-
--- the next place, when it is past the last plane and when it is not
-pub next_place : (n q j : ℕ) → 1 ≤ q → j < n * q → plane_place n q j + n < n * q → plane_place n q (j + 1) ≡ plane_place n q j + n
-next_place n q j some h low =
-    elim (cases_lt (j % q + 1) q) [
-      | inl less ↦ next_layer n q j less
-      | inr ge ↦ (
-          let last : j % q + 1 ≡ q = omega arith in
-          let many : (j % q + 1) * n ≡ q * n = ap (λ k. k * n) last in
-          absurd (omega (arith, many))
-          )
-    ]
-
-pub next_wrapped : (n q j : ℕ) → 1 ≤ q → j < n * q → n * q ≤ plane_place n q j + n → plane_place n q (j + 1) ≡ plane_place n q j + n - n * q + 1
-next_wrapped n q j some h high =
-    let qn : n * q ≡ q * n = omega arith in
-    let lane : j / q < n = div_below j q n some (omega arith) in
-    elim (cases_lt (j % q + 1) q) [
-      | inl less ↦ (let far = mul-le-mul_right n less in absurd (omega (arith, far)))
-      | inr ge ↦ (
-          let last : j % q + 1 ≡ q = omega arith in
-          let many : (j % q + 1) * n ≡ q * n = ap (λ k. k * n) last in
-          next_lane n q j some last ∙ omega (arith, many)
           )
     ]
 

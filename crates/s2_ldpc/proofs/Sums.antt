@@ -1,10 +1,10 @@
 -- Sums of bits.
-use Rattle.std.proofs.Common.{◌≡◌, ◌≢◌, ℕ, zero, suc, ◌+◌, ◌%◌, ◌<◌, ◌&&◌, ◌||◌, Bool, true, false, cond, List, [], ◌∷◌, filter, inl, inr, refl, sym, ap, ap₂, ◌∙◌, arith, not, set, length, get_or-set_same, get_or-set_other}
+use Rattle.std.proofs.Common.{◌≡◌, ◌≢◌, ℕ, zero, suc, ◌+◌, ◌%◌, ◌<◌, ◌&&◌, ◌||◌, Bool, true, false, cond, List, [], ◌∷◌, filter, inl, inr, refl, sym, ap, ap₂, ◌∙◌, arith, not}
 use mathlib.Core.Bool.{beq}
 use Rattle.std.specs.List.{count_by}
 use Rattle.std.proofs.lemmas.Bool.{cases_Bool, cases_eq}
 use Rattle.std.proofs.lemmas.List.Sums.{sum_by-cons, sum_by_push}
-use Rattle.s2_bits.specs.Bits.{xor, number, bit_at}
+use Rattle.s2_bits.specs.Bits.{xor, number}
 use Rattle.s2_matrix.specs.Total.{upto}
 use Rattle.s2_matrix.proofs.Totals.{upto_more}
 use Rattle.s2_ldpc.specs.Encoding.{sum_of}
@@ -130,11 +130,3 @@ flipped false false = refl
 
 pub sum_more : (f : ℕ → Bool) (j : ℕ) → sum_of f (j + 1) ≡ xor (sum_of f j) (f j)
 sum_more f j = let one : j + 1 ≡ suc j = omega arith in ap (sum_of f) one
-
--- one sum more is written
-pub sums_set : (f : ℕ → Bool) (xs : List Bool) (j : ℕ) (v : Bool) → j < length xs → v ≡ sum_of f (j + 1) → ((i : ℕ) → i < j → bit_at xs i ≡ sum_of f (i + 1)) → (i : ℕ) → i < j + 1 → bit_at (set xs j v) i ≡ sum_of f (i + 1)
-sums_set f xs j v low is done i h =
-    elim (cases_eq i j) [
-      | inl same ↦ ap (bit_at (set xs j v)) same ∙ get_or-set_same xs j v false low ∙ is ∙ ap (λ k. sum_of f (k + 1)) (sym same)
-      | inr other ↦ get_or-set_other xs j i v false other ∙ done i (omega (arith, other))
-    ]

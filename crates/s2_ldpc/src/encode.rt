@@ -6,7 +6,8 @@ ghost use Rattle.s2_matrix.specs.Code.{code_of};
 ghost use Rattle.s2_ldpc.specs.Encoding.{IsCodewordOf, information_sum};
 ghost use Rattle.s2_ldpc.specs.Planes.{plane_place};
 
-use crate::planes::{accumulate, add_row};
+use crate::accumulator::accumulate;
+use crate::planes::add_row;
 use s2_bits::Bits;
 use s2_matrix::Matrix;
 use s2_mode::MOST_BITS;
@@ -49,7 +50,7 @@ fn encode(matrix: &Matrix, info: &[bool], word: &mut [bool])
     let shape = matrix.shape();
     let mut planes = [false; MOST_BITS];
     add_groups(matrix, info, &mut planes);
-    accumulate(&planes, shape.group(), shape.q(), parities);
+    accumulate(&mut planes, shape.group(), shape.q(), parities);
 }
 
 /// Writes the codeword that begins with the information bits (EN 302 307-1, 5.3.2).

@@ -11,6 +11,7 @@
 //! ```
 #![tactic(auto)]
 
+mod accumulator;
 mod encode;
 pub mod laws;
 mod planes;

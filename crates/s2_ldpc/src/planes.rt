@@ -55,24 +55,3 @@ pub(crate) fn add_row(planes: &mut [bool], q: usize, bits: &[bool], row: &[u32])
         add_address(planes, q, bits, *address as usize);
     }
 }
-
-/// Adds up the checks' sums in the order of the checks.
-pub(crate) fn accumulate(planes: &[bool], group: usize, q: usize, parities: &mut [bool])
-    requires some { 1 ≤ q }
-    requires size { length parities.old ≡ group * q }
-    requires room { group * q ≤ length planes.now }
-    requires few { length planes.now ≤ 64800 }
-    ensures long { length parities.new ≡ length parities.old }
-    ensures sums { (j : ℕ) → j < group * q → bit_at parities.new j ≡ sum_of (λ i. bit_at planes.now (plane_place group q i)) (j + 1) }
-{
-    let mut sum = false;
-    let mut at = 0;
-    for j in 0..parities.len() {
-        sum = sum ^ planes[at];
-        parities[j] = sum;
-        at += group;
-        if at >= group * q {
-            at = at - group * q + 1;
-        }
-    }
-}
