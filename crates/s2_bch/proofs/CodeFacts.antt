@@ -178,6 +178,23 @@ tail_12 m is e n8 n10 =
       ]
     ]
 
+some_of : (m : Mode) (s : Bool) → m.short ≡ s → IsMode m → 0 < length (drop 1 (generator_of m))
+some_of m true e is =
+    let long : length (drop 1 (generator_of m)) ≡ 168 = ap length (tail_short m is e) in
+    omega arith
+some_of m false e is =
+    let g = normal_generator m is e in
+    elim (t_normal m is e) [
+      | inl h ↦ omega (arith, g.size, ap length g.begins, h)
+      | inr h ↦ elim h [
+        | inl k ↦ omega (arith, g.size, ap length g.begins, k)
+        | inr k ↦ omega (arith, g.size, ap length g.begins, k)
+      ]
+    ]
+
+pub some_tail : (m : Mode) → IsMode m → 0 < length (drop 1 (generator_of m))
+some_tail m is = some_of m m.short refl is
+
 -- ---- the powers of a
 
 module _ {F : Type 0} (nil one : F) (add mul : F → F → F) (inv : F → F) (L : FieldLaws nil one add mul inv) (a : F) (n : ℕ)

@@ -1,6 +1,7 @@
-mod Steps
+mod RegisterFacts
 mod Filters
 mod Shortest
 mod Decoder
 mod CodeFacts
+mod RestFacts
 mod Distances

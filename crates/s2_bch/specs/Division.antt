@@ -20,9 +20,17 @@ number_of [] = 0
 number_of (b ∷ w) = bit b * 2 ^ length w + number_of w
 
 -- `x`, n times
-abbrev pub steps : ℕ → ℕ → ℕ → ℕ → ℕ
+unfoldable pub steps : ℕ → ℕ → ℕ → ℕ → ℕ
 steps m low zero v = v
 steps m low (suc n) v = steps m low n (times_x m low v)
+
+pub no_steps : (m low v : ℕ) → steps m low 0 v ≡ v
+unfolding steps
+no_steps m low v = refl
+
+pub more_steps : (m low n v : ℕ) → steps m low (suc n) v ≡ steps m low n (times_x m low v)
+unfolding steps
+more_steps m low n v = refl
 
 below-more : (b : Bool) (n p q : ℕ) → n < p → q ≡ p * 2 → bit b * p + n < q
 below-more true n p q h e = omega arith
@@ -39,7 +47,7 @@ bit-xor false true = refl
 bit-xor false false = refl
 
 -- the sum of two lists of one length is the sum of their numbers
-number_of-sum : (u v : List Bool) → length u ≡ length v → number_of (add_front u v) ≡ bit_xor (number_of u) (number_of v)
+pub number_of-sum : (u v : List Bool) → length u ≡ length v → number_of (add_front u v) ≡ bit_xor (number_of u) (number_of v)
 number_of-sum [] [] e = refl
 number_of-sum [] (c ∷ v) e = absurd (omega arith)
 number_of-sum (b ∷ u) [] e = absurd (omega arith)
@@ -75,7 +83,7 @@ number_of-more (b ∷ r) =
     ∙ double-more b (number_of r) _ (2 ^ length r) (2 ^ suc (length r)) (number_of-more r) (pow-suc 2 (length r))
 
 -- a sum, moved up
-xor-scale : (a b k : ℕ) → bit_xor a b * 2 ^ k ≡ bit_xor (a * 2 ^ k) (b * 2 ^ k)
+pub xor-scale : (a b k : ℕ) → bit_xor a b * 2 ^ k ≡ bit_xor (a * 2 ^ k) (b * 2 ^ k)
 xor-scale a b k =
     sym (ap₂ bit_xor (sym (add-zero (a * 2 ^ k))) (sym (add-zero (b * 2 ^ k)))
     ∙ xor_block k a b 0 0 (pow_pos k) (pow_pos k) ∙ add-zero (bit_xor a b * 2 ^ k))
@@ -106,7 +114,7 @@ module _ (m low : ℕ) (positive : 0 < m) where
       ∙ ap₂ bit_xor (times_top (xor h b)) (times_x-small m low positive y hy)
 
   -- a step of the register
-  register-number : (t r : List Bool) (b : Bool) (pad : ℕ) → length r ≡ length t → length t + pad ≡ m → 0 < length t
+  pub register-number : (t r : List Bool) (b : Bool) (pad : ℕ) → length r ≡ length t → length t + pad ≡ m → 0 < length t
       → low ≡ number_of t * 2 ^ pad
       → number_of (register_step t r b) * 2 ^ pad ≡ times_x m low (bit_xor (number_of r * 2 ^ pad) (bit b * 2 ^ (m - 1)))
   register-number t [] b pad e w some is = absurd (omega arith)
@@ -128,6 +136,7 @@ module _ (m low : ℕ) (positive : 0 < m) where
       ∙ sym (ap (λ x. times_x m low (bit_xor x (bit b * 2 ^ (m - 1)))) split ∙ times_first h b (number_of r * 2 ^ pad) hy)
 
   pub steps-xor : (n a b : ℕ) → steps m low n (bit_xor a b) ≡ bit_xor (steps m low n a) (steps m low n b)
+  unfolding steps
   steps-xor zero a b = refl
   steps-xor (suc n) a b = ap (steps m low n) (times_x-xor m low a b) ∙ steps-xor n (times_x m low a) (times_x m low b)
 
@@ -136,6 +145,7 @@ module _ (m low : ℕ) (positive : 0 < m) where
       → (w r : List Bool) → length r ≡ length t → length w ≤ m
       → number_of (register_after t r w) * 2 ^ pad
       ≡ steps m low (length w) (bit_xor (number_of r * 2 ^ pad) (number_of w * 2 ^ (m - length w)))
+  unfolding steps
   register-steps t pad fits some is [] r e h =
       let z : 0 * 2 ^ (m - 0) ≡ 0 = omega arith in
       sym (ap (bit_xor (number_of r * 2 ^ pad)) z ∙ xor_zero_r (number_of r * 2 ^ pad))
@@ -164,6 +174,7 @@ module _ (m low : ℕ) (positive : 0 < m) where
 
   -- steps that carry nothing out move up
   steps-small : (n y : ℕ) → n ≤ m → y < 2 ^ (m - n) → steps m low n y ≡ y * 2 ^ n
+  unfolding steps
   steps-small zero y h hy = omega arith
   steps-small (suc n) y h hy =
       let up : 2 ^ (m - suc n) ≤ 2 ^ (m - 1) = pow_mono (omega arith) in

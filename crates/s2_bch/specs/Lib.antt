@@ -9,5 +9,6 @@ pub mod Codes
 pub mod Room
 pub mod Ready
 pub mod Division
+pub mod Registers
 pub mod Tails
 pub mod Decoding

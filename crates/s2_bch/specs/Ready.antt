@@ -1,7 +1,9 @@
 -- What an encoder and decoder of a mode holds.
 use Rattle.std.specs.Prelude.{ℕ, ◌≡◌, ◌+◌, ◌<◌, Bool, true, false, List, length, drop}
-use Rattle.s2_mode.specs.Mode.{Mode, IsMode, k_of, t_of, HasCodeSizes}
+use Rattle.s2_mode.specs.Mode.{Mode, IsMode, k_of, kbch_of, t_of, HasCodeSizes}
 use Rattle.s2_bch.specs.Generators.{generator_of}
+use Rattle.s2_bch.specs.Registers.{IsTableFor}
+use Rattle.s2_bch.specs.declared.register.Register.{Register}
 use Rattle.s2_bch.specs.declared.bch.Finders.{Finders}
 use Rattle.s2_bch.specs.declared.bch.Finders.TheVariants.{Normal, Short}
 
@@ -10,10 +12,10 @@ abbrev pub IsFinder : Mode → Finders → Type 0
 IsFinder m (Normal t) = (m.short ≡ false) × (t ≡ t_of m)
 IsFinder m (Short t) = (m.short ≡ true) × (t ≡ t_of m)
 
-pub record IsReady (m : Mode) (tail : List Bool) (candidate again : ℕ) (finders : Finders) : Type 0 where
+pub record IsReady (m : Mode) (table : List Register) (rest candidate : ℕ) (finders : Finders) : Type 0 where
   pub valid : IsMode m
   pub sizes : HasCodeSizes m
-  pub tail_is : tail ≡ drop 1 (generator_of m)
+  pub table_is : IsTableFor (drop 1 (generator_of m)) table
+  pub rest_fits : rest + kbch_of m ≡ k_of m
   pub candidate_fits : candidate ≡ k_of m
-  pub again_fits : again ≡ k_of m
   pub finder : IsFinder m finders

@@ -153,7 +153,7 @@ pub take-append : (m r : List Bool) → take (length m) (m ++ r) ≡ m
 take-append [] r = refl
 take-append (b ∷ m) r = ap (λ x. b ∷ x) (take-append m r)
 
-length-after : (t r m : List Bool) → length (register_after t r m) ≡ length r
+pub length-after : (t r m : List Bool) → length (register_after t r m) ≡ length r
 length-after t r [] = refl
 length-after t r (b ∷ m) = length-after t (register_step t r b) m ∙ length-step t r b
 

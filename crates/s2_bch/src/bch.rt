@@ -3,12 +3,14 @@ ghost use Rattle.std.specs.Prelude.{◌≡◌, ◌+◌, ◌*◌, ◌∷◌, ◌<
 ghost use Rattle.s2_bits.specs.Bits.{differences};
 ghost use Rattle.s2_mode.specs.Mode.{kbch_of, k_of, t_of, IsMode, HasCodeSizes};
 ghost use Rattle.s2_bch.specs.Words.{distance};
+ghost use Rattle.s2_bch.specs.Registers.{Holds, IsTableFor, rest_of};
 ghost use Rattle.s2_bch.specs.Generators.{generator_of};
 ghost use Rattle.s2_bch.specs.Ready.{IsFinder};
 ghost use Rattle.s2_bch.specs.Codes.{IsBchWord, IsBchWordOf, IsWithin};
 
+use crate::divider::{encode_into, rest, table_of};
 use crate::find::Finder;
-use crate::register::{encode_into, tail_of};
+use crate::register::Register;
 use s2_bits::Bits;
 use s2_field::{Gf14, Gf16};
 use s2_mode::Mode;
@@ -26,9 +28,9 @@ pub(crate) enum Finders {
 #[derive(Drop)]
 pub struct Bch {
     mode: Mode,
-    tail: Vec<bool>,
+    table: Vec<Register>,
+    rest: Vec<bool>,
     candidate: Vec<bool>,
-    again: Vec<bool>,
     finders: Finders,
 }
 
@@ -41,7 +43,7 @@ impl Model for Bch {
 
     ghost view = { λ b. b.mode };
 
-    ghost invariant = { λ b. IsReady b.mode b.tail.items (length b.candidate.items) (length b.again.items) b.finders };
+    ghost invariant = { λ b. IsReady b.mode b.table.items (length b.rest.items) (length b.candidate.items) b.finders };
 }
 
 impl Bch {
@@ -57,9 +59,9 @@ impl Bch {
         };
         Ok(Bch {
             mode,
-            tail: tail_of(alloc, mode)?,
+            table: table_of(alloc, mode)?,
+            rest: vec![in alloc; false; mode.k() - mode.kbch()]?,
             candidate: vec![in alloc; false; mode.k()]?,
-            again: vec![in alloc; false; mode.k()]?,
             finders,
         })
     }
@@ -71,7 +73,7 @@ impl Bch {
         ensures is { IsBchWordOf self.now message.now word.new }
         ensures word { IsBchWord self.now word.new }
     {
-        encode_into(&self.tail, message.truths(), word.truths_mut());
+        encode_into(&self.table, message.truths(), word.truths_mut());
     }
 
     /// Changes a word of Nbch bits into the code's word that differs from it in at most t places,
@@ -86,80 +88,81 @@ impl Bch {
     {
         correct_bits(
             self.mode,
-            &self.tail,
+            &self.table,
             &mut self.finders,
             word,
+            &mut self.rest,
             &mut self.candidate,
-            &mut self.again,
         )
     }
 }
 
 fn correct_bits(
     mode: Mode,
-    tail: &[bool],
+    table: &[Register],
     finders: &mut Finders,
     word: &mut Bits,
+    bits: &mut [bool],
     candidate: &mut [bool],
-    again: &mut [bool],
 ) -> Option<u32>
     requires valid { IsMode mode }
     requires sizes { HasCodeSizes mode }
-    requires tail { tail.now ≡ drop 1 (generator_of mode) }
+    requires table { IsTableFor (drop 1 (generator_of mode)) table.now }
     requires finder { IsFinder mode finders.old }
     requires word { length word.old ≡ k_of mode }
+    requires bits { length bits.old + kbch_of mode ≡ k_of mode }
     requires candidate { length candidate.old ≡ k_of mode }
-    requires again { length again.old ≡ k_of mode }
     ensures finder { IsFinder mode finders.new }
     ensures some { IfSome result (λ c. IsWithin mode word.old word.new × (c ≡ differences (length word.old) word.old word.new)) }
     ensures only { IfSome result (λ c. (v : List Bool) → IsWithin mode word.old v → v ≡ word.new) }
     ensures none { IfNone result ((v : List Bool) → IsWithin mode word.old v → ⊥) }
     ensures unchanged { IfNone result (word.new ≡ word.old) }
 {
-    decode(mode, tail, finders, word.truths_mut(), candidate, again)
+    decode(mode, table, finders, word.truths_mut(), bits, candidate)
 }
 
 /// Leaves a word of the code as it is, which costs one division, and corrects any other.
 fn decode(
     mode: Mode,
-    tail: &[bool],
+    table: &[Register],
     finders: &mut Finders,
     word: &mut [bool],
+    bits: &mut [bool],
     candidate: &mut [bool],
-    again: &mut [bool],
 ) -> Option<u32>
     requires valid { IsMode mode }
     requires sizes { HasCodeSizes mode }
-    requires tail { tail.now ≡ drop 1 (generator_of mode) }
+    requires table { IsTableFor (drop 1 (generator_of mode)) table.now }
     requires finder { IsFinder mode finders.old }
     requires word { length word.old ≡ k_of mode }
+    requires bits { length bits.old + kbch_of mode ≡ k_of mode }
     requires candidate { length candidate.old ≡ k_of mode }
-    requires again { length again.old ≡ k_of mode }
     ensures finder { IsFinder mode finders.new }
     ensures some { IfSome result (λ c. IsBchWord mode word.new × (c ≡ distance word.old word.new) × (c ≤ t_of mode)) }
     ensures only { IfSome result (λ c. (v : List Bool) → IsBchWord mode v → distance word.old v ≤ t_of mode → word.new ≡ v) }
     ensures none { IfNone result ((v : List Bool) → IsBchWord mode v → t_of mode < distance word.old v) }
     ensures unchanged { IfNone result (word.new ≡ word.old) }
 {
-    encode_into(tail, &word[..mode.kbch()], again);
-    if same_bits(again, word) {
+    let left = rest(table, word, mode.kbch());
+    if left.is_zero() {
         return Some(0);
     }
-    correct(mode, tail, finders, word, candidate, again)
+    left.write(bits);
+    correct(mode, table, finders, word, bits, candidate)
 }
 
 /// Flips, in a copy of the word, the only places whose change can make it a word of the code, t at
-/// most, and answers how many they are.
+/// most, and answers how many they are. `rest` is what its division leaves.
 fn flip_near(finders: &mut Finders, mode: Mode, rest: &[bool], candidate: &mut [bool]) -> usize
     requires valid { IsMode mode }
     requires sizes { HasCodeSizes mode }
     requires finder { IsFinder mode finders.old }
     requires word { length candidate.old ≡ k_of mode }
-    requires copied { candidate.old ≡ rest.now }
+    requires rest { rest.now ≡ rest_of (drop 1 (generator_of mode)) (kbch_of mode) candidate.old }
     ensures finder { IsFinder mode finders.new }
     ensures size { length candidate.new ≡ k_of mode }
-    ensures count { result ≡ distance rest.now candidate.new }
-    ensures only { (v : List Bool) → IsBchWord mode v → distance rest.now v ≤ t_of mode → candidate.new ≡ v }
+    ensures count { result ≡ distance candidate.old candidate.new }
+    ensures only { (v : List Bool) → IsBchWord mode v → distance candidate.old v ≤ t_of mode → candidate.new ≡ v }
 {
     match finders {
         Finders::Normal(finder) => finder.flip_near(rest, candidate),
@@ -169,19 +172,19 @@ fn flip_near(finders: &mut Finders, mode: Mode, rest: &[bool], candidate: &mut [
 
 fn correct(
     mode: Mode,
-    tail: &[bool],
+    table: &[Register],
     finders: &mut Finders,
     word: &mut [bool],
+    bits: &[bool],
     candidate: &mut [bool],
-    again: &mut [bool],
 ) -> Option<u32>
     requires valid { IsMode mode }
     requires sizes { HasCodeSizes mode }
-    requires tail { tail.now ≡ drop 1 (generator_of mode) }
+    requires table { IsTableFor (drop 1 (generator_of mode)) table.now }
     requires finder { IsFinder mode finders.old }
     requires word { length word.old ≡ k_of mode }
+    requires bits { bits.now ≡ rest_of (drop 1 (generator_of mode)) (kbch_of mode) word.old }
     requires candidate { length candidate.old ≡ k_of mode }
-    requires again { length again.old ≡ k_of mode }
     ensures finder { IsFinder mode finders.new }
     ensures some { IfSome result (λ c. IsBchWord mode word.new × (c ≡ distance word.old word.new) × (c ≤ t_of mode)) }
     ensures only { IfSome result (λ c. (v : List Bool) → IsBchWord mode v → distance word.old v ≤ t_of mode → word.new ≡ v) }
@@ -189,20 +192,13 @@ fn correct(
     ensures unchanged { IfNone result (word.new ≡ word.old) }
 {
     candidate.copy_from_slice(word);
-    let count = flip_near(finders, mode, word, candidate);
+    let count = flip_near(finders, mode, bits, candidate);
     if count > mode.t() {
         return None;
     }
-    encode_into(tail, &candidate[..mode.kbch()], again);
-    if !same_bits(again, candidate) {
+    if !rest(table, candidate, mode.kbch()).is_zero() {
         return None;
     }
     word.copy_from_slice(candidate);
     Some(count as u32)
-}
-
-fn same_bits(a: &[bool], b: &[bool]) -> bool
-    ensures { IsTrue result ↔ (a.now ≡ b.now) }
-{
-    a == b
 }

@@ -17,6 +17,8 @@
 mod bch;
 mod find;
 pub mod laws;
+mod divider;
+mod generators;
 mod locate;
 mod register;
 

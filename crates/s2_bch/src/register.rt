@@ -1,135 +1,113 @@
-//! Division by the generator.
-ghost use Rattle.std.specs.Prelude.{◌≡◌, ◌+◌, ◌∷◌, ◌&&◌, ◌<◌, drop, IfOk, true, false, length, slice_index_or};
-ghost use Rattle.s2_bits.specs.Bits.{xor};
-ghost use Rattle.s2_bch.specs.Words.{register_step, register_after, IsWordOf};
-ghost use Rattle.s2_bch.specs.Generators.{generator_of};
+//! The division register.
+ghost use Rattle.std.specs.Prelude.{◌≡◌, ◌↔◌, ◌+◌, ◌*◌, ◌/◌, ◌%◌, ◌^◌, ◌<◌, ◌≤◌, ℕ, List, Bool, bit_xor, length, IsTrue};
+ghost use Rattle.s2_field.specs.Binary.{times_x};
+ghost use Rattle.s2_bch.specs.Division.{bit};
+ghost use Rattle.s2_bch.specs.Registers.{value_of, Holds};
 
-use s2_mode::Mode;
-use std::alloc::{AllocError, Global};
-
-const NORMAL_8: [bool; 128] = [
-    false, false, false, true, true, true, false, false, false, false, false, false, false, true,
-    true, true, false, false, true, false, false, true, false, true, false, true, false, true,
-    true, true, true, true, false, true, true, true, false, false, false, true, false, false, true,
-    false, false, true, true, true, true, false, false, true, false, true, true, true, true, false,
-    true, true, true, true, false, true, false, false, false, true, true, false, false, true, true,
-    true, true, true, true, true, false, false, false, true, true, false, true, true, false, true,
-    false, true, true, true, false, true, false, true, false, false, false, false, false, true,
-    false, false, true, true, true, true, true, false, false, true, false, true, true, false,
-    false, true, true, false, false, false, true, false, true, false, true, true,
-];
-
-const NORMAL_10: [bool; 160] = [
-    false, true, true, false, false, false, false, false, false, false, false, true, false, true,
-    false, true, false, false, false, false, true, true, false, false, true, true, true, false,
-    true, true, false, true, true, true, true, true, true, true, false, false, false, false, true,
-    false, true, false, true, false, false, false, true, true, false, false, true, true, false,
-    false, false, true, true, true, true, true, false, true, true, false, true, false, true, false,
-    false, true, true, true, true, false, false, false, false, true, false, true, false, true,
-    true, true, false, false, false, false, false, false, true, true, true, true, true, false,
-    true, true, true, true, true, true, false, true, false, false, false, true, false, false, true,
-    false, false, false, true, true, false, false, false, false, false, false, false, true, true,
-    false, true, true, true, false, false, false, true, false, true, true, true, false, true, true,
-    false, true, true, false, false, true, false, true, true, false, false, true, false, false,
-    false, true,
-];
-
-const NORMAL_12: [bool; 192] = [
-    false, true, false, false, true, true, true, false, false, false, true, false, false, true,
-    true, false, false, false, false, false, true, true, true, false, true, false, false, false,
-    false, false, true, true, true, false, false, false, false, true, false, false, false, true,
-    false, true, true, true, false, false, false, true, false, true, false, false, false, true,
-    false, false, false, true, true, true, false, false, false, true, false, true, false, false,
-    false, false, true, true, false, false, true, true, true, true, false, false, true, false,
-    true, true, false, false, true, true, false, true, true, false, false, false, true, true,
-    false, true, true, true, false, false, false, false, true, true, false, true, false, true,
-    false, false, false, false, true, false, false, false, true, false, false, false, true, false,
-    false, true, false, false, false, false, false, false, true, true, false, true, false, false,
-    false, true, true, true, true, false, false, false, false, true, false, true, true, true, true,
-    true, false, true, true, true, false, true, true, false, false, true, true, false, false,
-    false, false, false, false, false, true, false, false, true, false, true, false, true, false,
-    true, true, true, true, false, false, true, true, true,
-];
-
-const SHORT_12: [bool; 168] = [
-    false, true, false, false, false, false, false, false, false, true, true, false, false, false,
-    true, false, true, true, false, true, true, false, true, true, true, true, true, false, true,
-    false, true, false, true, false, false, true, true, false, false, false, false, true, true,
-    false, true, false, false, true, true, false, true, true, false, false, true, false, false,
-    true, true, false, false, false, true, false, true, true, false, false, true, true, false,
-    true, false, false, true, false, false, false, true, true, true, false, true, false, false,
-    false, true, true, true, false, false, true, false, false, false, false, false, true, true,
-    false, true, false, false, true, false, true, false, true, false, false, true, false, true,
-    false, false, false, true, true, true, true, true, true, true, false, false, true, true, true,
-    true, true, false, true, false, true, true, true, true, true, false, true, false, false, false,
-    true, false, false, false, true, true, false, false, true, false, false, false, false, false,
-    true, false, true, true, false, true, false, false, true, false, true,
-];
-
-/// What the generator has after its first bit.
-pub(crate) fn tail_of(alloc: Global, mode: Mode) -> Result<Vec<bool>, AllocError>
-    ensures { IfOk result (λ v. v.items ≡ drop 1 (generator_of mode)) }
-{
-    if mode.is_short() {
-        Ok(Vec::from_array(alloc, SHORT_12)?)
-    } else if mode.t() == 8 {
-        Ok(Vec::from_array(alloc, NORMAL_8)?)
-    } else if mode.t() == 10 {
-        Ok(Vec::from_array(alloc, NORMAL_10)?)
-    } else {
-        Ok(Vec::from_array(alloc, NORMAL_12)?)
-    }
+/// A register of 192 bits. Fewer bits stand at the top, and zeros follow, so that all generators
+/// are divided by alike.
+#[derive(Clone, Copy, Drop)]
+pub(crate) struct Register {
+    pub(crate) high: u64,
+    pub(crate) middle: u64,
+    pub(crate) low: u64,
 }
 
-fn sum(a: bool, b: bool) -> bool
-    ensures { result ≡ xor a b }
-{
-    if a { !b } else { b }
-}
-
-/// The register's new bit at i.
-fn bit_at(tail: &[bool], register: &[bool], out: bool, i: usize) -> bool
-    requires in_tail { i < length tail.now }
-    requires in_register { i < length register.now }
-    ensures { result ≡ xor (out && slice_index_or tail.now i false) (slice_index_or register.now (i + 1) false) }
-{
-    if i + 1 < register.len() {
-        sum(out && tail[i], register[i + 1])
-    } else {
-        sum(out && tail[i], false)
+impl Register {
+    /// All bits one place up: the highest falls out.
+    fn doubled(self) -> Register
+        ensures { value_of result ≡ value_of self * 2 % 2 ^ 192 }
+    {
+        Register {
+            high: (self.high << 1) + (self.middle >> 63),
+            middle: (self.middle << 1) + (self.low >> 63),
+            low: self.low << 1,
+        }
     }
-}
 
-/// The register after one more bit of the message.
-fn feed(tail: &[bool], register: &mut [bool], bit: bool)
-    requires { length register.old ≡ length tail.now }
-    ensures { register.new ≡ register_step tail.now register.old bit }
-{
-    if register.is_empty() {
-        return;
+    /// All bits eight places up: the eight highest fall out.
+    pub(crate) fn up_a_byte(self) -> Register
+        ensures { value_of result ≡ value_of self * 2 ^ 8 % 2 ^ 192 }
+    {
+        Register {
+            high: (self.high << 8) + (self.middle >> 56),
+            middle: (self.middle << 8) + (self.low >> 56),
+            low: self.low << 8,
+        }
     }
-    let out = sum(register[0], bit);
-    for i in 0..register.len() {
-        register[i] = bit_at(tail, register, out, i);
-    }
-}
 
-fn divide(tail: &[bool], register: &mut [bool], message: &[bool])
-    requires { length register.old ≡ length tail.now }
-    ensures { register.new ≡ register_after tail.now register.old message.now }
-{
-    for bit in message {
-        feed(tail, register, *bit);
+    /// All bits one place down, below a new one: the lowest falls out.
+    fn below(self, top: bool) -> Register
+        ensures { value_of result ≡ bit top * 2 ^ 191 + value_of self / 2 }
+    {
+        Register {
+            high: (u64::from(top) << 63) + (self.high >> 1),
+            middle: (self.high << 63) + (self.middle >> 1),
+            low: (self.middle << 63) + (self.low >> 1),
+        }
     }
-}
 
-/// Puts the message and the rest of its division by x^degree + tail into the word.
-pub(crate) fn encode_into(tail: &[bool], message: &[bool], word: &mut [bool])
-    requires { length word.old ≡ length message.now + length tail.now }
-    ensures { IsWordOf (true ∷ tail.now) message.now word.new }
-{
-    let (front, back) = word.split_at_mut(message.len());
-    front.copy_from_slice(message);
-    back.fill(false);
-    divide(tail, back, message);
+    /// The highest bit.
+    fn top(self) -> bool
+        ensures { bit result ≡ value_of self / 2 ^ 191 }
+    {
+        self.high >> 63 == 1
+    }
+
+    /// The sum, bit by bit.
+    pub(crate) fn plus(self, other: Register) -> Register
+        ensures { value_of result ≡ bit_xor (value_of self) (value_of other) }
+    {
+        Register {
+            high: self.high ^ other.high,
+            middle: self.middle ^ other.middle,
+            low: self.low ^ other.low,
+        }
+    }
+
+    /// Whether all bits are zero.
+    pub(crate) fn is_zero(self) -> bool
+        ensures { IsTrue result ↔ (value_of self ≡ 0) }
+    {
+        self.high == 0 && self.middle == 0 && self.low == 0
+    }
+
+    /// One step of the division by x^192 + `tail`.
+    pub(crate) fn step(self, tail: Register) -> Register
+        ensures { value_of result ≡ times_x 192 (value_of tail) (value_of self) }
+    {
+        if self.top() {
+            self.doubled().plus(tail)
+        } else {
+            self.doubled()
+        }
+    }
+
+    /// The register that holds these bits.
+    pub(crate) fn read(bits: &[bool]) -> Register
+        requires { length bits.now ≤ 192 }
+        ensures { Holds result bits.now }
+    {
+        let mut register = Register {
+            high: 0,
+            middle: 0,
+            low: 0,
+        };
+        for i in 0..bits.len() {
+            register = register.below(bits[bits.len() - 1 - i]);
+        }
+        register
+    }
+
+    /// Writes the bits that the register holds.
+    pub(crate) fn write(self, bits: &mut [bool])
+        requires { length bits.old ≤ 192 }
+        ensures { (w : List Bool) → length w ≡ length bits.old → Holds self w → bits.new ≡ w }
+    {
+        let mut rest = self;
+        for bit in bits.iter_mut() {
+            *bit = rest.top();
+            rest = rest.doubled();
+        }
+    }
 }

@@ -1,38 +1,53 @@
-use Rattle.std.proofs.Common.{arith, ◌≡◌, ◌+◌, ◌∷◌, length, ◌∙◌, sym, ap, subst, take, length-take}
-use Rattle.std.specs.Prelude.{Bool, true, false}
+use Rattle.std.proofs.Common.{arith, ◌≡◌, ◌+◌, ◌∷◌, length, ◌∙◌, sym, ap, ap₂, subst}
+use Rattle.std.specs.Prelude.{Bool, true, false, drop}
 use Rattle.std.proofs.lemmas.Bool.{true≢false}
+use Rattle.s2_mode.specs.Mode.{kbch_of, t_of}
 use Rattle.s2_bch.specs.Generators.{generator_of}
+use Rattle.s2_bch.specs.Registers.{rest_of}
 use Rattle.s2_bch.specs.Words.{distance, IsMultiple}
+use Rattle.s2_bch.specs.Codes.{IsBchWord}
 use Rattle.s2_bch.proofs.CodeFacts.{generator_facts}
-use Rattle.s2_bch.proofs.Decoder.{none_multiple}
+use Rattle.s2_bch.proofs.RestFacts.{zero_rest, none_left}
 use Rattle.s2_bch.proofs.bch.correct.Goals as goal
 
-pub encode_into-requires : goal.encode_into-requires
-encode_into-requires c =
-    let made = generator_facts c.args.mode c.requires.valid c.requires.sizes in
-    omega (arith, length-take {A = Bool}, made.size, ap length c.requires.tail, c.requires.again, c.flip_near-count.ensures.size, c.kbch.ensures.is)
+pub flip_near-count-requires-clause-rest : goal.flip_near-count-requires-clause-rest
+flip_near-count-requires-clause-rest c =
+    c.requires.bits ∙ ap (rest_of (drop 1 (generator_of c.args.mode)) (kbch_of c.args.mode)) (sym c.copy_from_slice.ensures.after)
 
-pub returns-then-not-same_bits-clause-none : goal.returns-then-not-same_bits-clause-none
-returns-then-not-same_bits-clause-none c v word =
+pub rest-requires : goal.rest-requires
+rest-requires c =
     let made = generator_facts c.args.mode c.requires.valid c.requires.sizes in
-    let e : generator_of c.args.mode ≡ true ∷ c.args.tail.now = made.begins ∙ ap (λ u. true ∷ u) (sym c.requires.tail) in
-    none_multiple _ c.kbch.result c.args.tail.now c.args.word.now c.flip_near-count.new.candidate c.encode_into.new.word v c.encode_into.ensures
-    (λ z. true≢false (sym (c.same_bits.ensures.1 z) ∙ c.if-not-same_bits.true))
-    (omega (arith, made.size, ap length c.requires.tail, c.flip_near-count.ensures.size, c.kbch.ensures.is))
-    (subst (λ u. IsMultiple u v) e word.multiple)
-    (λ near. c.flip_near-count.ensures.only v word near)
+    record {
+      table = c.requires.table.size;
+      whole_bytes = omega (arith, c.kbch.ensures.is, c.requires.sizes.field);
+      more = omega (arith, c.kbch.ensures.is, made.size, c.flip_near-count.ensures.size);
+      few = omega (arith, c.kbch.ensures.is, made.size, c.requires.table.fits, c.flip_near-count.ensures.size);
+    }
+
+pub returns-then-not-is_zero-clause-none : goal.returns-then-not-is_zero-clause-none
+returns-then-not-is_zero-clause-none c v word =
+    let made = generator_facts c.args.mode c.requires.valid c.requires.sizes in
+    let t = drop 1 (generator_of c.args.mode) in
+    let w = c.flip_near-count.new.candidate in
+    let size : length w ≡ c.kbch.result + length t = omega (arith, c.kbch.ensures.is, made.size, c.flip_near-count.ensures.size) in
+    none_left (t_of c.args.mode) c.kbch.result t c.args.word.now w v c.rest.result size (c.rest.ensures t c.requires.table size)
+    (λ z. true≢false (sym (c.is_zero.ensures.1 z) ∙ c.if-not-is_zero.true))
+    (subst (λ g. IsMultiple g v) made.begins word.multiple)
+    (λ near. c.flip_near-count.ensures.only v word (omega (arith, near, ap (λ u. distance u v) c.copy_from_slice.ensures.after)))
 
 pub returns-clause-some : goal.returns-clause-some
 returns-clause-some c =
     let made = generator_facts c.args.mode c.requires.valid c.requires.sizes in
-    let e : generator_of c.args.mode ≡ true ∷ c.args.tail.now = made.begins ∙ ap (λ u. true ∷ u) (sym c.requires.tail) in
-    let same : c.encode_into.new.word ≡ c.flip_near-count.new.candidate = c.same_bits.ensures.0 c.if-not-same_bits.false in
-    let put : c.copy_from_slice-2.new.self ≡ c.flip_near-count.new.candidate = c.copy_from_slice-2.ensures.after in (
+    let t = drop 1 (generator_of c.args.mode) in
+    let w = c.flip_near-count.new.candidate in
+    let size : length w ≡ c.kbch.result + length t = omega (arith, c.kbch.ensures.is, made.size, c.flip_near-count.ensures.size) in
+    let put : c.copy_from_slice-2.new.self ≡ w = c.copy_from_slice-2.ensures.after in
+    let multiple = zero_rest t c.kbch.result w size c.rest.result (c.rest.ensures t c.requires.table size)
+    (c.is_zero.ensures.0 c.if-not-is_zero.false) in (
       record {
         size = omega (arith, ap length put, c.flip_near-count.ensures.size);
-        multiple = subst (λ u. IsMultiple u c.copy_from_slice-2.new.self) (sym e)
-            (subst (IsMultiple (true ∷ c.args.tail.now)) (same ∙ sym put) c.encode_into.ensures.multiple);
+        multiple = subst (λ u. IsMultiple (generator_of c.args.mode) u) (sym put) (subst (λ g. IsMultiple g w) (sym made.begins) multiple);
       },
-      c.flip_near-count.ensures.count ∙ ap (distance c.args.word.now) (sym put),
+      c.flip_near-count.ensures.count ∙ ap₂ distance c.copy_from_slice.ensures.after (sym put),
       omega (arith, c.if-count-t.false, c.t.ensures.is),
     )

@@ -1,36 +1,58 @@
-use Rattle.std.proofs.Common.{arith, ◌≡◌, ◌+◌, ◌∷◌, length, ◌∙◌, sym, ap, subst, take, length-take}
-use Rattle.std.specs.Prelude.{Bool, true, false}
+use Rattle.std.proofs.Common.{arith, ◌≡◌, ◌+◌, ◌∷◌, length, ◌∙◌, sym, ap, subst}
+use Rattle.std.specs.Prelude.{Bool, true, drop}
+use Rattle.s2_mode.specs.Mode.{kbch_of}
 use Rattle.s2_bch.specs.Generators.{generator_of}
+use Rattle.s2_bch.specs.Registers.{Holds, rest_of}
 use Rattle.s2_bch.specs.Words.{distance, IsMultiple}
 use Rattle.s2_bch.specs.Codes.{IsBchWord}
 use Rattle.s2_bch.proofs.CodeFacts.{generator_facts, words_same, distance_self}
+use Rattle.s2_bch.proofs.RestFacts.{zero_rest, length-rest}
 use Rattle.s2_bch.proofs.bch.decode.Goals as goal
 
-pub encode_into-requires : goal.encode_into-requires
-encode_into-requires c =
+pub rest-left-requires : goal.rest-left-requires
+rest-left-requires c =
     let made = generator_facts c.args.mode c.requires.valid c.requires.sizes in
-    omega (arith, length-take {A = Bool}, made.size, ap length c.requires.tail, c.requires.again, c.requires.word, c.kbch.ensures.is)
+    record {
+      table = c.requires.table.size;
+      whole_bytes = omega (arith, c.kbch.ensures.is, c.requires.sizes.field);
+      more = omega (arith, c.kbch.ensures.is, made.size, c.requires.word);
+      few = omega (arith, c.kbch.ensures.is, made.size, c.requires.table.fits, c.requires.word);
+    }
 
-pub returns-then-same_bits-clause-some : goal.returns-then-same_bits-clause-some
-returns-then-same_bits-clause-some c =
+pub returns-then-is_zero-clause-some : goal.returns-then-is_zero-clause-some
+returns-then-is_zero-clause-some c =
     let made = generator_facts c.args.mode c.requires.valid c.requires.sizes in
-    let e : generator_of c.args.mode ≡ true ∷ c.args.tail.now = made.begins ∙ ap (λ u. true ∷ u) (sym c.requires.tail) in
-    let same : c.encode_into.new.word ≡ c.args.word.now = c.same_bits.ensures.0 c.if-same_bits.true in (
-      record {
-        size = c.requires.word;
-        multiple = subst (λ u. IsMultiple u c.args.word.now) (sym e) (subst (IsMultiple (true ∷ c.args.tail.now)) same c.encode_into.ensures.multiple);
-      },
+    let t = drop 1 (generator_of c.args.mode) in
+    let size : length c.args.word.now ≡ c.kbch.result + length t = omega (arith, c.kbch.ensures.is, made.size, c.requires.word) in
+    let multiple = zero_rest t c.kbch.result c.args.word.now size c.rest-left.result (c.rest-left.ensures t c.requires.table size)
+    (c.is_zero.ensures.0 c.if-is_zero.true) in (
+      record { size = c.requires.word; multiple = subst (λ g. IsMultiple g c.args.word.now) (sym made.begins) multiple },
       sym (distance_self c.args.word.now),
       omega arith,
     )
 
-pub returns-then-same_bits-clause-only : goal.returns-then-same_bits-clause-only
-returns-then-same_bits-clause-only c v hv near =
+pub returns-then-is_zero-clause-only : goal.returns-then-is_zero-clause-only
+returns-then-is_zero-clause-only c v hv near =
     let made = generator_facts c.args.mode c.requires.valid c.requires.sizes in
-    let e : generator_of c.args.mode ≡ true ∷ c.args.tail.now = made.begins ∙ ap (λ u. true ∷ u) (sym c.requires.tail) in
-    let same : c.encode_into.new.word ≡ c.args.word.now = c.same_bits.ensures.0 c.if-same_bits.true in
-    let is : IsBchWord c.args.mode c.args.word.now = record {
-      size = c.requires.word;
-      multiple = subst (λ u. IsMultiple u c.args.word.now) (sym e) (subst (IsMultiple (true ∷ c.args.tail.now)) same c.encode_into.ensures.multiple);
-    } in
+    let t = drop 1 (generator_of c.args.mode) in
+    let size : length c.args.word.now ≡ c.kbch.result + length t = omega (arith, c.kbch.ensures.is, made.size, c.requires.word) in
+    let multiple = zero_rest t c.kbch.result c.args.word.now size c.rest-left.result (c.rest-left.ensures t c.requires.table size)
+    (c.is_zero.ensures.0 c.if-is_zero.true) in
+    let is : IsBchWord c.args.mode c.args.word.now =
+    record { size = c.requires.word; multiple = subst (λ g. IsMultiple g c.args.word.now) (sym made.begins) multiple } in
     words_same c.args.mode c.requires.valid c.args.word.now v is hv (omega (arith, near))
+
+pub write-requires : goal.write-requires
+write-requires c =
+    let made = generator_facts c.args.mode c.requires.valid c.requires.sizes in
+    omega (arith, made.size, c.requires.bits, c.requires.table.fits)
+
+pub correct-requires-clause-bits : goal.correct-requires-clause-bits
+correct-requires-clause-bits c =
+    let made = generator_facts c.args.mode c.requires.valid c.requires.sizes in
+    let t = drop 1 (generator_of c.args.mode) in
+    let size : length c.args.word.now ≡ c.kbch.result + length t = omega (arith, c.kbch.ensures.is, made.size, c.requires.word) in
+    c.write.ensures (rest_of t c.kbch.result c.args.word.now)
+    (omega (arith, length-rest t c.kbch.result c.args.word.now size, made.size, c.requires.bits))
+    (c.rest-left.ensures t c.requires.table size)
+    ∙ ap (λ n. rest_of t n c.args.word.now) c.kbch.ensures.is

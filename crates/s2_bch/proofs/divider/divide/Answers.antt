@@ -1,0 +1,21 @@
+use Rattle.std.proofs.Common.{arith, ◌≡◌, ◌∙◌, ◌+◌, ◌-◌, ◌*◌, ◌/◌, ◌^◌, ap, sym, subst, length, take}
+use Rattle.std.specs.Prelude.{Bool, false, replicate}
+use Rattle.s2_bch.specs.Words.{register_after}
+use Rattle.s2_bch.specs.Registers.{Holds, value_of}
+use Rattle.s2_bch.proofs.RegisterFacts.{holds_zeros, holds_byte, take_end}
+use Rattle.s2_bch.proofs.divider.divide.Goals as goal
+
+pub loop-byte-init : goal.loop-byte-init
+loop-byte-init c t h = holds_zeros _ t h.fits (omega arith)
+
+pub loop-byte-preserved : goal.loop-byte-preserved
+loop-byte-preserved c t h =
+    holds_byte t c.args.table.now c.args.message.now c.loop-byte.byte c.loop-byte.register c.feed-register.result c.byte_at.result h
+    (omega arith) (c.loop-byte.invariant t h) c.byte_at.ensures (c.feed-register.ensures t h)
+
+pub returns : goal.returns
+returns c t h =
+    let e : length c.args.message.now ≡ 8 * c.loop-byte.byte = omega arith in
+    subst (λ w. Holds c.loop-byte.register (register_after t (replicate (length t) false) w))
+    (ap (λ n. take n c.args.message.now) (sym e) ∙ take_end c.args.message.now)
+    (c.loop-byte.invariant t h)

@@ -1,0 +1,10 @@
+use Rattle.std.proofs.Common.{arith, ◌≡◌, ◌∙◌, sym, ap}
+use Rattle.s2_bch.specs.Division.{bit}
+use Rattle.s2_bch.specs.Registers.{value_of}
+use Rattle.s2_bch.proofs.RegisterFacts.{step_zero}
+use Rattle.s2_bch.proofs.register.Register.step.Goals as goal
+
+pub returns-else-top : goal.returns-else-top
+returns-else-top c =
+    c.doubled-else-top.ensures
+    ∙ step_zero (value_of c.args.tail) (value_of c.args.self) (sym c.top.ensures ∙ ap bit c.if-top.false)
