@@ -23,6 +23,13 @@ fn reads_the_highest_bit_first(rt: HostRuntime) -> Result<(), Fail> {
 }
 
 #[test]
+fn holds_a_codeword_of_zeros(rt: HostRuntime) -> Result<(), Fail> {
+    let bits = Bits::zeroed(rt.alloc(), 64800)?;
+    assert_eq!(rt; [bits.len(), bits.count_ones()], [64800, 0]);
+    Ok(())
+}
+
+#[test]
 fn holds_no_bits(rt: HostRuntime) -> Result<(), Fail> {
     let bits = Bits::zeroed(rt.alloc(), 0)?;
     assert!(rt; bits.is_empty());

@@ -1,6 +1,5 @@
 -- Drawn rows are rows: each address below n - k, and each once.
-use Rattle.std.proofs.Common.{◌≡◌, ℕ, zero, suc, ◌+◌, ◌-◌, ◌%◌, ◌<◌, ◌≤◌, ◌==◌, Bool, true, false, List, [], ◌∷◌, ◌++◌, length, Result, Ok, Err, inl, inr, refl, sym, ap, ◌∙◌, subst, arith, length-append, append_assoc, append-nil}
-use Rattle.std.specs.List.{list_any}
+use Rattle.std.proofs.Common.{◌≡◌, ℕ, zero, suc, ◌+◌, ◌-◌, ◌%◌, ◌<◌, ◌≤◌, true, List, [], ◌∷◌, ◌++◌, length, Ok, Err, inl, inr, refl, sym, ap, ◌∙◌, subst, arith, length-append, append_assoc, append-nil}
 use Rattle.std.proofs.lemmas.Bool.{cond-true, cond-false, cases_Bool, and_parts, leb-true}
 use Rattle.std.proofs.Math.Nat.{mod-lt}
 use Rattle.rand_pcg.specs.Lcg.{Lcg}
@@ -9,7 +8,6 @@ use Rattle.s2_mode.specs.Shape.{Shape, IsShape, check_count}
 use Rattle.s2_rows.proofs.Accepted.{still_addresses, IsRow, AreRows, no_rows, one_more_row, are_rows}
 use Rattle.s2_rows.proofs.FreeAddresses.{free_from_is_free, free_from_below}
 use Rattle.s2_rows.specs.MadeRows.{free_from, drawn_address, drawn_row, drawn_rows, made_rows, is_weight, making}
-use Rattle.s2_rows.specs.declared.make.MakeFault.{MakeFault}
 use Rattle.s2_rows.specs.declared.make.MakeFault.TheVariants as faults
 use Rattle.s2_rows.specs.Rows.{AreAddresses, IsRows, rows_value}
 

@@ -1,22 +1,21 @@
 -- The text of rows is read as the same rows.
-use Rattle.std.proofs.Common.{◌≡◌, ◌≢◌, ℕ, zero, suc, ◌+◌, ◌-◌, ◌^◌, ◌<◌, ◌≤◌, ◌==◌, nat_lt, Bool, true, false, List, [], ◌∷◌, ◌++◌, map, length, get_or, Result, Ok, Err, refl, sym, ap, ◌∙◌, subst, arith, append_assoc, append-nil, length-append, decimal, if◌then◌else◌}
-use Rattle.std.specs.List.{list_any, All, AllPairs, flat_map}
-use Rattle.std.proofs.lemmas.Bool.{cond-true, cond-false, lt-ltb, ne_eqb, eq-eqb}
+use Rattle.std.proofs.Common.{◌≡◌, ◌≢◌, ℕ, suc, ◌+◌, ◌-◌, ◌^◌, ◌<◌, ◌≤◌, ◌==◌, nat_lt, Bool, true, false, List, [], ◌∷◌, ◌++◌, map, length, get_or, Ok, refl, sym, ap, ◌∙◌, subst, arith, append_assoc, append-nil, length-append, decimal}
+use Rattle.std.specs.List.{list_any, All, AllPairs}
+use Rattle.std.proofs.lemmas.Bool.{cond-true, cond-false, lt-ltb, ne_eqb}
 use Rattle.std.proofs.lemmas.List.Folds.{list_any_none}
 use Rattle.std.proofs.Math.ListN.{get_or-append}
 use Rattle.std.proofs.Math.Seq.{get_or-append_seam}
 use Rattle.s2_rows.proofs.Accepted.{IsRow}
 use Rattle.s2_mode.specs.Shape.{Shape, IsShape, check_count}
-use Rattle.s2_rows.proofs.Decimals.{Says, decimal_says, natural_of_decimal, Digits, Lacks, no_space, no_line_feed}
+use Rattle.s2_rows.proofs.Decimals.{Says, decimal_says, natural_of_decimal, Lacks, no_space, no_line_feed}
 use Rattle.s2_rows.proofs.RowLines.{one_row}
-use Rattle.s2_rows.proofs.Pieces.{word_first, no_words}
+use Rattle.s2_rows.proofs.Pieces.{word_first}
 use Rattle.s2_rows.specs.Numbers.{natural_of}
 use Rattle.s2_rows.specs.Readings.{ok_cons}
 use Rattle.s2_rows.specs.Rows.{Rows, AreAddresses, IsRows, row_of}
 use Rattle.s2_rows.specs.RowFiles.{address_of, with_address, with_word, row_from, row_in, rows_of, reading}
-use Rattle.s2_rows.specs.RowTexts.{after_address, row_text, rows_text}
+use Rattle.s2_rows.specs.RowTexts.{row_text, rows_text}
 use Rattle.s2_rows.specs.Text.{is_space, is_line_feed, in_front, pieces_of, words_of, lines_of, is_passed_over}
-use Rattle.s2_rows.specs.declared.row_file.RowFault.{RowFault}
 
 -- a piece ends at its separator
 piece_is_cut : (p : ℕ → Bool) (piece : List ℕ) (s : ℕ) (rest : List ℕ) → Lacks p piece → p s ≡ true → pieces_of p (piece ++ s ∷ rest) ≡ piece ∷ pieces_of p rest

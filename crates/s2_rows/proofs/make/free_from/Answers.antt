@@ -1,4 +1,4 @@
-use Rattle.std.proofs.Common.{rules, arith, ◌≡◌, ℕ, false, ◌-◌, ◌==◌, length, sym, ap, ◌∙◌, subst}
+use Rattle.std.proofs.Common.{rules, arith, ◌≡◌, ℕ, false, ◌==◌, length, sym, ◌∙◌, subst}
 use Rattle.std.specs.List.{list_any}
 use Rattle.s2_rows.specs.MadeRows.{free_from}
 use Rattle.s2_rows.proofs.FreeAddresses.{moves_up, stays, none_left, up_below, free_from_is_free}

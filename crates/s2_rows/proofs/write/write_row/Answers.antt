@@ -1,6 +1,5 @@
-use Rattle.std.proofs.Common.{rules, arith, ◌≡◌, ℕ, List, ◌++◌, ◌≤◌, length, get_or, decimal, refl}
+use Rattle.std.proofs.Common.{rules, arith, ◌≡◌, ◌≤◌, length, get_or, decimal, refl}
 use Rattle.std.proofs.lemmas.List.{take_rest}
-use Rattle.std.specs.Io.KnownBytes.{Appends}
 use Rattle.s2_rows.proofs.RowWrites.{writes_on, all_written, address_text, row_written}
 use Rattle.s2_rows.proofs.write.write_row.Goals as goal
 

@@ -1,5 +1,4 @@
-use Rattle.std.proofs.Common.{rules, arith, ap, ◌≡◌, ◌<◌, ◌≤◌, length}
-use Rattle.s2_rows.specs.Rows.{row_of}
+use Rattle.std.proofs.Common.{rules, arith, ap, ◌<◌, ◌≤◌, length}
 use Rattle.s2_rows.proofs.RowWrites.{writes_on, all_written, line_text, rows_written}
 use Rattle.s2_rows.proofs.write.write_rows.Goals as goal
 
