@@ -1,7 +1,7 @@
-use Rattle.std.proofs.Common.{◌≡◌, ◌+◌, ◌*◌, ◌/◌, ◌==◌, Bool, List, length, arith, sym, ap, ◌∙◌, true, false, pos}
+use Rattle.std.proofs.Common.{◌≡◌, ◌+◌, ◌*◌, Bool, List, length, arith, sym, ap, ◌∙◌, true, pos}
 use Rattle.std.proofs.lemmas.List.FromFn.{fill_by_all}
 use Rattle.s2_mode.specs.Symbols.{symbol, symbol_at}
-use Rattle.s2_mode.specs.Mode.{is_qpsk, n_of, slots_of}
+use Rattle.s2_mode.specs.Mode.{is_qpsk, slots_of}
 use Rattle.s2_mode.proofs.Modes.{frame_sizes}
 use Rattle.s2_bits.specs.Bits.{bit_at, number}
 use Rattle.s2_map.specs.Mapping.{qpsk_points, payload_symbol}
