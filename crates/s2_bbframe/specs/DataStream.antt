@@ -56,6 +56,12 @@ header_at roll_off at field = record { roll_off = roll_off; second = 0; dfl = 8 
 abbrev pub field_bytes : Mode → ℕ
 field_bytes m = (kbch_of m - 80) / 8
 
+-- The next byte stands here in its packet, and with it so many bytes are left: the last byte of a stream is a CRC-8, which
+-- stands in a sync place. Before the first packet there is none.
+abbrev pub EndsAtPlace : Bool → ℕ → ℕ → Type 0
+EndsAtPlace true phase left = (phase + left) % 188 ≡ 1
+EndsAtPlace false phase left = (phase ≡ 0) × (left ≡ 0)
+
 -- the slicer, as callers see it
 pub record Slicing : Type 0 where
   -- the bytes of a full field

@@ -34,14 +34,15 @@ pub struct Slicer {
 }
 
 impl Model for Slicer {
-    ghost use Rattle.std.specs.Prelude.{◌<◌, ◌≤◌, ◌+◌, vec_capacity};
-    ghost use Rattle.s2_bbframe.specs.DataStream.{Slicing};
+    ghost use Rattle.std.specs.Prelude.{◌<◌, ◌≤◌, ◌+◌, length, vec_capacity};
+    ghost use Rattle.s2_bbframe.specs.DataStream.{Slicing, EndsAtPlace};
 
     ghost Value = { Slicing };
 
     ghost view = { λ s. record { size = s.size; begun = s.begun; phase = s.phase; waiting = s.waiting.items; closed = s.closed } };
 
-    ghost invariant = { λ s. (s.size + 188 ≤ vec_capacity s.waiting) × (s.phase < 188) × (s.size < 8192) × (0 < s.size) };
+    ghost invariant = { λ s. (s.size + 188 ≤ vec_capacity s.waiting) × (s.phase < 188) × (s.size < 8192) × (188 ≤ s.size)
+        × EndsAtPlace s.begun s.phase (length s.waiting.items) };
 }
 
 // adds a packet's body and its CRC-8
@@ -56,6 +57,9 @@ fn close_body(waiting: &mut Vec<u8>, packet: &[u8; 188])
 }
 
 impl Slicer {
+    ghost use Rattle.s2_mode.specs.Mode.{Mode as ModeValue};
+    ghost use Rattle.s2_bbframe.specs.Headers.{has_valid_lengths};
+
     /// A slicer of fields of Kbch - 80 bits, with room for all that it will hold.
     pub fn new(alloc: Global, mode: Mode) -> Result<Slicer, AllocError>
         ensures begins { IfOk result (λ s. s ≡ starting (field_bytes mode)) }
@@ -128,11 +132,13 @@ impl Slicer {
     }
 
     /// Takes the next field into the first `dfl / 8` bytes of `field`, and leaves the others. `None`
-    /// where no field can be taken.
+    /// where no field can be taken. [`Header::read`] accepts the lengths of each header: a place for
+    /// a CRC-8 lies in every field.
     pub fn take(&mut self, roll_off: u8, field: &mut [u8]) -> Option<Header>
         requires { length field.old ≡ self.old.size }
         ensures ready { IsSome result ↔ IsReady self.old }
         ensures header { IfSome result (λ h. h ≡ header_at roll_off self.old.phase (next_field self.old)) }
+        ensures lengths { IfSome result (λ h. (m : ModeValue) → self.old.size ≡ field_bytes m → has_valid_lengths m h ≡ true) }
         ensures field { IfSome result (λ _. field.new ≡ next_field self.old ++ drop (length (next_field self.old)) field.old) }
         ensures takes { IfSome result (λ _. self.new ≡ after_field self.old) }
         ensures stream { IfSome result (λ h. (packets fields : List (List ℕ)) → Sliced packets fields self.old →

@@ -1,10 +1,12 @@
 -- Payload symbols of QPSK and of 8PSK, each bit of a label named.
-use Rattle.std.proofs.Common.{◌≡◌, ℕ, ◌+◌, ◌*◌, ◌/◌, ◌%◌, ◌<◌, Bool, true, false, List, refl, ap, ◌∙◌, arith}
+use Rattle.std.proofs.Common.{◌≡◌, ◌≢◌, ℕ, ◌+◌, ◌*◌, ◌/◌, ◌%◌, ◌<◌, Bool, true, false, List, take, drop, ap, sym, ◌∙◌, arith}
 use Rattle.std.specs.Prelude.{◌==◌}
+use Rattle.std.proofs.lemmas.Bool.{eq-eqb, ne_eqb}
+use Rattle.std.proofs.lemmas.List.{get_or-take, get_or-drop}
 use Rattle.s2_mode.specs.Symbols.{symbol_at}
 use Rattle.s2_mode.specs.Mode.{Mode, is_qpsk, n_of, width_of}
 use Rattle.s2_bits.specs.Bits.{bit_at, number}
-use Rattle.s2_map.specs.Mapping.{column_of, place_of, qpsk_points, psk_points, points, point_of, label_of, row_symbol, payload_symbol}
+use Rattle.s2_map.specs.Mapping.{column_of, place_of, qpsk_points, psk_points, points, point_of, label_of, payload_symbol}
 
 pub width_qpsk : (m : Mode) → is_qpsk m ≡ true → width_of m ≡ 2
 unfolding width_of
@@ -47,6 +49,16 @@ place_psk m e s c lt =
     let column : (3 * s + c) % 3 ≡ c = omega arith in
     rw e (λ t. column_of m (column t) * (n_of m / 3) + row t)
 
+-- the bits of row s of a word that is three columns
+first_bit : (word : List Bool) (rows s : ℕ) → s < rows → bit_at word s ≡ bit_at (take rows word) s
+first_bit word rows s lt = sym (get_or-take rows word s false lt)
+
+second_bit : (word : List Bool) (rows s : ℕ) → s < rows → bit_at word (rows + s) ≡ bit_at (take rows (drop rows word)) s
+second_bit word rows s lt = sym (get_or-take rows (drop rows word) s false lt ∙ get_or-drop rows word s false)
+
+third_bit : (word : List Bool) (rows s : ℕ) → bit_at word (rows + (rows + s)) ≡ bit_at (drop rows (drop rows word)) s
+third_bit word rows s = sym (get_or-drop rows (drop rows word) s false ∙ get_or-drop rows word (rows + s) false)
+
 psk_bits : (m : Mode) (word : List Bool) (s : ℕ) (first second third : Bool) → is_qpsk m ≡ false
     → bit_at word (column_of m 0 * (n_of m / 3) + s) ≡ first
     → bit_at word (column_of m 1 * (n_of m / 3) + s) ≡ second
@@ -62,19 +74,24 @@ psk_bits m word s first second third e a b c =
     (label_of_three (λ j. bit_at word (place_of m (3 * s + j)))
     ∙ (λ t. 4 * number (x t) + 2 * number (y t) + number (z t))))
 
--- the columns by their rows
-psk_rows : (m : Mode) (word : List Bool) (rows s : ℕ) (reversed : Bool) → is_qpsk m ≡ false → n_of m / 3 ≡ rows → (m.modcod == 12) ≡ reversed
-    → payload_symbol m word s ≡ row_symbol word reversed rows s
-psk_rows m word rows s true e long is =
-    let a : column_of m 0 * (n_of m / 3) + s ≡ rows + rows + s = rw is (omega arith) in
-    let b : column_of m 1 * (n_of m / 3) + s ≡ rows + s = rw is (omega arith) in
-    let c : column_of m 2 * (n_of m / 3) + s ≡ s = rw is (omega arith) in
-    psk_bits m word s _ _ _ e (ap (bit_at word) a) (ap (bit_at word) b) (ap (bit_at word) c)
-psk_rows m word rows s false e long is =
-    let a : column_of m 0 * (n_of m / 3) + s ≡ s = rw is (omega arith) in
-    let b : column_of m 1 * (n_of m / 3) + s ≡ rows + s = rw is (omega arith) in
-    let c : column_of m 2 * (n_of m / 3) + s ≡ rows + rows + s = rw is (omega arith) in
-    psk_bits m word s _ _ _ e (ap (bit_at word) a) (ap (bit_at word) b) (ap (bit_at word) c)
+-- at 3/5 the columns are read from the last one
+pub psk_reversed : (m : Mode) (word : List Bool) (rows s : ℕ) → is_qpsk m ≡ false → n_of m ≡ 3 * rows → m.modcod ≡ 12 → s < rows
+    → payload_symbol m word s
+    ≡ symbol_at psk_points (4 * number (bit_at (drop rows (drop rows word)) s) + 2 * number (bit_at (take rows (drop rows word)) s) + number (bit_at (take rows word) s))
+psk_reversed m word rows s e long is lt =
+    let is_last : (m.modcod == 12) ≡ true = eq-eqb m.modcod 12 is in
+    let a : column_of m 0 * (n_of m / 3) + s ≡ rows + (rows + s) = rw is_last (omega arith) in
+    let b : column_of m 1 * (n_of m / 3) + s ≡ rows + s = rw is_last (omega arith) in
+    let c : column_of m 2 * (n_of m / 3) + s ≡ s = rw is_last (omega arith) in
+    psk_bits m word s _ _ _ e (ap (bit_at word) a ∙ third_bit word rows s) (ap (bit_at word) b ∙ second_bit word rows s lt) (ap (bit_at word) c ∙ first_bit word rows s lt)
 
-pub psk_symbol : (m : Mode) (word : List Bool) (rows s : ℕ) → is_qpsk m ≡ false → n_of m / 3 ≡ rows → payload_symbol m word s ≡ row_symbol word (m.modcod == 12) rows s
-psk_symbol m word rows s e long = psk_rows m word rows s (m.modcod == 12) e long refl
+-- else from the first one
+pub psk_forward : (m : Mode) (word : List Bool) (rows s : ℕ) → is_qpsk m ≡ false → n_of m ≡ 3 * rows → m.modcod ≢ 12 → s < rows
+    → payload_symbol m word s
+    ≡ symbol_at psk_points (4 * number (bit_at (take rows word) s) + 2 * number (bit_at (take rows (drop rows word)) s) + number (bit_at (drop rows (drop rows word)) s))
+psk_forward m word rows s e long other lt =
+    let is_first : (m.modcod == 12) ≡ false = ne_eqb m.modcod 12 other in
+    let a : column_of m 0 * (n_of m / 3) + s ≡ s = rw is_first (omega arith) in
+    let b : column_of m 1 * (n_of m / 3) + s ≡ rows + s = rw is_first (omega arith) in
+    let c : column_of m 2 * (n_of m / 3) + s ≡ rows + (rows + s) = rw is_first (omega arith) in
+    psk_bits m word s _ _ _ e (ap (bit_at word) a ∙ first_bit word rows s lt) (ap (bit_at word) b ∙ second_bit word rows s lt) (ap (bit_at word) c ∙ third_bit word rows s)

@@ -52,14 +52,6 @@ label_of (suc n) bit = 2 * label_of n bit + number (bit n)
 abbrev pub payload_symbol : Mode → List Bool → ℕ → Symbol
 payload_symbol m word s = point_of m (label_of (width_of m) (λ j. bit_at word (place_of m (width_of m * s + j))))
 
--- the 8PSK point of row s of three columns
-abbrev pub row_symbol : List Bool → Bool → ℕ → ℕ → Symbol
-row_symbol word reversed rows s =
-    let first = bit_at word (if reversed then rows + rows + s else s) in
-    let second = bit_at word (rows + s) in
-    let third = bit_at word (if reversed then s else rows + rows + s) in
-    symbol_at psk_points (4 * number first + 2 * number second + number third)
-
 -- the payload of a frame: 90 symbols for each slot
 abbrev pub payload_of : Mode → List Bool → List Symbol
 payload_of m word = map (payload_symbol m word) (range_with_len 0 (90 * slots_of m))

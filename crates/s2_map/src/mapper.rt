@@ -1,9 +1,9 @@
 //! Codewords to payload symbols (EN 302 307-1, 5.4).
-ghost use Rattle.std.specs.Prelude.{◌≡◌, ℕ, ◌+◌, ◌*◌, ◌<◌, length};
-ghost use Rattle.s2_mode.specs.Mode.{n_of, slots_of};
+ghost use Rattle.std.specs.Prelude.{◌≡◌, ℕ, ◌+◌, ◌*◌, ◌<◌, false, length};
+ghost use Rattle.s2_mode.specs.Mode.{is_qpsk, n_of, slots_of};
 ghost use Rattle.s2_mode.specs.Symbols.{symbol_at};
 ghost use Rattle.s2_bits.specs.Bits.{bit_at, number};
-ghost use Rattle.s2_map.specs.Mapping.{qpsk_points, psk_points, row_symbol, payload_of};
+ghost use Rattle.s2_map.specs.Mapping.{qpsk_points, psk_points, payload_symbol, payload_of};
 
 use crate::interleaver::PSK_3_5;
 use crate::points::{PSK, QPSK};
@@ -20,7 +20,7 @@ pub fn map_into(mode: Mode, word: &Bits, payload: &mut [Symbol])
     if mode.is_qpsk() {
         map_pairs(bits, payload);
     } else {
-        map_rows(bits, mode.modcod() == PSK_3_5, payload);
+        map_rows(mode, bits, payload);
     }
 }
 
@@ -35,13 +35,15 @@ fn map_pairs(bits: &[bool], payload: &mut [Symbol])
 }
 
 /// 8PSK: the codeword is three columns, which are read from the first or from the last one.
-fn map_rows(bits: &[bool], reversed: bool, payload: &mut [Symbol])
-    requires { length bits.now ≡ 3 * length payload.old }
-    ensures { (s : ℕ) → s < length payload.old → symbol_at payload.new s ≡ row_symbol bits.now reversed (length payload.old) s }
+fn map_rows(mode: Mode, bits: &[bool], payload: &mut [Symbol])
+    requires psk { is_qpsk mode ≡ false }
+    requires word { length bits.now ≡ n_of mode }
+    requires rows { n_of mode ≡ 3 * length payload.old }
+    ensures { (s : ℕ) → s < length payload.old → symbol_at payload.new s ≡ payload_symbol mode bits.now s }
 {
     let (first, rest) = bits.split_at(payload.len());
     let (second, third) = rest.split_at(payload.len());
-    if reversed {
+    if mode.modcod() == PSK_3_5 {
         map_columns(third, second, first, payload);
     } else {
         map_columns(first, second, third, payload);

@@ -1,11 +1,10 @@
 //! Frames of a header, slots and pilot blocks (EN 302 307-1, 5.5).
-ghost use Rattle.std.specs.Prelude.{◌≡◌, ℕ, ◌+◌, ◌*◌, ◌<◌, ◌≤◌, length};
+ghost use Rattle.std.specs.Prelude.{◌≡◌, ℕ, ◌+◌, ◌-◌, ◌*◌, ◌<◌, ◌≤◌, length};
 ghost use Rattle.s2_mode.specs.Mode.{slots_of, symbols_in};
 ghost use Rattle.s2_mode.specs.Symbols.{symbol_at};
 ghost use Rattle.s2_scramble.specs.Gold.{quarter_turns};
 ghost use Rattle.s2_scramble.specs.Turns.{turned};
-ghost use Rattle.s2_plframe.specs.Frame.{frame_symbols};
-ghost use Rattle.s2_plframe.specs.Slots.{with_pilots, block_symbol};
+ghost use Rattle.s2_plframe.specs.Frame.{spaced_symbol, frame_symbols};
 
 use crate::header::{AMPLITUDE, HEADER, write_header};
 use s2_mode::{Mode, Symbol};
@@ -40,7 +39,8 @@ fn write_slots(blocks: usize, gold: &Gold, payload: &[Symbol], out: &mut [Symbol
     requires enough { 1440 * blocks ≤ length payload.now }
     requires room { length out.old ≡ length payload.now + 36 * blocks }
     requires most { length out.old ≤ 33192 }
-    ensures { (u : ℕ) → u < length out.old → symbol_at out.new u ≡ turned (quarter_turns gold.now u) (block_symbol blocks payload.now u) }
+    ensures blocks { (u : ℕ) → u < 1476 * blocks → symbol_at out.new u ≡ turned (quarter_turns gold.now u) (spaced_symbol payload.now u) }
+    ensures rest { (u : ℕ) → 1476 * blocks ≤ u → u < length out.old → symbol_at out.new u ≡ turned (quarter_turns gold.now u) (symbol_at payload.now (u - 36 * blocks)) }
 {
     for block in 0..blocks {
         let slots = &payload[SLOTS * block..SLOTS * block + SLOTS];
@@ -56,7 +56,7 @@ fn write_block(gold: &Gold, at: usize, slots: &[Symbol], out: &mut [Symbol])
     requires slots { length slots.now ≡ 1440 }
     requires room { length out.old ≡ 1476 }
     requires most { at + 1476 ≤ 33192 }
-    ensures { (k : ℕ) → k < 1476 → symbol_at out.new k ≡ turned (quarter_turns gold.now (at + k)) (with_pilots slots.now k) }
+    ensures { (k : ℕ) → k < 1476 → symbol_at out.new k ≡ turned (quarter_turns gold.now (at + k)) (spaced_symbol slots.now k) }
 {
     let (front, pilots) = out.split_at_mut(SLOTS);
     gold.turn_into(at, slots, front);

@@ -4,6 +4,7 @@ ghost use Rattle.s2_scramble.specs.Sequence.{HoldsFirst};
 ghost use Rattle.s2_scramble.specs.Gold.{x, y, z, quarter_turns};
 ghost use Rattle.s2_scramble.specs.Turns.{HoldsTurns};
 
+use crate::gold::MOST_SYMBOLS;
 use std::alloc::{AllocError, Global};
 
 /// After how many bits x and y begin anew: 2^18 - 1.
@@ -12,9 +13,6 @@ const PERIOD: usize = 262143;
 /// How much further on the bit stands that is worth two quarters.
 const HALF: usize = 131072;
 
-/// How many symbols can follow a frame's header.
-const SYMBOLS: usize = 33192;
-
 /// The quarter turns of all symbols that can follow a frame's header.
 pub(crate) fn quarter_turns(alloc: Global, number: u32) -> Result<Vec<u8>, AllocError>
     requires { number ≤ 262141 }
@@ -22,7 +20,7 @@ pub(crate) fn quarter_turns(alloc: Global, number: u32) -> Result<Vec<u8>, Alloc
 {
     let x_bits = x_table(alloc)?;
     let y_bits = y_table(alloc)?;
-    let mut quarters = vec![in alloc; 0; SYMBOLS]?;
+    let mut quarters = vec![in alloc; 0; MOST_SYMBOLS]?;
     fill_quarters(&mut quarters, &x_bits, &y_bits, number as usize);
     Ok(quarters)
 }
@@ -38,7 +36,7 @@ fn x_table(alloc: Global) -> Result<Vec<bool>, AllocError>
 fn y_table(alloc: Global) -> Result<Vec<bool>, AllocError>
     ensures { IfOk result (λ v. HoldsFirst y 164264 v.items) }
 {
-    let mut bits = vec![in alloc; false; HALF + SYMBOLS]?;
+    let mut bits = vec![in alloc; false; HALF + MOST_SYMBOLS]?;
     fill_y(&mut bits);
     Ok(bits)
 }
@@ -77,7 +75,7 @@ fn fill_quarters(quarters: &mut [u8], x_bits: &[bool], y_bits: &[bool], number: 
     requires long { length quarters.old ≡ 33192 }
     ensures { (i : ℕ) → i < 33192 → slice_index quarters.new i ≡ quarter_turns number i }
 {
-    for i in 0..SYMBOLS {
+    for i in 0..MOST_SYMBOLS {
         let low = x_bits[(i + number) % PERIOD] ^ y_bits[i];
         let high = x_bits[(i + HALF + number) % PERIOD] ^ y_bits[i + HALF];
         quarters[i] = 2 * u8::from(high) + u8::from(low);

@@ -1,11 +1,11 @@
-use Rattle.std.proofs.Common.{◌≡◌, ◌+◌, ◌*◌, ◌/◌, ◌==◌, Bool, List, length, arith, sym, ap, ◌∙◌, true, false, pos}
+use Rattle.std.proofs.Common.{◌≡◌, ◌+◌, ◌*◌, Bool, List, length, arith, sym, ap, ◌∙◌, true, pos}
 use Rattle.std.proofs.lemmas.List.FromFn.{fill_by_all}
 use Rattle.s2_mode.specs.Symbols.{symbol, symbol_at}
-use Rattle.s2_mode.specs.Mode.{is_qpsk, n_of, slots_of}
+use Rattle.s2_mode.specs.Mode.{is_qpsk, slots_of}
 use Rattle.s2_mode.proofs.Modes.{frame_sizes}
 use Rattle.s2_bits.specs.Bits.{bit_at, number}
-use Rattle.s2_map.specs.Mapping.{qpsk_points, row_symbol, payload_symbol}
-use Rattle.s2_map.proofs.Labels.{width_qpsk, width_psk, qpsk_symbol, psk_symbol}
+use Rattle.s2_map.specs.Mapping.{qpsk_points, payload_symbol}
+use Rattle.s2_map.proofs.Labels.{width_qpsk, width_psk, qpsk_symbol}
 use Rattle.s2_map.proofs.mapper.map_into.Goals as goal
 
 pub map_pairs-requires : goal.map_pairs-requires
@@ -15,12 +15,18 @@ map_pairs-requires c =
     let w = width_qpsk m (sym c.is_qpsk.ensures.is ∙ c.if-is_qpsk.true) in
     ap length c.truths-bits.ensures ∙ (c.requires.word ∙ (sizes.payload ∙ (λ t. w t * sym c.requires.room t)))
 
-pub map_rows-requires : goal.map_rows-requires
-map_rows-requires c =
+pub map_rows-requires-clause-psk : goal.map_rows-requires-clause-psk
+map_rows-requires-clause-psk c = sym c.is_qpsk.ensures.is ∙ c.if-is_qpsk.false
+
+pub map_rows-requires-clause-word : goal.map_rows-requires-clause-word
+map_rows-requires-clause-word c = ap length c.truths-bits.ensures ∙ c.requires.word
+
+pub map_rows-requires-clause-rows : goal.map_rows-requires-clause-rows
+map_rows-requires-clause-rows c =
     let m = c.args.mode in
     let sizes = frame_sizes m c.is_qpsk.ensures.valid in
     let w = width_psk m (sym c.is_qpsk.ensures.is ∙ c.if-is_qpsk.false) in
-    ap length c.truths-bits.ensures ∙ (c.requires.word ∙ (sizes.payload ∙ (λ t. w t * sym c.requires.room t)))
+    sizes.payload ∙ (λ t. w t * sym c.requires.room t)
 
 pub returns-then-is_qpsk : goal.returns-then-is_qpsk
 returns-then-is_qpsk c =
@@ -36,12 +42,5 @@ pub returns-else-is_qpsk : goal.returns-else-is_qpsk
 returns-else-is_qpsk c =
     let m = c.args.mode in
     let word = c.args.word.now in
-    let rows = length c.args.payload.now in
-    let e : is_qpsk m ≡ false = sym c.is_qpsk.ensures.is ∙ c.if-is_qpsk.false in
-    let sizes = frame_sizes m c.is_qpsk.ensures.valid in
-    let whole : n_of m ≡ 3 * rows = sizes.payload ∙ (λ t. width_psk m e t * sym c.requires.room t) in
-    let third : n_of m / 3 ≡ rows = omega arith in
     fill_by_all (payload_symbol m word) c.map_rows.new.payload (90 * slots_of m) (symbol (pos 0) (pos 0)) (c.map_rows.auto.payload ∙ c.requires.room)
-    (λ s lt. c.map_rows.ensures s (omega arith)
-    ∙ (λ t. row_symbol (c.truths-bits.ensures t) (c.modcod.ensures.is t == 12) rows s)
-    ∙ sym (psk_symbol m word rows s e third))
+    (λ s lt. c.map_rows.ensures s (omega arith) ∙ ap (λ l. payload_symbol m l s) c.truths-bits.ensures)
