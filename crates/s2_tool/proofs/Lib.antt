@@ -2,3 +2,4 @@ pub mod Parts
 pub mod Runs
 pub mod CheckRuns
 pub mod ValueRange
+pub mod CertifyRuns

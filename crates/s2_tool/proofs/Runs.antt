@@ -9,7 +9,7 @@ use Rattle.s2_tool.specs.declared.fault.Fault.TheVariants as faults
 use Rattle.s2_tool.specs.Exits.{Prints, Runs, Counts, IsPrinting}
 use Rattle.s2_tool.specs.Inputs.{rows_in, values_in, inputs, then_values}
 
-both : (a : Result Rows Fault) (b : Result (List ℤ) Fault) (rows : Rows) (soft : List ℤ) → a ≡ Ok rows → b ≡ Ok soft → then_values a b ≡ Ok (rows, soft)
+pub both : (a : Result Rows Fault) (b : Result (List ℤ) Fault) (rows : Rows) (soft : List ℤ) → a ≡ Ok rows → b ≡ Ok soft → then_values a b ≡ Ok (rows, soft)
 both a b rows soft p q = ap (λ x. then_values x b) p ∙ ap (then_values (Ok rows)) q
 
 pub runs : {I : Type 0} → (Says : I → Exit → List ℕ → Type 0) (input : I) (planned : Result I Fault) (ended : Result Exit Fault) (old new : Option (List ℕ)) → planned ≡ Ok input → IsPrinting ended → Prints ended (Says input) old new → Runs Says ended planned old new

@@ -4,3 +4,4 @@ pub mod Lines
 pub mod Inputs
 pub mod Judging
 pub mod Checking
+pub mod Certifying

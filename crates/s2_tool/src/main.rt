@@ -3,6 +3,7 @@
 
 ghost use Rattle.std.specs.Prelude.{◌-◌, ◌^◌, ◌<◌};
 
+mod certify;
 mod check;
 mod exit;
 mod fault;

@@ -1,6 +1,7 @@
 //! The commands on the files and streams that they name.
 ghost use Rattle.std.specs.Prelude.{◌≡◌, ◌≢◌, ◌-◌, ◌^◌, ◌<◌};
 
+use crate::certify::certify_command;
 use crate::check::check_command;
 use crate::exit::Exit;
 use crate::fault::{Fault, conclude};
@@ -68,9 +69,15 @@ pub fn serve<R: Files + AllocGlobal, S: CountedRead, O: CountedWrite, E: Counted
             }
             None => complain(errors, "no such shape", ""),
         },
-        Request::Judge { shape, rows, soft } => match shape_of(shape) {
-            Some(shape) => serve_judge(rt, shape, rows, soft, out, errors),
-            None => complain(errors, "no such shape", ""),
+        Request::Judge {
+            shape,
+            certificate,
+            rows,
+            soft,
+        } => match (shape_of(shape), certificate) {
+            (Some(shape), Some(name)) => serve_certify(rt, shape, name, rows, soft, out, errors),
+            (Some(shape), None) => serve_judge(rt, shape, rows, soft, out, errors),
+            (None, _) => complain(errors, "no such shape", ""),
         },
         Request::Check { rows, certificate } => serve_check(rt, rows, certificate, out, errors),
     }
@@ -97,6 +104,42 @@ fn serve_judge<R: Files + AllocGlobal, O: CountedWrite, E: CountedWrite>(
     let mut rows = Counting::new(row_file);
     let mut soft = Counting::new(soft_file);
     judge_command(rt.alloc(), shape, &mut rows, &mut soft, out, errors)
+}
+
+fn serve_certify<R: Files + AllocGlobal, O: CountedWrite, E: CountedWrite>(
+    rt: &R,
+    shape: Shape,
+    certificate: &str,
+    rows: &str,
+    soft: &str,
+    out: &mut O,
+    errors: &mut E,
+) -> Exit
+    requires out { O.count out.old < 2 ^ 64 - 1 }
+    requires errors { E.count errors.old < 2 ^ 64 - 1 }
+    ensures { result ≢ Exit.Fault → E.count errors.new ≡ E.count errors.old }
+{
+    let Ok(certificate_file) = fs::create(rt, certificate) else {
+        return complain(errors, "cannot open ", certificate);
+    };
+    let Ok(row_file) = fs::open(rt, rows) else {
+        return complain(errors, "cannot open ", rows);
+    };
+    let Ok(soft_file) = fs::open(rt, soft) else {
+        return complain(errors, "cannot open ", soft);
+    };
+    let mut certificate = Counting::new(certificate_file);
+    let mut rows = Counting::new(row_file);
+    let mut soft = Counting::new(soft_file);
+    certify_command(
+        rt.alloc(),
+        shape,
+        &mut rows,
+        &mut soft,
+        &mut certificate,
+        out,
+        errors,
+    )
 }
 
 fn serve_check<R: Files + AllocGlobal, O: CountedWrite, E: CountedWrite>(

@@ -1,4 +1,5 @@
 //! The commands over memory, and the words of the command line.
+use crate::certify::certify_command;
 use crate::check::check_command;
 use crate::exit::Exit;
 use crate::judge::{TOY_ROWS, judge_command, self_command};
@@ -185,6 +186,7 @@ fn reads_the_words_of_a_command(rt: HostRuntime) -> Result<(), Fail> {
     let judge = words_of(&rt, "s2 judge --group 4 --groups 2 --q 3 r s")?;
     let wanted = Request::Judge {
         shape: toy,
+        certificate: None,
         rows: "r",
         soft: "s",
     };
@@ -387,5 +389,100 @@ fn reads_rows_before_the_certificate(rt: HostRuntime) {
     assert_eq!(rt;
         errors.into_inner().as_slice(),
         b"s2: file too long\n".as_slice()
+    );
+}
+
+#[test]
+fn reads_the_word_of_a_certificate_file(rt: HostRuntime) -> Result<(), Fail> {
+    let words = words_of(&rt, "s2 judge --group 4 --groups 2 --q 3 --cert c r s")?;
+    let wanted = Request::Judge {
+        shape: ShapeWords {
+            group: 4,
+            groups: 2,
+            q: 3,
+        },
+        certificate: Some("c"),
+        rows: "r",
+        soft: "s",
+    };
+    assert_eq!(rt; read_words(rt.alloc(), &words).ok(), Some(Some(wanted)));
+    Ok(())
+}
+
+const STORED_RUN: &[u8] = b"-5 7 7 7 7 7 7 7 -5 -5 -5 -5 7 7 7 7 -5 -5 -5 -5";
+
+/// The certificate of the stored run's word.
+fn stored_certificate() -> [u8; 228] {
+    let mut file = [0; 228];
+    let front = [
+        0x53, 0x32, 0x4D, 0x4C, 1, 0, 4, 0, 2, 0, 3, 0, 1, 0, 0, 0, 0x2F, 0xFB, 7, 7, 7, 7, 7, 7,
+        7, 0xFB, 0xFB, 0xFB, 0xFB, 7, 7, 7, 7, 0xFB, 0xFB, 0xFB, 0xFB, 0x80, 0xF0, 0xF0,
+    ];
+    file[..40].copy_from_slice(&front);
+    file
+}
+
+/// The exit of `judge --cert`, its certificate and its output.
+fn certified<R: Abort + AllocGlobal>(rt: &R, soft: &[u8]) -> (Exit, Vec<u8>, Vec<u8>) {
+    let mut rows = InMemory::new(TOY_ROWS);
+    let mut soft = InMemory::new(soft);
+    let mut file = Counting::new(Vec::new(rt.alloc()));
+    let mut out = Counting::new(Vec::new(rt.alloc()));
+    let mut errors = Counting::new(Vec::new(rt.alloc()));
+    let toy = shape(rt, 4, 2, 3);
+    let exit = certify_command(
+        rt.alloc(),
+        toy,
+        &mut rows,
+        &mut soft,
+        &mut file,
+        &mut out,
+        &mut errors,
+    );
+    (exit, file.into_inner(), out.into_inner())
+}
+
+#[test]
+fn certifies_the_stored_run(rt: HostRuntime) {
+    let (exit, file, out) = certified(&rt, STORED_RUN);
+    assert_eq!(rt; exit, Exit::Fine);
+    assert_eq!(rt; out.as_slice(), b"most-likely cost -45\n".as_slice());
+    assert_eq!(rt; file.as_slice(), stored_certificate().as_slice());
+    let (exit, answer, _) = checked(&rt, TOY_ROWS, &file);
+    assert_eq!(rt; exit, Exit::Fine);
+    assert_eq!(rt; answer.as_slice(), b"yes cost -45\n".as_slice());
+}
+
+#[test]
+fn leaves_the_certificate_of_a_broken_word_empty(rt: HostRuntime) {
+    let broken = b"-4 10 10 10 10 10 10 10 10 10 10 10 10 10 10 10 10 10 10 10";
+    let (exit, file, out) = certified(&rt, broken);
+    assert_eq!(rt; exit, Exit::No);
+    assert_eq!(rt; out.as_slice(), b"broken cost -4 check 0\n".as_slice());
+    assert_eq!(rt; file.len(), 0);
+}
+
+#[test]
+fn prints_no_verdict_without_its_certificate(rt: HostRuntime) {
+    let mut rows = InMemory::new(TOY_ROWS);
+    let mut soft = InMemory::new(STORED_RUN);
+    let mut full = Counting::new(FailAt::new(Vec::new(rt.alloc()), 0));
+    let mut out = Counting::new(Vec::new(rt.alloc()));
+    let mut errors = Counting::new(Vec::new(rt.alloc()));
+    let toy = shape(&rt, 4, 2, 3);
+    let exit = certify_command(
+        rt.alloc(),
+        toy,
+        &mut rows,
+        &mut soft,
+        &mut full,
+        &mut out,
+        &mut errors,
+    );
+    assert_eq!(rt; exit, Exit::Fault);
+    assert_eq!(rt; out.into_inner().len(), 0);
+    assert_eq!(rt;
+        errors.into_inner().as_slice(),
+        b"s2: cannot write\n".as_slice()
     );
 }

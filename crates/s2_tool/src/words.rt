@@ -22,6 +22,7 @@ pub enum Request<'a> {
     },
     Judge {
         shape: ShapeWords,
+        certificate: Option<&'a str>,
         rows: &'a str,
         soft: &'a str,
     },
@@ -64,7 +65,12 @@ fn rows_words<'a>(alloc: Global) -> Result<Command<'a>, AllocError> {
 
 fn judge_words<'a>(alloc: Global) -> Result<Command<'a>, AllocError> {
     let command = Command::new(alloc, "judge").about("Judges the hard decision of soft values");
+    let certificate = Arg::new(alloc, "cert")
+        .long("cert")
+        .value_name("FILE")
+        .help("File for the certificate of a most likely word");
     with_shape(alloc, command)?
+        .arg(certificate)?
         .arg(file(alloc, "ROWS", "Row file"))?
         .arg(file(
             alloc,
@@ -108,6 +114,7 @@ fn request_of<'a>(name: &str, m: &ArgMatches<'a>) -> Option<Request<'a>> {
         }),
         "judge" => Some(Request::Judge {
             shape: shape_of(m)?,
+            certificate: m.get_str("cert"),
             rows: m.get_str("ROWS")?,
             soft: m.get_str("SOFT")?,
         }),
