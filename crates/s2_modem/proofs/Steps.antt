@@ -10,11 +10,11 @@ use Rattle.std.proofs.lemmas.List.{length_push}
 use Rattle.s2_modem.specs.Link.{Link}
 use Rattle.s2_modem.specs.Frames.{IsFrameOf}
 use Rattle.s2_bbframe.specs.DataStream.{IsPacket, Slicing, Sliced, IsReady, next_field, after_field, after_packet, gained, header_at, stream_of, full_fields, fields_of, field_bytes}
-use Rattle.s2_bbframe.specs.Crc.{crc8}
 use Rattle.s2_modem.specs.declared.outcome.Counts.{Counts}
 use Rattle.s2_modem.specs.declared.outcome.SendFault.{SendFault}
 use Rattle.s2_modem.specs.declared.outcome.SendFault.TheVariants.{Write}
 use Rattle.s2_modem.specs.Sending.{joined, AreFrames, Sends, Runs, Outcome, EndsThere}
+use Rattle.s2_modem.proofs.Waiting.{length_gained, ready_full, full_ready}
 use Rattle.s2_modem.proofs.FieldLemmas.{joined-push, AreFrames-push, IsFull, full_are, fields_are, fields_are_and}
 
 pub record Sending (link : Link) (size : ℕ) (r0 r w0 w : Option (List ℕ)) (s : Slicing) (packets frames : ℕ) : Type 0 where
@@ -32,16 +32,6 @@ pub record Sending (link : Link) (size : ℕ) (r0 r w0 w : Option (List ℕ)) (s
   pub size_is : s.size ≡ size
   pub goes_on : s.closed ≡ false
   pub room : length s.waiting < size
-
-length_gained : (b : Bool) (p : List ℕ) → IsPacket p → length (gained b p) ≤ 189
-length_gained true p h = omega (arith, length-append (drop 1 p) (crc8 (drop 1 p) ∷ []), length-drop 1 p, h.0)
-length_gained false p h = omega (arith, length-append (drop 1 p) (crc8 (drop 1 p) ∷ []), length-drop 1 p, h.0)
-
-ready_full : (s : Slicing) → s.closed ≡ false → IsReady s → s.size ≤ length s.waiting
-ready_full s e h = subst (λ b. MatchBool b (0 < length s.waiting) (s.size ≤ length s.waiting)) e h
-
-full_ready : (s : Slicing) → s.closed ≡ false → s.size ≤ length s.waiting → IsReady s
-full_ready s e h = subst (λ b. MatchBool b (0 < length s.waiting) (s.size ≤ length s.waiting)) (sym e) h
 
 module _ (link : Link) (r0 w0 : Option (List ℕ)) where
   abbrev size : ℕ

@@ -16,6 +16,7 @@
 
 mod coder;
 mod framer;
+pub mod laws;
 mod modulator;
 mod outcome;
 mod sending;
