@@ -31,3 +31,6 @@ certifies IsInput input (Err faults.Weight) old new is keeps = keeps
 certifies IsInput input (Err (faults.Rows f)) old new is keeps = keeps
 certifies IsInput input (Err (faults.Values f)) old new is keeps = keeps
 certifies IsInput input (Err (faults.Certificate f)) old new is keeps = keeps
+certifies IsInput input (Err faults.Number) old new is keeps = keeps
+certifies IsInput input (Err faults.RollOff) old new is keeps = keeps
+certifies IsInput input (Err (faults.Packets f)) old new is keeps = keeps

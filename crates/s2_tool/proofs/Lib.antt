@@ -3,3 +3,4 @@ pub mod Runs
 pub mod CheckRuns
 pub mod ValueRange
 pub mod CertifyRuns
+pub mod SendRuns

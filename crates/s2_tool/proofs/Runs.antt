@@ -22,6 +22,9 @@ runs Says input planned (Err faults.Weight) old new e w p = absurd w
 runs Says input planned (Err (faults.Rows f)) old new e w p = absurd w
 runs Says input planned (Err (faults.Values f)) old new e w p = absurd w
 runs Says input planned (Err (faults.Certificate f)) old new e w p = absurd w
+runs Says input planned (Err faults.Number) old new e w p = absurd w
+runs Says input planned (Err faults.RollOff) old new e w p = absurd w
+runs Says input planned (Err (faults.Packets f)) old new e w p = absurd w
 
 pub runs_on_files : (shape : Shape) (Says : Rows × List ℤ → Exit → List ℕ → Type 0) (known_rows known_soft : Option (List ℕ)) (rows : Rows) (soft : List ℤ) (ended : Result Exit Fault) (old new : Option (List ℕ))
     → IfSome known_rows (λ xs. rows_in shape xs ≡ Ok rows) → IfSome known_soft (λ ys. values_in shape ys ≡ Ok soft) → IsPrinting ended → Prints ended (Says (rows, soft)) old new

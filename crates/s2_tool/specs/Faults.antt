@@ -6,6 +6,8 @@ use Rattle.s2_rows.specs.declared.values.ValueFault.{ValueFault}
 use Rattle.s2_rows.specs.declared.values.ValueFault.TheVariants as value_faults
 use Rattle.s2_check.specs.declared.fault.CertFault.{CertFault}
 use Rattle.s2_check.specs.declared.fault.CertFault.TheVariants as cert_faults
+use Rattle.s2_modem.specs.declared.outcome.SendFault.{SendFault}
+use Rattle.s2_modem.specs.declared.outcome.SendFault.TheVariants as send_faults
 use Rattle.s2_tool.specs.declared.fault.Fault.{Fault}
 use Rattle.s2_tool.specs.declared.fault.Fault.TheVariants as faults
 
@@ -33,6 +35,12 @@ certificate_fault_text cert_faults.Range = codes "range"
 certificate_fault_text cert_faults.Shape = codes "shape"
 certificate_fault_text cert_faults.NoMemory = codes "no memory"
 
+abbrev pub packet_fault_text : SendFault → List ℕ
+packet_fault_text send_faults.NotWholePacket = codes "not a whole packet"
+packet_fault_text (send_faults.NoSync packet) = codes "no sync in packet " ++ decimal packet
+packet_fault_text send_faults.Read = codes "cannot read"
+packet_fault_text send_faults.Write = codes "cannot write"
+
 abbrev pub fault_text : Fault → List ℕ
 fault_text faults.Read = codes "cannot read"
 fault_text faults.Write = codes "cannot write"
@@ -42,6 +50,9 @@ fault_text faults.Weight = codes "no such weight"
 fault_text (faults.Rows fault) = codes "rows: " ++ row_fault_text fault
 fault_text (faults.Values fault) = codes "values: " ++ value_fault_text fault
 fault_text (faults.Certificate fault) = codes "certificate: " ++ certificate_fault_text fault
+fault_text faults.Number = codes "no such scrambling number"
+fault_text faults.RollOff = codes "no such roll-off"
+fault_text (faults.Packets fault) = codes "packets: " ++ packet_fault_text fault
 
 abbrev pub fault_line : Fault → List ℕ
 fault_line fault = codes "s2: " ++ fault_text fault ++ codes "\n"

@@ -5,3 +5,4 @@ pub mod Inputs
 pub mod Judging
 pub mod Checking
 pub mod Certifying
+pub mod Sending

@@ -3,12 +3,13 @@ ghost use Rattle.std.specs.Prelude.{◌≡◌, ◌≢◌, ◌-◌, ◌^◌, ◌<
 ghost use Rattle.std.specs.Io.KnownBytes.{Appends};
 ghost use Rattle.s2_mode.specs.Counts.{CountsFault};
 ghost use Rattle.s2_tool.specs.Exits.{exit_of, Complains};
-ghost use Rattle.s2_tool.specs.Faults.{row_fault_text, value_fault_text, certificate_fault_text, fault_text, fault_line};
+ghost use Rattle.s2_tool.specs.Faults.{row_fault_text, value_fault_text, certificate_fault_text, packet_fault_text, fault_text, fault_line};
 
 use crate::exit::Exit;
-use crate::writing::{write_at_line, write_text};
+use crate::writing::{write_numbered, write_text};
 use s2_check::CertFault;
 use s2_mode::{CountedWrite, WriteFault};
+use s2_modem::SendFault;
 use s2_rows::{RowFault, ValueFault};
 
 /// Why a command failed.
@@ -22,6 +23,9 @@ pub enum Fault {
     Rows(RowFault),
     Values(ValueFault),
     Certificate(CertFault),
+    Number,
+    RollOff,
+    Packets(SendFault),
 }
 
 fn write_row_fault<W: CountedWrite>(out: &mut W, fault: RowFault) -> Result<(), WriteFault>
@@ -30,16 +34,16 @@ fn write_row_fault<W: CountedWrite>(out: &mut W, fault: RowFault) -> Result<(), 
     ensures cause { CountsFault (W.count out.old) (W.count out.new) result }
 {
     match fault {
-        RowFault::NotNumber { line } => write_at_line(out, "not a number in line ", line),
+        RowFault::NotNumber { line } => write_numbered(out, "not a number in line ", line),
         RowFault::TooFewRows => write_text(out, "too few rows"),
         RowFault::TooManyRows => write_text(out, "too many rows"),
-        RowFault::AddressTooLarge { line } => write_at_line(
+        RowFault::AddressTooLarge { line } => write_numbered(
             out,
             "address too large in line ",
             line,
         ),
-        RowFault::Repeated { line } => write_at_line(out, "repeated address in line ", line),
-        RowFault::RowTooLong { line } => write_at_line(out, "row too long in line ", line),
+        RowFault::Repeated { line } => write_numbered(out, "repeated address in line ", line),
+        RowFault::RowTooLong { line } => write_numbered(out, "row too long in line ", line),
         RowFault::NoMemory => write_text(out, "no memory"),
     }
 }
@@ -50,8 +54,8 @@ fn write_value_fault<W: CountedWrite>(out: &mut W, fault: ValueFault) -> Result<
     ensures cause { CountsFault (W.count out.old) (W.count out.new) result }
 {
     match fault {
-        ValueFault::NotNumber { line } => write_at_line(out, "not a number in line ", line),
-        ValueFault::OutOfRange { line } => write_at_line(out, "out of range in line ", line),
+        ValueFault::NotNumber { line } => write_numbered(out, "not a number in line ", line),
+        ValueFault::OutOfRange { line } => write_numbered(out, "out of range in line ", line),
         ValueFault::TooFew => write_text(out, "too few"),
         ValueFault::TooMany => write_text(out, "too many"),
         ValueFault::NoMemory => write_text(out, "no memory"),
@@ -70,6 +74,19 @@ fn write_certificate_fault<W: CountedWrite>(out: &mut W, fault: CertFault) -> Re
         CertFault::Range => write_text(out, "range"),
         CertFault::Shape => write_text(out, "shape"),
         CertFault::NoMemory => write_text(out, "no memory"),
+    }
+}
+
+fn write_packet_fault<W: CountedWrite>(out: &mut W, fault: SendFault) -> Result<(), WriteFault>
+    requires { W.count out.old < 2 ^ 64 - 1 }
+    ensures bytes { OnOk result (Appends (W.contents out.old) (W.contents out.new) (packet_fault_text fault)) }
+    ensures cause { CountsFault (W.count out.old) (W.count out.new) result }
+{
+    match fault {
+        SendFault::NotWholePacket => write_text(out, "not a whole packet"),
+        SendFault::NoSync { packet } => write_numbered(out, "no sync in packet ", packet),
+        SendFault::Read => write_text(out, "cannot read"),
+        SendFault::Write => write_text(out, "cannot write"),
     }
 }
 
@@ -95,6 +112,12 @@ fn write_fault_text<W: CountedWrite>(out: &mut W, fault: Fault) -> Result<(), Wr
         Fault::Certificate(fault) => {
             write_text(out, "certificate: ")?;
             write_certificate_fault(out, fault)
+        }
+        Fault::Number => write_text(out, "no such scrambling number"),
+        Fault::RollOff => write_text(out, "no such roll-off"),
+        Fault::Packets(fault) => {
+            write_text(out, "packets: ")?;
+            write_packet_fault(out, fault)
         }
     }
 }

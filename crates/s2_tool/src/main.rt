@@ -10,6 +10,7 @@ mod fault;
 mod files;
 mod judge;
 mod rows;
+mod send;
 mod serve;
 mod words;
 mod writing;

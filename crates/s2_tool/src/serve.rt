@@ -7,10 +7,13 @@ use crate::exit::Exit;
 use crate::fault::{Fault, conclude};
 use crate::judge::{judge_command, self_command};
 use crate::rows::rows_command;
-use crate::words::{Request, ShapeWords};
+use crate::send::mod_command;
+use crate::words::{LinkWords, Request, ShapeWords};
 use crate::writing::write_text;
-use s2_mode::{CountedRead, CountedWrite, Counting, Shape, WriteFault};
+use s2_mode::{CountedRead, CountedWrite, Counting, Mode, Shape, WriteFault};
+use s2_modem::Setup;
 use std::fs;
+use std::io::BufReader;
 use std::rt::Files;
 
 /// Writes a fault line of two parts. Where that fails, nothing is left to tell.
@@ -42,6 +45,15 @@ fn shape_of(words: ShapeWords) -> Option<Shape> {
         usize::from(words.groups),
         usize::from(words.q),
     )
+}
+
+/// The setup of a link's words.
+fn setup_of(words: LinkWords) -> Option<Setup> {
+    Some(Setup {
+        mode: Mode::of(words.modcod, words.short, words.pilots)?,
+        number: words.number,
+        roll_off: words.roll_off,
+    })
 }
 
 /// Serves a request. Nothing is on the output before `out` is flushed.
@@ -80,6 +92,15 @@ pub fn serve<R: Files + AllocGlobal, S: CountedRead, O: CountedWrite, E: Counted
             (None, _) => complain(errors, "no such shape", ""),
         },
         Request::Check { rows, certificate } => serve_check(rt, rows, certificate, out, errors),
+        Request::Mod {
+            link,
+            rows,
+            packets,
+            symbols,
+        } => match setup_of(link) {
+            Some(setup) => serve_mod(rt, setup, rows, packets, symbols, out, errors),
+            None => complain(errors, "no such mode", ""),
+        },
     }
 }
 
@@ -162,4 +183,43 @@ fn serve_check<R: Files + AllocGlobal, O: CountedWrite, E: CountedWrite>(
     let mut rows = Counting::new(row_file);
     let mut certificate = Counting::new(certificate_file);
     check_command(rt.alloc(), &mut rows, &mut certificate, out, errors)
+}
+
+fn serve_mod<R: Files + AllocGlobal, O: CountedWrite, E: CountedWrite>(
+    rt: &R,
+    setup: Setup,
+    rows: &str,
+    packets: &str,
+    symbols: &str,
+    out: &mut O,
+    errors: &mut E,
+) -> Exit
+    requires out { O.count out.old < 2 ^ 64 - 1 }
+    requires errors { E.count errors.old < 2 ^ 64 - 1 }
+    ensures { result ≢ Exit.Fault → E.count errors.new ≡ E.count errors.old }
+{
+    let Ok(row_file) = fs::open(rt, rows) else {
+        return complain(errors, "cannot open ", rows);
+    };
+    let Ok(packet_file) = fs::open(rt, packets) else {
+        return complain(errors, "cannot open ", packets);
+    };
+    let Ok(symbol_file) = fs::create(rt, symbols) else {
+        return complain(errors, "cannot open ", symbols);
+    };
+    let Ok(packet_file) = BufReader::new(rt.alloc(), packet_file) else {
+        return complain(errors, "no memory", "");
+    };
+    let mut rows = Counting::new(row_file);
+    let mut packets = Counting::new(packet_file);
+    let mut symbols = Counting::new(symbol_file);
+    mod_command(
+        rt.alloc(),
+        setup,
+        &mut rows,
+        &mut packets,
+        &mut symbols,
+        out,
+        errors,
+    )
 }

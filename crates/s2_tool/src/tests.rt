@@ -1,10 +1,12 @@
 //! The commands over memory, and the words of the command line.
+mod sending;
+
 use crate::certify::certify_command;
 use crate::check::check_command;
 use crate::exit::Exit;
 use crate::judge::{TOY_ROWS, judge_command, self_command};
 use crate::rows::rows_command;
-use crate::words::{Request, ShapeWords, read_words};
+use crate::words::{LinkWords, Request, ShapeWords, read_words};
 use s2_mode::{ByOne, Counting, Endless, FailAt, InMemory, Shape};
 use std::process::Abort;
 use std::test::Fail;
@@ -211,6 +213,42 @@ fn reads_the_words_of_a_command(rt: HostRuntime) -> Result<(), Fail> {
 }
 
 #[test]
+fn reads_the_words_of_mod(rt: HostRuntime) -> Result<(), Fail> {
+    let plain = words_of(&rt, "s2 mod --modcod 1 r p s")?;
+    let mut wanted = Request::Mod {
+        link: LinkWords {
+            modcod: 1,
+            short: false,
+            pilots: false,
+            number: 0,
+            roll_off: 0,
+        },
+        rows: "r",
+        packets: "p",
+        symbols: "s",
+    };
+    assert_eq!(rt; read_words(rt.alloc(), &plain).ok(), Some(Some(wanted)));
+    let all = words_of(
+        &rt,
+        "s2 mod --modcod 17 --short --pilots --number 262141 --ro 2 r p s",
+    )?;
+    wanted = Request::Mod {
+        link: LinkWords {
+            modcod: 17,
+            short: true,
+            pilots: true,
+            number: 262141,
+            roll_off: 2,
+        },
+        rows: "r",
+        packets: "p",
+        symbols: "s",
+    };
+    assert_eq!(rt; read_words(rt.alloc(), &all).ok(), Some(Some(wanted)));
+    Ok(())
+}
+
+#[test]
 fn refuses_other_words(rt: HostRuntime) -> Result<(), Fail> {
     for (line, on_errors) in [
         ("s2 --help", false),
@@ -222,6 +260,13 @@ fn refuses_other_words(rt: HostRuntime) -> Result<(), Fail> {
         ("s2 judge --group 4 --groups 2 --q 64800 r s", true),
         ("s2 judge --group 4 --groups 2 --q 3 r", true),
         ("s2 check r", true),
+        ("s2 mod --help", false),
+        ("s2 mod r p s", true),
+        ("s2 mod --modcod 0 r p s", true),
+        ("s2 mod --modcod 18 r p s", true),
+        ("s2 mod --modcod 1 --number 262142 r p s", true),
+        ("s2 mod --modcod 1 --ro 3 r p s", true),
+        ("s2 mod --modcod 1 r p", true),
         (
             "s2 rows --group 1 --groups 1 --q 1 --weight 25 --seed 1",
             true,

@@ -1,6 +1,6 @@
 //! The command line of the program.
 use clap::builder::ValueParser;
-use clap::{Arg, ArgMatches, Command, Error, value_parser};
+use clap::{Arg, ArgAction, ArgMatches, Command, Error, value_parser};
 use std::alloc::{AllocError, Global};
 
 /// The numbers of a shape.
@@ -9,6 +9,16 @@ pub struct ShapeWords {
     pub group: u16,
     pub groups: u16,
     pub q: u16,
+}
+
+/// The numbers of a mode and of a link.
+#[derive(Clone, Copy, Debug, PartialEq, Eq)]
+pub struct LinkWords {
+    pub modcod: u8,
+    pub short: bool,
+    pub pilots: bool,
+    pub number: u32,
+    pub roll_off: u8,
 }
 
 /// What the words ask for.
@@ -30,6 +40,12 @@ pub enum Request<'a> {
         rows: &'a str,
         certificate: &'a str,
     },
+    Mod {
+        link: LinkWords,
+        rows: &'a str,
+        packets: &'a str,
+        symbols: &'a str,
+    },
 }
 
 fn number<'a>(alloc: Global, name: &'a str, parser: ValueParser<'a>, value: &'a str) -> Arg<'a> {
@@ -37,7 +53,17 @@ fn number<'a>(alloc: Global, name: &'a str, parser: ValueParser<'a>, value: &'a 
         .long(name)
         .value_parser(parser)
         .value_name(value)
-        .required(true)
+}
+
+fn required<'a>(alloc: Global, name: &'a str, parser: ValueParser<'a>, value: &'a str) -> Arg<'a> {
+    number(alloc, name, parser, value).required(true)
+}
+
+fn flag<'a>(alloc: Global, name: &'a str, what: &'a str) -> Arg<'a> {
+    Arg::new(alloc, name)
+        .long(name)
+        .action(ArgAction::SetTrue)
+        .help(what)
 }
 
 fn file<'a>(alloc: Global, name: &'a str, what: &'a str) -> Arg<'a> {
@@ -49,9 +75,23 @@ fn with_shape<'a>(alloc: Global, command: Command<'a>) -> Result<Command<'a>, Al
     let groups = value_parser!(u16).range(1..=64799);
     let q = value_parser!(u16).range(1..=64799);
     command
-        .arg(number(alloc, "group", group, "G").help("Bits of a group"))?
-        .arg(number(alloc, "groups", groups, "N").help("Groups of information bits"))?
-        .arg(number(alloc, "q", q, "Q").help("Checks by which a group's next bit moves on"))
+        .arg(required(alloc, "group", group, "G").help("Bits of a group"))?
+        .arg(required(alloc, "groups", groups, "N").help("Groups of information bits"))?
+        .arg(required(alloc, "q", q, "Q").help("Checks by which a group's next bit moves on"))
+}
+
+fn with_link<'a>(alloc: Global, command: Command<'a>) -> Result<Command<'a>, AllocError> {
+    let modcod = value_parser!(u8).range(1..=17);
+    let scrambling = value_parser!(u32).range(0..=262141);
+    let roll_off = value_parser!(u8).range(0..=2);
+    let scrambling = number(alloc, "number", scrambling, "N").default_value("0");
+    let roll_off = number(alloc, "ro", roll_off, "R").default_value("0");
+    command
+        .arg(required(alloc, "modcod", modcod, "M").help("MODCOD, 1 to 17"))?
+        .arg(flag(alloc, "short", "Frames of 16200 bits"))?
+        .arg(flag(alloc, "pilots", "Frames with pilot blocks"))?
+        .arg(scrambling.help("Scrambling number, 0 to 262141"))?
+        .arg(roll_off.help("Roll-off that headers tell: 0 is 0.35, 1 is 0.25, 2 is 0.20"))
 }
 
 fn rows_words<'a>(alloc: Global) -> Result<Command<'a>, AllocError> {
@@ -59,8 +99,8 @@ fn rows_words<'a>(alloc: Global) -> Result<Command<'a>, AllocError> {
     let seed = value_parser!(u64);
     let command = Command::new(alloc, "rows").about("Prints a row file that a seed determines");
     with_shape(alloc, command)?
-        .arg(number(alloc, "weight", weight, "W").help("Addresses of each row"))?
-        .arg(number(alloc, "seed", seed, "S").help("Seed of the generator"))
+        .arg(required(alloc, "weight", weight, "W").help("Addresses of each row"))?
+        .arg(required(alloc, "seed", seed, "S").help("Seed of the generator"))
 }
 
 fn judge_words<'a>(alloc: Global) -> Result<Command<'a>, AllocError> {
@@ -86,6 +126,14 @@ fn check_words<'a>(alloc: Global) -> Result<Command<'a>, AllocError> {
         .arg(file(alloc, "CERT", "Certificate file"))
 }
 
+fn mod_words<'a>(alloc: Global) -> Result<Command<'a>, AllocError> {
+    let command = Command::new(alloc, "mod").about("Makes the symbols of packets");
+    with_link(alloc, command)?
+        .arg(file(alloc, "ROWS", "Row file"))?
+        .arg(file(alloc, "PACKETS", "Transport stream, packets of 188 bytes"))?
+        .arg(file(alloc, "SYMBOLS", "File for the symbols, four bytes each"))
+}
+
 /// All that the program understands.
 fn command<'a>(alloc: Global) -> Result<Command<'a>, AllocError> {
     Command::new(alloc, "s2")
@@ -94,7 +142,8 @@ fn command<'a>(alloc: Global) -> Result<Command<'a>, AllocError> {
         )
         .subcommand(rows_words(alloc)?)?
         .subcommand(judge_words(alloc)?)?
-        .subcommand(check_words(alloc)?)
+        .subcommand(check_words(alloc)?)?
+        .subcommand(mod_words(alloc)?)
 }
 
 fn shape_of(m: &ArgMatches<'_>) -> Option<ShapeWords> {
@@ -102,6 +151,16 @@ fn shape_of(m: &ArgMatches<'_>) -> Option<ShapeWords> {
         group: m.get_one::<u16>("group")?,
         groups: m.get_one::<u16>("groups")?,
         q: m.get_one::<u16>("q")?,
+    })
+}
+
+fn link_of(m: &ArgMatches<'_>) -> Option<LinkWords> {
+    Some(LinkWords {
+        modcod: m.get_one::<u8>("modcod")?,
+        short: m.get_flag("short"),
+        pilots: m.get_flag("pilots"),
+        number: m.get_one::<u32>("number")?,
+        roll_off: m.get_one::<u8>("ro")?,
     })
 }
 
@@ -121,6 +180,12 @@ fn request_of<'a>(name: &str, m: &ArgMatches<'a>) -> Option<Request<'a>> {
         "check" => Some(Request::Check {
             rows: m.get_str("ROWS")?,
             certificate: m.get_str("CERT")?,
+        }),
+        "mod" => Some(Request::Mod {
+            link: link_of(m)?,
+            rows: m.get_str("ROWS")?,
+            packets: m.get_str("PACKETS")?,
+            symbols: m.get_str("SYMBOLS")?,
         }),
         _ => None,
     }

@@ -35,12 +35,16 @@ pub fn write_signed<W: CountedWrite>(out: &mut W, number: i64) -> Result<(), Wri
     write_number(out, number)
 }
 
-/// Writes a text that ends in the number of a line.
-pub fn write_at_line<W: CountedWrite>(out: &mut W, text: &str, line: u64) -> Result<(), WriteFault>
+/// Writes a text that ends in a number.
+pub fn write_numbered<W: CountedWrite>(
+    out: &mut W,
+    text: &str,
+    number: u64,
+) -> Result<(), WriteFault>
     requires { W.count out.old < 2 ^ 64 - 1 }
-    ensures bytes { OnOk result (Appends (W.contents out.old) (W.contents out.new) (text.now ++ decimal line)) }
+    ensures bytes { OnOk result (Appends (W.contents out.old) (W.contents out.new) (text.now ++ decimal number)) }
     ensures cause { CountsFault (W.count out.old) (W.count out.new) result }
 {
     write_text(out, text)?;
-    write_number(out, line)
+    write_number(out, number)
 }

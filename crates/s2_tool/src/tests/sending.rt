@@ -1,0 +1,94 @@
+//! `mod` over memory.
+use crate::exit::Exit;
+use crate::rows::rows_command;
+use crate::send::mod_command;
+use s2_mode::{ByOne, Counting, InMemory, Mode};
+use s2_modem::Setup;
+use std::process::Abort;
+
+/// The row file that weight 3 and seed 1 determine.
+fn row_file<R: AllocGlobal>(rt: &R, mode: Mode) -> Vec<u8> {
+    let mut text = Counting::new(Vec::new(rt.alloc()));
+    let mut errors = Counting::new(Vec::new(rt.alloc()));
+    rows_command(rt.alloc(), mode.shape(), 3, 1, &mut text, &mut errors);
+    text.into_inner()
+}
+
+/// What `mod` does with packets in QPSK 1/4: its exit, how many bytes of symbols, and its lines.
+fn sent<R: Abort + AllocGlobal>(rt: &R, packets: &[u8]) -> (Exit, usize, Vec<u8>, Vec<u8>) {
+    let setup = Setup {
+        mode: Mode::of(1, false, false).expect(rt, "a mode"),
+        number: 0,
+        roll_off: 0,
+    };
+    let text = row_file(rt, setup.mode);
+    let mut rows = InMemory::new(&text);
+    let mut packets = Counting::new(ByOne::new(packets));
+    let mut symbols = Counting::new(Vec::new(rt.alloc()));
+    let mut out = Counting::new(Vec::new(rt.alloc()));
+    let mut errors = Counting::new(Vec::new(rt.alloc()));
+    let exit = mod_command(
+        rt.alloc(),
+        setup,
+        &mut rows,
+        &mut packets,
+        &mut symbols,
+        &mut out,
+        &mut errors,
+    );
+    let symbols = symbols.into_inner().len();
+    (exit, symbols, out.into_inner(), errors.into_inner())
+}
+
+/// A packet of zeros.
+fn packet_of_zeros() -> [u8; 188] {
+    let mut packet = [0; 188];
+    packet[0] = 0x47;
+    packet
+}
+
+/// Two packets, of which the second begins with 48.
+fn without_sync() -> [u8; 376] {
+    let mut packets = [0; 376];
+    packets[0] = 0x47;
+    packets[188] = 0x48;
+    packets
+}
+
+#[test]
+fn sends_a_single_packet(rt: HostRuntime) {
+    let (exit, symbols, out, errors) = sent(&rt, &packet_of_zeros());
+    assert_eq!(rt; exit, Exit::Fine);
+    assert_eq!(rt; symbols, 129_960);
+    assert_eq!(rt; out.as_slice(), b"packets 1 frames 1\n".as_slice());
+    assert_eq!(rt; errors.len(), 0);
+}
+
+#[test]
+fn sends_nothing_of_nothing(rt: HostRuntime) {
+    let (exit, symbols, out, errors) = sent(&rt, b"");
+    assert_eq!(rt; exit, Exit::Fine);
+    assert_eq!(rt; symbols, 0);
+    assert_eq!(rt; out.as_slice(), b"packets 0 frames 0\n".as_slice());
+    assert_eq!(rt; errors.len(), 0);
+}
+
+#[test]
+fn refuses_a_cut_packet(rt: HostRuntime) {
+    let (exit, symbols, out, errors) = sent(&rt, &[0x47; 187]);
+    assert_eq!(rt; exit, Exit::Fault);
+    assert_eq!(rt; symbols, 0);
+    assert_eq!(rt; out.len(), 0);
+    let line = b"s2: packets: not a whole packet\n";
+    assert_eq!(rt; errors.as_slice(), line.as_slice());
+}
+
+#[test]
+fn names_the_packet_without_sync(rt: HostRuntime) {
+    let (exit, symbols, out, errors) = sent(&rt, &without_sync());
+    assert_eq!(rt; exit, Exit::Fault);
+    assert_eq!(rt; symbols, 0);
+    assert_eq!(rt; out.len(), 0);
+    let line = b"s2: packets: no sync in packet 2\n";
+    assert_eq!(rt; errors.as_slice(), line.as_slice());
+}
