@@ -52,3 +52,9 @@ exit_of (Err f) = exits.Fault
 abbrev pub Complains : Result Exit Fault → ℕ → ℕ → Option (List ℕ) → Option (List ℕ) → Type 0
 Complains (Ok exit) before after old new = (after ≡ before) × Keeps old new
 Complains (Err f) before after old new = after ≡ before → Appends old new (fault_line f)
+
+-- the number that the program ends with
+abbrev pub status_of : Exit → ℕ
+status_of exits.Fine = 0
+status_of exits.Fault = 1
+status_of exits.No = 2

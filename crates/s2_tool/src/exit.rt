@@ -1,4 +1,8 @@
 //! How a command ends.
+ghost use Rattle.std.specs.Prelude.{◌≡◌};
+ghost use Rattle.std.specs.Process.{exit_status};
+ghost use Rattle.s2_tool.specs.Exits.{status_of};
+
 use std::process::ExitCode;
 
 /// How a command ends.
@@ -14,7 +18,9 @@ pub enum Exit {
 
 impl Exit {
     /// The code that the program answers: 0, 1 or 2.
-    pub fn code(self) -> ExitCode {
+    pub fn code(self) -> ExitCode
+        ensures { exit_status result ≡ status_of self }
+    {
         match self {
             Exit::Fine => ExitCode::SUCCESS,
             Exit::Fault => ExitCode::FAILURE,

@@ -1,5 +1,9 @@
 //! The commands on the files and streams that they name.
-ghost use Rattle.std.specs.Prelude.{◌≡◌, ◌≢◌, ◌-◌, ◌^◌, ◌<◌};
+ghost use Rattle.std.specs.Prelude.{◌≡◌, ◌≢◌, ◌↔◌, ◌-◌, ◌^◌, ◌<◌, ◌++◌, codes, IsSome, IfSome, OnOk};
+ghost use Rattle.std.specs.Io.KnownBytes.{Appends};
+ghost use Rattle.s2_mode.specs.Counts.{CountsFault};
+ghost use Rattle.s2_mode.specs.Shape.{IsShape};
+ghost use Rattle.s2_mode.specs.Shape as shapes;
 
 use crate::certify::certify_command;
 use crate::check::check_command;
@@ -19,7 +23,8 @@ use std::rt::Files;
 /// Writes a fault line of two parts. Where that fails, nothing is left to tell.
 pub fn complain<E: CountedWrite>(errors: &mut E, text: &str, name: &str) -> Exit
     requires { E.count errors.old < 2 ^ 64 - 1 }
-    ensures { result ≡ Exit.Fault }
+    ensures exit { result ≡ Exit.Fault }
+    ensures told { E.count errors.new ≡ E.count errors.old → Appends (E.contents errors.old) (E.contents errors.new) (codes "s2: " ++ text.now ++ name.now ++ codes "\n") }
 {
     let _ = write_complaint(errors, text, name);
     Exit::Fault
@@ -31,6 +36,8 @@ fn write_complaint<E: CountedWrite>(
     name: &str,
 ) -> Result<(), WriteFault>
     requires { E.count errors.old < 2 ^ 64 - 1 }
+    ensures line { OnOk result (Appends (E.contents errors.old) (E.contents errors.new) (codes "s2: " ++ text.now ++ name.now ++ codes "\n")) }
+    ensures cause { CountsFault (E.count errors.old) (E.count errors.new) result }
 {
     write_text(errors, "s2: ")?;
     write_text(errors, text)?;
@@ -39,7 +46,10 @@ fn write_complaint<E: CountedWrite>(
 }
 
 /// The shape of three words.
-fn shape_of(words: ShapeWords) -> Option<Shape> {
+fn shape_of(words: ShapeWords) -> Option<Shape>
+    ensures found { IsSome result ↔ IsShape (shapes.shape_of words.group words.groups words.q) }
+    ensures value { IfSome result (λ s. s ≡ shapes.shape_of words.group words.groups words.q) }
+{
     Shape::new(
         usize::from(words.group),
         usize::from(words.groups),
