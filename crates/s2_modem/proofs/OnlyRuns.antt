@@ -1,5 +1,5 @@
 -- Two runs over the same bytes, in which neither a read nor a write failed, answer the same and write the same.
-use Rattle.std.proofs.Common.{◌≡◌, ◌≢◌, ℕ, zero, suc, ◌+◌, ◌-◌, ◌/◌, ◌<◌, ◌≤◌, List, [], ◌∷◌, ◌++◌, Option, Some, None, Result, Ok, Err, length, take, drop, refl, sym, ap, subst, ◌∙◌, arith, length-take}
+use Rattle.std.proofs.Common.{◌≡◌, ◌≢◌, ℕ, zero, suc, ◌+◌, ◌-◌, ◌/◌, ◌≤◌, List, [], ◌∷◌, ◌++◌, Option, Some, None, Result, Ok, Err, length, take, drop, refl, sym, ap, subst, ◌∙◌, arith, length-take}
 use Rattle.std.specs.Prelude.{◌==◌, nat_lt, if◌then◌else◌}
 use Rattle.std.proofs.lemmas.Bool.{eq-eqb, ne_eqb, lt-ltb, le-ltb}
 use Rattle.std.specs.Io.KnownBytes.{Appends}
@@ -10,7 +10,7 @@ use Rattle.s2_modem.specs.declared.outcome.SendFault.{SendFault}
 use Rattle.s2_modem.specs.declared.outcome.SendFault.TheVariants.{NotWholePacket, NoSync, Read, Write}
 use Rattle.s2_modem.specs.Link.{Link}
 use Rattle.s2_modem.specs.Sending.{joined, AreFrames}
-use Rattle.s2_modem.specs.Laws.{IsLinkOf, FrameLaw, ReadFails, NoneFailed, RunLaw}
+use Rattle.s2_modem.specs.Laws.{IsLinkOf, FrameLaw, ReadFails, RunLaw}
 use Rattle.s2_modem.proofs.PacketsRead.{same_packets, Leaves, leaves_stop, fields_by, Reading, reading}
 
 -- ---- the answer
@@ -88,8 +88,7 @@ one_run_law m law = λ link bytes held count_a count_b new_a new_b reader_a read
     rb.fields_are ∙ sym (λ t. fields_by n (stream_of (same.0 t)) (answer t)) in
     let frames : A.frames ≡ B.frames =
     same_frames m law link linked (stream_of A.packets) a A.frames B.frames
-    (subst (λ l. AreFrames link 0 l A.frames) ra.fields_are A.are_frames) (subst (λ l. AreFrames link 0 l B.frames) fields B.are_frames) in
-    (
+    (subst (λ l. AreFrames link 0 l A.frames) ra.fields_are A.are_frames) (subst (λ l. AreFrames link 0 l B.frames) fields B.are_frames) in (
       answer,
       written held writer_a A.frames (A.written none_a.1) ∙ ((λ t. Some (held ++ joined (frames t))) ∙ sym (written held writer_b B.frames (B.written none_b.1))),
     )

@@ -3,7 +3,7 @@ use Rattle.std.proofs.Common.{◌≡◌, ◌≢◌, ℕ, ◌+◌, ◌<◌, ◌�
 use Rattle.std.specs.Prelude.{slice_index}
 use Rattle.std.proofs.lemmas.List.{take_at, drop_at, get_or_append_left}
 use Rattle.std.proofs.lemmas.List.Elements.{All-head, All-tail}
-use Rattle.std.specs.Io.KnownBytes.{Consumes, IsAtEnd}
+use Rattle.std.specs.Io.KnownBytes.{Consumes}
 use Rattle.s2_bbframe.specs.DataStream.{IsPacket, stream_of, full_fields, fields_of}
 use Rattle.s2_modem.specs.declared.outcome.Counts.{Counts}
 use Rattle.s2_modem.specs.declared.outcome.SendFault.{SendFault}

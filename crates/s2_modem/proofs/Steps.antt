@@ -1,5 +1,5 @@
 -- What a run has done so far, and its steps.
-use Rattle.std.proofs.Common.{◌≡◌, ◌≢◌, ℕ, suc, ◌+◌, ◌-◌, ◌<◌, ◌≤◌, Bool, true, false, List, [], ◌∷◌, ◌++◌, All, Option, length, take, drop, refl, sym, ap, ◌∙◌, subst, append_assoc, append-nil, length-append, length-drop, length-take, length-take-le, Result, Ok, Err, arith}
+use Rattle.std.proofs.Common.{◌≡◌, ℕ, ◌+◌, ◌-◌, ◌<◌, ◌≤◌, Bool, true, false, List, [], ◌∷◌, ◌++◌, All, Option, length, take, refl, sym, ap, ◌∙◌, subst, length-append, length-drop, length-take-le, Result, Ok, Err, arith}
 use Rattle.std.specs.Prelude.{MatchBool}
 use mir.Val.{bool_byte}
 use Rattle.std.proofs.lemmas.List.{take_all}
@@ -9,7 +9,7 @@ use Rattle.std.proofs.lemmas.List.Elements.{All-push, All-nil}
 use Rattle.std.proofs.lemmas.List.{length_push}
 use Rattle.s2_modem.specs.Link.{Link}
 use Rattle.s2_modem.specs.Frames.{IsFrameOf}
-use Rattle.s2_bbframe.specs.DataStream.{IsPacket, Slicing, Sliced, IsReady, next_field, after_field, after_packet, gained, header_at, stream_of, full_fields, fields_of, field_bytes}
+use Rattle.s2_bbframe.specs.DataStream.{IsPacket, Slicing, Sliced, next_field, after_packet, gained, header_at, stream_of, full_fields, fields_of, field_bytes}
 use Rattle.s2_modem.specs.declared.outcome.Counts.{Counts}
 use Rattle.s2_modem.specs.declared.outcome.SendFault.{SendFault}
 use Rattle.s2_modem.specs.declared.outcome.SendFault.TheVariants.{Write}

@@ -1,6 +1,6 @@
 -- The frame of a header and its data field (EN 302 307-1, 5.2 to 5.5).
-use Rattle.std.specs.Prelude.{◌≡◌, ℕ, ◌≤◌, Bool, List, length}
-use Rattle.s2_mode.specs.Mode.{Mode, kbch_of, k_of, n_of, slots_of, symbols_in, shape_in, HasCodeSizes, HasFrameSizes}
+use Rattle.std.specs.Prelude.{◌≡◌, ℕ, Bool, List, length}
+use Rattle.s2_mode.specs.Mode.{Mode, kbch_of, k_of, n_of, shape_in, HasCodeSizes}
 use Rattle.s2_rows.specs.Rows.{Rows}
 use Rattle.s2_matrix.specs.Code.{code_of}
 use Rattle.s2_bbframe.specs.declared.header.Header.{Header}

@@ -1,9 +1,9 @@
-use Rattle.std.proofs.Common.{◌≡◌, ◌≢◌, ◌+◌, ◌<◌, ◌≤◌, ℕ, List, [], ◌∷◌, Bool, true, false, length, take, ap, sym, subst, refl, ◌∙◌, rules, arith, length-take, inl, inr}
+use Rattle.std.proofs.Common.{◌≡◌, ◌+◌, ◌≤◌, ℕ, List, [], Bool, true, false, length, take, ap, subst, refl, rules, arith, length-take, inl, inr}
 use Rattle.std.proofs.KnownBytes.{Consumes-nil}
 use Rattle.std.proofs.lemmas.List.{take_all}
 use Rattle.std.specs.Io.KnownBytes.{Consumes}
 use mir.Val.{bool_byte}
-use Rattle.s2_modem.proofs.Steps.{Sending, one_more, stops, ends, gives_up, full_here}
+use Rattle.s2_modem.proofs.Steps.{one_more, stops, ends, gives_up, full_here}
 use Rattle.s2_modem.proofs.sending.send_all.Goals as goal
 
 fewer : (f p : ℕ) (b : Bool) (n : ℕ) → f ≤ p → n ≡ bool_byte b → f + n ≤ p + 1
