@@ -1,6 +1,6 @@
 -- The steps of the loops that multiply and invert.
-use Rattle.std.specs.Prelude.{ℕ, zero, suc, ◌≡◌, ◌+◌, ◌-◌, ◌*◌, ◌/◌, ◌%◌, ◌^◌, ◌<◌, ◌≤◌, bit_xor, refl}
-use Rattle.std.proofs.Common.{sym, ◌∙◌, ap, ap₂, subst, arith}
+use Rattle.std.specs.Prelude.{ℕ, suc, ◌≡◌, ◌+◌, ◌-◌, ◌*◌, ◌/◌, ◌%◌, bit_xor, refl}
+use Rattle.std.proofs.Common.{sym, ◌∙◌, ap}
 use lib.Bits.{xor_assoc, xor_zero_r}
 use Rattle.s2_field.specs.Binary.{times_x, act, times, act-times_x}
 use Rattle.s2_field.specs.Inverse.{norm, inverse}

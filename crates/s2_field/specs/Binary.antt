@@ -1,9 +1,8 @@
 -- Multiplication of polynomials over two elements, written as numbers, modulo x^m + low.
 use Rattle.std.specs.Prelude.{ℕ, zero, suc, ◌≡◌, ◌+◌, ◌-◌, ◌*◌, ◌/◌, ◌%◌, ◌^◌, ◌<◌, ◌≤◌, bit_xor, refl}
-use Rattle.std.proofs.Common.{sym, ◌∙◌, ap, ap₂, subst, arith, add-zero, zero-add}
-use Rattle.std.proofs.Math.Nat.{mod-lt, mul_comm, mod-eq_of_lt, div-eq_of_lt, div-lt_iff_lt-mul, pow-suc}
+use Rattle.std.proofs.Common.{sym, ◌∙◌, ap, ap₂, arith, add-zero}
+use Rattle.std.proofs.Math.Nat.{mod-lt, mod-eq_of_lt, div-eq_of_lt, pow-suc}
 use lib.Pow.{pow_mono, pow_pos}
-use native.Mathlib.Nat.{lt_of_lt_of_le}
 use Rattle.std.proofs.lemmas.Nat.{xor_comm, xor_lt, xor_shr, xor_mod, xor_block}
 use lib.Bits.{xor_assoc, xor_self, xor_zero_r, xor_shifted}
 

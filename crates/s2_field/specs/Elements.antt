@@ -1,6 +1,6 @@
 -- A type whose values are the numbers below 2^m is a field under `bit_xor` and `times m low`.
-use Rattle.std.specs.Prelude.{ℕ, zero, suc, ◌≡◌, ◌≢◌, ◌+◌, ◌-◌, ◌*◌, ◌/◌, ◌%◌, ◌^◌, ◌<◌, ◌≤◌, bit_xor, refl, Bool, true, List}
-use Rattle.std.proofs.Common.{sym, ◌∙◌, ap, ap₂, subst, arith}
+use Rattle.std.specs.Prelude.{ℕ, ◌≡◌, ◌%◌, ◌^◌, ◌<◌, bit_xor, refl, true, List}
+use Rattle.std.proofs.Common.{sym, ◌∙◌, ap, ap₂, arith}
 use Rattle.std.proofs.lemmas.Nat.{xor_comm, xor_lt}
 use lib.Bits.{xor_assoc, xor_self, xor_zero_r}
 use lib.Pow.{pow_pos}

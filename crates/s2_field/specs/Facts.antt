@@ -1,6 +1,6 @@
 -- Facts about the two fields that compute.
-use Rattle.std.specs.Prelude.{ℕ, zero, suc, ◌≡◌, ◌+◌, ◌-◌, ◌*◌, ◌/◌, ◌%◌, ◌^◌, ◌<◌, ◌≤◌, bit_xor, refl, Bool, true, false, ◌==◌, ◌&&◌, not, List, [], ◌∷◌}
-use Rattle.s2_field.specs.Binary.{times_x, act, times}
+use Rattle.std.specs.Prelude.{ℕ, ◌≡◌, ◌%◌, bit_xor, refl, true, List, [], ◌∷◌}
+use Rattle.s2_field.specs.Binary.{times}
 use Rattle.s2_field.specs.Inverse.{squared, choose, agree_at_powers}
 use Rattle.s2_field.specs.Order.{avoids_one, iterate}
 

@@ -1,5 +1,5 @@
 -- The field of 2^14 elements, by x^14 + x^5 + x^3 + x + 1.
-use Rattle.std.specs.Prelude.{ℕ, ◌≡◌, ◌<◌, ◌≤◌, ◌^◌, refl, List, [], ◌∷◌}
+use Rattle.std.specs.Prelude.{ℕ, ◌≡◌, ◌<◌, ◌^◌, refl, List, [], ◌∷◌}
 use Rattle.std.proofs.Common.{arith}
 use Rattle.std.specs.Coded.{le_prop}
 use mathlib.Core.HLevel.{is_prop→PathP}
@@ -8,8 +8,8 @@ use Rattle.s2_field.specs.Laws.{FieldLaws, IsNumbered}
 use Rattle.s2_field.specs.Elements.{zero_of, one_of, sum_of, product_of, inverse_of, laws_of}
 use Rattle.s2_field.specs.Facts.{half_list_14, frobenius_14, kernel_14, walk_14, last_14}
 use Rattle.s2_field.specs.Binary.{times}
-use Rattle.s2_field.specs.Order.{order_of}
-use Rattle.s2_field.specs.Polynomials.{HasOrder, eval}
+use Rattle.s2_field.specs.Order.{iterate, order_of, power_product}
+use Rattle.s2_field.specs.Polynomials.{HasOrder, pow, eval}
 
 abbrev pub number : Gf14 → ℕ
 number x = x.value
@@ -56,6 +56,10 @@ alpha = make 2 two_fits
 
 pub order : HasOrder zero one sum product alpha 16383
 order = order_of 14 43 fourteen low_fits number below make (λ n h. refl) same two_fits refl 16382 walk_14 last_14
+
+-- what i steps make of x is the product with a^i
+pub raised : (i : ℕ) (x y : Gf14) → number y ≡ iterate 14 43 i (number x) → y ≡ product (pow zero one sum product alpha i) x
+raised = power_product 14 43 fourteen low_fits number below make (λ n h. refl) same two_fits refl
 
 pub numbered : IsNumbered zero number 16383
 numbered = record {

@@ -1,5 +1,5 @@
 -- The field of 2^16 elements, by x^16 + x^5 + x^3 + x^2 + 1.
-use Rattle.std.specs.Prelude.{ℕ, ◌≡◌, ◌<◌, ◌≤◌, ◌^◌, refl, List, [], ◌∷◌}
+use Rattle.std.specs.Prelude.{ℕ, ◌≡◌, ◌<◌, ◌^◌, refl, List, [], ◌∷◌}
 use Rattle.std.proofs.Common.{arith}
 use Rattle.std.specs.Coded.{le_prop}
 use mathlib.Core.HLevel.{is_prop→PathP}
@@ -8,8 +8,8 @@ use Rattle.s2_field.specs.Laws.{FieldLaws, IsNumbered}
 use Rattle.s2_field.specs.Elements.{zero_of, one_of, sum_of, product_of, inverse_of, laws_of}
 use Rattle.s2_field.specs.Facts.{half_list_16, frobenius_16, kernel_16, walk_16, last_16}
 use Rattle.s2_field.specs.Binary.{times}
-use Rattle.s2_field.specs.Order.{order_of}
-use Rattle.s2_field.specs.Polynomials.{HasOrder, eval}
+use Rattle.s2_field.specs.Order.{iterate, order_of, power_product}
+use Rattle.s2_field.specs.Polynomials.{HasOrder, pow, eval}
 
 abbrev pub number : Gf16 → ℕ
 number x = x.value
@@ -56,6 +56,10 @@ alpha = make 2 two_fits
 
 pub order : HasOrder zero one sum product alpha 65535
 order = order_of 16 45 sixteen low_fits number below make (λ n h. refl) same two_fits refl 65534 walk_16 last_16
+
+-- what i steps make of x is the product with a^i
+pub raised : (i : ℕ) (x y : Gf16) → number y ≡ iterate 16 45 i (number x) → y ≡ product (pow zero one sum product alpha i) x
+raised = power_product 16 45 sixteen low_fits number below make (λ n h. refl) same two_fits refl
 
 pub numbered : IsNumbered zero number 65535
 numbered = record {

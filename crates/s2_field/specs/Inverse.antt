@@ -1,12 +1,12 @@
 -- The inverse in a binary field: each nonzero a has a * a^(2^m - 2) = 1, where three facts hold that compute.
-use Rattle.std.specs.Prelude.{ℕ, zero, suc, ◌≡◌, ◌≢◌, ◌⊎◌, ◌+◌, ◌-◌, ◌*◌, ◌/◌, ◌%◌, ◌^◌, ◌<◌, ◌≤◌, bit_xor, refl, Bool, true, false, ◌==◌, ◌&&◌, List, [], ◌∷◌, IsTrue}
-use Rattle.std.proofs.Common.{sym, ◌∙◌, ap, ap₂, subst, arith, add-zero, zero-add, rules}
-use Rattle.std.proofs.Math.Nat.{mod-lt, pow-suc}
-use Rattle.std.proofs.lemmas.Nat.{xor_comm, xor_lt, xor_shr, xor_mod, xor_block}
+use Rattle.std.specs.Prelude.{ℕ, zero, suc, ◌≡◌, ◌≢◌, ◌-◌, ◌*◌, ◌/◌, ◌%◌, ◌^◌, ◌<◌, bit_xor, refl, Bool, true, ◌==◌, ◌&&◌, List, [], ◌∷◌}
+use Rattle.std.proofs.Common.{sym, ◌∙◌, ap, ap₂, subst, arith}
+use Rattle.std.proofs.Math.Nat.{pow-suc}
+use Rattle.std.proofs.lemmas.Nat.{xor_shr, xor_mod}
 use lib.Pow.{pow_pos}
 use Rattle.std.proofs.lemmas.Bool.{and_parts, eqb-true}
-use lib.Bits.{xor_assoc, xor_self, xor_zero_r, xor_shifted}
-use Rattle.s2_field.specs.Binary.{times_x, act, times, act-xor, act-sum, act-below, times-one, times_comm, times-act, times-xor, half-below, xor_shift, halves, below-two, digit-times, swap_inner, xor_double}
+use lib.Bits.{xor_assoc, xor_self, xor_zero_r}
+use Rattle.s2_field.specs.Binary.{times, act-sum, act-below, times-one, times_comm, times-act, times-xor, half-below, xor_shift, halves, below-two, digit-times, swap_inner, xor_double}
 
 abbrev pub IsAdditiveBelow : ℕ → (ℕ → ℕ) → Type 0
 IsAdditiveBelow k f = (a b : ℕ) → a < 2 ^ k → b < 2 ^ k → f (bit_xor a b) ≡ bit_xor (f a) (f b)

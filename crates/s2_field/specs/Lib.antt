@@ -4,6 +4,7 @@ pub mod Binary
 pub mod Inverse
 pub mod Elements
 pub mod Order
+pub mod Shifts
 pub mod Facts
 pub mod Gf16
 pub mod Gf14

@@ -1,8 +1,9 @@
 -- The order of `x` in a binary field, by a walk over all its powers.
-use Rattle.std.specs.Prelude.{ℕ, zero, suc, ◌≡◌, ◌≢◌, ◌+◌, ◌-◌, ◌*◌, ◌<◌, ◌≤◌, ◌^◌, refl, Bool, true, false, ◌==◌, ◌&&◌, not}
+use Rattle.std.specs.Prelude.{ℕ, zero, suc, ◌≡◌, ◌≢◌, ◌<◌, ◌^◌, refl, Bool, true, ◌==◌, ◌&&◌, not}
 use Rattle.std.proofs.Common.{sym, ◌∙◌, ap, subst, arith}
 use Rattle.std.proofs.lemmas.Bool.{and_parts, eq-eqb}
-use Rattle.s2_field.specs.Binary.{times_x, times, act-times_x, times-one, times_comm}
+use Rattle.s2_field.specs.Binary.{times_x, times, act-times_x, times-one, times_comm, times-act}
+use Rattle.s2_field.specs.Inverse.{one-below, times-below}
 use Rattle.s2_field.specs.Polynomials.{pow, HasOrder}
 use Rattle.s2_field.specs.Elements.{zero_of, one_of, sum_of, product_of}
 
@@ -16,7 +17,7 @@ abbrev pub iterate : ℕ → ℕ → ℕ → ℕ → ℕ
 iterate m low zero v = v
 iterate m low (suc n) v = iterate m low n (times_x m low v)
 
-iterate-last : (m low n v : ℕ) → iterate m low (suc n) v ≡ times_x m low (iterate m low n v)
+pub iterate-last : (m low n v : ℕ) → iterate m low (suc n) v ≡ times_x m low (iterate m low n v)
 iterate-last m low zero v = refl
 iterate-last m low (suc n) v = iterate-last m low n (times_x m low v)
 
@@ -43,7 +44,7 @@ module _ (m low : ℕ) (positive : 0 < m) (low_fits : low < 2 ^ m)
       (sum_of m low positive low_fits number below make number-make same)
       (product_of m low positive low_fits number below make number-make same) (make 2 two_fits) i
 
-  times-two : (v : ℕ) → v < 2 ^ m → times m low 2 v ≡ times_x m low v
+  pub times-two : (v : ℕ) → v < 2 ^ m → times m low 2 v ≡ times_x m low v
   unfolding times
   times-two v hv =
       times_comm m low positive 2 v two_fits hv ∙ ap (times m low v) (sym doubled) ∙ act-times_x m low m v 1
@@ -73,3 +74,19 @@ module _ (m low : ℕ) (positive : 0 < m) (low_fits : low < 2 ^ m)
       not-before : (i : ℕ) → 0 < i → i < suc n → power i ≡ one → ⊥
       not-before zero h0 hi e = absurd (omega arith)
       not-before (suc i) h0 hi e = avoided m low n 2 i walk (omega arith) (sym (number-power i) ∙ ap number e ∙ number-make _ _)
+
+  -- x^i times v
+  power-times : (i v : ℕ) → v < 2 ^ m → times m low (number (power i)) v ≡ iterate m low i v
+  power-times zero v hv =
+      ap (λ x. times m low x v) (number-make _ _) ∙ times_comm m low positive 1 v (one-below m low positive low_fits) hv ∙ times-one m low positive v hv
+  power-times (suc i) v hv =
+      ap (λ x. times m low x v) (number-make _ _ ∙ ap (λ x. times m low x (number (power i))) (number-make 2 two_fits))
+      ∙ times-act m low positive 2 (number (power i)) v two_fits (below (power i)) hv low_fits
+      ∙ ap (times m low 2) (power-times i v hv)
+      ∙ times-two (iterate m low i v) (subst (λ x. x < 2 ^ m) (power-times i v hv) (times-below m low positive low_fits (number (power i)) v hv))
+      ∙ sym (iterate-last m low i v)
+
+  -- the product with a power of `x`, as a number
+  pub power_product : (i : ℕ) (x y : F) → number y ≡ iterate m low i (number x)
+      → y ≡ product_of m low positive low_fits number below make number-make same (power i) x
+  power_product i x y e = same _ _ (e ∙ sym (power-times i (number x) (below x)) ∙ sym (number-make _ _))

@@ -1,5 +1,5 @@
 -- Powers of an element of a field, and polynomials by their coefficients, the constant first.
-use Rattle.std.specs.Prelude.{ℕ, zero, suc, ◌≡◌, ◌≢◌, ◌+◌, ◌<◌, ◌≤◌, List, [], ◌∷◌, length}
+use Rattle.std.specs.Prelude.{ℕ, zero, suc, ◌≡◌, ◌≢◌, ◌+◌, ◌<◌, ◌≤◌, List, [], ◌∷◌}
 use Rattle.std.proofs.Common.{get_or}
 
 module _ {F : Type 0} (nil one : F) (add mul : F → F → F) where

@@ -49,6 +49,11 @@ pub trait Field: Copy + Drop {
     fn mul(self, other: Self) -> Self
         ensures { result ≡ product self other };
 
+    /// The product with a power of `alpha`, the fifteenth at most.
+    fn times_power(self, exponent: u32) -> Self
+        requires { exponent ≤ 15 }
+        ensures { result ≡ product (pow zero one sum product alpha exponent) self };
+
     /// The inverse of an element that is not zero.
     fn inv(self) -> Self
         requires { self ≢ zero }

@@ -1,6 +1,8 @@
 //! The operations of `Gf14`.
-ghost use Rattle.std.specs.Prelude.{◌≡◌, ◌<◌, ◌^◌, bit_xor};
+ghost use Rattle.std.specs.Prelude.{◌≡◌, ◌<◌, ◌≤◌, ◌^◌, bit_xor};
 ghost use Rattle.s2_field.specs.Binary.{times_x, times};
+ghost use Rattle.s2_field.specs.Order.{iterate};
+ghost use Rattle.s2_field.specs.Shifts.{folded_14, reduced_14};
 ghost use Rattle.s2_field.specs.Inverse.{norm, inverse as number_inverse};
 ghost use Rattle.s2_field.specs.Gf14.{zero, one, sum, product, inverse, alpha, number, laws, order, numbered};
 
@@ -37,6 +39,32 @@ fn multiply(a: u16, b: u16) -> u16
         rest /= 2;
     }
     product
+}
+
+/// `carried` times x^5 + x^3 + x + 1, to which x^14 is equal.
+fn fold(carried: u16) -> u16
+    ensures { result ≡ folded_14 carried }
+{
+    carried ^ (carried << 1) ^ (carried << 3) ^ (carried << 5)
+}
+
+/// What is carried out of the 14 lowest bits is folded back, and once more what that carries out.
+fn reduce(wide: u32) -> u16
+    ensures { result ≡ reduced_14 wide }
+{
+    let carried = ((wide >> 14) % 65536) as u16;
+    let again = (carried >> 14) ^ (carried >> 13) ^ (carried >> 11) ^ (carried >> 9);
+    ((wide % 16384) as u16) ^ (fold(carried) % 16384) ^ fold(again)
+}
+
+/// x^exponent a.
+fn raise(a: u16, exponent: u32) -> u16
+    requires few { exponent ≤ 15 }
+    requires a_below { a < 2 ^ 14 }
+    ensures value { result ≡ iterate 14 43 exponent a }
+    ensures below { result < 2 ^ 14 }
+{
+    reduce(u32::from(a) << exponent)
 }
 
 fn invert(a: u16) -> u16
@@ -97,6 +125,12 @@ impl Field for Gf14 {
     fn mul(self, other: Gf14) -> Gf14 {
         Gf14 {
             value: multiply(self.value, other.value),
+        }
+    }
+
+    fn times_power(self, exponent: u32) -> Gf14 {
+        Gf14 {
+            value: raise(self.value, exponent),
         }
     }
 

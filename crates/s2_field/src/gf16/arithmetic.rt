@@ -1,6 +1,8 @@
 //! The operations of `Gf16`.
-ghost use Rattle.std.specs.Prelude.{◌≡◌, ◌<◌, ◌^◌};
+ghost use Rattle.std.specs.Prelude.{◌≡◌, ◌<◌, ◌≤◌, ◌^◌};
 ghost use Rattle.s2_field.specs.Binary.{times_x, times};
+ghost use Rattle.s2_field.specs.Order.{iterate};
+ghost use Rattle.s2_field.specs.Shifts.{folded_16, reduced_16};
 ghost use Rattle.s2_field.specs.Inverse.{norm, inverse as number_inverse};
 ghost use Rattle.s2_field.specs.Gf16.{zero, one, sum, product, inverse, alpha, number, laws, order, numbered};
 
@@ -25,6 +27,30 @@ fn multiply(a: u16, b: u16) -> u16
         rest /= 2;
     }
     product
+}
+
+/// `carried` times x^5 + x^3 + x^2 + 1, to which x^16 is equal.
+fn fold(carried: u16) -> u16
+    ensures { result ≡ folded_16 carried }
+{
+    carried ^ (carried << 2) ^ (carried << 3) ^ (carried << 5)
+}
+
+/// What is carried out of the 16 lowest bits is folded back, and once more what that carries out.
+fn reduce(wide: u32) -> u16
+    ensures { result ≡ reduced_16 wide }
+{
+    let carried = (wide >> 16) as u16;
+    let again = (carried >> 14) ^ (carried >> 13) ^ (carried >> 11);
+    ((wide % 65536) as u16) ^ fold(carried) ^ fold(again)
+}
+
+/// x^exponent a.
+fn raise(a: u16, exponent: u32) -> u16
+    requires { exponent ≤ 15 }
+    ensures { result ≡ iterate 16 45 exponent a }
+{
+    reduce(u32::from(a) << exponent)
 }
 
 fn invert(a: u16) -> u16
@@ -83,6 +109,12 @@ impl Field for Gf16 {
     fn mul(self, other: Gf16) -> Gf16 {
         Gf16 {
             value: multiply(self.value, other.value),
+        }
+    }
+
+    fn times_power(self, exponent: u32) -> Gf16 {
+        Gf16 {
+            value: raise(self.value, exponent),
         }
     }
 

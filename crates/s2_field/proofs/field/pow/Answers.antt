@@ -1,4 +1,4 @@
-use Rattle.std.proofs.Common.{arith, ◌∙◌, ap, sym, ◌≡◌, ◌/◌, ◌%◌}
+use Rattle.std.proofs.Common.{arith, ◌∙◌, ap, ◌≡◌, ◌/◌, ◌%◌}
 use Rattle.s2_field.specs.Polynomials.{pow}
 use Rattle.s2_field.proofs.Powers.{pow_odd, pow_even, one-mul}
 use Rattle.s2_field.proofs.field.pow.Goals as goal

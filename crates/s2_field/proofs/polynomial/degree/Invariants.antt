@@ -1,4 +1,4 @@
-use Rattle.std.proofs.Common.{◌≡◌, ◌≤◌, length}
+use Rattle.std.proofs.Common.{◌≤◌, length}
 use Rattle.s2_field.specs.Polynomials.{IsZeroFrom}
 use Rattle.s2_field.proofs.polynomial.degree.Given as goal
 

@@ -1,6 +1,6 @@
-use Rattle.std.proofs.Common.{rules, arith, ◌∙◌, ap, ap₂, sym, subst, ◌<◌, ◌^◌}
+use Rattle.std.proofs.Common.{arith, ◌∙◌, ap, sym, subst, ◌<◌, ◌^◌}
 use Rattle.std.specs.Prelude.{bit_xor, ◌≡◌, suc, ◌-◌, ◌+◌, ◌*◌, ◌%◌, ◌/◌}
-use Rattle.s2_field.specs.Binary.{act, times, times_x}
+use Rattle.s2_field.specs.Binary.{act, times}
 use Rattle.s2_field.specs.Inverse.{times-below}
 use Rattle.s2_field.specs.Gf14.{fourteen, low_fits}
 use Rattle.s2_field.proofs.Steps.{product_step, product_end, product_start}

@@ -1,4 +1,4 @@
-use Rattle.std.proofs.Common.{◌≡◌, ◌<◌, ◌^◌, ◌*◌, ◌/◌, ◌%◌, arith}
+use Rattle.std.proofs.Common.{◌*◌, ◌/◌, ◌%◌, arith}
 use Rattle.std.proofs.lemmas.Nat.{xor_lt}
 use Rattle.s2_field.proofs.gf14.arithmetic.shift.Goals as goal
 

@@ -1,4 +1,3 @@
-use Rattle.std.proofs.Common.{◌≡◌, ◌<◌, ◌^◌}
 use Rattle.std.proofs.lemmas.Nat.{xor_lt}
 use Rattle.s2_field.proofs.gf14.arithmetic.sum_of_values.Goals as goal
 

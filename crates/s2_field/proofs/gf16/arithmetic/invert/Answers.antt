@@ -1,5 +1,5 @@
-use Rattle.std.proofs.Common.{rules, arith, ◌∙◌, ap, ap₂, sym}
-use Rattle.std.specs.Prelude.{◌≡◌, suc, ◌-◌, ◌+◌, ◌*◌}
+use Rattle.std.proofs.Common.{arith, ◌∙◌, ap, sym}
+use Rattle.std.specs.Prelude.{◌≡◌, ◌-◌}
 use Rattle.s2_field.specs.Binary.{times}
 use Rattle.s2_field.proofs.Steps.{norm_step, norm_start, inverse_end}
 use Rattle.s2_field.proofs.gf16.arithmetic.invert.Goals as goal

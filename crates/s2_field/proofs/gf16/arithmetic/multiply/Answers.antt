@@ -1,6 +1,6 @@
-use Rattle.std.proofs.Common.{rules, arith, ◌∙◌, ap, ap₂, sym}
+use Rattle.std.proofs.Common.{arith, ◌∙◌, ap}
 use Rattle.std.specs.Prelude.{bit_xor, ◌≡◌, suc, ◌-◌, ◌+◌, ◌*◌, ◌%◌, ◌/◌}
-use Rattle.s2_field.specs.Binary.{act, times, times_x}
+use Rattle.s2_field.specs.Binary.{act}
 use Rattle.s2_field.proofs.Steps.{product_step, product_end, product_start}
 use Rattle.s2_field.proofs.gf16.arithmetic.multiply.Goals as goal
 
