@@ -1,17 +1,15 @@
 -- The decoder's steps, over plain variables.
-use Rattle.std.specs.Prelude.{ℕ, zero, suc, ◌≡◌, ◌≢◌, ◌+◌, ◌-◌, ◌<◌, ◌≤◌, refl, Bool, true, false, List, [], ◌∷◌, length, take, drop, set, not}
-use Rattle.std.proofs.Common.{sym, ◌∙◌, ap, ap₂, arith, subst, get_or, inl, inr, length-append, length-take, length-drop, drop-cons}
-use Rattle.std.proofs.lemmas.List.{drop-set}
+use Rattle.std.specs.Prelude.{ℕ, suc, ◌≡◌, ◌≢◌, ◌+◌, ◌<◌, ◌≤◌, refl, Bool, true, false, List, [], ◌∷◌, length, drop, not}
+use Rattle.std.proofs.Common.{sym, ◌∙◌, ap, ap₂, arith, subst, get_or, length-drop, drop-cons}
 use Rattle.s2_bits.specs.Bits.{xor}
-use Rattle.std.proofs.lemmas.Bool.{cases_lt}
 use Rattle.s2_field.specs.Laws.{FieldLaws}
 use Rattle.s2_field.specs.Polynomials as P
 use Rattle.s2_bch.specs.Sequences as S
 use Rattle.s2_bch.specs.Values as V
 use Rattle.s2_bch.specs.Flips as flips
-use Rattle.s2_bch.specs.Words.{IsMultiple, IsWordOf, distance, weight, word-unique, product, length-product}
-use Rattle.s2_bch.specs.Roots.{pick, value, horner_from, value-horner}
-use Rattle.s2_bch.specs.Decoding.{decoded}
+use Rattle.s2_bch.specs.Words.{IsMultiple, distance, weight}
+use Rattle.s2_bch.specs.Roots.{value, horner_from, value-horner}
+use Rattle.s2_bch.specs.Decoding.{decoded, degree_few}
 
 module _ {F : Type 0} (nil one : F) (add mul : F → F → F) (inv : F → F) (L : FieldLaws nil one add mul inv) where
   open L use {add_zero}
@@ -38,20 +36,18 @@ module _ {F : Type 0} (nil one : F) (add mul : F → F → F) (inv : F → F) (L
       (λ j hj. syndromes j (omega arith) ∙ sym (by_horner r _))
       (subst (λ m. S.Shortest nil one add mul m d f b delta (S.sequence_of nil S')) en H) k
 
--- the only candidate is no multiple
-pub none_multiple : (t k : ℕ) (tail r w u v : List Bool) → IsWordOf (true ∷ tail) (take k w) u → (u ≡ w → ⊥) → length w ≡ k + length tail
-    → IsMultiple (true ∷ tail) v → (distance r v ≤ t → w ≡ v) → t < distance r v
-none_multiple t k tail r w u v U differ size mv only =
-    let l : length (take k w) ≡ k = omega (arith, length-take {A = Bool}) in
-    elim (cases_lt t (distance r v)) [
-      | inl h ↦ h
-      | inr h ↦ absurd (differ
-          (word-unique tail (take k w) u w U (record {
-            front = ap (λ n. take n w) l;
-            size = omega (arith, l);
-            multiple = subst (IsMultiple (true ∷ tail)) (sym (only h)) mv;
-          })))
-    ]
+module _ {F : Type 0} (nil one : F) (add mul : F → F → F) (inv : F → F) (L : FieldLaws nil one add mul inv) where
+  pub few_places : (a : F) (bound t n d : ℕ) (g r v : List Bool) (S' f b : List F) (delta : F)
+      → a ≢ nil → V.AllPowersDiffer nil one add mul a bound → 0 < length g → V.HasRoots nil one add mul a (t + t) g
+      → n ≡ t + t
+      → ((j : ℕ) → j < n → get_or S' j nil ≡ V.horner_of nil one add mul nil r (P.pow nil one add mul a (suc j)))
+      → S.Shortest nil one add mul n d f b delta (S.sequence_of nil S')
+      → IsMultiple g v → length v ≡ length r → length r ≤ bound → distance r v ≤ t → d ≤ t
+  few_places a bound t n d g r v S' f b delta na p hg roots en syndromes H mv e h near =
+      degree_few nil one add mul inv L a bound t d g r v S' f b delta na p.differ hg
+      (λ j hj. by_horner nil one add mul inv L g _ ∙ roots.root j hj) mv (sym e) (omega arith) near
+      (λ j hj. syndromes j (omega arith) ∙ sym (by_horner nil one add mul inv L r _))
+      (subst (λ m. S.Shortest nil one add mul m d f b delta (S.sequence_of nil S')) en H)
 
 -- ---- the loop that flips: `now` becomes `next`, whose bit at i is b
 

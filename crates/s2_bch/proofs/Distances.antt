@@ -1,6 +1,6 @@
 -- The two ways to count the places that differ: by place, and along the lists.
 use Rattle.std.specs.Prelude.{ℕ, zero, suc, ◌≡◌, ◌+◌, refl, Bool, true, false, List, [], ◌∷◌, length}
-use Rattle.std.proofs.Common.{sym, ◌∙◌, ap, arith}
+use Rattle.std.proofs.Common.{◌∙◌, ap, arith}
 use Rattle.s2_bits.specs.Bits.{xor, bit_at, number, differences}
 use Rattle.s2_bch.specs.Words.{distance, weight}
 

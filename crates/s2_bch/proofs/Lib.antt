@@ -1,7 +1,12 @@
 mod RegisterFacts
+mod MessageFacts
 mod Filters
+mod TermLemmas
 mod Shortest
 mod Decoder
+mod RootFacts
+mod GeneratorFacts
 mod CodeFacts
+mod Lent
 mod RestFacts
 mod Distances

@@ -1,18 +1,15 @@
 -- The register's steps, over plain numbers.
-use Rattle.std.specs.Prelude.{ℕ, zero, suc, ◌≡◌, ◌+◌, ◌-◌, ◌*◌, ◌/◌, ◌%◌, ◌^◌, ◌<◌, ◌≤◌, bit_xor, refl, Bool, true, false, List, [], ◌∷◌, ◌++◌, length, take, drop, replicate}
-use Rattle.std.proofs.Common.{sym, ◌∙◌, ap, ap₂, subst, arith, length-append, length-take, length-drop, get_or}
+use Rattle.std.specs.Prelude.{ℕ, zero, suc, ◌≡◌, ◌+◌, ◌-◌, ◌*◌, ◌/◌, ◌%◌, ◌^◌, ◌<◌, ◌≤◌, bit_xor, refl, Bool, true, false, List, [], ◌∷◌, length, drop, replicate}
+use Rattle.std.proofs.Common.{sym, ◌∙◌, ap, ap₂, subst, arith}
 use Rattle.std.proofs.Math.Nat.{pow-suc, add-mul, mul_assoc}
-use Rattle.std.proofs.lemmas.List.{get_or-drop}
-use Rattle.std.proofs.Math.Seq.{take-add}
-use Rattle.std.proofs.Math.ListN.{length-replicate}
 use Rattle.std.proofs.lemmas.Nat.{xor_block, xor_comm}
-use lib.Pow.{pow_pos, pow-add, shl_lt}
-use lib.Bits.{xor_zero_l, xor_zero_r}
+use lib.Pow.{pow-add, shl_lt}
+use lib.Bits.{xor_zero_r}
 use Rattle.s2_field.specs.Binary.{times_x}
-use Rattle.s2_bch.specs.Words.{add_front, register_after, length-after, length-add_front}
-use Rattle.s2_bch.specs.Division.{bit, number_of, number_of-below, number_of-sum, xor-scale, steps, steps-at_once, register-steps}
+use Rattle.s2_bch.specs.Words.{add_front, length-add_front}
+use Rattle.s2_bch.specs.Division.{bit, number_of, number_of-below, number_of-sum, xor-scale, steps, steps-at_once}
 use Rattle.s2_bch.specs.declared.register.Register.{Register}
-use Rattle.s2_bch.specs.Registers.{value_of, Holds, IsTableFor}
+use Rattle.s2_bch.specs.Registers.{value_of, Holds}
 
 -- words added one by one
 pub xor_words : (a b c d e f : ℕ) → b < 2 ^ 64 → c < 2 ^ 64 → e < 2 ^ 64 → f < 2 ^ 64
@@ -150,93 +147,3 @@ holds_sum r s v u w e hr hs is =
 
 pub holds_tail : (r : Register) (t u : List Bool) → value_of r ≡ number_of t * 2 ^ (192 - length t) → length t ≤ 192 → u ≡ t → Holds r u
 holds_tail r t u v h e = subst (Holds r) (sym e) (record { fits = h; value = v })
-
--- ---- many bits
-
-pub take_end : (w : List Bool) → take (length w) w ≡ w
-take_end [] = refl
-take_end (b ∷ w) = ap (λ u. b ∷ u) (take_end w)
-
-pub after_append : (t r u w : List Bool) → register_after t r (u ++ w) ≡ register_after t (register_after t r u) w
-after_append t r [] w = refl
-after_append t r (b ∷ u) w = after_append t _ u w
-
--- ---- eight bits as a byte
-
-eight : (v : List Bool) → 8 ≤ length v
-    → take 8 v
-    ≡ get_or v 0 false ∷ get_or v 1 false ∷ get_or v 2 false ∷ get_or v 3 false ∷ get_or v 4 false ∷ get_or v 5 false ∷ get_or v 6 false
-    ∷ get_or v 7 false ∷ []
-eight (a ∷ b ∷ c ∷ d ∷ e ∷ f ∷ g ∷ h ∷ v) le = refl
-eight [] le = absurd (omega arith)
-eight (a ∷ []) le = absurd (omega arith)
-eight (a ∷ b ∷ []) le = absurd (omega arith)
-eight (a ∷ b ∷ c ∷ []) le = absurd (omega arith)
-eight (a ∷ b ∷ c ∷ d ∷ []) le = absurd (omega arith)
-eight (a ∷ b ∷ c ∷ d ∷ e ∷ []) le = absurd (omega arith)
-eight (a ∷ b ∷ c ∷ d ∷ e ∷ f ∷ []) le = absurd (omega arith)
-eight (a ∷ b ∷ c ∷ d ∷ e ∷ f ∷ g ∷ []) le = absurd (omega arith)
-
-eight-number : (a b c d e f g h : Bool) → number_of (a ∷ b ∷ c ∷ d ∷ e ∷ f ∷ g ∷ h ∷ [])
-    ≡ 16 * (8 * bit a + 4 * bit b + 2 * bit c + bit d) + (8 * bit e + 4 * bit f + 2 * bit g + bit h)
-eight-number a b c d e f g h = omega arith
-
-digit-at : (w : List Bool) (at k : ℕ) → bit (get_or (drop at w) k false) ≡ bit (get_or w (at + k) false)
-digit-at w at k = ap bit (get_or-drop at w k false)
-
-pub byte_bits : (w : List Bool) (at : ℕ) → at + 8 ≤ length w
-    → 16 * (8 * bit (get_or w at false) + 4 * bit (get_or w (at + 1) false) + 2 * bit (get_or w (at + 2) false) + bit (get_or w (at + 3) false))
-    + (8 * bit (get_or w (at + 4) false) + 4 * bit (get_or w (at + 5) false) + 2 * bit (get_or w (at + 6) false) + bit (get_or w (at + 7) false))
-    ≡ number_of (take 8 (drop at w))
-byte_bits w at h =
-    let long : 8 ≤ length (drop at w) = omega (arith, length-drop at w) in
-    let first : bit (get_or (drop at w) 0 false) ≡ bit (get_or w at false) =
-    digit-at w at 0 ∙ (let z : at + 0 ≡ at = omega arith in ap (λ n. bit (get_or w n false)) z) in
-    let whole = ap number_of (eight (drop at w) long) ∙ eight-number _ _ _ _ _ _ _ _ in
-    omega (arith, whole, first, digit-at w at 1, digit-at w at 2, digit-at w at 3, digit-at w at 4, digit-at w at 5, digit-at w at 6, digit-at w at 7)
-
--- what is left of a message, from zeros
-abbrev pub divided : List Bool → List Bool → List Bool
-divided t m = register_after t (replicate (length t) false) m
-
-pub length-divided : (t m : List Bool) → length (divided t m) ≡ length t
-length-divided t m = length-after t (replicate (length t) false) m ∙ length-replicate (length t) false
-
-pub holds_zeros : (r : Register) (t : List Bool) → length t ≤ 192 → value_of r ≡ 0 → Holds r (replicate (length t) false)
-holds_zeros r t h z =
-    let p = 2 ^ (192 - length (replicate (length t) false)) in
-    let none : 0 * p ≡ 0 = omega arith in
-    record {
-      fits = omega (arith, length-replicate (length t) false);
-      value = z ∙ sym (ap (λ x. x * p) (zeros-number (length t)) ∙ none);
-    }
-
--- eight more bits of the message
-pub holds_byte : (t : List Bool) (table : List Register) (m : List Bool) (n : ℕ) (r s : Register) (byte : ℕ) → IsTableFor t table
-    → 8 * n + 8 ≤ length m → Holds r (divided t (take (8 * n) m)) → byte ≡ number_of (take 8 (drop (8 * n) m))
-    → value_of s ≡ steps 192 (number_of t * 2 ^ (192 - length t)) 8 (bit_xor (value_of r) (byte * 2 ^ 184))
-    → Holds s (divided t (take (8 * (n + 1)) m))
-holds_byte t table m n r s byte T h hr eb es =
-    let u : List Bool = divided t (take (8 * n) m) in
-    let w : List Bool = take 8 (drop (8 * n) m) in
-    let low : ℕ = number_of t * 2 ^ (192 - length t) in
-    let lw : length w ≡ 8 = omega (arith, length-take {A = Bool}, length-drop {A = Bool}) in
-    let lu : length u ≡ length t = length-divided t (take (8 * n) m) in
-    let lr : length (register_after t u w) ≡ length t = length-after t u w ∙ lu in
-    let whole : length t + (192 - length t) ≡ 192 = omega (arith, T.fits) in
-    let next : 8 * (n + 1) ≡ 8 * n + 8 = omega arith in
-    let positive : 0 < 192 = omega arith in
-    let few : length w ≤ 192 = omega arith in
-    let held : value_of r ≡ number_of u * 2 ^ (192 - length t) = hr.value ∙ ap (λ k. number_of u * 2 ^ (192 - k)) lu in
-    let stepped : number_of (register_after t u w) * 2 ^ (192 - length t)
-        ≡ steps 192 low (length w) (bit_xor (number_of u * 2 ^ (192 - length t)) (number_of w * 2 ^ (192 - length w))) =
-    register-steps 192 low positive t (192 - length t) whole T.some refl w u lu few in
-    subst (Holds s)
-    (sym (ap (λ k. divided t (take k m)) next ∙ ap (divided t) (take-add (8 * n) 8 m) ∙ after_append t (replicate (length t) false) (take (8 * n) m) w))
-    (record {
-      fits = omega (arith, lr, T.fits);
-      value = es
-          ∙ ap₂ (λ x y. steps 192 low 8 (bit_xor x (y * 2 ^ 184))) held eb
-          ∙ sym (stepped ∙ ap (λ k. steps 192 low k (bit_xor (number_of u * 2 ^ (192 - length t)) (number_of w * 2 ^ (192 - k)))) lw)
-          ∙ ap (λ k. number_of (register_after t u w) * 2 ^ (192 - k)) (sym lr);
-    })

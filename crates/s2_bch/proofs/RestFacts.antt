@@ -6,14 +6,15 @@ use Rattle.std.proofs.lemmas.Bool.{cases_lt}
 use lib.Pow.{pow_pos}
 use Rattle.s2_field.specs.Laws.{FieldLaws}
 use Rattle.s2_bits.specs.Bits.{xor}
-use Rattle.s2_bch.specs.Words.{IsMultiple, IsWordOf, distance, add_front, encoded-is-word, word-unique, length-add_front}
-use Rattle.s2_bch.specs.Division.{bit, number_of}
+use Rattle.s2_bch.specs.Words.{IsMultiple, distance, add_front, encoded-is-word, word-unique, length-add_front}
+use Rattle.s2_bch.specs.Division.{number_of}
 use Rattle.s2_bch.specs.Theory.{zero-add as nil-add}
 use Rattle.s2_bch.specs.Roots.{value, value-sum, multiple-root}
 use Rattle.s2_bch.specs.Values.{HasRoots, HaveSameValues}
 use Rattle.s2_bch.specs.declared.register.Register.{Register}
 use Rattle.s2_bch.specs.Registers.{value_of, Holds, rest_of}
-use Rattle.s2_bch.proofs.RegisterFacts.{divided, length-divided, zeros-number, take_end}
+use Rattle.s2_bch.proofs.MessageFacts.{divided, length-divided}
+use Rattle.s2_bch.proofs.RegisterFacts.{zeros-number}
 use Rattle.s2_bch.proofs.Decoder.{by_horner}
 
 -- a sum of number zero is of equal words

@@ -1,8 +1,7 @@
 -- The steps of the loop that finds the shortest filter, over plain variables.
-use Rattle.std.specs.Prelude.{ℕ, zero, suc, ◌≡◌, ◌≢◌, ◌+◌, ◌-◌, ◌<◌, ◌≤◌, refl, List, [], ◌∷◌, length, take, set}
-use Rattle.std.proofs.Common.{sym, ◌∙◌, ap, ap₂, arith, subst, get_or, add-one}
+use Rattle.std.specs.Prelude.{ℕ, suc, ◌≡◌, ◌≢◌, ◌+◌, ◌-◌, ◌<◌, ◌≤◌, refl, List, [], ◌∷◌, length, take, set}
+use Rattle.std.proofs.Common.{sym, ◌∙◌, ap, ap₂, arith, subst, add-one}
 use Rattle.s2_field.specs.Laws.{FieldLaws}
-use Rattle.s2_field.specs.Polynomials as P
 use Rattle.s2_bch.specs.Sequences as S
 use Rattle.s2_bch.specs.Theory.{shortest-start, shortest-same, shortest-mend, shortest-grow}
 

@@ -1,5 +1,5 @@
 -- The words of a mode's BCH code (EN 302 307-1, 5.3.1).
-use Rattle.std.specs.Prelude.{ℕ, ◌≡◌, ◌+◌, ◌-◌, ◌<◌, ◌≤◌, List, Bool, length}
+use Rattle.std.specs.Prelude.{◌≡◌, ◌≤◌, List, Bool, length}
 use Rattle.s2_bits.specs.Bits.{differences}
 use Rattle.s2_mode.specs.Mode.{Mode, k_of, t_of}
 use Rattle.s2_bch.specs.Words.{IsMultiple, IsWordOf}

@@ -1,11 +1,11 @@
 -- The decoder's theorem: a word within t places of a multiple is flipped into it.
-use Rattle.std.specs.Prelude.{ℕ, zero, suc, ◌≡◌, ◌≢◌, ◌+◌, ◌-◌, ◌*◌, ◌<◌, ◌≤◌, refl, Bool, true, false, List, [], ◌∷◌, ◌++◌, length, ⊤}
+use Rattle.std.specs.Prelude.{ℕ, suc, ◌≡◌, ◌≢◌, ◌+◌, ◌<◌, ◌≤◌, refl, Bool, true, false, List, [], ◌∷◌, ◌++◌, length}
 use Rattle.std.proofs.Common.{sym, ◌∙◌, ap, ap₂, subst, arith, get_or, length-append, append_assoc}
 use Rattle.s2_field.specs.Laws.{FieldLaws}
 use Rattle.s2_field.specs.Polynomials as P
 use Rattle.s2_bch.specs.Sequences as S
 use Rattle.s2_bch.specs.Flips as flips
-use Rattle.s2_bch.specs.Theory.{Each, AllDiffer, each_map, dot-same, monic-length, elements-are-roots, roots-are-elements}
+use Rattle.s2_bch.specs.Theory.{Each, AllDiffer, dot-same, monic-length, degree-least, elements-are-roots, roots-are-elements}
 use Rattle.s2_bits.specs.Bits.{xor}
 use Rattle.s2_bch.specs.Words.{distance, add_front, IsMultiple, length-add_front}
 use Rattle.s2_bch.specs.Roots.{value, value-sum, multiple-root, locators, locators-differ, locators-nonzero, locators-apart, value-power_sum, length-locators, PowersDiffer}
@@ -138,3 +138,30 @@ module _ {F : Type 0} (nil one : F) (add mul : F → F → F) (inv : F → F) (L
       (elements-are-roots nil one add mul inv L (t + t) d f b delta xs (λ x. x) H' few apart present)
       (roots-are-elements nil one add mul inv L (t + t) d f b delta xs (λ x. x) H' few apart present)
       k
+
+  -- a filter for a word within t places has degree t at most
+  pub degree_few : (a : F) (bound t d : ℕ) (g r v : List Bool) (S' f b : List F) (delta : F)
+      → a ≢ nil → PowersDiffer nil one add mul inv L a bound → 0 < length g
+      → ((j : ℕ) → j < t + t → value nil one add mul inv L g (power a (suc j)) ≡ nil)
+      → IsMultiple g v → length r ≡ length v → length v ≤ bound → distance r v ≤ t
+      → ((j : ℕ) → j < t + t → get_or S' j nil ≡ value nil one add mul inv L r (power a (suc j)))
+      → S.Shortest nil one add mul (t + t) d f b delta (S.sequence_of nil S') → d ≤ t
+  degree_few a bound t d g r v S' f b delta na p hg roots mv e h near syndromes H =
+      let error : List Bool = add_front r v in
+      let xs : List F = places a error in
+      let le : length error ≡ length v = length-add_front r v in
+      let H' : S.Shortest nil one add mul (t + t) d f b delta (S.power_sum nil one add mul xs (λ x. x)) =
+      shortest-along (t + t) d f b delta _ _
+      (λ j hj.
+      syndromes j hj
+      ∙ sym (value-sum nil one add mul inv L r v (power a (suc j)) e
+      ∙ ap (add (value nil one add mul inv L r (power a (suc j)))) (multiple-root nil one add mul inv L g v (power a (suc j)) hg mv (roots j hj))
+      ∙ add_zero _)
+      ∙ value-power_sum nil one add mul inv L a error j)
+      H in
+      let size : length xs ≡ distance r v = length-locators nil one add mul inv L a r v e in
+      let few : length xs + length xs ≤ t + t = omega arith in
+      let apart : AllDiffer xs = locators-differ nil one add mul inv L a bound p error (omega arith) in
+      let present : Each (λ x. x ≢ nil) xs = locators-nonzero nil one add mul inv L a na error in
+      let least : d ≤ length xs = degree-least nil one add mul inv L (t + t) d f b delta xs (λ x. x) H' few apart present in
+      omega arith

@@ -1,5 +1,5 @@
 -- A word flipped at the places whose powers of a are roots of f.
-use Rattle.std.specs.Prelude.{ℕ, ◌≡◌, ◌≢◌, Bool, true, List, [], ◌∷◌, length, ⊤}
+use Rattle.std.specs.Prelude.{◌≡◌, ◌≢◌, Bool, true, List, [], ◌∷◌, length, ⊤}
 use Rattle.s2_field.specs.Polynomials.{pow, eval}
 use Rattle.s2_bits.specs.Bits.{xor}
 

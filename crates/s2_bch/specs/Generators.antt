@@ -1,5 +1,5 @@
 -- The generators (EN 302 307-1, 5.3.1): products of the minimal polynomials of a, a^3, a^5 and so on.
-use Rattle.std.specs.Prelude.{ℕ, zero, suc, ◌≡◌, ◌+◌, ◌*◌, ◌-◌, ◌/◌, ◌%◌, ◌^◌, refl, Bool, true, false, ◌==◌, List, [], ◌∷◌, length, take, drop, map, bit_xor, reverse, if◌then◌else◌}
+use Rattle.std.specs.Prelude.{ℕ, zero, suc, ◌≡◌, ◌+◌, ◌/◌, ◌%◌, ◌^◌, refl, Bool, true, false, ◌==◌, List, [], ◌∷◌, take, map, bit_xor, reverse, if◌then◌else◌}
 use Rattle.s2_field.specs.Binary.{times}
 use Rattle.s2_bch.specs.Words.{product}
 use Rattle.s2_mode.specs.Mode.{Mode, t_of}

@@ -3,6 +3,7 @@ pub mod Generators
 pub mod Sequences
 pub mod Values
 pub mod Flips
+pub mod Terms
 pub mod Theory
 pub mod Roots
 pub mod Codes

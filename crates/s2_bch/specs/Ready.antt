@@ -1,5 +1,5 @@
 -- What an encoder and decoder of a mode holds.
-use Rattle.std.specs.Prelude.{ℕ, ◌≡◌, ◌+◌, ◌<◌, Bool, true, false, List, length, drop}
+use Rattle.std.specs.Prelude.{ℕ, ◌≡◌, ◌+◌, true, false, List, drop}
 use Rattle.s2_mode.specs.Mode.{Mode, IsMode, k_of, kbch_of, t_of, HasCodeSizes}
 use Rattle.s2_bch.specs.Generators.{generator_of}
 use Rattle.s2_bch.specs.Registers.{IsTableFor}

@@ -1,9 +1,9 @@
 -- A word's value at an element of a field, the roots of multiples, and how far words are apart.
-use Rattle.std.specs.Prelude.{ℕ, zero, suc, ◌≡◌, ◌≢◌, ◌+◌, ◌-◌, ◌*◌, ◌<◌, ◌≤◌, refl, Bool, true, false, ◌&&◌, List, [], ◌∷◌, ◌++◌, length, take, replicate, ⊤}
-use Rattle.std.proofs.Common.{sym, ◌∙◌, ap, ap₂, subst, arith, length-append, inl, inr}
+use Rattle.std.specs.Prelude.{ℕ, zero, suc, ◌≡◌, ◌≢◌, ◌+◌, ◌-◌, ◌<◌, ◌≤◌, refl, Bool, true, false, List, [], ◌∷◌, length, replicate}
+use Rattle.std.proofs.Common.{sym, ◌∙◌, ap, ap₂, arith, inl, inr}
 use Rattle.std.proofs.lemmas.Bool.{cases_lt}
 use Rattle.s2_field.specs.Laws.{FieldLaws}
-use Rattle.s2_bch.specs.Theory.{Each, AllDiffer, each_map, pow, power_sum, coefficients-vanish, zero-mul, mul-zero, zero-add as nil-add, add-mul, add_swap, no_zero_divisors}
+use Rattle.s2_bch.specs.Theory.{Each, AllDiffer, pow, power_sum, coefficients-vanish, zero-mul, mul-zero, zero-add as nil-add, add-mul, add_swap, no_zero_divisors}
 use Rattle.s2_bits.specs.Bits.{xor}
 use Rattle.s2_bch.specs.Words.{distance, times_bit, add_front, product, IsMultiple, length-add_front, length-times_bit, length-product}
 
@@ -38,7 +38,7 @@ module _ {F : Type 0} (nil one : F) (add mul : F → F → F) (inv : F → F) (L
       let e : suc i + j ≡ suc (i + j) = omega arith in
       ap (power x) e ∙ ap (mul x) (pow-add x i j) ∙ sym (mul_assoc x (power x i) (power x j))
 
-  pow-mul : (x y : F) (i : ℕ) → power (mul x y) i ≡ mul (power x i) (power y i)
+  pub pow-mul : (x y : F) (i : ℕ) → power (mul x y) i ≡ mul (power x i) (power y i)
   pow-mul x y zero = sym (mul_one one)
   pow-mul x y (suc i) =
       ap (mul (mul x y)) (pow-mul x y i)
@@ -46,7 +46,7 @@ module _ {F : Type 0} (nil one : F) (add mul : F → F → F) (inv : F → F) (L
       ∙ ap (mul x) (sym (mul_assoc y (power x i) (power y i)) ∙ ap (λ v. mul v (power y i)) (mul_comm y (power x i)) ∙ mul_assoc (power x i) y (power y i))
       ∙ sym (mul_assoc x (power x i) (mul y (power y i)))
 
-  pow-one : (i : ℕ) → power one i ≡ one
+  pub pow-one : (i : ℕ) → power one i ≡ one
   pow-one zero = refl
   pow-one (suc i) = ap (mul one) (pow-one i) ∙ mul_one one
 

@@ -1,5 +1,5 @@
 -- The generators of all modes, multiplied out.
-use Rattle.std.specs.Prelude.{ℕ, zero, suc, ◌≡◌, ◌+◌, ◌*◌, refl, Bool, true, false, ◌==◌, ◌&&◌, List, [], ◌∷◌, bit_xor}
+use Rattle.std.specs.Prelude.{ℕ, zero, suc, ◌≡◌, refl, Bool, true, false, ◌==◌, ◌&&◌, List, [], ◌∷◌, bit_xor}
 use Rattle.s2_field.specs.Binary.{times}
 use Rattle.s2_bch.specs.Generators.{generator_16, generator_14}
 

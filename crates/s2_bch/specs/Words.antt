@@ -1,6 +1,6 @@
 -- Words of bits as polynomials, the first bit the highest power: products, multiples, and division by a register.
-use Rattle.std.specs.Prelude.{ℕ, zero, suc, ◌≡◌, ◌≢◌, ◌+◌, ◌-◌, ◌<◌, ◌≤◌, refl, Bool, true, false, ◌&&◌, List, [], ◌∷◌, ◌++◌, length, take, replicate, map}
-use Rattle.std.proofs.Common.{sym, ◌∙◌, ap, ap₂, subst, arith, length-append, inl, inr}
+use Rattle.std.specs.Prelude.{ℕ, zero, suc, ◌≡◌, ◌+◌, ◌-◌, ◌≤◌, refl, Bool, true, false, ◌&&◌, List, [], ◌∷◌, ◌++◌, length, take, replicate}
+use Rattle.std.proofs.Common.{sym, ◌∙◌, ap, ap₂, arith, length-append}
 use Rattle.std.proofs.Math.ListN.{length-replicate}
 use Rattle.s2_bits.specs.Bits.{xor}
 

@@ -2,12 +2,13 @@
 ghost use Rattle.std.specs.Prelude.{◌≡◌, ◌≢◌, ◌<◌, ◌≤◌, ◌+◌, ℕ, suc, Bool, List, length, slice_index_or, IfOk};
 ghost use Rattle.s2_field.specs.Polynomials.{pow, eval};
 ghost use Rattle.s2_bch.specs.Flips.{FlipsRoots};
+ghost use Rattle.s2_bch.specs.Terms.{AreTerms};
 ghost use Rattle.s2_bch.specs.Words.{distance, IsMultiple};
 ghost use Rattle.s2_bch.specs.Values.{horner_of, HasRoots, HaveSameValues};
 ghost use Rattle.s2_bch.specs.Room.{HasRoom};
 
 use crate::locate::shortest_filter;
-use s2_field::{Field, eval};
+use s2_field::Field;
 use std::alloc::{AllocError, Global};
 use std::marker::Model;
 
@@ -19,6 +20,7 @@ pub(crate) struct Finder<F: Field> {
     filter: Vec<F>,
     spare: Vec<F>,
     next: Vec<F>,
+    terms: Vec<F>,
 }
 
 impl<F: Field> Model for Finder<F> {
@@ -26,12 +28,12 @@ impl<F: Field> Model for Finder<F> {
 
     ghost view = { λ f. f.t };
 
-    ghost invariant = { λ f. HasRoom f.t (length f.syndromes.items) (length f.filter.items) (length f.spare.items) (length f.next.items) };
+    ghost invariant = { λ f. HasRoom f.t (length f.syndromes.items) (length f.filter.items) (length f.spare.items) (length f.next.items) (length f.terms.items) };
 }
 
 impl<F: Field> Finder<F> {
     pub(crate) fn new(alloc: Global, t: usize) -> Result<Finder<F>, AllocError>
-        requires { t < 400 }
+        requires { t ≤ 15 }
         ensures { IfOk result (λ f. f ≡ t) }
     {
         Ok(Finder {
@@ -40,6 +42,7 @@ impl<F: Field> Finder<F> {
             filter: vec![in alloc; F::zero(); t + t + 1]?,
             spare: vec![in alloc; F::zero(); t + t + 1]?,
             next: vec![in alloc; F::zero(); t + t + 1]?,
+            terms: vec![in alloc; F::zero(); 16]?,
         })
     }
 
@@ -63,6 +66,7 @@ impl<F: Field> Finder<F> {
             &mut self.filter,
             &mut self.spare,
             &mut self.next,
+            &mut self.terms,
         )
     }
 }
@@ -75,26 +79,41 @@ fn flip_only<F: Field>(
     filter: &mut [F],
     spare: &mut [F],
     next: &mut [F],
+    terms: &mut [F],
 ) -> usize
-    requires room { HasRoom t (length syndromes.old) (length filter.old) (length spare.old) (length next.old) }
+    requires room { HasRoom t (length syndromes.old) (length filter.old) (length spare.old) (length next.old) (length terms.old) }
     requires short { length word.old < F.ORDER }
     requires rest { HaveSameValues F.zero F.one F.sum F.product F.alpha (t + t) rest.now word.old }
     ensures count { result ≡ distance word.old word.new }
     ensures only { (g v : List Bool) → 0 < length g → HasRoots F.zero F.one F.sum F.product F.alpha (t + t) g
         → IsMultiple g v → length v ≡ length word.old → distance word.old v ≤ t → word.new ≡ v }
 {
-    put_syndromes(rest, F::alpha(), syndromes);
+    put_syndromes(rest, syndromes);
     let degree = shortest_filter(syndromes, filter, spare, next);
-    flip_roots(&filter[..degree + 1], F::alpha(), word)
+    if degree > t {
+        return 0;
+    }
+    flip_roots(&filter[..degree + 1], terms, word)
 }
 
-/// The word's value at x.
-fn evaluate_word<F: Field>(word: &[bool], x: F) -> F
-    ensures { result ≡ horner_of F.zero F.one F.sum F.product F.zero word.now x }
+/// The product with a power of alpha.
+#[inline(always)]
+fn times_alpha<F: Field>(value: F, power: u32) -> F
+    requires { power ≤ 30 }
+    ensures { result ≡ F.product value (pow F.zero F.one F.sum F.product F.alpha power) }
+{
+    let first = power / 2;
+    value.times_power(first).times_power(power - first)
+}
+
+/// The word's value at a power of alpha.
+fn evaluate_word<F: Field>(word: &[bool], power: u32) -> F
+    requires { power ≤ 30 }
+    ensures { result ≡ horner_of F.zero F.one F.sum F.product F.zero word.now (pow F.zero F.one F.sum F.product F.alpha power) }
 {
     let mut value = F::zero();
     for bit in word {
-        value = value.mul(x);
+        value = times_alpha(value, power);
         if *bit {
             value = value.add(F::one());
         }
@@ -102,34 +121,70 @@ fn evaluate_word<F: Field>(word: &[bool], x: F) -> F
     value
 }
 
-/// The word's values at a, a^2 and so on.
-fn put_syndromes<F: Field>(word: &[bool], a: F, syndromes: &mut [F])
+/// The word's values at alpha, alpha^2 and so on.
+fn put_syndromes<F: Field>(word: &[bool], syndromes: &mut [F])
+    requires { length syndromes.old ≤ 30 }
     ensures { (j : ℕ) → j < length syndromes.old → slice_index_or syndromes.new j F.zero
-        ≡ horner_of F.zero F.one F.sum F.product F.zero word.now (pow F.zero F.one F.sum F.product a (suc j)) }
+        ≡ horner_of F.zero F.one F.sum F.product F.zero word.now (pow F.zero F.one F.sum F.product F.alpha (suc j)) }
 {
-    let mut x = a;
-    for syndrome in syndromes.iter_mut() {
-        *syndrome = evaluate_word(word, x);
-        x = a.mul(x);
+    for j in 0..syndromes.len() {
+        syndromes[j] = evaluate_word(word, j as u32 + 1);
     }
 }
 
-/// Flips the word where the power of a of the place, counted from the end, is a root, and answers
-/// how many places that are.
-fn flip_roots<F: Field>(filter: &[F], a: F, word: &mut [bool]) -> usize
-    ensures flips { FlipsRoots F.zero F.one F.sum F.product a filter.now word.old word.new }
+fn coefficient<F: Field>(filter: &[F], j: usize) -> F
+    ensures { result ≡ slice_index_or filter.now j F.zero }
+{
+    if j < filter.len() {
+        filter[j]
+    } else {
+        F::zero()
+    }
+}
+
+/// The filter's coefficients, and zeros after them.
+fn put_terms<F: Field>(filter: &[F], terms: &mut [F])
+    requires { length filter.now ≤ length terms.old }
+    ensures { (k : ℕ) → slice_index_or terms.new k F.zero ≡ slice_index_or filter.now k F.zero }
+{
+    for j in 0..terms.len() {
+        terms[j] = coefficient(filter, j);
+    }
+}
+
+/// The sum of a filter's terms at x, which is its value there. The terms become those at alpha x.
+#[inline(always)]
+fn advance<F: Field>(terms: &mut [F]) -> F
+    requires { length terms.old ≡ 16 }
+    ensures { (f : List F) (x : F) → length f ≤ 16 → AreTerms F.zero F.one F.sum F.product f x terms.old
+        → (result ≡ eval F.zero F.one F.sum F.product f x) × AreTerms F.zero F.one F.sum F.product f (F.product F.alpha x) terms.new }
+{
+    let mut sum = F::zero();
+    for j in 0..16usize {
+        let term = terms[j];
+        sum = sum.add(term);
+        terms[j] = term.times_power(j as u32);
+    }
+    sum
+}
+
+/// Flips the word where the power of alpha of the place, counted from the end, is a root, and
+/// answers how many places that are.
+fn flip_roots<F: Field>(filter: &[F], terms: &mut [F], word: &mut [bool]) -> usize
+    requires few { length filter.now ≤ 16 }
+    requires room { length terms.old ≡ 16 }
+    ensures flips { FlipsRoots F.zero F.one F.sum F.product F.alpha filter.now word.old word.new }
     ensures count { result ≡ distance word.old word.new }
 {
+    put_terms(filter, terms);
     let mut i = word.len();
     let mut count = 0;
-    let mut x = F::one();
     while i > 0 {
-        i -= 1;
-        if eval(filter, x).is_zero() {
-            word[i] = !word[i];
+        if advance(terms).is_zero() {
+            word[i - 1] = !word[i - 1];
             count += 1;
         }
-        x = a.mul(x);
+        i -= 1;
     }
     count
 }

@@ -15,10 +15,10 @@
 #![tactic(auto)]
 
 mod bch;
-mod find;
-pub mod laws;
 mod divider;
+mod find;
 mod generators;
+pub mod laws;
 mod locate;
 mod register;
 

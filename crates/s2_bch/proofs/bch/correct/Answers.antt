@@ -1,12 +1,11 @@
-use Rattle.std.proofs.Common.{arith, ◌≡◌, ◌+◌, ◌∷◌, length, ◌∙◌, sym, ap, ap₂, subst}
-use Rattle.std.specs.Prelude.{Bool, true, false, drop}
+use Rattle.std.proofs.Common.{arith, ◌≡◌, ◌+◌, length, ◌∙◌, sym, ap, ap₂, subst}
+use Rattle.std.specs.Prelude.{drop}
 use Rattle.std.proofs.lemmas.Bool.{true≢false}
 use Rattle.s2_mode.specs.Mode.{kbch_of, t_of}
 use Rattle.s2_bch.specs.Generators.{generator_of}
 use Rattle.s2_bch.specs.Registers.{rest_of}
 use Rattle.s2_bch.specs.Words.{distance, IsMultiple}
-use Rattle.s2_bch.specs.Codes.{IsBchWord}
-use Rattle.s2_bch.proofs.CodeFacts.{generator_facts}
+use Rattle.s2_bch.proofs.GeneratorFacts.{generator_facts}
 use Rattle.s2_bch.proofs.RestFacts.{zero_rest, none_left}
 use Rattle.s2_bch.proofs.bch.correct.Goals as goal
 

@@ -1,5 +1,4 @@
-use Rattle.std.proofs.Common.{arith, ◌≡◌, length}
-use Rattle.s2_bch.proofs.CodeFacts.{some_map, none_map, within_of, only_of, none_of}
+use Rattle.s2_bch.proofs.Lent.{some_map, none_map, within_of, only_of, none_of}
 use Rattle.s2_bch.proofs.bch.correct_bits.Goals as goal
 
 pub returns-clause-some : goal.returns-clause-some

@@ -1,11 +1,11 @@
-use Rattle.std.proofs.Common.{arith, ◌≡◌, ◌+◌, ◌∷◌, length, ◌∙◌, sym, ap, subst}
-use Rattle.std.specs.Prelude.{Bool, true, drop}
-use Rattle.s2_mode.specs.Mode.{kbch_of}
+use Rattle.std.proofs.Common.{arith, ◌≡◌, ◌+◌, length, ◌∙◌, sym, ap, subst}
+use Rattle.std.specs.Prelude.{drop}
 use Rattle.s2_bch.specs.Generators.{generator_of}
-use Rattle.s2_bch.specs.Registers.{Holds, rest_of}
-use Rattle.s2_bch.specs.Words.{distance, IsMultiple}
+use Rattle.s2_bch.specs.Registers.{rest_of}
+use Rattle.s2_bch.specs.Words.{IsMultiple}
 use Rattle.s2_bch.specs.Codes.{IsBchWord}
-use Rattle.s2_bch.proofs.CodeFacts.{generator_facts, words_same, distance_self}
+use Rattle.s2_bch.proofs.GeneratorFacts.{generator_facts}
+use Rattle.s2_bch.proofs.CodeFacts.{words_same, distance_self}
 use Rattle.s2_bch.proofs.RestFacts.{zero_rest, length-rest}
 use Rattle.s2_bch.proofs.bch.decode.Goals as goal
 

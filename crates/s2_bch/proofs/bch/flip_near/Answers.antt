@@ -1,14 +1,13 @@
-use Rattle.std.proofs.Common.{arith, ◌≡◌, ◌+◌, length, ◌∙◌, sym, ap, subst, List, ◌∷◌}
-use Rattle.std.specs.Prelude.{Bool, true, drop}
+use Rattle.std.proofs.Common.{arith, ◌+◌, sym, subst, ◌∷◌}
+use Rattle.std.specs.Prelude.{true, drop}
 use Rattle.s2_field.specs.Gf16 as gf16
 use Rattle.s2_field.specs.Gf14 as gf14
 use Rattle.s2_bch.specs.Generators.{generator_of}
-use Rattle.s2_bch.specs.Words.{distance}
 use Rattle.s2_mode.specs.Mode.{kbch_of, t_of}
-use Rattle.s2_bch.specs.Values.{HasRoots, HaveSameValues}
+use Rattle.s2_bch.specs.Values.{HasRoots}
 use Rattle.s2_bch.specs.Ready.{IsFinder}
 use Rattle.s2_bch.proofs.RestFacts.{values_of_rest}
-use Rattle.s2_bch.proofs.CodeFacts.{generator_facts, most_short, normal_generator, short_generator}
+use Rattle.s2_bch.proofs.GeneratorFacts.{generator_facts, most_short, normal_generator, short_generator}
 use Rattle.s2_bch.proofs.bch.flip_near.Goals as goal
 
 pub flip_near-requires-clause-rest : goal.flip_near-requires-clause-rest

@@ -1,5 +1,5 @@
 use Rattle.std.proofs.Common.{arith}
-use Rattle.s2_bch.proofs.RegisterFacts.{byte_bits}
+use Rattle.s2_bch.proofs.MessageFacts.{byte_bits}
 use Rattle.s2_bch.proofs.divider.byte_at.Goals as goal
 
 pub returns : goal.returns

@@ -1,8 +1,8 @@
-use Rattle.std.proofs.Common.{arith, ◌≡◌, ◌∙◌, ◌+◌, ◌-◌, ◌*◌, ◌/◌, ◌^◌, ap, sym, subst, length, take}
-use Rattle.std.specs.Prelude.{Bool, false, replicate}
+use Rattle.std.proofs.Common.{arith, ◌≡◌, ◌∙◌, ◌*◌, ap, sym, subst, length, take}
+use Rattle.std.specs.Prelude.{false, replicate}
 use Rattle.s2_bch.specs.Words.{register_after}
-use Rattle.s2_bch.specs.Registers.{Holds, value_of}
-use Rattle.s2_bch.proofs.RegisterFacts.{holds_zeros, holds_byte, take_end}
+use Rattle.s2_bch.specs.Registers.{Holds}
+use Rattle.s2_bch.proofs.MessageFacts.{holds_zeros, holds_byte, take_end}
 use Rattle.s2_bch.proofs.divider.divide.Goals as goal
 
 pub loop-byte-init : goal.loop-byte-init

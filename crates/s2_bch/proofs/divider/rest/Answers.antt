@@ -1,8 +1,9 @@
-use Rattle.std.proofs.Common.{arith, ◌≡◌, ◌+◌, length, ◌∙◌, sym, ap, subst, take, drop, length-drop, List}
+use Rattle.std.proofs.Common.{arith, ◌≡◌, length, subst, take, drop, length-drop, List}
 use Rattle.std.specs.Prelude.{Bool}
 use Rattle.std.proofs.lemmas.List.{take_all}
 use Rattle.s2_bch.specs.Registers.{Holds}
-use Rattle.s2_bch.proofs.RegisterFacts.{holds_sum, divided, length-divided}
+use Rattle.s2_bch.proofs.MessageFacts.{divided, length-divided}
+use Rattle.s2_bch.proofs.RegisterFacts.{holds_sum}
 use Rattle.s2_bch.proofs.divider.rest.Goals as goal
 
 pub returns : goal.returns

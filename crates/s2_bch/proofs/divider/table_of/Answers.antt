@@ -1,8 +1,8 @@
-use Rattle.std.proofs.Common.{arith, ◌≡◌, ◌∙◌, ◌-◌, ◌*◌, ◌^◌, ap, length}
+use Rattle.std.proofs.Common.{arith, ◌∙◌, ◌*◌, ◌^◌, ap}
 use Rattle.std.specs.Prelude.{drop}
 use Rattle.s2_bch.specs.Generators.{generator_of}
 use Rattle.s2_bch.specs.Division.{steps}
-use Rattle.s2_bch.proofs.CodeFacts.{some_tail}
+use Rattle.s2_bch.proofs.GeneratorFacts.{some_tail}
 use Rattle.s2_bch.proofs.divider.table_of.Goals as goal
 
 pub returns : goal.returns

@@ -1,9 +1,10 @@
 use Rattle.std.proofs.Common.{◌≡◌, drop}
+use Rattle.s2_field.specs.Polynomials.{pow}
 use Rattle.s2_bch.specs.Values.{horner_of}
 use Rattle.s2_bch.proofs.find.evaluate_word.Given as goal
 
 abbrev pub invariant-loop-bit : goal.invariant-loop-bit
 invariant-loop-bit g l =
     let f = g.F.Field in
-    horner_of f.zero f.one f.sum f.product l.value (drop l.bit-index l.word) l.x
-    ≡ horner_of f.zero f.one f.sum f.product f.zero l.word l.x
+    horner_of f.zero f.one f.sum f.product l.value (drop l.bit-index l.word) (pow f.zero f.one f.sum f.product f.alpha l.power)
+    ≡ horner_of f.zero f.one f.sum f.product f.zero l.word (pow f.zero f.one f.sum f.product f.alpha l.power)

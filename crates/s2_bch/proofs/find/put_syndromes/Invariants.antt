@@ -3,11 +3,8 @@ use Rattle.s2_bch.specs.Values.{horner_of}
 use Rattle.s2_field.specs.Polynomials.{pow}
 use Rattle.s2_bch.proofs.find.put_syndromes.Given as goal
 
-abbrev pub invariant-loop-syndrome : goal.invariant-loop-syndrome
-invariant-loop-syndrome g l =
+abbrev pub invariant-loop-j : goal.invariant-loop-j
+invariant-loop-j g l =
     let f = g.F.Field in
-    record {
-      done : (j : ℕ) → j < l.syndrome-index → get_or l.syndromes j f.zero
-          ≡ horner_of f.zero f.one f.sum f.product f.zero l.word (pow f.zero f.one f.sum f.product l.a (suc j));
-      power : l.x ≡ pow f.zero f.one f.sum f.product l.a (suc l.syndrome-index);
-    }
+    (k : ℕ) → k < l.j → get_or l.syndromes k f.zero
+    ≡ horner_of f.zero f.one f.sum f.product f.zero l.word (pow f.zero f.one f.sum f.product f.alpha (suc k))

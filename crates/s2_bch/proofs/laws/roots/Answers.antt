@@ -3,7 +3,8 @@ use Rattle.s2_field.specs.Gf16 as gf16
 use Rattle.s2_field.specs.Gf14 as gf14
 use Rattle.s2_mode.specs.Mode.{t_of}
 use Rattle.s2_bch.specs.Generators.{generator_of}
-use Rattle.s2_bch.proofs.CodeFacts.{normal_generator, short_generator, multiple_has_roots}
+use Rattle.s2_bch.proofs.GeneratorFacts.{normal_generator, short_generator}
+use Rattle.s2_bch.proofs.CodeFacts.{multiple_has_roots}
 use Rattle.s2_bch.proofs.laws.roots.Goals as goal
 
 pub returns-clause-normal : goal.returns-clause-normal

@@ -1,7 +1,7 @@
-use Rattle.std.proofs.Common.{arith, ◌≡◌, ◌≢◌, ◌+◌, ◌-◌, ◌<◌, ◌≤◌, ℕ, length, ◌∙◌, sym, ap, ap₂, get_or-set_other, get_or-set_same, below_more}
-use Rattle.std.proofs.lemmas.List.{get_or_default, ext_get_or}
+use Rattle.std.proofs.Common.{arith, ◌≢◌, ◌<◌, ◌≤◌, ℕ, length, ◌∙◌, sym, ap, ap₂, get_or-set_other, get_or-set_same, below_more}
+use Rattle.std.proofs.lemmas.List.{ext_get_or}
 use Rattle.s2_bch.specs.Theory.{length-shift, length-scale}
-use Rattle.s2_bch.specs.Sequences.{plus, scale, shift}
+use Rattle.s2_bch.specs.Sequences.{scale, shift}
 use Rattle.s2_bch.proofs.Filters.{get_or-plus, get_or-scale, length-plus}
 use Rattle.s2_bch.proofs.locate.combine.Goals as goal
 

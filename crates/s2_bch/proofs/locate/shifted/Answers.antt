@@ -1,4 +1,4 @@
-use Rattle.std.proofs.Common.{arith, ◌≡◌, ◌+◌, ◌-◌, ◌≤◌, length, ◌∙◌, sym, ap}
+use Rattle.std.proofs.Common.{arith, ◌-◌, ◌∙◌, sym}
 use Rattle.std.proofs.lemmas.List.{get_or_default}
 use Rattle.s2_bch.proofs.Filters.{get_or-shift-below, get_or-shift-above, get_or-past}
 use Rattle.s2_bch.proofs.locate.shifted.Goals as goal

@@ -1,8 +1,7 @@
-use Rattle.std.proofs.Common.{true, false, Bool, arith, rules, refl, ◌*◌, ◌≡◌, ◌≢◌, ◌+◌, ◌-◌, ◌<◌, ◌≤◌, ℕ, length, ◌∙◌, sym, ap, ap₂, take, [], ◌∷◌}
-use Rattle.std.proofs.lemmas.Grind.{common_steps}
+use Rattle.std.proofs.Common.{true, arith, refl, ◌*◌, ◌≡◌, ◌≢◌, ◌+◌, ◌-◌, ◌<◌, ◌≤◌, length, ◌∙◌, sym, ap, ap₂, take, [], ◌∷◌}
 use Rattle.std.proofs.lemmas.Bool.{true≢false}
-use Rattle.s2_bch.specs.Sequences.{Shortest, sequence_of, plus, scale, shift, filtered}
-use Rattle.s2_bch.proofs.Shortest.{start, same_step, mend_step, grow_step, moved, front_of_set}
+use Rattle.s2_bch.specs.Sequences.{sequence_of}
+use Rattle.s2_bch.proofs.Shortest.{start, mend_step, grow_step, moved, front_of_set}
 use Rattle.s2_bch.proofs.locate.shortest_filter.Goals as goal
 use Rattle.s2_bch.proofs.locate.shortest_filter.Goals.{then-degree-n, else-degree-n}
 

@@ -1,4 +1,4 @@
-use Rattle.std.proofs.Common.{◌≡◌, ◌+◌, ◌≤◌, take}
+use Rattle.std.proofs.Common.{◌+◌, ◌≤◌, take}
 use Rattle.s2_bch.specs.Sequences.{Shortest, sequence_of}
 use Rattle.s2_bch.proofs.locate.shortest_filter.Given as goal
 

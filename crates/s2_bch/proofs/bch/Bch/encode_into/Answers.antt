@@ -1,9 +1,10 @@
-use Rattle.std.proofs.Common.{arith, ◌≡◌, ◌+◌, length, ◌∙◌, sym, ap, subst, refl}
-use Rattle.std.specs.Prelude.{drop, ◌-◌}
+use Rattle.std.proofs.Common.{arith, length, sym, ap, subst, refl}
+use Rattle.std.specs.Prelude.{drop}
 use Rattle.s2_mode.specs.Mode.{HasCodeSizes}
 use Rattle.s2_bch.specs.Generators.{generator_of}
 use Rattle.s2_bch.specs.Registers.{IsTableFor}
-use Rattle.s2_bch.proofs.CodeFacts.{HasGenerator, generator_facts, encoded_word}
+use Rattle.s2_bch.proofs.GeneratorFacts.{HasGenerator, generator_facts}
+use Rattle.s2_bch.proofs.Lent.{encoded_word}
 use Rattle.s2_bch.proofs.bch.Bch.encode_into.Goals as goal
 
 pub encode_into-requires : goal.encode_into-requires

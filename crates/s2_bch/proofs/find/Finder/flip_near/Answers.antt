@@ -1,4 +1,4 @@
-use Rattle.std.proofs.Common.{arith, ◌≡◌, ◌+◌, sym, subst}
+use Rattle.std.proofs.Common.{arith, ◌+◌, sym, subst}
 use Rattle.s2_bch.specs.Values.{HasRoots, HaveSameValues}
 use Rattle.s2_bch.proofs.find.Finder.flip_near.Goals as goal
 

@@ -1,5 +1,5 @@
-use Rattle.std.proofs.Common.{arith, ◌≡◌, ◌∙◌, ◌+◌, ◌-◌, ◌*◌, ◌/◌, ◌^◌, ◌∷◌, ℕ, suc, sym, ap, subst, get_or, length, drop, drop-cons, length-drop}
-use Rattle.std.specs.Prelude.{Bool, false}
+use Rattle.std.proofs.Common.{arith, ◌≡◌, ◌∙◌, ◌+◌, ◌-◌, ◌*◌, ◌/◌, ◌^◌, ◌∷◌, ℕ, suc, ap, subst, get_or, length, drop, drop-cons, length-drop}
+use Rattle.std.specs.Prelude.{false}
 use Rattle.s2_bch.specs.Division.{bit}
 use Rattle.s2_bch.specs.Registers.{value_of, Holds}
 use Rattle.s2_bch.proofs.RegisterFacts.{holds_nothing, holds_below, drop_end}

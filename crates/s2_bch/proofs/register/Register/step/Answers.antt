@@ -1,4 +1,4 @@
-use Rattle.std.proofs.Common.{arith, ◌≡◌, ◌∙◌, sym, ap}
+use Rattle.std.proofs.Common.{◌∙◌, sym, ap}
 use Rattle.s2_bch.specs.Division.{bit}
 use Rattle.s2_bch.specs.Registers.{value_of}
 use Rattle.s2_bch.proofs.RegisterFacts.{step_zero}

@@ -1,5 +1,5 @@
-use Rattle.std.proofs.Common.{rules, arith, ◌≡◌, ◌≢◌, ◌+◌, ◌<◌, ℕ, suc, sym, subst, get_or, get_or-set_other, get_or-set_same, below_more, length, drop, drop-cons, add-one}
-use Rattle.std.specs.Prelude.{Bool, false}
+use Rattle.std.proofs.Common.{arith, ◌≢◌, ◌<◌, ℕ, suc, sym, subst, get_or, get_or-set_other, get_or-set_same, below_more, length, drop, drop-cons, add-one}
+use Rattle.std.specs.Prelude.{false}
 use Rattle.std.proofs.lemmas.List.{ext_get_or}
 use Rattle.s2_bch.specs.Registers.{Holds}
 use Rattle.s2_bch.proofs.RegisterFacts.{holds_next, holds_top}
