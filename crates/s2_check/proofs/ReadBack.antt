@@ -1,5 +1,5 @@
 -- What is written is read back, part by part.
-use Rattle.std.proofs.Common.{◌≡◌, ℕ, zero, suc, ◌+◌, ◌-◌, ◌*◌, ◌/◌, ◌^◌, ◌≤◌, ◌<◌, ◌&&◌, nat_le, not, Bool, true, false, List, [], ◌∷◌, ◌++◌, map, length, get_or, take, drop, slice_range, All, FitsSigned, SFits, w8, w16, w32, ℤ, pos, neg_ℤ, int_lt, Ok, Result, mul-le-mul, inl, inr, refl, subst, sym, ap, ap₂, ◌∙◌, arith, length-append, append_assoc, take_all, le-leb}
+use Rattle.std.proofs.Common.{◌≡◌, ℕ, zero, suc, ◌+◌, ◌-◌, ◌*◌, ◌/◌, ◌^◌, ◌≤◌, ◌<◌, ◌&&◌, nat_le, not, Bool, true, false, List, [], ◌∷◌, ◌++◌, map, length, get_or, take, drop, slice_range, All, FitsSigned, SFits, w8, w32, ℤ, pos, neg_ℤ, int_lt, Ok, Result, mul-le-mul, inl, inr, refl, subst, sym, ap, ap₂, ◌∙◌, arith, length-append, append_assoc, take_all, le-leb}
 use Rattle.std.specs.List.{list_all}
 use Rattle.std.specs.Int.{cast_signed, cast_unsigned, to_be_bytes, from_be_bytes}
 use Rattle.std.proofs.lemmas.Nat.{from_be_bytes-to_be_bytes_2, from_be_bytes-to_be_bytes_4}
@@ -9,7 +9,7 @@ use Rattle.std.proofs.lemmas.List.{same_lists, length-map, get_or-map, get_or-ap
 use Rattle.std.proofs.lemmas.List.FromFn.{length-range_with_len, get_or-range_with_len}
 use Rattle.std.proofs.lemmas.List.Sums.{list_all-from_AllPass}
 use Rattle.s2_mode.specs.Shape.{Shape, IsShape, shape_of, code_bits}
-use Rattle.s2_bits.specs.Bits.{bit_at, bit_of_bytes}
+use Rattle.s2_bits.specs.Bits.{bit_of_bytes}
 use Rattle.s2_matrix.specs.Total.{upto}
 use Rattle.s2_rows.specs.declared.limits.TheConstants.{MOST_SOFT}
 use Rattle.s2_check.specs.declared.limits.TheConstants.{MOST_SCALE, MOST_SHARES}

@@ -1,7 +1,7 @@
 -- Certificate files, version 1: what is accepted, and the first refusal of what is not.
 -- 53 32 4D 4C 01; group, groups, q and scale in two bytes each; the count of shares in four; a byte for each soft value;
 -- the word's bits, padded with zeros to a byte; four bytes for each share. Big endian, two's complement.
-use Rattle.std.specs.Prelude.{◌≡◌, ℕ, ◌+◌, ◌-◌, ◌*◌, ◌/◌, ◌≤◌, ◌==◌, ◌||◌, ◌&&◌, not, nat_le, int_lt, Bool, true, if◌then◌else◌, List, [], ◌∷◌, length, map, get_or, slice_range, Result, Ok, Err, ℤ, pos, neg_ℤ}
+use Rattle.std.specs.Prelude.{◌≡◌, ℕ, ◌+◌, ◌-◌, ◌*◌, ◌/◌, ◌≤◌, ◌==◌, ◌||◌, ◌&&◌, not, nat_le, Bool, true, if◌then◌else◌, List, [], ◌∷◌, length, map, get_or, slice_range, Result, Ok, Err, ℤ}
 use Rattle.std.specs.List.{list_all, range_with_len}
 use Rattle.std.specs.Int.{w8, w16, w32, cast_signed, from_be_bytes}
 use Rattle.s2_mode.specs.Shape.{Shape, IsShape, shape_of, code_bits}
