@@ -67,23 +67,30 @@ module _ {F : Type 0} (nil one : F) (add mul : F → F → F) (inv : F → F) (L
             ∙ ap (add (evaluate (take j f) x)) (sym (ap (λ c. mul c (power x j)) (past f j h) ∙ zero-mul nil one add mul inv L (power x j)))
       ]
 
-  -- the terms before j are summed and moved on
-  pub record AreAdvanced (a : F) (f : List F) (x : F) (j : ℕ) (sum : F) (terms : List F) : Type 0 where
-    pub summed : sum ≡ P.eval nil one add mul (take j f) x
+  -- one term more is summed
+  pub summed_step : (f : List F) (x : F) (j : ℕ) (sum term next : F) (terms : List F)
+      → T.AreTerms nil one add mul f x terms → sum ≡ P.eval nil one add mul (take j f) x → term ≡ get_or terms j nil → next ≡ add sum term
+      → next ≡ P.eval nil one add mul (take (j + 1) f) x
+  summed_step f x j sum term next terms A summed et en = en ∙ ap₂ add summed (et ∙ A.each j) ∙ sym (eval-next f x j)
+
+  pub summed_end : (f : List F) (x : F) (j : ℕ) (sum : F) → length f ≤ j → sum ≡ P.eval nil one add mul (take j f) x → sum ≡ P.eval nil one add mul f x
+  summed_end f x j sum hf summed = summed ∙ ap (λ u. evaluate u x) (take_all j f hf)
+
+  -- the terms before j are moved on
+  pub record AreMoved (a : F) (f : List F) (x : F) (j : ℕ) (terms : List F) : Type 0 where
     pub done : (k : ℕ) → k < j → get_or terms k nil ≡ mul (get_or f k nil) (P.pow nil one add mul (mul a x) k)
     pub left : (k : ℕ) → j ≤ k → get_or terms k nil ≡ mul (get_or f k nil) (P.pow nil one add mul x k)
 
-  pub advanced_start : (a : F) (f : List F) (x : F) (terms : List F) → T.AreTerms nil one add mul f x terms → AreAdvanced a f x 0 nil terms
-  advanced_start a f x terms h = record {
-    summed = refl;
+  pub moved_start : (a : F) (f : List F) (x : F) (terms : List F) → T.AreTerms nil one add mul f x terms → AreMoved a f x 0 terms
+  moved_start a f x terms h = record {
     done = λ k hk. absurd (omega arith);
     left = λ k hk. h.each k;
   }
 
-  pub advanced_step : (a : F) (f : List F) (x : F) (j : ℕ) (sum term next moved : F) (terms : List F) → j < length terms
-      → AreAdvanced a f x j sum terms → term ≡ get_or terms j nil → next ≡ add sum term
-      → moved ≡ mul (P.pow nil one add mul a j) term → AreAdvanced a f x (j + 1) next (set terms j moved)
-  advanced_step a f x j sum term next moved terms h A et en em =
+  pub moved_step : (a : F) (f : List F) (x : F) (j : ℕ) (term moved : F) (terms : List F) → j < length terms
+      → AreMoved a f x j terms → term ≡ get_or terms j nil
+      → moved ≡ mul (P.pow nil one add mul a j) term → AreMoved a f x (j + 1) (set terms j moved)
+  moved_step a f x j term moved terms h A et em =
       let here : term ≡ mul (get_or f j nil) (power x j) = et ∙ A.left j (omega arith) in
       let at : moved ≡ mul (get_or f j nil) (power (mul a x) j) =
       em ∙ ap (mul (power a j)) here
@@ -92,19 +99,15 @@ module _ {F : Type 0} (nil one : F) (add mul : F → F → F) (inv : F → F) (L
       ∙ mul_assoc (get_or f j nil) (power a j) (power x j)
       ∙ ap (mul (get_or f j nil)) (sym (pow-mul nil one add mul inv L a x j)) in
       record {
-        summed = en ∙ ap₂ add A.summed here ∙ sym (eval-next f x j);
         done = below_more _ _
             (λ k hk. let ne : k ≢ j = omega arith in rw get_or-set_other (A.done k hk))
             (rw get_or-set_same at);
         left = λ k hk. let ne : k ≢ j = omega arith in rw get_or-set_other (A.left k (omega arith));
       }
 
-  pub advanced_end : (a : F) (f : List F) (x : F) (j : ℕ) (sum : F) (terms : List F) → length f ≤ j → length terms ≤ j
-      → AreAdvanced a f x j sum terms → (sum ≡ P.eval nil one add mul f x) × T.AreTerms nil one add mul f (mul a x) terms
-  advanced_end a f x j sum terms hf ht A = (
-    A.summed ∙ ap (λ u. evaluate u x) (take_all j f hf),
-    record { each = λ k. every k },
-  )
+  pub moved_end : (a : F) (f : List F) (x : F) (j : ℕ) (terms : List F) → length f ≤ j → length terms ≤ j
+      → AreMoved a f x j terms → T.AreTerms nil one add mul f (mul a x) terms
+  moved_end a f x j terms hf ht A = record { each = λ k. every k }
     where
       every : (k : ℕ) → get_or terms k nil ≡ mul (get_or f k nil) (power (mul a x) k)
       every k =

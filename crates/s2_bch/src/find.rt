@@ -152,20 +152,41 @@ fn put_terms<F: Field>(filter: &[F], terms: &mut [F])
     }
 }
 
-/// The sum of a filter's terms at x, which is its value there. The terms become those at alpha x.
+/// The sum of a filter's terms at x: its value there.
+#[inline(always)]
+fn sum_of_terms<F: Field>(terms: &[F]) -> F
+    requires { length terms.now ≡ 16 }
+    ensures { (f : List F) (x : F) → length f ≤ 16 → AreTerms F.zero F.one F.sum F.product f x terms.now → result ≡ eval F.zero F.one F.sum F.product f x }
+{
+    let mut sum = F::zero();
+    for j in 0..16usize {
+        sum = sum.add(terms[j]);
+    }
+    sum
+}
+
+/// Makes the terms at x those at alpha x. Nothing but this is in the loop, so that it goes by lanes.
+#[inline(always)]
+fn move_terms<F: Field>(terms: &mut [F])
+    requires { length terms.old ≡ 16 }
+    ensures { (f : List F) (x : F) → length f ≤ 16 → AreTerms F.zero F.one F.sum F.product f x terms.old
+        → AreTerms F.zero F.one F.sum F.product f (F.product F.alpha x) terms.new }
+{
+    for j in 0..16usize {
+        terms[j] = terms[j].times_power(j as u32);
+    }
+}
+
+/// A filter's value at x, of its terms, which become those at alpha x.
 #[inline(always)]
 fn advance<F: Field>(terms: &mut [F]) -> F
     requires { length terms.old ≡ 16 }
     ensures { (f : List F) (x : F) → length f ≤ 16 → AreTerms F.zero F.one F.sum F.product f x terms.old
         → (result ≡ eval F.zero F.one F.sum F.product f x) × AreTerms F.zero F.one F.sum F.product f (F.product F.alpha x) terms.new }
 {
-    let mut sum = F::zero();
-    for j in 0..16usize {
-        let term = terms[j];
-        sum = sum.add(term);
-        terms[j] = term.times_power(j as u32);
-    }
-    sum
+    let value = sum_of_terms(terms);
+    move_terms(terms);
+    value
 }
 
 /// Flips the word where the power of alpha of the place, counted from the end, is a root, and

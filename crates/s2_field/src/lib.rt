@@ -13,6 +13,7 @@
 //! ```
 #![tactic(auto)]
 
+mod factors;
 mod field;
 mod gf14;
 mod gf16;

@@ -1,12 +1,12 @@
 //! Codewords to payload symbols (EN 302 307-1, 5.4).
-ghost use Rattle.std.specs.Prelude.{◌≡◌, ℕ, ◌+◌, ◌*◌, ◌<◌, false, length};
+ghost use Rattle.std.specs.Prelude.{◌≡◌, ℕ, ◌+◌, ◌*◌, ◌<◌, false, pos, negsuc, length, if◌then◌else◌};
 ghost use Rattle.s2_mode.specs.Mode.{is_qpsk, n_of, slots_of};
 ghost use Rattle.s2_mode.specs.Symbols.{symbol_at};
 ghost use Rattle.s2_bits.specs.Bits.{bit_at, number};
 ghost use Rattle.s2_map.specs.Mapping.{qpsk_points, psk_points, payload_symbol, payload_of};
 
 use crate::interleaver::PSK_3_5;
-use crate::points::{PSK, QPSK};
+use crate::points::PSK;
 use s2_bits::Bits;
 use s2_mode::{Mode, Symbol};
 
@@ -24,13 +24,24 @@ pub fn map_into(mode: Mode, word: &Bits, payload: &mut [Symbol])
     }
 }
 
-/// QPSK: each two bits are a symbol.
+/// A component of QPSK: a one is negative.
+#[inline(always)]
+fn component(bit: bool) -> i16
+    ensures { result ≡ if bit then negsuc 699 else pos 700 }
+{
+    if bit { -700 } else { 700 }
+}
+
+/// QPSK: each two bits are a symbol, and each bit a component.
 fn map_pairs(bits: &[bool], payload: &mut [Symbol])
     requires { length bits.now ≡ 2 * length payload.old }
     ensures { (s : ℕ) → s < length payload.old → symbol_at payload.new s ≡ symbol_at qpsk_points (2 * number (bit_at bits.now (2 * s)) + number (bit_at bits.now (2 * s + 1))) }
 {
     for s in 0..payload.len() {
-        payload[s] = QPSK[2 * usize::from(bits[2 * s]) + usize::from(bits[2 * s + 1])];
+        payload[s] = Symbol {
+            i: component(bits[2 * s]),
+            q: component(bits[2 * s + 1]),
+        };
     }
 }
 

@@ -7,6 +7,7 @@ ghost use Rattle.s2_field.specs.Inverse.{norm, inverse as number_inverse};
 ghost use Rattle.s2_field.specs.Gf14.{zero, one, sum, product, inverse, alpha, number, laws, order, numbered};
 
 use super::Gf14;
+use crate::factors::power_of_two;
 use crate::Field;
 
 fn shift(a: u16) -> u16
@@ -57,14 +58,15 @@ fn reduce(wide: u32) -> u16
     ((wide % 16384) as u16) ^ (fold(carried) % 16384) ^ fold(again)
 }
 
-/// x^exponent a.
+/// x^exponent a, by a product, which goes for several elements at once where a shift by a number of
+/// places of its own does not.
 fn raise(a: u16, exponent: u32) -> u16
     requires few { exponent ≤ 15 }
     requires a_below { a < 2 ^ 14 }
     ensures value { result ≡ iterate 14 43 exponent a }
     ensures below { result < 2 ^ 14 }
 {
-    reduce(u32::from(a) << exponent)
+    reduce(u32::from(a).wrapping_mul(power_of_two(exponent)))
 }
 
 fn invert(a: u16) -> u16
