@@ -7,8 +7,8 @@ ghost use Rattle.s2_field.specs.Inverse.{norm, inverse as number_inverse};
 ghost use Rattle.s2_field.specs.Gf14.{zero, one, sum, product, inverse, alpha, number, laws, order, numbered};
 
 use super::Gf14;
-use crate::factors::power_of_two;
 use crate::Field;
+use crate::factors::power_of_two;
 
 fn shift(a: u16) -> u16
     ensures value { result ≡ times_x 14 43 a }

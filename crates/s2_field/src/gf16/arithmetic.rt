@@ -7,8 +7,8 @@ ghost use Rattle.s2_field.specs.Inverse.{norm, inverse as number_inverse};
 ghost use Rattle.s2_field.specs.Gf16.{zero, one, sum, product, inverse, alpha, number, laws, order, numbered};
 
 use super::Gf16;
-use crate::factors::power_of_two;
 use crate::Field;
+use crate::factors::power_of_two;
 
 fn shift(a: u16) -> u16
     ensures { result ≡ times_x 16 45 a }
