@@ -1,4 +1,5 @@
 pub mod Counts
+pub mod Pieces
 pub mod Repeats
 pub mod Symbols
 pub mod Shape
