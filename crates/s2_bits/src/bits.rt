@@ -23,7 +23,7 @@ impl Model for Bits {
 }
 
 impl Bits {
-    /// So many zeros.
+    /// A list of `len` zeros. `AllocError` where memory is refused.
     pub fn zeroed(alloc: Global, len: usize) -> Result<Bits, AllocError>
         ensures { IfOk result (λ b. b ≡ replicate len false) }
     {
@@ -31,7 +31,8 @@ impl Bits {
         Ok(Bits { truths })
     }
 
-    /// The first `len` bits of these bytes, each byte's highest bit first.
+    /// The first `len` bits of these bytes, each byte's highest bit first; there are at least `len`
+    /// bits in them. `AllocError` where memory is refused.
     pub fn from_bytes(alloc: Global, bytes: &[u8], len: usize) -> Result<Bits, AllocError>
         requires { len ≤ 8 * length bytes.now }
         ensures { IfOk result (λ b. (length b ≡ len) × ((k : ℕ) → k < len → bit_at b k ≡ bit_of_bytes bytes.now k)) }
@@ -64,7 +65,7 @@ impl Bits {
         &self.truths
     }
 
-    /// The truth values as a slice to write to.
+    /// The truth values as a slice to write to. The list keeps its length.
     pub fn truths_mut(&mut self) -> &mut [bool]
         ensures* writes_back { sem 𝓛 (LendsTruths self.entry result) }
         ensures value { result.now ≡ self.old }
@@ -72,7 +73,7 @@ impl Bits {
         &mut self.truths
     }
 
-    /// Bit i.
+    /// Bit i, counted from 0, of those below the length.
     pub fn get(&self, i: usize) -> bool
         requires { i < length self.now }
         ensures { result ≡ bit_at self.now i }
@@ -80,7 +81,7 @@ impl Bits {
         self.truths[i]
     }
 
-    /// Makes bit i this one.
+    /// Makes bit i, counted from 0, this one. All others stay.
     pub fn set(&mut self, i: usize, bit: bool)
         requires { i < length self.old }
         ensures { self.new ≡ slice_set self.old i bit }
@@ -103,7 +104,8 @@ impl Bits {
         bools::distance(&self.truths, &other.truths)
     }
 
-    /// Adds the other's first `len` bits to the first `len` bits, and leaves the rest.
+    /// Adds the other's first `len` bits modulo 2 to the first `len` bits, and leaves the rest. Both
+    /// lists have at least `len` bits.
     pub fn xor_prefix(&mut self, other: &Bits, len: usize)
         requires mine { len ≤ length self.old }
         requires theirs { len ≤ length other.now }
@@ -112,7 +114,8 @@ impl Bits {
         bools::xor_first(&mut self.truths, &other.truths, len);
     }
 
-    /// Copies the other's first `len` bits over the first `len` bits, and leaves the rest.
+    /// Copies the other's first `len` bits over the first `len` bits, and leaves the rest. Both lists
+    /// have at least `len` bits.
     pub fn copy_prefix(&mut self, other: &Bits, len: usize)
         requires mine { len ≤ length self.old }
         requires theirs { len ≤ length other.now }
