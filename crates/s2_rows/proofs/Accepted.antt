@@ -4,8 +4,7 @@ use Rattle.std.specs.List.{list_any}
 use Rattle.std.proofs.lemmas.List.Elements.{All-push}
 use Rattle.std.proofs.lemmas.List.Folds.{list_any_at}
 use Rattle.std.proofs.lemmas.List.Quantifiers.{all_pairs_push}
-use Rattle.std.proofs.lemmas.Bool.{eq-eqb, eqb-true, cond-false}
-use borrow.Author.Tests.{ltb-true}
+use Rattle.std.proofs.lemmas.Bool.{eq-eqb, eqb-true, cond-false, ltb-true}
 use Rattle.s2_rows.proofs.RowLines.{passes_over}
 use Rattle.s2_mode.specs.Shape.{Shape, IsShape, check_count}
 use Rattle.s2_rows.specs.Numbers.{natural_of}

@@ -52,12 +52,12 @@ digit_more n ds h s = record {
 pub decimal_says : (n : ℕ) → n < 2 ^ 64 → Says n (decimal n)
 decimal_says n h = decimal_by_steps Says one_digit digit_more n h
 
+pub natural_of_says : (ds : List ℕ) (n : ℕ) → Says n ds → natural_of ds ≡ Some n
+natural_of_says [] n s = absurd (omega (arith, s.some))
+natural_of_says (d ∷ ds) n s = s.value
+
 pub natural_of_decimal : (n : ℕ) → n < 2 ^ 64 → natural_of (decimal n) ≡ Some n
-natural_of_decimal n h = of (decimal n) (decimal_says n h)
-  where
-    of : (ds : List ℕ) → Says n ds → natural_of ds ≡ Some n
-    of [] s = absurd (omega (arith, s.some))
-    of (d ∷ ds) s = s.value
+natural_of_decimal n h = natural_of_says (decimal n) n (decimal_says n h)
 
 -- no byte passes the test
 abbrev pub Lacks : (ℕ → Bool) → List ℕ → Type 0

@@ -12,13 +12,13 @@ use Rattle.s2_rows.proofs.RowLines.{one_row}
 use Rattle.s2_rows.proofs.Pieces.{word_first}
 use Rattle.s2_rows.specs.Numbers.{natural_of}
 use Rattle.s2_rows.specs.Readings.{ok_cons}
-use Rattle.s2_rows.specs.Rows.{Rows, AreAddresses, IsRows, row_of}
-use Rattle.s2_rows.specs.RowFiles.{address_of, with_address, with_word, row_from, row_in, rows_of, reading}
-use Rattle.s2_rows.specs.RowTexts.{row_text, rows_text}
+use Rattle.s2_rows.specs.Rows.{AreAddresses, row_of}
+use Rattle.s2_rows.specs.RowFiles.{address_of, with_address, with_word, row_from, row_in, rows_of}
+use Rattle.s2_rows.specs.RowTexts.{row_text, rows_text, ReadBackLaw}
 use Rattle.s2_rows.specs.Text.{is_space, is_line_feed, in_front, pieces_of, words_of, lines_of, is_passed_over}
 
 -- a piece ends at its separator
-piece_is_cut : (p : ℕ → Bool) (piece : List ℕ) (s : ℕ) (rest : List ℕ) → Lacks p piece → p s ≡ true → pieces_of p (piece ++ s ∷ rest) ≡ piece ∷ pieces_of p rest
+pub piece_is_cut : (p : ℕ → Bool) (piece : List ℕ) (s : ℕ) (rest : List ℕ) → Lacks p piece → p s ≡ true → pieces_of p (piece ++ s ∷ rest) ≡ piece ∷ pieces_of p rest
 unfolding pieces_of
 piece_is_cut p [] s rest lacks h = cond-true _ _ _ h
 piece_is_cut p (b ∷ piece) s rest lacks h = cond-false _ _ _ lacks.0 ∙ ap (in_front b) (piece_is_cut p piece s rest lacks.1 h)
@@ -57,12 +57,12 @@ line_is_cut row rest some few =
     ap (λ t. lines_of (t ++ rest)) (body_then_feed row some) ∙ ap lines_of (append_assoc (row_body row) (10 ∷ []) rest) ∙ piece_is_cut is_line_feed (row_body row) 10 rest (body_in_line row few) refl
 
 -- a piece with no separator is the last
-piece_is_last : (p : ℕ → Bool) (b : ℕ) (piece : List ℕ) → Lacks p (b ∷ piece) → pieces_of p (b ∷ piece) ≡ (b ∷ piece) ∷ []
+pub piece_is_last : (p : ℕ → Bool) (b : ℕ) (piece : List ℕ) → Lacks p (b ∷ piece) → pieces_of p (b ∷ piece) ≡ (b ∷ piece) ∷ []
 unfolding pieces_of
 piece_is_last p b [] lacks = cond-false _ _ _ lacks.0
 piece_is_last p b (c ∷ piece) lacks = cond-false _ _ _ lacks.0 ∙ ap (in_front b) (piece_is_last p c piece lacks.1)
 
-one_word : (ds : List ℕ) → 0 < length ds → Lacks is_space ds → words_of ds ≡ ds ∷ []
+pub one_word : (ds : List ℕ) → 0 < length ds → Lacks is_space ds → words_of ds ≡ ds ∷ []
 unfolding pieces_of
 one_word [] h lacks = absurd (omega arith)
 one_word (d ∷ ds) h lacks = word_first (d ∷ ds) (d ∷ ds) [] (piece_is_last is_space d ds lacks) (omega arith)
@@ -136,7 +136,7 @@ rows_are_read checks n (row ∷ rows) small each =
     ∙ ap (λ k. ok_cons (Ok row) (rows_of checks k (n + 1) (lines_of (rows_text rows)))) left
     ∙ ap (ok_cons (Ok row)) others
 
-pub written_is_read : (r : Rows) → IsRows r → reading (rows_text r.rows) r.shape ≡ Ok r.rows
+pub written_is_read : ReadBackLaw
 written_is_read r is =
     let each : (g : ℕ) → g < length r.rows → IsRow (check_count r.shape) (row_of r g) = λ g h.
     let below : g < r.shape.groups = omega (arith, is.long) in

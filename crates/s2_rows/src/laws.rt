@@ -1,13 +1,14 @@
-//! Laws of the definitions.
-ghost use Rattle.std.specs.Prelude.{◌≡◌, Ok};
-ghost use Rattle.s2_rows.specs.RowFiles.{reading};
-ghost use Rattle.s2_rows.specs.RowTexts.{rows_text};
+//! Laws of the definitions, each the contract of a function that does nothing.
+ghost use Rattle.s2_rows.specs.RowTexts.{ReadBackLaw};
+ghost use Rattle.s2_rows.specs.ValueTexts.{ValueTextLaw};
 
-use crate::rows::Rows;
+/// The text of rows is accepted, as the same rows.
+pub fn read_back()
+    ensures { ReadBackLaw }
+{}
 
-/// What `write_rows` writes, `read_rows` accepts as the same rows.
-pub fn written_rows_are_read_again(rows: &Rows)
-    ensures { reading (rows_text rows.now.rows) rows.now.shape ≡ Ok rows.now.rows }
-{
-    let _shape = rows.shape();
-}
+/// A text of numbers from -63 to 63, with leading zeros or without, between spaces, tabs and line
+/// ends, is read as these numbers.
+pub fn value_texts()
+    ensures { ValueTextLaw }
+{}

@@ -19,6 +19,7 @@ pub enum MakeFault {
     /// A row has one to 24 addresses, and at most n - k.
     #[error("no such weight")]
     BadWeight,
+    /// A growth was refused.
     #[error("no memory")]
     NoMemory,
 }
@@ -43,7 +44,7 @@ fn free_from(row: &[u32], checks: u32, x: u32) -> u32
 
 /// A row of so many addresses, each drawn in its turn.
 fn draw_row(words: &mut Pcg32, checks: u32, weight: usize) -> Row
-    requires few { weight ≤ 24 }
+    requires few { weight ≤ MOST_ADDRESSES }
     requires free { weight ≤ checks }
     ensures { (result.items, words.new) ≡ drawn_row checks weight [] words.old }
 {
@@ -79,8 +80,9 @@ pub fn draw_rows<A: Allocator>(
 }
 
 /// The rows that a shape, a weight and a seed determine: one `Pcg32` of the seed, and row by row
-/// so many addresses, each the next word modulo n - k; an address that is in its row already
-/// moves up by one, wrapping at n - k, until it is free.
+/// `weight` addresses, each the next word modulo n - k; an address that is in its row already
+/// moves up by one, wrapping at n - k, until it is free. `BadWeight` unless the weight is 1 to 24
+/// and at most n - k; `NoMemory` only for a weight that is such.
 pub fn make_rows(alloc: Global, shape: Shape, weight: usize, seed: u64) -> Result<Rows, MakeFault>
     ensures made { Makes (λ r. r.rows) result shape weight seed }
     ensures shape { IfOk result (λ r. r.shape ≡ shape) }

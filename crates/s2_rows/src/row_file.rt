@@ -1,6 +1,7 @@
 //! Row files.
 ghost use Rattle.std.specs.Prelude.{◌≡◌, ◌≢◌, ◌+◌, ◌-◌, ◌<◌, ◌≤◌, ◌∷◌, ℕ, List, Ok, Err, map, vec_len, vec_capacity, IfOk, MatchResult};
 ghost use Rattle.s2_mode.specs.Shape.{IsShape, check_count};
+ghost use Rattle.s2_mode.specs.declared.shape.TheConstants.{MOST_BITS};
 ghost use Rattle.s2_rows.specs.Numbers.{natural_of};
 ghost use Rattle.s2_rows.specs.Readings.{after, GoesOn};
 ghost use Rattle.s2_rows.specs.RowFiles.{address_of, with_word, row_in, rows_of, reading, Answers};
@@ -34,7 +35,7 @@ pub enum RowFault {
 
 /// The address that a word says.
 fn address(checks: usize, line: u64, word: &[u8]) -> Result<u32, RowFault>
-    requires { checks ≤ 64800 }
+    requires { checks ≤ MOST_BITS }
     ensures { result ≡ address_of checks line (natural_of word.now) }
 {
     match natural(word) {
@@ -46,7 +47,7 @@ fn address(checks: usize, line: u64, word: &[u8]) -> Result<u32, RowFault>
 
 /// Adds the address that a word says to its row.
 fn add_word(row: &mut Row, checks: usize, line: u64, word: &[u8]) -> Result<(), RowFault>
-    requires { checks ≤ 64800 }
+    requires { checks ≤ MOST_BITS }
     ensures read { MatchResult result
         (λ _. with_word checks line row.old.items word.now ≡ Ok row.new.items)
         (λ e. with_word checks line row.old.items word.now ≡ Err e) }
@@ -65,7 +66,7 @@ fn add_word(row: &mut Row, checks: usize, line: u64, word: &[u8]) -> Result<(), 
 
 /// The row of a line.
 fn read_row(checks: usize, number: u64, line: &[u8]) -> Result<Row, RowFault>
-    requires { checks ≤ 64800 }
+    requires { checks ≤ MOST_BITS }
     ensures read { MatchResult result
         (λ row. row_in checks number (words_of line.now) ≡ Ok row.items)
         (λ e. row_in checks number (words_of line.now) ≡ Err e) }
@@ -134,9 +135,10 @@ pub fn read_lines<A: Allocator>(
     Ok(rows)
 }
 
-/// The rows that a text holds for a shape, or its first fault. Each line that does not say
-/// nothing is the row of the next group of information bits; its words are decimal addresses
-/// below n - k.
+/// The rows that a text holds for a shape, or its first fault in reading order. A line that has no
+/// words, or whose first word begins with #, is passed over; each other line is the row of the next
+/// group of information bits. Its words, between spaces, tabs and CR, are decimal addresses: 1 to
+/// 24 of them, below n - k, each once. `NoMemory` comes before all other faults.
 pub fn read_rows(alloc: Global, text: &[u8], shape: Shape) -> Result<Rows, RowFault>
     ensures rows { Answers (λ r. r.rows) result (reading text.now shape) }
     ensures shape { IfOk result (λ r. r.shape ≡ shape) }

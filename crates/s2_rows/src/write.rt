@@ -1,7 +1,8 @@
 //! Row files written.
-ghost use Rattle.std.specs.Prelude.{◌≡◌, ◌-◌, ◌^◌, ◌<◌, OnOk};
+ghost use Rattle.std.specs.Prelude.{◌≡◌, ◌-◌, ◌^◌, ◌<◌, Ok, OnOk};
 ghost use Rattle.std.specs.Io.KnownBytes.{Appends};
 ghost use Rattle.s2_mode.specs.Counts.{CountsFault};
+ghost use Rattle.s2_rows.specs.RowFiles.{reading};
 ghost use Rattle.s2_rows.specs.RowTexts.{after_address, row_text, rows_text};
 
 use crate::rows::Rows;
@@ -29,10 +30,15 @@ fn write_row<W: CountedWrite>(row: &[u32], out: &mut W) -> Result<(), WriteFault
     Ok(())
 }
 
-/// Writes each row on its line: its addresses in their order, one space between them.
+/// Writes each row on its line: its addresses in their order, one space between them and LF behind
+/// the last. [`read_rows`] accepts this text as the same rows. `WriteFault` where a write fails;
+/// the writer may then hold a part of the text.
+///
+/// [`read_rows`]: crate::read_rows
 pub fn write_rows<W: CountedWrite>(rows: &Rows, out: &mut W) -> Result<(), WriteFault>
     requires { W.count out.old < 2 ^ 64 - 1 }
     ensures lines { OnOk result (Appends (W.contents out.old) (W.contents out.new) (rows_text rows.now.rows)) }
+    ensures read_back { OnOk result (reading (rows_text rows.now.rows) rows.now.shape ≡ Ok rows.now.rows) }
     ensures cause { CountsFault (W.count out.old) (W.count out.new) result }
 {
     for g in 0..rows.shape().groups() {

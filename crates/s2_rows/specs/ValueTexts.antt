@@ -1,0 +1,37 @@
+-- The text of values, in the words of the format: decimal numbers between separators, and no line that is passed over.
+use Rattle.std.specs.Prelude.{◌≡◌, ℕ, ◌≤◌, ◌||◌, IsTrue, Bool, List, [], ◌∷◌, ◌++◌, length, replicate, ⊤, ℤ, pos, neg_ℤ, Ok, decimal}
+use Rattle.s2_rows.specs.declared.limits.TheConstants.{MOST_SOFT}
+use Rattle.s2_rows.specs.Text.{is_space, is_line_feed}
+use Rattle.s2_rows.specs.Values.{reading}
+
+-- space, tab, CR and LF separate numbers
+abbrev pub is_separator : ℕ → Bool
+is_separator b = is_space b || is_line_feed b
+
+abbrev pub AreSeparators : List ℕ → Type 0
+AreSeparators [] = ⊤
+AreSeparators (b ∷ bytes) = IsTrue (is_separator b) × AreSeparators bytes
+
+-- a number ends at a separator or at the end of the text
+abbrev pub EndsNumber : List ℕ → Type 0
+EndsNumber [] = ⊤
+EndsNumber (b ∷ bytes) = IsTrue (is_separator b)
+
+-- some zeros, then the digits of a number
+abbrev pub digits_of : ℕ → ℕ → List ℕ
+digits_of zeros n = replicate zeros 48 ++ decimal n
+
+-- the digits of a number of at most 63, leading zeros allowed, and a minus before them allowed
+pub data IsWritten (word : List ℕ) (v : ℤ) : Type 0 where
+  plain : (zeros n : ℕ) → n ≤ MOST_SOFT → word ≡ digits_of zeros n → v ≡ pos n → IsWritten word v
+  minus : (zeros n : ℕ) → n ≤ MOST_SOFT → word ≡ 45 ∷ digits_of zeros n → v ≡ neg_ℤ (pos n) → IsWritten word v
+
+-- the values, each written, in their order
+abbrev pub IsTextOf : List ℕ → List ℤ → Type 0
+IsTextOf text [] = AreSeparators text
+IsTextOf text (v ∷ values) =
+    (gap : List ℕ) × (word : List ℕ) × (rest : List ℕ) × (text ≡ gap ++ (word ++ rest)) × AreSeparators gap × IsWritten word v × EndsNumber rest × IsTextOf rest values
+
+-- such a text is read as its values
+abbrev pub ValueTextLaw : Type 0
+ValueTextLaw = (values : List ℤ) (text : List ℕ) → IsTextOf text values → reading text (length values) ≡ Ok values
