@@ -1,6 +1,7 @@
 //! The flat lists of a matrix.
 ghost use Rattle.std.specs.Prelude.{◌≡◌, ◌<◌, ◌≤◌, ◌^◌, IfOk, map, length, sum_by};
 ghost use Rattle.s2_rows.specs.Rows.{row_of};
+ghost use Rattle.s2_rows.specs.declared.limits.TheConstants.{MOST_ADDRESSES};
 ghost use Rattle.s2_matrix.specs.Total.{upto};
 ghost use Rattle.s2_matrix.specs.Code.{code_of, members, checks_of, edges_at};
 ghost use Rattle.s2_matrix.specs.Joined.{joined};
@@ -15,7 +16,7 @@ use std::alloc::{AllocError, Global};
 
 /// A copy of a row.
 fn copy_row(row: &[u32]) -> ArrayVec<u32, 24>
-    requires { length row.now ≤ 24 }
+    requires { length row.now ≤ MOST_ADDRESSES }
     ensures { result.items ≡ row.now }
 {
     let mut copy = ArrayVec::new();

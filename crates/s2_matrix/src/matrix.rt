@@ -38,7 +38,8 @@ impl Model for Matrix {
 }
 
 impl Matrix {
-    /// The matrix of these rows. It fails only where memory is refused, and then holds none.
+    /// The matrix of these rows: their n - k checks over n bits. `AllocError` only where memory is
+    /// refused, and then none is held.
     pub fn build(alloc: Global, rows: &Rows) -> Result<Matrix, AllocError>
         ensures { IfOk result (λ m. m ≡ rows.now) }
     {
@@ -63,7 +64,8 @@ impl Matrix {
         self.shape
     }
 
-    /// The addresses of a group's first bit, in the order of the row file.
+    /// The addresses of a group's first bit, in the order of the row file: 1 to 24 of them, each
+    /// below n - k. Groups count from 0.
     pub fn addresses(&self, group: usize) -> &[u32]
         requires { group < self.now.shape.groups }
         ensures are { result.now ≡ row_of self.now group }
@@ -89,7 +91,7 @@ impl Matrix {
         self.members.len()
     }
 
-    /// How many edges there are, the pairs of a check and a member.
+    /// How many edges there are, the pairs of a check and a member: at most 1,555,200.
     pub fn edges(&self) -> usize
         ensures is { result ≡ first_edge (code_of self.now) (code_of self.now).checks }
         ensures few { result ≤ 1555200 }
@@ -97,7 +99,8 @@ impl Matrix {
         self.members.all().len()
     }
 
-    /// The number of the first edge of this check: how many edges the checks before it have.
+    /// The number of the first edge of this check: how many edges the checks before it have. Checks
+    /// and edges count from 0; for n - k it is the number of all edges.
     pub fn first_edge(&self, check: usize) -> usize
         requires { check ≤ (code_of self.now).checks }
         ensures { result ≡ first_edge (code_of self.now) check }
@@ -105,7 +108,8 @@ impl Matrix {
         self.members.first(check)
     }
 
-    /// The bits of a check, rising.
+    /// The members of a check: the positions in a codeword, from 0 to n - 1, of the bits that it adds
+    /// up, rising. Checks count from 0 to n - k - 1.
     pub fn members_at(&self, check: usize) -> &[u32]
         requires { check < (code_of self.now).checks }
         ensures are { result.now ≡ members (code_of self.now) check }
@@ -116,7 +120,8 @@ impl Matrix {
         self.members.row(check)
     }
 
-    /// The numbers of the edges of a bit, in the order of its checks: at most 24.
+    /// The numbers of the edges of a bit, in the order of its checks: at most 24. Bits count from 0
+    /// to n - 1.
     pub fn edges_at(&self, bit: usize) -> &[u32]
         requires { bit < (code_of self.now).bits }
         ensures are { result.now ≡ edges_at (code_of self.now) bit }
@@ -126,7 +131,7 @@ impl Matrix {
         self.edges.row(bit)
     }
 
-    /// The checks of a bit, rising: at most 24.
+    /// The checks of a bit, from 0 to n - k - 1, rising: at most 24. Bits count from 0 to n - 1.
     pub fn checks_at(&self, bit: usize) -> &[u32]
         requires { bit < (code_of self.now).bits }
         ensures are { result.now ≡ checks_of (code_of self.now) bit }
@@ -146,7 +151,7 @@ impl Matrix {
         self.members_at(check).len()
     }
 
-    /// The member of a check at a place, counted from 0.
+    /// The member of a check at a place below its degree, counted from 0: a position in a codeword.
     pub fn members(&self, check: usize, at: usize) -> usize
         requires check { check < (code_of self.now).checks }
         requires at { at < length (members (code_of self.now) check) }
@@ -156,7 +161,7 @@ impl Matrix {
         self.members_at(check)[at] as usize
     }
 
-    /// How many checks a bit has.
+    /// How many checks a bit has: at most 24.
     pub fn bit_degree(&self, bit: usize) -> usize
         requires { bit < (code_of self.now).bits }
         ensures is { result ≡ length (checks_of (code_of self.now) bit) }
@@ -165,7 +170,7 @@ impl Matrix {
         self.checks_at(bit).len()
     }
 
-    /// The check of a bit at a place, counted from 0.
+    /// The check of a bit at a place below its degree, counted from 0.
     pub fn checks_of(&self, bit: usize, at: usize) -> usize
         requires bit { bit < (code_of self.now).bits }
         requires at { at < length (checks_of (code_of self.now) bit) }
@@ -175,7 +180,8 @@ impl Matrix {
         self.checks_at(bit)[at] as usize
     }
 
-    /// The first check with an odd number of ones. `None` exactly for a codeword.
+    /// The first check with an odd number of ones in a word of n bits. `None` exactly for a codeword.
+    /// It takes no memory.
     pub fn odd_check(&self, word: &Bits) -> Option<usize>
         requires { length word.now ≡ (code_of self.now).bits }
         ensures { MatchOption result (IsCodeword (code_of self.now) word.now) (IsOddCheck (code_of self.now) word.now) }
@@ -189,7 +195,7 @@ impl Matrix {
         None
     }
 
-    /// Whether the word satisfies every check, which is to say that it is a codeword.
+    /// Whether a word of n bits satisfies every check, which is to say that it is a codeword.
     pub fn satisfied(&self, word: &Bits) -> bool
         requires { length word.now ≡ (code_of self.now).bits }
         ensures { IsTrue result ↔ IsCodeword (code_of self.now) word.now }
