@@ -12,4 +12,6 @@ pub mod ShareBytes
 pub mod ByteBits
 pub mod ReadBack
 pub mod UnsplitSplits
+pub mod ShapeTests
 mod Examples
+mod Toy

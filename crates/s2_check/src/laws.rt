@@ -1,5 +1,6 @@
 //! Laws of every code, each the contract of a function that does nothing.
 ghost use Rattle.s2_check.specs.CertificateBytes.{ReadBackLaw};
+ghost use Rattle.s2_check.specs.CertificateFiles.{ShapeLaw};
 ghost use Rattle.s2_check.specs.Hard.{UnsplitAccepted, UnsplitLaw};
 ghost use Rattle.s2_check.specs.Split.{WeakDuality};
 
@@ -22,4 +23,9 @@ pub fn unsplit_accepted()
 /// What a view's file holds is accepted, as the same view.
 pub fn read_back()
     ensures { ReadBackLaw }
+{}
+
+/// The test on the numbers of a file's header accepts exactly the shapes.
+pub fn shapes()
+    ensures { ShapeLaw }
 {}

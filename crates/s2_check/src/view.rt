@@ -44,7 +44,9 @@ impl<'a> Model for CertView<'a> {
 }
 
 impl<'a> CertView<'a> {
-    /// The unsplit certificate: scale 1 and no share. It takes no memory.
+    /// The unsplit certificate of n soft values, each from -63 to 63, and a word of n bits, n as the
+    /// matrix has it: scale 1, and a share of 0 for each edge. The checker accepts it where the word
+    /// is the hard decision and a codeword. It takes no memory.
     pub fn unsplit(matrix: &Matrix, soft: &'a [i16], word: &'a Bits) -> CertView<'a>
         requires soft { length soft.now ≡ (code_of matrix.now).bits }
         requires range { All IsSoft soft.now }
@@ -97,6 +99,7 @@ impl<'a> CertView<'a> {
             }
         }
     }
+
     /// The shape of the code.
     pub fn shape(&self) -> Shape
         ensures is { result ≡ self.now.shape }
@@ -138,7 +141,7 @@ impl<'a> CertView<'a> {
         cost(self.soft_values(), self.word())
     }
 
-    /// How many shares.
+    /// How many shares: at most 1,555,200.
     pub fn share_count(&self) -> usize
         ensures is { result ≡ length self.now.shares }
         ensures few { result ≤ 1555200 }
@@ -159,8 +162,10 @@ impl<'a> CertView<'a> {
             Shares::Listed(list) => list[edge],
         }
     }
+
     /// Writes the certificate's file: the very bytes that [`Certificate::read`] accepts as this
-    /// view. They go out a page of 4096 at a time.
+    /// view. They go out a page of 4096 at a time. `WriteFault` where a write fails; the writer may
+    /// then hold a part of the file.
     ///
     /// [`Certificate::read`]: crate::Certificate::read
     pub fn write<W: CountedWrite>(&self, out: &mut W) -> Result<(), WriteFault>

@@ -1,6 +1,7 @@
 //! The parts of a certificate file, written.
 ghost use Rattle.std.specs.Prelude.{◌≡◌, ◌-◌, ◌^◌, ◌<◌, ◌≤◌, OnOk, All, length, map, pos, replicate};
 ghost use Rattle.std.specs.Io.KnownBytes.{Appends, append_known};
+ghost use Rattle.s2_mode.specs.declared.shape.TheConstants.{MOST_BITS};
 ghost use Rattle.s2_mode.specs.Counts.{CountsFault};
 ghost use Rattle.s2_mode.specs.Shape.{IsShape};
 ghost use Rattle.s2_check.specs.Views.{IsSoft};
@@ -62,7 +63,7 @@ pub(crate) fn write_word<W: CountedWrite>(
     word: &Bits,
 ) -> Result<(), WriteFault>
     requires count { W.count out.old < 2 ^ 64 - 1 }
-    requires few { length word.now ≤ 64800 }
+    requires few { length word.now ≤ MOST_BITS }
     ensures bytes { OnOk result (Appends (append_known (W.contents out.old) page.old.items) (append_known (W.contents out.new) page.new.items) (word_bytes word.now)) }
     ensures cause { CountsFault (W.count out.old) (W.count out.new) result }
 {
