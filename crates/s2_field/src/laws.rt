@@ -4,7 +4,7 @@ ghost use Rattle.s2_field.specs.Polynomials.{HasOrder, eval};
 ghost use Rattle.s2_field.specs.Gf14 as gf14;
 ghost use Rattle.s2_field.specs.Gf16 as gf16;
 
-/// In both fields `alpha` has the greatest order that there is: all elements but zero are its
+/// In both fields the order of `alpha` is the number of elements but zero; hence they all are its
 /// powers.
 pub fn order()
     ensures normal { HasOrder gf16.zero gf16.one gf16.sum gf16.product gf16.alpha 65535 }

@@ -2,9 +2,9 @@
 //! over them.
 //!
 //! The BCH encoder and decoder of `s2_bch` stand on this crate. It promises that `add`, `mul` and
-//! `inv` satisfy the laws of a field (the trait's law `laws`), that all elements but zero are
-//! powers of `alpha` (`laws::order`), and that `pow`, `eval` and `degree` are what they are in
-//! any algebra book.
+//! `inv` satisfy the laws of a field (the trait's law `laws`), that `alpha` has as many different
+//! powers as there are elements but zero (`laws::order`), hence all of them, and that `pow`, `eval`
+//! and `degree` are what they are in any algebra book.
 //!
 //! ```
 //! let a = Gf16::alpha();

@@ -1,6 +1,7 @@
 use Rattle.std.proofs.Common.{arith, ap₂, ◌≡◌, ◌∙◌, ◌*◌, ◌%◌, sym, subst, ◌^◌, ◌<◌}
 use Rattle.s2_field.specs.Order.{iterate}
-use Rattle.s2_field.specs.Shifts.{reduced_14, raised-14, iterate-14-below}
+use Rattle.s2_field.specs.Shifts.{reduced_14}
+use Rattle.s2_field.proofs.ShiftFacts.{raised-14, iterate-14-below}
 use Rattle.s2_field.proofs.gf14.arithmetic.raise.Goals as goal
 
 pub returns : goal.returns

@@ -1,5 +1,6 @@
 use Rattle.std.proofs.Common.{arith, ap₂, ◌∙◌, ◌*◌, ◌%◌}
-use Rattle.s2_field.specs.Shifts.{reduced_16, raised-16}
+use Rattle.s2_field.specs.Shifts.{reduced_16}
+use Rattle.s2_field.proofs.ShiftFacts.{raised-16}
 use Rattle.s2_field.proofs.gf16.arithmetic.raise.Goals as goal
 
 pub returns : goal.returns
