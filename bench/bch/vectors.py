@@ -1,13 +1,14 @@
 """Parity bits of one message in every mode's BCH code (EN 302 307-1, 5.3.1), as the tests of s2_bch have them.
 
-Byte i of the message is (5 i^2 + 37 i + 11) mod 251. Each line: MODCOD, whether frames are short, and the parity
-bits as three words of 64, the first bit the highest, with zeros after them.
+Byte i of the message is (5 i^2 + 37 i + 11) mod 251. Each line: the MODCODs of the rate with QPSK and with 8PSK, whether
+frames are short, and the parity bits as three words of 64, the first bit the highest, with zeros after them.
 """
 
 RATES = [
     (16008, 12, 3072), (21408, 12, 5232), (25728, 12, 6312), (32208, 12, 7032), (38688, 12, 9552), (43040, 10, 10632),
     (48408, 12, 11712), (51648, 12, 12432), (53840, 10, 13152), (57472, 8, 14232), (58192, 8, None),
 ]
+EIGHT_PSK = {5: 12, 6: 13, 7: 14, 9: 15, 10: 16, 11: 17}
 LOW = {16: 0b101101, 14: 0b101011}
 
 
@@ -65,8 +66,9 @@ def parity(kbch, m, t):
 
 
 for modcod, (kbch, t, short) in enumerate(RATES, 1):
+    psk = f"Some({EIGHT_PSK[modcod]})" if modcod in EIGHT_PSK else "None"
     codes = [("false", kbch, 16, t)] + ([("true", short, 14, 12)] if short else [])
     for is_short, k, m, errors in codes:
         p = parity(k, m, errors)
         words = [p >> 128, p >> 64 & (1 << 64) - 1, p & (1 << 64) - 1]
-        print(f"({modcod}, {is_short}, [{', '.join(f'0x{w:016x}' for w in words)}]),")
+        print(f"({modcod}, {psk}, {is_short}, [{', '.join(f'0x{w:016x}' for w in words)}]),")

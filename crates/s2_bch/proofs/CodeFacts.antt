@@ -7,12 +7,11 @@ use Rattle.s2_field.specs.Gf16 as gf16
 use Rattle.s2_field.specs.Gf14 as gf14
 use Rattle.s2_mode.specs.Mode.{Mode, IsMode, t_of}
 use Rattle.s2_bch.specs.Values.{HasRoots, AllPowersDiffer}
-use Rattle.s2_bch.specs.Roots.{differ-of-order, far-apart, close_same, multiple-root}
+use Rattle.s2_bch.proofs.ValueFacts.{differ-of-order, far-apart, close_same, multiple-root}
 use Rattle.s2_bch.specs.Words.{IsMultiple, distance, weight}
 use Rattle.s2_bits.specs.Bits.{xor}
 use Rattle.s2_bch.specs.Codes.{IsBchWord}
-use Rattle.s2_bch.proofs.Decoder.{by_horner}
-use Rattle.s2_bch.specs.Theory.{zero-mul}
+use Rattle.s2_bch.proofs.FilterTheory.{zero-mul}
 use Rattle.s2_bch.specs.Generators.{generator_of}
 use Rattle.s2_bch.proofs.GeneratorFacts.{most_normal, most_short, normal_generator, short_generator}
 
@@ -36,18 +35,14 @@ module _ {F : Type 0} (nil one : F) (add mul : F → F → F) (inv : F → F) (L
 module _ {F : Type 0} (nil one : F) (add mul : F → F → F) (inv : F → F) (L : FieldLaws nil one add mul inv) where
   pub multiple_has_roots : (a : F) (r : ℕ) (g w : List Bool) → 0 < length g → HasRoots nil one add mul a r g → IsMultiple g w
       → HasRoots nil one add mul a r w
-  multiple_has_roots a r g w some roots is = record {
-    root = λ j hj.
-        sym (by_horner nil one add mul inv L w _)
-        ∙ multiple-root nil one add mul inv L g w _ some is (by_horner nil one add mul inv L g _ ∙ roots.root j hj);
-  }
+  multiple_has_roots a r g w some roots is = record { root = λ j hj. multiple-root nil one add mul inv L g w _ some is (roots.root j hj) }
 
   pub far : (a : F) (n r : ℕ) (o : P.HasOrder nil one add mul a n) → 0 < n → (g u v : List Bool) → 0 < length g
       → HasRoots nil one add mul a r g → IsMultiple g u → IsMultiple g v → length u ≡ length v → length v ≤ n → u ≢ v → r < distance u v
   far a n r o positive g u v some roots mu mv e h ne =
       far-apart nil one add mul inv L a n r g u v (not_nil nil one add mul inv L a n o positive)
       (powers_differ nil one add mul inv L a n o positive).differ some
-      (λ j hj. by_horner nil one add mul inv L g _ ∙ roots.root j hj) mu mv e h ne
+      roots.root mu mv e h ne
 
 far_of : (m : Mode) (s : Bool) → m.short ≡ s → IsMode m → (u v : List Bool) → IsBchWord m u → IsBchWord m v → u ≢ v
     → t_of m + t_of m < distance u v
@@ -73,7 +68,7 @@ module _ {F : Type 0} (nil one : F) (add mul : F → F → F) (inv : F → F) (L
   close a n r o positive g u v some roots mu mv e h near =
       close_same nil one add mul inv L a n r g u v (not_nil nil one add mul inv L a n o positive)
       (powers_differ nil one add mul inv L a n o positive).differ some
-      (λ j hj. by_horner nil one add mul inv L g _ ∙ roots.root j hj) mu mv e h near
+      roots.root mu mv e h near
 
 close_of : (m : Mode) (s : Bool) → m.short ≡ s → IsMode m → (u v : List Bool) → IsBchWord m u → IsBchWord m v
     → distance u v ≤ t_of m + t_of m → u ≡ v

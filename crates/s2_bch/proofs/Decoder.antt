@@ -1,5 +1,5 @@
 -- The decoder's steps, over plain variables.
-use Rattle.std.specs.Prelude.{ℕ, suc, ◌≡◌, ◌≢◌, ◌+◌, ◌<◌, ◌≤◌, refl, Bool, true, false, List, [], ◌∷◌, length, drop, not}
+use Rattle.std.specs.Prelude.{ℕ, suc, ◌≡◌, ◌≢◌, ◌+◌, ◌<◌, ◌≤◌, refl, Bool, true, false, List, ◌∷◌, length, drop, not}
 use Rattle.std.proofs.Common.{sym, ◌∙◌, ap, ap₂, arith, subst, get_or, length-drop, drop-cons}
 use Rattle.s2_bits.specs.Bits.{xor}
 use Rattle.s2_field.specs.Laws.{FieldLaws}
@@ -8,45 +8,32 @@ use Rattle.s2_bch.specs.Sequences as S
 use Rattle.s2_bch.specs.Values as V
 use Rattle.s2_bch.specs.Flips as flips
 use Rattle.s2_bch.specs.Words.{IsMultiple, distance, weight}
-use Rattle.s2_bch.specs.Roots.{value, horner_from, value-horner}
-use Rattle.s2_bch.specs.Decoding.{decoded, degree_few}
+use Rattle.s2_bch.proofs.Flipping.{decoded, degree_few}
 
 module _ {F : Type 0} (nil one : F) (add mul : F → F → F) (inv : F → F) (L : FieldLaws nil one add mul inv) where
-  open L use {add_zero}
-
-  same_horner : (v : F) (w : List Bool) (x : F) → horner_from nil one add mul inv L v w x ≡ V.horner_of nil one add mul v w x
-  same_horner v [] x = refl
-  same_horner v (true ∷ w) x = same_horner (add (mul v x) one) w x
-  same_horner v (false ∷ w) x =
-      ap (λ u. horner_from nil one add mul inv L u w x) (add_zero (mul v x)) ∙ same_horner (mul v x) w x
-
-  pub by_horner : (w : List Bool) (x : F) → value nil one add mul inv L w x ≡ V.horner_of nil one add mul nil w x
-  by_horner w x = value-horner nil one add mul inv L w x ∙ same_horner nil w x
-
   pub only_word : (a : F) (bound t n d : ℕ) (g r v w : List Bool) (S' f b : List F) (delta : F)
       → a ≢ nil → V.AllPowersDiffer nil one add mul a bound → 0 < length g → V.HasRoots nil one add mul a (t + t) g
       → n ≡ t + t
-      → ((j : ℕ) → j < n → get_or S' j nil ≡ V.horner_of nil one add mul nil r (P.pow nil one add mul a (suc j)))
+      → ((j : ℕ) → j < n → get_or S' j nil ≡ V.value_at nil one add mul r (P.pow nil one add mul a (suc j)))
       → S.Shortest nil one add mul n d f b delta (S.sequence_of nil S')
       → flips.FlipsRoots nil one add mul a f r w
       → IsMultiple g v → length v ≡ length r → length r ≤ bound → distance r v ≤ t → w ≡ v
   only_word a bound t n d g r v w S' f b delta na p hg roots en syndromes H k mv e h near =
       decoded nil one add mul inv L a bound t d g r v w S' f b delta na p.differ hg
-      (λ j hj. by_horner g _ ∙ roots.root j hj) mv (sym e) (omega arith) near
-      (λ j hj. syndromes j (omega arith) ∙ sym (by_horner r _))
+      roots.root mv (sym e) (omega arith) near
+      (λ j hj. syndromes j (omega arith))
       (subst (λ m. S.Shortest nil one add mul m d f b delta (S.sequence_of nil S')) en H) k
 
-module _ {F : Type 0} (nil one : F) (add mul : F → F → F) (inv : F → F) (L : FieldLaws nil one add mul inv) where
   pub few_places : (a : F) (bound t n d : ℕ) (g r v : List Bool) (S' f b : List F) (delta : F)
       → a ≢ nil → V.AllPowersDiffer nil one add mul a bound → 0 < length g → V.HasRoots nil one add mul a (t + t) g
       → n ≡ t + t
-      → ((j : ℕ) → j < n → get_or S' j nil ≡ V.horner_of nil one add mul nil r (P.pow nil one add mul a (suc j)))
+      → ((j : ℕ) → j < n → get_or S' j nil ≡ V.value_at nil one add mul r (P.pow nil one add mul a (suc j)))
       → S.Shortest nil one add mul n d f b delta (S.sequence_of nil S')
       → IsMultiple g v → length v ≡ length r → length r ≤ bound → distance r v ≤ t → d ≤ t
   few_places a bound t n d g r v S' f b delta na p hg roots en syndromes H mv e h near =
       degree_few nil one add mul inv L a bound t d g r v S' f b delta na p.differ hg
-      (λ j hj. by_horner nil one add mul inv L g _ ∙ roots.root j hj) mv (sym e) (omega arith) near
-      (λ j hj. syndromes j (omega arith) ∙ sym (by_horner nil one add mul inv L r _))
+      roots.root mv (sym e) (omega arith) near
+      (λ j hj. syndromes j (omega arith))
       (subst (λ m. S.Shortest nil one add mul m d f b delta (S.sequence_of nil S')) en H)
 
 -- ---- the loop that flips: `now` becomes `next`, whose bit at i is b

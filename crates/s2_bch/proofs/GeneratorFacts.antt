@@ -6,9 +6,13 @@ use Rattle.s2_field.specs.Gf16 as gf16
 use Rattle.s2_field.specs.Gf14 as gf14
 use Rattle.s2_mode.specs.Mode.{Mode, IsMode, t_of, k_of, kbch_of, rate_of, rate_index, HasCodeSizes}
 use Rattle.s2_mode.proofs.Modes.{at_each, at_most_at}
+use Rattle.s2_bch.specs.Words.{IsWordOf}
+use Rattle.s2_bch.proofs.WordFacts.{word-unique}
+use Rattle.s2_bch.specs.Codes.{IsBchWordOf}
 use Rattle.s2_bch.specs.Values.{HasRoots}
 use Rattle.s2_bch.specs.Generators.{generator_of, generator_16, generator_14}
-use Rattle.s2_bch.specs.Tails.{tail_16_8, tail_16_10, tail_16_12, tail_14_12, generator_16_8-is, generator_16_10-is, generator_16_12-is, generator_14_12-is, roots_16_8, roots_16_10, roots_16_12, roots_14_12}
+use Rattle.s2_bch.proofs.Tails.{tail_16_8, tail_16_10, tail_16_12, tail_14_12, generator_16_8-is, generator_16_10-is, generator_16_12-is, generator_14_12-is, roots_16_8, roots_16_10, roots_16_12, roots_14_12}
+use Rattle.s2_bch.proofs.GeneratorDegrees.{generator_normal, generator_short}
 use Rattle.s2_bch.proofs.RootFacts.{roots_normal, roots_short}
 
 -- ---- t is 8, 10 or 12, and 12 for short frames
@@ -37,14 +41,6 @@ t_normal m is e =
         | inr k ↦ inr (inr (eqb-true (t_of m) 12 k))
       ]
     ]
-
-pub generator_normal : (m : Mode) → m.short ≡ false → generator_of m ≡ generator_16 (t_of m)
-unfolding generator_of
-generator_normal m e = rw e
-
-pub generator_short : (m : Mode) → m.short ≡ true → generator_of m ≡ generator_14 (t_of m)
-unfolding generator_of
-generator_short m e = rw e
 
 -- ---- the generator's shape
 
@@ -155,3 +151,15 @@ has_generator m true e is sizes =
 
 pub generator_facts : (m : Mode) → IsMode m → HasCodeSizes m → HasGenerator m
 generator_facts m is sizes = has_generator m m.short refl is sizes
+
+-- ---- a message's word
+
+begins_with_one : (m : Mode) (s : Bool) → m.short ≡ s → IsMode m → generator_of m ≡ true ∷ drop 1 (generator_of m)
+begins_with_one m false e is = (normal_generator m is e).begins
+begins_with_one m true e is = (short_generator m is e).begins
+
+-- a message has one word at most
+pub one_word : (m : Mode) → IsMode m → (message u v : List Bool) → IsBchWordOf m message u → IsBchWordOf m message v → u ≡ v
+one_word m is message u v U V =
+    let begins = begins_with_one m m.short refl is in
+    word-unique (drop 1 (generator_of m)) message u v (subst (λ g. IsWordOf g message u) begins U) (subst (λ g. IsWordOf g message v) begins V)

@@ -3,7 +3,8 @@ use Rattle.std.specs.Prelude.{ℕ, ◌≡◌, ◌<◌, ◌≤◌, Bool, true, Li
 use Rattle.std.proofs.Common.{sym, ◌∙◌, ap, subst, arith}
 use Rattle.s2_mode.specs.Mode.{Mode, t_of, k_of, kbch_of}
 use Rattle.std.specs.List.{refill}
-use Rattle.s2_bch.specs.Words.{IsWordOf, distance, take-append}
+use Rattle.s2_bch.specs.Words.{IsWordOf, distance}
+use Rattle.s2_bch.proofs.WordFacts.{take-append}
 use Rattle.s2_bits.specs.Bits.{differences}
 use Rattle.s2_bch.specs.Codes.{IsBchWord, IsWithin}
 use Rattle.s2_bch.proofs.Distances.{differences_distance}

@@ -1,3 +1,10 @@
+pub mod WordFacts
+mod DivisionFacts
+mod FilterTheory
+mod Horner
+mod ValueFacts
+mod Flipping
+mod Tails
 mod RegisterFacts
 mod MessageFacts
 mod Filters
@@ -5,7 +12,9 @@ mod TermLemmas
 mod Shortest
 mod Decoder
 mod RootFacts
+pub mod GeneratorDegrees
 mod GeneratorFacts
+mod MinimalFacts
 mod CodeFacts
 mod Lent
 mod RestFacts

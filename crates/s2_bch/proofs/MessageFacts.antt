@@ -4,8 +4,10 @@ use Rattle.std.proofs.Common.{sym, ◌∙◌, ap, ap₂, subst, arith, length-ta
 use Rattle.std.proofs.lemmas.List.{get_or-drop}
 use Rattle.std.proofs.Math.Seq.{take-add}
 use Rattle.std.proofs.Math.ListN.{length-replicate}
-use Rattle.s2_bch.specs.Words.{register_after, length-after}
-use Rattle.s2_bch.specs.Division.{bit, number_of, steps, register-steps}
+use Rattle.s2_bch.specs.Words.{register_after}
+use Rattle.s2_bch.proofs.WordFacts.{length-after}
+use Rattle.s2_bch.specs.Division.{bit, number_of, steps}
+use Rattle.s2_bch.proofs.DivisionFacts.{register-steps}
 use Rattle.s2_bch.specs.declared.register.Register.{Register}
 use Rattle.s2_bch.specs.Registers.{value_of, Holds, IsTableFor}
 use Rattle.s2_bch.proofs.RegisterFacts.{zeros-number}

@@ -6,8 +6,10 @@ use Rattle.std.proofs.lemmas.Nat.{xor_block, xor_comm}
 use lib.Pow.{pow-add, shl_lt}
 use lib.Bits.{xor_zero_r}
 use Rattle.s2_field.specs.Binary.{times_x}
-use Rattle.s2_bch.specs.Words.{add_front, length-add_front}
-use Rattle.s2_bch.specs.Division.{bit, number_of, number_of-below, number_of-sum, xor-scale, steps, steps-at_once}
+use Rattle.s2_bch.specs.Words.{add_front}
+use Rattle.s2_bch.proofs.WordFacts.{length-add_front}
+use Rattle.s2_bch.specs.Division.{bit, number_of, steps}
+use Rattle.s2_bch.proofs.DivisionFacts.{number_of-below, number_of-sum, xor-scale, steps-at_once}
 use Rattle.s2_bch.specs.declared.register.Register.{Register}
 use Rattle.s2_bch.specs.Registers.{value_of, Holds}
 

@@ -6,16 +6,16 @@ use Rattle.std.proofs.lemmas.Bool.{cases_lt}
 use lib.Pow.{pow_pos}
 use Rattle.s2_field.specs.Laws.{FieldLaws}
 use Rattle.s2_bits.specs.Bits.{xor}
-use Rattle.s2_bch.specs.Words.{IsMultiple, distance, add_front, encoded-is-word, word-unique, length-add_front}
+use Rattle.s2_bch.specs.Words.{IsMultiple, distance, add_front}
+use Rattle.s2_bch.proofs.WordFacts.{encoded-is-word, word-unique, length-add_front}
 use Rattle.s2_bch.specs.Division.{number_of}
-use Rattle.s2_bch.specs.Theory.{zero-add as nil-add}
-use Rattle.s2_bch.specs.Roots.{value, value-sum, multiple-root}
+use Rattle.s2_bch.proofs.FilterTheory.{zero-add as nil-add}
+use Rattle.s2_bch.proofs.ValueFacts.{value, value-sum, multiple-root}
 use Rattle.s2_bch.specs.Values.{HasRoots, HaveSameValues}
 use Rattle.s2_bch.specs.declared.register.Register.{Register}
 use Rattle.s2_bch.specs.Registers.{value_of, Holds, rest_of}
 use Rattle.s2_bch.proofs.MessageFacts.{divided, length-divided}
 use Rattle.s2_bch.proofs.RegisterFacts.{zeros-number}
-use Rattle.s2_bch.proofs.Decoder.{by_horner}
 
 -- a sum of number zero is of equal words
 sum-zero : (u w : List Bool) → length u ≡ length w → number_of (add_front u w) ≡ 0 → u ≡ w
@@ -101,12 +101,7 @@ module _ (t : List Bool) (k : ℕ) (w : List Bool) (size : length w ≡ k + leng
         ∙ nil-add nil one add mul inv L _
 
     pub rest_values : (a : F) (r : ℕ) → HasRoots nil one add mul a r (true ∷ t) → HaveSameValues nil one add mul a r (rest_of t k w) w
-    rest_values a r roots = record {
-      same = λ j hj.
-          sym (by_horner nil one add mul inv L (rest_of t k w) _)
-          ∙ rest-value _ (by_horner nil one add mul inv L (true ∷ t) _ ∙ roots.root j hj)
-          ∙ by_horner nil one add mul inv L w _;
-    }
+    rest_values a r roots = record { same = λ j hj. rest-value _ (roots.root j hj) }
 
     pub values_of_rest : (a : F) (r : ℕ) (rest : List Bool) → rest ≡ rest_of t k w → HasRoots nil one add mul a r (true ∷ t)
         → HaveSameValues nil one add mul a r rest w

@@ -3,7 +3,7 @@ use Rattle.std.specs.Prelude.{ℕ, suc, ◌≡◌, ◌≢◌, ◌+◌, ◌-◌, 
 use Rattle.std.proofs.Common.{sym, ◌∙◌, ap, ap₂, arith, subst, add-one}
 use Rattle.s2_field.specs.Laws.{FieldLaws}
 use Rattle.s2_bch.specs.Sequences as S
-use Rattle.s2_bch.specs.Theory.{shortest-start, shortest-same, shortest-mend, shortest-grow}
+use Rattle.s2_bch.proofs.FilterTheory.{shortest-start, shortest-same, shortest-mend, shortest-grow}
 
 module _ {F : Type 0} (nil one : F) (add mul : F → F → F) (inv : F → F) (L : FieldLaws nil one add mul inv) where
   abbrev Is : ℕ → ℕ → List F → List F → F → (ℕ → F) → Type 0

@@ -6,8 +6,8 @@ use Rattle.std.proofs.lemmas.Bool.{cases_lt}
 use Rattle.s2_field.specs.Laws.{FieldLaws}
 use Rattle.s2_field.specs.Polynomials as P
 use Rattle.s2_bch.specs.Terms as T
-use Rattle.s2_bch.specs.Theory.{zero-add as nil-add, mul-zero, zero-mul}
-use Rattle.s2_bch.specs.Roots.{pow-add, pow-mul, pow-one}
+use Rattle.s2_bch.proofs.FilterTheory.{zero-add as nil-add, mul-zero, zero-mul}
+use Rattle.s2_bch.proofs.ValueFacts.{pow-add, pow-mul, pow-one}
 
 beyond : {F : Type 0} (nil : F) (f : List F) (j : ℕ) → length f ≤ j → get_or f j nil ≡ nil
 beyond nil [] j h = refl

@@ -1,6 +1,5 @@
 -- The generators (EN 302 307-1, 5.3.1): products of the minimal polynomials of a, a^3, a^5 and so on.
-use Rattle.std.specs.Prelude.{ℕ, zero, suc, ◌≡◌, ◌+◌, ◌/◌, ◌%◌, ◌^◌, refl, Bool, true, false, ◌==◌, List, [], ◌∷◌, take, map, bit_xor, reverse, if◌then◌else◌}
-use Rattle.s2_field.specs.Binary.{times}
+use Rattle.std.specs.Prelude.{ℕ, zero, suc, ◌/◌, ◌%◌, ◌^◌, Bool, true, ◌==◌, List, [], ◌∷◌, take, map, if◌then◌else◌}
 use Rattle.s2_bch.specs.Words.{product}
 use Rattle.s2_mode.specs.Mode.{Mode, t_of}
 
@@ -31,45 +30,3 @@ generator_14 t = product_of_all (map (bits_of 15) (take t minimal_14))
 -- the generator of a mode's code
 unfoldable pub generator_of : Mode → List Bool
 generator_of m = if m.short then generator_14 (t_of m) else generator_16 (t_of m)
-
--- ---- that these are the minimal polynomials, each the product of x + b for the conjugates b of a power of a
-
--- polynomials with coefficients in the field, the constant first
-abbrev pub sum_lists : List ℕ → List ℕ → List ℕ
-sum_lists [] q = q
-sum_lists (a ∷ p) [] = a ∷ p
-sum_lists (a ∷ p) (b ∷ q) = bit_xor a b ∷ sum_lists p q
-
-abbrev pub scaled : ℕ → ℕ → ℕ → List ℕ → List ℕ
-scaled m low c [] = []
-scaled m low c (a ∷ p) = times m low c a ∷ scaled m low c p
-
--- the product of x + b^(2^i) for i < k
-abbrev pub conjugates : ℕ → ℕ → ℕ → ℕ → List ℕ
-conjugates m low zero b = 1 ∷ []
-conjugates m low (suc k) b = let p = conjugates m low k (times m low b b) in sum_lists (0 ∷ p) (scaled m low b p)
-
--- b^n
-abbrev pub to_power : ℕ → ℕ → ℕ → ℕ → ℕ
-to_power m low b zero = 1
-to_power m low b (suc n) = times m low b (to_power m low b n)
-
--- the coefficients as elements: 0 and 1
-abbrev pub digits : List Bool → List ℕ
-digits [] = []
-digits (true ∷ w) = 1 ∷ digits w
-digits (false ∷ w) = 0 ∷ digits w
-
--- the polynomials are those of a^i, a^(i+2) and so on
-abbrev pub AreMinimal : ℕ → ℕ → ℕ → List ℕ → Type 0
-AreMinimal m low i [] = Unit {0}
-AreMinimal m low i (f ∷ fs) =
-    (digits (bits_of (suc m) f) ≡ reverse (conjugates m low m (to_power m low 2 i))) × AreMinimal m low (i + 2) fs
-
-pub minimal-16 : AreMinimal 16 45 1 minimal_16
-unfolding times
-minimal-16 = (refl, (refl, (refl, (refl, (refl, (refl, (refl, (refl, (refl, (refl, (refl, (refl, tt))))))))))))
-
-pub minimal-14 : AreMinimal 14 43 1 minimal_14
-unfolding times
-minimal-14 = (refl, (refl, (refl, (refl, (refl, (refl, (refl, (refl, (refl, (refl, (refl, (refl, tt))))))))))))

@@ -1,15 +1,12 @@
 pub mod Words
 pub mod Generators
 pub mod Sequences
+pub mod Minimal
 pub mod Values
 pub mod Flips
 pub mod Terms
-pub mod Theory
-pub mod Roots
 pub mod Codes
 pub mod Room
 pub mod Ready
 pub mod Division
 pub mod Registers
-pub mod Tails
-pub mod Decoding

@@ -47,7 +47,8 @@ impl Model for Bch {
 }
 
 impl Bch {
-    /// The code of a mode. It takes all the memory that its calls use.
+    /// The BCH code of a mode (EN 302 307-1, 5.3.1), with all the memory that its calls use.
+    /// `AllocError` where a growth was refused; then nothing is kept.
     pub fn new(alloc: Global, mode: Mode) -> Result<Bch, AllocError>
         ensures { IfOk result (λ b. b ≡ mode) }
     {
@@ -66,7 +67,9 @@ impl Bch {
         })
     }
 
-    /// The code's word for a message of Kbch bits, into a word of Nbch bits.
+    /// Puts the code's word for a message into `word`: the message, then its parity bits, each first
+    /// bit the highest power of x (EN 302 307-1, 5.3.1). The message has Kbch bits (`Mode::kbch`), the
+    /// word Nbch (`Mode::k`). What the word held before is lost.
     pub fn encode_into(&self, message: &Bits, word: &mut Bits)
         requires message { length message.now ≡ kbch_of self.now }
         requires word { length word.old ≡ k_of self.now }
@@ -76,8 +79,9 @@ impl Bch {
         encode_into(&self.table, message.truths(), word.truths_mut());
     }
 
-    /// Changes a word of Nbch bits into the code's word that differs from it in at most t places,
-    /// and answers in how many it differed. `None` where there is none: the word is as it was.
+    /// Changes a word of Nbch bits (`Mode::k`) into the code's word (EN 302 307-1, 5.3.1) that differs
+    /// from it in at most t places (`Mode::t`), and answers in how many it differed: 0 for a word of
+    /// the code. `None` where no word of the code is so near: every bit is as it was.
     pub fn decode_in_place(&mut self, word: &mut Bits) -> Option<u32>
         requires { length word.old ≡ k_of self.old }
         ensures same { self.new ≡ self.old }

@@ -4,7 +4,7 @@ ghost use Rattle.s2_field.specs.Polynomials.{pow, eval};
 ghost use Rattle.s2_bch.specs.Flips.{FlipsRoots};
 ghost use Rattle.s2_bch.specs.Terms.{AreTerms};
 ghost use Rattle.s2_bch.specs.Words.{distance, IsMultiple};
-ghost use Rattle.s2_bch.specs.Values.{horner_of, HasRoots, HaveSameValues};
+ghost use Rattle.s2_bch.specs.Values.{value_at, HasRoots, HaveSameValues};
 ghost use Rattle.s2_bch.specs.Room.{HasRoom};
 
 use crate::locate::shortest_filter;
@@ -109,7 +109,7 @@ fn times_alpha<F: Field>(value: F, power: u32) -> F
 /// The word's value at a power of alpha.
 fn evaluate_word<F: Field>(word: &[bool], power: u32) -> F
     requires { power ≤ 30 }
-    ensures { result ≡ horner_of F.zero F.one F.sum F.product F.zero word.now (pow F.zero F.one F.sum F.product F.alpha power) }
+    ensures { result ≡ value_at F.zero F.one F.sum F.product word.now (pow F.zero F.one F.sum F.product F.alpha power) }
 {
     let mut value = F::zero();
     for bit in word {
@@ -125,7 +125,7 @@ fn evaluate_word<F: Field>(word: &[bool], power: u32) -> F
 fn put_syndromes<F: Field>(word: &[bool], syndromes: &mut [F])
     requires { length syndromes.old ≤ 30 }
     ensures { (j : ℕ) → j < length syndromes.old → slice_index_or syndromes.new j F.zero
-        ≡ horner_of F.zero F.one F.sum F.product F.zero word.now (pow F.zero F.one F.sum F.product F.alpha (suc j)) }
+        ≡ value_at F.zero F.one F.sum F.product word.now (pow F.zero F.one F.sum F.product F.alpha (suc j)) }
 {
     for j in 0..syndromes.len() {
         syndromes[j] = evaluate_word(word, j as u32 + 1);

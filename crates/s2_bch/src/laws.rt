@@ -7,9 +7,28 @@ ghost use Rattle.s2_mode.specs.Mode.{k_of, t_of};
 ghost use Rattle.s2_bch.specs.Generators.{generator_of};
 ghost use Rattle.s2_bch.specs.Words.{IsMultiple};
 ghost use Rattle.s2_bch.specs.Values.{HasRoots};
-ghost use Rattle.s2_bch.specs.Codes.{IsBchWord};
+ghost use Rattle.s2_bch.specs.Minimal.{IsProductOfMinimals};
+ghost use Rattle.s2_bch.specs.Codes.{IsBchWord, IsBchWordOf};
 
 use s2_mode::Mode;
+
+/// The generator is the product of the minimal polynomials of a, a^3, .., a^(2t-1)
+/// (EN 302 307-1, 5.3.1).
+pub fn generators(mode: Mode)
+    ensures normal { mode.short ≡ false
+        → IsProductOfMinimals gf16.zero gf16.one gf16.sum gf16.product 16 (t_of mode) gf16.alpha (generator_of mode) }
+    ensures short { mode.short ≡ true
+        → IsProductOfMinimals gf14.zero gf14.one gf14.sum gf14.product 14 (t_of mode) gf14.alpha (generator_of mode) }
+{
+    let _ = mode.t();
+}
+
+/// A message has no second word of the code.
+pub fn unique(mode: Mode)
+    ensures { (message word other : List Bool) → IsBchWordOf mode message word → IsBchWordOf mode message other → word ≡ other }
+{
+    let _ = mode.t();
+}
 
 /// A multiple of the generator, so every word of the code, has a, a^2, .., a^(2t) among its roots.
 pub fn roots(mode: Mode)

@@ -31,42 +31,59 @@ fn shifted<F: Field>(polynomial: &[F], by: usize, i: usize) -> F
     }
 }
 
-/// Puts x^k f + a x^l b into `out`.
-fn combine<F: Field>(out: &mut [F], f: &[F], k: usize, b: &[F], l: usize, a: F)
-    requires f_fits { k + length f.now ≡ length out.old }
-    requires b_fits { l + length b.now ≤ length out.old }
+/// Puts x^filter_shift times the filter, plus the factor times x^spare_shift times the spare, into
+/// `out`.
+fn combine<F: Field>(
+    out: &mut [F],
+    filter: &[F],
+    filter_shift: usize,
+    spare: &[F],
+    spare_shift: usize,
+    factor: F,
+)
+    requires filter_fits { filter_shift + length filter.now ≡ length out.old }
+    requires spare_fits { spare_shift + length spare.now ≤ length out.old }
     ensures { out.new ≡ plus F.zero F.one F.sum F.product
-        (shift F.zero F.one F.sum F.product k f.now)
-        (scale F.zero F.one F.sum F.product a (shift F.zero F.one F.sum F.product l b.now)) }
+        (shift F.zero F.one F.sum F.product filter_shift filter.now)
+        (scale F.zero F.one F.sum F.product factor (shift F.zero F.one F.sum F.product spare_shift spare.now)) }
 {
     for i in 0..out.len() {
-        out[i] = shifted(f, k, i).add(a.mul(shifted(b, l, i)));
+        let term = shifted(spare, spare_shift, i);
+        out[i] = shifted(filter, filter_shift, i).add(factor.mul(term));
     }
 }
 
-/// The polynomial that replaces f at a discrepancy: x^k f + a x^l b, where `next` is room for it.
+/// Adds the factor times x^spare_shift times the spare to the filter, where `next` is room for the
+/// sum.
 fn renew<F: Field>(
     filter: &mut [F],
     next: &mut [F],
     degree: usize,
-    k: usize,
     spare: &[F],
-    l: usize,
-    a: F,
+    spare_shift: usize,
+    factor: F,
 )
     requires same_size { length next.old ≡ length filter.old }
-    requires f_fits { k + degree + 1 ≤ length filter.old }
-    requires b_fits { l + length spare.now ≤ k + degree + 1 }
-    ensures { take (k + degree + 1) filter.new ≡ plus F.zero F.one F.sum F.product
-        (shift F.zero F.one F.sum F.product k (take (degree + 1) filter.old))
-        (scale F.zero F.one F.sum F.product a (shift F.zero F.one F.sum F.product l spare.now)) }
+    requires filter_fits { degree + 1 ≤ length filter.old }
+    requires spare_fits { spare_shift + length spare.now ≤ degree + 1 }
+    ensures { take (degree + 1) filter.new ≡ plus F.zero F.one F.sum F.product
+        (shift F.zero F.one F.sum F.product 0 (take (degree + 1) filter.old))
+        (scale F.zero F.one F.sum F.product factor (shift F.zero F.one F.sum F.product spare_shift spare.now)) }
 {
-    let size = k + degree + 1;
-    combine(&mut next[..size], &filter[..degree + 1], k, spare, l, a);
+    let size = degree + 1;
+    combine(
+        &mut next[..size],
+        &filter[..size],
+        0,
+        spare,
+        spare_shift,
+        factor,
+    );
     filter[..size].copy_from_slice(&next[..size]);
 }
 
-/// Leaves the shortest monic filter that annihilates the sequence at the front of `filter`, and answers its degree.
+/// Leaves the shortest monic filter that annihilates the sequence at the front of `filter`, and
+/// answers its degree.
 pub fn shortest_filter<F: Field>(
     sequence: &[F],
     filter: &mut [F],
@@ -99,47 +116,41 @@ pub fn shortest_filter<F: Field>(
             degree = n + 1 - degree;
             delta = wrong;
         } else {
-            renew(
-                filter,
-                next,
-                degree,
-                0,
-                &spare[..spare_size],
-                2 * degree - n - 1,
-                factor,
-            );
+            let by = 2 * degree - n - 1;
+            renew(filter, next, degree, &spare[..spare_size], by, factor);
         }
     }
     degree
 }
 
-/// Replaces the filter by x^k f + a b, and the spare by f.
+/// Replaces the filter by x^filter_shift times it plus the factor times the spare, and the spare by
+/// the filter as it was.
 fn grow<F: Field>(
     filter: &mut [F],
     next: &mut [F],
     spare: &mut [F],
     degree: usize,
-    k: usize,
+    filter_shift: usize,
     spare_size: usize,
-    a: F,
+    factor: F,
 )
     requires same_size { length next.old ≡ length filter.old }
     requires spare_room { length spare.old ≡ length filter.old }
-    requires f_fits { k + degree + 1 ≤ length filter.old }
-    requires b_fits { spare_size ≤ k + degree + 1 }
-    ensures filter { take (k + degree + 1) filter.new ≡ plus F.zero F.one F.sum F.product
-        (shift F.zero F.one F.sum F.product k (take (degree + 1) filter.old))
-        (scale F.zero F.one F.sum F.product a (shift F.zero F.one F.sum F.product 0 (take spare_size spare.old))) }
+    requires filter_fits { filter_shift + degree + 1 ≤ length filter.old }
+    requires spare_fits { spare_size ≤ filter_shift + degree + 1 }
+    ensures filter { take (filter_shift + degree + 1) filter.new ≡ plus F.zero F.one F.sum F.product
+        (shift F.zero F.one F.sum F.product filter_shift (take (degree + 1) filter.old))
+        (scale F.zero F.one F.sum F.product factor (shift F.zero F.one F.sum F.product 0 (take spare_size spare.old))) }
     ensures spare { take (degree + 1) spare.new ≡ take (degree + 1) filter.old }
 {
-    let size = k + degree + 1;
+    let size = filter_shift + degree + 1;
     combine(
         &mut next[..size],
         &filter[..degree + 1],
-        k,
+        filter_shift,
         &spare[..spare_size],
         0,
-        a,
+        factor,
     );
     spare[..degree + 1].copy_from_slice(&filter[..degree + 1]);
     filter[..size].copy_from_slice(&next[..size]);

@@ -1,6 +1,7 @@
 use Rattle.std.proofs.Common.{arith, ◌≡◌, ◌∷◌, length, sym, ap₂, subst}
 use Rattle.std.specs.Prelude.{true, false, replicate, ◌++◌}
-use Rattle.s2_bch.specs.Words.{register_after, IsWordOf, encoded-is-word}
+use Rattle.s2_bch.specs.Words.{register_after, IsWordOf}
+use Rattle.s2_bch.proofs.WordFacts.{encoded-is-word}
 use Rattle.s2_bch.proofs.MessageFacts.{length-divided}
 use Rattle.s2_bch.proofs.divider.encode_into.Goals as goal
 

@@ -1,5 +1,6 @@
 use Rattle.std.proofs.Common.{arith, ◌≡◌, ◌∙◌, ◌+◌, ◌-◌, suc, sym, ap}
-use Rattle.s2_bch.specs.Division.{steps, no_steps, more_steps}
+use Rattle.s2_bch.specs.Division.{steps}
+use Rattle.s2_bch.proofs.DivisionFacts.{no_steps, more_steps}
 use Rattle.s2_bch.specs.Registers.{value_of}
 use Rattle.s2_bch.proofs.divider.entry.Goals as goal
 

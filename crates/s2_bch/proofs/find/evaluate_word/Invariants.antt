@@ -1,6 +1,6 @@
 use Rattle.std.proofs.Common.{◌≡◌, drop}
 use Rattle.s2_field.specs.Polynomials.{pow}
-use Rattle.s2_bch.specs.Values.{horner_of}
+use Rattle.s2_bch.proofs.Horner.{horner_of}
 use Rattle.s2_bch.proofs.find.evaluate_word.Given as goal
 
 abbrev pub invariant-loop-bit : goal.invariant-loop-bit

@@ -1,5 +1,5 @@
 use Rattle.std.proofs.Common.{arith, ◌≡◌, ◌≢◌, ◌+◌, ◌<◌, suc, length, get_or-set_other, get_or-set_same, below_more, ◌∙◌, ap}
-use Rattle.s2_bch.specs.Values.{horner_of}
+use Rattle.s2_bch.specs.Values.{value_at}
 use Rattle.s2_field.specs.Polynomials.{pow}
 use Rattle.s2_bch.proofs.find.put_syndromes.Goals as goal
 
@@ -11,4 +11,4 @@ loop-j-preserved g c =
     below_more _ _
     (λ k h. let ne : k ≢ c.loop-j.j = omega arith in rw get_or-set_other (c.loop-j.invariant k h))
     (rw get_or-set_same
-    (c.evaluate_word.ensures ∙ ap (λ n. horner_of f.zero f.one f.sum f.product f.zero c.args.word.now (pow f.zero f.one f.sum f.product f.alpha n)) e))
+    (c.evaluate_word.ensures ∙ ap (λ n. value_at f.zero f.one f.sum f.product c.args.word.now (pow f.zero f.one f.sum f.product f.alpha n)) e))

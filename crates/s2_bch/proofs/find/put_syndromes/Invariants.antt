@@ -1,5 +1,5 @@
 use Rattle.std.proofs.Common.{◌≡◌, ◌<◌, ℕ, suc, get_or}
-use Rattle.s2_bch.specs.Values.{horner_of}
+use Rattle.s2_bch.specs.Values.{value_at}
 use Rattle.s2_field.specs.Polynomials.{pow}
 use Rattle.s2_bch.proofs.find.put_syndromes.Given as goal
 
@@ -7,4 +7,4 @@ abbrev pub invariant-loop-j : goal.invariant-loop-j
 invariant-loop-j g l =
     let f = g.F.Field in
     (k : ℕ) → k < l.j → get_or l.syndromes k f.zero
-    ≡ horner_of f.zero f.one f.sum f.product f.zero l.word (pow f.zero f.one f.sum f.product f.alpha (suc k))
+    ≡ value_at f.zero f.one f.sum f.product l.word (pow f.zero f.one f.sum f.product f.alpha (suc k))

@@ -1,5 +1,5 @@
 use Rattle.std.proofs.Common.{arith, ◌∙◌, sym, refl}
-use Rattle.s2_bch.specs.Tails.{tail_16_8, tail_16_10, tail_16_12, tail_14_12}
+use Rattle.s2_bch.proofs.Tails.{tail_16_8, tail_16_10, tail_16_12, tail_14_12}
 use Rattle.s2_bch.proofs.GeneratorFacts.{tail_short, tail_8, tail_10, tail_12}
 use Rattle.s2_bch.proofs.RegisterFacts.{holds_tail}
 use Rattle.s2_bch.proofs.generators.tail_of.Goals as goal

@@ -39,7 +39,7 @@ loop-n-preserved g c =
           })
       | else-degree-n w ↦ (
           let big : c.loop-n.n < 2 * c.loop-n.degree = w.if-degree-n.false in
-          let size : c.if-degree-n.degree + 1 ≡ 0 + c.loop-n.degree + 1 = omega (arith, w.degree-is) in
+          let size : c.if-degree-n.degree + 1 ≡ c.loop-n.degree + 1 = omega (arith, w.degree-is) in
           record {
             shortest = moved f.zero f.one f.sum f.product f.inverse g.met.F.Field.laws
                 (c.loop-n.n + 1) (c.loop-n.n + 1) c.loop-n.degree c.if-degree-n.degree _ _ _ _ c.loop-n.delta c.if-degree-n.delta _

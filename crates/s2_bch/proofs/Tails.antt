@@ -1,6 +1,7 @@
 -- The generators of all modes, multiplied out.
 use Rattle.std.specs.Prelude.{ℕ, zero, suc, ◌≡◌, refl, Bool, true, false, ◌==◌, ◌&&◌, List, [], ◌∷◌, bit_xor}
 use Rattle.s2_field.specs.Binary.{times}
+use Rattle.s2_bch.proofs.Horner.{horner_of}
 use Rattle.s2_bch.specs.Generators.{generator_16, generator_14}
 
 -- what the generator has after its first bit
@@ -32,19 +33,10 @@ pub generator_14_12-is : generator_14 12 ≡ true ∷ tail_14_12
 unfolding generator_14
 generator_14_12-is = refl
 
-abbrev pub digit : Bool → ℕ
-digit true = 1
-digit false = 0
-
--- the value at x by Horner's rule
-abbrev pub horner : ℕ → ℕ → ℕ → List Bool → ℕ → ℕ
-horner m low acc [] x = acc
-horner m low acc (b ∷ w) x = horner m low (bit_xor (times m low acc x) (digit b)) w x
-
 -- the n powers of 2 from x on are roots of g
 abbrev pub has_roots : ℕ → ℕ → List Bool → ℕ → ℕ → Bool
 has_roots m low g zero x = true
-has_roots m low g (suc n) x = (horner m low 0 g x == 0) && has_roots m low g n (times m low 2 x)
+has_roots m low g (suc n) x = (horner_of 0 1 bit_xor (times m low) 0 g x == 0) && has_roots m low g n (times m low 2 x)
 
 pub roots_16_8 : has_roots 16 45 (true ∷ tail_16_8) 16 2 ≡ true
 unfolding times

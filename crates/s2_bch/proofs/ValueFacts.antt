@@ -3,14 +3,12 @@ use Rattle.std.specs.Prelude.{ℕ, zero, suc, ◌≡◌, ◌≢◌, ◌+◌, ◌
 use Rattle.std.proofs.Common.{sym, ◌∙◌, ap, ap₂, arith, inl, inr}
 use Rattle.std.proofs.lemmas.Bool.{cases_lt}
 use Rattle.s2_field.specs.Laws.{FieldLaws}
-use Rattle.s2_bch.specs.Theory.{Each, AllDiffer, pow, power_sum, coefficients-vanish, zero-mul, mul-zero, zero-add as nil-add, add-mul, add_swap, no_zero_divisors}
+use Rattle.s2_bch.specs.Values as V
+use Rattle.s2_bch.specs.Values.{pick}
+use Rattle.s2_bch.proofs.FilterTheory.{Each, AllDiffer, pow, power_sum, coefficients-vanish, zero-mul, mul-zero, zero-add as nil-add, add-mul, add_swap, no_zero_divisors}
 use Rattle.s2_bits.specs.Bits.{xor}
-use Rattle.s2_bch.specs.Words.{distance, times_bit, add_front, product, IsMultiple, length-add_front, length-times_bit, length-product}
-
--- v, or zero
-abbrev pub pick : {F : Type 0} → F → Bool → F → F
-pick nil true v = v
-pick nil false v = nil
+use Rattle.s2_bch.specs.Words.{distance, times_bit, add_front, product, IsMultiple}
+use Rattle.s2_bch.proofs.WordFacts.{length-add_front, length-times_bit, length-product}
 
 module _ {F : Type 0} (nil one : F) (add mul : F → F → F) (inv : F → F) (L : FieldLaws nil one add mul inv) where
   open L use {add_comm, add_assoc, add_zero, add_self, mul_comm, mul_assoc, mul_one, mul_add, mul_inv, one_ne_zero}
@@ -18,10 +16,8 @@ module _ {F : Type 0} (nil one : F) (add mul : F → F → F) (inv : F → F) (L
   abbrev power : F → ℕ → F
   power = pow nil one add mul inv L
 
-  -- the word at x, its first bit the highest power
   abbrev pub value : List Bool → F → F
-  value [] x = nil
-  value (b ∷ w) x = add (pick nil b (power x (length w))) (value w x)
+  value = V.value_at nil one add mul
 
   pick-mul : (b : Bool) (v w : F) → mul (pick nil b v) w ≡ pick nil b (mul v w)
   pick-mul true v w = refl
@@ -223,27 +219,3 @@ module _ {F : Type 0} (nil one : F) (add mul : F → F → F) (inv : F → F) (L
       ∙ mul_assoc (inv p) p (power a k)
       ∙ ap (mul (inv p)) times
       ∙ mul_comm (inv p) p ∙ mul_inv p np)
-
-  -- the value by Horner's rule
-  abbrev pub horner_from : F → List Bool → F → F
-  horner_from acc [] x = acc
-  horner_from acc (b ∷ w) x = horner_from (add (mul acc x) (pick nil b one)) w x
-
-  pick-one : (b : Bool) (v : F) → mul (pick nil b one) v ≡ pick nil b v
-  pick-one true v = mul_comm one v ∙ mul_one v
-  pick-one false v = zero-mul nil one add mul inv L v
-
-  pub horner-value : (acc : F) (w : List Bool) (x : F) → horner_from acc w x ≡ add (mul acc (power x (length w))) (value w x)
-  horner-value acc [] x = sym (add_zero (mul acc one) ∙ mul_one acc)
-  horner-value acc (b ∷ w) x =
-      let p = power x (length w) in
-      horner-value (add (mul acc x) (pick nil b one)) w x
-      ∙ ap (λ v. add v (value w x))
-      (add-mul nil one add mul inv L (mul acc x) (pick nil b one) p
-      ∙ ap₂ add (mul_assoc acc x p) (pick-one b p))
-      ∙ add_assoc (mul acc (mul x p)) (pick nil b p) (value w x)
-
-  pub value-horner : (w : List Bool) (x : F) → value w x ≡ horner_from nil w x
-  value-horner w x =
-      sym (horner-value nil w x ∙ ap (λ v. add v (value w x)) (zero-mul nil one add mul inv L (power x (length w)))
-      ∙ nil-add nil one add mul inv L (value w x))

@@ -5,10 +5,11 @@ use Rattle.s2_field.specs.Laws.{FieldLaws}
 use Rattle.s2_field.specs.Polynomials as P
 use Rattle.s2_bch.specs.Sequences as S
 use Rattle.s2_bch.specs.Flips as flips
-use Rattle.s2_bch.specs.Theory.{Each, AllDiffer, dot-same, monic-length, degree-least, elements-are-roots, roots-are-elements}
+use Rattle.s2_bch.proofs.FilterTheory.{Each, AllDiffer, dot-same, monic-length, degree-least, elements-are-roots, roots-are-elements}
 use Rattle.s2_bits.specs.Bits.{xor}
-use Rattle.s2_bch.specs.Words.{distance, add_front, IsMultiple, length-add_front}
-use Rattle.s2_bch.specs.Roots.{value, value-sum, multiple-root, locators, locators-differ, locators-nonzero, locators-apart, value-power_sum, length-locators, PowersDiffer}
+use Rattle.s2_bch.specs.Words.{distance, add_front, IsMultiple}
+use Rattle.s2_bch.proofs.WordFacts.{length-add_front}
+use Rattle.s2_bch.proofs.ValueFacts.{value, value-sum, multiple-root, locators, locators-differ, locators-nonzero, locators-apart, value-power_sum, length-locators, PowersDiffer}
 
 module _ {F : Type 0} (nil one : F) (add mul : F → F → F) (inv : F → F) (L : FieldLaws nil one add mul inv) where
   open L use {add_comm, add_assoc, add_zero, add_self, mul_comm, mul_assoc, mul_one, mul_add, mul_inv, one_ne_zero}
