@@ -1,22 +1,24 @@
 -- The table of CRC-8: a byte that is added to a remainder, and then eight times x.
-use Rattle.std.proofs.Common.{◌≡◌, ℕ, zero, suc, ◌-◌, ◌*◌, ◌/◌, ◌%◌, ◌<◌, ◌≤◌, Bool, true, false, List, [], ◌∷◌, ◌++◌, get_or, refl, sym, ap, subst, ◌∙◌, arith, inl, inr}
+use Rattle.std.proofs.Common.{◌≡◌, ℕ, zero, suc, ◌+◌, ◌-◌, ◌*◌, ◌/◌, ◌%◌, ◌<◌, ◌≤◌, Bool, true, false, List, [], ◌∷◌, ◌++◌, get_or, length, refl, sym, ap, subst, ◌∙◌, arith, inl, inr}
 use Rattle.std.specs.Prelude.{◌==◌, ◌&&◌, not, nat_le, nat_lt, if◌then◌else◌, bit_xor}
 use Rattle.std.specs.Int.Bits.{xor_assoc, xor_self, xor_zero_r, xor_step}
-use Rattle.std.proofs.lemmas.Nat.{xor_comm, xor_lt}
+use Rattle.std.proofs.lemmas.Nat.{xor_comm, xor_lt, xor_of_8}
+use Rattle.std.proofs.lemmas.List.Concat.{flat_map-cons}
+use Rattle.std.specs.List.{flat_map}
 use Rattle.std.proofs.lemmas.Bool.{eqb-true, leb-true}
 use Rattle.std.proofs.lemmas.Bool.Decides.{leb_tells}
 use Rattle.s2_bbframe.proofs.Finite.{both, at_number}
-use Rattle.s2_bbframe.specs.Crc.{generator, times_x, next_bit, remainder, bits_of, next_byte}
+use Rattle.s2_bbframe.specs.Crc.{generator, times_x, next_bit, remainder, bits_of}
 
 -- ---- a remainder times x
 
 xor-swap : (a b c : ℕ) → bit_xor (bit_xor a b) c ≡ bit_xor (bit_xor a c) b
 xor-swap a b c = xor_assoc a b c ∙ ap (bit_xor a) (xor_comm b c) ∙ sym (xor_assoc a c b)
 
-xor-back : (a b : ℕ) → bit_xor (bit_xor a b) b ≡ a
+pub xor-back : (a b : ℕ) → bit_xor (bit_xor a b) b ≡ a
 xor-back a b = xor_assoc a b b ∙ ap (bit_xor a) (xor_self b) ∙ xor_zero_r a
 
-double-xor : (a b : ℕ) → 2 * bit_xor a b ≡ bit_xor (2 * a) (2 * b)
+pub double-xor : (a b : ℕ) → 2 * bit_xor a b ≡ bit_xor (2 * a) (2 * b)
 double-xor a b =
     let half_a : 2 * a / 2 ≡ a = omega arith in
     let half_b : 2 * b / 2 ≡ b = omega arith in
@@ -54,7 +56,7 @@ times_x-xor a low small =
     ∙ ap (λ x. bit_xor x less) (double-xor a low)
     ∙ xor-swap (2 * a) (2 * low) less
 
-times_x-lt : (r : ℕ) → r < 256 → times_x r < 256
+pub times_x-lt : (r : ℕ) → r < 256 → times_x r < 256
 unfolding times_x
 times_x-lt r byte = leb-true (suc (times_x r)) 256 (at_number (λ r. nat_lt (times_x r) 256) 256 r refl byte)
 
@@ -118,6 +120,9 @@ split v fits = eqb-true _ _ (at_number (λ v. v == bit_xor (if nat_le 128 v then
 
 -- ---- one byte
 
+unfoldable pub next_byte : ℕ → ℕ → ℕ
+next_byte r byte = remainder r (bits_of byte)
+
 added : (r : ℕ) (bit : Bool) → bit_xor r (if bit then 128 else 0) ≡ (if bit then bit_xor r 128 else r)
 added r true = refl
 added r false = xor_zero_r r
@@ -145,29 +150,54 @@ next_byte-times r byte fits =
     ∙ ap (bit_xor (remainder r (top_bits 8 byte))) (sym (moved-out byte fits))
     ∙ remainder-top 8 r byte fits
 
--- the remainders of the crate's table
-abbrev pub table : List ℕ
-table =
-    0 ∷ 213 ∷ 127 ∷ 170 ∷ 254 ∷ 43 ∷ 129 ∷ 84 ∷ 41 ∷ 252 ∷ 86 ∷ 131 ∷ 215 ∷ 2 ∷ 168 ∷ 125
-    ∷ 82 ∷ 135 ∷ 45 ∷ 248 ∷ 172 ∷ 121 ∷ 211 ∷ 6 ∷ 123 ∷ 174 ∷ 4 ∷ 209 ∷ 133 ∷ 80 ∷ 250 ∷ 47
-    ∷ 164 ∷ 113 ∷ 219 ∷ 14 ∷ 90 ∷ 143 ∷ 37 ∷ 240 ∷ 141 ∷ 88 ∷ 242 ∷ 39 ∷ 115 ∷ 166 ∷ 12 ∷ 217
-    ∷ 246 ∷ 35 ∷ 137 ∷ 92 ∷ 8 ∷ 221 ∷ 119 ∷ 162 ∷ 223 ∷ 10 ∷ 160 ∷ 117 ∷ 33 ∷ 244 ∷ 94 ∷ 139
-    ∷ 157 ∷ 72 ∷ 226 ∷ 55 ∷ 99 ∷ 182 ∷ 28 ∷ 201 ∷ 180 ∷ 97 ∷ 203 ∷ 30 ∷ 74 ∷ 159 ∷ 53 ∷ 224
-    ∷ 207 ∷ 26 ∷ 176 ∷ 101 ∷ 49 ∷ 228 ∷ 78 ∷ 155 ∷ 230 ∷ 51 ∷ 153 ∷ 76 ∷ 24 ∷ 205 ∷ 103 ∷ 178
-    ∷ 57 ∷ 236 ∷ 70 ∷ 147 ∷ 199 ∷ 18 ∷ 184 ∷ 109 ∷ 16 ∷ 197 ∷ 111 ∷ 186 ∷ 238 ∷ 59 ∷ 145 ∷ 68
-    ∷ 107 ∷ 190 ∷ 20 ∷ 193 ∷ 149 ∷ 64 ∷ 234 ∷ 63 ∷ 66 ∷ 151 ∷ 61 ∷ 232 ∷ 188 ∷ 105 ∷ 195 ∷ 22
-    ∷ 239 ∷ 58 ∷ 144 ∷ 69 ∷ 17 ∷ 196 ∷ 110 ∷ 187 ∷ 198 ∷ 19 ∷ 185 ∷ 108 ∷ 56 ∷ 237 ∷ 71 ∷ 146
-    ∷ 189 ∷ 104 ∷ 194 ∷ 23 ∷ 67 ∷ 150 ∷ 60 ∷ 233 ∷ 148 ∷ 65 ∷ 235 ∷ 62 ∷ 106 ∷ 191 ∷ 21 ∷ 192
-    ∷ 75 ∷ 158 ∷ 52 ∷ 225 ∷ 181 ∷ 96 ∷ 202 ∷ 31 ∷ 98 ∷ 183 ∷ 29 ∷ 200 ∷ 156 ∷ 73 ∷ 227 ∷ 54
-    ∷ 25 ∷ 204 ∷ 102 ∷ 179 ∷ 231 ∷ 50 ∷ 152 ∷ 77 ∷ 48 ∷ 229 ∷ 79 ∷ 154 ∷ 206 ∷ 27 ∷ 177 ∷ 100
-    ∷ 114 ∷ 167 ∷ 13 ∷ 216 ∷ 140 ∷ 89 ∷ 243 ∷ 38 ∷ 91 ∷ 142 ∷ 36 ∷ 241 ∷ 165 ∷ 112 ∷ 218 ∷ 15
-    ∷ 32 ∷ 245 ∷ 95 ∷ 138 ∷ 222 ∷ 11 ∷ 161 ∷ 116 ∷ 9 ∷ 220 ∷ 118 ∷ 163 ∷ 247 ∷ 34 ∷ 136 ∷ 93
-    ∷ 214 ∷ 3 ∷ 169 ∷ 124 ∷ 40 ∷ 253 ∷ 87 ∷ 130 ∷ 255 ∷ 42 ∷ 128 ∷ 85 ∷ 1 ∷ 212 ∷ 126 ∷ 171
-    ∷ 132 ∷ 81 ∷ 251 ∷ 46 ∷ 122 ∷ 175 ∷ 5 ∷ 208 ∷ 173 ∷ 120 ∷ 210 ∷ 7 ∷ 83 ∷ 134 ∷ 44 ∷ 249 ∷ []
+-- ---- sums
 
-pub table-times : (k : ℕ) → k < 256 → get_or table k 0 ≡ times 8 k
-unfolding times times_x
-table-times k fits = eqb-true _ _ (at_number (λ k. get_or table k 0 == times 8 k) 256 k refl fits)
+times_x-top : (a : ℕ) → a < 256 → times_x (bit_xor a 128) ≡ bit_xor (times_x a) (times_x 128)
+unfolding times_x
+times_x-top a fits = eqb-true _ _ (at_number (λ a. times_x (bit_xor a 128) == bit_xor (times_x a) (times_x 128)) 256 a refl fits)
+
+times_x-added : (a : ℕ) (top : Bool) → a < 256 → times_x (bit_xor a (if top then 128 else 0)) ≡ bit_xor (times_x a) (times_x (if top then 128 else 0))
+unfolding times_x
+times_x-added a true fits = times_x-top a fits
+times_x-added a false fits = ap times_x (xor_zero_r a) ∙ sym (xor_zero_r (times_x a))
+
+times_x-sum : (a b : ℕ) → a < 256 → b < 256 → times_x (bit_xor a b) ≡ bit_xor (times_x a) (times_x b)
+times_x-sum a b fits_a fits_b =
+    let high : Bool = nat_le 128 b in
+    let top : ℕ = if high then 128 else 0 in
+    let low : lower b < 128 = lower-lt b fits_b in
+    ap (λ v. times_x (bit_xor a v)) (split b fits_b)
+    ∙ ap times_x (sym (xor_assoc a top (lower b)))
+    ∙ times_x-xor (bit_xor a top) (lower b) low
+    ∙ ap (λ v. bit_xor v (2 * lower b)) (times_x-added a high fits_a)
+    ∙ xor_assoc (times_x a) (times_x top) (2 * lower b)
+    ∙ ap (bit_xor (times_x a)) (sym (times_x-xor top (lower b) low) ∙ ap times_x (sym (split b fits_b)))
+
+pub times-sum : (n a b : ℕ) → a < 256 → b < 256 → times n (bit_xor a b) ≡ bit_xor (times n a) (times n b)
+unfolding times
+times-sum zero a b fits_a fits_b = refl
+times-sum (suc n) a b fits_a fits_b =
+    ap (times n) (times_x-sum a b fits_a fits_b) ∙ times-sum n (times_x a) (times_x b) (times_x-lt a fits_a) (times_x-lt b fits_b)
+
+pub times-lt : (n r : ℕ) → r < 256 → times n r < 256
+unfolding times
+times-lt zero r fits = fits
+times-lt (suc n) r fits = times-lt n (times_x r) (times_x-lt r fits)
+
+pub times-more : (n m r : ℕ) → times n (times m r) ≡ times (m + n) r
+unfolding times
+times-more n zero r =
+    let same : n ≡ 0 + n = omega arith in
+    ap (λ k. times k r) same
+times-more n (suc m) r =
+    let more : suc (m + n) ≡ suc m + n = omega arith in
+    times-more n m (times_x r) ∙ ap (λ k. times k r) more
+
+next_byte-sum : (a b byte : ℕ) → a < 256 → b < 256 → byte < 256 → next_byte (bit_xor a b) byte ≡ bit_xor (bit_xor (times 8 a) (times 8 b)) (times 8 byte)
+next_byte-sum a b byte fits_a fits_b fits =
+    next_byte-times (bit_xor a b) byte fits
+    ∙ times-sum 8 (bit_xor a b) byte (xor_of_8 a b fits_a fits_b) fits
+    ∙ ap (λ v. bit_xor v (times 8 byte)) (times-sum 8 a b fits_a fits_b)
 
 -- ---- bytes one after another
 
@@ -175,3 +205,52 @@ pub remainder-append : (r : ℕ) (xs ys : List Bool) → remainder r (xs ++ ys) 
 unfolding remainder
 remainder-append r [] ys = refl
 remainder-append r (x ∷ xs) ys = remainder-append (next_bit r x) xs ys
+
+remainder-cons : (r byte : ℕ) (bytes : List ℕ) → remainder r (flat_map bits_of (byte ∷ bytes)) ≡ remainder (next_byte r byte) (flat_map bits_of bytes)
+unfolding next_byte
+remainder-cons r byte bytes = ap (remainder r) (flat_map-cons bits_of byte bytes) ∙ remainder-append r (bits_of byte) (flat_map bits_of bytes)
+
+-- four bytes: each is as many times x as bits follow it, and the remainder so far is added to the first
+pub remainder-four : (r a b c d : ℕ) → r < 256 → a < 256 → b < 256 → c < 256 → d < 256 →
+    bit_xor (bit_xor (bit_xor (times 32 (bit_xor r a)) (times 24 b)) (times 16 c)) (times 8 d) ≡ remainder r (flat_map bits_of (a ∷ b ∷ c ∷ d ∷ []))
+unfolding remainder
+remainder-four r a b c d fits_r fits_a fits_b fits_c fits_d =
+    let s : ℕ = bit_xor r a in
+    let fits : s < 256 = xor_of_8 r a fits_r fits_a in
+    let first : next_byte r a ≡ times 8 s = next_byte-times r a fits_a in
+    let second : next_byte (times 8 s) b ≡ bit_xor (times 16 s) (times 8 b) =
+    next_byte-times (times 8 s) b fits_b ∙ times-sum 8 (times 8 s) b (times-lt 8 s fits) fits_b ∙ ap (λ v. bit_xor v (times 8 b)) (times-more 8 8 s) in
+    let third : next_byte (bit_xor (times 16 s) (times 8 b)) c ≡ bit_xor (bit_xor (times 24 s) (times 16 b)) (times 8 c) =
+    next_byte-sum (times 16 s) (times 8 b) c (times-lt 16 s fits) (times-lt 8 b fits_b) fits_c
+    ∙ ap (λ v. bit_xor (bit_xor v (times 8 (times 8 b))) (times 8 c)) (times-more 8 16 s)
+    ∙ ap (λ v. bit_xor (bit_xor (times 24 s) v) (times 8 c)) (times-more 8 8 b) in
+    let pair : ℕ = bit_xor (times 24 s) (times 16 b) in
+    let fourth : next_byte (bit_xor pair (times 8 c)) d ≡ bit_xor (bit_xor (bit_xor (times 32 s) (times 24 b)) (times 16 c)) (times 8 d) =
+    next_byte-sum pair (times 8 c) d (xor_of_8 _ _ (times-lt 24 s fits) (times-lt 16 b fits_b)) (times-lt 8 c fits_c) fits_d
+    ∙ ap (λ v. bit_xor (bit_xor v (times 8 (times 8 c))) (times 8 d)) (times-sum 8 (times 24 s) (times 16 b) (times-lt 24 s fits) (times-lt 16 b fits_b))
+    ∙ ap (λ v. bit_xor (bit_xor (bit_xor v (times 8 (times 16 b))) (times 8 (times 8 c))) (times 8 d)) (times-more 8 24 s)
+    ∙ ap (λ v. bit_xor (bit_xor (bit_xor (times 32 s) v) (times 8 (times 8 c))) (times 8 d)) (times-more 8 16 b)
+    ∙ ap (λ v. bit_xor (bit_xor (bit_xor (times 32 s) (times 24 b)) v) (times 8 d)) (times-more 8 8 c) in
+    sym fourth
+    ∙ ap (λ v. next_byte v d) (sym third)
+    ∙ ap (λ v. next_byte (next_byte v c) d) (sym second)
+    ∙ ap (λ v. next_byte (next_byte (next_byte v b) c) d) (sym first)
+    ∙ sym (remainder-cons (next_byte (next_byte (next_byte r a) b) c) d [])
+    ∙ sym (remainder-cons (next_byte (next_byte r a) b) c (d ∷ []))
+    ∙ sym (remainder-cons (next_byte r a) b (c ∷ d ∷ []))
+    ∙ sym (remainder-cons r a (b ∷ c ∷ d ∷ []))
+
+pub four : (bytes : List ℕ) → length bytes ≡ 4 → bytes ≡ get_or bytes 0 0 ∷ get_or bytes 1 0 ∷ get_or bytes 2 0 ∷ get_or bytes 3 0 ∷ []
+four (a ∷ b ∷ c ∷ d ∷ []) is = refl
+four [] is = absurd (cc)
+four (a ∷ []) is = absurd (cc)
+four (a ∷ b ∷ []) is = absurd (cc)
+four (a ∷ b ∷ c ∷ []) is = absurd (cc)
+four (a ∷ b ∷ c ∷ d ∷ e ∷ rest) is = absurd (omega (arith, is))
+
+pub sums : (a b c d a' b' c' d' : ℕ) → a ≡ a' → b ≡ b' → c ≡ c' → d ≡ d' → bit_xor (bit_xor (bit_xor a b) c) d ≡ bit_xor (bit_xor (bit_xor a' b') c') d'
+sums a b c d a' b' c' d' is_a is_b is_c is_d =
+    ap (λ v. bit_xor (bit_xor (bit_xor v b) c) d) is_a
+    ∙ ap (λ v. bit_xor (bit_xor (bit_xor a' v) c) d) is_b
+    ∙ ap (λ v. bit_xor (bit_xor (bit_xor a' b') v) d) is_c
+    ∙ ap (bit_xor (bit_xor (bit_xor a' b') c')) is_d

@@ -1,6 +1,6 @@
 -- CRC-8: the remainder by x^8 + x^7 + x^6 + x^4 + x^2 + 1 (EN 302 307-1, 5.1.4).
 -- A polynomial of degree below 8 is a byte, the coefficient of x^7 its highest bit.
-use Rattle.std.specs.Prelude.{ℕ, ◌*◌, ◌/◌, ◌%◌, ◌==◌, nat_le, Bool, List, [], ◌∷◌, map, bit_xor, if◌then◌else◌}
+use Rattle.std.specs.Prelude.{ℕ, ◌*◌, ◌/◌, ◌%◌, ◌==◌, nat_le, Bool, List, [], ◌∷◌, map, bit_xor, if◌then◌else◌, length, ◌<◌, ◌≡◌, ◌^◌}
 use Rattle.std.specs.List.{flat_map}
 
 -- the nine coefficients, 1 1101 0101
@@ -24,10 +24,19 @@ remainder r (bit ∷ bits) = remainder (next_bit r bit) bits
 unfoldable pub bits_of : ℕ → List Bool
 bits_of byte = map (λ weight. byte / weight % 2 == 1) (128 ∷ 64 ∷ 32 ∷ 16 ∷ 8 ∷ 4 ∷ 2 ∷ 1 ∷ [])
 
--- one byte more
-unfoldable pub next_byte : ℕ → ℕ → ℕ
-next_byte r byte = remainder r (bits_of byte)
-
 -- the remainder of x^8 times the polynomial of all the bits
 unfoldable pub crc8 : List ℕ → ℕ
 crc8 bytes = remainder 0 (flat_map bits_of bytes)
+
+-- a polynomial times the one with these coefficients, the highest first
+unfoldable pub product : ℕ → List Bool → ℕ
+product p [] = 0
+product p (bit ∷ bits) = bit_xor (if bit then p * 2 ^ length bits else 0) (product p bits)
+
+-- x^8, the number 256, times the polynomial with these coefficients is a multiple of the generator and a remainder of degree below 8
+abbrev pub IsRemainder : List Bool → ℕ → Type 0
+IsRemainder bits r = (r < 256) × ((quotient : List Bool) × (product 256 bits ≡ bit_xor (product generator quotient) r))
+
+-- the CRC-8 is the remainder of the bytes' polynomial
+abbrev pub RemainderLaw : Type 0
+RemainderLaw = (bytes : List ℕ) → IsRemainder (flat_map bits_of bytes) (crc8 bytes)

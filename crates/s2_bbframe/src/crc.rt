@@ -1,14 +1,49 @@
 //! CRC-8 (EN 302 307-1, 5.1.4).
-ghost use Rattle.std.specs.Prelude.{◌≡◌};
-ghost use Rattle.s2_bbframe.specs.Crc.{next_byte, crc8};
+ghost use Rattle.std.specs.Prelude.{◌≡◌, ◌%◌, length};
+ghost use Rattle.std.specs.List.{flat_map};
+ghost use Rattle.s2_bbframe.specs.Crc.{remainder, bits_of, crc8};
 
-use crate::table::REMAINDERS;
+use crate::table::{BY_8, BY_16, BY_24, BY_32};
 
 // one byte further
 fn next_byte(crc: u8, byte: u8) -> u8
-    ensures { result ≡ next_byte crc byte }
+    ensures { result ≡ remainder crc (bits_of byte) }
 {
-    REMAINDERS[usize::from(crc ^ byte)]
+    BY_8[usize::from(crc ^ byte)]
+}
+
+// four bytes further
+fn next_four(crc: u8, bytes: &[u8]) -> u8
+    requires { length bytes.now ≡ 4 }
+    ensures { result ≡ remainder crc (flat_map bits_of bytes.now) }
+{
+    BY_32[usize::from(crc ^ bytes[0])]
+        ^ BY_24[usize::from(bytes[1])]
+        ^ BY_16[usize::from(bytes[2])]
+        ^ BY_8[usize::from(bytes[3])]
+}
+
+// four at a time
+fn over_fours(bytes: &[u8]) -> u8
+    requires { length bytes.now % 4 ≡ 0 }
+    ensures { result ≡ crc8 bytes.now }
+{
+    let mut crc = 0;
+    for f in 0..bytes.len() / 4 {
+        crc = next_four(crc, &bytes[4 * f..4 * f + 4]);
+    }
+    crc
+}
+
+// so many bytes further
+fn over_bytes(start: u8, bytes: &[u8]) -> u8
+    ensures { result ≡ remainder start (flat_map bits_of bytes.now) }
+{
+    let mut crc = start;
+    for byte in bytes {
+        crc = next_byte(crc, *byte);
+    }
+    crc
 }
 
 /// The CRC-8 of these bytes: the remainder of their polynomial times x^8 by
@@ -16,9 +51,6 @@ fn next_byte(crc: u8, byte: u8) -> u8
 pub fn crc8(bytes: &[u8]) -> u8
     ensures { result ≡ crc8 bytes.now }
 {
-    let mut crc = 0;
-    for byte in bytes {
-        crc = next_byte(crc, *byte);
-    }
-    crc
+    let (fours, rest) = bytes.split_at(bytes.len() - bytes.len() % 4);
+    over_bytes(over_fours(fours), rest)
 }

@@ -19,7 +19,7 @@ pub const NO_PLACE: u16 = 65535;
 /// with constant coding and modulation.
 #[derive(Clone, Copy, Debug, PartialEq, Eq)]
 pub struct Header {
-    /// RO: 0 for roll-off 0.35, 1 for 0.25, 2 for 0.20.
+    /// RO: 0 for roll-off 0.35, 1 for 0.25, 2 for 0.20; 3 is reserved, and read as it stands.
     pub roll_off: u8,
     /// MATYPE-2.
     pub second: u8,
@@ -95,7 +95,8 @@ impl Header {
         dfl % 8 == 0 && dfl <= most && (dfl == 0 || has_place)
     }
 
-    /// What these bytes say of a frame of this mode, or the first of the faults in their order.
+    /// What these bytes say of a frame of this mode (EN 302 307-1, 5.1.6). Refuses, in this order, a
+    /// wrong CRC-8, a header of another stream, and lengths that no frame of the mode has.
     pub fn read(bytes: &[u8; 10], mode: Mode) -> Result<Header, HeaderFault>
         ensures { result ≡ reading mode bytes.now }
     {

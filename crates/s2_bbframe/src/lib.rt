@@ -1,7 +1,7 @@
 //! From packets to data fields with their headers (EN 302 307-1, 5.1): what a transmitter sends in a
 //! baseband frame before it is scrambled and coded.
 //!
-//! [`crc8`] is the remainder of the bytes' polynomial. A [`Slicer`] takes packets and gives the
+//! [`crc8`] is the remainder of the bytes' polynomial, which [`laws::remainder`] says of a division. A [`Slicer`] takes packets and gives the
 //! fields of their data stream, each as soon as it is full and the rest after [`Slicer::close`]:
 //! whatever packets came and whatever fields were taken, these together with what it still holds
 //! are the stream. [`Header::write`] writes a field's header, and [`Header::read`] accepts exactly
@@ -20,6 +20,7 @@
 
 mod crc;
 mod header;
+pub mod laws;
 mod slicer;
 mod table;
 

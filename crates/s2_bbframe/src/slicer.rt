@@ -60,7 +60,8 @@ impl Slicer {
     ghost use Rattle.s2_mode.specs.Mode.{Mode as ModeValue};
     ghost use Rattle.s2_bbframe.specs.Headers.{has_valid_lengths};
 
-    /// A slicer of fields of Kbch - 80 bits, with room for all that it will hold.
+    /// A slicer of fields of Kbch - 80 bits, with room for all that it will hold. Fails only where
+    /// there is no memory.
     pub fn new(alloc: Global, mode: Mode) -> Result<Slicer, AllocError>
         ensures begins { IfOk result (λ s. s ≡ starting (field_bytes mode)) }
         ensures stream { IfOk result (Sliced [] []) }
@@ -131,8 +132,8 @@ impl Slicer {
         self.closed = false;
     }
 
-    /// Takes the next field into the first `dfl / 8` bytes of `field`, and leaves the others. `None`
-    /// where no field can be taken. [`Header::read`] accepts the lengths of each header: a place for
+    /// Takes the next field into the first `dfl / 8` bytes of `field`, which has [`Slicer::size`]
+    /// bytes, and leaves the others. `None` where no field can be taken. [`Header::read`] accepts the lengths of each header: a place for
     /// a CRC-8 lies in every field.
     pub fn take(&mut self, roll_off: u8, field: &mut [u8]) -> Option<Header>
         requires { length field.old ≡ self.old.size }

@@ -1,5 +1,5 @@
 //! CRC-8, headers and fields by their worked values.
-use crate::{Header, HeaderFault, NO_PLACE, NoSync, Slicer, crc8};
+use crate::{Header, HeaderFault, NO_PLACE, NoSync, Slicer, crc8, laws};
 use s2_mode::Mode;
 use std::process::Abort;
 use std::test::Fail;
@@ -10,6 +10,7 @@ fn has_the_check_values_of_crc8(rt: HostRuntime) {
     assert_eq!(rt; crc8(&[1]), 0xd5);
     assert_eq!(rt; crc8(&[0; 187]), 0);
     assert_eq!(rt; crc8(b"123456789"), 0xbc);
+    laws::remainder();
 }
 
 // The header of a full or a last field of QPSK 1/4.
@@ -70,36 +71,83 @@ fn refuses_headers_in_order(rt: HostRuntime) -> Result<(), Fail> {
     Ok(())
 }
 
+/// Nine bytes of a header and their CRC-8.
+fn closed(nine: &[u8; 9]) -> [u8; 10] {
+    let mut bytes = [0; 10];
+    bytes[..9].copy_from_slice(nine);
+    bytes[9] = crc8(nine);
+    bytes
+}
+
 #[test]
-fn judges_forged_headers(rt: HostRuntime) -> Result<(), Fail> {
+fn refuses_forged_headers(rt: HostRuntime) -> Result<(), Fail> {
     let mode = Mode::of(1, true, false).ok_or("none")?;
-    let cases: [([u8; 9], Option<HeaderFault>); 7] = [
+    let cases = [
         (
             [0xf0, 0, 0x05, 0xe0, 0x0b, 0xb8, 0x47, 0, 0],
-            Some(HeaderFault::BadLengths),
+            HeaderFault::BadLengths,
         ),
         (
             [0xf0, 0, 0x05, 0xe0, 0x00, 0x18, 0x47, 0, 0x18],
-            Some(HeaderFault::BadLengths),
+            HeaderFault::BadLengths,
         ),
         (
             [0xf0, 0, 0x05, 0xe0, 0x0b, 0xb0, 0x47, 0x05, 0xe0],
-            Some(HeaderFault::BadLengths),
+            HeaderFault::BadLengths,
         ),
         (
             [0xf0, 0, 0x05, 0xe0, 0x0b, 0xb0, 0x48, 0, 0],
-            Some(HeaderFault::OtherStream),
+            HeaderFault::OtherStream,
         ),
-        ([0xf0, 0, 0x05, 0xe0, 0x0b, 0xb0, 0x47, 0xff, 0xff], None),
-        ([0xf0, 0, 0x05, 0xe0, 0x00, 0x00, 0x47, 0, 0x04], None),
-        ([0xf3, 0x5a, 0x05, 0xe0, 0x0b, 0xb0, 0x47, 0, 0], None),
     ];
     for (nine, want) in cases {
-        let mut bytes = [0; 10];
-        bytes[..9].copy_from_slice(&nine);
-        bytes[9] = crc8(&nine);
-        assert_eq!(rt; Header::read(&bytes, mode).err(), want);
+        assert_eq!(rt; Header::read(&closed(&nine), mode), Err(want));
     }
+    Ok(())
+}
+
+#[test]
+fn accepts_forged_headers(rt: HostRuntime) -> Result<(), Fail> {
+    let mode = Mode::of(1, true, false).ok_or("none")?;
+    let cases = [
+        (
+            [0xf0, 0, 0x05, 0xe0, 0x0b, 0xb0, 0x47, 0xff, 0xff],
+            (0, 0, 2992, NO_PLACE),
+        ),
+        (
+            [0xf0, 0, 0x05, 0xe0, 0x00, 0x00, 0x47, 0, 0x04],
+            (0, 0, 0, 4),
+        ),
+        (
+            [0xf3, 0x5a, 0x05, 0xe0, 0x0b, 0xb0, 0x47, 0, 0],
+            (3, 0x5a, 2992, 0),
+        ),
+    ];
+    for (nine, (roll_off, second, dfl, syncd)) in cases {
+        let want = Header {
+            roll_off,
+            second,
+            dfl,
+            syncd,
+        };
+        assert_eq!(rt; Header::read(&closed(&nine), mode), Ok(want));
+    }
+    Ok(())
+}
+
+#[test]
+fn prints_refusals(rt: HostRuntime) -> Result<(), Fail> {
+    let text = format!(in rt.alloc();
+        "{}, {}, {}, {}",
+        HeaderFault::BadCrc,
+        HeaderFault::OtherStream,
+        HeaderFault::BadLengths,
+        NoSync
+    )?;
+    assert_eq!(rt;
+        text.as_str(),
+        "bad CRC-8 in a header, header of another stream, bad lengths in a header, no sync"
+    );
     Ok(())
 }
 

@@ -1,27 +1,22 @@
-use Rattle.std.proofs.Common.{◌≡◌, ◌+◌, ◌<◌, ap, ◌∙◌, refl, sym, arith, drop, length, get_or, []}
+use Rattle.std.proofs.Common.{◌≡◌, ap, ◌∙◌, sym, take, length, ◌-◌, ◌%◌, ◌++◌}
 use Rattle.std.specs.List.{flat_map}
-use Rattle.std.proofs.lemmas.List.{drop_more, drop_all}
-use Rattle.s2_bbframe.specs.Crc.{remainder, bits_of, next_byte, crc8}
+use Rattle.std.proofs.lemmas.List.{take-append-drop}
+use Rattle.std.proofs.lemmas.Grind.{flat_map-append}
+use Rattle.s2_bbframe.specs.Crc.{remainder, bits_of, crc8}
 use Rattle.s2_bbframe.proofs.Remainders.{remainder-append}
 use Rattle.s2_bbframe.proofs.crc.crc8.Goals as goal
 
-pub loop-byte-init : goal.loop-byte-init
-unfolding crc8
-loop-byte-init c = refl
-
-pub loop-byte-preserved : goal.loop-byte-preserved
-unfolding next_byte
-loop-byte-preserved c =
-    let here : c.loop-byte.byte-index < length c.args.bytes.now = omega arith in
-    let more = drop_more c.args.bytes.now c.loop-byte.byte-index 0 here in
-    let rest = flat_map bits_of (drop (c.loop-byte.byte-index + 1) c.args.bytes.now) in
-    ap (λ crc. remainder crc rest) c.next_byte-crc.ensures
-    ∙ sym (remainder-append c.loop-byte.crc (bits_of (get_or c.args.bytes.now c.loop-byte.byte-index 0)) rest)
-    ∙ ap (λ bytes. remainder c.loop-byte.crc (flat_map bits_of bytes)) (sym more)
-    ∙ c.loop-byte.invariant
-
 pub returns : goal.returns
-unfolding remainder
+unfolding crc8
 returns c =
-    let none : drop c.loop-byte.byte-index c.args.bytes.now ≡ [] = drop_all c.loop-byte.byte-index c.args.bytes.now (omega arith) in
-    ap (λ bytes. remainder c.loop-byte.crc (flat_map bits_of bytes)) (sym none) ∙ c.loop-byte.invariant
+    let front = c.split_at.result.0.now in
+    let back = c.split_at.result.1.now in
+    let bytes = c.args.bytes.now in
+    let size = length bytes - length bytes % 4 in
+    let whole : front ++ back ≡ bytes =
+    ap (λ list. list ++ back) c.split_at.ensures.front ∙ ap (λ list. take size bytes ++ list) c.split_at.ensures.back ∙ take-append-drop size bytes in
+    c.over_bytes.ensures
+    ∙ ap (λ r. remainder r (flat_map bits_of back)) c.over_fours.ensures
+    ∙ sym (remainder-append 0 (flat_map bits_of front) (flat_map bits_of back))
+    ∙ ap (remainder 0) (sym (flat_map-append bits_of front back))
+    ∙ ap (λ list. remainder 0 (flat_map bits_of list)) whole
