@@ -1,15 +1,14 @@
--- Blocks of the baseband scrambler's sequence: the first one, how one becomes the next place by place, how one is added to bits, and what the bits are then.
-use Rattle.std.proofs.Common.{◌≡◌, ℕ, ◌+◌, ◌-◌, ◌<◌, ◌≤◌, ◌≢◌, Bool, false, List, [], ◌∷◌, length, set, refl, sym, ap, subst, ◌∙◌, arith, get_or, get_or-set_other, get_or-set_same, length-set}
+-- Blocks of the baseband scrambler's sequence: the first one, how one becomes the next, how one is added to bits, and what the bits are then.
+use Rattle.std.proofs.Common.{◌≡◌, ℕ, ◌+◌, ◌-◌, ◌<◌, ◌≤◌, ◌≢◌, Bool, false, List, [], ◌∷◌, ◌++◌, length, take, drop, set, refl, sym, ap, ap₂, subst, ◌∙◌, arith, get_or, get_or-set_other, get_or-set_same, length-set, length-drop}
 use Rattle.s2_bits.specs.Bits.{xor, bit_at, Rewritten}
 use Rattle.s2_bits.proofs.Steps.{by_order}
 use Rattle.s2_scramble.specs.Baseband.{initial_bits, baseband_bit, scrambling_bit, scrambled, HoldsBlock}
 use Rattle.s2_scramble.proofs.Squares.{later, once, xor-undone}
-use Rattle.std.proofs.lemmas.List.{ext_get_or}
+use Rattle.std.proofs.lemmas.List.{ext_get_or, get_or_append_left, get_or-append_right, get_or-take, get_or-drop, length-take-le}
 use Rattle.std.proofs.lemmas.List.FromFn.{fill_by_all, get_or-map-range_with_len, length-map-range_with_len}
 use Rattle.s2_scramble.proofs.Pieces.{Rewritten-piece, get_or-mid_of}
 use borrow.Rule.Slice.PartMut.{put_mid, mid_of}
 use Rattle.s2_scramble.proofs.Filled.{Filled, Filled-set}
-use Rattle.s2_scramble.proofs.Sequences.{first-sequence_bit}
 
 -- the first i places hold the next block, and the others the old one
 pub record Advanced (i : ℕ) (old now : List Bool) : Type 0 where
@@ -20,12 +19,9 @@ pub record Advanced (i : ℕ) (old now : List Bool) : Type 0 where
 pub Advanced-start : (old : List Bool) → Advanced 0 old old
 Advanced-start old = record { long = refl; done = λ at h k lt. absurd (omega (arith, lt)); left = λ k le. refl }
 
--- place i becomes its sum with a place that holds the bit 16 further on
-step : (i j : ℕ) (old now : List Bool) (bit : Bool) → length old ≡ 240 → i < 240 → Advanced i old now
-    → ((at : ℕ) → HoldsBlock at old → bit_at now j ≡ baseband_bit (at + (i + 16)))
-    → bit ≡ xor (bit_at now i) (bit_at now j)
-    → Advanced (i + 1) old (set now i bit)
-step i j old now bit e lt before further sum =
+-- place i becomes its sum with the place 16 further on
+pub Advanced-front : (i : ℕ) (old now : List Bool) (bit : Bool) → length old ≡ 240 → i < 224 → Advanced i old now → bit ≡ xor (bit_at now i) (bit_at now (i + 16)) → Advanced (i + 1) old (set now i bit)
+Advanced-front i old now bit e lt before sum =
     let same : length now ≡ length old = before.long in
     let room : i < length now = omega arith in
     record {
@@ -36,26 +32,32 @@ step i j old now bit e lt before further sum =
           subst (λ m. get_or (set now i bit) m false ≡ baseband_bit (at + 240 + m)) is
           (get_or-set_same now i bit false room
           ∙ (sum
-          ∙ (ap (λ u. xor u (bit_at now j)) (before.left i (omega arith) ∙ h i lt)
-          ∙ (ap (xor (baseband_bit (at + i))) (further at h)
+          ∙ (ap (λ u. xor u (bit_at now (i + 16))) (before.left i (omega arith) ∙ h i (omega arith))
+          ∙ (ap (xor (baseband_bit (at + i))) (before.left (i + 16) (omega arith) ∙ h (i + 16) (omega arith))
           ∙ sym (later at i))))));
       left = λ k l. let ne : k ≢ i = omega arith in get_or-set_other now i k bit false ne ∙ before.left k (omega arith);
     }
 
-pub Advanced-front : (i : ℕ) (old now : List Bool) (bit : Bool) → length old ≡ 240 → i < 224 → Advanced i old now → bit ≡ xor (bit_at now i) (bit_at now (i + 16)) → Advanced (i + 1) old (set now i bit)
-Advanced-front i old now bit e lt before sum =
-    step i (i + 16) old now bit e (omega arith) before (λ at h. before.left (i + 16) (omega arith) ∙ h (i + 16) (omega arith)) sum
-
-pub Advanced-back : (i : ℕ) (old now : List Bool) (bit : Bool) → length old ≡ 240 → 224 ≤ i → i < 240 → Advanced i old now → bit ≡ xor (bit_at now i) (bit_at now (i - 224)) → Advanced (i + 1) old (set now i bit)
-Advanced-back i old now bit e le lt before sum =
-    step i (i - 224) old now bit e lt before
-    (λ at h. let same : at + 240 + (i - 224) ≡ at + (i + 16) = omega arith in
-    before.done at h (i - 224) (omega arith) ∙ ap baseband_bit same)
-    sum
-
-pub Filled-initial : (i : ℕ) (bits : List Bool) (bit : Bool) → i < 15 → Filled baseband_bit 255 i bits → bit ≡ bit_at initial_bits i → Filled baseband_bit 255 (i + 1) (set bits i bit)
-Filled-initial i bits bit lt before is =
-    Filled-set baseband_bit 255 i bits bit (omega arith) before (is ∙ sym (first-sequence_bit initial_bits (1 ∷ 0 ∷ []) i lt))
+-- the last 16 places become their sums with the first ones
+pub Advanced-back : (old now front rest back : List Bool) → length old ≡ 240 → Advanced 224 old now → front ≡ take 224 now → rest ≡ drop 224 now
+    → Rewritten false (length rest) (λ k. xor (bit_at rest k) (bit_at front k)) rest back
+    → (at : ℕ) → HoldsBlock at old → HoldsBlock (at + 240) (front ++ back)
+Advanced-back old now front rest back e before is_front is_rest sums at h k lt =
+    let same : length now ≡ length old = before.long in
+    let long : length front ≡ 224 = ap length is_front ∙ length-take-le 224 now (omega arith) in
+    let short : length rest ≡ 16 = ap length is_rest ∙ (length-drop 224 now ∙ omega arith) in
+    by_order k 224
+    (λ b. get_or_append_left front back false k (omega arith)
+    ∙ (ap (λ l. bit_at l k) is_front ∙ (get_or-take 224 now k false b ∙ before.done at h k b)))
+    (λ a. let i = k - 224 in
+    let here : 224 + (k - 224) ≡ k = omega arith in
+    let there : at + 240 + (k - 224) ≡ at + (k + 16) = omega arith in
+    let last : bit_at rest i ≡ baseband_bit (at + k) =
+    ap (λ l. bit_at l i) is_rest ∙ (get_or-drop 224 now i false ∙ (ap (bit_at now) here ∙ (before.left k a ∙ h k lt))) in
+    let first : bit_at front i ≡ baseband_bit (at + (k + 16)) =
+    ap (λ l. bit_at l i) is_front ∙ (get_or-take 224 now i false (omega arith) ∙ (before.done at h i (omega arith) ∙ ap baseband_bit there)) in
+    get_or-append_right front back 224 k false long a
+    ∙ (sums.done i (omega arith) ∙ (ap₂ xor last first ∙ sym (later at k))))
 
 pub Filled-block : (i : ℕ) (bits : List Bool) (bit : Bool) → 15 ≤ i → i < 255 → Filled baseband_bit 255 i bits → bit ≡ xor (bit_at bits (i - 14)) (bit_at bits (i - 15)) → Filled baseband_bit 255 (i + 1) (set bits i bit)
 Filled-block i bits bit le lt before is =

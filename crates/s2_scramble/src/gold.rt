@@ -21,8 +21,10 @@ pub const MOST_SYMBOLS: usize = 33192;
 /// Why there is no scrambler.
 #[derive(Clone, Copy, Debug, PartialEq, Eq, Error)]
 pub enum GoldFault {
+    /// The number is over 262141, so no Gold sequence of the standard has it.
     #[error("no such scrambling number")]
     BadNumber,
+    /// There is no memory for the scrambler's tables.
     #[error("no memory")]
     NoMemory,
 }
@@ -47,7 +49,9 @@ impl Model for Gold {
 }
 
 impl Gold {
-    /// The scrambler of a number, which is at most 262141.
+    /// The scrambler of a scrambling number (EN 302 307-1, 5.5.4). Refuses a number over 262141
+    /// with `BadNumber`, before it takes memory, and answers `NoMemory` where memory is refused.
+    /// Then nothing is kept.
     pub fn new(alloc: Global, number: u32) -> Result<Gold, GoldFault>
         ensures number { IfOk result (λ g. g ≡ number) }
         ensures bad_number { IsErrOf result GoldFault.BadNumber ↔ (262141 < number) }

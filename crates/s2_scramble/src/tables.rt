@@ -5,6 +5,7 @@ ghost use Rattle.s2_scramble.specs.Gold.{x, y, z, quarter_turns};
 ghost use Rattle.s2_scramble.specs.Turns.{HoldsTurns};
 
 use crate::gold::MOST_SYMBOLS;
+use crate::sequence::begin;
 use std::alloc::{AllocError, Global};
 
 /// After how many bits x and y begin anew: 2^18 - 1.
@@ -12,6 +13,15 @@ const PERIOD: usize = 262143;
 
 /// How much further on the bit stands that is worth two quarters.
 const HALF: usize = 131072;
+
+/// The bits that x begins with: a one and 17 zeros.
+const X_START: [bool; 18] = [
+    true, false, false, false, false, false, false, false, false, false, false, false, false,
+    false, false, false, false, false,
+];
+
+/// The bits that y begins with: 18 ones.
+const Y_START: [bool; 18] = [true; 18];
 
 /// The quarter turns of all symbols that can follow a frame's header.
 pub(crate) fn quarter_turns(alloc: Global, number: u32) -> Result<Vec<u8>, AllocError>
@@ -41,27 +51,23 @@ fn y_table(alloc: Global) -> Result<Vec<bool>, AllocError>
     Ok(bits)
 }
 
-/// x: a one and 17 zeros, and then sums of two bits.
+/// x: its first bits, and then sums of two bits.
 fn fill_x(bits: &mut [bool])
     requires { 18 ≤ length bits.old }
     ensures { HoldsFirst x (length bits.old) bits.new }
 {
-    'start: for i in 0..18 {
-        bits[i] = i == 0;
-    }
+    begin(bits, &X_START);
     'rest: for i in 18..bits.len() {
         bits[i] = bits[i - 11] ^ bits[i - 18];
     }
 }
 
-/// y: 18 ones, and then sums of four bits.
+/// y: its first bits, and then sums of four bits.
 fn fill_y(bits: &mut [bool])
     requires { 18 ≤ length bits.old }
     ensures { HoldsFirst y (length bits.old) bits.new }
 {
-    'start: for i in 0..18 {
-        bits[i] = true;
-    }
+    begin(bits, &Y_START);
     'rest: for i in 18..bits.len() {
         bits[i] = bits[i - 8] ^ bits[i - 11] ^ bits[i - 13] ^ bits[i - 18];
     }
