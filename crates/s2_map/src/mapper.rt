@@ -10,7 +10,12 @@ use crate::points::PSK;
 use s2_bits::Bits;
 use s2_mode::{Mode, Symbol};
 
-/// Writes the payload of a codeword: for each slot of the mode 90 symbols.
+/// Writes the payload of a codeword: its bits interleaved (EN 302 307-1, 5.3.3), and each two
+/// (QPSK) or three (8PSK) of them as one symbol (5.4).
+///
+/// `word` has the codeword's 64800 bits (normal frames) or 16200 (short ones). `payload` has 90
+/// symbols for each slot of the mode: 32400 or 8100 for QPSK, 21600 or 5400 for 8PSK. Each is
+/// written.
 pub fn map_into(mode: Mode, word: &Bits, payload: &mut [Symbol])
     requires word { length word.now ≡ n_of mode }
     requires room { length payload.old ≡ 90 * slots_of mode }

@@ -22,7 +22,13 @@ const PILOTS: [Symbol; 36] = [Symbol {
     q: AMPLITUDE,
 }; 36];
 
-/// Writes the frame of a payload, which has 90 symbols for each slot.
+/// Writes the physical frame of a payload (EN 302 307-1, 5.5): the header's 90 symbols, and then
+/// the slots, with a pilot block of 36 symbols after every 16 slots where the mode has pilots and
+/// slots follow. All that comes after the header is turned by the scrambler.
+///
+/// `payload` has 90 symbols for each slot: 32400, 8100, 21600 or 5400 of them for QPSK normal and
+/// short and 8PSK normal and short. `frame` has `mode.symbols()` of them: 32490, 8190, 21690 or 5490
+/// without pilots, and 33282, 8370, 22194 or 5598 with pilots. Each is written.
 pub fn frame_into(mode: Mode, gold: &Gold, payload: &[Symbol], frame: &mut [Symbol])
     requires payload { length payload.now ≡ 90 * slots_of mode }
     requires room { length frame.old ≡ symbols_in mode }
