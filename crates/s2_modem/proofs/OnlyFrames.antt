@@ -9,15 +9,16 @@ use Rattle.s2_bbframe.specs.declared.header.Header.{Header}
 use Rattle.s2_bbframe.specs.DataStream.{field_bytes}
 use Rattle.s2_bbframe.specs.Headers.{header_bytes}
 use Rattle.s2_scramble.proofs.Blocks.{length-scrambled}
-use Rattle.s2_bch.specs.Words.{IsWordOf, word-unique}
+use Rattle.s2_bch.specs.Words.{IsWordOf}
 use Rattle.s2_bch.specs.Codes.{IsBchWordOf}
 use Rattle.s2_bch.specs.Generators.{generator_of}
+use Rattle.s2_bch.proofs.GeneratorDegrees.{parity_bits}
+use Rattle.s2_bch.proofs.WordFacts.{word-unique}
 use Rattle.s2_ldpc.specs.Encoding.{IsCodewordOf, UniqueLaw}
 use Rattle.s2_modem.specs.Link.{Link}
 use Rattle.s2_modem.specs.Spelling.{byte_bits, bits_of, padded_bits}
 use Rattle.s2_modem.specs.Frames.{baseband_frame, IsCodewordFor, IsFrameOf, frame_bytes}
 use Rattle.s2_modem.specs.Laws.{FrameLaw}
-use Rattle.s2_modem.proofs.GeneratorDegrees.{parity_bits}
 
 length-bits_of : (bytes : List ℕ) → length (bits_of bytes) ≡ 8 * length bytes
 length-bits_of [] = refl

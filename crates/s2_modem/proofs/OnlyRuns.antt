@@ -1,5 +1,5 @@
 -- Two runs over the same bytes, in which neither a read nor a write failed, answer the same and write the same.
-use Rattle.std.proofs.Common.{◌≡◌, ◌≢◌, ℕ, zero, suc, ◌+◌, ◌-◌, ◌/◌, ◌≤◌, List, [], ◌∷◌, ◌++◌, Option, Some, None, Result, Ok, Err, length, take, drop, refl, sym, ap, subst, ◌∙◌, arith, length-take}
+use Rattle.std.proofs.Common.{◌≡◌, ◌≢◌, ℕ, zero, suc, ◌+◌, ◌-◌, ◌/◌, ◌≤◌, List, [], ◌∷◌, ◌++◌, Option, Some, None, Result, Ok, Err, length, take, drop, refl, sym, ap, subst, ◌∙◌, arith, append-nil, length-take}
 use Rattle.std.specs.Prelude.{◌==◌, nat_lt, if◌then◌else◌}
 use Rattle.std.proofs.lemmas.Bool.{eq-eqb, ne_eqb, lt-ltb, le-ltb}
 use Rattle.std.specs.Io.KnownBytes.{Appends}
@@ -11,7 +11,7 @@ use Rattle.s2_modem.specs.declared.outcome.SendFault.TheVariants.{NotWholePacket
 use Rattle.s2_modem.specs.Link.{Link}
 use Rattle.s2_modem.specs.Sending.{joined, AreFrames}
 use Rattle.s2_modem.specs.Laws.{IsLinkOf, FrameLaw, ReadFails, RunLaw}
-use Rattle.s2_modem.proofs.PacketsRead.{same_packets, Leaves, leaves_stop, fields_by, Reading, reading}
+use Rattle.s2_modem.proofs.PacketsRead.{same_packets, Leaves, leaves_stop, fields_by, Reading, reading, none_begun}
 
 -- ---- the answer
 
@@ -69,15 +69,15 @@ module _ (m : Mode) (law : FrameLaw m) (link : Link) (linked : IsLinkOf m link) 
   same_frames stream (Err fault) gs hs A B = same_cuts (length stream / size) 0 stream gs hs A B
 
 -- what a writer holds then
-written : (held : List ℕ) (writer : Option (List ℕ)) (frames : List (List ℕ)) → Appends (Some held) writer (joined frames) → writer ≡ Some (held ++ joined frames)
-written held None frames h = absurd h
-written held (Some now) frames h = ap (λ l. Some l) h
+written : (held begun : List ℕ) (writer : Option (List ℕ)) (frames : List (List ℕ)) → begun ≡ [] → Appends (Some held) writer (joined frames ++ begun) → writer ≡ Some (held ++ joined frames)
+written held begun None frames none h = absurd h
+written held begun (Some now) frames none h = ap (λ l. Some l) (h ∙ ap (λ l. held ++ l) (ap (λ l. joined frames ++ l) none ∙ append-nil (joined frames)))
 
 pub one_run_law : (m : Mode) → FrameLaw m → RunLaw m
 one_run_law m law = λ link bytes held count_a count_b new_a new_b reader_a reader_b writer_a writer_b a b linked none_a none_b A B.
     let n = field_bytes link.setup.mode in
-    let ra = reading n (ReadFails count_a new_a) bytes A.behind reader_a A.packets A.rest A.fields a none_a A.read A.ends A.outcome in
-    let rb = reading n (ReadFails count_b new_b) bytes B.behind reader_b B.packets B.rest B.fields b none_b B.read B.ends B.outcome in
+    let ra = reading n (ReadFails count_a new_a) bytes reader_a A.packets A.rest A.fields a none_a A.read A.ends A.outcome in
+    let rb = reading n (ReadFails count_b new_b) bytes reader_b B.packets B.rest B.fields b none_b B.read B.ends B.outcome in
     let same = same_packets A.packets B.packets ra.left rb.left A.each_is_packet B.each_is_packet
     (leaves_stop _ ra.left a ra.leaves) (leaves_stop _ rb.left b rb.leaves) (sym ra.bytes_are ∙ rb.bytes_are) in
     let answer : a ≡ b =
@@ -90,5 +90,7 @@ one_run_law m law = λ link bytes held count_a count_b new_a new_b reader_a read
     same_frames m law link linked (stream_of A.packets) a A.frames B.frames
     (subst (λ l. AreFrames link 0 l A.frames) ra.fields_are A.are_frames) (subst (λ l. AreFrames link 0 l B.frames) fields B.are_frames) in (
       answer,
-      written held writer_a A.frames (A.written none_a.1) ∙ ((λ t. Some (held ++ joined (frames t))) ∙ sym (written held writer_b B.frames (B.written none_b.1))),
+      written held A.begun writer_a A.frames (none_begun link reader_a A.packets A.fields A.begun a none_a A.begins) A.written
+          ∙ ((λ t. Some (held ++ joined (frames t)))
+          ∙ sym (written held B.begun writer_b B.frames (none_begun link reader_b B.packets B.fields B.begun b none_b B.begins) B.written)),
     )

@@ -8,7 +8,8 @@ use Rattle.s2_bbframe.specs.DataStream.{IsPacket, stream_of, full_fields, fields
 use Rattle.s2_modem.specs.declared.outcome.Counts.{Counts}
 use Rattle.s2_modem.specs.declared.outcome.SendFault.{SendFault}
 use Rattle.s2_modem.specs.declared.outcome.SendFault.TheVariants.{NotWholePacket, NoSync, Read, Write}
-use Rattle.s2_modem.specs.Sending.{joined, Outcome, EndsThere}
+use Rattle.s2_modem.specs.Link.{Link}
+use Rattle.s2_modem.specs.Sending.{joined, Outcome, EndsThere, Begins}
 use Rattle.s2_modem.specs.Laws.{NoneFailed}
 
 -- ---- the packets at the front of some bytes
@@ -71,34 +72,43 @@ pub record Reading (size : ℕ) (bytes : List ℕ) (packets fields : List (List 
   pub fields_are : fields ≡ fields_by size (stream_of packets) result
   pub frame_count : (counts : Counts) → result ≡ Ok counts → counts.frames ≡ length fields
 
-pub reading : (size : ℕ) (MayFail : ℕ → Type 0) (bytes : List ℕ) (behind reader_new : Option (List ℕ)) (packets : List (List ℕ)) (rest : List ℕ) (fields : List (List ℕ)) (result : Result Counts SendFault)
-    → NoneFailed result → Consumes (Some bytes) behind (joined packets ++ rest) → EndsThere result behind reader_new → Outcome size MayFail packets rest fields result
+pub reading : (size : ℕ) (MayFail : ℕ → Type 0) (bytes : List ℕ) (reader_new : Option (List ℕ)) (packets : List (List ℕ)) (rest : List ℕ) (fields : List (List ℕ)) (result : Result Counts SendFault)
+    → NoneFailed result → Consumes (Some bytes) reader_new (joined packets ++ rest) → EndsThere result reader_new → Outcome size MayFail packets rest fields result
     → Reading size bytes packets fields result
-reading size MayFail bytes None reader_new packets rest fields result none read ends outcome = absurd read
-reading size MayFail bytes (Some beyond) reader_new packets rest fields (Ok counts) none read ends outcome = record {
+reading size MayFail bytes None packets rest fields result none read ends outcome = absurd read
+reading size MayFail bytes (Some beyond) packets rest fields (Ok counts) none read ends outcome = record {
   left = rest ++ beyond;
   bytes_are = read ∙ append_assoc (joined packets) rest beyond;
-  leaves = ((λ t. outcome.0 t ++ ends.1 t), outcome.2);
-  fields_are = outcome.1;
-  frame_count = λ other e. (let same : other ≡ counts = cc in ap (λ x. x.frames) same) ∙ outcome.3;
+  leaves = ((λ t. outcome.1 t ++ ends t), outcome.3);
+  fields_are = outcome.2;
+  frame_count = λ other e. (let same : other ≡ counts = cc in ap (λ x. x.frames) same) ∙ outcome.4;
 }
-reading size MayFail bytes (Some beyond) reader_new packets rest fields (Err NotWholePacket) none read ends outcome =
-    let whole : rest ++ beyond ≡ rest = ap (λ l. rest ++ l) ends.1 ∙ append-nil rest in
+reading size MayFail bytes (Some beyond) packets rest fields (Err NotWholePacket) none read ends outcome =
+    let whole : rest ++ beyond ≡ rest = ap (λ l. rest ++ l) ends ∙ append-nil rest in
     record {
       left = rest;
       bytes_are = read ∙ (append_assoc (joined packets) rest beyond ∙ ap (λ l. joined packets ++ l) whole);
-      leaves = (outcome.0, outcome.1);
-      fields_are = outcome.2;
-      frame_count = λ other e. absurd (cc);
-    }
-reading size MayFail bytes (Some beyond) reader_new packets rest fields (Err (NoSync packet)) none read ends outcome =
-    let some : 0 < length rest = omega (arith, outcome.0) in
-    record {
-      left = rest ++ beyond;
-      bytes_are = read ∙ append_assoc (joined packets) rest beyond;
-      leaves = (omega (arith, outcome.0, length-append rest beyond), λ e. outcome.1 (sym (get_or_append_left rest beyond 0 0 some) ∙ e), outcome.2);
+      leaves = (outcome.1, outcome.2);
       fields_are = outcome.3;
       frame_count = λ other e. absurd (cc);
     }
-reading size MayFail bytes (Some beyond) reader_new packets rest fields (Err Read) none read ends outcome = absurd (none.0 refl)
-reading size MayFail bytes (Some beyond) reader_new packets rest fields (Err Write) none read ends outcome = absurd (none.1 refl)
+reading size MayFail bytes (Some beyond) packets rest fields (Err (NoSync packet)) none read ends outcome =
+    let some : 0 < length rest = omega (arith, outcome.1) in
+    record {
+      left = rest ++ beyond;
+      bytes_are = read ∙ append_assoc (joined packets) rest beyond;
+      leaves = (omega (arith, outcome.1, length-append rest beyond), λ e. outcome.2 (sym (get_or_append_left rest beyond 0 0 some) ∙ e), outcome.3);
+      fields_are = outcome.4;
+      frame_count = λ other e. absurd (cc);
+    }
+reading size MayFail bytes (Some beyond) packets rest fields (Err Read) none read ends outcome = absurd (none.0 refl)
+reading size MayFail bytes (Some beyond) packets rest fields (Err Write) none read ends outcome = absurd (none.1 refl)
+
+-- no frame is broken off
+pub none_begun : (link : Link) (reader_new : Option (List ℕ)) (packets fields : List (List ℕ)) (begun : List ℕ) (result : Result Counts SendFault)
+    → NoneFailed result → Begins link reader_new packets fields begun result → begun ≡ []
+none_begun link reader_new packets fields begun (Ok counts) none h = h
+none_begun link reader_new packets fields begun (Err NotWholePacket) none h = h
+none_begun link reader_new packets fields begun (Err (NoSync packet)) none h = h
+none_begun link reader_new packets fields begun (Err Read) none h = h
+none_begun link reader_new packets fields begun (Err Write) none h = absurd (none.1 refl)

@@ -1,7 +1,8 @@
 //! Makes frames of data fields.
-ghost use Rattle.std.specs.Prelude.{◌≡◌, ◌-◌, ◌^◌, ◌<◌, ◌≤◌, ℕ, List, IfOk, OnOk, length};
+ghost use Rattle.std.specs.Prelude.{◌≡◌, ◌-◌, ◌^◌, ◌<◌, ◌≤◌, ℕ, List, IfOk, OnOk, OnErr, length};
 ghost use Rattle.std.specs.Io.KnownBytes.{Appends};
 ghost use Rattle.s2_mode.specs.Counts.{CountsFault};
+ghost use Rattle.s2_mode.specs.Pieces.{AppendsPart};
 ghost use Rattle.s2_mode.specs.Mode.{shape_in};
 ghost use Rattle.s2_bbframe.specs.DataStream.{field_bytes};
 ghost use Rattle.s2_modem.specs.Frames.{IsFrameOf};
@@ -72,7 +73,7 @@ impl<'a> Framer<'a> {
         self.setup.roll_off
     }
 
-    /// Writes the frame of a header and its data field.
+    /// Writes the frame of a header and its data field, or where a write fails a part of it.
     pub(crate) fn write_frame<W: CountedWrite>(
         &mut self,
         header: &Header,
@@ -82,7 +83,9 @@ impl<'a> Framer<'a> {
         requires count { W.count writer.old < 2 ^ 64 - 1 }
         requires roll_off { header.now.roll_off ≤ 3 }
         requires size { length field.now ≤ field_bytes self.old.setup.mode }
-        ensures frame { OnOk result ((frame : List ℕ) × IsFrameOf self.old header.now field.now frame × Appends (W.contents writer.old) (W.contents writer.new) frame) }
+        ensures frame { (frame : List ℕ) × IsFrameOf self.old header.now field.now frame
+            × OnOk result (Appends (W.contents writer.old) (W.contents writer.new) frame)
+            × OnErr result (AppendsPart frame (W.contents writer.old) (W.contents writer.new)) }
         ensures cause { CountsFault (W.count writer.old) (W.count writer.new) result }
         ensures same { self.new ≡ self.old }
     {

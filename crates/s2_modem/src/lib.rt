@@ -4,8 +4,9 @@
 //! [`Transmitter::new`] takes all the memory that will be needed, or answers the first of its
 //! refusals. [`Transmitter::run`] reads packets to the reader's end. `Ok` means that the writer has
 //! gained exactly the frames of the codewords of the BCH words of the scrambled baseband frames of
-//! the data stream's fields, in order; a refusal comes exactly where the packets give cause for it,
-//! or a read or a write failed, and leaves exactly the frames that were full before.
+//! the data stream's fields, in order. A refusal comes exactly where the packets give cause for it,
+//! or a read or a write failed; it leaves exactly the frames of the full fields of the packets
+//! accepted before, and only a failed write may leave fewer of them, and a part of the next one.
 //!
 //! ```text
 //! let setup = Setup { mode, number: 0, roll_off: 0 };

@@ -1,7 +1,7 @@
 //! What a run of the transmitter answers.
 use thiserror::Error;
 
-/// How many packets a run read, and how many frames it wrote.
+/// How many packets a run accepted, and how many frames it wrote.
 #[derive(Clone, Copy, Debug, PartialEq, Eq)]
 pub struct Counts {
     pub packets: u64,
@@ -17,7 +17,7 @@ pub enum SendFault {
     /// This packet, counted from 1, does not begin with 47 hexadecimal.
     #[error("no sync in packet {packet}")]
     NoSync { packet: u64 },
-    /// A read failed, or 2^32 packets were read.
+    /// A read failed, or 2^32 packets were accepted.
     #[error("cannot read")]
     Read,
     /// A write failed.

@@ -1,18 +1,19 @@
 //! The loop that sends.
-ghost use Rattle.std.specs.Prelude.{◌≡◌, ◌≢◌, ◌+◌, ◌-◌, ◌^◌, ◌<◌, ◌≤◌, ◌⊎◌, Err, IsErrOf, IfOk, length};
+ghost use Rattle.std.specs.Prelude.{◌≡◌, ◌≢◌, ◌+◌, ◌-◌, ◌^◌, ◌<◌, ◌≤◌, ◌⊎◌, Err, IsErrOf, IfOk, OnErr, length};
 ghost use Rattle.s2_mode.specs.Counts.{CountsFault};
 ghost use Rattle.s2_bbframe.specs.DataStream.{field_bytes};
-ghost use Rattle.s2_modem.specs.Sending.{Runs, Sends};
+ghost use Rattle.s2_modem.specs.Sending.{Runs, Sends, FailsToSend};
 
 use crate::framer::Framer;
 use crate::outcome::{Counts, SendFault};
 use s2_bbframe::Slicer;
 use s2_mode::{CountedRead, CountedWrite, WriteFault, read_full};
 
-/// How many packets one run reads at most.
+/// How many packets one run accepts at most.
 pub const MOST_PACKETS: u64 = 1 << 32;
 
-/// Writes the next data field's frame where a field can be taken, and says whether it did.
+/// Writes the next data field's frame where a field can be taken, and says whether it did. Where a
+/// write fails, a part of the frame is written.
 fn send_ready<W: CountedWrite>(
     framer: &mut Framer<'_>,
     slicer: &mut Slicer,
@@ -23,6 +24,7 @@ fn send_ready<W: CountedWrite>(
     requires field { length field.old ≡ slicer.old.size }
     requires size { slicer.old.size ≡ field_bytes framer.old.setup.mode }
     ensures sends { IfOk result (Sends framer.old slicer.old slicer.new (W.contents writer.old) (W.contents writer.new)) }
+    ensures fails { OnErr result (FailsToSend framer.old slicer.old (W.contents writer.old) (W.contents writer.new)) }
     ensures cause { CountsFault (W.count writer.old) (W.count writer.new) result }
     ensures same { framer.new ≡ framer.old }
     ensures size { slicer.new.size ≡ slicer.old.size }

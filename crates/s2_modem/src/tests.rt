@@ -212,3 +212,34 @@ fn scrambles_the_frame_of_a_single_packet(rt: HostRuntime) -> Result<(), Fail> {
     assert_eq!(rt; first, [0xf3, 0xf6, 0x0d, 0xd4]);
     Ok(())
 }
+
+#[test]
+fn prints_setup_faults(rt: HostRuntime) -> Result<(), Fail> {
+    let texts = [
+        (SetupFault::OtherShape, "other shape"),
+        (SetupFault::BadNumber, "no such scrambling number"),
+        (SetupFault::BadRollOff, "no such roll-off"),
+        (SetupFault::BadRounds, "no such number of rounds"),
+        (SetupFault::NoMemory, "no memory"),
+    ];
+    for (fault, want) in texts {
+        let text = format!(in rt.alloc(); "{fault}")?;
+        assert_eq!(rt; text.as_str(), want);
+    }
+    Ok(())
+}
+
+#[test]
+fn prints_send_faults(rt: HostRuntime) -> Result<(), Fail> {
+    let texts = [
+        (SendFault::NotWholePacket, "not a whole packet"),
+        (SendFault::NoSync { packet: 12 }, "no sync in packet 12"),
+        (SendFault::Read, "cannot read"),
+        (SendFault::Write, "cannot write"),
+    ];
+    for (fault, want) in texts {
+        let text = format!(in rt.alloc(); "{fault}")?;
+        assert_eq!(rt; text.as_str(), want);
+    }
+    Ok(())
+}

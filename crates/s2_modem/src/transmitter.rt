@@ -36,7 +36,10 @@ impl<'a> Model for Transmitter<'a> {
 }
 
 impl<'a> Transmitter<'a> {
-    /// A transmitter with all the memory that it needs, for a matrix of the mode's shape.
+    /// A transmitter with all the memory that it needs. Of several refusals the first is answered:
+    /// `OtherShape` where the matrix is not of the shape of the mode's code, `BadNumber` where the
+    /// scrambling number is over 262141, `BadRollOff` where the roll-off is over 2, and then
+    /// `NoMemory` where memory does not suffice. `BadRounds` is never answered here.
     pub fn new(
         alloc: Global,
         setup: Setup,
@@ -67,12 +70,16 @@ impl<'a> Transmitter<'a> {
 
     /// Reads packets of 188 bytes to the reader's end, and writes the frames of their data stream,
     /// which begins anew with each run. It takes no memory, and reads and writes piece by piece: a
-    /// packet, and a frame.
+    /// packet, and a frame. A packet is accepted where it is whole and begins with 47 hexadecimal, at
+    /// most [`MOST_PACKETS`] of them.
     ///
-    /// `Ok` means that all packets were taken and that the writer has gained exactly their frames.
-    /// `NotWholePacket` and `NoSync` tell what the packets lack, and `Read` that a read failed or
-    /// that 2^32 packets were read: then the writer has gained exactly the frames that were full.
-    /// After `Write` nothing is said of the last frame.
+    /// After `Ok` the reader is at its end, and the writer has gained exactly the frames of all data
+    /// fields. `NotWholePacket` and `NoSync` tell what the packets lack, and `Read` that a read failed
+    /// or that [`MOST_PACKETS`] packets were accepted: then the writer has gained exactly the frames
+    /// of the full data fields of the packets accepted before. After `Write` it has gained the frames
+    /// of the fields before the one whose frame failed, each whole, and of that frame a beginning.
+    /// In each case the reader has given the packets that were accepted, then the bytes that were
+    /// refused or that came before a failed read, at most 188, and no more.
     pub fn run<R: CountedRead, W: CountedWrite>(
         &mut self,
         reader: &mut R,

@@ -1,15 +1,9 @@
-use Rattle.std.proofs.Common.{◌≡◌, ℕ, List, Bool, Result, Ok, Err, subst, ap, ◌∙◌}
-use Rattle.std.specs.Prelude.{OnOk}
-use Rattle.std.specs.Io.KnownBytes.{Appends}
+use Rattle.std.proofs.Common.{◌≡◌, ℕ, List, Bool, subst, ap, ◌∙◌}
 use Rattle.s2_bbframe.specs.declared.header.Header.{Header}
 use Rattle.s2_modem.specs.declared.setup.Setup.{Setup}
 use Rattle.s2_modem.specs.Link.{Link}
 use Rattle.s2_modem.specs.Frames.{IsCodewordFor, IsFrameOf, Coding, Modulation, frame_bytes}
 use Rattle.s2_modem.proofs.framer.Framer.write_frame.Goals as goal
-
-on_ok : {T E P Q : Type 0} (r : Result T E) → (P → Q) → OnOk r P → OnOk r Q
-on_ok (Ok x) f h = f h
-on_ok (Err e) f h = h
 
 -- the two halves, one after the other
 framed : (link : Link) (header : Header) (field : List ℕ) (setup : Setup) (coder coded : Coding) (modulator : Modulation) (word : List Bool) (bytes : List ℕ)
@@ -31,4 +25,4 @@ returns-clause-frame g c =
     let is : IsFrameOf c.args.self.now c.args.header.now c.args.field.now bytes =
     framed c.args.self.now c.args.header.now c.args.field.now inside.setup inside.coder c.encode.new.self inside.modulator c.codeword.result.now bytes
     c.self.view_is c.self.invariant.0 c.self.invariant.1 c.self.invariant.2 c.encode.ensures.codeword c.codeword.ensures.is made in
-    on_ok c.write_full.result (λ (appended : Appends (g.W.CountedWrite.contents c.args.writer.now) (g.W.CountedWrite.contents c.write_full.new.writer) bytes). (bytes, is, appended)) c.write_full.ensures.bytes
+    (bytes, is, c.write_full.ensures.bytes, c.write_full.ensures.part)
