@@ -80,7 +80,7 @@ outcome : (F G : ℕ → Type 0) (size : ℕ) (packets : List (List ℕ)) (rest 
 outcome F G size packets rest fields (Ok counts) f h = h
 outcome F G size packets rest fields (Err refusals.NotWholePacket) f h = h
 outcome F G size packets rest fields (Err (refusals.NoSync packet)) f h = h
-outcome F G size packets rest fields (Err refusals.Read) f (may, full) = (f _ may, full)
+outcome F G size packets rest fields (Err refusals.Read) f (may, stops, full) = (f _ may, stops, full)
 outcome F G size packets rest fields (Err refusals.Write) f h = h
 
 pub runs_still : (link : Link) (F G : ℕ → Type 0) (a b c d : Option (List ℕ)) (answer : Result Counts SendFault)
@@ -91,12 +91,13 @@ runs_still link F G a b c d answer f r =
       rest = r.rest;
       fields = r.fields;
       frames = r.frames;
-      behind = r.behind;
+      begun = r.begun;
       each_is_packet = r.each_is_packet;
       read = r.read;
       ends = r.ends;
       outcome = outcome F G _ r.packets r.rest r.fields answer f r.outcome;
       are_frames = r.are_frames;
+      begins = r.begins;
       written = r.written;
     }
 

@@ -123,7 +123,7 @@ fn write_fault_text<W: CountedWrite>(out: &mut W, fault: Fault) -> Result<(), Wr
 }
 
 /// Writes the line of a fault.
-pub fn write_fault<W: CountedWrite>(out: &mut W, fault: Fault) -> Result<(), WriteFault>
+pub(crate) fn write_fault<W: CountedWrite>(out: &mut W, fault: Fault) -> Result<(), WriteFault>
     requires { W.count out.old < 2 ^ 64 - 1 }
     ensures line { OnOk result (Appends (W.contents out.old) (W.contents out.new) (fault_line fault)) }
     ensures cause { CountsFault (W.count out.old) (W.count out.new) result }
@@ -134,7 +134,7 @@ pub fn write_fault<W: CountedWrite>(out: &mut W, fault: Fault) -> Result<(), Wri
 }
 
 /// The exit of what ended so. A fault's line is written; where that fails, nothing is left to tell.
-pub fn conclude<E: CountedWrite>(ended: Result<Exit, Fault>, errors: &mut E) -> Exit
+pub(crate) fn conclude<E: CountedWrite>(ended: Result<Exit, Fault>, errors: &mut E) -> Exit
     requires { E.count errors.old < 2 ^ 64 - 1 }
     ensures exit { result ≡ exit_of ended }
     ensures quiet { result ≢ Exit.Fault → E.count errors.new ≡ E.count errors.old }

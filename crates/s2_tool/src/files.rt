@@ -14,7 +14,7 @@ use std::alloc::Global;
 pub const MOST_BYTES: usize = 16_777_216;
 
 /// The bytes of a file.
-pub fn read_bytes<R: CountedRead>(alloc: Global, reader: &mut R) -> Result<Vec<u8>, Fault>
+pub(crate) fn read_bytes<R: CountedRead>(alloc: Global, reader: &mut R) -> Result<Vec<u8>, Fault>
     requires { R.count reader.old < 2 ^ 64 - 1 }
     ensures bytes { IfSome (R.remaining reader.old) (λ xs. Follows (λ v. v.items) result (taken xs)) }
     ensures read { result ≡ Err Fault.Read → R.count reader.new ≡ R.count reader.old + 1 }
@@ -30,7 +30,7 @@ pub fn read_bytes<R: CountedRead>(alloc: Global, reader: &mut R) -> Result<Vec<u
 }
 
 /// The rows of a row file.
-pub fn read_row_file<R: CountedRead>(
+pub(crate) fn read_row_file<R: CountedRead>(
     alloc: Global,
     reader: &mut R,
     shape: Shape,
@@ -51,7 +51,7 @@ pub fn read_row_file<R: CountedRead>(
 }
 
 /// The values of a value file, as many as a codeword has bits.
-pub fn read_value_file<R: CountedRead>(
+pub(crate) fn read_value_file<R: CountedRead>(
     alloc: Global,
     reader: &mut R,
     shape: Shape,

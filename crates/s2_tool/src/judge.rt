@@ -22,7 +22,7 @@ use std::alloc::Global;
 /// The row file of the toy shape.
 pub const TOY_ROWS: &[u8] = b"0 4 8\n0 1 2\n";
 
-pub fn write_most_likely<W: CountedWrite>(out: &mut W, cost: i64) -> Result<(), WriteFault>
+pub(crate) fn write_most_likely<W: CountedWrite>(out: &mut W, cost: i64) -> Result<(), WriteFault>
     requires { W.count out.old < 2 ^ 64 - 1 }
     ensures line { OnOk result (Appends (W.contents out.old) (W.contents out.new) (most_likely_line cost)) }
     ensures cause { CountsFault (W.count out.old) (W.count out.new) result }
@@ -32,7 +32,11 @@ pub fn write_most_likely<W: CountedWrite>(out: &mut W, cost: i64) -> Result<(), 
     write_text(out, "\n")
 }
 
-pub fn write_broken<W: CountedWrite>(out: &mut W, cost: i64, check: usize) -> Result<(), WriteFault>
+pub(crate) fn write_broken<W: CountedWrite>(
+    out: &mut W,
+    cost: i64,
+    check: usize,
+) -> Result<(), WriteFault>
     requires { W.count out.old < 2 ^ 64 - 1 }
     ensures line { OnOk result (Appends (W.contents out.old) (W.contents out.new) (broken_line cost check)) }
     ensures cause { CountsFault (W.count out.old) (W.count out.new) result }

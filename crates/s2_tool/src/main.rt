@@ -1,7 +1,8 @@
 //! The program.
 #![tactic(auto)]
 
-ghost use Rattle.std.specs.Prelude.{◌-◌, ◌^◌, ◌<◌};
+ghost use Rattle.std.specs.Prelude.{◌≡◌, ◌≢◌, ◌-◌, ◌^◌, ◌<◌};
+ghost use Rattle.std.specs.Io.KnownBytes.{Keeps};
 
 mod certify;
 mod check;
@@ -15,12 +16,12 @@ mod serve;
 mod words;
 mod writing;
 
+use clap::Error;
 use clap::error::ErrorKind;
 use exit::Exit;
-use s2_mode::{CountedRead, CountedWrite, Counting};
+use s2_mode::{CountedRead, CountedWrite, Counting, write_full};
 use serve::{complain, serve};
 use std::env;
-use std::io::{BufWriter, Write};
 use std::process::ExitCode;
 use std::rt::{Env, Files};
 use words::{Request, read_words};
@@ -29,7 +30,7 @@ fn main(rt: HostRuntime) -> ExitCode {
     run(
         &rt,
         &mut Counting::new(rt.stdin()),
-        rt.stdout(),
+        &mut Counting::new(rt.stdout()),
         &mut Counting::new(rt.stderr()),
     )
     .code()
@@ -43,11 +44,15 @@ fn words_given<R: Env + AllocGlobal>(rt: &R) -> Option<Vec<String>> {
 fn run<
     R: Env + Files + Print + Eprint + AllocGlobal,
     S: CountedRead,
-    O: Write + Drop,
+    O: CountedWrite,
     E: CountedWrite,
->(rt: &R, input: &mut S, output: O, errors: &mut E) -> Exit
+>(rt: &R, input: &mut S, output: &mut O, errors: &mut E) -> Exit
     requires input { S.count input.old < 2 ^ 64 - 1 }
+    requires output { O.count output.old < 2 ^ 64 - 1 }
     requires errors { E.count errors.old < 2 ^ 64 - 1 }
+    ensures quiet { result ≢ Exit.Fault → E.count errors.new ≡ E.count errors.old }
+    ensures whole { result ≢ Exit.Fault → O.count output.new ≡ O.count output.old }
+    ensures held { result ≡ Exit.Fault → O.count output.new ≡ O.count output.old → Keeps (O.contents output.old) (O.contents output.new) }
 {
     let Some(words) = words_given(rt) else {
         return complain(errors, "no memory", "");
@@ -56,32 +61,42 @@ fn run<
         Ok(Some(request)) => serve_whole(rt, request, input, output, errors),
         Ok(None) => Exit::Fault,
         Err(error) if error.kind() == ErrorKind::OutOfMemory => complain(errors, "no memory", ""),
-        Err(error) => match error.print(rt) {
-            Ok(()) if !error.use_stderr() => Exit::Fine,
-            _ => Exit::Fault,
-        },
+        Err(error) => explain(rt, &error),
     }
 }
 
-/// Serves a request, and writes its output whole.
-fn serve_whole<R: Files + AllocGlobal, S: CountedRead, O: Write + Drop, E: CountedWrite>(
+/// Prints help on standard output, or a usage fault on standard error.
+fn explain<R: Print + Eprint>(rt: &R, error: &Error) -> Exit {
+    match error.print(rt) {
+        Ok(()) if !error.use_stderr() => Exit::Fine,
+        _ => Exit::Fault,
+    }
+}
+
+/// Serves a request. Its output is held back until the command has ended, and is written only where
+/// that was no fault.
+fn serve_whole<R: Files + AllocGlobal, S: CountedRead, O: CountedWrite, E: CountedWrite>(
     rt: &R,
     request: Request<'_>,
     input: &mut S,
-    output: O,
+    output: &mut O,
     errors: &mut E,
 ) -> Exit
     requires input { S.count input.old < 2 ^ 64 - 1 }
+    requires output { O.count output.old < 2 ^ 64 - 1 }
     requires errors { E.count errors.old < 2 ^ 64 - 1 }
+    ensures quiet { result ≢ Exit.Fault → E.count errors.new ≡ E.count errors.old }
+    ensures whole { result ≢ Exit.Fault → O.count output.new ≡ O.count output.old }
+    ensures held { result ≡ Exit.Fault → O.count output.new ≡ O.count output.old → Keeps (O.contents output.old) (O.contents output.new) }
 {
-    let Ok(buffered) = BufWriter::new(rt.alloc(), output) else {
-        return complain(errors, "no memory", "");
-    };
-    let mut out = Counting::new(buffered);
+    let mut out = Counting::new(Vec::new(rt.alloc()));
     let exit = serve(rt, request, input, &mut out, errors);
-    match out.into_inner().flush() {
-        Err(_) if exit != Exit::Fault => complain(errors, "cannot write", ""),
-        _ => exit,
+    if exit == Exit::Fault {
+        return exit;
+    }
+    match write_full(output, &out.into_inner()) {
+        Ok(()) => exit,
+        Err(_) => complain(errors, "cannot write", ""),
     }
 }
 

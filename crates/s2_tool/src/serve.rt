@@ -2,6 +2,7 @@
 ghost use Rattle.std.specs.Prelude.{◌≡◌, ◌≢◌, ◌↔◌, ◌-◌, ◌^◌, ◌<◌, ◌++◌, codes, IsSome, IfSome, OnOk};
 ghost use Rattle.std.specs.Io.KnownBytes.{Appends};
 ghost use Rattle.s2_mode.specs.Counts.{CountsFault};
+ghost use Rattle.s2_mode.specs.Mode.{IsMode, mode_of};
 ghost use Rattle.s2_mode.specs.Shape.{IsShape};
 ghost use Rattle.s2_mode.specs.Shape as shapes;
 
@@ -58,7 +59,10 @@ fn shape_of(words: ShapeWords) -> Option<Shape>
 }
 
 /// The setup of a link's words.
-fn setup_of(words: LinkWords) -> Option<Setup> {
+fn setup_of(words: LinkWords) -> Option<Setup>
+    ensures found { IsSome result ↔ IsMode (mode_of words.modcod words.short words.pilots) }
+    ensures value { IfSome result (λ s. (s.mode ≡ mode_of words.modcod words.short words.pilots) × (s.number ≡ words.number) × (s.roll_off ≡ words.roll_off)) }
+{
     Some(Setup {
         mode: Mode::of(words.modcod, words.short, words.pilots)?,
         number: words.number,
@@ -66,7 +70,7 @@ fn setup_of(words: LinkWords) -> Option<Setup> {
     })
 }
 
-/// Serves a request. Nothing is on the output before `out` is flushed.
+/// Serves a request.
 pub fn serve<R: Files + AllocGlobal, S: CountedRead, O: CountedWrite, E: CountedWrite>(
     rt: &R,
     request: Request<'_>,

@@ -8,7 +8,7 @@ use itoa::{Buffer, Integer};
 use s2_mode::{CountedWrite, WriteFault, write_full};
 
 /// Writes a text.
-pub fn write_text<W: CountedWrite>(out: &mut W, text: &str) -> Result<(), WriteFault>
+pub(crate) fn write_text<W: CountedWrite>(out: &mut W, text: &str) -> Result<(), WriteFault>
     requires { W.count out.old < 2 ^ 64 - 1 }
     ensures bytes { OnOk result (Appends (W.contents out.old) (W.contents out.new) text.now) }
     ensures cause { CountsFault (W.count out.old) (W.count out.new) result }
@@ -17,7 +17,10 @@ pub fn write_text<W: CountedWrite>(out: &mut W, text: &str) -> Result<(), WriteF
 }
 
 /// Writes a number in decimal digits.
-pub fn write_number<W: CountedWrite, I: Integer>(out: &mut W, number: I) -> Result<(), WriteFault>
+pub(crate) fn write_number<W: CountedWrite, I: Integer>(
+    out: &mut W,
+    number: I,
+) -> Result<(), WriteFault>
     requires { W.count out.old < 2 ^ 64 - 1 }
     ensures bytes { OnOk result (Appends (W.contents out.old) (W.contents out.new) (I.text number)) }
     ensures cause { CountsFault (W.count out.old) (W.count out.new) result }
@@ -27,7 +30,7 @@ pub fn write_number<W: CountedWrite, I: Integer>(out: &mut W, number: I) -> Resu
 }
 
 /// Writes a signed number in decimal digits.
-pub fn write_signed<W: CountedWrite>(out: &mut W, number: i64) -> Result<(), WriteFault>
+pub(crate) fn write_signed<W: CountedWrite>(out: &mut W, number: i64) -> Result<(), WriteFault>
     requires { W.count out.old < 2 ^ 64 - 1 }
     ensures bytes { OnOk result (Appends (W.contents out.old) (W.contents out.new) (signed_decimal number)) }
     ensures cause { CountsFault (W.count out.old) (W.count out.new) result }
@@ -36,7 +39,7 @@ pub fn write_signed<W: CountedWrite>(out: &mut W, number: i64) -> Result<(), Wri
 }
 
 /// Writes a text that ends in a number.
-pub fn write_numbered<W: CountedWrite>(
+pub(crate) fn write_numbered<W: CountedWrite>(
     out: &mut W,
     text: &str,
     number: u64,

@@ -14,13 +14,17 @@ fn row_file<R: AllocGlobal>(rt: &R, mode: Mode) -> Vec<u8> {
     text.into_inner()
 }
 
-/// What `mod` does with packets in QPSK 1/4: its exit, how many bytes of symbols, and its lines.
-fn sent<R: Abort + AllocGlobal>(rt: &R, packets: &[u8]) -> (Exit, usize, Vec<u8>, Vec<u8>) {
-    let setup = Setup {
-        mode: Mode::of(1, false, false).expect(rt, "a mode"),
+/// QPSK 1/4.
+fn setup<R: Abort>(rt: &R, short: bool) -> Setup {
+    Setup {
+        mode: Mode::of(1, short, false).expect(rt, "a mode"),
         number: 0,
         roll_off: 0,
-    };
+    }
+}
+
+/// What `mod` does with packets: its exit, how many bytes of symbols, and its lines.
+fn sent<R: AllocGlobal>(rt: &R, setup: Setup, packets: &[u8]) -> (Exit, usize, Vec<u8>, Vec<u8>) {
     let text = row_file(rt, setup.mode);
     let mut rows = InMemory::new(&text);
     let mut packets = Counting::new(ByOne::new(packets));
@@ -47,6 +51,14 @@ fn packet_of_zeros() -> [u8; 188] {
     packet
 }
 
+/// Two packets of zeros.
+fn two_packets() -> [u8; 376] {
+    let mut packets = [0; 376];
+    packets[0] = 0x47;
+    packets[188] = 0x47;
+    packets
+}
+
 /// Two packets, of which the second begins with 48.
 fn without_sync() -> [u8; 376] {
     let mut packets = [0; 376];
@@ -57,7 +69,7 @@ fn without_sync() -> [u8; 376] {
 
 #[test]
 fn sends_a_single_packet(rt: HostRuntime) {
-    let (exit, symbols, out, errors) = sent(&rt, &packet_of_zeros());
+    let (exit, symbols, out, errors) = sent(&rt, setup(&rt, false), &packet_of_zeros());
     assert_eq!(rt; exit, Exit::Fine);
     assert_eq!(rt; symbols, 129_960);
     assert_eq!(rt; out.as_slice(), b"packets 1 frames 1\n".as_slice());
@@ -66,7 +78,7 @@ fn sends_a_single_packet(rt: HostRuntime) {
 
 #[test]
 fn sends_nothing_of_nothing(rt: HostRuntime) {
-    let (exit, symbols, out, errors) = sent(&rt, b"");
+    let (exit, symbols, out, errors) = sent(&rt, setup(&rt, false), b"");
     assert_eq!(rt; exit, Exit::Fine);
     assert_eq!(rt; symbols, 0);
     assert_eq!(rt; out.as_slice(), b"packets 0 frames 0\n".as_slice());
@@ -75,7 +87,7 @@ fn sends_nothing_of_nothing(rt: HostRuntime) {
 
 #[test]
 fn refuses_a_cut_packet(rt: HostRuntime) {
-    let (exit, symbols, out, errors) = sent(&rt, &[0x47; 187]);
+    let (exit, symbols, out, errors) = sent(&rt, setup(&rt, false), &[0x47; 187]);
     assert_eq!(rt; exit, Exit::Fault);
     assert_eq!(rt; symbols, 0);
     assert_eq!(rt; out.len(), 0);
@@ -85,10 +97,47 @@ fn refuses_a_cut_packet(rt: HostRuntime) {
 
 #[test]
 fn names_the_packet_without_sync(rt: HostRuntime) {
-    let (exit, symbols, out, errors) = sent(&rt, &without_sync());
+    let (exit, symbols, out, errors) = sent(&rt, setup(&rt, false), &without_sync());
     assert_eq!(rt; exit, Exit::Fault);
     assert_eq!(rt; symbols, 0);
     assert_eq!(rt; out.len(), 0);
     let line = b"s2: packets: no sync in packet 2\n";
     assert_eq!(rt; errors.as_slice(), line.as_slice());
+}
+
+#[test]
+fn sends_two_packets_in_two_short_frames(rt: HostRuntime) {
+    let (exit, symbols, out, errors) = sent(&rt, setup(&rt, true), &two_packets());
+    assert_eq!(rt; exit, Exit::Fine);
+    assert_eq!(rt; symbols, 65_520);
+    assert_eq!(rt; out.as_slice(), b"packets 2 frames 2\n".as_slice());
+    assert_eq!(rt; errors.len(), 0);
+}
+
+#[test]
+fn refuses_other_setups(rt: HostRuntime) {
+    let well = setup(&rt, true);
+    let cases: [(Setup, &[u8]); 2] = [
+        (
+            Setup {
+                number: 262_142,
+                ..well
+            },
+            b"s2: no such scrambling number\n",
+        ),
+        (
+            Setup {
+                roll_off: 3,
+                ..well
+            },
+            b"s2: no such roll-off\n",
+        ),
+    ];
+    for (setup, line) in cases {
+        let (exit, symbols, out, errors) = sent(&rt, setup, &two_packets());
+        assert_eq!(rt; exit, Exit::Fault);
+        assert_eq!(rt; symbols, 0);
+        assert_eq!(rt; out.len(), 0);
+        assert_eq!(rt; errors.as_slice(), line);
+    }
 }

@@ -1,0 +1,73 @@
+//! `judge --cert`.
+use super::checking::checked;
+use super::{STORED_RUN, TOY, shape, stored_certificate};
+use crate::certify::certify_command;
+use crate::exit::Exit;
+use crate::judge::TOY_ROWS;
+use s2_mode::{Counting, FailAt, InMemory};
+use std::process::Abort;
+
+/// The exit of `judge --cert`, its certificate and its output.
+fn certified<R: Abort + AllocGlobal>(rt: &R, soft: &[u8]) -> (Exit, Vec<u8>, Vec<u8>) {
+    let mut rows = InMemory::new(TOY_ROWS);
+    let mut soft = InMemory::new(soft);
+    let mut file = Counting::new(Vec::new(rt.alloc()));
+    let mut out = Counting::new(Vec::new(rt.alloc()));
+    let mut errors = Counting::new(Vec::new(rt.alloc()));
+    let toy = shape(rt, TOY);
+    let exit = certify_command(
+        rt.alloc(),
+        toy,
+        &mut rows,
+        &mut soft,
+        &mut file,
+        &mut out,
+        &mut errors,
+    );
+    (exit, file.into_inner(), out.into_inner())
+}
+
+#[test]
+fn certifies_the_stored_run(rt: HostRuntime) {
+    let (exit, file, out) = certified(&rt, STORED_RUN);
+    assert_eq!(rt; exit, Exit::Fine);
+    assert_eq!(rt; out.as_slice(), b"most-likely cost -45\n".as_slice());
+    assert_eq!(rt; file.as_slice(), stored_certificate().as_slice());
+    let (exit, answer, _) = checked(&rt, TOY_ROWS, &file);
+    assert_eq!(rt; exit, Exit::Fine);
+    assert_eq!(rt; answer.as_slice(), b"yes cost -45\n".as_slice());
+}
+
+#[test]
+fn leaves_the_certificate_of_a_broken_word_empty(rt: HostRuntime) {
+    let broken = b"-4 10 10 10 10 10 10 10 10 10 10 10 10 10 10 10 10 10 10 10";
+    let (exit, file, out) = certified(&rt, broken);
+    assert_eq!(rt; exit, Exit::No);
+    assert_eq!(rt; out.as_slice(), b"broken cost -4 check 0\n".as_slice());
+    assert_eq!(rt; file.len(), 0);
+}
+
+#[test]
+fn prints_no_verdict_without_its_certificate(rt: HostRuntime) {
+    let mut rows = InMemory::new(TOY_ROWS);
+    let mut soft = InMemory::new(STORED_RUN);
+    let mut full = Counting::new(FailAt::new(Vec::new(rt.alloc()), 0));
+    let mut out = Counting::new(Vec::new(rt.alloc()));
+    let mut errors = Counting::new(Vec::new(rt.alloc()));
+    let toy = shape(&rt, TOY);
+    let exit = certify_command(
+        rt.alloc(),
+        toy,
+        &mut rows,
+        &mut soft,
+        &mut full,
+        &mut out,
+        &mut errors,
+    );
+    assert_eq!(rt; exit, Exit::Fault);
+    assert_eq!(rt; out.into_inner().len(), 0);
+    assert_eq!(rt;
+        errors.into_inner().as_slice(),
+        b"s2: cannot write\n".as_slice()
+    );
+}

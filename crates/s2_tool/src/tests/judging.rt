@@ -1,0 +1,179 @@
+//! `judge`, and the program without a command.
+use super::{TOY, shape};
+use crate::exit::Exit;
+use crate::judge::{TOY_ROWS, judge_command, self_command};
+use s2_mode::{ByOne, Counting, Endless, FailAt, InMemory};
+use std::process::Abort;
+
+/// What `judge` does: its exit, its output and its errors.
+fn judged<R: Abort + AllocGlobal>(
+    rt: &R,
+    sizes: (usize, usize, usize),
+    rows: &[u8],
+    soft: &[u8],
+) -> (Exit, Vec<u8>, Vec<u8>) {
+    let mut rows = InMemory::new(rows);
+    let mut soft = Counting::new(ByOne::new(soft));
+    let mut out = Counting::new(Vec::new(rt.alloc()));
+    let mut errors = Counting::new(Vec::new(rt.alloc()));
+    let shape = shape(rt, sizes);
+    let exit = judge_command(
+        rt.alloc(),
+        shape,
+        &mut rows,
+        &mut soft,
+        &mut out,
+        &mut errors,
+    );
+    (exit, out.into_inner(), errors.into_inner())
+}
+
+#[test]
+fn judges_under_the_toy_rows(rt: HostRuntime) {
+    let cases: [(&[u8], Exit, &[u8], &[u8]); 9] = [
+        (
+            b"-5 7 7 7 7 7 7 7 -5 -5 -5 -5 7 7 7 7 -5 -5 -5 -5",
+            Exit::Fine,
+            b"most-likely cost -45\n",
+            b"",
+        ),
+        (
+            b"10 10 10 10 10 10 10 10 10 10 10 10 10 10 10 10 10 10 10 10",
+            Exit::Fine,
+            b"most-likely cost 0\n",
+            b"",
+        ),
+        (
+            b"0 0 0 0 0 0 0 0 0 0 0 0 0 0 0 0 0 0 0 0",
+            Exit::Fine,
+            b"most-likely cost 0\n",
+            b"",
+        ),
+        (
+            b"-4 10 10 10 10 10 10 10 10 10 10 10 10 10 10 10 10 10 10 10",
+            Exit::No,
+            b"broken cost -4 check 0\n",
+            b"",
+        ),
+        (
+            b"0 0 0 0 0 0 0 0 0 0 0 0 0 0 0 0 0 0 0",
+            Exit::Fault,
+            b"",
+            b"s2: values: too few\n",
+        ),
+        (
+            b"0 0 0 0 0 0 0 0 0 0 0 0 0 0 0 0 0 0 0 0 0",
+            Exit::Fault,
+            b"",
+            b"s2: values: too many\n",
+        ),
+        (
+            b"0 0\n64 0 0 0 0 0 0 0 0 0 0 0 0 0 0 0 0 0 0",
+            Exit::Fault,
+            b"",
+            b"s2: values: out of range in line 2\n",
+        ),
+        (
+            b"x 0 0 0 0 0 0 0 0 0 0 0 0 0 0 0 0 0 0 0",
+            Exit::Fault,
+            b"",
+            b"s2: values: not a number in line 1\n",
+        ),
+        (
+            b"# all\n0 0 0 0 0 0 0 0 0 0\r\n0 0 0 0 0 0 0 0 0 0",
+            Exit::Fine,
+            b"most-likely cost 0\n",
+            b"",
+        ),
+    ];
+    for (soft, exit, out, errors) in cases {
+        let answer = judged(&rt, TOY, TOY_ROWS, soft);
+        assert_eq!(rt; answer.0, exit);
+        assert_eq!(rt; answer.1.as_slice(), out);
+        assert_eq!(rt; answer.2.as_slice(), errors);
+    }
+}
+
+#[test]
+fn names_the_fault_of_a_row_file(rt: HostRuntime) {
+    let cases: [(&[u8], &[u8]); 6] = [
+        (b"", b"s2: rows: too few rows\n"),
+        (b"0\n1\n2\n", b"s2: rows: too many rows\n"),
+        (
+            b"0 4 12\n0 1 2\n",
+            b"s2: rows: address too large in line 1\n",
+        ),
+        (b"0 4\n0 0\n", b"s2: rows: repeated address in line 2\n"),
+        (b"0 x\n", b"s2: rows: not a number in line 1\n"),
+        (
+            b"0 1 2 3 4 5 6 7 8 9 10 11 0",
+            b"s2: rows: repeated address in line 1\n",
+        ),
+    ];
+    for (rows, errors) in cases {
+        let answer = judged(&rt, TOY, rows, b"x");
+        assert_eq!(rt; answer.0, Exit::Fault);
+        assert_eq!(rt; answer.1.as_slice(), b"".as_slice());
+        assert_eq!(rt; answer.2.as_slice(), errors);
+    }
+}
+
+#[test]
+fn names_a_row_of_25_addresses(rt: HostRuntime) {
+    let rows = b"0 1 2 3 4 5 6 7 8 9 10 11 12 13 14 15 16 17 18 19 20 21 22 23 24";
+    let answer = judged(&rt, (1, 1, 30), rows, b"x");
+    assert_eq!(rt; answer.0, Exit::Fault);
+    assert_eq!(rt; answer.1.len(), 0);
+    let line = b"s2: rows: row too long in line 1\n";
+    assert_eq!(rt; answer.2.as_slice(), line.as_slice());
+}
+
+#[test]
+fn reads_rows_before_the_soft_values(rt: HostRuntime) {
+    let mut rows = InMemory::new(b"0 x\n");
+    let mut soft = Counting::new(FailAt::new(ByOne::new(b"0"), 0));
+    let mut out = Counting::new(Vec::new(rt.alloc()));
+    let mut errors = Counting::new(Vec::new(rt.alloc()));
+    let toy = shape(&rt, TOY);
+    let exit = judge_command(rt.alloc(), toy, &mut rows, &mut soft, &mut out, &mut errors);
+    assert_eq!(rt; exit, Exit::Fault);
+    assert_eq!(rt; out.into_inner().len(), 0);
+    let line = b"s2: rows: not a number in line 1\n";
+    assert_eq!(rt; errors.into_inner().as_slice(), line.as_slice());
+}
+
+#[test]
+fn names_a_device_that_fails(rt: HostRuntime) {
+    let zeros = b"0 0 0 0 0 0 0 0 0 0 0 0 0 0 0 0 0 0 0 0";
+    let mut out = Counting::new(Vec::new(rt.alloc()));
+    let mut errors = Counting::new(Vec::new(rt.alloc()));
+    let mut broken = Counting::new(FailAt::new(ByOne::new(zeros), 3));
+    let exit = self_command(rt.alloc(), &mut broken, &mut out, &mut errors);
+    assert_eq!(rt; exit, Exit::Fault);
+    let mut endless = Counting::new(Endless::new(b"# x "));
+    let mut more = Counting::new(Vec::new(rt.alloc()));
+    assert_eq!(rt;
+        self_command(rt.alloc(), &mut endless, &mut out, &mut more),
+        Exit::Fault
+    );
+    let mut soft = InMemory::new(zeros);
+    let mut full = Counting::new(FailAt::new(Vec::new(rt.alloc()), 0));
+    let mut last = Counting::new(Vec::new(rt.alloc()));
+    assert_eq!(rt;
+        self_command(rt.alloc(), &mut soft, &mut full, &mut last),
+        Exit::Fault
+    );
+    assert_eq!(rt; out.into_inner().len(), 0);
+    assert_eq!(rt;
+        errors.into_inner().as_slice(),
+        b"s2: cannot read\n".as_slice()
+    );
+    assert_eq!(rt;
+        more.into_inner().as_slice(),
+        b"s2: file too long\n".as_slice()
+    );
+    assert_eq!(rt;
+        last.into_inner().as_slice(),
+        b"s2: cannot write\n".as_slice()
+    );
+}
