@@ -5,20 +5,34 @@ ghost use Rattle.s2_modem.specs.Spelling.{byte_bits, bits_of, padded_bits, bytes
 
 use s2_mode::Symbol;
 
+/// The bits of each number below 16, the highest first. A static, since a constant would be built anew
+/// at each byte.
+static NIBBLE_BITS: [[bool; 4]; 16] = [
+    [false, false, false, false],
+    [false, false, false, true],
+    [false, false, true, false],
+    [false, false, true, true],
+    [false, true, false, false],
+    [false, true, false, true],
+    [false, true, true, false],
+    [false, true, true, true],
+    [true, false, false, false],
+    [true, false, false, true],
+    [true, false, true, false],
+    [true, false, true, true],
+    [true, true, false, false],
+    [true, true, false, true],
+    [true, true, true, false],
+    [true, true, true, true],
+];
+
 /// The bits of a byte, the highest first.
 fn byte_bits(byte: u8) -> [bool; 8]
     ensures { result ≡ byte_bits byte }
 {
-    [
-        byte / 128 % 2 == 1,
-        byte / 64 % 2 == 1,
-        byte / 32 % 2 == 1,
-        byte / 16 % 2 == 1,
-        byte / 8 % 2 == 1,
-        byte / 4 % 2 == 1,
-        byte / 2 % 2 == 1,
-        byte % 2 == 1,
-    ]
+    let [a, b, c, d] = NIBBLE_BITS[usize::from(byte / 16)];
+    let [e, f, g, h] = NIBBLE_BITS[usize::from(byte % 16)];
+    [a, b, c, d, e, f, g, h]
 }
 
 /// Writes the bits of bytes.
