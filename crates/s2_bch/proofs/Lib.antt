@@ -9,6 +9,7 @@ mod RegisterFacts
 mod MessageFacts
 mod Filters
 mod TermLemmas
+mod Places
 mod Shortest
 mod Decoder
 mod RootFacts

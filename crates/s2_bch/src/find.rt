@@ -1,13 +1,12 @@
 //! Finding the places in which a word differs from a word of the code.
-ghost use Rattle.std.specs.Prelude.{◌≡◌, ◌≢◌, ◌<◌, ◌≤◌, ◌+◌, ℕ, suc, Bool, List, length, slice_index_or, IfOk};
-ghost use Rattle.s2_field.specs.Polynomials.{pow, eval};
-ghost use Rattle.s2_bch.specs.Flips.{FlipsRoots};
-ghost use Rattle.s2_bch.specs.Terms.{AreTerms};
+ghost use Rattle.std.specs.Prelude.{◌≡◌, ◌<◌, ◌≤◌, ◌+◌, ℕ, suc, Bool, List, length, slice_index_or, IfOk};
+ghost use Rattle.s2_field.specs.Polynomials.{pow};
 ghost use Rattle.s2_bch.specs.Words.{distance, IsMultiple};
 ghost use Rattle.s2_bch.specs.Values.{value_at, HasRoots, HaveSameValues};
 ghost use Rattle.s2_bch.specs.Room.{HasRoom};
 
 use crate::locate::shortest_filter;
+use crate::search::flip_roots;
 use s2_field::Field;
 use std::alloc::{AllocError, Global};
 use std::marker::Model;
@@ -21,6 +20,7 @@ pub(crate) struct Finder<F: Field> {
     spare: Vec<F>,
     next: Vec<F>,
     terms: Vec<F>,
+    values: Vec<F>,
 }
 
 impl<F: Field> Model for Finder<F> {
@@ -28,7 +28,7 @@ impl<F: Field> Model for Finder<F> {
 
     ghost view = { λ f. f.t };
 
-    ghost invariant = { λ f. HasRoom f.t (length f.syndromes.items) (length f.filter.items) (length f.spare.items) (length f.next.items) (length f.terms.items) };
+    ghost invariant = { λ f. HasRoom f.t (length f.syndromes.items) (length f.filter.items) (length f.spare.items) (length f.next.items) (length f.terms.items) (length f.values.items) };
 }
 
 impl<F: Field> Finder<F> {
@@ -42,7 +42,8 @@ impl<F: Field> Finder<F> {
             filter: vec![in alloc; F::zero(); t + t + 1]?,
             spare: vec![in alloc; F::zero(); t + t + 1]?,
             next: vec![in alloc; F::zero(); t + t + 1]?,
-            terms: vec![in alloc; F::zero(); 16]?,
+            terms: vec![in alloc; F::zero(); 256]?,
+            values: vec![in alloc; F::zero(); 16]?,
         })
     }
 
@@ -51,6 +52,7 @@ impl<F: Field> Finder<F> {
     /// the word's values at these roots.
     pub(crate) fn flip_near(&mut self, rest: &[bool], word: &mut [bool]) -> usize
         requires short { length word.old < F.ORDER }
+        requires few { length word.old < 65536 }
         requires rest { HaveSameValues F.zero F.one F.sum F.product F.alpha (self.old + self.old) rest.now word.old }
         ensures same { self.new ≡ self.old }
         ensures size { length word.new ≡ length word.old }
@@ -67,6 +69,7 @@ impl<F: Field> Finder<F> {
             &mut self.spare,
             &mut self.next,
             &mut self.terms,
+            &mut self.values,
         )
     }
 }
@@ -80,9 +83,11 @@ fn flip_only<F: Field>(
     spare: &mut [F],
     next: &mut [F],
     terms: &mut [F],
+    values: &mut [F],
 ) -> usize
-    requires room { HasRoom t (length syndromes.old) (length filter.old) (length spare.old) (length next.old) (length terms.old) }
+    requires room { HasRoom t (length syndromes.old) (length filter.old) (length spare.old) (length next.old) (length terms.old) (length values.old) }
     requires short { length word.old < F.ORDER }
+    requires few { length word.old < 65536 }
     requires rest { HaveSameValues F.zero F.one F.sum F.product F.alpha (t + t) rest.now word.old }
     ensures count { result ≡ distance word.old word.new }
     ensures only { (g v : List Bool) → 0 < length g → HasRoots F.zero F.one F.sum F.product F.alpha (t + t) g
@@ -93,7 +98,7 @@ fn flip_only<F: Field>(
     if degree > t {
         return 0;
     }
-    flip_roots(&filter[..degree + 1], terms, word)
+    flip_roots(&filter[..degree + 1], terms, values, word)
 }
 
 /// The product with a power of alpha.
@@ -130,82 +135,4 @@ fn put_syndromes<F: Field>(word: &[bool], syndromes: &mut [F])
     for j in 0..syndromes.len() {
         syndromes[j] = evaluate_word(word, j as u32 + 1);
     }
-}
-
-fn coefficient<F: Field>(filter: &[F], j: usize) -> F
-    ensures { result ≡ slice_index_or filter.now j F.zero }
-{
-    if j < filter.len() {
-        filter[j]
-    } else {
-        F::zero()
-    }
-}
-
-/// The filter's coefficients, and zeros after them.
-fn put_terms<F: Field>(filter: &[F], terms: &mut [F])
-    requires { length filter.now ≤ length terms.old }
-    ensures { (k : ℕ) → slice_index_or terms.new k F.zero ≡ slice_index_or filter.now k F.zero }
-{
-    for j in 0..terms.len() {
-        terms[j] = coefficient(filter, j);
-    }
-}
-
-/// The sum of a filter's terms at x: its value there.
-#[inline(always)]
-fn sum_of_terms<F: Field>(terms: &[F]) -> F
-    requires { length terms.now ≡ 16 }
-    ensures { (f : List F) (x : F) → length f ≤ 16 → AreTerms F.zero F.one F.sum F.product f x terms.now → result ≡ eval F.zero F.one F.sum F.product f x }
-{
-    let mut sum = F::zero();
-    for j in 0..16usize {
-        sum = sum.add(terms[j]);
-    }
-    sum
-}
-
-/// Makes the terms at x those at alpha x. Nothing but this is in the loop, so that it goes by lanes.
-#[inline(always)]
-fn move_terms<F: Field>(terms: &mut [F])
-    requires { length terms.old ≡ 16 }
-    ensures { (f : List F) (x : F) → length f ≤ 16 → AreTerms F.zero F.one F.sum F.product f x terms.old
-        → AreTerms F.zero F.one F.sum F.product f (F.product F.alpha x) terms.new }
-{
-    for j in 0..16usize {
-        terms[j] = terms[j].times_power(j as u32);
-    }
-}
-
-/// A filter's value at x, of its terms, which become those at alpha x.
-#[inline(always)]
-fn advance<F: Field>(terms: &mut [F]) -> F
-    requires { length terms.old ≡ 16 }
-    ensures { (f : List F) (x : F) → length f ≤ 16 → AreTerms F.zero F.one F.sum F.product f x terms.old
-        → (result ≡ eval F.zero F.one F.sum F.product f x) × AreTerms F.zero F.one F.sum F.product f (F.product F.alpha x) terms.new }
-{
-    let value = sum_of_terms(terms);
-    move_terms(terms);
-    value
-}
-
-/// Flips the word where the power of alpha of the place, counted from the end, is a root, and
-/// answers how many places that are.
-fn flip_roots<F: Field>(filter: &[F], terms: &mut [F], word: &mut [bool]) -> usize
-    requires few { length filter.now ≤ 16 }
-    requires room { length terms.old ≡ 16 }
-    ensures flips { FlipsRoots F.zero F.one F.sum F.product F.alpha filter.now word.old word.new }
-    ensures count { result ≡ distance word.old word.new }
-{
-    put_terms(filter, terms);
-    let mut i = word.len();
-    let mut count = 0;
-    while i > 0 {
-        if advance(terms).is_zero() {
-            word[i - 1] = !word[i - 1];
-            count += 1;
-        }
-        i -= 1;
-    }
-    count
 }

@@ -19,9 +19,11 @@ mod bch;
 mod divider;
 mod find;
 mod generators;
+mod lanes;
 pub mod laws;
 mod locate;
 mod register;
+mod search;
 
 pub use bch::Bch;
 

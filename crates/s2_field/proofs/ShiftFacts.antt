@@ -1,5 +1,5 @@
 -- Folding back is additive, so a shifted number is reduced as by steps of `x`: it is enough at the powers of two.
-use Rattle.std.specs.Prelude.{ℕ, zero, suc, ◌≡◌, ◌*◌, ◌/◌, ◌%◌, ◌^◌, ◌<◌, ◌≤◌, bit_xor, refl, Bool, true, ◌&&◌}
+use Rattle.std.specs.Prelude.{ℕ, zero, suc, ◌≡◌, ◌+◌, ◌-◌, ◌*◌, ◌/◌, ◌%◌, ◌^◌, ◌<◌, ◌≤◌, bit_xor, refl, Bool, true, ◌&&◌}
 use Rattle.std.proofs.Common.{sym, ◌∙◌, ap, ap₂, subst, arith, add-zero, inl, inr}
 use lib.Pow.{pow_pos}
 use Rattle.std.proofs.lemmas.Bool.{and_parts, cases_lt}
@@ -7,7 +7,7 @@ use Rattle.std.proofs.lemmas.Nat.{xor_shr, xor_mod, xor_block}
 use Rattle.s2_field.specs.Binary.{times_x, swap_inner, times_x-xor, times_x-below}
 use Rattle.s2_field.specs.Inverse.{agree_at_powers, same_additive}
 use Rattle.s2_field.specs.Order.{iterate}
-use Rattle.s2_field.specs.Shifts.{folded_16, folded_14, again_16, again_14, reduced_16, reduced_14}
+use Rattle.s2_field.specs.Shifts.{folded_16, folded_14}
 
 abbrev IsAdditive : (ℕ → ℕ) → Type 0
 IsAdditive f = (a b : ℕ) → f (bit_xor a b) ≡ bit_xor (f a) (f b)
@@ -52,40 +52,22 @@ iterate-kept m low (suc n) a b = ap (iterate m low n) (times_x-xor m low a b) �
 
 -- ---- the two fields
 
-again-16-kept : IsAdditive again_16
-again-16-kept = sum-kept _ (λ h. h / 2048) (sum-kept (λ h. h / 16384) (λ h. h / 8192) (down-kept 14) (down-kept 13)) (down-kept 11)
+abbrev shifted_16 : ℕ → ℕ → ℕ
+shifted_16 e a = bit_xor (a * 2 ^ e % 65536) (folded_16 (a / 2 ^ (15 - e) / 2))
 
-again-14-kept : IsAdditive again_14
-again-14-kept =
-    sum-kept _ (λ h. h / 512)
-    (sum-kept _ (λ h. h / 2048) (sum-kept (λ h. h / 16384) (λ h. h / 8192) (down-kept 14) (down-kept 13)) (down-kept 11))
-    (down-kept 9)
+abbrev shifted_14 : ℕ → ℕ → ℕ
+shifted_14 e a = bit_xor (a * 2 ^ e % 65536 % 16384) (folded_14 (a / 2 ^ (14 - e)))
 
-reduced-16-kept : IsAdditive reduced_16
-reduced-16-kept =
-    sum-kept _ (λ w. folded_16 (again_16 (w / 65536)))
-    (sum-kept (λ w. w % 65536) (λ w. folded_16 (w / 65536)) (cut-kept 16) (then-kept (λ w. w / 65536) folded_16 (down-kept 16) folded-16-kept))
-    (then-kept (λ w. again_16 (w / 65536)) folded_16 (then-kept (λ w. w / 65536) again_16 (down-kept 16) again-16-kept) folded-16-kept)
+shifted-16-kept : (e : ℕ) → IsAdditive (shifted_16 e)
+shifted-16-kept e =
+    sum-kept (λ a. a * 2 ^ e % 65536) (λ a. folded_16 (a / 2 ^ (15 - e) / 2)) (up-kept e 16)
+    (then-kept (λ a. a / 2 ^ (15 - e) / 2) folded_16 (then-kept (λ a. a / 2 ^ (15 - e)) (λ h. h / 2) (down-kept (15 - e)) (down-kept 1)) folded-16-kept)
 
-reduced-14-kept : IsAdditive reduced_14
-reduced-14-kept =
-    let carried : IsAdditive (λ w. w / 16384 % 65536) = then-kept (λ w. w / 16384) (λ h. h % 65536) (down-kept 14) (cut-kept 16) in
-    sum-kept _ (λ w. folded_14 (again_14 (w / 16384 % 65536)))
-    (sum-kept (λ w. w % 16384) (λ w. folded_14 (w / 16384 % 65536) % 16384) (cut-kept 14)
-    (then-kept (λ w. folded_14 (w / 16384 % 65536)) (λ h. h % 16384) (then-kept (λ w. w / 16384 % 65536) folded_14 carried folded-14-kept) (cut-kept 14)))
-    (then-kept (λ w. again_14 (w / 16384 % 65536)) folded_14 (then-kept (λ w. w / 16384 % 65536) again_14 carried again-14-kept) folded-14-kept)
-
-abbrev raised_16 : ℕ → ℕ → ℕ
-raised_16 e a = reduced_16 (a * 2 ^ e % 4294967296)
-
-abbrev raised_14 : ℕ → ℕ → ℕ
-raised_14 e a = reduced_14 (a * 2 ^ e % 4294967296)
-
-raised-16-kept : (e : ℕ) → IsAdditive (raised_16 e)
-raised-16-kept e = then-kept (λ a. a * 2 ^ e % 4294967296) reduced_16 (up-kept e 32) reduced-16-kept
-
-raised-14-kept : (e : ℕ) → IsAdditive (raised_14 e)
-raised-14-kept e = then-kept (λ a. a * 2 ^ e % 4294967296) reduced_14 (up-kept e 32) reduced-14-kept
+shifted-14-kept : (e : ℕ) → IsAdditive (shifted_14 e)
+shifted-14-kept e =
+    sum-kept (λ a. a * 2 ^ e % 65536 % 16384) (λ a. folded_14 (a / 2 ^ (14 - e)))
+    (then-kept (λ a. a * 2 ^ e % 65536) (λ w. w % 16384) (up-kept e 16) (cut-kept 14))
+    (then-kept (λ a. a / 2 ^ (14 - e)) folded_14 (down-kept (14 - e)) folded-14-kept)
 
 -- two families agree at the powers of two, up to a member
 abbrev agree_upto : ℕ → (ℕ → ℕ → ℕ) → (ℕ → ℕ → ℕ) → ℕ → Bool
@@ -101,22 +83,29 @@ member m f g (suc n) e h le =
       | inr below ↦ member m f g n e (and_parts _ _ h).1 below
     ]
 
-all-16 : agree_upto 16 raised_16 (iterate 16 45) 15 ≡ true
+all-16 : agree_upto 16 shifted_16 (iterate 16 45) 11 ≡ true
 all-16 = refl
 
-all-14 : agree_upto 14 raised_14 (iterate 14 43) 15 ≡ true
+all-14 : agree_upto 14 shifted_14 (iterate 14 43) 9 ≡ true
 all-14 = refl
 
--- the shifted number, reduced
-pub raised-16 : (e a : ℕ) → e ≤ 15 → a < 2 ^ 16 → reduced_16 (a * 2 ^ e % 4294967296) ≡ iterate 16 45 e a
-raised-16 e a he ha =
-    same_additive 16 (raised_16 e) (iterate 16 45 e) (λ a b _ _. raised-16-kept e a b) (λ a b _ _. iterate-kept 16 45 e a b)
-    (member 16 raised_16 (iterate 16 45) 15 e all-16 he) a ha
+-- the shifted number, folded
+pub shifted-16 : (e a : ℕ) → e ≤ 11 → a < 2 ^ 16 → shifted_16 e a ≡ iterate 16 45 e a
+shifted-16 e a he ha =
+    same_additive 16 (shifted_16 e) (iterate 16 45 e) (λ a b _ _. shifted-16-kept e a b) (λ a b _ _. iterate-kept 16 45 e a b)
+    (member 16 shifted_16 (iterate 16 45) 11 e all-16 he) a ha
 
-pub raised-14 : (e a : ℕ) → e ≤ 15 → a < 2 ^ 14 → reduced_14 (a * 2 ^ e % 4294967296) ≡ iterate 14 43 e a
-raised-14 e a he ha =
-    same_additive 14 (raised_14 e) (iterate 14 43 e) (λ a b _ _. raised-14-kept e a b) (λ a b _ _. iterate-kept 14 43 e a b)
-    (member 14 raised_14 (iterate 14 43) 15 e all-14 he) a ha
+pub shifted-14 : (e a : ℕ) → e ≤ 9 → a < 2 ^ 14 → shifted_14 e a ≡ iterate 14 43 e a
+shifted-14 e a he ha =
+    same_additive 14 (shifted_14 e) (iterate 14 43 e) (λ a b _ _. shifted-14-kept e a b) (λ a b _ _. iterate-kept 14 43 e a b)
+    (member 14 shifted_14 (iterate 14 43) 9 e all-14 he) a ha
+
+-- n steps and then k more
+pub iterate-then : (m low n k v : ℕ) → iterate m low k (iterate m low n v) ≡ iterate m low (n + k) v
+iterate-then m low zero k v = let e : k ≡ 0 + k = omega arith in ap (λ i. iterate m low i v) e
+iterate-then m low (suc n) k v =
+    let e : suc (n + k) ≡ suc n + k = omega arith in
+    iterate-then m low n k (times_x m low v) ∙ ap (λ i. iterate m low i v) e
 
 pub iterate-14-below : (n v : ℕ) → v < 2 ^ 14 → iterate 14 43 n v < 2 ^ 14
 iterate-14-below zero v h = h

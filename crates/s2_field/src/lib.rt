@@ -13,7 +13,6 @@
 //! ```
 #![tactic(auto)]
 
-mod factors;
 mod field;
 mod gf14;
 mod gf16;

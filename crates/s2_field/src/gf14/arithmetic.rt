@@ -2,13 +2,12 @@
 ghost use Rattle.std.specs.Prelude.{◌≡◌, ◌<◌, ◌≤◌, ◌^◌, bit_xor};
 ghost use Rattle.s2_field.specs.Binary.{times_x, times};
 ghost use Rattle.s2_field.specs.Order.{iterate};
-ghost use Rattle.s2_field.specs.Shifts.{folded_14, reduced_14};
+ghost use Rattle.s2_field.specs.Shifts.{folded_14};
 ghost use Rattle.s2_field.specs.Inverse.{norm, inverse as number_inverse};
 ghost use Rattle.s2_field.specs.Gf14.{zero, one, sum, product, inverse, alpha, number, laws, order, numbered};
 
 use super::Gf14;
 use crate::Field;
-use crate::factors::power_of_two;
 
 fn shift(a: u16) -> u16
     ensures value { result ≡ times_x 14 43 a }
@@ -49,24 +48,28 @@ fn fold(carried: u16) -> u16
     carried ^ (carried << 1) ^ (carried << 3) ^ (carried << 5)
 }
 
-/// What is carried out of the 14 lowest bits is folded back, and once more what that carries out.
-fn reduce(wide: u32) -> u16
-    ensures { result ≡ reduced_14 wide }
+/// x^exponent a: what a shift carries out of the 14 lowest bits, nine bits at most, is folded back.
+fn shift_by(a: u16, exponent: u32) -> u16
+    requires few { exponent ≤ 9 }
+    requires a_below { a < 2 ^ 14 }
+    ensures value { result ≡ iterate 14 43 exponent a }
+    ensures below { result < 2 ^ 14 }
 {
-    let carried = ((wide >> 14) % 65536) as u16;
-    let again = (carried >> 14) ^ (carried >> 13) ^ (carried >> 11) ^ (carried >> 9);
-    ((wide % 16384) as u16) ^ (fold(carried) % 16384) ^ fold(again)
+    ((a << exponent) % 16384) ^ fold(a >> (14 - exponent))
 }
 
-/// x^exponent a, by a product, which goes for several elements at once where a shift by a number of
-/// places of its own does not.
+/// x^exponent a, without a table and alike for all elements, so that a loop over many goes by lanes.
 fn raise(a: u16, exponent: u32) -> u16
     requires few { exponent ≤ 15 }
     requires a_below { a < 2 ^ 14 }
     ensures value { result ≡ iterate 14 43 exponent a }
     ensures below { result < 2 ^ 14 }
 {
-    reduce(u32::from(a).wrapping_mul(power_of_two(exponent)))
+    if exponent <= 9 {
+        shift_by(a, exponent)
+    } else {
+        shift_by(shift_by(a, 8), exponent - 8)
+    }
 }
 
 fn invert(a: u16) -> u16

@@ -2,13 +2,12 @@
 ghost use Rattle.std.specs.Prelude.{◌≡◌, ◌<◌, ◌≤◌, ◌^◌};
 ghost use Rattle.s2_field.specs.Binary.{times_x, times};
 ghost use Rattle.s2_field.specs.Order.{iterate};
-ghost use Rattle.s2_field.specs.Shifts.{folded_16, reduced_16};
+ghost use Rattle.s2_field.specs.Shifts.{folded_16};
 ghost use Rattle.s2_field.specs.Inverse.{norm, inverse as number_inverse};
 ghost use Rattle.s2_field.specs.Gf16.{zero, one, sum, product, inverse, alpha, number, laws, order, numbered};
 
 use super::Gf16;
 use crate::Field;
-use crate::factors::power_of_two;
 
 fn shift(a: u16) -> u16
     ensures { result ≡ times_x 16 45 a }
@@ -37,22 +36,25 @@ fn fold(carried: u16) -> u16
     carried ^ (carried << 2) ^ (carried << 3) ^ (carried << 5)
 }
 
-/// What is carried out of the 16 lowest bits is folded back, and once more what that carries out.
-fn reduce(wide: u32) -> u16
-    ensures { result ≡ reduced_16 wide }
+/// x^exponent a: what a shift carries out of the 16 lowest bits, eleven bits at most, is folded back.
+fn shift_by(a: u16, exponent: u32) -> u16
+    requires { exponent ≤ 11 }
+    ensures { result ≡ iterate 16 45 exponent a }
 {
-    let carried = (wide >> 16) as u16;
-    let again = (carried >> 14) ^ (carried >> 13) ^ (carried >> 11);
-    ((wide % 65536) as u16) ^ fold(carried) ^ fold(again)
+    let carried = (a >> (15 - exponent)) >> 1;
+    (a << exponent) ^ fold(carried)
 }
 
-/// x^exponent a, by a product, which goes for several elements at once where a shift by a number of
-/// places of its own does not.
+/// x^exponent a, without a table and alike for all elements, so that a loop over many goes by lanes.
 fn raise(a: u16, exponent: u32) -> u16
     requires { exponent ≤ 15 }
     ensures { result ≡ iterate 16 45 exponent a }
 {
-    reduce(u32::from(a).wrapping_mul(power_of_two(exponent)))
+    if exponent <= 11 {
+        shift_by(a, exponent)
+    } else {
+        shift_by(shift_by(a, 8), exponent - 8)
+    }
 }
 
 fn invert(a: u16) -> u16

@@ -35,6 +35,8 @@ pub flip_roots-requires : goal.flip_roots-requires
 flip_roots-requires g c = record {
   few = omega (arith, c.if-degree-t.false, c.requires.room.few, length-take (c.shortest_filter-degree.result + 1) c.shortest_filter-degree.new.filter);
   room = c.requires.room.terms_fit;
+  lanes = c.requires.room.values_fit;
+  short = c.requires.few;
 }
 
 pub returns-clause-only : goal.returns-clause-only

@@ -1,0 +1,65 @@
+//! The search for a polynomial's roots among the powers of `alpha`.
+ghost use Rattle.std.specs.Prelude.{◌≡◌, ◌≢◌, ◌<◌, ◌≤◌, ◌+◌, ◌-◌, ◌*◌, ◌%◌, ℕ, List, Bool, true, false, length, slice_index_or};
+ghost use Rattle.s2_bits.specs.Bits.{xor};
+ghost use Rattle.s2_bch.specs.Flips.{FlipsRoots};
+ghost use Rattle.s2_bch.specs.Words.{distance};
+
+use crate::lanes::{LANES, advance, has_zero, put_terms};
+use s2_field::{Field, pow};
+
+/// Flips the word at the lanes whose value is zero, and answers how many these are. A lane's places,
+/// counted from the word's end, begin behind those of the lane before, and `step` counts in them.
+fn flip_lanes<F: Field>(values: &[F], stride: usize, step: usize, word: &mut [bool]) -> usize
+    requires lanes { length values.now ≡ 16 }
+    requires step { step < stride }
+    requires reach { 16 * stride ≤ length word.old + 16 }
+    ensures hit { (l : ℕ) → l < 16 → stride * l + step < length word.old → slice_index_or values.now l F.zero ≡ F.zero
+        → slice_index_or word.new (length word.old - 1 - (stride * l + step)) false ≡ xor true (slice_index_or word.old (length word.old - 1 - (stride * l + step)) false) }
+    ensures miss { (l : ℕ) → l < 16 → stride * l + step < length word.old → slice_index_or values.now l F.zero ≢ F.zero
+        → slice_index_or word.new (length word.old - 1 - (stride * l + step)) false ≡ slice_index_or word.old (length word.old - 1 - (stride * l + step)) false }
+    ensures others { (e : ℕ) → e < length word.old → e % stride ≢ step
+        → slice_index_or word.new (length word.old - 1 - e) false ≡ slice_index_or word.old (length word.old - 1 - e) false }
+    ensures count { (o : List Bool) → length o ≡ length word.old
+        → ((l : ℕ) → l < 16 → stride * l + step < length word.old
+        → slice_index_or word.old (length word.old - 1 - (stride * l + step)) false ≡ slice_index_or o (length word.old - 1 - (stride * l + step)) false)
+        → distance o word.new ≡ distance o word.old + result }
+{
+    let mut count = 0;
+    for lane in 0..LANES {
+        let place = stride * lane + step;
+        if place < word.len() && values[lane].is_zero() {
+            let at = word.len() - 1 - place;
+            word[at] = !word[at];
+            count += 1;
+        }
+    }
+    count
+}
+
+/// Flips the word where the power of `alpha` of the place, counted from the end, is a root, and
+/// answers how many places that are. Sixteen runs of places are gone through together, with room
+/// for their terms and values.
+pub(crate) fn flip_roots<F: Field>(
+    filter: &[F],
+    terms: &mut [F],
+    values: &mut [F],
+    word: &mut [bool],
+) -> usize
+    requires few { length filter.now ≤ 16 }
+    requires room { length terms.old ≡ 256 }
+    requires lanes { length values.old ≡ 16 }
+    requires short { length word.old < 65536 }
+    ensures flips { FlipsRoots F.zero F.one F.sum F.product F.alpha filter.now word.old word.new }
+    ensures count { result ≡ distance word.old word.new }
+{
+    let stride = word.len() / LANES + 1;
+    put_terms(filter, pow(F::alpha(), stride as u32), terms);
+    let mut count = 0;
+    for step in 0..stride {
+        advance(terms, filter.len(), values);
+        if has_zero(values) {
+            count += flip_lanes(values, stride, step, word);
+        }
+    }
+    count
+}
