@@ -57,7 +57,8 @@ pub(crate) fn flip_roots<F: Field>(
     let mut count = 0;
     for step in 0..stride {
         advance(terms, filter.len(), values);
-        if has_zero(values) {
+        let found = has_zero(values);
+        if found {
             count += flip_lanes(values, stride, step, word);
         }
     }

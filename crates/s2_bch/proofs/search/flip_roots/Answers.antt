@@ -4,7 +4,7 @@ use Rattle.s2_field.specs.Polynomials.{pow}
 use Rattle.s2_bch.proofs.TermLemmas.{pow_times, terms_along}
 use Rattle.s2_bch.proofs.Places.{AreSearched, search_start, search_end, step_kept, step_turned, lanes_left, distance_most}
 use Rattle.s2_bch.proofs.search.flip_roots.Goals as goal
-use Rattle.s2_bch.proofs.search.flip_roots.Goals.{then-has_zero, else-has_zero}
+use Rattle.s2_bch.proofs.search.flip_roots.Goals.{then-found, else-found}
 
 pub loop-step-init : goal.loop-step-init
 loop-step-init g c =
@@ -63,22 +63,22 @@ loop-step-preserved g c =
           (λ k hk. let e : suc (stride * k + step) ≡ stride * k + (step + 1) = omega arith in ap power e)
           (c.advance.ensures.terms filter (λ k. power (stride * k + step)) refl v.terms);
       searched =
-          elim c.if-has_zero.branch [
-            | then-has_zero w ↦
+          elim c.if-found.branch [
+            | then-found w ↦
                 let left = lanes_left f.zero f.one f.sum f.product f.alpha filter stride old step c.loop-step.count now D
                 c.advance.new.values values (omega arith) (omega arith) in
                 let e = w.flip_lanes-count.ensures in
-                subst (λ n. done n c.if-has_zero.word) (sym w.count-is)
+                subst (λ n. done n c.if-found.word) (sym w.count-is)
                 (subst (done (c.loop-step.count + w.flip_lanes-count.result)) (sym w.word-is)
                 (step_turned f.zero f.one f.sum f.product f.alpha filter stride old step c.loop-step.count now D
                 c.advance.new.values values (omega arith) (omega arith)
                 w.flip_lanes-count.new.word w.flip_lanes-count.result w.flip_lanes-count.auto.word e.hit e.miss e.others
                 (e.count old (sym D.size) left)))
-            | else-has_zero w ↦
-                subst (λ n. done n c.if-has_zero.word) (sym w.count-is)
+            | else-found w ↦
+                subst (λ n. done n c.if-found.word) (sym w.count-is)
                 (subst (done c.loop-step.count) (sym w.word-is)
                 (step_kept f.zero f.one f.sum f.product f.alpha filter stride old step c.loop-step.count now D
-                c.advance.new.values values (omega arith) (omega arith) (c.has_zero.ensures w.if-has_zero.false)))
+                c.advance.new.values values (omega arith) (omega arith) (c.has_zero-found.ensures w.if-found.false)))
           ];
     }
 
