@@ -10,9 +10,9 @@ ghost use Rattle.s2_tool.specs.Certifying.{Certifies};
 use crate::exit::Exit;
 use crate::fault::{Fault, conclude};
 use crate::files::{read_row_file, read_value_file};
-use crate::judge::{write_broken, write_most_likely};
+use crate::judge::write_verdict;
 use s2_bits::Bits;
-use s2_check::{CertView, cost, judge_unsplit};
+use s2_check::{CertView, judge_unsplit};
 use s2_matrix::Matrix;
 use s2_mode::{CountedRead, CountedWrite, Shape};
 use std::alloc::Global;
@@ -39,22 +39,13 @@ fn certify_soft<C: CountedWrite, O: CountedWrite>(
     let Ok(mut word) = Bits::zeroed(alloc, matrix.bits()) else {
         return Err(Fault::NoMemory);
     };
-    if judge_unsplit(matrix, soft, &mut word) {
+    let likely = judge_unsplit(matrix, soft, &mut word);
+    if likely {
         let Ok(()) = CertView::unsplit(matrix, soft, &word).write(certificate) else {
             return Err(Fault::Write);
         };
-        let Ok(()) = write_most_likely(out, cost(soft, &word)) else {
-            return Err(Fault::Write);
-        };
-        return Ok(Exit::Fine);
     }
-    let Some(check) = matrix.odd_check(&word) else {
-        unreachable!();
-    };
-    let Ok(()) = write_broken(out, cost(soft, &word), check) else {
-        return Err(Fault::Write);
-    };
-    Ok(Exit::No)
+    write_verdict(matrix, soft, &word, likely, out)
 }
 
 /// Reads rows and soft values, judges, and certifies.

@@ -1,9 +1,11 @@
 //! Soft values judged.
-ghost use Rattle.std.specs.Prelude.{◌≡◌, ◌≢◌, ◌+◌, ◌-◌, ◌^◌, ◌<◌, Result, Err, IfSome, OnOk, codes, length};
+ghost use Rattle.std.specs.Prelude.{◌≡◌, ◌≢◌, ◌↔◌, ◌+◌, ◌-◌, ◌^◌, ◌<◌, ◌≤◌, ◌⊎◌, false, IsTrue, Result, Ok, Err, IfSome, OnOk, codes, length};
 ghost use Rattle.std.specs.Io.KnownBytes.{Appends};
 ghost use Rattle.s2_mode.specs.Counts.{CountsFault};
 ghost use Rattle.s2_mode.specs.Shape.{shape_of};
-ghost use Rattle.s2_matrix.specs.Code.{code_of};
+ghost use Rattle.s2_matrix.specs.Code.{code_of, IsCodeword};
+ghost use Rattle.s2_check.specs.Cost.{IsMostLikely};
+ghost use Rattle.s2_check.specs.Hard.{hard_decision};
 ghost use Rattle.s2_tool.specs.Exits.{exit_of, IsPrinting, Prints, Runs, Counts, Complains};
 ghost use Rattle.s2_tool.specs.Inputs.{inputs};
 ghost use Rattle.s2_tool.specs.Judging.{Judges};
@@ -48,6 +50,42 @@ pub(crate) fn write_broken<W: CountedWrite>(
     write_text(out, "\n")
 }
 
+/// Prints the verdict on a hard decision: whether it is a codeword, which is then most likely.
+pub(crate) fn write_verdict<O: CountedWrite>(
+    matrix: &Matrix,
+    soft: &[i16],
+    word: &Bits,
+    likely: bool,
+    out: &mut O,
+) -> Result<Exit, Fault>
+    requires soft { length soft.now ≡ (code_of matrix.now).bits }
+    requires few { length soft.now ≤ 64800 }
+    requires word { word.now ≡ hard_decision soft.now }
+    requires codeword { IsTrue likely ↔ IsCodeword (code_of matrix.now) (hard_decision soft.now) }
+    requires likely { IsTrue likely → IsMostLikely (code_of matrix.now) soft.now word.now }
+    requires out { O.count out.old < 2 ^ 64 - 1 }
+    ensures prints { Prints result (Judges matrix.now soft.now) (O.contents out.old) (O.contents out.new) }
+    ensures fine { IsTrue likely → (result ≡ Ok Exit.Fine) ⊎ (result ≡ Err Fault.Write) }
+    ensures no { likely ≡ false → (result ≡ Ok Exit.No) ⊎ (result ≡ Err Fault.Write) }
+    ensures write { result ≡ Err Fault.Write → O.count out.new ≡ O.count out.old + 1 }
+    ensures no_other { result ≢ Err Fault.Write → O.count out.new ≡ O.count out.old }
+    ensures faults { IsPrinting result }
+{
+    if likely {
+        let Ok(()) = write_most_likely(out, cost(soft, word)) else {
+            return Err(Fault::Write);
+        };
+        return Ok(Exit::Fine);
+    }
+    let Some(check) = matrix.odd_check(word) else {
+        unreachable!();
+    };
+    let Ok(()) = write_broken(out, cost(soft, word), check) else {
+        return Err(Fault::Write);
+    };
+    Ok(Exit::No)
+}
+
 /// Judges the hard decision of soft values, and prints the verdict.
 fn judge_soft<O: CountedWrite>(
     alloc: Global,
@@ -65,19 +103,8 @@ fn judge_soft<O: CountedWrite>(
     let Ok(mut word) = Bits::zeroed(alloc, matrix.bits()) else {
         return Err(Fault::NoMemory);
     };
-    if judge_unsplit(matrix, soft, &mut word) {
-        let Ok(()) = write_most_likely(out, cost(soft, &word)) else {
-            return Err(Fault::Write);
-        };
-        return Ok(Exit::Fine);
-    }
-    let Some(check) = matrix.odd_check(&word) else {
-        unreachable!();
-    };
-    let Ok(()) = write_broken(out, cost(soft, &word), check) else {
-        return Err(Fault::Write);
-    };
-    Ok(Exit::No)
+    let likely = judge_unsplit(matrix, soft, &mut word);
+    write_verdict(matrix, soft, &word, likely, out)
 }
 
 /// Reads rows and soft values, and judges.

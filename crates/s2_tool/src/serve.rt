@@ -89,22 +89,13 @@ pub fn serve<R: Files + AllocGlobal, S: CountedRead, O: CountedWrite, E: Counted
             shape,
             weight,
             seed,
-        } => match shape_of(shape) {
-            Some(shape) => {
-                rows_command(rt.alloc(), shape, usize::from(weight), seed, out, errors)
-            }
-            None => complain(errors, "no such shape", ""),
-        },
+        } => serve_rows(rt, shape, weight, seed, out, errors),
         Request::Judge {
             shape,
             certificate,
             rows,
             soft,
-        } => match (shape_of(shape), certificate) {
-            (Some(shape), Some(name)) => serve_certify(rt, shape, name, rows, soft, out, errors),
-            (Some(shape), None) => serve_judge(rt, shape, rows, soft, out, errors),
-            (None, _) => complain(errors, "no such shape", ""),
-        },
+        } => serve_judge(rt, shape, certificate, rows, soft, out, errors),
         Request::Check { rows, certificate } => serve_check(rt, rows, certificate, out, errors),
         Request::Mod {
             link,
@@ -118,7 +109,47 @@ pub fn serve<R: Files + AllocGlobal, S: CountedRead, O: CountedWrite, E: Counted
     }
 }
 
+fn serve_rows<R: AllocGlobal, O: CountedWrite, E: CountedWrite>(
+    rt: &R,
+    shape: ShapeWords,
+    weight: u8,
+    seed: u64,
+    out: &mut O,
+    errors: &mut E,
+) -> Exit
+    requires out { O.count out.old < 2 ^ 64 - 1 }
+    requires errors { E.count errors.old < 2 ^ 64 - 1 }
+    ensures { result ≢ Exit.Fault → E.count errors.new ≡ E.count errors.old }
+{
+    let Some(shape) = shape_of(shape) else {
+        return complain(errors, "no such shape", "");
+    };
+    rows_command(rt.alloc(), shape, usize::from(weight), seed, out, errors)
+}
+
 fn serve_judge<R: Files + AllocGlobal, O: CountedWrite, E: CountedWrite>(
+    rt: &R,
+    shape: ShapeWords,
+    certificate: Option<&str>,
+    rows: &str,
+    soft: &str,
+    out: &mut O,
+    errors: &mut E,
+) -> Exit
+    requires out { O.count out.old < 2 ^ 64 - 1 }
+    requires errors { E.count errors.old < 2 ^ 64 - 1 }
+    ensures { result ≢ Exit.Fault → E.count errors.new ≡ E.count errors.old }
+{
+    let Some(shape) = shape_of(shape) else {
+        return complain(errors, "no such shape", "");
+    };
+    match certificate {
+        Some(name) => serve_certify(rt, shape, name, rows, soft, out, errors),
+        None => serve_verdict(rt, shape, rows, soft, out, errors),
+    }
+}
+
+fn serve_verdict<R: Files + AllocGlobal, O: CountedWrite, E: CountedWrite>(
     rt: &R,
     shape: Shape,
     rows: &str,
