@@ -6,7 +6,7 @@ ghost use Rattle.s2_map.specs.Mapping.{point_of};
 use s2_mode::{Mode, Symbol};
 
 /// QPSK by label.
-pub(crate) const QPSK: [Symbol; 4] = [
+pub(crate) static QPSK: [Symbol; 4] = [
     Symbol { i: 700, q: 700 },
     Symbol { i: 700, q: -700 },
     Symbol { i: -700, q: 700 },
@@ -14,7 +14,7 @@ pub(crate) const QPSK: [Symbol; 4] = [
 ];
 
 /// 8PSK by label.
-pub(crate) const PSK: [Symbol; 8] = [
+pub(crate) static PSK: [Symbol; 8] = [
     Symbol { i: 700, q: 700 },
     Symbol { i: 990, q: 0 },
     Symbol { i: -990, q: 0 },
