@@ -7,8 +7,13 @@ use Rattle.std.proofs.lemmas.Bool.{cases_lt}
 use Rattle.s2_bits.specs.Bits.{xor}
 use Rattle.s2_field.specs.Polynomials as P
 use Rattle.s2_bch.specs.Flips as flips
+use Rattle.s2_bch.specs.Flips.{bit_from_end}
 use Rattle.s2_bch.specs.Words.{distance, weight}
 use Rattle.s2_bch.proofs.CodeFacts.{distance_self}
+
+-- of a word of n bits
+pub from_end : (w : List Bool) (n e : ℕ) → length w ≡ n → bit_from_end w e ≡ get_or w (n - 1 - e) false
+from_end w n e size = ap (λ m. get_or w (m - 1 - e) false) size
 
 module _ {F : Type 0} (nil one : F) (add mul : F → F → F) (a : F) (f : List F) where
   -- at the place e, counted from the end, the word is flipped where a^e is a root
@@ -211,10 +216,10 @@ module _ {F : Type 0} (nil one : F) (add mul : F → F → F) (a : F) (f : List 
     -- a step that flips the lanes' roots
     pub step_turned : (next : List Bool) (more : ℕ) → length next ≡ length now
         → ((l : ℕ) → l < 16 → stride * l + step < length now → get_or values l nil ≡ nil
-        → get_or next (length now - 1 - (stride * l + step)) false ≡ xor true (get_or now (length now - 1 - (stride * l + step)) false))
+        → bit_from_end next (stride * l + step) ≡ xor true (bit_from_end now (stride * l + step)))
         → ((l : ℕ) → l < 16 → stride * l + step < length now → get_or values l nil ≢ nil
-        → get_or next (length now - 1 - (stride * l + step)) false ≡ get_or now (length now - 1 - (stride * l + step)) false)
-        → ((e : ℕ) → e < length now → e % stride ≢ step → get_or next (length now - 1 - e) false ≡ get_or now (length now - 1 - e) false)
+        → bit_from_end next (stride * l + step) ≡ bit_from_end now (stride * l + step))
+        → ((e : ℕ) → e < length now → e % stride ≢ step → bit_from_end next e ≡ bit_from_end now e)
         → distance old next ≡ distance old now + more
         → AreSearched (step + 1) (count + more) next
     step_turned next more long hit miss others further = record {
@@ -240,31 +245,35 @@ module _ {F : Type 0} (nil one : F) (add mul : F → F → F) (a : F) (f : List 
         size : length now ≡ length old
         size = D.size
 
+        next_bit : (e : ℕ) → get_or next (length old - 1 - e) false ≡ bit_from_end next e
+        next_bit e = sym (from_end next (length old) e (long ∙ size))
+
+        now_bit : (e : ℕ) → bit_from_end now e ≡ get_or now (length old - 1 - e) false
+        now_bit e = from_end now (length old) e size
+
         other_place : (e : ℕ) → e < length old → e % stride ≢ step → get_or next (length old - 1 - e) false ≡ get_or now (length old - 1 - e) false
-        other_place e he ne =
-            subst (λ n. get_or next (n - 1 - e) false ≡ get_or now (n - 1 - e) false) size (others e (omega (arith, size, he)) ne)
+        other_place e he ne = next_bit e ∙ others e (omega (arith, size, he)) ne ∙ now_bit e
 
         turned : (e : ℕ) → e < length old → e % stride ≡ step → get_or values (e / stride) nil ≡ nil
             → get_or next (length old - 1 - e) false ≡ xor true (get_or now (length old - 1 - e) false)
         turned e he here z =
             let at = again e here in
-            subst (λ n. get_or next (n - 1 - e) false ≡ xor true (get_or now (n - 1 - e) false)) size
-            (subst (λ i. get_or next (length now - 1 - i) false ≡ xor true (get_or now (length now - 1 - i) false)) at
-            (hit (e / stride) (lane-fits e he) (omega (arith, at, size, he)) z))
+            next_bit e
+            ∙ subst (λ i. bit_from_end next i ≡ xor true (bit_from_end now i)) at (hit (e / stride) (lane-fits e he) (omega (arith, at, size, he)) z)
+            ∙ ap (xor true) (now_bit e)
 
         same : (e : ℕ) → e < length old → e % stride ≡ step → get_or values (e / stride) nil ≢ nil
             → get_or next (length old - 1 - e) false ≡ get_or now (length old - 1 - e) false
         same e he here n =
             let at = again e here in
-            subst (λ n. get_or next (n - 1 - e) false ≡ get_or now (n - 1 - e) false) size
-            (subst (λ i. get_or next (length now - 1 - i) false ≡ get_or now (length now - 1 - i) false) at
-            (miss (e / stride) (lane-fits e he) (omega (arith, at, size, he)) n))
+            next_bit e
+            ∙ subst (λ i. bit_from_end next i ≡ bit_from_end now i) at (miss (e / stride) (lane-fits e he) (omega (arith, at, size, he)) n)
+            ∙ now_bit e
 
     -- the lanes' places are as they were before the search
-    pub lanes_left : (l : ℕ) → l < 16 → stride * l + step < length now
-        → get_or now (length now - 1 - (stride * l + step)) false ≡ get_or old (length now - 1 - (stride * l + step)) false
+    pub lanes_left : (l : ℕ) → l < 16 → stride * l + step < length now → bit_from_end now (stride * l + step) ≡ bit_from_end old (stride * l + step)
     lanes_left l hl h =
-        let size : length old ≡ length now = sym D.size in
+        let size : length now ≡ length old = D.size in
         let here : (stride * l + step) % stride ≡ step = mul-add-mod_self_left stride l step ∙ mod-eq_of_lt fits in
-        subst (λ n. get_or now (n - 1 - (stride * l + step)) false ≡ get_or old (n - 1 - (stride * l + step)) false) size
-        (D.left (stride * l + step) (omega (arith, size, h)) (omega (arith, here)))
+        from_end now (length old) (stride * l + step) size
+        ∙ D.left (stride * l + step) (omega (arith, size, h)) (omega (arith, here))

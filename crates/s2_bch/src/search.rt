@@ -1,7 +1,7 @@
 //! The search for a polynomial's roots among the powers of `alpha`.
-ghost use Rattle.std.specs.Prelude.{◌≡◌, ◌≢◌, ◌<◌, ◌≤◌, ◌+◌, ◌-◌, ◌*◌, ◌%◌, ℕ, List, Bool, true, false, length, slice_index_or};
+ghost use Rattle.std.specs.Prelude.{◌≡◌, ◌≢◌, ◌<◌, ◌≤◌, ◌+◌, ◌*◌, ◌%◌, ℕ, List, Bool, true, length, slice_index_or};
 ghost use Rattle.s2_bits.specs.Bits.{xor};
-ghost use Rattle.s2_bch.specs.Flips.{FlipsRoots};
+ghost use Rattle.s2_bch.specs.Flips.{FlipsRoots, bit_from_end};
 ghost use Rattle.s2_bch.specs.Words.{distance};
 
 use crate::lanes::{LANES, advance, has_zero, put_terms};
@@ -14,14 +14,12 @@ fn flip_lanes<F: Field>(values: &[F], stride: usize, step: usize, word: &mut [bo
     requires step { step < stride }
     requires reach { 16 * stride ≤ length word.old + 16 }
     ensures hit { (l : ℕ) → l < 16 → stride * l + step < length word.old → slice_index_or values.now l F.zero ≡ F.zero
-        → slice_index_or word.new (length word.old - 1 - (stride * l + step)) false ≡ xor true (slice_index_or word.old (length word.old - 1 - (stride * l + step)) false) }
+        → bit_from_end word.new (stride * l + step) ≡ xor true (bit_from_end word.old (stride * l + step)) }
     ensures miss { (l : ℕ) → l < 16 → stride * l + step < length word.old → slice_index_or values.now l F.zero ≢ F.zero
-        → slice_index_or word.new (length word.old - 1 - (stride * l + step)) false ≡ slice_index_or word.old (length word.old - 1 - (stride * l + step)) false }
-    ensures others { (e : ℕ) → e < length word.old → e % stride ≢ step
-        → slice_index_or word.new (length word.old - 1 - e) false ≡ slice_index_or word.old (length word.old - 1 - e) false }
+        → bit_from_end word.new (stride * l + step) ≡ bit_from_end word.old (stride * l + step) }
+    ensures others { (e : ℕ) → e < length word.old → e % stride ≢ step → bit_from_end word.new e ≡ bit_from_end word.old e }
     ensures count { (o : List Bool) → length o ≡ length word.old
-        → ((l : ℕ) → l < 16 → stride * l + step < length word.old
-        → slice_index_or word.old (length word.old - 1 - (stride * l + step)) false ≡ slice_index_or o (length word.old - 1 - (stride * l + step)) false)
+        → ((l : ℕ) → l < 16 → stride * l + step < length word.old → bit_from_end word.old (stride * l + step) ≡ bit_from_end o (stride * l + step))
         → distance o word.new ≡ distance o word.old + result }
 {
     let mut count = 0;

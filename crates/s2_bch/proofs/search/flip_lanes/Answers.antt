@@ -3,7 +3,7 @@ use Rattle.std.specs.Prelude.{Bool, false, not}
 use Rattle.std.proofs.lemmas.Bool.{true≢false}
 use Rattle.std.proofs.lemmas.List.{get_or_read}
 use Rattle.std.proofs.Math.Nat.{mul-add-mod_self_left, mod-eq_of_lt, mul-le-mul_left}
-use Rattle.s2_bch.proofs.Places.{AreDone, lanes_start, lane_kept, lane_turned}
+use Rattle.s2_bch.proofs.Places.{AreDone, lanes_start, lane_kept, lane_turned, from_end}
 use Rattle.s2_bch.proofs.search.flip_lanes.Goals as goal
 use Rattle.s2_bch.proofs.search.flip_lanes.Goals.{then-place-word+then-is_zero, else-place-word, else-place-word-via-then-place-word+else-is_zero, else-place-word-via-else-place-word}
 
@@ -50,15 +50,22 @@ loop-lane-preserved g c =
     ]
 
 pub returns-clause-hit : goal.returns-clause-hit
-returns-clause-hit g c l hl h z = c.loop-lane.invariant.hit l (omega arith) h z
+returns-clause-hit g c l hl h z =
+    let v = c.loop-lane.invariant in
+    from_end c.loop-lane.word (length c.args.word.now) (c.args.stride * l + c.args.step) v.size ∙ v.hit l (omega arith) h z
 
 pub returns-clause-miss : goal.returns-clause-miss
-returns-clause-miss g c l hl h n = c.loop-lane.invariant.miss l (omega arith) h n
+returns-clause-miss g c l hl h n =
+    let v = c.loop-lane.invariant in
+    from_end c.loop-lane.word (length c.args.word.now) (c.args.stride * l + c.args.step) v.size ∙ v.miss l (omega arith) h n
 
 pub returns-clause-others : goal.returns-clause-others
 returns-clause-others g c e he other =
-    c.loop-lane.invariant.left e he
-    (λ k hk same. other (ap (λ x. x % c.args.stride) same ∙ mul-add-mod_self_left c.args.stride k c.args.step ∙ mod-eq_of_lt c.requires.step))
+    let v = c.loop-lane.invariant in
+    from_end c.loop-lane.word (length c.args.word.now) e v.size
+    ∙ v.left e he (λ k hk same. other (ap (λ x. x % c.args.stride) same ∙ mul-add-mod_self_left c.args.stride k c.args.step ∙ mod-eq_of_lt c.requires.step))
 
 pub returns-clause-count : goal.returns-clause-count
-returns-clause-count g c o eo same = c.loop-lane.invariant.counted o eo same
+returns-clause-count g c o eo same =
+    c.loop-lane.invariant.counted o eo
+    (λ k hk h. same k hk h ∙ from_end o (length c.args.word.now) (c.args.stride * k + c.args.step) eo)
