@@ -34,7 +34,7 @@ pub fn map_into(mode: Mode, word: &Bits, payload: &mut [Symbol])
 fn component(bit: bool) -> i16
     ensures { result ≡ if bit then negsuc 699 else pos 700 }
 {
-    if bit { -700 } else { 700 }
+    700 - 1400 * i16::from(bit)
 }
 
 /// QPSK: each two bits are a symbol, and each bit a component.
