@@ -34,7 +34,7 @@ pub enum GoldFault {
 #[derive(Drop)]
 pub struct Gold {
     number: u32,
-    quarters: Vec<u8>,
+    quarters: Vec<u16>,
 }
 
 impl Model for Gold {
@@ -78,7 +78,7 @@ impl Gold {
         requires { i < 33192 }
         ensures { result ≡ quarter_turns self.now i }
     {
-        self.quarters[i]
+        self.quarters[i] as u8
     }
 
     /// Turns a symbol as symbol `i` after the header. The negative of -32768 is 32767.
@@ -86,7 +86,7 @@ impl Gold {
         requires { i < 33192 }
         ensures { result ≡ turned (quarter_turns self.now i) symbol }
     {
-        turned(self.quarter(i), symbol)
+        turned(self.quarters[i], symbol)
     }
 
     /// Turns symbol `i` after the header back.
@@ -95,7 +95,7 @@ impl Gold {
         ensures is { result ≡ turned_back (quarter_turns self.now i) symbol }
         ensures undoes { (sent : Symbol) → CanTurnBack sent → symbol ≡ turned (quarter_turns self.now i) sent → result ≡ sent }
     {
-        turned_back(self.quarter(i), symbol)
+        turned_back(self.quarters[i], symbol)
     }
 
     /// Turns symbols as those from symbol `at` after the header on.

@@ -8,7 +8,7 @@ use s2_mode::Symbol;
 /// The symbol turned by so many quarters: an odd number exchanges the components, and one of them
 /// or both change their sign. Nothing branches on the quarters, which follow no pattern.
 #[inline(always)]
-pub(crate) fn turned(quarters: u8, symbol: Symbol) -> Symbol
+pub(crate) fn turned(quarters: u16, symbol: Symbol) -> Symbol
     requires { quarters < 4 }
     ensures { result ≡ turned quarters symbol }
 {
@@ -22,7 +22,7 @@ pub(crate) fn turned(quarters: u8, symbol: Symbol) -> Symbol
 
 /// The symbol turned back by so many quarters.
 #[inline(always)]
-pub(crate) fn turned_back(quarters: u8, symbol: Symbol) -> Symbol
+pub(crate) fn turned_back(quarters: u16, symbol: Symbol) -> Symbol
     requires { quarters < 4 }
     ensures { result ≡ turned_back quarters symbol }
 {
@@ -50,7 +50,7 @@ fn signed(negate: bool, component: i16) -> i16
 }
 
 /// Turns each symbol by its number of quarters.
-pub(crate) fn turn_each(quarters: &[u8], symbols: &[Symbol], out: &mut [Symbol])
+pub(crate) fn turn_each(quarters: &[u16], symbols: &[Symbol], out: &mut [Symbol])
     requires same { length out.old ≡ length symbols.now }
     requires enough { length quarters.now ≡ length symbols.now }
     requires small { (k : ℕ) → k < length quarters.now → slice_index quarters.now k < 4 }
