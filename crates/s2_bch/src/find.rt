@@ -5,6 +5,7 @@ ghost use Rattle.s2_bch.specs.Words.{distance, IsMultiple};
 ghost use Rattle.s2_bch.specs.Values.{value_at, HasRoots, HaveSameValues};
 ghost use Rattle.s2_bch.specs.Room.{HasRoom};
 
+use crate::lanes::LANES;
 use crate::locate::shortest_filter;
 use crate::search::flip_roots;
 use s2_field::Field;
@@ -42,8 +43,8 @@ impl<F: Field> Finder<F> {
             filter: vec![in alloc; F::zero(); t + t + 1]?,
             spare: vec![in alloc; F::zero(); t + t + 1]?,
             next: vec![in alloc; F::zero(); t + t + 1]?,
-            terms: vec![in alloc; F::zero(); 256]?,
-            values: vec![in alloc; F::zero(); 16]?,
+            terms: vec![in alloc; F::zero(); 16 * LANES]?,
+            values: vec![in alloc; F::zero(); LANES]?,
         })
     }
 

@@ -2,7 +2,7 @@
 use Rattle.std.proofs.Common.{◌≡◌, ℕ, ◌<◌, ◌/◌, ◌%◌, Bool, true, false, List, [], ◌∷◌, get_or, map, refl, sym, ap, ◌∙◌, arith}
 use Rattle.std.specs.List.{range_with_len}
 use Rattle.std.proofs.lemmas.List.FromFn.{get_or-map-range_with_len}
-use Rattle.s2_modem.specs.Spelling.{byte_bits}
+use Rattle.s2_bbframe.specs.Crc.{bits_of as byte_bits}
 
 -- the rows of the table
 abbrev pub nibbles : List (List Bool)
@@ -34,6 +34,7 @@ spelt high low =
 
 -- all bytes at once
 all_spelt : map (λ b. spelt (b / 16) (b % 16)) (range_with_len 0 256) ≡ map byte_bits (range_with_len 0 256)
+unfolding byte_bits
 all_spelt = refl
 
 pub spelt-bits : (b : ℕ) → b < 256 → spelt (b / 16) (b % 16) ≡ byte_bits b

@@ -16,11 +16,13 @@ use Rattle.s2_bch.proofs.GeneratorDegrees.{parity_bits}
 use Rattle.s2_bch.proofs.WordFacts.{word-unique}
 use Rattle.s2_ldpc.specs.Encoding.{IsCodewordOf, UniqueLaw}
 use Rattle.s2_modem.specs.Link.{Link}
-use Rattle.s2_modem.specs.Spelling.{byte_bits, bits_of, padded_bits}
+use Rattle.s2_bbframe.specs.Crc.{bits_of as byte_bits}
+use Rattle.s2_modem.specs.Spelling.{bits_of, padded_bits}
 use Rattle.s2_modem.specs.Frames.{baseband_frame, IsCodewordFor, IsFrameOf, frame_bytes}
 use Rattle.s2_modem.specs.Laws.{FrameLaw}
 
 length-bits_of : (bytes : List ℕ) → length (bits_of bytes) ≡ 8 * length bytes
+unfolding byte_bits
 length-bits_of [] = refl
 length-bits_of (b ∷ bytes) =
     let rest : length (bits_of bytes) ≡ 8 * length bytes = length-bits_of bytes in

@@ -1,14 +1,9 @@
 -- Bytes spelt as bits, and symbols as bytes.
-use Rattle.std.specs.Prelude.{ℕ, ◌-◌, ◌*◌, ◌/◌, ◌%◌, ◌==◌, Bool, false, List, [], ◌∷◌, ◌++◌, length, replicate}
+use Rattle.std.specs.Prelude.{ℕ, ◌-◌, ◌*◌, Bool, false, List, ◌++◌, length, replicate}
 use Rattle.std.specs.List.{flat_map}
 use Rattle.s2_mode.specs.declared.symbols.Symbol.{Symbol}
+use Rattle.s2_bbframe.specs.Crc.{bits_of as byte_bits}
 use Rattle.s2_mode.specs.Symbols.{symbol_bytes}
-
--- the bits of a byte, the highest first
-abbrev pub byte_bits : ℕ → List Bool
-byte_bits b =
-    (b / 128 % 2 == 1) ∷ (b / 64 % 2 == 1) ∷ (b / 32 % 2 == 1) ∷ (b / 16 % 2 == 1)
-    ∷ (b / 8 % 2 == 1) ∷ (b / 4 % 2 == 1) ∷ (b / 2 % 2 == 1) ∷ (b % 2 == 1) ∷ []
 
 -- the bits of some bytes
 abbrev pub bits_of : List ℕ → List Bool

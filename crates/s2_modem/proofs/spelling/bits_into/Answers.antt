@@ -1,7 +1,8 @@
 use Rattle.std.proofs.Common.{◌≡◌, ℕ, ◌<◌, ◌+◌, ◌*◌, ◌++◌, List, [], ◌∷◌, ap, ◌∙◌, take, get_or, length, sym, arith, append-nil}
 use Rattle.std.proofs.lemmas.List.{take_more}
 use Rattle.std.proofs.lemmas.List.Concat.{flat_map-append}
-use Rattle.s2_modem.specs.Spelling.{byte_bits, bits_of}
+use Rattle.s2_bbframe.specs.Crc.{bits_of as byte_bits}
+use Rattle.s2_modem.specs.Spelling.{bits_of}
 use Rattle.s2_modem.proofs.Pieces.{eight_more}
 use Rattle.s2_modem.proofs.spelling.bits_into.Goals as goal
 
@@ -12,6 +13,7 @@ one_byte_more bytes i lt =
     ∙ ap (λ l. bits_of (take i bytes) ++ l) (append-nil (byte_bits (get_or bytes i 0)))
 
 pub loop-i-preserved : goal.loop-i-preserved
+unfolding byte_bits
 loop-i-preserved c =
     let i : ℕ = c.loop-i.i in
     let bytes : List ℕ = c.args.bytes.now in
