@@ -4,6 +4,8 @@
 //! list: the exact value at each place, and which places stay as they were. Only [`Bits::zeroed`]
 //! and [`Bits::from_bytes`] take memory. Bytes hold their highest bit first, as in all of
 //! EN 302 307-1. A loop over a whole list works on the slice that [`Bits::truths`] lends.
+//! [`add_turned`] adds a row of bits, turned, to another: the step of all that goes by groups of
+//! bits. What the other crates say of bytes and their bits is defined here, once.
 //!
 //! ```
 //! let bits = Bits::from_bytes(alloc, &[0xa0], 4)?;
@@ -14,8 +16,10 @@
 
 mod bits;
 mod bools;
+mod turns;
 
 pub use bits::Bits;
+pub use turns::add_turned;
 
 #[cfg(test)]
 mod tests;

@@ -1,5 +1,5 @@
 //! Bit lists by their worked values.
-use crate::Bits;
+use crate::{Bits, add_turned};
 use std::test::Fail;
 
 #[test]
@@ -50,5 +50,16 @@ fn adds_and_copies_prefixes(rt: HostRuntime) -> Result<(), Fail> {
     bits.set(0, false);
     bits.truths_mut()[15] = true;
     assert_eq!(rt; [bits.byte(0), bits.byte(1)], [0x7f, 0xdb]);
+    Ok(())
+}
+
+#[test]
+fn adds_a_row_turned_by_three_places(rt: HostRuntime) -> Result<(), Fail> {
+    let row = [true, true, false, true, false, false, false];
+    let mut sums = [false; 7];
+    add_turned(&mut sums, &row, 3);
+    assert_eq!(rt; sums, [false, false, false, true, true, false, true]);
+    add_turned(&mut sums, &row, 7);
+    assert_eq!(rt; sums, [true, true, false, false, true, false, true]);
     Ok(())
 }
