@@ -6,7 +6,8 @@
 //! [`Mode::shape`] is the shape of its LDPC code. [`Shape::new`] makes any other shape of at most 64800
 //! bits. A call that reads or writes takes what is [`Counted`]: over memory its contract names the
 //! bytes, and a failed call raises the count, so no fault is answered where nothing failed.
-//! [`Counting`] counts for any reader or writer of std, [`InMemory`] reads a slice.
+//! [`Counting`] counts for any reader or writer of std, [`InMemory`] reads a slice. A [`Symbol`] has four
+//! bytes in a file, and what is written is read back ([`laws::symbols_back`]).
 //!
 //! ```
 //! let mode = Mode::of(4, true, false)?;
@@ -17,6 +18,7 @@
 
 mod counts;
 mod fakes;
+pub mod laws;
 mod memory;
 mod mode;
 mod rates;

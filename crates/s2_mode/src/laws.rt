@@ -1,0 +1,7 @@
+//! Laws of the definitions: each a call that does nothing, whose clause is the law.
+ghost use Rattle.s2_mode.specs.Symbols.{SymbolsBackLaw};
+
+/// Symbols of 16-bit components are read back from their bytes.
+pub fn symbols_back()
+    ensures { SymbolsBackLaw }
+{}
