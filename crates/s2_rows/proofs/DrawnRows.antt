@@ -1,13 +1,14 @@
 -- Drawn rows are rows: each address below n - k, and each once.
-use Rattle.std.proofs.Common.{◌≡◌, ℕ, zero, suc, ◌+◌, ◌-◌, ◌%◌, ◌<◌, ◌≤◌, true, List, [], ◌∷◌, ◌++◌, length, Ok, Err, inl, inr, refl, sym, ap, ◌∙◌, subst, arith, length-append, append_assoc, append-nil}
+use Rattle.std.proofs.Common.{◌≡◌, ℕ, zero, suc, ◌+◌, ◌-◌, ◌%◌, ◌<◌, ◌≤◌, true, List, [], ◌∷◌, ◌++◌, get_or, length, Ok, Err, inl, inr, refl, sym, ap, ◌∙◌, subst, arith, length-append, append_assoc, append-nil}
 use Rattle.std.proofs.lemmas.Bool.{cond-true, cond-false, cases_Bool, and_parts, leb-true}
 use Rattle.std.proofs.Math.Nat.{mod-lt}
 use Rattle.rand_pcg.specs.Lcg.{Lcg}
-use Rattle.rand_pcg.specs.Pcg.{pcg32}
+use Rattle.rand_pcg.specs.Pcg.{pcg32, pcg32_of_seed}
 use Rattle.s2_mode.specs.Shape.{Shape, IsShape, check_count}
 use Rattle.s2_rows.proofs.Accepted.{still_addresses, IsRow, AreRows, no_rows, one_more_row, are_rows}
 use Rattle.s2_rows.proofs.FreeAddresses.{free_from_is_free, free_from_below}
-use Rattle.s2_rows.specs.MadeRows.{free_from, drawn_address, drawn_row, drawn_rows, made_rows, is_weight, making}
+use Rattle.rand_core.specs.Pcg32Seed.{pcg32_seed}
+use Rattle.s2_rows.specs.MadeRows.{free_from, drawn_address, drawn_row, drawn_rows, made_rows, is_weight, making, AreMadeRows, MadeRowsLaw}
 use Rattle.s2_rows.specs.declared.make.MakeFault.TheVariants as faults
 use Rattle.s2_rows.specs.Rows.{AreAddresses, IsRows, rows_value}
 
@@ -80,3 +81,38 @@ are_made shape weight seed rows shaped h = elim (cases_Bool (is_weight shape wei
         let b = and_parts _ _ a.1 in
         let P : List (List ℕ) → Type 0 = λ rows. IsRows (rows_value shape rows) in
         subst P is (made_are_rows shape weight seed shaped (leb-true 1 weight a.0) (leb-true weight 24 b.0) (leb-true weight (check_count shape) b.1))
+
+-- ---- made rows, without the rule
+
+rows_weigh : (checks weight count : ℕ) (g : Lcg) → weight ≤ checks → (i : ℕ) → i < count → length (get_or (drawn_rows checks weight count g) i []) ≡ weight
+unfolding drawn_rows
+rows_weigh checks weight zero g free i h = absurd (omega arith)
+rows_weigh checks weight (suc count) g free zero h = omega (arith, (row_drawn checks weight [] g (nothing checks) (omega arith)).1)
+rows_weigh checks weight (suc count) g free (suc i) h = rows_weigh checks weight count (drawn_row checks weight [] g).1 free i (omega arith)
+
+-- an address that stands first stays first
+first_stays : (checks left x : ℕ) (row : List ℕ) (g : Lcg) → get_or (drawn_row checks left (x ∷ row) g).0 0 0 ≡ x
+unfolding drawn_row
+first_stays checks zero x row g = refl
+first_stays checks (suc left) x row g = first_stays checks left x (row ++ drawn_address checks (x ∷ row) g ∷ []) (pcg32 g).1
+
+first_drawn : (checks weight count : ℕ) (g : Lcg) → 1 ≤ weight → 1 ≤ count → get_or (get_or (drawn_rows checks weight count g) 0 []) 0 0 ≡ (pcg32 g).0 % checks
+unfolding drawn_rows drawn_row free_from
+first_drawn checks zero count g some rows = absurd (omega arith)
+first_drawn checks (suc weight) zero g some rows = absurd (omega arith)
+first_drawn checks (suc weight) (suc count) g some rows = first_stays checks weight ((pcg32 g).0 % checks) [] (pcg32 g).1
+
+pub made_rows_are : MadeRowsLaw
+made_rows_are shape weight seed shaped t =
+    let a = and_parts _ _ t in
+    let b = and_parts _ _ a.1 in
+    let some = leb-true 1 weight a.0 in
+    let free = leb-true weight (check_count shape) b.1 in
+    let g = pcg32_of_seed (pcg32_seed 16 seed) in
+    let rows = made_are_rows shape weight seed shaped some (leb-true weight 24 b.0) free in
+    record {
+      long = rows.long;
+      weights = rows_weigh (check_count shape) weight shape.groups g free;
+      addresses = rows.each;
+      first = first_drawn (check_count shape) weight shape.groups g some shaped.groups_some;
+    }

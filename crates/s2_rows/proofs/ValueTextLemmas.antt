@@ -3,7 +3,7 @@ use Rattle.std.proofs.Common.{◌≡◌, ℕ, zero, suc, ◌+◌, ◌-◌, ◌^�
 use Rattle.std.proofs.lemmas.Bool.{cond-true, cond-false, cases_Bool, and_from, ne_eqb}
 use Rattle.std.proofs.lemmas.Int.{ints}
 use Rattle.std.specs.Option.{option_map}
-use Rattle.s2_rows.specs.declared.limits.TheConstants.{MOST_SOFT}
+use Rattle.s2_rows.specs.Limits.{most_soft}
 use Rattle.s2_rows.specs.Numbers.{digits_from}
 use Rattle.s2_rows.specs.Readings.{ok_cons}
 use Rattle.s2_rows.specs.Text.{is_space, is_line_feed, in_front, pieces_of, words_of, lines_of, is_passed_over}
@@ -97,13 +97,13 @@ takes_word w (b ∷ t) some apart whole ends = elim (cases_Bool (is_line_feed b)
 
 -- ---- what a word says
 
-in_limits : (v : ℤ) (n : ℕ) → n ≤ MOST_SOFT → (v ≡ pos n) ⊎ (v ≡ neg_ℤ (pos n)) → is_value v ≡ true
+in_limits : (v : ℤ) (n : ℕ) → n ≤ most_soft → (v ≡ pos n) ⊎ (v ≡ neg_ℤ (pos n)) → is_value v ≡ true
 in_limits v n few is =
-    let low : int_lt v (neg_ℤ (pos MOST_SOFT)) ≡ false = elim (cases_Bool (int_lt v (neg_ℤ (pos MOST_SOFT)))) [ inl less ↦ absurd (omega (arith, ints)) | inr ok ↦ ok ] in
-    let high : int_lt (pos MOST_SOFT) v ≡ false = elim (cases_Bool (int_lt (pos MOST_SOFT) v)) [ inl less ↦ absurd (omega (arith, ints)) | inr ok ↦ ok ] in
+    let low : int_lt v (neg_ℤ (pos most_soft)) ≡ false = elim (cases_Bool (int_lt v (neg_ℤ (pos most_soft)))) [ inl less ↦ absurd (omega (arith, ints)) | inr ok ↦ ok ] in
+    let high : int_lt (pos most_soft) v ≡ false = elim (cases_Bool (int_lt (pos most_soft) v)) [ inl less ↦ absurd (omega (arith, ints)) | inr ok ↦ ok ] in
     and_from _ _ (ap not low) (ap not high)
 
-zeros_say : (zeros n : ℕ) → n < 2 ^ 64 → Says n (digits_of zeros n)
+pub zeros_say : (zeros n : ℕ) → n < 2 ^ 64 → Says n (digits_of zeros n)
 unfolding digits_from
 zeros_say zero n few = decimal_says n few
 zeros_say (suc zeros) n few =
@@ -121,7 +121,7 @@ record Speaks (word : List ℕ) (v : ℤ) : Type 0 where
 valued : (line : ℕ) (word : List ℕ) (v : ℤ) → number_of word ≡ Some v → is_value v ≡ true → value_of line word ≡ Ok v
 valued line word v number range = ap (in_range line) number ∙ cond-true _ _ _ range
 
-plain_speaks : (ds : List ℕ) (n : ℕ) → n ≤ MOST_SOFT → Says n ds → Speaks ds (pos n)
+plain_speaks : (ds : List ℕ) (n : ℕ) → n ≤ most_soft → Says n ds → Speaks ds (pos n)
 plain_speaks [] n few s = absurd (omega (arith, s.some))
 plain_speaks (d ∷ ds) n few s = record {
   some = s.some;
@@ -131,7 +131,7 @@ plain_speaks (d ∷ ds) n few s = record {
   value = λ line. valued line (d ∷ ds) (pos n) (cond-false _ _ _ (ne_eqb d 45 (λ e. omega (arith, s.digits.0))) ∙ ap (option_map (signed false)) (natural_of_says (d ∷ ds) n s)) (in_limits (pos n) n few (inl refl));
 }
 
-minus_speaks : (ds : List ℕ) (n : ℕ) → n ≤ MOST_SOFT → Says n ds → Speaks (45 ∷ ds) (neg_ℤ (pos n))
+minus_speaks : (ds : List ℕ) (n : ℕ) → n ≤ most_soft → Says n ds → Speaks (45 ∷ ds) (neg_ℤ (pos n))
 minus_speaks ds n few s = record {
   some = omega arith;
   apart = (refl, no_space ds s.digits);

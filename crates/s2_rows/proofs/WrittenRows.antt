@@ -1,5 +1,5 @@
 -- The text of rows is read as the same rows.
-use Rattle.std.proofs.Common.{◌≡◌, ◌≢◌, ℕ, suc, ◌+◌, ◌-◌, ◌^◌, ◌<◌, ◌≤◌, ◌==◌, nat_lt, Bool, true, false, List, [], ◌∷◌, ◌++◌, map, length, get_or, Ok, refl, sym, ap, ◌∙◌, subst, arith, append_assoc, append-nil, length-append, decimal}
+use Rattle.std.proofs.Common.{◌≡◌, ◌≢◌, ℕ, suc, ◌+◌, ◌-◌, ◌^◌, ◌<◌, ◌≤◌, ◌==◌, nat_lt, Bool, true, false, List, [], ◌∷◌, ◌++◌, map, length, get_or, Some, Ok, refl, sym, ap, ◌∙◌, subst, arith, append_assoc, append-nil, length-append, decimal}
 use Rattle.std.specs.List.{list_any, All, AllPairs}
 use Rattle.std.proofs.lemmas.Bool.{cond-true, cond-false, lt-ltb, ne_eqb}
 use Rattle.std.proofs.lemmas.List.Folds.{list_any_none}
@@ -39,11 +39,11 @@ lacks_append : (p : ℕ → Bool) (xs ys : List ℕ) → Lacks p xs → Lacks p 
 lacks_append p [] ys a b = b
 lacks_append p (x ∷ xs) ys a b = (a.0, lacks_append p xs ys a.1 b)
 
-few_checks : (s : Shape) → IsShape s → check_count s ≤ 64800
+pub few_checks : (s : Shape) → IsShape s → check_count s ≤ 64800
 few_checks s is = omega (arith, is.few)
 
 -- numbers that a file can hold
-abbrev Few : List ℕ → Type 0
+abbrev pub Few : List ℕ → Type 0
 Few [] = Unit
 Few (x ∷ row) = (x < 2 ^ 64) × Few row
 
@@ -75,7 +75,7 @@ words_of_body (x ∷ y ∷ row) few =
     let s = decimal_says x few.0 in
     word_first (decimal x ++ 32 ∷ row_body (y ∷ row)) (decimal x) (row_body (y ∷ row)) (piece_is_cut is_space (decimal x) 32 (row_body (y ∷ row)) (no_space (decimal x) s.digits) refl) s.some ∙ ap (λ words. decimal x ∷ words) (words_of_body (y ∷ row) few.1)
 
-begins_with_digit : (n : ℕ) (ds : List ℕ) (words : List (List ℕ)) → Says n ds → is_passed_over (ds ∷ words) ≡ false
+pub begins_with_digit : (n : ℕ) (ds : List ℕ) (words : List (List ℕ)) → Says n ds → is_passed_over (ds ∷ words) ≡ false
 begins_with_digit n [] words s = absurd (omega (arith, s.some))
 begins_with_digit n (d ∷ ds) words s = ne_eqb d 35 (λ e. omega (arith, s.digits.0))
 
@@ -96,11 +96,12 @@ is_below checks front x row below =
     let P : ℕ → Type 0 = λ y. y < checks in
     subst P (get_or-append_seam front x row 0) (below (length front) 0 (omega arith))
 
-adds : (checks n : ℕ) (front : List ℕ) (x : ℕ) (row : List ℕ) → x < 2 ^ 64 → AreAddresses checks (front ++ x ∷ row) → length (front ++ x ∷ row) ≤ 24 → with_word checks n front (decimal x) ≡ Ok (front ++ x ∷ [])
-adds checks n front x row few are short =
+pub adds_said : (checks n : ℕ) (front : List ℕ) (x : ℕ) (row word : List ℕ) → natural_of word ≡ Some x → AreAddresses checks (front ++ x ∷ row) → length (front ++ x ∷ row) ≤ 24
+    → with_word checks n front word ≡ Ok (front ++ x ∷ [])
+adds_said checks n front x row word says are short =
     let longer : length (front ++ x ∷ row) ≡ length front + (length row + 1) = length-append front (x ∷ row) ∙ omega arith in
     let room : nat_lt (length front) 24 ≡ true = lt-ltb _ _ (omega arith) in
-    let below : address_of checks n (natural_of (decimal x)) ≡ Ok x = ap (address_of checks n) (natural_of_decimal x few) ∙ cond-true _ _ _ (lt-ltb _ _ (is_below checks front x row are.below)) in
+    let below : address_of checks n (natural_of word) ≡ Ok x = ap (address_of checks n) says ∙ cond-true _ _ _ (lt-ltb _ _ (is_below checks front x row are.below)) in
     cond-true _ _ _ room ∙ ap (with_address n front) below ∙ cond-false _ _ _ (not_before front x row are.apart)
 
 adds_all : (checks n : ℕ) (row front : List ℕ) → Few row → AreAddresses checks (front ++ row) → length (front ++ row) ≤ 24 → row_from checks n (Ok front) (map decimal row) ≡ Ok (front ++ row)
@@ -110,12 +111,12 @@ adds_all checks n (x ∷ row) front few are short =
     let same : (front ++ x ∷ []) ++ row ≡ front ++ x ∷ row = append_assoc front (x ∷ []) row in
     let P : List ℕ → Type 0 = AreAddresses checks in
     let Q : List ℕ → Type 0 = λ r. length r ≤ 24 in
-    ap (λ r. row_from checks n r (map decimal row)) (adds checks n front x row few.0 are short) ∙ adds_all checks n row (front ++ x ∷ []) few.1 (subst P (sym same) are) (subst Q (sym same) short) ∙ ap Ok same
+    ap (λ r. row_from checks n r (map decimal row)) (adds_said checks n front x row (decimal x) (natural_of_decimal x few.0) are short) ∙ adds_all checks n row (front ++ x ∷ []) few.1 (subst P (sym same) are) (subst Q (sym same) short) ∙ ap Ok same
 
 pub row_is_read : (checks n : ℕ) (row : List ℕ) → Few row → AreAddresses checks row → length row ≤ 24 → row_in checks n (words_of (row_body row)) ≡ Ok row
 row_is_read checks n row few are short = ap (row_from checks n (Ok [])) (words_of_body row few) ∙ adds_all checks n row [] few are short
 
-are_few : (checks : ℕ) (row : List ℕ) → checks ≤ 64800 → All (λ y. y < checks) row → Few row
+pub are_few : (checks : ℕ) (row : List ℕ) → checks ≤ 64800 → All (λ y. y < checks) row → Few row
 are_few checks [] h below = tt
 are_few checks (x ∷ row) h below =
     let here : x < checks = below 0 0 (omega arith) in

@@ -1,11 +1,12 @@
 -- Made rows: what a shape, a weight and a seed determine.
-use Rattle.std.specs.Prelude.{◌≡◌, ℕ, zero, suc, ◌+◌, ◌%◌, ◌==◌, ◌&&◌, nat_le, IsTrue, List, [], ◌∷◌, ◌++◌, length, Bool, Result, Ok, Err, if◌then◌else◌}
+use Rattle.std.specs.Prelude.{◌≡◌, ℕ, zero, suc, ◌+◌, ◌%◌, ◌<◌, get_or, ◌==◌, ◌&&◌, nat_le, IsTrue, List, [], ◌∷◌, ◌++◌, length, Bool, Result, Ok, Err, if◌then◌else◌}
 use Rattle.std.specs.List.{list_any}
 use Rattle.rand_core.specs.Pcg32Seed.{pcg32_seed}
 use Rattle.rand_pcg.specs.Lcg.{Lcg}
 use Rattle.rand_pcg.specs.Pcg.{pcg32, pcg32_of_seed}
-use Rattle.s2_mode.specs.Shape.{Shape, check_count}
-use Rattle.s2_rows.specs.declared.limits.TheConstants.{MOST_ADDRESSES}
+use Rattle.s2_mode.specs.Shape.{Shape, IsShape, check_count}
+use Rattle.s2_rows.specs.Rows.{AreAddresses}
+use Rattle.s2_rows.specs.Limits.{most_addresses}
 use Rattle.s2_rows.specs.declared.make.MakeFault.{MakeFault}
 use Rattle.s2_rows.specs.declared.make.MakeFault.TheVariants as faults
 
@@ -34,7 +35,7 @@ made_rows shape weight seed = drawn_rows (check_count shape) weight shape.groups
 
 -- one to 24 addresses, and no more than there are checks
 abbrev pub is_weight : Shape → ℕ → Bool
-is_weight shape weight = nat_le 1 weight && (nat_le weight MOST_ADDRESSES && nat_le weight (check_count shape))
+is_weight shape weight = nat_le 1 weight && (nat_le weight most_addresses && nat_le weight (check_count shape))
 
 abbrev pub making : Shape → ℕ → ℕ → Result (List (List ℕ)) MakeFault
 making shape weight seed = if is_weight shape weight then Ok (made_rows shape weight seed) else Err faults.BadWeight
@@ -44,3 +45,14 @@ abbrev pub Makes : {V : Type 0} → (V → List (List ℕ)) → Result V MakeFau
 Makes view (Ok v) shape weight seed = making shape weight seed ≡ Ok (view v)
 Makes view (Err faults.NoMemory) shape weight seed = IsTrue (is_weight shape weight)
 Makes view (Err faults.BadWeight) shape weight seed = making shape weight seed ≡ Err faults.BadWeight
+
+-- What made rows are, whatever the rule by which they are drawn: for each group a row of as many addresses as the weight says, all
+-- below n - k and none twice. The first address of all is the generator's first word modulo n - k.
+pub record AreMadeRows (shape : Shape) (weight seed : ℕ) (rows : List (List ℕ)) : Type 0 where
+  pub long : length rows ≡ shape.groups
+  pub weights : (g : ℕ) → g < shape.groups → length (get_or rows g []) ≡ weight
+  pub addresses : (g : ℕ) → g < shape.groups → AreAddresses (check_count shape) (get_or rows g [])
+  pub first : get_or (get_or rows 0 []) 0 0 ≡ (pcg32 (pcg32_of_seed (pcg32_seed 16 seed))).0 % check_count shape
+
+abbrev pub MadeRowsLaw : Type 0
+MadeRowsLaw = (shape : Shape) (weight seed : ℕ) → IsShape shape → IsTrue (is_weight shape weight) → AreMadeRows shape weight seed (made_rows shape weight seed)

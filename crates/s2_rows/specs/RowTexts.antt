@@ -1,8 +1,10 @@
--- The text of rows.
-use Rattle.std.specs.Prelude.{◌≡◌, ℕ, List, [], ◌∷◌, ◌++◌, Ok, codes, decimal}
+-- The text of rows, as it is written and as it may be laid out.
+use Rattle.std.specs.Prelude.{◌≡◌, ℕ, ◌⊎◌, IsTrue, List, [], ◌∷◌, ◌++◌, Ok, codes, decimal, ⊤}
 use Rattle.std.specs.List.{flat_map}
 use Rattle.s2_rows.specs.Rows.{Rows, IsRows}
 use Rattle.s2_rows.specs.RowFiles.{reading}
+use Rattle.s2_rows.specs.Text.{is_space, lines_of}
+use Rattle.s2_rows.specs.ValueTexts.{digits_of}
 
 -- after an address a space where another follows, else LF
 abbrev pub after_address : List ℕ → List ℕ
@@ -21,3 +23,36 @@ rows_text rows = flat_map row_text rows
 -- what is written is accepted, as the same rows
 abbrev pub ReadBackLaw : Type 0
 ReadBackLaw = (r : Rows) → IsRows r → reading (rows_text r.rows) r.shape ≡ Ok r.rows
+
+-- ---- row files however they are laid out
+
+-- spaces, tabs and CRs
+abbrev pub AreSpaces : List ℕ → Type 0
+AreSpaces [] = ⊤
+AreSpaces (b ∷ bytes) = IsTrue (is_space b) × AreSpaces bytes
+
+-- an address ends at one of these or at the end of its line
+abbrev pub EndsAddress : List ℕ → Type 0
+EndsAddress [] = ⊤
+EndsAddress (b ∷ bytes) = IsTrue (is_space b)
+
+-- the addresses of a row in their order, in decimal, some zeros before them and some separators between them
+abbrev pub IsLineOf : List ℕ → List ℕ → Type 0
+IsLineOf line [] = AreSpaces line
+IsLineOf line (x ∷ row) =
+    (gap : List ℕ) × (zeros : ℕ) × (rest : List ℕ) × (line ≡ gap ++ (digits_of zeros x ++ rest)) × AreSpaces gap × EndsAddress rest × IsLineOf rest row
+
+-- a line that says nothing: separators alone, or a comment behind them, which begins with #
+abbrev pub IsSilent : List ℕ → Type 0
+IsSilent line = AreSpaces line ⊎ ((gap : List ℕ) × (comment : List ℕ) × (line ≡ gap ++ 35 ∷ comment) × AreSpaces gap)
+
+-- the rows in their order, each on its line, and between them lines that say nothing
+abbrev pub AreLinesOf : List (List ℕ) → List (List ℕ) → Type 0
+AreLinesOf [] [] = ⊤
+AreLinesOf [] (row ∷ rows) = ⊥
+AreLinesOf (line ∷ lines) [] = IsSilent line × AreLinesOf lines []
+AreLinesOf (line ∷ lines) (row ∷ rows) = (IsSilent line × AreLinesOf lines (row ∷ rows)) ⊎ (IsLineOf line row × AreLinesOf lines rows)
+
+-- a file of such lines is accepted, as these rows
+abbrev pub RowFileLaw : Type 0
+RowFileLaw = (r : Rows) (text : List ℕ) → IsRows r → AreLinesOf (lines_of text) r.rows → reading text r.shape ≡ Ok r.rows

@@ -1,6 +1,6 @@
 -- The text of values, in the words of the format: decimal numbers between separators, and no line that is passed over.
 use Rattle.std.specs.Prelude.{◌≡◌, ℕ, ◌≤◌, ◌||◌, IsTrue, Bool, List, [], ◌∷◌, ◌++◌, length, replicate, ⊤, ℤ, pos, neg_ℤ, Ok, decimal}
-use Rattle.s2_rows.specs.declared.limits.TheConstants.{MOST_SOFT}
+use Rattle.s2_rows.specs.Limits.{most_soft}
 use Rattle.s2_rows.specs.Text.{is_space, is_line_feed}
 use Rattle.s2_rows.specs.Values.{reading}
 
@@ -23,8 +23,8 @@ digits_of zeros n = replicate zeros 48 ++ decimal n
 
 -- the digits of a number of at most 63, leading zeros allowed, and a minus before them allowed
 pub data IsWritten (word : List ℕ) (v : ℤ) : Type 0 where
-  plain : (zeros n : ℕ) → n ≤ MOST_SOFT → word ≡ digits_of zeros n → v ≡ pos n → IsWritten word v
-  minus : (zeros n : ℕ) → n ≤ MOST_SOFT → word ≡ 45 ∷ digits_of zeros n → v ≡ neg_ℤ (pos n) → IsWritten word v
+  plain : (zeros n : ℕ) → n ≤ most_soft → word ≡ digits_of zeros n → v ≡ pos n → IsWritten word v
+  minus : (zeros n : ℕ) → n ≤ most_soft → word ≡ 45 ∷ digits_of zeros n → v ≡ neg_ℤ (pos n) → IsWritten word v
 
 -- the values, each written, in their order
 abbrev pub IsTextOf : List ℕ → List ℤ → Type 0

@@ -1,5 +1,7 @@
 //! Laws of the definitions, each the contract of a function that does nothing.
-ghost use Rattle.s2_rows.specs.RowTexts.{ReadBackLaw};
+ghost use Rattle.s2_rows.specs.Limits.{LimitsLaw};
+ghost use Rattle.s2_rows.specs.MadeRows.{MadeRowsLaw};
+ghost use Rattle.s2_rows.specs.RowTexts.{ReadBackLaw, RowFileLaw};
 ghost use Rattle.s2_rows.specs.ValueTexts.{ValueTextLaw};
 
 /// The text of rows is accepted, as the same rows.
@@ -7,8 +9,26 @@ pub fn read_back()
     ensures { ReadBackLaw }
 {}
 
+/// A file of rows is accepted however it is laid out: with spaces, tabs and CRs between and around the
+/// addresses, leading zeros, empty lines, and comments on lines of their own.
+pub fn row_files()
+    ensures { RowFileLaw }
+{}
+
 /// A text of numbers from -63 to 63, with leading zeros or without, between spaces, tabs and line
 /// ends, is read as these numbers.
 pub fn value_texts()
     ensures { ValueTextLaw }
+{}
+
+/// Made rows have their weight, their addresses are below n - k, and none stands twice in a row; the
+/// first address of all is the generator's first word modulo n - k.
+pub fn made_rows()
+    ensures { MadeRowsLaw }
+{}
+
+/// The limits that are tested, [`crate::MOST_ADDRESSES`] and [`crate::MOST_SOFT`], are those of the
+/// formats.
+pub fn limits()
+    ensures { LimitsLaw }
 {}

@@ -4,7 +4,7 @@
 //! It stands on the shapes of `s2_mode`, and `s2_matrix` builds a code's checks of its `Rows`.
 //! `read_rows` and `read_values` answer exactly what the formats say of every text: what it holds,
 //! or its first fault in reading order. `make_rows` gives the rows that a shape, a weight and a seed
-//! determine, and `write_rows` writes exactly their text, which is read again as the same rows
+//! determine ([`laws::made_rows`]), and `write_rows` writes exactly their text, which is read again as the same rows
 //! ([`laws::read_back`]).
 //!
 //! ```text
@@ -27,7 +27,7 @@ mod write;
 pub use limits::{MOST_ADDRESSES, MOST_SOFT};
 pub use make::{MakeFault, make_rows};
 pub use row_file::{RowFault, read_rows};
-pub use rows::Rows;
+pub use rows::{Row, Rows};
 pub use values::{ValueFault, read_values};
 pub use write::write_rows;
 
