@@ -31,20 +31,30 @@ All-push P xs x all here k d h =
       | inr late ↦ (let last : k ≡ length xs = omega (arith, length-append xs (x ∷ [])) in subst P (sym (ap (λ n. get_or (xs ++ x ∷ []) n d) last ∙ get_or_at xs x [] d (length xs) refl)) here)
     ]
 
+-- of two tests that never both pass
+joined : (bit : ℕ) (p q r : Bool) → r ≡ (p || q) → (q ≡ true → p ≡ false) → (xs : List ℕ) → (xs ++ cond p (bit ∷ []) []) ++ cond q (bit ∷ []) [] ≡ xs ++ cond r (bit ∷ []) []
+joined bit true true r e clash xs = cc (clash refl)
+joined bit true false r e clash xs = append-nil (xs ++ bit ∷ []) ∙ rw e refl
+joined bit false true r e clash xs = ap (λ ys. ys ++ bit ∷ []) (append-nil xs) ∙ rw e refl
+joined bit false false r e clash xs = append-nil (xs ++ []) ∙ rw e refl
+
+-- one gain after another
+pub gains_both : (count bit m n : ℕ) (cs bs cs1 bs1 cs2 bs2 : List ℕ) (p s r : ℕ → Bool) → Gains count cs bs cs1 bs1 p bit m → Gains count cs1 bs1 cs2 bs2 s bit n → ((j : ℕ) → j < count → r j ≡ (p j || s j)) → ((j : ℕ) → s j ≡ true → p j ≡ false) → Gains count cs bs cs2 bs2 r bit (m + n)
+gains_both count bit m n cs bs cs1 bs1 cs2 bs2 p s r one two either apart = record {
+  paired = two.paired;
+  below = two.below;
+  few = omega (arith, one.few, two.few);
+  gained = λ j h. (two.gained j h ∙ ap (λ (xs : List ℕ). xs ++ cond (s j) (bit ∷ []) []) (one.gained j h) ∙ joined bit (p j) (s j) (r j) (either j h) (apart j) (shared cs bs j));
+}
+
 -- one edge more
 pub gains_push : (count bit most c : ℕ) (cs bs cs' bs' : List ℕ) (p r : ℕ → Bool) → Gains count cs bs cs' bs' p bit most → c < count → ((j : ℕ) → j < count → r j ≡ (p j || (c == j))) → ((j : ℕ) → (c == j) ≡ true → p j ≡ false) → Gains count cs bs (cs' ++ c ∷ []) (bs' ++ bit ∷ []) r bit (most + 1)
 gains_push count bit most c cs bs cs' bs' p r g low either apart = record {
   paired = omega (arith, length-append cs' (c ∷ []), length-append bs' (bit ∷ []), g.paired);
   below = All-push (λ k. k < count) cs' c g.below low;
   few = omega (arith, length-append cs' (c ∷ []), g.few);
-  gained = λ j h. (shared-append cs' bs' (c ∷ []) (bit ∷ []) j g.paired ∙ ap (λ (xs : List ℕ). xs ++ cond (c == j) (bit ∷ []) []) (g.gained j h) ∙ joined (p j) (c == j) (r j) (either j h) (apart j) (shared cs bs j));
+  gained = λ j h. (shared-append cs' bs' (c ∷ []) (bit ∷ []) j g.paired ∙ ap (λ (xs : List ℕ). xs ++ cond (c == j) (bit ∷ []) []) (g.gained j h) ∙ joined bit (p j) (c == j) (r j) (either j h) (apart j) (shared cs bs j));
 }
-  where
-    joined : (p q r : Bool) → r ≡ (p || q) → (q ≡ true → p ≡ false) → (xs : List ℕ) → (xs ++ cond p (bit ∷ []) []) ++ cond q (bit ∷ []) [] ≡ xs ++ cond r (bit ∷ []) []
-    joined true true r e clash xs = cc (clash refl)
-    joined true false r e clash xs = append-nil (xs ++ bit ∷ []) ∙ rw e refl
-    joined false true r e clash xs = ap (λ ys. ys ++ bit ∷ []) (append-nil xs) ∙ rw e refl
-    joined false false r e clash xs = append-nil (xs ++ []) ∙ rw e refl
 
 -- another spelling of the test
 pub gains_same : (count bit most more : ℕ) (cs bs cs' bs' : List ℕ) (p r : ℕ → Bool) → Gains count cs bs cs' bs' p bit most → most ≤ more → ((j : ℕ) → j < count → r j ≡ p j) → Gains count cs bs cs' bs' r bit more

@@ -13,9 +13,9 @@ use Rattle.s2_matrix.specs.Edges.{IsMatrix}
 use Rattle.s2_matrix.proofs.Flats.{at_upto, flat_first, length-flat}
 
 -- from the fields to the value
-pub held : {r value : Rows} {by_check edges checks : List (List ℕ)} → r ≡ value → IsMatrix r by_check edges checks → IsMatrix value by_check edges checks
-held {r} {value} {by_check} {edges} {checks} e is =
-    let P : Rows → Type 0 = λ x. IsMatrix x by_check edges checks in subst P e is
+pub held : {r value : Rows} {by_check edges checks layers : List (List ℕ)} → r ≡ value → IsMatrix r by_check edges checks layers → IsMatrix value by_check edges checks layers
+held {r} {value} {by_check} {edges} {checks} {layers} e is =
+    let P : Rows → Type 0 = λ x. IsMatrix x by_check edges checks layers in subst P e is
 
 pub count_is : (f : ℕ → List ℕ) (n : ℕ) (lists : List (List ℕ)) → lists ≡ map f (upto n) → length lists ≡ n
 count_is f n lists is = ap length is ∙ length-map (upto n) f ∙ length-range_with_len 0 n

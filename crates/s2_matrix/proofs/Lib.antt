@@ -8,4 +8,10 @@ pub mod Edging
 pub mod Flats
 pub mod FlatReads
 pub mod RelationLemmas
+pub mod Sums
+pub mod Parities
+pub mod Adding
+pub mod Planing
+pub mod Lanes
+pub mod Layering
 mod Toy

@@ -12,7 +12,7 @@ use Rattle.s2_matrix.specs.Relation.{IsMember, by_row, parity, next, MemberLaw}
 use Rattle.s2_matrix.proofs.Joins.{div_below}
 
 -- an element that passes
-found : (p : ℕ → Bool) (xs : List ℕ) → list_any p xs ≡ true → (k : ℕ) × (k < length xs) × (p (get_or xs k 0) ≡ true)
+pub found : (p : ℕ → Bool) (xs : List ℕ) → list_any p xs ≡ true → (k : ℕ) × (k < length xs) × (p (get_or xs k 0) ≡ true)
 found p [] e = cc
 found p (x ∷ xs) e =
     elim (or_cases (p x) (list_any p xs) e) [
@@ -20,7 +20,7 @@ found p (x ∷ xs) e =
       | inr there ↦ (let more = found p xs there in (suc more.0, omega arith, more.2))
     ]
 
-passes : (p : ℕ → Bool) (xs : List ℕ) (x : ℕ) → Contains xs x → p x ≡ true → list_any p xs ≡ true
+pub passes : (p : ℕ → Bool) (xs : List ℕ) (x : ℕ) → Contains xs x → p x ≡ true → list_any p xs ≡ true
 passes p xs x c e = or_at (list_any p) p refl (λ _ _. refl) xs c.0 x c.1 (ap p c.2 ∙ e)
 
 to_relation : (r : Rows) (j b : ℕ) → 1 ≤ r.shape.group → is_member r j b ≡ true → IsMember r j b

@@ -2,9 +2,12 @@
 use Rattle.std.specs.Prelude.{◌≡◌, ℕ, ◌+◌, ◌*◌, ◌<◌, ◌≤◌, Bool, if◌then◌else◌, All, filter, List, [], ◌∷◌, ◌++◌, map, length, get_or, replicate}
 use Rattle.s2_matrix.specs.Total.{upto}
 use Rattle.s2_rows.specs.Rows.{Rows, IsRows}
+use Rattle.s2_rows.specs.declared.limits.TheConstants.{MOST_ADDRESSES}
 use Rattle.s2_matrix.specs.Code.{Code, code_of, members, checks_of, first_edge, edges_at}
 use Rattle.s2_matrix.specs.Share.{shared}
 use Rattle.s2_matrix.specs.Joined.{joined}
+use Rattle.s2_matrix.specs.Limits.{most_edges}
+use Rattle.s2_matrix.specs.Layers.{layer_places}
 
 -- the checks that the test names gain the bit, by at most so many new edges
 pub record Gains (count : ℕ) (cs bs cs' bs' : List ℕ) (test : ℕ → Bool) (bit most : ℕ) : Type 0 where
@@ -17,7 +20,7 @@ pub record Gains (count : ℕ) (cs bs cs' bs' : List ℕ) (test : ℕ → Bool) 
 pub record AreEdges (code : Code) (n : ℕ) (cs bs : List ℕ) : Type 0 where
   pub paired : length bs ≡ length cs
   pub below : All (λ k. k < code.checks) cs
-  pub few : length cs ≤ 24 * n
+  pub few : length cs ≤ MOST_ADDRESSES * n
   pub are : (j : ℕ) → j < code.checks → shared cs bs j ≡ filter (code.has j) (upto n)
 
 -- the checks of all edges, in the order of the edges of the checks below n
@@ -25,12 +28,13 @@ abbrev pub owners : List (List ℕ) → ℕ → List ℕ
 owners lists n = joined (map (λ j. replicate (length (get_or lists j [])) j) (upto n))
 
 -- what the flat lists of a matrix hold
-pub record IsMatrix (r : Rows) (by_check edges checks : List (List ℕ)) : Type 0 where
+pub record IsMatrix (r : Rows) (by_check edges checks layers : List (List ℕ)) : Type 0 where
   pub rows : IsRows r
-  pub few_edges : first_edge (code_of r) (code_of r).checks ≤ 1555200
+  pub few_edges : first_edge (code_of r) (code_of r).checks ≤ most_edges
   pub by_check_is : by_check ≡ map (members (code_of r)) (upto (code_of r).checks)
   pub edges_is : edges ≡ map (edges_at (code_of r)) (upto (code_of r).bits)
   pub checks_is : checks ≡ map (checks_of (code_of r)) (upto (code_of r).bits)
+  pub layers_is : layers ≡ map (layer_places r) (upto r.shape.q)
 
 -- the members of the checks below n, check by check
 abbrev pub flat : Code → ℕ → List ℕ

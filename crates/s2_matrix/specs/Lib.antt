@@ -1,3 +1,4 @@
+pub mod Limits
 pub mod Total
 pub mod Code
 pub mod Relation
@@ -5,3 +6,6 @@ pub mod Joined
 pub mod Cut
 pub mod Share
 pub mod Edges
+pub mod Sums
+pub mod Planes
+pub mod Layers

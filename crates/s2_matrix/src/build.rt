@@ -12,7 +12,12 @@ use s2_rows::Rows;
 use std::alloc::{AllocError, Global};
 
 /// Adds an edge.
-fn join(checks: &mut Vec<u32>, bits: &mut Vec<u32>, check: u32, bit: u32) -> Result<(), AllocError>
+pub(crate) fn join(
+    checks: &mut Vec<u32>,
+    bits: &mut Vec<u32>,
+    check: u32,
+    bit: u32,
+) -> Result<(), AllocError>
     ensures checks { OnOk result (checks.new.items ≡ checks.old.items ++ check ∷ []) }
     ensures bits { OnOk result (bits.new.items ≡ bits.old.items ++ bit ∷ []) }
 {

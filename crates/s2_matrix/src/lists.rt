@@ -2,6 +2,7 @@
 ghost use Rattle.std.specs.Prelude.{◌≡◌, ◌<◌, ◌≤◌, ◌^◌, IfOk, map, length, sum_by};
 ghost use Rattle.s2_rows.specs.Rows.{row_of};
 ghost use Rattle.s2_rows.specs.declared.limits.TheConstants.{MOST_ADDRESSES};
+ghost use Rattle.s2_matrix.specs.Limits.{most_edges};
 ghost use Rattle.s2_matrix.specs.Total.{upto};
 ghost use Rattle.s2_matrix.specs.Code.{code_of, members, checks_of, edges_at};
 ghost use Rattle.s2_matrix.specs.Joined.{joined};
@@ -39,9 +40,9 @@ pub(crate) fn copy_rows(alloc: Global, rows: &Rows) -> Result<Vec<ArrayVec<u32, 
 }
 
 /// How many addresses all rows have.
-fn address_count(rows: &Rows) -> usize
+pub(crate) fn address_count(rows: &Rows) -> usize
     ensures is { result ≡ sum_by (λ g. length (row_of rows.now g)) (upto rows.now.shape.groups) }
-    ensures few { result ≤ 1555200 }
+    ensures few { result ≤ most_edges }
 {
     let mut count = 0;
     for g in 0..rows.shape().groups() {
@@ -53,7 +54,7 @@ fn address_count(rows: &Rows) -> usize
 /// The members of the checks. All storage is taken before the first edge is written.
 pub(crate) fn members(alloc: Global, rows: &Rows) -> Result<Table, AllocError>
     ensures are { IfOk result (λ t. t ≡ map (members (code_of rows.now)) (upto (code_of rows.now).checks)) }
-    ensures few { IfOk result (λ t. length (joined t) ≤ 1555200) }
+    ensures few { IfOk result (λ t. length (joined t) ≤ most_edges) }
 {
     let shape = rows.shape();
     let count = shape.checks();
@@ -94,7 +95,7 @@ fn owners_of(alloc: Global, by_check: &Table) -> Result<Vec<u32>, AllocError>
 /// The edges of the bits.
 pub(crate) fn edges(alloc: Global, rows: &Rows, by_check: &Table) -> Result<Table, AllocError>
     requires are { by_check.now ≡ map (members (code_of rows.now)) (upto (code_of rows.now).checks) }
-    requires few { length (joined by_check.now) ≤ 1555200 }
+    requires few { length (joined by_check.now) ≤ most_edges }
     ensures { IfOk result (λ t. t ≡ map (edges_at (code_of rows.now)) (upto (code_of rows.now).bits)) }
 {
     let bits = rows.shape().n();
@@ -107,7 +108,7 @@ pub(crate) fn edges(alloc: Global, rows: &Rows, by_check: &Table) -> Result<Tabl
 /// The checks of the bits.
 pub(crate) fn checks(alloc: Global, rows: &Rows, by_check: &Table) -> Result<Table, AllocError>
     requires are { by_check.now ≡ map (members (code_of rows.now)) (upto (code_of rows.now).checks) }
-    requires few { length (joined by_check.now) ≤ 1555200 }
+    requires few { length (joined by_check.now) ≤ most_edges }
     ensures { IfOk result (λ t. t ≡ map (checks_of (code_of rows.now)) (upto (code_of rows.now).bits)) }
 {
     let bits = rows.shape().n();

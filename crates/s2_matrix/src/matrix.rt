@@ -1,14 +1,15 @@
 //! The matrix and its reads.
-ghost use Rattle.std.specs.Prelude.{◌≡◌, ◌+◌, ◌<◌, ◌≤◌, ◌%◌, ◌↔◌, All, IsTrue, IfOk, MatchOption, length, slice_index, count_by};
-ghost use Rattle.s2_bits.specs.Bits.{bit_at};
+ghost use Rattle.std.specs.Prelude.{◌≡◌, ℕ, ◌+◌, ◌<◌, ◌≤◌, All, IfOk, length, slice_index};
 ghost use Rattle.s2_mode.specs.Shape.{IsShape, check_count};
+ghost use Rattle.s2_mode.specs.declared.shape.TheConstants.{MOST_BITS};
+ghost use Rattle.s2_rows.specs.declared.limits.TheConstants.{MOST_ADDRESSES};
 ghost use Rattle.s2_rows.specs.Rows.{AreAddresses, row_of};
-ghost use Rattle.s2_matrix.specs.Code.{code_of, members, checks_of, edges_at, first_edge, ones_in, IsCodeword, IsOddCheck};
+ghost use Rattle.s2_matrix.specs.Code.{code_of, members, checks_of, edges_at, first_edge};
+ghost use Rattle.s2_matrix.specs.Limits.{most_edges};
 
-use crate::lists;
 use crate::table::Table;
+use crate::{layers, lists};
 use arrayvec::ArrayVec;
-use s2_bits::Bits;
 use s2_mode::Shape;
 use s2_rows::Rows;
 use std::alloc::{AllocError, Global};
@@ -23,6 +24,7 @@ pub struct Matrix {
     members: Table,
     edges: Table,
     checks: Table,
+    pub(crate) layers: Table,
 }
 
 impl Model for Matrix {
@@ -34,7 +36,7 @@ impl Model for Matrix {
 
     ghost view = { λ m. record { shape = m.shape; rows = map (λ row. row.items) m.rows.items } };
 
-    ghost invariant = { λ m. IsMatrix (record { shape = m.shape; rows = map (λ row. row.items) m.rows.items }) m.members m.edges m.checks };
+    ghost invariant = { λ m. IsMatrix (record { shape = m.shape; rows = map (λ row. row.items) m.rows.items }) m.members m.edges m.checks m.layers };
 }
 
 impl Matrix {
@@ -47,12 +49,14 @@ impl Matrix {
         let members = lists::members(alloc, rows)?;
         let edges = lists::edges(alloc, rows, &members)?;
         let checks = lists::checks(alloc, rows, &members)?;
+        let layers = layers::layers(alloc, rows)?;
         Ok(Matrix {
             shape: rows.shape(),
             rows: copy,
             members,
             edges,
             checks,
+            layers,
         })
     }
 
@@ -70,15 +74,16 @@ impl Matrix {
         requires { group < self.now.shape.groups }
         ensures are { result.now ≡ row_of self.now group }
         ensures addresses { AreAddresses (check_count self.now.shape) result.now }
-        ensures short { length result.now ≤ 24 }
+        ensures short { length result.now ≤ MOST_ADDRESSES }
     {
         self.rows[group].as_slice()
     }
 
-    /// n, how many bits a codeword has: at most 64800.
+    /// n, how many bits a codeword has: at most 64800. Each is in at most 24 checks.
     pub fn bits(&self) -> usize
         ensures is { result ≡ (code_of self.now).bits }
-        ensures few { result ≤ 64800 }
+        ensures few { result ≤ MOST_BITS }
+        ensures few_checks { (i : ℕ) → length (checks_of (code_of self.now) i) ≤ MOST_ADDRESSES }
     {
         self.edges.len()
     }
@@ -86,7 +91,7 @@ impl Matrix {
     /// n - k, how many checks there are, and as many parity bits.
     pub fn check_count(&self) -> usize
         ensures is { result ≡ (code_of self.now).checks }
-        ensures few { result ≤ 64800 }
+        ensures few { result ≤ MOST_BITS }
     {
         self.members.len()
     }
@@ -94,7 +99,7 @@ impl Matrix {
     /// How many edges there are, the pairs of a check and a member: at most 1,555,200.
     pub fn edges(&self) -> usize
         ensures is { result ≡ first_edge (code_of self.now) (code_of self.now).checks }
-        ensures few { result ≤ 1555200 }
+        ensures few { result ≤ most_edges }
     {
         self.members.all().len()
     }
@@ -114,7 +119,7 @@ impl Matrix {
         requires { check < (code_of self.now).checks }
         ensures are { result.now ≡ members (code_of self.now) check }
         ensures below { All (λ i. i < (code_of self.now).bits) result.now }
-        ensures short { length result.now ≤ 64800 }
+        ensures short { length result.now ≤ MOST_BITS }
         ensures within { first_edge (code_of self.now) check + length result.now ≤ first_edge (code_of self.now) (code_of self.now).checks }
     {
         self.members.row(check)
@@ -126,7 +131,7 @@ impl Matrix {
         requires { bit < (code_of self.now).bits }
         ensures are { result.now ≡ edges_at (code_of self.now) bit }
         ensures below { All (λ e. e < first_edge (code_of self.now) (code_of self.now).checks) result.now }
-        ensures few { length result.now ≤ 24 }
+        ensures few { length result.now ≤ MOST_ADDRESSES }
     {
         self.edges.row(bit)
     }
@@ -136,7 +141,7 @@ impl Matrix {
         requires { bit < (code_of self.now).bits }
         ensures are { result.now ≡ checks_of (code_of self.now) bit }
         ensures below { All (λ j. j < (code_of self.now).checks) result.now }
-        ensures few { length result.now ≤ 24 }
+        ensures few { length result.now ≤ MOST_ADDRESSES }
     {
         self.checks.row(bit)
     }
@@ -145,7 +150,7 @@ impl Matrix {
     pub fn degree(&self, check: usize) -> usize
         requires { check < (code_of self.now).checks }
         ensures is { result ≡ length (members (code_of self.now) check) }
-        ensures short { result ≤ 64800 }
+        ensures short { result ≤ MOST_BITS }
         ensures within { first_edge (code_of self.now) check + result ≤ first_edge (code_of self.now) (code_of self.now).checks }
     {
         self.members_at(check).len()
@@ -165,7 +170,7 @@ impl Matrix {
     pub fn bit_degree(&self, bit: usize) -> usize
         requires { bit < (code_of self.now).bits }
         ensures is { result ≡ length (checks_of (code_of self.now) bit) }
-        ensures few { result ≤ 24 }
+        ensures few { result ≤ MOST_ADDRESSES }
     {
         self.checks_at(bit).len()
     }
@@ -179,39 +184,4 @@ impl Matrix {
     {
         self.checks_at(bit)[at] as usize
     }
-
-    /// The first check with an odd number of ones in a word of n bits. `None` exactly for a codeword.
-    /// It takes no memory.
-    pub fn odd_check(&self, word: &Bits) -> Option<usize>
-        requires { length word.now ≡ (code_of self.now).bits }
-        ensures { MatchOption result (IsCodeword (code_of self.now) word.now) (IsOddCheck (code_of self.now) word.now) }
-    {
-        let word = word.truths();
-        for check in 0..self.check_count() {
-            if ones_in(word, self.members_at(check)) % 2 == 1 {
-                return Some(check);
-            }
-        }
-        None
-    }
-
-    /// Whether a word of n bits satisfies every check, which is to say that it is a codeword.
-    pub fn satisfied(&self, word: &Bits) -> bool
-        requires { length word.now ≡ (code_of self.now).bits }
-        ensures { IsTrue result ↔ IsCodeword (code_of self.now) word.now }
-    {
-        self.odd_check(word).is_none()
-    }
-}
-
-/// How many of these places hold a one.
-fn ones_in(word: &[bool], places: &[u32]) -> usize
-    requires { All (λ i. i < length word.now) places.now }
-    ensures { result ≡ count_by (bit_at word.now) places.now }
-{
-    let mut ones = 0usize;
-    for place in places {
-        ones += usize::from(word[*place as usize]);
-    }
-    ones
 }

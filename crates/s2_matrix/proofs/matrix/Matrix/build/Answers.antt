@@ -9,5 +9,5 @@ pub invariant_of-result : goal.invariant_of-result
 invariant_of-result c =
     let r = c.args.rows.now in
     let f = λ (row : ArrayVec ℕ 24 (Unit {0})). row.items in
-    let P : Rows → Type 0 = λ x. IsMatrix x c.in_ok-members.members c.in_ok-edges.edges c.in_ok-checks.checks in
-    subst P (sym (same_rows r c.shape.result (map f c.in_ok-copy.copy.items) c.shape.ensures.is c.in_ok-copy.ensures)) (is_matrix r c.in_ok-members.members c.in_ok-edges.edges c.in_ok-checks.checks c.shape.ensures.valid c.in_ok-members.ensures.are c.in_ok-members.ensures.few c.in_ok-edges.ensures c.in_ok-checks.ensures)
+    let P : Rows → Type 0 = λ x. IsMatrix x c.in_ok-members.members c.in_ok-edges.edges c.in_ok-checks.checks c.in_ok-layers.layers in
+    subst P (sym (same_rows r c.shape.result (map f c.in_ok-copy.copy.items) c.shape.ensures.is c.in_ok-copy.ensures)) (is_matrix r c.in_ok-members.members c.in_ok-edges.edges c.in_ok-checks.checks c.in_ok-layers.layers c.shape.ensures.valid c.in_ok-members.ensures.are c.in_ok-members.ensures.few c.in_ok-edges.ensures c.in_ok-checks.ensures c.in_ok-layers.ensures)

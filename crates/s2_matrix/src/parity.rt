@@ -1,0 +1,148 @@
+//! The parity bits of information bits, and the parity test (EN 302 307-1, 5.3.2).
+ghost use Rattle.std.specs.Prelude.{◌≡◌, ◌≢◌, ℕ, ◌+◌, ◌*◌, ◌<◌, ◌≤◌, ◌%◌, ◌↔◌, All, IsTrue, IfSome, MatchOption, false, length, count_by};
+ghost use Rattle.s2_bits.specs.Bits.{bit_at};
+ghost use Rattle.s2_mode.specs.Shape.{information_bits, check_count};
+ghost use Rattle.s2_mode.specs.declared.shape.TheConstants.{MOST_BITS};
+ghost use Rattle.s2_matrix.specs.Code.{code_of, IsCodeword, IsOddCheck};
+ghost use Rattle.s2_matrix.specs.Sums.{information_sum, parity_bit};
+ghost use Rattle.s2_matrix.specs.Planes.{plane_place};
+
+use crate::accumulator::accumulate;
+use crate::matrix::Matrix;
+use crate::planes::add_row;
+use s2_bits::Bits;
+use s2_mode::MOST_BITS;
+
+/// How many checks are looked at one by one before all are at once: bits that are far from a
+/// codeword have an odd check among so many.
+const FIRST_CHECKS: usize = 64;
+
+/// So many bits from a place on.
+fn part(bits: &[bool], start: usize, len: usize) -> &[bool]
+    requires { start + len ≤ length bits.now }
+    ensures long { length result.now ≡ len }
+    ensures are { (m : ℕ) → m < len → bit_at result.now m ≡ bit_at bits.now (start + m) }
+{
+    &bits[start..start + len]
+}
+
+/// Adds up the information bits of each check, in planes that are empty.
+fn add_groups(matrix: &Matrix, info: &[bool], planes: &mut [bool])
+    requires info { length info.now ≡ information_bits matrix.now.shape }
+    requires room { check_count matrix.now.shape ≤ length planes.old }
+    requires few { length planes.old ≤ MOST_BITS }
+    requires empty { (k : ℕ) → bit_at planes.old k ≡ false }
+    ensures long { length planes.new ≡ length planes.old }
+    ensures are { (j : ℕ) → j < check_count matrix.now.shape → bit_at planes.new (plane_place matrix.now.shape.group matrix.now.shape.q j) ≡ information_sum (code_of matrix.now) info.now j }
+{
+    let shape = matrix.shape();
+    let group = shape.group();
+    let q = shape.q();
+    for g in 0..shape.groups() {
+        let bits = part(info, group * g, group);
+        add_row(planes, q, bits, matrix.addresses(g));
+    }
+}
+
+/// Whether two lists of the same length differ.
+fn differ(a: &[bool], b: &[bool]) -> bool
+    requires { length b.now ≡ length a.now }
+    ensures { result ≡ false → (k : ℕ) → k < length a.now → bit_at a.now k ≡ bit_at b.now k }
+{
+    let mut apart = false;
+    for k in 0..a.len() {
+        apart = apart | (a[k] ^ b[k]);
+    }
+    apart
+}
+
+/// The first place at which two lists of the same length differ.
+fn first_difference(a: &[bool], b: &[bool]) -> Option<usize>
+    requires { length b.now ≡ length a.now }
+    ensures { MatchOption result ((k : ℕ) → k < length a.now → bit_at a.now k ≡ bit_at b.now k) (λ j. (j < length a.now) × (bit_at a.now j ≢ bit_at b.now j) × ((k : ℕ) → k < j → bit_at a.now k ≡ bit_at b.now k)) }
+{
+    if differ(a, b) {
+        for k in 0..a.len() {
+            if a[k] != b[k] {
+                return Some(k);
+            }
+        }
+    }
+    None
+}
+
+/// How many of these places hold a one.
+fn ones_in(word: &[bool], places: &[u32]) -> usize
+    requires { All (λ i. i < length word.now) places.now }
+    ensures { result ≡ count_by (bit_at word.now) places.now }
+{
+    let mut ones = 0usize;
+    for place in places {
+        ones += usize::from(word[*place as usize]);
+    }
+    ones
+}
+
+impl Matrix {
+    /// Writes the parity bits of k information bits: those that make a codeword of them. `info` has
+    /// the k information bits of the shape, and `parities` n - k bits, which are all written. It takes
+    /// no memory.
+    pub fn parities_into(&self, info: &[bool], parities: &mut [bool])
+        requires info { length info.now ≡ information_bits self.now.shape }
+        requires parities { length parities.old ≡ check_count self.now.shape }
+        ensures long { length parities.new ≡ length parities.old }
+        ensures are { (j : ℕ) → j < check_count self.now.shape → bit_at parities.new j ≡ parity_bit (code_of self.now) info.now j }
+    {
+        let shape = self.shape();
+        let mut planes = [false; MOST_BITS];
+        add_groups(self, info, &mut planes);
+        accumulate(&mut planes, shape.group(), shape.q(), parities);
+    }
+
+    /// An odd check among the first few, one by one.
+    fn odd_among_first(&self, codeword: &[bool]) -> Option<usize>
+        requires { length codeword.now ≡ (code_of self.now).bits }
+        ensures { IfSome result (IsOddCheck (code_of self.now) codeword.now) }
+    {
+        for check in 0..FIRST_CHECKS.min(self.check_count()) {
+            if ones_in(codeword, self.members_at(check)) % 2 == 1 {
+                return Some(check);
+            }
+        }
+        None
+    }
+
+    /// The first odd check: that of the first parity bit that the information bits do not make.
+    fn odd_by_parities(&self, codeword: &[bool]) -> Option<usize>
+        requires { length codeword.now ≡ (code_of self.now).bits }
+        ensures { MatchOption result (IsCodeword (code_of self.now) codeword.now) (IsOddCheck (code_of self.now) codeword.now) }
+    {
+        let (info, parities) = codeword.split_at(self.shape().k());
+        let mut made = [false; MOST_BITS];
+        let (made, _) = made.split_at_mut(parities.len());
+        self.parities_into(info, made);
+        first_difference(parities, made)
+    }
+
+    /// The first check with an odd number of ones in n bits. `None` exactly for a codeword. It takes
+    /// no memory. Where the first few checks are even, the parity bits are compared with those that
+    /// the information bits ask for.
+    pub fn odd_check(&self, codeword: &Bits) -> Option<usize>
+        requires { length codeword.now ≡ (code_of self.now).bits }
+        ensures { MatchOption result (IsCodeword (code_of self.now) codeword.now) (IsOddCheck (code_of self.now) codeword.now) }
+    {
+        let codeword = codeword.truths();
+        match self.odd_among_first(codeword) {
+            Some(check) => Some(check),
+            None => self.odd_by_parities(codeword),
+        }
+    }
+
+    /// Whether n bits satisfy every check, which is to say that they are a codeword.
+    pub fn satisfied(&self, codeword: &Bits) -> bool
+        requires { length codeword.now ≡ (code_of self.now).bits }
+        ensures { IsTrue result ↔ IsCodeword (code_of self.now) codeword.now }
+    {
+        self.odd_check(codeword).is_none()
+    }
+}
