@@ -1,7 +1,7 @@
 //! Codewords of a code by parity checks (EN 302 307-1, 5.3.2): the encoder.
 //!
 //! [`encode_into`] writes the codeword that begins with given information bits: its contract says
-//! that the word is a codeword of the matrix and begins with them, and [`laws::unique`] that no
+//! that it is a codeword of the matrix and begins with them, and [`laws::unique`] that no
 //! other does. It takes no memory.
 //!
 //! ```
@@ -11,10 +11,8 @@
 //! ```
 #![tactic(auto)]
 
-mod accumulator;
 mod encode;
 pub mod laws;
-mod planes;
 
 pub use encode::encode_into;
 

@@ -1,4 +1,4 @@
-use Rattle.s2_ldpc.proofs.Parities.{unique_lem}
+use Rattle.s2_ldpc.proofs.Parts.{unique_lem}
 use Rattle.s2_ldpc.proofs.laws.unique.Goals as goal
 
 pub returns : goal.returns

@@ -1,5 +1,0 @@
-use Rattle.s2_ldpc.proofs.Lanes.{SummedUp}
-use Rattle.s2_ldpc.proofs.accumulator.add_planes_up.Given as goal
-
-abbrev pub invariant-loop-r : goal.invariant-loop-r
-invariant-loop-r l = SummedUp l.group l.r l.initial.planes l.planes
