@@ -1,0 +1,6 @@
+pub mod Limits
+pub mod Field
+pub mod File
+pub mod Format
+pub mod Answers
+pub mod Held

@@ -1,0 +1,8 @@
+//! The split that the contents of a file hold.
+
+/// A split of the soft values over the checks.
+#[derive(Drop)]
+pub enum Held {
+    /// A share for each edge: check by check, bits rising.
+    Listed(Vec<i32>),
+}

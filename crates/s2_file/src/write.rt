@@ -1,0 +1,138 @@
+//! The parts of a certificate file, each appended to what was written before.
+ghost use Rattle.std.specs.Prelude.{◌≡◌, ◌-◌, ◌^◌, ◌<◌, ◌≤◌, OnOk, All, length};
+ghost use Rattle.std.specs.List.{flat_map};
+ghost use Rattle.std.specs.Io.KnownBytes.{Appends, append_known};
+ghost use Rattle.s2_mode.specs.declared.shape.TheConstants.{MOST_BITS};
+ghost use Rattle.s2_mode.specs.Counts.{CountsFault};
+ghost use Rattle.s2_file.specs.Limits.{most_shares};
+ghost use Rattle.s2_file.specs.Field.{bytes_of_bits};
+ghost use Rattle.s2_file.specs.File.{IsSoft};
+ghost use Rattle.s2_file.specs.Format.{header_bytes, soft, share, version_byte, count_bytes, front_bytes};
+
+use crate::header::Header;
+use crate::page::{Page, put, put_all};
+use crate::version::Version;
+use s2_bits::Bits;
+use s2_mode::{CountedWrite, WriteFault};
+
+/// The byte of a version.
+fn byte_of(version: Version) -> u8
+    ensures { result ≡ version_byte version }
+{
+    match version {
+        Version::Listed => 1,
+    }
+}
+
+/// Writes what every version begins with.
+fn write_front<W: CountedWrite>(
+    out: &mut W,
+    page: &mut Page,
+    header: &Header,
+) -> Result<(), WriteFault>
+    requires { W.count out.old < 2 ^ 64 - 1 }
+    ensures bytes { OnOk result (Appends (append_known (W.contents out.old) page.old.items) (append_known (W.contents out.new) page.new.items) (front_bytes header.now)) }
+    ensures cause { CountsFault (W.count out.old) (W.count out.new) result }
+{
+    let version = byte_of(header.version);
+    let [g0, g1] = (header.shape.group() as u16).to_be_bytes();
+    let [i0, i1] = (header.shape.groups() as u16).to_be_bytes();
+    let [q0, q1] = (header.shape.q() as u16).to_be_bytes();
+    let [s0, s1] = header.scale.to_be_bytes();
+    put_all(
+        out,
+        page,
+        &[
+            b'S', b'2', b'M', b'L', version, g0, g1, i0, i1, q0, q1, s0, s1,
+        ],
+    )
+}
+
+/// Writes the count of shares.
+fn write_count<W: CountedWrite>(
+    out: &mut W,
+    page: &mut Page,
+    version: Version,
+    count: u32,
+) -> Result<(), WriteFault>
+    requires { W.count out.old < 2 ^ 64 - 1 }
+    ensures bytes { OnOk result (Appends (append_known (W.contents out.old) page.old.items) (append_known (W.contents out.new) page.new.items) (count_bytes version count)) }
+    ensures cause { CountsFault (W.count out.old) (W.count out.new) result }
+{
+    match version {
+        Version::Listed => put_all(out, page, &count.to_be_bytes()),
+    }
+}
+
+/// Writes the front and the header. A count is at most 1,555,200.
+pub fn write_header<W: CountedWrite>(
+    out: &mut W,
+    page: &mut Page,
+    header: &Header,
+) -> Result<(), WriteFault>
+    requires count { W.count out.old < 2 ^ 64 - 1 }
+    requires few { header.now.count ≤ most_shares }
+    ensures bytes { OnOk result (Appends (append_known (W.contents out.old) page.old.items) (append_known (W.contents out.new) page.new.items) (header_bytes header.now)) }
+    ensures cause { CountsFault (W.count out.old) (W.count out.new) result }
+{
+    write_front(out, page, header)?;
+    write_count(out, page, header.version, header.count as u32)?;
+    Ok(())
+}
+
+/// Writes a soft value.
+fn put_soft<W: CountedWrite>(out: &mut W, page: &mut Page, value: i16) -> Result<(), WriteFault>
+    requires count { W.count out.old < 2 ^ 64 - 1 }
+    requires range { IsSoft value }
+    ensures bytes { OnOk result (Appends (append_known (W.contents out.old) page.old.items) (append_known (W.contents out.new) page.new.items) (soft.bytes value)) }
+    ensures cause { CountsFault (W.count out.old) (W.count out.new) result }
+{
+    put_all(out, page, &[(value as i8).cast_unsigned()])
+}
+
+/// Writes the soft values.
+pub fn write_soft<W: CountedWrite>(
+    out: &mut W,
+    page: &mut Page,
+    values: &[i16],
+) -> Result<(), WriteFault>
+    requires count { W.count out.old < 2 ^ 64 - 1 }
+    requires range { All IsSoft values.now }
+    ensures bytes { OnOk result (Appends (append_known (W.contents out.old) page.old.items) (append_known (W.contents out.new) page.new.items) (flat_map soft.bytes values.now)) }
+    ensures cause { CountsFault (W.count out.old) (W.count out.new) result }
+{
+    for value in values {
+        put_soft(out, page, *value)?;
+    }
+    Ok(())
+}
+
+/// Writes the word, padded with zeros to a byte.
+pub fn write_word<W: CountedWrite>(
+    out: &mut W,
+    page: &mut Page,
+    word: &Bits,
+) -> Result<(), WriteFault>
+    requires count { W.count out.old < 2 ^ 64 - 1 }
+    requires few { length word.now ≤ MOST_BITS }
+    ensures bytes { OnOk result (Appends (append_known (W.contents out.old) page.old.items) (append_known (W.contents out.new) page.new.items) (bytes_of_bits word.now)) }
+    ensures cause { CountsFault (W.count out.old) (W.count out.new) result }
+{
+    for k in 0..word.len().div_ceil(8) {
+        put(out, page, word.byte(k))?;
+    }
+    Ok(())
+}
+
+/// Writes a share.
+pub fn write_share<W: CountedWrite>(
+    out: &mut W,
+    page: &mut Page,
+    value: i32,
+) -> Result<(), WriteFault>
+    requires { W.count out.old < 2 ^ 64 - 1 }
+    ensures bytes { OnOk result (Appends (append_known (W.contents out.old) page.old.items) (append_known (W.contents out.new) page.new.items) (share.bytes value)) }
+    ensures cause { CountsFault (W.count out.old) (W.count out.new) result }
+{
+    put_all(out, page, &value.cast_unsigned().to_be_bytes())
+}
