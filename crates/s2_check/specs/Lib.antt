@@ -1,9 +1,9 @@
 pub mod Cost
 pub mod Split
+pub mod Moves
 pub mod Hard
 pub mod Views
 pub mod Held
 pub mod CertificateFiles
 pub mod CertificateBytes
-pub mod ReadAnswers
 pub mod Checking

@@ -20,24 +20,25 @@
 
 mod certificate;
 mod checker;
-mod fault;
 mod hard;
-mod header;
 pub mod laws;
-mod limits;
 mod local;
-mod page;
-mod parts;
+mod moved;
+mod moved_bound;
+mod moved_sums;
+mod placed;
+mod placed_bound;
 mod shares;
+mod step;
 mod sums;
 mod view;
 mod write;
 
 pub use certificate::Certificate;
 pub use checker::{Answer, Refusal, check};
-pub use fault::CertFault;
 pub use hard::{cost, hard_into, judge_unsplit};
-pub use limits::{MOST_SCALE, MOST_SHARES};
+pub use s2_file::{CertFault, MOST_SCALE, MOST_SHARES};
+pub use step::Move;
 pub use view::CertView;
 
 #[cfg(test)]

@@ -1,5 +1,6 @@
 //! A certificate whose lists are lent.
-ghost use Rattle.std.specs.Prelude.{◌≡◌, ◌<◌, ◌≤◌, ◌↔◌, IsTrue, length, slice_index_or, OnOk, ◌-◌, ◌^◌, All, pos, replicate};
+ghost use Rattle.std.specs.Prelude.{◌≡◌, ◌<◌, ◌≤◌, ◌↔◌, IsTrue, length, slice_index_or, OnOk, ◌-◌, ◌^◌, All, pos, replicate, FitsSigned};
+ghost use Rattle.std.specs.Int.{w32};
 ghost use Rattle.std.specs.Io.KnownBytes.{Appends};
 ghost use Rattle.s2_mode.specs.Counts.{CountsFault};
 ghost use Rattle.s2_mode.specs.Shape.{code_bits};
@@ -7,16 +8,24 @@ ghost use Rattle.s2_check.specs.CertificateBytes.{bytes_of};
 ghost use Rattle.s2_check.specs.CertificateFiles.{reading};
 ghost use Rattle.s2_bits.specs.Bits.{bit_at};
 ghost use Rattle.s2_check.specs.Cost.{cost, value_at};
-ghost use Rattle.s2_matrix.specs.Code.{code_of};
+ghost use Rattle.s2_matrix.specs.Code.{code_of, first_edge, IsCodeword};
 ghost use Rattle.s2_check.specs.Split.{bound, split_of};
-ghost use Rattle.s2_check.specs.Views.{IsView, IsSoft, IsOfShape, unsplit_view};
+ghost use Rattle.s2_check.specs.Moves.{AreMoves, ArePlaced, moves_of, placed_of};
+ghost use Rattle.s2_check.specs.Views.{IsView, IsSoft, IsOfShape, listed_view, unsplit_view, split_view};
+ghost use Rattle.s2_file.specs.Limits.{most_scale, most_shares};
 
 use crate::hard::cost;
+use crate::moved::share_at;
+use crate::moved_bound::{is_same, moved_bound};
+use crate::moved_sums::{moved_bits_bound, moved_checks_bound};
+use crate::placed_bound::placed_bound;
 use crate::shares::Shares;
+use crate::step::Move;
 use crate::sums::{bits_bound, checks_bound, unsplit_bound};
-use crate::write::{write_header, write_shares, write_soft, write_word};
+use crate::write::write_shares;
 use arrayvec::ArrayVec;
 use s2_bits::Bits;
+use s2_file::{Header, Version, write_header, write_soft, write_word};
 use s2_matrix::Matrix;
 use s2_mode::{CountedWrite, Shape, WriteFault, write_full};
 use std::marker::Model;
@@ -34,13 +43,13 @@ pub struct CertView<'a> {
 
 impl<'a> Model for CertView<'a> {
     ghost use Rattle.s2_check.specs.Views.{View, IsView};
-    ghost use Rattle.s2_check.specs.Held.{shares_of};
+    ghost use Rattle.s2_check.specs.Held.{shares_of, AreHeld, IsOwnWord};
 
     ghost Value = { View };
 
     ghost view = { λ v. record { shape = v.shape; scale = v.scale; soft = v.soft.now; bits = v.word.now; shares = shares_of v.shares } };
 
-    ghost invariant = { λ v. IsView (record { shape = v.shape; scale = v.scale; soft = v.soft.now; bits = v.word.now; shares = shares_of v.shares }) };
+    ghost invariant = { λ v. (IsView (record { shape = v.shape; scale = v.scale; soft = v.soft.now; bits = v.word.now; shares = shares_of v.shares })) × (AreHeld v.shares × IsOwnWord v.word.now v.shares) };
 }
 
 impl<'a> CertView<'a> {
@@ -59,6 +68,98 @@ impl<'a> CertView<'a> {
             soft,
             word,
             shares: Shares::Zeros(matrix.edges()),
+        }
+    }
+
+    /// The certificate of moves: in each check an amount is moved to one target, at most 2^31 - 1,
+    /// from every other member. There is a target, a position in a codeword, and an amount for each
+    /// check of the matrix; targets where nothing is moved don't matter. It takes no memory.
+    pub fn moved(
+        matrix: &'a Matrix,
+        scale: u16,
+        soft: &'a [i16],
+        word: &'a Bits,
+        targets: &'a [u32],
+        amounts: &'a [u32],
+    ) -> CertView<'a>
+        requires scale_some { 1 ≤ scale }
+        requires scale_most { scale ≤ most_scale }
+        requires soft { length soft.now ≡ (code_of matrix.now).bits }
+        requires range { All IsSoft soft.now }
+        requires moves { AreMoves (code_of matrix.now) word.now targets.now amounts.now }
+        ensures { result ≡ split_view matrix.now scale soft.now word.now (moves_of word.now 1 targets.now amounts.now) }
+    {
+        let shape = matrix.shape();
+        let _count = matrix.edges();
+        CertView {
+            shape,
+            scale,
+            soft,
+            word,
+            shares: Shares::Moved {
+                matrix,
+                word,
+                targets,
+                amounts,
+            },
+        }
+    }
+
+    /// The certificate of moves by places. It takes no memory.
+    pub fn placed(
+        matrix: &'a Matrix,
+        scale: u16,
+        soft: &'a [i16],
+        word: &'a Bits,
+        moves: &'a [Move],
+    ) -> CertView<'a>
+        requires scale_some { 1 ≤ scale }
+        requires scale_most { scale ≤ most_scale }
+        requires soft { length soft.now ≡ (code_of matrix.now).bits }
+        requires range { All IsSoft soft.now }
+        requires moves { ArePlaced (code_of matrix.now) word.now moves.now }
+        ensures { result ≡ split_view matrix.now scale soft.now word.now (placed_of (code_of matrix.now) word.now 1 moves.now) }
+    {
+        let shape = matrix.shape();
+        let _count = matrix.edges();
+        CertView {
+            shape,
+            scale,
+            soft,
+            word,
+            shares: Shares::Placed {
+                matrix,
+                word,
+                moves,
+            },
+        }
+    }
+
+    /// The certificate of a list of shares, one for each edge. It takes no memory.
+    pub fn listed(
+        matrix: &Matrix,
+        scale: u16,
+        soft: &'a [i16],
+        word: &'a Bits,
+        shares: &'a [i32],
+    ) -> CertView<'a>
+        requires scale_some { 1 ≤ scale }
+        requires scale_most { scale ≤ most_scale }
+        requires soft { length soft.now ≡ (code_of matrix.now).bits }
+        requires range { All IsSoft soft.now }
+        requires word { length word.now ≡ (code_of matrix.now).bits }
+        requires shares { length shares.now ≡ first_edge (code_of matrix.now) (code_of matrix.now).checks }
+        requires fit { All (FitsSigned w32) shares.now }
+        ensures { result ≡ listed_view matrix.now scale soft.now word.now shares.now }
+    {
+        let shape = matrix.shape();
+        let _count = matrix.edges();
+        CertView {
+            shape,
+            scale,
+            soft,
+            word,
+            shares: Shares::Listed(shares),
         }
     }
 
@@ -88,7 +189,8 @@ impl<'a> CertView<'a> {
 
     /// The bound that the split shows.
     pub(crate) fn bound(&self, matrix: &Matrix) -> i64
-        requires { IsOfShape matrix.now self.now }
+        requires shaped { IsOfShape matrix.now self.now }
+        requires codeword { IsCodeword (code_of matrix.now) self.now.bits }
         ensures { result ≡ bound (code_of matrix.now) self.now.soft (split_of (code_of matrix.now) self.now.scale self.now.shares) }
     {
         match self.shares {
@@ -96,6 +198,31 @@ impl<'a> CertView<'a> {
             Shares::Listed(list) => {
                 checks_bound(matrix, self.scale, list)
                     + bits_bound(matrix, self.scale, self.soft, list)
+            }
+            Shares::Moved {
+                matrix: own,
+                word,
+                targets,
+                amounts,
+            } => {
+                if is_same(own, matrix) {
+                    return moved_bound(own, self.scale, self.soft, word, targets, amounts);
+                }
+                let shares = self.shares;
+                moved_checks_bound(matrix, self.scale, shares)
+                    + moved_bits_bound(matrix, self.scale, self.soft, shares)
+            }
+            Shares::Placed {
+                matrix: own,
+                word,
+                moves,
+            } => {
+                if is_same(own, matrix) {
+                    return placed_bound(own, self.scale, self.soft, word, moves);
+                }
+                let shares = self.shares;
+                moved_checks_bound(matrix, self.scale, shares)
+                    + moved_bits_bound(matrix, self.scale, self.soft, shares)
             }
         }
     }
@@ -144,11 +271,13 @@ impl<'a> CertView<'a> {
     /// How many shares: at most 1,555,200.
     pub fn share_count(&self) -> usize
         ensures is { result ≡ length self.now.shares }
-        ensures few { result ≤ 1555200 }
+        ensures few { result ≤ most_shares }
     {
         match self.shares {
             Shares::Zeros(count) => count,
             Shares::Listed(list) => list.len(),
+            Shares::Moved { matrix, .. } => matrix.edges(),
+            Shares::Placed { matrix, .. } => matrix.edges(),
         }
     }
 
@@ -157,10 +286,7 @@ impl<'a> CertView<'a> {
         requires { edge < length self.now.shares }
         ensures { result ≡ slice_index_or self.now.shares edge (pos 0) }
     {
-        match self.shares {
-            Shares::Zeros(_) => 0,
-            Shares::Listed(list) => list[edge],
-        }
+        share_at(self.shares, edge)
     }
 
     /// Writes the certificate's file: the very bytes that [`Certificate::read`] accepts as this
@@ -175,8 +301,13 @@ impl<'a> CertView<'a> {
         ensures cause { CountsFault (W.count out.old) (W.count out.new) result }
     {
         let mut page = ArrayVec::new();
-        let count = self.share_count() as u32;
-        write_header(out, &mut page, self.shape, self.scale, count)?;
+        let header = Header {
+            version: Version::Listed,
+            shape: self.shape,
+            scale: self.scale,
+            count: self.share_count(),
+        };
+        write_header(out, &mut page, &header)?;
         write_soft(out, &mut page, self.soft)?;
         write_word(out, &mut page, self.word)?;
         write_shares(out, &mut page, self.shares)?;
