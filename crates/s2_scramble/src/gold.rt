@@ -1,12 +1,12 @@
 //! Physical layer scrambling (EN 302 307-1, 5.5.4).
 ghost use Rattle.std.specs.Prelude.{◌≡◌, ℕ, ◌+◌, ◌<◌, ◌≤◌, ◌↔◌, IfOk, IsErrOf, length};
 ghost use Rattle.s2_mode.specs.declared.symbols.Symbol.{Symbol};
-ghost use Rattle.s2_scramble.specs.Gold.{quarter_turns};
+ghost use Rattle.s2_scramble.specs.Gold.{most_number, most_symbols, quarter_turns};
 ghost use Rattle.s2_mode.specs.Symbols.{symbol_at};
 ghost use Rattle.s2_scramble.specs.Turns.{turned, turned_back, CanTurnBack};
 
 use crate::tables::quarter_turns;
-use crate::turn::{turn_each, turned, turned_back};
+use crate::turn::{turn_each, turn_each_back, turned, turned_back};
 use s2_mode::Symbol;
 use std::alloc::Global;
 use std::marker::Model;
@@ -29,8 +29,8 @@ pub enum GoldFault {
     NoMemory,
 }
 
-/// The scrambler of the physical layer for one scrambling number, which turns each symbol after a
-/// frame's header by quarters. Its value is that number.
+/// The scrambler of the physical layer for one scrambling number (EN 302 307-1, 5.5.4), which turns
+/// each symbol after a frame's header by quarters. Its value is that number.
 #[derive(Drop)]
 pub struct Gold {
     number: u32,
@@ -54,7 +54,7 @@ impl Gold {
     /// Then nothing is kept.
     pub fn new(alloc: Global, number: u32) -> Result<Gold, GoldFault>
         ensures number { IfOk result (λ g. g ≡ number) }
-        ensures bad_number { IsErrOf result GoldFault.BadNumber ↔ (262141 < number) }
+        ensures bad_number { IsErrOf result GoldFault.BadNumber ↔ (most_number < number) }
     {
         if number > MOST_NUMBER {
             return Err(GoldFault::BadNumber);
@@ -68,14 +68,14 @@ impl Gold {
     /// The scrambling number.
     pub fn number(&self) -> u32
         ensures is { result ≡ self.now }
-        ensures few { result ≤ 262141 }
+        ensures few { result ≤ most_number }
     {
         self.number
     }
 
-    /// By how many quarter turns symbol `i` after the header is turned, 0 to 3.
+    /// R(i) of the standard: by how many quarter turns symbol `i` after the header is turned, 0 to 3.
     pub fn quarter(&self, i: usize) -> u8
-        requires { i < 33192 }
+        requires { i < most_symbols }
         ensures { result ≡ quarter_turns self.now i }
     {
         self.quarters[i] as u8
@@ -83,15 +83,15 @@ impl Gold {
 
     /// Turns a symbol as symbol `i` after the header. The negative of -32768 is 32767.
     pub fn turn(&self, i: usize, symbol: Symbol) -> Symbol
-        requires { i < 33192 }
+        requires { i < most_symbols }
         ensures { result ≡ turned (quarter_turns self.now i) symbol }
     {
         turned(self.quarters[i], symbol)
     }
 
-    /// Turns symbol `i` after the header back.
+    /// Turns symbol `i` after the header back. That undoes `turn` wherever no component is -32768.
     pub fn unturn(&self, i: usize, symbol: Symbol) -> Symbol
-        requires { i < 33192 }
+        requires { i < most_symbols }
         ensures is { result ≡ turned_back (quarter_turns self.now i) symbol }
         ensures undoes { (sent : Symbol) → CanTurnBack sent → symbol ≡ turned (quarter_turns self.now i) sent → result ≡ sent }
     {
@@ -101,10 +101,20 @@ impl Gold {
     /// Turns symbols as those from symbol `at` after the header on.
     pub fn turn_into(&self, at: usize, symbols: &[Symbol], out: &mut [Symbol])
         requires same { length out.old ≡ length symbols.now }
-        requires within { at + length symbols.now ≤ 33192 }
+        requires within { at + length symbols.now ≤ most_symbols }
         ensures { (k : ℕ) → k < length symbols.now → symbol_at out.new k ≡ turned (quarter_turns self.now (at + k)) (symbol_at symbols.now k) }
     {
         let quarters = &self.quarters[at..at + symbols.len()];
         turn_each(quarters, symbols, out);
+    }
+
+    /// Turns symbols back, as those from symbol `at` after the header on.
+    pub fn unturn_into(&self, at: usize, symbols: &[Symbol], out: &mut [Symbol])
+        requires same { length out.old ≡ length symbols.now }
+        requires within { at + length symbols.now ≤ most_symbols }
+        ensures { (k : ℕ) → k < length symbols.now → symbol_at out.new k ≡ turned_back (quarter_turns self.now (at + k)) (symbol_at symbols.now k) }
+    {
+        let quarters = &self.quarters[at..at + symbols.len()];
+        turn_each_back(quarters, symbols, out);
     }
 }
