@@ -24,7 +24,7 @@ label_of_three : (bit : ℕ → Bool) → label_of 3 bit ≡ 4 * number (bit 0) 
 unfolding label_of
 label_of_three bit = omega arith
 
-place_qpsk : (m : Mode) → is_qpsk m ≡ true → (i : ℕ) → place_of m i ≡ i
+pub place_qpsk : (m : Mode) → is_qpsk m ≡ true → (i : ℕ) → place_of m i ≡ i
 place_qpsk m e i = rw e
 
 points_qpsk : (m : Mode) → is_qpsk m ≡ true → points m ≡ qpsk_points
@@ -43,7 +43,7 @@ qpsk_symbol m word s e =
     ∙ (λ t. 2 * number (bit_at word ((place_qpsk m e (2 * s + 0) ∙ first) t)) + number (bit_at word (place_qpsk m e (2 * s + 1) t)))))
 
 -- row s of column c
-place_psk : (m : Mode) → is_qpsk m ≡ false → (s c : ℕ) → c < 3 → place_of m (3 * s + c) ≡ column_of m c * (n_of m / 3) + s
+pub place_psk : (m : Mode) → is_qpsk m ≡ false → (s c : ℕ) → c < 3 → place_of m (3 * s + c) ≡ column_of m c * (n_of m / 3) + s
 place_psk m e s c lt =
     let row : (3 * s + c) / 3 ≡ s = omega arith in
     let column : (3 * s + c) % 3 ≡ c = omega arith in

@@ -1,1 +1,3 @@
+pub mod Constants
 pub mod Mapping
+pub mod Permutation

@@ -1,39 +1,44 @@
 -- The bit interleaver and the constellations (EN 302 307-1, 5.3.3 and 5.4).
-use Rattle.std.specs.Prelude.{ℕ, zero, suc, ◌+◌, ◌-◌, ◌*◌, ◌/◌, ◌%◌, ◌==◌, Bool, List, [], ◌∷◌, pos, negsuc, map, if◌then◌else◌}
+use Rattle.std.specs.Prelude.{ℕ, zero, suc, ◌+◌, ◌-◌, ◌*◌, ◌/◌, ◌%◌, ◌==◌, Bool, List, [], ◌∷◌, pos, neg_ℤ, map, if◌then◌else◌}
 use Rattle.std.specs.List.{range_with_len}
 use Rattle.s2_mode.specs.declared.symbols.Symbol.{Symbol}
 use Rattle.s2_mode.specs.Symbols.{symbol, symbol_at}
 use Rattle.s2_mode.specs.Mode.{Mode, is_qpsk, n_of, width_of, slots_of}
 use Rattle.s2_bits.specs.Bits.{bit_at, number}
+use Rattle.s2_map.specs.Constants.{diagonal, axis, psk_3_5}
 
--- the columns are read in the order 0, 1, 2, at 8PSK 3/5, which is MODCOD 12, in the order 2, 1, 0
+-- the columns are read in the order 0, 1, 2, at 8PSK 3/5 in the order 2, 1, 0
 abbrev pub column_of : Mode → ℕ → ℕ
-column_of m c = if m.modcod == 12 then 2 - c else c
+column_of m c = if m.modcod == psk_3_5 then 2 - c else c
 
 -- which codeword bit is payload bit i: QPSK has no interleaver; 8PSK writes the codeword into three columns and reads row by row
 abbrev pub place_of : Mode → ℕ → ℕ
 place_of m i = if is_qpsk m then i else column_of m (i % 3) * (n_of m / 3) + i / 3
 
+-- which payload bit codeword bit b is sent as: row and column the other way round
+abbrev pub sent_as : Mode → ℕ → ℕ
+sent_as m b = if is_qpsk m then b else 3 * (b % (n_of m / 3)) + column_of m (b / (n_of m / 3))
+
 -- labels 00, 01, 10, 11: the first bit is the sign of I, the second that of Q
 abbrev pub qpsk_points : List Symbol
 qpsk_points =
-    symbol (pos 700) (pos 700)
-    ∷ symbol (pos 700) (negsuc 699)
-    ∷ symbol (negsuc 699) (pos 700)
-    ∷ symbol (negsuc 699) (negsuc 699)
+    symbol (pos diagonal) (pos diagonal)
+    ∷ symbol (pos diagonal) (neg_ℤ (pos diagonal))
+    ∷ symbol (neg_ℤ (pos diagonal)) (pos diagonal)
+    ∷ symbol (neg_ℤ (pos diagonal)) (neg_ℤ (pos diagonal))
     ∷ []
 
 -- labels 000 to 111
 abbrev pub psk_points : List Symbol
 psk_points =
-    symbol (pos 700) (pos 700)
-    ∷ symbol (pos 990) (pos 0)
-    ∷ symbol (negsuc 989) (pos 0)
-    ∷ symbol (negsuc 699) (negsuc 699)
-    ∷ symbol (pos 0) (pos 990)
-    ∷ symbol (pos 700) (negsuc 699)
-    ∷ symbol (negsuc 699) (pos 700)
-    ∷ symbol (pos 0) (negsuc 989)
+    symbol (pos diagonal) (pos diagonal)
+    ∷ symbol (pos axis) (pos 0)
+    ∷ symbol (neg_ℤ (pos axis)) (pos 0)
+    ∷ symbol (neg_ℤ (pos diagonal)) (neg_ℤ (pos diagonal))
+    ∷ symbol (pos 0) (pos axis)
+    ∷ symbol (pos diagonal) (neg_ℤ (pos diagonal))
+    ∷ symbol (neg_ℤ (pos diagonal)) (pos diagonal)
+    ∷ symbol (pos 0) (neg_ℤ (pos axis))
     ∷ []
 
 abbrev pub points : Mode → List Symbol

@@ -3,10 +3,8 @@ ghost use Rattle.std.specs.Prelude.{◌≡◌, ◌<◌};
 ghost use Rattle.s2_mode.specs.Mode.{n_of};
 ghost use Rattle.s2_map.specs.Mapping.{place_of};
 
+use crate::constants::PSK_3_5;
 use s2_mode::Mode;
-
-/// The MODCOD of 8PSK 3/5, which alone reads the columns from the last to the first.
-pub(crate) const PSK_3_5: u8 = 12;
 
 /// Which bit of the codeword is payload bit `i`. At QPSK it is bit `i`. At 8PSK the codeword fills
 /// three columns, one after another, and the payload is read from them row by row.

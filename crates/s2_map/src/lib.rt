@@ -3,18 +3,22 @@
 //!
 //! [`place`] says which bit of a codeword is sent as payload bit `i`, and [`point`] which symbol a
 //! label is sent as. [`map_into`] writes exactly the payload of a codeword: symbol `s` is the point
-//! whose label is the bits of the codeword at the places of its two or three payload bits. No call
-//! takes memory.
+//! whose label is the bits of the codeword at the places of its two or three payload bits.
+//! [`laws::interleaver`] says that each bit of a codeword is sent once. No call takes memory.
 //!
 //! ```text
 //! map_into(mode, &codeword, &mut payload);
 //! ```
 #![tactic(auto)]
 
+mod constants;
 mod interleaver;
+pub mod laws;
 mod mapper;
 mod points;
+mod psk;
 
+pub use constants::{AXIS, DIAGONAL, PSK_3_5};
 pub use interleaver::place;
 pub use mapper::map_into;
 pub use points::point;

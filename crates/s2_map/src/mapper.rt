@@ -1,12 +1,13 @@
 //! Codewords to payload symbols (EN 302 307-1, 5.4).
-ghost use Rattle.std.specs.Prelude.{◌≡◌, ℕ, ◌+◌, ◌*◌, ◌<◌, false, pos, negsuc, length, if◌then◌else◌};
+ghost use Rattle.std.specs.Prelude.{◌≡◌, ℕ, ◌+◌, ◌*◌, ◌<◌, false, pos, neg_ℤ, length, if◌then◌else◌};
 ghost use Rattle.s2_mode.specs.Mode.{is_qpsk, n_of, slots_of};
 ghost use Rattle.s2_mode.specs.Symbols.{symbol_at};
 ghost use Rattle.s2_bits.specs.Bits.{bit_at, number};
+ghost use Rattle.s2_map.specs.Constants.{diagonal};
 ghost use Rattle.s2_map.specs.Mapping.{qpsk_points, psk_points, payload_symbol, payload_of};
 
-use crate::interleaver::PSK_3_5;
-use crate::points::PSK;
+use crate::constants::{DIAGONAL, PSK_3_5};
+use crate::psk::psk_point;
 use s2_bits::Bits;
 use s2_mode::{Mode, Symbol};
 
@@ -32,9 +33,9 @@ pub fn map_into(mode: Mode, word: &Bits, payload: &mut [Symbol])
 /// A component of QPSK: a one is negative.
 #[inline(always)]
 fn component(bit: bool) -> i16
-    ensures { result ≡ if bit then negsuc 699 else pos 700 }
+    ensures { result ≡ if bit then neg_ℤ (pos diagonal) else pos diagonal }
 {
-    700 - 1400 * i16::from(bit)
+    DIAGONAL - 2 * DIAGONAL * i16::from(bit)
 }
 
 /// QPSK: each two bits are a symbol, and each bit a component.
@@ -74,7 +75,6 @@ fn map_columns(first: &[bool], second: &[bool], third: &[bool], payload: &mut [S
     ensures { (s : ℕ) → s < length payload.old → symbol_at payload.new s ≡ symbol_at psk_points (4 * number (bit_at first.now s) + 2 * number (bit_at second.now s) + number (bit_at third.now s)) }
 {
     for s in 0..payload.len() {
-        let label = 4 * usize::from(first[s]) + 2 * usize::from(second[s]) + usize::from(third[s]);
-        payload[s] = PSK[label];
+        payload[s] = psk_point(first[s], second[s], third[s]);
     }
 }

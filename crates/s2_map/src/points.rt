@@ -3,26 +3,51 @@ ghost use Rattle.std.specs.Prelude.{◌≡◌, ◌^◌, ◌<◌};
 ghost use Rattle.s2_mode.specs.Mode.{width_of};
 ghost use Rattle.s2_map.specs.Mapping.{point_of};
 
+use crate::constants::{AXIS, DIAGONAL};
 use s2_mode::{Mode, Symbol};
 
 /// QPSK by label.
-pub(crate) static QPSK: [Symbol; 4] = [
-    Symbol { i: 700, q: 700 },
-    Symbol { i: 700, q: -700 },
-    Symbol { i: -700, q: 700 },
-    Symbol { i: -700, q: -700 },
+static QPSK: [Symbol; 4] = [
+    Symbol {
+        i: DIAGONAL,
+        q: DIAGONAL,
+    },
+    Symbol {
+        i: DIAGONAL,
+        q: -DIAGONAL,
+    },
+    Symbol {
+        i: -DIAGONAL,
+        q: DIAGONAL,
+    },
+    Symbol {
+        i: -DIAGONAL,
+        q: -DIAGONAL,
+    },
 ];
 
 /// 8PSK by label.
-pub(crate) static PSK: [Symbol; 8] = [
-    Symbol { i: 700, q: 700 },
-    Symbol { i: 990, q: 0 },
-    Symbol { i: -990, q: 0 },
-    Symbol { i: -700, q: -700 },
-    Symbol { i: 0, q: 990 },
-    Symbol { i: 700, q: -700 },
-    Symbol { i: -700, q: 700 },
-    Symbol { i: 0, q: -990 },
+static PSK: [Symbol; 8] = [
+    Symbol {
+        i: DIAGONAL,
+        q: DIAGONAL,
+    },
+    Symbol { i: AXIS, q: 0 },
+    Symbol { i: -AXIS, q: 0 },
+    Symbol {
+        i: -DIAGONAL,
+        q: -DIAGONAL,
+    },
+    Symbol { i: 0, q: AXIS },
+    Symbol {
+        i: DIAGONAL,
+        q: -DIAGONAL,
+    },
+    Symbol {
+        i: -DIAGONAL,
+        q: DIAGONAL,
+    },
+    Symbol { i: 0, q: -AXIS },
 ];
 
 /// The symbol of a label of two bits (QPSK) or three (8PSK), the first bit the highest.
