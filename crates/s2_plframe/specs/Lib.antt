@@ -1,2 +1,7 @@
+pub mod Constants
 pub mod Header
 pub mod Frame
+pub mod Payload
+pub mod Search
+pub mod HeaderLaws
+pub mod Inside

@@ -2,27 +2,24 @@
 ghost use Rattle.std.specs.Prelude.{◌≡◌, ℕ, ◌+◌, ◌-◌, ◌*◌, ◌<◌, ◌≤◌, length};
 ghost use Rattle.s2_mode.specs.Mode.{slots_of, symbols_in};
 ghost use Rattle.s2_mode.specs.Symbols.{symbol_at};
-ghost use Rattle.s2_scramble.specs.Gold.{quarter_turns};
+ghost use Rattle.s2_scramble.specs.Gold.{most_symbols, quarter_turns};
 ghost use Rattle.s2_scramble.specs.Turns.{turned};
+ghost use Rattle.s2_plframe.specs.Constants.{sixteen_slots, pilot_block, spaced_slots};
 ghost use Rattle.s2_plframe.specs.Frame.{spaced_symbol, frame_symbols};
 
-use crate::header::{AMPLITUDE, HEADER, write_header};
+use crate::constants::{HEADER, PILOT_BLOCK, SIXTEEN_SLOTS, SPACED_SLOTS};
+use crate::header::{pls_code, write_header};
+use s2_map::DIAGONAL;
 use s2_mode::{Mode, Symbol};
 use s2_scramble::Gold;
 
-/// How many symbols are between two pilot blocks: 16 slots.
-const SLOTS: usize = 1440;
-
-/// Those and a pilot block.
-const BLOCK: usize = 1476;
-
 /// A pilot block.
-const PILOTS: [Symbol; 36] = [Symbol {
-    i: AMPLITUDE,
-    q: AMPLITUDE,
-}; 36];
+const PILOTS: [Symbol; PILOT_BLOCK] = [Symbol {
+    i: DIAGONAL,
+    q: DIAGONAL,
+}; PILOT_BLOCK];
 
-/// Writes the physical frame of a payload (EN 302 307-1, 5.5): the header's 90 symbols, and then
+/// Writes the physical frame (PLFRAME) of a payload (EN 302 307-1, 5.5): the header's 90 symbols, and then
 /// the slots, with a pilot block of 36 symbols after every 16 slots where the mode has pilots and
 /// slots follow. All that comes after the header is turned by the scrambler.
 ///
@@ -36,35 +33,35 @@ pub fn frame_into(mode: Mode, gold: &Gold, payload: &[Symbol], frame: &mut [Symb
 {
     let blocks = mode.pilot_blocks();
     let (header, slots) = frame.split_at_mut(HEADER);
-    write_header(mode, header);
+    write_header(pls_code(mode), header);
     write_slots(blocks, gold, payload, slots);
 }
 
 /// Writes what follows the header: so many times 16 slots and a pilot block, and the other slots.
 fn write_slots(blocks: usize, gold: &Gold, payload: &[Symbol], out: &mut [Symbol])
-    requires enough { 1440 * blocks ≤ length payload.now }
-    requires room { length out.old ≡ length payload.now + 36 * blocks }
-    requires most { length out.old ≤ 33192 }
-    ensures blocks { (u : ℕ) → u < 1476 * blocks → symbol_at out.new u ≡ turned (quarter_turns gold.now u) (spaced_symbol payload.now u) }
-    ensures rest { (u : ℕ) → 1476 * blocks ≤ u → u < length out.old → symbol_at out.new u ≡ turned (quarter_turns gold.now u) (symbol_at payload.now (u - 36 * blocks)) }
+    requires enough { sixteen_slots * blocks ≤ length payload.now }
+    requires room { length out.old ≡ length payload.now + pilot_block * blocks }
+    requires most { length out.old ≤ most_symbols }
+    ensures blocks { (u : ℕ) → u < spaced_slots * blocks → symbol_at out.new u ≡ turned (quarter_turns gold.now u) (spaced_symbol payload.now u) }
+    ensures rest { (u : ℕ) → spaced_slots * blocks ≤ u → u < length out.old → symbol_at out.new u ≡ turned (quarter_turns gold.now u) (symbol_at payload.now (u - pilot_block * blocks)) }
 {
     for block in 0..blocks {
-        let slots = &payload[SLOTS * block..SLOTS * block + SLOTS];
-        let at = BLOCK * block;
-        write_block(gold, at, slots, &mut out[at..at + BLOCK]);
+        let slots = &payload[SIXTEEN_SLOTS * block..SIXTEEN_SLOTS * block + SIXTEEN_SLOTS];
+        let at = SPACED_SLOTS * block;
+        write_block(gold, at, slots, &mut out[at..at + SPACED_SLOTS]);
     }
-    let at = BLOCK * blocks;
-    gold.turn_into(at, &payload[SLOTS * blocks..], &mut out[at..]);
+    let at = SPACED_SLOTS * blocks;
+    gold.turn_into(at, &payload[SIXTEEN_SLOTS * blocks..], &mut out[at..]);
 }
 
 /// Writes 16 slots and a pilot block.
 fn write_block(gold: &Gold, at: usize, slots: &[Symbol], out: &mut [Symbol])
-    requires slots { length slots.now ≡ 1440 }
-    requires room { length out.old ≡ 1476 }
-    requires most { at + 1476 ≤ 33192 }
-    ensures { (k : ℕ) → k < 1476 → symbol_at out.new k ≡ turned (quarter_turns gold.now (at + k)) (spaced_symbol slots.now k) }
+    requires slots { length slots.now ≡ sixteen_slots }
+    requires room { length out.old ≡ spaced_slots }
+    requires most { at + spaced_slots ≤ most_symbols }
+    ensures { (k : ℕ) → k < spaced_slots → symbol_at out.new k ≡ turned (quarter_turns gold.now (at + k)) (spaced_symbol slots.now k) }
 {
-    let (front, pilots) = out.split_at_mut(SLOTS);
+    let (front, pilots) = out.split_at_mut(SIXTEEN_SLOTS);
     gold.turn_into(at, slots, front);
-    gold.turn_into(at + SLOTS, &PILOTS, pilots);
+    gold.turn_into(at + SIXTEEN_SLOTS, &PILOTS, pilots);
 }

@@ -1,17 +1,15 @@
 //! The header of a frame (EN 302 307-1, 5.5.2).
 ghost use Rattle.std.specs.Prelude.{◌≡◌, ℕ, ◌<◌, length};
+ghost use Rattle.s2_mode.specs.Mode.{mode_of};
 ghost use Rattle.s2_mode.specs.Symbols.{symbol_at};
-ghost use Rattle.s2_plframe.specs.Header.{chosen_rows, sum_of_rows, code_bit, header_bit, header_point, header_symbol};
+ghost use Rattle.s2_plframe.specs.Constants.{header_length};
+ghost use Rattle.s2_plframe.specs.Header.{chosen, sum_of_rows, code_bit, header_bit, header_point, header_symbol};
 
+use crate::constants::HEADER;
+use s2_map::DIAGONAL;
 use s2_mode::{Mode, Symbol};
 
-/// How many symbols a header has.
-pub(crate) const HEADER: usize = 90;
-
-/// The level of both components of a header symbol, and of a pilot.
-pub(crate) const AMPLITUDE: i16 = 700;
-
-/// The mark of a frame's start, 26 bits.
+/// The mark of a frame's start (SOF), 26 bits.
 const START_OF_FRAME: u32 = 0x018D_2E82;
 
 /// The rows of the code of MODCOD and TYPE.
@@ -27,58 +25,88 @@ const GENERATOR: [u32; 6] = [
 /// What is added to the code.
 const SCRAMBLING: u64 = 0x719D_83C9_5342_2DFA;
 
-/// Writes the header of a mode's frames.
-pub(crate) fn write_header(mode: Mode, out: &mut [Symbol])
-    requires { length out.old ≡ 90 }
-    ensures { (i : ℕ) → i < 90 → symbol_at out.new i ≡ header_symbol mode i }
+/// What a header says (its PLSCODE): a MODCOD, and a TYPE, which is whether frames are short and
+/// whether they have pilots. MODCOD 0 says that a frame is a dummy.
+#[derive(Clone, Copy)]
+pub(crate) struct PlsCode {
+    pub(crate) modcod: u8,
+    pub(crate) short: bool,
+    pub(crate) pilots: bool,
+}
+
+/// What the headers of a mode's frames say.
+pub(crate) fn pls_code(mode: Mode) -> PlsCode
+    ensures { mode_of result.modcod result.short result.pilots ≡ mode }
 {
-    for i in 0..HEADER {
-        out[i] = header_point(i, header_bit(mode, i));
+    PlsCode {
+        modcod: mode.modcod(),
+        short: mode.is_short(),
+        pilots: mode.has_pilots(),
     }
 }
 
-/// The bits of the mark, and then those of the code.
-fn header_bit(mode: Mode, k: usize) -> bool
-    requires { k < 90 }
-    ensures { result ≡ header_bit mode k }
+/// Writes the header that says this.
+pub(crate) fn write_header(code: PlsCode, out: &mut [Symbol])
+    requires { length out.old ≡ header_length }
+    ensures { (i : ℕ) → i < header_length → symbol_at out.new i ≡ header_symbol (mode_of code.modcod code.short code.pilots) i }
+{
+    for i in 0..HEADER {
+        out[i] = header_point(i, header_bit(code, i));
+    }
+}
+
+/// The bits of a header: those of the mark, and then those of the code.
+pub(crate) fn header_bit(code: PlsCode, k: usize) -> bool
+    requires { k < header_length }
+    ensures { result ≡ header_bit (mode_of code.modcod code.short code.pilots) k }
 {
     if k < 26 {
         (START_OF_FRAME >> (25 - k)) % 2 == 1
     } else {
         let j = k - 26;
-        code_bit(mode, j) ^ ((SCRAMBLING >> (63 - j)) % 2 == 1)
+        code_bit(code, j) ^ ((SCRAMBLING >> (63 - j)) % 2 == 1)
     }
 }
 
-/// The code of MODCOD and TYPE.
-fn code_bit(mode: Mode, j: usize) -> bool
+/// The code of MODCOD and TYPE, before it is scrambled.
+fn code_bit(code: PlsCode, j: usize) -> bool
     requires { j < 64 }
-    ensures { result ≡ code_bit mode j }
+    ensures { result ≡ code_bit (mode_of code.modcod code.short code.pilots) j }
 {
-    let choice = 2 * mode.modcod() + u8::from(mode.is_short());
-    let sum = sum_of_rows(choice, j / 2);
-    sum ^ (j % 2 == 1 && mode.has_pilots())
+    let sum = sum_of_rows(code, j / 2);
+    sum ^ (j % 2 == 1 && code.pilots)
 }
 
 /// A bit of the sum of the chosen rows.
-fn sum_of_rows(choice: u8, k: usize) -> bool
+fn sum_of_rows(code: PlsCode, k: usize) -> bool
     requires { k < 32 }
-    ensures { result ≡ sum_of_rows choice 6 k }
+    ensures { result ≡ sum_of_rows (mode_of code.modcod code.short code.pilots) 6 k }
 {
     let mut sum = false;
     for r in 0..6 {
-        let chosen = (choice >> (5 - r)) % 2 == 1;
         let bit = (GENERATOR[r] >> (31 - k)) % 2 == 1;
-        sum = sum ^ (chosen & bit);
+        sum = sum ^ (chooses(code, r) & bit);
     }
     sum
+}
+
+/// Whether a row is chosen: by MODCOD among the first five, by the upper bit of TYPE the last.
+fn chooses(code: PlsCode, r: usize) -> bool
+    requires { r < 6 }
+    ensures { result ≡ chosen (mode_of code.modcod code.short code.pilots) r }
+{
+    if r == 5 {
+        code.short
+    } else {
+        (code.modcod >> (4 - r)) % 2 == 1
+    }
 }
 
 /// A header bit as a symbol.
 fn header_point(i: usize, bit: bool) -> Symbol
     ensures { result ≡ header_point i bit }
 {
-    let level = if bit { -AMPLITUDE } else { AMPLITUDE };
+    let level = if bit { -DIAGONAL } else { DIAGONAL };
     if i % 2 == 0 {
         Symbol { i: level, q: level }
     } else {

@@ -1,19 +1,34 @@
-//! Physical frames (EN 302 307-1, 5.5), between the mapper and the line.
+//! Physical frames (EN 302 307-1, 5.5), between the constellation and the line, in both directions.
 //!
 //! [`frame_into`] writes exactly the frame of a payload: the header of its mode, the slots with
 //! their pilot blocks, and everything after the header turned by the scrambler of the physical
-//! layer. It takes no memory.
+//! layer. [`Search`] finds the headers in a stream of symbols, of which at most 12 bits may be wrong,
+//! and knows dummy frames; [`payload_of`] takes the payload out again, exactly, whatever symbols came.
+//! [`laws`] join the two ends. No call takes memory.
 //!
 //! ```text
-//! map_into(mode, &codeword, &mut payload);
 //! frame_into(mode, &gold, &payload, &mut frame);
+//!
+//! let mut search = Search::new(mode);
+//! if search.feed(symbol) == Found::Coded {
+//!     payload_of(mode, &gold, &frame, &mut payload);
+//! }
 //! ```
 #![tactic(auto)]
 
+mod constants;
+mod found;
 mod frame;
 mod header;
+pub mod laws;
+mod payload;
+mod registers;
+mod search;
 
+pub use found::Found;
 pub use frame::frame_into;
+pub use payload::payload_of;
+pub use search::{Search, header_matches};
 
 #[cfg(test)]
 mod tests;

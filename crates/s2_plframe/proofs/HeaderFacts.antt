@@ -1,0 +1,200 @@
+-- Facts of the header test.
+use Rattle.std.proofs.Common.{◌≡◌, ℕ, zero, suc, ◌+◌, ◌-◌, ◌*◌, ◌%◌, ◌<◌, ◌≤◌, negsuc, Bool, true, false, List, [], ◌∷◌, ◌++◌, length, length-append, length-drop, length-take, take, drop, map, pos, inl, inr, refl, sym, ap, ◌∙◌, arith}
+use Rattle.std.specs.Prelude.{◌==◌, ◌||◌, nat_le, if◌then◌else◌}
+use Rattle.std.proofs.lemmas.Bool.{false≢true, leb-true, lt-leb, lt-ltb, le-ltb}
+use Rattle.std.proofs.lemmas.Bool.Decides.{eqb_tells}
+use Rattle.std.proofs.lemmas.List.{get_or-take, length-map, map-append, drop-drop, drop-append-le}
+use Rattle.std.proofs.lemmas.List.FromFn.{fill_by_all, get_or-map-range_with_len, length-map-range_with_len}
+use Rattle.s2_mode.specs.declared.symbols.Symbol.{Symbol}
+use Rattle.s2_mode.specs.Symbols.{symbol, symbol_at}
+use Rattle.s2_mode.specs.Mode.{Mode, IsMode, slots_of, symbols_in}
+use Rattle.s2_mode.proofs.Modes.{at_each, frame_sizes}
+use Rattle.s2_bits.specs.Bits.{xor, number}
+use Rattle.s2_bits.proofs.Sums.{xor_same}
+use Rattle.s2_plframe.specs.Header.{header_bit, header_point, header_symbol, header_symbols, dummy_mode, sum_of_rows}
+use Rattle.s2_plframe.specs.Frame.{frame_symbol, frame_symbols}
+use Rattle.s2_plframe.specs.Search.{Decision, decision, decided, mismatches, passes, passes_dummy, found, recent}
+use Rattle.s2_plframe.specs.HeaderLaws.{seen_of, HoldsFrame}
+use Rattle.s2_plframe.specs.declared.found.Found.TheVariants as founds
+use Rattle.s2_plframe.specs.Payload.{AllTurnBack}
+use Rattle.s2_plframe.proofs.Payloads.{payload_again}
+use Rattle.s2_plframe.proofs.Mismatches.{decided_symbols}
+
+-- ---- a header without noise
+
+no_mismatch : (header : ℕ → Bool) (window : List Decision) (n : ℕ) → ((k : ℕ) → k < n → decided window k ≡ header k) → mismatches header window n ≡ 0
+unfolding mismatches
+no_mismatch header window zero same = refl
+no_mismatch header window (suc n) same =
+    let here : number (xor (decided window n) (header n)) ≡ 0 = ap (λ b. number (xor b (header n))) (same n (omega arith)) ∙ ap number (xor_same (header n)) in
+    let before : mismatches header window n ≡ 0 = no_mismatch header window n (λ k lt. same k (omega arith)) in
+    omega arith
+
+point_says_odd : (b : Bool) → (decision (if b then symbol (negsuc 699) (negsuc 699) else symbol (pos 700) (pos 700))).odd ≡ b
+point_says_odd true = refl
+point_says_odd false = refl
+
+point_says_even : (b : Bool) → (decision (if b then symbol (pos 700) (negsuc 699) else symbol (negsuc 699) (pos 700))).even ≡ b
+point_says_even true = refl
+point_says_even false = refl
+
+point_says : (k : ℕ) (b : Bool) → (if k % 2 == 0 then (decision (header_point k b)).odd else (decision (header_point k b)).even) ≡ b
+point_says k b = elim (eqb_tells (k % 2) 0) [
+  | inl same ↦ rw same.0 (point_says_odd b)
+  | inr other ↦ rw other.0 (point_says_even b)
+]
+
+header_at : (m : Mode) (n : ℕ) (payload : List Symbol) (k : ℕ) → IsMode m → k < 90 → symbol_at (take 90 (frame_symbols m n payload)) k ≡ header_symbol m k
+header_at m n payload k is lt =
+    let none = symbol (pos 0) (pos 0) in
+    let inside : k < symbols_in m = omega (arith, (frame_sizes m is).symbols) in
+    let here : 0 + k ≡ k = omega arith in
+    get_or-take 90 (frame_symbols m n payload) k none lt
+    ∙ (get_or-map-range_with_len (frame_symbol m n payload) 0 (symbols_in m) k k none inside here ∙ rw (lt-ltb k 90 lt) refl)
+
+pub clean_passes : (m : Mode) (n : ℕ) (payload : List Symbol) → IsMode m → found m (map decision (take 90 (frame_symbols m n payload))) ≡ founds.Coded
+clean_passes m n payload is =
+    let symbols = take 90 (frame_symbols m n payload) in
+    let window = map decision symbols in
+    let whole : length (frame_symbols m n payload) ≡ symbols_in m = length-map-range_with_len (frame_symbol m n payload) 0 (symbols_in m) in
+    let some : 90 ≤ symbols_in m = omega (arith, (frame_sizes m is).symbols) in
+    let long : length window ≡ 90 = length-map symbols decision ∙ simp length-take (omega arith) in
+    let full : 90 ≤ length window = omega arith in
+    let none : mismatches (header_bit m) window 90 ≡ 0 = no_mismatch (header_bit m) window 90
+    (λ k lt. sym (decided_symbols symbols k) ∙ ((λ t. if k % 2 == 0 then (decision (header_at m n payload k is lt t)).odd else (decision (header_at m n payload k is lt t)).even) ∙ point_says k (header_bit m k))) in
+    rw (le-ltb (length window) 90 full) (λ t. if nat_le (none t) 12 then founds.Coded else (if passes_dummy window then founds.Dummy else founds.Nothing))
+
+-- ---- two headers
+
+-- how many of the first n bits of two headers differ
+differ : (ℕ → Bool) → (ℕ → Bool) → ℕ → ℕ
+differ a b zero = 0
+differ a b (suc n) = differ a b n + number (xor (a n) (b n))
+
+xor_triangle : (w a b : Bool) → number (xor a b) ≤ number (xor w a) + number (xor w b)
+xor_triangle true true true = omega arith
+xor_triangle true true false = omega arith
+xor_triangle true false true = omega arith
+xor_triangle true false false = omega arith
+xor_triangle false true true = omega arith
+xor_triangle false true false = omega arith
+xor_triangle false false true = omega arith
+xor_triangle false false false = omega arith
+
+triangle : (a b : ℕ → Bool) (window : List Decision) (n : ℕ) → differ a b n ≤ mismatches a window n + mismatches b window n
+unfolding differ mismatches
+triangle a b window zero = omega arith
+triangle a b window (suc n) =
+    let before = triangle a b window n in
+    let here = xor_triangle (decided window n) (a n) (b n) in
+    omega arith
+
+far : Bool → Bool → Mode → Bool
+far short pilots m = nat_le 32 (differ (header_bit m) (header_bit (dummy_mode short pilots)) 90)
+
+all_far : (short pilots : Bool) (m : Mode) → IsMode m → far short pilots m ≡ true
+unfolding far differ sum_of_rows
+all_far false false m is = at_each (far false false) m refl is
+all_far false true m is = at_each (far false true) m refl is
+all_far true false m is = at_each (far true false) m refl is
+all_far true true m is = at_each (far true true) m refl is
+
+one_fails : (short pilots : Bool) (m : Mode) (window : List Decision) → IsMode m → passes (header_bit m) window ≡ true → passes (header_bit (dummy_mode short pilots)) window ≡ false
+unfolding far
+one_fails short pilots m window is passed =
+    let least : 32 ≤ differ (header_bit m) (header_bit (dummy_mode short pilots)) 90 = leb-true 32 (differ (header_bit m) (header_bit (dummy_mode short pilots)) 90) (all_far short pilots m is) in
+    let most : mismatches (header_bit m) window 90 ≤ 12 = leb-true (mismatches (header_bit m) window 90) 12 passed in
+    let both = triangle (header_bit m) (header_bit (dummy_mode short pilots)) window 90 in
+    let over : 12 < mismatches (header_bit (dummy_mode short pilots)) window 90 = omega arith in
+    lt-leb (mismatches (header_bit (dummy_mode short pilots)) window 90) 12 over
+
+pub apart_is : (m : Mode) (window : List Decision) → IsMode m → passes (header_bit m) window ≡ true → passes_dummy window ≡ false
+apart_is m window is passed =
+    λ t. one_fails false false m window is passed t || (one_fails false true m window is passed t || (one_fails true false m window is passed t || one_fails true true m window is passed t))
+
+-- ---- one symbol more
+
+recent_more : (ys : List Decision) (d : Decision) → recent (recent ys ++ d ∷ []) ≡ recent (ys ++ d ∷ [])
+recent_more ys d =
+    let n = length ys - 90 in
+    let few : n ≤ length ys = omega arith in
+    let joined : recent ys ++ d ∷ [] ≡ drop n (ys ++ d ∷ []) = sym (drop-append-le n ys (d ∷ []) few) in
+    let long : length (ys ++ d ∷ []) ≡ length ys + 1 = length-append ys (d ∷ []) ∙ omega arith in
+    let rest : length (drop n (ys ++ d ∷ [])) ≡ length ys + 1 - n = length-drop n (ys ++ d ∷ []) ∙ ap (λ k. k - n) long in
+    let place : n + (length (drop n (ys ++ d ∷ [])) - 90) ≡ length (ys ++ d ∷ []) - 90 = omega arith in
+    ap recent joined ∙ (drop-drop (length (drop n (ys ++ d ∷ [])) - 90) n (ys ++ d ∷ []) ∙ ap (λ k. drop k (ys ++ d ∷ [])) place)
+
+pub seen_more : (symbols : List Symbol) (next : Symbol) → recent (seen_of symbols ++ decision next ∷ []) ≡ seen_of (symbols ++ next ∷ [])
+seen_more symbols next = recent_more (map decision symbols) (decision next) ∙ ap recent (sym (map-append decision symbols (next ∷ [])))
+
+pub seen_last : (symbols : List Symbol) → seen_of symbols ≡ map decision (drop (length symbols - 90) symbols)
+seen_last symbols = ap (λ n. drop (n - 90) (map decision symbols)) (length-map symbols decision) ∙ drop-map decision (length symbols - 90) symbols
+  where
+    drop-map : (f : Symbol → Decision) (n : ℕ) (xs : List Symbol) → drop n (map f xs) ≡ map f (drop n xs)
+    drop-map f zero xs = refl
+    drop-map f (suc n) [] = refl
+    drop-map f (suc n) (x ∷ xs) = drop-map f n xs
+
+-- ---- dummy headers
+
+header_no_mismatch : (m : Mode) → mismatches (header_bit m) (map decision (header_symbols m)) 90 ≡ 0
+header_no_mismatch m =
+    let symbols = header_symbols m in
+    no_mismatch (header_bit m) (map decision symbols) 90
+    (λ k lt. let here : 0 + k ≡ k = omega arith in
+    let at : symbol_at symbols k ≡ header_symbol m k = get_or-map-range_with_len (header_symbol m) 0 90 k k (symbol (pos 0) (pos 0)) lt here in
+    sym (decided_symbols symbols k) ∙ ((λ t. if k % 2 == 0 then (decision (at t)).odd else (decision (at t)).even) ∙ point_says k (header_bit m k)))
+
+header_passes : (m : Mode) → passes (header_bit m) (map decision (header_symbols m)) ≡ true
+header_passes m = ap (λ n. nat_le n 12) (header_no_mismatch m)
+
+first_passes : (a b c d : Bool) → a ≡ true → (a || (b || (c || d))) ≡ true
+first_passes a b c d e = rw e
+
+second_passes : (a b c d : Bool) → b ≡ true → (a || (b || (c || d))) ≡ true
+second_passes true b c d e = refl
+second_passes false b c d e = rw e
+
+third_passes : (a b c d : Bool) → c ≡ true → (a || (b || (c || d))) ≡ true
+third_passes true b c d e = refl
+third_passes false true c d e = refl
+third_passes false false c d e = rw e
+
+last_passes : (a b c d : Bool) → d ≡ true → (a || (b || (c || d))) ≡ true
+last_passes true b c d e = refl
+last_passes false true c d e = refl
+last_passes false false true d e = refl
+last_passes false false false d e = e
+
+-- a header of dummy frames is one of the four
+known : (short pilots : Bool) (window : List Decision) → passes (header_bit (dummy_mode short pilots)) window ≡ true → passes_dummy window ≡ true
+known false false window e = first_passes _ (passes (header_bit (dummy_mode false true)) window) (passes (header_bit (dummy_mode true false)) window) (passes (header_bit (dummy_mode true true)) window) e
+known false true window e = second_passes (passes (header_bit (dummy_mode false false)) window) _ (passes (header_bit (dummy_mode true false)) window) (passes (header_bit (dummy_mode true true)) window) e
+known true false window e = third_passes (passes (header_bit (dummy_mode false false)) window) (passes (header_bit (dummy_mode false true)) window) _ (passes (header_bit (dummy_mode true true)) window) e
+known true true window e = last_passes (passes (header_bit (dummy_mode false false)) window) (passes (header_bit (dummy_mode false true)) window) (passes (header_bit (dummy_mode true false)) window) _ e
+
+not_both : (a d : Bool) → (a ≡ true → d ≡ false) → d ≡ true → a ≡ false
+not_both true d h e = absurd (false≢true (sym (h refl) ∙ e))
+not_both false d h e = refl
+
+pub dummy_found : (m : Mode) (short pilots : Bool) → IsMode m → found m (map decision (header_symbols (dummy_mode short pilots))) ≡ founds.Dummy
+dummy_found m short pilots is =
+    let symbols = header_symbols (dummy_mode short pilots) in
+    let window = map decision symbols in
+    let long : length window ≡ 90 = length-map symbols decision ∙ length-map-range_with_len (header_symbol (dummy_mode short pilots)) 0 90 in
+    let full : 90 ≤ length window = omega arith in
+    let dummy : passes_dummy window ≡ true = known short pilots window (header_passes (dummy_mode short pilots)) in
+    let coded : passes (header_bit m) window ≡ false = not_both (passes (header_bit m) window) (passes_dummy window) (apart_is m window is) dummy in
+    rw (le-ltb (length window) 90 full) (λ t. if coded t then founds.Coded else (if dummy t then founds.Dummy else founds.Nothing))
+
+-- ---- a frame, taken apart
+
+pub taken_out_is : (m : Mode) (n : ℕ) (payload : List Symbol) → IsMode m → length payload ≡ 90 * slots_of m → AllTurnBack payload → HoldsFrame m n payload (frame_symbols m n payload)
+taken_out_is m n payload is long can =
+    let whole : length (frame_symbols m n payload) ≡ symbols_in m = length-map-range_with_len (frame_symbol m n payload) 0 (symbols_in m) in
+    let some : 90 ≤ symbols_in m = omega (arith, (frame_sizes m is).symbols) in
+    let sized : length (take 90 (frame_symbols m n payload)) ≡ 90 = simp length-take (omega arith) in
+    record {
+      header = fill_by_all (header_symbol m) (take 90 (frame_symbols m n payload)) 90 (symbol (pos 0) (pos 0)) sized (λ k lt. header_at m n payload k is lt);
+      payload_again = payload_again m n payload is long can;
+    }

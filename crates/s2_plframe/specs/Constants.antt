@@ -1,0 +1,22 @@
+-- The numbers of a physical frame (EN 302 307-1, 5.5), and the one of this profile's header test.
+use Rattle.std.specs.Prelude.{ℕ}
+
+-- how many symbols a header has, and as many bits
+abbrev pub header_length : ℕ
+header_length = 90
+
+-- own: how many of them may be decided as the other bit
+abbrev pub most_wrong : ℕ
+most_wrong = 12
+
+-- the symbols of 16 slots, behind which a pilot block stands
+abbrev pub sixteen_slots : ℕ
+sixteen_slots = 1440
+
+-- the symbols of a pilot block
+abbrev pub pilot_block : ℕ
+pilot_block = 36
+
+-- both together
+abbrev pub spaced_slots : ℕ
+spaced_slots = 1476

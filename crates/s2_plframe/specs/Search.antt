@@ -1,0 +1,58 @@
+-- The header test and the search for frames (own): the bits that a header's symbols are decided as, and how many differ.
+use Rattle.std.specs.Prelude.{ℕ, zero, suc, ◌+◌, ◌-◌, ◌%◌, ◌==◌, ◌||◌, Bool, true, false, List, length, drop, slice_index_or, pos, ◌+ℤ◌, ◌-ℤ◌, int_lt, nat_lt, nat_le, if◌then◌else◌}
+use Rattle.s2_mode.specs.declared.symbols.Symbol.{Symbol}
+use Rattle.s2_mode.specs.Mode.{Mode}
+use Rattle.s2_bits.specs.Bits.{xor, number}
+use Rattle.s2_plframe.specs.Header.{header_bit, dummy_mode}
+use Rattle.s2_plframe.specs.Constants.{header_length, most_wrong}
+use Rattle.s2_plframe.specs.declared.found.Found.{Found}
+use Rattle.s2_plframe.specs.declared.found.Found.TheVariants as founds
+
+-- what a symbol would say at each place of a header
+pub record Decision : Type 0 where
+  pub odd : Bool
+  pub even : Bool
+
+-- in the first, third and so on, where a zero is (A, A), and in the others, where it is (-A, A)
+abbrev pub decision : Symbol → Decision
+decision s = record { odd = int_lt (s.i +ℤ s.q) (pos 0); even = int_lt (s.q -ℤ s.i) (pos 0) }
+
+abbrev pub decision_at : List Decision → ℕ → Decision
+decision_at seen k = slice_index_or seen k (record { odd = false; even = false })
+
+-- the bit at place k, from 0
+abbrev pub decided : List Decision → ℕ → Bool
+decided window k = if k % 2 == 0 then (decision_at window k).odd else (decision_at window k).even
+
+-- how many of the first n bits differ
+unfoldable pub mismatches : (ℕ → Bool) → List Decision → ℕ → ℕ
+mismatches header window zero = 0
+mismatches header window (suc n) = mismatches header window n + number (xor (decided window n) (header n))
+
+-- at most 12 of the 90 bits of a header differ
+abbrev pub passes : (ℕ → Bool) → List Decision → Bool
+passes header window = nat_le (mismatches header window header_length) most_wrong
+
+-- the headers of dummy frames have MODCOD 0, and one of them each TYPE
+abbrev pub passes_dummy : List Decision → Bool
+passes_dummy window =
+    passes (header_bit (dummy_mode false false)) window || (passes (header_bit (dummy_mode false true)) window || (passes (header_bit (dummy_mode true false)) window || passes (header_bit (dummy_mode true true)) window))
+
+-- what the last 90 symbols are
+abbrev pub found : Mode → List Decision → Found
+found m window =
+    if nat_lt (length window) header_length
+    then founds.Nothing
+    else (if passes (header_bit m) window then founds.Coded else (if passes_dummy window then founds.Dummy else founds.Nothing))
+
+-- the last 90 of a list
+abbrev pub recent : List Decision → List Decision
+recent seen = drop (length seen - header_length) seen
+
+-- a mode, and what the last symbols say, at most 90
+pub record Search : Type 0 where
+  pub mode : Mode
+  pub seen : List Decision
+
+abbrev pub search_of : Mode → List Decision → Search
+search_of mode seen = record { mode = mode; seen = seen }

@@ -1,0 +1,33 @@
+//! Laws of frames, of the header test and of the search.
+ghost use Rattle.s2_plframe.specs.HeaderLaws.{TakenOutLaw, SeenLaw, LastLaw, CleanHeaderLaw, DummyHeaderLaw, ApartLaw};
+
+/// A frame is its mode's header, and a payload that can be taken out again.
+pub fn taken_out()
+    ensures { TakenOutLaw }
+{}
+
+/// A search that took some symbols and then one more has seen what all of them say, at most the
+/// last 90.
+pub fn seen()
+    ensures { SeenLaw }
+{}
+
+/// What a search has seen is what the last 90 symbols say.
+pub fn last()
+    ensures { LastLaw }
+{}
+
+/// The header of a frame without noise is found.
+pub fn clean_header()
+    ensures { CleanHeaderLaw }
+{}
+
+/// The header of a dummy frame without noise is found as one, whatever the mode and its TYPE.
+pub fn dummy_header()
+    ensures { DummyHeaderLaw }
+{}
+
+/// No window passes as a header of a mode and as one of dummy frames.
+pub fn apart()
+    ensures { ApartLaw }
+{}

@@ -1,0 +1,56 @@
+//! Bits of a header in registers of 128 bits, the last one the lowest.
+ghost use Rattle.std.specs.Prelude.{◌≡◌, ℕ, ◌+◌, ◌-◌, ◌*◌, ◌^◌, ◌%◌, ◌<◌, ◌==◌, Bool, if◌then◌else◌};
+ghost use Rattle.std.specs.Int.{bit_at as digit};
+ghost use Rattle.s2_mode.specs.Mode.{mode_of};
+ghost use Rattle.s2_bits.specs.Bits.{number};
+ghost use Rattle.s2_plframe.specs.Constants.{header_length};
+ghost use Rattle.s2_plframe.specs.Header.{header_bit};
+ghost use Rattle.s2_plframe.specs.Inside.{IsHeader, is_near};
+
+use crate::constants::{HEADER, MOST_WRONG};
+use crate::header::{PlsCode, header_bit};
+
+/// The places of a header's first, third and so on bit in a register.
+const ODD: u128 = 0x2AA_AAAA_AAAA_AAAA_AAAA_AAAA;
+
+/// The other places.
+const EVEN: u128 = 0x155_5555_5555_5555_5555_5555;
+
+/// A register with one bit more.
+#[inline(always)]
+pub(crate) fn pushed(register: u128, bit: bool) -> u128
+    ensures newest { digit result 0 ≡ number bit }
+    ensures others { (j : ℕ) → j < 127 → digit result (j + 1) ≡ digit register j }
+    ensures is { register < 2 ^ 127 → result ≡ 2 * register + number bit }
+{
+    (register << 1) + u128::from(bit)
+}
+
+/// The bits that a window is decided as: those of one register at the odd places, those of the other
+/// at the even ones.
+#[inline(always)]
+pub(crate) fn mixed(odd: u128, even: u128) -> u128
+    ensures small { result < 2 ^ 90 }
+    ensures bits { (k : ℕ) → k < header_length → digit result (89 - k) ≡ (if k % 2 == 0 then digit odd (89 - k) else digit even (89 - k)) }
+{
+    (odd & ODD) | (even & EVEN)
+}
+
+/// Whether so few bits differ that a window passes as a header.
+#[inline(always)]
+pub(crate) fn is_near(header: u128, window: u128) -> bool
+    ensures { result ≡ is_near header window }
+{
+    (header ^ window).count_ones() <= MOST_WRONG
+}
+
+/// A header as a number.
+pub(crate) fn header_number(code: PlsCode) -> u128
+    ensures { IsHeader (header_bit (mode_of code.modcod code.short code.pilots)) result }
+{
+    let mut number = 0u128;
+    for k in 0..HEADER {
+        number = pushed(number, header_bit(code, k));
+    }
+    number
+}
