@@ -1,0 +1,14 @@
+-- Symbols without noise.
+use Rattle.std.specs.Prelude.{◌≡◌, ◌≢◌, ℕ, ◌<◌, Bool, List, length, ℤ, pos, map, int_lt}
+use Rattle.s2_mode.specs.Mode.{Mode, IsMode, n_of}
+use Rattle.s2_map.specs.Mapping.{payload_of}
+use Rattle.s2_soft.specs.Soft.{soft_values, value_at}
+
+-- soft values that say each bit of a codeword, and none of which is undecided
+pub record Says (values : List ℤ) (word : List Bool) : Type 0 where
+  pub decided : map (λ v. int_lt v (pos 0)) values ≡ word
+  pub some : (k : ℕ) → k < length word → value_at values k ≢ pos 0
+
+-- the soft values of a codeword's payload say the codeword
+abbrev pub CleanLaw : Type 0
+CleanLaw = (m : Mode) (word : List Bool) → IsMode m → length word ≡ n_of m → Says (soft_values m (payload_of m word)) word

@@ -1,0 +1,24 @@
+//! Soft values: how surely the symbols of a received payload say each bit of a codeword, between the
+//! physical frame and the decoders.
+//!
+//! [`soft_into`] writes exactly the values of the definition, for any symbols, in the codeword's order:
+//! differences of least squared distances to the points of QPSK or 8PSK (EN 302 307-1, 5.4), divided
+//! toward zero and held within [`LIMIT`]. Without noise they say the codeword, none of them 0
+//! ([`laws::clean`]). No call takes memory.
+//!
+//! ```text
+//! payload_of(mode, &gold, &frame, &mut payload);
+//! soft_into(mode, &payload, &mut soft);
+//! ```
+#![tactic(auto)]
+
+mod constants;
+pub mod laws;
+mod soft;
+mod values;
+
+pub use constants::LIMIT;
+pub use soft::soft_into;
+
+#[cfg(test)]
+mod tests;

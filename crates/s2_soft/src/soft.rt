@@ -1,0 +1,79 @@
+//! Soft values of a payload.
+ghost use Rattle.std.specs.Prelude.{◌≡◌, ℕ, ◌+◌, ◌*◌, ◌/◌, ◌%◌, ◌<◌, false, length};
+ghost use Rattle.s2_mode.specs.Mode.{is_qpsk, n_of, slots_of, width_of};
+ghost use Rattle.s2_mode.specs.Symbols.{symbol_at};
+ghost use Rattle.s2_soft.specs.Soft.{quantized, soft_value, soft_bit, soft_values, value_at, InRange};
+ghost use Rattle.s2_map.specs.Mapping.{place_of};
+ghost use Rattle.s2_soft.specs.Closed.{component_difference, first_difference, second_difference, third_difference};
+
+use crate::values::{component_value, psk_values};
+use s2_map::PSK_3_5;
+use s2_mode::{Mode, Symbol};
+
+/// Writes the soft values of a payload whose scrambling is undone, in the order of the codeword's bits.
+/// A value is how much nearer the symbol is to the points with 0 at the bit's place of their labels
+/// (EN 302 307-1, 5.4) than to those with 1: the difference of the least squared distances, divided
+/// by 65536 toward zero and held within -63 to 63. Any components are taken.
+///
+/// `payload` has 90 symbols for each slot of the mode: 32400 or 8100 for QPSK, 21600 or 5400 for 8PSK.
+/// `soft` has a value for each of the codeword's 64800 bits (normal frames) or 16200 (short ones).
+/// Each is written.
+pub fn soft_into(mode: Mode, payload: &[Symbol], soft: &mut [i16])
+    requires payload { length payload.now ≡ 90 * slots_of mode }
+    requires room { length soft.old ≡ n_of mode }
+    ensures is { soft.new ≡ soft_values mode payload.now }
+    ensures places { (i : ℕ) → i < n_of mode → value_at soft.new (place_of mode i) ≡ soft_value mode (symbol_at payload.now (i / width_of mode)) (i % width_of mode) }
+    ensures range { (k : ℕ) → InRange (value_at soft.new k) }
+{
+    if mode.is_qpsk() {
+        pairs_into(payload, soft);
+    } else {
+        rows_into(mode, payload, soft);
+    }
+}
+
+/// QPSK: each component is the soft value of a bit.
+fn pairs_into(payload: &[Symbol], soft: &mut [i16])
+    requires { length soft.old ≡ 2 * length payload.now }
+    ensures first { (s : ℕ) → s < length payload.now → value_at soft.new (2 * s) ≡ quantized (component_difference (symbol_at payload.now s).i) }
+    ensures second { (s : ℕ) → s < length payload.now → value_at soft.new (2 * s + 1) ≡ quantized (component_difference (symbol_at payload.now s).q) }
+{
+    for s in 0..payload.len() {
+        let Symbol { i, q } = payload[s];
+        soft[2 * s] = component_value(i);
+        soft[2 * s + 1] = component_value(q);
+    }
+}
+
+/// 8PSK: the codeword is three columns, which are sent from the first or from the last one.
+fn rows_into(mode: Mode, payload: &[Symbol], soft: &mut [i16])
+    requires psk { is_qpsk mode ≡ false }
+    requires codeword { length soft.old ≡ n_of mode }
+    requires rows { n_of mode ≡ 3 * length payload.now }
+    ensures { (b : ℕ) → b < n_of mode → value_at soft.new b ≡ soft_bit mode payload.now b }
+{
+    let (first, rest) = soft.split_at_mut(payload.len());
+    let (second, third) = rest.split_at_mut(payload.len());
+    if mode.modcod() == PSK_3_5 {
+        columns_into(payload, third, second, first);
+    } else {
+        columns_into(payload, first, second, third);
+    }
+}
+
+/// 8PSK: each symbol has a bit in each column.
+fn columns_into(payload: &[Symbol], first: &mut [i16], second: &mut [i16], third: &mut [i16])
+    requires first { length first.old ≡ length payload.now }
+    requires second { length second.old ≡ length payload.now }
+    requires third { length third.old ≡ length payload.now }
+    ensures first { (s : ℕ) → s < length payload.now → value_at first.new s ≡ quantized (first_difference (symbol_at payload.now s).i (symbol_at payload.now s).q) }
+    ensures second { (s : ℕ) → s < length payload.now → value_at second.new s ≡ quantized (second_difference (symbol_at payload.now s).i (symbol_at payload.now s).q) }
+    ensures third { (s : ℕ) → s < length payload.now → value_at third.new s ≡ quantized (third_difference (symbol_at payload.now s).i (symbol_at payload.now s).q) }
+{
+    for s in 0..payload.len() {
+        let values = psk_values(payload[s]);
+        first[s] = values.first;
+        second[s] = values.second;
+        third[s] = values.third;
+    }
+}
