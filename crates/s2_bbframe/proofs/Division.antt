@@ -5,7 +5,8 @@ use Rattle.std.specs.Int.Bits.{xor_assoc, xor_zero_l, xor_zero_r}
 use Rattle.std.specs.List.{flat_map}
 use Rattle.std.proofs.lemmas.Nat.{xor_comm, xor_of_8}
 use Rattle.std.proofs.Math.Nat.{pow-suc}
-use Rattle.s2_bbframe.specs.Crc.{generator, times_x, next_bit, remainder, bits_of, crc8, product, RemainderLaw}
+use Rattle.s2_bits.specs.Bits.{bits_of_byte}
+use Rattle.s2_bbframe.specs.Crc.{generator, times_x, next_bit, remainder, crc8, product, RemainderLaw}
 use Rattle.s2_bbframe.proofs.Remainders.{times_x-lt, double-xor, xor-back}
 
 doubled : (v n : ℕ) → 2 * (v * 2 ^ n) ≡ v * 2 ^ suc n
@@ -85,7 +86,7 @@ remainder-lt r (bit ∷ bits) fits = remainder-lt (times_x (with_bit r bit)) bit
 pub divided : RemainderLaw
 unfolding crc8
 divided bytes =
-    let bits : List Bool = flat_map bits_of bytes in
+    let bits : List Bool = flat_map bits_of_byte bytes in
     let none : 0 < 256 = omega arith in
     let found = divides 0 bits none in
     let empty : 0 * 2 ^ length bits ≡ 0 = omega arith in

@@ -4,3 +4,6 @@ pub mod Tables
 pub mod Division
 pub mod Headers
 pub mod Streams
+pub mod BodySteps
+pub mod BrokenWrites
+pub mod RoundTrips

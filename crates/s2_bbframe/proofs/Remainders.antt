@@ -8,7 +8,8 @@ use Rattle.std.specs.List.{flat_map}
 use Rattle.std.proofs.lemmas.Bool.{eqb-true, leb-true}
 use Rattle.std.proofs.lemmas.Bool.Decides.{leb_tells}
 use Rattle.s2_bbframe.proofs.Finite.{both, at_number}
-use Rattle.s2_bbframe.specs.Crc.{generator, times_x, next_bit, remainder, bits_of}
+use Rattle.s2_bits.specs.Bits.{bits_of_byte}
+use Rattle.s2_bbframe.specs.Crc.{generator, times_x, next_bit, remainder}
 
 -- ---- a remainder times x
 
@@ -103,9 +104,9 @@ same-true (a ∷ as') (b ∷ bs) e =
     let rest = same-true as' bs parts.1 in
     cc
 
-bits_of-top : (byte : ℕ) → byte < 256 → bits_of byte ≡ top_bits 8 byte
-unfolding bits_of top_bits
-bits_of-top byte fits = same-true _ _ (at_number (λ v. same (bits_of v) (top_bits 8 v)) 256 byte refl fits)
+bits_of_byte-top : (byte : ℕ) → byte < 256 → bits_of_byte byte ≡ top_bits 8 byte
+unfolding bits_of_byte top_bits
+bits_of_byte-top byte fits = same-true _ _ (at_number (λ v. same (bits_of_byte v) (top_bits 8 v)) 256 byte refl fits)
 
 moved-out : (byte : ℕ) → byte < 256 → moved 8 byte ≡ 0
 unfolding moved
@@ -121,7 +122,7 @@ split v fits = eqb-true _ _ (at_number (λ v. v == bit_xor (if nat_le 128 v then
 -- ---- one byte
 
 unfoldable pub next_byte : ℕ → ℕ → ℕ
-next_byte r byte = remainder r (bits_of byte)
+next_byte r byte = remainder r (bits_of_byte byte)
 
 added : (r : ℕ) (bit : Bool) → bit_xor r (if bit then 128 else 0) ≡ (if bit then bit_xor r 128 else r)
 added r true = refl
@@ -145,7 +146,7 @@ remainder-top (suc n) r v fits =
 pub next_byte-times : (r byte : ℕ) → byte < 256 → next_byte r byte ≡ times 8 (bit_xor r byte)
 unfolding next_byte
 next_byte-times r byte fits =
-    ap (remainder r) (bits_of-top byte fits)
+    ap (remainder r) (bits_of_byte-top byte fits)
     ∙ sym (xor_zero_r (remainder r (top_bits 8 byte)))
     ∙ ap (bit_xor (remainder r (top_bits 8 byte))) (sym (moved-out byte fits))
     ∙ remainder-top 8 r byte fits
@@ -206,13 +207,13 @@ unfolding remainder
 remainder-append r [] ys = refl
 remainder-append r (x ∷ xs) ys = remainder-append (next_bit r x) xs ys
 
-remainder-cons : (r byte : ℕ) (bytes : List ℕ) → remainder r (flat_map bits_of (byte ∷ bytes)) ≡ remainder (next_byte r byte) (flat_map bits_of bytes)
+remainder-cons : (r byte : ℕ) (bytes : List ℕ) → remainder r (flat_map bits_of_byte (byte ∷ bytes)) ≡ remainder (next_byte r byte) (flat_map bits_of_byte bytes)
 unfolding next_byte
-remainder-cons r byte bytes = ap (remainder r) (flat_map-cons bits_of byte bytes) ∙ remainder-append r (bits_of byte) (flat_map bits_of bytes)
+remainder-cons r byte bytes = ap (remainder r) (flat_map-cons bits_of_byte byte bytes) ∙ remainder-append r (bits_of_byte byte) (flat_map bits_of_byte bytes)
 
 -- four bytes: each is as many times x as bits follow it, and the remainder so far is added to the first
 pub remainder-four : (r a b c d : ℕ) → r < 256 → a < 256 → b < 256 → c < 256 → d < 256 →
-    bit_xor (bit_xor (bit_xor (times 32 (bit_xor r a)) (times 24 b)) (times 16 c)) (times 8 d) ≡ remainder r (flat_map bits_of (a ∷ b ∷ c ∷ d ∷ []))
+    bit_xor (bit_xor (bit_xor (times 32 (bit_xor r a)) (times 24 b)) (times 16 c)) (times 8 d) ≡ remainder r (flat_map bits_of_byte (a ∷ b ∷ c ∷ d ∷ []))
 unfolding remainder
 remainder-four r a b c d fits_r fits_a fits_b fits_c fits_d =
     let s : ℕ = bit_xor r a in

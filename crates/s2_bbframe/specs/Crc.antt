@@ -1,7 +1,7 @@
 -- CRC-8: the remainder by x^8 + x^7 + x^6 + x^4 + x^2 + 1 (EN 302 307-1, 5.1.4).
 -- A polynomial of degree below 8 is a byte, the coefficient of x^7 its highest bit.
-use Rattle.std.specs.Prelude.{ℕ, ◌*◌, ◌/◌, ◌%◌, ◌==◌, nat_le, Bool, List, [], ◌∷◌, map, bit_xor, if◌then◌else◌, length, ◌<◌, ◌≡◌, ◌^◌}
-use Rattle.std.specs.List.{flat_map}
+use Rattle.std.specs.Prelude.{ℕ, ◌*◌, nat_le, Bool, List, [], ◌∷◌, bit_xor, if◌then◌else◌, length, ◌<◌, ◌≡◌, ◌^◌}
+use Rattle.s2_bits.specs.Bits.{bits_of_bytes}
 
 -- the nine coefficients, 1 1101 0101
 abbrev pub generator : ℕ
@@ -20,13 +20,9 @@ unfoldable pub remainder : ℕ → List Bool → ℕ
 remainder r [] = r
 remainder r (bit ∷ bits) = remainder (next_bit r bit) bits
 
--- the bits of a byte, the highest first
-unfoldable pub bits_of : ℕ → List Bool
-bits_of byte = map (λ weight. byte / weight % 2 == 1) (128 ∷ 64 ∷ 32 ∷ 16 ∷ 8 ∷ 4 ∷ 2 ∷ 1 ∷ [])
-
 -- the remainder of x^8 times the polynomial of all the bits
 unfoldable pub crc8 : List ℕ → ℕ
-crc8 bytes = remainder 0 (flat_map bits_of bytes)
+crc8 bytes = remainder 0 (bits_of_bytes bytes)
 
 -- a polynomial times the one with these coefficients, the highest first
 unfoldable pub product : ℕ → List Bool → ℕ
@@ -39,4 +35,4 @@ IsRemainder bits r = (r < 256) × ((quotient : List Bool) × (product 256 bits �
 
 -- the CRC-8 is the remainder of the bytes' polynomial
 abbrev pub RemainderLaw : Type 0
-RemainderLaw = (bytes : List ℕ) → IsRemainder (flat_map bits_of bytes) (crc8 bytes)
+RemainderLaw = (bytes : List ℕ) → IsRemainder (bits_of_bytes bytes) (crc8 bytes)

@@ -1,3 +1,4 @@
 pub mod Crc
 pub mod Headers
 pub mod DataStream
+pub mod Joining

@@ -1,13 +1,13 @@
 //! CRC-8 (EN 302 307-1, 5.1.4).
 ghost use Rattle.std.specs.Prelude.{◌≡◌, ◌%◌, length};
-ghost use Rattle.std.specs.List.{flat_map};
-ghost use Rattle.s2_bbframe.specs.Crc.{remainder, bits_of, crc8};
+ghost use Rattle.s2_bits.specs.Bits.{bits_of_byte, bits_of_bytes};
+ghost use Rattle.s2_bbframe.specs.Crc.{remainder, crc8};
 
 use crate::table::{BY_8, BY_16, BY_24, BY_32};
 
 // one byte further
 fn next_byte(crc: u8, byte: u8) -> u8
-    ensures { result ≡ remainder crc (bits_of byte) }
+    ensures { result ≡ remainder crc (bits_of_byte byte) }
 {
     BY_8[usize::from(crc ^ byte)]
 }
@@ -15,7 +15,7 @@ fn next_byte(crc: u8, byte: u8) -> u8
 // four bytes further
 fn next_four(crc: u8, bytes: &[u8]) -> u8
     requires { length bytes.now ≡ 4 }
-    ensures { result ≡ remainder crc (flat_map bits_of bytes.now) }
+    ensures { result ≡ remainder crc (bits_of_bytes bytes.now) }
 {
     BY_32[usize::from(crc ^ bytes[0])]
         ^ BY_24[usize::from(bytes[1])]
@@ -37,7 +37,7 @@ fn over_fours(bytes: &[u8]) -> u8
 
 // so many bytes further
 fn over_bytes(start: u8, bytes: &[u8]) -> u8
-    ensures { result ≡ remainder start (flat_map bits_of bytes.now) }
+    ensures { result ≡ remainder start (bits_of_bytes bytes.now) }
 {
     let mut crc = start;
     for byte in bytes {

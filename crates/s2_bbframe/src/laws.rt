@@ -1,8 +1,15 @@
 //! Laws of the definitions: each a call that does nothing, whose clause is the law.
 ghost use Rattle.s2_bbframe.specs.Crc.{RemainderLaw};
+ghost use Rattle.s2_bbframe.specs.Joining.{RoundTripLaw};
 
 /// The CRC-8 of bytes is what the division of x^8 times their polynomial by
 /// x^8 + x^7 + x^6 + x^4 + x^2 + 1 leaves (EN 302 307-1, 5.1.4).
 pub fn remainder()
     ensures { RemainderLaw }
+{}
+
+/// The first fields of a data stream give the packets whose closing CRC-8 lies in them, and no other;
+/// so all its fields give all its packets.
+pub fn round_trip()
+    ensures { RoundTripLaw }
 {}

@@ -1,12 +1,13 @@
-//! From packets to data fields with their headers (EN 302 307-1, 5.1): what a transmitter sends in a
-//! baseband frame before it is scrambled and coded.
+//! Between packets and data fields with their headers (EN 302 307-1, 5.1): what stands in a baseband
+//! frame, the standard's BBFRAME, before it is scrambled and coded, and how packets come out of it again.
 //!
 //! [`crc8`] is the remainder of the bytes' polynomial, which [`laws::remainder`] says of a division. A [`Slicer`] takes packets and gives the
 //! fields of their data stream, each as soon as it is full and the rest after [`Slicer::close`]:
 //! whatever packets came and whatever fields were taken, these together with what it still holds
-//! are the stream. [`Header::write`] writes a field's header, and [`Header::read`] accepts exactly
+//! are the stream. [`Header::write`] writes a field's header (BBHEADER), and [`Header::read`] accepts exactly
 //! the headers of the profile and says why another is refused; what is written is read as it was.
-//! Only [`Slicer::new`] takes memory.
+//! A [`Joiner`] takes delivered fields and writes their packets; [`laws::round_trip`] says that the first
+//! fields of a stream give just the packets whose CRC-8 lies in them. Only [`Slicer::new`] takes memory.
 //!
 //! ```
 //! let mut slicer = Slicer::new(alloc, mode)?;
@@ -15,17 +16,21 @@
 //! let header = slicer.take(0, &mut field)?;
 //! header.write(&mut bytes);
 //! assert_eq!(Header::read(&bytes, mode), Ok(header));
+//! let Fed { good, bad } = Joiner::new().feed(&header, &field, &mut out)?;
 //! ```
 #![tactic(auto)]
 
+mod bodies;
 mod crc;
 mod header;
+mod joiner;
 pub mod laws;
 mod slicer;
 mod table;
 
 pub use crc::crc8;
 pub use header::{Header, HeaderFault, NO_PLACE};
+pub use joiner::{Fed, Joiner};
 pub use slicer::{NoSync, PACKET_BYTES, Slicer};
 
 #[cfg(test)]

@@ -1,6 +1,6 @@
-//! CRC-8, headers and fields by their worked values.
-use crate::{Header, HeaderFault, NO_PLACE, NoSync, Slicer, crc8, laws};
-use s2_mode::Mode;
+//! CRC-8, headers, fields and joined packets by their worked values.
+use crate::{Fed, Header, HeaderFault, Joiner, NO_PLACE, NoSync, Slicer, crc8, laws};
+use s2_mode::{Counting, Mode};
 use std::process::Abort;
 use std::test::Fail;
 
@@ -11,6 +11,7 @@ fn has_the_check_values_of_crc8(rt: HostRuntime) {
     assert_eq!(rt; crc8(&[0; 187]), 0);
     assert_eq!(rt; crc8(b"123456789"), 0xbc);
     laws::remainder();
+    laws::round_trip();
 }
 
 // The header of a full or a last field of QPSK 1/4.
@@ -224,4 +225,102 @@ fn slices_two_packets_into_two_fields(rt: HostRuntime) -> Result<(), Fail> {
     let mut slicer = Slicer::new(rt.alloc(), mode)?;
     slice_two_packets(&rt, &mut slicer)?;
     slice_two_packets(&rt, &mut slicer)
+}
+
+// The stream of two packets of zeros is 377 zeros, since their CRC-8 is 00: a full field of QPSK 1/4
+// short, and a last one of three bytes.
+const FULL: Header = Header {
+    roll_off: 0,
+    second: 0,
+    dfl: 2992,
+    syncd: 0,
+};
+
+const LAST: Header = Header {
+    roll_off: 0,
+    second: 0,
+    dfl: 24,
+    syncd: 16,
+};
+
+const NOTHING: Fed = Fed { good: 0, bad: 0 };
+
+const ONE_GOOD: Fed = Fed { good: 1, bad: 0 };
+
+const ONE_BAD: Fed = Fed { good: 0, bad: 1 };
+
+#[test]
+fn joins_two_packets_from_two_fields(rt: HostRuntime) -> Result<(), Fail> {
+    let mut joiner = Joiner::new();
+    let mut out = Counting::new(Vec::new(rt.alloc()));
+    let fed = joiner.feed(&FULL, &[0; 374], &mut out)?;
+    assert_eq!(rt; fed, ONE_GOOD);
+    let fed = joiner.feed(&LAST, &[0; 3], &mut out)?;
+    assert_eq!(rt; fed, ONE_GOOD);
+    let mut want = [0; 376];
+    want[0] = 0x47;
+    want[188] = 0x47;
+    let packets = out.into_inner();
+    assert_eq!(rt; packets.as_slice(), want.as_slice());
+    Ok(())
+}
+
+#[test]
+fn joins_nothing_across_a_gap(rt: HostRuntime) -> Result<(), Fail> {
+    let mut joiner = Joiner::new();
+    let mut out = Counting::new(Vec::new(rt.alloc()));
+    let fed = joiner.feed(&FULL, &[0; 374], &mut out)?;
+    assert_eq!(rt; fed, ONE_GOOD);
+    joiner.gap();
+    let fed = joiner.feed(&LAST, &[0; 3], &mut out)?;
+    assert_eq!(rt; fed, NOTHING);
+    assert_eq!(rt; out.into_inner().len(), 188);
+    Ok(())
+}
+
+#[test]
+fn drops_a_body_with_a_wrong_crc(rt: HostRuntime) -> Result<(), Fail> {
+    let mut joiner = Joiner::new();
+    let mut out = Counting::new(Vec::new(rt.alloc()));
+    let fed = joiner.feed(&FULL, &[0; 374], &mut out)?;
+    assert_eq!(rt; fed, ONE_GOOD);
+    let fed = joiner.feed(&LAST, &[0, 0, 1], &mut out)?;
+    assert_eq!(rt; fed, ONE_BAD);
+    let next = Header {
+        roll_off: 0,
+        second: 0,
+        dfl: 1504,
+        syncd: 1496,
+    };
+    let fed = joiner.feed(&next, &[0; 188], &mut out)?;
+    assert_eq!(rt; fed, ONE_GOOD);
+    assert_eq!(rt; out.into_inner().len(), 2 * 188);
+    Ok(())
+}
+
+#[test]
+fn waits_for_a_place_and_passes_over_empty_fields(rt: HostRuntime) -> Result<(), Fail> {
+    let mut joiner = Joiner::new();
+    let mut out = Counting::new(Vec::new(rt.alloc()));
+    let placeless = Header {
+        roll_off: 0,
+        second: 0,
+        dfl: 2992,
+        syncd: NO_PLACE,
+    };
+    let fed = joiner.feed(&placeless, &[0; 374], &mut out)?;
+    assert_eq!(rt; fed, NOTHING);
+    let fed = joiner.feed(&FULL, &[0; 374], &mut out)?;
+    assert_eq!(rt; fed, ONE_GOOD);
+    let empty = Header {
+        roll_off: 0,
+        second: 0,
+        dfl: 0,
+        syncd: 4,
+    };
+    let fed = joiner.feed(&empty, &[], &mut out)?;
+    assert_eq!(rt; fed, NOTHING);
+    let fed = joiner.feed(&LAST, &[0; 3], &mut out)?;
+    assert_eq!(rt; fed, ONE_GOOD);
+    Ok(())
 }

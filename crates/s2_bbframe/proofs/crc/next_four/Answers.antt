@@ -2,7 +2,8 @@ use Rattle.std.proofs.Common.{◌≡◌, ◌<◌, ◌∙◌, ap, sym, arith, get
 use Rattle.std.specs.List.{flat_map}
 use Rattle.std.specs.Prelude.{bit_xor}
 use Rattle.std.proofs.lemmas.Nat.{xor_of_8}
-use Rattle.s2_bbframe.specs.Crc.{remainder, bits_of}
+use Rattle.s2_bits.specs.Bits.{bits_of_byte}
+use Rattle.s2_bbframe.specs.Crc.{remainder}
 use Rattle.s2_bbframe.proofs.Remainders.{times, remainder-four, four, sums}
 use Rattle.s2_bbframe.proofs.Tables.{by_8-times, by_16-times, by_24-times, by_32-times}
 use Rattle.s2_bbframe.proofs.crc.next_four.Goals as goal
@@ -29,4 +30,4 @@ returns c =
     (by_16-times c.from-3.result (omega arith) ∙ ap (times 16) is_d)
     (by_8-times c.from-4.result (omega arith) ∙ ap (times 8) is_e)
     ∙ remainder-four c.args.crc a b d e c.ranges.crc.fits fits_a fits_b fits_d fits_e
-    ∙ ap (λ list. remainder c.args.crc (flat_map bits_of list)) (sym (four bytes c.requires))
+    ∙ ap (λ list. remainder c.args.crc (flat_map bits_of_byte list)) (sym (four bytes c.requires))

@@ -1,0 +1,33 @@
+-- Bytes of which a part was written.
+use Rattle.std.proofs.Common.{◌≡◌, ℕ, ◌+◌, ◌<◌, ◌≤◌, List, [], ◌∷◌, ◌++◌, Option, length, take, drop, get_or, sym, ap, ◌∙◌, subst, length-append, arith}
+use Rattle.std.proofs.Math.Seq.{take-append-add}
+use Rattle.std.proofs.KnownBytes.{Appends-trans}
+use Rattle.std.specs.Io.KnownBytes.{Appends}
+use Rattle.std.specs.List.{flat_map}
+use Rattle.std.proofs.lemmas.List.{drop_more, take_all, take-append-le}
+use Rattle.std.proofs.lemmas.List.Concat.{flat_map-append}
+use Rattle.s2_mode.specs.Pieces.{AppendsPart}
+use Rattle.s2_bbframe.specs.Crc.{crc8}
+use Rattle.s2_bbframe.specs.Joining.{Run, run_of, more}
+use Rattle.s2_bbframe.proofs.BodySteps.{HasRead, run-good}
+
+pub part_first : (a b : Option (List ℕ)) (xs ys : List ℕ) → AppendsPart xs a b → AppendsPart (xs ++ ys) a b
+part_first a b xs ys p =
+    (p.0, omega (arith, p.1, length-append xs ys), subst (Appends a b) (sym (take-append-le p.0 xs ys (omega (arith, p.1)))) p.2)
+
+pub part_second : (a b c : Option (List ℕ)) (xs ys : List ℕ) → Appends a b xs → AppendsPart ys b c → AppendsPart (xs ++ ys) a c
+part_second a b c xs ys h p =
+    (length xs + p.0, omega (arith, p.1, length-append xs ys), subst (Appends a c) (sym (take-append-add xs ys p.0)) (Appends-trans a b c xs (take p.0 ys) h p.2))
+
+-- a packet could not be written
+pub breaks : (all : Run) (held : ℕ) (body bytes : List ℕ) (i good bad : ℕ) (w0 w w' : Option (List ℕ)) → i < length bytes → length body ≡ 187
+    → HasRead all (take held body) (drop i bytes) good bad w0 w → 187 ≤ held → get_or bytes i 0 ≡ crc8 body → AppendsPart (71 ∷ body) w w' → AppendsPart (flat_map (λ p. p) all.good) w0 w'
+breaks all held body bytes i good bad w0 w w' within long (packets, whole, count, written) full right part =
+    let here = drop_more bytes i 0 within in
+    let same : take held body ≡ body = take_all held body (omega arith) in
+    let rest = run_of [] (drop (i + 1) bytes) in
+    let is : all ≡ more packets bad (more ((71 ∷ body) ∷ []) 0 rest) =
+    whole ∙ ap (more packets bad) (ap (run_of (take held body)) here ∙ ap (λ b. run_of b (get_or bytes i 0 ∷ drop (i + 1) bytes)) same ∙ run-good body (get_or bytes i 0) (drop (i + 1) bytes) long right) in
+    let flat : flat_map (λ p. p) all.good ≡ flat_map (λ p. p) packets ++ ((71 ∷ body) ++ flat_map (λ p. p) rest.good) =
+    ap (λ r. flat_map (λ p. p) r.good) is ∙ flat_map-append (λ p. p) packets ((71 ∷ body) ∷ rest.good) in
+    subst (λ l. AppendsPart l w0 w') (sym flat) (part_second w0 w w' (flat_map (λ p. p) packets) ((71 ∷ body) ++ flat_map (λ p. p) rest.good) written (part_first w w' (71 ∷ body) (flat_map (λ p. p) rest.good) part))

@@ -1,0 +1,104 @@
+-- Packets out of delivered data fields: the data stream (EN 302 307-1, 5.1.4 and 5.1.5) read backwards.
+use Rattle.std.specs.Prelude.{◌≡◌, ℕ, ◌+◌, ◌-◌, ◌*◌, ◌/◌, ◌<◌, nat_eq, nat_lt, if◌then◌else◌, List, [], ◌∷◌, ◌++◌, All, length, drop, take, Option, Some, None, ⊤}
+use Rattle.std.specs.List.{flat_map}
+use Rattle.s2_bbframe.specs.DataStream.{IsPacket, stream_of, header_at, to_place}
+use Rattle.s2_bbframe.specs.Crc.{crc8}
+use Rattle.s2_bbframe.specs.declared.header.Header.{Header}
+
+-- ---- a run: body, place, body, place and so on
+
+-- what the bytes of a run give: packets, how many bodies were wrong, and an unfinished body
+pub record Run : Type 0 where
+  pub body : List ℕ
+  pub good : List (List ℕ)
+  pub bad : ℕ
+
+-- packets and wrong bodies that come before
+abbrev pub more : List (List ℕ) → ℕ → Run → Run
+more good bad r = record { body = r.body; good = good ++ r.good; bad = bad + r.bad }
+
+-- a body and the place behind it: a packet, which begins with 47 hexadecimal, where the place holds the body's CRC-8
+abbrev pub closing : List ℕ → ℕ → Run → Run
+closing body place r = if nat_eq place (crc8 body) then more ((71 ∷ body) ∷ []) 0 r else more [] 1 r
+
+-- the bytes of a run that go on after part of a body; a whole body has 187 bytes
+abbrev pub run_of : List ℕ → List ℕ → Run
+run_of body [] = record { body = body; good = []; bad = 0 }
+run_of body (byte ∷ bytes) = if nat_eq (length body) 187 then closing body byte (run_of [] bytes) else run_of (body ++ byte ∷ []) bytes
+
+-- ---- the joiner
+
+-- the joiner and what it gave: it is lost, or inside a run and holds part of a body
+pub record Joined : Type 0 where
+  pub held : Option (List ℕ)
+  pub good : List (List ℕ)
+  pub bad : ℕ
+
+-- it gave nothing
+abbrev pub still : Option (List ℕ) → Joined
+still held = record { held = held; good = []; bad = 0 }
+
+abbrev pub inside : Run → Joined
+inside r = record { held = Some r.body; good = r.good; bad = r.bad }
+
+-- the distance in bits to the run's next place, or 65535 where it lies past the field
+abbrev pub place_in : List ℕ → List ℕ → ℕ
+place_in body bytes = if nat_lt (187 - length body) (length bytes) then 8 * (187 - length body) else 65535
+
+-- a field that comes while it is lost: a run begins behind the place that SYNCD names
+abbrev pub begins : ℕ → List ℕ → Joined
+begins syncd bytes = if nat_eq syncd 65535 then still None else inside (run_of [] (drop (syncd / 8 + 1) bytes))
+
+-- a field that comes inside a run: the run goes on where SYNCD names its next place, else it has ended
+abbrev pub goes_on : List ℕ → ℕ → List ℕ → Joined
+goes_on body syncd bytes = if nat_eq syncd (place_in body bytes) then inside (run_of body bytes) else begins syncd bytes
+
+-- an empty field changes nothing
+abbrev pub fed : Option (List ℕ) → ℕ → List ℕ → Joined
+fed held syncd [] = still held
+fed None syncd (byte ∷ bytes) = begins syncd (byte ∷ bytes)
+fed (Some body) syncd (byte ∷ bytes) = goes_on body syncd (byte ∷ bytes)
+
+-- ---- all that comes to the joiner
+
+-- a field with its header, or a gap: a field may be missing here
+pub data Event : Type 0 where
+  field : Header → List ℕ → Event
+  gap : Event
+
+abbrev pub step : Option (List ℕ) → Event → Joined
+step held (field header bytes) = fed held header.syncd bytes
+step held gap = still None
+
+-- what comes after it
+abbrev pub and_then : Joined → Joined → Joined
+and_then first second = record { held = second.held; good = first.good ++ second.good; bad = first.bad + second.bad }
+
+-- all events, one after another
+abbrev pub joining : Option (List ℕ) → List Event → Joined
+joining held [] = still held
+joining held (event ∷ events) = and_then (step held event) (joining (step held event).held events)
+
+-- ---- the fields of a data stream, and their packets again
+
+-- fields of a stream, the first of which begins at this byte of it, each with its header
+abbrev pub events_from : ℕ → ℕ → List (List ℕ) → List Event
+events_from roll_off at [] = []
+events_from roll_off at (bytes ∷ fields) = field (header_at roll_off at bytes) bytes ∷ events_from roll_off (at + length bytes) fields
+
+-- in each of these fields lies a place
+abbrev pub Placed : ℕ → List (List ℕ) → Type 0
+Placed at [] = ⊤
+Placed at (bytes ∷ fields) = (to_place at < length bytes) × Placed (at + length bytes) fields
+
+-- how many packets' closing CRC-8s lie in so many bytes of a stream
+abbrev pub closed_in : ℕ → ℕ
+closed_in bytes = (bytes - 1) / 188
+
+-- Whatever fields of a data stream come first: the packets whose closing CRC-8 lies in them are given, and none is bad.
+abbrev pub RoundTripLaw : Type 0
+RoundTripLaw =
+    (roll_off : ℕ) (packets fields : List (List ℕ)) (rest : List ℕ)
+    → All IsPacket packets → stream_of packets ≡ flat_map (λ bytes. bytes) fields ++ rest → Placed 0 fields
+    → ((joining None (events_from roll_off 0 fields)).good ≡ take (closed_in (length (flat_map (λ bytes. bytes) fields))) packets)
+    × ((joining None (events_from roll_off 0 fields)).bad ≡ 0)
