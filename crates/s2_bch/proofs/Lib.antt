@@ -20,3 +20,4 @@ mod CodeFacts
 mod Lent
 mod RestFacts
 mod Distances
+pub mod NearestWords

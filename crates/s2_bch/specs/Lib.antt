@@ -6,6 +6,7 @@ pub mod Values
 pub mod Flips
 pub mod Terms
 pub mod Codes
+pub mod Decoding
 pub mod Room
 pub mod Ready
 pub mod Division

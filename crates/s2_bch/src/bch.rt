@@ -1,5 +1,5 @@
 //! The encoder and decoder of a mode's code.
-ghost use Rattle.std.specs.Prelude.{◌≡◌, ◌+◌, ◌*◌, ◌∷◌, ◌<◌, ◌≤◌, List, Bool, true, false, length, drop, IsTrue, ◌↔◌, IfOk, IfSome, IfNone};
+ghost use Rattle.std.specs.Prelude.{◌≡◌, ◌+◌, ◌*◌, ◌∷◌, ◌<◌, ◌≤◌, List, Bool, true, false, length, drop, IsTrue, ◌↔◌, IfOk, IfSome, IfNone, Some, None};
 ghost use Rattle.s2_bits.specs.Bits.{differences};
 ghost use Rattle.s2_mode.specs.Mode.{kbch_of, k_of, t_of, IsMode, HasCodeSizes};
 ghost use Rattle.s2_bch.specs.Words.{distance};
@@ -7,6 +7,7 @@ ghost use Rattle.s2_bch.specs.Registers.{Holds, IsTableFor, rest_of};
 ghost use Rattle.s2_bch.specs.Generators.{generator_of};
 ghost use Rattle.s2_bch.specs.Ready.{IsFinder};
 ghost use Rattle.s2_bch.specs.Codes.{IsBchWord, IsBchWordOf, IsWithin};
+ghost use Rattle.s2_bch.specs.Decoding.{nearest};
 
 use crate::divider::{encode_into, rest, table_of};
 use crate::find::Finder;
@@ -88,6 +89,8 @@ impl Bch {
         ensures some { IfSome result (λ c. IsWithin self.old word.old word.new × (c ≡ differences (length word.old) word.old word.new)) }
         ensures only { IfSome result (λ c. (v : List Bool) → IsWithin self.old word.old v → v ≡ word.new) }
         ensures none { IfNone result ((v : List Bool) → IsWithin self.old word.old v → ⊥) }
+        ensures nearest { IfSome result (λ _. nearest self.old word.old ≡ Some word.new) }
+        ensures no_nearest { IfNone result (nearest self.old word.old ≡ None) }
         ensures unchanged { IfNone result (word.new ≡ word.old) }
     {
         correct_bits(
@@ -120,6 +123,8 @@ fn correct_bits(
     ensures some { IfSome result (λ c. IsWithin mode word.old word.new × (c ≡ differences (length word.old) word.old word.new)) }
     ensures only { IfSome result (λ c. (v : List Bool) → IsWithin mode word.old v → v ≡ word.new) }
     ensures none { IfNone result ((v : List Bool) → IsWithin mode word.old v → ⊥) }
+    ensures nearest { IfSome result (λ _. nearest mode word.old ≡ Some word.new) }
+    ensures no_nearest { IfNone result (nearest mode word.old ≡ None) }
     ensures unchanged { IfNone result (word.new ≡ word.old) }
 {
     decode(mode, table, finders, word.truths_mut(), bits, candidate)

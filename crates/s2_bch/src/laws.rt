@@ -1,5 +1,5 @@
 //! Laws of the codes, each the contract of a call that does nothing.
-ghost use Rattle.std.specs.Prelude.{◌≡◌, ◌≢◌, ◌+◌, ◌<◌, List, Bool, true, false};
+ghost use Rattle.std.specs.Prelude.{◌≡◌, ◌≢◌, ◌+◌, ◌<◌, ◌↔◌, List, Bool, true, false, length, Some, None};
 ghost use Rattle.s2_bits.specs.Bits.{differences};
 ghost use Rattle.s2_field.specs.Gf14 as gf14;
 ghost use Rattle.s2_field.specs.Gf16 as gf16;
@@ -8,7 +8,8 @@ ghost use Rattle.s2_bch.specs.Generators.{generator_of};
 ghost use Rattle.s2_bch.specs.Words.{IsMultiple};
 ghost use Rattle.s2_bch.specs.Values.{HasRoots};
 ghost use Rattle.s2_bch.specs.Minimal.{IsProductOfMinimals};
-ghost use Rattle.s2_bch.specs.Codes.{IsBchWord, IsBchWordOf};
+ghost use Rattle.s2_bch.specs.Codes.{IsBchWord, IsBchWordOf, IsWithin};
+ghost use Rattle.s2_bch.specs.Decoding.{nearest};
 
 use s2_mode::Mode;
 
@@ -46,4 +47,13 @@ pub fn distance(mode: Mode)
         → t_of mode + t_of mode < differences (k_of mode) u v }
 {
     let _ = mode.t();
+}
+
+/// Decoding is a function: the nearest word of Nbch bits is the one word of the code that differs
+/// from them in at most t places, and it is missing exactly where no word of the code is so near.
+pub fn nearest(mode: Mode)
+    ensures some { (r v : List Bool) → length r ≡ k_of mode → (nearest mode r ≡ Some v ↔ IsWithin mode r v) }
+    ensures none { (r : List Bool) → length r ≡ k_of mode → (nearest mode r ≡ None ↔ ((v : List Bool) → IsWithin mode r v → ⊥)) }
+{
+    let _ = mode.k();
 }

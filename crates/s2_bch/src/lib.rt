@@ -5,8 +5,8 @@
 //! begins with the message. `Bch::decode_in_place` answers `Some(c)` exactly where some word of the
 //! code differs from the argument in at most t places: that word is the only one, and is what is
 //! left, at distance c. `None` leaves every bit as it was. `laws` has what holds of the codes
-//! themselves: their generators, that a message has one word, their roots, and how far words are
-//! apart. Only `Bch::new` takes memory.
+//! themselves: their generators, that a message has one word, their roots, how far words are apart,
+//! and that decoding is a function: the nearest word. Only `Bch::new` takes memory.
 //!
 //! ```
 //! let mut bch = Bch::new(alloc, mode)?;
