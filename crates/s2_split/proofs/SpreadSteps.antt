@@ -1,0 +1,214 @@
+-- The lists after one check has spread.
+use Rattle.std.proofs.Common.{◌≡◌, ◌≢◌, ℕ, zero, suc, ◌+◌, ◌-◌, ◌<◌, ◌≤◌, ◌==◌, nat_lt, Bool, true, false, not, cond, List, [], ◌∷◌, length, get_or, set, get_or-set_same, get_or-set_other, length-set, map, filter, fold, All, ℤ, pos, neg_ℤ, ◌+ℤ◌, ◌-ℤ◌, ◌≤ℤ◌, int_lt, inl, inr, refl, sym, ap, ap₂, subst, ◌∙◌, arith, eq-eqb, ne_eqb}
+use Rattle.std.specs.Int.{int_min}
+use Rattle.std.specs.List.{AllPairs, list_any}
+use Rattle.std.proofs.lemmas.Bool.{cases_Bool, cases_eq, cond-true, cond-false, ltb-true}
+use Rattle.std.proofs.lemmas.Int.{ints}
+use Rattle.std.proofs.lemmas.List.Elements.{All-filter, All-head, All-tail}
+use Rattle.s2_matrix.specs.Code.{Code, members}
+use Rattle.s2_matrix.proofs.Members.{members_below}
+use Rattle.s2_split.specs.Scattered.{least_of}
+use Rattle.s2_split.specs.Greedy.{Moved, rest_at, put}
+use Rattle.s2_split.specs.Spreading.{least_member, spread_amount, amount_to, give_back, spread_to, spread_check}
+use Rattle.s2_split.specs.Kept.{taken_at, AreRests, AreHeldMoves, AreKept}
+use Rattle.s2_split.proofs.MovesLemmas.{amount_at}
+use Rattle.s2_split.proofs.FittingLemmas.{none_given'}
+use Rattle.s2_split.proofs.GreedyLemmas.{put_same, put_other, map-same_in}
+use Rattle.s2_split.proofs.Shifts.{given, rest_change, taken_back}
+use Rattle.s2_split.proofs.Others.{least_is_fold}
+use Rattle.s2_split.proofs.Steps.{with_move, rests_given}
+
+-- ---- what is moved
+
+pub gap_is : (f : ℕ → ℤ) (ms : List ℕ) (e : ℕ) (rest other : ℤ) → AllPairs (λ a b. a < b) ms → ((k : ℕ) → f k ≤ℤ pos 1000000000) → (1 ≤ length ms → rest ≡ f e) → other ≡ fold int_min (pos 2147483647) (map f (filter (λ i. not (i == e)) ms)) → cond (nat_lt 1 (length ms)) (spread_amount rest other) 0 ≡ amount_to f ms e
+gap_is f ms e rest other rising small is other_is =
+    elim (cases_Bool (nat_lt 1 (length ms))) [
+      | inl two ↦ (
+          let more : 2 ≤ length ms = (let t = ltb-true 1 (length ms) two in omega arith) in
+          let same = other_is ∙ least_is_fold f e ms rising more small in
+          ap (λ v. cond (nat_lt 1 (length ms)) v 0) (ap₂ spread_amount (is (omega arith)) same)
+          )
+      | inr few ↦ cond-false (nat_lt 1 (length ms)) (spread_amount rest other) 0 few ∙ sym (cond-false (nat_lt 1 (length ms)) (spread_amount (f e) (least_of (map f (filter (λ i. not (i == e)) ms)))) 0 few)
+    ]
+
+fold_same : (f g : ℕ → ℤ) (b : ℕ) (xs : List ℕ) → f b ≡ g b → All (λ x. f x ≡ g x) xs → fold (λ best k. cond (int_lt (f k) (f best)) k best) b xs ≡ fold (λ best k. cond (int_lt (g k) (g best)) k best) b xs
+fold_same f g b [] here all = refl
+fold_same f g b (x ∷ xs) here all =
+    let fx = All-head (λ y. f y ≡ g y) x xs all in
+    let next = cond (int_lt (f x) (f b)) x b in
+    let next' = cond (int_lt (g x) (g b)) x b in
+    let same : next ≡ next' = ap₂ (λ u v. cond (int_lt u v) x b) fx here in
+    let at : f next ≡ g next = either (int_lt (f x) (f b)) fx here in
+    fold_same f g next xs at (All-tail (λ y. f y ≡ g y) x xs all) ∙ ap (λ n. fold (λ best k. cond (int_lt (g k) (g best)) k best) n xs) same
+  where
+    either : (t : Bool) → f x ≡ g x → f b ≡ g b → f (cond t x b) ≡ g (cond t x b)
+    either true ex eb = ex
+    either false ex eb = eb
+
+pub least_member_same : (f g : ℕ → ℤ) (xs : List ℕ) → All (λ x. f x ≡ g x) xs → least_member f xs ≡ least_member g xs
+least_member_same f g [] all = refl
+least_member_same f g (x ∷ xs) all =
+    fold_same f g x xs (All-head (λ y. f y ≡ g y) x xs all) (All-tail (λ y. f y ≡ g y) x xs all)
+
+-- in a check with two members or more the least member is one of them
+least_here : (f : ℕ → ℤ) (P : ℕ → Type 0) (b : ℕ) (xs : List ℕ) → P b → All P xs → P (fold (λ best k. cond (int_lt (f k) (f best)) k best) b xs)
+least_here f P b [] here all = here
+least_here f P b (x ∷ xs) here all =
+    least_here f P (cond (int_lt (f x) (f b)) x b) xs (either (int_lt (f x) (f b))) (All-tail P x xs all)
+  where
+    either : (t : Bool) → P (cond t x b)
+    either true = All-head P x xs all
+    either false = here
+
+least_holds : (f : ℕ → ℤ) (P : ℕ → Type 0) (xs : List ℕ) → 1 ≤ length xs → All P xs → P (least_member f xs)
+least_holds f P [] some all = absurd (omega arith)
+least_holds f P (x ∷ xs) some all = least_here f P x xs (All-head P x xs all) (All-tail P x xs all)
+
+pub amount_same : (f g : ℕ → ℤ) (xs : List ℕ) → All (λ x. f x ≡ g x) xs → amount_to f xs (least_member f xs) ≡ amount_to g xs (least_member g xs)
+amount_same f g xs all =
+    let e = least_member f xs in
+    let p = λ (i : ℕ). not (i == e) in
+    let least = ap least_of (map-same_in f g (filter p xs) (All-filter p (λ x. f x ≡ g x) xs all)) in
+    let same = least_member_same f g xs all in
+    elim (cases_Bool (nat_lt 1 (length xs))) [
+      | inl two ↦ (
+          let more : 2 ≤ length xs = (let t = ltb-true 1 (length xs) two in omega arith) in
+          let here : f e ≡ g e = least_holds f (λ x. f x ≡ g x) xs (omega arith) all in
+          ap (λ v. cond (nat_lt 1 (length xs)) v 0) (ap₂ spread_amount here least) ∙ ap (amount_to g xs) same
+          )
+      | inr few ↦ cond-false (nat_lt 1 (length xs)) (spread_amount (f e) (least_of (map f (filter p xs)))) 0 few ∙ sym (cond-false (nat_lt 1 (length xs)) (spread_amount (g (least_member g xs)) (least_of (map g (filter (λ i. not (i == least_member g xs)) xs)))) 0 few)
+    ]
+
+-- ---- the step
+
+back_is : (b : Bool) (g g' r : ℤ) → g' ≡ pos 0 → r -ℤ neg_ℤ (cond b g (pos 0)) ≡ r +ℤ cond b (g -ℤ g') (pos 0)
+back_is true g g' r e = omega (arith, ints, e)
+back_is false g g' r e = omega (arith, ints)
+
+pub rests_back : (code : Code) (soft : List ℤ) (word : List Bool) (s : ℕ) (m : Moved) (j : ℕ) (rests rests' : List ℤ) → AreRests code soft word s m rests → j < code.checks → length rests' ≡ length rests → ((k : ℕ) → get_or rests' k (pos 0) ≡ get_or rests k (pos 0) -ℤ taken_at (members code j) (m.target j) (neg_ℤ (pos (m.amount j))) k) → AreRests code soft word s (give_back m j) rests'
+rests_back code soft word s m j rests rests' r h long is = record {
+  long = long ∙ r.long;
+  are = λ i low. (
+      let m' = give_back m j in
+      let none : given m' i j ≡ pos 0 = none_given' (m.target j) (put m.amount j 0 j) i (put_same m.amount j 0) in
+      let change = rest_change code soft word s m m' i j h (λ k other. (refl, put_other m.amount j 0 k other)) in
+      let held = is i ∙ ap (λ v. get_or rests i (pos 0) -ℤ v) (taken_back code i j (m.target j) (m.amount j) low) ∙ back_is (code.has j i) (given m i j) (given m' i j) (get_or rests i (pos 0)) none in
+      held ∙ ap (λ v. v +ℤ cond (code.has j i) (given m i j -ℤ given m' i j) (pos 0)) (r.are i low) ∙ sym change
+      );
+  small = λ k low. elim (cases_eq k j) [
+    | inl same ↦ (let a = ap (put m.amount j 0) same ∙ put_same m.amount j 0 in omega arith)
+    | inr other ↦ (let a = put_other m.amount j 0 k other in omega (arith, r.small k low))
+  ];
+}
+
+moves_spread : (code : Code) (m : Moved) (j e d : ℕ) (targets amounts : List ℕ) → AreHeldMoves code m targets amounts → j < code.checks → AreHeldMoves code (with_move (give_back m j) j e d) (set targets j e) (set amounts j d)
+unfolding with_move
+moves_spread code m j e d targets amounts h low = record {
+  targets_long = length-set targets j e ∙ h.targets_long;
+  amounts_long = length-set amounts j d ∙ h.amounts_long;
+  targets_are = λ k within some. elim (cases_eq k j) [
+    | inl same ↦ ap (λ i. get_or (set targets j e) i 0) same ∙ get_or-set_same targets j e 0 (omega (arith, h.targets_long)) ∙ sym (ap (put m.target j e) same ∙ put_same m.target j e)
+    | inr other ↦ get_or-set_other targets j k e 0 other ∙ h.targets_are k within (λ none. some (put_other (put m.amount j 0) j d k other ∙ put_other m.amount j 0 k other ∙ none)) ∙ sym (put_other m.target j e k other)
+  ];
+  amounts_are = λ k within. elim (cases_eq k j) [
+    | inl same ↦ ap (λ i. get_or (set amounts j d) i 0) same ∙ get_or-set_same amounts j d 0 (omega (arith, h.amounts_long)) ∙ sym (ap (put (put m.amount j 0) j d) same ∙ put_same (put m.amount j 0) j d)
+    | inr other ↦ get_or-set_other amounts j k d 0 other ∙ h.amounts_are k within ∙ sym (put_other (put m.amount j 0) j d k other ∙ put_other m.amount j 0 k other)
+  ];
+}
+
+-- nothing is taken where nothing is moved
+either_none : (b c : Bool) → cond b (cond c (neg_ℤ (neg_ℤ (pos 0))) (neg_ℤ (pos 0))) (pos 0) ≡ pos 0
+either_none true true = refl
+either_none true false = refl
+either_none false c = refl
+
+taken_none : (ms : List ℕ) (t k : ℕ) → taken_at ms t (neg_ℤ (pos 0)) k ≡ pos 0
+taken_none ms t k = either_none (list_any (λ m. m == k) ms) (k == t)
+
+taken_same : (ms : List ℕ) (t t' a a' k : ℕ) → a ≡ a' → (a' ≢ 0 → t ≡ t') → taken_at ms t (neg_ℤ (pos a)) k ≡ taken_at ms t' (neg_ℤ (pos a')) k
+taken_same ms t t' a a' k same to =
+    elim (cases_eq a' 0) [
+      | inl none ↦ ap (λ v. taken_at ms t (neg_ℤ (pos v)) k) (same ∙ none) ∙ taken_none ms t k ∙ sym (ap (λ v. taken_at ms t' (neg_ℤ (pos v)) k) none ∙ taken_none ms t' k)
+      | inr some ↦ ap₂ (λ u v. taken_at ms u (neg_ℤ (pos v)) k) (to some) same
+    ]
+
+pub spread_step : (code : Code) (soft : List ℤ) (word : List Bool) (m : Moved) (j e d : ℕ) (rests rests1 rests2 : List ℤ) (targets amounts : List ℕ) → AreKept code soft word 16 m rests targets amounts → j < code.checks → length rests1 ≡ length rests → ((k : ℕ) → get_or rests1 k (pos 0) ≡ get_or rests k (pos 0) -ℤ taken_at (members code j) (get_or targets j 0) (neg_ℤ (pos (get_or amounts j 0))) k) → e ≡ least_member (λ i. get_or rests1 i (pos 0)) (members code j) → d ≡ amount_to (λ i. get_or rests1 i (pos 0)) (members code j) e → d ≤ 1048576 → length rests2 ≡ length rests1 → ((k : ℕ) → get_or rests2 k (pos 0) ≡ get_or rests1 k (pos 0) -ℤ taken_at (members code j) e (pos d) k) → AreKept code soft word 16 (spread_check code soft word m j) rests2 (set targets j e) (set amounts j d)
+unfolding with_move
+spread_step code soft word m j e d rests rests1 rests2 targets amounts kept h long1 is1 e_is d_is small long2 is2 =
+    let m1 = give_back m j in
+    let ms = members code j in
+    let f = λ (i : ℕ). get_or rests1 i (pos 0) in
+    let g = rest_at code soft word 16 m1 in
+    let back = rests_back code soft word 16 m j rests rests1 kept.left h long1 (λ k. is1 k ∙ ap (λ v. get_or rests k (pos 0) -ℤ v) (taken_same ms (get_or targets j 0) (m.target j) (get_or amounts j 0) (m.amount j) k (kept.held.amounts_are j h) (kept.held.targets_are j h))) in
+    let all : All (λ x. f x ≡ g x) ms = λ k d' within. back.are (get_or ms k d') (members_below code j k d' within) in
+    let to : e ≡ least_member g ms = e_is ∙ least_member_same f g ms all in
+    let amount : d ≡ amount_to g ms (least_member g ms) = d_is ∙ ap (amount_to f ms) e_is ∙ amount_same f g ms all in
+    let is : with_move m1 j e d ≡ spread_check code soft word m j = ap₂ (with_move m1 j) to amount in
+    subst (λ (n : Moved). AreKept code soft word 16 n rests2 (set targets j e) (set amounts j d)) is (record {
+      left = rests_given code soft word 16 m1 j e d rests1 rests2 back h (put_same m.amount j 0) small long2 is2;
+      held = moves_spread code m j e d targets amounts kept.held h;
+    })
+
+-- ---- a check that is passed over
+
+not_below : (a : ℤ) → pos 0 ≤ℤ a → int_lt a (pos 0) ≡ false
+not_below a h = grind (arith, ints)
+
+not_negative : (b : Bool) (a : ℤ) (n : ℕ) → pos 0 ≤ℤ a → cond b (cond (int_lt a (pos 0)) n 0) 0 ≡ 0
+not_negative true a n h = cond-false (int_lt a (pos 0)) n 0 (not_below a h)
+not_negative false a n h = refl
+
+-- members without a negative value move nothing
+nothing_moved : (f : ℕ → ℤ) (ms : List ℕ) → All (λ i. pos 0 ≤ℤ f i) ms → amount_to f ms (least_member f ms) ≡ 0
+nothing_moved f ms all =
+    elim (cases_Bool (nat_lt 1 (length ms))) [
+      | inl two ↦ (
+          let more : 2 ≤ length ms = (let t = ltb-true 1 (length ms) two in omega arith) in
+          let least = least_holds f (λ i. pos 0 ≤ℤ f i) ms (omega arith) all in
+          not_negative (nat_lt 1 (length ms)) (f (least_member f ms)) _ least
+          )
+      | inr few ↦ cond-false (nat_lt 1 (length ms)) _ 0 few
+    ]
+
+-- without its target the list still shows the moves of a check that moves nothing
+held_unset : (code : Code) (m : Moved) (j e : ℕ) (targets amounts : List ℕ) → j < code.checks → m.amount j ≡ 0 → get_or amounts j 0 ≡ 0 → length targets ≡ code.checks → length amounts ≡ code.checks → AreHeldMoves code m (set targets j e) (set amounts j 0) → AreHeldMoves code m targets amounts
+held_unset code m j e targets amounts low none zero_held long_t long_a h = record {
+  targets_long = long_t;
+  amounts_long = long_a;
+  targets_are = λ k within some. elim (cases_eq k j) [
+    | inl same ↦ absurd (some (ap m.amount same ∙ none))
+    | inr other ↦ sym (get_or-set_other targets j k e 0 other) ∙ h.targets_are k within some
+  ];
+  amounts_are = λ k within. elim (cases_eq k j) [
+    | inl same ↦ ap (λ i. get_or amounts i 0) same ∙ zero_held ∙ sym (ap m.amount same ∙ none)
+    | inr other ↦ sym (get_or-set_other amounts j k 0 0 other) ∙ h.amounts_are k within
+  ];
+}
+
+-- a check that holds no amount, and none of whose members has a negative rest
+pub idle_step : (code : Code) (soft : List ℤ) (word : List Bool) (m : Moved) (j : ℕ) (rests : List ℤ) (targets amounts : List ℕ) → AreKept code soft word 16 m rests targets amounts → j < code.checks → get_or amounts j 0 ≡ 0 → All (λ i. pos 0 ≤ℤ get_or rests i (pos 0)) (members code j) → AreKept code soft word 16 (spread_check code soft word m j) rests targets amounts
+idle_step code soft word m j rests targets amounts kept h zero_held all =
+    let ms = members code j in
+    let f = λ (i : ℕ). get_or rests i (pos 0) in
+    let e = least_member f ms in
+    let d_is : 0 ≡ amount_to f ms e = sym (nothing_moved f ms all) in
+    let stays = λ (k : ℕ). (let none = ap (λ a. taken_at ms (get_or targets j 0) (neg_ℤ (pos a)) k) zero_held ∙ taken_none ms (get_or targets j 0) k in let same : f k ≡ f k -ℤ taken_at ms (get_or targets j 0) (neg_ℤ (pos (get_or amounts j 0))) k = omega (arith, ints, none) in same) in
+    let still = λ (k : ℕ). (let none = taken_none ms e k in let same : f k ≡ f k -ℤ taken_at ms e (pos 0) k = omega (arith, ints, none) in same) in
+    let after = spread_step code soft word m j e 0 rests rests rests targets amounts kept h refl stays refl d_is (omega arith) refl still in
+    let held = after.held.amounts_are j h in
+    let none = sym held ∙ get_or-set_same amounts j 0 0 (omega (arith, kept.held.amounts_long)) in
+    record {
+      left = after.left;
+      held = held_unset code (spread_check code soft word m j) j e targets amounts h none zero_held kept.held.targets_long kept.held.amounts_long after.held;
+    }
+
+-- a change of a rest by one amount
+pub still_within : (ms : List ℕ) (t k : ℕ) (a old new : ℤ) → new ≡ old -ℤ taken_at ms t a k → neg_ℤ (pos 1048576) ≤ℤ a → a ≤ℤ pos 1048576 → (neg_ℤ (pos 30000000) ≤ℤ old) × (old ≤ℤ pos 30000000) → (neg_ℤ (pos 900000000) ≤ℤ new) × (new ≤ℤ pos 900000000)
+still_within ms t k a old new is low high within =
+    elim (cases_Bool (list_any (λ m. m == k) ms)) [
+      | inl there ↦ elim (cases_Bool (k == t)) [
+        | inl same ↦ (let e : taken_at ms t a k ≡ neg_ℤ a = rw there (rw same refl) in (omega (arith, ints, within.0), omega (arith, ints, within.1)))
+        | inr other ↦ (let e : taken_at ms t a k ≡ a = rw there (rw other refl) in (omega (arith, ints, within.0), omega (arith, ints, within.1)))
+      ]
+      | inr none ↦ (let e : taken_at ms t a k ≡ pos 0 = rw none refl in (omega (arith, ints, within.0), omega (arith, ints, within.1)))
+    ]

@@ -1,0 +1,106 @@
+-- The lists after one check's change.
+use Rattle.std.proofs.Common.{◌≡◌, ◌≢◌, ℕ, ◌+◌, ◌<◌, ◌≤◌, ◌==◌, Bool, true, false, not, cond, List, length, get_or, set, get_or-set_same, get_or-set_other, length-set, map, filter, All, ℤ, pos, neg_ℤ, ◌+ℤ◌, ◌-ℤ◌, ◌≤ℤ◌, inl, inr, refl, sym, ap, ap₂, subst, ◌∙◌, arith, eq-eqb, ne_eqb}
+use Rattle.std.proofs.lemmas.Bool.{cases_eq, cond-true, cond-false}
+use Rattle.std.proofs.lemmas.Int.{ints}
+use Rattle.std.proofs.lemmas.List.Elements.{All-filter}
+use Rattle.s2_matrix.specs.Code.{Code, members}
+use Rattle.s2_matrix.proofs.Members.{members_below}
+use Rattle.s2_split.specs.Scattered.{least_of}
+use Rattle.s2_split.specs.Greedy.{Moved, rest_at, put, free_for, amount_for, move_to}
+use Rattle.s2_split.specs.Kept.{taken_at, AreRests, AreHeldMoves, AreKept}
+use Rattle.s2_split.proofs.MovesLemmas.{amount_at}
+use Rattle.s2_split.proofs.FittingLemmas.{none_given'}
+use Rattle.s2_split.proofs.GreedyLemmas.{put_same, put_other, map-same_in}
+use Rattle.s2_split.proofs.Shifts.{given, rest_change, taken_is, taken_back}
+
+-- the moves with check j's replaced
+unfoldable pub with_move : Moved → ℕ → ℕ → ℕ → Moved
+with_move m j e d = record { target = put m.target j e; amount = put m.amount j d }
+
+pub same_outside : (m : Moved) (j e d k : ℕ) → k ≢ j → ((with_move m j e d).target k ≡ m.target k) × ((with_move m j e d).amount k ≡ m.amount k)
+unfolding with_move
+same_outside m j e d k other = (put_other m.target j e k other, put_other m.amount j d k other)
+
+pub given_new : (m : Moved) (j e d i : ℕ) → given (with_move m j e d) i j ≡ amount_at e d i
+unfolding with_move
+given_new m j e d i = ap₂ (λ t a. amount_at t a i) (put_same m.target j e) (put_same m.amount j d)
+
+amount_new : (m : Moved) (j e d k : ℕ) → k ≡ j → (with_move m j e d).amount k ≡ d
+unfolding with_move
+amount_new m j e d k same = ap (put m.amount j d) same ∙ put_same m.amount j d
+
+pub rests_after : (code : Code) (soft : List ℤ) (word : List Bool) (s : ℕ) (m : Moved) (j e d : ℕ) (rests rests' : List ℤ) → AreRests code soft word s m rests → j < code.checks → d ≤ 1048576 → length rests' ≡ length rests → ((i : ℕ) → i < code.bits → get_or rests' i (pos 0) ≡ get_or rests i (pos 0) +ℤ cond (code.has j i) (given m i j -ℤ amount_at e d i) (pos 0)) → AreRests code soft word s (with_move m j e d) rests'
+rests_after code soft word s m j e d rests rests' r h small long is = record {
+  long = long ∙ r.long;
+  are = λ i low. (
+      let m' = with_move m j e d in
+      is i low ∙ ap₂ ◌+ℤ◌ (r.are i low) (ap (λ v. cond (code.has j i) (given m i j -ℤ v) (pos 0)) (sym (given_new m j e d i))) ∙ sym (rest_change code soft word s m m' i j h (λ k other. same_outside m j e d k other))
+      );
+  small = λ k low. elim (cases_eq k j) [
+    | inl same ↦ (let a = amount_new m j e d k same in omega arith)
+    | inr other ↦ (let a = (same_outside m j e d k other).1 in omega (arith, r.small k low))
+  ];
+}
+
+pub moves_after : (code : Code) (m : Moved) (j e d : ℕ) (targets amounts : List ℕ) → AreHeldMoves code m targets amounts → j < code.checks → AreHeldMoves code (with_move m j e d) (set targets j e) (set amounts j d)
+unfolding with_move
+moves_after code m j e d targets amounts h low = record {
+  targets_long = length-set targets j e ∙ h.targets_long;
+  amounts_long = length-set amounts j d ∙ h.amounts_long;
+  targets_are = λ k within some. elim (cases_eq k j) [
+    | inl same ↦ ap (λ i. get_or (set targets j e) i 0) same ∙ get_or-set_same targets j e 0 (omega (arith, h.targets_long)) ∙ sym (ap (put m.target j e) same ∙ put_same m.target j e)
+    | inr other ↦ get_or-set_other targets j k e 0 other ∙ h.targets_are k within (λ none. some (put_other m.amount j d k other ∙ none)) ∙ sym (put_other m.target j e k other)
+  ];
+  amounts_are = λ k within. elim (cases_eq k j) [
+    | inl same ↦ ap (λ i. get_or (set amounts j d) i 0) same ∙ get_or-set_same amounts j d 0 (omega (arith, h.amounts_long)) ∙ sym (ap (put m.amount j d) same ∙ put_same m.amount j d)
+    | inr other ↦ get_or-set_other amounts j k d 0 other ∙ h.amounts_are k within ∙ sym (put_other m.amount j d k other)
+  ];
+}
+
+none_held : (b : Bool) (g v : ℤ) (r : ℤ) → g ≡ pos 0 → r -ℤ cond b v (pos 0) ≡ r +ℤ cond b (g -ℤ v) (pos 0)
+none_held true g v r e = omega (arith, ints, e)
+none_held false g v r e = omega (arith, ints)
+
+-- a check that holds nothing moves an amount
+pub rests_given : (code : Code) (soft : List ℤ) (word : List Bool) (s : ℕ) (m : Moved) (j e d : ℕ) (rests rests' : List ℤ) → AreRests code soft word s m rests → j < code.checks → m.amount j ≡ 0 → d ≤ 1048576 → length rests' ≡ length rests → ((k : ℕ) → get_or rests' k (pos 0) ≡ get_or rests k (pos 0) -ℤ taken_at (members code j) e (pos d) k) → AreRests code soft word s (with_move m j e d) rests'
+rests_given code soft word s m j e d rests rests' r h none small long is =
+    rests_after code soft word s m j e d rests rests' r h small long (λ i low. is i ∙ ap (λ v. get_or rests i (pos 0) -ℤ v) (taken_is code i j e d low) ∙ none_held (code.has j i) (given m i j) (amount_at e d i) (get_or rests i (pos 0)) (none_given' (m.target j) (m.amount j) i none))
+
+-- ---- greedy
+
+-- the amount by the rests that are listed
+pub free_same : (f g : ℕ → ℤ) (e : ℕ) (xs : List ℕ) → f e ≡ g e → All (λ x. f x ≡ g x) xs → free_for f e xs ≡ free_for g e xs
+free_same f g e xs here all =
+    let p = λ (i : ℕ). not (i == e) in
+    let least = ap least_of (map-same_in f g (filter p xs) (All-filter p (λ x. f x ≡ g x) xs all)) in rw here (rw least refl)
+
+pub greedy_step : (code : Code) (soft : List ℤ) (word : List Bool) (m : Moved) (j e d : ℕ) (rests rests' : List ℤ) (targets amounts : List ℕ) → AreKept code soft word 1 m rests targets amounts → j < code.checks → e < code.bits → get_or amounts j 0 ≡ 0 → d ≡ free_for (λ i. get_or rests i (pos 0)) e (members code j) → d ≤ 63 → length rests' ≡ length rests → ((k : ℕ) → get_or rests' k (pos 0) ≡ get_or rests k (pos 0) -ℤ taken_at (members code j) e (pos d) k) → AreKept code soft word 1 (move_to code soft word e m j) rests' (set targets j e) (set amounts j d)
+unfolding with_move
+greedy_step code soft word m j e d rests rests' targets amounts kept h le zero_held value small long is =
+    let none : m.amount j ≡ 0 = sym (kept.held.amounts_are j h) ∙ zero_held in
+    let f = λ (i : ℕ). get_or rests i (pos 0) in
+    let same : d ≡ amount_for code soft word m e j = value ∙ free_same f (rest_at code soft word 1 m) e (members code j) (kept.left.are e le) (λ k d' within. kept.left.are (get_or (members code j) k d') (members_below code j k d' within)) in
+    let to : move_to code soft word e m j ≡ with_move m j e d = cond-true (m.amount j == 0) (with_move m j e (amount_for code soft word m e j)) m (eq-eqb (m.amount j) 0 none) ∙ ap (with_move m j e) (sym same) in
+    subst (λ (n : Moved). AreKept code soft word 1 n rests' (set targets j e) (set amounts j d)) (sym to) (record {
+      left = rests_given code soft word 1 m j e d rests rests' kept.left h none (omega arith) long is;
+      held = moves_after code m j e d targets amounts kept.held h;
+    })
+
+pub greedy_skip : (code : Code) (soft : List ℤ) (word : List Bool) (m : Moved) (j e : ℕ) (rests : List ℤ) (targets amounts : List ℕ) → AreKept code soft word 1 m rests targets amounts → j < code.checks → get_or amounts j 0 ≢ 0 → AreKept code soft word 1 (move_to code soft word e m j) rests targets amounts
+unfolding with_move
+greedy_skip code soft word m j e rests targets amounts kept h some =
+    let held : m.amount j ≢ 0 = λ none. some (kept.held.amounts_are j h ∙ none) in
+    let to : move_to code soft word e m j ≡ m = cond-false (m.amount j == 0) (with_move m j e (amount_for code soft word m e j)) m (ne_eqb (m.amount j) 0 held) in
+    subst (λ (n : Moved). AreKept code soft word 1 n rests targets amounts) (sym to) kept
+
+-- a bit's rest falls by what all the others have
+pub low_after : (b : Bool) (e k d : ℕ) (old new : ℤ) → new ≡ old -ℤ cond b (cond (k == e) (neg_ℤ (pos d)) (pos d)) (pos 0) → neg_ℤ (pos 63) ≤ℤ old → (b ≡ true → k ≢ e → 0 < d → pos d ≤ℤ old) → neg_ℤ (pos 63) ≤ℤ new
+low_after false e k d old new is low spared = omega (arith, ints)
+low_after true e k d old new is low spared =
+    elim (cases_eq k e) [
+      | inl same ↦ (let c = cond-true (k == e) (neg_ℤ (pos d)) (pos d) (eq-eqb k e same) in omega (arith, ints))
+      | inr other ↦ (
+          let c = cond-false (k == e) (neg_ℤ (pos d)) (pos d) (ne_eqb k e other) in
+          elim (cases_eq d 0) [ inl none ↦ omega (arith, ints) | inr some ↦ (let s = spared refl other (omega arith) in omega (arith, ints)) ]
+          )
+    ]

@@ -1,0 +1,56 @@
+-- What the maker's lists hold while it works: for each bit its rest, for each check its target and its amount.
+use Rattle.std.specs.Prelude.{◌≡◌, ◌≢◌, ℕ, ◌<◌, ◌≤◌, ◌==◌, Bool, true, false, if◌then◌else◌, Option, None, Some, List, length, get_or, ℤ, pos, neg_ℤ, ◌*ℤ◌, ◌≤ℤ◌}
+use Rattle.std.specs.List.{list_any}
+use Rattle.s2_matrix.specs.Code.{Code, checks_of}
+use Rattle.s2_bits.specs.Bits.{bit_at}
+use Rattle.s2_check.specs.Cost.{value_at}
+use Rattle.s2_split.specs.Greedy.{Moved, rest_at}
+
+-- a bit's scaled value in favour of the word
+abbrev pub scaled_at : List ℤ → List Bool → ℕ → ℕ → ℤ
+scaled_at soft word scale i =
+    if bit_at word i then neg_ℤ (pos scale *ℤ value_at soft i) else pos scale *ℤ value_at soft i
+
+-- whether a place is listed
+abbrev pub is_among : List ℕ → ℕ → Bool
+is_among places k = list_any (λ m. m == k) places
+
+-- what a check that moves a signed amount to its target takes from the rest of a place
+abbrev pub taken_at : List ℕ → ℕ → ℤ → ℕ → ℤ
+taken_at members target amount k =
+    if is_among members k then (if k == target then neg_ℤ amount else amount) else pos 0
+
+-- no number of a list is larger than this in size
+abbrev pub AreWithin : ℕ → List ℤ → Type 0
+AreWithin most xs =
+    (k : ℕ) → (neg_ℤ (pos most) ≤ℤ get_or xs k (pos 0)) × (get_or xs k (pos 0) ≤ℤ pos most)
+
+-- no rest is further below zero than a soft value
+abbrev pub AreLow : List ℤ → Type 0
+AreLow rests = (k : ℕ) → neg_ℤ (pos 63) ≤ℤ get_or rests k (pos 0)
+
+-- each bit is in few checks
+abbrev pub AreFew : Code → Type 0
+AreFew code = (i : ℕ) → i < code.bits → length (checks_of code i) ≤ 24
+
+-- what is left of each bit's scaled value after these moves, none of them larger than spreading makes
+pub record AreRests (code : Code) (soft : List ℤ) (word : List Bool) (scale : ℕ) (m : Moved) (rests : List ℤ) : Type 0 where
+  pub long : length rests ≡ code.bits
+  pub are : (i : ℕ) → i < code.bits → get_or rests i (pos 0) ≡ rest_at code soft word scale m i
+  pub small : (j : ℕ) → j < code.checks → m.amount j ≤ 1048576
+
+-- the moves, check by check; where nothing is moved any target will do
+pub record AreHeldMoves (code : Code) (m : Moved) (targets amounts : List ℕ) : Type 0 where
+  pub targets_long : length targets ≡ code.checks
+  pub amounts_long : length amounts ≡ code.checks
+  pub targets_are : (j : ℕ) → j < code.checks → m.amount j ≢ 0 → get_or targets j 0 ≡ m.target j
+  pub amounts_are : (j : ℕ) → j < code.checks → get_or amounts j 0 ≡ m.amount j
+
+pub record AreKept (code : Code) (soft : List ℤ) (word : List Bool) (scale : ℕ) (m : Moved) (rests : List ℤ) (targets amounts : List ℕ) : Type 0 where
+  pub left : AreRests code soft word scale m rests
+  pub held : AreHeldMoves code m targets amounts
+
+-- what spreading finds, and whether it does
+abbrev pub Ends : Code → List ℤ → List Bool → Option Moved → Bool → List ℤ → List ℕ → List ℕ → Type 0
+Ends code soft word None found rests targets amounts = found ≡ false
+Ends code soft word (Some m) found rests targets amounts = (found ≡ true) × AreKept code soft word 16 m rests targets amounts

@@ -1,0 +1,35 @@
+//! Certificates for frames with wrong hard decisions: the repair of a hard decision, and the split
+//! that shows a codeword to be most likely.
+//!
+//! A [`Maker`] stands above the parity checks and the checker of certificates, and below the
+//! receiver's decision. It takes all its memory when it is made: one rest for each bit, one target
+//! and one amount for each check. [`Maker::repair_into`] flips each bit that is in at least two
+//! checks, all of them odd. [`Maker::make`] first lets each wrong bit take what it lacks from its
+//! checks (greedy amounts), and where that leaves a rest below zero it spreads: check by check, the
+//! least rest gains half of what lies between it and the next. What it answers depends on its
+//! arguments alone; each split that it makes is accepted, so its word is most likely; and where the
+//! soft values are scattered about a codeword, the repair is that codeword and a split is found.
+//!
+//! ```text
+//! let mut maker = Maker::new(alloc, &matrix)?;
+//! maker.repair_into(&soft, &mut word);
+//! if let Some(view) = maker.make(&soft, &word) {
+//!     view.write(&mut file)?;
+//! }
+//! ```
+#![tactic(auto)]
+
+mod degrees;
+mod greedy;
+pub mod laws;
+mod make;
+mod maker;
+mod repair;
+mod rests;
+mod spread;
+mod start;
+
+pub use maker::Maker;
+
+#[cfg(test)]
+mod tests;

@@ -1,0 +1,157 @@
+//! The maker of certificates.
+ghost use Rattle.std.specs.Prelude.{◌≡◌, ◌≤◌, IfOk, Bool, All, length, Some, None, IsTrue, List, ◌↔◌, ◌≢◌, IfSome};
+ghost use Rattle.s2_matrix.specs.Code.{code_of, IsCodeword};
+ghost use Rattle.s2_check.specs.Checking.{IsCertificate};
+ghost use Rattle.s2_check.specs.Views.{IsSoft};
+ghost use Rattle.s2_split.specs.Making.{shared, shared_view, made_view};
+ghost use Rattle.s2_split.specs.Scattered.{repaired, IsScattered};
+ghost use Rattle.s2_split.specs.Spreading.{made_split};
+
+use crate::degrees::few_checks;
+use crate::make::make_moves;
+use crate::repair::repair;
+use s2_bits::Bits;
+use s2_check::{CertView, hard_into};
+use s2_matrix::Matrix;
+use std::alloc::{AllocError, Global};
+use std::marker::Model;
+
+/// A maker of certificates, by one target and one amount per check.
+#[derive(Drop)]
+pub struct Maker<'a> {
+    matrix: &'a Matrix,
+    rests: Vec<i32>,
+    targets: Vec<u32>,
+    amounts: Vec<u32>,
+    odd: Vec<bool>,
+    word: Bits,
+    scale: u16,
+}
+
+impl<'a> Model for Maker<'a> {
+    ghost use Rattle.s2_split.specs.Making.{Making, IsMaker, made_of};
+
+    ghost Value = { Making };
+
+    ghost view = { λ m. record { rows = m.matrix.now; word = m.word; made = made_of m.matrix.now m.word m.scale m.targets.items m.amounts.items } };
+
+    ghost invariant = { λ m. IsMaker m.matrix.now m.word m.scale m.rests.items m.targets.items m.amounts.items m.odd.items };
+}
+
+impl<'a> Maker<'a> {
+    /// A maker for the words of this matrix, which has made nothing yet. It takes all its memory
+    /// here: `AllocError` only where memory is refused.
+    pub fn new(alloc: Global, matrix: &'a Matrix) -> Result<Maker<'a>, AllocError>
+        ensures rows { IfOk result (λ m. m.rows ≡ matrix.now) }
+        ensures none { IfOk result (λ m. m.made ≡ None) }
+    {
+        few_checks(matrix);
+        let bits = matrix.bits();
+        let checks = matrix.check_count();
+        let rests = vec![in alloc; 0i32; bits]?;
+        let targets = vec![in alloc; 0u32; checks]?;
+        let amounts = vec![in alloc; 0u32; checks]?;
+        let odd = vec![in alloc; false; checks]?;
+        let word = Bits::zeroed(alloc, bits)?;
+        Ok(Maker {
+            matrix,
+            rests,
+            targets,
+            amounts,
+            odd,
+            word,
+            scale: 0,
+        })
+    }
+
+    /// Writes the repaired hard decision: each bit that is in at least two checks, all of them odd
+    /// under the hard decision, is flipped. What was made stays.
+    pub fn repair_into(&mut self, soft: &[i16], word: &mut Bits)
+        requires soft { length soft.now ≡ (code_of self.old.rows).bits }
+        requires word { length word.old ≡ (code_of self.old.rows).bits }
+        ensures same { self.new ≡ self.old }
+        ensures long { length word.new ≡ length word.old }
+        ensures word { word.new ≡ repaired (code_of self.old.rows) soft.now }
+        ensures found { (codeword : List Bool) → IsScattered (code_of self.old.rows) soft.now codeword → word.new ≡ codeword }
+    {
+        hard_into(soft, word);
+        repair(self.matrix, &mut self.odd, word.truths_mut());
+    }
+
+    /// The certificate of a codeword, or `None` where none is found or the word has an odd check.
+    pub fn make<'s>(&'s mut self, soft: &'s [i16], word: &'s Bits) -> Option<CertView<'s>>
+        requires soft { length soft.now ≡ (code_of self.old.rows).bits }
+        requires range { All IsSoft soft.now }
+        requires word { length word.now ≡ (code_of self.old.rows).bits }
+        ensures is { IsCodeword (code_of self.old.rows) word.now → result ≡ made_view self.old.rows soft.now word.now }
+        ensures odd { (IsCodeword (code_of self.old.rows) word.now → ⊥) → result ≡ None }
+        ensures accepted { IfSome result (λ v. IsCertificate self.old.rows v) }
+        ensures scattered { IsScattered (code_of self.old.rows) soft.now word.now → result ≢ None }
+    {
+        if self.certify(soft, word) {
+            Some(self.held(soft, word))
+        } else {
+            None
+        }
+    }
+
+    /// Makes the split for a codeword, and says whether there is one.
+    pub fn certify(&mut self, soft: &[i16], word: &Bits) -> bool
+        requires soft { length soft.now ≡ (code_of self.old.rows).bits }
+        requires range { All IsSoft soft.now }
+        requires word { length word.now ≡ (code_of self.old.rows).bits }
+        ensures rows { self.new.rows ≡ self.old.rows }
+        ensures word { self.new.word ≡ word.now }
+        ensures found { IsTrue result ↔ (self.new.made ≢ None) }
+        ensures codeword { IsTrue result → IsCodeword (code_of self.old.rows) word.now }
+        ensures made { IsCodeword (code_of self.old.rows) word.now → self.new.made ≡ shared (code_of self.old.rows) (made_split (code_of self.old.rows) soft.now word.now) }
+        ensures odd { (IsCodeword (code_of self.old.rows) word.now → ⊥) → self.new.made ≡ None }
+    {
+        if !self.matrix.satisfied(word) {
+            self.word.copy_prefix(word, word.len());
+            self.scale = 0;
+            return false;
+        }
+        self.certify_codeword(soft, word)
+    }
+
+    /// As [`Maker::certify`], for a word that is known to be a codeword.
+    pub fn certify_codeword(&mut self, soft: &[i16], word: &Bits) -> bool
+        requires soft { length soft.now ≡ (code_of self.old.rows).bits }
+        requires range { All IsSoft soft.now }
+        requires codeword { IsCodeword (code_of self.old.rows) word.now }
+        ensures rows { self.new.rows ≡ self.old.rows }
+        ensures word { self.new.word ≡ word.now }
+        ensures found { IsTrue result ↔ (self.new.made ≢ None) }
+        ensures made { self.new.made ≡ shared (code_of self.old.rows) (made_split (code_of self.old.rows) soft.now word.now) }
+    {
+        self.word.copy_prefix(word, word.len());
+        self.scale = make_moves(
+            self.matrix,
+            soft,
+            word.truths(),
+            &mut self.rests,
+            &mut self.targets,
+            &mut self.amounts,
+        );
+        self.scale > 0
+    }
+
+    /// The certificate of these values and this word by what the maker holds.
+    pub fn held<'s>(&'s self, soft: &'s [i16], word: &'s Bits) -> CertView<'s>
+        requires soft { length soft.now ≡ (code_of self.now.rows).bits }
+        requires range { All IsSoft soft.now }
+        requires word { word.now ≡ self.now.word }
+        requires made { self.now.made ≢ None }
+        ensures { IfSome self.now.made (λ s. result ≡ shared_view self.now.rows soft.now word.now s) }
+    {
+        CertView::moved(
+            self.matrix,
+            self.scale,
+            soft,
+            word,
+            &self.targets,
+            &self.amounts,
+        )
+    }
+}

@@ -1,0 +1,96 @@
+//! Spreading: check by check, half of what lies between the least rest and the next is moved to the
+//! least, as long as one is negative.
+ghost use Rattle.std.specs.Prelude.{◌≡◌, ℕ, ◌<◌, ◌≤◌, IsTrue, Bool, List, All, length, get_or, ℤ, pos, ◌≤ℤ◌};
+ghost use Rattle.s2_matrix.specs.Code.{code_of};
+ghost use Rattle.s2_check.specs.Views.{IsSoft};
+ghost use Rattle.s2_split.specs.Greedy.{Moved, none_moved};
+ghost use Rattle.s2_split.specs.Spreading.{spread_check, spread};
+ghost use Rattle.s2_split.specs.Kept.{AreWithin, AreFew, AreKept, Ends};
+
+use crate::rests::{shift_some, spread_share};
+use crate::start::none_negative;
+use s2_matrix::Matrix;
+
+/// A check gives its amount back, and moves one to its least rest.
+fn spread_check(
+    matrix: &Matrix,
+    rests: &mut [i32],
+    targets: &mut [u32],
+    amounts: &mut [u32],
+    check: usize,
+)
+    requires check { check < (code_of matrix.now).checks }
+    requires rests_long { length rests.old ≡ (code_of matrix.now).bits }
+    requires targets_long { length targets.old ≡ (code_of matrix.now).checks }
+    requires amounts_long { length amounts.old ≡ (code_of matrix.now).checks }
+    requires small { AreWithin 30000000 rests.old }
+    requires held { get_or amounts.old check 0 ≤ 1048576 }
+    ensures kept { (soft : List ℤ) (word : List Bool) (m : Moved) → AreKept (code_of matrix.now) soft word 16 m rests.old targets.old amounts.old → AreKept (code_of matrix.now) soft word 16 (spread_check (code_of matrix.now) soft word m check) rests.new targets.new amounts.new }
+{
+    let members = matrix.members_at(check);
+    shift_some(rests, members, targets[check], -(amounts[check] as i32));
+    let share = spread_share(rests, members);
+    targets[check] = share.bit;
+    amounts[check] = share.amount;
+    shift_some(rests, members, share.bit, share.amount as i32);
+}
+
+/// Whether no rest at these places is negative.
+fn none_negative_at(rests: &[i32], places: &[u32]) -> bool
+    requires { All (λ i. i < length rests.now) places.now }
+    ensures { IsTrue result → (k : ℕ) → k < length places.now → pos 0 ≤ℤ get_or rests.now (get_or places.now k 0) (pos 0) }
+{
+    for place in places {
+        if rests[*place as usize] < 0 {
+            return false;
+        }
+    }
+    true
+}
+
+/// A check in its turn. One that holds no amount, and none of whose members has a negative rest,
+/// moves nothing: it is passed over.
+fn visit(matrix: &Matrix, rests: &mut [i32], targets: &mut [u32], amounts: &mut [u32], check: usize)
+    requires check { check < (code_of matrix.now).checks }
+    requires rests_long { length rests.old ≡ (code_of matrix.now).bits }
+    requires targets_long { length targets.old ≡ (code_of matrix.now).checks }
+    requires amounts_long { length amounts.old ≡ (code_of matrix.now).checks }
+    requires small { AreWithin 30000000 rests.old }
+    requires held { get_or amounts.old check 0 ≤ 1048576 }
+    ensures kept { (soft : List ℤ) (word : List Bool) (m : Moved) → AreKept (code_of matrix.now) soft word 16 m rests.old targets.old amounts.old → AreKept (code_of matrix.now) soft word 16 (spread_check (code_of matrix.now) soft word m check) rests.new targets.new amounts.new }
+{
+    if amounts[check] == 0 {
+        if none_negative_at(rests, matrix.members_at(check)) {
+            return;
+        }
+    }
+    spread_check(matrix, rests, targets, amounts, check);
+}
+
+/// At most 64 passes over all checks, rising, until no rest is negative: whether none is then.
+pub(crate) fn spread(
+    matrix: &Matrix,
+    soft: &[i16],
+    word: &[bool],
+    rests: &mut [i32],
+    targets: &mut [u32],
+    amounts: &mut [u32],
+) -> bool
+    requires range { All IsSoft soft.now }
+    requires few { AreFew (code_of matrix.now) }
+    requires start { AreKept (code_of matrix.now) soft.now word.now 16 none_moved rests.old targets.old amounts.old }
+    ensures small { All (λ a. a < 2147483648) amounts.new }
+    ensures ends { Ends (code_of matrix.now) soft.now word.now (spread (code_of matrix.now) soft.now word.now 64 none_moved) result rests.new targets.new amounts.new }
+{
+    let _soft = soft;
+    let _word = word;
+    'passes: for pass in 0..64u32 {
+        if none_negative(rests) {
+            return true;
+        }
+        'checks: for check in 0..matrix.check_count() {
+            visit(matrix, rests, targets, amounts, check);
+        }
+    }
+    none_negative(rests)
+}
