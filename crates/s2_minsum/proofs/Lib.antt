@@ -1,0 +1,25 @@
+pub mod Steps
+pub mod Turned
+pub mod Unsigned
+pub mod Parts
+pub mod RowLemmas
+pub mod Places
+pub mod Turning
+pub mod Nodes
+pub mod Others
+pub mod WordLemmas
+pub mod Orders
+pub mod Columns
+pub mod Posteriors
+pub mod StepStates
+pub mod Sames
+pub mod LayerIs
+pub mod FirstRows
+pub mod LayerCalls
+pub mod Made
+pub mod Starts
+pub mod Rounds
+mod Examples
+pub mod MessagePlaces
+pub mod EdgeLemmas
+pub mod Decisions

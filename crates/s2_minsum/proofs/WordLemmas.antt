@@ -1,0 +1,116 @@
+-- What words of 16 bits say of the numbers that they stand for.
+use Rattle.std.proofs.Common.{◌≡◌, ℕ, zero, suc, ◌+◌, ◌-◌, ◌*◌, ◌/◌, ◌%◌, ◌<◌, ◌≤◌, ◌==◌, ◌^◌, min, max, nat_le, cond, Bool, true, false, eqb, ℤ, pos, neg_ℤ, ◌+ℤ◌, ◌-ℤ◌, int_lt, unsigned_abs, refl, ap, sym, ◌∙◌, inl, inr, arith, lt-ltb, le-ltb}
+use Rattle.std.specs.Int.{cast_signed, int_wrap}
+use Rattle.std.specs.Int.RustNames.{FitsSigned}
+use Rattle.std.proofs.lemmas.Int.{ints, int_wrap_fits, fits_signed_from_abs, wrapping_sub-bits, wrapping_add-bits}
+use Rattle.std.proofs.lemmas.Bool.{cases_lt, cases_eq}
+use Rattle.std.proofs.lemmas.Bool.Decides.{nat_tests}
+use mir.Syntax.{w16}
+use Rattle.s2_minsum.specs.Plain.{size_cap, with_sign, reduced}
+use Rattle.s2_minsum.specs.Words.{signed16, minus16, plus16, size16, sign16, sent16}
+use Rattle.s2_minsum.proofs.Nodes.{least_is, least_but_small, negatives_are}
+use Rattle.s2_minsum.specs.Nodes.{first_of, second_of, negatives_of, negatives_but, least_but, signs_of, sizes, sent}
+
+pub word_low : (v : ℕ) → v < 32768 → signed16 v ≡ pos v
+word_low v low = let test = lt-ltb v 32768 low in rw test refl
+
+pub word_high : (v : ℕ) → 32768 ≤ v → v < 65536 → signed16 v ≡ neg_ℤ (pos (65536 - v))
+word_high v high low = let test = le-ltb v 32768 high in rw test (omega (arith, ints))
+
+pub word_minus : (a b : ℕ) → a < 65536 → b < 65536 → unsigned_abs (signed16 a -ℤ signed16 b) < 32768 → signed16 (minus16 a b) ≡ signed16 a -ℤ signed16 b
+word_minus a b low low' small = wrapping_sub-bits w16 a b low low' ∙ int_wrap_fits w16 (signed16 a -ℤ signed16 b) (fits_signed_from_abs w16 (signed16 a -ℤ signed16 b) small)
+
+pub word_plus : (a b : ℕ) → a < 65536 → b < 65536 → unsigned_abs (signed16 a +ℤ signed16 b) < 32768 → signed16 (plus16 a b) ≡ signed16 a +ℤ signed16 b
+word_plus a b low low' small = wrapping_add-bits w16 a b low low' ∙ int_wrap_fits w16 (signed16 a +ℤ signed16 b) (fits_signed_from_abs w16 (signed16 a +ℤ signed16 b) small)
+
+pub size_is : (v : ℕ) → v < 65536 → size16 v ≡ unsigned_abs (signed16 v)
+size_is v low = elim (cases_lt v 32768) [
+  | inl lt ↦ rw (word_low v lt) (omega (arith, ints))
+  | inr le ↦ rw (word_high v le low) (omega (arith, ints))
+]
+
+not_negative : (v : ℕ) → int_lt (pos v) (pos 0) ≡ false
+not_negative v = le-ltb v 0 (omega arith)
+
+negative : (v : ℕ) → int_lt (neg_ℤ (pos (suc v))) (pos 0) ≡ true
+negative v = refl
+
+pub sign_is : (v : ℕ) → v < 65536 → sign16 v ≡ cond (int_lt (signed16 v) (pos 0)) 1 0
+sign_is v low = elim (cases_lt v 32768) [
+  | inl lt ↦ (let none : sign16 v ≡ 0 = omega arith in none ∙ sym (ap (λ z. cond {A = ℕ} (int_lt z (pos 0)) 1 0) (word_low v lt) ∙ ap (λ b. cond {A = ℕ} b 1 0) (not_negative v)))
+  | inr le ↦ (
+      let one : sign16 v ≡ 1 = omega arith in
+      let e : 65536 - v ≡ suc (65535 - v) = omega arith in
+      one ∙ sym (ap (λ z. cond {A = ℕ} (int_lt z (pos 0)) 1 0) (word_high v le low ∙ ap (λ m. neg_ℤ (pos m)) e) ∙ ap (λ b. cond {A = ℕ} b 1 0) (negative (65535 - v)))
+      )
+]
+
+pub negative_is : (v : ℕ) → v < 65536 → nat_le 32768 v ≡ int_lt (signed16 v) (pos 0)
+negative_is v low = elim (cases_lt v 32768) [
+  | inl lt ↦ (let no' : nat_le 32768 v ≡ false = grind (arith, nat_tests) in no' ∙ sym (ap (λ z. int_lt z (pos 0)) (word_low v lt) ∙ not_negative v))
+  | inr le ↦ (
+      let yes' : nat_le 32768 v ≡ true = grind (arith, nat_tests) in
+      let e : 65536 - v ≡ suc (65535 - v) = omega arith in
+      yes' ∙ sym (ap (λ z. int_lt z (pos 0)) (word_high v le low ∙ ap (λ m. neg_ℤ (pos m)) e) ∙ negative (65535 - v))
+      )
+]
+
+pub size_small : (v : ℕ) → v < 65536 → size16 v ≤ 32768
+size_small v low = omega arith
+
+wrapped : (a b : ℕ) → plus16 (a % 65536) b ≡ (a + b) % 65536
+wrapped a b = omega arith
+
+even_out : (a b o : ℕ) → a ≡ b + o → plus16 (a % 65536) o % 2 ≡ b % 2
+even_out a b o is = omega arith
+
+signed : (negative : Bool) (m : ℕ) → m < 32768 → signed16 (cond negative (minus16 0 m) m) ≡ with_sign negative m
+signed false m small = word_low m small
+signed true m small = elim (cases_eq m 0) [
+  | inl none ↦ rw none refl
+  | inr some ↦ (
+      let is : minus16 0 m ≡ 65536 - m = omega arith in
+      ap signed16 is ∙ word_high (65536 - m) (omega arith) (omega arith) ∙ (let e : 65536 - (65536 - m) ≡ m = omega arith in ap (λ x. neg_ℤ (pos x)) e)
+      )
+]
+
+-- the message of a member, by words
+module _ (g : ℕ → ℕ) (f : ℕ → ℤ) (n : ℕ) (fits : (k : ℕ) → k < n → g k < 65536) (is : (k : ℕ) → k < n → signed16 (g k) ≡ f k) where
+  size_same : (k : ℕ) → k < n → size16 (g k) ≡ unsigned_abs (f k)
+  size_same k lt = size_is (g k) (fits k lt) ∙ ap unsigned_abs (is k lt)
+
+  first_same : (m : ℕ) → m ≤ n → first_of (λ k. size16 (g k)) m ≡ first_of (sizes f) m
+  first_same zero h = refl
+  first_same (suc m) h = λ i. min (first_same m (omega arith) i) (size_same m (omega arith) i)
+
+  second_same : (m : ℕ) → m ≤ n → second_of (λ k. size16 (g k)) m ≡ second_of (sizes f) m
+  second_same zero h = refl
+  second_same (suc m) h = λ i. min (second_same m (omega arith) i) (max (first_same m (omega arith) i) (size_same m (omega arith) i))
+
+  signs_same : (m : ℕ) → m ≤ n → signs_of g m ≡ negatives_of f m % 65536
+  signs_same zero h = refl
+  signs_same (suc m) h =
+      let rest = signs_same m (omega arith) in
+      let one : sign16 (g m) ≡ cond (int_lt (f m) (pos 0)) 1 0 = sign_is (g m) (fits m (omega arith)) ∙ ap (λ v. cond {A = ℕ} (int_lt v (pos 0)) 1 0) (is m (omega arith)) in
+      (λ i. plus16 (rest i) (one i)) ∙ wrapped (negatives_of f m) (cond (int_lt (f m) (pos 0)) 1 0)
+
+  parity_same : (e : ℕ) → e < n → plus16 (signs_of g n) (sign16 (g e)) % 2 ≡ negatives_but f e n % 2
+  parity_same e lt =
+      let all = negatives_are f e n lt in
+      let own : sign16 (g e) ≡ cond (int_lt (f e) (pos 0)) 1 0 = sign_is (g e) (fits e lt) ∙ ap (λ v. cond {A = ℕ} (int_lt v (pos 0)) 1 0) (is e lt) in
+      let signs = signs_same n (omega arith) in
+      let count : ℕ = cond (int_lt (f e) (pos 0)) 1 0 in
+      (λ i. plus16 (signs i) (own i) % 2) ∙ even_out (negatives_of f n) (negatives_but f e n) count all
+
+  pub sent_word : (e : ℕ) → e < n → signed16 (sent16 (g e) (first_of (λ k. size16 (g k)) n) (second_of (λ k. size16 (g k)) n) (signs_of g n)) ≡ sent f n e
+  sent_word e lt =
+      let first = first_same n (omega arith) in
+      let second = second_same n (omega arith) in
+      let own = size_same e lt in
+      let parity = parity_same e lt in
+      let least = cond (unsigned_abs (f e) == first_of (sizes f) n) (second_of (sizes f) n) (first_of (sizes f) n) in
+      let least' = least_is (sizes f) n e lt in
+      let chosen : cond (size16 (g e) == first_of (λ k. size16 (g k)) n) (second_of (λ k. size16 (g k)) n) (first_of (λ k. size16 (g k)) n) ≡ least_but (sizes f) e n = (λ i. cond (own i == first i) (second i) (first i)) ∙ least' in
+      let small = least_but_small (sizes f) e n in
+      (λ i. signed16 (cond (parity i == 1) (minus16 0 (reduced (chosen i))) (reduced (chosen i))))
+      ∙ signed (negatives_but f e n % 2 == 1) (reduced (least_but (sizes f) e n)) (omega arith)

@@ -1,0 +1,26 @@
+use Rattle.std.proofs.Common.{◌≡◌, ℕ, ◌+◌, ◌<◌, ◌≤◌, length, get_or, [], ◌∷◌, length-append, ap, sym, ◌∙◌, arith}
+use Rattle.s2_mode.specs.Shape.{Shape, IsShape}
+use Rattle.s2_minsum.specs.Layout.{first_row}
+use Rattle.s2_minsum.proofs.Made.{firsts_more, entries_length, entries_more}
+use Rattle.s2_minsum.proofs.Starts.{rows_few}
+use Rattle.s2_minsum.proofs.entries.layers_of.Goals as goal
+
+pub loop-r-preserved : goal.loop-r-preserved
+loop-r-preserved c =
+    let rows = c.args.matrix.now in
+    let r = c.loop-r.r in
+    let inv = c.loop-r.invariant in
+    let made = c.in_ok-add_entries.ensures in
+    record {
+      entries_long = entries_length rows r c.loop-r.entries.items c.add_entries.new.entries.items inv.entries_long made;
+      entries_are = entries_more rows r c.loop-r.entries.items c.add_entries.new.entries.items inv.entries_long inv.entries_are made;
+      firsts_long = ap length c.in_ok-push.ensures.items ∙ omega (arith, length-append c.loop-r.firsts.items (c.len.result ∷ []), inv.firsts_long);
+      firsts_are = firsts_more (first_row rows) r c.len.result c.loop-r.firsts.items c.push.new.self.items inv.firsts_long inv.firsts_are (omega (arith, c.len.ensures, inv.entries_long)) c.in_ok-push.ensures.items;
+    }
+
+pub returns-clause-few : goal.returns-clause-few
+returns-clause-few c =
+    let rows = c.args.matrix.now in
+    let q = c.q-r-end.ensures.is ∙ ap (λ (s : Shape). s.q) c.shape-shape.ensures.is in
+    let all : c.loop-r.r ≡ rows.shape.q = omega (arith, q) in
+    omega (arith, c.loop-r.invariant.entries_long, ap (first_row rows) all, rows_few rows c.shape-shape.ensures.valid)

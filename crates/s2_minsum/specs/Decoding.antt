@@ -1,0 +1,55 @@
+-- What a decoder shows, and what holds of its lists.
+use Rattle.std.specs.Prelude.{◌≡◌, ℕ, ◌+◌, ◌*◌, ◌<◌, ◌≤◌, nat_le, Bool, All, List, length, get_or, ℤ, unsigned_abs}
+use Rattle.s2_mode.specs.Shape.{Shape, IsShape, code_bits}
+use Rattle.s2_rows.specs.Rows.{Rows}
+use Rattle.s2_matrix.specs.Code.{Code, code_of, members, checks_of}
+use Rattle.s2_minsum.specs.declared.rows.Entry.{Entry}
+use Rattle.s2_minsum.specs.Plain.{most_soft, most_message, State, posterior}
+use Rattle.s2_minsum.specs.Words.{signed16, cell, entry_at}
+use Rattle.s2_minsum.specs.Layout.{row_of_bit, lane_of_bit, bit_of, last_check, entry_of, entry_count, first_row, kept_of, state_of}
+
+-- what a decoder shows: its rows, the soft values, and the messages as it keeps them
+pub record Decoding : Type 0 where
+  pub rows : Rows
+  pub soft : List ℤ
+  pub messages : List ℕ
+
+-- the state that it is in
+abbrev pub decoded : Decoding → State
+decoded d = state_of d.rows d.soft (kept_of d.rows d.messages)
+
+abbrev pub AreWithin : ℕ → List ℤ → Type 0
+AreWithin n vs = All (λ v. unsigned_abs v ≤ n) vs
+
+abbrev pub AreMessages : List ℕ → Type 0
+AreMessages vs = All (λ v. unsigned_abs (signed16 v) ≤ most_message) vs
+
+-- what holds of the rows and of the entries of all layers
+pub record AreLayers (rows : Rows) (entries : List Entry) (firsts : List ℕ) : Type 0 where
+  pub shaped : IsShape rows.shape
+  pub few : (i : ℕ) → i < code_bits rows.shape → length (checks_of (code_of rows) i) ≤ 24
+  pub entries_long : length entries ≡ first_row rows rows.shape.q
+  pub entries_are : (r e : ℕ) → r < rows.shape.q → e < entry_count rows r → entry_at entries (first_row rows r + e) ≡ entry_of rows.shape (get_or (members (code_of rows) (last_check rows.shape r)) e 0)
+  pub firsts_long : length firsts ≡ rows.shape.q + 1
+  pub firsts_are : (r : ℕ) → r ≤ rows.shape.q → get_or firsts r 0 ≡ first_row rows r
+
+-- what holds of the numbers
+pub record AreNumbers (rows : Rows) (soft : List ℤ) (messages posteriors : List ℕ) : Type 0 where
+  pub soft_long : length soft ≡ code_bits rows.shape
+  pub soft_small : AreWithin most_soft soft
+  pub messages_long : length messages ≡ first_row rows rows.shape.q * rows.shape.group
+  pub messages_small : AreMessages messages
+  pub fits : (k : ℕ) → get_or messages k 0 < 65536
+  pub posteriors_fit : (k : ℕ) → get_or posteriors k 0 < 65536
+  pub posteriors_long : length posteriors ≡ code_bits rows.shape
+  pub posteriors_are : (row lane : ℕ) → row < rows.shape.groups + rows.shape.q → lane < rows.shape.group → signed16 (cell posteriors rows.shape.group row lane) ≡ posterior (code_of rows) (state_of rows soft (kept_of rows messages)) (bit_of rows.shape row lane)
+
+-- what holds of a decoder
+pub record IsDecoder (rows : Rows) (soft : List ℤ) (entries : List Entry) (firsts messages posteriors : List ℕ) (scratch : ℕ) : Type 0 where
+  pub layers : AreLayers rows entries firsts
+  pub numbers : AreNumbers rows soft messages posteriors
+  pub room : (r : ℕ) → r < rows.shape.q → (entry_count rows r + 3) * rows.shape.group ≤ scratch
+
+-- whether the posterior of a bit is negative
+abbrev pub is_one : Shape → List ℕ → ℕ → Bool
+is_one s posteriors i = nat_le 32768 (cell posteriors s.group (row_of_bit s i) (lane_of_bit s i))

@@ -1,0 +1,87 @@
+-- Layered min-sum over a code (this project's own: the standard leaves decoding free). Each check sends a message to each of its
+-- members; a message above 0 speaks for a zero, one below 0 for a one.
+use Rattle.std.specs.Prelude.{ℕ, ◌+◌, ◌-◌, ◌*◌, ◌/◌, ◌%◌, ◌==◌, min, nat_lt, Bool, not, ◌&&◌, if◌then◌else◌, List, map, filter, fold, count_by, get_or, ℤ, pos, neg_ℤ, ◌+ℤ◌, ◌-ℤ◌, int_lt, unsigned_abs}
+use Rattle.s2_matrix.specs.Total.{total, upto}
+use Rattle.s2_matrix.specs.Code.{Code, members, checks_of}
+
+-- ---- the numbers
+
+-- the largest size of a soft value
+abbrev pub most_soft : ℕ
+most_soft = 63
+
+-- the size of an input that is larger counts as this
+abbrev pub size_cap : ℕ
+size_cap = 127
+
+-- three quarters, rounded up
+abbrev pub reduced : ℕ → ℕ
+reduced m = m - m / 4
+
+-- the largest size of a message: what a check of one member sends
+abbrev pub most_message : ℕ
+most_message = reduced size_cap
+
+-- the largest size of a posterior: a bit is in at most 24 checks
+abbrev pub most_posterior : ℕ
+most_posterior = most_soft + 24 * most_message
+
+-- ---- states
+
+-- a soft value for each bit, and a message for each pair of a check and its member
+pub record State : Type 0 where
+  pub soft : List ℤ
+  pub message : ℕ → ℕ → ℤ
+
+-- soft values, and all messages 0
+abbrev pub start : List ℤ → State
+start soft = record { soft = soft; message = λ _ _. pos 0 }
+
+-- the posterior of bit i: its soft value plus all messages to it
+abbrev pub posterior : Code → State → ℕ → ℤ
+posterior code s i =
+    get_or s.soft i (pos 0) +ℤ total (λ j. s.message j i) (checks_of code i)
+
+-- the hard decision: a one exactly where the posterior is negative
+abbrev pub decision : Code → State → List Bool
+decision code s = map (λ i. int_lt (posterior code s i) (pos 0)) (upto code.bits)
+
+-- ---- the message of a check to one of its members, by the inputs of the others
+
+-- the input of member i to check j: its posterior less the check's own message to it
+abbrev pub input : Code → State → ℕ → ℕ → ℤ
+input code s j i = posterior code s i -ℤ s.message j i
+
+-- the other members of a check
+abbrev pub others : List ℕ → ℕ → List ℕ
+others ms i = filter (λ k. not (k == i)) ms
+
+-- the least of the cap and the sizes of some inputs
+abbrev pub least_size : (ℕ → ℤ) → List ℕ → ℕ
+least_size f ms = fold (λ least k. min least (unsigned_abs (f k))) size_cap ms
+
+-- whether the product of some inputs is negative, 0 taken as positive
+abbrev pub is_product_negative : (ℕ → ℤ) → List ℕ → Bool
+is_product_negative f ms = count_by (λ k. int_lt (f k) (pos 0)) ms % 2 == 1
+
+abbrev pub with_sign : Bool → ℕ → ℤ
+with_sign negative size = if negative then neg_ℤ (pos size) else pos size
+
+-- the message that the inputs of the other members make: the sign of their product, and their least size reduced
+abbrev pub made : (ℕ → ℤ) → List ℕ → ℤ
+made f ms = with_sign (is_product_negative f ms) (reduced (least_size f ms))
+
+-- ---- layers
+
+-- whether a bit is a member of a check of the code
+abbrev pub is_edge : Code → ℕ → ℕ → Bool
+is_edge code j i = nat_lt j code.checks && (nat_lt i code.bits && code.has j i)
+
+-- layer r renews the messages of the checks j with j mod q = r, all by the state before it, and leaves the others
+abbrev pub layer : Code → ℕ → ℕ → State → State
+layer code q r s =
+    record { soft = s.soft; message = λ j i. if is_edge code j i && (j % q == r) then made (input code s j) (others (members code j) i) else s.message j i }
+
+-- a round: layers 0 to q - 1 in this order
+abbrev pub round : Code → ℕ → State → State
+round code q s = fold (λ before r. layer code q r before) s (upto q)

@@ -1,0 +1,74 @@
+-- Words of 16 bits in two's complement, and rows of them.
+use Rattle.std.specs.Prelude.{ℕ, zero, suc, ◌+◌, ◌-◌, ◌*◌, ◌/◌, ◌%◌, ◌==◌, ◌&&◌, ◌<◌, ◌≤◌, min, max, Bool, if◌then◌else◌, List, length, get_or, ℤ}
+use Rattle.std.specs.Int.{cast_signed}
+use Rattle.s2_minsum.specs.Plain.{size_cap}
+use mir.Syntax.{w16}
+use Rattle.s2_minsum.specs.declared.rows.Entry.{Entry}
+
+abbrev pub signed16 : ℕ → ℤ
+signed16 v = cast_signed w16 v
+
+abbrev pub minus16 : ℕ → ℕ → ℕ
+minus16 a b = (a + (65536 - b)) % 65536
+
+abbrev pub plus16 : ℕ → ℕ → ℕ
+plus16 a b = (a + b) % 65536
+
+-- how far the signed16 is from 0
+abbrev pub size16 : ℕ → ℕ
+size16 v = min v (minus16 0 v)
+
+-- 1 where the signed16 is negative
+abbrev pub sign16 : ℕ → ℕ
+sign16 v = v / 32768
+
+-- the message to a member with input v of a check with these two least sizes and so many negative inputs
+abbrev pub sent16 : ℕ → ℕ → ℕ → ℕ → ℕ
+sent16 v first second negatives =
+    let m = (if size16 v == first then second else first) in
+    (if plus16 negatives (sign16 v) % 2 == 1 then minus16 0 (m - m / 4) else (m - m / 4))
+
+-- where place k of n looks that are turned by s
+abbrev pub turned : ℕ → ℕ → ℕ → ℕ
+turned n s k = (k + n - s) % n
+
+-- where place k of n looks that are turned back by s
+abbrev pub turned_back : ℕ → ℕ → ℕ → ℕ
+turned_back n s k = (k + s) % n
+
+-- lane c of row e
+abbrev pub cell : List ℕ → ℕ → ℕ → ℕ → ℕ
+cell xs n e c = get_or xs (e * n + c) 0
+
+abbrev pub no_entry : Entry
+no_entry = record { row = 0; shift = 0 }
+
+abbrev pub entry_at : List Entry → ℕ → Entry
+entry_at entries e = get_or entries e no_entry
+
+-- the rows of entries lie within a list, and no turn is longer than a row
+pub record AreIn (n : ℕ) (entries : List Entry) (places : ℕ) : Type 0 where
+  pub some : 1 ≤ n
+  pub few : n ≤ 360
+  pub rows : (e : ℕ) → e < length entries → (entry_at entries e).row * n + n ≤ places
+  pub turns : (e : ℕ) → e < length entries → (entry_at entries e).shift ≤ n
+
+-- what place p holds once the changes of the first entries are added
+abbrev pub changed : ℕ → List Entry → List ℕ → (ℕ → ℕ → ℕ) → ℕ → ℕ → ℕ
+changed n entries old change zero p = get_or old p 0
+changed n entries old change (suc e) p =
+    if (entry_at entries e).row == p / n then plus16 (changed n entries old change e p) (change e (turned_back n (entry_at entries e).shift (p % n))) else changed n entries old change e p
+
+-- whether lane c lacks the bit of an entry
+abbrev pub is_lacking : ℕ → Entry → ℕ → Bool
+is_lacking last entry c = (c == 0) && ((entry.row == last) && (entry.shift == 1))
+
+-- what an entry's member gives to the check in lane c; the cap where the check lacks it
+abbrev pub received : ℕ → List Entry → ℕ → List ℕ → List ℕ → ℕ → ℕ → ℕ
+received n entries last posteriors messages e c =
+    if is_lacking last (entry_at entries e) c then size_cap else minus16 (cell posteriors n (entry_at entries e).row (turned n (entry_at entries e).shift c)) (cell messages n e c)
+
+-- by how much the message of an entry in lane c changes
+abbrev pub change_of : ℕ → List Entry → ℕ → List ℕ → List ℕ → ℕ → ℕ → ℕ
+change_of n entries last old new e c =
+    if is_lacking last (entry_at entries e) c then 0 else minus16 (cell new n e c) (cell old n e c)

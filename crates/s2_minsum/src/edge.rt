@@ -1,0 +1,55 @@
+//! Where the message on an edge stands.
+ghost use Rattle.std.specs.Prelude.{◌≡◌, ◌≤◌, ◌<◌, ◌+◌, ◌*◌, ◌/◌, ◌%◌, length, get_or};
+ghost use Rattle.s2_matrix.specs.Code.{code_of, members, first_edge};
+ghost use Rattle.s2_minsum.specs.Layout.{place_at, first_row};
+ghost use Rattle.s2_minsum.specs.Decoding.{AreLayers};
+
+use crate::layout::{back_to, place_among};
+use crate::one_layer::find_span;
+use crate::rows::Entry;
+use s2_matrix::Matrix;
+
+/// The check of an edge, by halving.
+pub(crate) fn check_of(matrix: &Matrix, edge: usize) -> usize
+    requires { edge < first_edge (code_of matrix.now) (code_of matrix.now).checks }
+    ensures below { result < (code_of matrix.now).checks }
+    ensures from { first_edge (code_of matrix.now) result ≤ edge }
+    ensures before { edge < first_edge (code_of matrix.now) (result + 1) }
+{
+    let mut low = 0;
+    let mut high = matrix.check_count();
+    'halve: while high - low > 1 {
+        let middle = low + (high - low) / 2;
+        if matrix.first_edge(middle) <= edge {
+            low = middle;
+        } else {
+            high = middle;
+        }
+    }
+    low
+}
+
+/// Where the message of a check to its member at a place stands.
+pub(crate) fn message_place(
+    matrix: &Matrix,
+    entries: &[Entry],
+    firsts: &[usize],
+    messages: &[u16],
+    check: usize,
+    at: usize,
+) -> usize
+    requires layers { AreLayers matrix.now entries.now firsts.now }
+    requires long { length messages.now ≡ first_row matrix.now matrix.now.shape.q * matrix.now.shape.group }
+    requires check { check < (code_of matrix.now).checks }
+    requires at { at < length (members (code_of matrix.now) check) }
+    ensures is { result ≡ (first_row matrix.now (check % matrix.now.shape.q) + place_at matrix.now check (get_or (members (code_of matrix.now) check) at 0)) * matrix.now.shape.group + check / matrix.now.shape.q }
+    ensures within { result < length messages.now }
+{
+    let shape = matrix.shape();
+    let r = check % shape.q();
+    let lane = check / shape.q();
+    let span = find_span(matrix, entries, firsts, messages, r);
+    let last = matrix.members_at(r + (shape.group() - 1) * shape.q());
+    let place = place_among(last, back_to(shape, lane, matrix.members(check, at)) as u32);
+    (span.start + place) * shape.group() + lane
+}

@@ -1,0 +1,73 @@
+//! The entries of each layer: which rows its checks read, and how far turned.
+ghost use Rattle.std.specs.Prelude.{◌≡◌, ◌++◌, ℕ, ◌+◌, ◌*◌, ◌<◌, ◌≤◌, IfOk, OnOk, map, length};
+ghost use Rattle.s2_mode.specs.Shape.{code_bits};
+ghost use Rattle.s2_matrix.specs.Code.{code_of, members, checks_of};
+ghost use Rattle.s2_minsum.specs.Layout.{entry_of, entry_count, last_check};
+ghost use Rattle.s2_minsum.specs.Decoding.{AreLayers};
+
+use crate::layout::entry_of;
+use crate::rows::Entry;
+use s2_matrix::Matrix;
+use std::alloc::{AllocError, Global};
+
+/// Adds the entries of a layer: one for each member of its last check, in their order.
+fn add_entries(matrix: &Matrix, r: usize, entries: &mut Vec<Entry>) -> Result<(), AllocError>
+    requires { r < matrix.now.shape.q }
+    ensures { OnOk result (entries.new.items ≡ entries.old.items ++ map (entry_of matrix.now.shape) (members (code_of matrix.now) (last_check matrix.now.shape r))) }
+{
+    let shape = matrix.shape();
+    let members = matrix.members_at(r + (shape.group() - 1) * shape.q());
+    for bit in members {
+        entries.push(entry_of(shape, *bit as usize))?;
+    }
+    Ok(())
+}
+
+/// A bit is in at most 24 checks: the matrix says so bit by bit.
+fn see_few_checks(matrix: &Matrix)
+    ensures { (i : ℕ) → i < code_bits matrix.now.shape → length (checks_of (code_of matrix.now) i) ≤ 24 }
+{
+    for bit in 0..matrix.bits() {
+        let _degree = matrix.bit_degree(bit);
+    }
+}
+
+/// The entries of all layers, and where those of each layer begin; the last place is where all end.
+#[derive(Drop)]
+pub struct Layers {
+    pub entries: Vec<Entry>,
+    pub firsts: Vec<usize>,
+}
+
+/// The entries of all layers of a matrix. `AllocError` only where memory is refused.
+pub fn layers_of(alloc: Global, matrix: &Matrix) -> Result<Layers, AllocError>
+    ensures are { IfOk result (λ t. AreLayers matrix.now t.entries.items t.firsts.items) }
+    ensures few { IfOk result (λ t. length t.entries.items ≤ 64800 * 64800) }
+{
+    see_few_checks(matrix);
+    let shape = matrix.shape();
+    let mut entries = Vec::new(alloc);
+    let mut firsts = Vec::new(alloc);
+    for r in 0..shape.q() {
+        firsts.push(entries.len())?;
+        add_entries(matrix, r, &mut entries)?;
+    }
+    firsts.push(entries.len())?;
+    Ok(Layers { entries, firsts })
+}
+
+/// How many entries the largest layer has.
+pub(crate) fn most_entries(matrix: &Matrix) -> usize
+    ensures most { (r : ℕ) → r < matrix.now.shape.q → entry_count matrix.now r ≤ result }
+    ensures few { result ≤ 64800 }
+{
+    let shape = matrix.shape();
+    let mut most = 0;
+    for r in 0..shape.q() {
+        let degree = matrix.degree(r + (shape.group() - 1) * shape.q());
+        if degree > most {
+            most = degree;
+        }
+    }
+    most
+}

@@ -1,0 +1,186 @@
+//! The rule over the rows of one layer: all checks of the layer at once, one check a lane.
+ghost use Rattle.std.specs.Prelude.{◌≡◌, ℕ, ◌≤◌, ◌<◌, ◌+◌, ◌*◌, ◌==◌, ◌&&◌, if◌then◌else◌, length, slice_index, EachIndex};
+ghost use Rattle.s2_minsum.specs.Words.{turned, minus16, sent16, size16, cell, entry_at, AreIn, changed, is_lacking, received, change_of};
+ghost use Rattle.s2_minsum.specs.Nodes.{first_of, second_of, signs_of};
+
+use crate::limits::SIZE_CAP;
+use crate::rows::{Entry, add, give, send, track};
+
+/// What the members of a layer's checks give.
+fn give_all(entries: &[Entry], n: usize, posteriors: &[u16], messages: &[u16], inputs: &mut [u16])
+    requires entries { AreIn n entries.now (length posteriors.now) }
+    requires few { length posteriors.now ≤ 64800 }
+    requires long { length messages.now ≡ length entries.now * n }
+    requires same { length inputs.old ≡ length entries.now * n }
+    ensures { (e c : ℕ) → e < length entries.now → c < n → cell inputs.new n e c ≡ minus16 (cell posteriors.now n (entry_at entries.now e).row (turned n (entry_at entries.now e).shift c)) (cell messages.now n e c) }
+{
+    for e in 0..entries.len() {
+        let entry = entries[e];
+        let at = e * n;
+        let row = entry.row as usize * n;
+        give(
+            &mut inputs[at..at + n],
+            &posteriors[row..row + n],
+            &messages[at..at + n],
+            entry.shift as usize,
+        );
+    }
+}
+
+/// Takes the inputs into the two least sizes and the counts of negative inputs of each check.
+fn track_all(
+    inputs: &[u16],
+    n: usize,
+    count: usize,
+    first: &mut [u16],
+    second: &mut [u16],
+    negatives: &mut [u16],
+)
+    requires few { n ≤ 360 }
+    requires same_first { length first.old ≡ n }
+    requires long { length inputs.now ≡ count * n }
+    requires same_second { length second.old ≡ n }
+    requires same_negatives { length negatives.old ≡ n }
+    ensures first { EachIndex first.new (λ c. slice_index first.new c ≡ first_of (λ e. size16 (cell inputs.now n e c)) count) }
+    ensures second { EachIndex second.new (λ c. slice_index second.new c ≡ second_of (λ e. size16 (cell inputs.now n e c)) count) }
+    ensures negatives { EachIndex negatives.new (λ c. slice_index negatives.new c ≡ signs_of (λ e. cell inputs.now n e c) count) }
+{
+    first.fill(SIZE_CAP);
+    second.fill(SIZE_CAP);
+    negatives.fill(0);
+    for e in 0..count {
+        let at = e * n;
+        track(first, second, negatives, &inputs[at..at + n]);
+    }
+}
+
+/// Writes the new messages of a layer, and in place of its inputs by how much the messages change.
+fn send_all(
+    inputs: &mut [u16],
+    messages: &mut [u16],
+    n: usize,
+    count: usize,
+    first: &[u16],
+    second: &[u16],
+    negatives: &[u16],
+)
+    requires few { n ≤ 360 }
+    requires same_first { length first.now ≡ n }
+    requires long { length inputs.old ≡ count * n }
+    requires same { length messages.old ≡ count * n }
+    requires same_second { length second.now ≡ n }
+    requires same_negatives { length negatives.now ≡ n }
+    ensures sent { (e c : ℕ) → e < count → c < n → cell messages.new n e c ≡ sent16 (cell inputs.old n e c) (slice_index first.now c) (slice_index second.now c) (slice_index negatives.now c) }
+    ensures changes { (e c : ℕ) → e < count → c < n → cell inputs.new n e c ≡ minus16 (sent16 (cell inputs.old n e c) (slice_index first.now c) (slice_index second.now c) (slice_index negatives.now c)) (cell messages.old n e c) }
+{
+    for e in 0..count {
+        let at = e * n;
+        send(
+            &mut inputs[at..at + n],
+            &mut messages[at..at + n],
+            first,
+            second,
+            negatives,
+        );
+    }
+}
+
+/// Adds the changes of a layer's messages, entry by entry.
+fn add_all(entries: &[Entry], n: usize, posteriors: &mut [u16], changes: &[u16])
+    requires entries { AreIn n entries.now (length posteriors.old) }
+    requires few { length posteriors.old ≤ 64800 }
+    requires long { length changes.now ≡ length entries.now * n }
+    ensures { (p : ℕ) → p < length posteriors.old → slice_index posteriors.new p ≡ changed n entries.now posteriors.old (cell changes.now n) (length entries.now) p }
+{
+    for e in 0..entries.len() {
+        let entry = entries[e];
+        let at = e * n;
+        let row = entry.row as usize * n;
+        add(
+            &mut posteriors[row..row + n],
+            &changes[at..at + n],
+            entry.shift as usize,
+        );
+    }
+}
+
+/// Whether an entry is the one that lane 0 of the first layer lacks.
+fn is_absent(entry: Entry, last: usize) -> bool
+    ensures { result ≡ ((entry.row == last) && (entry.shift == 1)) }
+{
+    entry.row as usize == last && entry.shift == 1
+}
+
+/// Writes a number in lane 0 of the entry in which the first check has no bit.
+fn mask(entries: &[Entry], n: usize, last: usize, rows: &mut [u16], value: u16)
+    requires some { 1 ≤ n }
+    requires few { n ≤ 360 }
+    requires long { length rows.old ≡ length entries.now * n }
+    ensures { (e c : ℕ) → e < length entries.now → c < n → cell rows.new n e c ≡ (if is_lacking last (entry_at entries.now e) c then value else cell rows.old n e c) }
+{
+    for e in 0..entries.len() {
+        let entry = entries[e];
+        if is_absent(entry, last) {
+            rows[e * n] = value;
+        }
+    }
+}
+
+/// What the members of a layer's checks give; the cap where the first check lacks one.
+fn receive(
+    entries: &[Entry],
+    n: usize,
+    last: usize,
+    posteriors: &[u16],
+    messages: &[u16],
+    inputs: &mut [u16],
+)
+    requires entries { AreIn n entries.now (length posteriors.now) }
+    requires few { length posteriors.now ≤ 64800 }
+    requires long { length messages.now ≡ length entries.now * n }
+    requires same { length inputs.old ≡ length entries.now * n }
+    ensures { (e c : ℕ) → e < length entries.now → c < n → cell inputs.new n e c ≡ received n entries.now last posteriors.now messages.now e c }
+{
+    give_all(entries, n, posteriors, messages, inputs);
+    mask(entries, n, last, inputs, SIZE_CAP);
+}
+
+/// Adds the changes of a layer's messages, but none where the first check lacks a member.
+fn apply(entries: &[Entry], n: usize, last: usize, posteriors: &mut [u16], changes: &mut [u16])
+    requires entries { AreIn n entries.now (length posteriors.old) }
+    requires few { length posteriors.old ≤ 64800 }
+    requires long { length changes.old ≡ length entries.now * n }
+    ensures { (p : ℕ) → p < length posteriors.old → slice_index posteriors.new p ≡ changed n entries.now posteriors.old (λ e c. if is_lacking last (entry_at entries.now e) c then 0 else cell changes.old n e c) (length entries.now) p }
+{
+    mask(entries, n, last, changes, 0);
+    add_all(entries, n, posteriors, changes);
+}
+
+/// Replaces the messages of a layer and adds their changes to the posteriors.
+pub(crate) fn run(
+    entries: &[Entry],
+    n: usize,
+    last: usize,
+    posteriors: &mut [u16],
+    messages: &mut [u16],
+    inputs: &mut [u16],
+    first: &mut [u16],
+    second: &mut [u16],
+    negatives: &mut [u16],
+)
+    requires entries { AreIn n entries.now (length posteriors.old) }
+    requires few { length posteriors.old ≤ 64800 }
+    requires long { length messages.old ≡ length entries.now * n }
+    requires same { length inputs.old ≡ length entries.now * n }
+    requires first { length first.old ≡ n }
+    requires second { length second.old ≡ n }
+    requires negatives { length negatives.old ≡ n }
+    ensures messages { (e c : ℕ) → e < length entries.now → c < n → cell messages.new n e c ≡ sent16 (received n entries.now last posteriors.old messages.old e c) (first_of (λ k. size16 (received n entries.now last posteriors.old messages.old k c)) (length entries.now)) (second_of (λ k. size16 (received n entries.now last posteriors.old messages.old k c)) (length entries.now)) (signs_of (λ k. received n entries.now last posteriors.old messages.old k c) (length entries.now)) }
+    ensures posteriors { (p : ℕ) → p < length posteriors.old → slice_index posteriors.new p ≡ changed n entries.now posteriors.old (change_of n entries.now last messages.old messages.new) (length entries.now) p }
+{
+    let count = entries.len();
+    receive(entries, n, last, posteriors, messages, inputs);
+    track_all(inputs, n, count, first, second, negatives);
+    send_all(inputs, messages, n, count, first, second, negatives);
+    apply(entries, n, last, posteriors, inputs);
+}

@@ -1,0 +1,10 @@
+//! The numbers of the min-sum rule, all in one place.
+
+/// The largest size of a soft value.
+pub const MOST_SOFT: u16 = 63;
+
+/// The size of an input that is larger counts as this.
+pub const SIZE_CAP: u16 = 127;
+
+/// The largest size of a message, three quarters of the cap, rounded up: what a check of one member sends.
+pub const MOST_MESSAGE: u16 = SIZE_CAP - SIZE_CAP / 4;
