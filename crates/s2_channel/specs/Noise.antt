@@ -1,0 +1,38 @@
+-- Noise (this project's own): what a symbol gains, as a function of the level and the generator's state.
+use Rattle.std.specs.Prelude.{◌≡◌, List, [], ◌∷◌, ◌++◌, Option, ℕ, ℤ, pos, negsuc, ◌+◌, ◌≤◌, ◌+ℤ◌, ◌-ℤ◌, ◌*ℤ◌, int_div, length, take, sum}
+use Rattle.std.specs.Int.{w32, int_min, int_max, to_le_bytes}
+use Rattle.std.specs.Io.KnownBytes.{Appends}
+use Rattle.rand_pcg.specs.Lcg.{Lcg}
+use Rattle.rand_pcg.specs.Pcg.{pcg32}
+use Rattle.s2_mode.specs.Symbols.{symbol_bytes}
+use Rattle.s2_mode.specs.declared.symbols.Symbol.{Symbol}
+
+-- the sum of the four bytes of a word of 32 bits
+abbrev pub byte_sum : ℕ → ℕ
+byte_sum value = sum (to_le_bytes w32 value)
+
+-- the sum of the eight bytes of the next two words, and the generator after them
+unfoldable pub draw : Lcg → ℕ × Lcg
+draw g = (byte_sum (pcg32 g).0 + byte_sum (pcg32 (pcg32 g).1).0, (pcg32 (pcg32 g).1).1)
+
+-- what a component gains by such a sum: less its mean, times the level over 256, toward zero
+unfoldable pub gain : ℕ → ℕ → ℤ
+gain level drawn = int_div ((pos drawn -ℤ pos 1020) *ℤ pos level) (pos 256)
+
+-- a component with its gain, or the nearest number of 16 bits
+unfoldable pub moved : ℕ → ℤ → ℕ → ℤ
+moved level component drawn = int_max (negsuc 32767) (int_min (component +ℤ gain level drawn) (pos 32767))
+
+-- a symbol with what is drawn next, first for I, then for Q, and the generator after it
+unfoldable pub add : ℕ → Lcg → Symbol → Symbol × Lcg
+add level g s = (record { i = moved level s.i (draw g).0; q = moved level s.q (draw (draw g).1).0 }, (draw (draw g).1).1)
+
+-- the bytes of these symbols with what is drawn for each in turn
+abbrev pub noisy : ℕ → Lcg → List Symbol → List ℕ
+noisy level g [] = []
+noisy level g (s ∷ ss) = symbol_bytes (add level g s).0 ++ noisy level (add level g s).1 ss
+
+-- a writer gained the noisy symbols of some of these, from the first one on, and nothing else
+abbrev pub AppendsFront : ℕ → Lcg → List Symbol → Option (List ℕ) → Option (List ℕ) → Type 0
+AppendsFront level g symbols old new =
+    (n : ℕ) × (n ≤ length symbols) × Appends old new (noisy level g (take n symbols))

@@ -1,0 +1,53 @@
+//! Noise on a whole stream of symbols.
+ghost use Rattle.std.specs.Prelude.{◌≡◌, ◌≢◌, ◌+◌, ◌-◌, ◌^◌, ◌<◌, ◌≤◌, OnOk, IfSome, Err, IsErrOf, Some, length};
+ghost use Rattle.std.specs.Io.KnownBytes.{Appends};
+ghost use Rattle.s2_mode.specs.Symbols.{symbols_of};
+ghost use Rattle.s2_channel.specs.Noise.{noisy, AppendsFront};
+
+use crate::noise::Noise;
+use s2_mode::{CountedRead, CountedWrite, read_symbol, write_symbol};
+use thiserror::Error;
+
+/// Why a stream was not passed on whole.
+#[derive(Clone, Copy, Debug, PartialEq, Eq, Error)]
+pub enum StreamFault {
+    /// A read failed, or there are more symbols than one call takes.
+    #[error("cannot read")]
+    Read,
+    /// A write failed.
+    #[error("cannot write")]
+    Write,
+}
+
+/// One call takes fewer symbols than this.
+pub const MOST_SYMBOLS: u64 = 1 << 40;
+
+/// Writes each symbol of a stream with its noise, up to the reader's end, where one to three bytes that
+/// are left over are dropped. `Read` where a read failed, or where [`MOST_SYMBOLS`] symbols came: then the
+/// writer has gained the noisy symbols of those that were read, each whole. `Write` where a write failed.
+pub fn add_to_all<R: CountedRead, W: CountedWrite>(
+    noise: &mut Noise,
+    reader: &mut R,
+    writer: &mut W,
+) -> Result<(), StreamFault>
+    requires reader { R.count reader.old < 2 ^ 64 - 1 }
+    requires writer { W.count writer.old < 2 ^ 64 - 1 }
+    ensures written { OnOk result (IfSome (R.remaining reader.old) (λ xs.
+        Appends (W.contents writer.old) (W.contents writer.new) (noisy noise.old.level noise.old.words (symbols_of xs)))) }
+    ensures write { IsErrOf result StreamFault.Write → W.count writer.new ≡ W.count writer.old + 1 }
+    ensures wrote { result ≢ Err StreamFault.Write → W.count writer.new ≡ W.count writer.old }
+    ensures read { IsErrOf result StreamFault.Read → R.count reader.new ≡ R.count reader.old →
+        IfSome (R.remaining reader.old) (λ xs. MOST_SYMBOLS ≤ length (symbols_of xs)) }
+    ensures no_read { result ≢ Err StreamFault.Read → R.count reader.new ≡ R.count reader.old }
+    ensures front { IsErrOf result StreamFault.Read → IfSome (R.remaining reader.old) (λ xs.
+        AppendsFront noise.old.level noise.old.words (symbols_of xs) (W.contents writer.old) (W.contents writer.new)) }
+    ensures level { noise.new.level ≡ noise.old.level }
+{
+    for _taken in 0..MOST_SYMBOLS {
+        let Some(symbol) = read_symbol(reader).map_err(|_| StreamFault::Read)? else {
+            return Ok(());
+        };
+        write_symbol(writer, noise.add(symbol)).map_err(|_| StreamFault::Write)?;
+    }
+    Err(StreamFault::Read)
+}
