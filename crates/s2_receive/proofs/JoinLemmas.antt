@@ -1,0 +1,90 @@
+-- The packets that are written, and the events that come to the joiner.
+use Rattle.std.proofs.Common.{◌≡◌, ℕ, ◌+◌, true, false, List, [], ◌∷◌, ◌++◌, Option, None, length, refl, sym, ap, ◌∙◌, append_assoc, append-nil, length-append, arith}
+use Rattle.std.proofs.lemmas.List.Concat.{flat_map-append}
+use Rattle.s2_bbframe.specs.Joining.{Event, gap, Joined, step, still, and_then, joining}
+use Rattle.s2_receive.specs.Meeting.{Met, frame, cut, ended}
+use Rattle.s2_receive.specs.Receiving.{Rules, Standing, after, all_packets, packets_of, delivery, joined_after}
+use Rattle.s2_receive.specs.Laws.{joined, met_events, events_of, IsJoined}
+
+and_then-assoc : (a b c : Joined) → and_then (and_then a b) c ≡ and_then a (and_then b c)
+and_then-assoc a b c =
+    let e : (a.bad + b.bad) + c.bad ≡ a.bad + (b.bad + c.bad) = omega arith in
+    let join : List (List ℕ) → ℕ → Joined = λ g n. record { held = c.held; good = g; bad = n } in
+    ap (λ n. join ((a.good ++ b.good) ++ c.good) n) e ∙ ap (λ g. join g (a.bad + (b.bad + c.bad))) (append_assoc a.good b.good c.good)
+
+none-and_then : (held : Option (List ℕ)) (j : Joined) → and_then (still held) j ≡ j
+none-and_then held j =
+    let e : 0 + j.bad ≡ j.bad = omega arith in
+    let join : ℕ → Joined = λ n. record { held = j.held; good = j.good; bad = n } in
+    ap join e
+
+and_then-none : (j : Joined) → and_then j (still j.held) ≡ j
+and_then-none j =
+    let e : j.bad + 0 ≡ j.bad = omega arith in
+    let join : List (List ℕ) → ℕ → Joined = λ g n. record { held = j.held; good = g; bad = n } in
+    ap (λ n. join (j.good ++ []) n) e ∙ ap (λ g. join g j.bad) (append-nil j.good)
+
+pub joining-append : (xs ys : List Event) (held : Option (List ℕ)) → joining held (xs ++ ys) ≡ and_then (joining held xs) (joining (joining held xs).held ys)
+joining-append [] ys held = sym (none-and_then held (joining held ys))
+joining-append (e ∷ xs) ys held =
+    ap (and_then (step held e)) (joining-append xs ys (step held e).held)
+    ∙ sym (and_then-assoc (step held e) (joining (step held e).held xs) (joining (joining (step held e).held xs).held ys))
+
+joining-one : (held : Option (List ℕ)) (e : Event) → joining held (e ∷ []) ≡ step held e
+joining-one held e = and_then-none (step held e)
+
+-- what something met gives
+abbrev gained : Rules → Standing → Met → Joined
+gained rules s (frame at over symbols) = joined_after s.held over (rules.decide symbols).delivered
+gained rules s (cut at count) = still None
+gained rules s ended = still s.held
+
+joining-met : (rules : Rules) (s : Standing) (met : Met) → joining s.held (met_events rules.decide met) ≡ gained rules s met
+joining-met rules s (frame at true symbols) = none-and_then None (joining None (delivery (rules.decide symbols).delivered ∷ [])) ∙ joining-one None (delivery (rules.decide symbols).delivered)
+joining-met rules s (frame at false symbols) = joining-one s.held (delivery (rules.decide symbols).delivered)
+joining-met rules s (cut at count) = joining-one s.held gap
+joining-met rules s ended = refl
+
+gained-packets : (rules : Rules) (s : Standing) (met : Met) → packets_of rules s met ≡ joined (gained rules s met).good
+gained-packets rules s (frame at over symbols) = refl
+gained-packets rules s (cut at count) = refl
+gained-packets rules s ended = refl
+
+gained-held : (rules : Rules) (s : Standing) (met : Met) → (after rules s met).held ≡ (gained rules s met).held
+gained-held rules s (frame at over symbols) = refl
+gained-held rules s (cut at count) = refl
+gained-held rules s ended = refl
+
+gained-good : (rules : Rules) (s : Standing) (met : Met) → (after rules s met).totals.packets ≡ s.totals.packets + length (gained rules s met).good
+gained-good rules s (frame at over symbols) = refl
+gained-good rules s (cut at count) = omega arith
+gained-good rules s ended = omega arith
+
+gained-bad : (rules : Rules) (s : Standing) (met : Met) → (after rules s met).totals.bad ≡ s.totals.bad + (gained rules s met).bad
+gained-bad rules s (frame at over symbols) = refl
+gained-bad rules s (cut at count) = omega arith
+gained-bad rules s ended = omega arith
+
+pub all_joined : (rules : Rules) (s : Standing) (met : List Met) → IsJoined rules s met
+all_joined rules s [] = record { held = refl; packets = refl; good = omega arith; bad = omega arith }
+all_joined rules s (m ∷ ms) =
+    let t = after rules s m in
+    let one = gained rules s m in
+    let ih = all_joined rules t ms in
+    let rest = joining one.held (events_of rules.decide ms) in
+    let held : joining t.held (events_of rules.decide ms) ≡ rest = ap (λ h. joining h (events_of rules.decide ms)) (gained-held rules s m) in
+    let all : joining s.held (met_events rules.decide m ++ events_of rules.decide ms) ≡ and_then one rest =
+    joining-append (met_events rules.decide m) (events_of rules.decide ms) s.held
+    ∙ ap (λ j. and_then j (joining j.held (events_of rules.decide ms))) (joining-met rules s m) in
+    let good = gained-good rules s m in
+    let bad = gained-bad rules s m in
+    let long = length-append one.good rest.good in
+    let later_good = ih.good ∙ ap (λ j. t.totals.packets + length j.good) held in
+    let later_bad = ih.bad ∙ ap (λ j. t.totals.bad + j.bad) held in
+    record {
+      held = ih.held ∙ ap (λ j. j.held) held ∙ ap (λ j. j.held) (sym all);
+      packets = ap (λ l. l ++ all_packets rules t ms) (gained-packets rules s m) ∙ ap (λ l. joined one.good ++ l) (ih.packets ∙ ap (λ j. joined j.good) held)
+          ∙ sym (flat_map-append (λ p. p) one.good rest.good) ∙ ap (λ j. joined j.good) (sym all);
+      good = later_good ∙ omega (arith, good, long) ∙ ap (λ j. s.totals.packets + length j.good) (sym all);
+      bad = later_bad ∙ omega (arith, bad) ∙ ap (λ j. s.totals.bad + j.bad) (sym all);
+    }

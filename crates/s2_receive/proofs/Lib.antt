@@ -1,0 +1,11 @@
+pub mod SymbolLists
+pub mod Headers
+pub mod MetLemmas
+pub mod FindSteps
+pub mod StepLemmas
+pub mod RunLemmas
+pub mod JoinLemmas
+pub mod FieldPlaces
+pub mod Reception
+pub mod SearchWords
+pub mod SameSymbols

@@ -1,0 +1,125 @@
+-- What follows from the definitions alone.
+use Rattle.std.specs.Prelude.{◌≡◌, ℕ, ◌+◌, ◌-◌, ◌*◌, ◌/◌, ◌<◌, ◌≤◌, Bool, true, false, if◌then◌else◌, nat_lt, List, [], ◌∷◌, ◌++◌, length, take, drop, All, Option, Some, Ok, ⊤}
+use Rattle.std.specs.List.{flat_map}
+use Rattle.s2_mode.specs.declared.symbols.Symbol.{Symbol}
+use Rattle.s2_bbframe.specs.declared.header.Header.{Header}
+use Rattle.s2_bbframe.specs.DataStream.{IsPacket, stream_of, fields_of, header_at}
+use Rattle.s2_bbframe.specs.Joining.{Event, gap, joining, closed_in}
+use Rattle.s2_receive.specs.Meeting.{Met, frame, cut, ended, starts, met_from}
+use Rattle.s2_receive.specs.Receiving.{Rules, Decision, Standing, State, Went, Answers, RunsOut, begun, delivery, at_start, after_all, all_packets, all_lines}
+use Rattle.s2_receive.specs.declared.report.Step.{Step}
+use Rattle.s2_mode.specs.Symbols.{symbols_of}
+use Rattle.std.specs.Io.KnownBytes.{Appends}
+
+-- what stands in one list after another
+abbrev pub joined : {X : Type 0} → List (List X) → List X
+joined lists = flat_map (λ list. list) lists
+
+-- ---- joining
+
+-- what comes to the joiner of something met
+abbrev pub met_events : (List Symbol → Decision) → Met → List Event
+met_events decide (frame at over symbols) = (if over then gap ∷ [] else []) ++ (delivery (decide symbols).delivered ∷ [])
+met_events decide (cut at count) = gap ∷ []
+met_events decide ended = []
+
+abbrev pub events_of : (List Symbol → Decision) → List Met → List Event
+events_of decide [] = []
+events_of decide (met ∷ later) = met_events decide met ++ events_of decide later
+
+-- the packets written are those of all events that come to the joiner, and the totals count them
+pub record IsJoined (rules : Rules) (s : Standing) (met : List Met) : Type 0 where
+  pub held : (after_all rules s met).held ≡ (joining s.held (events_of rules.decide met)).held
+  pub packets : all_packets rules s met ≡ joined (joining s.held (events_of rules.decide met)).good
+  pub good : (after_all rules s met).totals.packets ≡ s.totals.packets + length (joining s.held (events_of rules.decide met)).good
+  pub bad : (after_all rules s met).totals.bad ≡ s.totals.bad + (joining s.held (events_of rules.decide met)).bad
+
+abbrev pub JoiningLaw : Type 0
+JoiningLaw = (rules : Rules) (s : Standing) (met : List Met) → IsJoined rules s met
+
+-- ---- frames that are received as they were sent
+
+-- symbols of a frame's size, whose header passes, and of which this header and this data field are delivered
+abbrev pub IsReceived : Rules → Header → List ℕ → List Symbol → Type 0
+IsReceived rules header field symbols =
+    (length symbols ≡ rules.size) × (rules.passes (take 90 symbols) ≡ true) × ((rules.decide symbols).delivered ≡ Some (header, field))
+
+-- the frames of consecutive data fields, the first of which begins at this byte of the stream
+abbrev pub AreReceived : Rules → ℕ → ℕ → List (List ℕ) → List (List Symbol) → Type 0
+AreReceived rules roll_off at [] [] = ⊤
+AreReceived rules roll_off at [] (symbols ∷ frames) = ⊥
+AreReceived rules roll_off at (field ∷ fields) [] = ⊥
+AreReceived rules roll_off at (field ∷ fields) (symbols ∷ frames) =
+    IsReceived rules (header_at roll_off at field) field symbols × AreReceived rules roll_off (at + length field) fields frames
+
+-- just these frames, one after another from a position on, with none passed over
+abbrev pub frames_at : ℕ → ℕ → List (List Symbol) → List Met
+frames_at size at [] = []
+frames_at size at (symbols ∷ frames) = frame at false symbols ∷ frames_at size (at + size) frames
+
+-- Frames that were received as sent, the first ones of a stream, are met as just these. The packets written then are those
+-- whose closing CRC-8 lies in the fields of these frames; all of them where these are all fields.
+pub record Gives (rules : Rules) (packets fields later : List (List ℕ)) (frames : List (List Symbol)) (rest : List Symbol) : Type 0 where
+  pub met : met_from rules.passes rules.size 0 0 false (joined frames ++ rest) ≡ frames_at rules.size 0 frames ++ met_from rules.passes rules.size (rules.size * length frames) 0 false rest
+  pub written : all_packets rules at_start (frames_at rules.size 0 frames) ≡ joined (take (closed_in (length (joined fields))) packets)
+  pub frames_count : (after_all rules at_start (frames_at rules.size 0 frames)).totals.frames ≡ length fields
+  pub delivered : (after_all rules at_start (frames_at rules.size 0 frames)).totals.delivered ≡ length fields
+  pub packets_count : (after_all rules at_start (frames_at rules.size 0 frames)).totals.packets ≡ length (take (closed_in (length (joined fields))) packets)
+  pub bad : (after_all rules at_start (frames_at rules.size 0 frames)).totals.bad ≡ 0
+  pub cut : (after_all rules at_start (frames_at rules.size 0 frames)).totals.cut ≡ false
+  pub all : later ≡ [] → take (closed_in (length (joined fields))) packets ≡ packets
+
+abbrev pub ReceptionLaw : Type 0
+ReceptionLaw =
+    (rules : Rules) (roll_off size : ℕ) (packets fields later : List (List ℕ)) (frames : List (List Symbol)) (rest : List Symbol)
+    → 90 ≤ rules.size → 188 ≤ size → All IsPacket packets → fields ++ later ≡ fields_of size (stream_of packets) → AreReceived rules roll_off 0 fields frames
+    → Gives rules packets fields later frames rest
+
+-- What a receiver wrote when it had met as many things as so many frames that were received as sent, the first ones of a stream
+-- that is known: the packets whose closing CRC-8 lies in the fields of these frames, and nothing else.
+abbrev pub FrontLaw : Type 0
+FrontLaw =
+    (rules : Rules) (roll_off size : ℕ) (packets fields later : List (List ℕ)) (frames : List (List Symbol)) (rest : List Symbol) (bytes : List ℕ)
+    (mid : State) (left packets_old packets_new report_old report_new : Option (List ℕ)) (met : List Met)
+    → 90 ≤ rules.size → 188 ≤ size → All IsPacket packets → fields ++ later ≡ fields_of size (stream_of packets) → AreReceived rules roll_off 0 fields frames
+    → symbols_of bytes ≡ joined frames ++ rest → length met ≡ length frames
+    → Went rules begun mid (Some bytes) left packets_old packets_new report_old report_new met
+    → (met ≡ frames_at rules.size 0 frames) × Appends packets_old packets_new (joined (take (closed_in (length (joined fields))) packets))
+
+-- The search in its own words: where no header begins at the first n symbols and one begins at the next, that is where the next
+-- frame stands; it has its symbols and the search goes on behind them, or it is cut. Where none begins anywhere the end comes.
+pub record Searches (passes : List Symbol → Bool) (size at : ℕ) (symbols : List Symbol) : Type 0 where
+  pub found : (n : ℕ) → n + size ≤ length symbols → ((i : ℕ) → i < n → starts passes (drop i symbols) ≡ false) → starts passes (drop n symbols) ≡ true
+      → met_from passes size at 0 false symbols ≡ frame (at + n) (nat_lt 0 n) (take size (drop n symbols)) ∷ met_from passes size (at + n + size) 0 false (drop (n + size) symbols)
+  pub lacks : (n : ℕ) → n < length symbols → length symbols < n + size → ((i : ℕ) → i < n → starts passes (drop i symbols) ≡ false) → starts passes (drop n symbols) ≡ true
+      → met_from passes size at 0 false symbols ≡ cut (at + n) (length symbols - n) ∷ (ended ∷ [])
+  pub none : ((i : ℕ) → i < length symbols → starts passes (drop i symbols) ≡ false) → met_from passes size at 0 false symbols ≡ ended ∷ []
+
+abbrev pub SearchLaw : Type 0
+SearchLaw = (passes : List Symbol → Bool) (size at : ℕ) (symbols : List Symbol) → 90 ≤ size → Searches passes size at symbols
+
+-- ---- one stream of symbols, read in two ways
+
+-- from one state to another this was met: it stands so, and its packets and its lines were written
+pub record HasGiven (rules : Rules) (old new : State) (packets_old packets_new report_old report_new : Option (List ℕ)) (met : List Met) : Type 0 where
+  pub standing : new.standing ≡ after_all rules old.standing met
+  pub packets : Appends packets_old packets_new (all_packets rules old.standing met)
+  pub lines : Appends report_old report_new (all_lines rules old.standing met)
+
+-- However a reader cuts the bytes, and whatever bytes are left over: two runs from one state to the end, over bytes that spell the
+-- same symbols, met the same, so they wrote the same packets and lines and came to the same totals.
+abbrev pub SameRunLaw : Type 0
+SameRunLaw =
+    (rules : Rules) (old first second : State) (bytes other : List ℕ) (left other_left p p' q q' w w' v v' : Option (List ℕ))
+    → symbols_of bytes ≡ symbols_of other
+    → RunsOut rules old first (Some bytes) left p p' w w' → RunsOut rules old second (Some other) other_left q q' v v'
+    → (met : List Met) × HasGiven rules old first p p' w w' met × HasGiven rules old second q q' v v' met
+
+-- and so does a single step
+abbrev pub SameStepLaw : Type 0
+SameStepLaw =
+    (rules : Rules) (old first second : State) (bytes other : List ℕ) (left other_left p p' q q' w w' v v' : Option (List ℕ)) (step other_step : Step)
+    → symbols_of bytes ≡ symbols_of other
+    → Answers rules old first (Some bytes) left p p' w w' (Ok step) → Answers rules old second (Some other) other_left q q' v v' (Ok other_step)
+    → (step ≡ other_step) × (first.phase ≡ second.phase) × (first.standing ≡ second.standing)
+    × ((met : List Met) × HasGiven rules old first p p' w w' met × HasGiven rules old second q q' v v' met)

@@ -1,0 +1,9 @@
+pub mod Meeting
+pub mod Finding
+pub mod Receiving
+pub mod Parts
+pub mod Stepping
+pub mod Laws
+pub use Rattle.s2_mode.specs.Symbols
+pub use Rattle.s2_bbframe.specs.Joining
+pub mod Toy

@@ -1,0 +1,215 @@
+-- What a receiver does with what it meets.
+use Rattle.std.specs.Prelude.{◌≡◌, ℕ, ℤ, ◌+◌, Bool, true, false, if◌then◌else◌, List, [], ◌∷◌, ◌++◌, length, Option, Some, None, Result, Ok, Err, ⊤}
+use Rattle.std.specs.List.{flat_map}
+use Rattle.std.specs.Io.KnownBytes.{Appends}
+use Rattle.s2_mode.specs.declared.symbols.Symbol.{Symbol}
+use Rattle.s2_bbframe.specs.declared.header.Header.{Header}
+use Rattle.s2_bbframe.specs.Joining.{Event, field, gap, Joined, step}
+use Rattle.s2_receive.specs.Meeting.{Met, frame, cut, ended, met_in}
+use Rattle.s2_receive.specs.Finding.{YieldsSymbols, Meets}
+use Rattle.s2_receive.specs.Stepping.{FailsIn}
+use Rattle.s2_receive.specs.declared.report.Verdict.{Verdict}
+use Rattle.s2_receive.specs.declared.report.Outcome.{Outcome}
+use Rattle.s2_receive.specs.declared.report.Report.{Report}
+use Rattle.s2_receive.specs.declared.report.Totals.{Totals}
+use Rattle.s2_receive.specs.declared.report.Step.{Step}
+use Rattle.s2_receive.specs.declared.report.Step.TheVariants as steps
+use Rattle.s2_receive.specs.declared.report.Fault.{Fault}
+use Rattle.s2_receive.specs.declared.report.Fault.TheVariants as faults
+use Rattle.s2_receive.specs.declared.report.Phase.{Phase}
+use Rattle.s2_receive.specs.declared.report.Phase.TheVariants as phases
+
+-- What is decided of a frame's symbols: their soft values, the decided bits and what is known of them, the message that BCH
+-- decoding leaves, and what comes of it; where its header is accepted, the header and the data field.
+pub record Decision : Type 0 where
+  pub soft : List ℤ
+  pub bits : List Bool
+  pub verdict : Verdict
+  pub message : List Bool
+  pub outcome : Outcome
+  pub delivered : Option (Header × List ℕ)
+
+-- what comes to the joiner
+abbrev pub delivery : Option (Header × List ℕ) → Event
+delivery (Some pair) = field pair.0 pair.1
+delivery None = gap
+
+-- what a receiver was made with
+pub record Rules : Type 0 where
+  pub passes : List Symbol → Bool
+  pub size : ℕ
+  pub decide : List Symbol → Decision
+  pub frame_line : Report → List ℕ
+  pub cut_line : ℕ → ℕ → List ℕ
+  pub end_line : Totals → List ℕ
+  -- how many symbols it takes at most
+  pub limit : ℕ
+
+-- the joiner and the totals so far
+pub record Standing : Type 0 where
+  pub held : Option (List ℕ)
+  pub totals : Totals
+
+-- no frame so far
+abbrev pub at_start : Standing
+at_start = record { held = None; totals = record { frames = 0; delivered = 0; packets = 0; bad = 0; cut = false } }
+
+-- the joiner after a frame: a gap comes first where symbols were passed over
+abbrev pub joined_after : Option (List ℕ) → Bool → Option (Header × List ℕ) → Joined
+joined_after held over delivered = step (if over then None else held) (delivery delivered)
+
+abbrev pub count_of : Option (Header × List ℕ) → ℕ
+count_of (Some pair) = 1
+count_of None = 0
+
+abbrev pub totals_after : Totals → Joined → ℕ → Totals
+totals_after t joined delivered = record { frames = t.frames + 1; delivered = t.delivered + delivered; packets = t.packets + length joined.good; bad = t.bad + joined.bad; cut = t.cut }
+
+abbrev pub cut_totals : Totals → Totals
+cut_totals t = record { frames = t.frames; delivered = t.delivered; packets = t.packets; bad = t.bad; cut = true }
+
+abbrev pub report_for : Decision → Totals → ℕ → Report
+report_for decision t at = record { number = t.frames + 1; at = at; verdict = decision.verdict; outcome = decision.outcome }
+
+abbrev pub report_of : Rules → Totals → ℕ → List Symbol → Report
+report_of rules t at symbols = report_for (rules.decide symbols) t at
+
+-- what stands after something met
+abbrev pub after : Rules → Standing → Met → Standing
+after rules s (frame at over symbols) =
+    record {
+      held = (joined_after s.held over (rules.decide symbols).delivered).held;
+      totals = totals_after s.totals (joined_after s.held over (rules.decide symbols).delivered) (count_of (rules.decide symbols).delivered);
+    }
+after rules s (cut at count) = record { held = None; totals = cut_totals s.totals }
+after rules s ended = s
+
+-- the bytes of the packets that it gives
+abbrev pub packets_of : Rules → Standing → Met → List ℕ
+packets_of rules s (frame at over symbols) = flat_map (λ packet. packet) (joined_after s.held over (rules.decide symbols).delivered).good
+packets_of rules s met = []
+
+-- its line of the report
+abbrev pub line_of : Rules → Standing → Met → List ℕ
+line_of rules s (frame at over symbols) = rules.frame_line (report_of rules s.totals at symbols)
+line_of rules s (cut at count) = rules.cut_line at count
+line_of rules s ended = rules.end_line s.totals
+
+-- the answer
+abbrev pub step_of : Rules → Standing → Met → Step
+step_of rules s (frame at over symbols) = steps.Frame (report_of rules s.totals at symbols)
+step_of rules s (cut at count) = steps.Cut at count
+step_of rules s ended = steps.End
+
+-- the same for all that is met
+abbrev pub after_all : Rules → Standing → List Met → Standing
+after_all rules s [] = s
+after_all rules s (met ∷ later) = after_all rules (after rules s met) later
+
+abbrev pub all_packets : Rules → Standing → List Met → List ℕ
+all_packets rules s [] = []
+all_packets rules s (met ∷ later) = packets_of rules s met ++ all_packets rules (after rules s met) later
+
+abbrev pub all_lines : Rules → Standing → List Met → List ℕ
+all_lines rules s [] = []
+all_lines rules s (met ∷ later) = line_of rules s met ++ all_lines rules (after rules s met) later
+
+-- ---- a receiver between two calls
+
+-- the symbols that it took, and what stands
+pub record State : Type 0 where
+  pub phase : Phase
+  pub at : ℕ
+  pub standing : Standing
+
+pub record Receiving : Type 0 where
+  pub rules : Rules
+  pub state : State
+
+abbrev pub begun : State
+begun = record { phase = phases.Searching; at = 0; standing = at_start }
+
+-- more can be met
+abbrev pub IsLive : Phase → Type 0
+IsLive phases.Searching = ⊤
+IsLive phases.Closing = ⊤
+IsLive phases.Ended = ⊥
+IsLive phases.Failed = ⊥
+
+abbrev pub phase_after : Met → Phase
+phase_after (frame at over symbols) = phases.Searching
+phase_after (cut at count) = phases.Closing
+phase_after ended = phases.Ended
+
+-- whether no frame comes any more
+abbrev pub rank : Phase → ℕ
+rank phases.Searching = 0
+rank phases.Closing = 1
+rank phases.Ended = 2
+rank phases.Failed = 2
+
+-- what is still to be met in known bytes
+abbrev pub met_left : Rules → Phase → ℕ → Option (List ℕ) → Option (List Met)
+met_left rules phases.Searching at bytes = met_in rules.passes rules.size at false [] bytes
+met_left rules phases.Closing at bytes = Some (ended ∷ [])
+met_left rules phases.Ended at bytes = Some []
+met_left rules phases.Failed at bytes = Some []
+
+-- From one state to another this was met: it is what known bytes spell next, its symbols and no others were read, its packets
+-- and its lines were written and nothing else.
+pub record Went (rules : Rules) (old new : State) (reader_old reader_new packets_old packets_new report_old report_new : Option (List ℕ)) (met : List Met) : Type 0 where
+  pub left : Meets (met_left rules old.phase old.at reader_old) (met_left rules new.phase new.at reader_new) met
+  pub front : List Symbol
+  pub read : YieldsSymbols reader_old reader_new front
+  pub taken : old.at + length front ≡ new.at
+  pub standing : new.standing ≡ after_all rules old.standing met
+  pub packets : Appends packets_old packets_new (all_packets rules old.standing met)
+  pub lines : Appends report_old report_new (all_lines rules old.standing met)
+
+-- The frame of this report was met, and what is decided of its symbols was decided last.
+pub record MetFrame (rules : Rules) (old new : State) (reader_old reader_new packets_old packets_new report_old report_new : Option (List ℕ)) (report : Report) (last : Decision) : Type 0 where
+  pub over : Bool
+  pub symbols : List Symbol
+  pub went : Went rules old new reader_old reader_new packets_old packets_new report_old report_new (frame report.at over symbols ∷ [])
+  pub is_last : last ≡ rules.decide symbols
+
+-- A write failed when this was to be written, the next thing in known bytes: of its packets a part was written and not all;
+-- or its packets whole, and of its line a part and not all.
+pub record BreaksOff (rules : Rules) (old : State) (reader_old packets_old packets_new report_old report_new : Option (List ℕ)) : Type 0 where
+  pub met : Met
+  pub later : Option (List Met)
+  pub next : Meets (met_left rules old.phase old.at reader_old) later (met ∷ [])
+  pub part : FailsIn (packets_of rules old.standing met) (line_of rules old.standing met) packets_old packets_new report_old report_new
+
+-- what a call answers where more could be met
+abbrev pub Answers : Rules → State → State → (reader_old reader_new packets_old packets_new report_old report_new : Option (List ℕ)) → Result Step Fault → Type 0
+Answers rules old new r r' p p' w w' (Ok step) =
+    (met : Met) × (step ≡ step_of rules old.standing met) × (new.phase ≡ phase_after met) × Went rules old new r r' p p' w w' (met ∷ [])
+Answers rules old new r r' p p' w w' (Err faults.Read) = new.phase ≡ phases.Failed
+Answers rules old new r r' p p' w w' (Err faults.Write) = (new.phase ≡ phases.Failed) × BreaksOff rules old r p p' w w'
+Answers rules old new r r' p p' w w' (Err faults.Failed) = ⊥
+
+-- so many symbols were read as a receiver takes
+abbrev pub Reaches : ℕ → ℕ → Option (List ℕ) → Option (List ℕ) → Type 0
+Reaches limit at reader_old reader_new = (front : List Symbol) × YieldsSymbols reader_old reader_new front × (at + length front ≡ limit)
+
+abbrev pub rules_of : (List Symbol → Bool) → ℕ → (List Symbol → Decision) → (Report → List ℕ) → (ℕ → ℕ → List ℕ) → (Totals → List ℕ) → ℕ → Rules
+rules_of passes size decide frame_line cut_line end_line limit =
+    record { passes = passes; size = size; decide = decide; frame_line = frame_line; cut_line = cut_line; end_line = end_line; limit = limit }
+
+abbrev pub state_of : Phase → ℕ → Option (List ℕ) → Totals → State
+state_of phase at held totals = record { phase = phase; at = at; standing = record { held = held; totals = totals } }
+
+-- A run from one state to its end: all that was still to be met was met, and it was met and written as it should be.
+abbrev pub RunsOut : Rules → State → State → (reader_old reader_new packets_old packets_new report_old report_new : Option (List ℕ)) → Type 0
+RunsOut rules old new r r' p p' w w' = (new.phase ≡ phases.Ended) × ((met : List Met) × Went rules old new r r' p p' w w' met)
+
+-- A run from one state on to where a write failed: what was met before is written, and of the next thing a part.
+pub record BreaksAfter (rules : Rules) (old : State) (reader_old packets_old packets_new report_old report_new : Option (List ℕ)) : Type 0 where
+  pub met : List Met
+  pub mid : State
+  pub reader : Option (List ℕ)
+  pub packets : Option (List ℕ)
+  pub report : Option (List ℕ)
+  pub went : Went rules old mid reader_old reader packets_old packets report_old report met
+  pub breaks : BreaksOff rules mid reader packets packets_new report report_new

@@ -1,0 +1,94 @@
+//! A receiver's way to the end of its stream.
+ghost use Rattle.std.specs.Prelude.{◌≡◌, ◌≢◌, ◌+◌, ◌-◌, ◌*◌, ◌^◌, ◌<◌, ◌≤◌, ◌⊎◌, ℕ, List, Option, Some, Ok, Err, IfOk, OnOk, OnErr, IsErrOf, length};
+ghost use Rattle.s2_receive.specs.Receiving.{IsLive, Reaches, RunsOut, begun, BreaksAfter, rules_of, state_of};
+ghost use Rattle.s2_receive.specs.Stepping.{IsSound};
+
+use crate::parts::{Decide, Lines};
+use crate::receiver::Receiver;
+use crate::report::{Fault, Step, Totals};
+use crate::search::Search;
+use s2_mode::{CountedRead, CountedWrite, InMemory, WriteFault};
+
+/// Takes all steps that are left, up to the end line, and answers the totals. After a fault what was met
+/// before it is written whole: `Write` where a packet or a line could not be written, `Read` where a read
+/// failed or the limit was reached; `Failed` never.
+pub fn receive_all<
+    S: Search,
+    D: Decide,
+    L: Lines,
+    R: CountedRead,
+    P: CountedWrite,
+    W: CountedWrite,
+>(
+    receiver: &mut Receiver<S, D, L>,
+    reader: &mut R,
+    packets: &mut P,
+    report: &mut W,
+) -> Result<Totals, Fault>
+    requires reader { R.count reader.old < 2 ^ 64 - 1 }
+    requires packets { P.count packets.old < 2 ^ 64 - 1 }
+    requires report { W.count report.old < 2 ^ 64 - 1 }
+    requires sound { IsSound (length receiver.old.frame.items) (length receiver.old.bytes.items) receiver.old.limit receiver.old.place.at receiver.old.place.totals }
+    requires takes { length receiver.old.frame.items ≡ D.size receiver.old.decider }
+    requires live { IsLive receiver.old.place.phase }
+    ensures all { OnOk result (RunsOut (rules_of (S.passes receiver.old.search) (length receiver.old.frame.items) (D.decide receiver.old.decider) (L.frame_line receiver.old.lines) (L.cut_line receiver.old.lines) (L.end_line receiver.old.lines) receiver.old.limit)
+        (state_of receiver.old.place.phase receiver.old.place.at receiver.old.joiner receiver.old.place.totals) (state_of receiver.new.place.phase receiver.new.place.at receiver.new.joiner receiver.new.place.totals)
+        (R.remaining reader.old) (R.remaining reader.new) (P.contents packets.old) (P.contents packets.new) (W.contents report.old) (W.contents report.new)) }
+    ensures totals { IfOk result (λ totals. totals ≡ receiver.new.place.totals) }
+    ensures breaks { IsErrOf result Fault.Write → BreaksAfter (rules_of (S.passes receiver.old.search) (length receiver.old.frame.items) (D.decide receiver.old.decider) (L.frame_line receiver.old.lines) (L.cut_line receiver.old.lines) (L.end_line receiver.old.lines) receiver.old.limit)
+        (state_of receiver.old.place.phase receiver.old.place.at receiver.old.joiner receiver.old.place.totals)
+        (R.remaining reader.old) (P.contents packets.old) (P.contents packets.new) (W.contents report.old) (W.contents report.new) }
+    ensures read { IsErrOf result Fault.Read → R.count reader.new ≢ R.count reader.old + 1 → (R.count reader.new ≡ R.count reader.old) × Reaches receiver.old.limit receiver.old.place.at (R.remaining reader.old) (R.remaining reader.new) }
+    ensures no_read { result ≢ Err Fault.Read → R.count reader.new ≡ R.count reader.old }
+    ensures write { IsErrOf result Fault.Write → ((P.count packets.new ≡ P.count packets.old + 1) × (W.count report.new ≡ W.count report.old))
+        ⊎ ((P.count packets.new ≡ P.count packets.old) × (W.count report.new ≡ W.count report.old + 1)) }
+    ensures no_write { result ≢ Err Fault.Write → (P.count packets.new ≡ P.count packets.old) × (W.count report.new ≡ W.count report.old) }
+    ensures no_other { result ≢ Err Fault.Failed }
+    ensures sound { IsSound (length receiver.new.frame.items) (length receiver.new.bytes.items) receiver.new.limit receiver.new.place.at receiver.new.place.totals }
+    ensures takes { length receiver.new.frame.items ≡ D.size receiver.new.decider }
+    ensures rules { rules_of (S.passes receiver.new.search) (length receiver.new.frame.items) (D.decide receiver.new.decider) (L.frame_line receiver.new.lines) (L.cut_line receiver.new.lines) (L.end_line receiver.new.lines) receiver.new.limit
+        ≡ rules_of (S.passes receiver.old.search) (length receiver.old.frame.items) (D.decide receiver.old.decider) (L.frame_line receiver.old.lines) (L.cut_line receiver.old.lines) (L.end_line receiver.old.lines) receiver.old.limit }
+{
+    'steps: for _step in 0..u64::MAX {
+        match receiver.next(reader, packets, report) {
+            Ok(step) => {
+                if step == Step::End {
+                    return Ok(receiver.totals());
+                }
+            }
+            Err(fault) => return Err(fault),
+        }
+    }
+    Err(Fault::Read)
+}
+
+/// Receives a whole stream that is in memory and shorter than the limit, from its first symbol to the end
+/// line. Only a write can fail; one to three bytes that are left over at the end are dropped.
+pub fn receive_bytes<S: Search, D: Decide, L: Lines, P: CountedWrite, W: CountedWrite>(
+    receiver: &mut Receiver<S, D, L>,
+    bytes: &[u8],
+    packets: &mut P,
+    report: &mut W,
+) -> Result<Totals, WriteFault>
+    requires packets { P.count packets.old < 2 ^ 64 - 1 }
+    requires report { W.count report.old < 2 ^ 64 - 1 }
+    requires sound { IsSound (length receiver.old.frame.items) (length receiver.old.bytes.items) receiver.old.limit receiver.old.place.at receiver.old.place.totals }
+    requires takes { length receiver.old.frame.items ≡ D.size receiver.old.decider }
+    requires begun { state_of receiver.old.place.phase receiver.old.place.at receiver.old.joiner receiver.old.place.totals ≡ begun }
+    requires limit { length bytes.now < 4 * receiver.old.limit }
+    ensures all { OnOk result ((left : Option (List ℕ)) × RunsOut (rules_of (S.passes receiver.old.search) (length receiver.old.frame.items) (D.decide receiver.old.decider) (L.frame_line receiver.old.lines) (L.cut_line receiver.old.lines) (L.end_line receiver.old.lines) receiver.old.limit)
+        begun (state_of receiver.new.place.phase receiver.new.place.at receiver.new.joiner receiver.new.place.totals)
+        (Some bytes.now) left (P.contents packets.old) (P.contents packets.new) (W.contents report.old) (W.contents report.new)) }
+    ensures totals { IfOk result (λ totals. totals ≡ receiver.new.place.totals) }
+    ensures breaks { OnErr result (BreaksAfter (rules_of (S.passes receiver.old.search) (length receiver.old.frame.items) (D.decide receiver.old.decider) (L.frame_line receiver.old.lines) (L.cut_line receiver.old.lines) (L.end_line receiver.old.lines) receiver.old.limit)
+        begun (Some bytes.now) (P.contents packets.old) (P.contents packets.new) (W.contents report.old) (W.contents report.new)) }
+    ensures write { OnErr result (((P.count packets.new ≡ P.count packets.old + 1) × (W.count report.new ≡ W.count report.old))
+        ⊎ ((P.count packets.new ≡ P.count packets.old) × (W.count report.new ≡ W.count report.old + 1))) }
+    ensures no_write { OnOk result ((P.count packets.new ≡ P.count packets.old) × (W.count report.new ≡ W.count report.old)) }
+{
+    let mut reader = InMemory::new(bytes);
+    match receive_all(receiver, &mut reader, packets, report) {
+        Ok(totals) => Ok(totals),
+        Err(_fault) => Err(WriteFault),
+    }
+}

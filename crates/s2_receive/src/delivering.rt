@@ -1,0 +1,77 @@
+//! A frame decided, and its packets written.
+ghost use Rattle.std.specs.Prelude.{◌≡◌, ◌+◌, ◌-◌, ◌*◌, ◌^◌, ◌<◌, ◌≤◌, ◌⊎◌, None, IfOk, OnOk, OnErr, length};
+ghost use Rattle.std.specs.List.{flat_map};
+ghost use Rattle.std.specs.Io.KnownBytes.{Appends};
+ghost use Rattle.s2_mode.specs.Counts.{CountsFault};
+ghost use Rattle.s2_mode.specs.Pieces.{AppendsPart};
+ghost use Rattle.s2_receive.specs.Receiving.{joined_after, count_of};
+
+use crate::parts::{Decide, Decided};
+use crate::report::{Outcome, Verdict};
+use s2_bbframe::Joiner;
+use s2_mode::{CountedWrite, Symbol, WriteFault};
+
+/// What a frame gave: 1 or 0 delivered messages, packets, and bodies with a wrong CRC-8.
+#[derive(Clone, Copy)]
+pub(crate) struct Given {
+    pub(crate) verdict: Verdict,
+    pub(crate) outcome: Outcome,
+    pub(crate) delivered: u64,
+    pub(crate) good: u64,
+    pub(crate) bad: u64,
+}
+
+/// Decides a frame and joins its data field on. A gap comes before it where symbols were passed over, and
+/// in its place where nothing was delivered.
+pub(crate) fn give_packets<D: Decide, P: CountedWrite>(
+    decider: &mut D,
+    joiner: &mut Joiner,
+    symbols: &[Symbol],
+    over: bool,
+    packets: &mut P,
+) -> Result<Given, WriteFault>
+    requires packets { P.count packets.old < 2 ^ 64 - 1 }
+    requires size { length symbols.now ≡ D.size decider.old }
+    ensures verdict { IfOk result (λ given. given.verdict ≡ (D.decide decider.old symbols.now).verdict) }
+    ensures outcome { IfOk result (λ given. given.outcome ≡ (D.decide decider.old symbols.now).outcome) }
+    ensures delivered { IfOk result (λ given. given.delivered ≡ count_of (D.decide decider.old symbols.now).delivered) }
+    ensures good { IfOk result (λ given. given.good ≡ length (joined_after joiner.old over (D.decide decider.old symbols.now).delivered).good) }
+    ensures bad { IfOk result (λ given. given.bad ≡ (joined_after joiner.old over (D.decide decider.old symbols.now).delivered).bad) }
+    ensures few { IfOk result (λ given. (given.delivered ≤ 1) × (given.good + given.bad ≤ 8191)) }
+    ensures held { OnOk result (joiner.new ≡ (joined_after joiner.old over (D.decide decider.old symbols.now).delivered).held) }
+    ensures packets { OnOk result (Appends (P.contents packets.old) (P.contents packets.new) (flat_map (λ packet. packet) (joined_after joiner.old over (D.decide decider.old symbols.now).delivered).good)) }
+    ensures part { OnErr result (AppendsPart (flat_map (λ packet. packet) (joined_after joiner.old over (D.decide decider.old symbols.now).delivered).good) (P.contents packets.old) (P.contents packets.new)) }
+    ensures cause { CountsFault (P.count packets.old) (P.count packets.new) result }
+    ensures last { D.last decider.new ≡ D.decide decider.old symbols.now }
+    ensures same { D.decide decider.new ≡ D.decide decider.old }
+    ensures size { D.size decider.new ≡ D.size decider.old }
+{
+    if over {
+        joiner.gap();
+    }
+    let Decided {
+        verdict,
+        outcome,
+        header,
+    } = decider.decide(symbols);
+    let Some(header) = header else {
+        joiner.gap();
+        return Ok(Given {
+            verdict,
+            outcome,
+            delivered: 0,
+            good: 0,
+            bad: 0,
+        });
+    };
+    let Ok(fed) = joiner.feed(&header, decider.field(), packets) else {
+        return Err(WriteFault);
+    };
+    Ok(Given {
+        verdict,
+        outcome,
+        delivered: 1,
+        good: fed.good as u64,
+        bad: fed.bad as u64,
+    })
+}

@@ -1,0 +1,39 @@
+//! The receiver's way through a stream of symbols: it finds each frame by its header (EN 302 307-1, 5.5.2), has it
+//! decided, joins the packets of delivered data fields (5.1), and reports line by line.
+//!
+//! It stands below the modem's receiver and knows neither codes nor soft values: a [`Search`] says where a
+//! header ends, a [`Decide`] what a frame's symbols bring, [`Lines`] how the report is spelled.
+//! [`Receiver::next`] takes one step: the reader gives the symbols up to that step's end and no others, the
+//! answer is the first frame at or after the end of the last one, a frame that lacks symbols, or the end, and
+//! just its packets and its line are written. [`receive_all`] and [`receive_bytes`] take all steps. What is
+//! met is a function of the symbols (`specs/Meeting.antt`), and what stands, is written and is answered then a
+//! function of what is met (`specs/Receiving.antt`). [`laws`] has what follows: the search in its own words,
+//! that packets are joined without a gap alone, that frames received as they were sent give what was sent,
+//! and that it doesn't matter how a reader cuts the bytes. Only [`Receiver::new`] takes memory.
+//!
+//! ```
+//! let mut receiver = Receiver::new(alloc, search, decider, lines, size, MOST_SYMBOLS)?;
+//! let step = receiver.next(&mut reader, &mut packets, &mut report)?;
+//! let totals = receive_all(&mut receiver, &mut reader, &mut packets, &mut report)?;
+//! ```
+#![tactic(auto)]
+
+mod all;
+mod delivering;
+mod finding;
+pub mod laws;
+mod parts;
+mod reading;
+mod receiver;
+mod report;
+mod search;
+mod stepping;
+
+pub use all::{receive_all, receive_bytes};
+pub use parts::{Decide, Decided, Lines};
+pub use receiver::{MOST_SYMBOLS, Receiver};
+pub use report::{Fault, Outcome, Phase, Report, Step, Totals, Verdict};
+pub use search::Search;
+
+#[cfg(test)]
+mod tests;

@@ -1,0 +1,75 @@
+//! What a receiver answers and counts.
+use s2_bbframe::HeaderFault;
+use thiserror::Error;
+
+/// What is known of a frame's decided bits: that no codeword costs less under its soft values, that they are
+/// a codeword, or that they are none.
+#[derive(Clone, Copy, Debug, PartialEq, Eq)]
+pub enum Verdict {
+    MostLikely,
+    Parity,
+    Broken,
+}
+
+/// What came of the decided bits: a message whose header is accepted, with so many places changed by BCH
+/// decoding; no word of the BCH code near enough; or a message whose header is refused.
+#[derive(Clone, Copy, Debug, PartialEq, Eq)]
+pub enum Outcome {
+    Delivered { fixed: u32 },
+    NoWord,
+    BadHeader(HeaderFault),
+}
+
+/// The report of a frame.
+#[derive(Clone, Copy, Debug, PartialEq, Eq)]
+pub struct Report {
+    /// Counted from 1.
+    pub number: u64,
+    /// The symbol at which it begins, counted from 0.
+    pub at: u64,
+    pub verdict: Verdict,
+    pub outcome: Outcome,
+}
+
+/// What came so far.
+#[derive(Clone, Copy, Debug, PartialEq, Eq)]
+pub struct Totals {
+    pub frames: u64,
+    pub delivered: u64,
+    pub packets: u64,
+    pub bad: u64,
+    pub cut: bool,
+}
+
+/// What a step came to: a frame; a frame that lacks symbols, at which symbol it begins and how many it has; or
+/// the end.
+#[derive(Clone, Copy, Debug, PartialEq, Eq)]
+pub enum Step {
+    Frame(Report),
+    Cut { at: u64, symbols: u64 },
+    End,
+}
+
+/// Why a receiver stopped. From a fault on every call answers `Failed`.
+#[derive(Clone, Copy, Debug, PartialEq, Eq, Error)]
+pub enum Fault {
+    /// A read failed, or so many symbols were taken as are allowed.
+    #[error("cannot read")]
+    Read,
+    /// A packet or a line of the report could not be written.
+    #[error("cannot write")]
+    Write,
+    /// An earlier call had a fault.
+    #[error("stopped by an earlier fault")]
+    Failed,
+}
+
+/// What a receiver will do next.
+#[derive(Clone, Copy, Debug, PartialEq, Eq)]
+pub enum Phase {
+    Searching,
+    /// A cut frame came, and the last line is still to be written.
+    Closing,
+    Ended,
+    Failed,
+}

@@ -1,0 +1,187 @@
+//! One step of a receiver.
+ghost use Rattle.std.specs.Prelude.{◌≡◌, ◌≢◌, ◌+◌, ◌-◌, ◌*◌, ◌^◌, ◌<◌, ◌≤◌, ◌⊎◌, ◌∷◌, [], List, None, Ok, Err, IfOk, OnOk, OnErr, IsErrOf, IsErr, length};
+ghost use Rattle.std.specs.List.{flat_map};
+ghost use Rattle.std.specs.Io.KnownBytes.{Appends};
+ghost use Rattle.s2_mode.specs.Counts.{CountsFault};
+ghost use Rattle.s2_mode.specs.Pieces.{AppendsPart};
+ghost use Rattle.s2_receive.specs.declared.report.Report.{Report as ReportValue};
+ghost use Rattle.s2_receive.specs.Receiving.{IsLive, Answers, MetFrame, Reaches, joined_after, totals_after, cut_totals, count_of, rules_of, state_of, report_for};
+ghost use Rattle.s2_receive.specs.Stepping.{Fits, HasRoom, FailsIn};
+
+use crate::delivering::{Given, give_packets};
+use crate::finding::{Found, find_frame};
+use crate::parts::{Decide, Lines};
+use crate::report::{Fault, Phase, Report, Step, Totals};
+use crate::search::{HEADER_SYMBOLS, Search};
+use s2_bbframe::Joiner;
+use s2_mode::{CountedRead, CountedWrite, Symbol, WriteFault};
+
+/// Where a receiver stands: how many symbols it took, and what came so far.
+#[derive(Clone, Copy)]
+pub(crate) struct Place {
+    pub(crate) phase: Phase,
+    pub(crate) at: u64,
+    pub(crate) totals: Totals,
+}
+
+/// Decides a frame, writes its packets, then its line. The totals change only where both were written.
+fn deliver<D: Decide, L: Lines, P: CountedWrite, W: CountedWrite>(
+    decider: &mut D,
+    lines: &L,
+    joiner: &mut Joiner,
+    totals: &mut Totals,
+    symbols: &[Symbol],
+    at: u64,
+    over: bool,
+    packets: &mut P,
+    report: &mut W,
+) -> Result<Report, WriteFault>
+    requires packets { P.count packets.old < 2 ^ 64 - 1 }
+    requires report { W.count report.old < 2 ^ 64 - 1 }
+    requires totals { HasRoom totals.old }
+    requires size { length symbols.now ≡ D.size decider.old }
+    ensures report { IfOk result (λ r. r ≡ report_for (D.decide decider.old symbols.now) totals.old at) }
+    ensures held { OnOk result (joiner.new ≡ (joined_after joiner.old over (D.decide decider.old symbols.now).delivered).held) }
+    ensures totals { OnOk result (totals.new ≡ totals_after totals.old (joined_after joiner.old over (D.decide decider.old symbols.now).delivered) (count_of (D.decide decider.old symbols.now).delivered)) }
+    ensures few { OnOk result ((totals.new.delivered ≤ totals.old.delivered + 1) × (totals.new.packets + totals.new.bad ≤ totals.old.packets + totals.old.bad + 8191)) }
+    ensures packets { OnOk result (Appends (P.contents packets.old) (P.contents packets.new) (flat_map (λ packet. packet) (joined_after joiner.old over (D.decide decider.old symbols.now).delivered).good)) }
+    ensures line { OnOk result (Appends (W.contents report.old) (W.contents report.new) (L.frame_line lines.now (report_for (D.decide decider.old symbols.now) totals.old at))) }
+    ensures part { OnErr result (FailsIn (flat_map (λ packet. packet) (joined_after joiner.old over (D.decide decider.old symbols.now).delivered).good) (L.frame_line lines.now (report_for (D.decide decider.old symbols.now) totals.old at))
+        (P.contents packets.old) (P.contents packets.new) (W.contents report.old) (W.contents report.new)) }
+    ensures unchanged { OnErr result (totals.new ≡ totals.old) }
+    ensures counts { OnOk result ((P.count packets.new ≡ P.count packets.old) × (W.count report.new ≡ W.count report.old)) }
+    ensures cause { OnErr result (((P.count packets.new ≡ P.count packets.old + 1) × (W.count report.new ≡ W.count report.old)) ⊎ ((P.count packets.new ≡ P.count packets.old) × (W.count report.new ≡ W.count report.old + 1))) }
+    ensures last { D.last decider.new ≡ D.decide decider.old symbols.now }
+    ensures same { D.decide decider.new ≡ D.decide decider.old }
+    ensures size { D.size decider.new ≡ D.size decider.old }
+{
+    let Ok(given) = give_packets(decider, joiner, symbols, over, packets) else {
+        return Err(WriteFault);
+    };
+    let after = Totals {
+        frames: totals.frames + 1,
+        delivered: totals.delivered + given.delivered,
+        packets: totals.packets + given.good,
+        bad: totals.bad + given.bad,
+        cut: totals.cut,
+    };
+    let line = Report {
+        number: after.frames,
+        at,
+        verdict: given.verdict,
+        outcome: given.outcome,
+    };
+    let Ok(()) = lines.write_frame(line, report) else {
+        return Err(WriteFault);
+    };
+    *totals = after;
+    Ok(line)
+}
+
+/// Takes a receiver's parts one step on. It counts as failed until all of the step is written.
+pub(crate) fn take_step<
+    S: Search,
+    D: Decide,
+    L: Lines,
+    R: CountedRead,
+    P: CountedWrite,
+    W: CountedWrite,
+>(
+    search: &mut S,
+    decider: &mut D,
+    lines: &L,
+    joiner: &mut Joiner,
+    frame: &mut [Symbol],
+    bytes: &mut [u8],
+    place: &mut Place,
+    limit: u64,
+    reader: &mut R,
+    packets: &mut P,
+    report: &mut W,
+) -> Result<Step, Fault>
+    requires reader { R.count reader.old < 2 ^ 64 - 1 }
+    requires packets { P.count packets.old < 2 ^ 64 - 1 }
+    requires report { W.count report.old < 2 ^ 64 - 1 }
+    requires size { (HEADER_SYMBOLS ≤ length frame.old) × (length frame.old ≤ 2 ^ 32) }
+    requires bytes { length bytes.old ≡ 4 * length frame.old }
+    requires takes { length frame.old ≡ D.size decider.old }
+    requires fits { Fits limit place.old.at place.old.totals }
+    ensures live { IsLive place.old.phase → Answers
+        (rules_of (S.passes search.old) (length frame.old) (D.decide decider.old) (L.frame_line lines.now) (L.cut_line lines.now) (L.end_line lines.now) limit)
+        (state_of place.old.phase place.old.at joiner.old place.old.totals) (state_of place.new.phase place.new.at joiner.new place.new.totals)
+        (R.remaining reader.old) (R.remaining reader.new) (P.contents packets.old) (P.contents packets.new) (W.contents report.old) (W.contents report.new) result }
+    ensures frame { (r : ReportValue) → result ≡ Ok (Step.Frame r) → MetFrame
+        (rules_of (S.passes search.old) (length frame.old) (D.decide decider.old) (L.frame_line lines.now) (L.cut_line lines.now) (L.end_line lines.now) limit)
+        (state_of place.old.phase place.old.at joiner.old place.old.totals) (state_of place.new.phase place.new.at joiner.new place.new.totals)
+        (R.remaining reader.old) (R.remaining reader.new) (P.contents packets.old) (P.contents packets.new) (W.contents report.old) (W.contents report.new) r (D.last decider.new) }
+    ensures ended { place.old.phase ≡ Phase.Ended → result ≡ Ok Step.End }
+    ensures failed { place.old.phase ≡ Phase.Failed → result ≡ Err Fault.Failed }
+    ensures nothing { (IsLive place.old.phase → ⊥) → (place.new ≡ place.old) × (joiner.new ≡ joiner.old) × (reader.new ≡ reader.old) × (packets.new ≡ packets.old) × (report.new ≡ report.old) }
+    ensures read { IsErrOf result Fault.Read → (packets.new ≡ packets.old) × (report.new ≡ report.old)
+        × (R.count reader.new ≢ R.count reader.old + 1 → (R.count reader.new ≡ R.count reader.old) × Reaches limit place.old.at (R.remaining reader.old) (R.remaining reader.new)) }
+    ensures no_read { result ≢ Err Fault.Read → R.count reader.new ≡ R.count reader.old }
+    ensures write { IsErrOf result Fault.Write → ((P.count packets.new ≡ P.count packets.old + 1) × (W.count report.new ≡ W.count report.old))
+        ⊎ ((P.count packets.new ≡ P.count packets.old) × (W.count report.new ≡ W.count report.old + 1)) }
+    ensures no_write { result ≢ Err Fault.Write → (P.count packets.new ≡ P.count packets.old) × (W.count report.new ≡ W.count report.old) }
+    ensures fits { Fits limit place.new.at place.new.totals }
+    ensures passes { S.passes search.new ≡ S.passes search.old }
+    ensures decide { D.decide decider.new ≡ D.decide decider.old }
+    ensures takes { D.size decider.new ≡ D.size decider.old }
+{
+    match place.phase {
+        Phase::Failed => return Err(Fault::Failed),
+        Phase::Ended => return Ok(Step::End),
+        Phase::Closing => {
+            place.phase = Phase::Failed;
+            let Ok(()) = lines.write_end(place.totals, report) else {
+                return Err(Fault::Write);
+            };
+            place.phase = Phase::Ended;
+            return Ok(Step::End);
+        }
+        Phase::Searching => {}
+    }
+    place.phase = Phase::Failed;
+    let size = frame.len() as u64;
+    let Ok(found) = find_frame(search, reader, bytes, frame, place.at, false, limit) else {
+        return Err(Fault::Read);
+    };
+    match found {
+        Found::Frame { at, over } => {
+            let Ok(line) = deliver(
+                decider,
+                lines,
+                joiner,
+                &mut place.totals,
+                frame,
+                at,
+                over,
+                packets,
+                report,
+            ) else {
+                return Err(Fault::Write);
+            };
+            place.at = at + size;
+            place.phase = Phase::Searching;
+            Ok(Step::Frame(line))
+        }
+        Found::Cut { at, count } => {
+            joiner.gap();
+            let Ok(()) = lines.write_cut(at, count, report) else {
+                return Err(Fault::Write);
+            };
+            place.at = at + count;
+            place.totals.cut = true;
+            place.phase = Phase::Closing;
+            Ok(Step::Cut { at, symbols: count })
+        }
+        Found::End { at } => {
+            let Ok(()) = lines.write_end(place.totals, report) else {
+                return Err(Fault::Write);
+            };
+            place.at = at;
+            place.phase = Phase::Ended;
+            Ok(Step::End)
+        }
+    }
+}
