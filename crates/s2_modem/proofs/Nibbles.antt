@@ -2,7 +2,7 @@
 use Rattle.std.proofs.Common.{◌≡◌, ℕ, ◌<◌, ◌/◌, ◌%◌, Bool, true, false, List, [], ◌∷◌, get_or, map, refl, sym, ap, ◌∙◌, arith}
 use Rattle.std.specs.List.{range_with_len}
 use Rattle.std.proofs.lemmas.List.FromFn.{get_or-map-range_with_len}
-use Rattle.s2_bbframe.specs.Crc.{bits_of as byte_bits}
+use Rattle.s2_bits.specs.Bits.{bits_of_byte as byte_bits}
 
 -- the rows of the table
 abbrev pub nibbles : List (List Bool)

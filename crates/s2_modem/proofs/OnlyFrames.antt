@@ -16,12 +16,12 @@ use Rattle.s2_bch.proofs.GeneratorDegrees.{parity_bits}
 use Rattle.s2_bch.proofs.WordFacts.{word-unique}
 use Rattle.s2_ldpc.specs.Encoding.{IsCodewordOf, UniqueLaw}
 use Rattle.s2_modem.specs.Link.{Link}
-use Rattle.s2_bbframe.specs.Crc.{bits_of as byte_bits}
+use Rattle.s2_bits.specs.Bits.{bits_of_byte as byte_bits}
 use Rattle.s2_modem.specs.Spelling.{bits_of, padded_bits}
 use Rattle.s2_modem.specs.Frames.{baseband_frame, IsCodewordFor, IsFrameOf, frame_bytes}
 use Rattle.s2_modem.specs.Laws.{FrameLaw}
 
-length-bits_of : (bytes : List ℕ) → length (bits_of bytes) ≡ 8 * length bytes
+pub length-bits_of : (bytes : List ℕ) → length (bits_of bytes) ≡ 8 * length bytes
 unfolding byte_bits
 length-bits_of [] = refl
 length-bits_of (b ∷ bytes) =
@@ -33,7 +33,7 @@ length-header_bytes : (h : Header) → length (header_bytes h) ≡ 10
 length-header_bytes h = refl
 
 -- a baseband frame has Kbch bits
-length-baseband_frame : (m : Mode) (h : Header) (field : List ℕ) → HasCodeSizes m → length field ≤ field_bytes m → length (baseband_frame m h field) ≡ kbch_of m
+pub length-baseband_frame : (m : Mode) (h : Header) (field : List ℕ) → HasCodeSizes m → length field ≤ field_bytes m → length (baseband_frame m h field) ≡ kbch_of m
 length-baseband_frame m h field sizes fits =
     let header : length (header_bytes h) ≡ 10 = length-header_bytes h in
     let bytes : length (header_bytes h ++ field) ≡ length (header_bytes h) + length field = length-append (header_bytes h) field in
@@ -49,7 +49,7 @@ module _ (m : Mode) (sizes : HasCodeSizes m) where
       let begins = (parity_bits m sizes).generator.begins in
       word-unique (drop 1 (generator_of m)) message u v (subst (λ g. IsWordOf g message u) begins U) (subst (λ g. IsWordOf g message v) begins V)
 
-  length-bch_word : (message u : List Bool) → length message ≡ kbch_of m → IsBchWordOf m message u → length u ≡ k_of m
+  pub length-bch_word : (message u : List Bool) → length message ≡ kbch_of m → IsBchWordOf m message u → length u ≡ k_of m
   length-bch_word message u long U =
       let parity = parity_bits m sizes in
       omega (arith, U.size, parity.size, parity.generator.size)

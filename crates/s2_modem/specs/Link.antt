@@ -11,6 +11,9 @@ pub record Link : Type 0 where
   pub setup : Setup
   pub rows : Rows
 
+abbrev pub link_of : Setup → Rows → Link
+link_of setup rows = record { setup = setup; rows = rows }
+
 -- the rows are of the mode's shape
 abbrev pub HasShape : Setup → Rows → Type 0
 HasShape setup rows = rows.shape ≡ shape_in setup.mode

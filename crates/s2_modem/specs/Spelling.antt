@@ -2,7 +2,7 @@
 use Rattle.std.specs.Prelude.{ℕ, ◌-◌, ◌*◌, Bool, false, List, ◌++◌, length, replicate}
 use Rattle.std.specs.List.{flat_map}
 use Rattle.s2_mode.specs.declared.symbols.Symbol.{Symbol}
-use Rattle.s2_bbframe.specs.Crc.{bits_of as byte_bits}
+use Rattle.s2_bits.specs.Bits.{bits_of_byte as byte_bits}
 use Rattle.s2_mode.specs.Symbols.{symbol_bytes}
 
 -- the bits of some bytes

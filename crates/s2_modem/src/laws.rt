@@ -1,5 +1,6 @@
 //! What the definitions determine: each a call that does nothing, whose clause is the law.
 ghost use Rattle.s2_modem.specs.Laws.{FrameLaw, RunLaw};
+ghost use Rattle.s2_modem.specs.Headline.{LikelyFrameLaw, BothCodesLaw, ScatteredFrameLaw, HearsLaw, ArrivalLaw};
 
 use s2_mode::Mode;
 
@@ -17,4 +18,43 @@ pub fn one_run(mode: Mode)
     ensures { RunLaw mode }
 {
     one_frame(mode);
+}
+
+/// The bits of a frame that is called most likely satisfy every check, and no bits that do cost less
+/// under its soft values.
+pub fn likely_frame(mode: Mode)
+    ensures { LikelyFrameLaw mode }
+{
+    let _ = mode.k();
+}
+
+/// Both codes together: where the decided bits of the BCH word differ from those sent in at most t
+/// places, the data field that was sent is delivered, and the report tells in how many.
+pub fn both_codes(mode: Mode)
+    ensures { BothCodesLaw mode }
+{
+    let _ = mode.k();
+}
+
+/// A frame whose soft values are scattered about the codeword that was sent is delivered, certified,
+/// with no bit changed.
+pub fn scattered_frame(mode: Mode)
+    ensures { ScatteredFrameLaw mode }
+{
+    let _ = mode.k();
+}
+
+/// A frame without noise is found where it begins, and delivered, certified, with no bit changed.
+pub fn hears(mode: Mode)
+    ensures { HearsLaw mode }
+{
+    let _ = mode.k();
+}
+
+/// All packets that a transmitter reads are written by a receiver of the symbols that it writes, and
+/// each frame is reported as certified, with no bit changed.
+pub fn arrival(mode: Mode)
+    ensures { ArrivalLaw mode }
+{
+    let _ = mode.k();
 }

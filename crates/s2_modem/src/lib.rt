@@ -1,17 +1,28 @@
-//! The transmitter of a DVB-S2 link (EN 302 307-1, 5.1 to 5.5): transport stream packets in, symbols
-//! out, two bytes for I and two for Q. It puts together the stages of the crates below.
+//! Both ends of a DVB-S2 link (EN 302 307-1, 5.1 to 5.5): transport stream packets in and symbols
+//! out, two bytes for I and two for Q; and symbols in and packets out. It puts together the stages of
+//! the crates below.
 //!
-//! [`Transmitter::new`] takes all the memory that will be needed, or answers the first of its
-//! refusals. [`Transmitter::run`] reads packets to the reader's end. `Ok` means that the writer has
-//! gained exactly the frames of the codewords of the BCH words of the scrambled baseband frames of
-//! the data stream's fields, in order. A refusal comes exactly where the packets give cause for it,
-//! or a read or a write failed; it leaves exactly the frames of the full fields of the packets
-//! accepted before, and only a failed write may leave fewer of them, and a part of the next one.
+//! [`Transmitter::new`] and [`Receiver::new`] take all the memory that will be needed, or answer the
+//! first of their refusals. [`Transmitter::run`] reads packets to the reader's end. `Ok` means that
+//! the writer has gained exactly the frames of the codewords of the BCH words of the scrambled
+//! baseband frames of the data stream's fields, in order. A refusal comes exactly where the packets
+//! give cause for it, or a read or a write failed; it leaves exactly the frames of the full fields of
+//! the packets accepted before, and only a failed write may leave fewer of them, and a part of the
+//! next one.
+//!
+//! [`Receiver::next`] takes just the symbols of the next frame, at the first header that is not before
+//! the last frame's end. What it reports and writes is exactly what the definitions say of these
+//! symbols: soft values, decided bits with a verdict, the nearest BCH word, its message's header, and
+//! the packets that the joiner makes of its data field. Bits that are called most likely satisfy every
+//! check, and no bits that do cost less ([`receive::deciding_laws`]). [`demodulate`] does so for a
+//! whole stream in memory.
 //!
 //! ```text
 //! let setup = Setup { mode, number: 0, roll_off: 0 };
 //! let mut transmitter = Transmitter::new(alloc, setup, &matrix)?;
 //! let counts = transmitter.run(&mut reader, &mut writer)?;
+//! let mut receiver = Receiver::new(alloc, setup, &matrix, 50)?;
+//! let step = receiver.next(&mut symbols, &mut packets, &mut report)?;
 //! ```
 #![tactic(auto)]
 
@@ -20,12 +31,14 @@ mod framer;
 pub mod laws;
 mod modulator;
 mod outcome;
+pub mod receive;
 mod sending;
 mod setup;
 mod spelling;
 mod transmitter;
 
 pub use outcome::{Counts, SendFault};
+pub use receive::{DemodFault, Judge, MOST_ROUNDS, Receiver, demodulate};
 pub use sending::MOST_PACKETS;
 pub use setup::{MOST_ROLL_OFF, Setup, SetupFault};
 pub use transmitter::Transmitter;

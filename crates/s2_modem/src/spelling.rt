@@ -1,7 +1,7 @@
 //! Bytes spelt as bits, and symbols as bytes.
 ghost use Rattle.std.specs.Prelude.{◌≡◌, ◌+◌, ◌*◌, ◌≤◌, length};
 ghost use Rattle.s2_mode.specs.Symbols.{symbol_bytes};
-ghost use Rattle.s2_bbframe.specs.Crc.{bits_of as byte_bits};
+ghost use Rattle.s2_bits.specs.Bits.{bits_of_byte as byte_bits};
 ghost use Rattle.s2_modem.specs.Spelling.{bits_of, padded_bits, bytes_of};
 
 use s2_mode::Symbol;

@@ -1,7 +1,7 @@
 use Rattle.std.proofs.Common.{◌≡◌, ℕ, ◌<◌, ◌+◌, ◌*◌, ◌++◌, List, [], ◌∷◌, ap, ◌∙◌, take, get_or, length, sym, arith, append-nil}
 use Rattle.std.proofs.lemmas.List.{take_more}
 use Rattle.std.proofs.lemmas.List.Concat.{flat_map-append}
-use Rattle.s2_bbframe.specs.Crc.{bits_of as byte_bits}
+use Rattle.s2_bits.specs.Bits.{bits_of_byte as byte_bits}
 use Rattle.s2_modem.specs.Spelling.{bits_of}
 use Rattle.s2_modem.proofs.Pieces.{eight_more}
 use Rattle.s2_modem.proofs.spelling.bits_into.Goals as goal

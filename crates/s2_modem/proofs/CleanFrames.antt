@@ -1,0 +1,328 @@
+-- A frame without noise is delivered, certified, with nothing changed.
+use Rattle.std.proofs.Common.{◌≡◌, ℕ, zero, suc, ◌+◌, ◌-◌, ◌*◌, ◌/◌, ◌%◌, ◌^◌, ◌<◌, ◌≤◌, ◌==◌, Bool, true, false, List, [], ◌∷◌, ◌++◌, All, length, take, drop, map, get_or, Option, Some, None, Ok, refl, sym, ap, subst, ◌∙◌, arith, append_assoc, length-append, length-take, length-drop, ℤ}
+use Rattle.std.specs.Prelude.{◌&&◌, ◌||◌, nat_le, nat_lt}
+use Rattle.std.specs.List.{range_with_len}
+use Rattle.std.specs.Int.{w16, to_be_bytes}
+use Rattle.std.proofs.lemmas.Bool.{eqb-true, le-leb, eq-eqb}
+use Rattle.std.proofs.lemmas.List.{ext_get_or, get_or-take, get_or-drop, get_or-append_right, take_at, drop_at, take_all, length-map}
+use Rattle.std.proofs.lemmas.List.FromFn.{fill_by_all, length-map-range_with_len}
+use Rattle.std.proofs.lemmas.List.Elements.{All-nil, All-cons, All-head, All-tail, All-append}
+use Rattle.s2_mode.specs.Mode.{Mode, IsMode, HasCodeSizes, k_of, kbch_of, n_of, t_of, slots_of, symbols_in, shape_in}
+use Rattle.s2_mode.specs.declared.symbols.Symbol.{Symbol}
+use Rattle.s2_mode.proofs.Modes.{frame_sizes}
+use Rattle.s2_plframe.specs.declared.found.Found.TheVariants as founds
+use Rattle.s2_rows.specs.Rows.{Rows}
+use Rattle.s2_bits.specs.Bits.{bit_at, byte_of, differences, number, xor}
+use Rattle.s2_matrix.specs.Code.{code_of, IsCodeword}
+use Rattle.s2_check.specs.Hard.{hard_decision}
+use Rattle.s2_bbframe.specs.Crc.{crc8}
+use Rattle.s2_bits.specs.Bits.{bits_of_byte as byte_bits}
+use Rattle.s2_bbframe.specs.declared.header.Header.{Header}
+use Rattle.s2_bbframe.specs.Headers.{header_bytes, has_valid_lengths, reading, signalling}
+use Rattle.s2_bbframe.specs.DataStream.{header_at, to_place, field_bytes}
+use Rattle.s2_bbframe.proofs.Finite.{at_number}
+use Rattle.s2_bbframe.proofs.Headers.{reading-header_bytes}
+use Rattle.s2_bbframe.proofs.Division.{divided}
+use Rattle.s2_scramble.specs.Baseband.{scrambled}
+use Rattle.s2_scramble.proofs.Blocks.{scrambled-scrambled}
+use Rattle.s2_bch.specs.Codes.{IsBchWord, IsBchWordOf, IsWithin}
+use Rattle.s2_bch.specs.Decoding.{nearest}
+use Rattle.s2_bch.proofs.NearestWords.{within_is_nearest}
+use Rattle.s2_map.specs.Mapping.{payload_of}
+use Rattle.s2_plframe.specs.Header.{header_bit}
+use Rattle.s2_plframe.specs.Frame.{frame_symbol, frame_symbols}
+use Rattle.s2_plframe.specs.Search.{decision, passes, found}
+use Rattle.s2_soft.specs.Soft.{soft_values, soft_bit}
+use Rattle.s2_receive.specs.Receiving.{Decision, Rules}
+use Rattle.s2_receive.specs.Laws.{IsReceived}
+use Rattle.s2_receive.specs.declared.report.Verdict.TheVariants.{MostLikely}
+use Rattle.s2_receive.specs.declared.report.Outcome.TheVariants.{Delivered}
+use Rattle.s2_modem.specs.Link.{Link, HasShape}
+use Rattle.s2_modem.specs.Spelling.{bits_of, padded_bits}
+use Rattle.s2_modem.specs.Frames.{baseband_frame, IsCodewordFor}
+use Rattle.s2_modem.specs.Passing.{passes_as}
+use Rattle.s2_modem.specs.Deciding.{Decided, decided}
+use Rattle.s2_modem.specs.Reports.{frame_soft, received_word, message_of, byte_at, bytes_from, header_in, field_in, outcome_by, delivered_by, decision_by, decision_on, frame_decision}
+use Rattle.s2_modem.specs.Reception.{link_rules}
+use Rattle.s2_modem.specs.Both.{IsByte, AreBytes, sent_symbols, IsCertified, Hears}
+use Rattle.s2_modem.specs.Laws.{IsLinkOf}
+use Rattle.s2_modem.specs.Headline.{IsDelivered, IsSent, IsDeliveredCertified, HearsLaw, ArrivalLaw, LikelyFrameLaw}
+use Rattle.s2_check.specs.Cost.{IsMostLikely}
+use Rattle.s2_split.specs.Scattered.{IsScattered}
+use Rattle.s2_receive.specs.declared.receiver.TheConstants.{MOST_SYMBOLS}
+use Rattle.s2_plframe.specs.Payload.{received_payload}
+use Rattle.s2_modem.proofs.Arrival.{arrives}
+use Rattle.s2_modem.proofs.DecidingLemmas.{clean_lem, likely_lem}
+use Rattle.s2_modem.proofs.Scattering.{scattered_lem}
+use Rattle.s2_modem.proofs.DecidedLengths.{decided_long}
+use Rattle.s2_modem.proofs.DecisionLemmas.{code_is}
+use Rattle.s2_modem.proofs.OnlyFrames.{length-baseband_frame, length-bch_word}
+use Rattle.s2_modem.proofs.HeaderWindows.{is_coded, coded_window}
+use Rattle.s2_modem.proofs.Points.{received}
+
+-- ---- bytes out of their bits
+
+eight : (b : ℕ) → length (byte_bits b) ≡ 8
+unfolding byte_bits
+eight b = refl
+
+byte_is : (b : ℕ) → b < 256 → byte_of (λ k. bit_at (byte_bits b) k) ≡ b
+unfolding byte_bits
+byte_is b low = eqb-true _ _ (at_number (λ x. byte_of (λ k. bit_at (byte_bits x) k) == x) 256 b refl low)
+
+byte_first : (b : ℕ) (bits : List Bool) → byte_of (λ k. bit_at (byte_bits b ++ bits) k) ≡ byte_of (λ k. bit_at (byte_bits b) k)
+unfolding byte_bits
+byte_first b bits = refl
+
+byte_of_same : (f g : ℕ → Bool) → ((k : ℕ) → f k ≡ g k) → byte_of f ≡ byte_of g
+byte_of_same f g h = rw (h 0, h 1, h 2, h 3, h 4, h 5, h 6, h 7)
+
+spelt_byte : (bytes : List ℕ) (rest : List Bool) (i : ℕ) → AreBytes bytes → i < length bytes → byte_at (bits_of bytes ++ rest) i ≡ get_or bytes i 0
+spelt_byte [] rest i h low = absurd (omega arith)
+spelt_byte (b ∷ bs) rest zero h low =
+    let later = bits_of bs ++ rest in
+    ap (λ l. byte_at l 0) (append_assoc (byte_bits b) (bits_of bs) rest)
+    ∙ byte_of_same (λ k. bit_at (byte_bits b ++ later) (8 * 0 + k)) (λ k. bit_at (byte_bits b ++ later) k) (λ k. let e : 8 * 0 + k ≡ k = omega arith in ap (bit_at (byte_bits b ++ later)) e)
+    ∙ byte_first b later ∙ byte_is b (All-head IsByte b bs h)
+spelt_byte (b ∷ bs) rest (suc i) h low =
+    let later = bits_of bs ++ rest in
+    ap (λ l. byte_at l (suc i)) (append_assoc (byte_bits b) (bits_of bs) rest)
+    ∙ byte_of_same (λ k. bit_at (byte_bits b ++ later) (8 * suc i + k)) (λ k. bit_at later (8 * i + k))
+    (λ k. let e : 8 * suc i + k - 8 ≡ 8 * i + k = omega arith in get_or-append_right (byte_bits b) later 8 (8 * suc i + k) false (eight b) (omega arith) ∙ ap (bit_at later) e)
+    ∙ spelt_byte bs rest i (All-tail IsByte b bs h) (omega arith)
+
+bytes_back : (bytes : List ℕ) (rest : List Bool) (first n : ℕ) → AreBytes bytes → first + n ≤ length bytes → bytes_from first n (bits_of bytes ++ rest) ≡ take n (drop first bytes)
+bytes_back bytes rest first n h fits =
+    let long : length (take n (drop first bytes)) ≡ n = omega (arith, length-take n (drop first bytes), length-drop first bytes) in
+    sym (fill_by_all (λ i. byte_at (bits_of bytes ++ rest) (first + i)) (take n (drop first bytes)) n 0 long
+    (λ k low. get_or-take n (drop first bytes) k 0 low ∙ (get_or-drop first bytes k 0 ∙ sym (spelt_byte bytes rest (first + k) h (omega arith)))))
+
+-- ---- the header of a field
+
+two_bytes : (n : ℕ) → AreBytes (to_be_bytes w16 n)
+two_bytes n = All-cons IsByte (n / 256 % 256) (n % 256 ∷ []) (omega arith) (All-cons IsByte (n % 256) [] (omega arith) (All-nil IsByte))
+
+header_is_bytes : (roll_off at : ℕ) (field : List ℕ) → roll_off ≤ 2 → AreBytes (header_bytes (header_at roll_off at field))
+header_is_bytes roll_off at field ro =
+    let h = header_at roll_off at field in
+    let tail : List ℕ = to_be_bytes w16 h.dfl ++ (71 ∷ to_be_bytes w16 h.syncd) in
+    let last : AreBytes (71 ∷ to_be_bytes w16 h.syncd) = All-cons IsByte 71 (to_be_bytes w16 h.syncd) (omega arith) (two_bytes h.syncd) in
+    let later : AreBytes tail = All-append IsByte (to_be_bytes w16 h.dfl) (71 ∷ to_be_bytes w16 h.syncd) (two_bytes h.dfl) last in
+    let front : AreBytes (signalling h) =
+    All-cons IsByte (240 + roll_off) (0 ∷ 5 ∷ 224 ∷ tail) (omega arith) (All-cons IsByte 0 (5 ∷ 224 ∷ tail) (omega arith) (All-cons IsByte 5 (224 ∷ tail) (omega arith) (All-cons IsByte 224 tail (omega arith) later))) in
+    All-append IsByte (signalling h) (crc8 (signalling h) ∷ []) front (All-cons IsByte (crc8 (signalling h)) [] (divided (signalling h)).0 (All-nil IsByte))
+
+valid_header : (m : Mode) (roll_off at : ℕ) (field : List ℕ) → HasCodeSizes m → to_place at < length field → length field ≤ field_bytes m
+    → has_valid_lengths m (header_at roll_off at field) ≡ true
+valid_header m roll_off at field sizes place fits =
+    let whole : 8 * length field % 8 ≡ 0 = omega arith in
+    let most : 8 * length field ≤ kbch_of m - 80 = omega (arith, sizes.field) in
+    let step : 8 * to_place at % 8 ≡ 0 = omega arith in
+    let low : 8 * to_place at < 1504 = omega arith in
+    let inside : 8 * to_place at < 8 * length field = omega arith in
+    rw (eq-eqb _ _ whole, le-leb _ _ most, eq-eqb _ _ step, le-leb _ _ low, le-leb _ _ inside) (some _ _)
+  where
+    some : (a b : Bool) → (a || (b || true)) ≡ true
+    some true b = refl
+    some false true = refl
+    some false false = refl
+
+-- ---- the decision
+
+differences_none : (n : ℕ) (a : List Bool) → differences n a a ≡ 0
+differences_none zero a = refl
+differences_none (suc n) a = ap (λ d. d + number (xor (bit_at a n) (bit_at a n))) (differences_none n a) ∙ none (bit_at a n)
+  where
+    none : (b : Bool) → 0 + number (xor b b) ≡ 0
+    none true = refl
+    none false = refl
+
+-- a word that BCH decoding finds gives what its message says
+pub decision_of_word : (m : Mode) (soft : List ℤ) (d : Decided) (word : List Bool) (header : Header) → nearest m (received_word m d.bits) ≡ Some word
+    → reading m (header_in (scrambled (message_of m word))) ≡ Ok header
+    → IsDelivered (decision_on m soft d) (differences (k_of m) (received_word m d.bits) word) header (field_in header (scrambled (message_of m word)))
+decision_of_word m soft d word header near read =
+    let is = ap (decision_by m soft d) near in
+    let n = differences (k_of m) (received_word m d.bits) word in
+    record {
+      outcome = ap (λ x. x.outcome) is ∙ ap (outcome_by n) read;
+      delivered = ap (λ x. x.delivered) is ∙ ap (delivered_by (scrambled (message_of m word))) read;
+    }
+
+module _ (m : Mode) (valid : IsMode m) (sizes : HasCodeSizes m) (h : Header) (field : List ℕ) (fits : length field ≤ field_bytes m) (bytes : AreBytes (header_bytes h ++ field)) (dfl : h.dfl ≡ 8 * length field) where
+  -- the message of a BCH word of a baseband frame says its header and its field
+  message_back : (word : List Bool) → IsBchWordOf m (baseband_frame m h field) word → scrambled (message_of m word) ≡ padded_bits (kbch_of m) (header_bytes h) field
+  message_back word is =
+      ap (λ n. scrambled (take n word)) (sym (length-baseband_frame m h field sizes fits)) ∙ (ap scrambled is.front ∙ scrambled-scrambled (padded_bits (kbch_of m) (header_bytes h) field))
+
+  pub says_header : (word : List Bool) → IsBchWordOf m (baseband_frame m h field) word → header_in (scrambled (message_of m word)) ≡ header_bytes h
+  says_header word is =
+      let long : length (header_bytes h ++ field) ≡ 10 + length field = length-append (header_bytes h) field in
+      ap header_in (message_back word is) ∙ (bytes_back (header_bytes h ++ field) _ 0 10 bytes (omega arith) ∙ take_at (header_bytes h) field 10 refl)
+
+  pub says_field : (word : List Bool) → IsBchWordOf m (baseband_frame m h field) word → field_in h (scrambled (message_of m word)) ≡ field
+  says_field word is =
+      let long : length (header_bytes h ++ field) ≡ 10 + length field = length-append (header_bytes h) field in
+      let n : h.dfl / 8 ≡ length field = omega (arith, dfl) in
+      ap (field_in h) (message_back word is) ∙ (ap (λ x. bytes_from 10 x (padded_bits (kbch_of m) (header_bytes h) field)) n
+      ∙ (bytes_back (header_bytes h ++ field) _ 10 (length field) bytes (omega arith) ∙ (ap (take (length field)) (drop_at (header_bytes h) field 10 refl) ∙ take_all (length field) field (omega arith))))
+
+  -- a BCH word is nearest to itself
+  pub nearest_itself : (word : List Bool) → IsBchWordOf m (baseband_frame m h field) word → nearest m word ≡ Some word
+  nearest_itself word is =
+      let long : length word ≡ k_of m = length-bch_word m sizes (baseband_frame m h field) word (length-baseband_frame m h field sizes fits) is in
+      let none : differences (length word) word word ≡ 0 = differences_none (length word) word in
+      within_is_nearest m valid sizes word long word (record { word = record { size = long; multiple = is.multiple }; near = omega (arith, none) })
+
+-- the first bits of a codeword are its BCH word
+pub first_bits : (m : Mode) (rows : Rows) (h : Header) (field : List ℕ) (codeword : List Bool) (c : IsCodewordFor m rows h field codeword) → HasCodeSizes m → length field ≤ field_bytes m → k_of m ≤ length codeword
+    → received_word m codeword ≡ c.bch_word
+first_bits m rows h field codeword c sizes fits room =
+    let long : length c.bch_word ≡ k_of m = length-bch_word m sizes (baseband_frame m h field) c.bch_word (length-baseband_frame m h field sizes fits) c.is_bch_word in
+    let part : length (take (k_of m) codeword) ≡ k_of m = omega (arith, length-take (k_of m) codeword) in
+    ext_get_or false (take (k_of m) codeword) c.bch_word (part ∙ sym long) (λ i low. get_or-take (k_of m) codeword i false (omega arith) ∙ c.is_codeword.begins i (omega arith))
+
+-- ---- whole frames
+
+decision_verdict : (m : Mode) (soft : List ℤ) (d : Decided) (o : Option (List Bool)) → (decision_by m soft d o).verdict ≡ d.verdict
+decision_verdict m soft d (Some word) = refl
+decision_verdict m soft d None = refl
+
+decision_bits : (m : Mode) (soft : List ℤ) (d : Decided) (o : Option (List Bool)) → (decision_by m soft d o).bits ≡ d.bits
+decision_bits m soft d (Some word) = refl
+decision_bits m soft d None = refl
+
+module _ (link : Link) (rounds : ℕ) (symbols : List Symbol) where
+  pub frame_verdict : (frame_decision link rounds symbols).verdict ≡ (decided link.rows rounds (frame_soft link symbols)).verdict
+  unfolding frame_decision
+  frame_verdict = decision_verdict link.setup.mode (frame_soft link symbols) (decided link.rows rounds (frame_soft link symbols)) _
+
+  pub frame_bits : (frame_decision link rounds symbols).bits ≡ (decided link.rows rounds (frame_soft link symbols)).bits
+  unfolding frame_decision
+  frame_bits = decision_bits link.setup.mode (frame_soft link symbols) (decided link.rows rounds (frame_soft link symbols)) _
+
+module _ (link : Link) (valid : IsMode link.setup.mode) (sizes : HasCodeSizes link.setup.mode) (shape : HasShape link.setup link.rows) where
+  abbrev m : Mode
+  m = link.setup.mode
+
+  pub length_soft : (symbols : List Symbol) → length (frame_soft link symbols) ≡ (code_of link.rows).bits
+  length_soft symbols = length-map-range_with_len (soft_bit m (received_payload m link.setup.number symbols)) 0 (n_of m) ∙ sym (code_is m link.rows sizes shape)
+
+  module _ (rounds at : ℕ) (symbols : List Symbol) (field : List ℕ) (codeword : List Bool) (ro : link.setup.roll_off ≤ 2) (bytes : AreBytes field) (place : to_place at < length field) (fits : length field ≤ field_bytes m)
+      (c : IsCodewordFor m link.rows (header_at link.setup.roll_off at field) field codeword) where
+    abbrev header : Header
+    header = header_at link.setup.roll_off at field
+
+    all_bytes : AreBytes (header_bytes header ++ field)
+    all_bytes = All-append IsByte (header_bytes header) field (header_is_bytes link.setup.roll_off at field ro) bytes
+
+    read_back : reading m (header_in (scrambled (message_of m c.bch_word))) ≡ Ok header
+    read_back =
+        ap (reading m) (says_header m valid sizes header field fits all_bytes refl c.bch_word c.is_bch_word)
+        ∙ reading-header_bytes m header (omega arith) (omega (arith, sizes.field_most)) (omega arith) (valid_header m link.setup.roll_off at field sizes place fits)
+
+    -- where the sent word is the nearest one
+    near_delivers : nearest m (received_word m (decided link.rows rounds (frame_soft link symbols)).bits) ≡ Some c.bch_word
+        → IsDelivered (frame_decision link rounds symbols) (differences (k_of m) (received_word m (decided link.rows rounds (frame_soft link symbols)).bits) c.bch_word) header field
+    unfolding frame_decision
+    near_delivers near =
+        let d = decision_of_word m (frame_soft link symbols) (decided link.rows rounds (frame_soft link symbols)) c.bch_word header near read_back in
+        record { outcome = d.outcome; delivered = d.delivered ∙ ap (λ f. Some (header, f)) (says_field m valid sizes header field fits all_bytes refl c.bch_word c.is_bch_word) }
+
+    pub both_codes : differences (k_of m) (received_word m (frame_decision link rounds symbols).bits) c.bch_word ≤ t_of m
+        → IsDelivered (frame_decision link rounds symbols) (differences (k_of m) (received_word m (frame_decision link rounds symbols).bits) c.bch_word) header field
+    both_codes few =
+        let bits = (decided link.rows rounds (frame_soft link symbols)).bits in
+        let e : received_word m (frame_decision link rounds symbols).bits ≡ received_word m bits = ap (received_word m) (frame_bits link rounds symbols) in
+        let word = length-bch_word m sizes (baseband_frame m header field) c.bch_word (length-baseband_frame m header field sizes fits) c.is_bch_word in
+        let whole : length bits ≡ n_of m = decided_long link.rows rounds (frame_soft link symbols) (length_soft symbols) ∙ code_is m link.rows sizes shape in
+        let long : length (received_word m bits) ≡ k_of m = omega (arith, length-take (k_of m) bits, whole, sizes.checks) in
+        let near : differences (length (received_word m bits)) (received_word m bits) c.bch_word ≤ t_of m =
+        subst (λ n. differences n (received_word m bits) c.bch_word ≤ t_of m) (sym long) (subst (λ r. differences (k_of m) r c.bch_word ≤ t_of m) e few) in
+        subst (λ r. IsDelivered (frame_decision link rounds symbols) (differences (k_of m) r c.bch_word) header field) (sym e)
+        (near_delivers (within_is_nearest m valid sizes (received_word m bits) long c.bch_word (record { word = record { size = word; multiple = c.is_bch_word.multiple }; near = near })))
+
+    -- where the codeword that was sent was decided
+    pub codeword_delivers : (decided link.rows rounds (frame_soft link symbols)).bits ≡ codeword → IsDelivered (frame_decision link rounds symbols) 0 header field
+    codeword_delivers bits =
+        let whole : length codeword ≡ n_of m = c.is_codeword.codeword.long ∙ code_is m link.rows sizes shape in
+        let enough : k_of m ≤ length codeword = omega (arith, whole, sizes.checks) in
+        let e : received_word m (decided link.rows rounds (frame_soft link symbols)).bits ≡ c.bch_word = ap (received_word m) bits ∙ first_bits m link.rows header field codeword c sizes fits enough in
+        let none : differences (k_of m) (received_word m (decided link.rows rounds (frame_soft link symbols)).bits) c.bch_word ≡ 0 = ap (λ r. differences (k_of m) r c.bch_word) e ∙ differences_none (k_of m) c.bch_word in
+        subst (λ n. IsDelivered (frame_decision link rounds symbols) n header field) none
+        (near_delivers (ap (nearest m) e ∙ nearest_itself m valid sizes header field fits all_bytes refl c.bch_word c.is_bch_word))
+
+  module _ (ro : link.setup.roll_off ≤ 2) (rounds limit : ℕ) where
+    length_sent : (codeword : List Bool) → length (sent_symbols link codeword) ≡ symbols_in m
+    length_sent codeword = length-map-range_with_len (frame_symbol m link.setup.number (payload_of m codeword)) 0 (symbols_in m)
+
+    least_symbols : 90 ≤ symbols_in m
+    least_symbols = omega (arith, (frame_sizes m valid).symbols)
+
+    passes_sent : (codeword : List Bool) → found m (map decision (take 90 (sent_symbols link codeword))) ≡ founds.Coded → passes_as m (take 90 (sent_symbols link codeword)) ≡ true
+    unfolding passes_as
+    passes_sent codeword coded =
+        let window = map decision (take 90 (sent_symbols link codeword)) in
+        let long : length window ≡ length (take 90 (sent_symbols link codeword)) = length-map (take 90 (sent_symbols link codeword)) decision in
+        let part = length-take 90 (sent_symbols link codeword) in
+        let all = length_sent codeword in
+        let least = least_symbols in
+        sym (coded_window m 90 window (λ lt. absurd (omega (arith, lt))) (λ le. omega (arith, long, part, all, least))) ∙ ap is_coded coded
+
+    hears_frame : (at : ℕ) (field : List ℕ) (codeword : List Bool) → AreBytes field → to_place at < length field → length field ≤ field_bytes m
+        → IsCodewordFor m link.rows (header_at link.setup.roll_off at field) field codeword
+        → IsReceived (link_rules link rounds limit) (header_at link.setup.roll_off at field) field (sent_symbols link codeword)
+        × IsCertified (link_rules link rounds limit) (sent_symbols link codeword)
+    hears_frame at field codeword bytes place fits c =
+        let symbols = sent_symbols link codeword in
+        let soft = frame_soft link symbols in
+        let long : length codeword ≡ n_of m = c.is_codeword.codeword.long ∙ code_is m link.rows sizes shape in
+        let heard = received m link.setup.number codeword valid long in
+        let hard : hard_decision soft ≡ codeword = heard.soft.decided in
+        let is : IsCodeword (code_of link.rows) (hard_decision soft) = subst (IsCodeword (code_of link.rows)) (sym hard) c.is_codeword.codeword in
+        let sure = clean_lem link.rows rounds soft is in
+        let given = codeword_delivers rounds at symbols field codeword ro bytes place fits c (ap (λ d. d.bits) sure ∙ hard) in (
+          (length_sent codeword, passes_sent codeword heard.header, given.delivered),
+          record { verdict = frame_verdict link rounds symbols ∙ ap (λ d. d.verdict) sure; outcome = given.outcome },
+        )
+
+    pub hears : Hears link (link_rules link rounds limit)
+    hears = record {
+      size = refl;
+      least = least_symbols;
+      field_least = omega (arith, sizes.field_least);
+      frames = hears_frame;
+    }
+
+-- ---- the laws
+
+module _ (m : Mode) (valid : IsMode m) (sizes : HasCodeSizes m) where
+  pub hears_law : HearsLaw m
+  hears_law link rounds limit linked ro = hears link (subst IsMode (sym linked.0) valid) (subst HasCodeSizes (sym linked.0) sizes) linked.1 ro rounds limit
+
+  pub arrival_law : ArrivalLaw m
+  arrival_law link rounds count_old count_new source symbols counts totals source_left p p' w w' linked ro bytes runs got =
+      let a = arrives link (link_rules link rounds MOST_SYMBOLS) count_old count_new source symbols counts got.state source_left got.left p p' w w' (hears_law link rounds MOST_SYMBOLS linked ro) bytes runs got.runs_out in
+      record { packets = a.packets; totals_are = got.totals_are ∙ a.totals; fields = a.fields; frames = a.frames; lines = a.lines }
+
+  pub likely_law : LikelyFrameLaw m
+  likely_law link rounds symbols linked verdict =
+      let soft = frame_soft link symbols in
+      let long = length_soft link (subst IsMode (sym linked.0) valid) (subst HasCodeSizes (sym linked.0) sizes) linked.1 symbols in
+      subst (IsMostLikely (code_of link.rows) soft) (sym (frame_bits link rounds symbols)) (likely_lem link.rows rounds soft long (sym (frame_verdict link rounds symbols) ∙ verdict))
+
+  module _ (link : Link) (rounds at : ℕ) (symbols : List Symbol) (field : List ℕ) (codeword : List Bool) (sent : IsSent m link at field codeword) where
+    pub scattered_law : IsScattered (code_of link.rows) (frame_soft link symbols) codeword → IsDeliveredCertified (frame_decision link rounds symbols) codeword (header_at link.setup.roll_off at field) field
+    scattered_law scattered =
+        let same = sent.linked.0 in
+        let sure = scattered_lem link.rows rounds (frame_soft link symbols) codeword scattered in
+        record {
+          verdict = frame_verdict link rounds symbols ∙ sure.0;
+          bits = frame_bits link rounds symbols ∙ sure.1;
+          delivered = codeword_delivers link (subst IsMode (sym same) valid) (subst HasCodeSizes (sym same) sizes) sent.linked.1 rounds at symbols field codeword sent.roll_off sent.bytes sent.place sent.fits sent.codeword_is sure.1;
+        }
+
+    pub both_codes_law : differences (k_of link.setup.mode) (received_word link.setup.mode (frame_decision link rounds symbols).bits) sent.codeword_is.bch_word ≤ t_of link.setup.mode
+        → IsDelivered (frame_decision link rounds symbols) (differences (k_of link.setup.mode) (received_word link.setup.mode (frame_decision link rounds symbols).bits) sent.codeword_is.bch_word) (header_at link.setup.roll_off at field) field
+    both_codes_law few =
+        both_codes link (subst IsMode (sym sent.linked.0) valid) (subst HasCodeSizes (sym sent.linked.0) sizes) sent.linked.1 rounds at symbols field codeword sent.roll_off sent.bytes sent.place sent.fits sent.codeword_is few

@@ -1,0 +1,172 @@
+-- What a decider finds is what is decided of a frame.
+use Rattle.std.proofs.Common.{◌≡◌, ℕ, ◌+◌, ◌-◌, ◌*◌, ◌/◌, ◌%◌, ◌<◌, ◌≤◌, ◌==◌, ◌⊎◌, Bool, true, false, List, length, take, get_or, Option, Some, None, IfSome, IfNone, Result, Ok, Err, refl, sym, ap, subst, ◌∙◌, arith, inl, inr, length-take, ℤ}
+use Rattle.std.specs.Prelude.{◌&&◌, ◌||◌, nat_le, nat_lt}
+use Rattle.std.proofs.lemmas.Bool.{cases_Bool, leb-true, eqb-true}
+use Rattle.std.proofs.lemmas.List.{ext_get_or, get_or-take, take_all}
+use Rattle.s2_bbframe.specs.DataStream.{field_bytes}
+use Rattle.s2_mode.specs.Mode.{Mode, HasCodeSizes, k_of, kbch_of, t_of, n_of, shape_in}
+use Rattle.s2_mode.specs.Shape.{code_bits}
+use Rattle.s2_mode.specs.declared.symbols.Symbol.{Symbol}
+use Rattle.s2_rows.specs.Rows.{Rows}
+use Rattle.s2_matrix.specs.Code.{code_of}
+use Rattle.s2_receive.specs.declared.report.Verdict.{Verdict}
+use Rattle.s2_modem.specs.Link.{Link}
+use Rattle.s2_bits.specs.Bits.{bit_at, differences, Rewritten}
+use Rattle.s2_bbframe.specs.declared.header.Header.{Header}
+use Rattle.s2_bbframe.specs.declared.header.HeaderFault.{HeaderFault}
+use Rattle.s2_bbframe.specs.Headers.{is_whole, is_packet_stream, header_of, has_valid_lengths, reading}
+use Rattle.s2_bbframe.proofs.Headers.{reading-bad_crc, reading-other, reading-bad_lengths, reading-accepted}
+use Rattle.s2_bbframe.proofs.Finite.{both}
+use Rattle.s2_bch.specs.Codes.{IsWithin}
+use Rattle.s2_bch.specs.Decoding.{nearest}
+use Rattle.s2_receive.specs.Parts.{HasPlace}
+use Rattle.s2_receive.specs.Receiving.{Decision}
+use Rattle.s2_receive.specs.declared.report.Outcome.{Outcome}
+use Rattle.s2_modem.specs.Deciding.{Decided, decided}
+use Rattle.s2_modem.specs.Reports.{frame_soft, frame_decision, received_word, message_of, bytes_from, header_in, outcome_by, delivered_by, decision_on, decision_by}
+use Rattle.s2_scramble.specs.Baseband.{scrambled}
+use Rattle.s2_receive.specs.declared.report.Outcome.TheVariants.{NoWord}
+use Rattle.s2_modem.specs.Listening.{FindsWord, Reads}
+
+-- a list over which the first bits of another were written, as many as it has
+pub prefix_is : (n : ℕ) (bits old now : List Bool) → Rewritten false n (bit_at bits) old now → length old ≡ n → n ≤ length bits → now ≡ take n bits
+prefix_is n bits old now r long fits =
+    let all : length now ≡ n = r.long ∙ long in
+    let part : length (take n bits) ≡ n = omega (arith, length-take n bits) in
+    ext_get_or false now (take n bits) (all ∙ sym part) (λ i low. r.done i (omega arith) ∙ sym (get_or-take n bits i false (omega arith)))
+
+-- what the decoder answers
+pub found_is : (m : Mode) (received word : List Bool) (found : Option ℕ) → length received ≡ k_of m
+    → IfSome found (λ c. IsWithin m received word × (c ≡ differences (length received) received word)) → IfSome found (λ c. nearest m received ≡ Some word)
+    → IfNone found (nearest m received ≡ None) → IfNone found (word ≡ received) → FindsWord m received word found
+found_is m received word (Some c) long some near none same = (near, some.1 ∙ ap (λ n. differences n received word) long)
+found_is m received word None long some near none same = (none, same)
+
+-- and how many bits it leaves
+pub found_long : (m : Mode) (received word : List Bool) (found : Option ℕ) → length received ≡ k_of m
+    → IfSome found (λ c. IsWithin m received word × (c ≡ differences (length received) received word)) → IfNone found (word ≡ received) → length word ≡ k_of m
+found_long m received word (Some c) long some same = some.0.word.size
+found_long m received word None long some same = ap length same ∙ long
+
+-- a header that is accepted has lengths of the mode
+abbrev header_or : Header → Result Header HeaderFault → Header
+header_or d (Ok x) = x
+header_or d (Err f) = d
+
+abbrev is_ok : Result Header HeaderFault → Bool
+is_ok (Ok x) = true
+is_ok (Err f) = false
+
+not_ok : (r : Result Header HeaderFault) (h : Header) → is_ok r ≡ false → r ≡ Ok h → ⊥
+not_ok r h fails e = differ (sym fails ∙ ap is_ok e)
+  where
+    differ : false ≡ true → ⊥
+    differ e = cc
+
+by_tests : (m : Mode) (bytes : List ℕ) (h : Header) (whole ours valid : Bool) → is_whole bytes ≡ whole → is_packet_stream bytes ≡ ours → has_valid_lengths m (header_of bytes) ≡ valid
+    → reading m bytes ≡ Ok h → has_valid_lengths m h ≡ true
+by_tests m bytes h false ours valid a b c ok = absurd (not_ok (reading m bytes) h (ap is_ok (reading-bad_crc m bytes a)) ok)
+by_tests m bytes h true false valid a b c ok = absurd (not_ok (reading m bytes) h (ap is_ok (reading-other m bytes a b)) ok)
+by_tests m bytes h true true false a b c ok = absurd (not_ok (reading m bytes) h (ap is_ok (reading-bad_lengths m bytes a b c)) ok)
+by_tests m bytes h true true true a b c ok = subst (λ x. has_valid_lengths m x ≡ true) (ap (header_or h) (sym (reading-accepted m bytes a b c) ∙ ok)) c
+
+pub accepted_valid : (m : Mode) (bytes : List ℕ) (h : Header) → reading m bytes ≡ Ok h → has_valid_lengths m h ≡ true
+accepted_valid m bytes h ok = by_tests m bytes h (is_whole bytes) (is_packet_stream bytes) (has_valid_lengths m (header_of bytes)) refl refl refl ok
+
+-- a field of these lengths fits in a frame
+pub short_field : (m : Mode) (h : Header) → has_valid_lengths m h ≡ true → h.dfl ≤ kbch_of m - 80
+short_field m h valid = leb-true h.dfl (kbch_of m - 80) (both _ _ (both _ _ valid).1).0
+
+pub message_fits : (m : Mode) → HasCodeSizes m → kbch_of m ≤ k_of m
+message_fits m sizes =
+    elim (cases_Bool m.short) [
+      | inl short ↦ let e : k_of m ≡ kbch_of m + 14 * t_of m = sizes.short_code short in omega arith
+      | inr normal ↦ let e : k_of m ≡ kbch_of m + 16 * t_of m = sizes.normal_code normal in omega arith
+    ]
+
+-- as many bits as the mode's codewords have
+pub code_is : (m : Mode) (rows : Rows) → HasCodeSizes m → rows.shape ≡ shape_in m → (code_of rows).bits ≡ n_of m
+code_is m rows sizes shape = ap code_bits shape ∙ omega (arith, sizes.groups, sizes.checks)
+
+either : (a b : Bool) → (a || b) ≡ true → (a ≡ true) ⊎ (b ≡ true)
+either true b e = inl refl
+either false b e = inr e
+
+-- the joiner can take its data field
+pub has_place : (m : Mode) (h : Header) (field : List ℕ) → HasCodeSizes m → has_valid_lengths m h ≡ true → length field ≡ h.dfl / 8 → HasPlace field h
+has_place m h field sizes valid long =
+    let a = both _ _ valid in
+    let b = both _ _ a.1 in
+    let whole : h.dfl % 8 ≡ 0 = eqb-true _ _ a.0 in
+    let most : h.dfl ≤ kbch_of m - 80 = leb-true _ _ b.0 in
+    let room = sizes.field_most in (
+      omega (arith, long, most, room),
+      elim (either _ _ b.1) [
+        | inl none ↦ let e : h.dfl ≡ 0 = eqb-true _ _ none in inl (omega (arith, long, e))
+        | inr some ↦ inr (elim (either _ _ some) [
+          | inl no_place ↦ inl (eqb-true _ _ no_place)
+          | inr place ↦
+              let p = both _ _ place in
+              let q = both _ _ p.1 in
+              let step : h.syncd % 8 ≡ 0 = eqb-true _ _ p.0 in
+              let low : h.syncd < h.dfl = leb-true _ _ q.1 in
+              inr (omega (arith, long, whole, step, low))
+        ])
+      ],
+    )
+
+abbrev made : Mode → List ℤ → Decided → List Bool → Outcome → Option (Header × List ℕ) → Decision
+made m soft d word outcome delivered = record { soft = soft; bits = d.bits; verdict = d.verdict; message = message_of m word; outcome = outcome; delivered = delivered }
+
+abbrev pub shown : Mode → List ℤ → List Bool → Verdict → List Bool → Outcome → Option (Header × List ℕ) → Decision
+shown m soft bits verdict word outcome delivered = record { soft = soft; bits = bits; verdict = verdict; message = message_of m word; outcome = outcome; delivered = delivered }
+
+-- what was found and read is what is decided
+pub decision_is : (m : Mode) (soft : List ℤ) (d : Decided) (word : List Bool) (found : Option ℕ) (outcome : Outcome) (delivered : Option (Header × List ℕ))
+    → FindsWord m (received_word m d.bits) word found → Reads m word found outcome delivered → made m soft d word outcome delivered ≡ decision_on m soft d
+decision_is m soft d word (Some fixed) outcome delivered finds reads =
+    let frame = scrambled (message_of m word) in
+    let read : Result Header HeaderFault = reading m (header_in frame) in
+    ap (λ o. made m soft d word o delivered) reads.0
+    ∙ ap (λ x. made m soft d word (outcome_by fixed read) x) reads.1
+    ∙ ap (λ n. made m soft d word (outcome_by n read) (delivered_by frame read)) finds.1
+    ∙ ap (decision_by m soft d) (sym finds.0)
+decision_is m soft d word None outcome delivered finds reads =
+    ap (λ o. made m soft d word o delivered) reads.0
+    ∙ ap (λ x. made m soft d word NoWord x) reads.1
+    ∙ ap (λ w. made m soft d w NoWord None) finds.1
+    ∙ ap (decision_by m soft d) (sym finds.0)
+
+-- the parts that a decider finds are what is decided of a frame
+pub frame_decided : (link : Link) (rounds : ℕ) (symbols : List Symbol) (soft : List ℤ) (bits : List Bool) (verdict : Verdict) (word : List Bool) (found : Option ℕ) (outcome : Outcome) (delivered : Option (Header × List ℕ))
+    → soft ≡ frame_soft link symbols → verdict ≡ (decided link.rows rounds soft).verdict → bits ≡ (decided link.rows rounds soft).bits
+    → FindsWord link.setup.mode (received_word link.setup.mode bits) word found → Reads link.setup.mode word found outcome delivered
+    → shown link.setup.mode soft bits verdict word outcome delivered ≡ frame_decision link rounds symbols
+unfolding frame_decision
+frame_decided link rounds symbols soft bits verdict word found outcome delivered soft_is verdict_is bits_are finds reads =
+    let m = link.setup.mode in
+    let d : Decided = decided link.rows rounds soft in
+    ap (λ v. shown m soft bits v word outcome delivered) verdict_is
+    ∙ ap (λ b. shown m soft b d.verdict word outcome delivered) bits_are
+    ∙ decision_is m soft d word found outcome delivered (subst (λ b. FindsWord m (received_word m b) word found) bits_are finds) reads
+    ∙ ap (λ s. decision_on m s (decided link.rows rounds s)) soft_is
+
+-- the baseband frame that is read
+pub frame_read : (m : Mode) (word old copied frame : List Bool) (n : ℕ) → n ≡ kbch_of m → HasCodeSizes m → length word ≡ k_of m → length old ≡ kbch_of m
+    → Rewritten false n (bit_at word) old copied → frame ≡ scrambled copied → frame ≡ scrambled (message_of m word)
+frame_read m word old copied frame n size sizes long room written is =
+    let fits = message_fits m sizes in
+    is ∙ ap scrambled (prefix_is n word old copied written (room ∙ sym size) (omega (arith, size, long, fits)) ∙ ap (λ k. take k word) size)
+
+-- and its header's bytes
+pub header_read : (m : Mode) (word frame bits : List Bool) (bytes : List ℕ) → frame ≡ scrambled (message_of m word) → bits ≡ frame → take 10 bytes ≡ bytes_from 0 10 bits → length bytes ≡ 10
+    → bytes ≡ header_in (scrambled (message_of m word))
+header_read m word frame bits bytes is same read long =
+    sym (take_all 10 bytes (omega (arith, long))) ∙ (read ∙ ap (bytes_from 0 10) (same ∙ is))
+
+-- the data field's bytes lie in the frame and have room in a field
+pub field_fits : (m : Mode) (h : Header) (n : ℕ) → HasCodeSizes m → has_valid_lengths m h ≡ true → n ≡ h.dfl / 8 → (8 * (10 + n) ≤ kbch_of m) × (n ≤ field_bytes m)
+field_fits m h n sizes valid is =
+    let short = short_field m h valid in
+    let whole = sizes.field in
+    (omega (arith, is, short, whole), omega (arith, is, short, whole))

@@ -1,0 +1,5 @@
+use Rattle.s2_modem.proofs.CleanFrames.{arrival_law}
+use Rattle.s2_modem.proofs.laws.arrival.Goals as goal
+
+pub returns : goal.returns
+returns c = arrival_law c.args.mode c.k.ensures.valid c.k.ensures.sizes

@@ -1,0 +1,5 @@
+use Rattle.s2_modem.proofs.CleanFrames.{both_codes_law}
+use Rattle.s2_modem.proofs.laws.both_codes.Goals as goal
+
+pub returns : goal.returns
+returns c = λ link rounds at symbols field codeword sent. both_codes_law c.args.mode c.k.ensures.valid c.k.ensures.sizes link rounds at symbols field codeword sent

@@ -1,0 +1,121 @@
+-- What the receiver decides on the soft values of one frame: the bits, a verdict on them, and a certificate where
+-- they are shown to be most likely. The first of four steps that succeeds decides.
+use Rattle.std.specs.Prelude.{◌≡◌, ◌≢◌, ℕ, ◌+◌, ◌%◌, ◌==◌, ◌≤◌, Bool, if◌then◌else◌, List, All, length, map, fold, ℤ, Option, None, Some, IfSome}
+use Rattle.std.specs.List.{list_all, find}
+use Rattle.s2_rows.specs.Rows.{Rows}
+use Rattle.s2_matrix.specs.Total.{upto}
+use Rattle.s2_matrix.specs.Code.{Code, code_of, ones_in, IsCodeword}
+use Rattle.s2_check.specs.Cost.{IsMostLikely}
+use Rattle.s2_check.specs.Hard.{hard_decision}
+use Rattle.s2_check.specs.Views.{View, unsplit_view}
+use Rattle.s2_check.specs.Checking.{IsCertificate}
+use Rattle.s2_split.specs.Scattered.{repaired, IsScattered}
+use Rattle.s2_split.specs.Making.{made_view}
+use Rattle.s2_minsum.specs.Plain.{State, start, round, decision}
+use Rattle.s2_receive.specs.declared.report.Verdict.{Verdict}
+use Rattle.s2_receive.specs.declared.report.Verdict.TheVariants.{MostLikely, Parity, Broken}
+
+-- a verdict, the bits that it speaks of, and their certificate
+pub record Decided : Type 0 where
+  pub verdict : Verdict
+  pub bits : List Bool
+  pub certificate : Option View
+
+-- shown to be most likely by a certificate
+abbrev pub certified : List Bool → View → Decided
+certified bits view =
+    record { verdict = MostLikely; bits = bits; certificate = Some view }
+
+-- without a certificate
+abbrev pub uncertified : Verdict → List Bool → Decided
+uncertified verdict bits = record { verdict = verdict; bits = bits; certificate = None }
+
+-- whether every check holds an even number of ones
+abbrev pub satisfies : Code → List Bool → Bool
+satisfies code bits = list_all (λ j. ones_in code bits j % 2 == 0) (upto code.checks)
+
+-- ---- min-sum
+
+-- its state after so many rounds
+abbrev pub after_rounds : Rows → List ℤ → ℕ → State
+after_rounds r soft rounds =
+    fold (λ before _. round (code_of r) r.shape.q before) (start soft) (upto rounds)
+
+-- its hard decision after so many rounds
+unfoldable pub decoded_bits : Rows → List ℤ → ℕ → List Bool
+decoded_bits r soft rounds = decision (code_of r) (after_rounds r soft rounds)
+
+-- of its hard decisions after 1, 2, .. rounds the first that satisfies every check
+abbrev pub first_codeword : Rows → ℕ → List ℤ → Option (List Bool)
+first_codeword r rounds soft =
+    find (satisfies (code_of r)) (map (λ k. decoded_bits r soft (k + 1)) (upto rounds))
+
+-- ---- the steps, the last one first
+
+-- step 4: the repair where it satisfies every check, else min-sum's last hard decision
+abbrev pub without_certificate : Rows → ℕ → List ℤ → Decided
+without_certificate r rounds soft =
+    if satisfies (code_of r) (repaired (code_of r) soft) then uncertified Parity (repaired (code_of r) soft) else uncertified Broken (decoded_bits r soft rounds)
+
+-- a codeword that min-sum found, with the certificate that is made for it, or with none
+abbrev pub with_made : List Bool → Option View → Decided
+with_made bits (Some view) = certified bits view
+with_made bits None = uncertified Parity bits
+
+-- step 3: what min-sum found
+abbrev pub by_min_sum : Rows → ℕ → List ℤ → Option (List Bool) → Decided
+by_min_sum r rounds soft (Some bits) = with_made bits (made_view r soft bits)
+by_min_sum r rounds soft None = without_certificate r rounds soft
+
+-- the certificate that is made for the repair, if that satisfies every check
+abbrev pub repair_view : Rows → List ℤ → Option View
+repair_view r soft =
+    if satisfies (code_of r) (repaired (code_of r) soft) then made_view r soft (repaired (code_of r) soft) else None
+
+-- step 2: the repair with its certificate
+abbrev pub by_repair : Rows → ℕ → List ℤ → Option View → Decided
+by_repair r rounds soft (Some view) = certified (repaired (code_of r) soft) view
+by_repair r rounds soft None = by_min_sum r rounds soft (first_codeword r rounds soft)
+
+-- step 1: the hard decision, where it satisfies every check
+unfoldable pub decided : Rows → ℕ → List ℤ → Decided
+decided r rounds soft =
+    if satisfies (code_of r) (hard_decision soft) then certified (hard_decision soft) (unsplit_view r soft (hard_decision soft)) else by_repair r rounds soft (repair_view r soft)
+
+-- ---- laws
+
+-- a hard decision that is a codeword is decided, by its unsplit certificate
+abbrev pub CleanLaw : Type 0
+CleanLaw =
+    (r : Rows) (rounds : ℕ) (soft : List ℤ) → IsCodeword (code_of r) (hard_decision soft) → decided r rounds soft ≡ certified (hard_decision soft) (unsplit_view r soft (hard_decision soft))
+
+-- bits that are called most likely are
+abbrev pub LikelyLaw : Type 0
+LikelyLaw =
+    (r : Rows) (rounds : ℕ) (soft : List ℤ) → length soft ≡ (code_of r).bits → (decided r rounds soft).verdict ≡ MostLikely → IsMostLikely (code_of r) soft (decided r rounds soft).bits
+
+-- a certificate that is accepted, of these values and these bits
+pub record IsCertified (r : Rows) (soft : List ℤ) (bits : List Bool) (view : View) : Type 0 where
+  pub accepted : IsCertificate r view
+  pub values : view.soft ≡ soft
+  pub word : view.bits ≡ bits
+
+-- there is a certificate exactly where the bits are called most likely, and it is accepted
+pub record IsShown (r : Rows) (soft : List ℤ) (d : Decided) : Type 0 where
+  pub some : d.verdict ≡ MostLikely → d.certificate ≢ None
+  pub only : d.certificate ≢ None → d.verdict ≡ MostLikely
+  pub certified : IfSome d.certificate (IsCertified r soft d.bits)
+
+abbrev pub CertifiedLaw : Type 0
+CertifiedLaw =
+    (r : Rows) (rounds : ℕ) (soft : List ℤ) → length soft ≡ (code_of r).bits → IsShown r soft (decided r rounds soft)
+
+-- bits that are not called broken satisfy every check, and those that are don't
+abbrev pub BrokenLaw : Type 0
+BrokenLaw =
+    (r : Rows) (rounds : ℕ) (soft : List ℤ) → length soft ≡ (code_of r).bits → 1 ≤ rounds → (((decided r rounds soft).verdict ≢ Broken → IsCodeword (code_of r) (decided r rounds soft).bits) × ((decided r rounds soft).verdict ≡ Broken → IsCodeword (code_of r) (decided r rounds soft).bits → ⊥))
+
+-- where the values are scattered about a codeword, that is decided, with a certificate
+abbrev pub ScatteredLaw : Type 0
+ScatteredLaw =
+    (r : Rows) (rounds : ℕ) (soft : List ℤ) (sent : List Bool) → IsScattered (code_of r) soft sent → ((decided r rounds soft).verdict ≡ MostLikely) × ((decided r rounds soft).bits ≡ sent)

@@ -1,0 +1,86 @@
+-- What holds of a whole link: of each frame, and from packets to packets.
+use Rattle.std.specs.Prelude.{◌≡◌, ℕ, ◌<◌, ◌≤◌, Bool, List, [], ◌++◌, length, Option, Some, Ok}
+use Rattle.std.specs.Io.KnownBytes.{Appends}
+use Rattle.s2_mode.specs.Mode.{Mode, k_of, t_of}
+use Rattle.s2_mode.specs.declared.symbols.Symbol.{Symbol}
+use Rattle.s2_bits.specs.Bits.{differences}
+use Rattle.s2_matrix.specs.Code.{code_of}
+use Rattle.s2_check.specs.Cost.{IsMostLikely}
+use Rattle.s2_split.specs.Scattered.{IsScattered}
+use Rattle.s2_bbframe.specs.declared.header.Header.{Header}
+use Rattle.s2_bbframe.specs.DataStream.{header_at, to_place, field_bytes}
+use Rattle.s2_receive.specs.Receiving.{Decision}
+use Rattle.s2_receive.specs.declared.report.Totals.{Totals}
+use Rattle.s2_receive.specs.declared.report.Verdict.TheVariants.{MostLikely}
+use Rattle.s2_receive.specs.declared.report.Outcome.TheVariants.{Delivered}
+use Rattle.s2_receive.specs.declared.receiver.TheConstants.{MOST_SYMBOLS}
+use Rattle.s2_modem.specs.declared.outcome.Counts.{Counts}
+use Rattle.s2_modem.specs.Link.{Link}
+use Rattle.s2_modem.specs.Laws.{IsLinkOf, ReadFails}
+use Rattle.s2_modem.specs.Sending.{Runs}
+use Rattle.s2_modem.specs.Frames.{IsCodewordFor}
+use Rattle.s2_modem.specs.Reports.{frame_soft, received_word, frame_decision}
+use Rattle.s2_modem.specs.ReportLines.{end_line}
+use Rattle.s2_modem.specs.Reception.{link_rules, Receives}
+use Rattle.s2_modem.specs.Both.{AreBytes, Hears, certified_lines, totals_of}
+
+-- a frame that is called most likely: no codeword costs less under its soft values than its bits
+abbrev pub LikelyFrameLaw : Mode → Type 0
+LikelyFrameLaw m =
+    (link : Link) (rounds : ℕ) (symbols : List Symbol) → IsLinkOf m link → (frame_decision link rounds symbols).verdict ≡ MostLikely
+    → IsMostLikely (code_of link.rows) (frame_soft link symbols) (frame_decision link rounds symbols).bits
+
+-- a frame that delivers this data field with this header, after so many changes by BCH decoding
+pub record IsDelivered (d : Decision) (fixed : ℕ) (header : Header) (field : List ℕ) : Type 0 where
+  pub outcome : d.outcome ≡ Delivered fixed
+  pub delivered : d.delivered ≡ Some (header, field)
+
+-- the codeword that was sent for a data field of bytes, which begins at this byte of its stream and holds a sync place
+pub record IsSent (m : Mode) (link : Link) (at : ℕ) (field : List ℕ) (codeword : List Bool) : Type 0 where
+  pub linked : IsLinkOf m link
+  pub roll_off : link.setup.roll_off ≤ 2
+  pub bytes : AreBytes field
+  pub place : to_place at < length field
+  pub fits : length field ≤ field_bytes link.setup.mode
+  pub codeword_is : IsCodewordFor link.setup.mode link.rows (header_at link.setup.roll_off at field) field codeword
+
+-- Both codes together: where the first Nbch decided bits differ from the sent BCH word in at most t places, the field that was
+-- sent is delivered, and the report tells in how many.
+abbrev pub BothCodesLaw : Mode → Type 0
+BothCodesLaw m =
+    (link : Link) (rounds at : ℕ) (symbols : List Symbol) (field : List ℕ) (codeword : List Bool) (sent : IsSent m link at field codeword)
+    → differences (k_of link.setup.mode) (received_word link.setup.mode (frame_decision link rounds symbols).bits) sent.codeword_is.bch_word ≤ t_of link.setup.mode
+    → IsDelivered (frame_decision link rounds symbols) (differences (k_of link.setup.mode) (received_word link.setup.mode (frame_decision link rounds symbols).bits) sent.codeword_is.bch_word) (header_at link.setup.roll_off at field) field
+
+-- a frame that is certified, with no bit changed
+pub record IsDeliveredCertified (d : Decision) (codeword : List Bool) (header : Header) (field : List ℕ) : Type 0 where
+  pub verdict : d.verdict ≡ MostLikely
+  pub bits : d.bits ≡ codeword
+  pub delivered : IsDelivered d 0 header field
+
+-- a frame whose soft values are scattered about the codeword that was sent
+abbrev pub ScatteredFrameLaw : Mode → Type 0
+ScatteredFrameLaw m =
+    (link : Link) (rounds at : ℕ) (symbols : List Symbol) (field : List ℕ) (codeword : List Bool) → IsSent m link at field codeword
+    → IsScattered (code_of link.rows) (frame_soft link symbols) codeword
+    → IsDeliveredCertified (frame_decision link rounds symbols) codeword (header_at link.setup.roll_off at field) field
+
+-- each frame of a link is received as it was sent
+abbrev pub HearsLaw : Mode → Type 0
+HearsLaw m = (link : Link) (rounds limit : ℕ) → IsLinkOf m link → link.setup.roll_off ≤ 2 → Hears link (link_rules link rounds limit)
+
+-- all packets, a line for each frame, certified, and the end's
+pub record AllArrives (link : Link) (rounds : ℕ) (source : List ℕ) (counts : Counts) (totals : Totals) (packets_old packets_new report_old report_new : Option (List ℕ)) : Type 0 where
+  pub packets : Appends packets_old packets_new source
+  pub totals_are : totals ≡ totals_of counts
+  pub fields : List (List ℕ)
+  pub frames : length fields ≡ counts.frames
+  pub lines : Appends report_old report_new (certified_lines (link_rules link rounds MOST_SYMBOLS) 0 0 fields ++ end_line (totals_of counts))
+
+-- what a run of the transmitter writes, received whole
+abbrev pub ArrivalLaw : Mode → Type 0
+ArrivalLaw m =
+    (link : Link) (rounds count_old count_new : ℕ) (source symbols : List ℕ) (counts : Counts) (totals : Totals) (source_left packets_old packets_new report_old report_new : Option (List ℕ))
+    → IsLinkOf m link → link.setup.roll_off ≤ 2 → AreBytes source → Runs link (ReadFails count_old count_new) (Some source) source_left (Some []) (Some symbols) (Ok counts)
+    → Receives (link_rules link rounds MOST_SYMBOLS) symbols packets_old packets_new report_old report_new totals
+    → AllArrives link rounds source counts totals packets_old packets_new report_old report_new

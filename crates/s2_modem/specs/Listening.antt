@@ -1,0 +1,55 @@
+-- What the parts of a receiver hold.
+use Rattle.std.specs.Prelude.{◌≡◌, ℕ, ◌*◌, ◌≤◌, Bool, List, length, take, Option, Some, None, ℤ}
+use Rattle.s2_mode.specs.Mode.{Mode, kbch_of, k_of, n_of, slots_of, shape_in, HasCodeSizes}
+use Rattle.s2_rows.specs.Rows.{Rows}
+use Rattle.s2_bits.specs.Bits.{differences}
+use Rattle.s2_bbframe.specs.declared.header.Header.{Header}
+use Rattle.s2_bbframe.specs.DataStream.{field_bytes}
+use Rattle.s2_bbframe.specs.Headers.{reading}
+use Rattle.s2_scramble.specs.Baseband.{scrambled}
+use Rattle.s2_receive.specs.Parts.{delivered_of}
+use Rattle.s2_receive.specs.Receiving.{Decision}
+use Rattle.s2_receive.specs.declared.parts.Decided.{Decided}
+use Rattle.s2_receive.specs.declared.report.Outcome.{Outcome}
+use Rattle.s2_receive.specs.declared.report.Outcome.TheVariants.{NoWord}
+use Rattle.s2_modem.specs.declared.setup.Setup.{Setup}
+use Rattle.s2_modem.specs.Link.{Link}
+use Rattle.s2_bch.specs.Decoding.{nearest}
+use Rattle.s2_modem.specs.Reports.{message_of, header_in, outcome_by, delivered_by}
+
+-- what BCH decoding answers of some bits, and the bits that it leaves
+abbrev pub FindsWord : Mode → List Bool → List Bool → Option ℕ → Type 0
+FindsWord m received word (Some fixed) = (nearest m received ≡ Some word) × (fixed ≡ differences (k_of m) received word)
+FindsWord m received word None = (nearest m received ≡ None) × (word ≡ received)
+
+-- what comes of that
+abbrev pub Reads : Mode → List Bool → Option ℕ → Outcome → Option (Header × List ℕ) → Type 0
+Reads m word (Some fixed) outcome delivered =
+    (outcome ≡ outcome_by fixed (reading m (header_in (scrambled (message_of m word)))))
+    × (delivered ≡ delivered_by (scrambled (message_of m word)) (reading m (header_in (scrambled (message_of m word)))))
+Reads m word None outcome delivered = (outcome ≡ NoWord) × (delivered ≡ None)
+
+-- a decider of frames: its link, the rounds of its judge, what it decided last, and the data field that came of that
+pub record Listening : Type 0 where
+  pub link : Link
+  pub rounds : ℕ
+  pub last : Decision
+  pub field : List ℕ
+
+-- what the buffers show
+abbrev pub decision_held : Mode → List ℤ → List Bool → List Bool → Decided → List ℕ → Decision
+decision_held m soft bits word d field =
+    record { soft = soft; bits = bits; verdict = d.verdict; message = message_of m word; outcome = d.outcome; delivered = delivered_of d.header field }
+
+-- the parts of a decider are of its mode
+pub record IsListening (setup : Setup) (rows : Rows) (gold : ℕ) (bch : Mode) (payload soft word frame field filled : ℕ) : Type 0 where
+  pub sizes : HasCodeSizes setup.mode
+  pub number : gold ≡ setup.number
+  pub shape : rows.shape ≡ shape_in setup.mode
+  pub code : bch ≡ setup.mode
+  pub payload_symbols : payload ≡ 90 * slots_of setup.mode
+  pub soft_values : soft ≡ n_of setup.mode
+  pub word_bits : word ≡ k_of setup.mode
+  pub frame_bits : frame ≡ kbch_of setup.mode
+  pub field_room : field ≡ field_bytes setup.mode
+  pub filled_most : filled ≤ field

@@ -1,0 +1,83 @@
+-- What is decided and delivered of a frame's symbols.
+use Rattle.std.specs.Prelude.{ℕ, ◌+◌, ◌*◌, ◌/◌, Bool, List, length, map, take, Option, Some, None, Result, Ok, Err, ℤ}
+use Rattle.std.specs.List.{range_with_len}
+use Rattle.s2_mode.specs.Mode.{Mode, kbch_of, k_of}
+use Rattle.s2_mode.specs.declared.symbols.Symbol.{Symbol}
+use Rattle.s2_bits.specs.Bits.{bit_at, byte_of, differences}
+use Rattle.s2_bbframe.specs.declared.header.Header.{Header}
+use Rattle.s2_bbframe.specs.declared.header.HeaderFault.{HeaderFault}
+use Rattle.s2_bbframe.specs.Headers.{reading}
+use Rattle.s2_scramble.specs.Baseband.{scrambled}
+use Rattle.s2_plframe.specs.Payload.{received_payload}
+use Rattle.s2_soft.specs.Soft.{soft_values}
+use Rattle.s2_receive.specs.Receiving.{Decision}
+use Rattle.s2_receive.specs.declared.report.Outcome.{Outcome}
+use Rattle.s2_receive.specs.declared.report.Outcome.TheVariants.{Delivered, NoWord, BadHeader}
+use Rattle.s2_modem.specs.Link.{Link}
+use Rattle.s2_modem.specs.Deciding.{Decided, decided}
+use Rattle.s2_bch.specs.Decoding.{nearest}
+
+-- the soft values of a frame's codeword
+abbrev pub frame_soft : Link → List Symbol → List ℤ
+frame_soft link symbols = soft_values link.setup.mode (received_payload link.setup.mode link.setup.number symbols)
+
+-- the first Nbch of the decided bits, which BCH decoding takes
+abbrev pub received_word : Mode → List Bool → List Bool
+received_word m bits = take (k_of m) bits
+
+-- the message of a BCH word: its first Kbch bits
+abbrev pub message_of : Mode → List Bool → List Bool
+message_of m word = take (kbch_of m) word
+
+-- byte i of some bits, each byte's highest bit first
+abbrev pub byte_at : List Bool → ℕ → ℕ
+byte_at bits i = byte_of (λ k. bit_at bits (8 * i + k))
+
+-- so many bytes from one on
+abbrev pub bytes_from : ℕ → ℕ → List Bool → List ℕ
+bytes_from first n bits = map (λ i. byte_at bits (first + i)) (range_with_len 0 n)
+
+-- the ten bytes of a baseband frame's header
+abbrev pub header_in : List Bool → List ℕ
+header_in frame = bytes_from 0 10 frame
+
+-- and the data field of this header behind them
+abbrev pub field_in : Header → List Bool → List ℕ
+field_in header frame = bytes_from 10 (header.dfl / 8) frame
+
+-- what comes of a message: its header is that of its descrambled bits
+abbrev pub outcome_by : ℕ → Result Header HeaderFault → Outcome
+outcome_by fixed (Ok header) = Delivered fixed
+outcome_by fixed (Err fault) = BadHeader fault
+
+abbrev pub delivered_by : List Bool → Result Header HeaderFault → Option (Header × List ℕ)
+delivered_by frame (Ok header) = Some (header, field_in header frame)
+delivered_by frame (Err fault) = None
+
+-- the decision where BCH decoding takes a word for this one, or where it finds none
+abbrev pub decision_by : Mode → List ℤ → Decided → Option (List Bool) → Decision
+decision_by m soft d (Some word) = record {
+  soft = soft;
+  bits = d.bits;
+  verdict = d.verdict;
+  message = message_of m word;
+  outcome = outcome_by (differences (k_of m) (received_word m d.bits) word) (reading m (header_in (scrambled (message_of m word))));
+  delivered = delivered_by (scrambled (message_of m word)) (reading m (header_in (scrambled (message_of m word))));
+}
+decision_by m soft d None = record {
+  soft = soft;
+  bits = d.bits;
+  verdict = d.verdict;
+  message = message_of m (received_word m d.bits);
+  outcome = NoWord;
+  delivered = None;
+}
+
+-- what is decided of soft values
+abbrev pub decision_on : Mode → List ℤ → Decided → Decision
+decision_on m soft d = decision_by m soft d (nearest m (received_word m d.bits))
+
+-- what is decided of a frame's symbols
+unfoldable pub frame_decision : Link → ℕ → List Symbol → Decision
+frame_decision link rounds symbols =
+    decision_on link.setup.mode (frame_soft link symbols) (decided link.rows rounds (frame_soft link symbols))

@@ -1,0 +1,16 @@
+//! The receiving end: symbols in, packets out.
+mod bytes;
+mod decider;
+pub mod deciding_laws;
+mod judge;
+mod lines;
+mod receiver;
+mod search;
+mod whole;
+
+pub use judge::Judge;
+pub use receiver::{MOST_ROUNDS, Receiver};
+pub use whole::{DemodFault, demodulate};
+
+#[cfg(test)]
+mod judge_tests;

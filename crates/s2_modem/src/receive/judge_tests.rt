@@ -1,0 +1,114 @@
+//! Decisions on small codes. The verdicts and bits are those of a program that decides by the plain
+//! rules, one check after the other.
+ghost use Rattle.std.specs.Prelude.{All, IsTrue};
+ghost use Rattle.s2_check.specs.Views.{IsSoft};
+
+use super::Judge;
+use s2_check::{Answer, check};
+use s2_matrix::Matrix;
+use s2_mode::{Mode, Shape};
+use s2_receive::Verdict;
+use s2_rows::{make_rows, read_rows};
+use std::alloc::Global;
+use std::process::Abort;
+use std::test::Fail;
+
+/// Whether all values lie within the limits of a soft value.
+fn are_soft(values: &[i16]) -> bool
+    ensures { IsTrue result → All IsSoft values.now }
+{
+    for value in values {
+        if *value < -63 || *value > 63 {
+            return false;
+        }
+    }
+    true
+}
+
+/// The matrix of a row file.
+fn matrix_of(alloc: Global, sizes: [usize; 3], rows: &[u8]) -> Result<Matrix, Fail> {
+    let shape = Shape::new(sizes[0], sizes[1], sizes[2]).ok_or("no shape")?;
+    let rows = read_rows(alloc, rows, shape)?;
+    Ok(Matrix::build(alloc, &rows)?)
+}
+
+/// Asserts what is decided of these values, and that there is a certificate where it is to be, and
+/// that the checker accepts it.
+fn assert_decided<R: Abort>(
+    rt: &R,
+    alloc: Global,
+    matrix: &Matrix,
+    soft: &[i16],
+    verdict: Verdict,
+    bits: &[bool],
+) -> Result<(), Fail> {
+    assert_eq!(rt; soft.len(), matrix.bits());
+    assert!(rt; are_soft(soft));
+    let mut judge = Judge::new(alloc, matrix, 50)?;
+    assert_eq!(rt; judge.judge(soft), verdict);
+    assert_eq!(rt; judge.word().truths(), bits);
+    match judge.certificate() {
+        Some(view) => assert_eq!(rt; check(matrix, &view), Answer::Yes),
+        None => assert_ne!(rt; verdict, Verdict::MostLikely),
+    }
+    Ok(())
+}
+
+#[test]
+fn repairs_a_wrong_bit(rt: HostRuntime) -> Result<(), Fail> {
+    let alloc = rt.alloc();
+    let toy = matrix_of(alloc, [4, 2, 3], b"0 4 8\n0 1 2\n")?;
+    let zeros = [false; 20];
+    assert_decided(&rt, alloc, &toy, &[10; 20], Verdict::MostLikely, &zeros)?;
+    assert_decided(&rt, alloc, &toy, &[0; 20], Verdict::MostLikely, &zeros)?;
+    let mut soft = [10i16; 20];
+    soft[0] = -4;
+    assert_decided(&rt, alloc, &toy, &soft, Verdict::MostLikely, &zeros)?;
+    soft[4] = 1;
+    soft[5] = 1;
+    soft[6] = 1;
+    assert_decided(&rt, alloc, &toy, &soft, Verdict::MostLikely, &zeros)
+}
+
+#[test]
+fn decodes_where_the_repair_has_an_odd_check(rt: HostRuntime) -> Result<(), Fail> {
+    let alloc = rt.alloc();
+    let pair = matrix_of(alloc, [1, 1, 1], b"0\n")?;
+    assert_decided(
+        &rt,
+        alloc,
+        &pair,
+        &[-5, 3],
+        Verdict::MostLikely,
+        &[true, true],
+    )?;
+    assert_decided(&rt, alloc, &pair, &[-5, 5], Verdict::Broken, &[true, false])
+}
+
+#[test]
+fn finds_codewords_without_a_certificate(rt: HostRuntime) -> Result<(), Fail> {
+    let alloc = rt.alloc();
+    let chain = matrix_of(alloc, [1, 1, 3], b"0 1 2\n")?;
+    let zeros = [false; 4];
+    assert_decided(&rt, alloc, &chain, &[0, -1, -1, 0], Verdict::Parity, &zeros)?;
+    assert_decided(&rt, alloc, &chain, &[1, 0, -3, 0], Verdict::Parity, &zeros)
+}
+
+/// Judges a clean frame in each mode.
+#[test]
+fn has_room_for_every_mode(rt: HostRuntime) -> Result<(), Fail> {
+    let alloc = rt.alloc();
+    for modcod in 1..18u8 {
+        for short in [false, true] {
+            if let Some(mode) = Mode::of(modcod, short, false) {
+                let rows = make_rows(alloc, mode.shape(), 3, 1)?;
+                let matrix = Matrix::build(alloc, &rows)?;
+                let soft = vec![in alloc; 10i16; matrix.bits()]?;
+                assert!(rt; are_soft(&soft));
+                let mut judge = Judge::new(alloc, &matrix, 1)?;
+                assert_eq!(rt; judge.judge(&soft), Verdict::MostLikely);
+            }
+        }
+    }
+    Ok(())
+}

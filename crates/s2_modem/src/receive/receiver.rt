@@ -1,0 +1,235 @@
+//! The receiver of one link.
+ghost use Rattle.std.specs.Prelude.{◌≡◌, ◌≢◌, ◌+◌, ◌-◌, ◌*◌, ◌^◌, ◌<◌, ◌≤◌, ◌⊎◌, Ok, Err, IfOk, IsErrOf, OnErr, IfErr, length};
+ghost use Rattle.s2_mode.specs.Mode.{symbols_in};
+ghost use Rattle.s2_receive.specs.declared.report.Report.{Report as ReportValue};
+ghost use Rattle.s2_receive.specs.declared.report.Phase.TheVariants as phases;
+ghost use Rattle.s2_receive.specs.declared.report.Step.TheVariants as steps;
+ghost use Rattle.s2_receive.specs.declared.report.Fault.TheVariants as faults;
+ghost use Rattle.s2_receive.specs.Receiving.{IsLive, Answers, MetFrame, Reaches, begun, rules_of, state_of};
+ghost use Rattle.s2_receive.specs.Stepping.{IsSound};
+ghost use Rattle.s2_modem.specs.Link.{link_of};
+ghost use Rattle.s2_modem.specs.Passing.{passes_as};
+ghost use Rattle.s2_modem.specs.Reports.{frame_decision};
+ghost use Rattle.s2_modem.specs.ReportLines.{frame_line, cut_line, end_line};
+ghost use Rattle.s2_modem.specs.Reception.{link_rules, rules_for, IsSetUp, HasRounds, Refuses, Makes, IsTuned};
+
+use crate::receive::decider::Decider;
+use crate::receive::lines::ReportLines;
+use crate::receive::search::HeaderSearch;
+use crate::setup::{MOST_ROLL_OFF, Setup, SetupFault};
+use s2_bits::Bits;
+use s2_matrix::Matrix;
+use s2_mode::{CountedRead, CountedWrite};
+use s2_receive::{Fault, MOST_SYMBOLS, Step};
+use s2_scramble::{Gold, MOST_NUMBER};
+use std::alloc::Global;
+use std::marker::Model;
+
+/// How many rounds of min-sum a receiver runs at most.
+pub const MOST_ROUNDS: u32 = 200;
+
+/// A receiver over the parts of a link.
+pub(crate) type Inner<'a> = s2_receive::Receiver<HeaderSearch, Decider<'a>, ReportLines>;
+
+/// Makes the parts of a receiver, or answers the first refusal.
+pub(crate) fn tune<'a>(
+    alloc: Global,
+    setup: Setup,
+    matrix: &'a Matrix,
+    rounds: u32,
+) -> Result<Inner<'a>, SetupFault>
+    ensures refuses { IfErr result (Refuses setup matrix.now rounds) }
+    ensures set_up { IfOk result (λ _. IsSetUp setup matrix.now) }
+    ensures rounds { IfOk result (λ _. HasRounds rounds) }
+    ensures rules { IfOk result (λ r. rules_of (passes_as r.search.search.mode) (length r.frame.items) (frame_decision r.decider.link r.decider.rounds) frame_line cut_line end_line r.limit
+        ≡ link_rules (link_of setup matrix.now) rounds MOST_SYMBOLS) }
+    ensures takes { IfOk result (λ r. length r.frame.items ≡ symbols_in r.decider.link.setup.mode) }
+    ensures limit { IfOk result (λ r. r.limit ≡ MOST_SYMBOLS) }
+    ensures begun { IfOk result (λ r. state_of r.place.phase r.place.at r.joiner r.place.totals ≡ begun) }
+    ensures sound { IfOk result (λ r. IsSound (length r.frame.items) (length r.bytes.items) r.limit r.place.at r.place.totals) }
+{
+    if matrix.shape() != setup.mode.shape() {
+        return Err(SetupFault::OtherShape);
+    }
+    if setup.number > MOST_NUMBER {
+        return Err(SetupFault::BadNumber);
+    }
+    if setup.roll_off > MOST_ROLL_OFF {
+        return Err(SetupFault::BadRollOff);
+    }
+    if rounds < 1 || rounds > MOST_ROUNDS {
+        return Err(SetupFault::BadRounds);
+    }
+    let Ok(gold) = Gold::new(alloc, setup.number) else {
+        return Err(SetupFault::NoMemory);
+    };
+    let Ok(decider) = Decider::new(alloc, setup, gold, matrix, rounds) else {
+        return Err(SetupFault::NoMemory);
+    };
+    let search = HeaderSearch {
+        search: s2_plframe::Search::new(setup.mode),
+    };
+    let size = setup.mode.symbols();
+    let Ok(inner) = s2_receive::Receiver::new(
+        alloc,
+        search,
+        decider,
+        ReportLines {},
+        size,
+        MOST_SYMBOLS,
+    ) else {
+        return Err(SetupFault::NoMemory);
+    };
+    Ok(inner)
+}
+
+/// Receives the frames of one link, and writes the packets that they carry.
+#[derive(Drop)]
+pub struct Receiver<'a> {
+    setup: Setup,
+    matrix: &'a Matrix,
+    rounds: u32,
+    inner: Inner<'a>,
+}
+
+impl<'a> Model for Receiver<'a> {
+    ghost use Rattle.std.specs.Prelude.{length};
+    ghost use Rattle.s2_mode.specs.Mode.{symbols_in};
+    ghost use Rattle.s2_receive.specs.Receiving.{rules_of, state_of};
+    ghost use Rattle.s2_modem.specs.Passing.{passes_as};
+    ghost use Rattle.s2_modem.specs.Reports.{frame_decision};
+    ghost use Rattle.s2_modem.specs.ReportLines.{frame_line, cut_line, end_line};
+    ghost use Rattle.s2_modem.specs.Reception.{Receiver as ReceiverValue, link_rules, IsTuned};
+    ghost use Rattle.s2_modem.specs.Link.{link_of};
+
+    ghost Value = { ReceiverValue };
+
+    ghost view = { λ r. record {
+      link = link_of r.setup r.matrix.now;
+      rounds = r.rounds;
+      limit = r.inner.limit;
+      state = state_of r.inner.place.phase r.inner.place.at r.inner.joiner r.inner.place.totals;
+      last = r.inner.decider.last;
+    } };
+
+    ghost invariant = { λ r. IsTuned
+        (rules_of (passes_as r.inner.search.search.mode) (length r.inner.frame.items) (frame_decision r.inner.decider.link r.inner.decider.rounds) frame_line cut_line end_line r.inner.limit)
+        (link_rules (link_of r.setup r.matrix.now) r.rounds r.inner.limit)
+        (symbols_in r.inner.decider.link.setup.mode) (length r.inner.frame.items) (length r.inner.bytes.items) r.inner.limit r.inner.place.at r.inner.place.totals };
+}
+
+impl<'a> Receiver<'a> {
+    /// A receiver with all the memory that it needs. Of several refusals the first is answered:
+    /// `OtherShape` where the matrix is not of the shape of the mode's code, `BadNumber` where the
+    /// scrambling number is over 262141, `BadRollOff` where the roll-off is over 2, `BadRounds` where
+    /// the rounds of min-sum are not 1 to 200, and then `NoMemory` where memory does not suffice.
+    pub fn new(
+        alloc: Global,
+        setup: Setup,
+        matrix: &'a Matrix,
+        rounds: u32,
+    ) -> Result<Receiver<'a>, SetupFault>
+        ensures { Makes setup matrix.now rounds result }
+    {
+        let Setup {
+            mode,
+            number,
+            roll_off,
+        } = setup;
+        let kept = Setup {
+            mode,
+            number,
+            roll_off,
+        };
+        match tune(alloc, setup, matrix, rounds) {
+            Ok(inner) => Ok(Receiver::of_parts(kept, matrix, rounds, inner)),
+            Err(fault) => Err(fault),
+        }
+    }
+
+    /// The receiver that has these parts.
+    fn of_parts(setup: Setup, matrix: &'a Matrix, rounds: u32, inner: Inner<'a>) -> Receiver<'a>
+        requires { IsTuned
+            (rules_of (passes_as inner.search.search.mode) (length inner.frame.items) (frame_decision inner.decider.link inner.decider.rounds) frame_line cut_line end_line inner.limit)
+            (link_rules (link_of setup matrix.now) rounds inner.limit)
+            (symbols_in inner.decider.link.setup.mode) (length inner.frame.items) (length inner.bytes.items) inner.limit inner.place.at inner.place.totals }
+        ensures link { result.link ≡ link_of setup matrix.now }
+        ensures rounds { result.rounds ≡ rounds }
+        ensures limit { result.limit ≡ inner.entry.limit }
+        ensures state { result.state ≡ state_of inner.entry.place.phase inner.entry.place.at inner.entry.joiner inner.entry.place.totals }
+    {
+        Receiver {
+            setup,
+            matrix,
+            rounds,
+            inner,
+        }
+    }
+
+    /// Lets the receiver take at most so many symbols in all, 1 to [`MOST_SYMBOLS`], before the first
+    /// call of [`Receiver::next`].
+    pub fn limit(&mut self, symbols: u64)
+        requires range { (1 ≤ symbols) × (symbols ≤ MOST_SYMBOLS) }
+        requires first { self.old.state ≡ begun }
+        ensures { self.new ≡ record self.old { limit = symbols } }
+    {
+        self.inner.limit(symbols);
+    }
+
+    /// The next frame, a cut one, or the end. Just the symbols up to the end of what is answered are
+    /// read. A frame's packets are written, and then its line of the report; the end has its line
+    /// once. It takes no memory.
+    ///
+    /// `Read` tells that a read failed, or that as many symbols were taken as the receiver takes and
+    /// more are wanted; `Write` that a write failed. After either each further call answers `Failed`,
+    /// and after `End` each answers `End`; such calls read and write nothing.
+    pub fn next<R: CountedRead, P: CountedWrite, W: CountedWrite>(
+        &mut self,
+        reader: &mut R,
+        packets: &mut P,
+        report: &mut W,
+    ) -> Result<Step, Fault>
+        requires reader { R.count reader.old < 2 ^ 64 - 1 }
+        requires packets { P.count packets.old < 2 ^ 64 - 1 }
+        requires report { W.count report.old < 2 ^ 64 - 1 }
+        ensures live { IsLive self.old.state.phase → Answers (rules_for self.old) self.old.state self.new.state (R.remaining reader.old) (R.remaining reader.new)
+            (P.contents packets.old) (P.contents packets.new) (W.contents report.old) (W.contents report.new) result }
+        ensures frame { (r : ReportValue) → result ≡ Ok (steps.Frame r) → MetFrame (rules_for self.old) self.old.state self.new.state (R.remaining reader.old) (R.remaining reader.new)
+            (P.contents packets.old) (P.contents packets.new) (W.contents report.old) (W.contents report.new) r self.new.last }
+        ensures ended { self.old.state.phase ≡ phases.Ended → result ≡ Ok steps.End }
+        ensures failed { self.old.state.phase ≡ phases.Failed → result ≡ Err faults.Failed }
+        ensures nothing { (IsLive self.old.state.phase → ⊥) → (self.new.state ≡ self.old.state) × (reader.new ≡ reader.old) × (packets.new ≡ packets.old) × (report.new ≡ report.old) }
+        ensures read { IsErrOf result faults.Read → (packets.new ≡ packets.old) × (report.new ≡ report.old)
+            × (R.count reader.new ≢ R.count reader.old + 1 → (R.count reader.new ≡ R.count reader.old) × Reaches self.old.limit self.old.state.at (R.remaining reader.old) (R.remaining reader.new)) }
+        ensures no_read { result ≢ Err faults.Read → R.count reader.new ≡ R.count reader.old }
+        ensures write { IsErrOf result faults.Write → ((P.count packets.new ≡ P.count packets.old + 1) × (W.count report.new ≡ W.count report.old))
+            ⊎ ((P.count packets.new ≡ P.count packets.old) × (W.count report.new ≡ W.count report.old + 1)) }
+        ensures no_write { result ≢ Err faults.Write → (P.count packets.new ≡ P.count packets.old) × (W.count report.new ≡ W.count report.old) }
+        ensures same { (self.new.link ≡ self.old.link) × (self.new.rounds ≡ self.old.rounds) × (self.new.limit ≡ self.old.limit) }
+    {
+        self.inner.next(reader, packets, report)
+    }
+
+    /// The soft values of the last frame's codeword, where the last call of [`Receiver::next`]
+    /// answered a frame; zeros before the first.
+    pub fn soft(&self) -> &[i16]
+        ensures { result.now ≡ self.now.last.soft }
+    {
+        self.inner.decider().soft()
+    }
+
+    /// The decided bits of the last frame's codeword; zeros before the first frame.
+    pub fn word(&self) -> &Bits
+        ensures { result.now ≡ self.now.last.bits }
+    {
+        self.inner.decider().word()
+    }
+
+    /// The message that BCH decoding left of the last frame's decided bits, Kbch bits, still
+    /// scrambled; zeros before the first frame.
+    pub fn message(&self) -> &[bool]
+        ensures { result.now ≡ self.now.last.message }
+    {
+        self.inner.decider().message()
+    }
+}

@@ -1,0 +1,52 @@
+//! A whole stream of symbols in memory.
+ghost use Rattle.std.specs.Prelude.{◌≡◌, ◌≢◌, ◌+◌, ◌-◌, ◌*◌, ◌^◌, ◌<◌, ◌⊎◌, Err, IsErrOf, length};
+ghost use Rattle.s2_modem.specs.Reception.{Demodulates};
+
+use crate::receive::receiver::tune;
+use crate::setup::{Setup, SetupFault};
+use s2_matrix::Matrix;
+use s2_mode::CountedWrite;
+use s2_receive::{Totals, receive_bytes};
+use std::alloc::Global;
+use thiserror::Error;
+
+/// Why a stream was not received to its end.
+#[derive(Clone, Copy, Debug, PartialEq, Eq, Error)]
+pub enum DemodFault {
+    /// There is no such receiver.
+    #[error("{0}")]
+    Setup(SetupFault),
+    /// A write failed.
+    #[error("cannot write")]
+    Write,
+}
+
+/// Receives a whole stream of symbols, fewer than 2^42 bytes, and writes the packets that its frames
+/// carry and a line for each frame, for a cut one, and for the end. 1 to 3 bytes behind the last
+/// symbol are dropped. A setup is refused as by [`crate::Receiver::new`], and then nothing is written.
+pub fn demodulate<P: CountedWrite, W: CountedWrite>(
+    alloc: Global,
+    setup: Setup,
+    matrix: &Matrix,
+    rounds: u32,
+    bytes: &[u8],
+    packets: &mut P,
+    report: &mut W,
+) -> Result<Totals, DemodFault>
+    requires packets { P.count packets.old < 2 ^ 64 - 1 }
+    requires report { W.count report.old < 2 ^ 64 - 1 }
+    requires few { length bytes.now < 2 ^ 42 }
+    ensures demodulates { Demodulates setup matrix.now rounds bytes.now (P.contents packets.old) (P.contents packets.new) (W.contents report.old) (W.contents report.new) result }
+    ensures write { IsErrOf result DemodFault.Write → ((P.count packets.new ≡ P.count packets.old + 1) × (W.count report.new ≡ W.count report.old))
+        ⊎ ((P.count packets.new ≡ P.count packets.old) × (W.count report.new ≡ W.count report.old + 1)) }
+    ensures no_write { result ≢ Err DemodFault.Write → (P.count packets.new ≡ P.count packets.old) × (W.count report.new ≡ W.count report.old) }
+{
+    let mut receiver = match tune(alloc, setup, matrix, rounds) {
+        Ok(receiver) => receiver,
+        Err(fault) => return Err(DemodFault::Setup(fault)),
+    };
+    match receive_bytes(&mut receiver, bytes, packets, report) {
+        Ok(totals) => Ok(totals),
+        Err(_) => Err(DemodFault::Write),
+    }
+}
