@@ -1,6 +1,6 @@
-pub mod Parts
 pub mod Runs
-pub mod CheckRuns
+pub mod CountLemmas
+pub mod InputLemmas
+pub mod CertifyLemmas
+pub mod SendLemmas
 pub mod ValueRange
-pub mod CertifyRuns
-pub mod SendRuns

@@ -1,51 +1,75 @@
--- A command whose input is there.
-use Rattle.std.proofs.Common.{◌≡◌, ℕ, ℤ, List, Option, Some, None, Result, Ok, Err, ◌+◌, subst, arith, ap, ◌∙◌}
-use Rattle.std.specs.Prelude.{IfSome}
-use Rattle.s2_mode.specs.Shape.{Shape}
-use Rattle.s2_rows.specs.Rows.{Rows}
+-- Commands that hold their output back.
+use Rattle.std.proofs.Common.{◌≡◌, ℕ, List, Option, Result, Ok, Err, subst, sym, inl, inr}
+use Rattle.s2_tool.specs.declared.console.Printed.{Printed}
 use Rattle.s2_tool.specs.declared.exit.Exit.{Exit}
 use Rattle.s2_tool.specs.declared.fault.Fault.{Fault}
 use Rattle.s2_tool.specs.declared.fault.Fault.TheVariants as faults
-use Rattle.s2_tool.specs.Exits.{Prints, Runs, Counts, IsPrinting}
-use Rattle.s2_tool.specs.Inputs.{rows_in, values_in, inputs, then_values}
+use Rattle.s2_tool.specs.Exits.{Answers, Prints, Runs}
 
-pub both : (a : Result Rows Fault) (b : Result (List ℤ) Fault) (rows : Rows) (soft : List ℤ) → a ≡ Ok rows → b ≡ Ok soft → then_values a b ≡ Ok (rows, soft)
-both a b rows soft p q = ap (λ x. then_values x b) p ∙ ap (then_values (Ok rows)) q
+-- what is said of one input is said of another
+pub answers_moved : {I : Type 0} → (Says : I → Exit → List ℕ → Type 0) (A B : Result I Fault → Type 0) (made : Result Printed Fault) → ((said : Result I Fault) → A said → B said) → Answers Says A made → Answers Says B made
+answers_moved Says A B (Ok p) f (input, is, says) = (input, f (Ok input) is, says)
+answers_moved Says A B (Err faults.Read) f h = h
+answers_moved Says A B (Err faults.Write) f h = h
+answers_moved Says A B (Err faults.NoMemory) f h = h
+answers_moved Says A B (Err faults.Mode) f h = f (Err faults.Mode) h
+answers_moved Says A B (Err faults.Shape) f h = f (Err faults.Shape) h
+answers_moved Says A B (Err faults.Weight) f h = f (Err faults.Weight) h
+answers_moved Says A B (Err (faults.Open name)) f h = f (Err (faults.Open name)) h
+answers_moved Says A B (Err faults.TooLong) f h = f (Err faults.TooLong) h
+answers_moved Says A B (Err (faults.Rows e)) f h = f (Err (faults.Rows e)) h
+answers_moved Says A B (Err (faults.Values e)) f h = f (Err (faults.Values e)) h
+answers_moved Says A B (Err (faults.Certificate e)) f h = f (Err (faults.Certificate e)) h
+answers_moved Says A B (Err faults.NotWholePacket) f h = f (Err faults.NotWholePacket) h
+answers_moved Says A B (Err (faults.NoSync packet)) f h = f (Err (faults.NoSync packet)) h
 
-pub runs : {I : Type 0} → (Says : I → Exit → List ℕ → Type 0) (input : I) (planned : Result I Fault) (ended : Result Exit Fault) (old new : Option (List ℕ)) → planned ≡ Ok input → IsPrinting ended → Prints ended (Says input) old new → Runs Says ended planned old new
-runs Says input planned (Ok exit) old new e w (text, says, wrote) = (input, e, text, says, wrote)
-runs Says input planned (Err faults.Write) old new e w p = p
-runs Says input planned (Err faults.NoMemory) old new e w p = p
-runs Says input planned (Err faults.Read) old new e w p = absurd w
-runs Says input planned (Err faults.TooLong) old new e w p = absurd w
-runs Says input planned (Err faults.Weight) old new e w p = absurd w
-runs Says input planned (Err (faults.Rows f)) old new e w p = absurd w
-runs Says input planned (Err (faults.Values f)) old new e w p = absurd w
-runs Says input planned (Err (faults.Certificate f)) old new e w p = absurd w
-runs Says input planned (Err faults.Number) old new e w p = absurd w
-runs Says input planned (Err faults.RollOff) old new e w p = absurd w
-runs Says input planned (Err (faults.Packets f)) old new e w p = absurd w
+-- a command that failed before it printed
+pub refused : {I : Type 0} → (Says : I → Exit → List ℕ → Type 0) (IsInput : Result I Fault → Type 0) (f : Fault) (old new : Option (List ℕ)) → Answers Says IsInput (Err f) → new ≡ old → Runs Says IsInput (Err f) old new
+refused Says IsInput faults.Read old new h same = same
+refused Says IsInput faults.Write old new h same = inl same
+refused Says IsInput faults.NoMemory old new h same = same
+refused Says IsInput faults.Mode old new h same = (h, same)
+refused Says IsInput faults.Shape old new h same = (h, same)
+refused Says IsInput faults.Weight old new h same = (h, same)
+refused Says IsInput (faults.Open name) old new h same = (h, same)
+refused Says IsInput faults.TooLong old new h same = (h, same)
+refused Says IsInput (faults.Rows e) old new h same = (h, same)
+refused Says IsInput (faults.Values e) old new h same = (h, same)
+refused Says IsInput (faults.Certificate e) old new h same = (h, same)
+refused Says IsInput faults.NotWholePacket old new h same = (h, same)
+refused Says IsInput (faults.NoSync packet) old new h same = (h, same)
 
-pub runs_on_files : (shape : Shape) (Says : Rows × List ℤ → Exit → List ℕ → Type 0) (known_rows known_soft : Option (List ℕ)) (rows : Rows) (soft : List ℤ) (ended : Result Exit Fault) (old new : Option (List ℕ))
-    → IfSome known_rows (λ xs. rows_in shape xs ≡ Ok rows) → IfSome known_soft (λ ys. values_in shape ys ≡ Ok soft) → IsPrinting ended → Prints ended (Says (rows, soft)) old new
-    → IfSome known_rows (λ xs. IfSome known_soft (λ ys. Runs Says ended (inputs shape xs ys) old new))
-runs_on_files shape Says None known_soft rows soft ended old new p q w prints = tt
-runs_on_files shape Says (Some xs) None rows soft ended old new p q w prints = tt
-runs_on_files shape Says (Some xs) (Some ys) rows soft ended old new p q w prints = runs Says (rows, soft) (inputs shape xs ys) ended old new (both _ _ rows soft p q) w prints
+-- a command that printed, or could not
+pub printed : {I : Type 0} → (Says : I → Exit → List ℕ → Type 0) (IsInput : Result I Fault → Type 0) (p : Printed) (ended : Result Exit Fault) (old new : Option (List ℕ)) → Answers Says IsInput (Ok p) → Prints p ended old new → Runs Says IsInput ended old new
+printed Says IsInput p (Ok exit) old new (input, is, says) (e, wrote) = (input, is, (p.text.items, subst (λ x. Says input x p.text.items) (sym e) says, wrote))
+printed Says IsInput p (Err faults.Write) old new (input, is, says) part = inr (input, is, (p.exit, (p.text.items, says, part)))
+printed Says IsInput p (Err faults.Read) old new h no_way = absurd no_way
+printed Says IsInput p (Err faults.NoMemory) old new h no_way = absurd no_way
+printed Says IsInput p (Err faults.Mode) old new h no_way = absurd no_way
+printed Says IsInput p (Err faults.Shape) old new h no_way = absurd no_way
+printed Says IsInput p (Err faults.Weight) old new h no_way = absurd no_way
+printed Says IsInput p (Err (faults.Open name)) old new h no_way = absurd no_way
+printed Says IsInput p (Err faults.TooLong) old new h no_way = absurd no_way
+printed Says IsInput p (Err (faults.Rows e)) old new h no_way = absurd no_way
+printed Says IsInput p (Err (faults.Values e)) old new h no_way = absurd no_way
+printed Says IsInput p (Err (faults.Certificate e)) old new h no_way = absurd no_way
+printed Says IsInput p (Err faults.NotWholePacket) old new h no_way = absurd no_way
+printed Says IsInput p (Err (faults.NoSync packet)) old new h no_way = absurd no_way
 
--- the rows in memory are read without a failed call
-pub no_failed_rows : (ended : Result Exit Fault) (a b w v : ℕ) → Counts ended (0 + a) (0 + b) w v → Counts ended a b w v
-no_failed_rows ended a b w v h =
-    let p : 0 + a ≡ a = omega arith in
-    let q : 0 + b ≡ b = omega arith in
-    let P : ℕ → Type 0 = λ x. Counts ended x b w v in
-    let Q : ℕ → Type 0 = λ y. Counts ended (0 + a) y w v in
-    subst P p (subst Q q h)
-
--- the same rows by other names
-pub at_rows : (Says : Rows × List ℤ → Exit → List ℕ → Type 0) (known_soft : Option (List ℕ)) (ended : Result Exit Fault) (old new : Option (List ℕ)) (shape shape' : Shape) (xs xs' : List ℕ)
-    → shape ≡ shape' → xs ≡ xs' → IfSome known_soft (λ ys. Runs Says ended (inputs shape xs ys) old new) → IfSome known_soft (λ ys. Runs Says ended (inputs shape' xs' ys) old new)
-at_rows Says known_soft ended old new shape shape' xs xs' p q h =
-    let P : Shape → Type 0 = λ s. IfSome known_soft (λ ys. Runs Says ended (inputs s xs ys) old new) in
-    let Q : List ℕ → Type 0 = λ x. IfSome known_soft (λ ys. Runs Says ended (inputs shape' x ys) old new) in
-    subst Q q (subst P p h)
+-- the same of another input
+pub runs_moved : {I : Type 0} → (Says : I → Exit → List ℕ → Type 0) (A B : Result I Fault → Type 0) (ended : Result Exit Fault) (old new : Option (List ℕ)) → ((said : Result I Fault) → A said → B said) → Runs Says A ended old new → Runs Says B ended old new
+runs_moved Says A B (Ok exit) old new f (input, is, rest) = (input, f (Ok input) is, rest)
+runs_moved Says A B (Err faults.Read) old new f h = h
+runs_moved Says A B (Err faults.Write) old new f (inl same) = inl same
+runs_moved Says A B (Err faults.Write) old new f (inr (input, is, rest)) = inr (input, f (Ok input) is, rest)
+runs_moved Says A B (Err faults.NoMemory) old new f h = h
+runs_moved Says A B (Err faults.Mode) old new f (h, same) = (f (Err faults.Mode) h, same)
+runs_moved Says A B (Err faults.Shape) old new f (h, same) = (f (Err faults.Shape) h, same)
+runs_moved Says A B (Err faults.Weight) old new f (h, same) = (f (Err faults.Weight) h, same)
+runs_moved Says A B (Err (faults.Open name)) old new f (h, same) = (f (Err (faults.Open name)) h, same)
+runs_moved Says A B (Err faults.TooLong) old new f (h, same) = (f (Err faults.TooLong) h, same)
+runs_moved Says A B (Err (faults.Rows e)) old new f (h, same) = (f (Err (faults.Rows e)) h, same)
+runs_moved Says A B (Err (faults.Values e)) old new f (h, same) = (f (Err (faults.Values e)) h, same)
+runs_moved Says A B (Err (faults.Certificate e)) old new f (h, same) = (f (Err (faults.Certificate e)) h, same)
+runs_moved Says A B (Err faults.NotWholePacket) old new f (h, same) = (f (Err faults.NotWholePacket) h, same)
+runs_moved Says A B (Err (faults.NoSync packet)) old new f (h, same) = (f (Err (faults.NoSync packet)) h, same)

@@ -1,5 +1,5 @@
 -- What `check` reads, and what it prints of a certificate.
-use Rattle.std.specs.Prelude.{◌≡◌, ℕ, ℤ, List, ◌++◌, codes, decimal, Result, Ok, Err}
+use Rattle.std.specs.Prelude.{◌≡◌, ℕ, ℤ, List, ◌++◌, Option, IfSome, codes, decimal, Result, Ok, Err}
 use Rattle.std.specs.Fmt.{signed_decimal}
 use Rattle.s2_rows.specs.Rows.{Rows}
 use Rattle.s2_rows.specs.RowFiles as row_files
@@ -8,7 +8,7 @@ use Rattle.s2_check.specs.Cost.{cost, IsMostLikely}
 use Rattle.s2_check.specs.Views.{View}
 use Rattle.s2_check.specs.Checking.{Checks}
 use Rattle.s2_check.specs.CertificateFiles as certificate_files
-use Rattle.s2_check.specs.declared.fault.CertFault.{CertFault}
+use Rattle.s2_file.specs.declared.fault.CertFault.{CertFault}
 use Rattle.s2_check.specs.declared.checker.Answer.{Answer}
 use Rattle.s2_check.specs.declared.checker.Answer.TheVariants as answers
 use Rattle.s2_check.specs.declared.checker.Refusal.TheVariants as refusals
@@ -46,6 +46,14 @@ then_parts (Ok rows) (Ok certificate) = parts_in rows certificate
 abbrev pub check_inputs : List ℕ → List ℕ → Result (Rows × View) Fault
 check_inputs rows certificate = then_parts (taken rows) (taken certificate)
 
+-- what is answered is what two files in memory say
+abbrev pub ArePartsIn : List ℕ → List ℕ → Result (Rows × View) Fault → Type 0
+ArePartsIn rows certificate said = parts_in rows certificate ≡ said
+
+-- what is answered is what a row file and a certificate say, where their bytes are known
+abbrev pub AreCheckInputs : Option (List ℕ) → Option (List ℕ) → Result (Rows × View) Fault → Type 0
+AreCheckInputs rows certificate said = IfSome rows (λ xs. IfSome certificate (λ ys. check_inputs xs ys ≡ said))
+
 -- ---- the answer
 
 abbrev pub answer_text : ℤ → Answer → List ℕ
@@ -68,3 +76,6 @@ pub record SaysAnswer (rows : Rows) (view : View) (exit : Exit) (text : List ℕ
   pub likely : answer ≡ answers.Yes → IsMostLikely (code_of rows) view.soft view.bits
   pub line : text ≡ answer_line (cost view.soft view.bits) answer
   pub ends : exit ≡ answer_exit answer
+
+abbrev pub IsAnswered : Rows × View → Exit → List ℕ → Type 0
+IsAnswered input exit text = SaysAnswer input.0 input.1 exit text

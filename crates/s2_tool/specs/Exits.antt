@@ -1,6 +1,8 @@
 -- How a run of the program ends.
-use Rattle.std.specs.Prelude.{◌≡◌, ℕ, ◌+◌, List, ⊤, Option, Result, Ok, Err}
-use Rattle.std.specs.Io.KnownBytes.{Appends, Keeps}
+use Rattle.std.specs.Prelude.{◌≡◌, ◌⊎◌, ℕ, ◌+◌, List, ⊤, Option, Result, Ok, Err}
+use Rattle.std.specs.Io.KnownBytes.{Appends}
+use Rattle.s2_mode.specs.Pieces.{AppendsPart}
+use Rattle.s2_tool.specs.declared.console.Printed.{Printed}
 use Rattle.s2_tool.specs.declared.exit.Exit.{Exit}
 use Rattle.s2_tool.specs.declared.exit.Exit.TheVariants as exits
 use Rattle.s2_tool.specs.declared.fault.Fault.{Fault}
@@ -15,27 +17,30 @@ Follows view (Err faults.Write) planned = ⊤
 Follows view (Err faults.NoMemory) planned = ⊤
 Follows view (Err f) planned = planned ≡ Err f
 
--- What a command wrote to its output: nothing where it failed, unless the writer failed.
-abbrev pub Prints : Result Exit Fault → (Exit → List ℕ → Type 0) → Option (List ℕ) → Option (List ℕ) → Type 0
-Prints (Ok exit) Says old new = (text : List ℕ) × Says exit text × Appends old new text
-Prints (Err faults.Write) Says old new = ⊤
-Prints (Err f) Says old new = Keeps old new
+-- What a command has to print says what it is to say of an input, or the input is refused. `IsInput` says of an answer that it
+-- is what the command's files say. Nothing is said where memory ran out or a device failed.
+abbrev pub Answers : {I : Type 0} → (I → Exit → List ℕ → Type 0) → (Result I Fault → Type 0) → Result Printed Fault → Type 0
+Answers {I} Says IsInput (Ok printed) = (input : I) × IsInput (Ok input) × Says input printed.exit printed.text.items
+Answers Says IsInput (Err faults.Read) = ⊤
+Answers Says IsInput (Err faults.Write) = ⊤
+Answers Says IsInput (Err faults.NoMemory) = ⊤
+Answers Says IsInput (Err f) = IsInput (Err f)
 
--- Once its input is there a command fails only for want of memory, or where its writer failed.
-abbrev pub IsPrinting : Result Exit Fault → Type 0
-IsPrinting (Ok exit) = ⊤
-IsPrinting (Err faults.Write) = ⊤
-IsPrinting (Err faults.NoMemory) = ⊤
-IsPrinting (Err f) = ⊥
+-- What stands in the output after the text was printed: all of it, or where the writer failed a part.
+abbrev pub Prints : Printed → Result Exit Fault → Option (List ℕ) → Option (List ℕ) → Type 0
+Prints printed (Ok exit) old new = (exit ≡ printed.exit) × Appends old new printed.text.items
+Prints printed (Err faults.Write) old new = AppendsPart printed.text.items old new
+Prints printed (Err f) old new = ⊥
 
--- A command on an input: it printed what it says of the input, or the input is refused and nothing is printed. Where memory
--- ran out or a reader failed nothing is printed either.
-abbrev pub Runs : {I : Type 0} → (I → Exit → List ℕ → Type 0) → Result Exit Fault → Result I Fault → Option (List ℕ) → Option (List ℕ) → Type 0
-Runs {I} Says (Ok exit) planned old new = (input : I) × (planned ≡ Ok input) × (text : List ℕ) × Says input exit text × Appends old new text
-Runs Says (Err faults.Write) planned old new = ⊤
-Runs Says (Err faults.Read) planned old new = Keeps old new
-Runs Says (Err faults.NoMemory) planned old new = Keeps old new
-Runs Says (Err f) planned old new = (planned ≡ Err f) × Keeps old new
+-- A command that holds its output back, on an input: it printed what it says of the input, all of it, or where a writer failed
+-- a part from the first byte on. Or the input is refused and nothing is printed. Where memory ran out or a reader failed nothing
+-- is printed either.
+abbrev pub Runs : {I : Type 0} → (I → Exit → List ℕ → Type 0) → (Result I Fault → Type 0) → Result Exit Fault → Option (List ℕ) → Option (List ℕ) → Type 0
+Runs {I} Says IsInput (Ok exit) old new = (input : I) × IsInput (Ok input) × ((text : List ℕ) × Says input exit text × Appends old new text)
+Runs {I} Says IsInput (Err faults.Write) old new = (new ≡ old) ⊎ ((input : I) × IsInput (Ok input) × ((exit : Exit) × ((text : List ℕ) × Says input exit text × AppendsPart text old new)))
+Runs Says IsInput (Err faults.Read) old new = new ≡ old
+Runs Says IsInput (Err faults.NoMemory) old new = new ≡ old
+Runs Says IsInput (Err f) old new = IsInput (Err f) × (new ≡ old)
 
 -- The causes of a failed device: the count of failed reads rose, or that of failed writes.
 abbrev pub Counts : Result Exit Fault → ℕ → ℕ → ℕ → ℕ → Type 0
@@ -50,7 +55,7 @@ exit_of (Err f) = exits.Fault
 -- What a command wrote to its errors: the line of a fault, and nothing where there was none. The line may be lost only where
 -- its writer failed.
 abbrev pub Complains : Result Exit Fault → ℕ → ℕ → Option (List ℕ) → Option (List ℕ) → Type 0
-Complains (Ok exit) before after old new = (after ≡ before) × Keeps old new
+Complains (Ok exit) before after old new = (after ≡ before) × (new ≡ old)
 Complains (Err f) before after old new = after ≡ before → Appends old new (fault_line f)
 
 -- the number that the program ends with

@@ -1,13 +1,15 @@
 -- What the files of a command say, or the fault that is told.
-use Rattle.std.specs.Prelude.{ℕ, ℤ, nat_le, List, length, Result, Ok, Err, if◌then◌else◌}
+use Rattle.std.specs.Prelude.{◌≡◌, ℕ, ℤ, nat_le, Option, IfSome, List, length, Result, Ok, Err, if◌then◌else◌}
 use Rattle.s2_mode.specs.Shape.{Shape, code_bits}
 use Rattle.s2_rows.specs.Rows.{Rows, rows_value}
 use Rattle.s2_rows.specs.MadeRows.{is_weight, made_rows}
 use Rattle.s2_rows.specs.RowFiles as row_files
+use Rattle.s2_rows.specs.RowTexts.{rows_text}
 use Rattle.s2_rows.specs.Values as values
 use Rattle.s2_rows.specs.declared.row_file.RowFault.{RowFault}
 use Rattle.s2_rows.specs.declared.values.ValueFault.{ValueFault}
-use Rattle.s2_tool.specs.declared.files.TheConstants.{MOST_BYTES}
+use Rattle.s2_tool.specs.declared.exit.Exit.{Exit}
+use Rattle.s2_tool.specs.declared.exit.Exit.TheVariants as exits
 use Rattle.s2_tool.specs.declared.fault.Fault.{Fault}
 use Rattle.s2_tool.specs.declared.fault.Fault.TheVariants as faults
 
@@ -15,13 +17,17 @@ abbrev pub rows_said : Shape → Result (List (List ℕ)) RowFault → Result Ro
 rows_said shape (Ok rows) = Ok (rows_value shape rows)
 rows_said shape (Err e) = Err (faults.Rows e)
 
+-- the most bytes of a file that is read into memory
+abbrev pub most_bytes : ℕ
+most_bytes = 16777216
+
 -- the bytes of a file, at most 16,777,216
 abbrev pub taken : List ℕ → Result (List ℕ) Fault
-taken bytes = if nat_le (length bytes) MOST_BYTES then Ok bytes else Err faults.TooLong
+taken bytes = if nat_le (length bytes) most_bytes then Ok bytes else Err faults.TooLong
 
 -- the rows of a row file, at most 16,777,216 bytes
 abbrev pub rows_in : Shape → List ℕ → Result Rows Fault
-rows_in shape bytes = if nat_le (length bytes) MOST_BYTES then rows_said shape (row_files.reading bytes shape) else Err faults.TooLong
+rows_in shape bytes = if nat_le (length bytes) most_bytes then rows_said shape (row_files.reading bytes shape) else Err faults.TooLong
 
 -- the rows that a shape, a weight and a seed determine
 abbrev pub rows_made : Shape → ℕ → ℕ → Result (List (List ℕ)) Fault
@@ -33,7 +39,7 @@ values_said (Err e) = Err (faults.Values e)
 
 -- the values of a value file, at most 16,777,216 bytes
 abbrev pub values_in : Shape → List ℕ → Result (List ℤ) Fault
-values_in shape bytes = if nat_le (length bytes) MOST_BYTES then values_said (values.reading bytes (code_bits shape)) else Err faults.TooLong
+values_in shape bytes = if nat_le (length bytes) most_bytes then values_said (values.reading bytes (code_bits shape)) else Err faults.TooLong
 
 -- the rows, then the values
 abbrev pub then_values : Result Rows Fault → Result (List ℤ) Fault → Result (Rows × List ℤ) Fault
@@ -43,3 +49,19 @@ then_values (Ok rows) (Ok vs) = Ok (rows, vs)
 
 abbrev pub inputs : Shape → List ℕ → List ℕ → Result (Rows × List ℤ) Fault
 inputs shape rows soft = then_values (rows_in shape rows) (values_in shape soft)
+
+-- what is answered is what a row file and a value file say, where their bytes are known
+abbrev pub AreInputs : Shape → Option (List ℕ) → Option (List ℕ) → Result (Rows × List ℤ) Fault → Type 0
+AreInputs shape rows soft said = IfSome rows (λ xs. IfSome soft (λ ys. inputs shape xs ys ≡ said))
+
+-- what is answered is this input
+abbrev pub IsOnly : {I : Type 0} → I → Result I Fault → Type 0
+IsOnly input said = said ≡ Ok input
+
+-- what is answered are the rows that a shape, a weight and a seed determine
+abbrev pub AreMadeRows : Shape → ℕ → ℕ → Result (List (List ℕ)) Fault → Type 0
+AreMadeRows shape weight seed said = rows_made shape weight seed ≡ said
+
+-- `rows` prints their row file
+abbrev pub IsRowFile : List (List ℕ) → Exit → List ℕ → Type 0
+IsRowFile rows exit text = (exit ≡ exits.Fine) × (text ≡ rows_text rows)

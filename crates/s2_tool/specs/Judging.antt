@@ -23,3 +23,6 @@ pub record SaysBroken (rows : Rows) (soft : List ℤ) (exit : Exit) (text : List
 
 abbrev pub Judges : Rows → List ℤ → Exit → List ℕ → Type 0
 Judges rows soft exit text = SaysMostLikely rows soft exit text ⊎ SaysBroken rows soft exit text
+
+abbrev pub IsJudged : Rows × List ℤ → Exit → List ℕ → Type 0
+IsJudged input exit text = Judges input.0 input.1 exit text

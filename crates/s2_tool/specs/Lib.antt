@@ -1,3 +1,4 @@
+pub mod Counting
 pub mod Faults
 pub mod Exits
 pub mod Lines
@@ -5,4 +6,7 @@ pub mod Inputs
 pub mod Judging
 pub mod Checking
 pub mod Certifying
+pub mod Links
 pub mod Sending
+pub mod Spoiling
+pub mod Serving

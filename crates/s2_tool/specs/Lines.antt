@@ -7,4 +7,4 @@ most_likely_line cost = codes "most-likely cost " ++ signed_decimal cost ++ code
 
 -- of a word that is no codeword: its cost, and its first odd check
 abbrev pub broken_line : ℤ → ℕ → List ℕ
-broken_line cost check = codes "broken cost " ++ signed_decimal cost ++ codes " check " ++ decimal check ++ codes "\n"
+broken_line cost check = codes "broken cost " ++ (signed_decimal cost ++ (codes " check " ++ (decimal check ++ codes "\n")))

@@ -1,9 +1,9 @@
 -- What `mod` reads, sends and prints.
-use Rattle.std.specs.Prelude.{◌≡◌, ◌≢◌, ℕ, ◌+◌, nat_le, List, ◌++◌, codes, decimal, ⊤, Option, Result, Ok, Err, IfOk, IfSome, ◌⊎◌, if◌then◌else◌}
+use Rattle.std.specs.Prelude.{◌≡◌, ◌≢◌, ℕ, ◌+◌, List, ◌++◌, codes, decimal, Option, Result, Ok, Err, IfOk, IfSome, ◌⊎◌}
 use Rattle.std.specs.Io.KnownBytes.{Appends}
+use Rattle.s2_mode.specs.Pieces.{AppendsPart}
 use Rattle.s2_mode.specs.Mode.{shape_in}
 use Rattle.s2_rows.specs.Rows.{Rows}
-use Rattle.s2_scramble.specs.declared.gold.TheConstants.{MOST_NUMBER}
 use Rattle.s2_modem.specs.Link.{Link}
 use Rattle.s2_modem.specs.Sending.{Runs}
 use Rattle.s2_modem.specs.declared.outcome.Counts.{Counts}
@@ -11,7 +11,6 @@ use Rattle.s2_modem.specs.declared.outcome.SendFault.{SendFault}
 use Rattle.s2_modem.specs.declared.outcome.SendFault.TheVariants as refusals
 use Rattle.s2_modem.specs.declared.sending.TheConstants.{MOST_PACKETS}
 use Rattle.s2_modem.specs.declared.setup.Setup.{Setup}
-use Rattle.s2_modem.specs.declared.setup.TheConstants.{MOST_ROLL_OFF}
 use Rattle.s2_tool.specs.declared.exit.Exit.{Exit}
 use Rattle.s2_tool.specs.declared.exit.Exit.TheVariants as exits
 use Rattle.s2_tool.specs.declared.fault.Fault.{Fault}
@@ -21,11 +20,10 @@ use Rattle.s2_tool.specs.Inputs.{rows_in}
 
 -- ---- the input
 
--- a link on these rows, or the first refusal
+-- a link on these rows, or why there are none
 abbrev pub link_on : Setup → Result Rows Fault → Result Link Fault
 link_on setup (Err f) = Err f
-link_on setup (Ok rows) =
-    if nat_le setup.number MOST_NUMBER then (if nat_le setup.roll_off MOST_ROLL_OFF then Ok (record { setup = setup; rows = rows }) else Err faults.RollOff) else Err faults.Number
+link_on setup (Ok rows) = Ok (record { setup = setup; rows = rows })
 
 -- the link on the rows of a row file, which is read by the mode's shape
 abbrev pub link_in : Setup → List ℕ → Result Link Fault
@@ -39,12 +37,19 @@ sent_line counts = codes "packets " ++ decimal counts.packets ++ codes " frames 
 abbrev pub refusal_fault : SendFault → Fault
 refusal_fault refusals.Read = faults.Read
 refusal_fault refusals.Write = faults.Write
-refusal_fault refusal = faults.Packets refusal
+refusal_fault refusals.NotWholePacket = faults.NotWholePacket
+refusal_fault (refusals.NoSync packet) = faults.NoSync packet
 
--- Of a whole run the line of its counts, unless the output failed; of a refusal its fault, and nothing on the output.
+-- a whole run's line
+abbrev pub IsSent : Counts → Exit → List ℕ → Type 0
+IsSent counts exit text = (exit ≡ exits.Fine) × (text ≡ sent_line counts)
+
+-- Of a whole run the line of its counts, all of it, or where the output failed a part. Of a refusal its fault, and nothing on
+-- the output.
 abbrev pub Tells : Result Counts SendFault → Result Exit Fault → Option (List ℕ) → Option (List ℕ) → Type 0
 Tells (Ok counts) (Ok exit) old new = (exit ≡ exits.Fine) × Appends old new (sent_line counts)
-Tells (Ok counts) (Err faults.Write) old new = ⊤
+Tells (Ok counts) (Err faults.Write) old new = AppendsPart (sent_line counts) old new
+Tells (Ok counts) (Err faults.NoMemory) old new = new ≡ old
 Tells (Ok counts) (Err f) old new = ⊥
 Tells (Err refusal) ended old new = (ended ≡ Err (refusal_fault refusal)) × (new ≡ old)
 

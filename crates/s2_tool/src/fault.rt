@@ -1,150 +1,150 @@
 //! Faults, and their lines on standard error.
-ghost use Rattle.std.specs.Prelude.{◌≡◌, ◌≢◌, ◌-◌, ◌^◌, ◌<◌, OnOk};
+ghost use Rattle.std.specs.Prelude.{◌≡◌, ◌++◌, codes, OnOk};
 ghost use Rattle.std.specs.Io.KnownBytes.{Appends};
 ghost use Rattle.s2_mode.specs.Counts.{CountsFault};
-ghost use Rattle.s2_tool.specs.Exits.{exit_of, Complains};
-ghost use Rattle.s2_tool.specs.Faults.{row_fault_text, value_fault_text, certificate_fault_text, packet_fault_text, fault_text, fault_line};
+ghost use Rattle.s2_tool.specs.Counting.{CanCount};
+ghost use Rattle.s2_tool.specs.Faults.{row_fault_text, value_fault_text, certificate_fault_text, fault_text, fault_line, phrase_text};
 
-use crate::exit::Exit;
-use crate::writing::{write_numbered, write_text};
+use crate::writing::{write_number, write_text};
 use s2_check::CertFault;
 use s2_mode::{CountedWrite, WriteFault};
-use s2_modem::SendFault;
 use s2_rows::{RowFault, ValueFault};
 
-/// Why a command failed.
-#[derive(Clone, Copy, Debug, PartialEq, Eq)]
-pub enum Fault {
+/// Why a request was not served.
+#[derive(Clone, Copy, Debug)]
+pub enum Fault<'a> {
+    /// No mode has this MODCOD and frame length.
+    Mode,
+    /// No shape has these numbers.
+    Shape,
+    /// No rows of the shape have this weight.
+    Weight,
+    /// The file of this name cannot be opened or made.
+    Open(&'a str),
     Read,
     Write,
     TooLong,
     NoMemory,
-    Weight,
     Rows(RowFault),
     Values(ValueFault),
     Certificate(CertFault),
-    Number,
-    RollOff,
-    Packets(SendFault),
+    /// 1 to 187 bytes were left behind the last packet.
+    NotWholePacket,
+    /// This packet, counted from 1, does not begin with the sync byte.
+    NoSync { packet: u64 },
 }
 
-fn write_row_fault<W: CountedWrite>(out: &mut W, fault: RowFault) -> Result<(), WriteFault>
-    requires { W.count out.old < 2 ^ 64 - 1 }
-    ensures bytes { OnOk result (Appends (W.contents out.old) (W.contents out.new) (row_fault_text fault)) }
-    ensures cause { CountsFault (W.count out.old) (W.count out.new) result }
+/// The text of a fault in its parts: what it is about, what is wrong, and for some the number of a
+/// line or a packet.
+#[derive(Clone, Copy)]
+struct Phrase<'a> {
+    about: &'a str,
+    words: &'a str,
+    number: Option<u64>,
+}
+
+fn plain<'a>(about: &'a str, words: &'a str) -> Phrase<'a>
+    ensures { phrase_text result ≡ about.entry.now ++ words.entry.now }
 {
-    match fault {
-        RowFault::NotNumber { line } => write_numbered(out, "not a number in line ", line),
-        RowFault::TooFewRows => write_text(out, "too few rows"),
-        RowFault::TooManyRows => write_text(out, "too many rows"),
-        RowFault::AddressTooLarge { line } => write_numbered(
-            out,
-            "address too large in line ",
-            line,
-        ),
-        RowFault::Repeated { line } => write_numbered(out, "repeated address in line ", line),
-        RowFault::RowTooLong { line } => write_numbered(out, "row too long in line ", line),
-        RowFault::NoMemory => write_text(out, "no memory"),
+    Phrase {
+        about,
+        words,
+        number: None,
     }
 }
 
-fn write_value_fault<W: CountedWrite>(out: &mut W, fault: ValueFault) -> Result<(), WriteFault>
-    requires { W.count out.old < 2 ^ 64 - 1 }
-    ensures bytes { OnOk result (Appends (W.contents out.old) (W.contents out.new) (value_fault_text fault)) }
-    ensures cause { CountsFault (W.count out.old) (W.count out.new) result }
+fn numbered<'a>(about: &'a str, words: &'a str, number: u64) -> Phrase<'a>
+    ensures { result ≡ record { about = about.entry; words = words.entry; number = Some number } }
 {
-    match fault {
-        ValueFault::NotNumber { line } => write_numbered(out, "not a number in line ", line),
-        ValueFault::OutOfRange { line } => write_numbered(out, "out of range in line ", line),
-        ValueFault::TooFew => write_text(out, "too few"),
-        ValueFault::TooMany => write_text(out, "too many"),
-        ValueFault::NoMemory => write_text(out, "no memory"),
+    Phrase {
+        about,
+        words,
+        number: Some(number),
     }
 }
 
-fn write_certificate_fault<W: CountedWrite>(out: &mut W, fault: CertFault) -> Result<(), WriteFault>
-    requires { W.count out.old < 2 ^ 64 - 1 }
-    ensures bytes { OnOk result (Appends (W.contents out.old) (W.contents out.new) (certificate_fault_text fault)) }
-    ensures cause { CountsFault (W.count out.old) (W.count out.new) result }
+fn row_phrase(fault: RowFault) -> Phrase<'static>
+    ensures { phrase_text result ≡ codes "rows: " ++ row_fault_text fault }
 {
+    let about = "rows: ";
     match fault {
-        CertFault::Magic => write_text(out, "magic"),
-        CertFault::Cut => write_text(out, "cut"),
-        CertFault::Extra => write_text(out, "extra"),
-        CertFault::Range => write_text(out, "range"),
-        CertFault::Shape => write_text(out, "shape"),
-        CertFault::NoMemory => write_text(out, "no memory"),
+        RowFault::NotNumber { line } => numbered(about, "not a number in line ", line),
+        RowFault::TooFewRows => plain(about, "too few rows"),
+        RowFault::TooManyRows => plain(about, "too many rows"),
+        RowFault::AddressTooLarge { line } => numbered(about, "address too large in line ", line),
+        RowFault::Repeated { line } => numbered(about, "repeated address in line ", line),
+        RowFault::RowTooLong { line } => numbered(about, "row too long in line ", line),
+        RowFault::NoMemory => plain(about, "no memory"),
     }
 }
 
-fn write_packet_fault<W: CountedWrite>(out: &mut W, fault: SendFault) -> Result<(), WriteFault>
-    requires { W.count out.old < 2 ^ 64 - 1 }
-    ensures bytes { OnOk result (Appends (W.contents out.old) (W.contents out.new) (packet_fault_text fault)) }
-    ensures cause { CountsFault (W.count out.old) (W.count out.new) result }
+fn value_phrase(fault: ValueFault) -> Phrase<'static>
+    ensures { phrase_text result ≡ codes "values: " ++ value_fault_text fault }
 {
+    let about = "values: ";
     match fault {
-        SendFault::NotWholePacket => write_text(out, "not a whole packet"),
-        SendFault::NoSync { packet } => write_numbered(out, "no sync in packet ", packet),
-        SendFault::Read => write_text(out, "cannot read"),
-        SendFault::Write => write_text(out, "cannot write"),
+        ValueFault::NotNumber { line } => numbered(about, "not a number in line ", line),
+        ValueFault::OutOfRange { line } => numbered(about, "out of range in line ", line),
+        ValueFault::TooFew => plain(about, "too few"),
+        ValueFault::TooMany => plain(about, "too many"),
+        ValueFault::NoMemory => plain(about, "no memory"),
     }
 }
 
-fn write_fault_text<W: CountedWrite>(out: &mut W, fault: Fault) -> Result<(), WriteFault>
-    requires { W.count out.old < 2 ^ 64 - 1 }
-    ensures bytes { OnOk result (Appends (W.contents out.old) (W.contents out.new) (fault_text fault)) }
-    ensures cause { CountsFault (W.count out.old) (W.count out.new) result }
+fn certificate_phrase(fault: CertFault) -> Phrase<'static>
+    ensures { phrase_text result ≡ codes "certificate: " ++ certificate_fault_text fault }
+{
+    let about = "certificate: ";
+    match fault {
+        CertFault::Magic => plain(about, "magic"),
+        CertFault::Cut => plain(about, "cut"),
+        CertFault::Extra => plain(about, "extra"),
+        CertFault::Range => plain(about, "range"),
+        CertFault::Shape => plain(about, "shape"),
+        CertFault::NoMemory => plain(about, "no memory"),
+    }
+}
+
+fn phrase_of<'a>(fault: Fault<'a>) -> Phrase<'a>
+    ensures { phrase_text result ≡ fault_text fault.entry }
 {
     match fault {
-        Fault::Read => write_text(out, "cannot read"),
-        Fault::Write => write_text(out, "cannot write"),
-        Fault::TooLong => write_text(out, "file too long"),
-        Fault::NoMemory => write_text(out, "no memory"),
-        Fault::Weight => write_text(out, "no such weight"),
-        Fault::Rows(fault) => {
-            write_text(out, "rows: ")?;
-            write_row_fault(out, fault)
-        }
-        Fault::Values(fault) => {
-            write_text(out, "values: ")?;
-            write_value_fault(out, fault)
-        }
-        Fault::Certificate(fault) => {
-            write_text(out, "certificate: ")?;
-            write_certificate_fault(out, fault)
-        }
-        Fault::Number => write_text(out, "no such scrambling number"),
-        Fault::RollOff => write_text(out, "no such roll-off"),
-        Fault::Packets(fault) => {
-            write_text(out, "packets: ")?;
-            write_packet_fault(out, fault)
-        }
+        Fault::Mode => plain("", "no such mode"),
+        Fault::Shape => plain("", "no such shape"),
+        Fault::Weight => plain("", "no such weight"),
+        Fault::Open(name) => plain("cannot open ", name),
+        Fault::Read => plain("", "cannot read"),
+        Fault::Write => plain("", "cannot write"),
+        Fault::TooLong => plain("", "file too long"),
+        Fault::NoMemory => plain("", "no memory"),
+        Fault::Rows(fault) => row_phrase(fault),
+        Fault::Values(fault) => value_phrase(fault),
+        Fault::Certificate(fault) => certificate_phrase(fault),
+        Fault::NotWholePacket => plain("packets: ", "not a whole packet"),
+        Fault::NoSync { packet } => numbered("packets: ", "no sync in packet ", packet),
+    }
+}
+
+fn write_phrase<W: CountedWrite>(out: &mut W, phrase: Phrase<'_>) -> Result<(), WriteFault>
+    requires { CanCount (W.count out.old) }
+    ensures bytes { OnOk result (Appends (W.contents out.old) (W.contents out.new) (phrase_text phrase.entry)) }
+    ensures cause { CountsFault (W.count out.old) (W.count out.new) result }
+{
+    write_text(out, phrase.about)?;
+    write_text(out, phrase.words)?;
+    match phrase.number {
+        Some(number) => write_number(out, number),
+        None => Ok(()),
     }
 }
 
 /// Writes the line of a fault.
-pub(crate) fn write_fault<W: CountedWrite>(out: &mut W, fault: Fault) -> Result<(), WriteFault>
-    requires { W.count out.old < 2 ^ 64 - 1 }
-    ensures line { OnOk result (Appends (W.contents out.old) (W.contents out.new) (fault_line fault)) }
+pub(crate) fn write_fault<W: CountedWrite>(out: &mut W, fault: Fault<'_>) -> Result<(), WriteFault>
+    requires { CanCount (W.count out.old) }
+    ensures line { OnOk result (Appends (W.contents out.old) (W.contents out.new) (fault_line fault.entry)) }
     ensures cause { CountsFault (W.count out.old) (W.count out.new) result }
 {
     write_text(out, "s2: ")?;
-    write_fault_text(out, fault)?;
+    write_phrase(out, phrase_of(fault))?;
     write_text(out, "\n")
-}
-
-/// The exit of what ended so. A fault's line is written; where that fails, nothing is left to tell.
-pub(crate) fn conclude<E: CountedWrite>(ended: Result<Exit, Fault>, errors: &mut E) -> Exit
-    requires { E.count errors.old < 2 ^ 64 - 1 }
-    ensures exit { result ≡ exit_of ended }
-    ensures quiet { result ≢ Exit.Fault → E.count errors.new ≡ E.count errors.old }
-    ensures told { Complains ended (E.count errors.old) (E.count errors.new) (E.contents errors.old) (E.contents errors.new) }
-{
-    match ended {
-        Ok(exit) => exit,
-        Err(fault) => {
-            let _ = write_fault(errors, fault);
-            Exit::Fault
-        }
-    }
 }

@@ -1,7 +1,8 @@
 //! Row files and value files.
-ghost use Rattle.std.specs.Prelude.{◌≡◌, ◌≢◌, ◌+◌, ◌-◌, ◌^◌, ◌<◌, ◌≤◌, All, Err, IfOk, IfSome, length};
+ghost use Rattle.std.specs.Prelude.{◌≡◌, ◌≢◌, ◌+◌, All, Err, IfOk, IfSome, length};
 ghost use Rattle.s2_check.specs.Views.{IsSoft};
 ghost use Rattle.s2_mode.specs.Shape.{code_bits};
+ghost use Rattle.s2_tool.specs.Counting.{CanCount};
 ghost use Rattle.s2_tool.specs.Exits.{Follows};
 ghost use Rattle.s2_tool.specs.Inputs.{taken, rows_in, values_in};
 
@@ -14,8 +15,11 @@ use std::alloc::Global;
 pub const MOST_BYTES: usize = 16_777_216;
 
 /// The bytes of a file.
-pub(crate) fn read_bytes<R: CountedRead>(alloc: Global, reader: &mut R) -> Result<Vec<u8>, Fault>
-    requires { R.count reader.old < 2 ^ 64 - 1 }
+pub(crate) fn read_bytes<R: CountedRead>(
+    alloc: Global,
+    reader: &mut R,
+) -> Result<Vec<u8>, Fault<'static>>
+    requires { CanCount (R.count reader.old) }
     ensures bytes { IfSome (R.remaining reader.old) (λ xs. Follows (λ v. v.items) result (taken xs)) }
     ensures read { result ≡ Err Fault.Read → R.count reader.new ≡ R.count reader.old + 1 }
     ensures no_other { result ≢ Err Fault.Read → R.count reader.new ≡ R.count reader.old }
@@ -34,8 +38,8 @@ pub(crate) fn read_row_file<R: CountedRead>(
     alloc: Global,
     reader: &mut R,
     shape: Shape,
-) -> Result<Rows, Fault>
-    requires { R.count reader.old < 2 ^ 64 - 1 }
+) -> Result<Rows, Fault<'static>>
+    requires { CanCount (R.count reader.old) }
     ensures rows { IfSome (R.remaining reader.old) (λ xs. Follows (λ r. r) result (rows_in shape xs)) }
     ensures shape { IfOk result (λ r. r.shape ≡ shape) }
     ensures read { result ≡ Err Fault.Read → R.count reader.new ≡ R.count reader.old + 1 }
@@ -55,8 +59,8 @@ pub(crate) fn read_value_file<R: CountedRead>(
     alloc: Global,
     reader: &mut R,
     shape: Shape,
-) -> Result<Vec<i16>, Fault>
-    requires { R.count reader.old < 2 ^ 64 - 1 }
+) -> Result<Vec<i16>, Fault<'static>>
+    requires { CanCount (R.count reader.old) }
     ensures values { IfSome (R.remaining reader.old) (λ xs. Follows (λ v. v.items) result (values_in shape xs)) }
     ensures long { IfOk result (λ v. length v.items ≡ code_bits shape) }
     ensures range { IfOk result (λ v. All IsSoft v.items) }

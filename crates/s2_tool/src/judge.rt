@@ -1,133 +1,112 @@
 //! Soft values judged.
-ghost use Rattle.std.specs.Prelude.{◌≡◌, ◌≢◌, ◌↔◌, ◌+◌, ◌-◌, ◌^◌, ◌<◌, ◌≤◌, ◌⊎◌, false, IsTrue, Result, Ok, Err, IfSome, OnOk, codes, length};
-ghost use Rattle.std.specs.Io.KnownBytes.{Appends};
-ghost use Rattle.s2_mode.specs.Counts.{CountsFault};
+ghost use Rattle.std.specs.Prelude.{◌≡◌, ◌≢◌, ◌↔◌, ◌+◌, ◌≤◌, false, IsTrue, Result, Err, IfOk, IsOk, codes, length, Some};
 ghost use Rattle.s2_mode.specs.Shape.{shape_of};
 ghost use Rattle.s2_matrix.specs.Code.{code_of, IsCodeword};
 ghost use Rattle.s2_check.specs.Cost.{IsMostLikely};
 ghost use Rattle.s2_check.specs.Hard.{hard_decision};
-ghost use Rattle.s2_tool.specs.Exits.{exit_of, IsPrinting, Prints, Runs, Counts, Complains};
-ghost use Rattle.s2_tool.specs.Inputs.{inputs};
-ghost use Rattle.s2_tool.specs.Judging.{Judges};
-ghost use Rattle.s2_tool.specs.Lines.{most_likely_line, broken_line};
+ghost use Rattle.s2_tool.specs.Counting.{CanCount};
+ghost use Rattle.s2_tool.specs.Exits.{exit_of, Answers, Runs, Counts, Complains};
+ghost use Rattle.s2_tool.specs.Inputs.{AreInputs};
+ghost use Rattle.s2_tool.specs.Judging.{Judges, IsJudged};
 
+use crate::console::{Console, Printed};
 use crate::exit::Exit;
-use crate::fault::{Fault, conclude};
+use crate::fault::Fault;
 use crate::files::{read_row_file, read_value_file};
-use crate::writing::{write_number, write_signed, write_text};
+use crate::lines::{broken_line, most_likely_line};
 use s2_bits::Bits;
 use s2_check::{cost, judge_unsplit};
 use s2_matrix::Matrix;
-use s2_mode::{CountedRead, CountedWrite, InMemory, Shape, WriteFault};
-use std::alloc::Global;
+use s2_mode::{CountedRead, CountedWrite, InMemory, Shape};
+use std::alloc::{AllocError, Global};
 
 /// The row file of the toy shape.
 pub const TOY_ROWS: &[u8] = b"0 4 8\n0 1 2\n";
 
-pub(crate) fn write_most_likely<W: CountedWrite>(out: &mut W, cost: i64) -> Result<(), WriteFault>
-    requires { W.count out.old < 2 ^ 64 - 1 }
-    ensures line { OnOk result (Appends (W.contents out.old) (W.contents out.new) (most_likely_line cost)) }
-    ensures cause { CountsFault (W.count out.old) (W.count out.new) result }
-{
-    write_text(out, "most-likely cost ")?;
-    write_signed(out, cost)?;
-    write_text(out, "\n")
-}
-
-pub(crate) fn write_broken<W: CountedWrite>(
-    out: &mut W,
-    cost: i64,
-    check: usize,
-) -> Result<(), WriteFault>
-    requires { W.count out.old < 2 ^ 64 - 1 }
-    ensures line { OnOk result (Appends (W.contents out.old) (W.contents out.new) (broken_line cost check)) }
-    ensures cause { CountsFault (W.count out.old) (W.count out.new) result }
-{
-    write_text(out, "broken cost ")?;
-    write_signed(out, cost)?;
-    write_text(out, " check ")?;
-    write_number(out, check)?;
-    write_text(out, "\n")
-}
-
-/// Prints the verdict on a hard decision: whether it is a codeword, which is then most likely.
-pub(crate) fn write_verdict<O: CountedWrite>(
+/// The verdict on a hard decision: whether it is a codeword, which is then most likely.
+pub(crate) fn verdict(
+    alloc: Global,
     matrix: &Matrix,
     soft: &[i16],
     word: &Bits,
     likely: bool,
-    out: &mut O,
-) -> Result<Exit, Fault>
+) -> Result<Printed, AllocError>
     requires soft { length soft.now ≡ (code_of matrix.now).bits }
     requires few { length soft.now ≤ 64800 }
     requires word { word.now ≡ hard_decision soft.now }
     requires codeword { IsTrue likely ↔ IsCodeword (code_of matrix.now) (hard_decision soft.now) }
     requires likely { IsTrue likely → IsMostLikely (code_of matrix.now) soft.now word.now }
-    requires out { O.count out.old < 2 ^ 64 - 1 }
-    ensures prints { Prints result (Judges matrix.now soft.now) (O.contents out.old) (O.contents out.new) }
-    ensures fine { IsTrue likely → (result ≡ Ok Exit.Fine) ⊎ (result ≡ Err Fault.Write) }
-    ensures no { likely ≡ false → (result ≡ Ok Exit.No) ⊎ (result ≡ Err Fault.Write) }
-    ensures write { result ≡ Err Fault.Write → O.count out.new ≡ O.count out.old + 1 }
-    ensures no_other { result ≢ Err Fault.Write → O.count out.new ≡ O.count out.old }
-    ensures faults { IsPrinting result }
+    ensures judges { IfOk result (λ p. Judges matrix.now soft.now p.exit p.text.items) }
+    ensures fine { IsTrue likely → IfOk result (λ p. p.exit ≡ Exit.Fine) }
+    ensures no { likely ≡ false → IfOk result (λ p. p.exit ≡ Exit.No) }
 {
+    let cost = cost(soft, word);
     if likely {
-        let Ok(()) = write_most_likely(out, cost(soft, word)) else {
-            return Err(Fault::Write);
-        };
-        return Ok(Exit::Fine);
+        return Ok(Printed {
+            exit: Exit::Fine,
+            text: most_likely_line(alloc, cost)?,
+        });
     }
     let Some(check) = matrix.odd_check(word) else {
         unreachable!();
     };
-    let Ok(()) = write_broken(out, cost(soft, word), check) else {
-        return Err(Fault::Write);
-    };
-    Ok(Exit::No)
+    Ok(Printed {
+        exit: Exit::No,
+        text: broken_line(alloc, cost, check)?,
+    })
 }
 
-/// Judges the hard decision of soft values, and prints the verdict.
-fn judge_soft<O: CountedWrite>(
-    alloc: Global,
-    matrix: &Matrix,
-    soft: &[i16],
-    out: &mut O,
-) -> Result<Exit, Fault>
-    requires soft { length soft.now ≡ (code_of matrix.now).bits }
-    requires out { O.count out.old < 2 ^ 64 - 1 }
-    ensures prints { Prints result (Judges matrix.now soft.now) (O.contents out.old) (O.contents out.new) }
-    ensures write { result ≡ Err Fault.Write → O.count out.new ≡ O.count out.old + 1 }
-    ensures no_other { result ≢ Err Fault.Write → O.count out.new ≡ O.count out.old }
-    ensures faults { IsPrinting result }
+/// Judges the hard decision of soft values.
+fn judge_soft(alloc: Global, matrix: &Matrix, soft: &[i16]) -> Result<Printed, AllocError>
+    requires { length soft.now ≡ (code_of matrix.now).bits }
+    ensures { IfOk result (λ p. Judges matrix.now soft.now p.exit p.text.items) }
 {
-    let Ok(mut word) = Bits::zeroed(alloc, matrix.bits()) else {
-        return Err(Fault::NoMemory);
-    };
+    let mut word = Bits::zeroed(alloc, matrix.bits())?;
     let likely = judge_unsplit(matrix, soft, &mut word);
-    write_verdict(matrix, soft, &word, likely, out)
+    verdict(alloc, matrix, soft, &word, likely)
 }
 
 /// Reads rows and soft values, and judges.
-fn judge_files<R: CountedRead, S: CountedRead, O: CountedWrite>(
+fn judge_files<R: CountedRead, S: CountedRead>(
     alloc: Global,
     shape: Shape,
     rows: &mut R,
     soft: &mut S,
-    out: &mut O,
-) -> Result<Exit, Fault>
-    requires rows { R.count rows.old < 2 ^ 64 - 1 }
-    requires soft { S.count soft.old < 2 ^ 64 - 1 }
-    requires out { O.count out.old < 2 ^ 64 - 1 }
-    ensures run { IfSome (R.remaining rows.old) (λ xs. IfSome (S.remaining soft.old) (λ ys.
-        Runs (λ i. Judges i.0 i.1) result (inputs shape xs ys) (O.contents out.old) (O.contents out.new))) }
-    ensures causes { Counts result (R.count rows.old + S.count soft.old) (R.count rows.new + S.count soft.new) (O.count out.old) (O.count out.new) }
+) -> Result<Printed, Fault<'static>>
+    requires rows { CanCount (R.count rows.old) }
+    requires soft { CanCount (S.count soft.old) }
+    ensures answers { Answers IsJudged (AreInputs shape (R.remaining rows.old) (S.remaining soft.old)) result }
+    ensures read { result ≡ Err Fault.Read → R.count rows.new + S.count soft.new ≡ R.count rows.old + S.count soft.old + 1 }
+    ensures no_read { result ≢ Err Fault.Read → R.count rows.new + S.count soft.new ≡ R.count rows.old + S.count soft.old }
+    ensures write { result ≢ Err Fault.Write }
 {
     let rows = read_row_file(alloc, rows, shape)?;
     let soft = read_value_file(alloc, soft, shape)?;
     let Ok(matrix) = Matrix::build(alloc, &rows) else {
         return Err(Fault::NoMemory);
     };
-    judge_soft(alloc, &matrix, &soft, out)
+    let Ok(printed) = judge_soft(alloc, &matrix, &soft) else {
+        return Err(Fault::NoMemory);
+    };
+    Ok(printed)
+}
+
+/// Reads rows and soft values, judges, and prints the verdict.
+fn print_judgement<R: CountedRead, S: CountedRead, O: CountedWrite>(
+    alloc: Global,
+    shape: Shape,
+    rows: &mut R,
+    soft: &mut S,
+    out: &mut O,
+) -> Result<Exit, Fault<'static>>
+    requires rows { CanCount (R.count rows.old) }
+    requires soft { CanCount (S.count soft.old) }
+    requires out { CanCount (O.count out.old) }
+    ensures whole { IsOk result → O.count out.new ≡ O.count out.old }
+    ensures run { Runs IsJudged (AreInputs shape (R.remaining rows.old) (S.remaining soft.old)) result (O.contents out.old) (O.contents out.new) }
+    ensures causes { Counts result (R.count rows.old + S.count soft.old) (R.count rows.new + S.count soft.new) (O.count out.old) (O.count out.new) }
+{
+    judge_files(alloc, shape, rows, soft)?.print(out)
 }
 
 /// `judge`: whether the hard decision of a value file is most likely under the code of a row file.
@@ -136,44 +115,42 @@ pub fn judge_command<R: CountedRead, S: CountedRead, O: CountedWrite, E: Counted
     shape: Shape,
     rows: &mut R,
     soft: &mut S,
-    out: &mut O,
-    errors: &mut E,
+    console: &mut Console<O, E>,
 ) -> Exit
-    requires rows { R.count rows.old < 2 ^ 64 - 1 }
-    requires soft { S.count soft.old < 2 ^ 64 - 1 }
-    requires out { O.count out.old < 2 ^ 64 - 1 }
-    requires errors { E.count errors.old < 2 ^ 64 - 1 }
-    ensures quiet { result ≢ Exit.Fault → E.count errors.new ≡ E.count errors.old }
+    requires rows { CanCount (R.count rows.old) }
+    requires soft { CanCount (S.count soft.old) }
+    requires output { CanCount (O.count console.old.output) }
+    requires errors { CanCount (E.count console.old.errors) }
+    ensures quiet { result ≢ Exit.Fault → E.count console.new.errors ≡ E.count console.old.errors }
+    ensures whole { result ≢ Exit.Fault → O.count console.new.output ≡ O.count console.old.output }
     ensures run { (ended : Result Exit Fault) × (result ≡ exit_of ended)
-        × IfSome (R.remaining rows.old) (λ xs. IfSome (S.remaining soft.old) (λ ys.
-        Runs (λ i. Judges i.0 i.1) ended (inputs shape xs ys) (O.contents out.old) (O.contents out.new)))
-        × Counts ended (R.count rows.old + S.count soft.old) (R.count rows.new + S.count soft.new) (O.count out.old) (O.count out.new)
-        × Complains ended (E.count errors.old) (E.count errors.new) (E.contents errors.old) (E.contents errors.new) }
+        × Runs IsJudged (AreInputs shape (R.remaining rows.old) (S.remaining soft.old)) ended (O.contents console.old.output) (O.contents console.new.output)
+        × Counts ended (R.count rows.old + S.count soft.old) (R.count rows.new + S.count soft.new) (O.count console.old.output) (O.count console.new.output)
+        × Complains ended (E.count console.old.errors) (E.count console.new.errors) (E.contents console.old.errors) (E.contents console.new.errors) }
 {
-    let ended = judge_files(alloc, shape, rows, soft, out);
-    conclude(ended, errors)
+    let ended = print_judgement(alloc, shape, rows, soft, &mut console.output);
+    console.conclude(ended)
 }
 
 /// The program without words: `judge` of its input under the toy rows.
 pub fn self_command<S: CountedRead, O: CountedWrite, E: CountedWrite>(
     alloc: Global,
     soft: &mut S,
-    out: &mut O,
-    errors: &mut E,
+    console: &mut Console<O, E>,
 ) -> Exit
-    requires soft { S.count soft.old < 2 ^ 64 - 1 }
-    requires out { O.count out.old < 2 ^ 64 - 1 }
-    requires errors { E.count errors.old < 2 ^ 64 - 1 }
-    ensures quiet { result ≢ Exit.Fault → E.count errors.new ≡ E.count errors.old }
+    requires soft { CanCount (S.count soft.old) }
+    requires output { CanCount (O.count console.old.output) }
+    requires errors { CanCount (E.count console.old.errors) }
+    ensures quiet { result ≢ Exit.Fault → E.count console.new.errors ≡ E.count console.old.errors }
+    ensures whole { result ≢ Exit.Fault → O.count console.new.output ≡ O.count console.old.output }
     ensures run { (ended : Result Exit Fault) × (result ≡ exit_of ended)
-        × IfSome (S.remaining soft.old) (λ ys.
-        Runs (λ i. Judges i.0 i.1) ended (inputs (shape_of 4 2 3) (codes "0 4 8\n0 1 2\n") ys) (O.contents out.old) (O.contents out.new))
-        × Counts ended (S.count soft.old) (S.count soft.new) (O.count out.old) (O.count out.new)
-        × Complains ended (E.count errors.old) (E.count errors.new) (E.contents errors.old) (E.contents errors.new) }
+        × Runs IsJudged (AreInputs (shape_of 4 2 3) (Some (codes "0 4 8\n0 1 2\n")) (S.remaining soft.old)) ended (O.contents console.old.output) (O.contents console.new.output)
+        × Counts ended (S.count soft.old) (S.count soft.new) (O.count console.old.output) (O.count console.new.output)
+        × Complains ended (E.count console.old.errors) (E.count console.new.errors) (E.contents console.old.errors) (E.contents console.new.errors) }
 {
     let Some(shape) = Shape::new(4, 2, 3) else {
         unreachable!();
     };
     let mut rows = InMemory::new(TOY_ROWS);
-    judge_command(alloc, shape, &mut rows, soft, out, errors)
+    judge_command(alloc, shape, &mut rows, soft, console)
 }

@@ -1,16 +1,24 @@
 //! The program.
 #![tactic(auto)]
 
-ghost use Rattle.std.specs.Prelude.{◌≡◌, ◌≢◌, ◌-◌, ◌^◌, ◌<◌};
-ghost use Rattle.std.specs.Io.KnownBytes.{Keeps};
+ghost use Rattle.std.specs.Prelude.{◌≡◌, ◌≢◌};
+ghost use Rattle.s2_tool.specs.Counting.{CanCount};
+ghost use Rattle.s2_tool.specs.Serving.{SomeServed};
 
 mod certify;
 mod check;
+mod console;
 mod exit;
 mod fault;
 mod files;
 mod judge;
+mod lines;
+mod link;
+mod noise;
+mod opening;
+mod request;
 mod rows;
+mod scrambling;
 mod send;
 mod serve;
 mod words;
@@ -18,20 +26,23 @@ mod writing;
 
 use clap::Error;
 use clap::error::ErrorKind;
+use console::Console;
 use exit::Exit;
-use s2_mode::{CountedRead, CountedWrite, Counting, write_full};
-use serve::{complain, serve};
+use fault::Fault;
+use s2_mode::{CountedRead, CountedWrite, Counting};
+use serve::serve;
 use std::env;
 use std::process::ExitCode;
 use std::rt::{Env, Files};
-use words::{Request, read_words};
+use words::read_words;
 
 fn main(rt: HostRuntime) -> ExitCode {
+    let output = Counting::new(rt.stdout());
+    let errors = Counting::new(rt.stderr());
     run(
         &rt,
         &mut Counting::new(rt.stdin()),
-        &mut Counting::new(rt.stdout()),
-        &mut Counting::new(rt.stderr()),
+        &mut Console::new(output, errors),
     )
     .code()
 }
@@ -40,27 +51,29 @@ fn words_given<R: Env + AllocGlobal>(rt: &R) -> Option<Vec<String>> {
     env::args(rt).ok()?.collect(rt.alloc()).ok()
 }
 
-/// Reads the words and serves what they ask for.
+/// Reads the words and serves what they ask for. Help and usage faults are printed by themselves.
 fn run<
     R: Env + Files + Print + Eprint + AllocGlobal,
     S: CountedRead,
     O: CountedWrite,
     E: CountedWrite,
->(rt: &R, input: &mut S, output: &mut O, errors: &mut E) -> Exit
-    requires input { S.count input.old < 2 ^ 64 - 1 }
-    requires output { O.count output.old < 2 ^ 64 - 1 }
-    requires errors { E.count errors.old < 2 ^ 64 - 1 }
-    ensures quiet { result ≢ Exit.Fault → E.count errors.new ≡ E.count errors.old }
-    ensures whole { result ≢ Exit.Fault → O.count output.new ≡ O.count output.old }
-    ensures held { result ≡ Exit.Fault → O.count output.new ≡ O.count output.old → Keeps (O.contents output.old) (O.contents output.new) }
+>(rt: &R, input: &mut S, console: &mut Console<O, E>) -> Exit
+    requires input { CanCount (S.count input.old) }
+    requires output { CanCount (O.count console.old.output) }
+    requires errors { CanCount (E.count console.old.errors) }
+    ensures quiet { result ≢ Exit.Fault → E.count console.new.errors ≡ E.count console.old.errors }
+    ensures whole { result ≢ Exit.Fault → O.count console.new.output ≡ O.count console.old.output }
+    ensures served { SomeServed (S.remaining input.old) result
+        (record { output = O.contents console.old.output; errors = E.contents console.old.errors; errors_failed = E.count console.old.errors })
+        (record { output = O.contents console.new.output; errors = E.contents console.new.errors; errors_failed = E.count console.new.errors }) }
 {
     let Some(words) = words_given(rt) else {
-        return complain(errors, "no memory", "");
+        return console.complain(Fault::NoMemory);
     };
     match read_words(rt.alloc(), words.as_slice()) {
-        Ok(Some(request)) => serve_whole(rt, request, input, output, errors),
+        Ok(Some(request)) => serve(rt, request, input, console),
         Ok(None) => Exit::Fault,
-        Err(error) if error.kind() == ErrorKind::OutOfMemory => complain(errors, "no memory", ""),
+        Err(error) if error.kind() == ErrorKind::OutOfMemory => console.complain(Fault::NoMemory),
         Err(error) => explain(rt, &error),
     }
 }
@@ -70,33 +83,6 @@ fn explain<R: Print + Eprint>(rt: &R, error: &Error) -> Exit {
     match error.print(rt) {
         Ok(()) if !error.use_stderr() => Exit::Fine,
         _ => Exit::Fault,
-    }
-}
-
-/// Serves a request. Its output is held back until the command has ended, and is written only where
-/// that was no fault.
-fn serve_whole<R: Files + AllocGlobal, S: CountedRead, O: CountedWrite, E: CountedWrite>(
-    rt: &R,
-    request: Request<'_>,
-    input: &mut S,
-    output: &mut O,
-    errors: &mut E,
-) -> Exit
-    requires input { S.count input.old < 2 ^ 64 - 1 }
-    requires output { O.count output.old < 2 ^ 64 - 1 }
-    requires errors { E.count errors.old < 2 ^ 64 - 1 }
-    ensures quiet { result ≢ Exit.Fault → E.count errors.new ≡ E.count errors.old }
-    ensures whole { result ≢ Exit.Fault → O.count output.new ≡ O.count output.old }
-    ensures held { result ≡ Exit.Fault → O.count output.new ≡ O.count output.old → Keeps (O.contents output.old) (O.contents output.new) }
-{
-    let mut out = Counting::new(Vec::new(rt.alloc()));
-    let exit = serve(rt, request, input, &mut out, errors);
-    if exit == Exit::Fault {
-        return exit;
-    }
-    match write_full(output, &out.into_inner()) {
-        Ok(()) => exit,
-        Err(_) => complain(errors, "cannot write", ""),
     }
 }
 

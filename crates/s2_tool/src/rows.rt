@@ -1,35 +1,56 @@
 //! Rows made.
-ghost use Rattle.std.specs.Prelude.{◌≡◌, ◌≢◌, ◌-◌, ◌^◌, ◌<◌, Result};
-ghost use Rattle.s2_rows.specs.RowTexts.{rows_text};
-ghost use Rattle.s2_tool.specs.Exits.{exit_of, Runs, Counts, Complains};
-ghost use Rattle.s2_tool.specs.Inputs.{rows_made};
+ghost use Rattle.std.specs.Prelude.{◌≡◌, ◌≢◌, IsOk, Result, Err};
+ghost use Rattle.s2_tool.specs.Counting.{CanCount};
+ghost use Rattle.s2_tool.specs.Exits.{exit_of, Answers, Runs, Counts, Complains};
+ghost use Rattle.s2_tool.specs.Inputs.{IsRowFile, AreMadeRows};
 
+use crate::console::{Console, Printed};
 use crate::exit::Exit;
-use crate::fault::{Fault, conclude};
-use s2_mode::{CountedWrite, Shape};
+use crate::fault::Fault;
+use s2_mode::{CountedWrite, Counting, Shape};
 use s2_rows::{MakeFault, make_rows, write_rows};
 use std::alloc::Global;
 
-/// Makes rows and writes them.
+/// Makes rows, and their row file.
+fn row_file(
+    alloc: Global,
+    shape: Shape,
+    weight: usize,
+    seed: u64,
+) -> Result<Printed, Fault<'static>>
+    ensures answers { Answers IsRowFile (AreMadeRows shape weight seed) result }
+    ensures read { result ≢ Err Fault.Read }
+    ensures write { result ≢ Err Fault.Write }
+{
+    let rows = match make_rows(alloc, shape, weight, seed) {
+        Ok(rows) => rows,
+        Err(MakeFault::BadWeight) => return Err(Fault::Weight),
+        Err(MakeFault::NoMemory) => return Err(Fault::NoMemory),
+    };
+    let mut text = Counting::new(Vec::new(alloc));
+    let Ok(()) = write_rows(&rows, &mut text) else {
+        return Err(Fault::NoMemory);
+    };
+    Ok(Printed {
+        exit: Exit::Fine,
+        text: text.into_inner(),
+    })
+}
+
+/// Makes rows, and prints their row file.
 fn print_rows<O: CountedWrite>(
     alloc: Global,
     shape: Shape,
     weight: usize,
     seed: u64,
     out: &mut O,
-) -> Result<Exit, Fault>
-    requires { O.count out.old < 2 ^ 64 - 1 }
-    ensures run { Runs (λ rows exit text. (exit ≡ Exit.Fine) × (text ≡ rows_text rows)) result (rows_made shape weight seed) (O.contents out.old) (O.contents out.new) }
+) -> Result<Exit, Fault<'static>>
+    requires { CanCount (O.count out.old) }
+    ensures whole { IsOk result → O.count out.new ≡ O.count out.old }
+    ensures run { Runs IsRowFile (AreMadeRows shape weight seed) result (O.contents out.old) (O.contents out.new) }
     ensures causes { Counts result 0 0 (O.count out.old) (O.count out.new) }
 {
-    match make_rows(alloc, shape, weight, seed) {
-        Err(MakeFault::BadWeight) => Err(Fault::Weight),
-        Err(MakeFault::NoMemory) => Err(Fault::NoMemory),
-        Ok(rows) => match write_rows(&rows, out) {
-            Ok(()) => Ok(Exit::Fine),
-            Err(_) => Err(Fault::Write),
-        },
-    }
+    row_file(alloc, shape, weight, seed)?.print(out)
 }
 
 /// `rows`: prints the row file that a shape, a weight and a seed determine.
@@ -38,17 +59,17 @@ pub fn rows_command<O: CountedWrite, E: CountedWrite>(
     shape: Shape,
     weight: usize,
     seed: u64,
-    out: &mut O,
-    errors: &mut E,
+    console: &mut Console<O, E>,
 ) -> Exit
-    requires out { O.count out.old < 2 ^ 64 - 1 }
-    requires errors { E.count errors.old < 2 ^ 64 - 1 }
-    ensures quiet { result ≢ Exit.Fault → E.count errors.new ≡ E.count errors.old }
+    requires output { CanCount (O.count console.old.output) }
+    requires errors { CanCount (E.count console.old.errors) }
+    ensures quiet { result ≢ Exit.Fault → E.count console.new.errors ≡ E.count console.old.errors }
+    ensures whole { result ≢ Exit.Fault → O.count console.new.output ≡ O.count console.old.output }
     ensures run { (ended : Result Exit Fault) × (result ≡ exit_of ended)
-        × Runs (λ rows exit text. (exit ≡ Exit.Fine) × (text ≡ rows_text rows)) ended (rows_made shape weight seed) (O.contents out.old) (O.contents out.new)
-        × Counts ended 0 0 (O.count out.old) (O.count out.new)
-        × Complains ended (E.count errors.old) (E.count errors.new) (E.contents errors.old) (E.contents errors.new) }
+        × Runs IsRowFile (AreMadeRows shape weight seed) ended (O.contents console.old.output) (O.contents console.new.output)
+        × Counts ended 0 0 (O.count console.old.output) (O.count console.new.output)
+        × Complains ended (E.count console.old.errors) (E.count console.new.errors) (E.contents console.old.errors) (E.contents console.new.errors) }
 {
-    let ended = print_rows(alloc, shape, weight, seed, out);
-    conclude(ended, errors)
+    let ended = print_rows(alloc, shape, weight, seed, &mut console.output);
+    console.conclude(ended)
 }

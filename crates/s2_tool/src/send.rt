@@ -1,42 +1,40 @@
 //! Packets sent.
-ghost use Rattle.std.specs.Prelude.{◌≡◌, ◌≢◌, ◌+◌, ◌-◌, ◌^◌, ◌<◌, ◌⊎◌, Result, Ok, Err, IfOk, OnOk};
-ghost use Rattle.std.specs.Io.KnownBytes.{Appends};
-ghost use Rattle.s2_mode.specs.Counts.{CountsFault};
+ghost use Rattle.std.specs.Prelude.{◌≡◌, ◌≢◌, ◌+◌, ◌≤◌, ◌⊎◌, Result, Ok, Err, IfOk, IsOk};
 ghost use Rattle.s2_mode.specs.Mode.{shape_in};
 ghost use Rattle.s2_modem.specs.Sending.{Runs};
+ghost use Rattle.s2_tool.specs.Counting.{CanCount};
 ghost use Rattle.s2_tool.specs.Exits.{exit_of, Follows, Complains};
+ghost use Rattle.s2_tool.specs.Links.{setup_of};
 ghost use Rattle.s2_tool.specs.Sending.{link_on, sent_line, refusal_fault, Tells, Modulates};
 
+use crate::console::{Console, Printed};
 use crate::exit::Exit;
-use crate::fault::{Fault, conclude};
+use crate::fault::Fault;
 use crate::files::read_row_file;
-use crate::writing::{write_number, write_text};
+use crate::link::LinkSetup;
 use s2_matrix::Matrix;
-use s2_mode::{CountedRead, CountedWrite, WriteFault};
+use s2_mode::{CountedRead, CountedWrite};
 use s2_modem::{Counts, MOST_PACKETS, SendFault, Setup, SetupFault, Transmitter};
-use std::alloc::Global;
+use std::alloc::{AllocError, Global};
 
-fn write_counts<W: CountedWrite>(out: &mut W, counts: Counts) -> Result<(), WriteFault>
-    requires { W.count out.old < 2 ^ 64 - 1 }
-    ensures line { OnOk result (Appends (W.contents out.old) (W.contents out.new) (sent_line counts)) }
-    ensures cause { CountsFault (W.count out.old) (W.count out.new) result }
+/// The line of a run's counts.
+fn sent_line(alloc: Global, counts: Counts) -> Result<Vec<u8>, AllocError>
+    ensures { IfOk result (λ text. text.items ≡ sent_line counts) }
 {
-    write_text(out, "packets ")?;
-    write_number(out, counts.packets)?;
-    write_text(out, " frames ")?;
-    write_number(out, counts.frames)?;
-    write_text(out, "\n")
+    let Counts { packets, frames } = counts;
+    let line = format!(in alloc; "packets {packets} frames {frames}\n")?;
+    Ok(line.into_bytes())
 }
 
 /// The fault of a refusal.
-fn fault_of(refusal: SendFault) -> Fault
+fn fault_of(refusal: SendFault) -> Fault<'static>
     ensures { result ≡ refusal_fault refusal }
 {
     match refusal {
         SendFault::Read => Fault::Read,
         SendFault::Write => Fault::Write,
-        SendFault::NotWholePacket => Fault::Packets(refusal),
-        SendFault::NoSync { .. } => Fault::Packets(refusal),
+        SendFault::NotWholePacket => Fault::NotWholePacket,
+        SendFault::NoSync { packet } => Fault::NoSync { packet },
     }
 }
 
@@ -45,8 +43,10 @@ fn transmitter_of<'a>(
     alloc: Global,
     setup: Setup,
     matrix: &'a Matrix,
-) -> Result<Transmitter<'a>, Fault>
-    requires { matrix.now.shape ≡ shape_in setup.mode }
+) -> Result<Transmitter<'a>, Fault<'static>>
+    requires shape { matrix.now.shape ≡ shape_in setup.mode }
+    requires number { setup.number ≤ 262141 }
+    requires roll_off { setup.roll_off ≤ 2 }
     ensures link { Follows (λ t. t) result (link_on setup (Ok matrix.now)) }
     ensures setup { IfOk result (λ t. t.setup ≡ setup) }
     ensures read { result ≢ Err Fault.Read }
@@ -54,23 +54,23 @@ fn transmitter_of<'a>(
 {
     match Transmitter::new(alloc, setup, matrix) {
         Ok(transmitter) => Ok(transmitter),
-        Err(SetupFault::BadNumber) => Err(Fault::Number),
-        Err(SetupFault::BadRollOff) => Err(Fault::RollOff),
         Err(SetupFault::NoMemory) => Err(Fault::NoMemory),
-        Err(SetupFault::OtherShape | SetupFault::BadRounds) => unreachable!(),
+        Err(_) => unreachable!(),
     }
 }
 
 /// Sends packets, and prints the counts.
 fn send_packets<P: CountedRead, W: CountedWrite, O: CountedWrite>(
+    alloc: Global,
     transmitter: &mut Transmitter<'_>,
     packets: &mut P,
     symbols: &mut W,
     out: &mut O,
-) -> Result<Exit, Fault>
-    requires packets { P.count packets.old < 2 ^ 64 - 1 }
-    requires symbols { W.count symbols.old < 2 ^ 64 - 1 }
-    requires out { O.count out.old < 2 ^ 64 - 1 }
+) -> Result<Exit, Fault<'static>>
+    requires packets { CanCount (P.count packets.old) }
+    requires symbols { CanCount (W.count symbols.old) }
+    requires out { CanCount (O.count out.old) }
+    ensures whole { IsOk result → O.count out.new ≡ O.count out.old }
     ensures sends { (answer : Result Counts SendFault)
         × Runs transmitter.old (λ n. (P.count packets.new ≡ P.count packets.old + 1) ⊎ ((P.count packets.new ≡ P.count packets.old) × (n ≡ MOST_PACKETS)))
         (P.remaining packets.old) (P.remaining packets.new) (W.contents symbols.old) (W.contents symbols.new) answer
@@ -83,36 +83,42 @@ fn send_packets<P: CountedRead, W: CountedWrite, O: CountedWrite>(
         Ok(counts) => counts,
         Err(refusal) => return Err(fault_of(refusal)),
     };
-    let Ok(()) = write_counts(out, counts) else {
-        return Err(Fault::Write);
+    let Ok(text) = sent_line(alloc, counts) else {
+        return Err(Fault::NoMemory);
     };
-    Ok(Exit::Fine)
+    let printed = Printed {
+        exit: Exit::Fine,
+        text,
+    };
+    printed.print(out)
 }
 
 /// Reads rows, and sends packets.
 fn send_files<R: CountedRead, P: CountedRead, W: CountedWrite, O: CountedWrite>(
     alloc: Global,
-    setup: Setup,
+    link: LinkSetup,
     rows: &mut R,
     packets: &mut P,
     symbols: &mut W,
     out: &mut O,
-) -> Result<Exit, Fault>
-    requires rows { R.count rows.old < 2 ^ 64 - 1 }
-    requires packets { P.count packets.old < 2 ^ 64 - 1 }
-    requires symbols { W.count symbols.old < 2 ^ 64 - 1 }
-    requires out { O.count out.old < 2 ^ 64 - 1 }
-    ensures run { Modulates setup (R.remaining rows.old)
+) -> Result<Exit, Fault<'static>>
+    requires rows { CanCount (R.count rows.old) }
+    requires packets { CanCount (P.count packets.old) }
+    requires symbols { CanCount (W.count symbols.old) }
+    requires out { CanCount (O.count out.old) }
+    ensures whole { IsOk result → O.count out.new ≡ O.count out.old }
+    ensures run { Modulates (setup_of link) (R.remaining rows.old)
         (record { packets = P.remaining packets.old; symbols = W.contents symbols.old; out = O.contents out.old; reads = R.count rows.old + P.count packets.old; writes = W.count symbols.old + O.count out.old })
         (record { packets = P.remaining packets.new; symbols = W.contents symbols.new; out = O.contents out.new; reads = R.count rows.new + P.count packets.new; writes = W.count symbols.new + O.count out.new })
         result }
 {
+    let setup = link.setup();
     let rows = read_row_file(alloc, rows, setup.mode.shape())?;
     let Ok(matrix) = Matrix::build(alloc, &rows) else {
         return Err(Fault::NoMemory);
     };
     let mut transmitter = transmitter_of(alloc, setup, &matrix)?;
-    send_packets(&mut transmitter, packets, symbols, out)
+    send_packets(alloc, &mut transmitter, packets, symbols, out)
 }
 
 /// `mod`: sends the packets of a stream on the link of a setup and a row file, and prints how many
@@ -125,26 +131,26 @@ pub fn mod_command<
     E: CountedWrite,
 >(
     alloc: Global,
-    setup: Setup,
+    link: LinkSetup,
     rows: &mut R,
     packets: &mut P,
     symbols: &mut W,
-    out: &mut O,
-    errors: &mut E,
+    console: &mut Console<O, E>,
 ) -> Exit
-    requires rows { R.count rows.old < 2 ^ 64 - 1 }
-    requires packets { P.count packets.old < 2 ^ 64 - 1 }
-    requires symbols { W.count symbols.old < 2 ^ 64 - 1 }
-    requires out { O.count out.old < 2 ^ 64 - 1 }
-    requires errors { E.count errors.old < 2 ^ 64 - 1 }
-    ensures quiet { result ≢ Exit.Fault → E.count errors.new ≡ E.count errors.old }
+    requires rows { CanCount (R.count rows.old) }
+    requires packets { CanCount (P.count packets.old) }
+    requires symbols { CanCount (W.count symbols.old) }
+    requires output { CanCount (O.count console.old.output) }
+    requires errors { CanCount (E.count console.old.errors) }
+    ensures quiet { result ≢ Exit.Fault → E.count console.new.errors ≡ E.count console.old.errors }
+    ensures whole { result ≢ Exit.Fault → O.count console.new.output ≡ O.count console.old.output }
     ensures run { (ended : Result Exit Fault) × (result ≡ exit_of ended)
-        × Modulates setup (R.remaining rows.old)
-        (record { packets = P.remaining packets.old; symbols = W.contents symbols.old; out = O.contents out.old; reads = R.count rows.old + P.count packets.old; writes = W.count symbols.old + O.count out.old })
-        (record { packets = P.remaining packets.new; symbols = W.contents symbols.new; out = O.contents out.new; reads = R.count rows.new + P.count packets.new; writes = W.count symbols.new + O.count out.new })
+        × Modulates (setup_of link) (R.remaining rows.old)
+        (record { packets = P.remaining packets.old; symbols = W.contents symbols.old; out = O.contents console.old.output; reads = R.count rows.old + P.count packets.old; writes = W.count symbols.old + O.count console.old.output })
+        (record { packets = P.remaining packets.new; symbols = W.contents symbols.new; out = O.contents console.new.output; reads = R.count rows.new + P.count packets.new; writes = W.count symbols.new + O.count console.new.output })
         ended
-        × Complains ended (E.count errors.old) (E.count errors.new) (E.contents errors.old) (E.contents errors.new) }
+        × Complains ended (E.count console.old.errors) (E.count console.new.errors) (E.contents console.old.errors) (E.contents console.new.errors) }
 {
-    let ended = send_files(alloc, setup, rows, packets, symbols, out);
-    conclude(ended, errors)
+    let ended = send_files(alloc, link, rows, packets, symbols, &mut console.output);
+    console.conclude(ended)
 }

@@ -1,50 +1,28 @@
-//! The commands on the files and streams that they name.
-ghost use Rattle.std.specs.Prelude.{◌≡◌, ◌≢◌, ◌↔◌, ◌-◌, ◌^◌, ◌<◌, ◌++◌, codes, IsSome, IfSome, OnOk};
-ghost use Rattle.std.specs.Io.KnownBytes.{Appends};
-ghost use Rattle.s2_mode.specs.Counts.{CountsFault};
+//! The commands on the files and streams that their words name.
+ghost use Rattle.std.specs.Prelude.{◌≡◌, ◌≢◌, ◌↔◌, None, IfOk, OnErr, IsSome, IfSome};
 ghost use Rattle.s2_mode.specs.Mode.{IsMode, mode_of};
 ghost use Rattle.s2_mode.specs.Shape.{IsShape};
 ghost use Rattle.s2_mode.specs.Shape as shapes;
+ghost use Rattle.s2_tool.specs.Counting.{CanCount};
+ghost use Rattle.s2_tool.specs.Serving.{Served, Began};
 
 use crate::certify::certify_command;
 use crate::check::check_command;
+use crate::console::Console;
 use crate::exit::Exit;
-use crate::fault::{Fault, conclude};
+use crate::fault::Fault;
 use crate::judge::{judge_command, self_command};
+use crate::link::LinkSetup;
+use crate::noise::noise_command;
+use crate::opening::{create, create_buffered, open};
+use crate::request::{
+    CheckWords, JudgeWords, LinkWords, ModWords, NoiseWords, Request, RowsWords, ShapeWords,
+};
 use crate::rows::rows_command;
 use crate::send::mod_command;
-use crate::words::{LinkWords, Request, ShapeWords};
-use crate::writing::write_text;
-use s2_mode::{CountedRead, CountedWrite, Counting, Mode, Shape, WriteFault};
-use s2_modem::Setup;
-use std::fs;
-use std::io::BufReader;
+use s2_mode::{CountedRead, CountedWrite, Mode, Shape};
+use std::io::Write;
 use std::rt::Files;
-
-/// Writes a fault line of two parts. Where that fails, nothing is left to tell.
-pub fn complain<E: CountedWrite>(errors: &mut E, text: &str, name: &str) -> Exit
-    requires { E.count errors.old < 2 ^ 64 - 1 }
-    ensures exit { result ≡ Exit.Fault }
-    ensures told { E.count errors.new ≡ E.count errors.old → Appends (E.contents errors.old) (E.contents errors.new) (codes "s2: " ++ text.now ++ name.now ++ codes "\n") }
-{
-    let _ = write_complaint(errors, text, name);
-    Exit::Fault
-}
-
-fn write_complaint<E: CountedWrite>(
-    errors: &mut E,
-    text: &str,
-    name: &str,
-) -> Result<(), WriteFault>
-    requires { E.count errors.old < 2 ^ 64 - 1 }
-    ensures line { OnOk result (Appends (E.contents errors.old) (E.contents errors.new) (codes "s2: " ++ text.now ++ name.now ++ codes "\n")) }
-    ensures cause { CountsFault (E.count errors.old) (E.count errors.new) result }
-{
-    write_text(errors, "s2: ")?;
-    write_text(errors, text)?;
-    write_text(errors, name)?;
-    write_text(errors, "\n")
-}
 
 /// The shape of three words.
 fn shape_of(words: ShapeWords) -> Option<Shape>
@@ -59,11 +37,11 @@ fn shape_of(words: ShapeWords) -> Option<Shape>
 }
 
 /// The setup of a link's words.
-fn setup_of(words: LinkWords) -> Option<Setup>
+fn setup_of(words: LinkWords) -> Option<LinkSetup>
     ensures found { IsSome result ↔ IsMode (mode_of words.modcod words.short words.pilots) }
-    ensures value { IfSome result (λ s. (s.mode ≡ mode_of words.modcod words.short words.pilots) × (s.number ≡ words.number) × (s.roll_off ≡ words.roll_off)) }
+    ensures value { IfSome result (λ s. s ≡ record { mode = mode_of words.modcod words.short words.pilots; number = words.number; roll_off = words.roll_off }) }
 {
-    Some(Setup {
+    Some(LinkSetup {
         mode: Mode::of(words.modcod, words.short, words.pilots)?,
         number: words.number,
         roll_off: words.roll_off,
@@ -75,196 +53,198 @@ pub fn serve<R: Files + AllocGlobal, S: CountedRead, O: CountedWrite, E: Counted
     rt: &R,
     request: Request<'_>,
     input: &mut S,
-    out: &mut O,
-    errors: &mut E,
+    console: &mut Console<O, E>,
 ) -> Exit
-    requires input { S.count input.old < 2 ^ 64 - 1 }
-    requires out { O.count out.old < 2 ^ 64 - 1 }
-    requires errors { E.count errors.old < 2 ^ 64 - 1 }
-    ensures { result ≢ Exit.Fault → E.count errors.new ≡ E.count errors.old }
+    requires input { CanCount (S.count input.old) }
+    requires output { CanCount (O.count console.old.output) }
+    requires errors { CanCount (E.count console.old.errors) }
+    ensures quiet { result ≢ Exit.Fault → E.count console.new.errors ≡ E.count console.old.errors }
+    ensures whole { result ≢ Exit.Fault → O.count console.new.output ≡ O.count console.old.output }
+    ensures served { Served request.entry (S.remaining input.old) result
+        (record { output = O.contents console.old.output; errors = E.contents console.old.errors; errors_failed = E.count console.old.errors })
+        (record { output = O.contents console.new.output; errors = E.contents console.new.errors; errors_failed = E.count console.new.errors }) }
 {
-    match request {
-        Request::Own => self_command(rt.alloc(), input, out, errors),
-        Request::Rows {
-            shape,
-            weight,
-            seed,
-        } => serve_rows(rt, shape, weight, seed, out, errors),
-        Request::Judge {
-            shape,
-            certificate,
-            rows,
-            soft,
-        } => serve_judge(rt, shape, certificate, rows, soft, out, errors),
-        Request::Check { rows, certificate } => serve_check(rt, rows, certificate, out, errors),
-        Request::Mod {
-            link,
-            rows,
-            packets,
-            symbols,
-        } => match setup_of(link) {
-            Some(setup) => serve_mod(rt, setup, rows, packets, symbols, out, errors),
-            None => complain(errors, "no such mode", ""),
-        },
+    let begun = match request {
+        Request::Own => Ok(self_command(rt.alloc(), input, console)),
+        Request::Rows(words) => serve_rows(rt, words, console),
+        Request::Judge(words) => serve_judge(rt, words, console),
+        Request::Check(words) => serve_check(rt, words, console),
+        Request::Mod(words) => serve_mod(rt, words, console),
+        Request::Noise(words) => serve_noise(rt, words, console),
+    };
+    match begun {
+        Ok(exit) => exit,
+        Err(fault) => console.complain(fault),
     }
 }
 
+/// Prints made rows.
 fn serve_rows<R: AllocGlobal, O: CountedWrite, E: CountedWrite>(
     rt: &R,
-    shape: ShapeWords,
-    weight: u8,
-    seed: u64,
-    out: &mut O,
-    errors: &mut E,
-) -> Exit
-    requires out { O.count out.old < 2 ^ 64 - 1 }
-    requires errors { E.count errors.old < 2 ^ 64 - 1 }
-    ensures { result ≢ Exit.Fault → E.count errors.new ≡ E.count errors.old }
+    words: RowsWords,
+    console: &mut Console<O, E>,
+) -> Result<Exit, Fault<'static>>
+    requires output { CanCount (O.count console.old.output) }
+    requires errors { CanCount (E.count console.old.errors) }
+    ensures quiet { IfOk result (λ exit. exit ≢ Exit.Fault → E.count console.new.errors ≡ E.count console.old.errors) }
+    ensures whole { IfOk result (λ exit. exit ≢ Exit.Fault → O.count console.new.output ≡ O.count console.old.output) }
+    ensures began { Began (Request.Rows words) None result
+        (record { output = O.contents console.old.output; errors = E.contents console.old.errors; errors_failed = E.count console.old.errors })
+        (record { output = O.contents console.new.output; errors = E.contents console.new.errors; errors_failed = E.count console.new.errors }) }
+    ensures not_begun { OnErr result (console.new ≡ console.old) }
 {
-    let Some(shape) = shape_of(shape) else {
-        return complain(errors, "no such shape", "");
+    let Some(shape) = shape_of(words.shape) else {
+        return Err(Fault::Shape);
     };
-    rows_command(rt.alloc(), shape, usize::from(weight), seed, out, errors)
+    let weight = usize::from(words.weight);
+    Ok(rows_command(rt.alloc(), shape, weight, words.seed, console))
 }
 
-fn serve_judge<R: Files + AllocGlobal, O: CountedWrite, E: CountedWrite>(
+/// Judges soft values. The certificate's file is made before the others are opened.
+fn serve_judge<'a, R: Files + AllocGlobal, O: CountedWrite, E: CountedWrite>(
     rt: &R,
-    shape: ShapeWords,
-    certificate: Option<&str>,
-    rows: &str,
-    soft: &str,
-    out: &mut O,
-    errors: &mut E,
-) -> Exit
-    requires out { O.count out.old < 2 ^ 64 - 1 }
-    requires errors { E.count errors.old < 2 ^ 64 - 1 }
-    ensures { result ≢ Exit.Fault → E.count errors.new ≡ E.count errors.old }
+    words: JudgeWords<'a>,
+    console: &mut Console<O, E>,
+) -> Result<Exit, Fault<'a>>
+    requires output { CanCount (O.count console.old.output) }
+    requires errors { CanCount (E.count console.old.errors) }
+    ensures quiet { IfOk result (λ exit. exit ≢ Exit.Fault → E.count console.new.errors ≡ E.count console.old.errors) }
+    ensures whole { IfOk result (λ exit. exit ≢ Exit.Fault → O.count console.new.output ≡ O.count console.old.output) }
+    ensures began { Began (Request.Judge words.entry) None result
+        (record { output = O.contents console.old.output; errors = E.contents console.old.errors; errors_failed = E.count console.old.errors })
+        (record { output = O.contents console.new.output; errors = E.contents console.new.errors; errors_failed = E.count console.new.errors }) }
+    ensures not_begun { OnErr result (console.new ≡ console.old) }
 {
-    let Some(shape) = shape_of(shape) else {
-        return complain(errors, "no such shape", "");
+    let Some(shape) = shape_of(words.shape) else {
+        return Err(Fault::Shape);
     };
-    match certificate {
-        Some(name) => serve_certify(rt, shape, name, rows, soft, out, errors),
-        None => serve_verdict(rt, shape, rows, soft, out, errors),
+    match words.certificate {
+        Some(name) => serve_certify(rt, shape, name, words, console),
+        None => serve_verdict(rt, shape, words, console),
     }
 }
 
-fn serve_verdict<R: Files + AllocGlobal, O: CountedWrite, E: CountedWrite>(
+fn serve_verdict<'a, R: Files + AllocGlobal, O: CountedWrite, E: CountedWrite>(
     rt: &R,
     shape: Shape,
-    rows: &str,
-    soft: &str,
-    out: &mut O,
-    errors: &mut E,
-) -> Exit
-    requires out { O.count out.old < 2 ^ 64 - 1 }
-    requires errors { E.count errors.old < 2 ^ 64 - 1 }
-    ensures { result ≢ Exit.Fault → E.count errors.new ≡ E.count errors.old }
+    words: JudgeWords<'a>,
+    console: &mut Console<O, E>,
+) -> Result<Exit, Fault<'a>>
+    requires output { CanCount (O.count console.old.output) }
+    requires errors { CanCount (E.count console.old.errors) }
+    ensures quiet { IfOk result (λ exit. exit ≢ Exit.Fault → E.count console.new.errors ≡ E.count console.old.errors) }
+    ensures whole { IfOk result (λ exit. exit ≢ Exit.Fault → O.count console.new.output ≡ O.count console.old.output) }
+    ensures began { Began (Request.Judge words.entry) None result
+        (record { output = O.contents console.old.output; errors = E.contents console.old.errors; errors_failed = E.count console.old.errors })
+        (record { output = O.contents console.new.output; errors = E.contents console.new.errors; errors_failed = E.count console.new.errors }) }
+    ensures not_begun { OnErr result (console.new ≡ console.old) }
 {
-    let Ok(row_file) = fs::open(rt, rows) else {
-        return complain(errors, "cannot open ", rows);
-    };
-    let Ok(soft_file) = fs::open(rt, soft) else {
-        return complain(errors, "cannot open ", soft);
-    };
-    let mut rows = Counting::new(row_file);
-    let mut soft = Counting::new(soft_file);
-    judge_command(rt.alloc(), shape, &mut rows, &mut soft, out, errors)
+    let mut rows = open(rt, words.rows)?;
+    let mut soft = open(rt, words.soft)?;
+    Ok(judge_command(rt.alloc(), shape, &mut rows, &mut soft, console))
 }
 
-fn serve_certify<R: Files + AllocGlobal, O: CountedWrite, E: CountedWrite>(
+fn serve_certify<'a, R: Files + AllocGlobal, O: CountedWrite, E: CountedWrite>(
     rt: &R,
     shape: Shape,
-    certificate: &str,
-    rows: &str,
-    soft: &str,
-    out: &mut O,
-    errors: &mut E,
-) -> Exit
-    requires out { O.count out.old < 2 ^ 64 - 1 }
-    requires errors { E.count errors.old < 2 ^ 64 - 1 }
-    ensures { result ≢ Exit.Fault → E.count errors.new ≡ E.count errors.old }
+    certificate: &'a str,
+    words: JudgeWords<'a>,
+    console: &mut Console<O, E>,
+) -> Result<Exit, Fault<'a>>
+    requires output { CanCount (O.count console.old.output) }
+    requires errors { CanCount (E.count console.old.errors) }
+    ensures quiet { IfOk result (λ exit. exit ≢ Exit.Fault → E.count console.new.errors ≡ E.count console.old.errors) }
+    ensures whole { IfOk result (λ exit. exit ≢ Exit.Fault → O.count console.new.output ≡ O.count console.old.output) }
+    ensures began { Began (Request.Judge words.entry) None result
+        (record { output = O.contents console.old.output; errors = E.contents console.old.errors; errors_failed = E.count console.old.errors })
+        (record { output = O.contents console.new.output; errors = E.contents console.new.errors; errors_failed = E.count console.new.errors }) }
+    ensures not_begun { OnErr result (console.new ≡ console.old) }
 {
-    let Ok(certificate_file) = fs::create(rt, certificate) else {
-        return complain(errors, "cannot open ", certificate);
-    };
-    let Ok(row_file) = fs::open(rt, rows) else {
-        return complain(errors, "cannot open ", rows);
-    };
-    let Ok(soft_file) = fs::open(rt, soft) else {
-        return complain(errors, "cannot open ", soft);
-    };
-    let mut certificate = Counting::new(certificate_file);
-    let mut rows = Counting::new(row_file);
-    let mut soft = Counting::new(soft_file);
-    certify_command(
+    let mut certificate = create(rt, certificate)?;
+    let mut rows = open(rt, words.rows)?;
+    let mut soft = open(rt, words.soft)?;
+    Ok(certify_command(
         rt.alloc(),
         shape,
         &mut rows,
         &mut soft,
         &mut certificate,
-        out,
-        errors,
-    )
+        console,
+    ))
 }
 
-fn serve_check<R: Files + AllocGlobal, O: CountedWrite, E: CountedWrite>(
+/// Checks a certificate.
+fn serve_check<'a, R: Files + AllocGlobal, O: CountedWrite, E: CountedWrite>(
     rt: &R,
-    rows: &str,
-    certificate: &str,
-    out: &mut O,
-    errors: &mut E,
-) -> Exit
-    requires out { O.count out.old < 2 ^ 64 - 1 }
-    requires errors { E.count errors.old < 2 ^ 64 - 1 }
-    ensures { result ≢ Exit.Fault → E.count errors.new ≡ E.count errors.old }
+    words: CheckWords<'a>,
+    console: &mut Console<O, E>,
+) -> Result<Exit, Fault<'a>>
+    requires output { CanCount (O.count console.old.output) }
+    requires errors { CanCount (E.count console.old.errors) }
+    ensures quiet { IfOk result (λ exit. exit ≢ Exit.Fault → E.count console.new.errors ≡ E.count console.old.errors) }
+    ensures whole { IfOk result (λ exit. exit ≢ Exit.Fault → O.count console.new.output ≡ O.count console.old.output) }
+    ensures began { Began (Request.Check words.entry) None result
+        (record { output = O.contents console.old.output; errors = E.contents console.old.errors; errors_failed = E.count console.old.errors })
+        (record { output = O.contents console.new.output; errors = E.contents console.new.errors; errors_failed = E.count console.new.errors }) }
+    ensures not_begun { OnErr result (console.new ≡ console.old) }
 {
-    let Ok(row_file) = fs::open(rt, rows) else {
-        return complain(errors, "cannot open ", rows);
-    };
-    let Ok(certificate_file) = fs::open(rt, certificate) else {
-        return complain(errors, "cannot open ", certificate);
-    };
-    let mut rows = Counting::new(row_file);
-    let mut certificate = Counting::new(certificate_file);
-    check_command(rt.alloc(), &mut rows, &mut certificate, out, errors)
+    let mut rows = open(rt, words.rows)?;
+    let mut certificate = open(rt, words.certificate)?;
+    Ok(check_command(rt.alloc(), &mut rows, &mut certificate, console))
 }
 
-fn serve_mod<R: Files + AllocGlobal, O: CountedWrite, E: CountedWrite>(
+/// Sends packets. The symbol file is made once the others are open.
+fn serve_mod<'a, R: Files + AllocGlobal, O: CountedWrite, E: CountedWrite>(
     rt: &R,
-    setup: Setup,
-    rows: &str,
-    packets: &str,
-    symbols: &str,
-    out: &mut O,
-    errors: &mut E,
-) -> Exit
-    requires out { O.count out.old < 2 ^ 64 - 1 }
-    requires errors { E.count errors.old < 2 ^ 64 - 1 }
-    ensures { result ≢ Exit.Fault → E.count errors.new ≡ E.count errors.old }
+    words: ModWords<'a>,
+    console: &mut Console<O, E>,
+) -> Result<Exit, Fault<'a>>
+    requires output { CanCount (O.count console.old.output) }
+    requires errors { CanCount (E.count console.old.errors) }
+    ensures quiet { IfOk result (λ exit. exit ≢ Exit.Fault → E.count console.new.errors ≡ E.count console.old.errors) }
+    ensures whole { IfOk result (λ exit. exit ≢ Exit.Fault → O.count console.new.output ≡ O.count console.old.output) }
+    ensures began { Began (Request.Mod words.entry) None result
+        (record { output = O.contents console.old.output; errors = E.contents console.old.errors; errors_failed = E.count console.old.errors })
+        (record { output = O.contents console.new.output; errors = E.contents console.new.errors; errors_failed = E.count console.new.errors }) }
+    ensures not_begun { OnErr result (console.new ≡ console.old) }
 {
-    let Ok(row_file) = fs::open(rt, rows) else {
-        return complain(errors, "cannot open ", rows);
+    let Some(link) = setup_of(words.link) else {
+        return Err(Fault::Mode);
     };
-    let Ok(packet_file) = fs::open(rt, packets) else {
-        return complain(errors, "cannot open ", packets);
-    };
-    let Ok(symbol_file) = fs::create(rt, symbols) else {
-        return complain(errors, "cannot open ", symbols);
-    };
-    let Ok(packet_file) = BufReader::new(rt.alloc(), packet_file) else {
-        return complain(errors, "no memory", "");
-    };
-    let mut rows = Counting::new(row_file);
-    let mut packets = Counting::new(packet_file);
-    let mut symbols = Counting::new(symbol_file);
-    mod_command(
+    let mut rows = open(rt, words.rows)?;
+    let mut packets = open(rt, words.packets)?;
+    let mut symbols = create(rt, words.symbols)?;
+    Ok(mod_command(
         rt.alloc(),
-        setup,
+        link,
         &mut rows,
         &mut packets,
         &mut symbols,
-        out,
-        errors,
-    )
+        console,
+    ))
+}
+
+/// Adds noise to symbols. What its buffer still holds at the end is written before the command has
+/// ended well.
+fn serve_noise<'a, R: Files + AllocGlobal, O: CountedWrite, E: CountedWrite>(
+    rt: &R,
+    words: NoiseWords<'a>,
+    console: &mut Console<O, E>,
+) -> Result<Exit, Fault<'a>>
+    requires output { CanCount (O.count console.old.output) }
+    requires errors { CanCount (E.count console.old.errors) }
+    ensures quiet { IfOk result (λ exit. exit ≢ Exit.Fault → E.count console.new.errors ≡ E.count console.old.errors) }
+    ensures whole { IfOk result (λ exit. exit ≢ Exit.Fault → O.count console.new.output ≡ O.count console.old.output) }
+    ensures began { Began (Request.Noise words.entry) None result
+        (record { output = O.contents console.old.output; errors = E.contents console.old.errors; errors_failed = E.count console.old.errors })
+        (record { output = O.contents console.new.output; errors = E.contents console.new.errors; errors_failed = E.count console.new.errors }) }
+    ensures not_ended { OnErr result (E.count console.new.errors ≡ E.count console.old.errors) }
+{
+    let mut from = open(rt, words.from)?;
+    let mut to = create_buffered(rt, words.to)?;
+    let exit = noise_command(words.seed, words.level, &mut from, &mut to, console);
+    if exit == Exit::Fine && to.into_inner().flush().is_err() {
+        return Err(Fault::Write);
+    }
+    Ok(exit)
 }

@@ -1,52 +1,12 @@
 //! The command line of the program.
+use crate::link::RollOff;
+use crate::request::{
+    CheckWords, JudgeWords, LinkWords, ModWords, NoiseWords, Request, RowsWords, ShapeWords,
+};
+use crate::scrambling::ScramblingNumber;
 use clap::builder::ValueParser;
 use clap::{Arg, ArgAction, ArgMatches, Command, Error, value_parser};
 use std::alloc::{AllocError, Global};
-
-/// The numbers of a shape.
-#[derive(Clone, Copy, Debug, PartialEq, Eq)]
-pub struct ShapeWords {
-    pub group: u16,
-    pub groups: u16,
-    pub q: u16,
-}
-
-/// The numbers of a mode and of a link.
-#[derive(Clone, Copy, Debug, PartialEq, Eq)]
-pub struct LinkWords {
-    pub modcod: u8,
-    pub short: bool,
-    pub pilots: bool,
-    pub number: u32,
-    pub roll_off: u8,
-}
-
-/// What the words ask for.
-#[derive(Clone, Copy, Debug, PartialEq, Eq)]
-pub enum Request<'a> {
-    Own,
-    Rows {
-        shape: ShapeWords,
-        weight: u8,
-        seed: u64,
-    },
-    Judge {
-        shape: ShapeWords,
-        certificate: Option<&'a str>,
-        rows: &'a str,
-        soft: &'a str,
-    },
-    Check {
-        rows: &'a str,
-        certificate: &'a str,
-    },
-    Mod {
-        link: LinkWords,
-        rows: &'a str,
-        packets: &'a str,
-        symbols: &'a str,
-    },
-}
 
 fn number<'a>(alloc: Global, name: &'a str, parser: ValueParser<'a>, value: &'a str) -> Arg<'a> {
     Arg::new(alloc, name)
@@ -134,6 +94,17 @@ fn mod_words<'a>(alloc: Global) -> Result<Command<'a>, AllocError> {
         .arg(file(alloc, "SYMBOLS", "File for the symbols, four bytes each"))
 }
 
+fn noise_words<'a>(alloc: Global) -> Result<Command<'a>, AllocError> {
+    let seed = value_parser!(u64);
+    let level = value_parser!(u16).range(0..=65535);
+    Command::new(alloc, "noise")
+        .about("Adds noise that a seed determines to symbols")
+        .arg(required(alloc, "seed", seed, "S").help("Seed of the generator"))?
+        .arg(required(alloc, "level", level, "L").help("Level of the noise, 0 to 65535"))?
+        .arg(file(alloc, "IN", "File of symbols"))?
+        .arg(file(alloc, "OUT", "File for the symbols with noise"))
+}
+
 /// All that the program understands.
 fn command<'a>(alloc: Global) -> Result<Command<'a>, AllocError> {
     Command::new(alloc, "s2")
@@ -143,7 +114,8 @@ fn command<'a>(alloc: Global) -> Result<Command<'a>, AllocError> {
         .subcommand(rows_words(alloc)?)?
         .subcommand(judge_words(alloc)?)?
         .subcommand(check_words(alloc)?)?
-        .subcommand(mod_words(alloc)?)
+        .subcommand(mod_words(alloc)?)?
+        .subcommand(noise_words(alloc)?)
 }
 
 fn shape_of(m: &ArgMatches<'_>) -> Option<ShapeWords> {
@@ -159,34 +131,40 @@ fn link_of(m: &ArgMatches<'_>) -> Option<LinkWords> {
         modcod: m.get_one::<u8>("modcod")?,
         short: m.get_flag("short"),
         pilots: m.get_flag("pilots"),
-        number: m.get_one::<u32>("number")?,
-        roll_off: m.get_one::<u8>("ro")?,
+        number: ScramblingNumber::new(m.get_one::<u32>("number")?)?,
+        roll_off: RollOff::new(m.get_one::<u8>("ro")?)?,
     })
 }
 
 fn request_of<'a>(name: &str, m: &ArgMatches<'a>) -> Option<Request<'a>> {
     match name {
-        "rows" => Some(Request::Rows {
+        "rows" => Some(Request::Rows(RowsWords {
             shape: shape_of(m)?,
             weight: m.get_one::<u8>("weight")?,
             seed: m.get_one::<u64>("seed")?,
-        }),
-        "judge" => Some(Request::Judge {
+        })),
+        "judge" => Some(Request::Judge(JudgeWords {
             shape: shape_of(m)?,
             certificate: m.get_str("cert"),
             rows: m.get_str("ROWS")?,
             soft: m.get_str("SOFT")?,
-        }),
-        "check" => Some(Request::Check {
+        })),
+        "check" => Some(Request::Check(CheckWords {
             rows: m.get_str("ROWS")?,
             certificate: m.get_str("CERT")?,
-        }),
-        "mod" => Some(Request::Mod {
+        })),
+        "mod" => Some(Request::Mod(ModWords {
             link: link_of(m)?,
             rows: m.get_str("ROWS")?,
             packets: m.get_str("PACKETS")?,
             symbols: m.get_str("SYMBOLS")?,
-        }),
+        })),
+        "noise" => Some(Request::Noise(NoiseWords {
+            seed: m.get_one::<u64>("seed")?,
+            level: m.get_one::<u16>("level")?,
+            from: m.get_str("IN")?,
+            to: m.get_str("OUT")?,
+        })),
         _ => None,
     }
 }

@@ -1,6 +1,6 @@
 //! `judge --cert`.
 use super::checking::checked;
-use super::{STORED_RUN, TOY, shape, stored_certificate};
+use super::{STORED_RUN, TOY, screen, seen, shape, stored_certificate};
 use crate::certify::certify_command;
 use crate::exit::Exit;
 use crate::judge::TOY_ROWS;
@@ -12,8 +12,7 @@ fn certified<R: Abort + AllocGlobal>(rt: &R, soft: &[u8]) -> (Exit, Vec<u8>, Vec
     let mut rows = InMemory::new(TOY_ROWS);
     let mut soft = InMemory::new(soft);
     let mut file = Counting::new(Vec::new(rt.alloc()));
-    let mut out = Counting::new(Vec::new(rt.alloc()));
-    let mut errors = Counting::new(Vec::new(rt.alloc()));
+    let mut console = screen(rt);
     let toy = shape(rt, TOY);
     let exit = certify_command(
         rt.alloc(),
@@ -21,10 +20,9 @@ fn certified<R: Abort + AllocGlobal>(rt: &R, soft: &[u8]) -> (Exit, Vec<u8>, Vec
         &mut rows,
         &mut soft,
         &mut file,
-        &mut out,
-        &mut errors,
+        &mut console,
     );
-    (exit, file.into_inner(), out.into_inner())
+    (exit, file.into_inner(), seen(console).0)
 }
 
 #[test]
@@ -52,8 +50,7 @@ fn prints_no_verdict_without_its_certificate(rt: HostRuntime) {
     let mut rows = InMemory::new(TOY_ROWS);
     let mut soft = InMemory::new(STORED_RUN);
     let mut full = Counting::new(FailAt::new(Vec::new(rt.alloc()), 0));
-    let mut out = Counting::new(Vec::new(rt.alloc()));
-    let mut errors = Counting::new(Vec::new(rt.alloc()));
+    let mut console = screen(&rt);
     let toy = shape(&rt, TOY);
     let exit = certify_command(
         rt.alloc(),
@@ -61,13 +58,10 @@ fn prints_no_verdict_without_its_certificate(rt: HostRuntime) {
         &mut rows,
         &mut soft,
         &mut full,
-        &mut out,
-        &mut errors,
+        &mut console,
     );
     assert_eq!(rt; exit, Exit::Fault);
-    assert_eq!(rt; out.into_inner().len(), 0);
-    assert_eq!(rt;
-        errors.into_inner().as_slice(),
-        b"s2: cannot write\n".as_slice()
-    );
+    let (out, errors) = seen(console);
+    assert_eq!(rt; out.len(), 0);
+    assert_eq!(rt; errors.as_slice(), b"s2: cannot write\n".as_slice());
 }

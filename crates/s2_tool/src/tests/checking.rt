@@ -1,4 +1,5 @@
 //! `check`.
+use super::{screen, seen};
 use crate::check::check_command;
 use crate::exit::Exit;
 use crate::judge::TOY_ROWS;
@@ -37,10 +38,10 @@ pub(super) fn checked<R: AllocGlobal>(
 ) -> (Exit, Vec<u8>, Vec<u8>) {
     let mut rows = InMemory::new(rows);
     let mut file = Counting::new(ByOne::new(file));
-    let mut out = Counting::new(Vec::new(rt.alloc()));
-    let mut errors = Counting::new(Vec::new(rt.alloc()));
-    let exit = check_command(rt.alloc(), &mut rows, &mut file, &mut out, &mut errors);
-    (exit, out.into_inner(), errors.into_inner())
+    let mut console = screen(rt);
+    let exit = check_command(rt.alloc(), &mut rows, &mut file, &mut console);
+    let (out, errors) = seen(console);
+    (exit, out, errors)
 }
 
 #[test]
@@ -148,26 +149,23 @@ fn checks_a_certificate(rt: HostRuntime) {
 fn reads_rows_before_the_certificate(rt: HostRuntime) {
     let mut rows = Counting::new(Endless::new(b"# x "));
     let mut file = Counting::new(FailAt::new(ByOne::new(b"S"), 0));
-    let mut out = Counting::new(Vec::new(rt.alloc()));
-    let mut errors = Counting::new(Vec::new(rt.alloc()));
-    let exit = check_command(rt.alloc(), &mut rows, &mut file, &mut out, &mut errors);
+    let mut console = screen(&rt);
+    let exit = check_command(rt.alloc(), &mut rows, &mut file, &mut console);
     assert_eq!(rt; exit, Exit::Fault);
-    assert_eq!(rt; out.into_inner().len(), 0);
-    assert_eq!(rt;
-        errors.into_inner().as_slice(),
-        b"s2: file too long\n".as_slice()
-    );
+    let (out, errors) = seen(console);
+    assert_eq!(rt; out.len(), 0);
+    assert_eq!(rt; errors.as_slice(), b"s2: file too long\n".as_slice());
 }
 
 #[test]
 fn refuses_an_endless_certificate(rt: HostRuntime) {
     let mut rows = InMemory::new(TOY_ROWS);
     let mut file = Counting::new(Endless::new(b"S2ML"));
-    let mut out = Counting::new(Vec::new(rt.alloc()));
-    let mut errors = Counting::new(Vec::new(rt.alloc()));
-    let exit = check_command(rt.alloc(), &mut rows, &mut file, &mut out, &mut errors);
+    let mut console = screen(&rt);
+    let exit = check_command(rt.alloc(), &mut rows, &mut file, &mut console);
     assert_eq!(rt; exit, Exit::Fault);
-    assert_eq!(rt; out.into_inner().len(), 0);
+    let (out, errors) = seen(console);
+    assert_eq!(rt; out.len(), 0);
     let line = b"s2: file too long\n";
-    assert_eq!(rt; errors.into_inner().as_slice(), line.as_slice());
+    assert_eq!(rt; errors.as_slice(), line.as_slice());
 }

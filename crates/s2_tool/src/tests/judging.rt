@@ -1,5 +1,6 @@
 //! `judge`, and the program without a command.
-use super::{TOY, shape};
+use super::{TOY, screen, seen, shape};
+use crate::console::Console;
 use crate::exit::Exit;
 use crate::judge::{TOY_ROWS, judge_command, self_command};
 use s2_mode::{ByOne, Counting, Endless, FailAt, InMemory};
@@ -14,18 +15,11 @@ fn judged<R: Abort + AllocGlobal>(
 ) -> (Exit, Vec<u8>, Vec<u8>) {
     let mut rows = InMemory::new(rows);
     let mut soft = Counting::new(ByOne::new(soft));
-    let mut out = Counting::new(Vec::new(rt.alloc()));
-    let mut errors = Counting::new(Vec::new(rt.alloc()));
+    let mut console = screen(rt);
     let shape = shape(rt, sizes);
-    let exit = judge_command(
-        rt.alloc(),
-        shape,
-        &mut rows,
-        &mut soft,
-        &mut out,
-        &mut errors,
-    );
-    (exit, out.into_inner(), errors.into_inner())
+    let exit = judge_command(rt.alloc(), shape, &mut rows, &mut soft, &mut console);
+    let (out, errors) = seen(console);
+    (exit, out, errors)
 }
 
 #[test]
@@ -132,48 +126,47 @@ fn names_a_row_of_25_addresses(rt: HostRuntime) {
 fn reads_rows_before_the_soft_values(rt: HostRuntime) {
     let mut rows = InMemory::new(b"0 x\n");
     let mut soft = Counting::new(FailAt::new(ByOne::new(b"0"), 0));
-    let mut out = Counting::new(Vec::new(rt.alloc()));
-    let mut errors = Counting::new(Vec::new(rt.alloc()));
+    let mut console = screen(&rt);
     let toy = shape(&rt, TOY);
-    let exit = judge_command(rt.alloc(), toy, &mut rows, &mut soft, &mut out, &mut errors);
+    let exit = judge_command(rt.alloc(), toy, &mut rows, &mut soft, &mut console);
     assert_eq!(rt; exit, Exit::Fault);
-    assert_eq!(rt; out.into_inner().len(), 0);
+    let (out, errors) = seen(console);
+    assert_eq!(rt; out.len(), 0);
     let line = b"s2: rows: not a number in line 1\n";
-    assert_eq!(rt; errors.into_inner().as_slice(), line.as_slice());
+    assert_eq!(rt; errors.as_slice(), line.as_slice());
+}
+
+const ZEROS: &[u8] = b"0 0 0 0 0 0 0 0 0 0 0 0 0 0 0 0 0 0 0 0";
+
+#[test]
+fn names_an_input_that_fails(rt: HostRuntime) {
+    let mut console = screen(&rt);
+    let mut broken = Counting::new(FailAt::new(ByOne::new(ZEROS), 3));
+    let exit = self_command(rt.alloc(), &mut broken, &mut console);
+    assert_eq!(rt; exit, Exit::Fault);
+    let (out, errors) = seen(console);
+    assert_eq!(rt; out.len(), 0);
+    assert_eq!(rt; errors.as_slice(), b"s2: cannot read\n".as_slice());
 }
 
 #[test]
-fn names_a_device_that_fails(rt: HostRuntime) {
-    let zeros = b"0 0 0 0 0 0 0 0 0 0 0 0 0 0 0 0 0 0 0 0";
-    let mut out = Counting::new(Vec::new(rt.alloc()));
-    let mut errors = Counting::new(Vec::new(rt.alloc()));
-    let mut broken = Counting::new(FailAt::new(ByOne::new(zeros), 3));
-    let exit = self_command(rt.alloc(), &mut broken, &mut out, &mut errors);
-    assert_eq!(rt; exit, Exit::Fault);
+fn names_an_endless_input(rt: HostRuntime) {
+    let mut console = screen(&rt);
     let mut endless = Counting::new(Endless::new(b"# x "));
-    let mut more = Counting::new(Vec::new(rt.alloc()));
-    assert_eq!(rt;
-        self_command(rt.alloc(), &mut endless, &mut out, &mut more),
-        Exit::Fault
-    );
-    let mut soft = InMemory::new(zeros);
-    let mut full = Counting::new(FailAt::new(Vec::new(rt.alloc()), 0));
-    let mut last = Counting::new(Vec::new(rt.alloc()));
-    assert_eq!(rt;
-        self_command(rt.alloc(), &mut soft, &mut full, &mut last),
-        Exit::Fault
-    );
-    assert_eq!(rt; out.into_inner().len(), 0);
-    assert_eq!(rt;
-        errors.into_inner().as_slice(),
-        b"s2: cannot read\n".as_slice()
-    );
-    assert_eq!(rt;
-        more.into_inner().as_slice(),
-        b"s2: file too long\n".as_slice()
-    );
-    assert_eq!(rt;
-        last.into_inner().as_slice(),
-        b"s2: cannot write\n".as_slice()
-    );
+    let exit = self_command(rt.alloc(), &mut endless, &mut console);
+    assert_eq!(rt; exit, Exit::Fault);
+    let (out, errors) = seen(console);
+    assert_eq!(rt; out.len(), 0);
+    assert_eq!(rt; errors.as_slice(), b"s2: file too long\n".as_slice());
+}
+
+#[test]
+fn names_an_output_that_fails(rt: HostRuntime) {
+    let mut soft = InMemory::new(ZEROS);
+    let full = Counting::new(FailAt::new(Vec::new(rt.alloc()), 0));
+    let mut console = Console::new(full, Counting::new(Vec::new(rt.alloc())));
+    let exit = self_command(rt.alloc(), &mut soft, &mut console);
+    assert_eq!(rt; exit, Exit::Fault);
+    let errors = console.errors.into_inner();
+    assert_eq!(rt; errors.as_slice(), b"s2: cannot write\n".as_slice());
 }

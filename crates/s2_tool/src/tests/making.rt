@@ -1,5 +1,6 @@
 //! `rows`.
-use super::shape;
+use super::{screen, seen, shape};
+use crate::console::Console;
 use crate::exit::Exit;
 use crate::rows::rows_command;
 use s2_mode::{Counting, FailAt};
@@ -11,23 +12,23 @@ fn prints_made_rows(rt: HostRuntime) {
         (2, Exit::Fault, b"", b"s2: no such weight\n"),
     ];
     for (weight, exit, text, fault) in cases {
-        let mut out = Counting::new(Vec::new(rt.alloc()));
-        let mut errors = Counting::new(Vec::new(rt.alloc()));
+        let mut console = screen(&rt);
         let one = shape(&rt, (1, 1, 1));
-        let answer = rows_command(rt.alloc(), one, weight, 1, &mut out, &mut errors);
+        let answer = rows_command(rt.alloc(), one, weight, 1, &mut console);
         assert_eq!(rt; answer, exit);
-        assert_eq!(rt; out.into_inner().as_slice(), text);
-        assert_eq!(rt; errors.into_inner().as_slice(), fault);
+        let (out, errors) = seen(console);
+        assert_eq!(rt; out.as_slice(), text);
+        assert_eq!(rt; errors.as_slice(), fault);
     }
 }
 
 #[test]
 fn names_an_output_that_fails(rt: HostRuntime) {
-    let mut full = Counting::new(FailAt::new(Vec::new(rt.alloc()), 0));
-    let mut errors = Counting::new(Vec::new(rt.alloc()));
+    let full = Counting::new(FailAt::new(Vec::new(rt.alloc()), 0));
+    let mut console = Console::new(full, Counting::new(Vec::new(rt.alloc())));
     let one = shape(&rt, (1, 1, 1));
-    let exit = rows_command(rt.alloc(), one, 1, 1, &mut full, &mut errors);
+    let exit = rows_command(rt.alloc(), one, 1, 1, &mut console);
     assert_eq!(rt; exit, Exit::Fault);
-    let line = b"s2: cannot write\n";
-    assert_eq!(rt; errors.into_inner().as_slice(), line.as_slice());
+    let errors = console.errors.into_inner();
+    assert_eq!(rt; errors.as_slice(), b"s2: cannot write\n".as_slice());
 }

@@ -1,47 +1,50 @@
 //! `mod` over memory.
+use super::{screen, seen};
 use crate::exit::Exit;
+use crate::link::{LinkSetup, RollOff};
 use crate::rows::rows_command;
+use crate::scrambling::ScramblingNumber;
 use crate::send::mod_command;
 use s2_mode::{ByOne, Counting, InMemory, Mode};
-use s2_modem::Setup;
 use std::process::Abort;
 
 /// The row file that weight 3 and seed 1 determine.
 fn row_file<R: AllocGlobal>(rt: &R, mode: Mode) -> Vec<u8> {
-    let mut text = Counting::new(Vec::new(rt.alloc()));
-    let mut errors = Counting::new(Vec::new(rt.alloc()));
-    rows_command(rt.alloc(), mode.shape(), 3, 1, &mut text, &mut errors);
-    text.into_inner()
+    let mut console = screen(rt);
+    rows_command(rt.alloc(), mode.shape(), 3, 1, &mut console);
+    seen(console).0
 }
 
 /// QPSK 1/4.
-fn setup<R: Abort>(rt: &R, short: bool) -> Setup {
-    Setup {
+fn setup<R: Abort>(rt: &R, short: bool) -> LinkSetup {
+    LinkSetup {
         mode: Mode::of(1, short, false).expect(rt, "a mode"),
-        number: 0,
-        roll_off: 0,
+        number: ScramblingNumber::new(0).expect(rt, "a number"),
+        roll_off: RollOff::Wide,
     }
 }
 
 /// What `mod` does with packets: its exit, how many bytes of symbols, and its lines.
-fn sent<R: AllocGlobal>(rt: &R, setup: Setup, packets: &[u8]) -> (Exit, usize, Vec<u8>, Vec<u8>) {
+fn sent<R: AllocGlobal>(
+    rt: &R,
+    setup: LinkSetup,
+    packets: &[u8],
+) -> (Exit, usize, Vec<u8>, Vec<u8>) {
     let text = row_file(rt, setup.mode);
     let mut rows = InMemory::new(&text);
     let mut packets = Counting::new(ByOne::new(packets));
     let mut symbols = Counting::new(Vec::new(rt.alloc()));
-    let mut out = Counting::new(Vec::new(rt.alloc()));
-    let mut errors = Counting::new(Vec::new(rt.alloc()));
+    let mut console = screen(rt);
     let exit = mod_command(
         rt.alloc(),
         setup,
         &mut rows,
         &mut packets,
         &mut symbols,
-        &mut out,
-        &mut errors,
+        &mut console,
     );
-    let symbols = symbols.into_inner().len();
-    (exit, symbols, out.into_inner(), errors.into_inner())
+    let (out, errors) = seen(console);
+    (exit, symbols.into_inner().len(), out, errors)
 }
 
 /// A packet of zeros.
@@ -112,32 +115,4 @@ fn sends_two_packets_in_two_short_frames(rt: HostRuntime) {
     assert_eq!(rt; symbols, 65_520);
     assert_eq!(rt; out.as_slice(), b"packets 2 frames 2\n".as_slice());
     assert_eq!(rt; errors.len(), 0);
-}
-
-#[test]
-fn refuses_other_setups(rt: HostRuntime) {
-    let well = setup(&rt, true);
-    let cases: [(Setup, &[u8]); 2] = [
-        (
-            Setup {
-                number: 262_142,
-                ..well
-            },
-            b"s2: no such scrambling number\n",
-        ),
-        (
-            Setup {
-                roll_off: 3,
-                ..well
-            },
-            b"s2: no such roll-off\n",
-        ),
-    ];
-    for (setup, line) in cases {
-        let (exit, symbols, out, errors) = sent(&rt, setup, &two_packets());
-        assert_eq!(rt; exit, Exit::Fault);
-        assert_eq!(rt; symbols, 0);
-        assert_eq!(rt; out.len(), 0);
-        assert_eq!(rt; errors.as_slice(), line);
-    }
 }

@@ -1,8 +1,9 @@
 //! The commands on the files that their words name.
-use super::{STORED_RUN, stored_certificate, words_of};
+use super::{STORED_RUN, digest, stored_certificate, words_of};
+use crate::console::Console;
 use crate::exit::Exit;
 use crate::judge::TOY_ROWS;
-use crate::serve_whole;
+use crate::serve::serve;
 use crate::words::read_words;
 use s2_mode::{Counting, FailAt, InMemory};
 use std::fs;
@@ -12,7 +13,7 @@ use std::test::Fail;
 
 /// What the program does with the words of a line, its input and an output that fails after so many
 /// calls: its exit, its output and its errors.
-fn served<R: Abort + Files + AllocGlobal>(
+pub(super) fn served<R: Abort + Files + AllocGlobal>(
     rt: &R,
     line: &str,
     input: &[u8],
@@ -24,10 +25,12 @@ fn served<R: Abort + Files + AllocGlobal>(
         .flatten()
         .expect(rt, "a request");
     let mut input = InMemory::new(input);
-    let mut out = Counting::new(FailAt::new(Vec::new(rt.alloc()), passes));
-    let mut errors = Counting::new(Vec::new(rt.alloc()));
-    let exit = serve_whole(rt, request, &mut input, &mut out, &mut errors);
-    Ok((exit, out.into_inner().into_inner(), errors.into_inner()))
+    let out = Counting::new(FailAt::new(Vec::new(rt.alloc()), passes));
+    let errors = Counting::new(Vec::new(rt.alloc()));
+    let mut console = Console::new(out, errors);
+    let exit = serve(rt, request, &mut input, &mut console);
+    let Console { output, errors } = console;
+    Ok((exit, output.into_inner().into_inner(), errors.into_inner()))
 }
 
 /// Serves lines that end well, and compares their outputs.
@@ -84,6 +87,10 @@ fn reads_and_writes_each_file_in_its_role(rt: HostRuntime) -> Result<(), Fail> {
             ),
         ],
     )?;
+    let broken = "-4 10 10 10 10 10 10 10 10 10 10 10 10 10 10 10 10 10 10 10";
+    let (exit, out, _) = served(&rt, "s2", broken.as_bytes(), 1)?;
+    assert_eq!(rt; exit, Exit::No);
+    assert_eq!(rt; out.as_slice(), b"broken cost -4 check 0\n".as_slice());
     let certificate = fs::read(&rt, "s2_roles/cert")?;
     assert_eq!(rt; certificate.as_slice(), stored_certificate().as_slice());
     assert_eq!(rt; fs::read(&rt, "s2_roles/rows")?.as_slice(), TOY_ROWS);
@@ -110,6 +117,11 @@ fn names_the_file_that_cannot_be_opened(rt: HostRuntime) -> Result<(), Fail> {
         ("s2 mod --modcod 1 F N s2_missing/s", "s2_missing/none"),
         ("s2 mod --modcod 1 F F .", "."),
         ("s2 mod --modcod 1 F F N/s", "s2_missing/none/s"),
+        (
+            "s2 noise --seed 1 --level 1 N s2_missing/s",
+            "s2_missing/none",
+        ),
+        ("s2 noise --seed 1 --level 1 F N/s", "s2_missing/none/s"),
     ] {
         let line = words.replace(rt.alloc(), "R", toy)?;
         let line = line.replace(rt.alloc(), "F", "s2_missing/file")?;
@@ -122,11 +134,37 @@ fn names_the_file_that_cannot_be_opened(rt: HostRuntime) -> Result<(), Fail> {
 }
 
 #[test]
+fn leaves_an_output_file_where_an_input_is_missing(rt: HostRuntime) -> Result<(), Fail> {
+    let _ = fs::remove_dir_all(&rt, "s2_untouched");
+    fs::create_dir(&rt, "s2_untouched")?;
+    fs::write(&rt, "s2_untouched/rows", TOY_ROWS)?;
+    fs::write(&rt, "s2_untouched/old", b"old".as_slice())?;
+    for line in [
+        "s2 mod --modcod 1 s2_none s2_untouched/rows s2_untouched/old",
+        "s2 mod --modcod 1 s2_untouched/rows s2_none s2_untouched/old",
+        "s2 mod --modcod 11 --short s2_untouched/rows s2_untouched/rows s2_untouched/old",
+        "s2 judge --group 360 --groups 90 --q 91 --cert s2_untouched/old s2_none s2_none",
+        "s2 noise --seed 1 --level 1 s2_none s2_untouched/old",
+    ] {
+        let (exit, _, _) = served(&rt, line, b"", 1)?;
+        assert_eq!(rt; exit, Exit::Fault, "{line}");
+        let old = fs::read(&rt, "s2_untouched/old")?;
+        assert_eq!(rt; old.as_slice(), b"old".as_slice(), "{line}");
+    }
+    fs::remove_dir_all(&rt, "s2_untouched")?;
+    Ok(())
+}
+
+#[test]
 fn names_what_there_is_not(rt: HostRuntime) -> Result<(), Fail> {
     serve_faults(
         &rt,
         &[
             ("s2 check . .", "s2: cannot read\n"),
+            (
+                "s2 noise --seed 1 --level 1 /dev/zero /dev/full",
+                "s2: cannot write\n",
+            ),
             (
                 "s2 rows --group 360 --groups 90 --q 91 --weight 8 --seed 1",
                 "s2: no such shape\n",
@@ -149,10 +187,11 @@ fn names_what_there_is_not(rt: HostRuntime) -> Result<(), Fail> {
 
 #[test]
 fn writes_its_output_once(rt: HostRuntime) -> Result<(), Fail> {
-    let long = "s2 rows --group 360 --groups 90 --q 90 --weight 24 --seed 1";
+    let long = "s2 rows --group 1 --groups 600 --q 64000 --weight 24 --seed 4294967297";
     let (exit, out, errors) = served(&rt, long, b"", 1)?;
     assert_eq!(rt; exit, Exit::Fine);
-    assert!(rt; out.len() > 8192);
+    assert_eq!(rt; out.len(), 83_858);
+    assert_eq!(rt; digest(&out), 0x7991_b772_db34_2e83);
     assert_eq!(rt; errors.len(), 0);
     for line in ["s2", long] {
         let (exit, out, errors) = served(&rt, line, STORED_RUN, 0)?;

@@ -2,7 +2,12 @@
 use super::words_of;
 use crate::exit::Exit;
 use crate::explain;
-use crate::words::{LinkWords, Request, ShapeWords, read_words};
+use crate::link::RollOff;
+use crate::request::{
+    CheckWords, JudgeWords, LinkWords, ModWords, NoiseWords, Request, RowsWords, ShapeWords,
+};
+use crate::scrambling::ScramblingNumber;
+use crate::words::read_words;
 use std::cell::Cell;
 use std::fmt::Display;
 use std::io;
@@ -19,28 +24,28 @@ fn reads_the_words_of_a_command(rt: HostRuntime) -> Result<(), Fail> {
     let own = words_of(&rt, "s2")?;
     assert_eq!(rt; read_words(rt.alloc(), &own).ok(), Some(Some(Request::Own)));
     let judge = words_of(&rt, "s2 judge --group 4 --groups 2 --q 3 r s")?;
-    let wanted = Request::Judge {
+    let wanted = Request::Judge(JudgeWords {
         shape: toy,
         certificate: None,
         rows: "r",
         soft: "s",
-    };
+    });
     assert_eq!(rt; read_words(rt.alloc(), &judge).ok(), Some(Some(wanted)));
     let check = words_of(&rt, "s2 check r c")?;
-    let wanted = Request::Check {
+    let wanted = Request::Check(CheckWords {
         rows: "r",
         certificate: "c",
-    };
+    });
     assert_eq!(rt; read_words(rt.alloc(), &check).ok(), Some(Some(wanted)));
     let rows = words_of(
         &rt,
         "s2 rows --group 4 --groups 2 --q 3 --weight 24 --seed 18446744073709551615",
     )?;
-    let wanted = Request::Rows {
+    let wanted = Request::Rows(RowsWords {
         shape: toy,
         weight: 24,
         seed: 18446744073709551615,
-    };
+    });
     assert_eq!(rt; read_words(rt.alloc(), &rows).ok(), Some(Some(wanted)));
     Ok(())
 }
@@ -48,36 +53,52 @@ fn reads_the_words_of_a_command(rt: HostRuntime) -> Result<(), Fail> {
 #[test]
 fn reads_the_words_of_mod(rt: HostRuntime) -> Result<(), Fail> {
     let plain = words_of(&rt, "s2 mod --modcod 1 r p s")?;
-    let mut wanted = Request::Mod {
+    let mut wanted = Request::Mod(ModWords {
         link: LinkWords {
             modcod: 1,
             short: false,
             pilots: false,
-            number: 0,
-            roll_off: 0,
+            number: ScramblingNumber::new(0).ok_or("a number")?,
+            roll_off: RollOff::Wide,
         },
         rows: "r",
         packets: "p",
         symbols: "s",
-    };
+    });
     assert_eq!(rt; read_words(rt.alloc(), &plain).ok(), Some(Some(wanted)));
     let all = words_of(
         &rt,
         "s2 mod --modcod 17 --short --pilots --number 262141 --ro 2 r p s",
     )?;
-    wanted = Request::Mod {
+    wanted = Request::Mod(ModWords {
         link: LinkWords {
             modcod: 17,
             short: true,
             pilots: true,
-            number: 262141,
-            roll_off: 2,
+            number: ScramblingNumber::new(262_141).ok_or("a number")?,
+            roll_off: RollOff::Narrow,
         },
         rows: "r",
         packets: "p",
         symbols: "s",
-    };
+    });
     assert_eq!(rt; read_words(rt.alloc(), &all).ok(), Some(Some(wanted)));
+    Ok(())
+}
+
+#[test]
+fn reads_the_words_of_noise(rt: HostRuntime) -> Result<(), Fail> {
+    let words = words_of(
+        &rt,
+        "s2 noise --seed 18446744073709551615 --level 65535 i o",
+    )?;
+    let wanted = Request::Noise(NoiseWords {
+        seed: u64::MAX,
+        level: 65535,
+        from: "i",
+        to: "o",
+    });
+    assert_eq!(rt; read_words(rt.alloc(), &words).ok(), Some(Some(wanted)));
     Ok(())
 }
 
@@ -100,6 +121,11 @@ fn refuses_other_words(rt: HostRuntime) -> Result<(), Fail> {
         ("s2 mod --modcod 1 --number 262142 r p s", true),
         ("s2 mod --modcod 1 --ro 3 r p s", true),
         ("s2 mod --modcod 1 r p", true),
+        ("s2 noise --help", false),
+        ("s2 noise --seed 1 --level 65536 i o", true),
+        ("s2 noise --seed 1 i o", true),
+        ("s2 noise --level 1 i o", true),
+        ("s2 noise --seed 1 --level 1 i", true),
         (
             "s2 rows --group 1 --groups 1 --q 1 --weight 25 --seed 1",
             true,
@@ -123,7 +149,7 @@ fn refuses_other_words(rt: HostRuntime) -> Result<(), Fail> {
 #[test]
 fn reads_the_word_of_a_certificate_file(rt: HostRuntime) -> Result<(), Fail> {
     let words = words_of(&rt, "s2 judge --group 4 --groups 2 --q 3 --cert c r s")?;
-    let wanted = Request::Judge {
+    let wanted = Request::Judge(JudgeWords {
         shape: ShapeWords {
             group: 4,
             groups: 2,
@@ -132,7 +158,7 @@ fn reads_the_word_of_a_certificate_file(rt: HostRuntime) -> Result<(), Fail> {
         certificate: Some("c"),
         rows: "r",
         soft: "s",
-    };
+    });
     assert_eq!(rt; read_words(rt.alloc(), &words).ok(), Some(Some(wanted)));
     Ok(())
 }
@@ -154,7 +180,7 @@ fn tells_help_and_usage(rt: HostRuntime) -> Result<(), Fail> {
     for (line, text, on_errors) in [
         (
             "s2 --help",
-            "A DVB-S2 modem with maximum-likelihood certificates. Without a command it judges the 20 soft values of standard input under a toy code\n\nUsage: s2 [COMMAND]\n\nCommands:\n  rows   Prints a row file that a seed determines\n  judge  Judges the hard decision of soft values\n  check  Checks a certificate that its word is most likely\n  mod    Makes the symbols of packets\n  help   Print this message or the help of the given subcommand(s)\n\nOptions:\n  -h, --help  Print help\n",
+            "A DVB-S2 modem with maximum-likelihood certificates. Without a command it judges the 20 soft values of standard input under a toy code\n\nUsage: s2 [COMMAND]\n\nCommands:\n  rows   Prints a row file that a seed determines\n  judge  Judges the hard decision of soft values\n  check  Checks a certificate that its word is most likely\n  mod    Makes the symbols of packets\n  noise  Adds noise that a seed determines to symbols\n  help   Print this message or the help of the given subcommand(s)\n\nOptions:\n  -h, --help  Print help\n",
             false,
         ),
         (

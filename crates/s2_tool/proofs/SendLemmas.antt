@@ -11,6 +11,7 @@ use Rattle.s2_modem.specs.declared.outcome.SendFault.{SendFault}
 use Rattle.s2_modem.specs.declared.outcome.SendFault.TheVariants as refusals
 use Rattle.s2_modem.specs.declared.sending.TheConstants.{MOST_PACKETS}
 use Rattle.s2_modem.specs.declared.setup.Setup.{Setup}
+use Rattle.s2_tool.specs.declared.exit.Exit.{Exit}
 use Rattle.s2_tool.specs.declared.fault.Fault.{Fault}
 use Rattle.s2_tool.specs.declared.fault.Fault.TheVariants as faults
 use Rattle.s2_tool.specs.Exits.{Follows}
@@ -29,13 +30,15 @@ refused setup faults.Read planned h = tt
 refused setup faults.Write planned h = tt
 refused setup faults.NoMemory planned h = tt
 refused setup faults.TooLong planned h = ap (link_on setup) h
+refused setup faults.Mode planned h = ap (link_on setup) h
+refused setup faults.Shape planned h = ap (link_on setup) h
 refused setup faults.Weight planned h = ap (link_on setup) h
+refused setup (faults.Open name) planned h = ap (link_on setup) h
 refused setup (faults.Rows f) planned h = ap (link_on setup) h
 refused setup (faults.Values f) planned h = ap (link_on setup) h
 refused setup (faults.Certificate f) planned h = ap (link_on setup) h
-refused setup faults.Number planned h = ap (link_on setup) h
-refused setup faults.RollOff planned h = ap (link_on setup) h
-refused setup (faults.Packets f) planned h = ap (link_on setup) h
+refused setup faults.NotWholePacket planned h = ap (link_on setup) h
+refused setup (faults.NoSync packet) planned h = ap (link_on setup) h
 
 pub linked_refused : (setup : Setup) (known : Option (List ℕ)) (shape : Shape) (f : Fault) → shape ≡ shape_in setup.mode
     → IfSome known (λ text. Follows {V = Rows} (λ r. r) (Err f) (rows_in shape text)) → IfSome known (λ text. Follows {V = Link} (λ l. l) (Err f) (link_in setup text))
@@ -105,3 +108,7 @@ runs_still link F G a b c d answer f r =
 pub reads : (a b p q n : ℕ) → b ≡ a → (q ≡ p + 1) ⊎ ((q ≡ p) × (n ≡ MOST_PACKETS)) → (b + q ≡ a + p + 1) ⊎ ((b + q ≡ a + p) × (n ≡ MOST_PACKETS))
 reads a b p q n same (inl failed) = inl (omega arith)
 reads a b p q n same (inr (kept, most)) = inr (omega arith, most)
+
+-- the same of a setup by another name
+pub modulates_at : (setup setup' : Setup) (known : Option (List ℕ)) (old new : Streams) (ended : Result Exit Fault) → setup ≡ setup' → Modulates setup known old new ended → Modulates setup' known old new ended
+modulates_at setup setup' known old new ended same h = let P : Setup → Type 0 = λ s. Modulates s known old new ended in subst P same h

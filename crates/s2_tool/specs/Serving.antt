@@ -1,0 +1,61 @@
+-- What the program prints for a request.
+use Rattle.std.specs.Prelude.{◌≡◌, ℕ, List, Option, Some, Result, Ok, Err, codes, ⊤, ◌⊎◌}
+use Rattle.s2_mode.specs.Shape.{IsShape, Shape, shape_of}
+use Rattle.s2_tool.specs.declared.exit.Exit.{Exit}
+use Rattle.s2_tool.specs.declared.fault.Fault.{Fault}
+use Rattle.s2_tool.specs.declared.fault.Fault.TheVariants as faults
+use Rattle.s2_tool.specs.declared.request.Request.{Request}
+use Rattle.s2_tool.specs.declared.request.Request.TheVariants as requests
+use Rattle.s2_tool.specs.declared.request.RowsWords.{RowsWords}
+use Rattle.s2_tool.specs.declared.request.ShapeWords.{ShapeWords}
+use Rattle.s2_tool.specs.Exits.{exit_of, Runs, Complains}
+use Rattle.s2_tool.specs.Inputs.{AreInputs, IsRowFile, rows_made}
+use Rattle.s2_tool.specs.Judging.{IsJudged}
+use Rattle.s2_tool.specs.Checking.{IsAnswered}
+use Rattle.s2_tool.specs.Sending.{IsSent}
+
+abbrev pub asked_shape : ShapeWords → Shape
+asked_shape words = shape_of words.group words.groups words.q
+
+-- the made rows of the words' shape, weight and seed, where there is such a shape
+abbrev pub AreAskedRows : RowsWords → Result (List (List ℕ)) Fault → Type 0
+AreAskedRows words said =
+    (IsShape (asked_shape words.shape) × (rows_made (asked_shape words.shape) words.weight words.seed ≡ said))
+    ⊎ ((IsShape (asked_shape words.shape) → ⊥) × (said ≡ Err faults.Shape))
+
+-- what stands in files that a request names: anything, since no contract can say what a file gives
+abbrev pub Anything : {I : Type 0} → Result I Fault → Type 0
+Anything said = ⊤
+
+-- What a request's output says, by how it ended. A request that names no file prints what its words and the input determine.
+-- One that names files prints what their command says of some rows, soft values, certificate or packets; where a file cannot be
+-- opened, nothing.
+abbrev pub Serves : Request → Option (List ℕ) → Result Exit Fault → Option (List ℕ) → Option (List ℕ) → Type 0
+Serves requests.Own input ended old new = Runs IsJudged (AreInputs (shape_of 4 2 3) (Some (codes "0 4 8\n0 1 2\n")) input) ended old new
+Serves (requests.Rows words) input ended old new = Runs IsRowFile (AreAskedRows words) ended old new
+Serves (requests.Judge words) input ended old new = Runs IsJudged Anything ended old new
+Serves (requests.Check words) input ended old new = Runs IsAnswered Anything ended old new
+Serves (requests.Mod words) input ended old new = Runs IsSent Anything ended old new
+Serves (requests.Noise words) input ended old new = new ≡ old
+
+-- what stands in the output and in the errors of a console, where that is known, and how many calls of the errors have failed
+pub record Screen : Type 0 where
+  pub output : Option (List ℕ)
+  pub errors : Option (List ℕ)
+  pub errors_failed : ℕ
+
+-- a request was served with this exit: how it ended decides the exit, the output and the errors
+pub record Served (request : Request) (input : Option (List ℕ)) (exit : Exit) (old new : Screen) : Type 0 where
+  pub ended : Result Exit Fault
+  pub exit_is : exit ≡ exit_of ended
+  pub prints : Serves request input ended old.output new.output
+  pub complains : Complains ended old.errors_failed new.errors_failed old.errors new.errors
+
+-- A command was begun and ended so, or it could not be begun and did nothing.
+abbrev pub Began : Request → Option (List ℕ) → Result Exit Fault → Screen → Screen → Type 0
+Began request input (Ok exit) old new = Served request input exit old new
+Began request input (Err f) old new = Serves request input (Err f) old.output old.output × (new ≡ old)
+
+-- a request was served, or there was none and the output is as it was
+abbrev pub SomeServed : Option (List ℕ) → Exit → Screen → Screen → Type 0
+SomeServed input exit old new = (new.output ≡ old.output) ⊎ ((request : Request) × Served request input exit old new)
