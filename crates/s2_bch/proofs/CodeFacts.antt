@@ -8,10 +8,10 @@ use Rattle.s2_field.specs.Gf14 as gf14
 use Rattle.s2_mode.specs.Mode.{Mode, IsMode, t_of}
 use Rattle.s2_bch.specs.Values.{HasRoots, AllPowersDiffer}
 use Rattle.s2_bch.proofs.ValueFacts.{differ-of-order, far-apart, close_same, multiple-root}
-use Rattle.s2_bch.specs.Words.{IsMultiple, distance, weight}
-use Rattle.s2_bits.specs.Bits.{xor}
+use Rattle.s2_bch.specs.Words.{IsMultiple, distance}
+use Rattle.s2_bits.specs.Bits.{number, xor}
 use Rattle.s2_bch.specs.Codes.{IsBchWord}
-use Rattle.s2_bch.proofs.FilterTheory.{zero-mul}
+use Rattle.s2_bch.proofs.LocatorTheory.{zero-mul}
 use Rattle.s2_bch.specs.Generators.{generator_of}
 use Rattle.s2_bch.proofs.GeneratorFacts.{most_normal, most_short, normal_generator, short_generator}
 
@@ -86,10 +86,10 @@ close_of m true e is u v hu hv near =
 pub words_same : (m : Mode) → IsMode m → (u v : List Bool) → IsBchWord m u → IsBchWord m v → distance u v ≤ t_of m + t_of m → u ≡ v
 words_same m is u v hu hv near = close_of m m.short refl is u v hu hv near
 
-self-weight : (x : Bool) → weight (xor x x) ≡ 0
-self-weight true = refl
-self-weight false = refl
+self-number : (x : Bool) → number (xor x x) ≡ 0
+self-number true = refl
+self-number false = refl
 
 pub distance_self : (u : List Bool) → distance u u ≡ 0
 distance_self [] = refl
-distance_self (x ∷ u) = ap₂ (λ a b. a + b) (self-weight x) (distance_self u)
+distance_self (x ∷ u) = ap₂ (λ a b. a + b) (self-number x) (distance_self u)

@@ -5,10 +5,10 @@ use Rattle.std.proofs.Math.Nat.{pow-suc, add-mul, mul_assoc, mul_comm}
 use Rattle.std.proofs.lemmas.Nat.{xor_block}
 use lib.Bits.{xor_assoc, xor_zero_l, xor_zero_r, xor_shifted}
 use lib.Pow.{pow_pos, pow_mono, pow-add, shl_lt, shl-shr, low as low_part}
-use Rattle.s2_bits.specs.Bits.{xor}
+use Rattle.s2_bits.specs.Bits.{xor, added}
 use Rattle.s2_field.specs.Binary.{times_x, times_x-xor, times_x-zero, times_x-small}
-use Rattle.s2_bch.specs.Words.{times_bit, add_front, register_step, register_after}
-use Rattle.s2_bch.proofs.WordFacts.{length-times_bit, length-add_front, length-step}
+use Rattle.s2_bch.specs.Words.{times_bit, register_step, register_after}
+use Rattle.s2_bch.proofs.WordFacts.{length-times_bit, length-added, length-step}
 use Rattle.s2_bch.specs.Division.{bit, number_of, steps}
 
 pub no_steps : (m low v : ℕ) → steps m low 0 v ≡ v
@@ -34,13 +34,13 @@ bit-xor false true = refl
 bit-xor false false = refl
 
 -- the sum of two lists of one length is the sum of their numbers
-pub number_of-sum : (u v : List Bool) → length u ≡ length v → number_of (add_front u v) ≡ bit_xor (number_of u) (number_of v)
+pub number_of-sum : (u v : List Bool) → length u ≡ length v → number_of (added u v) ≡ bit_xor (number_of u) (number_of v)
 number_of-sum [] [] e = refl
 number_of-sum [] (c ∷ v) e = absurd (omega arith)
 number_of-sum (b ∷ u) [] e = absurd (omega arith)
 number_of-sum (b ∷ u) (c ∷ v) e =
     let same : length u ≡ length v = omega arith in
-    ap₂ (λ k s. bit (xor b c) * 2 ^ k + s) (length-add_front u v) (number_of-sum u v same)
+    ap₂ (λ k s. bit (xor b c) * 2 ^ k + s) (length-added u v) (number_of-sum u v same)
     ∙ ap (λ d. d * 2 ^ length v + bit_xor (number_of u) (number_of v)) (sym (bit-xor b c))
     ∙ sym (ap (λ k. bit_xor (bit b * 2 ^ k + number_of u) (bit c * 2 ^ length v + number_of v)) same
     ∙ xor_block (length v) (bit b) (bit c) (number_of u) (number_of v)

@@ -5,10 +5,10 @@ use Rattle.s2_field.specs.Laws.{FieldLaws}
 use Rattle.s2_field.specs.Polynomials as P
 use Rattle.s2_bch.specs.Sequences as S
 use Rattle.s2_bch.specs.Flips as flips
-use Rattle.s2_bch.proofs.FilterTheory.{Each, AllDiffer, dot-same, monic-length, degree-least, elements-are-roots, roots-are-elements}
-use Rattle.s2_bits.specs.Bits.{xor}
-use Rattle.s2_bch.specs.Words.{distance, add_front, IsMultiple}
-use Rattle.s2_bch.proofs.WordFacts.{length-add_front}
+use Rattle.s2_bch.proofs.LocatorTheory.{Each, AllDiffer, dot-same, monic-length, degree-least, elements-are-roots, roots-are-elements}
+use Rattle.s2_bits.specs.Bits.{xor, added}
+use Rattle.s2_bch.specs.Words.{distance, IsMultiple}
+use Rattle.s2_bch.proofs.WordFacts.{length-added}
 use Rattle.s2_bch.proofs.ValueFacts.{value, value-sum, multiple-root, locators, locators-differ, locators-nonzero, locators-apart, value-power_sum, length-locators, PowersDiffer}
 
 module _ {F : Type 0} (nil one : F) (add mul : F → F → F) (inv : F → F) (L : FieldLaws nil one add mul inv) where
@@ -39,11 +39,11 @@ module _ {F : Type 0} (nil one : F) (add mul : F → F → F) (inv : F → F) (L
     least = λ e g m k. H.least e g m (λ i hi.
         dot-same nil one add mul inv L g _ _ (λ j hj. h (i + j) (omega (arith, monic-length nil one add mul inv L e g m)))
         ∙ k i hi);
-    spare_zero = λ i hi.
-        dot-same nil one add mul inv L b _ _ (λ j hj. sym (h (i + j) (omega (arith, H.spare_length)))) ∙ H.spare_zero i hi;
-    spare_top = λ i hi.
-        dot-same nil one add mul inv L b _ _ (λ j hj. sym (h (i + j) (omega (arith, H.spare_length)))) ∙ H.spare_top i hi;
-    spare_length = H.spare_length;
+    auxiliary_zero = λ i hi.
+        dot-same nil one add mul inv L b _ _ (λ j hj. sym (h (i + j) (omega (arith, H.auxiliary_length)))) ∙ H.auxiliary_zero i hi;
+    auxiliary_top = λ i hi.
+        dot-same nil one add mul inv L b _ _ (λ j hj. sym (h (i + j) (omega (arith, H.auxiliary_length)))) ∙ H.auxiliary_top i hi;
+    auxiliary_length = H.auxiliary_length;
     nonzero = H.nonzero;
   }
 
@@ -65,9 +65,9 @@ module _ {F : Type 0} (nil one : F) (add mul : F → F → F) (inv : F → F) (L
 
   module _ (a : F) (bound : ℕ) (p : PowersDiffer nil one add mul inv L a bound) (f : List F) where
     -- the flipped places are where the words differ
-    flipped : (pre r v w : List Bool) → length r ≡ length v → length (pre ++ add_front r v) ≤ bound
-        → Each (λ x. evaluate f x ≡ nil) (places a (pre ++ add_front r v))
-        → ((z : F) → evaluate f z ≡ nil → Each (λ x. x ≢ z) (places a (pre ++ add_front r v)) → ⊥)
+    flipped : (pre r v w : List Bool) → length r ≡ length v → length (pre ++ added r v) ≤ bound
+        → Each (λ x. evaluate f x ≡ nil) (places a (pre ++ added r v))
+        → ((z : F) → evaluate f z ≡ nil → Each (λ x. x ≢ z) (places a (pre ++ added r v)) → ⊥)
         → flips.FlipsRoots nil one add mul a f r w → w ≡ v
     flipped pre [] [] [] e h roots others k = refl
     flipped pre [] [] (x ∷ w) e h roots others k = absurd k
@@ -75,9 +75,9 @@ module _ {F : Type 0} (nil one : F) (add mul : F → F → F) (inv : F → F) (L
     flipped pre (b ∷ r) [] w e h roots others k = absurd (omega arith)
     flipped pre (b ∷ r) (c ∷ v) [] e h roots others k = absurd k
     flipped pre (b ∷ r) (c ∷ v) (x ∷ w) e h roots others k =
-        let moved : pre ++ xor b c ∷ add_front r v ≡ (pre ++ xor b c ∷ []) ++ add_front r v =
-        sym (append_assoc pre (xor b c ∷ []) (add_front r v)) in
-        let same : length (add_front r v) ≡ length r = omega (arith, length-add_front r v) in
+        let moved : pre ++ xor b c ∷ added r v ≡ (pre ++ xor b c ∷ []) ++ added r v =
+        sym (append_assoc pre (xor b c ∷ []) (added r v)) in
+        let same : length (added r v) ≡ length r = omega (arith, length-added r v) in
         ap₂ (λ y u. y ∷ u)
         (bit b c x (xor b c) refl h roots others same k.0 k.1)
         (flipped (pre ++ xor b c ∷ []) r v w (omega arith) (subst (λ u. length u ≤ bound) moved h)
@@ -91,19 +91,19 @@ module _ {F : Type 0} (nil one : F) (add mul : F → F → F) (inv : F → F) (L
         different false true e = refl
         different false false e = e
 
-        bit : (b c x y : Bool) → y ≡ xor b c → length (pre ++ y ∷ add_front r v) ≤ bound
-            → Each (λ z. evaluate f z ≡ nil) (places a (pre ++ y ∷ add_front r v))
-            → ((z : F) → evaluate f z ≡ nil → Each (λ x. x ≢ z) (places a (pre ++ y ∷ add_front r v)) → ⊥)
-            → length (add_front r v) ≡ length r
+        bit : (b c x y : Bool) → y ≡ xor b c → length (pre ++ y ∷ added r v) ≤ bound
+            → Each (λ z. evaluate f z ≡ nil) (places a (pre ++ y ∷ added r v))
+            → ((z : F) → evaluate f z ≡ nil → Each (λ x. x ≢ z) (places a (pre ++ y ∷ added r v)) → ⊥)
+            → length (added r v) ≡ length r
             → (evaluate f (power a (length r)) ≡ nil → x ≡ xor true b)
             → (evaluate f (power a (length r)) ≢ nil → x ≡ b) → x ≡ c
         bit b c x true ey h roots others same at_root elsewhere =
-            at_root (subst (λ n. evaluate f (power a n) ≡ nil) same (at-one (λ z. evaluate f z ≡ nil) a pre (add_front r v) roots))
+            at_root (subst (λ n. evaluate f (power a n) ≡ nil) same (at-one (λ z. evaluate f z ≡ nil) a pre (added r v) roots))
             ∙ different b c ey
         bit b c x false ey h roots others same at_root elsewhere =
             elsewhere (λ root. others (power a (length r)) root
-            (subst (λ n. Each (λ z. z ≢ power a n) (places a (pre ++ false ∷ add_front r v))) same
-            (at-zero a bound p pre (add_front r v) h)))
+            (subst (λ n. Each (λ z. z ≢ power a n) (places a (pre ++ false ∷ added r v))) same
+            (at-zero a bound p pre (added r v) h)))
             ∙ equal b c ey
           where
             equal : (b c : Bool) → false ≡ xor b c → b ≡ c
@@ -120,9 +120,9 @@ module _ {F : Type 0} (nil one : F) (add mul : F → F → F) (inv : F → F) (L
       → S.Shortest nil one add mul (t + t) d f b delta (S.sequence_of nil S')
       → flips.FlipsRoots nil one add mul a f r w → w ≡ v
   decoded a bound t d g r v w S' f b delta na p hg roots mv e h near syndromes H k =
-      let error : List Bool = add_front r v in
+      let error : List Bool = added r v in
       let xs : List F = places a error in
-      let le : length error ≡ length v = length-add_front r v in
+      let le : length error ≡ length v = length-added r v in
       let H' : S.Shortest nil one add mul (t + t) d f b delta (S.power_sum nil one add mul xs (λ x. x)) =
       shortest-along (t + t) d f b delta _ _
       (λ j hj.
@@ -140,7 +140,7 @@ module _ {F : Type 0} (nil one : F) (add mul : F → F → F) (inv : F → F) (L
       (roots-are-elements nil one add mul inv L (t + t) d f b delta xs (λ x. x) H' few apart present)
       k
 
-  -- a filter for a word within t places has degree t at most
+  -- a locator for a word within t places has degree t at most
   pub degree_few : (a : F) (bound t d : ℕ) (g r v : List Bool) (S' f b : List F) (delta : F)
       → a ≢ nil → PowersDiffer nil one add mul inv L a bound → 0 < length g
       → ((j : ℕ) → j < t + t → value nil one add mul inv L g (power a (suc j)) ≡ nil)
@@ -148,9 +148,9 @@ module _ {F : Type 0} (nil one : F) (add mul : F → F → F) (inv : F → F) (L
       → ((j : ℕ) → j < t + t → get_or S' j nil ≡ value nil one add mul inv L r (power a (suc j)))
       → S.Shortest nil one add mul (t + t) d f b delta (S.sequence_of nil S') → d ≤ t
   degree_few a bound t d g r v S' f b delta na p hg roots mv e h near syndromes H =
-      let error : List Bool = add_front r v in
+      let error : List Bool = added r v in
       let xs : List F = places a error in
-      let le : length error ≡ length v = length-add_front r v in
+      let le : length error ≡ length v = length-added r v in
       let H' : S.Shortest nil one add mul (t + t) d f b delta (S.power_sum nil one add mul xs (λ x. x)) =
       shortest-along (t + t) d f b delta _ _
       (λ j hj.

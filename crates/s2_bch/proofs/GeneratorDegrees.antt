@@ -2,7 +2,8 @@
 use Rattle.std.proofs.Common.{◌≡◌, ℕ, zero, suc, ◌+◌, ◌*◌, ◌/◌, ◌%◌, ◌^◌, ◌≤◌, Bool, true, false, List, [], ◌∷◌, length, take, drop, map, refl, sym, ap, ap₂, subst, ◌∙◌, arith}
 use Rattle.std.specs.Prelude.{◌==◌, ◌&&◌}
 use Rattle.s2_mode.specs.Mode.{Mode, HasCodeSizes, kbch_of, k_of, t_of}
-use Rattle.s2_bch.specs.Words.{product, add_front, times_bit}
+use Rattle.s2_bch.specs.Words.{product, times_bit}
+use Rattle.s2_bits.specs.Bits.{added}
 use Rattle.s2_bch.proofs.WordFacts.{product-front, length-product}
 use Rattle.s2_bch.specs.Generators.{bits_of, minimal_16, minimal_14, product_of_all, generator_16, generator_14, generator_of}
 
@@ -15,7 +16,7 @@ degree-product : (n k : ℕ) (f g : List Bool) → HasDegree n f → HasDegree k
 degree-product n k f g F G =
     let q = drop 1 f in
     let t = drop 1 g in
-    let is : product f g ≡ true ∷ add_front (times_bit true t) (product q (true ∷ t)) = ap₂ product F.begins G.begins ∙ product-front true q t in
+    let is : product f g ≡ true ∷ added (times_bit true t) (product q (true ∷ t)) = ap₂ product F.begins G.begins ∙ product-front true q t in
     record {
       begins = is ∙ ap (λ w. true ∷ w) (sym (ap (drop 1) is));
       size = length-product f g ∙ omega (arith, F.size, G.size);

@@ -4,7 +4,7 @@ use Rattle.std.proofs.Common.{sym, ◌∙◌, ap, ap₂}
 use Rattle.s2_field.specs.Laws.{FieldLaws}
 use Rattle.s2_field.specs.Polynomials.{pow}
 use Rattle.s2_bch.specs.Values.{value_at, HasRoots}
-use Rattle.s2_bch.proofs.FilterTheory.{zero-mul, zero-add as nil-add, add-mul}
+use Rattle.s2_bch.proofs.LocatorTheory.{zero-mul, zero-add as nil-add, add-mul}
 
 module _ {F : Type 0} (nil one : F) (add mul : F → F → F) where
   -- the value with b as the next coefficient

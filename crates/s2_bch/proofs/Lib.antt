@@ -1,13 +1,13 @@
 pub mod WordFacts
 mod DivisionFacts
-mod FilterTheory
+mod LocatorTheory
 mod Horner
 mod ValueFacts
 mod Flipping
 mod Tails
 mod RegisterFacts
 mod MessageFacts
-mod Filters
+mod Locators
 mod TermLemmas
 mod Places
 mod Shortest

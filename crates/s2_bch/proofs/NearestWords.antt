@@ -5,9 +5,9 @@ use Rattle.std.proofs.Common.{sym, ◌∙◌, ap, subst, arith, cond}
 use Rattle.std.proofs.lemmas.Bool.{leb-true, le-leb, true≢false}
 use Rattle.std.proofs.lemmas.List.{length-map, get_or-map}
 use Rattle.std.proofs.lemmas.List.Elements.{All-nil, All-cons, All-head, All-tail, All-append, All-map, All-weaker, All-contains, Contains-append_left, Contains-append_right}
-use Rattle.s2_bits.specs.Bits.{xor, differences}
+use Rattle.s2_bits.specs.Bits.{xor, differences, number}
 use Rattle.s2_mode.specs.Mode.{Mode, IsMode, HasCodeSizes, kbch_of, k_of, t_of}
-use Rattle.s2_bch.specs.Words.{product, distance, weight}
+use Rattle.s2_bch.specs.Words.{product, distance}
 use Rattle.s2_bch.specs.Codes.{IsBchWord, IsWithin}
 use Rattle.s2_bch.specs.Generators.{generator_of}
 use Rattle.s2_bch.specs.Decoding.{all_lists, all_words, nearest}
@@ -93,7 +93,7 @@ module _ (m : Mode) (is : IsMode m) (sizes : HasCodeSizes m) where
 
 -- ---- the nearest word
 
-bit-triangle : (a b c : Bool) → weight (xor b c) ≤ weight (xor a b) + weight (xor a c)
+bit-triangle : (a b c : Bool) → number (xor b c) ≤ number (xor a b) + number (xor a c)
 bit-triangle true true true = omega arith
 bit-triangle true true false = omega arith
 bit-triangle true false true = omega arith

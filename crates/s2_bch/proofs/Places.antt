@@ -4,11 +4,11 @@ use Rattle.std.proofs.Common.{sym, ◌∙◌, ap, subst, arith, get_or, get_or-s
 use Rattle.std.proofs.Math.Nat.{mul-le-mul_left, mod-lt, mod-eq_of_lt, mul-add-mod_self_left, mod-add-div, div-lt_iff_lt-mul}
 use Rattle.std.proofs.lemmas.List.{length-set}
 use Rattle.std.proofs.lemmas.Bool.{cases_lt}
-use Rattle.s2_bits.specs.Bits.{xor}
+use Rattle.s2_bits.specs.Bits.{xor, number}
 use Rattle.s2_field.specs.Polynomials as P
 use Rattle.s2_bch.specs.Flips as flips
 use Rattle.s2_bch.specs.Flips.{bit_from_end}
-use Rattle.s2_bch.specs.Words.{distance, weight}
+use Rattle.s2_bch.specs.Words.{distance}
 use Rattle.s2_bch.proofs.CodeFacts.{distance_self}
 
 -- of a word of n bits
@@ -44,18 +44,18 @@ module _ {F : Type 0} (nil one : F) (add mul : F → F → F) (a : F) (f : List 
         flips_everywhere w u (omega arith) (λ e h. behind_one b c w u e h (right e (omega arith))),
       )
 
-turned-weight : (x y : Bool) → y ≡ x → weight (xor x (not y)) ≡ weight (xor x y) + 1
-turned-weight true true e = refl
-turned-weight false false e = refl
-turned-weight true false e = absurd (cc)
-turned-weight false true e = absurd (cc)
+turned-number : (x y : Bool) → y ≡ x → number (xor x (not y)) ≡ number (xor x y) + 1
+turned-number true true e = refl
+turned-number false false e = refl
+turned-number true false e = absurd (cc)
+turned-number false true e = absurd (cc)
 
 -- a place more in which two words differ
 pub distance_turned : (o now : List Bool) (p : ℕ) → length o ≡ length now → p < length now → get_or now p false ≡ get_or o p false
     → distance o (set now p (not (get_or now p false))) ≡ distance o now + 1
 distance_turned [] now p size h same = absurd (omega arith)
 distance_turned (x ∷ o) [] p size h same = absurd (omega arith)
-distance_turned (x ∷ o) (y ∷ now) zero size h same = let w = turned-weight x y same in omega (arith, w)
+distance_turned (x ∷ o) (y ∷ now) zero size h same = let w = turned-number x y same in omega (arith, w)
 distance_turned (x ∷ o) (y ∷ now) (suc p) size h same =
     let rest : distance o (set now p (not (get_or now p false))) ≡ distance o now + 1 = distance_turned o now p (omega arith) (omega arith) same in
     omega (arith, rest)
@@ -147,15 +147,15 @@ module _ {F : Type 0} (nil : F) (values : List F) (stride step : ℕ) (old : Lis
               omega (arith, turned, before);
         }
 
-weight-most : (b : Bool) → weight b ≤ 1
-weight-most true = omega arith
-weight-most false = omega arith
+number-most : (b : Bool) → number b ≤ 1
+number-most true = omega arith
+number-most false = omega arith
 
 pub distance_most : (u v : List Bool) → distance u v ≤ length u
 distance_most [] v = omega arith
 distance_most (b ∷ u) [] = omega arith
 distance_most (b ∷ u) (c ∷ v) =
-    let first = weight-most (xor b c) in
+    let first = number-most (xor b c) in
     let rest = distance_most u v in
     omega (arith, first, rest)
 

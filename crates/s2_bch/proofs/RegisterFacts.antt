@@ -6,8 +6,8 @@ use Rattle.std.proofs.lemmas.Nat.{xor_block, xor_comm}
 use lib.Pow.{pow-add, shl_lt}
 use lib.Bits.{xor_zero_r}
 use Rattle.s2_field.specs.Binary.{times_x}
-use Rattle.s2_bch.specs.Words.{add_front}
-use Rattle.s2_bch.proofs.WordFacts.{length-add_front}
+use Rattle.s2_bits.specs.Bits.{added}
+use Rattle.s2_bch.proofs.WordFacts.{length-added}
 use Rattle.s2_bch.specs.Division.{bit, number_of, steps}
 use Rattle.s2_bch.proofs.DivisionFacts.{number_of-below, number_of-sum, xor-scale, steps-at_once}
 use Rattle.s2_bch.specs.declared.register.Register.{Register}
@@ -136,9 +136,9 @@ zeros-number zero = refl
 zeros-number (suc n) = omega (arith, zeros-number n)
 
 pub holds_sum : (r s v : Register) (u w : List Bool) → length u ≡ length w → Holds r u → Holds s w
-    → value_of v ≡ bit_xor (value_of r) (value_of s) → Holds v (add_front u w)
+    → value_of v ≡ bit_xor (value_of r) (value_of s) → Holds v (added u w)
 holds_sum r s v u w e hr hs is =
-    let long : length (add_front u w) ≡ length w = length-add_front u w in
+    let long : length (added u w) ≡ length w = length-added u w in
     record {
       fits = omega (arith, long, hs.fits);
       value = is

@@ -5,11 +5,11 @@ use Rattle.std.proofs.lemmas.List.{take-append-drop}
 use Rattle.std.proofs.lemmas.Bool.{cases_lt}
 use lib.Pow.{pow_pos}
 use Rattle.s2_field.specs.Laws.{FieldLaws}
-use Rattle.s2_bits.specs.Bits.{xor}
-use Rattle.s2_bch.specs.Words.{IsMultiple, distance, add_front}
-use Rattle.s2_bch.proofs.WordFacts.{encoded-is-word, word-unique, length-add_front}
+use Rattle.s2_bits.specs.Bits.{xor, added}
+use Rattle.s2_bch.specs.Words.{IsMultiple, distance}
+use Rattle.s2_bch.proofs.WordFacts.{encoded-is-word, word-unique, length-added}
 use Rattle.s2_bch.specs.Division.{number_of}
-use Rattle.s2_bch.proofs.FilterTheory.{zero-add as nil-add}
+use Rattle.s2_bch.proofs.LocatorTheory.{zero-add as nil-add}
 use Rattle.s2_bch.proofs.ValueFacts.{value, value-sum, multiple-root}
 use Rattle.s2_bch.specs.Values.{HasRoots, HaveSameValues}
 use Rattle.s2_bch.specs.declared.register.Register.{Register}
@@ -18,24 +18,24 @@ use Rattle.s2_bch.proofs.MessageFacts.{divided, length-divided}
 use Rattle.s2_bch.proofs.RegisterFacts.{zeros-number}
 
 -- a sum of number zero is of equal words
-sum-zero : (u w : List Bool) → length u ≡ length w → number_of (add_front u w) ≡ 0 → u ≡ w
+sum-zero : (u w : List Bool) → length u ≡ length w → number_of (added u w) ≡ 0 → u ≡ w
 sum-zero [] [] e h = refl
 sum-zero [] (c ∷ w) e h = absurd (omega arith)
 sum-zero (b ∷ u) [] e h = absurd (omega arith)
 sum-zero (true ∷ u) (true ∷ w) e h = ap (λ x. true ∷ x) (sum-zero u w (omega arith) (omega arith))
-sum-zero (true ∷ u) (false ∷ w) e h = absurd (let p : 0 < 2 ^ length (add_front u w) = pow_pos (length (add_front u w)) in omega arith)
-sum-zero (false ∷ u) (true ∷ w) e h = absurd (let p : 0 < 2 ^ length (add_front u w) = pow_pos (length (add_front u w)) in omega arith)
+sum-zero (true ∷ u) (false ∷ w) e h = absurd (let p : 0 < 2 ^ length (added u w) = pow_pos (length (added u w)) in omega arith)
+sum-zero (false ∷ u) (true ∷ w) e h = absurd (let p : 0 < 2 ^ length (added u w) = pow_pos (length (added u w)) in omega arith)
 sum-zero (false ∷ u) (false ∷ w) e h = ap (λ x. false ∷ x) (sum-zero u w (omega arith) (omega arith))
 
 same-bit : (b : Bool) → xor b b ≡ false
 same-bit true = refl
 same-bit false = refl
 
-sum-self : (u : List Bool) → add_front u u ≡ replicate (length u) false
+sum-self : (u : List Bool) → added u u ≡ replicate (length u) false
 sum-self [] = refl
 sum-self (b ∷ u) = ap₂ (λ x y. x ∷ y) (same-bit b) (sum-self u)
 
-sum-front : (u r p : List Bool) → add_front (u ++ r) (u ++ p) ≡ replicate (length u) false ++ add_front r p
+sum-front : (u r p : List Bool) → added (u ++ r) (u ++ p) ≡ replicate (length u) false ++ added r p
 sum-front [] r p = refl
 sum-front (b ∷ u) r p = ap₂ (λ x y. x ∷ y) (same-bit b) (sum-front u r p)
 
@@ -51,7 +51,7 @@ module _ (t : List Bool) (k : ℕ) (w : List Bool) (size : length w ≡ k + leng
   same-size = omega (arith, length-divided t (take k w), length-drop k w)
 
   pub length-rest : length (rest_of t k w) ≡ length t
-  length-rest = omega (arith, length-add_front (divided t (take k w)) (drop k w), length-drop k w)
+  length-rest = omega (arith, length-added (divided t (take k w)) (drop k w), length-drop k w)
 
   -- where nothing is left, the word is a multiple
   pub zero_rest : (r : Register) → Holds r (rest_of t k w) → value_of r ≡ 0 → IsMultiple (true ∷ t) w
@@ -70,7 +70,7 @@ module _ (t : List Bool) (k : ℕ) (w : List Bool) (size : length w ≡ k + leng
       let back : divided t (take k w) ≡ drop k w =
       sym (drop-front (take k w) (divided t (take k w))) ∙ ap₂ drop length-front front in
       let none : number_of (rest_of t k w) ≡ 0 =
-      ap (λ u. number_of (add_front u (drop k w))) back ∙ ap number_of (sum-self (drop k w)) ∙ zeros-number (length (drop k w)) in
+      ap (λ u. number_of (added u (drop k w))) back ∙ ap number_of (sum-self (drop k w)) ∙ zeros-number (length (drop k w)) in
       let p : ℕ = 2 ^ (192 - length (rest_of t k w)) in
       let nothing : 0 * p ≡ 0 = omega arith in
       h.value ∙ ap (λ n. n * p) none ∙ nothing
@@ -91,8 +91,8 @@ module _ (t : List Bool) (k : ℕ) (w : List Bool) (size : length w ≡ k + leng
         let u : List Bool = take k w ++ divided t (take k w) in
         let lu : length u ≡ length w = omega (arith, (encoded-is-word t (take k w)).size, length-front) in
         let some : 0 < length (true ∷ t) = omega arith in
-        let joined : add_front u w ≡ replicate (length (take k w)) false ++ rest_of t k w =
-        ap (add_front u) (sym (take-append-drop k w)) ∙ sum-front (take k w) (divided t (take k w)) (drop k w) in
+        let joined : added u w ≡ replicate (length (take k w)) false ++ rest_of t k w =
+        ap (added u) (sym (take-append-drop k w)) ∙ sum-front (take k w) (divided t (take k w)) (drop k w) in
         sym (value-zeros (length (take k w)) (rest_of t k w) x)
         ∙ sym (ap (λ v. value nil one add mul inv L v x) joined)
         ∙ value-sum nil one add mul inv L u w x lu

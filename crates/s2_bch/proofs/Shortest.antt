@@ -1,16 +1,16 @@
--- The steps of the loop that finds the shortest filter, over plain variables.
+-- The steps of the loop that finds the shortest locator, over plain variables.
 use Rattle.std.specs.Prelude.{ℕ, suc, ◌≡◌, ◌≢◌, ◌+◌, ◌-◌, ◌<◌, ◌≤◌, refl, List, [], ◌∷◌, length, take, set}
 use Rattle.std.proofs.Common.{sym, ◌∙◌, ap, ap₂, arith, subst, add-one}
 use Rattle.s2_field.specs.Laws.{FieldLaws}
 use Rattle.s2_bch.specs.Sequences as S
-use Rattle.s2_bch.proofs.FilterTheory.{shortest-start, shortest-same, shortest-mend, shortest-grow}
+use Rattle.s2_bch.proofs.LocatorTheory.{shortest-start, shortest-same, shortest-mend, shortest-grow}
 
 module _ {F : Type 0} (nil one : F) (add mul : F → F → F) (inv : F → F) (L : FieldLaws nil one add mul inv) where
   abbrev Is : ℕ → ℕ → List F → List F → F → (ℕ → F) → Type 0
   Is = S.Shortest nil one add mul
 
   abbrev at : List F → (ℕ → F) → ℕ → F
-  at = S.filtered nil one add mul
+  at = S.discrepancies nil one add mul
 
   -- along equations
   pub moved : (n n' d d' : ℕ) (f f' b b' : List F) (delta delta' : F) (s : ℕ → F) → n ≡ n' → d ≡ d' → f ≡ f' → b ≡ b' → delta ≡ delta'
@@ -26,32 +26,32 @@ module _ {F : Type 0} (nil one : F) (add mul : F → F → F) (inv : F → F) (L
   start f b delta s e h x = moved 0 0 0 0 (one ∷ []) f [] b one delta s refl refl (sym e) (sym h) (sym x) (shortest-start nil one add mul inv L s)
 
   pub same_step : (n d : ℕ) (f b : List F) (delta wrong : F) (s : ℕ → F) → S.Shortest nil one add mul n d f b delta s
-      → wrong ≡ S.filtered nil one add mul f s (n - d) → wrong ≡ nil → S.Shortest nil one add mul (n + 1) d f b delta s
+      → wrong ≡ S.discrepancies nil one add mul f s (n - d) → wrong ≡ nil → S.Shortest nil one add mul (n + 1) d f b delta s
   same_step n d f b delta wrong s h e z =
       moved (suc n) (n + 1) d d f f b b delta delta s (sym (add-one n)) refl refl refl refl
       (shortest-same nil one add mul inv L n d f b delta s h (sym e ∙ z))
 
   pub mend_step : (n d l : ℕ) (f b g : List F) (delta wrong a : F) (s : ℕ → F) → S.Shortest nil one add mul n d f b delta s
-      → n < d + d → wrong ≡ S.filtered nil one add mul f s (n - d) → a ≡ mul wrong (inv delta) → l ≡ d + d - suc n
+      → n < d + d → wrong ≡ S.discrepancies nil one add mul f s (n - d) → a ≡ mul wrong (inv delta) → l ≡ d + d - suc n
       → g ≡ S.plus nil one add mul (S.shift nil one add mul 0 f) (S.scale nil one add mul a (S.shift nil one add mul l b))
       → S.Shortest nil one add mul (n + 1) d g b delta s
   mend_step n d l f b g delta wrong a s h big e ea el eg =
       moved (suc n) (n + 1) d d
-      (S.plus nil one add mul f (S.scale nil one add mul (mul (S.filtered nil one add mul f s (n - d)) (inv delta)) (S.shift nil one add mul (d + d - suc n) b)))
+      (S.plus nil one add mul f (S.scale nil one add mul (mul (S.discrepancies nil one add mul f s (n - d)) (inv delta)) (S.shift nil one add mul (d + d - suc n) b)))
       g b b delta delta s (sym (add-one n)) refl
       (sym (eg ∙ ap₂ (λ x k. S.plus nil one add mul f (S.scale nil one add mul x (S.shift nil one add mul k b)))
       (ea ∙ ap (λ x. mul x (inv delta)) e) el))
       refl refl (shortest-mend nil one add mul inv L n d f b delta s h big)
 
   pub grow_step : (n d k e : ℕ) (f b g h : List F) (delta wrong a : F) (s : ℕ → F) → S.Shortest nil one add mul n d f b delta s
-      → d + d ≤ n → wrong ≡ S.filtered nil one add mul f s (n - d) → wrong ≢ nil → a ≡ mul wrong (inv delta)
+      → d + d ≤ n → wrong ≡ S.discrepancies nil one add mul f s (n - d) → wrong ≢ nil → a ≡ mul wrong (inv delta)
       → k ≡ suc n - (d + d) → e ≡ suc n - d
       → g ≡ S.plus nil one add mul (S.shift nil one add mul k f) (S.scale nil one add mul a (S.shift nil one add mul 0 b)) → h ≡ f
       → S.Shortest nil one add mul (n + 1) e g h wrong s
   grow_step n d k e f b g h delta wrong a s H small ew nw ea ek ee eg eh =
       moved (suc n) (n + 1) (suc n - d) e
-      (S.plus nil one add mul (S.shift nil one add mul (suc n - (d + d)) f) (S.scale nil one add mul (mul (S.filtered nil one add mul f s (n - d)) (inv delta)) b))
-      g f h (S.filtered nil one add mul f s (n - d)) wrong s (sym (add-one n)) (sym ee)
+      (S.plus nil one add mul (S.shift nil one add mul (suc n - (d + d)) f) (S.scale nil one add mul (mul (S.discrepancies nil one add mul f s (n - d)) (inv delta)) b))
+      g f h (S.discrepancies nil one add mul f s (n - d)) wrong s (sym (add-one n)) (sym ee)
       (sym (eg ∙ ap₂ (λ x k. S.plus nil one add mul (S.shift nil one add mul k f) (S.scale nil one add mul x b))
       (ea ∙ ap (λ x. mul x (inv delta)) ew) ek))
       (sym eh) (sym ew)

@@ -5,7 +5,7 @@ use Rattle.std.proofs.lemmas.List.{take_more}
 use Rattle.s2_field.specs.Laws.{FieldLaws}
 use Rattle.s2_field.specs.Polynomials as P
 use Rattle.s2_bch.specs.Terms as T
-use Rattle.s2_bch.proofs.FilterTheory.{zero-add as nil-add, mul-zero}
+use Rattle.s2_bch.proofs.LocatorTheory.{zero-add as nil-add, mul-zero}
 use Rattle.s2_bch.proofs.ValueFacts.{pow-add, pow-mul, pow-one}
 
 module _ {F : Type 0} (nil one : F) (add mul : F → F → F) (inv : F → F) (L : FieldLaws nil one add mul inv) where

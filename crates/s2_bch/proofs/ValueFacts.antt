@@ -5,10 +5,10 @@ use Rattle.std.proofs.lemmas.Bool.{cases_lt}
 use Rattle.s2_field.specs.Laws.{FieldLaws}
 use Rattle.s2_bch.specs.Values as V
 use Rattle.s2_bch.specs.Values.{pick}
-use Rattle.s2_bch.proofs.FilterTheory.{Each, AllDiffer, pow, power_sum, coefficients-vanish, zero-mul, mul-zero, zero-add as nil-add, add-mul, add_swap, no_zero_divisors}
-use Rattle.s2_bits.specs.Bits.{xor}
-use Rattle.s2_bch.specs.Words.{distance, times_bit, add_front, product, IsMultiple}
-use Rattle.s2_bch.proofs.WordFacts.{length-add_front, length-times_bit, length-product}
+use Rattle.s2_bch.proofs.LocatorTheory.{Each, AllDiffer, pow, power_sum, coefficients-vanish, zero-mul, mul-zero, zero-add as nil-add, add-mul, add_swap, no_zero_divisors}
+use Rattle.s2_bits.specs.Bits.{xor, added}
+use Rattle.s2_bch.specs.Words.{distance, times_bit, product, IsMultiple}
+use Rattle.s2_bch.proofs.WordFacts.{length-added, length-times_bit, length-product}
 
 module _ {F : Type 0} (nil one : F) (add mul : F → F → F) (inv : F → F) (L : FieldLaws nil one add mul inv) where
   open L use {add_comm, add_assoc, add_zero, add_self, mul_comm, mul_assoc, mul_one, mul_add, mul_inv, one_ne_zero}
@@ -68,19 +68,19 @@ module _ {F : Type 0} (nil one : F) (add mul : F → F → F) (inv : F → F) (L
       ap (add nil) (value-times_bit false g x) ∙ add_zero nil
 
   -- g stands k places from the end
-  value-add_front : (g w : List Bool) (k : ℕ) (x : F) → length w ≡ length g + k
-      → value (add_front g w) x ≡ add (mul (value g x) (power x k)) (value w x)
-  value-add_front [] w k x e =
+  value-added : (g w : List Bool) (k : ℕ) (x : F) → length w ≡ length g + k
+      → value (added g w) x ≡ add (mul (value g x) (power x k)) (value w x)
+  value-added [] w k x e =
       sym (ap (λ v. add v (value w x)) (zero-mul nil one add mul inv L (power x k)) ∙ nil-add nil one add mul inv L (value w x))
-  value-add_front (a ∷ g) [] k x e = absurd (omega arith)
-  value-add_front (a ∷ g) (b ∷ w) k x e =
+  value-added (a ∷ g) [] k x e = absurd (omega arith)
+  value-added (a ∷ g) (b ∷ w) k x e =
       let l : length w ≡ length g + k = omega arith in
       ap₂ add
-      (ap (λ n. pick nil (xor a b) (power x n)) (length-add_front g w)
+      (ap (λ n. pick nil (xor a b) (power x n)) (length-added g w)
       ∙ pick-xor a b (power x (length w))
       ∙ ap (λ v. add v (pick nil b (power x (length w))))
       (ap (λ n. pick nil a (power x n)) l ∙ ap (pick nil a) (pow-add x (length g) k) ∙ sym (pick-mul a (power x (length g)) (power x k))))
-      (value-add_front g w k x l)
+      (value-added g w k x l)
       ∙ add_swap nil one add mul inv L _ _ _ _
       ∙ ap (λ v. add v (value (b ∷ w) x)) (sym (add-mul nil one add mul inv L (pick nil a (power x (length g))) (value g x) (power x k)))
 
@@ -89,7 +89,7 @@ module _ {F : Type 0} (nil one : F) (add mul : F → F → F) (inv : F → F) (L
   value-product [] g x h = value-zeros (length g - 1) x ∙ sym (zero-mul nil one add mul inv L (value g x))
   value-product (b ∷ q) g x h =
       let l : length (false ∷ product q g) ≡ length (times_bit b g) + length q = omega (arith, length-product q g, length-times_bit b g) in
-      value-add_front (times_bit b g) (false ∷ product q g) (length q) x l
+      value-added (times_bit b g) (false ∷ product q g) (length q) x l
       ∙ ap₂ add
       (ap (λ v. mul v (power x (length q))) (value-times_bit b g x)
       ∙ pick-mul b (value g x) (power x (length q))
@@ -153,9 +153,9 @@ module _ {F : Type 0} (nil one : F) (add mul : F → F → F) (inv : F → F) (L
 
   -- the sum of two words
   abbrev pub difference : List Bool → List Bool → List Bool
-  difference u v = add_front u v
+  difference u v = added u v
 
-  no-ones-same : (a : F) (u v : List Bool) → length u ≡ length v → locators a (add_front u v) ≡ [] → u ≡ v
+  no-ones-same : (a : F) (u v : List Bool) → length u ≡ length v → locators a (added u v) ≡ [] → u ≡ v
   no-ones-same a [] [] e h = refl
   no-ones-same a [] (c ∷ v) e h = absurd (omega arith)
   no-ones-same a (b ∷ u) [] e h = absurd (omega arith)
@@ -164,7 +164,7 @@ module _ {F : Type 0} (nil one : F) (add mul : F → F → F) (inv : F → F) (L
   no-ones-same a (false ∷ u) (true ∷ v) e h = cc
   no-ones-same a (false ∷ u) (false ∷ v) e h = ap (λ x. false ∷ x) (no-ones-same a u v (omega arith) h)
 
-  pub length-locators : (a : F) (u v : List Bool) → length u ≡ length v → length (locators a (add_front u v)) ≡ distance u v
+  pub length-locators : (a : F) (u v : List Bool) → length u ≡ length v → length (locators a (added u v)) ≡ distance u v
   length-locators a [] [] e = refl
   length-locators a [] (c ∷ v) e = absurd (omega arith)
   length-locators a (b ∷ u) [] e = absurd (omega arith)
@@ -173,10 +173,10 @@ module _ {F : Type 0} (nil one : F) (add mul : F → F → F) (inv : F → F) (L
   length-locators a (false ∷ u) (true ∷ v) e = let h = length-locators a u v (omega arith) in omega arith
   length-locators a (false ∷ u) (false ∷ v) e = let h = length-locators a u v (omega arith) in omega arith
 
-  pub value-sum : (u v : List Bool) (x : F) → length u ≡ length v → value (add_front u v) x ≡ add (value u x) (value v x)
+  pub value-sum : (u v : List Bool) (x : F) → length u ≡ length v → value (added u v) x ≡ add (value u x) (value v x)
   value-sum u v x e =
       let l : length v ≡ length u + zero = omega arith in
-      value-add_front u v zero x l ∙ ap (λ w. add w (value v x)) (mul_one (value u x))
+      value-added u v zero x l ∙ ap (λ w. add w (value v x)) (mul_one (value u x))
 
   -- the BCH bound
   pub far-apart : (a : F) (bound r : ℕ) (g u v : List Bool) → a ≢ nil → PowersDiffer a bound → 0 < length g
@@ -186,7 +186,7 @@ module _ {F : Type 0} (nil one : F) (add mul : F → F → F) (inv : F → F) (L
       elim (cases_lt r (distance u v)) [
         | inl more ↦ more
         | inr few ↦ absurd (ne (no-ones-same a u v e
-            (few-ones a bound r (add_front u v) n p (omega (arith, length-add_front u v))
+            (few-ones a bound r (added u v) n p (omega (arith, length-added u v))
             (λ j hj. value-sum u v (power a (suc j)) e
             ∙ ap₂ add (multiple-root g u (power a (suc j)) hg mu (roots j hj)) (multiple-root g v (power a (suc j)) hg mv (roots j hj))
             ∙ add_zero nil)
@@ -199,7 +199,7 @@ module _ {F : Type 0} (nil one : F) (add mul : F → F → F) (inv : F → F) (L
       → IsMultiple g u → IsMultiple g v → length u ≡ length v → length v ≤ bound → distance u v ≤ r → u ≡ v
   close_same a bound r g u v n p hg roots mu mv e h near =
       no-ones-same a u v e
-      (few-ones a bound r (add_front u v) n p (omega (arith, length-add_front u v))
+      (few-ones a bound r (added u v) n p (omega (arith, length-added u v))
       (λ j hj. value-sum u v (power a (suc j)) e
       ∙ ap₂ add (multiple-root g u (power a (suc j)) hg mu (roots j hj)) (multiple-root g v (power a (suc j)) hg mv (roots j hj))
       ∙ add_zero nil)

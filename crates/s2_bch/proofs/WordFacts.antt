@@ -2,8 +2,8 @@
 use Rattle.std.specs.Prelude.{ℕ, zero, suc, ◌≡◌, ◌+◌, ◌-◌, ◌≤◌, refl, Bool, true, false, ◌&&◌, List, [], ◌∷◌, ◌++◌, length, take, replicate}
 use Rattle.std.proofs.Common.{sym, ◌∙◌, ap, ap₂, arith, length-append}
 use Rattle.std.proofs.Math.ListN.{length-replicate}
-use Rattle.s2_bits.specs.Bits.{xor}
-use Rattle.s2_bch.specs.Words.{times_bit, add_front, product, IsWordOf, register_step, register_after}
+use Rattle.s2_bits.specs.Bits.{xor, added}
+use Rattle.s2_bch.specs.Words.{times_bit, product, IsWordOf, register_step, register_after}
 
 -- the quotient's bits, as the register makes them
 quotient : List Bool → List Bool → List Bool → List Bool
@@ -40,51 +40,51 @@ pub length-times_bit : (b : Bool) (g : List Bool) → length (times_bit b g) ≡
 length-times_bit b [] = refl
 length-times_bit b (c ∷ g) = ap suc (length-times_bit b g)
 
-pub length-add_front : (f w : List Bool) → length (add_front f w) ≡ length w
-length-add_front [] w = refl
-length-add_front (a ∷ f) [] = refl
-length-add_front (a ∷ f) (b ∷ w) = ap suc (length-add_front f w)
+pub length-added : (f w : List Bool) → length (added f w) ≡ length w
+length-added [] w = refl
+length-added (a ∷ f) [] = refl
+length-added (a ∷ f) (b ∷ w) = ap suc (length-added f w)
 
 pub length-product : (q g : List Bool) → length (product q g) ≡ length q + (length g - 1)
 length-product [] g = length-replicate (length g - 1) false ∙ omega arith
 length-product (b ∷ q) g =
-    length-add_front (times_bit b g) (false ∷ product q g) ∙ ap suc (length-product q g) ∙ omega arith
+    length-added (times_bit b g) (false ∷ product q g) ∙ ap suc (length-product q g) ∙ omega arith
 
 -- a product by a polynomial that begins with 1 begins with the first factor's first bit
-pub product-front : (b : Bool) (q t : List Bool) → product (b ∷ q) (true ∷ t) ≡ b ∷ add_front (times_bit b t) (product q (true ∷ t))
+pub product-front : (b : Bool) (q t : List Bool) → product (b ∷ q) (true ∷ t) ≡ b ∷ added (times_bit b t) (product q (true ∷ t))
 product-front b q t =
-    ap (λ x. x ∷ add_front (times_bit b t) (product q (true ∷ t))) (xor-false (b && true) ∙ and-true b)
+    ap (λ x. x ∷ added (times_bit b t) (product q (true ∷ t))) (xor-false (b && true) ∙ and-true b)
 
-add_front-more : (r w : List Bool) → add_front (r ++ false ∷ []) w ≡ add_front r w
-add_front-more [] [] = refl
-add_front-more [] (b ∷ w) = refl
-add_front-more (a ∷ r) [] = refl
-add_front-more (a ∷ r) (b ∷ w) = ap (λ x. xor a b ∷ x) (add_front-more r w)
+added-more : (r w : List Bool) → added (r ++ false ∷ []) w ≡ added r w
+added-more [] [] = refl
+added-more [] (b ∷ w) = refl
+added-more (a ∷ r) [] = refl
+added-more (a ∷ r) (b ∷ w) = ap (λ x. xor a b ∷ x) (added-more r w)
 
-add_front-twice : (t r w : List Bool) → length t ≤ length r → add_front t (add_front (add_front t r) w) ≡ add_front r w
-add_front-twice [] r w h = refl
-add_front-twice (a ∷ t) [] w h = absurd (omega arith)
-add_front-twice (a ∷ t) (b ∷ r) [] h = refl
-add_front-twice (a ∷ t) (b ∷ r) (c ∷ w) h =
-    ap₂ (λ x y. x ∷ y) (flip_twice a b c) (add_front-twice t r w (omega arith))
+added-twice : (t r w : List Bool) → length t ≤ length r → added t (added (added t r) w) ≡ added r w
+added-twice [] r w h = refl
+added-twice (a ∷ t) [] w h = absurd (omega arith)
+added-twice (a ∷ t) (b ∷ r) [] h = refl
+added-twice (a ∷ t) (b ∷ r) (c ∷ w) h =
+    ap₂ (λ x y. x ∷ y) (flip_twice a b c) (added-twice t r w (omega arith))
 
-add_front_self : (r : List Bool) → add_front r r ≡ replicate (length r) false
+add_front_self : (r : List Bool) → added r r ≡ replicate (length r) false
 add_front_self [] = refl
 add_front_self (a ∷ r) = ap₂ (λ x y. x ∷ y) (flip_self a) (add_front_self r)
 
-add_front-zeros : (n : ℕ) (w : List Bool) → add_front (replicate n false) w ≡ w
-add_front-zeros zero w = refl
-add_front-zeros (suc n) [] = refl
-add_front-zeros (suc n) (b ∷ w) = ap (λ x. b ∷ x) (add_front-zeros n w)
+added-zeros : (n : ℕ) (w : List Bool) → added (replicate n false) w ≡ w
+added-zeros zero w = refl
+added-zeros (suc n) [] = refl
+added-zeros (suc n) (b ∷ w) = ap (λ x. b ∷ x) (added-zeros n w)
 
 pub length-step : (t r : List Bool) (b : Bool) → length (register_step t r b) ≡ length r
 length-step t [] b = refl
 length-step t (h ∷ r) b =
-    length-add_front (times_bit (xor h b) t) (r ++ false ∷ []) ∙ omega (arith, length-append r (false ∷ []))
+    length-added (times_bit (xor h b) t) (r ++ false ∷ []) ∙ omega (arith, length-append r (false ∷ []))
 
 -- the register holds what is left: its quotient times x^degree + t is the start, the message and the end
 division : (t r m : List Bool) → length r ≡ length t
-    → product (quotient t r m) (true ∷ t) ≡ add_front r (m ++ register_after t r m)
+    → product (quotient t r m) (true ∷ t) ≡ added r (m ++ register_after t r m)
 unfolding quotient
 division t r [] e =
     let z : length (true ∷ t) - 1 ≡ length r = omega arith in
@@ -96,10 +96,10 @@ division t (h ∷ r) (b ∷ m) e =
     let x = xor h b in
     product-front x (quotient t (register_step t (h ∷ r) b) m) t
     ∙ ap (λ w. x ∷ w)
-    (ap (add_front (times_bit x t)) (division t (register_step t (h ∷ r) b) m (length-step t (h ∷ r) b ∙ e))
-    ∙ add_front-twice (times_bit x t) (r ++ false ∷ []) _
+    (ap (added (times_bit x t)) (division t (register_step t (h ∷ r) b) m (length-step t (h ∷ r) b ∙ e))
+    ∙ added-twice (times_bit x t) (r ++ false ∷ []) _
     (omega (arith, length-times_bit x t, length-append r (false ∷ [])))
-    ∙ add_front-more r _)
+    ∙ added-more r _)
 
 -- what the encoder makes
 abbrev pub encoded : List Bool → List Bool → List Bool
@@ -119,7 +119,7 @@ encoded-is-word t m = record {
   size = omega (arith, length-append m (register_after t (replicate (length t) false) m), length-after t (replicate (length t) false) m, length-replicate (length t) false);
   multiple = (
     quotient t (replicate (length t) false) m,
-    division t (replicate (length t) false) m (length-replicate (length t) false) ∙ add_front-zeros (length t) _,
+    division t (replicate (length t) false) m (length-replicate (length t) false) ∙ added-zeros (length t) _,
   );
 }
 
@@ -138,7 +138,7 @@ xor-cancel true true false e = sym e
 xor-cancel true false true e = sym e
 xor-cancel true false false e = refl
 
-take-cancel : (k : ℕ) (t u v : List Bool) → length u ≡ length v → take k (add_front t u) ≡ take k (add_front t v) → take k u ≡ take k v
+take-cancel : (k : ℕ) (t u v : List Bool) → length u ≡ length v → take k (added t u) ≡ take k (added t v) → take k u ≡ take k v
 take-cancel zero t u v l e = refl
 take-cancel (suc k) [] u v l e = e
 take-cancel (suc k) (a ∷ t) [] [] l e = refl
@@ -155,11 +155,11 @@ quotient-same t [] (c ∷ p) l e = absurd (omega arith)
 quotient-same t (b ∷ q) [] l e = absurd (omega arith)
 quotient-same t (b ∷ q) (c ∷ p) l e =
     let n : ℕ = length q in
-    let e' : b ∷ take n (add_front (times_bit b t) (product q (true ∷ t))) ≡ c ∷ take n (add_front (times_bit c t) (product p (true ∷ t))) =
+    let e' : b ∷ take n (added (times_bit b t) (product q (true ∷ t))) ≡ c ∷ take n (added (times_bit c t) (product p (true ∷ t))) =
     sym (ap (take (suc n)) (product-front b q t)) ∙ e ∙ ap (take (suc n)) (product-front c p t) in
     let same : c ≡ b = sym (head-same e') in
-    let rest : take n (add_front (times_bit b t) (product q (true ∷ t))) ≡ take n (add_front (times_bit b t) (product p (true ∷ t))) =
-    tail-same e' ∙ ap (λ x. take n (add_front (times_bit x t) (product p (true ∷ t)))) same in
+    let rest : take n (added (times_bit b t) (product q (true ∷ t))) ≡ take n (added (times_bit b t) (product p (true ∷ t))) =
+    tail-same e' ∙ ap (λ x. take n (added (times_bit x t) (product p (true ∷ t)))) same in
     ap₂ (λ x y. x ∷ y) (head-same e')
     (quotient-same t q p (omega arith)
     (take-cancel n (times_bit b t) (product q (true ∷ t)) (product p (true ∷ t))

@@ -7,7 +7,7 @@ pub mod Flips
 pub mod Terms
 pub mod Codes
 pub mod Decoding
-pub mod Room
+pub mod Workspaces
 pub mod Ready
 pub mod Division
 pub mod Registers

@@ -1,7 +1,8 @@
 -- The division register of three words of 64 bits, and what a word's division leaves.
 use Rattle.std.specs.Prelude.{ℕ, ◌≡◌, ◌+◌, ◌-◌, ◌*◌, ◌^◌, ◌<◌, ◌≤◌, Bool, false, List, length, take, drop, replicate, slice_index_or}
 use Rattle.s2_bch.specs.Division.{number_of, steps}
-use Rattle.s2_bch.specs.Words.{add_front, register_after}
+use Rattle.s2_bch.specs.Words.{register_after}
+use Rattle.s2_bits.specs.Bits.{added}
 use Rattle.s2_bch.specs.declared.register.Register.{Register}
 
 -- the register as a number of 192 bits
@@ -26,4 +27,4 @@ pub record IsTableFor (t : List Bool) (table : List Register) : Type 0 where
 
 -- what the division by x^degree + t leaves of a word with k bits of message: zeros where it is a multiple
 abbrev pub rest_of : List Bool → ℕ → List Bool → List Bool
-rest_of t k w = add_front (register_after t (replicate (length t) false) (take k w)) (drop k w)
+rest_of t k w = added (register_after t (replicate (length t) false) (take k w)) (drop k w)

@@ -1,4 +1,4 @@
--- Sequences over a field, filters, and the shortest filter: the definitions.
+-- Sequences over a field, locators, and the shortest locator: the definitions.
 use Rattle.std.specs.Prelude.{ℕ, zero, suc, ◌≡◌, ◌≢◌, ◌+◌, ◌<◌, ◌≤◌, List, [], ◌∷◌, length}
 use Rattle.std.proofs.Common.{get_or}
 use Rattle.s2_field.specs.Polynomials as P
@@ -18,8 +18,8 @@ module _ {F : Type 0} (nil one : F) (add mul : F → F → F) where
   dot (c ∷ f) s = add (mul c (s zero)) (dot f (λ j. s (suc j)))
 
   -- the sequence that has dot f of each rest of s
-  abbrev pub filtered : List F → (ℕ → F) → ℕ → F
-  filtered f s i = dot f (λ j. s (i + j))
+  abbrev pub discrepancies : List F → (ℕ → F) → ℕ → F
+  discrepancies f s i = dot f (λ j. s (i + j))
 
   -- f of length d + 1 ends in 1
   abbrev pub IsMonic : ℕ → List F → Type 0
@@ -27,9 +27,9 @@ module _ {F : Type 0} (nil one : F) (add mul : F → F → F) where
   IsMonic zero (c ∷ f) = (c ≡ one) × (f ≡ [])
   IsMonic (suc d) (c ∷ f) = IsMonic d f
 
-  -- the filtered sequence is zero as far as the first n terms tell; d is f's degree
+  -- the discrepancies are zero as far as the first n terms tell; d is f's degree
   abbrev pub Annihilates : ℕ → ℕ → List F → (ℕ → F) → Type 0
-  Annihilates n d f s = (i : ℕ) → i + d < n → filtered f s i ≡ nil
+  Annihilates n d f s = (i : ℕ) → i + d < n → discrepancies f s i ≡ nil
 
   abbrev pub plus : List F → List F → List F
   plus [] g = g
@@ -44,15 +44,15 @@ module _ {F : Type 0} (nil one : F) (add mul : F → F → F) where
   shift zero f = f
   shift (suc k) f = nil ∷ shift k f
 
-  -- f is the shortest monic filter of the first n terms, and b, its spare, fails with delta one place before f's degree
+  -- f is the shortest monic locator of the first n terms, and b, the auxiliary polynomial, fails with delta one place before f's degree
   pub record Shortest (n d : ℕ) (f b : List F) (delta : F) (s : ℕ → F) : Type 0 where
     pub monic : IsMonic d f
     pub fits : d ≤ n
     pub annihilates : Annihilates n d f s
     pub least : (e : ℕ) (g : List F) → IsMonic e g → Annihilates n e g s → d ≤ e
-    pub spare_zero : (i : ℕ) → suc i < d → filtered b s i ≡ nil
-    pub spare_top : (i : ℕ) → suc i ≡ d → filtered b s i ≡ delta
-    pub spare_length : length b + d ≤ suc n
+    pub auxiliary_zero : (i : ℕ) → suc i < d → discrepancies b s i ≡ nil
+    pub auxiliary_top : (i : ℕ) → suc i ≡ d → discrepancies b s i ≡ delta
+    pub auxiliary_length : length b + d ≤ suc n
     pub nonzero : delta ≢ nil
 
 -- the list's elements, and then zeros

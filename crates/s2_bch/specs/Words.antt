@@ -1,33 +1,22 @@
 -- Words of bits as polynomials, the first bit the highest power: products, multiples, and division by a register.
-use Rattle.std.specs.Prelude.{ℕ, ◌≡◌, ◌+◌, ◌-◌, Bool, true, false, ◌&&◌, List, [], ◌∷◌, ◌++◌, length, take, replicate}
-use Rattle.s2_bits.specs.Bits.{xor}
+use Rattle.std.specs.Prelude.{ℕ, ◌≡◌, ◌+◌, ◌-◌, Bool, false, ◌&&◌, List, [], ◌∷◌, ◌++◌, length, take, replicate}
+use Rattle.s2_bits.specs.Bits.{xor, added, number}
 
 -- b times the word
 abbrev pub times_bit : Bool → List Bool → List Bool
 times_bit b [] = []
 times_bit b (c ∷ g) = (b && c) ∷ times_bit b g
 
--- the first word added to the front of the second
-abbrev pub add_front : List Bool → List Bool → List Bool
-add_front [] w = w
-add_front (a ∷ f) [] = []
-add_front (a ∷ f) (b ∷ w) = xor a b ∷ add_front f w
-
--- 1 where the bit is set
-abbrev pub weight : Bool → ℕ
-weight true = 1
-weight false = 0
-
 -- how many places differ
 abbrev pub distance : List Bool → List Bool → ℕ
 distance [] v = 0
 distance (a ∷ u) [] = 0
-distance (a ∷ u) (b ∷ v) = weight (xor a b) + distance u v
+distance (a ∷ u) (b ∷ v) = number (xor a b) + distance u v
 
 -- the product of q and g, of length q + length g - 1 bits
 abbrev pub product : List Bool → List Bool → List Bool
 product [] g = replicate (length g - 1) false
-product (b ∷ q) g = add_front (times_bit b g) (false ∷ product q g)
+product (b ∷ q) g = added (times_bit b g) (false ∷ product q g)
 
 abbrev pub IsMultiple : List Bool → List Bool → Type 0
 IsMultiple g w = (q : List Bool) × (product q g ≡ w)
@@ -41,7 +30,7 @@ pub record IsWordOf (g message w : List Bool) : Type 0 where
 -- the register after one more bit, for x^degree + t
 abbrev pub register_step : List Bool → List Bool → Bool → List Bool
 register_step t [] b = []
-register_step t (h ∷ r) b = add_front (times_bit (xor h b) t) (r ++ false ∷ [])
+register_step t (h ∷ r) b = added (times_bit (xor h b) t) (r ++ false ∷ [])
 
 abbrev pub register_after : List Bool → List Bool → List Bool → List Bool
 register_after t r [] = r

@@ -5,12 +5,12 @@ ghost use Rattle.s2_mode.specs.Mode.{kbch_of, k_of, t_of, IsMode, HasCodeSizes};
 ghost use Rattle.s2_bch.specs.Words.{distance};
 ghost use Rattle.s2_bch.specs.Registers.{Holds, IsTableFor, rest_of};
 ghost use Rattle.s2_bch.specs.Generators.{generator_of};
-ghost use Rattle.s2_bch.specs.Ready.{IsFinder};
+ghost use Rattle.s2_bch.specs.Ready.{IsWorkspace};
 ghost use Rattle.s2_bch.specs.Codes.{IsBchWord, IsBchWordOf, IsWithin};
 ghost use Rattle.s2_bch.specs.Decoding.{nearest};
 
 use crate::divider::{encode_into, rest, table_of};
-use crate::find::Finder;
+use crate::find::FieldWorkspace;
 use crate::register::Register;
 use s2_bits::Bits;
 use s2_field::{Gf14, Gf16};
@@ -20,9 +20,9 @@ use std::marker::Model;
 
 /// The places of errors are found over one of two fields.
 #[derive(Drop)]
-pub(crate) enum Finders {
-    Normal(Finder<Gf16>),
-    Short(Finder<Gf14>),
+pub(crate) enum Workspace {
+    Normal(FieldWorkspace<Gf16>),
+    Short(FieldWorkspace<Gf14>),
 }
 
 /// The BCH code of a mode (EN 302 307-1, 5.3.1), with tables and room to encode and decode.
@@ -32,7 +32,7 @@ pub struct Bch {
     table: Vec<Register>,
     rest: Vec<bool>,
     candidate: Vec<bool>,
-    finders: Finders,
+    workspace: Workspace,
 }
 
 impl Model for Bch {
@@ -44,7 +44,7 @@ impl Model for Bch {
 
     ghost view = { λ b. b.mode };
 
-    ghost invariant = { λ b. IsReady b.mode b.table.items (length b.rest.items) (length b.candidate.items) b.finders };
+    ghost invariant = { λ b. IsReady b.mode b.table.items (length b.rest.items) (length b.candidate.items) b.workspace };
 }
 
 impl Bch {
@@ -54,17 +54,17 @@ impl Bch {
         ensures { IfOk result (λ b. b ≡ mode) }
     {
         let t = mode.t();
-        let finders = if mode.is_short() {
-            Finders::Short(Finder::new(alloc, t)?)
+        let workspace = if mode.is_short() {
+            Workspace::Short(FieldWorkspace::new(alloc, t)?)
         } else {
-            Finders::Normal(Finder::new(alloc, t)?)
+            Workspace::Normal(FieldWorkspace::new(alloc, t)?)
         };
         Ok(Bch {
             mode,
             table: table_of(alloc, mode)?,
             rest: vec![in alloc; false; mode.k() - mode.kbch()]?,
             candidate: vec![in alloc; false; mode.k()]?,
-            finders,
+            workspace,
         })
     }
 
@@ -96,7 +96,7 @@ impl Bch {
         correct_bits(
             self.mode,
             &self.table,
-            &mut self.finders,
+            &mut self.workspace,
             word,
             &mut self.rest,
             &mut self.candidate,
@@ -107,7 +107,7 @@ impl Bch {
 fn correct_bits(
     mode: Mode,
     table: &[Register],
-    finders: &mut Finders,
+    workspace: &mut Workspace,
     word: &mut Bits,
     bits: &mut [bool],
     candidate: &mut [bool],
@@ -115,11 +115,11 @@ fn correct_bits(
     requires valid { IsMode mode }
     requires sizes { HasCodeSizes mode }
     requires table { IsTableFor (drop 1 (generator_of mode)) table.now }
-    requires finder { IsFinder mode finders.old }
+    requires workspace { IsWorkspace mode workspace.old }
     requires word { length word.old ≡ k_of mode }
     requires bits { length bits.old + kbch_of mode ≡ k_of mode }
     requires candidate { length candidate.old ≡ k_of mode }
-    ensures finder { IsFinder mode finders.new }
+    ensures workspace { IsWorkspace mode workspace.new }
     ensures some { IfSome result (λ c. IsWithin mode word.old word.new × (c ≡ differences (length word.old) word.old word.new)) }
     ensures only { IfSome result (λ c. (v : List Bool) → IsWithin mode word.old v → v ≡ word.new) }
     ensures none { IfNone result ((v : List Bool) → IsWithin mode word.old v → ⊥) }
@@ -127,14 +127,14 @@ fn correct_bits(
     ensures no_nearest { IfNone result (nearest mode word.old ≡ None) }
     ensures unchanged { IfNone result (word.new ≡ word.old) }
 {
-    decode(mode, table, finders, word.truths_mut(), bits, candidate)
+    decode(mode, table, workspace, word.truths_mut(), bits, candidate)
 }
 
 /// Leaves a word of the code as it is, which costs one division, and corrects any other.
 fn decode(
     mode: Mode,
     table: &[Register],
-    finders: &mut Finders,
+    workspace: &mut Workspace,
     word: &mut [bool],
     bits: &mut [bool],
     candidate: &mut [bool],
@@ -142,11 +142,11 @@ fn decode(
     requires valid { IsMode mode }
     requires sizes { HasCodeSizes mode }
     requires table { IsTableFor (drop 1 (generator_of mode)) table.now }
-    requires finder { IsFinder mode finders.old }
+    requires workspace { IsWorkspace mode workspace.old }
     requires word { length word.old ≡ k_of mode }
     requires bits { length bits.old + kbch_of mode ≡ k_of mode }
     requires candidate { length candidate.old ≡ k_of mode }
-    ensures finder { IsFinder mode finders.new }
+    ensures workspace { IsWorkspace mode workspace.new }
     ensures some { IfSome result (λ c. IsBchWord mode word.new × (c ≡ distance word.old word.new) × (c ≤ t_of mode)) }
     ensures only { IfSome result (λ c. (v : List Bool) → IsBchWord mode v → distance word.old v ≤ t_of mode → word.new ≡ v) }
     ensures none { IfNone result ((v : List Bool) → IsBchWord mode v → t_of mode < distance word.old v) }
@@ -157,32 +157,32 @@ fn decode(
         return Some(0);
     }
     left.write(bits);
-    correct(mode, table, finders, word, bits, candidate)
+    correct(mode, table, workspace, word, bits, candidate)
 }
 
 /// Flips, in a copy of the word, the only places whose change can make it a word of the code, t at
 /// most, and answers how many they are. `rest` is what its division leaves.
-fn flip_near(finders: &mut Finders, mode: Mode, rest: &[bool], candidate: &mut [bool]) -> usize
+fn flip_near(workspace: &mut Workspace, mode: Mode, rest: &[bool], candidate: &mut [bool]) -> usize
     requires valid { IsMode mode }
     requires sizes { HasCodeSizes mode }
-    requires finder { IsFinder mode finders.old }
+    requires workspace { IsWorkspace mode workspace.old }
     requires word { length candidate.old ≡ k_of mode }
     requires rest { rest.now ≡ rest_of (drop 1 (generator_of mode)) (kbch_of mode) candidate.old }
-    ensures finder { IsFinder mode finders.new }
+    ensures workspace { IsWorkspace mode workspace.new }
     ensures size { length candidate.new ≡ k_of mode }
     ensures count { result ≡ distance candidate.old candidate.new }
     ensures only { (v : List Bool) → IsBchWord mode v → distance candidate.old v ≤ t_of mode → candidate.new ≡ v }
 {
-    match finders {
-        Finders::Normal(finder) => finder.flip_near(rest, candidate),
-        Finders::Short(finder) => finder.flip_near(rest, candidate),
+    match workspace {
+        Workspace::Normal(workspace) => workspace.flip_near(rest, candidate),
+        Workspace::Short(workspace) => workspace.flip_near(rest, candidate),
     }
 }
 
 fn correct(
     mode: Mode,
     table: &[Register],
-    finders: &mut Finders,
+    workspace: &mut Workspace,
     word: &mut [bool],
     bits: &[bool],
     candidate: &mut [bool],
@@ -190,18 +190,18 @@ fn correct(
     requires valid { IsMode mode }
     requires sizes { HasCodeSizes mode }
     requires table { IsTableFor (drop 1 (generator_of mode)) table.now }
-    requires finder { IsFinder mode finders.old }
+    requires workspace { IsWorkspace mode workspace.old }
     requires word { length word.old ≡ k_of mode }
     requires bits { bits.now ≡ rest_of (drop 1 (generator_of mode)) (kbch_of mode) word.old }
     requires candidate { length candidate.old ≡ k_of mode }
-    ensures finder { IsFinder mode finders.new }
+    ensures workspace { IsWorkspace mode workspace.new }
     ensures some { IfSome result (λ c. IsBchWord mode word.new × (c ≡ distance word.old word.new) × (c ≤ t_of mode)) }
     ensures only { IfSome result (λ c. (v : List Bool) → IsBchWord mode v → distance word.old v ≤ t_of mode → word.new ≡ v) }
     ensures none { IfNone result ((v : List Bool) → IsBchWord mode v → t_of mode < distance word.old v) }
     ensures unchanged { IfNone result (word.new ≡ word.old) }
 {
     candidate.copy_from_slice(word);
-    let count = flip_near(finders, mode, bits, candidate);
+    let count = flip_near(workspace, mode, bits, candidate);
     if count > mode.t() {
         return None;
     }

@@ -3,45 +3,46 @@ ghost use Rattle.std.specs.Prelude.{◌≡◌, ◌<◌, ◌≤◌, ◌+◌, ℕ,
 ghost use Rattle.s2_field.specs.Polynomials.{pow};
 ghost use Rattle.s2_bch.specs.Words.{distance, IsMultiple};
 ghost use Rattle.s2_bch.specs.Values.{value_at, HasRoots, HaveSameValues};
-ghost use Rattle.s2_bch.specs.Room.{HasRoom};
+ghost use Rattle.s2_bch.specs.Workspaces.{HasSizes};
 
 use crate::lanes::LANES;
-use crate::locate::shortest_filter;
+use crate::locate::shortest_locator;
 use crate::search::flip_roots;
 use s2_field::Field;
 use std::alloc::{AllocError, Global};
 use std::marker::Model;
 
-/// Room to find up to t places, over the field of the code's roots.
+/// A workspace to find up to t wrong places over the field of the code's roots: the syndromes, the
+/// locator polynomial, the auxiliary polynomial beside it, and what their products are put in.
 #[derive(Drop)]
-pub(crate) struct Finder<F: Field> {
+pub(crate) struct FieldWorkspace<F: Field> {
     t: usize,
     syndromes: Vec<F>,
-    filter: Vec<F>,
-    spare: Vec<F>,
+    locator: Vec<F>,
+    auxiliary: Vec<F>,
     next: Vec<F>,
     terms: Vec<F>,
     values: Vec<F>,
 }
 
-impl<F: Field> Model for Finder<F> {
+impl<F: Field> Model for FieldWorkspace<F> {
     ghost Value = { ℕ };
 
     ghost view = { λ f. f.t };
 
-    ghost invariant = { λ f. HasRoom f.t (length f.syndromes.items) (length f.filter.items) (length f.spare.items) (length f.next.items) (length f.terms.items) (length f.values.items) };
+    ghost invariant = { λ f. HasSizes f.t (length f.syndromes.items) (length f.locator.items) (length f.auxiliary.items) (length f.next.items) (length f.terms.items) (length f.values.items) };
 }
 
-impl<F: Field> Finder<F> {
-    pub(crate) fn new(alloc: Global, t: usize) -> Result<Finder<F>, AllocError>
+impl<F: Field> FieldWorkspace<F> {
+    pub(crate) fn new(alloc: Global, t: usize) -> Result<FieldWorkspace<F>, AllocError>
         requires { t ≤ 15 }
         ensures { IfOk result (λ f. f ≡ t) }
     {
-        Ok(Finder {
+        Ok(FieldWorkspace {
             t,
             syndromes: vec![in alloc; F::zero(); t + t]?,
-            filter: vec![in alloc; F::zero(); t + t + 1]?,
-            spare: vec![in alloc; F::zero(); t + t + 1]?,
+            locator: vec![in alloc; F::zero(); t + t + 1]?,
+            auxiliary: vec![in alloc; F::zero(); t + t + 1]?,
             next: vec![in alloc; F::zero(); t + t + 1]?,
             terms: vec![in alloc; F::zero(); 16 * LANES]?,
             values: vec![in alloc; F::zero(); LANES]?,
@@ -61,45 +62,23 @@ impl<F: Field> Finder<F> {
         ensures only { (g v : List Bool) → 0 < length g → HasRoots F.zero F.one F.sum F.product F.alpha (self.old + self.old) g
             → IsMultiple g v → length v ≡ length word.old → distance word.old v ≤ self.old → word.new ≡ v }
     {
-        flip_only(
-            self.t,
-            rest,
-            word,
-            &mut self.syndromes,
-            &mut self.filter,
-            &mut self.spare,
+        put_syndromes(rest, &mut self.syndromes);
+        let degree = shortest_locator(
+            &self.syndromes,
+            &mut self.locator,
+            &mut self.auxiliary,
             &mut self.next,
+        );
+        if degree > self.t {
+            return 0;
+        }
+        flip_roots(
+            &self.locator[..degree + 1],
             &mut self.terms,
             &mut self.values,
+            word,
         )
     }
-}
-
-fn flip_only<F: Field>(
-    t: usize,
-    rest: &[bool],
-    word: &mut [bool],
-    syndromes: &mut [F],
-    filter: &mut [F],
-    spare: &mut [F],
-    next: &mut [F],
-    terms: &mut [F],
-    values: &mut [F],
-) -> usize
-    requires room { HasRoom t (length syndromes.old) (length filter.old) (length spare.old) (length next.old) (length terms.old) (length values.old) }
-    requires short { length word.old < F.ORDER }
-    requires few { length word.old < 65536 }
-    requires rest { HaveSameValues F.zero F.one F.sum F.product F.alpha (t + t) rest.now word.old }
-    ensures count { result ≡ distance word.old word.new }
-    ensures only { (g v : List Bool) → 0 < length g → HasRoots F.zero F.one F.sum F.product F.alpha (t + t) g
-        → IsMultiple g v → length v ≡ length word.old → distance word.old v ≤ t → word.new ≡ v }
-{
-    put_syndromes(rest, syndromes);
-    let degree = shortest_filter(syndromes, filter, spare, next);
-    if degree > t {
-        return 0;
-    }
-    flip_roots(&filter[..degree + 1], terms, values, word)
 }
 
 /// The product with a power of alpha.

@@ -38,23 +38,23 @@ fn flip_lanes<F: Field>(values: &[F], stride: usize, step: usize, word: &mut [bo
 /// answers how many places that are. Sixteen runs of places are gone through together, with room
 /// for their terms and values.
 pub(crate) fn flip_roots<F: Field>(
-    filter: &[F],
+    locator: &[F],
     terms: &mut [F],
     values: &mut [F],
     word: &mut [bool],
 ) -> usize
-    requires few { length filter.now ≤ 16 }
+    requires few { length locator.now ≤ 16 }
     requires room { length terms.old ≡ 256 }
     requires lanes { length values.old ≡ 16 }
     requires short { length word.old < 65536 }
-    ensures flips { FlipsRoots F.zero F.one F.sum F.product F.alpha filter.now word.old word.new }
+    ensures flips { FlipsRoots F.zero F.one F.sum F.product F.alpha locator.now word.old word.new }
     ensures count { result ≡ distance word.old word.new }
 {
     let stride = word.len() / LANES + 1;
-    put_terms(filter, pow(F::alpha(), stride as u32), terms);
+    put_terms(locator, pow(F::alpha(), stride as u32), terms);
     let mut count = 0;
     for step in 0..stride {
-        advance(terms, filter.len(), values);
+        advance(terms, locator.len(), values);
         let found = has_zero(values);
         if found {
             count += flip_lanes(values, stride, step, word);

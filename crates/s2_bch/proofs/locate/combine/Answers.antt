@@ -1,8 +1,8 @@
 use Rattle.std.proofs.Common.{arith, ◌≢◌, ◌<◌, ◌≤◌, ℕ, length, ◌∙◌, sym, ap, ap₂, get_or-set_other, get_or-set_same, below_more}
 use Rattle.std.proofs.lemmas.List.{ext_get_or}
-use Rattle.s2_bch.proofs.FilterTheory.{length-shift, length-scale}
+use Rattle.s2_bch.proofs.LocatorTheory.{length-shift, length-scale}
 use Rattle.s2_bch.specs.Sequences.{scale, shift}
-use Rattle.s2_bch.proofs.Filters.{get_or-plus, get_or-scale, length-plus}
+use Rattle.s2_bch.proofs.Locators.{get_or-plus, get_or-scale, length-plus}
 use Rattle.s2_bch.proofs.locate.combine.Goals as goal
 
 pub loop-i-preserved : goal.loop-i-preserved
@@ -17,18 +17,18 @@ loop-i-preserved g c =
     ∙ ap₂ f.sum c.shifted.ensures
     (c.mul.ensures ∙ ap (f.product c.args.factor) c.shifted-term.ensures
     ∙ sym (get_or-scale f.zero f.one f.sum f.product f.inverse g.met.F.Field.laws c.args.factor
-    (shift f.zero f.one f.sum f.product c.args.spare_shift c.args.spare.now) i))
+    (shift f.zero f.one f.sum f.product c.args.auxiliary_shift c.args.auxiliary.now) i))
     ∙ sym (get_or-plus f.zero f.one f.sum f.product f.inverse g.met.F.Field.laws
-    (shift f.zero f.one f.sum f.product c.args.filter_shift c.args.filter.now)
-    (scale f.zero f.one f.sum f.product c.args.factor (shift f.zero f.one f.sum f.product c.args.spare_shift c.args.spare.now)) i)))
+    (shift f.zero f.one f.sum f.product c.args.locator_shift c.args.locator.now)
+    (scale f.zero f.one f.sum f.product c.args.factor (shift f.zero f.one f.sum f.product c.args.auxiliary_shift c.args.auxiliary.now)) i)))
 
 pub returns : goal.returns
 returns g c =
     let f = g.F.Field in
-    let e1 = length-shift f.zero f.one f.sum f.product f.inverse g.met.F.Field.laws c.args.filter_shift c.args.filter.now in
-    let e2 = length-shift f.zero f.one f.sum f.product f.inverse g.met.F.Field.laws c.args.spare_shift c.args.spare.now in
-    let e3 = length-scale f.zero f.one f.sum f.product f.inverse g.met.F.Field.laws c.args.factor (shift f.zero f.one f.sum f.product c.args.spare_shift c.args.spare.now) in
-    let fits : length (scale f.zero f.one f.sum f.product c.args.factor (shift f.zero f.one f.sum f.product c.args.spare_shift c.args.spare.now))
-    ≤ length (shift f.zero f.one f.sum f.product c.args.filter_shift c.args.filter.now) = omega (arith, e1, e2, e3) in
+    let e1 = length-shift f.zero f.one f.sum f.product f.inverse g.met.F.Field.laws c.args.locator_shift c.args.locator.now in
+    let e2 = length-shift f.zero f.one f.sum f.product f.inverse g.met.F.Field.laws c.args.auxiliary_shift c.args.auxiliary.now in
+    let e3 = length-scale f.zero f.one f.sum f.product f.inverse g.met.F.Field.laws c.args.factor (shift f.zero f.one f.sum f.product c.args.auxiliary_shift c.args.auxiliary.now) in
+    let fits : length (scale f.zero f.one f.sum f.product c.args.factor (shift f.zero f.one f.sum f.product c.args.auxiliary_shift c.args.auxiliary.now))
+    ≤ length (shift f.zero f.one f.sum f.product c.args.locator_shift c.args.locator.now) = omega (arith, e1, e2, e3) in
     let e4 = length-plus f.zero f.one f.sum f.product f.inverse g.met.F.Field.laws _ _ fits in
     ext_get_or f.zero _ _ (omega (arith, e1, e2, e3, e4)) (λ k hk. c.loop-i.invariant k (omega arith))

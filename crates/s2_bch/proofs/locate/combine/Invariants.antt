@@ -6,5 +6,5 @@ abbrev pub invariant-loop-i : goal.invariant-loop-i
 invariant-loop-i g l =
     let f = g.F.Field in
     (k : ℕ) → k < l.i → get_or l.out k f.zero
-    ≡ get_or (plus f.zero f.one f.sum f.product (shift f.zero f.one f.sum f.product l.filter_shift l.filter)
-    (scale f.zero f.one f.sum f.product l.factor (shift f.zero f.one f.sum f.product l.spare_shift l.spare))) k f.zero
+    ≡ get_or (plus f.zero f.one f.sum f.product (shift f.zero f.one f.sum f.product l.locator_shift l.locator)
+    (scale f.zero f.one f.sum f.product l.factor (shift f.zero f.one f.sum f.product l.auxiliary_shift l.auxiliary))) k f.zero

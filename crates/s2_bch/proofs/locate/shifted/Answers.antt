@@ -1,6 +1,6 @@
 use Rattle.std.proofs.Common.{arith, ◌-◌, ◌∙◌, sym}
 use Rattle.std.proofs.lemmas.List.{get_or_default}
-use Rattle.s2_bch.proofs.Filters.{get_or-shift-below, get_or-shift-above, get_or-past}
+use Rattle.s2_bch.proofs.Locators.{get_or-shift-below, get_or-shift-above, get_or-past}
 use Rattle.s2_bch.proofs.locate.shifted.Goals as goal
 
 pub returns-then-i-by : goal.returns-then-i-by

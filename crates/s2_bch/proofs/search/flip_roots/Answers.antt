@@ -15,7 +15,7 @@ loop-step-init g c =
     record {
       room = omega (arith, c.put_terms.auto.terms, c.requires.room);
       lanes = c.requires.lanes;
-      terms = terms_along f.zero f.one f.sum f.product f.inverse laws c.args.filter.now (power c.pow.result) (λ k. power f.alpha (stride * k + 0))
+      terms = terms_along f.zero f.one f.sum f.product f.inverse laws c.args.locator.now (power c.pow.result) (λ k. power f.alpha (stride * k + 0))
           c.put_terms.new.terms
           (λ k hk.
           let e : stride * k ≡ stride * k + 0 = omega arith in
@@ -23,7 +23,7 @@ loop-step-init g c =
           ∙ pow_times f.zero f.one f.sum f.product f.inverse laws f.alpha stride k
           ∙ ap (power f.alpha) e)
           c.put_terms.ensures;
-      searched = search_start f.zero f.one f.sum f.product f.alpha c.args.filter.now stride c.args.word.now;
+      searched = search_start f.zero f.one f.sum f.product f.alpha c.args.locator.now stride c.args.word.now;
     }
 
 pub overflow_add-count : goal.overflow_add-count
@@ -33,8 +33,8 @@ overflow_add-count g c =
     let stride : ℕ = length old / 16 + 1 in
     let D = c.loop-step.invariant.searched in
     let size = D.size in
-    let values = c.advance.ensures.values c.args.filter.now _ refl c.loop-step.invariant.terms in
-    let left = lanes_left f.zero f.one f.sum f.product f.alpha c.args.filter.now stride old c.loop-step.step c.loop-step.count c.loop-step.word D
+    let values = c.advance.ensures.values c.args.locator.now _ refl c.loop-step.invariant.terms in
+    let left = lanes_left f.zero f.one f.sum f.product f.alpha c.args.locator.now stride old c.loop-step.step c.loop-step.count c.loop-step.word D
     c.advance.new.values values (omega arith) (omega arith) in
     let further = c.flip_lanes-count.ensures.count old (sym size) left in
     let most = distance_most old c.flip_lanes-count.new.word in
@@ -45,7 +45,7 @@ pub loop-step-preserved : goal.loop-step-preserved
 loop-step-preserved g c =
     let f = g.F.Field in
     let laws = g.met.F.Field.laws in
-    let filter = c.args.filter.now in
+    let locator = c.args.locator.now in
     let old = c.args.word.now in
     let now = c.loop-step.word in
     let stride : ℕ = length old / 16 + 1 in
@@ -53,31 +53,31 @@ loop-step-preserved g c =
     let power = pow f.zero f.one f.sum f.product f.alpha in
     let v = c.loop-step.invariant in
     let D = v.searched in
-    let values = c.advance.ensures.values filter (λ k. power (stride * k + step)) refl v.terms in
-    let done : ℕ → List Bool → Type 0 = AreSearched f.zero f.one f.sum f.product f.alpha filter stride old (step + 1) in
+    let values = c.advance.ensures.values locator (λ k. power (stride * k + step)) refl v.terms in
+    let done : ℕ → List Bool → Type 0 = AreSearched f.zero f.one f.sum f.product f.alpha locator stride old (step + 1) in
     record {
       room = omega (arith, c.advance.auto.terms, v.room);
       lanes = omega (arith, c.advance.auto.values, v.lanes);
-      terms = terms_along f.zero f.one f.sum f.product f.inverse laws filter (λ k. f.product f.alpha (power (stride * k + step)))
+      terms = terms_along f.zero f.one f.sum f.product f.inverse laws locator (λ k. f.product f.alpha (power (stride * k + step)))
           (λ k. power (stride * k + (step + 1))) c.advance.new.terms
           (λ k hk. let e : suc (stride * k + step) ≡ stride * k + (step + 1) = omega arith in ap power e)
-          (c.advance.ensures.terms filter (λ k. power (stride * k + step)) refl v.terms);
+          (c.advance.ensures.terms locator (λ k. power (stride * k + step)) refl v.terms);
       searched =
           elim c.if-found.branch [
             | then-found w ↦
-                let left = lanes_left f.zero f.one f.sum f.product f.alpha filter stride old step c.loop-step.count now D
+                let left = lanes_left f.zero f.one f.sum f.product f.alpha locator stride old step c.loop-step.count now D
                 c.advance.new.values values (omega arith) (omega arith) in
                 let e = w.flip_lanes-count.ensures in
                 subst (λ n. done n c.if-found.word) (sym w.count-is)
                 (subst (done (c.loop-step.count + w.flip_lanes-count.result)) (sym w.word-is)
-                (step_turned f.zero f.one f.sum f.product f.alpha filter stride old step c.loop-step.count now D
+                (step_turned f.zero f.one f.sum f.product f.alpha locator stride old step c.loop-step.count now D
                 c.advance.new.values values (omega arith) (omega arith)
                 w.flip_lanes-count.new.word w.flip_lanes-count.result w.flip_lanes-count.auto.word e.hit e.miss e.others
                 (e.count old (sym D.size) left)))
             | else-found w ↦
                 subst (λ n. done n c.if-found.word) (sym w.count-is)
                 (subst (done c.loop-step.count) (sym w.word-is)
-                (step_kept f.zero f.one f.sum f.product f.alpha filter stride old step c.loop-step.count now D
+                (step_kept f.zero f.one f.sum f.product f.alpha locator stride old step c.loop-step.count now D
                 c.advance.new.values values (omega arith) (omega arith) (c.has_zero-found.ensures w.if-found.false)))
           ];
     }
@@ -85,7 +85,7 @@ loop-step-preserved g c =
 pub returns-clause-flips : goal.returns-clause-flips
 returns-clause-flips g c =
     let f = g.F.Field in
-    search_end f.zero f.one f.sum f.product f.alpha c.args.filter.now (length c.args.word.now / 16 + 1) c.args.word.now
+    search_end f.zero f.one f.sum f.product f.alpha c.args.locator.now (length c.args.word.now / 16 + 1) c.args.word.now
     c.loop-step.step c.loop-step.count c.loop-step.word (omega arith) (omega arith) c.loop-step.invariant.searched
 
 pub returns-clause-count : goal.returns-clause-count

@@ -1,8 +1,8 @@
--- The steps of the loops over filters.
+-- The steps of the loops over locators.
 use Rattle.std.specs.Prelude.{ℕ, zero, suc, ◌≡◌, ◌+◌, ◌<◌, ◌≤◌, refl, List, [], ◌∷◌, length, drop}
 use Rattle.std.proofs.Common.{sym, ◌∙◌, ap, ap₂, arith, get_or, add-one, drop-cons}
 use Rattle.s2_field.specs.Laws.{FieldLaws}
-use Rattle.s2_bch.proofs.FilterTheory.{dot, plus, scale, shift, dot-same, zero-add as nil-add, mul-zero}
+use Rattle.s2_bch.proofs.LocatorTheory.{dot, plus, scale, shift, dot-same, zero-add as nil-add, mul-zero}
 
 module _ {F : Type 0} (nil one : F) (add mul : F → F → F) (inv : F → F) (L : FieldLaws nil one add mul inv) where
   open L use {add_assoc, add_zero}

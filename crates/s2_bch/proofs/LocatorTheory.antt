@@ -103,15 +103,15 @@ module _ {F : Type 0} (nil one : F) (add mul : F → F → F) (inv : F → F) (L
       (λ y e n. no_zero_divisors (c y) (add y x) e (λ z. n (equal_of_sum y x z))) xs rest d.0 in
       (sym (mul_one (c x)) ∙ same zero (omega arith) ∙ power_sum-vanish xs c zero each, each)
 
-  -- ---- sequences, filtered by polynomials (the constant first)
+  -- ---- sequences, and their discrepancies under polynomials (the constant first)
 
   -- the sum of f's coefficients times the sequence's first terms
   abbrev pub dot : List F → (ℕ → F) → F
   dot = sequences.dot nil one add mul
 
   -- the sequence that has dot f of each rest of s
-  abbrev pub filtered : List F → (ℕ → F) → ℕ → F
-  filtered = sequences.filtered nil one add mul
+  abbrev pub discrepancies : List F → (ℕ → F) → ℕ → F
+  discrepancies = sequences.discrepancies nil one add mul
 
   -- f at x
   abbrev pub eval : List F → F → F
@@ -136,7 +136,7 @@ module _ {F : Type 0} (nil one : F) (add mul : F → F → F) (inv : F → F) (L
   dot-scale (c ∷ f) a s =
       ap₂ add (mul_swap c a (s zero)) (dot-scale f a (λ j. s (suc j))) ∙ sym (mul_add a (mul c (s zero)) (dot f (λ j. s (suc j))))
 
-  -- two filters commute
+  -- two locators commute
   pub dot-dot : (f g : List F) (s : ℕ → ℕ → F)
       → dot f (λ i. dot g (λ j. s i j)) ≡ dot g (λ j. dot f (λ i. s i j))
   dot-dot [] g s = sym (dot-nil g)
@@ -144,8 +144,8 @@ module _ {F : Type 0} (nil one : F) (add mul : F → F → F) (inv : F → F) (L
       ap₂ add (sym (dot-scale g c (s zero))) (dot-dot f g (λ i. s (suc i)))
       ∙ sym (dot-add g (λ j. mul c (s zero j)) (λ j. dot f (λ i. s (suc i) j)))
 
-  pub filtered-filtered : (f g : List F) (s : ℕ → F) (i : ℕ) → filtered f (filtered g s) i ≡ filtered g (filtered f s) i
-  filtered-filtered f g s i =
+  pub discrepancies-commute : (f g : List F) (s : ℕ → F) (i : ℕ) → discrepancies f (discrepancies g s) i ≡ discrepancies g (discrepancies f s) i
+  discrepancies-commute f g s i =
       dot-dot f g (λ j k. s (i + j + k))
       ∙ dot-same g _ _ (λ k _. dot-same f _ _ (λ j _. let e : i + j + k ≡ i + k + j = omega arith in ap s e))
 
@@ -159,24 +159,24 @@ module _ {F : Type 0} (nil one : F) (add mul : F → F → F) (inv : F → F) (L
       ∙ dot-pow f x (suc i) ∙ ap (λ v. mul v (eval f x)) (mul_comm x (pow x i)) ∙ mul_assoc (pow x i) x (eval f x))
       ∙ sym (mul_add (pow x i) c (mul x (eval f x)))
 
-  -- a filter multiplies the coefficients of power sums by its values
-  pub filtered-power_sum : (f : List F) (xs : List F) (c : F → F) (i : ℕ)
-      → filtered f (power_sum xs c) i ≡ power_sum xs (λ y. mul (c y) (eval f y)) i
-  filtered-power_sum f [] c i = dot-nil f
-  filtered-power_sum f (x ∷ xs) c i =
+  -- a locator multiplies the coefficients of power sums by its values
+  pub discrepancies-power_sum : (f : List F) (xs : List F) (c : F → F) (i : ℕ)
+      → discrepancies f (power_sum xs c) i ≡ power_sum xs (λ y. mul (c y) (eval f y)) i
+  discrepancies-power_sum f [] c i = dot-nil f
+  discrepancies-power_sum f (x ∷ xs) c i =
       dot-add f (λ j. mul (c x) (pow x (i + j))) (λ j. power_sum xs c (i + j))
       ∙ ap₂ add
       (dot-scale f (c x) (λ j. pow x (i + j)) ∙ ap (mul (c x)) (dot-pow f x i ∙ mul_comm (pow x i) (eval f x))
       ∙ sym (mul_assoc (c x) (eval f x) (pow x i)))
-      (filtered-power_sum f xs c i)
+      (discrepancies-power_sum f xs c i)
 
-  -- ---- the shortest filter, as Massey
+  -- ---- the shortest locator, as Massey
 
   -- f of length d + 1 ends in 1
   abbrev pub IsMonic : ℕ → List F → Type 0
   IsMonic = sequences.IsMonic nil one add mul
 
-  -- the filtered sequence is zero as far as the first n terms tell; d is f's degree
+  -- the discrepancies are zero as far as the first n terms tell; d is f's degree
   abbrev pub Annihilates : ℕ → ℕ → List F → (ℕ → F) → Type 0
   Annihilates = sequences.Annihilates nil one add mul
 
@@ -196,22 +196,22 @@ module _ {F : Type 0} (nil one : F) (add mul : F → F → F) (inv : F → F) (L
   monic-length zero (c ∷ f) m = ap (λ g. suc (length g)) m.1
   monic-length (suc d) (c ∷ f) m = ap suc (monic-length d f m)
 
-  -- a monic filter that annihilates one term more than f, which fails there, is long
+  -- a monic locator that annihilates one term more than f, which fails there, is long
   pub massey : (n d e : ℕ) (f g : List F) (s : ℕ → F) → IsMonic d f → IsMonic e g → d ≤ n
-      → Annihilates n d f s → filtered f s (n - d) ≢ nil → Annihilates (suc n) e g s → n < d + e
+      → Annihilates n d f s → discrepancies f s (n - d) ≢ nil → Annihilates (suc n) e g s → n < d + e
   massey n d e f g s mf mg hd af nf ag = elim (cases_lt n (d + e)) [ inl h ↦ h | inr h ↦ absurd (clash h) ]
     where
       clash : d + e ≤ n → ⊥
       clash h =
           let k : ℕ = n - (d + e) in
           let top : k + e ≡ n - d = omega arith in
-          let one_way : filtered g (filtered f s) k ≡ filtered f s (n - d) =
-          dot-monic e g (λ j. filtered f s (k + j)) mg (λ j hj. af (k + j) (omega arith)) ∙ ap (filtered f s) top in
-          let other_way : filtered f (filtered g s) k ≡ nil =
-          dot-same f (λ j. filtered g s (k + j)) (λ _. nil)
+          let one_way : discrepancies g (discrepancies f s) k ≡ discrepancies f s (n - d) =
+          dot-monic e g (λ j. discrepancies f s (k + j)) mg (λ j hj. af (k + j) (omega arith)) ∙ ap (discrepancies f s) top in
+          let other_way : discrepancies f (discrepancies g s) k ≡ nil =
+          dot-same f (λ j. discrepancies g s (k + j)) (λ _. nil)
           (λ j hj. let q : j < suc d = omega (arith, monic-length d f mf) in ag (k + j) (omega arith))
           ∙ dot-nil f in
-          nf (sym one_way ∙ filtered-filtered g f s k ∙ other_way)
+          nf (sym one_way ∙ discrepancies-commute g f s k ∙ other_way)
 
   -- ---- one step of Berlekamp and Massey
 
@@ -261,7 +261,7 @@ module _ {F : Type 0} (nil one : F) (add mul : F → F → F) (inv : F → F) (L
   length-shift zero f = omega arith
   length-shift (suc k) f = let h = length-shift k f in omega arith
 
-  -- f is the shortest monic filter of the first n terms, and b, its spare, fails with delta one place before f's degree
+  -- f is the shortest monic locator of the first n terms, and b, the auxiliary polynomial, fails with delta one place before f's degree
   abbrev pub Shortest : ℕ → ℕ → List F → List F → F → (ℕ → F) → Type 0
   Shortest = sequences.Shortest nil one add mul
 
@@ -271,46 +271,46 @@ module _ {F : Type 0} (nil one : F) (add mul : F → F → F) (inv : F → F) (L
     fits = omega arith;
     annihilates = λ i h. absurd (omega arith);
     least = λ e g _ _. omega arith;
-    spare_zero = λ i h. absurd (omega arith);
-    spare_top = λ i h. absurd (omega arith);
-    spare_length = omega arith;
+    auxiliary_zero = λ i h. absurd (omega arith);
+    auxiliary_top = λ i h. absurd (omega arith);
+    auxiliary_length = omega arith;
     nonzero = one_ne_zero;
   }
 
   annihilates-less : (n e : ℕ) (g : List F) (s : ℕ → F) → Annihilates (suc n) e g s → Annihilates n e g s
   annihilates-less n e g s h = λ i hi. h i (omega arith)
 
-  annihilates-more : (n d : ℕ) (f : List F) (s : ℕ → F) → d ≤ n → Annihilates n d f s → filtered f s (n - d) ≡ nil → Annihilates (suc n) d f s
+  annihilates-more : (n d : ℕ) (f : List F) (s : ℕ → F) → d ≤ n → Annihilates n d f s → discrepancies f s (n - d) ≡ nil → Annihilates (suc n) d f s
   annihilates-more n d f s hd h e i hi =
-      elim (cases_lt (i + d) n) [ inl l ↦ h i l | inr g ↦ (let q : i ≡ n - d = omega arith in ap (filtered f s) q ∙ e) ]
+      elim (cases_lt (i + d) n) [ inl l ↦ h i l | inr g ↦ (let q : i ≡ n - d = omega arith in ap (discrepancies f s) q ∙ e) ]
 
-  -- no discrepancy: the same filter serves
+  -- no discrepancy: the same locator serves
   pub shortest-same : (n d : ℕ) (f b : List F) (delta : F) (s : ℕ → F) → Shortest n d f b delta s
-      → filtered f s (n - d) ≡ nil → Shortest (suc n) d f b delta s
+      → discrepancies f s (n - d) ≡ nil → Shortest (suc n) d f b delta s
   shortest-same n d f b delta s S e = record {
     monic = S.monic;
     fits = let h = S.fits in omega arith;
     annihilates = annihilates-more n d f s S.fits S.annihilates e;
     least = λ e g m a. S.least e g m (annihilates-less n e g s a);
-    spare_zero = S.spare_zero;
-    spare_top = S.spare_top;
-    spare_length = let h = S.spare_length in omega arith;
+    auxiliary_zero = S.auxiliary_zero;
+    auxiliary_top = S.auxiliary_top;
+    auxiliary_length = let h = S.auxiliary_length in omega arith;
     nonzero = S.nonzero;
   }
 
-  -- a discrepancy that the spare mends at the same degree
+  -- a discrepancy that the auxiliary polynomial mends at the same degree
   pub shortest-mend : (n d : ℕ) (f b : List F) (delta : F) (s : ℕ → F) → Shortest n d f b delta s
       → n < d + d
-      → Shortest (suc n) d (plus f (scale (mul (filtered f s (n - d)) (inv delta)) (shift (d + d - suc n) b))) b delta s
+      → Shortest (suc n) d (plus f (scale (mul (discrepancies f s (n - d)) (inv delta)) (shift (d + d - suc n) b))) b delta s
   shortest-mend n d f b delta s S big =
-      let x = filtered f s (n - d) in
+      let x = discrepancies f s (n - d) in
       let a = mul x (inv delta) in
       let l : ℕ = d + d - suc n in
       let h1 : d ≤ n = S.fits in
-      let h2 : length b + d ≤ suc n = S.spare_length in
-      let value : (i : ℕ) → filtered (plus f (scale a (shift l b))) s i ≡ add (filtered f s i) (mul a (filtered b s (i + l))) =
+      let h2 : length b + d ≤ suc n = S.auxiliary_length in
+      let value : (i : ℕ) → discrepancies (plus f (scale a (shift l b))) s i ≡ add (discrepancies f s i) (mul a (discrepancies b s (i + l))) =
       λ i. dot-plus f (scale a (shift l b)) (λ j. s (i + j))
-      ∙ ap (add (filtered f s i))
+      ∙ ap (add (discrepancies f s i))
       (dot-scaled a (shift l b) (λ j. s (i + j))
       ∙ ap (mul a) (dot-shift l b (λ j. s (i + j))
       ∙ dot-same b _ _ (λ j _. let e : i + (l + j) ≡ i + l + j = omega arith in ap s e))) in
@@ -318,33 +318,33 @@ module _ {F : Type 0} (nil one : F) (add mul : F → F → F) (inv : F → F) (L
         monic = monic-plus d f _ S.monic (omega (arith, length-scale a (shift l b), length-shift l b));
         fits = omega arith;
         annihilates = λ i hi. value i ∙ elim (cases_lt (i + d) n) [
-          | inl low ↦ ap₂ add (S.annihilates i low) (ap (mul a) (S.spare_zero (i + l) (omega arith)) ∙ mul-zero a) ∙ add_zero nil
+          | inl low ↦ ap₂ add (S.annihilates i low) (ap (mul a) (S.auxiliary_zero (i + l) (omega arith)) ∙ mul-zero a) ∙ add_zero nil
           | inr high ↦
               (let q : i ≡ n - d = omega arith in
-              ap₂ add (ap (filtered f s) q)
-              (ap (mul a) (S.spare_top (i + l) (omega arith))
+              ap₂ add (ap (discrepancies f s) q)
+              (ap (mul a) (S.auxiliary_top (i + l) (omega arith))
               ∙ mul_assoc x (inv delta) delta ∙ ap (mul x) (mul_comm (inv delta) delta ∙ mul_inv delta S.nonzero) ∙ mul_one x)
               ∙ add_self x)
         ];
         least = λ e g m k. S.least e g m (annihilates-less n e g s k);
-        spare_zero = S.spare_zero;
-        spare_top = S.spare_top;
-        spare_length = omega arith;
+        auxiliary_zero = S.auxiliary_zero;
+        auxiliary_top = S.auxiliary_top;
+        auxiliary_length = omega arith;
         nonzero = S.nonzero;
       }
 
-  -- a discrepancy that makes the filter longer
+  -- a discrepancy that makes the locator longer
   pub shortest-grow : (n d : ℕ) (f b : List F) (delta : F) (s : ℕ → F) → Shortest n d f b delta s
-      → filtered f s (n - d) ≢ nil → d + d ≤ n
-      → Shortest (suc n) (suc n - d) (plus (shift (suc n - (d + d)) f) (scale (mul (filtered f s (n - d)) (inv delta)) b)) f (filtered f s (n - d)) s
+      → discrepancies f s (n - d) ≢ nil → d + d ≤ n
+      → Shortest (suc n) (suc n - d) (plus (shift (suc n - (d + d)) f) (scale (mul (discrepancies f s (n - d)) (inv delta)) b)) f (discrepancies f s (n - d)) s
   shortest-grow n d f b delta s S wrong small =
-      let x = filtered f s (n - d) in
+      let x = discrepancies f s (n - d) in
       let a = mul x (inv delta) in
       let l : ℕ = suc n - (d + d) in
       let h1 : d ≤ n = S.fits in
-      let h2 : length b + d ≤ suc n = S.spare_length in
+      let h2 : length b + d ≤ suc n = S.auxiliary_length in
       let degree : l + d ≡ suc n - d = omega arith in
-      let value : (i : ℕ) → filtered (plus (shift l f) (scale a b)) s i ≡ add (filtered f s (i + l)) (mul a (filtered b s i)) =
+      let value : (i : ℕ) → discrepancies (plus (shift l f) (scale a b)) s i ≡ add (discrepancies f s (i + l)) (mul a (discrepancies b s i)) =
       λ i. dot-plus (shift l f) (scale a b) (λ j. s (i + j))
       ∙ ap₂ add
       (dot-shift l f (λ j. s (i + j)) ∙ dot-same f _ _ (λ j _. let e : i + (l + j) ≡ i + l + j = omega arith in ap s e))
@@ -354,22 +354,22 @@ module _ {F : Type 0} (nil one : F) (add mul : F → F → F) (inv : F → F) (L
             (omega (arith, length-scale a b));
         fits = omega arith;
         annihilates = λ i hi. value i ∙ elim (cases_lt (suc i) d) [
-          | inl low ↦ ap₂ add (S.annihilates (i + l) (omega arith)) (ap (mul a) (S.spare_zero i low) ∙ mul-zero a) ∙ add_zero nil
+          | inl low ↦ ap₂ add (S.annihilates (i + l) (omega arith)) (ap (mul a) (S.auxiliary_zero i low) ∙ mul-zero a) ∙ add_zero nil
           | inr high ↦
               (let q : i + l ≡ n - d = omega arith in
-              ap₂ add (ap (filtered f s) q)
-              (ap (mul a) (S.spare_top i (omega arith))
+              ap₂ add (ap (discrepancies f s) q)
+              (ap (mul a) (S.auxiliary_top i (omega arith))
               ∙ mul_assoc x (inv delta) delta ∙ ap (mul x) (mul_comm (inv delta) delta ∙ mul_inv delta S.nonzero) ∙ mul_one x)
               ∙ add_self x)
         ];
         least = λ e g m k. (let q : n < d + e = massey n d e f g s S.monic m h1 S.annihilates wrong k in omega arith);
-        spare_zero = λ i hi. S.annihilates i (omega arith);
-        spare_top = λ i hi. (let q : i ≡ n - d = omega arith in ap (filtered f s) q);
-        spare_length = omega (arith, monic-length d f S.monic);
+        auxiliary_zero = λ i hi. S.annihilates i (omega arith);
+        auxiliary_top = λ i hi. (let q : i ≡ n - d = omega arith in ap (discrepancies f s) q);
+        auxiliary_length = omega (arith, monic-length d f S.monic);
         nonzero = wrong;
       }
 
-  -- ---- what the shortest filter of few power sums is: its roots are the elements
+  -- ---- what the shortest locator of few power sums is: its roots are the elements
 
   pub eval-plus : (f g : List F) (y : F) → eval (plus f g) y ≡ add (eval f y) (eval g y)
   eval-plus [] g y = sym (zero-add (eval g y))
@@ -409,7 +409,7 @@ module _ {F : Type 0} (nil one : F) (add mul : F → F → F) (inv : F → F) (L
 
   annihilates-roots : (n d : ℕ) (f xs : List F) (c : F → F) → Each (λ y. eval f y ≡ nil) xs → Annihilates n d f (power_sum xs c)
   annihilates-roots n d f xs c h i hi =
-      filtered-power_sum f xs c i
+      discrepancies-power_sum f xs c i
       ∙ power_sum-vanish xs (λ y. mul (c y) (eval f y)) i
       (each_map (λ y. eval f y ≡ nil) (λ y. mul (c y) (eval f y) ≡ nil) (λ y e. ap (mul (c y)) e ∙ mul-zero (c y)) xs h)
 
@@ -461,7 +461,7 @@ module _ {F : Type 0} (nil one : F) (add mul : F → F → F) (inv : F → F) (L
     elements-are-roots =
         let products : Each (λ x. mul (c x) (eval f x) ≡ nil) xs =
         coefficients-vanish xs (λ x. mul (c x) (eval f x)) differ
-        (λ j hj. sym (filtered-power_sum f xs c j) ∙ S.annihilates j (omega (arith, degree-least))) in
+        (λ j hj. sym (discrepancies-power_sum f xs c j) ∙ S.annihilates j (omega (arith, degree-least))) in
         each_map₂ (λ x. mul (c x) (eval f x) ≡ nil) (λ x. c x ≢ nil) (λ x. eval f x ≡ nil)
         (λ x e p. no_zero_divisors (eval f x) (c x) (mul_comm (eval f x) (c x) ∙ e) p) xs products present
 

@@ -1,13 +1,13 @@
 use Rattle.std.proofs.Common.{◌+◌, ◌≤◌, take}
 use Rattle.s2_bch.specs.Sequences.{Shortest, sequence_of}
-use Rattle.s2_bch.proofs.locate.shortest_filter.Given as goal
+use Rattle.s2_bch.proofs.locate.shortest_locator.Given as goal
 
 abbrev pub invariant-loop-n : goal.invariant-loop-n
 invariant-loop-n g l =
     let f = g.F.Field in
     record {
-      shortest : Shortest f.zero f.one f.sum f.product l.n l.degree (take (l.degree + 1) l.filter) (take l.spare_size l.spare) l.delta
+      shortest : Shortest f.zero f.one f.sum f.product l.n l.degree (take (l.degree + 1) l.locator) (take l.auxiliary_size l.auxiliary) l.delta
           (sequence_of f.zero l.sequence);
       short : l.degree ≤ l.n;
-      room : l.spare_size + l.degree ≤ l.n + 1;
+      room : l.auxiliary_size + l.degree ≤ l.n + 1;
     }
