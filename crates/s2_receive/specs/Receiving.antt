@@ -1,5 +1,5 @@
 -- What a receiver does with what it meets.
-use Rattle.std.specs.Prelude.{◌≡◌, ℕ, ℤ, ◌+◌, Bool, true, false, if◌then◌else◌, List, [], ◌∷◌, ◌++◌, length, Option, Some, None, Result, Ok, Err, ⊤}
+use Rattle.std.specs.Prelude.{◌≡◌, ℕ, ℤ, ◌+◌, Bool, true, false, ◌&&◌, if◌then◌else◌, List, [], ◌∷◌, ◌++◌, length, Option, Some, None, Result, Ok, Err, ⊤}
 use Rattle.std.specs.List.{flat_map}
 use Rattle.std.specs.Io.KnownBytes.{Appends}
 use Rattle.s2_mode.specs.declared.symbols.Symbol.{Symbol}
@@ -9,7 +9,9 @@ use Rattle.s2_receive.specs.Meeting.{Met, frame, cut, ended, met_in}
 use Rattle.s2_receive.specs.Finding.{YieldsSymbols, Meets}
 use Rattle.s2_receive.specs.Stepping.{FailsIn}
 use Rattle.s2_receive.specs.declared.report.Verdict.{Verdict}
+use Rattle.s2_receive.specs.declared.report.Verdict.TheVariants as verdicts
 use Rattle.s2_receive.specs.declared.report.Outcome.{Outcome}
+use Rattle.s2_receive.specs.declared.report.Outcome.TheVariants as outcomes
 use Rattle.s2_receive.specs.declared.report.Report.{Report}
 use Rattle.s2_receive.specs.declared.report.Totals.{Totals}
 use Rattle.s2_receive.specs.declared.report.Step.{Step}
@@ -114,6 +116,20 @@ abbrev pub all_lines : Rules → Standing → List Met → List ℕ
 all_lines rules s [] = []
 all_lines rules s (met ∷ later) = line_of rules s met ++ all_lines rules (after rules s met) later
 
+-- a frame that was delivered with bits that are most likely, or the end; a cut one is not well
+abbrev pub is_sure : Outcome → Verdict → Bool
+is_sure (outcomes.Delivered fixed) verdicts.MostLikely = true
+is_sure outcome verdict = false
+
+abbrev pub is_well : Step → Bool
+is_well (steps.Frame report) = is_sure report.outcome report.verdict
+is_well (steps.Cut at count) = false
+is_well steps.End = true
+
+abbrev pub all_well : Rules → Standing → List Met → Bool
+all_well rules s [] = true
+all_well rules s (met ∷ later) = is_well (step_of rules s met) && all_well rules (after rules s met) later
+
 -- ---- a receiver between two calls
 
 -- the symbols that it took, and what stands
@@ -189,6 +205,12 @@ Answers rules old new r r' p p' w w' (Err faults.Read) = new.phase ≡ phases.Fa
 Answers rules old new r r' p p' w w' (Err faults.Write) = (new.phase ≡ phases.Failed) × BreaksOff rules old r p p' w w'
 Answers rules old new r r' p p' w w' (Err faults.Failed) = ⊥
 
+-- how many symbols were taken after a step: up to the frame's end, or to the end of what there is of a cut one
+abbrev pub StandsBehind : ℕ → ℕ → Result Step Fault → Type 0
+StandsBehind size at (Ok (steps.Frame report)) = at ≡ report.at + size
+StandsBehind size at (Ok (steps.Cut place count)) = at ≡ place + count
+StandsBehind size at result = ⊤
+
 -- so many symbols were read as a receiver takes
 abbrev pub Reaches : ℕ → ℕ → Option (List ℕ) → Option (List ℕ) → Type 0
 Reaches limit at reader_old reader_new = (front : List Symbol) × YieldsSymbols reader_old reader_new front × (at + length front ≡ limit)
@@ -203,6 +225,20 @@ state_of phase at held totals = record { phase = phase; at = at; standing = reco
 -- A run from one state to its end: all that was still to be met was met, and it was met and written as it should be.
 abbrev pub RunsOut : Rules → State → State → (reader_old reader_new packets_old packets_new report_old report_new : Option (List ℕ)) → Type 0
 RunsOut rules old new r r' p p' w w' = (new.phase ≡ phases.Ended) × ((met : List Met) × Went rules old new r r' p p' w w' met)
+
+-- and whether all of it was well
+pub record RunsTo (rules : Rules) (old new : State) (reader_old reader_new packets_old packets_new report_old report_new : Option (List ℕ)) (well : Bool) : Type 0 where
+  pub runs_out : RunsOut rules old new reader_old reader_new packets_old packets_new report_old report_new
+  pub is_well : well ≡ all_well rules old.standing runs_out.1.0
+
+-- A run from one state on to where a read failed or no more symbols are taken: what was met before is written, and nothing else,
+-- and more could be met.
+pub record StopsAfter (rules : Rules) (old : State) (reader_old packets_old packets_new report_old report_new : Option (List ℕ)) : Type 0 where
+  pub met : List Met
+  pub mid : State
+  pub reader : Option (List ℕ)
+  pub went : Went rules old mid reader_old reader packets_old packets_new report_old report_new met
+  pub live : IsLive mid.phase
 
 -- A run from one state on to where a write failed: what was met before is written, and of the next thing a part.
 pub record BreaksAfter (rules : Rules) (old : State) (reader_old packets_old packets_new report_old report_new : Option (List ℕ)) : Type 0 where

@@ -1,17 +1,31 @@
 //! A receiver's way to the end of its stream.
 ghost use Rattle.std.specs.Prelude.{◌≡◌, ◌≢◌, ◌+◌, ◌-◌, ◌*◌, ◌^◌, ◌<◌, ◌≤◌, ◌⊎◌, ℕ, List, Option, Some, Ok, Err, IfOk, OnOk, OnErr, IsErrOf, length};
-ghost use Rattle.s2_receive.specs.Receiving.{IsLive, Reaches, RunsOut, begun, BreaksAfter, rules_of, state_of};
+ghost use Rattle.s2_receive.specs.Receiving.{IsLive, Reaches, RunsOut, RunsTo, StopsAfter, begun, BreaksAfter, is_well, rules_of, state_of};
 ghost use Rattle.s2_receive.specs.Stepping.{IsSound};
 
 use crate::parts::{Decide, Lines};
 use crate::receiver::Receiver;
-use crate::report::{Fault, Step, Totals};
+use crate::report::{Fault, Outcome, Received, Step, Totals, Verdict};
 use crate::search::Search;
 use s2_mode::{CountedRead, CountedWrite, InMemory, WriteFault};
 
-/// Takes all steps that are left, up to the end line, and answers the totals. After a fault what was met
-/// before it is written whole: `Write` where a packet or a line could not be written, `Read` where a read
-/// failed or the limit was reached; `Failed` never.
+/// Whether a step is a frame that was delivered with bits that are most likely, or the end.
+fn is_well(step: Step) -> bool
+    ensures { result ≡ is_well step }
+{
+    match step {
+        Step::Frame(report) => match report.outcome {
+            Outcome::Delivered { .. } => report.verdict == Verdict::MostLikely,
+            _ => false,
+        },
+        Step::Cut { .. } => false,
+        Step::End => true,
+    }
+}
+
+/// Takes all steps that are left, up to the end line, and answers the totals and whether all was well. After
+/// a fault what was met before it is written whole: `Write` where a packet or a line could not be written,
+/// which then has a part, `Read` where a read failed or the limit was reached; `Failed` never.
 pub fn receive_all<
     S: Search,
     D: Decide,
@@ -24,17 +38,20 @@ pub fn receive_all<
     reader: &mut R,
     packets: &mut P,
     report: &mut W,
-) -> Result<Totals, Fault>
+) -> Result<Received, Fault>
     requires reader { R.count reader.old < 2 ^ 64 - 1 }
     requires packets { P.count packets.old < 2 ^ 64 - 1 }
     requires report { W.count report.old < 2 ^ 64 - 1 }
     requires sound { IsSound (length receiver.old.frame.items) (length receiver.old.bytes.items) receiver.old.limit receiver.old.place.at receiver.old.place.totals }
     requires takes { length receiver.old.frame.items ≡ D.size receiver.old.decider }
     requires live { IsLive receiver.old.place.phase }
-    ensures all { OnOk result (RunsOut (rules_of (S.passes receiver.old.search) (length receiver.old.frame.items) (D.decide receiver.old.decider) (L.frame_line receiver.old.lines) (L.cut_line receiver.old.lines) (L.end_line receiver.old.lines) receiver.old.limit)
+    ensures all { IfOk result (λ received. RunsTo (rules_of (S.passes receiver.old.search) (length receiver.old.frame.items) (D.decide receiver.old.decider) (L.frame_line receiver.old.lines) (L.cut_line receiver.old.lines) (L.end_line receiver.old.lines) receiver.old.limit)
         (state_of receiver.old.place.phase receiver.old.place.at receiver.old.joiner receiver.old.place.totals) (state_of receiver.new.place.phase receiver.new.place.at receiver.new.joiner receiver.new.place.totals)
-        (R.remaining reader.old) (R.remaining reader.new) (P.contents packets.old) (P.contents packets.new) (W.contents report.old) (W.contents report.new)) }
-    ensures totals { IfOk result (λ totals. totals ≡ receiver.new.place.totals) }
+        (R.remaining reader.old) (R.remaining reader.new) (P.contents packets.old) (P.contents packets.new) (W.contents report.old) (W.contents report.new) received.well) }
+    ensures totals { IfOk result (λ received. received.totals ≡ receiver.new.place.totals) }
+    ensures stops { IsErrOf result Fault.Read → StopsAfter (rules_of (S.passes receiver.old.search) (length receiver.old.frame.items) (D.decide receiver.old.decider) (L.frame_line receiver.old.lines) (L.cut_line receiver.old.lines) (L.end_line receiver.old.lines) receiver.old.limit)
+        (state_of receiver.old.place.phase receiver.old.place.at receiver.old.joiner receiver.old.place.totals)
+        (R.remaining reader.old) (P.contents packets.old) (P.contents packets.new) (W.contents report.old) (W.contents report.new) }
     ensures breaks { IsErrOf result Fault.Write → BreaksAfter (rules_of (S.passes receiver.old.search) (length receiver.old.frame.items) (D.decide receiver.old.decider) (L.frame_line receiver.old.lines) (L.cut_line receiver.old.lines) (L.end_line receiver.old.lines) receiver.old.limit)
         (state_of receiver.old.place.phase receiver.old.place.at receiver.old.joiner receiver.old.place.totals)
         (R.remaining reader.old) (P.contents packets.old) (P.contents packets.new) (W.contents report.old) (W.contents report.new) }
@@ -49,12 +66,15 @@ pub fn receive_all<
     ensures rules { rules_of (S.passes receiver.new.search) (length receiver.new.frame.items) (D.decide receiver.new.decider) (L.frame_line receiver.new.lines) (L.cut_line receiver.new.lines) (L.end_line receiver.new.lines) receiver.new.limit
         ≡ rules_of (S.passes receiver.old.search) (length receiver.old.frame.items) (D.decide receiver.old.decider) (L.frame_line receiver.old.lines) (L.cut_line receiver.old.lines) (L.end_line receiver.old.lines) receiver.old.limit }
 {
+    let mut well = true;
     'steps: for _step in 0..u64::MAX {
         match receiver.next(reader, packets, report) {
             Ok(step) => {
                 if step == Step::End {
-                    return Ok(receiver.totals());
+                    let totals = receiver.totals();
+                    return Ok(Received { totals, well });
                 }
+                well &= is_well(step);
             }
             Err(fault) => return Err(fault),
         }
@@ -88,7 +108,7 @@ pub fn receive_bytes<S: Search, D: Decide, L: Lines, P: CountedWrite, W: Counted
 {
     let mut reader = InMemory::new(bytes);
     match receive_all(receiver, &mut reader, packets, report) {
-        Ok(totals) => Ok(totals),
+        Ok(received) => Ok(received.totals),
         Err(_fault) => Err(WriteFault),
     }
 }

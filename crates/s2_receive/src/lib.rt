@@ -14,7 +14,7 @@
 //! ```
 //! let mut receiver = Receiver::new(alloc, search, decider, lines, size, MOST_SYMBOLS)?;
 //! let step = receiver.next(&mut reader, &mut packets, &mut report)?;
-//! let totals = receive_all(&mut receiver, &mut reader, &mut packets, &mut report)?;
+//! let received = receive_all(&mut receiver, &mut reader, &mut packets, &mut report)?;
 //! ```
 #![tactic(auto)]
 
@@ -32,7 +32,7 @@ mod stepping;
 pub use all::{receive_all, receive_bytes};
 pub use parts::{Decide, Decided, Lines};
 pub use receiver::{MOST_SYMBOLS, Receiver};
-pub use report::{Fault, Outcome, Phase, Report, Step, Totals, Verdict};
+pub use report::{Fault, Outcome, Phase, Received, Report, Step, Totals, Verdict};
 pub use search::Search;
 
 #[cfg(test)]

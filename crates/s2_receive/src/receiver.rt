@@ -1,7 +1,7 @@
 //! The receiver between two steps.
 ghost use Rattle.std.specs.Prelude.{◌≡◌, ◌≢◌, ◌+◌, ◌-◌, ◌*◌, ◌^◌, ◌<◌, ◌≤◌, ◌⊎◌, Ok, Err, IfOk, IsErrOf, length};
 ghost use Rattle.s2_receive.specs.declared.report.Report.{Report as ReportValue};
-ghost use Rattle.s2_receive.specs.Receiving.{IsLive, Answers, MetFrame, Reaches, begun, rules_of, state_of};
+ghost use Rattle.s2_receive.specs.Receiving.{IsLive, Answers, MetFrame, Reaches, StandsBehind, begun, rules_of, state_of};
 ghost use Rattle.s2_receive.specs.Stepping.{IsSound};
 
 use crate::parts::{Decide, Lines};
@@ -130,6 +130,7 @@ impl<S: Search, D: Decide, L: Lines> Receiver<S, D, L> {
             (state_of self.old.place.phase self.old.place.at self.old.joiner self.old.place.totals) (state_of self.new.place.phase self.new.place.at self.new.joiner self.new.place.totals)
             (R.remaining reader.old) (R.remaining reader.new)
             (P.contents packets.old) (P.contents packets.new) (W.contents report.old) (W.contents report.new) r (D.last self.new.decider) }
+        ensures taken { StandsBehind (length self.old.frame.items) self.new.place.at result }
         ensures ended { self.old.place.phase ≡ Phase.Ended → result ≡ Ok Step.End }
         ensures failed { self.old.place.phase ≡ Phase.Failed → result ≡ Err Fault.Failed }
         ensures nothing { (IsLive self.old.place.phase → ⊥) → (state_of self.new.place.phase self.new.place.at self.new.joiner self.new.place.totals ≡ state_of self.old.place.phase self.old.place.at self.old.joiner self.old.place.totals) × (reader.new ≡ reader.old) × (packets.new ≡ packets.old) × (report.new ≡ report.old) }

@@ -41,6 +41,14 @@ pub struct Totals {
     pub cut: bool,
 }
 
+/// What a run to the end came to: its totals, and whether each frame was delivered with bits that are most
+/// likely, and none was cut.
+#[derive(Clone, Copy, Debug, PartialEq, Eq)]
+pub struct Received {
+    pub totals: Totals,
+    pub well: bool,
+}
+
 /// What a step came to: a frame; a frame that lacks symbols, at which symbol it begins and how many it has; or
 /// the end.
 #[derive(Clone, Copy, Debug, PartialEq, Eq)]

@@ -5,7 +5,7 @@ ghost use Rattle.std.specs.Io.KnownBytes.{Appends};
 ghost use Rattle.s2_mode.specs.Counts.{CountsFault};
 ghost use Rattle.s2_mode.specs.Pieces.{AppendsPart};
 ghost use Rattle.s2_receive.specs.declared.report.Report.{Report as ReportValue};
-ghost use Rattle.s2_receive.specs.Receiving.{IsLive, Answers, MetFrame, Reaches, joined_after, totals_after, cut_totals, count_of, rules_of, state_of, report_for};
+ghost use Rattle.s2_receive.specs.Receiving.{IsLive, Answers, MetFrame, Reaches, StandsBehind, joined_after, totals_after, cut_totals, count_of, rules_of, state_of, report_for};
 ghost use Rattle.s2_receive.specs.Stepping.{Fits, HasRoom, FailsIn};
 
 use crate::delivering::{Given, give_packets};
@@ -114,6 +114,7 @@ pub(crate) fn take_step<
         (rules_of (S.passes search.old) (length frame.old) (D.decide decider.old) (L.frame_line lines.now) (L.cut_line lines.now) (L.end_line lines.now) limit)
         (state_of place.old.phase place.old.at joiner.old place.old.totals) (state_of place.new.phase place.new.at joiner.new place.new.totals)
         (R.remaining reader.old) (R.remaining reader.new) (P.contents packets.old) (P.contents packets.new) (W.contents report.old) (W.contents report.new) r (D.last decider.new) }
+    ensures taken { StandsBehind (length frame.old) place.new.at result }
     ensures ended { place.old.phase ≡ Phase.Ended → result ≡ Ok Step.End }
     ensures failed { place.old.phase ≡ Phase.Failed → result ≡ Err Fault.Failed }
     ensures nothing { (IsLive place.old.phase → ⊥) → (place.new ≡ place.old) × (joiner.new ≡ joiner.old) × (reader.new ≡ reader.old) × (packets.new ≡ packets.old) × (report.new ≡ report.old) }

@@ -6,8 +6,8 @@ ghost use Rattle.s2_receive.specs.Stepping.{IsSound};
 ghost use Rattle.s2_receive.specs.Toy.{is_low, place_for, decision_for};
 
 use crate::{
-    Decide, Decided, Fault, Lines, MOST_SYMBOLS, Outcome, Receiver, Report, Search, Step, Totals,
-    Verdict, laws, receive_all, receive_bytes,
+    Decide, Decided, Fault, Lines, MOST_SYMBOLS, Outcome, Received, Receiver, Report, Search, Step,
+    Totals, Verdict, laws, receive_all, receive_bytes,
 };
 use s2_bbframe::Header;
 use s2_mode::{ByOne, CountedWrite, Counting, FailAt, InMemory, Symbol, WriteFault, write_full};
@@ -201,8 +201,8 @@ fn takes_frames_and_the_end_byte_by_byte(rt: HostRuntime) -> Result<(), Fail> {
     Ok(())
 }
 
-/// The totals of frames whose first symbols have these Qs, with so many symbols before the last one.
-fn received(rt: &HostRuntime, firsts: &[i16], passed: u32, last: i16) -> Result<Totals, Fail> {
+/// What comes of frames whose first symbols have these Qs, with so many symbols before the last one.
+fn received(rt: &HostRuntime, firsts: &[i16], passed: u32, last: i16) -> Result<Received, Fail> {
     let mut bytes = Vec::new(rt.alloc());
     for first in firsts {
         put_frame(&mut bytes, *first)?;
@@ -219,11 +219,14 @@ fn received(rt: &HostRuntime, firsts: &[i16], passed: u32, last: i16) -> Result<
 #[test]
 fn joins_the_parts_of_a_packet_and_none_across_a_gap(rt: HostRuntime) -> Result<(), Fail> {
     let joined = received(&rt, &[1], 0, 2)?;
-    assert_eq!(rt; joined, totals(2, 2, 1));
+    assert_eq!(rt; joined.totals, totals(2, 2, 1));
+    assert!(rt; joined.well);
     let lost = received(&rt, &[1, -1], 0, 2)?;
-    assert_eq!(rt; lost, totals(3, 2, 0));
+    assert_eq!(rt; lost.totals, totals(3, 2, 0));
+    assert!(rt; !lost.well);
     let passed = received(&rt, &[1], 1, 2)?;
-    assert_eq!(rt; passed, totals(2, 2, 0));
+    assert_eq!(rt; passed.totals, totals(2, 2, 0));
+    assert!(rt; passed.well);
     laws::joining();
     laws::reception();
     laws::front();

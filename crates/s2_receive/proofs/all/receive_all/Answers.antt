@@ -1,12 +1,12 @@
-use Rattle.std.proofs.Common.{◌≡◌, ◌+◌, [], length, refl, ap, ◌∙◌, subst, arith, Ok, Err, Result, IsErrOf, rules as common}
+use Rattle.std.proofs.Common.{◌≡◌, ◌+◌, ◌&&◌, [], length, refl, sym, ap, ◌∙◌, subst, arith, Ok, Err, Result, IsErrOf, rules as common}
 use Rattle.s2_receive.specs.declared.report.Fault.{Fault}
-use Rattle.s2_receive.specs.Receiving.{Rules, State, Reaches, rules_of, state_of}
-use Rattle.s2_receive.proofs.RunLemmas.{went_none, goes, finishes, reaches_on}
+use Rattle.s2_receive.specs.Receiving.{Rules, State, Reaches, StopsAfter, rules_of, state_of}
+use Rattle.s2_receive.proofs.RunLemmas.{Came, went_none, goes, finishes, stops, reaches_on}
 use Rattle.s2_receive.proofs.all.receive_all.Goals as goal
 
 pub steps-init : goal.steps-init
 steps-init g c =
-    (([], went_none (rules_of (g.S.Search.passes c.args.receiver.now.search) (length c.args.receiver.now.frame.items) (g.D.Decide.decide c.args.receiver.now.decider) (g.L.Lines.frame_line c.args.receiver.now.lines) (g.L.Lines.cut_line c.args.receiver.now.lines) (g.L.Lines.end_line c.args.receiver.now.lines) c.args.receiver.now.limit) (state_of c.args.receiver.now.place.phase c.args.receiver.now.place.at c.args.receiver.now.joiner c.args.receiver.now.place.totals) _ _ _), refl, c.requires.sound, c.requires.live, omega arith, refl, refl, refl, c.requires.takes)
+    (([], went_none (rules_of (g.S.Search.passes c.args.receiver.now.search) (length c.args.receiver.now.frame.items) (g.D.Decide.decide c.args.receiver.now.decider) (g.L.Lines.frame_line c.args.receiver.now.lines) (g.L.Lines.cut_line c.args.receiver.now.lines) (g.L.Lines.end_line c.args.receiver.now.lines) c.args.receiver.now.limit) (state_of c.args.receiver.now.place.phase c.args.receiver.now.place.at c.args.receiver.now.joiner c.args.receiver.now.place.totals) _ _ _, refl), refl, c.requires.sound, c.requires.live, omega arith, refl, refl, refl, c.requires.takes)
 
 pub returns-then-eq-clause-all : goal.returns-then-eq-clause-all
 returns-then-eq-clause-all g c =
@@ -24,7 +24,7 @@ returns-then-eq-clause-all g c =
     let w1 = g.W.CountedWrite.contents c.steps.report in
     let w2 = g.W.CountedWrite.contents c.next.new.report in
     let u : State = state_of c.next.new.self.place.phase c.next.new.self.place.at c.next.new.self.joiner c.next.new.self.place.totals in
-    finishes rules now s t u r r1 r2 p p1 p2 w w1 w2 c.steps.invariant.1 c.in-Ok.step (search common) c.steps.invariant.0 (c.in-Ok.ensures.live c.steps.invariant.3)
+    finishes rules now s t u r r1 r2 p p1 p2 w w1 w2 c.steps.invariant.1 c.in-Ok.step c.steps.well (search common) c.steps.invariant.0 (c.in-Ok.ensures.live c.steps.invariant.3)
 
 abbrev fault_of : {S : Type 0} → Fault → Result S Fault → Fault
 fault_of f (Ok x) = f
@@ -49,7 +49,7 @@ returns-in-Err-clause-read g c = λ is other.
     let w1 = g.W.CountedWrite.contents c.steps.report in
     let w2 = g.W.CountedWrite.contents c.next.new.report in
     let u : State = state_of c.next.new.self.place.phase c.next.new.self.place.at c.next.new.self.joiner c.next.new.self.place.totals in
-    let (met, went) = c.steps.invariant.0 in
+    let (met, went, all) = c.steps.invariant.0 in
     let count = c.steps.invariant.5 in
     let read = c.in-Err.ensures.read (as_fault is) in
     let far = read.2 (λ e. other (e ∙ ap (λ n. n + 1) count)) in
@@ -72,5 +72,17 @@ steps-preserved g c =
     let w1 = g.W.CountedWrite.contents c.steps.report in
     let w2 = g.W.CountedWrite.contents c.next.new.report in
     let u : State = state_of c.next.new.self.place.phase c.next.new.self.place.at c.next.new.self.joiner c.next.new.self.place.totals in
-    let on = goes rules now s t u r r1 r2 p p1 p2 w w1 w2 c.steps.invariant.1 c.in-Ok.step c.steps._step (λ e. search common) c.steps.invariant.0 (c.in-Ok.ensures.live c.steps.invariant.3) c.steps.invariant.3 c.steps.invariant.4 in
-    (on.0, c.next.ensures.rules ∙ c.steps.invariant.1, c.next.ensures.sound, on.1, on.2, search common, search common, search common, c.next.ensures.takes)
+    let on = goes rules now s t u r r1 r2 p p1 p2 w w1 w2 c.steps.invariant.1 c.in-Ok.step c.steps._step c.steps.well (λ e. search common) c.steps.invariant.0 (c.in-Ok.ensures.live c.steps.invariant.3) c.steps.invariant.3 c.steps.invariant.4 in
+    (subst (λ b. Came rules s u r r2 p p2 w w2 (c.steps.well && b)) (sym c.is_well-well.ensures) on.0, c.next.ensures.rules ∙ c.steps.invariant.1, c.next.ensures.sound, on.1, on.2, search common, search common, search common, c.next.ensures.takes)
+
+pub returns-in-Err-clause-stops : goal.returns-in-Err-clause-stops
+returns-in-Err-clause-stops g c = λ is.
+    let rules : Rules = rules_of (g.S.Search.passes c.args.receiver.now.search) (length c.args.receiver.now.frame.items) (g.D.Decide.decide c.args.receiver.now.decider) (g.L.Lines.frame_line c.args.receiver.now.lines) (g.L.Lines.cut_line c.args.receiver.now.lines) (g.L.Lines.end_line c.args.receiver.now.lines) c.args.receiver.now.limit in
+    let s : State = state_of c.args.receiver.now.place.phase c.args.receiver.now.place.at c.args.receiver.now.joiner c.args.receiver.now.place.totals in
+    let t : State = state_of c.steps.receiver.place.phase c.steps.receiver.place.at c.steps.receiver.joiner c.steps.receiver.place.totals in
+    let p = g.P.CountedWrite.contents c.args.packets.now in
+    let w = g.W.CountedWrite.contents c.args.report.now in
+    let kept = c.in-Err.ensures.read (as_fault is) in
+    let before = stops rules s t (g.R.CountedRead.remaining c.args.reader.now) (g.R.CountedRead.remaining c.steps.reader) p (g.P.CountedWrite.contents c.steps.packets) w (g.W.CountedWrite.contents c.steps.report) c.steps.well c.steps.invariant.0 c.steps.invariant.3 in
+    subst (λ x. StopsAfter rules s (g.R.CountedRead.remaining c.args.reader.now) p (g.P.CountedWrite.contents c.next.new.packets) w (g.W.CountedWrite.contents x)) (sym kept.1)
+    (subst (λ x. StopsAfter rules s (g.R.CountedRead.remaining c.args.reader.now) p (g.P.CountedWrite.contents x) w (g.W.CountedWrite.contents c.steps.report)) (sym kept.0) before)
