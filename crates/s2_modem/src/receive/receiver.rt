@@ -5,7 +5,7 @@ ghost use Rattle.s2_receive.specs.declared.report.Report.{Report as ReportValue}
 ghost use Rattle.s2_receive.specs.declared.report.Phase.TheVariants as phases;
 ghost use Rattle.s2_receive.specs.declared.report.Step.TheVariants as steps;
 ghost use Rattle.s2_receive.specs.declared.report.Fault.TheVariants as faults;
-ghost use Rattle.s2_receive.specs.Receiving.{IsLive, Answers, MetFrame, Reaches, begun, rules_of, state_of};
+ghost use Rattle.s2_receive.specs.Receiving.{IsLive, Answers, MetFrame, Reaches, RunsTo, StandsBehind, StopsAfter, BreaksAfter, begun, rules_of, state_of};
 ghost use Rattle.s2_receive.specs.Stepping.{IsSound};
 ghost use Rattle.s2_modem.specs.Link.{link_of};
 ghost use Rattle.s2_modem.specs.Passing.{passes_as};
@@ -20,7 +20,7 @@ use crate::setup::{MOST_ROLL_OFF, Setup, SetupFault};
 use s2_bits::Bits;
 use s2_matrix::Matrix;
 use s2_mode::{CountedRead, CountedWrite};
-use s2_receive::{Fault, MOST_SYMBOLS, Step};
+use s2_receive::{Fault, MOST_SYMBOLS, Received, Step, receive_all};
 use s2_scramble::{Gold, MOST_NUMBER};
 use std::alloc::Global;
 use std::marker::Model;
@@ -196,6 +196,7 @@ impl<'a> Receiver<'a> {
             (P.contents packets.old) (P.contents packets.new) (W.contents report.old) (W.contents report.new) result }
         ensures frame { (r : ReportValue) → result ≡ Ok (steps.Frame r) → MetFrame (rules_for self.old) self.old.state self.new.state (R.remaining reader.old) (R.remaining reader.new)
             (P.contents packets.old) (P.contents packets.new) (W.contents report.old) (W.contents report.new) r self.new.last }
+        ensures taken { StandsBehind (symbols_in self.old.link.setup.mode) self.new.state.at result }
         ensures ended { self.old.state.phase ≡ phases.Ended → result ≡ Ok steps.End }
         ensures failed { self.old.state.phase ≡ phases.Failed → result ≡ Err faults.Failed }
         ensures nothing { (IsLive self.old.state.phase → ⊥) → (self.new.state ≡ self.old.state) × (reader.new ≡ reader.old) × (packets.new ≡ packets.old) × (report.new ≡ report.old) }
@@ -208,6 +209,41 @@ impl<'a> Receiver<'a> {
         ensures same { (self.new.link ≡ self.old.link) × (self.new.rounds ≡ self.old.rounds) × (self.new.limit ≡ self.old.limit) }
     {
         self.inner.next(reader, packets, report)
+    }
+
+    /// Takes all steps that are left, up to the end line, and answers the totals and whether each frame
+    /// was delivered with bits that are most likely and none was cut. Not to be called after the end or
+    /// a fault. It takes no memory.
+    ///
+    /// After a fault what was met before it is written whole: after `Read`, which comes as in
+    /// [`Receiver::next`], nothing else is, after `Write` a part of the next packets or line is.
+    /// `Failed` is never answered.
+    pub fn run<R: CountedRead, P: CountedWrite, W: CountedWrite>(
+        &mut self,
+        reader: &mut R,
+        packets: &mut P,
+        report: &mut W,
+    ) -> Result<Received, Fault>
+        requires reader { R.count reader.old < 2 ^ 64 - 1 }
+        requires packets { P.count packets.old < 2 ^ 64 - 1 }
+        requires report { W.count report.old < 2 ^ 64 - 1 }
+        requires live { IsLive self.old.state.phase }
+        ensures all { IfOk result (λ received. RunsTo (rules_for self.old) self.old.state self.new.state (R.remaining reader.old) (R.remaining reader.new)
+            (P.contents packets.old) (P.contents packets.new) (W.contents report.old) (W.contents report.new) received.well) }
+        ensures totals { IfOk result (λ received. received.totals ≡ self.new.state.standing.totals) }
+        ensures stops { IsErrOf result faults.Read → StopsAfter (rules_for self.old) self.old.state (R.remaining reader.old)
+            (P.contents packets.old) (P.contents packets.new) (W.contents report.old) (W.contents report.new) }
+        ensures breaks { IsErrOf result faults.Write → BreaksAfter (rules_for self.old) self.old.state (R.remaining reader.old)
+            (P.contents packets.old) (P.contents packets.new) (W.contents report.old) (W.contents report.new) }
+        ensures read { IsErrOf result faults.Read → R.count reader.new ≢ R.count reader.old + 1 → (R.count reader.new ≡ R.count reader.old) × Reaches self.old.limit self.old.state.at (R.remaining reader.old) (R.remaining reader.new) }
+        ensures no_read { result ≢ Err faults.Read → R.count reader.new ≡ R.count reader.old }
+        ensures write { IsErrOf result faults.Write → ((P.count packets.new ≡ P.count packets.old + 1) × (W.count report.new ≡ W.count report.old))
+            ⊎ ((P.count packets.new ≡ P.count packets.old) × (W.count report.new ≡ W.count report.old + 1)) }
+        ensures no_write { result ≢ Err faults.Write → (P.count packets.new ≡ P.count packets.old) × (W.count report.new ≡ W.count report.old) }
+        ensures no_other { result ≢ Err faults.Failed }
+        ensures same { (self.new.link ≡ self.old.link) × (self.new.rounds ≡ self.old.rounds) × (self.new.limit ≡ self.old.limit) }
+    {
+        receive_all(&mut self.inner, reader, packets, report)
     }
 
     /// The soft values of the last frame's codeword, where the last call of [`Receiver::next`]
