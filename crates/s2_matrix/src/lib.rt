@@ -34,4 +34,6 @@ pub use matrix::Matrix;
 pub use views::{GroupEntry, LayerEntry};
 
 #[cfg(test)]
+mod agreement;
+#[cfg(test)]
 mod tests;

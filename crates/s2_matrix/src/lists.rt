@@ -11,16 +11,15 @@ ghost use Rattle.s2_matrix.specs.Edges.{owners};
 use crate::build::{join_info, join_parities};
 use crate::share::share_out;
 use crate::table::Table;
-use arrayvec::ArrayVec;
-use s2_rows::Rows;
+use s2_rows::{Row, Rows};
 use std::alloc::{AllocError, Global};
 
 /// A copy of a row.
-fn copy_row(row: &[u32]) -> ArrayVec<u32, 24>
+fn copy_row(row: &[u32]) -> Row
     requires { length row.now ≤ MOST_ADDRESSES }
     ensures { result.items ≡ row.now }
 {
-    let mut copy = ArrayVec::new();
+    let mut copy = Row::new();
     for address in row {
         copy.push(*address);
     }
@@ -28,7 +27,7 @@ fn copy_row(row: &[u32]) -> ArrayVec<u32, 24>
 }
 
 /// A copy of all rows.
-pub(crate) fn copy_rows(alloc: Global, rows: &Rows) -> Result<Vec<ArrayVec<u32, 24>>, AllocError>
+pub(crate) fn copy_rows(alloc: Global, rows: &Rows) -> Result<Vec<Row>, AllocError>
     ensures { IfOk result (λ v. map (λ row. row.items) v.items ≡ rows.now.rows) }
 {
     let groups = rows.shape().groups();

@@ -9,9 +9,8 @@ ghost use Rattle.s2_matrix.specs.Limits.{most_edges};
 
 use crate::table::Table;
 use crate::{layers, lists};
-use arrayvec::ArrayVec;
 use s2_mode::Shape;
-use s2_rows::Rows;
+use s2_rows::{Row, Rows};
 use std::alloc::{AllocError, Global};
 use std::marker::Model;
 
@@ -20,7 +19,7 @@ use std::marker::Model;
 #[derive(Drop)]
 pub struct Matrix {
     shape: Shape,
-    rows: Vec<ArrayVec<u32, 24>>,
+    rows: Vec<Row>,
     members: Table,
     edges: Table,
     checks: Table,

@@ -1,5 +1,5 @@
 //! A small code, check by check.
-use crate::{Matrix, laws};
+use crate::{GroupEntry, LayerEntry, Matrix, laws};
 use s2_bits::Bits;
 use s2_mode::Shape;
 use s2_rows::read_rows;
@@ -76,6 +76,41 @@ fn gives_the_checks_and_edges_of_a_bit(rt: HostRuntime) -> Result<(), Fail> {
         assert_eq!(rt; Some(matrix.addresses(group)), rows.get(group).copied());
     }
     laws::members();
+    Ok(())
+}
+
+// The layers and shifts of rows 0 and 1, and the groups and shifts of layers 0 to 2.
+const GROUP_ENTRIES: [[(usize, usize); 3]; 2] = [
+    [(0, 0), (1, 1), (2, 2)],
+    [(0, 0), (1, 0), (2, 0)],
+];
+
+const LAYER_ENTRIES: [[(usize, usize); 2]; 3] = [
+    [(0, 0), (1, 0)],
+    [(0, 1), (1, 0)],
+    [(0, 2), (1, 0)],
+];
+
+#[test]
+fn shows_groups_and_layers(rt: HostRuntime) -> Result<(), Fail> {
+    let matrix = small(&rt)?;
+    for group in 0..matrix.shape().groups() {
+        let entries = GROUP_ENTRIES.get(group).copied().unwrap_or_default();
+        assert_eq!(rt; matrix.group_len(group), entries.len());
+        for at in 0..matrix.group_len(group) {
+            let GroupEntry { layer, shift } = matrix.group_entry(group, at);
+            assert_eq!(rt; Some((layer, shift)), entries.get(at).copied());
+        }
+    }
+    for layer in 0..matrix.shape().q() {
+        let entries = LAYER_ENTRIES.get(layer).copied().unwrap_or_default();
+        assert_eq!(rt; matrix.layer_len(layer), entries.len());
+        for at in 0..matrix.layer_len(layer) {
+            let LayerEntry { group, shift } = matrix.layer_entry(layer, at);
+            assert_eq!(rt; Some((group, shift)), entries.get(at).copied());
+        }
+    }
+    laws::layers();
     Ok(())
 }
 
