@@ -1,7 +1,6 @@
 //! The entries of each layer: which rows its checks read, and how far turned.
 ghost use Rattle.std.specs.Prelude.{◌≡◌, ◌++◌, ℕ, ◌+◌, ◌*◌, ◌<◌, ◌≤◌, IfOk, OnOk, map, length};
-ghost use Rattle.s2_mode.specs.Shape.{code_bits};
-ghost use Rattle.s2_matrix.specs.Code.{code_of, members, checks_of};
+ghost use Rattle.s2_matrix.specs.Code.{code_of, members};
 ghost use Rattle.s2_minsum.specs.Layout.{entry_of, entry_count, last_check};
 ghost use Rattle.s2_minsum.specs.Decoding.{AreLayers};
 
@@ -23,15 +22,6 @@ fn add_entries(matrix: &Matrix, r: usize, entries: &mut Vec<Entry>) -> Result<()
     Ok(())
 }
 
-/// A bit is in at most 24 checks: the matrix says so bit by bit.
-fn see_few_checks(matrix: &Matrix)
-    ensures { (i : ℕ) → i < code_bits matrix.now.shape → length (checks_of (code_of matrix.now) i) ≤ 24 }
-{
-    for bit in 0..matrix.bits() {
-        let _degree = matrix.bit_degree(bit);
-    }
-}
-
 /// The entries of all layers, and where those of each layer begin; the last place is where all end.
 #[derive(Drop)]
 pub struct Layers {
@@ -44,7 +34,8 @@ pub fn layers_of(alloc: Global, matrix: &Matrix) -> Result<Layers, AllocError>
     ensures are { IfOk result (λ t. AreLayers matrix.now t.entries.items t.firsts.items) }
     ensures few { IfOk result (λ t. length t.entries.items ≤ 64800 * 64800) }
 {
-    see_few_checks(matrix);
+    // What it promises of the bits is a part of what is promised here.
+    let _bits = matrix.bits();
     let shape = matrix.shape();
     let mut entries = Vec::new(alloc);
     let mut firsts = Vec::new(alloc);

@@ -39,3 +39,8 @@ pub use decoder::Decoder;
 pub use entries::{Layers, layers_of};
 pub use limits::{MOST_MESSAGE, MOST_SOFT, SIZE_CAP};
 pub use rows::Entry;
+
+#[cfg(test)]
+mod agreement;
+#[cfg(test)]
+mod tests;

@@ -1,4 +1,4 @@
-//! Small codes by hand, and the lanes against the rule, message by message.
+//! Small codes against a small program in another language (bench/minsum/values.py).
 ghost use Rattle.std.specs.Prelude.{◌≡◌, ◌<◌, IfOk, length};
 ghost use Rattle.s2_mode.specs.Shape.{code_bits};
 ghost use Rattle.s2_matrix.specs.Code.{code_of};

@@ -1,0 +1,58 @@
+"""Values of layered min-sum on small codes, by the rule's description, as the tests of s2_minsum have them.
+
+A code is the size of a group, how many groups, q, and the address rows; `run` gives the posteriors, and the messages check
+by check, after so many rounds, or after one layer of the first.
+"""
+
+
+def members(group, groups, q, rows):
+    """The members of each check, rising."""
+    k, m = group * groups, group * q
+    checks = [set() for _ in range(m)]
+    for g, row in enumerate(rows):
+        for i in range(group):
+            for x in row:
+                checks[(x + i * q) % m].add(g * group + i)
+    for j in range(m):
+        checks[j].add(k + j)
+        if j:
+            checks[j].add(k + j - 1)
+    return [sorted(check) for check in checks]
+
+
+def message(inputs):
+    """What the inputs of the other members make."""
+    least = min([127] + [abs(v) for v in inputs])
+    sign = -1 if sum(v < 0 for v in inputs) % 2 else 1
+    return sign * (least - least // 4)
+
+
+def run(group, groups, q, rows, soft, rounds, layers=None):
+    checks = members(group, groups, q, rows)
+    sent = {(j, i): 0 for j, check in enumerate(checks) for i in check}
+
+    def posteriors():
+        sums = list(soft)
+        for (_, i), v in sent.items():
+            sums[i] += v
+        return sums
+
+    for _ in range(rounds):
+        for r in range(q if layers is None else layers):
+            before = posteriors()
+            new = {}
+            for j in range(r, len(checks), q):
+                inputs = {i: before[i] - sent[j, i] for i in checks[j]}
+                for i in checks[j]:
+                    new[j, i] = message([inputs[x] for x in checks[j] if x != i])
+            sent.update(new)
+    return posteriors(), [sent[j, i] for j, check in enumerate(checks) for i in check]
+
+
+if __name__ == "__main__":
+    toy = [[0, 4, 8], [0, 1, 2]]
+    print("ONE_WRONG_AFTER, _SENT", *run(4, 2, 3, toy, [-4] + [10] * 19, 1, layers=1))
+    print("TWICE_AFTER", run(4, 1, 3, [[0, 3]], [8] * 16, 1, layers=1)[0])
+    print("GROWN", run(4, 2, 3, toy, [63] * 20, 5)[0])
+    print("a check of one member", run(1, 1, 2, [[1]], [63] * 3, 1, layers=1)[1])
+    print("pairs", run(1, 1, 1, [[0]], [-5, 3], 1)[0], run(1, 1, 1, [[0]], [-5, 5], 3)[0])
