@@ -10,10 +10,9 @@ use Rattle.s2_matrix.specs.Code.{Code, members, checks_of, first_edge, edge_of}
 use Rattle.s2_matrix.proofs.Totals.{upto_more}
 use Rattle.s2_matrix.proofs.Members.{first_edge_more, first_edge-le, place_in_members, place_of, members_rising}
 use Rattle.s2_check.specs.Split.{Split, split_of}
-use Rattle.s2_check.specs.Moves.{listed, all_shares, moves, moves_of}
+use Rattle.s2_check.specs.Moves.{listed, all_shares, moves}
 use Rattle.s2_bits.specs.Bits.{bit_at}
 use Rattle.std.proofs.lemmas.Int.{ints}
-use Rattle.std.proofs.lemmas.List.{get_or_past}
 use Rattle.std.proofs.lemmas.List.Elements.{All-nil, All-append, All-map}
 
 pub listed-append : (f : ℕ → List ℤ) (xs ys : List ℕ) → listed f (xs ++ ys) ≡ listed f xs ++ listed f ys
@@ -82,23 +81,11 @@ all_listed : (P : ℤ → Type 0) (f : ℕ → List ℤ) (js : List ℕ) → ((j
 all_listed P f [] h = All-nil P
 all_listed P f (j ∷ js) h = All-append P (f j) (listed f js) (h j) (all_listed P f js h)
 
-small_amount : (amounts : List ℕ) (j : ℕ) → All (λ a. a < 2147483648) amounts → get_or amounts j 0 < 2147483648
-small_amount amounts j h =
-    elim (cases_lt j (length amounts)) [
-      | inl low ↦ h j 0 low
-      | inr past ↦ (let none = get_or_past amounts j 0 past in omega arith)
-    ]
-
 fits_signs : (a b : Bool) (v : ℕ) → v < 2147483648 → FitsSigned w32 (cond a (neg_ℤ (cond b (neg_ℤ (pos v)) (pos v))) (cond b (neg_ℤ (pos v)) (pos v)))
 fits_signs true true v h = omega (arith, ints)
 fits_signs true false v h = omega (arith, ints)
 fits_signs false true v h = omega (arith, ints)
 fits_signs false false v h = omega (arith, ints)
-
-pub moved_fit : (code : Code) (word : List Bool) (targets amounts : List ℕ) → All (λ a. a < 2147483648) amounts → All (FitsSigned w32) (all_shares code (moves_of word 1 targets amounts))
-moved_fit code word targets amounts small =
-    let split = moves_of word 1 targets amounts in
-    all_listed (FitsSigned w32) (λ j. map (split.share j) (members code j)) (upto code.checks) (λ j. All-map (FitsSigned w32) (split.share j) (members code j) (λ k d within. let i = get_or (members code j) k d in fits_signs (bit_at word i) (i == get_or targets j 0) (get_or amounts j 0) (small_amount amounts j small)))
 
 pub moves_fit : (code : Code) (word : List Bool) (target amount : ℕ → ℕ) → ((j : ℕ) → amount j < 2147483648) → All (FitsSigned w32) (all_shares code (moves word 1 target amount))
 moves_fit code word target amount small =

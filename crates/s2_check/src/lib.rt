@@ -26,8 +26,6 @@ mod local;
 mod moved;
 mod moved_bound;
 mod moved_sums;
-mod placed;
-mod placed_bound;
 mod shares;
 mod step;
 mod sums;

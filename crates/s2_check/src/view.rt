@@ -10,7 +10,7 @@ ghost use Rattle.s2_bits.specs.Bits.{bit_at};
 ghost use Rattle.s2_check.specs.Cost.{cost, value_at};
 ghost use Rattle.s2_matrix.specs.Code.{code_of, first_edge, IsCodeword};
 ghost use Rattle.s2_check.specs.Split.{bound, split_of};
-ghost use Rattle.s2_check.specs.Moves.{AreMoves, ArePlaced, moves_of, placed_of};
+ghost use Rattle.s2_check.specs.Moves.{ArePlaced, placed_of};
 ghost use Rattle.s2_check.specs.Views.{IsView, IsSoft, IsOfShape, listed_view, unsplit_view, split_view};
 ghost use Rattle.s2_file.specs.Limits.{most_scale, most_shares};
 
@@ -18,7 +18,6 @@ use crate::hard::cost;
 use crate::moved::share_at;
 use crate::moved_bound::{is_same, moved_bound};
 use crate::moved_sums::{moved_bits_bound, moved_checks_bound};
-use crate::placed_bound::placed_bound;
 use crate::shares::Shares;
 use crate::step::Move;
 use crate::sums::{bits_bound, checks_bound, unsplit_bound};
@@ -71,41 +70,10 @@ impl<'a> CertView<'a> {
         }
     }
 
-    /// The certificate of moves: in each check an amount is moved to one target, at most 2^31 - 1,
-    /// from every other member. There is a target, a position in a codeword, and an amount for each
-    /// check of the matrix; targets where nothing is moved don't matter. It takes no memory.
-    pub fn moved(
-        matrix: &'a Matrix,
-        scale: u16,
-        soft: &'a [i16],
-        word: &'a Bits,
-        targets: &'a [u32],
-        amounts: &'a [u32],
-    ) -> CertView<'a>
-        requires scale_some { 1 ≤ scale }
-        requires scale_most { scale ≤ most_scale }
-        requires soft { length soft.now ≡ (code_of matrix.now).bits }
-        requires range { All IsSoft soft.now }
-        requires moves { AreMoves (code_of matrix.now) word.now targets.now amounts.now }
-        ensures { result ≡ split_view matrix.now scale soft.now word.now (moves_of word.now 1 targets.now amounts.now) }
-    {
-        let shape = matrix.shape();
-        let _count = matrix.edges();
-        CertView {
-            shape,
-            scale,
-            soft,
-            word,
-            shares: Shares::Moved {
-                matrix,
-                word,
-                targets,
-                amounts,
-            },
-        }
-    }
-
-    /// The certificate of moves by places. It takes no memory.
+    /// The certificate of moves: in each check an amount is moved to one member, the target, from
+    /// every other member. There is a move for each check of the matrix, in favour of the word. A
+    /// place is below its check's degree, and 0 where the amount is 0; an amount is at most
+    /// 2^31 - 1. It takes no memory.
     pub fn placed(
         matrix: &'a Matrix,
         scale: u16,
@@ -127,7 +95,7 @@ impl<'a> CertView<'a> {
             scale,
             soft,
             word,
-            shares: Shares::Placed {
+            shares: Shares::Moved {
                 matrix,
                 word,
                 moves,
@@ -202,23 +170,10 @@ impl<'a> CertView<'a> {
             Shares::Moved {
                 matrix: own,
                 word,
-                targets,
-                amounts,
-            } => {
-                if is_same(own, matrix) {
-                    return moved_bound(own, self.scale, self.soft, word, targets, amounts);
-                }
-                let shares = self.shares;
-                moved_checks_bound(matrix, self.scale, shares)
-                    + moved_bits_bound(matrix, self.scale, self.soft, shares)
-            }
-            Shares::Placed {
-                matrix: own,
-                word,
                 moves,
             } => {
                 if is_same(own, matrix) {
-                    return placed_bound(own, self.scale, self.soft, word, moves);
+                    return moved_bound(own, self.scale, self.soft, word, moves);
                 }
                 let shares = self.shares;
                 moved_checks_bound(matrix, self.scale, shares)
@@ -277,7 +232,6 @@ impl<'a> CertView<'a> {
             Shares::Zeros(count) => count,
             Shares::Listed(list) => list.len(),
             Shares::Moved { matrix, .. } => matrix.edges(),
-            Shares::Placed { matrix, .. } => matrix.edges(),
         }
     }
 

@@ -1,5 +1,5 @@
 //! The shares of a view, written.
-ghost use Rattle.std.specs.Prelude.{◌≡◌, ◌-◌, ◌^◌, ◌<◌, OnOk, length, map, pos, replicate};
+ghost use Rattle.std.specs.Prelude.{◌≡◌, ◌-◌, ◌^◌, ◌<◌, OnOk, map, pos, replicate};
 ghost use Rattle.std.specs.List.{flat_map};
 ghost use Rattle.std.specs.Io.KnownBytes.{Appends, append_known};
 ghost use Rattle.s2_mode.specs.Counts.{CountsFault};
@@ -8,8 +8,7 @@ ghost use Rattle.s2_matrix.specs.Code.{code_of, members};
 ghost use Rattle.s2_check.specs.Held.{shares_of, AreHeld};
 ghost use Rattle.s2_check.specs.Moves.{all_shares, placed_of, ArePlaced};
 
-use crate::moved::share_at;
-use crate::placed::member_share;
+use crate::moved::member_share;
 use crate::shares::Shares;
 use crate::step::Move;
 use s2_bits::Bits;
@@ -45,25 +44,6 @@ fn write_list<W: CountedWrite>(out: &mut W, page: &mut Page, list: &[i32]) -> Re
     Ok(())
 }
 
-/// Writes the first shares, one by one.
-fn write_moved<W: CountedWrite>(
-    out: &mut W,
-    page: &mut Page,
-    shares: Shares<'_>,
-    count: usize,
-) -> Result<(), WriteFault>
-    requires count { W.count out.old < 2 ^ 64 - 1 }
-    requires held { AreHeld shares }
-    requires all { count ≡ length (shares_of shares) }
-    ensures bytes { OnOk result (Appends (append_known (W.contents out.old) page.old.items) (append_known (W.contents out.new) page.new.items) (flat_map share.bytes (shares_of shares.entry))) }
-    ensures cause { CountsFault (W.count out.old) (W.count out.new) result }
-{
-    for edge in 0..count {
-        write_share(out, page, share_at(shares, edge))?;
-    }
-    Ok(())
-}
-
 /// Writes the shares of a check by moves, members rising.
 fn write_check<W: CountedWrite>(
     out: &mut W,
@@ -86,7 +66,7 @@ fn write_check<W: CountedWrite>(
 }
 
 /// Writes the shares of moves, check by check.
-fn write_placed<W: CountedWrite>(
+fn write_moved<W: CountedWrite>(
     out: &mut W,
     page: &mut Page,
     matrix: &Matrix,
@@ -118,11 +98,10 @@ pub(crate) fn write_shares<W: CountedWrite>(
     match shares {
         Shares::Zeros(count) => write_zeros(out, page, count),
         Shares::Listed(list) => write_list(out, page, list),
-        Shares::Moved { matrix, .. } => write_moved(out, page, shares, matrix.edges()),
-        Shares::Placed {
+        Shares::Moved {
             matrix,
             word,
             moves,
-        } => write_placed(out, page, matrix, word, moves),
+        } => write_moved(out, page, matrix, word, moves),
     }
 }

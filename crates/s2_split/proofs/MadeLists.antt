@@ -6,7 +6,8 @@ use Rattle.s2_matrix.specs.Total.{upto, total}
 use Rattle.s2_matrix.specs.Code.{Code, members, checks_of}
 use Rattle.s2_matrix.proofs.Totals.{total-zero, total-same}
 use Rattle.s2_matrix.proofs.Members.{upto_below}
-use Rattle.s2_check.specs.Moves.{in_favour, moves, moves_of, listed, all_shares}
+use Rattle.s2_check.specs.Moves.{in_favour, moves, no_move, placed_of, listed, all_shares}
+use Rattle.s2_check.specs.declared.step.Move.{Move}
 use Rattle.s2_check.specs.Split.{Split}
 use Rattle.s2_split.specs.Making.{Shared, shared}
 use Rattle.s2_split.specs.Spreading.{has_no_negative_rest, spread, split_by, made_split}
@@ -16,9 +17,10 @@ use Rattle.s2_check.specs.Cost.{value_at}
 use Rattle.s2_check.specs.Views.{IsSoft}
 use Rattle.std.proofs.lemmas.Bool.{cases_eq, cases_lt}
 use Rattle.std.proofs.lemmas.List.{get_or_past, get_or_default}
-use Rattle.s2_split.specs.Kept.{scaled_at, AreLow, AreRests, AreHeldMoves, AreKept, Ends}
+use Rattle.s2_split.specs.Kept.{scaled_at, AreLow, AreRests, IsHeld, AreHeldMoves, AreKept, Ends}
 use Rattle.s2_split.proofs.FittingLemmas.{none_given'}
 use Rattle.s2_split.proofs.Shifts.{given, scaled_rest}
+use Rattle.s2_split.proofs.Steps.{held_as}
 
 listed_same : (f g : ℕ → List ℤ) (js : List ℕ) → All (λ j. f j ≡ g j) js → listed f js ≡ listed g js
 listed_same f g [] h = refl
@@ -35,22 +37,23 @@ row_of_none word [] t t' = refl
 row_of_none word (m ∷ ms) t t' =
     ap₂ (λ (v : ℤ) (vs : List ℤ). v ∷ vs) (ap (in_favour word m) (nothing (m == t) ∙ sym (nothing (m == t')))) (row_of_none word ms t t')
 
-pub same_shares : (code : Code) (word : List Bool) (s : ℕ) (m : Moved) (targets amounts : List ℕ) → AreHeldMoves code m targets amounts → all_shares code (moves word s m.target m.amount) ≡ all_shares code (moves_of word 1 targets amounts)
-same_shares code word s m targets amounts h =
+pub same_shares : (code : Code) (word : List Bool) (s : ℕ) (m : Moved) (ms : List Move) → AreHeldMoves code m ms → all_shares code (moves word s m.target m.amount) ≡ all_shares code (placed_of code word 1 ms)
+same_shares code word s m ms h =
     let row = λ (t a j : ℕ). map (λ i. in_favour word i (cond (i == t) (neg_ℤ (pos a)) (pos a))) (members code j) in
-    listed_same (λ j. row (m.target j) (m.amount j) j) (λ j. row (get_or targets j 0) (get_or amounts j 0) j) (upto code.checks) (λ k d within. (
+    let at = λ (j : ℕ). get_or (members code j) (get_or ms j no_move).place 0 in
+    listed_same (λ j. row (m.target j) (m.amount j) j) (λ j. row (at j) (get_or ms j no_move).amount j) (upto code.checks) (λ k d within. (
     let j = get_or (upto code.checks) k d in
-    let low = upto_below code.checks k d within in
-    let held = sym (h.amounts_are j low) in
+    let here = h.each j (upto_below code.checks k d within) in
+    let held = sym here.amount_is in
     elim (cases_eq (m.amount j) 0) [
-      | inl none ↦ ap (λ a. row (m.target j) a j) none ∙ row_of_none word (members code j) (m.target j) (get_or targets j 0) ∙ ap (λ a. row (get_or targets j 0) a j) (sym none ∙ held)
-      | inr some ↦ ap₂ (λ t a. row t a j) (sym (h.targets_are j low some)) held
+      | inl none ↦ ap (λ a. row (m.target j) a j) none ∙ row_of_none word (members code j) (m.target j) (at j) ∙ ap (λ a. row (at j) a j) (sym none ∙ held)
+      | inr some ↦ ap₂ (λ t a. row t a j) (sym (here.target_is some)) held
     ]
     ))
 
 -- before any move
-pub start_kept : (code : Code) (soft : List ℤ) (word : List Bool) (s : ℕ) (rests : List ℤ) (targets amounts : List ℕ) → length rests ≡ code.bits → length targets ≡ code.checks → length amounts ≡ code.checks → ((i : ℕ) → i < code.bits → get_or rests i (pos 0) ≡ scaled_at soft word s i) → ((j : ℕ) → j < code.checks → get_or amounts j 0 ≡ 0) → AreKept code soft word s none_moved rests targets amounts
-start_kept code soft word s rests targets amounts lr lt la are as' = record {
+pub start_kept : (code : Code) (soft : List ℤ) (word : List Bool) (s : ℕ) (rests : List ℤ) (ms : List Move) → length rests ≡ code.bits → length ms ≡ code.checks → ((j : ℕ) → j < code.checks → 1 ≤ length (members code j)) → ((i : ℕ) → i < code.bits → get_or rests i (pos 0) ≡ scaled_at soft word s i) → ((j : ℕ) → get_or ms j no_move ≡ no_move) → AreKept code soft word s none_moved rests ms
+start_kept code soft word s rests ms lr lm some are none_held = record {
   left = record {
     long = lr;
     are = λ i low. (
@@ -62,16 +65,11 @@ start_kept code soft word s rests targets amounts lr lt la are as' = record {
         );
     small = λ j low. omega arith;
   };
-  held = record { targets_long = lt; amounts_long = la; targets_are = λ j low some. absurd (some refl); amounts_are = as' };
+  held = record {
+    long = lm;
+    each = λ j low. held_as code j 0 0 0 0 no_move (get_or ms j no_move) refl refl (none_held j) (record { place = some j low; amount_is = refl; target_is = λ moved. absurd (moved refl); unmoved = λ _. refl });
+  };
 }
-
-pub amounts_small : (code : Code) (m : Moved) (soft : List ℤ) (word : List Bool) (s : ℕ) (rests : List ℤ) (targets amounts : List ℕ) → AreKept code soft word s m rests targets amounts → All (λ a. a < 2147483648) amounts
-amounts_small code m soft word s rests targets amounts kept k d within =
-    let low : k < code.checks = omega (arith, kept.held.amounts_long) in
-    let is = kept.held.amounts_are k low in
-    let small = kept.left.small k low in
-    let same : get_or amounts k d ≡ get_or amounts k 0 = get_or_default amounts k d 0 within in
-    omega (arith, same)
 
 low_signs : (b : Bool) (v : ℤ) → neg_ℤ (pos 63) ≤ℤ v → v ≤ℤ pos 63 → neg_ℤ (pos 63) ≤ℤ cond b (neg_ℤ v) v
 low_signs true v l h = omega (arith, ints)
@@ -101,16 +99,16 @@ shared_if code b split other e = ap (λ t. shared code (cond t (Some split) othe
 shared_else : (code : Code) (b : Bool) (split : Split) (other : Option Split) → b ≡ false → shared code (cond b (Some split) other) ≡ shared code other
 shared_else code b split other e = ap (λ t. shared code (cond t (Some split) other)) e
 
-pub made_greedy : (code : Code) (soft : List ℤ) (word : List Bool) (rests : List ℤ) (targets amounts : List ℕ) → AreKept code soft word 1 (greedy code soft word) rests targets amounts → has_no_negative_rest code soft word 1 (greedy code soft word) ≡ true → Some (record { scale = 1; shares = all_shares code (moves_of word 1 targets amounts) }) ≡ shared code (made_split code soft word)
-made_greedy code soft word rests targets amounts kept h =
+pub made_greedy : (code : Code) (soft : List ℤ) (word : List Bool) (rests : List ℤ) (ms : List Move) → AreKept code soft word 1 (greedy code soft word) rests ms → has_no_negative_rest code soft word 1 (greedy code soft word) ≡ true → Some (record { scale = 1; shares = all_shares code (placed_of code word 1 ms) }) ≡ shared code (made_split code soft word)
+made_greedy code soft word rests ms kept h =
     let g = greedy code soft word in
-    sym (shared_if code (has_no_negative_rest code soft word 1 g) (moves word 1 g.target g.amount) (split_by word 16 (spread code soft word 64 none_moved)) h ∙ ap (λ (l : List ℤ). Some (record { scale = 1; shares = l })) (same_shares code word 1 g targets amounts kept.held))
+    sym (shared_if code (has_no_negative_rest code soft word 1 g) (moves word 1 g.target g.amount) (split_by word 16 (spread code soft word 64 none_moved)) h ∙ ap (λ (l : List ℤ). Some (record { scale = 1; shares = l })) (same_shares code word 1 g ms kept.held))
 
-pub made_spread : (code : Code) (soft : List ℤ) (word : List Bool) (found : Bool) (rests : List ℤ) (targets amounts : List ℕ) → Ends code soft word (spread code soft word 64 none_moved) found rests targets amounts → has_no_negative_rest code soft word 1 (greedy code soft word) ≡ false → cond found (Some (record { scale = 16; shares = all_shares code (moves_of word 1 targets amounts) })) None ≡ shared code (made_split code soft word)
-made_spread code soft word found rests targets amounts ends h =
+pub made_spread : (code : Code) (soft : List ℤ) (word : List Bool) (found : Bool) (rests : List ℤ) (ms : List Move) → Ends code soft word (spread code soft word 64 none_moved) found rests ms → has_no_negative_rest code soft word 1 (greedy code soft word) ≡ false → cond found (Some (record { scale = 16; shares = all_shares code (placed_of code word 1 ms) })) None ≡ shared code (made_split code soft word)
+made_spread code soft word found rests ms ends h =
     let g = greedy code soft word in
     go (spread code soft word 64 none_moved) ends ∙ sym (shared_else code (has_no_negative_rest code soft word 1 g) (moves word 1 g.target g.amount) (split_by word 16 (spread code soft word 64 none_moved)) h)
   where
-    go : (o : Option Moved) → Ends code soft word o found rests targets amounts → cond found (Some (record { scale = 16; shares = all_shares code (moves_of word 1 targets amounts) })) None ≡ shared code (split_by word 16 o)
-    go None e = ap (λ b. cond b (Some (record { scale = 16; shares = all_shares code (moves_of word 1 targets amounts) })) None) e
-    go (Some m) e = ap (λ b. cond b (Some (record { scale = 16; shares = all_shares code (moves_of word 1 targets amounts) })) None) e.0 ∙ ap (λ (l : List ℤ). Some (record { scale = 16; shares = l })) (sym (same_shares code word 16 m targets amounts e.1.held))
+    go : (o : Option Moved) → Ends code soft word o found rests ms → cond found (Some (record { scale = 16; shares = all_shares code (placed_of code word 1 ms) })) None ≡ shared code (split_by word 16 o)
+    go None e = ap (λ b. cond b (Some (record { scale = 16; shares = all_shares code (placed_of code word 1 ms) })) None) e
+    go (Some m) e = ap (λ b. cond b (Some (record { scale = 16; shares = all_shares code (placed_of code word 1 ms) })) None) e.0 ∙ ap (λ (l : List ℤ). Some (record { scale = 16; shares = l })) (sym (same_shares code word 16 m ms e.1.held))

@@ -4,19 +4,22 @@ use Rattle.std.specs.Int.{int_min}
 use Rattle.std.specs.List.{AllPairs, list_any}
 use Rattle.std.proofs.lemmas.Bool.{cases_Bool, cases_eq, cond-true, cond-false, ltb-true}
 use Rattle.std.proofs.lemmas.Int.{ints}
+use Rattle.std.proofs.lemmas.List.{set-get_or}
 use Rattle.std.proofs.lemmas.List.Elements.{All-filter, All-head, All-tail}
 use Rattle.s2_matrix.specs.Code.{Code, members}
 use Rattle.s2_matrix.proofs.Members.{members_below}
+use Rattle.s2_check.specs.Moves.{no_move}
+use Rattle.s2_check.specs.declared.step.Move.{Move}
 use Rattle.s2_split.specs.Scattered.{least_of}
 use Rattle.s2_split.specs.Greedy.{Moved, rest_at, put}
 use Rattle.s2_split.specs.Spreading.{least_member, spread_amount, amount_to, give_back, spread_to, spread_check}
-use Rattle.s2_split.specs.Kept.{taken_at, AreRests, AreHeldMoves, AreKept}
+use Rattle.s2_split.specs.Kept.{taken_at, AreRests, IsHeld, AreKept}
 use Rattle.s2_split.proofs.MovesLemmas.{amount_at}
 use Rattle.s2_split.proofs.FittingLemmas.{none_given'}
 use Rattle.s2_split.proofs.GreedyLemmas.{put_same, put_other, map-same_in}
 use Rattle.s2_split.proofs.Shifts.{given, rest_change, taken_back}
 use Rattle.s2_split.proofs.Others.{least_is_fold}
-use Rattle.s2_split.proofs.Steps.{with_move, rests_given}
+use Rattle.s2_split.proofs.Steps.{with_move, rests_given, held_as, held_own, moves_after}
 
 -- ---- what is moved
 
@@ -101,30 +104,16 @@ rests_back code soft word s m j rests rests' r h long is = record {
   ];
 }
 
-moves_spread : (code : Code) (m : Moved) (j e d : ℕ) (targets amounts : List ℕ) → AreHeldMoves code m targets amounts → j < code.checks → AreHeldMoves code (with_move (give_back m j) j e d) (set targets j e) (set amounts j d)
-unfolding with_move
-moves_spread code m j e d targets amounts h low = record {
-  targets_long = length-set targets j e ∙ h.targets_long;
-  amounts_long = length-set amounts j d ∙ h.amounts_long;
-  targets_are = λ k within some. elim (cases_eq k j) [
-    | inl same ↦ ap (λ i. get_or (set targets j e) i 0) same ∙ get_or-set_same targets j e 0 (omega (arith, h.targets_long)) ∙ sym (ap (put m.target j e) same ∙ put_same m.target j e)
-    | inr other ↦ get_or-set_other targets j k e 0 other ∙ h.targets_are k within (λ none. some (put_other (put m.amount j 0) j d k other ∙ put_other m.amount j 0 k other ∙ none)) ∙ sym (put_other m.target j e k other)
-  ];
-  amounts_are = λ k within. elim (cases_eq k j) [
-    | inl same ↦ ap (λ i. get_or (set amounts j d) i 0) same ∙ get_or-set_same amounts j d 0 (omega (arith, h.amounts_long)) ∙ sym (ap (put (put m.amount j 0) j d) same ∙ put_same (put m.amount j 0) j d)
-    | inr other ↦ get_or-set_other amounts j k d 0 other ∙ h.amounts_are k within ∙ sym (put_other (put m.amount j 0) j d k other ∙ put_other m.amount j 0 k other)
-  ];
-}
-
 -- nothing is taken where nothing is moved
 either_none : (b c : Bool) → cond b (cond c (neg_ℤ (neg_ℤ (pos 0))) (neg_ℤ (pos 0))) (pos 0) ≡ pos 0
 either_none true true = refl
 either_none true false = refl
 either_none false c = refl
 
-taken_none : (ms : List ℕ) (t k : ℕ) → taken_at ms t (neg_ℤ (pos 0)) k ≡ pos 0
+pub taken_none : (ms : List ℕ) (t k : ℕ) → taken_at ms t (neg_ℤ (pos 0)) k ≡ pos 0
 taken_none ms t k = either_none (list_any (λ m. m == k) ms) (k == t)
 
+-- the target of what isn't moved doesn't matter
 taken_same : (ms : List ℕ) (t t' a a' k : ℕ) → a ≡ a' → (a' ≢ 0 → t ≡ t') → taken_at ms t (neg_ℤ (pos a)) k ≡ taken_at ms t' (neg_ℤ (pos a')) k
 taken_same ms t t' a a' k same to =
     elim (cases_eq a' 0) [
@@ -132,21 +121,52 @@ taken_same ms t t' a a' k same to =
       | inr some ↦ ap₂ (λ u v. taken_at ms u (neg_ℤ (pos v)) k) (to some) same
     ]
 
-pub spread_step : (code : Code) (soft : List ℤ) (word : List Bool) (m : Moved) (j e d : ℕ) (rests rests1 rests2 : List ℤ) (targets amounts : List ℕ) → AreKept code soft word 16 m rests targets amounts → j < code.checks → length rests1 ≡ length rests → ((k : ℕ) → get_or rests1 k (pos 0) ≡ get_or rests k (pos 0) -ℤ taken_at (members code j) (get_or targets j 0) (neg_ℤ (pos (get_or amounts j 0))) k) → e ≡ least_member (λ i. get_or rests1 i (pos 0)) (members code j) → d ≡ amount_to (λ i. get_or rests1 i (pos 0)) (members code j) e → d ≤ 1048576 → length rests2 ≡ length rests1 → ((k : ℕ) → get_or rests2 k (pos 0) ≡ get_or rests1 k (pos 0) -ℤ taken_at (members code j) e (pos d) k) → AreKept code soft word 16 (spread_check code soft word m j) rests2 (set targets j e) (set amounts j d)
+taken_to : (ms : List ℕ) (t t' a k : ℕ) → (a ≢ 0 → t ≡ t') → taken_at ms t (pos a) k ≡ taken_at ms t' (pos a) k
+taken_to ms t t' a k to =
+    elim (cases_eq a 0) [
+      | inl none ↦ ap (λ v. taken_at ms t (pos v) k) none ∙ taken_none ms t k ∙ sym (ap (λ v. taken_at ms t' (pos v) k) none ∙ taken_none ms t' k)
+      | inr some ↦ ap (λ u. taken_at ms u (pos a) k) (to some)
+    ]
+
+-- the member at a move's place
+abbrev pub target_of : Code → ℕ → Move → ℕ
+target_of code j own = get_or (members code j) own.place 0
+
+-- what these members move, to the one with the least rest
+pub record IsHeldAmong (ms : List ℕ) (f : ℕ → ℤ) (own : Move) : Type 0 where
+  pub place : own.place < length ms
+  pub amount_is : own.amount ≡ amount_to f ms (least_member f ms)
+  pub target_is : own.amount ≢ 0 → get_or ms own.place 0 ≡ least_member f ms
+  pub unmoved : own.amount ≡ 0 → own.place ≡ 0
+
+pub among_held : (code : Code) (j : ℕ) (f : ℕ → ℤ) (own : Move) → IsHeldAmong (members code j) f own → IsHeld code j (least_member f (members code j)) (amount_to f (members code j) (least_member f (members code j))) own
+among_held code j f own h = record {
+  place = h.place;
+  amount_is = h.amount_is;
+  target_is = λ some. h.target_is (λ none. some (sym h.amount_is ∙ none));
+  unmoved = λ none. h.unmoved (h.amount_is ∙ none);
+}
+
+pub spread_step : (code : Code) (soft : List ℤ) (word : List Bool) (m : Moved) (j : ℕ) (own : Move) (rests rests1 rests2 : List ℤ) (moves : List Move) → AreKept code soft word 16 m rests moves → j < code.checks → length rests1 ≡ length rests → ((k : ℕ) → get_or rests1 k (pos 0) ≡ get_or rests k (pos 0) -ℤ taken_at (members code j) (target_of code j (get_or moves j no_move)) (neg_ℤ (pos (get_or moves j no_move).amount)) k) → IsHeld code j (least_member (λ i. get_or rests1 i (pos 0)) (members code j)) (amount_to (λ i. get_or rests1 i (pos 0)) (members code j) (least_member (λ i. get_or rests1 i (pos 0)) (members code j))) own → own.amount ≤ 1048576 → length rests2 ≡ length rests1 → ((k : ℕ) → get_or rests2 k (pos 0) ≡ get_or rests1 k (pos 0) -ℤ taken_at (members code j) (target_of code j own) (pos own.amount) k) → AreKept code soft word 16 (spread_check code soft word m j) rests2 (set moves j own)
 unfolding with_move
-spread_step code soft word m j e d rests rests1 rests2 targets amounts kept h long1 is1 e_is d_is small long2 is2 =
+spread_step code soft word m j own rests rests1 rests2 moves kept h long1 is1 here small long2 is2 =
     let m1 = give_back m j in
     let ms = members code j in
+    let d = own.amount in
+    let was = get_or moves j no_move in
+    let held = kept.held.each j h in
     let f = λ (i : ℕ). get_or rests1 i (pos 0) in
     let g = rest_at code soft word 16 m1 in
-    let back = rests_back code soft word 16 m j rests rests1 kept.left h long1 (λ k. is1 k ∙ ap (λ v. get_or rests k (pos 0) -ℤ v) (taken_same ms (get_or targets j 0) (m.target j) (get_or amounts j 0) (m.amount j) k (kept.held.amounts_are j h) (kept.held.targets_are j h))) in
+    let back = rests_back code soft word 16 m j rests rests1 kept.left h long1 (λ k. is1 k ∙ ap (λ v. get_or rests k (pos 0) -ℤ v) (taken_same ms (target_of code j was) (m.target j) was.amount (m.amount j) k held.amount_is held.target_is)) in
     let all : All (λ x. f x ≡ g x) ms = λ k d' within. back.are (get_or ms k d') (members_below code j k d' within) in
-    let to : e ≡ least_member g ms = e_is ∙ least_member_same f g ms all in
-    let amount : d ≡ amount_to g ms (least_member g ms) = d_is ∙ ap (amount_to f ms) e_is ∙ amount_same f g ms all in
-    let is : with_move m1 j e d ≡ spread_check code soft word m j = ap₂ (with_move m1 j) to amount in
-    subst (λ (n : Moved). AreKept code soft word 16 n rests2 (set targets j e) (set amounts j d)) is (record {
-      left = rests_given code soft word 16 m1 j e d rests1 rests2 back h (put_same m.amount j 0) small long2 is2;
-      held = moves_spread code m j e d targets amounts kept.held h;
+    let e = least_member g ms in
+    let to : least_member f ms ≡ e = least_member_same f g ms all in
+    let amount : d ≡ amount_to g ms e = here.amount_is ∙ amount_same f g ms all in
+    let is : with_move m1 j e d ≡ spread_check code soft word m j = ap (with_move m1 j e) amount in
+    let own_is : IsHeld code j e d own = held_as code j (least_member f ms) e d d own own (sym to) refl refl (held_own code j (least_member f ms) (amount_to f ms (least_member f ms)) own here) in
+    subst (λ (n : Moved). AreKept code soft word 16 n rests2 (set moves j own)) is (record {
+      left = rests_given code soft word 16 m1 j e d rests1 rests2 back h (put_same m.amount j 0) small long2 (λ k. is2 k ∙ ap (λ v. get_or rests1 k (pos 0) -ℤ v) (taken_to ms (target_of code j own) e d k own_is.target_is));
+      held = moves_after code m m1 j e d own moves kept.held h own_is (λ k other. (refl, put_other m.amount j 0 k other));
     })
 
 -- ---- a check that is passed over
@@ -170,37 +190,25 @@ nothing_moved f ms all =
       | inr few ↦ cond-false (nat_lt 1 (length ms)) _ 0 few
     ]
 
--- without its target the list still shows the moves of a check that moves nothing
-held_unset : (code : Code) (m : Moved) (j e : ℕ) (targets amounts : List ℕ) → j < code.checks → m.amount j ≡ 0 → get_or amounts j 0 ≡ 0 → length targets ≡ code.checks → length amounts ≡ code.checks → AreHeldMoves code m (set targets j e) (set amounts j 0) → AreHeldMoves code m targets amounts
-held_unset code m j e targets amounts low none zero_held long_t long_a h = record {
-  targets_long = long_t;
-  amounts_long = long_a;
-  targets_are = λ k within some. elim (cases_eq k j) [
-    | inl same ↦ absurd (some (ap m.amount same ∙ none))
-    | inr other ↦ sym (get_or-set_other targets j k e 0 other) ∙ h.targets_are k within some
-  ];
-  amounts_are = λ k within. elim (cases_eq k j) [
-    | inl same ↦ ap (λ i. get_or amounts i 0) same ∙ zero_held ∙ sym (ap m.amount same ∙ none)
-    | inr other ↦ sym (get_or-set_other amounts j k 0 0 other) ∙ h.amounts_are k within
-  ];
-}
-
 -- a check that holds no amount, and none of whose members has a negative rest
-pub idle_step : (code : Code) (soft : List ℤ) (word : List Bool) (m : Moved) (j : ℕ) (rests : List ℤ) (targets amounts : List ℕ) → AreKept code soft word 16 m rests targets amounts → j < code.checks → get_or amounts j 0 ≡ 0 → All (λ i. pos 0 ≤ℤ get_or rests i (pos 0)) (members code j) → AreKept code soft word 16 (spread_check code soft word m j) rests targets amounts
-idle_step code soft word m j rests targets amounts kept h zero_held all =
+pub idle_step : (code : Code) (soft : List ℤ) (word : List Bool) (m : Moved) (j : ℕ) (rests : List ℤ) (moves : List Move) → AreKept code soft word 16 m rests moves → j < code.checks → (get_or moves j no_move).amount ≡ 0 → All (λ i. pos 0 ≤ℤ get_or rests i (pos 0)) (members code j) → AreKept code soft word 16 (spread_check code soft word m j) rests moves
+idle_step code soft word m j rests moves kept h none_held all =
     let ms = members code j in
     let f = λ (i : ℕ). get_or rests i (pos 0) in
-    let e = least_member f ms in
-    let d_is : 0 ≡ amount_to f ms e = sym (nothing_moved f ms all) in
-    let stays = λ (k : ℕ). (let none = ap (λ a. taken_at ms (get_or targets j 0) (neg_ℤ (pos a)) k) zero_held ∙ taken_none ms (get_or targets j 0) k in let same : f k ≡ f k -ℤ taken_at ms (get_or targets j 0) (neg_ℤ (pos (get_or amounts j 0))) k = omega (arith, ints, none) in same) in
-    let still = λ (k : ℕ). (let none = taken_none ms e k in let same : f k ≡ f k -ℤ taken_at ms e (pos 0) k = omega (arith, ints, none) in same) in
-    let after = spread_step code soft word m j e 0 rests rests rests targets amounts kept h refl stays refl d_is (omega arith) refl still in
-    let held = after.held.amounts_are j h in
-    let none = sym held ∙ get_or-set_same amounts j 0 0 (omega (arith, kept.held.amounts_long)) in
-    record {
-      left = after.left;
-      held = held_unset code (spread_check code soft word m j) j e targets amounts h none zero_held kept.held.targets_long kept.held.amounts_long after.held;
-    }
+    let own = get_or moves j no_move in
+    let t = target_of code j own in
+    let was = kept.held.each j h in
+    let none : amount_to f ms (least_member f ms) ≡ 0 = nothing_moved f ms all in
+    let here : IsHeld code j (least_member f ms) (amount_to f ms (least_member f ms)) own = record {
+      place = was.place;
+      amount_is = none_held ∙ sym none;
+      target_is = λ some. absurd (some none);
+      unmoved = λ _. was.unmoved (sym was.amount_is ∙ none_held);
+    } in
+    let stays = λ (k : ℕ). (let nil = ap (λ a. taken_at ms t (neg_ℤ (pos a)) k) none_held ∙ taken_none ms t k in let same : f k ≡ f k -ℤ taken_at ms t (neg_ℤ (pos own.amount)) k = omega (arith, ints, nil) in same) in
+    let still = λ (k : ℕ). (let nil = ap (λ a. taken_at ms t (pos a) k) none_held ∙ taken_none ms t k in let same : f k ≡ f k -ℤ taken_at ms t (pos own.amount) k = omega (arith, ints, nil) in same) in
+    let after = spread_step code soft word m j own rests rests rests moves kept h refl stays here (omega (arith, none_held)) refl still in
+    subst (λ (l : List Move). AreKept code soft word 16 (spread_check code soft word m j) rests l) (set-get_or moves j no_move) after
 
 -- a change of a rest by one amount
 pub still_within : (ms : List ℕ) (t k : ℕ) (a old new : ℤ) → new ≡ old -ℤ taken_at ms t a k → neg_ℤ (pos 1048576) ≤ℤ a → a ≤ℤ pos 1048576 → (neg_ℤ (pos 30000000) ≤ℤ old) × (old ≤ℤ pos 30000000) → (neg_ℤ (pos 900000000) ≤ℤ new) × (new ≤ℤ pos 900000000)

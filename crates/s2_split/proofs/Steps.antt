@@ -5,9 +5,11 @@ use Rattle.std.proofs.lemmas.Int.{ints}
 use Rattle.std.proofs.lemmas.List.Elements.{All-filter}
 use Rattle.s2_matrix.specs.Code.{Code, members}
 use Rattle.s2_matrix.proofs.Members.{members_below}
+use Rattle.s2_check.specs.Moves.{no_move}
+use Rattle.s2_check.specs.declared.step.Move.{Move}
 use Rattle.s2_split.specs.Scattered.{least_of}
 use Rattle.s2_split.specs.Greedy.{Moved, rest_at, put, free_for, amount_for, move_to}
-use Rattle.s2_split.specs.Kept.{taken_at, AreRests, AreHeldMoves, AreKept}
+use Rattle.s2_split.specs.Kept.{taken_at, AreRests, IsHeld, AreHeldMoves, AreKept}
 use Rattle.s2_split.proofs.MovesLemmas.{amount_at}
 use Rattle.s2_split.proofs.FittingLemmas.{none_given'}
 use Rattle.s2_split.proofs.GreedyLemmas.{put_same, put_other, map-same_in}
@@ -42,20 +44,36 @@ rests_after code soft word s m j e d rests rests' r h small long is = record {
   ];
 }
 
-pub moves_after : (code : Code) (m : Moved) (j e d : ℕ) (targets amounts : List ℕ) → AreHeldMoves code m targets amounts → j < code.checks → AreHeldMoves code (with_move m j e d) (set targets j e) (set amounts j d)
+target_new : (m : Moved) (j e d : ℕ) → (with_move m j e d).target j ≡ e
 unfolding with_move
-moves_after code m j e d targets amounts h low = record {
-  targets_long = length-set targets j e ∙ h.targets_long;
-  amounts_long = length-set amounts j d ∙ h.amounts_long;
-  targets_are = λ k within some. elim (cases_eq k j) [
-    | inl same ↦ ap (λ i. get_or (set targets j e) i 0) same ∙ get_or-set_same targets j e 0 (omega (arith, h.targets_long)) ∙ sym (ap (put m.target j e) same ∙ put_same m.target j e)
-    | inr other ↦ get_or-set_other targets j k e 0 other ∙ h.targets_are k within (λ none. some (put_other m.amount j d k other ∙ none)) ∙ sym (put_other m.target j e k other)
-  ];
-  amounts_are = λ k within. elim (cases_eq k j) [
-    | inl same ↦ ap (λ i. get_or (set amounts j d) i 0) same ∙ get_or-set_same amounts j d 0 (omega (arith, h.amounts_long)) ∙ sym (ap (put m.amount j d) same ∙ put_same m.amount j d)
-    | inr other ↦ get_or-set_other amounts j k d 0 other ∙ h.amounts_are k within ∙ sym (put_other m.amount j d k other)
+target_new m j e d = put_same m.target j e
+
+pub held_as : (code : Code) (k t t' a a' : ℕ) (v v' : Move) → t' ≡ t → a' ≡ a → v' ≡ v → IsHeld code k t a v → IsHeld code k t' a' v'
+held_as code k t t' a a' v v' et ea ev h =
+    subst (λ (x : ℕ). IsHeld code k x a' v') (sym et) (subst (λ (x : ℕ). IsHeld code k t x v') (sym ea) (subst (λ (x : Move). IsHeld code k t a x) (sym ev) h))
+
+-- the list after one check's move is written
+moves_set : (code : Code) (m m' : Moved) (j : ℕ) (own : Move) (ms : List Move) → AreHeldMoves code m ms → j < code.checks → IsHeld code j (m'.target j) (m'.amount j) own → ((k : ℕ) → k ≢ j → (m'.target k ≡ m.target k) × (m'.amount k ≡ m.amount k)) → AreHeldMoves code m' (set ms j own)
+moves_set code m m' j own ms h low here same = record {
+  long = length-set ms j own ∙ h.long;
+  each = λ k within. elim (cases_eq k j) [
+    | inl at ↦ (
+        let there = get_or-set_same ms j own no_move (omega (arith, h.long)) in
+        subst (λ (n : ℕ). IsHeld code n (m'.target n) (m'.amount n) (get_or (set ms j own) n no_move)) (sym at) (held_as code j (m'.target j) (m'.target j) (m'.amount j) (m'.amount j) own (get_or (set ms j own) j no_move) refl refl there here)
+        )
+    | inr other ↦ held_as code k (m.target k) (m'.target k) (m.amount k) (m'.amount k) (get_or ms k no_move) (get_or (set ms j own) k no_move) (same k other).0 (same k other).1 (get_or-set_other ms j k own no_move other) (h.each k within)
   ];
 }
+
+-- a move is held as what it is
+pub held_own : (code : Code) (j e d : ℕ) (own : Move) → IsHeld code j e d own → IsHeld code j e own.amount own
+held_own code j e d own h = held_as code j e e d own.amount own own refl h.amount_is refl h
+
+pub moves_after : (code : Code) (m0 m : Moved) (j e d : ℕ) (own : Move) (ms : List Move) → AreHeldMoves code m0 ms → j < code.checks → IsHeld code j e d own → ((k : ℕ) → k ≢ j → (m.target k ≡ m0.target k) × (m.amount k ≡ m0.amount k)) → AreHeldMoves code (with_move m j e d) (set ms j own)
+moves_after code m0 m j e d own ms h low here same =
+    moves_set code m0 (with_move m j e d) j own ms h low (held_as code j e ((with_move m j e d).target j) d ((with_move m j e d).amount j) own own (target_new m j e d) (amount_new m j e d j refl) refl here) (λ k other. (
+    let out = same_outside m j e d k other in (out.0 ∙ (same k other).0, out.1 ∙ (same k other).1)
+    ))
 
 none_held : (b : Bool) (g v : ℤ) (r : ℤ) → g ≡ pos 0 → r -ℤ cond b v (pos 0) ≡ r +ℤ cond b (g -ℤ v) (pos 0)
 none_held true g v r e = omega (arith, ints, e)
@@ -74,24 +92,25 @@ free_same f g e xs here all =
     let p = λ (i : ℕ). not (i == e) in
     let least = ap least_of (map-same_in f g (filter p xs) (All-filter p (λ x. f x ≡ g x) xs all)) in rw here (rw least refl)
 
-pub greedy_step : (code : Code) (soft : List ℤ) (word : List Bool) (m : Moved) (j e d : ℕ) (rests rests' : List ℤ) (targets amounts : List ℕ) → AreKept code soft word 1 m rests targets amounts → j < code.checks → e < code.bits → get_or amounts j 0 ≡ 0 → d ≡ free_for (λ i. get_or rests i (pos 0)) e (members code j) → d ≤ 63 → length rests' ≡ length rests → ((k : ℕ) → get_or rests' k (pos 0) ≡ get_or rests k (pos 0) -ℤ taken_at (members code j) e (pos d) k) → AreKept code soft word 1 (move_to code soft word e m j) rests' (set targets j e) (set amounts j d)
+pub greedy_step : (code : Code) (soft : List ℤ) (word : List Bool) (m : Moved) (j e : ℕ) (own : Move) (rests rests' : List ℤ) (ms : List Move) → AreKept code soft word 1 m rests ms → j < code.checks → e < code.bits → (get_or ms j no_move).amount ≡ 0 → IsHeld code j e (free_for (λ i. get_or rests i (pos 0)) e (members code j)) own → own.amount ≤ 63 → length rests' ≡ length rests → ((k : ℕ) → get_or rests' k (pos 0) ≡ get_or rests k (pos 0) -ℤ taken_at (members code j) e (pos own.amount) k) → AreKept code soft word 1 (move_to code soft word e m j) rests' (set ms j own)
 unfolding with_move
-greedy_step code soft word m j e d rests rests' targets amounts kept h le zero_held value small long is =
-    let none : m.amount j ≡ 0 = sym (kept.held.amounts_are j h) ∙ zero_held in
+greedy_step code soft word m j e own rests rests' ms kept h le zero_held here small long is =
+    let d = own.amount in
+    let none : m.amount j ≡ 0 = sym (kept.held.each j h).amount_is ∙ zero_held in
     let f = λ (i : ℕ). get_or rests i (pos 0) in
-    let same : d ≡ amount_for code soft word m e j = value ∙ free_same f (rest_at code soft word 1 m) e (members code j) (kept.left.are e le) (λ k d' within. kept.left.are (get_or (members code j) k d') (members_below code j k d' within)) in
+    let same : d ≡ amount_for code soft word m e j = here.amount_is ∙ free_same f (rest_at code soft word 1 m) e (members code j) (kept.left.are e le) (λ k d' within. kept.left.are (get_or (members code j) k d') (members_below code j k d' within)) in
     let to : move_to code soft word e m j ≡ with_move m j e d = cond-true (m.amount j == 0) (with_move m j e (amount_for code soft word m e j)) m (eq-eqb (m.amount j) 0 none) ∙ ap (with_move m j e) (sym same) in
-    subst (λ (n : Moved). AreKept code soft word 1 n rests' (set targets j e) (set amounts j d)) (sym to) (record {
+    subst (λ (n : Moved). AreKept code soft word 1 n rests' (set ms j own)) (sym to) (record {
       left = rests_given code soft word 1 m j e d rests rests' kept.left h none (omega arith) long is;
-      held = moves_after code m j e d targets amounts kept.held h;
+      held = moves_after code m m j e d own ms kept.held h (held_own code j e (free_for f e (members code j)) own here) (λ k other. (refl, refl));
     })
 
-pub greedy_skip : (code : Code) (soft : List ℤ) (word : List Bool) (m : Moved) (j e : ℕ) (rests : List ℤ) (targets amounts : List ℕ) → AreKept code soft word 1 m rests targets amounts → j < code.checks → get_or amounts j 0 ≢ 0 → AreKept code soft word 1 (move_to code soft word e m j) rests targets amounts
+pub greedy_skip : (code : Code) (soft : List ℤ) (word : List Bool) (m : Moved) (j e : ℕ) (rests : List ℤ) (ms : List Move) → AreKept code soft word 1 m rests ms → j < code.checks → (get_or ms j no_move).amount ≢ 0 → AreKept code soft word 1 (move_to code soft word e m j) rests ms
 unfolding with_move
-greedy_skip code soft word m j e rests targets amounts kept h some =
-    let held : m.amount j ≢ 0 = λ none. some (kept.held.amounts_are j h ∙ none) in
+greedy_skip code soft word m j e rests ms kept h some =
+    let held : m.amount j ≢ 0 = λ none. some ((kept.held.each j h).amount_is ∙ none) in
     let to : move_to code soft word e m j ≡ m = cond-false (m.amount j == 0) (with_move m j e (amount_for code soft word m e j)) m (ne_eqb (m.amount j) 0 held) in
-    subst (λ (n : Moved). AreKept code soft word 1 n rests targets amounts) (sym to) kept
+    subst (λ (n : Moved). AreKept code soft word 1 n rests ms) (sym to) kept
 
 -- a bit's rest falls by what all the others have
 pub low_after : (b : Bool) (e k d : ℕ) (old new : ℤ) → new ≡ old -ℤ cond b (cond (k == e) (neg_ℤ (pos d)) (pos d)) (pos 0) → neg_ℤ (pos 63) ≤ℤ old → (b ≡ true → k ≢ e → 0 < d → pos d ≤ℤ old) → neg_ℤ (pos 63) ≤ℤ new

@@ -1,9 +1,11 @@
--- What the maker's lists hold while it works: for each bit its rest, for each check its target and its amount.
+-- What the maker's lists hold while it works: for each bit its rest, for each check its move.
 use Rattle.std.specs.Prelude.{◌≡◌, ◌≢◌, ℕ, ◌<◌, ◌≤◌, ◌==◌, Bool, true, false, if◌then◌else◌, Option, None, Some, List, length, get_or, ℤ, pos, neg_ℤ, ◌*ℤ◌, ◌≤ℤ◌}
 use Rattle.std.specs.List.{list_any}
-use Rattle.s2_matrix.specs.Code.{Code, checks_of}
+use Rattle.s2_matrix.specs.Code.{Code, members, checks_of}
 use Rattle.s2_bits.specs.Bits.{bit_at}
 use Rattle.s2_check.specs.Cost.{value_at}
+use Rattle.s2_check.specs.Moves.{no_move}
+use Rattle.s2_check.specs.declared.step.Move.{Move}
 use Rattle.s2_split.specs.Greedy.{Moved, rest_at}
 
 -- a bit's scaled value in favour of the word
@@ -39,18 +41,23 @@ pub record AreRests (code : Code) (soft : List ℤ) (word : List Bool) (scale : 
   pub are : (i : ℕ) → i < code.bits → get_or rests i (pos 0) ≡ rest_at code soft word scale m i
   pub small : (j : ℕ) → j < code.checks → m.amount j ≤ 1048576
 
--- the moves, check by check; where nothing is moved any target will do
-pub record AreHeldMoves (code : Code) (m : Moved) (targets amounts : List ℕ) : Type 0 where
-  pub targets_long : length targets ≡ code.checks
-  pub amounts_long : length amounts ≡ code.checks
-  pub targets_are : (j : ℕ) → j < code.checks → m.amount j ≢ 0 → get_or targets j 0 ≡ m.target j
-  pub amounts_are : (j : ℕ) → j < code.checks → get_or amounts j 0 ≡ m.amount j
+-- a check's move in a list: an amount and its target's place among the members, 0 where nothing is moved
+pub record IsHeld (code : Code) (j target amount : ℕ) (own : Move) : Type 0 where
+  pub place : own.place < length (members code j)
+  pub amount_is : own.amount ≡ amount
+  pub target_is : amount ≢ 0 → get_or (members code j) own.place 0 ≡ target
+  pub unmoved : amount ≡ 0 → own.place ≡ 0
 
-pub record AreKept (code : Code) (soft : List ℤ) (word : List Bool) (scale : ℕ) (m : Moved) (rests : List ℤ) (targets amounts : List ℕ) : Type 0 where
+-- the moves, check by check
+pub record AreHeldMoves (code : Code) (m : Moved) (ms : List Move) : Type 0 where
+  pub long : length ms ≡ code.checks
+  pub each : (j : ℕ) → j < code.checks → IsHeld code j (m.target j) (m.amount j) (get_or ms j no_move)
+
+pub record AreKept (code : Code) (soft : List ℤ) (word : List Bool) (scale : ℕ) (m : Moved) (rests : List ℤ) (ms : List Move) : Type 0 where
   pub left : AreRests code soft word scale m rests
-  pub held : AreHeldMoves code m targets amounts
+  pub held : AreHeldMoves code m ms
 
 -- what spreading finds, and whether it does
-abbrev pub Ends : Code → List ℤ → List Bool → Option Moved → Bool → List ℤ → List ℕ → List ℕ → Type 0
-Ends code soft word None found rests targets amounts = found ≡ false
-Ends code soft word (Some m) found rests targets amounts = (found ≡ true) × AreKept code soft word 16 m rests targets amounts
+abbrev pub Ends : Code → List ℤ → List Bool → Option Moved → Bool → List ℤ → List Move → Type 0
+Ends code soft word None found rests ms = found ≡ false
+Ends code soft word (Some m) found rests ms = (found ≡ true) × AreKept code soft word 16 m rests ms

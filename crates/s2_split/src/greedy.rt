@@ -1,40 +1,41 @@
 //! The greedy amounts: each bit where the hard decision differs from the word takes from its
 //! checks, rising, what it lacks and what is free there.
 ghost use Rattle.std.specs.Prelude.{◌≡◌, ℕ, ◌<◌, ◌≤◌, Bool, List, true, All, length, get_or, ℤ, pos, neg_ℤ, ◌≤ℤ◌};
-ghost use Rattle.s2_matrix.specs.Code.{code_of};
+ghost use Rattle.s2_matrix.specs.Code.{code_of, members};
 ghost use Rattle.s2_check.specs.Views.{IsSoft};
 ghost use Rattle.s2_split.specs.Greedy.{Moved, none_moved, move_to, greedy};
 ghost use Rattle.s2_split.specs.Kept.{AreWithin, AreLow, AreFew, AreKept};
 
-use crate::rests::{free_amount, shift};
+use crate::rests::{free_amount, move_of, shift};
 use crate::start::differs;
+use s2_check::Move;
 use s2_matrix::Matrix;
 
-/// A check that holds no amount moves one to a bit of its.
+/// A check that holds no amount moves one to a bit of its, which stands at this place.
 fn take_from(
     matrix: &Matrix,
     rests: &mut [i32],
-    targets: &mut [u32],
-    amounts: &mut [u32],
+    moves: &mut [Move],
     bit: u32,
     check: usize,
+    place: usize,
 )
     requires bit { bit < (code_of matrix.now).bits }
     requires check { check < (code_of matrix.now).checks }
     requires has { (code_of matrix.now).has check bit ≡ true }
+    requires place { place < length (members (code_of matrix.now) check) }
+    requires at { get_or (members (code_of matrix.now) check) place 0 ≡ bit }
     requires rests_long { length rests.old ≡ (code_of matrix.now).bits }
-    requires targets_long { length targets.old ≡ (code_of matrix.now).checks }
-    requires amounts_long { length amounts.old ≡ (code_of matrix.now).checks }
+    requires moves_long { length moves.old ≡ (code_of matrix.now).checks }
     requires small { AreWithin 30000000 rests.old }
     requires low { AreLow rests.old }
     ensures low { AreLow rests.new }
-    ensures kept { (soft : List ℤ) (word : List Bool) (m : Moved) → AreKept (code_of matrix.now) soft word 1 m rests.old targets.old amounts.old → AreKept (code_of matrix.now) soft word 1 (move_to (code_of matrix.now) soft word bit m check) rests.new targets.new amounts.new }
+    ensures kept { (soft : List ℤ) (word : List Bool) (m : Moved) → AreKept (code_of matrix.now) soft word 1 m rests.old moves.old → AreKept (code_of matrix.now) soft word 1 (move_to (code_of matrix.now) soft word bit m check) rests.new moves.new }
 {
-    if amounts[check] == 0 {
+    if moves[check].amount == 0 {
         let members = matrix.members_at(check);
         let amount = free_amount(rests, members, bit);
-        targets[check] = bit;
-        amounts[check] = amount;
+        moves[check] = move_of(place, amount);
         shift(rests, members, bit, amount as i32);
     }
 }
@@ -45,21 +46,24 @@ pub(crate) fn greedy(
     soft: &[i16],
     word: &[bool],
     rests: &mut [i32],
-    targets: &mut [u32],
-    amounts: &mut [u32],
+    moves: &mut [Move],
 )
     requires soft { length soft.now ≡ (code_of matrix.now).bits }
     requires range { All IsSoft soft.now }
     requires word { length word.now ≡ (code_of matrix.now).bits }
     requires few { AreFew (code_of matrix.now) }
     requires low { AreLow rests.old }
-    requires start { AreKept (code_of matrix.now) soft.now word.now 1 none_moved rests.old targets.old amounts.old }
-    ensures { AreKept (code_of matrix.now) soft.now word.now 1 (greedy (code_of matrix.now) soft.now word.now) rests.new targets.new amounts.new }
+    requires start { AreKept (code_of matrix.now) soft.now word.now 1 none_moved rests.old moves.old }
+    ensures { AreKept (code_of matrix.now) soft.now word.now 1 (greedy (code_of matrix.now) soft.now word.now) rests.new moves.new }
 {
     for bit in 0..matrix.bits() {
         if differs(soft, word, bit) {
-            for check in matrix.checks_at(bit) {
-                take_from(matrix, rests, targets, amounts, bit as u32, *check as usize);
+            let checks = matrix.checks_at(bit);
+            let edges = matrix.edges_at(bit);
+            for at in 0..checks.len() {
+                let check = checks[at] as usize;
+                let place = edges[at] as usize - matrix.first_edge(check);
+                take_from(matrix, rests, moves, bit as u32, check, place);
             }
         }
     }

@@ -2,8 +2,8 @@
 //! that shows a codeword to be most likely.
 //!
 //! A [`Maker`] stands above the parity checks and the checker of certificates, and below the
-//! receiver's decision. It takes all its memory when it is made: one rest for each bit, one target
-//! and one amount for each check. [`Maker::repair_into`] flips each bit that is in at least two
+//! receiver's decision. It takes all its memory when it is made: one rest for each bit and one
+//! move for each check. [`Maker::repair_into`] flips each bit that is in at least two
 //! checks, all of them odd. [`Maker::make`] first lets each wrong bit take what it lacks from its
 //! checks (greedy amounts), and where that leaves a rest below zero it spreads: check by check, the
 //! least rest gains half of what lies between it and the next. What it answers depends on its
@@ -19,7 +19,6 @@
 //! ```
 #![tactic(auto)]
 
-mod degrees;
 mod greedy;
 pub mod laws;
 mod make;

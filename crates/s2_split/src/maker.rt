@@ -7,22 +7,20 @@ ghost use Rattle.s2_split.specs.Making.{shared, shared_view, made_view};
 ghost use Rattle.s2_split.specs.Scattered.{repaired, IsScattered};
 ghost use Rattle.s2_split.specs.Spreading.{made_split};
 
-use crate::degrees::few_checks;
 use crate::make::make_moves;
 use crate::repair::repair;
 use s2_bits::Bits;
-use s2_check::{CertView, hard_into};
+use s2_check::{CertView, Move, hard_into};
 use s2_matrix::Matrix;
 use std::alloc::{AllocError, Global};
 use std::marker::Model;
 
-/// A maker of certificates, by one target and one amount per check.
+/// A maker of certificates, by one move for each check.
 #[derive(Drop)]
 pub struct Maker<'a> {
     matrix: &'a Matrix,
     rests: Vec<i32>,
-    targets: Vec<u32>,
-    amounts: Vec<u32>,
+    moves: Vec<Move>,
     odd: Vec<bool>,
     word: Bits,
     scale: u16,
@@ -33,9 +31,9 @@ impl<'a> Model for Maker<'a> {
 
     ghost Value = { Making };
 
-    ghost view = { λ m. record { rows = m.matrix.now; word = m.word; made = made_of m.matrix.now m.word m.scale m.targets.items m.amounts.items } };
+    ghost view = { λ m. record { rows = m.matrix.now; word = m.word; made = made_of m.matrix.now m.word m.scale m.moves.items } };
 
-    ghost invariant = { λ m. IsMaker m.matrix.now m.word m.scale m.rests.items m.targets.items m.amounts.items m.odd.items };
+    ghost invariant = { λ m. IsMaker m.matrix.now m.word m.scale m.rests.items m.moves.items m.odd.items };
 }
 
 impl<'a> Maker<'a> {
@@ -45,19 +43,20 @@ impl<'a> Maker<'a> {
         ensures rows { IfOk result (λ m. m.rows ≡ matrix.now) }
         ensures none { IfOk result (λ m. m.made ≡ None) }
     {
-        few_checks(matrix);
         let bits = matrix.bits();
         let checks = matrix.check_count();
         let rests = vec![in alloc; 0i32; bits]?;
-        let targets = vec![in alloc; 0u32; checks]?;
-        let amounts = vec![in alloc; 0u32; checks]?;
+        let none = Move {
+            place: 0,
+            amount: 0,
+        };
+        let moves = vec![in alloc; none; checks]?;
         let odd = vec![in alloc; false; checks]?;
         let word = Bits::zeroed(alloc, bits)?;
         Ok(Maker {
             matrix,
             rests,
-            targets,
-            amounts,
+            moves,
             odd,
             word,
             scale: 0,
@@ -131,8 +130,7 @@ impl<'a> Maker<'a> {
             soft,
             word.truths(),
             &mut self.rests,
-            &mut self.targets,
-            &mut self.amounts,
+            &mut self.moves,
         );
         self.scale > 0
     }
@@ -145,13 +143,6 @@ impl<'a> Maker<'a> {
         requires made { self.now.made ≢ None }
         ensures { IfSome self.now.made (λ s. result ≡ shared_view self.now.rows soft.now word.now s) }
     {
-        CertView::moved(
-            self.matrix,
-            self.scale,
-            soft,
-            word,
-            &self.targets,
-            &self.amounts,
-        )
+        CertView::placed(self.matrix, self.scale, soft, word, &self.moves)
     }
 }

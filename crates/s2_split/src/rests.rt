@@ -6,6 +6,8 @@ ghost use Rattle.s2_split.specs.Greedy.{free_for};
 ghost use Rattle.s2_split.specs.Kept.{is_among, taken_at, AreWithin, AreLow};
 ghost use Rattle.s2_split.specs.Spreading.{least_member, spread_amount, amount_to};
 
+use s2_check::Move;
+
 /// Adds a signed amount to the rest of the target, and takes it from the rest of every other
 /// member.
 pub(crate) fn shift(rests: &mut [i32], members: &[u32], target: u32, amount: i32)
@@ -62,10 +64,11 @@ pub(crate) fn free_amount(rests: &[i32], members: &[u32], bit: u32) -> u32
     lacking.min(free)
 }
 
-/// The member with the least rest, the first of several, that rest, and the least of the others'.
+/// The place of the member with the least rest, the first of several, that rest, and the least of the
+/// others'.
 #[derive(Drop)]
 pub(crate) struct Least {
-    pub bit: u32,
+    pub place: usize,
     pub rest: i32,
     pub other: i32,
 }
@@ -75,25 +78,27 @@ pub(crate) fn least_two(rests: &[i32], members: &[u32]) -> Least
     requires below { All (λ i. i < length rests.now) members.now }
     requires rising { AllPairs (λ a b. a < b) members.now }
     requires small { AreWithin 1000000000 rests.now }
-    ensures bit { result.bit ≡ least_member (λ i. get_or rests.now i (pos 0)) members.now }
-    ensures rest { 1 ≤ length members.now → result.rest ≡ get_or rests.now result.bit (pos 0) }
-    ensures other { result.other ≡ fold int_min (pos 2147483647) (map (λ i. get_or rests.now i (pos 0)) (filter (λ i. not (i == result.bit)) members.now)) }
+    requires some { 1 ≤ length members.now }
+    ensures place { result.place < length members.now }
+    ensures least { get_or members.now result.place 0 ≡ least_member (λ i. get_or rests.now i (pos 0)) members.now }
+    ensures rest { result.rest ≡ get_or rests.now (get_or members.now result.place 0) (pos 0) }
+    ensures other { result.other ≡ fold int_min (pos 2147483647) (map (λ i. get_or rests.now i (pos 0)) (filter (λ i. not (i == get_or members.now result.place 0)) members.now)) }
 {
-    let mut bit = 0u32;
+    let mut place = 0usize;
     let mut least = i32::MAX;
     let mut other = i32::MAX;
-    for member in members {
-        let rest = rests[*member as usize];
+    for at in 0..members.len() {
+        let rest = rests[members[at] as usize];
         if rest < least {
             other = least;
             least = rest;
-            bit = *member;
+            place = at;
         } else if rest < other {
             other = rest;
         }
     }
     Least {
-        bit,
+        place,
         rest: least,
         other,
     }
@@ -113,40 +118,53 @@ fn half_gap(count: usize, rest: i32, other: i32) -> u32
     }
 }
 
-/// The member with the least rest, and what is moved to it.
-#[derive(Drop)]
-pub(crate) struct Share {
-    pub bit: u32,
-    pub amount: u32,
-}
-
-/// What the members of a check with no amount move.
-pub(crate) fn spread_share(rests: &[i32], members: &[u32]) -> Share
-    requires below { All (λ i. i < length rests.now) members.now }
-    requires rising { AllPairs (λ a b. a < b) members.now }
-    requires small { AreWithin 1000000000 rests.now }
-    ensures bit { result.bit ≡ least_member (λ i. get_or rests.now i (pos 0)) members.now }
-    ensures amount { result.amount ≡ amount_to (λ i. get_or rests.now i (pos 0)) members.now result.bit }
-    ensures few { result.amount ≤ 1048576 }
+/// The move of an amount to the member at a place; where nothing is moved the place is 0.
+pub(crate) fn move_of(place: usize, amount: u32) -> Move
+    requires { place < 65536 }
+    ensures amount { result.amount ≡ amount }
+    ensures moved { amount ≢ 0 → result.place ≡ place }
+    ensures unmoved { amount ≡ 0 → result.place ≡ 0 }
 {
-    let least = least_two(rests, members);
-    Share {
-        bit: least.bit,
-        amount: half_gap(members.len(), least.rest, least.other),
+    if amount == 0 {
+        Move { place: 0, amount }
+    } else {
+        Move {
+            place: place as u16,
+            amount,
+        }
     }
 }
 
-/// As [`shift`], and nothing at all where the amount is 0.
-pub(crate) fn shift_some(rests: &mut [i32], members: &[u32], target: u32, amount: i32)
+/// What the members of a check with no amount move, to the one with the least rest.
+pub(crate) fn spread_move(rests: &[i32], members: &[u32]) -> Move
+    requires below { All (λ i. i < length rests.now) members.now }
+    requires rising { AllPairs (λ a b. a < b) members.now }
+    requires small { AreWithin 1000000000 rests.now }
+    requires some { 1 ≤ length members.now }
+    requires short { length members.now ≤ 65536 }
+    ensures amount { result.amount ≡ amount_to (λ i. get_or rests.now i (pos 0)) members.now (least_member (λ i. get_or rests.now i (pos 0)) members.now) }
+    ensures few { result.amount ≤ 1048576 }
+    ensures place { result.place < length members.now }
+    ensures target { result.amount ≢ 0 → get_or members.now result.place 0 ≡ least_member (λ i. get_or rests.now i (pos 0)) members.now }
+    ensures unmoved { result.amount ≡ 0 → result.place ≡ 0 }
+{
+    let least = least_two(rests, members);
+    let amount = half_gap(members.len(), least.rest, least.other);
+    move_of(least.place, amount)
+}
+
+/// As [`shift`], to the member at a place, and nothing at all where the amount is 0.
+pub(crate) fn shift_some(rests: &mut [i32], members: &[u32], place: usize, amount: i32)
     requires below { All (λ i. i < length rests.old) members.now }
     requires rising { AllPairs (λ a b. a < b) members.now }
+    requires place { place < length members.now }
     requires small { AreWithin 900000000 rests.old }
     requires low { neg_ℤ (pos 1048576) ≤ℤ amount }
     requires high { amount ≤ℤ pos 1048576 }
     ensures long { length rests.new ≡ length rests.old }
-    ensures moved { (k : ℕ) → get_or rests.new k (pos 0) ≡ get_or rests.old k (pos 0) -ℤ taken_at members.now target amount k }
+    ensures moved { (k : ℕ) → get_or rests.new k (pos 0) ≡ get_or rests.old k (pos 0) -ℤ taken_at members.now (get_or members.now place 0) amount k }
 {
     if amount != 0 {
-        shift(rests, members, target, amount);
+        shift(rests, members, members[place], amount);
     }
 }

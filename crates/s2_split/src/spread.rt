@@ -1,38 +1,39 @@
 //! Spreading: check by check, half of what lies between the least rest and the next is moved to the
 //! least, as long as one is negative.
 ghost use Rattle.std.specs.Prelude.{◌≡◌, ℕ, ◌<◌, ◌≤◌, IsTrue, Bool, List, All, length, get_or, ℤ, pos, ◌≤ℤ◌};
-ghost use Rattle.s2_matrix.specs.Code.{code_of};
+ghost use Rattle.s2_matrix.specs.Code.{code_of, members};
+ghost use Rattle.s2_check.specs.Moves.{no_move, ArePlaced};
 ghost use Rattle.s2_check.specs.Views.{IsSoft};
 ghost use Rattle.s2_split.specs.Greedy.{Moved, none_moved};
 ghost use Rattle.s2_split.specs.Spreading.{spread_check, spread};
 ghost use Rattle.s2_split.specs.Kept.{AreWithin, AreFew, AreKept, Ends};
 
-use crate::rests::{shift_some, spread_share};
+use crate::rests::{shift_some, spread_move};
 use crate::start::none_negative;
+use s2_check::Move;
 use s2_matrix::Matrix;
 
 /// A check gives its amount back, and moves one to its least rest.
-fn spread_check(
-    matrix: &Matrix,
-    rests: &mut [i32],
-    targets: &mut [u32],
-    amounts: &mut [u32],
-    check: usize,
-)
+fn spread_check(matrix: &Matrix, rests: &mut [i32], moves: &mut [Move], check: usize)
     requires check { check < (code_of matrix.now).checks }
     requires rests_long { length rests.old ≡ (code_of matrix.now).bits }
-    requires targets_long { length targets.old ≡ (code_of matrix.now).checks }
-    requires amounts_long { length amounts.old ≡ (code_of matrix.now).checks }
+    requires moves_long { length moves.old ≡ (code_of matrix.now).checks }
     requires small { AreWithin 30000000 rests.old }
-    requires held { get_or amounts.old check 0 ≤ 1048576 }
-    ensures kept { (soft : List ℤ) (word : List Bool) (m : Moved) → AreKept (code_of matrix.now) soft word 16 m rests.old targets.old amounts.old → AreKept (code_of matrix.now) soft word 16 (spread_check (code_of matrix.now) soft word m check) rests.new targets.new amounts.new }
+    requires place { (get_or moves.old check no_move).place < length (members (code_of matrix.now) check) }
+    requires held { (get_or moves.old check no_move).amount ≤ 1048576 }
+    ensures kept { (soft : List ℤ) (word : List Bool) (m : Moved) → AreKept (code_of matrix.now) soft word 16 m rests.old moves.old → AreKept (code_of matrix.now) soft word 16 (spread_check (code_of matrix.now) soft word m check) rests.new moves.new }
 {
     let members = matrix.members_at(check);
-    shift_some(rests, members, targets[check], -(amounts[check] as i32));
-    let share = spread_share(rests, members);
-    targets[check] = share.bit;
-    amounts[check] = share.amount;
-    shift_some(rests, members, share.bit, share.amount as i32);
+    let held = moves[check];
+    shift_some(
+        rests,
+        members,
+        usize::from(held.place),
+        -(held.amount as i32),
+    );
+    let own = spread_move(rests, members);
+    moves[check] = own;
+    shift_some(rests, members, usize::from(own.place), own.amount as i32);
 }
 
 /// Whether no rest at these places is negative.
@@ -50,21 +51,21 @@ fn none_negative_at(rests: &[i32], places: &[u32]) -> bool
 
 /// A check in its turn. One that holds no amount, and none of whose members has a negative rest,
 /// moves nothing: it is passed over.
-fn visit(matrix: &Matrix, rests: &mut [i32], targets: &mut [u32], amounts: &mut [u32], check: usize)
+fn visit(matrix: &Matrix, rests: &mut [i32], moves: &mut [Move], check: usize)
     requires check { check < (code_of matrix.now).checks }
     requires rests_long { length rests.old ≡ (code_of matrix.now).bits }
-    requires targets_long { length targets.old ≡ (code_of matrix.now).checks }
-    requires amounts_long { length amounts.old ≡ (code_of matrix.now).checks }
+    requires moves_long { length moves.old ≡ (code_of matrix.now).checks }
     requires small { AreWithin 30000000 rests.old }
-    requires held { get_or amounts.old check 0 ≤ 1048576 }
-    ensures kept { (soft : List ℤ) (word : List Bool) (m : Moved) → AreKept (code_of matrix.now) soft word 16 m rests.old targets.old amounts.old → AreKept (code_of matrix.now) soft word 16 (spread_check (code_of matrix.now) soft word m check) rests.new targets.new amounts.new }
+    requires place { (get_or moves.old check no_move).place < length (members (code_of matrix.now) check) }
+    requires held { (get_or moves.old check no_move).amount ≤ 1048576 }
+    ensures kept { (soft : List ℤ) (word : List Bool) (m : Moved) → AreKept (code_of matrix.now) soft word 16 m rests.old moves.old → AreKept (code_of matrix.now) soft word 16 (spread_check (code_of matrix.now) soft word m check) rests.new moves.new }
 {
-    if amounts[check] == 0 {
+    if moves[check].amount == 0 {
         if none_negative_at(rests, matrix.members_at(check)) {
             return;
         }
     }
-    spread_check(matrix, rests, targets, amounts, check);
+    spread_check(matrix, rests, moves, check);
 }
 
 /// At most 64 passes over all checks, rising, until no rest is negative: whether none is then.
@@ -73,14 +74,14 @@ pub(crate) fn spread(
     soft: &[i16],
     word: &[bool],
     rests: &mut [i32],
-    targets: &mut [u32],
-    amounts: &mut [u32],
+    moves: &mut [Move],
 ) -> bool
     requires range { All IsSoft soft.now }
+    requires word { length word.now ≡ (code_of matrix.now).bits }
     requires few { AreFew (code_of matrix.now) }
-    requires start { AreKept (code_of matrix.now) soft.now word.now 16 none_moved rests.old targets.old amounts.old }
-    ensures small { All (λ a. a < 2147483648) amounts.new }
-    ensures ends { Ends (code_of matrix.now) soft.now word.now (spread (code_of matrix.now) soft.now word.now 64 none_moved) result rests.new targets.new amounts.new }
+    requires start { AreKept (code_of matrix.now) soft.now word.now 16 none_moved rests.old moves.old }
+    ensures moves { ArePlaced (code_of matrix.now) word.now moves.new }
+    ensures ends { Ends (code_of matrix.now) soft.now word.now (spread (code_of matrix.now) soft.now word.now 64 none_moved) result rests.new moves.new }
 {
     let _soft = soft;
     let _word = word;
@@ -89,7 +90,7 @@ pub(crate) fn spread(
             return true;
         }
         'checks: for check in 0..matrix.check_count() {
-            visit(matrix, rests, targets, amounts, check);
+            visit(matrix, rests, moves, check);
         }
     }
     none_negative(rests)

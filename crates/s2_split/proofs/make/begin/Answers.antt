@@ -1,12 +1,13 @@
 use Rattle.std.proofs.Common.{rules, ◌≡◌, ℕ, ◌<◌, arith, sym, ◌∙◌, ap, subst, get_or, pos}
 use Rattle.s2_matrix.specs.Code.{code_of}
 use Rattle.s2_split.specs.Kept.{scaled_at}
+use Rattle.s2_split.proofs.Held.{some_member}
 use Rattle.s2_split.proofs.MadeLists.{start_kept, start_low}
 use Rattle.s2_split.proofs.make.begin.Goals as goal
 
 pub returns-clause-kept : goal.returns-clause-kept
 returns-clause-kept c =
-    start_kept (code_of c.args.matrix.now) c.args.soft.now c.args.word.now c.args.scale c.start_rests.new.rests c.args.targets.now c.clear.new.list (c.start_rests.ensures.long ∙ c.requires.soft) c.requires.targets (c.clear.ensures.long ∙ c.requires.amounts) (λ i low. c.start_rests.ensures.are i (omega (arith, c.requires.soft))) (λ j low. c.clear.ensures.zeros j)
+    start_kept (code_of c.args.matrix.now) c.args.soft.now c.args.word.now c.args.scale c.start_rests.new.rests c.clear.new.moves (c.start_rests.ensures.long ∙ c.requires.soft) (c.clear.ensures.long ∙ c.requires.moves) (λ j low. some_member c.args.matrix.now j low) (λ i low. c.start_rests.ensures.are i (omega (arith, c.requires.soft))) c.clear.ensures.none
 
 pub returns-clause-low : goal.returns-clause-low
 returns-clause-low c one =

@@ -11,6 +11,6 @@ returns-then-none_negative_at c = record {
       let places = c.members_at.result.now in
       let left = λ (i : ℕ). pos 0 ≤ℤ get_or rests i (pos 0) in
       let all : All left places = λ k d within. subst left (sym (get_or_default places k d 0 within)) (c.none_negative_at.ensures c.if-none_negative_at.true k within) in
-      idle_step (code_of c.args.matrix.now) soft word m c.args.check rests c.args.targets.now c.args.amounts.now kept c.requires.check c.if-amounts-check-eq0.true (subst (All left) c.members_at.ensures.are all)
+      idle_step (code_of c.args.matrix.now) soft word m c.args.check rests c.args.moves.now kept c.requires.check c.if-moves-check-eq0.true (subst (All left) c.members_at.ensures.are all)
       );
 }

@@ -17,9 +17,8 @@ returns-clause-made c =
     let make = c.make_moves-self-inside in
     let rows = ap (λ (v : Making). v.rows) c.self.view_is in
     let word = returns-clause-word c in
-    let ts = refilled inside.targets.len make.new.targets inside.targets.items (sym c.deref_mut-2.ensures.len ∙ ap length c.deref_mut-2.ensures.value) (omega (arith, ap length c.deref_mut-2.ensures.value)) in
-    let as' = refilled inside.amounts.len make.new.amounts inside.amounts.items (sym c.deref_mut-3.ensures.len ∙ ap length c.deref_mut-3.ensures.value) (omega (arith, ap length c.deref_mut-3.ensures.value)) in
-    let there = ap₂ (λ (t a : List ℕ). made_of inside.matrix.now c.copy_prefix.new.self make.result t a) ts as' in
-    let here = ap (λ (w : List Bool). made_of inside.matrix.now w make.result make.new.targets make.new.amounts) (word ∙ sym c.truths.ensures) in
+    let moves = refilled inside.moves.len make.new.moves inside.moves.items (sym c.deref_mut-2.ensures.len ∙ ap length c.deref_mut-2.ensures.value) (omega (arith, ap length c.deref_mut-2.ensures.value)) in
+    let there = ap (made_of inside.matrix.now c.copy_prefix.new.self make.result) moves in
+    let here = ap (λ (w : List Bool). made_of inside.matrix.now w make.result make.new.moves) (word ∙ sym c.truths.ensures) in
     let made = make.ensures.made ∙ ap (λ (w : List Bool). shared (code_of inside.matrix.now) (made_split (code_of inside.matrix.now) c.args.soft.now w)) c.truths.ensures in
     there ∙ here ∙ made ∙ ap (λ (r : Rows). shared (code_of r) (made_split (code_of r) c.args.soft.now c.args.word.now)) rows

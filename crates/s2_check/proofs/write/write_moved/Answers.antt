@@ -7,7 +7,7 @@ use Rattle.s2_file.specs.Format.{share}
 use Rattle.s2_matrix.specs.Code.{code_of, members}
 use Rattle.s2_check.specs.Moves.{placed_of}
 use Rattle.s2_check.proofs.Listing.{below_more, shares_below}
-use Rattle.s2_check.proofs.write.write_placed.Goals as goal
+use Rattle.s2_check.proofs.write.write_moved.Goals as goal
 
 pub loop-check-preserved : goal.loop-check-preserved
 loop-check-preserved g c =
