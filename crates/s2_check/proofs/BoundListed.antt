@@ -10,12 +10,12 @@ use Rattle.s2_check.specs.Split.{Split, rest, local_minimum, least_even_sum, bou
 use Rattle.s2_check.specs.Moves.{all_shares}
 use Rattle.s2_check.proofs.Listing.{share_back}
 
-total-same_in : (f g : ℕ → ℤ) (xs : List ℕ) → All (λ x. f x ≡ g x) xs → total f xs ≡ total g xs
+pub total-same_in : (f g : ℕ → ℤ) (xs : List ℕ) → All (λ x. f x ≡ g x) xs → total f xs ≡ total g xs
 total-same_in f g [] h = refl
 total-same_in f g (x ∷ xs) h =
     omega (arith, ints, All-head (λ y. f y ≡ g y) x xs h, total-same_in f g xs (All-tail (λ y. f y ≡ g y) x xs h))
 
-map-same_in : (f g : ℕ → ℤ) (xs : List ℕ) → All (λ x. f x ≡ g x) xs → map f xs ≡ map g xs
+pub map-same_in : (f g : ℕ → ℤ) (xs : List ℕ) → All (λ x. f x ≡ g x) xs → map f xs ≡ map g xs
 map-same_in f g [] h = refl
 map-same_in f g (x ∷ xs) h =
     ap₂ ◌∷◌ (All-head (λ y. f y ≡ g y) x xs h) (map-same_in f g xs (All-tail (λ y. f y ≡ g y) x xs h))

@@ -1,23 +1,23 @@
 -- What the lists hold is what is made.
-use Rattle.std.proofs.Common.{◌≡◌, ℕ, ◌<◌, ◌≤◌, ◌==◌, Bool, true, false, cond, List, [], ◌∷◌, ◌++◌, length, get_or, map, All, ℤ, pos, neg_ℤ, ◌-ℤ◌, ◌*ℤ◌, ◌≤ℤ◌, inl, inr, Option, None, Some, refl, sym, ap, ap₂, subst, ◌∙◌, arith}
+use Rattle.std.proofs.Common.{◌≡◌, ℕ, ◌<◌, ◌≤◌, ◌==◌, Bool, true, false, cond, List, [], ◌∷◌, ◌++◌, length, get_or, map, All, ℤ, pos, neg_ℤ, ◌*ℤ◌, ◌≤ℤ◌, inl, inr, Option, None, Some, refl, sym, ap, ap₂, ◌∙◌, arith}
 use Rattle.std.proofs.lemmas.Int.{ints}
 use Rattle.std.proofs.lemmas.List.Elements.{All-head, All-tail}
-use Rattle.s2_matrix.specs.Total.{upto, total}
+use Rattle.s2_matrix.specs.Total.{upto}
 use Rattle.s2_matrix.specs.Code.{Code, members, checks_of}
 use Rattle.s2_matrix.proofs.Totals.{total-zero, total-same}
 use Rattle.s2_matrix.proofs.Members.{upto_below}
 use Rattle.s2_check.specs.Moves.{in_favour, moves, no_move, placed_of, listed, all_shares}
 use Rattle.s2_check.specs.declared.step.Move.{Move}
 use Rattle.s2_check.specs.Split.{Split}
-use Rattle.s2_split.specs.Making.{Shared, shared}
+use Rattle.s2_split.specs.Making.{shared}
 use Rattle.s2_split.specs.Spreading.{has_no_negative_rest, spread, split_by, made_split}
-use Rattle.s2_split.specs.Greedy.{Moved, none_moved, rest_at, greedy}
+use Rattle.s2_split.specs.Greedy.{Moved, none_moved, greedy}
 use Rattle.s2_bits.specs.Bits.{bit_at}
 use Rattle.s2_check.specs.Cost.{value_at}
 use Rattle.s2_check.specs.Views.{IsSoft}
 use Rattle.std.proofs.lemmas.Bool.{cases_eq, cases_lt}
-use Rattle.std.proofs.lemmas.List.{get_or_past, get_or_default}
-use Rattle.s2_split.specs.Kept.{scaled_at, AreLow, AreRests, IsHeld, AreHeldMoves, AreKept, Ends}
+use Rattle.std.proofs.lemmas.List.{get_or_past}
+use Rattle.s2_split.specs.Kept.{scaled_at, AreLow, AreHeldMoves, AreKept, Ends}
 use Rattle.s2_split.proofs.FittingLemmas.{none_given'}
 use Rattle.s2_split.proofs.Shifts.{given, scaled_rest}
 use Rattle.s2_split.proofs.Steps.{held_as}

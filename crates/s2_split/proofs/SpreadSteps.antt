@@ -1,10 +1,10 @@
 -- The lists after one check has spread.
-use Rattle.std.proofs.Common.{◌≡◌, ◌≢◌, ℕ, zero, suc, ◌+◌, ◌-◌, ◌<◌, ◌≤◌, ◌==◌, nat_lt, Bool, true, false, not, cond, List, [], ◌∷◌, length, get_or, set, get_or-set_same, get_or-set_other, length-set, map, filter, fold, All, ℤ, pos, neg_ℤ, ◌+ℤ◌, ◌-ℤ◌, ◌≤ℤ◌, int_lt, inl, inr, refl, sym, ap, ap₂, subst, ◌∙◌, arith, eq-eqb, ne_eqb}
+use Rattle.std.proofs.Common.{◌≡◌, ◌≢◌, ℕ, ◌<◌, ◌≤◌, ◌==◌, nat_lt, Bool, true, false, not, cond, List, [], ◌∷◌, length, get_or, set, map, filter, fold, All, ℤ, pos, neg_ℤ, ◌+ℤ◌, ◌-ℤ◌, ◌≤ℤ◌, int_lt, inl, inr, refl, sym, ap, ap₂, subst, ◌∙◌, arith}
 use Rattle.std.specs.Int.{int_min}
 use Rattle.std.specs.List.{AllPairs, list_any}
-use Rattle.std.proofs.lemmas.Bool.{cases_Bool, cases_eq, cond-true, cond-false, ltb-true}
+use Rattle.std.proofs.lemmas.Bool.{cases_Bool, cases_eq, cond-false, ltb-true}
 use Rattle.std.proofs.lemmas.Int.{ints}
-use Rattle.std.proofs.lemmas.List.{set-get_or}
+use Rattle.std.proofs.lemmas.List.{set-get_or, ext_get_or}
 use Rattle.std.proofs.lemmas.List.Elements.{All-filter, All-head, All-tail}
 use Rattle.s2_matrix.specs.Code.{Code, members}
 use Rattle.s2_matrix.proofs.Members.{members_below}
@@ -12,13 +12,13 @@ use Rattle.s2_check.specs.Moves.{no_move}
 use Rattle.s2_check.specs.declared.step.Move.{Move}
 use Rattle.s2_split.specs.Scattered.{least_of}
 use Rattle.s2_split.specs.Greedy.{Moved, rest_at, put}
-use Rattle.s2_split.specs.Spreading.{least_member, spread_amount, amount_to, give_back, spread_to, spread_check}
+use Rattle.s2_split.specs.Spreading.{least_member, spread_amount, amount_to, give_back, spread_check}
 use Rattle.s2_split.specs.Kept.{taken_at, AreRests, IsHeld, AreKept}
-use Rattle.s2_split.proofs.MovesLemmas.{amount_at}
 use Rattle.s2_split.proofs.FittingLemmas.{none_given'}
-use Rattle.s2_split.proofs.GreedyLemmas.{put_same, put_other, map-same_in}
+use Rattle.s2_split.proofs.GreedyLemmas.{put_same, put_other}
 use Rattle.s2_split.proofs.Shifts.{given, rest_change, taken_back}
 use Rattle.s2_split.proofs.Others.{least_is_fold}
+use Rattle.s2_check.proofs.BoundListed.{map-same_in}
 use Rattle.s2_split.proofs.Steps.{with_move, rests_given, held_as, held_own, moves_after}
 
 -- ---- what is moved
@@ -168,6 +168,24 @@ spread_step code soft word m j own rests rests1 rests2 moves kept h long1 is1 he
       left = rests_given code soft word 16 m1 j e d rests1 rests2 back h (put_same m.amount j 0) small long2 (λ k. is2 k ∙ ap (λ v. get_or rests1 k (pos 0) -ℤ v) (taken_to ms (target_of code j own) e d k own_is.target_is));
       held = moves_after code m m1 j e d own moves kept.held h own_is (λ k other. (refl, put_other m.amount j 0 k other));
     })
+
+-- what is given back and moved again
+taken_again : (b c : Bool) (a : ℕ) → cond b (cond c (neg_ℤ (neg_ℤ (pos a))) (neg_ℤ (pos a))) (pos 0) +ℤ cond b (cond c (neg_ℤ (pos a)) (pos a)) (pos 0) ≡ pos 0
+taken_again true true a = omega (arith, ints)
+taken_again true false a = omega (arith, ints)
+taken_again false c a = refl
+
+-- a move that is made again leaves both lists as they were
+pub moved_again : (ms : List ℕ) (t : Move → ℕ) (j : ℕ) (own : Move) (rests rests1 rests2 : List ℤ) (moves : List Move) → own ≡ get_or moves j no_move → length rests1 ≡ length rests → ((k : ℕ) → get_or rests1 k (pos 0) ≡ get_or rests k (pos 0) -ℤ taken_at ms (t (get_or moves j no_move)) (neg_ℤ (pos (get_or moves j no_move).amount)) k) → length rests2 ≡ length rests1 → ((k : ℕ) → get_or rests2 k (pos 0) ≡ get_or rests1 k (pos 0) -ℤ taken_at ms (t own) (pos own.amount) k) → (rests2 ≡ rests) × (set moves j own ≡ moves)
+moved_again ms t j own rests rests1 rests2 moves same long1 is1 long2 is2 = (
+  ext_get_or (pos 0) rests2 rests (long2 ∙ long1) (λ k low. (
+      let was = get_or moves j no_move in
+      let again = ap (λ (v : Move). taken_at ms (t v) (pos v.amount) k) same in
+      let none = taken_again (list_any (λ m. m == k) ms) (k == t was) was.amount in
+      let sum : get_or rests2 k (pos 0) ≡ get_or rests k (pos 0) = omega (arith, ints, is1 k, is2 k, again, none) in sum
+      )),
+  ap (set moves j) same ∙ set-get_or moves j no_move,
+)
 
 -- ---- a check that is passed over
 

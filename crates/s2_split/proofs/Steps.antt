@@ -1,5 +1,5 @@
 -- The lists after one check's change.
-use Rattle.std.proofs.Common.{◌≡◌, ◌≢◌, ℕ, ◌+◌, ◌<◌, ◌≤◌, ◌==◌, Bool, true, false, not, cond, List, length, get_or, set, get_or-set_same, get_or-set_other, length-set, map, filter, All, ℤ, pos, neg_ℤ, ◌+ℤ◌, ◌-ℤ◌, ◌≤ℤ◌, inl, inr, refl, sym, ap, ap₂, subst, ◌∙◌, arith, eq-eqb, ne_eqb}
+use Rattle.std.proofs.Common.{◌≡◌, ◌≢◌, ℕ, ◌<◌, ◌≤◌, ◌==◌, Bool, true, false, not, cond, List, length, get_or, set, get_or-set_same, get_or-set_other, length-set, filter, All, ℤ, pos, neg_ℤ, ◌+ℤ◌, ◌-ℤ◌, ◌≤ℤ◌, inl, inr, refl, sym, ap, ap₂, subst, ◌∙◌, arith, eq-eqb, ne_eqb}
 use Rattle.std.proofs.lemmas.Bool.{cases_eq, cond-true, cond-false}
 use Rattle.std.proofs.lemmas.Int.{ints}
 use Rattle.std.proofs.lemmas.List.Elements.{All-filter}
@@ -10,10 +10,11 @@ use Rattle.s2_check.specs.declared.step.Move.{Move}
 use Rattle.s2_split.specs.Scattered.{least_of}
 use Rattle.s2_split.specs.Greedy.{Moved, rest_at, put, free_for, amount_for, move_to}
 use Rattle.s2_split.specs.Kept.{taken_at, AreRests, IsHeld, AreHeldMoves, AreKept}
-use Rattle.s2_split.proofs.MovesLemmas.{amount_at}
 use Rattle.s2_split.proofs.FittingLemmas.{none_given'}
-use Rattle.s2_split.proofs.GreedyLemmas.{put_same, put_other, map-same_in}
-use Rattle.s2_split.proofs.Shifts.{given, rest_change, taken_is, taken_back}
+use Rattle.s2_split.proofs.GreedyLemmas.{put_same, put_other}
+use Rattle.s2_check.proofs.BoundListed.{map-same_in}
+use Rattle.s2_check.proofs.MovedBound.{amount_at}
+use Rattle.s2_split.proofs.Shifts.{given, rest_change, taken_is}
 
 -- the moves with check j's replaced
 unfoldable pub with_move : Moved → ℕ → ℕ → ℕ → Moved

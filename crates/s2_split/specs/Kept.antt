@@ -1,9 +1,10 @@
 -- What the maker's lists hold while it works: for each bit its rest, for each check its move.
-use Rattle.std.specs.Prelude.{◌≡◌, ◌≢◌, ℕ, ◌<◌, ◌≤◌, ◌==◌, Bool, true, false, if◌then◌else◌, Option, None, Some, List, length, get_or, ℤ, pos, neg_ℤ, ◌*ℤ◌, ◌≤ℤ◌}
+use Rattle.std.specs.Prelude.{◌≡◌, ◌≢◌, ℕ, ◌<◌, ◌≤◌, ◌==◌, Bool, true, false, if◌then◌else◌, Option, None, Some, List, length, get_or, All, ℤ, pos, neg_ℤ, ◌*ℤ◌, ◌≤ℤ◌}
 use Rattle.std.specs.List.{list_any}
 use Rattle.s2_matrix.specs.Code.{Code, members, checks_of}
 use Rattle.s2_bits.specs.Bits.{bit_at}
 use Rattle.s2_check.specs.Cost.{value_at}
+use Rattle.s2_check.specs.Views.{IsSoft}
 use Rattle.s2_check.specs.Moves.{no_move}
 use Rattle.s2_check.specs.declared.step.Move.{Move}
 use Rattle.s2_split.specs.Greedy.{Moved, rest_at}
@@ -56,6 +57,14 @@ pub record AreHeldMoves (code : Code) (m : Moved) (ms : List Move) : Type 0 wher
 pub record AreKept (code : Code) (soft : List ℤ) (word : List Bool) (scale : ℕ) (m : Moved) (rests : List ℤ) (ms : List Move) : Type 0 where
   pub left : AreRests code soft word scale m rests
   pub held : AreHeldMoves code m ms
+
+-- of some soft values and some word
+pub record AreOfValues (code : Code) (rests : List ℤ) (ms : List Move) : Type 0 where
+  pub soft : List ℤ
+  pub word : List Bool
+  pub m : Moved
+  pub range : All IsSoft soft
+  pub kept : AreKept code soft word 16 m rests ms
 
 -- what spreading finds, and whether it does
 abbrev pub Ends : Code → List ℤ → List Bool → Option Moved → Bool → List ℤ → List Move → Type 0

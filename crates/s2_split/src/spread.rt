@@ -5,16 +5,16 @@ ghost use Rattle.s2_matrix.specs.Code.{code_of, members};
 ghost use Rattle.s2_check.specs.Moves.{no_move, ArePlaced};
 ghost use Rattle.s2_check.specs.Views.{IsSoft};
 ghost use Rattle.s2_split.specs.Greedy.{Moved, none_moved};
-ghost use Rattle.s2_split.specs.Spreading.{spread_check, spread};
-ghost use Rattle.s2_split.specs.Kept.{AreWithin, AreFew, AreKept, Ends};
+ghost use Rattle.s2_split.specs.Spreading.{spread_check, spread_pass, spread};
+ghost use Rattle.s2_split.specs.Kept.{AreWithin, AreFew, AreKept, AreOfValues, Ends};
 
 use crate::rests::{shift_some, spread_move};
 use crate::start::none_negative;
 use s2_check::Move;
 use s2_matrix::Matrix;
 
-/// A check gives its amount back, and moves one to its least rest.
-fn spread_check(matrix: &Matrix, rests: &mut [i32], moves: &mut [Move], check: usize)
+/// A check gives its amount back, and moves one to its least rest: whether it moves as before.
+fn spread_check(matrix: &Matrix, rests: &mut [i32], moves: &mut [Move], check: usize) -> bool
     requires check { check < (code_of matrix.now).checks }
     requires rests_long { length rests.old ≡ (code_of matrix.now).bits }
     requires moves_long { length moves.old ≡ (code_of matrix.now).checks }
@@ -22,6 +22,7 @@ fn spread_check(matrix: &Matrix, rests: &mut [i32], moves: &mut [Move], check: u
     requires place { (get_or moves.old check no_move).place < length (members (code_of matrix.now) check) }
     requires held { (get_or moves.old check no_move).amount ≤ 1048576 }
     ensures kept { (soft : List ℤ) (word : List Bool) (m : Moved) → AreKept (code_of matrix.now) soft word 16 m rests.old moves.old → AreKept (code_of matrix.now) soft word 16 (spread_check (code_of matrix.now) soft word m check) rests.new moves.new }
+    ensures same { IsTrue result → (rests.new ≡ rests.old) × (moves.new ≡ moves.old) }
 {
     let members = matrix.members_at(check);
     let held = moves[check];
@@ -34,6 +35,7 @@ fn spread_check(matrix: &Matrix, rests: &mut [i32], moves: &mut [Move], check: u
     let own = spread_move(rests, members);
     moves[check] = own;
     shift_some(rests, members, usize::from(own.place), own.amount as i32);
+    own == held
 }
 
 /// Whether no rest at these places is negative.
@@ -49,9 +51,9 @@ fn none_negative_at(rests: &[i32], places: &[u32]) -> bool
     true
 }
 
-/// A check in its turn. One that holds no amount, and none of whose members has a negative rest,
-/// moves nothing: it is passed over.
-fn visit(matrix: &Matrix, rests: &mut [i32], moves: &mut [Move], check: usize)
+/// A check in its turn: whether it moves as before. One that holds no amount, and none of whose
+/// members has a negative rest, moves nothing: it is passed over.
+fn visit(matrix: &Matrix, rests: &mut [i32], moves: &mut [Move], check: usize) -> bool
     requires check { check < (code_of matrix.now).checks }
     requires rests_long { length rests.old ≡ (code_of matrix.now).bits }
     requires moves_long { length moves.old ≡ (code_of matrix.now).checks }
@@ -59,16 +61,34 @@ fn visit(matrix: &Matrix, rests: &mut [i32], moves: &mut [Move], check: usize)
     requires place { (get_or moves.old check no_move).place < length (members (code_of matrix.now) check) }
     requires held { (get_or moves.old check no_move).amount ≤ 1048576 }
     ensures kept { (soft : List ℤ) (word : List Bool) (m : Moved) → AreKept (code_of matrix.now) soft word 16 m rests.old moves.old → AreKept (code_of matrix.now) soft word 16 (spread_check (code_of matrix.now) soft word m check) rests.new moves.new }
+    ensures same { IsTrue result → (rests.new ≡ rests.old) × (moves.new ≡ moves.old) }
 {
     if moves[check].amount == 0 {
         if none_negative_at(rests, matrix.members_at(check)) {
-            return;
+            return true;
         }
     }
-    spread_check(matrix, rests, moves, check);
+    spread_check(matrix, rests, moves, check)
 }
 
-/// At most 64 passes over all checks, rising, until no rest is negative: whether none is then.
+/// All checks in their turn, rising: whether each moves as before.
+fn spread_pass(matrix: &Matrix, rests: &mut [i32], moves: &mut [Move]) -> bool
+    requires few { AreFew (code_of matrix.now) }
+    requires start { AreOfValues (code_of matrix.now) rests.old moves.old }
+    ensures kept { (soft : List ℤ) (word : List Bool) (m : Moved) → AreKept (code_of matrix.now) soft word 16 m rests.old moves.old → AreKept (code_of matrix.now) soft word 16 (spread_pass (code_of matrix.now) soft word m) rests.new moves.new }
+    ensures same { IsTrue result → (rests.new ≡ rests.old) × (moves.new ≡ moves.old) }
+{
+    let mut still = true;
+    for check in 0..matrix.check_count() {
+        if !visit(matrix, rests, moves, check) {
+            still = false;
+        }
+    }
+    still
+}
+
+/// At most 64 passes over all checks, rising, until no rest is negative: whether none is then. A pass
+/// in which each check moves as before is the last, since all later ones would be the same.
 pub(crate) fn spread(
     matrix: &Matrix,
     soft: &[i16],
@@ -89,8 +109,8 @@ pub(crate) fn spread(
         if none_negative(rests) {
             return true;
         }
-        'checks: for check in 0..matrix.check_count() {
-            visit(matrix, rests, moves, check);
+        if spread_pass(matrix, rests, moves) {
+            return false;
         }
     }
     none_negative(rests)

@@ -1,4 +1,4 @@
-use Rattle.std.proofs.Common.{rules, ◌≡◌, ℕ, ◌<◌, arith, sym, ◌∙◌, ap, subst, get_or, pos}
+use Rattle.std.proofs.Common.{arith, ◌∙◌, ap}
 use Rattle.s2_matrix.specs.Code.{code_of}
 use Rattle.s2_split.specs.Kept.{scaled_at}
 use Rattle.s2_split.proofs.Held.{some_member}

@@ -1,6 +1,6 @@
-use Rattle.std.proofs.Common.{rules, ◌≡◌, ◌≢◌, ℕ, ◌<◌, ◌≤◌, nat_lt, cond, length, get_or, pos, inl, inr, sym, ap, ap₂, ◌∙◌, to_z, of_z, w32, SFits, arith}
+use Rattle.std.proofs.Common.{rules, ℕ, nat_lt, cond, length, get_or, pos, inl, inr, sym, ap, ap₂, ◌∙◌, w32, arith}
 use Rattle.std.proofs.lemmas.Bool.{cases_eq}
-use Rattle.std.proofs.lemmas.Int.{ints, to_z-of_z}
+use Rattle.std.proofs.lemmas.Int.{to_z-of_z}
 use Rattle.s2_split.specs.Spreading.{spread_amount, amount_to}
 use Rattle.s2_split.proofs.SpreadSteps.{gap_is}
 use Rattle.s2_split.proofs.rests.spread_move.Goals as goal

@@ -1,39 +1,22 @@
-use Rattle.std.proofs.Common.{rules, ◌≡◌, ℕ, suc, ◌+◌, ◌-◌, ◌≤◌, Bool, true, false, Option, None, Some, List, get_or, fold, sym, subst, ap, ◌∙◌, inl, inr, arith}
+use Rattle.std.proofs.Common.{◌≡◌, suc, ◌-◌, Bool, true, false, sym, subst, ap, ◌∙◌, inl, inr, arith}
 use Rattle.std.proofs.lemmas.Bool.{cases_Bool}
-use Rattle.s2_matrix.specs.Total.{upto}
 use Rattle.s2_matrix.specs.Code.{code_of}
 use Rattle.s2_split.specs.Greedy.{Moved, none_moved}
-use Rattle.s2_split.specs.Spreading.{has_no_negative_rest, spread, spread_check}
+use Rattle.s2_split.specs.Spreading.{has_no_negative_rest, spread, spread_pass}
 use Rattle.s2_split.specs.Kept.{AreKept, Ends}
-use Rattle.s2_split.proofs.Shifts.{rests_within}
 use Rattle.s2_split.proofs.Held.{kept_placed}
-use Rattle.s2_split.proofs.Passes.{fold_upto}
-use Rattle.s2_split.proofs.Ends.{passed, passed_more, test_is, spread_now, spread_later, spread_never, ends_some, ends_none}
+use Rattle.s2_split.proofs.Passes.{lists_as}
+use Rattle.s2_split.proofs.Ends.{passed, passed_more, test_is, spread_now, spread_later, spread_never, spread_stuck, ends_some, ends_none}
 use Rattle.s2_split.proofs.spread.spread.Goals as goal
 
-pub visit-requires-clause-small : goal.visit-requires-clause-small
-visit-requires-clause-small c =
-    rests_within (code_of c.args.matrix.now) c.args.soft.now c.args.word.now 16 _ c.checks.rests (omega arith) c.requires.range c.requires.few c.checks.invariant.left
-
-pub visit-requires-clause-held : goal.visit-requires-clause-held
-visit-requires-clause-held c =
-    let check = c.checks.check in
-    let held = (c.checks.invariant.held.each check (omega (arith, c.check_count-check-end.ensures.is))).amount_is in
-    let small = c.checks.invariant.left.small check (omega (arith, c.check_count-check-end.ensures.is)) in
-    omega arith
-
-pub visit-requires-clause-place : goal.visit-requires-clause-place
-visit-requires-clause-place c =
-    (c.checks.invariant.held.each c.checks.check (omega (arith, c.check_count-check-end.ensures.is))).place
-
-pub checks-preserved : goal.checks-preserved
-checks-preserved c =
-    let code = code_of c.args.matrix.now in
-    let soft = c.args.soft.now in
-    let word = c.args.word.now in
-    let m = passed code soft word c.passes.pass in
-    let now = fold (spread_check code soft word) m (upto c.checks.check) in
-    subst (λ (n : Moved). AreKept code soft word 16 n c.visit.new.rests c.visit.new.moves) (sym (fold_upto (spread_check code soft word) m c.checks.check)) (c.visit.ensures.kept soft word now c.checks.invariant)
+pub spread_pass-requires-clause-start : goal.spread_pass-requires-clause-start
+spread_pass-requires-clause-start c = record {
+  soft = c.args.soft.now;
+  word = c.args.word.now;
+  m = passed (code_of c.args.matrix.now) c.args.soft.now c.args.word.now c.passes.pass;
+  range = c.requires.range;
+  kept = c.passes.invariant.kept;
+}
 
 pub passes-preserved : goal.passes-preserved
 passes-preserved c =
@@ -43,15 +26,35 @@ passes-preserved c =
     let p = c.passes.pass in
     let m = passed code soft word p in
     let test : has_no_negative_rest code soft word 16 m ≡ false = test_is code soft word 16 m c.passes.rests c.none_negative.result c.passes.invariant.kept.left c.none_negative.ensures ∙ c.if-none_negative.false in
-    let all : c.checks.check ≡ code.checks = omega (arith, c.check_count-check-end.ensures.is) in
-    let is = ap (λ n. fold (spread_check code soft word) m (upto n)) all ∙ sym (passed_more code soft word p) in
     record {
       left = λ k h. (
           let before = c.passes.invariant.left (suc k) (omega arith) in
           before ∙ spread_later code soft word k m test ∙ ap (spread code soft word k) (sym (passed_more code soft word p))
           );
-      kept = subst (λ (n : Moved). AreKept code soft word 16 n c.checks.rests c.checks.moves) is c.checks.invariant;
+      kept = subst (λ (n : Moved). AreKept code soft word 16 n c.spread_pass.new.rests c.spread_pass.new.moves) (sym (passed_more code soft word p)) (c.spread_pass.ensures.kept soft word m c.passes.invariant.kept);
     }
+
+pub returns-then-spread_pass-clause-moves : goal.returns-then-spread_pass-clause-moves
+returns-then-spread_pass-clause-moves c =
+    let code = code_of c.args.matrix.now in
+    let soft = c.args.soft.now in
+    let word = c.args.word.now in
+    kept_placed code soft word 16 _ c.spread_pass.new.rests c.spread_pass.new.moves c.requires.word (c.spread_pass.ensures.kept soft word (passed code soft word c.passes.pass) c.passes.invariant.kept)
+
+pub returns-then-spread_pass-clause-ends : goal.returns-then-spread_pass-clause-ends
+returns-then-spread_pass-clause-ends c =
+    let code = code_of c.args.matrix.now in
+    let soft = c.args.soft.now in
+    let word = c.args.word.now in
+    let k = 64 - c.passes.pass in
+    let m = passed code soft word c.passes.pass in
+    let new = c.spread_pass.new in
+    let rests = c.passes.rests in
+    let moves = c.passes.moves in
+    let same = c.spread_pass.ensures.same c.if-spread_pass.true in
+    let again = λ (n : Moved) (kept : AreKept code soft word 16 n rests moves). lists_as (λ r ms. AreKept code soft word 16 (spread_pass code soft word n) r ms) new.rests rests new.moves moves (sym same.0) (sym same.1) (c.spread_pass.ensures.kept soft word n kept) in
+    let never = c.passes.invariant.left k (omega arith) ∙ spread_stuck code soft word rests moves again c.none_negative.result c.none_negative.ensures c.if-none_negative.false k m c.passes.invariant.kept in
+    ends_none code soft word (spread code soft word 64 none_moved) new.rests new.moves never
 
 pub returns-then-none_negative-clause-moves : goal.returns-then-none_negative-clause-moves
 returns-then-none_negative-clause-moves c = kept_placed (code_of c.args.matrix.now) c.args.soft.now c.args.word.now 16 _ c.passes.rests c.passes.moves c.requires.word c.passes.invariant.kept

@@ -1,4 +1,4 @@
-use Rattle.std.proofs.Common.{◌≡◌, ◌<◌, ℕ, List, get_or, pos, ◌≤ℤ◌, All, subst, sym}
+use Rattle.std.proofs.Common.{ℕ, get_or, pos, ◌≤ℤ◌, All, refl, subst, sym}
 use Rattle.std.proofs.lemmas.List.{get_or_default}
 use Rattle.s2_matrix.specs.Code.{code_of}
 use Rattle.s2_split.proofs.SpreadSteps.{idle_step}
@@ -13,4 +13,5 @@ returns-then-none_negative_at c = record {
       let all : All left places = λ k d within. subst left (sym (get_or_default places k d 0 within)) (c.none_negative_at.ensures c.if-none_negative_at.true k within) in
       idle_step (code_of c.args.matrix.now) soft word m c.args.check rests c.args.moves.now kept c.requires.check c.if-moves-check-eq0.true (subst (All left) c.members_at.ensures.are all)
       );
+  same = λ _. (refl, refl);
 }

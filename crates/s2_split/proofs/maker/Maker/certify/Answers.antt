@@ -1,4 +1,4 @@
-use Rattle.std.proofs.Common.{◌≡◌, ap, arith}
+use Rattle.std.proofs.Common.{ap, arith}
 use Rattle.s2_matrix.specs.Code.{code_of}
 use Rattle.s2_split.specs.Making.{Making}
 use Rattle.s2_split.proofs.Held.{copied}

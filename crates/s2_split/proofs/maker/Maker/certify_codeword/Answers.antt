@@ -1,6 +1,6 @@
-use Rattle.std.proofs.Common.{◌≡◌, ℕ, length, List, Bool, vec_len, sym, subst, ap, ap₂, ◌∙◌, arith}
+use Rattle.std.proofs.Common.{length, List, Bool, sym, ap, ◌∙◌, arith}
 use Rattle.s2_rows.specs.Rows.{Rows}
-use Rattle.s2_matrix.specs.Code.{code_of, IsCodeword}
+use Rattle.s2_matrix.specs.Code.{code_of}
 use Rattle.s2_split.specs.Making.{Making, made_of, shared}
 use Rattle.s2_split.specs.Spreading.{made_split}
 use Rattle.s2_split.proofs.Held.{copied, refilled}
