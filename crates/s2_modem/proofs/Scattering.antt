@@ -10,7 +10,8 @@ use Rattle.s2_check.specs.Cost.{value_at}
 use Rattle.s2_check.specs.Hard.{hard_decision}
 use Rattle.s2_split.specs.Scattered.{IsScattered, differs, repaired}
 use Rattle.s2_split.specs.Making.{made_view}
-use Rattle.s2_split.proofs.RepairLemmas.{odd_is, hard_at, count_some, check_at, repair_lem}
+use Rattle.s2_check.proofs.BoundListed.{check_at}
+use Rattle.s2_split.proofs.RepairLemmas.{odd_is, hard_at, count_some, repair_lem}
 use Rattle.s2_split.proofs.Accepted.{scattered_view}
 use Rattle.s2_receive.specs.declared.report.Verdict.TheVariants.{MostLikely}
 use Rattle.s2_modem.specs.Deciding.{Decided, satisfies, repair_view, ScatteredLaw}
