@@ -38,13 +38,22 @@ module _ (rules : Rules) where
   given : (old new : State) (r r' p p' w w' : Option (List ℕ)) (met : List Met) → Went rules old new r r' p p' w w' met → HasGiven rules old new p p' w w' met
   given old new r r' p p' w w' met went = record { standing = went.standing; packets = went.packets; lines = went.lines }
 
+-- two runs to the end meet the same
+pub same_met : (rules : Rules) (old first second : State) (bytes other : List ℕ) (left other_left : Option (List ℕ)) (met met' : List Met) → symbols_of bytes ≡ symbols_of other
+    → first.phase ≡ phases.Ended → second.phase ≡ phases.Ended
+    → Meets (met_left rules old.phase old.at (Some bytes)) (met_left rules first.phase first.at left) met
+    → Meets (met_left rules old.phase old.at (Some other)) (met_left rules second.phase second.at other_left) met' → met' ≡ met
+same_met rules old first second bytes other left other_left met met' e end end' meets meets' =
+    let all = spelled rules old.phase old.at bytes in
+    let one : met ≡ all.0 = meets_all rules old first (Some bytes) left all.0 met all.1 end meets in
+    let known : met_left rules old.phase old.at (Some other) ≡ Some all.0 = sym (same_left rules old.phase old.at bytes other e) ∙ all.1 in
+    let two : met' ≡ all.0 = meets_all rules old second (Some other) other_left all.0 met' known end' meets' in
+    two ∙ sym one
+
 pub same_run : SameRunLaw
 same_run rules old first second bytes other left other_left p p' q q' w w' v v' e (end, (met, went)) (end', (met', went')) =
-    let all = spelled rules old.phase old.at bytes in
-    let one : met ≡ all.0 = meets_all rules old first (Some bytes) left all.0 met all.1 end went.left in
-    let known : met_left rules old.phase old.at (Some other) ≡ Some all.0 = sym (same_left rules old.phase old.at bytes other e) ∙ all.1 in
-    let two : met' ≡ all.0 = meets_all rules old second (Some other) other_left all.0 met' known end' went'.left in
-    (met, given rules old first (Some bytes) left p p' w w' met went, subst (HasGiven rules old second q q' v v') (two ∙ sym one) (given rules old second (Some other) other_left q q' v v' met' went'))
+    let same : met' ≡ met = same_met rules old first second bytes other left other_left met met' e end end' went.left went'.left in
+    (met, given rules old first (Some bytes) left p p' w w' met went, subst (HasGiven rules old second q q' v v') same (given rules old second (Some other) other_left q q' v v' met' went'))
 
 pub same_step : SameStepLaw
 same_step rules old first second bytes other left other_left p p' q q' w w' v v' step other_step e (met, is, phase, went) (met', is', phase', went') =
