@@ -40,7 +40,7 @@ length_bytes [] = refl
 length_bytes (s ∷ symbols) = omega (arith, length-append (symbol_bytes s) (bytes_of symbols), length_bytes symbols)
 
 -- the lengths of cuts
-short_cuts : (size n : ℕ) (stream : List ℕ) → All (λ field. length field ≤ size) (cuts size n stream)
+pub short_cuts : (size n : ℕ) (stream : List ℕ) → All (λ field. length field ≤ size) (cuts size n stream)
 short_cuts size zero stream = All-nil (λ field. length field ≤ size)
 short_cuts size (suc n) stream = All-cons (λ field. length field ≤ size) (take size stream) (cuts size n (drop size stream)) (omega (arith, length-take size stream)) (short_cuts size n (drop size stream))
 
@@ -77,7 +77,7 @@ module _ (link : Link) (rules : Rules) (hears : Hears link rules) where
 
 module _ (rules : Rules) (roll_off : ℕ) where
   -- their lines
-  lines_frames : (at k : ℕ) (fields : List (List ℕ)) (frames : List (List Symbol)) (s : Standing) → AreReceived rules roll_off k fields frames → All (IsCertified rules) frames
+  pub lines_frames : (at k : ℕ) (fields : List (List ℕ)) (frames : List (List Symbol)) (s : Standing) → AreReceived rules roll_off k fields frames → All (IsCertified rules) frames
       → all_lines rules s (frames_at rules.size at frames) ≡ certified_lines rules s.totals.frames at fields
   lines_frames at k [] [] t h c = refl
   lines_frames at k [] (s ∷ ss) t h c = absurd h
@@ -109,7 +109,7 @@ same_totals t counts a b c d e =
     ∙ ap (λ n. made counts.frames counts.frames counts.packets n t.cut) d ∙ ap (λ x. made counts.frames counts.frames counts.packets 0 x) e
 
 pub arrives : LinkLaw
-arrives link rules count_old count_new source symbols counts new source_left symbols_left p p' w w' hears are_bytes runs out =
+arrives link rules most count_old count_new source symbols counts new source_left symbols_left p p' w w' hears are_bytes runs out =
     let went = out.1.1 in
     let met = out.1.0 in
     let size = field_bytes link.setup.mode in

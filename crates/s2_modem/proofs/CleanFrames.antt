@@ -301,8 +301,8 @@ module _ (m : Mode) (valid : IsMode m) (sizes : HasCodeSizes m) where
   hears_law link rounds limit linked ro = hears link (subst IsMode (sym linked.0) valid) (subst HasCodeSizes (sym linked.0) sizes) linked.1 ro rounds limit
 
   pub arrival_law : ArrivalLaw m
-  arrival_law link rounds count_old count_new source symbols counts totals source_left p p' w w' linked ro bytes runs got =
-      let a = arrives link (link_rules link rounds MOST_SYMBOLS) count_old count_new source symbols counts got.state source_left got.left p p' w w' (hears_law link rounds MOST_SYMBOLS linked ro) bytes runs got.runs_out in
+  arrival_law link rounds most count_old count_new source symbols counts totals source_left p p' w w' linked ro bytes runs got =
+      let a = arrives link (link_rules link rounds MOST_SYMBOLS) most count_old count_new source symbols counts got.state source_left got.left p p' w w' (hears_law link rounds MOST_SYMBOLS linked ro) bytes runs got.runs_out in
       record { packets = a.packets; totals_are = got.totals_are ∙ a.totals; fields = a.fields; frames = a.frames; lines = a.lines }
 
   pub likely_law : LikelyFrameLaw m

@@ -74,10 +74,10 @@ written held begun None frames none h = absurd h
 written held begun (Some now) frames none h = ap (λ l. Some l) (h ∙ ap (λ l. held ++ l) (ap (λ l. joined frames ++ l) none ∙ append-nil (joined frames)))
 
 pub one_run_law : (m : Mode) → FrameLaw m → RunLaw m
-one_run_law m law = λ link bytes held count_a count_b new_a new_b reader_a reader_b writer_a writer_b a b linked none_a none_b A B.
+one_run_law m law = λ link most bytes held count_a count_b new_a new_b reader_a reader_b writer_a writer_b a b linked none_a none_b A B.
     let n = field_bytes link.setup.mode in
-    let ra = reading n (ReadFails count_a new_a) bytes reader_a A.packets A.rest A.fields a none_a A.read A.ends A.outcome in
-    let rb = reading n (ReadFails count_b new_b) bytes reader_b B.packets B.rest B.fields b none_b B.read B.ends B.outcome in
+    let ra = reading most n (ReadFails most count_a new_a) bytes reader_a A.packets A.rest A.fields a none_a A.read A.ends A.outcome in
+    let rb = reading most n (ReadFails most count_b new_b) bytes reader_b B.packets B.rest B.fields b none_b B.read B.ends B.outcome in
     let same = same_packets A.packets B.packets ra.left rb.left A.each_is_packet B.each_is_packet
     (leaves_stop _ ra.left a ra.leaves) (leaves_stop _ rb.left b rb.leaves) (sym ra.bytes_are ∙ rb.bytes_are) in
     let answer : a ≡ b =

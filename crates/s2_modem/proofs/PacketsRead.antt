@@ -72,18 +72,18 @@ pub record Reading (size : ℕ) (bytes : List ℕ) (packets fields : List (List 
   pub fields_are : fields ≡ fields_by size (stream_of packets) result
   pub frame_count : (counts : Counts) → result ≡ Ok counts → counts.frames ≡ length fields
 
-pub reading : (size : ℕ) (MayFail : ℕ → Type 0) (bytes : List ℕ) (reader_new : Option (List ℕ)) (packets : List (List ℕ)) (rest : List ℕ) (fields : List (List ℕ)) (result : Result Counts SendFault)
-    → NoneFailed result → Consumes (Some bytes) reader_new (joined packets ++ rest) → EndsThere result reader_new → Outcome size MayFail packets rest fields result
+pub reading : (most size : ℕ) (MayFail : ℕ → Type 0) (bytes : List ℕ) (reader_new : Option (List ℕ)) (packets : List (List ℕ)) (rest : List ℕ) (fields : List (List ℕ)) (result : Result Counts SendFault)
+    → NoneFailed result → Consumes (Some bytes) reader_new (joined packets ++ rest) → EndsThere result reader_new → Outcome most size MayFail packets rest fields result
     → Reading size bytes packets fields result
-reading size MayFail bytes None packets rest fields result none read ends outcome = absurd read
-reading size MayFail bytes (Some beyond) packets rest fields (Ok counts) none read ends outcome = record {
+reading most size MayFail bytes None packets rest fields result none read ends outcome = absurd read
+reading most size MayFail bytes (Some beyond) packets rest fields (Ok counts) none read ends outcome = record {
   left = rest ++ beyond;
   bytes_are = read ∙ append_assoc (joined packets) rest beyond;
   leaves = ((λ t. outcome.1 t ++ ends t), outcome.3);
   fields_are = outcome.2;
   frame_count = λ other e. (let same : other ≡ counts = cc in ap (λ x. x.frames) same) ∙ outcome.4;
 }
-reading size MayFail bytes (Some beyond) packets rest fields (Err NotWholePacket) none read ends outcome =
+reading most size MayFail bytes (Some beyond) packets rest fields (Err NotWholePacket) none read ends outcome =
     let whole : rest ++ beyond ≡ rest = ap (λ l. rest ++ l) ends ∙ append-nil rest in
     record {
       left = rest;
@@ -92,7 +92,7 @@ reading size MayFail bytes (Some beyond) packets rest fields (Err NotWholePacket
       fields_are = outcome.3;
       frame_count = λ other e. absurd (cc);
     }
-reading size MayFail bytes (Some beyond) packets rest fields (Err (NoSync packet)) none read ends outcome =
+reading most size MayFail bytes (Some beyond) packets rest fields (Err (NoSync packet)) none read ends outcome =
     let some : 0 < length rest = omega (arith, outcome.1) in
     record {
       left = rest ++ beyond;
@@ -101,8 +101,8 @@ reading size MayFail bytes (Some beyond) packets rest fields (Err (NoSync packet
       fields_are = outcome.4;
       frame_count = λ other e. absurd (cc);
     }
-reading size MayFail bytes (Some beyond) packets rest fields (Err Read) none read ends outcome = absurd (none.0 refl)
-reading size MayFail bytes (Some beyond) packets rest fields (Err Write) none read ends outcome = absurd (none.1 refl)
+reading most size MayFail bytes (Some beyond) packets rest fields (Err Read) none read ends outcome = absurd (none.0 refl)
+reading most size MayFail bytes (Some beyond) packets rest fields (Err Write) none read ends outcome = absurd (none.1 refl)
 
 -- no frame is broken off
 pub none_begun : (link : Link) (reader_new : Option (List ℕ)) (packets fields : List (List ℕ)) (begun : List ℕ) (result : Result Counts SendFault)

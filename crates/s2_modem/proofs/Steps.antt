@@ -14,7 +14,6 @@ use Rattle.s2_bbframe.specs.DataStream.{IsPacket, Slicing, Sliced, IsReady, next
 use Rattle.s2_modem.specs.declared.outcome.Counts.{Counts}
 use Rattle.s2_modem.specs.declared.outcome.SendFault.{SendFault}
 use Rattle.s2_modem.specs.declared.outcome.SendFault.TheVariants.{Write}
-use Rattle.s2_modem.specs.declared.sending.TheConstants.{MOST_PACKETS}
 use Rattle.s2_modem.specs.Sending.{joined, AreFrames, Sends, FailsToSend, Runs, Outcome, EndsThere, Begins}
 use Rattle.s2_modem.proofs.Waiting.{length_gained, ready_full, full_ready}
 use Rattle.s2_modem.proofs.FieldLemmas.{joined-push, AreFrames-push, IsFull, full_are, fields_are, fields_are_and}
@@ -119,10 +118,10 @@ module _ (link : Link) (r0 w0 : Option (List ℕ)) where
   none_behind w gs h = subst (Appends w0 w) (sym (append-nil (joined gs))) h
 
   -- a run that stops keeps what it has done
-  pub stops : (r r' w : Option (List ℕ)) (s : Slicing) (p f : ℕ) (MayFail : ℕ → Type 0) (rest : List ℕ) (result : Result Counts SendFault)
-      → (h : Sending link size r0 r w0 w s p f) → Consumes r r' rest → EndsThere result r' → Outcome size MayFail h.ps rest h.fs result
-      → Begins link r' h.ps h.fs [] result → Runs link MayFail r0 r' w0 w result
-  stops r r' w s p f MayFail rest result h more end outcome none = record {
+  pub stops : (r r' w : Option (List ℕ)) (s : Slicing) (p f : ℕ) (most : ℕ) (MayFail : ℕ → Type 0) (rest : List ℕ) (result : Result Counts SendFault)
+      → (h : Sending link size r0 r w0 w s p f) → Consumes r r' rest → EndsThere result r' → Outcome most size MayFail h.ps rest h.fs result
+      → Begins link r' h.ps h.fs [] result → Runs link most MayFail r0 r' w0 w result
+  stops r r' w s p f most MayFail rest result h more end outcome none = record {
     packets = h.ps;
     rest = rest;
     fields = h.fs;
@@ -155,10 +154,10 @@ module _ (link : Link) (r0 w0 : Option (List ℕ)) where
       ap (λ x. h.fs ++ x ∷ []) whole ∙ fields_are_and size h.fs s1.waiting (stream_of h.ps) old.whole h.full some1 room0
 
   -- the end, with the last field
-  pub ends : (r r' w w' : Option (List ℕ)) (s s1 s2 : Slicing) (p f : ℕ) (b : Bool) (MayFail : ℕ → Type 0)
-      → Sending link size r0 r w0 w s p f → 189 ≤ size → p < MOST_PACKETS → Consumes r r' [] → IsAtEnd r' → s1 ≡ record s { closed = true }
-      → (link' : Link) → link' ≡ link → Sends link' s1 s2 w w' b → Runs link MayFail r0 r' w0 w' (Ok (record { packets = p; frames = f + bool_byte b }))
-  ends r r' w w' s s1 s2 p f true MayFail h large most none end is link' same_link sent =
+  pub ends : (r r' w w' : Option (List ℕ)) (s s1 s2 : Slicing) (p f : ℕ) (b : Bool) (most : ℕ) (MayFail : ℕ → Type 0)
+      → Sending link size r0 r w0 w s p f → 189 ≤ size → p < most → Consumes r r' [] → IsAtEnd r' → s1 ≡ record s { closed = true }
+      → (link' : Link) → link' ≡ link → Sends link' s1 s2 w w' b → Runs link most MayFail r0 r' w0 w' (Ok (record { packets = p; frames = f + bool_byte b }))
+  ends r r' w w' s s1 s2 p f true most MayFail h large few none end is link' same_link sent =
       let sends = subst (λ x. Sends x s1 s2 w w' true) same_link sent in
       let next = sends.2 h.ps h.fs (closed_sliced r w s s1 p f h is) in
       let p0 : p ≡ length h.ps = h.packet_count in
@@ -177,7 +176,7 @@ module _ (link : Link) (r0 w0 : Option (List ℕ)) where
         begins = refl;
         written = none_behind w' (h.gs ++ next.1.0 ∷ []) (more_frames w w' h.gs next.1.0 h.written next.1.2);
       }
-  ends r r' w w' s s1 s2 p f false MayFail h large most none end is link' same_link sent =
+  ends r r' w w' s s1 s2 p f false most MayFail h large less none end is link' same_link sent =
       let sends = subst (λ x. Sends x s1 s2 w w' false) same_link sent in
       let closed : s1.closed ≡ true = ap (λ x. x.closed) is in
       let same : s1.waiting ≡ s.waiting = ap (λ x. x.waiting) is in
@@ -202,12 +201,12 @@ module _ (link : Link) (r0 w0 : Option (List ℕ)) where
 
   -- ---- a frame that could not be written
 
-  broken : (r' w w' : Option (List ℕ)) (MayFail : ℕ → Type 0) (ps fs gs : List (List ℕ)) (field : List ℕ)
-      → All IsPacket ps → Consumes r0 r' (joined ps) → length ps ≤ MOST_PACKETS → AreFrames link 0 fs gs → Appends w0 w (joined gs)
+  broken : (r' w w' : Option (List ℕ)) (most : ℕ) (MayFail : ℕ → Type 0) (ps fs gs : List (List ℕ)) (field : List ℕ)
+      → All IsPacket ps → Consumes r0 r' (joined ps) → length ps ≤ most → AreFrames link 0 fs gs → Appends w0 w (joined gs)
       → (fs ++ field ∷ [] ≡ full_fields size (stream_of ps)) ⊎ ((fs ++ field ∷ [] ≡ fields_of size (stream_of ps)) × IsAtEnd r')
       → ((frame : List ℕ) × IsFrameOf link (header_at link.setup.roll_off (length (joined fs)) field) field frame × AppendsPart frame w w')
-      → Runs link MayFail r0 r' w0 w' (Err Write)
-  broken r' w w' MayFail ps fs gs field each consumed most are written last next =
+      → Runs link most MayFail r0 r' w0 w' (Err Write)
+  broken r' w w' most MayFail ps fs gs field each consumed within are written last next =
       let k = next.2.0 in
       record {
         packets = ps;
@@ -217,7 +216,7 @@ module _ (link : Link) (r0 w0 : Option (List ℕ)) where
         each_is_packet = each;
         read = Consumes-trans r0 r' r' (joined ps) [] consumed (Consumes-nil r');
         ends = tt;
-        outcome = (most, refl);
+        outcome = (within, refl);
         frames = gs;
         are_frames = are;
         begins = record { field = field; frame = next.0; is_last = last; is_frame = next.1; is_part = (k, next.2.1, refl) };
@@ -225,11 +224,11 @@ module _ (link : Link) (r0 w0 : Option (List ℕ)) where
       }
 
   -- that of a field which a packet filled
-  pub breaks : (r r' w w' : Option (List ℕ)) (s s1 : Slicing) (p f : ℕ) (buf : List ℕ) (MayFail : ℕ → Type 0)
-      → Sending link size r0 r w0 w s p f → 189 ≤ size → p < MOST_PACKETS → Consumes r r' buf → IsPacket buf
+  pub breaks : (r r' w w' : Option (List ℕ)) (s s1 : Slicing) (p f : ℕ) (buf : List ℕ) (most : ℕ) (MayFail : ℕ → Type 0)
+      → Sending link size r0 r w0 w s p f → 189 ≤ size → p < most → Consumes r r' buf → IsPacket buf
       → s1 ≡ after_packet buf s → ((ps fs : List (List ℕ)) → Sliced ps fs s → Sliced (ps ++ buf ∷ []) fs s1)
-      → (link' : Link) → link' ≡ link → FailsToSend link' s1 w w' → Runs link MayFail r0 r' w0 w' (Err Write)
-  breaks r r' w w' s s1 p f buf MayFail h large most consumes packet is more link' same_link failed =
+      → (link' : Link) → link' ≡ link → FailsToSend link' s1 w w' → Runs link most MayFail r0 r' w0 w' (Err Write)
+  breaks r r' w w' s s1 p f buf most MayFail h large less consumes packet is more link' same_link failed =
       let fails = subst (λ x. FailsToSend x s1 w w') same_link failed in
       let sliced1 = more h.ps h.fs h.sliced in
       let field = next_field s1 in
@@ -246,18 +245,18 @@ module _ (link : Link) (r0 w0 : Option (List ℕ)) where
       let cut : joined h.fs ++ s1.waiting ≡ joined (h.fs ++ field ∷ []) ++ left =
       ap (λ l. joined h.fs ++ l) (sym (take-append-drop s1.size s1.waiting))
       ∙ (sym (append_assoc (joined h.fs) field left) ∙ ap (λ l. l ++ left) (sym (joined-push h.fs field))) in
-      broken r' w w' MayFail (h.ps ++ buf ∷ []) h.fs h.gs field (All-push IsPacket h.ps buf h.each packet) (more_packets r r' h.ps buf h.consumed consumes)
+      broken r' w w' most MayFail (h.ps ++ buf ∷ []) h.fs h.gs field (All-push IsPacket h.ps buf h.each packet) (more_packets r r' h.ps buf h.consumed consumes)
       (omega (arith, length_push h.ps buf)) h.are_frames h.written
       (inl (full_are size (h.fs ++ field ∷ []) left (stream_of (h.ps ++ buf ∷ [])) (sliced1.whole ∙ cut) (All-push (IsFull size) h.fs field h.full taken) (omega arith)))
       (fails.1 (h.ps ++ buf ∷ []) h.fs sliced1)
 
   -- that of the last field
-  pub breaks_at_end : (r r' w w' : Option (List ℕ)) (s s1 : Slicing) (p f : ℕ) (MayFail : ℕ → Type 0)
-      → Sending link size r0 r w0 w s p f → p < MOST_PACKETS → Consumes r r' [] → IsAtEnd r' → s1 ≡ record s { closed = true }
-      → (link' : Link) → link' ≡ link → FailsToSend link' s1 w w' → Runs link MayFail r0 r' w0 w' (Err Write)
-  breaks_at_end r r' w w' s s1 p f MayFail h most none end is link' same_link failed =
+  pub breaks_at_end : (r r' w w' : Option (List ℕ)) (s s1 : Slicing) (p f : ℕ) (most : ℕ) (MayFail : ℕ → Type 0)
+      → Sending link size r0 r w0 w s p f → p < most → Consumes r r' [] → IsAtEnd r' → s1 ≡ record s { closed = true }
+      → (link' : Link) → link' ≡ link → FailsToSend link' s1 w w' → Runs link most MayFail r0 r' w0 w' (Err Write)
+  breaks_at_end r r' w w' s s1 p f most MayFail h less none end is link' same_link failed =
       let fails = subst (λ x. FailsToSend x s1 w w') same_link failed in
       let p0 : p ≡ length h.ps = h.packet_count in
       let consumed : Consumes r0 r' (joined h.ps) = subst (Consumes r0 r') (append-nil (joined h.ps)) (Consumes-trans r0 r r' (joined h.ps) [] h.consumed none) in
-      broken r' w w' MayFail h.ps h.fs h.gs (next_field s1) h.each consumed (omega arith) h.are_frames h.written
+      broken r' w w' most MayFail h.ps h.fs h.gs (next_field s1) h.each consumed (omega arith) h.are_frames h.written
       (inr (last_is r w s s1 p f h is fails.0, end)) (fails.1 h.ps h.fs (closed_sliced r w s s1 p f h is))

@@ -80,7 +80,7 @@ pub record AllArrives (link : Link) (rounds : ℕ) (source : List ℕ) (counts :
 -- what a run of the transmitter writes, received whole
 abbrev pub ArrivalLaw : Mode → Type 0
 ArrivalLaw m =
-    (link : Link) (rounds count_old count_new : ℕ) (source symbols : List ℕ) (counts : Counts) (totals : Totals) (source_left packets_old packets_new report_old report_new : Option (List ℕ))
-    → IsLinkOf m link → link.setup.roll_off ≤ 2 → AreBytes source → Runs link (ReadFails count_old count_new) (Some source) source_left (Some []) (Some symbols) (Ok counts)
+    (link : Link) (rounds most count_old count_new : ℕ) (source symbols : List ℕ) (counts : Counts) (totals : Totals) (source_left packets_old packets_new report_old report_new : Option (List ℕ))
+    → IsLinkOf m link → link.setup.roll_off ≤ 2 → AreBytes source → Runs link most (ReadFails most count_old count_new) (Some source) source_left (Some []) (Some symbols) (Ok counts)
     → Receives (link_rules link rounds MOST_SYMBOLS) symbols packets_old packets_new report_old report_new totals
     → AllArrives link rounds source counts totals packets_old packets_new report_old report_new

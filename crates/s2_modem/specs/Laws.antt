@@ -1,5 +1,5 @@
 -- What the packets, the setup and the address rows determine.
-use Rattle.std.specs.Prelude.{◌≡◌, ◌≢◌, ℕ, ◌+◌, ◌^◌, ◌≤◌, ◌⊎◌, length, List, Option, Some, Result, Err}
+use Rattle.std.specs.Prelude.{◌≡◌, ◌≢◌, ℕ, ◌+◌, ◌≤◌, ◌⊎◌, length, List, Option, Some, Result, Err}
 use Rattle.s2_mode.specs.Mode.{Mode}
 use Rattle.s2_bbframe.specs.DataStream.{field_bytes}
 use Rattle.s2_bbframe.specs.declared.header.Header.{Header}
@@ -20,9 +20,9 @@ FrameLaw m =
     (link : Link) (header : Header) (field a b : List ℕ) → IsLinkOf m link → length field ≤ field_bytes m
     → IsFrameOf link header field a → IsFrameOf link header field b → a ≡ b
 
--- a count of failed reads rose, or 2^32 packets were read
-abbrev pub ReadFails : ℕ → ℕ → ℕ → Type 0
-ReadFails old new packets = (new ≡ old + 1) ⊎ ((new ≡ old) × (packets ≡ 2 ^ 32))
+-- a count of failed reads rose, or as many packets were read as a run takes
+abbrev pub ReadFails : ℕ → ℕ → ℕ → ℕ → Type 0
+ReadFails most old new packets = (new ≡ old + 1) ⊎ ((new ≡ old) × (packets ≡ most))
 
 -- neither a read nor a write failed
 abbrev pub NoneFailed : Result Counts SendFault → Type 0
@@ -31,8 +31,8 @@ NoneFailed result = (result ≢ Err Read) × (result ≢ Err Write)
 -- two runs over the same bytes, in which neither a read nor a write failed, answer the same, and writers that held the same hold the same again
 abbrev pub RunLaw : Mode → Type 0
 RunLaw m =
-    (link : Link) (bytes held : List ℕ) (count_a count_b new_a new_b : ℕ) (reader_a reader_b writer_a writer_b : Option (List ℕ)) (a b : Result Counts SendFault)
+    (link : Link) (most : ℕ) (bytes held : List ℕ) (count_a count_b new_a new_b : ℕ) (reader_a reader_b writer_a writer_b : Option (List ℕ)) (a b : Result Counts SendFault)
     → IsLinkOf m link → NoneFailed a → NoneFailed b
-    → Runs link (ReadFails count_a new_a) (Some bytes) reader_a (Some held) writer_a a
-    → Runs link (ReadFails count_b new_b) (Some bytes) reader_b (Some held) writer_b b
+    → Runs link most (ReadFails most count_a new_a) (Some bytes) reader_a (Some held) writer_a a
+    → Runs link most (ReadFails most count_b new_b) (Some bytes) reader_b (Some held) writer_b b
     → (a ≡ b) × (writer_a ≡ writer_b)

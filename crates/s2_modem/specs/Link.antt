@@ -1,7 +1,8 @@
 -- What both ends of a link share, and which setups are refused.
-use Rattle.std.specs.Prelude.{◌≡◌, ◌≢◌, ◌<◌, ◌≤◌, Result, Ok, Err}
+use Rattle.std.specs.Prelude.{◌≡◌, ◌≢◌, ℕ, ◌<◌, ◌≤◌, Result, Ok, Err}
 use Rattle.s2_mode.specs.Mode.{shape_in}
 use Rattle.s2_rows.specs.Rows.{Rows}
+use Rattle.s2_modem.specs.declared.sending.TheConstants.{MOST_PACKETS}
 use Rattle.s2_modem.specs.declared.setup.Setup.{Setup}
 use Rattle.s2_modem.specs.declared.setup.SetupFault.{SetupFault}
 use Rattle.s2_modem.specs.declared.setup.SetupFault.TheVariants as faults
@@ -18,9 +19,14 @@ link_of setup rows = record { setup = setup; rows = rows }
 abbrev pub HasShape : Setup → Rows → Type 0
 HasShape setup rows = rows.shape ≡ shape_in setup.mode
 
--- the answer for a setup and rows: the first of three refusals, or else the link, unless there is no memory
-abbrev pub Answers : Setup → Rows → Result Link SetupFault → Type 0
-Answers setup rows (Ok link) = HasShape setup rows × (setup.number ≤ 262141) × (setup.roll_off ≤ 2) × (link ≡ record { setup = setup; rows = rows })
+-- a transmitter: its link, and how many packets a run takes at most
+pub record Transmitter : Type 0 where
+  pub link : Link
+  pub limit : ℕ
+
+-- the answer for a setup and rows: the first of three refusals, or else a transmitter on the link, unless there is no memory
+abbrev pub Answers : Setup → Rows → Result Transmitter SetupFault → Type 0
+Answers setup rows (Ok t) = HasShape setup rows × (setup.number ≤ 262141) × (setup.roll_off ≤ 2) × (t ≡ record { link = link_of setup rows; limit = MOST_PACKETS })
 Answers setup rows (Err faults.OtherShape) = rows.shape ≢ shape_in setup.mode
 Answers setup rows (Err faults.BadNumber) = HasShape setup rows × (262141 < setup.number)
 Answers setup rows (Err faults.BadRollOff) = HasShape setup rows × (setup.number ≤ 262141) × (2 < setup.roll_off)

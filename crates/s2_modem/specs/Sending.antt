@@ -9,7 +9,6 @@ use Rattle.s2_modem.specs.Frames.{IsFrameOf}
 use Rattle.s2_modem.specs.declared.outcome.Counts.{Counts}
 use Rattle.s2_modem.specs.declared.outcome.SendFault.{SendFault}
 use Rattle.s2_modem.specs.declared.outcome.SendFault.TheVariants.{NotWholePacket, NoSync, Read, Write}
-use Rattle.s2_modem.specs.declared.sending.TheConstants.{MOST_PACKETS}
 
 -- what stands in one list after another
 abbrev pub joined : List (List ℕ) → List ℕ
@@ -23,24 +22,24 @@ AreFrames link at (field ∷ fields) [] = ⊥
 AreFrames link at (field ∷ fields) (frame ∷ frames) =
     IsFrameOf link (header_at link.setup.roll_off at field) field frame × AreFrames link (at + length field) fields frames
 
--- Where a run that cannot read stopped: within the next packet, or behind as many packets as a run takes, where it reads no more.
-abbrev pub StopsReading : ℕ → List ℕ → Type 0
-StopsReading packets rest = ((packets < MOST_PACKETS) × (length rest < 188)) ⊎ ((packets ≡ MOST_PACKETS) × (rest ≡ []))
+-- Where a run that cannot read stopped: within the next packet, or behind as many packets as it takes, where it reads no more.
+abbrev pub StopsReading : ℕ → ℕ → List ℕ → Type 0
+StopsReading most packets rest = ((packets < most) × (length rest < 188)) ⊎ ((packets ≡ most) × (rest ≡ []))
 
--- By the answer: how many packets were accepted, what was read behind them, and which data fields have their frames written
+-- By the answer, where a run takes at most so many packets: how many were accepted, what was read behind them, and which data fields have their frames written
 -- whole. All of them only where the reader ends behind a whole packet, else those that were full.
-abbrev pub Outcome : ℕ → (ℕ → Type 0) → List (List ℕ) → List ℕ → List (List ℕ) → Result Counts SendFault → Type 0
-Outcome size MayFail packets rest fields (Ok counts) =
-    (length packets < MOST_PACKETS) × (rest ≡ []) × (fields ≡ fields_of size (stream_of packets))
+abbrev pub Outcome : ℕ → ℕ → (ℕ → Type 0) → List (List ℕ) → List ℕ → List (List ℕ) → Result Counts SendFault → Type 0
+Outcome most size MayFail packets rest fields (Ok counts) =
+    (length packets < most) × (rest ≡ []) × (fields ≡ fields_of size (stream_of packets))
     × (counts.packets ≡ length packets) × (counts.frames ≡ length fields)
-Outcome size MayFail packets rest fields (Err NotWholePacket) =
-    (length packets < MOST_PACKETS) × (0 < length rest) × (length rest < 188) × (fields ≡ full_fields size (stream_of packets))
-Outcome size MayFail packets rest fields (Err (NoSync packet)) =
-    (length packets < MOST_PACKETS) × (length rest ≡ 188) × (slice_index rest 0 ≢ 71) × (packet ≡ length packets + 1)
+Outcome most size MayFail packets rest fields (Err NotWholePacket) =
+    (length packets < most) × (0 < length rest) × (length rest < 188) × (fields ≡ full_fields size (stream_of packets))
+Outcome most size MayFail packets rest fields (Err (NoSync packet)) =
+    (length packets < most) × (length rest ≡ 188) × (slice_index rest 0 ≢ 71) × (packet ≡ length packets + 1)
     × (fields ≡ full_fields size (stream_of packets))
-Outcome size MayFail packets rest fields (Err Read) =
-    MayFail (length packets) × StopsReading (length packets) rest × (fields ≡ full_fields size (stream_of packets))
-Outcome size MayFail packets rest fields (Err Write) = (length packets ≤ MOST_PACKETS) × (rest ≡ [])
+Outcome most size MayFail packets rest fields (Err Read) =
+    MayFail (length packets) × StopsReading most (length packets) rest × (fields ≡ full_fields size (stream_of packets))
+Outcome most size MayFail packets rest fields (Err Write) = (length packets ≤ most) × (rest ≡ [])
 
 -- The reader is at its end where the answer rests on that.
 abbrev pub EndsThere : Result Counts SendFault → Option (List ℕ) → Type 0
@@ -65,8 +64,9 @@ Begins link reader_new packets fields begun (Err Write) = BreaksOff link reader_
 Begins link reader_new packets fields begun result = begun ≡ []
 
 -- A run accepted these packets, read the rest behind them and no more, and wrote the frames of these data fields, and behind
--- them nothing but the beginning of a frame that failed. `MayFail` says of a number of packets that a read may fail behind them.
-pub record Runs (link : Link) (MayFail : ℕ → Type 0) (reader_old reader_new writer_old writer_new : Option (List ℕ)) (result : Result Counts SendFault) : Type 0 where
+-- them nothing but the beginning of a frame that failed. It takes at most so many packets, and `MayFail` says of a number of
+-- packets that a read may fail behind them.
+pub record Runs (link : Link) (most : ℕ) (MayFail : ℕ → Type 0) (reader_old reader_new writer_old writer_new : Option (List ℕ)) (result : Result Counts SendFault) : Type 0 where
   pub packets : List (List ℕ)
   pub rest : List ℕ
   pub fields : List (List ℕ)
@@ -76,7 +76,7 @@ pub record Runs (link : Link) (MayFail : ℕ → Type 0) (reader_old reader_new 
   pub each_is_packet : All IsPacket packets
   pub read : Consumes reader_old reader_new (joined packets ++ rest)
   pub ends : EndsThere result reader_new
-  pub outcome : Outcome (field_bytes link.setup.mode) MayFail packets rest fields result
+  pub outcome : Outcome most (field_bytes link.setup.mode) MayFail packets rest fields result
   pub are_frames : AreFrames link 0 fields frames
   pub begins : Begins link reader_new packets fields begun result
   pub written : Appends writer_old writer_new (joined frames ++ begun)

@@ -1,6 +1,7 @@
 //! What the definitions determine: each a call that does nothing, whose clause is the law.
 ghost use Rattle.s2_modem.specs.Laws.{FrameLaw, RunLaw};
 ghost use Rattle.s2_modem.specs.Headline.{LikelyFrameLaw, BothCodesLaw, ScatteredFrameLaw, HearsLaw, ArrivalLaw};
+ghost use Rattle.s2_modem.specs.Streams.{FirstFramesLaw, OneStreamLaw};
 
 use s2_mode::Mode;
 
@@ -58,3 +59,18 @@ pub fn arrival(mode: Mode)
 {
     let _ = mode.k();
 }
+
+/// Of the first frames of a stream, each without noise or scattered about what was sent, behind a header
+/// that passes, just the packets are written whose closing CRC-8 lies in their data fields, and each is
+/// reported as certified, whatever symbols follow.
+pub fn first_frames(mode: Mode)
+    ensures { FirstFramesLaw mode }
+{
+    let _ = mode.k();
+}
+
+/// Receivers of one link that stand alike write the same packets and the same report of the same symbols,
+/// and come to the same totals and the same answer, however their readers cut the bytes.
+pub fn one_stream()
+    ensures { OneStreamLaw }
+{}

@@ -17,7 +17,7 @@ pub enum SendFault {
     /// This packet, counted from 1, does not begin with 47 hexadecimal.
     #[error("no sync in packet {packet}")]
     NoSync { packet: u64 },
-    /// A read failed, or 2^32 packets were accepted.
+    /// A read failed, or as many packets were accepted as a run takes.
     #[error("cannot read")]
     Read,
     /// A write failed.

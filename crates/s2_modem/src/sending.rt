@@ -9,7 +9,7 @@ use crate::outcome::{Counts, SendFault};
 use s2_bbframe::Slicer;
 use s2_mode::{CountedRead, CountedWrite, WriteFault, read_full};
 
-/// How many packets one run accepts at most.
+/// How many packets one run accepts at most, unless it is made to accept fewer.
 pub const MOST_PACKETS: u64 = 1 << 32;
 
 /// Writes the next data field's frame where a field can be taken, and says whether it did. Where a
@@ -37,11 +37,12 @@ fn send_ready<W: CountedWrite>(
     Ok(true)
 }
 
-/// Sends the packets of a reader to its end, as frames of a new stream.
+/// Sends the packets of a reader to its end, at most `limit` of them, as frames of a new stream.
 pub(crate) fn send_all<R: CountedRead, W: CountedWrite>(
     framer: &mut Framer<'_>,
     slicer: &mut Slicer,
     field: &mut [u8],
+    limit: u64,
     reader: &mut R,
     writer: &mut W,
 ) -> Result<Counts, SendFault>
@@ -50,8 +51,8 @@ pub(crate) fn send_all<R: CountedRead, W: CountedWrite>(
     requires field { length field.old ≡ slicer.old.size }
     requires size { slicer.old.size ≡ field_bytes framer.old.setup.mode }
     requires packet { 189 ≤ slicer.old.size }
-    ensures runs { Runs framer.old
-        (λ packets. (R.count reader.new ≡ R.count reader.old + 1) ⊎ ((R.count reader.new ≡ R.count reader.old) × (packets ≡ MOST_PACKETS)))
+    ensures runs { Runs framer.old limit
+        (λ packets. (R.count reader.new ≡ R.count reader.old + 1) ⊎ ((R.count reader.new ≡ R.count reader.old) × (packets ≡ limit)))
         (R.remaining reader.old) (R.remaining reader.new) (W.contents writer.old) (W.contents writer.new) result }
     ensures no_read { result ≢ Err SendFault.Read → R.count reader.new ≡ R.count reader.old }
     ensures write { IsErrOf result SendFault.Write → W.count writer.new ≡ W.count writer.old + 1 }
@@ -63,7 +64,7 @@ pub(crate) fn send_all<R: CountedRead, W: CountedWrite>(
     let mut packets: u64 = 0;
     let mut frames: u64 = 0;
     let mut packet = [0u8; 188];
-    'packets: for _accepted in 0..MOST_PACKETS {
+    'packets: for _accepted in 0..limit {
         let Ok(n) = read_full(reader, &mut packet) else {
             return Err(SendFault::Read);
         };

@@ -1,5 +1,5 @@
 //! The transmitter: packets in, symbols out.
-ghost use Rattle.std.specs.Prelude.{◌≡◌, ◌≢◌, ◌+◌, ◌-◌, ◌^◌, ◌<◌, ◌⊎◌, Err, IsErrOf};
+ghost use Rattle.std.specs.Prelude.{◌≡◌, ◌≢◌, ◌+◌, ◌-◌, ◌^◌, ◌<◌, ◌≤◌, ◌⊎◌, Err, IsErrOf};
 ghost use Rattle.s2_modem.specs.Link.{Answers};
 ghost use Rattle.s2_modem.specs.Sending.{Runs};
 
@@ -14,22 +14,24 @@ use s2_scramble::MOST_NUMBER;
 use std::alloc::Global;
 use std::marker::Model;
 
-/// Sends packets as frames of symbols. To contracts it is the link that it sends on.
+/// Sends packets as frames of symbols. To contracts it is the link that it sends on, and how many packets a
+/// run takes at most.
 #[derive(Drop)]
 pub struct Transmitter<'a> {
     framer: Framer<'a>,
     slicer: Slicer,
     field: Vec<u8>,
+    limit: u64,
 }
 
 impl<'a> Model for Transmitter<'a> {
     ghost use Rattle.std.specs.Prelude.{◌≡◌, ◌≤◌, length};
     ghost use Rattle.s2_bbframe.specs.DataStream.{field_bytes};
-    ghost use Rattle.s2_modem.specs.Link.{Link};
+    ghost use Rattle.s2_modem.specs.Link.{Transmitter as TransmitterValue};
 
-    ghost Value = { Link };
+    ghost Value = { TransmitterValue };
 
-    ghost view = { λ t. t.framer };
+    ghost view = { λ t. record { link = t.framer; limit = t.limit } };
 
     ghost invariant = { λ t. (t.slicer.size ≡ field_bytes t.framer.setup.mode) × (length t.field.items ≡ field_bytes t.framer.setup.mode)
         × (189 ≤ field_bytes t.framer.setup.mode) };
@@ -65,18 +67,27 @@ impl<'a> Transmitter<'a> {
             framer,
             slicer,
             field,
+            limit: MOST_PACKETS,
         })
+    }
+
+    /// Lets each run take at most so many packets, 1 to [`MOST_PACKETS`].
+    pub fn limit(&mut self, packets: u64)
+        requires { (1 ≤ packets) × (packets ≤ MOST_PACKETS) }
+        ensures { self.new ≡ record self.old { limit = packets } }
+    {
+        self.limit = packets;
     }
 
     /// Reads packets of 188 bytes to the reader's end, and writes the frames of their data stream,
     /// which begins anew with each run. It takes no memory, and reads and writes piece by piece: a
     /// packet, and a frame. A packet is accepted where it is whole and begins with 47 hexadecimal, at
-    /// most [`MOST_PACKETS`] of them.
+    /// most [`MOST_PACKETS`] of them, or as many as [`Transmitter::limit`] said.
     ///
     /// After `Ok` the reader is at its end, and the writer has gained exactly the frames of all data
     /// fields. `NotWholePacket` and `NoSync` tell what the packets lack, and `Read` that a read failed
-    /// or that [`MOST_PACKETS`] packets were accepted: then the writer has gained exactly the frames
-    /// of the full data fields of the packets accepted before. After `Write` it has gained the frames
+    /// or that as many packets were accepted as may be, where nothing more is read: then the writer
+    /// has gained exactly the frames of the full data fields of the packets accepted before. After `Write` it has gained the frames
     /// of the fields before the one whose frame failed, each whole, and of that frame a beginning.
     /// In each case the reader has given the packets that were accepted, then the bytes that were
     /// refused or that came before a failed read, at most 188, and no more.
@@ -87,8 +98,8 @@ impl<'a> Transmitter<'a> {
     ) -> Result<Counts, SendFault>
         requires reader { R.count reader.old < 2 ^ 64 - 1 }
         requires writer { W.count writer.old < 2 ^ 64 - 1 }
-        ensures runs { Runs self.old
-            (λ packets. (R.count reader.new ≡ R.count reader.old + 1) ⊎ ((R.count reader.new ≡ R.count reader.old) × (packets ≡ MOST_PACKETS)))
+        ensures runs { Runs self.old.link self.old.limit
+            (λ packets. (R.count reader.new ≡ R.count reader.old + 1) ⊎ ((R.count reader.new ≡ R.count reader.old) × (packets ≡ self.old.limit)))
             (R.remaining reader.old) (R.remaining reader.new) (W.contents writer.old) (W.contents writer.new) result }
         ensures no_read { result ≢ Err SendFault.Read → R.count reader.new ≡ R.count reader.old }
         ensures write { IsErrOf result SendFault.Write → W.count writer.new ≡ W.count writer.old + 1 }
@@ -99,6 +110,7 @@ impl<'a> Transmitter<'a> {
             &mut self.framer,
             &mut self.slicer,
             &mut self.field,
+            self.limit,
             reader,
             writer,
         )

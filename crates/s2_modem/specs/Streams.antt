@@ -1,0 +1,72 @@
+-- What holds of a stream of symbols: of its first frames, and where it is read in two ways.
+use Rattle.std.specs.Prelude.{◌≡◌, ℕ, ◌+◌, ◌≤◌, ◌⊎◌, Bool, true, List, [], ◌∷◌, ◌++◌, All, length, take, Option, Some, ⊤}
+use Rattle.std.specs.Io.KnownBytes.{Appends}
+use Rattle.s2_mode.specs.Mode.{Mode, symbols_in}
+use Rattle.s2_mode.specs.Symbols.{symbols_of}
+use Rattle.s2_mode.specs.declared.symbols.Symbol.{Symbol}
+use Rattle.s2_matrix.specs.Code.{code_of}
+use Rattle.s2_split.specs.Scattered.{IsScattered}
+use Rattle.s2_bbframe.specs.DataStream.{IsPacket, stream_of, fields_of, field_bytes, header_at}
+use Rattle.s2_bbframe.specs.Joining.{closed_in}
+use Rattle.s2_receive.specs.Meeting.{Met}
+use Rattle.s2_receive.specs.Receiving.{State, Went, RunsTo, begun}
+use Rattle.s2_receive.specs.Laws.{joined}
+use Rattle.s2_modem.specs.Link.{Link}
+use Rattle.s2_modem.specs.Laws.{IsLinkOf}
+use Rattle.s2_modem.specs.Frames.{IsCodewordFor}
+use Rattle.s2_modem.specs.Passing.{passes_as}
+use Rattle.s2_modem.specs.Reports.{frame_soft}
+use Rattle.s2_modem.specs.Reception.{link_rules}
+use Rattle.s2_modem.specs.Both.{AreBytes, sent_symbols, certified_lines}
+
+-- a frame's symbols as they were sent; or some behind a header that passes, whose soft values are scattered about the codeword
+abbrev pub IsClear : Link → List Bool → List Symbol → Type 0
+IsClear link codeword symbols =
+    (symbols ≡ sent_symbols link codeword)
+    ⊎ ((length symbols ≡ symbols_in link.setup.mode) × (passes_as link.setup.mode (take 90 symbols) ≡ true) × IsScattered (code_of link.rows) (frame_soft link symbols) codeword)
+
+-- those of the frame that was sent for a data field, which begins at this byte of the stream
+abbrev pub IsHeard : Link → ℕ → List ℕ → List Symbol → Type 0
+IsHeard link at field symbols =
+    (codeword : List Bool) × IsCodewordFor link.setup.mode link.rows (header_at link.setup.roll_off at field) field codeword × IsClear link codeword symbols
+
+-- those of consecutive data fields
+abbrev pub AreHeard : Link → ℕ → List (List ℕ) → List (List Symbol) → Type 0
+AreHeard link at [] [] = ⊤
+AreHeard link at [] (symbols ∷ frames) = ⊥
+AreHeard link at (field ∷ fields) [] = ⊥
+AreHeard link at (field ∷ fields) (symbols ∷ frames) = IsHeard link at field symbols × AreHeard link (at + length field) fields frames
+
+-- Each of the first frames is reported as certified, and just those packets are written whose closing CRC-8 lies in their data
+-- fields; all packets, where these are all fields.
+pub record FrontArrives (link : Link) (rounds limit : ℕ) (packets fields later : List (List ℕ)) (packets_old packets_new report_old report_new : Option (List ℕ)) : Type 0 where
+  pub written : Appends packets_old packets_new (joined (take (closed_in (length (joined fields))) packets))
+  pub lines : Appends report_old report_new (certified_lines (link_rules link rounds limit) 0 0 fields)
+  pub all : later ≡ [] → take (closed_in (length (joined fields))) packets ≡ packets
+
+-- What a receiver has written after so many steps as first frames of a stream of packets came clear, whatever comes behind them.
+abbrev pub FirstFramesLaw : Mode → Type 0
+FirstFramesLaw m =
+    (link : Link) (rounds limit : ℕ) (packets fields later : List (List ℕ)) (frames : List (List Symbol)) (rest : List Symbol) (bytes : List ℕ)
+    (mid : State) (left packets_old packets_new report_old report_new : Option (List ℕ)) (met : List Met)
+    → IsLinkOf m link → link.setup.roll_off ≤ 2 → All IsPacket packets → AreBytes (joined packets)
+    → fields ++ later ≡ fields_of (field_bytes link.setup.mode) (stream_of packets) → AreHeard link 0 fields frames
+    → symbols_of bytes ≡ joined frames ++ rest → length met ≡ length frames
+    → Went (link_rules link rounds limit) begun mid (Some bytes) left packets_old packets_new report_old report_new met
+    → FrontArrives link rounds limit packets fields later packets_old packets_new report_old report_new
+
+-- two runs came to the same totals and the same answer, and wrote the same
+pub record GiveTheSame (first second : State) (well other_well : Bool) (p p' q q' w w' v v' : Option (List ℕ)) : Type 0 where
+  pub totals : first.standing.totals ≡ second.standing.totals
+  pub answer : well ≡ other_well
+  pub packets : (gained : List ℕ) × Appends p p' gained × Appends q q' gained
+  pub lines : (gained : List ℕ) × Appends w w' gained × Appends v v' gained
+
+-- Two receivers of a link that stand alike and run to the end, over bytes that spell the same symbols, however their readers cut
+-- them and whatever bytes are left over, give the same.
+abbrev pub OneStreamLaw : Type 0
+OneStreamLaw =
+    (link : Link) (rounds limit : ℕ) (old first second : State) (bytes other : List ℕ) (left other_left p p' q q' w w' v v' : Option (List ℕ)) (well other_well : Bool)
+    → symbols_of bytes ≡ symbols_of other
+    → RunsTo (link_rules link rounds limit) old first (Some bytes) left p p' w w' well → RunsTo (link_rules link rounds limit) old second (Some other) other_left q q' v v' other_well
+    → GiveTheSame first second well other_well p p' q q' w w' v v'
