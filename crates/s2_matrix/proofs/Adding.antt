@@ -1,12 +1,11 @@
 -- How the sums of the information bits come about, group by group.
-use Rattle.std.proofs.Common.{◌≡◌, ℕ, suc, ◌+◌, ◌-◌, ◌*◌, ◌/◌, ◌%◌, ◌<◌, ◌≤◌, ◌==◌, ◌&&◌, Bool, false, List, ◌++◌, length, get_or, take, refl, sym, ap, ap₂, subst, ◌∙◌, arith, length-append, mul-le-mul_left}
+use Rattle.std.proofs.Common.{◌≡◌, ℕ, ◌+◌, ◌*◌, ◌/◌, ◌%◌, ◌<◌, ◌≤◌, ◌==◌, ◌&&◌, Bool, false, List, length, get_or, take, refl, sym, ap, ap₂, subst, ◌∙◌, arith, mul-le-mul_left}
 use Rattle.std.specs.List.{list_any}
-use Rattle.std.proofs.lemmas.List.{get_or_append_left, get_or-append_right}
 use Rattle.std.proofs.lemmas.Nat.{div-mul-add, mod-mul-add}
 use Rattle.s2_bits.specs.Bits.{xor, bit_at}
-use Rattle.s2_mode.specs.Shape.{information_bits, check_count, code_bits}
+use Rattle.s2_mode.specs.Shape.{information_bits, check_count}
 use Rattle.s2_rows.specs.Rows.{Rows, AreAddresses, row_of}
-use Rattle.s2_matrix.specs.Code.{code_of, is_member}
+use Rattle.s2_matrix.specs.Code.{is_member}
 use Rattle.s2_matrix.proofs.Joins.{row_more, row_apart, info_has}
 use Rattle.s2_matrix.specs.Sums.{sum_of}
 use Rattle.s2_matrix.specs.Planes.{plane_place}

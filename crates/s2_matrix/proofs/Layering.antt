@@ -1,5 +1,5 @@
 -- The layers of checks, and what they show.
-use Rattle.std.proofs.Common.{◌≡◌, ◌≢◌, ℕ, zero, suc, ◌+◌, ◌-◌, ◌*◌, ◌/◌, ◌%◌, ◌<◌, ◌≤◌, ◌==◌, ◌||◌, Bool, true, false, All, AllPairs, Contains, List, [], ◌∷◌, ◌++◌, filter, map, length, get_or, take, inl, inr, refl, sym, ap, ap₂, subst, ◌∙◌, arith, eq-eqb, ne_eqb, eqb-true, mul-le-mul_left, mul-le-mul_right}
+use Rattle.std.proofs.Common.{◌≡◌, ◌≢◌, ℕ, zero, suc, ◌+◌, ◌-◌, ◌*◌, ◌/◌, ◌%◌, ◌<◌, ◌≤◌, ◌==◌, ◌||◌, Bool, true, false, All, AllPairs, Contains, List, [], ◌∷◌, ◌++◌, filter, length, get_or, take, inl, inr, refl, sym, ap, ap₂, subst, ◌∙◌, arith, eq-eqb, ne_eqb, eqb-true, mul-le-mul_left, mul-le-mul_right}
 use Rattle.std.specs.List.{list_any}
 use Rattle.std.proofs.lemmas.Bool.{cases_Bool, cases_eq, cases_lt}
 use Rattle.std.proofs.lemmas.List.{take_more, length-map, get_or-map, length-take-le}
@@ -13,7 +13,6 @@ use Rattle.s2_bits.proofs.Pieces.{turned_low, turned_high, turned_below}
 use Rattle.s2_mode.specs.Shape.{information_bits, check_count}
 use Rattle.s2_rows.specs.Rows.{Rows, IsRows, row_of}
 use Rattle.s2_matrix.specs.Total.{upto}
-use Rattle.s2_matrix.specs.Code.{is_member}
 use Rattle.s2_matrix.specs.Relation.{IsMember, by_row, parity, next}
 use Rattle.s2_matrix.specs.Edges.{Gains, AreEdges}
 use Rattle.s2_matrix.specs.declared.views.LayerEntry.{LayerEntry}

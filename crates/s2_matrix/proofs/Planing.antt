@@ -1,5 +1,5 @@
 -- Checks in planes.
-use Rattle.std.proofs.Common.{◌≡◌, ◌≢◌, ℕ, zero, suc, ◌+◌, ◌-◌, ◌*◌, ◌/◌, ◌%◌, ◌<◌, ◌≤◌, ◌==◌, ◌&&◌, Bool, false, replicate, List, ◌++◌, length, take, drop, inl, inr, refl, sym, ap, ap₂, subst, ◌∙◌, arith, eq-eqb, ne_eqb}
+use Rattle.std.proofs.Common.{◌≡◌, ◌≢◌, ℕ, zero, suc, ◌+◌, ◌-◌, ◌*◌, ◌/◌, ◌%◌, ◌<◌, ◌≤◌, ◌==◌, ◌&&◌, Bool, false, replicate, List, ◌++◌, length, take, drop, inl, inr, refl, sym, ap, ap₂, ◌∙◌, arith, eq-eqb, ne_eqb}
 use Rattle.std.proofs.Math.Nat.{mod-eq_of_lt, add-mod_right, add-mul-mod_self_right, mul-le-mul_right}
 use Rattle.std.proofs.lemmas.Bool.{cases_eq, cases_lt}
 use Rattle.std.proofs.lemmas.List.{get_or_append_left, get_or-append_right, get_or-take, get_or-drop, length-take-le}
@@ -138,6 +138,28 @@ plane_added w planes before plane plane' after n q x j some hx hj room eb ep ea 
           ]
           )
     ]
+
+-- a piece of the bits twice over is the bits turned
+pub twice_turned : (bits : List Bool) (s k : ℕ) → s ≤ length bits → k < length bits → bit_at (bits ++ bits) (length bits - s + k) ≡ bit_at bits (turned (length bits) s k)
+twice_turned bits s k le lt =
+    let n = length bits in
+    by_order k s
+    (λ less. (
+    let within : n - s + k < n = omega arith in
+    get_or_append_left bits bits false (n - s + k) within ∙ ap (bit_at bits) (sym (turned_low n s k less le))
+    ))
+    (λ more. (
+    let past : n ≤ n - s + k = omega arith in
+    let at : n - s + k - n ≡ k - s = omega arith in
+    get_or-append_right bits bits n (n - s + k) false refl past ∙ ap (bit_at bits) (at ∙ sym (turned_high n s k more lt))
+    ))
+
+-- turned by no place
+pub not_turned : (n k : ℕ) → k < n → turned n 0 k ≡ k
+not_turned n k lt =
+    let none : 0 ≤ k = omega arith in
+    let same : k - 0 ≡ k = omega arith in
+    turned_high n 0 k none lt ∙ same
 
 -- planes of zeros are empty
 pub empty_planes : (n k : ℕ) → bit_at (replicate n false) k ≡ false

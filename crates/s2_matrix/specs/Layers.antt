@@ -1,5 +1,5 @@
 -- The checks by layers (EN 302 307-1, 5.3.2): layer r has the checks r + q c, one for each lane c of a group.
-use Rattle.std.specs.Prelude.{◌≡◌, ◌≢◌, ◌↔◌, ℕ, ◌+◌, ◌*◌, ◌/◌, ◌%◌, ◌<◌, ◌≤◌, Bool, ◌==◌, IsTrue, All, AllPairs, Contains, List, filter, map, length}
+use Rattle.std.specs.Prelude.{◌≡◌, ◌≢◌, ◌↔◌, ℕ, ◌+◌, ◌*◌, ◌/◌, ◌%◌, ◌<◌, ◌≤◌, Bool, ◌==◌, IsTrue, AllPairs, Contains, List, filter, map}
 use Rattle.std.specs.List.{list_any}
 use Rattle.s2_bits.specs.Turns.{turned}
 use Rattle.s2_mode.specs.Shape.{information_bits}

@@ -9,22 +9,13 @@ ghost use Rattle.s2_matrix.specs.Planes.{plane_place};
 
 use crate::accumulator::accumulate;
 use crate::matrix::Matrix;
-use crate::planes::add_row;
+use crate::planes::{add_row, part};
 use s2_bits::Bits;
-use s2_mode::MOST_BITS;
+use s2_mode::{MOST_BITS, MOST_GROUP};
 
 /// How many checks are looked at one by one before all are at once: bits that are far from a
 /// codeword have an odd check among so many.
 const FIRST_CHECKS: usize = 64;
-
-/// So many bits from a place on.
-fn part(bits: &[bool], start: usize, len: usize) -> &[bool]
-    requires { start + len ≤ length bits.now }
-    ensures long { length result.now ≡ len }
-    ensures are { (m : ℕ) → m < len → bit_at result.now m ≡ bit_at bits.now (start + m) }
-{
-    &bits[start..start + len]
-}
 
 /// Adds up the information bits of each check, in planes that are empty.
 fn add_groups(matrix: &Matrix, info: &[bool], planes: &mut [bool])
@@ -38,9 +29,11 @@ fn add_groups(matrix: &Matrix, info: &[bool], planes: &mut [bool])
     let shape = matrix.shape();
     let group = shape.group();
     let q = shape.q();
+    let mut room = [false; 2 * MOST_GROUP];
+    let (twice, _) = room.split_at_mut(2 * group);
     for g in 0..shape.groups() {
         let bits = part(info, group * g, group);
-        add_row(planes, q, bits, matrix.addresses(g));
+        add_row(planes, q, bits, twice, matrix.addresses(g));
     }
 }
 

@@ -1,4 +1,4 @@
-use Rattle.std.proofs.Common.{◌≡◌, ◌+◌, arith}
+use Rattle.std.proofs.Common.{arith}
 use Rattle.s2_matrix.proofs.Layering.{pass_none, pass_one}
 use Rattle.s2_matrix.proofs.layers.join_address.Goals as goal
 

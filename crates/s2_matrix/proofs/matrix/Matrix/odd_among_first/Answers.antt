@@ -1,4 +1,4 @@
-use Rattle.std.proofs.Common.{rules, ℕ, ◌%◌, count_by, ap, sym, ◌∙◌, arith}
+use Rattle.std.proofs.Common.{rules, ℕ, ◌%◌, count_by, ap, sym, ◌∙◌}
 use Rattle.s2_bits.specs.Bits.{bit_at}
 use Rattle.s2_matrix.proofs.matrix.Matrix.odd_among_first.Goals as goal
 

@@ -1,4 +1,4 @@
-use Rattle.std.proofs.Common.{length, ap, ◌∙◌, arith}
+use Rattle.std.proofs.Common.{ap, ◌∙◌}
 use Rattle.s2_mode.specs.Shape.{information_bits}
 use Rattle.s2_matrix.proofs.Parities.{tested}
 use Rattle.s2_matrix.proofs.matrix.Matrix.odd_by_parities.Goals as goal
