@@ -1,5 +1,5 @@
 -- Sums along the lanes of planes.
-use Rattle.std.proofs.Common.{◌≡◌, ◌≢◌, ℕ, suc, ◌+◌, ◌-◌, ◌*◌, ◌<◌, ◌≤◌, Bool, false, List, length, set, length-set, get_or-set_same, get_or-set_other, inl, inr, refl, sym, ap, ap₂, subst, ◌∙◌, arith}
+use Rattle.std.proofs.Common.{◌≡◌, ◌≢◌, ℕ, suc, ◌+◌, ◌-◌, ◌*◌, ◌<◌, ◌≤◌, Bool, false, List, length, set, length-set, get_or-set_same, get_or-set_other, inl, inr, refl, sym, ap, ap₂, ◌∙◌, arith}
 use Rattle.std.proofs.Math.Nat.{mul-le-mul_right}
 use Rattle.std.proofs.lemmas.Bool.{cases_eq}
 use Rattle.std.proofs.lemmas.Nat.{div-mul-add, mod-mul-add}
@@ -37,13 +37,6 @@ filled_more at n f old now v low is so_far = record {
   front = λ k h. (let apart : k ≢ at + n = λ e. omega arith in get_or-set_other now (at + n) k v false apart ∙ so_far.front k h);
   behind = λ k h. (let apart : k ≢ at + n = λ e. omega arith in get_or-set_other now (at + n) k v false apart ∙ so_far.behind k (omega arith));
 }
-
-pub filled_two : (at n m : ℕ) (f : ℕ → Bool) (old now : List Bool) (v w : Bool) → m ≡ n + 1 + 1 → at + (n + 1) < length now → v ≡ f n → w ≡ f (n + 1) → Filled at n f old now → Filled at m f old (set (set now (at + n) v) (at + (n + 1)) w)
-filled_two at n m f old now v w two low is next so_far =
-    let first : at + n < length now = omega arith in
-    let one = filled_more at n f old now v first is so_far in
-    let second : at + (n + 1) < length (set now (at + n) v) = omega (arith, low, length-set now (at + n) v) in
-    subst (λ k. Filled at k f old (set (set now (at + n) v) (at + (n + 1)) w)) (sym two) (filled_more at (n + 1) f old (set now (at + n) v) w second next one)
 
 -- the planes up to r hold the sums of the planes up to them, and the others what they held
 pub record SummedUp (group r : ℕ) (old now : List Bool) : Type 0 where

@@ -30,7 +30,7 @@ fn add_planes_up(planes: &mut [bool], group: usize, q: usize)
 }
 
 /// Writes a lane's checks, which follow one another: the planes' sums, added to the sum of all
-/// checks before. Two at a time, as one at a time takes longer.
+/// checks before.
 fn write_lane(
     planes: &[bool],
     group: usize,
@@ -46,14 +46,8 @@ fn write_lane(
     ensures written { (r : ℕ) → r < q → bit_at parities.new (lane * q + r) ≡ xor carry (bit_at planes.now (r * group + lane)) }
     ensures front { (k : ℕ) → k < lane * q → bit_at parities.new k ≡ bit_at parities.old k }
 {
-    let at = lane * q;
-    for half in 0..q / 2 {
-        let r = 2 * half;
-        parities[at + r] = carry ^ planes[r * group + lane];
-        parities[at + (r + 1)] = carry ^ planes[(r + 1) * group + lane];
-    }
-    for r in q / 2 * 2..q {
-        parities[at + r] = carry ^ planes[r * group + lane];
+    for r in 0..q {
+        parities[lane * q + r] = carry ^ planes[r * group + lane];
     }
 }
 

@@ -4,7 +4,4 @@ use Rattle.s2_matrix.proofs.Lanes.{Filled}
 use Rattle.s2_matrix.proofs.accumulator.write_lane.Given as goal
 
 abbrev pub invariant-loop-r : goal.invariant-loop-r
-invariant-loop-r l = Filled (l.lane * l.q) l.r (λ r. xor l.carry (bit_at l.planes (r * l.group + l.lane))) l.fn.parities l.parities
-
-abbrev pub invariant-loop-half : goal.invariant-loop-half
-invariant-loop-half l = Filled (l.lane * l.q) (2 * l.half) (λ r. xor l.carry (bit_at l.planes (r * l.group + l.lane))) l.fn.parities l.parities
+invariant-loop-r l = Filled (l.lane * l.q) l.r (λ r. xor l.carry (bit_at l.planes (r * l.group + l.lane))) l.initial.parities l.parities
