@@ -26,7 +26,7 @@ check_at code i k d h =
     let test = λ (j : ℕ). code.has j i in
     (All-filter test (λ j. j < code.checks) (upto code.checks) (upto_below code.checks) k d h, filter_passes test (upto code.checks) k d h)
 
-rest_listed : (code : Code) (soft : List ℤ) (split : Split) (i : ℕ) → i < code.bits → rest code soft (split_of code split.scale (all_shares code split)) i ≡ rest code soft split i
+pub rest_listed : (code : Code) (soft : List ℤ) (split : Split) (i : ℕ) → i < code.bits → rest code soft (split_of code split.scale (all_shares code split)) i ≡ rest code soft split i
 rest_listed code soft split i low =
     let back = split_of code split.scale (all_shares code split) in
     let js = checks_of code i in

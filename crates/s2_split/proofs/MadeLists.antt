@@ -1,5 +1,5 @@
 -- What the lists hold is what is made.
-use Rattle.std.proofs.Common.{◌≡◌, ℕ, ◌<◌, ◌≤◌, ◌==◌, Bool, true, false, cond, List, [], ◌∷◌, ◌++◌, length, get_or, map, All, ℤ, pos, neg_ℤ, ◌*ℤ◌, ◌≤ℤ◌, inl, inr, Option, None, Some, refl, sym, ap, ap₂, ◌∙◌, arith}
+use Rattle.std.proofs.Common.{◌≡◌, ℕ, ◌<◌, ◌≤◌, ◌==◌, Bool, true, false, cond, List, [], ◌∷◌, ◌++◌, length, get_or, map, All, ℤ, pos, neg_ℤ, ◌*ℤ◌, ◌≤ℤ◌, inl, inr, Option, None, Some, refl, sym, ap, ap₂, ◌∙◌, arith, ◌-ℤ◌}
 use Rattle.std.proofs.lemmas.Int.{ints}
 use Rattle.std.proofs.lemmas.List.Elements.{All-head, All-tail}
 use Rattle.s2_matrix.specs.Total.{upto}
@@ -9,17 +9,19 @@ use Rattle.s2_matrix.proofs.Members.{upto_below}
 use Rattle.s2_check.specs.Moves.{in_favour, moves, no_move, placed_of, listed, all_shares}
 use Rattle.s2_check.specs.declared.step.Move.{Move}
 use Rattle.s2_check.specs.Split.{Split}
-use Rattle.s2_split.specs.Making.{shared}
+use Rattle.s2_split.specs.Making.{shared, AreLeft}
 use Rattle.s2_split.specs.Spreading.{has_no_negative_rest, spread, split_by, made_split}
 use Rattle.s2_split.specs.Greedy.{Moved, none_moved, greedy}
 use Rattle.s2_bits.specs.Bits.{bit_at}
 use Rattle.s2_check.specs.Cost.{value_at}
 use Rattle.s2_check.specs.Views.{IsSoft}
-use Rattle.std.proofs.lemmas.Bool.{cases_eq, cases_lt}
+use Rattle.std.proofs.lemmas.Bool.{cases_eq, cases_lt, both_ways}
 use Rattle.std.proofs.lemmas.List.{get_or_past}
 use Rattle.s2_split.specs.Kept.{scaled_at, AreLow, AreHeldMoves, AreKept, Ends}
 use Rattle.s2_split.proofs.FittingLemmas.{none_given'}
 use Rattle.s2_split.proofs.Shifts.{given, scaled_rest}
+use Rattle.s2_check.proofs.BoundListed.{check_at, total-same_in}
+use Rattle.s2_check.proofs.MovedBound.{amount_at}
 use Rattle.s2_split.proofs.Steps.{held_as}
 
 listed_same : (f g : ℕ → List ℤ) (js : List ℕ) → All (λ j. f j ≡ g j) js → listed f js ≡ listed g js
@@ -50,6 +52,31 @@ same_shares code word s m ms h =
       | inr some ↦ ap₂ (λ t a. row t a j) (sym (here.target_is some)) held
     ]
     ))
+
+-- the moves of a list
+abbrev placed_moves : Code → List Move → Moved
+placed_moves code ms =
+    record { target = λ j. get_or (members code j) (get_or ms j no_move).place 0; amount = λ j. (get_or ms j no_move).amount }
+
+-- the rests that are kept are those under the moves of the list
+pub kept_left : (code : Code) (soft : List ℤ) (word : List Bool) (s : ℕ) (m : Moved) (rests : List ℤ) (ms : List Move) → AreKept code soft word s m rests ms → AreLeft code soft word (placed_of code word s ms) rests
+kept_left code soft word s m rests ms kept i low =
+    let m' = placed_moves code ms in
+    let js = checks_of code i in
+    let same : All (λ j. given m i j ≡ given m' i j) js = λ k d within. (
+    let j = get_or js k d in
+    let h = kept.held.each j (check_at code i k d within).0 in
+    elim (cases_eq (m.amount j) 0) [
+      | inl none ↦ none_given' (m.target j) (m.amount j) i none ∙ sym (none_given' (m'.target j) (m'.amount j) i (h.amount_is ∙ none))
+      | inr some ↦ sym (ap₂ (λ t a. amount_at t a i) (h.target_is some) h.amount_is)
+    ]
+    ) in
+    let sum = total-same_in (given m i) (given m' i) js same in
+    kept.left.are i low ∙ scaled_rest code soft word s m i ∙ ap (λ v. scaled_at soft word s i -ℤ v) sum ∙ sym (scaled_rest code soft word s m' i)
+
+pub found_left : (code : Code) (soft : List ℤ) (word : List Bool) (o : Option Moved) (found : Bool) (rests : List ℤ) (ms : List Move) → Ends code soft word o found rests ms → found ≡ true → AreLeft code soft word (placed_of code word 16 ms) rests
+found_left code soft word None found rests ms e yes' = absurd (both_ways found e yes')
+found_left code soft word (Some m) found rests ms e yes' = kept_left code soft word 16 m rests ms e.1
 
 -- before any move
 pub start_kept : (code : Code) (soft : List ℤ) (word : List Bool) (s : ℕ) (rests : List ℤ) (ms : List Move) → length rests ≡ code.bits → length ms ≡ code.checks → ((j : ℕ) → j < code.checks → 1 ≤ length (members code j)) → ((i : ℕ) → i < code.bits → get_or rests i (pos 0) ≡ scaled_at soft word s i) → ((j : ℕ) → get_or ms j no_move ≡ no_move) → AreKept code soft word s none_moved rests ms

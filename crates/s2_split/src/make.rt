@@ -1,12 +1,12 @@
 //! The made split, on lists.
-ghost use Rattle.std.specs.Prelude.{◌≡◌, ℕ, ◌<◌, ◌≤◌, Bool, List, All, length, get_or, ℤ};
+ghost use Rattle.std.specs.Prelude.{◌≡◌, ◌≢◌, ℕ, ◌<◌, ◌≤◌, Bool, List, All, length, get_or, ℤ};
 ghost use Rattle.s2_matrix.specs.Code.{code_of};
 ghost use Rattle.s2_check.specs.Views.{IsSoft};
-ghost use Rattle.s2_check.specs.Moves.{no_move, ArePlaced};
+ghost use Rattle.s2_check.specs.Moves.{no_move, placed_of, ArePlaced};
 ghost use Rattle.s2_split.specs.Greedy.{none_moved};
 ghost use Rattle.s2_split.specs.Spreading.{made_split};
 ghost use Rattle.s2_split.specs.Kept.{AreFew, AreLow, AreKept};
-ghost use Rattle.s2_split.specs.Making.{shared, made_of};
+ghost use Rattle.s2_split.specs.Making.{shared, made_of, AreLeft};
 
 use crate::greedy::greedy;
 use crate::spread::spread;
@@ -66,6 +66,7 @@ pub(crate) fn make_moves(
     requires moves { length moves.old ≡ (code_of matrix.now).checks }
     ensures made { made_of matrix.now word.now result moves.new ≡ shared (code_of matrix.now) (made_split (code_of matrix.now) soft.now word.now) }
     ensures moves { ArePlaced (code_of matrix.now) word.now moves.new }
+    ensures rests { result ≢ 0 → AreLeft (code_of matrix.now) soft.now word.now (placed_of (code_of matrix.now) word.now result moves.new) rests.new }
     ensures scaled { result ≤ 16 }
     ensures long { length rests.new ≡ length rests.old }
 {

@@ -3,7 +3,7 @@ ghost use Rattle.std.specs.Prelude.{◌≡◌, ◌≤◌, IfOk, Bool, All, lengt
 ghost use Rattle.s2_matrix.specs.Code.{code_of, IsCodeword};
 ghost use Rattle.s2_check.specs.Checking.{IsCertificate};
 ghost use Rattle.s2_check.specs.Views.{IsSoft};
-ghost use Rattle.s2_split.specs.Making.{shared, shared_view, made_view};
+ghost use Rattle.s2_split.specs.Making.{shared, shared_view, made_view, HoldsRests};
 ghost use Rattle.s2_split.specs.Scattered.{repaired, IsScattered};
 ghost use Rattle.s2_split.specs.Spreading.{made_split};
 
@@ -31,7 +31,7 @@ impl<'a> Model for Maker<'a> {
 
     ghost Value = { Making };
 
-    ghost view = { λ m. record { rows = m.matrix.now; word = m.word; made = made_of m.matrix.now m.word m.scale m.moves.items } };
+    ghost view = { λ m. record { rows = m.matrix.now; word = m.word; made = made_of m.matrix.now m.word m.scale m.moves.items; rests = m.rests.items } };
 
     ghost invariant = { λ m. IsMaker m.matrix.now m.word m.scale m.rests.items m.moves.items m.odd.items };
 }
@@ -94,7 +94,8 @@ impl<'a> Maker<'a> {
         }
     }
 
-    /// Makes the split for a codeword, and says whether there is one.
+    /// Makes the split for a codeword, and says whether there is one. The rests that are then held are
+    /// what the split leaves of each bit, in favour of the word.
     pub fn certify(&mut self, soft: &[i16], word: &Bits) -> bool
         requires soft { length soft.now ≡ (code_of self.old.rows).bits }
         requires range { All IsSoft soft.now }
@@ -105,6 +106,7 @@ impl<'a> Maker<'a> {
         ensures codeword { IsTrue result → IsCodeword (code_of self.old.rows) word.now }
         ensures made { IsCodeword (code_of self.old.rows) word.now → self.new.made ≡ shared (code_of self.old.rows) (made_split (code_of self.old.rows) soft.now word.now) }
         ensures odd { (IsCodeword (code_of self.old.rows) word.now → ⊥) → self.new.made ≡ None }
+        ensures rests { HoldsRests self.new soft.now word.now }
     {
         if !self.matrix.satisfied(word) {
             self.word.copy_prefix(word, word.len());
@@ -123,6 +125,7 @@ impl<'a> Maker<'a> {
         ensures word { self.new.word ≡ word.now }
         ensures found { IsTrue result ↔ (self.new.made ≢ None) }
         ensures made { self.new.made ≡ shared (code_of self.old.rows) (made_split (code_of self.old.rows) soft.now word.now) }
+        ensures rests { HoldsRests self.new soft.now word.now }
     {
         self.word.copy_prefix(word, word.len());
         self.scale = make_moves(
