@@ -8,14 +8,14 @@
 //! baseband frames of the data stream's fields, in order. A refusal comes exactly where the packets
 //! give cause for it, or a read or a write failed; it leaves exactly the frames of the full fields of
 //! the packets accepted before, and only a failed write may leave fewer of them, and a part of the
-//! next one.
+//! next one. [`Transmitter::limit`] and [`Receiver::limit`] lower how much is taken at most.
 //!
 //! [`Receiver::next`] takes just the symbols of the next frame, at the first header that is not before
 //! the last frame's end. What it reports and writes is exactly what the definitions say of these
 //! symbols: soft values, decided bits with a verdict, the nearest BCH word, its message's header, and
 //! the packets that the joiner makes of its data field. Bits that are called most likely satisfy every
-//! check, and no bits that do cost less ([`receive::deciding_laws`]). [`demodulate`] does so for a
-//! whole stream in memory.
+//! check, and no bits that do cost less ([`receive::deciding_laws`]). [`Receiver::run`] goes on so to
+//! the end of the symbols, and [`demodulate`] does it for a whole stream in memory.
 //!
 //! ```text
 //! let setup = Setup { mode, number: 0, roll_off: 0 };
