@@ -2,5 +2,7 @@ pub mod Runs
 pub mod CountLemmas
 pub mod InputLemmas
 pub mod CertifyLemmas
-pub mod SendLemmas
+pub mod JudgeLemmas
+pub mod LinkLemmas
+pub mod ReceiveLemmas
 pub mod ValueRange

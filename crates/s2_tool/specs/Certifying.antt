@@ -1,24 +1,27 @@
 -- What `judge` writes to its certificate file.
-use Rattle.std.specs.Prelude.{◌≡◌, ℕ, ℤ, List, Option, Result, Ok, Err, ⊤}
+use Rattle.std.specs.Prelude.{◌≡◌, ℕ, ℤ, List, Option, Some, None, Result, Ok, Err, ⊤}
 use Rattle.std.specs.Io.KnownBytes.{Appends}
 use Rattle.s2_rows.specs.Rows.{Rows}
 use Rattle.s2_check.specs.CertificateBytes.{bytes_of}
-use Rattle.s2_check.specs.Hard.{hard_decision}
-use Rattle.s2_check.specs.Views.{unsplit_view}
+use Rattle.s2_check.specs.Views.{View}
+use Rattle.s2_modem.specs.Deciding.{IsShown}
 use Rattle.s2_tool.specs.declared.console.Printed.{Printed}
 use Rattle.s2_tool.specs.declared.exit.Exit.{Exit}
-use Rattle.s2_tool.specs.declared.exit.Exit.TheVariants as exits
 use Rattle.s2_tool.specs.declared.fault.Fault.{Fault}
 use Rattle.s2_tool.specs.declared.fault.Fault.TheVariants as faults
+use Rattle.s2_tool.specs.Judging.{judged, exit_on}
 
--- the file of the hard decision's unsplit certificate
-abbrev pub unsplit_file : Rows → List ℤ → List ℕ
-unsplit_file rows soft = bytes_of (unsplit_view rows soft (hard_decision soft))
+-- a certificate's bytes are written, or nothing where there is none
+abbrev pub Writes : Option View → Option (List ℕ) → Option (List ℕ) → Type 0
+Writes None old new = new ≡ old
+Writes (Some view) old new = Appends old new (bytes_of view)
 
--- by the verdict's exit: the unsplit certificate of the input where its hard decision is most likely, else nothing
-abbrev pub Wrote : Rows × List ℤ → Exit → Option (List ℕ) → Option (List ℕ) → Type 0
-Wrote input exits.Fine old new = Appends old new (unsplit_file input.0 input.1)
-Wrote input exit old new = new ≡ old
+-- What is written for an input beside a verdict of this exit: the certificate of the decided bits. It is accepted, and there is
+-- one exactly where they are most likely.
+pub record Wrote (input : Rows × List ℤ) (exit : Exit) (old new : Option (List ℕ)) : Type 0 where
+  pub shown : IsShown input.0 input.1 (judged input.0 input.1)
+  pub exit_is : exit ≡ exit_on (judged input.0 input.1).verdict
+  pub written : Writes (judged input.0 input.1).certificate old new
 
 -- What is written before the verdict is printed: nothing where there is none, and nothing is promised where the writer failed.
 abbrev pub IsCertified : (Result (Rows × List ℤ) Fault → Type 0) → Result Printed Fault → Option (List ℕ) → Option (List ℕ) → Type 0

@@ -1,28 +1,52 @@
 -- What `judge` prints of soft values.
-use Rattle.std.specs.Prelude.{◌≡◌, ℕ, ℤ, List, ◌⊎◌}
-use Rattle.s2_matrix.specs.Code.{IsOddCheck, code_of}
+use Rattle.std.specs.Prelude.{◌≡◌, ℕ, ℤ, List, Bool}
+use Rattle.s2_matrix.specs.Code.{IsOddCheck, IsCodeword, code_of}
 use Rattle.s2_rows.specs.Rows.{Rows}
 use Rattle.s2_check.specs.Cost.{cost, IsMostLikely}
-use Rattle.s2_check.specs.Hard.{hard_decision}
+use Rattle.s2_receive.specs.declared.report.Verdict.{Verdict}
+use Rattle.s2_receive.specs.declared.report.Verdict.TheVariants as verdicts
+use Rattle.s2_modem.specs.Deciding.{Decided, decided}
 use Rattle.s2_tool.specs.declared.exit.Exit.{Exit}
 use Rattle.s2_tool.specs.declared.exit.Exit.TheVariants as exits
-use Rattle.s2_tool.specs.Lines.{most_likely_line, broken_line}
+use Rattle.s2_tool.specs.Lines.{most_likely_line, parity_line, broken_line}
 
--- the hard decision is most likely
-pub record SaysMostLikely (rows : Rows) (soft : List ℤ) (exit : Exit) (text : List ℕ) : Type 0 where
-  pub likely : IsMostLikely (code_of rows) soft (hard_decision soft)
-  pub line : text ≡ most_likely_line (cost soft (hard_decision soft))
+-- what a receiver decides on soft values, by at most 50 rounds of min-sum
+abbrev pub judged : Rows → List ℤ → Decided
+judged rows soft = decided rows 50 soft
+
+-- the exit of a verdict
+abbrev pub exit_on : Verdict → Exit
+exit_on verdicts.MostLikely = exits.Fine
+exit_on verdicts.Parity = exits.No
+exit_on verdicts.Broken = exits.No
+
+-- the bits are most likely
+pub record SaysMostLikely (rows : Rows) (soft : List ℤ) (bits : List Bool) (exit : Exit) (text : List ℕ) : Type 0 where
+  pub likely : IsMostLikely (code_of rows) soft bits
+  pub line : text ≡ most_likely_line (cost soft bits)
   pub fine : exit ≡ exits.Fine
 
--- the hard decision is no codeword, and this is its first odd check
-pub record SaysBroken (rows : Rows) (soft : List ℤ) (exit : Exit) (text : List ℕ) : Type 0 where
-  pub check : ℕ
-  pub odd : IsOddCheck (code_of rows) (hard_decision soft) check
-  pub line : text ≡ broken_line (cost soft (hard_decision soft)) check
+-- the bits satisfy every check
+pub record SaysParity (rows : Rows) (soft : List ℤ) (bits : List Bool) (exit : Exit) (text : List ℕ) : Type 0 where
+  pub codeword : IsCodeword (code_of rows) bits
+  pub line : text ≡ parity_line (cost soft bits)
   pub answer_is_no : exit ≡ exits.No
 
+-- the bits do not, and this is their first odd check
+pub record SaysBroken (rows : Rows) (soft : List ℤ) (bits : List Bool) (exit : Exit) (text : List ℕ) : Type 0 where
+  pub check : ℕ
+  pub odd : IsOddCheck (code_of rows) bits check
+  pub line : text ≡ broken_line (cost soft bits) check
+  pub answer_is_no : exit ≡ exits.No
+
+-- by the verdict on the bits
+abbrev pub Says : Verdict → Rows → List ℤ → List Bool → Exit → List ℕ → Type 0
+Says verdicts.MostLikely rows soft bits exit text = SaysMostLikely rows soft bits exit text
+Says verdicts.Parity rows soft bits exit text = SaysParity rows soft bits exit text
+Says verdicts.Broken rows soft bits exit text = SaysBroken rows soft bits exit text
+
 abbrev pub Judges : Rows → List ℤ → Exit → List ℕ → Type 0
-Judges rows soft exit text = SaysMostLikely rows soft exit text ⊎ SaysBroken rows soft exit text
+Judges rows soft exit text = Says (judged rows soft).verdict rows soft (judged rows soft).bits exit text
 
 abbrev pub IsJudged : Rows × List ℤ → Exit → List ℕ → Type 0
 IsJudged input exit text = Judges input.0 input.1 exit text

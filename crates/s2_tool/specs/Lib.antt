@@ -9,4 +9,6 @@ pub mod Certifying
 pub mod Links
 pub mod Sending
 pub mod Spoiling
+pub mod Receptions
+pub mod Looping
 pub mod Serving

@@ -1,6 +1,8 @@
 -- What the program prints for a request.
-use Rattle.std.specs.Prelude.{◌≡◌, ℕ, List, Option, Some, Result, Ok, Err, codes, ⊤, ◌⊎◌}
+use Rattle.std.specs.Prelude.{◌≡◌, ℕ, List, Option, Some, Result, Ok, Err, IfOk, codes, ⊤, ◌⊎◌}
 use Rattle.s2_mode.specs.Shape.{IsShape, Shape, shape_of}
+use Rattle.s2_modem.specs.Link.{Link}
+use Rattle.s2_modem.specs.declared.setup.Setup.{Setup}
 use Rattle.s2_tool.specs.declared.exit.Exit.{Exit}
 use Rattle.s2_tool.specs.declared.fault.Fault.{Fault}
 use Rattle.s2_tool.specs.declared.fault.Fault.TheVariants as faults
@@ -12,7 +14,10 @@ use Rattle.s2_tool.specs.Exits.{exit_of, Runs, Complains}
 use Rattle.s2_tool.specs.Inputs.{AreInputs, IsRowFile, rows_made}
 use Rattle.s2_tool.specs.Judging.{IsJudged}
 use Rattle.s2_tool.specs.Checking.{IsAnswered}
+use Rattle.s2_tool.specs.Links.{asked_setup, Streams, Deed, DoesOn}
 use Rattle.s2_tool.specs.Sending.{IsSent}
+use Rattle.s2_tool.specs.Receptions.{Hears}
+use Rattle.s2_tool.specs.Looping.{Loops}
 
 abbrev pub asked_shape : ShapeWords → Shape
 asked_shape words = shape_of words.group words.groups words.q
@@ -27,9 +32,20 @@ AreAskedRows words said =
 abbrev pub Anything : {I : Type 0} → Result I Fault → Type 0
 Anything said = ⊤
 
+-- The output of a command that reports as it goes, on some link of this setup, for some of what its files hold. Where it could
+-- not be begun nothing is printed.
+pub record Reports (Does : Deed) (setup : Setup) (ended : Result Exit Fault) (old new : Option (List ℕ)) : Type 0 where
+  pub link : Result Link Fault
+  pub before : Streams
+  pub behind : Streams
+  pub setup_kept : IfOk link (λ l. l.setup ≡ setup)
+  pub does : DoesOn Does link before behind ended
+  pub out : before.out ≡ old
+  pub out_new : behind.out ≡ new
+
 -- What a request's output says, by how it ended. A request that names no file prints what its words and the input determine.
--- One that names files prints what their command says of some rows, soft values, certificate or packets; where a file cannot be
--- opened, nothing.
+-- One that names files prints what their command says of some rows, soft values, certificate, packets or symbols; where a file
+-- cannot be opened, nothing.
 abbrev pub Serves : Request → Option (List ℕ) → Result Exit Fault → Option (List ℕ) → Option (List ℕ) → Type 0
 Serves requests.Own input ended old new = Runs IsJudged (AreInputs (shape_of 4 2 3) (Some (codes "0 4 8\n0 1 2\n")) input) ended old new
 Serves (requests.Rows words) input ended old new = Runs IsRowFile (AreAskedRows words) ended old new
@@ -37,6 +53,8 @@ Serves (requests.Judge words) input ended old new = Runs IsJudged Anything ended
 Serves (requests.Check words) input ended old new = Runs IsAnswered Anything ended old new
 Serves (requests.Mod words) input ended old new = Runs IsSent Anything ended old new
 Serves (requests.Noise words) input ended old new = new ≡ old
+Serves (requests.Demod words) input ended old new = Reports (Hears words.rounds.count) (asked_setup words.link) ended old new
+Serves (requests.Run words) input ended old new = Reports (Loops words.rounds.count words.seed words.level) (asked_setup words.link) ended old new
 
 -- what stands in the output and in the errors of a console, where that is known, and how many calls of the errors have failed
 pub record Screen : Type 0 where

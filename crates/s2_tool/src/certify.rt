@@ -1,25 +1,41 @@
 //! Soft values judged, with a certificate.
-ghost use Rattle.std.specs.Prelude.{◌≡◌, ◌≢◌, ◌+◌, All, IsOk, Result, Err, length};
+ghost use Rattle.std.specs.Prelude.{◌≡◌, ◌≢◌, ◌+◌, All, IsOk, OnOk, Result, Err, length};
+ghost use Rattle.s2_mode.specs.Counts.{CountsFault};
 ghost use Rattle.s2_matrix.specs.Code.{code_of};
 ghost use Rattle.s2_check.specs.Views.{IsSoft};
 ghost use Rattle.s2_tool.specs.Counting.{CanCount};
 ghost use Rattle.s2_tool.specs.Exits.{exit_of, Answers, Runs, Counts, Complains};
 ghost use Rattle.s2_tool.specs.Inputs.{AreInputs, IsOnly};
 ghost use Rattle.s2_tool.specs.Judging.{IsJudged};
-ghost use Rattle.s2_tool.specs.Certifying.{Certifies, IsCertified};
+ghost use Rattle.s2_tool.specs.Certifying.{Writes, Certifies, IsCertified};
 
 use crate::console::{Console, Printed};
 use crate::exit::Exit;
 use crate::fault::Fault;
 use crate::files::{read_row_file, read_value_file};
-use crate::judge::verdict;
-use s2_bits::Bits;
-use s2_check::{CertView, judge_unsplit};
+use crate::judge::{DEFAULT_ROUNDS, judgement};
+use s2_check::CertView;
 use s2_matrix::Matrix;
-use s2_mode::{CountedRead, CountedWrite, Shape};
+use s2_mode::{CountedRead, CountedWrite, Shape, WriteFault};
+use s2_modem::Judge;
 use std::alloc::Global;
 
-/// Judges the hard decision of soft values, and writes its certificate where it is most likely.
+/// Writes a certificate, if there is one.
+fn write_certificate<C: CountedWrite>(
+    view: Option<CertView<'_>>,
+    certificate: &mut C,
+) -> Result<(), WriteFault>
+    requires { CanCount (C.count certificate.old) }
+    ensures bytes { OnOk result (Writes view.entry (C.contents certificate.old) (C.contents certificate.new)) }
+    ensures cause { CountsFault (C.count certificate.old) (C.count certificate.new) result }
+{
+    match view {
+        Some(view) => view.write(certificate),
+        None => Ok(()),
+    }
+}
+
+/// Judges soft values, and writes the certificate of what is decided, where there is one.
 fn certify_soft<C: CountedWrite>(
     alloc: Global,
     matrix: &Matrix,
@@ -35,18 +51,16 @@ fn certify_soft<C: CountedWrite>(
     ensures write { result ≡ Err Fault.Write → C.count certificate.new ≡ C.count certificate.old + 1 }
     ensures no_write { result ≢ Err Fault.Write → C.count certificate.new ≡ C.count certificate.old }
 {
-    let Ok(mut word) = Bits::zeroed(alloc, matrix.bits()) else {
+    let Ok(mut judge) = Judge::new(alloc, matrix, DEFAULT_ROUNDS) else {
         return Err(Fault::NoMemory);
     };
-    let likely = judge_unsplit(matrix, soft, &mut word);
-    let Ok(printed) = verdict(alloc, matrix, soft, &word, likely) else {
+    let verdict = judge.judge(soft);
+    let Ok(printed) = judgement(alloc, matrix, soft, judge.word(), verdict) else {
         return Err(Fault::NoMemory);
     };
-    if likely {
-        let Ok(()) = CertView::unsplit(matrix, soft, &word).write(certificate) else {
-            return Err(Fault::Write);
-        };
-    }
+    let Ok(()) = write_certificate(judge.certificate(), certificate) else {
+        return Err(Fault::Write);
+    };
     Ok(printed)
 }
 
@@ -99,7 +113,7 @@ fn print_certified<R: CountedRead, S: CountedRead, C: CountedWrite, O: CountedWr
     certify_files(alloc, shape, rows, soft, certificate)?.print(out)
 }
 
-/// `judge --cert`: `judge`, and the certificate of a hard decision that is most likely. It is
+/// `judge --cert`: `judge`, and the certificate of the decided bits where they are most likely. It is
 /// written before the verdict is printed.
 pub fn certify_command<
     R: CountedRead,

@@ -1,4 +1,4 @@
-//! Row files and value files.
+//! Row files, their matrices, and value files.
 ghost use Rattle.std.specs.Prelude.{◌≡◌, ◌≢◌, ◌+◌, All, Err, IfOk, IfSome, length};
 ghost use Rattle.s2_check.specs.Views.{IsSoft};
 ghost use Rattle.s2_mode.specs.Shape.{code_bits};
@@ -7,6 +7,7 @@ ghost use Rattle.s2_tool.specs.Exits.{Follows};
 ghost use Rattle.s2_tool.specs.Inputs.{taken, rows_in, values_in};
 
 use crate::fault::Fault;
+use s2_matrix::Matrix;
 use s2_mode::{CountedRead, FileFault, Shape, read_all};
 use s2_rows::{RowFault, Rows, ValueFault, read_rows, read_values};
 use std::alloc::Global;
@@ -51,6 +52,26 @@ pub(crate) fn read_row_file<R: CountedRead>(
         Ok(rows) => Ok(rows),
         Err(RowFault::NoMemory) => Err(Fault::NoMemory),
         Err(fault) => Err(Fault::Rows(fault)),
+    }
+}
+
+/// The matrix of the rows of a row file.
+pub(crate) fn read_matrix<R: CountedRead>(
+    alloc: Global,
+    reader: &mut R,
+    shape: Shape,
+) -> Result<Matrix, Fault<'static>>
+    requires { CanCount (R.count reader.old) }
+    ensures rows { IfSome (R.remaining reader.old) (λ xs. Follows (λ m. m) result (rows_in shape xs)) }
+    ensures shape { IfOk result (λ m. m.shape ≡ shape) }
+    ensures read { result ≡ Err Fault.Read → R.count reader.new ≡ R.count reader.old + 1 }
+    ensures no_other { result ≢ Err Fault.Read → R.count reader.new ≡ R.count reader.old }
+    ensures write { result ≢ Err Fault.Write }
+{
+    let rows = read_row_file(alloc, reader, shape)?;
+    match Matrix::build(alloc, &rows) {
+        Ok(matrix) => Ok(matrix),
+        Err(_) => Err(Fault::NoMemory),
     }
 }
 

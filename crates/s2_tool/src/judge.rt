@@ -1,69 +1,82 @@
 //! Soft values judged.
-ghost use Rattle.std.specs.Prelude.{◌≡◌, ◌≢◌, ◌↔◌, ◌+◌, ◌≤◌, false, IsTrue, Result, Err, IfOk, IsOk, codes, length, Some};
+ghost use Rattle.std.specs.Prelude.{◌≡◌, ◌≢◌, ◌+◌, All, Result, Err, IfOk, IsOk, codes, length, Some};
 ghost use Rattle.s2_mode.specs.Shape.{shape_of};
 ghost use Rattle.s2_matrix.specs.Code.{code_of, IsCodeword};
 ghost use Rattle.s2_check.specs.Cost.{IsMostLikely};
-ghost use Rattle.s2_check.specs.Hard.{hard_decision};
+ghost use Rattle.s2_check.specs.Views.{IsSoft};
 ghost use Rattle.s2_tool.specs.Counting.{CanCount};
 ghost use Rattle.s2_tool.specs.Exits.{exit_of, Answers, Runs, Counts, Complains};
 ghost use Rattle.s2_tool.specs.Inputs.{AreInputs};
-ghost use Rattle.s2_tool.specs.Judging.{Judges, IsJudged};
+ghost use Rattle.s2_tool.specs.Judging.{Says, Judges, IsJudged, exit_on};
 
 use crate::console::{Console, Printed};
 use crate::exit::Exit;
 use crate::fault::Fault;
 use crate::files::{read_row_file, read_value_file};
-use crate::lines::{broken_line, most_likely_line};
+use crate::lines::{broken_line, most_likely_line, parity_line};
 use s2_bits::Bits;
-use s2_check::{cost, judge_unsplit};
+use s2_check::cost;
 use s2_matrix::Matrix;
 use s2_mode::{CountedRead, CountedWrite, InMemory, Shape};
+use s2_modem::Judge;
+use s2_receive::Verdict;
 use std::alloc::{AllocError, Global};
 
 /// The row file of the toy shape.
 pub const TOY_ROWS: &[u8] = b"0 4 8\n0 1 2\n";
 
-/// The verdict on a hard decision: whether it is a codeword, which is then most likely.
-pub(crate) fn verdict(
+/// How many rounds of min-sum decide at most, where no number is named.
+pub const DEFAULT_ROUNDS: usize = 50;
+
+/// The line and the exit of a verdict on decided bits.
+pub(crate) fn judgement(
     alloc: Global,
     matrix: &Matrix,
     soft: &[i16],
     word: &Bits,
-    likely: bool,
+    verdict: Verdict,
 ) -> Result<Printed, AllocError>
     requires soft { length soft.now ≡ (code_of matrix.now).bits }
-    requires few { length soft.now ≤ 64800 }
-    requires word { word.now ≡ hard_decision soft.now }
-    requires codeword { IsTrue likely ↔ IsCodeword (code_of matrix.now) (hard_decision soft.now) }
-    requires likely { IsTrue likely → IsMostLikely (code_of matrix.now) soft.now word.now }
-    ensures judges { IfOk result (λ p. Judges matrix.now soft.now p.exit p.text.items) }
-    ensures fine { IsTrue likely → IfOk result (λ p. p.exit ≡ Exit.Fine) }
-    ensures no { likely ≡ false → IfOk result (λ p. p.exit ≡ Exit.No) }
+    requires word { length word.now ≡ (code_of matrix.now).bits }
+    requires likely { verdict ≡ Verdict.MostLikely → IsMostLikely (code_of matrix.now) soft.now word.now }
+    requires codeword { verdict ≢ Verdict.Broken → IsCodeword (code_of matrix.now) word.now }
+    requires broken { verdict ≡ Verdict.Broken → IsCodeword (code_of matrix.now) word.now → ⊥ }
+    ensures says { IfOk result (λ p. Says verdict matrix.now soft.now word.now p.exit p.text.items) }
+    ensures exit { IfOk result (λ p. p.exit ≡ exit_on verdict) }
 {
+    // at most 64800, so that the cost fits
+    let _ = matrix.bits();
     let cost = cost(soft, word);
-    if likely {
-        return Ok(Printed {
+    match verdict {
+        Verdict::MostLikely => Ok(Printed {
             exit: Exit::Fine,
             text: most_likely_line(alloc, cost)?,
-        });
+        }),
+        Verdict::Parity => Ok(Printed {
+            exit: Exit::No,
+            text: parity_line(alloc, cost)?,
+        }),
+        Verdict::Broken => {
+            let Some(check) = matrix.odd_check(word) else {
+                unreachable!();
+            };
+            Ok(Printed {
+                exit: Exit::No,
+                text: broken_line(alloc, cost, check)?,
+            })
+        }
     }
-    let Some(check) = matrix.odd_check(word) else {
-        unreachable!();
-    };
-    Ok(Printed {
-        exit: Exit::No,
-        text: broken_line(alloc, cost, check)?,
-    })
 }
 
-/// Judges the hard decision of soft values.
+/// Judges soft values.
 fn judge_soft(alloc: Global, matrix: &Matrix, soft: &[i16]) -> Result<Printed, AllocError>
-    requires { length soft.now ≡ (code_of matrix.now).bits }
+    requires long { length soft.now ≡ (code_of matrix.now).bits }
+    requires range { All IsSoft soft.now }
     ensures { IfOk result (λ p. Judges matrix.now soft.now p.exit p.text.items) }
 {
-    let mut word = Bits::zeroed(alloc, matrix.bits())?;
-    let likely = judge_unsplit(matrix, soft, &mut word);
-    verdict(alloc, matrix, soft, &word, likely)
+    let mut judge = Judge::new(alloc, matrix, DEFAULT_ROUNDS)?;
+    let verdict = judge.judge(soft);
+    judgement(alloc, matrix, soft, judge.word(), verdict)
 }
 
 /// Reads rows and soft values, and judges.
@@ -109,7 +122,8 @@ fn print_judgement<R: CountedRead, S: CountedRead, O: CountedWrite>(
     judge_files(alloc, shape, rows, soft)?.print(out)
 }
 
-/// `judge`: whether the hard decision of a value file is most likely under the code of a row file.
+/// `judge`: what a receiver decides on the soft values of a file under the code of a row file, and what is
+/// known of it.
 pub fn judge_command<R: CountedRead, S: CountedRead, O: CountedWrite, E: CountedWrite>(
     alloc: Global,
     shape: Shape,

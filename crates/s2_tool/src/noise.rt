@@ -11,7 +11,7 @@ use s2_channel::{Noise, StreamFault, add_to_all};
 use s2_mode::{CountedRead, CountedWrite};
 
 /// Writes the symbols of a reader with noise.
-fn spoil<R: CountedRead, W: CountedWrite>(
+pub(crate) fn spoil<R: CountedRead, W: CountedWrite>(
     seed: u64,
     level: u16,
     from: &mut R,

@@ -24,6 +24,20 @@ pub(crate) fn open<'a, R: Files + AllocGlobal>(
     Ok(Counting::new(buffered))
 }
 
+/// The same without a buffer, for who reads many bytes at a time.
+pub(crate) fn open_unbuffered<'a, R: Files>(
+    rt: &R,
+    name: &'a str,
+) -> Result<Counting<R::File>, Fault<'a>>
+    ensures fresh { IfOk result (λ file. file.failed ≡ 0) }
+    ensures fault { IfErr result (λ fault. fault ≡ Fault.Open name.entry) }
+{
+    match fs::open(rt, name) {
+        Ok(file) => Ok(Counting::new(file)),
+        Err(_) => Err(Fault::Open(name)),
+    }
+}
+
 /// Makes a file that is written, or empties it, with its failed calls counted.
 pub(crate) fn create<'a, R: Files>(rt: &R, name: &'a str) -> Result<Counting<R::File>, Fault<'a>>
     ensures fresh { IfOk result (λ file. file.failed ≡ 0) }

@@ -1,5 +1,6 @@
 //! What the words of a command line ask for.
 use crate::link::RollOff;
+use crate::rounds::Rounds;
 use crate::scrambling::ScramblingNumber;
 
 /// The numbers of a shape.
@@ -57,6 +58,26 @@ pub struct NoiseWords<'a> {
     pub to: &'a str,
 }
 
+#[derive(Clone, Copy, Debug, PartialEq, Eq)]
+pub struct DemodWords<'a> {
+    pub link: LinkWords,
+    pub rounds: Rounds,
+    pub rows: &'a str,
+    pub symbols: &'a str,
+    pub packets: &'a str,
+}
+
+#[derive(Clone, Copy, Debug, PartialEq, Eq)]
+pub struct RunWords<'a> {
+    pub link: LinkWords,
+    pub rounds: Rounds,
+    pub seed: u64,
+    pub level: u16,
+    pub rows: &'a str,
+    pub packets: &'a str,
+    pub to: &'a str,
+}
+
 /// What the words ask for: `Own` without a command, else the command with its words.
 #[derive(Clone, Copy, Debug, PartialEq, Eq)]
 pub enum Request<'a> {
@@ -66,4 +87,6 @@ pub enum Request<'a> {
     Check(CheckWords<'a>),
     Mod(ModWords<'a>),
     Noise(NoiseWords<'a>),
+    Demod(DemodWords<'a>),
+    Run(RunWords<'a>),
 }

@@ -1,20 +1,20 @@
 //! Packets sent.
-ghost use Rattle.std.specs.Prelude.{◌≡◌, ◌≢◌, ◌+◌, ◌≤◌, ◌⊎◌, Result, Ok, Err, IfOk, IsOk};
+ghost use Rattle.std.specs.Prelude.{◌≡◌, ◌≢◌, ◌+◌, ◌≤◌, Result, Err, IfOk, IsOk, IsOkUnless};
 ghost use Rattle.s2_mode.specs.Mode.{shape_in};
-ghost use Rattle.s2_modem.specs.Sending.{Runs};
+ghost use Rattle.s2_modem.specs.Link.{link_of};
 ghost use Rattle.s2_tool.specs.Counting.{CanCount};
-ghost use Rattle.s2_tool.specs.Exits.{exit_of, Follows, Complains};
+ghost use Rattle.s2_tool.specs.Exits.{exit_of, Complains};
 ghost use Rattle.s2_tool.specs.Links.{setup_of};
-ghost use Rattle.s2_tool.specs.Sending.{link_on, sent_line, refusal_fault, Tells, Modulates};
+ghost use Rattle.s2_tool.specs.Sending.{sent_line, refusal_fault, transmitter_on, SendsBy, Modulates};
 
 use crate::console::{Console, Printed};
 use crate::exit::Exit;
 use crate::fault::Fault;
-use crate::files::read_row_file;
+use crate::files::read_matrix;
 use crate::link::LinkSetup;
 use s2_matrix::Matrix;
 use s2_mode::{CountedRead, CountedWrite};
-use s2_modem::{Counts, MOST_PACKETS, SendFault, Setup, SetupFault, Transmitter};
+use s2_modem::{Counts, SendFault, Setup, SetupFault, Transmitter};
 use std::alloc::{AllocError, Global};
 
 /// The line of a run's counts.
@@ -27,7 +27,7 @@ fn sent_line(alloc: Global, counts: Counts) -> Result<Vec<u8>, AllocError>
 }
 
 /// The fault of a refusal.
-fn fault_of(refusal: SendFault) -> Fault<'static>
+pub(crate) fn fault_of(refusal: SendFault) -> Fault<'static>
     ensures { result ≡ refusal_fault refusal }
 {
     match refusal {
@@ -39,7 +39,7 @@ fn fault_of(refusal: SendFault) -> Fault<'static>
 }
 
 /// The transmitter of a link.
-fn transmitter_of<'a>(
+pub(crate) fn transmitter_of<'a>(
     alloc: Global,
     setup: Setup,
     matrix: &'a Matrix,
@@ -47,10 +47,8 @@ fn transmitter_of<'a>(
     requires shape { matrix.now.shape ≡ shape_in setup.mode }
     requires number { setup.number ≤ 262141 }
     requires roll_off { setup.roll_off ≤ 2 }
-    ensures link { Follows (λ t. t) result (link_on setup (Ok matrix.now)) }
-    ensures setup { IfOk result (λ t. t.setup ≡ setup) }
-    ensures read { result ≢ Err Fault.Read }
-    ensures write { result ≢ Err Fault.Write }
+    ensures is { IfOk result (λ t. t ≡ transmitter_on (link_of setup matrix.now)) }
+    ensures memory { IsOkUnless result Fault.NoMemory }
 {
     match Transmitter::new(alloc, setup, matrix) {
         Ok(transmitter) => Ok(transmitter),
@@ -71,10 +69,10 @@ fn send_packets<P: CountedRead, W: CountedWrite, O: CountedWrite>(
     requires symbols { CanCount (W.count symbols.old) }
     requires out { CanCount (O.count out.old) }
     ensures whole { IsOk result → O.count out.new ≡ O.count out.old }
-    ensures sends { (answer : Result Counts SendFault)
-        × Runs transmitter.old (λ n. (P.count packets.new ≡ P.count packets.old + 1) ⊎ ((P.count packets.new ≡ P.count packets.old) × (n ≡ MOST_PACKETS)))
-        (P.remaining packets.old) (P.remaining packets.new) (W.contents symbols.old) (W.contents symbols.new) answer
-        × Tells answer result (O.contents out.old) (O.contents out.new) }
+    ensures sends { SendsBy transmitter.old
+        (record { taken = P.remaining packets.old; given = W.contents symbols.old; out = O.contents out.old; reads = P.count packets.old; writes = W.count symbols.old + O.count out.old })
+        (record { taken = P.remaining packets.new; given = W.contents symbols.new; out = O.contents out.new; reads = P.count packets.new; writes = W.count symbols.new + O.count out.new })
+        result }
     ensures no_read { result ≢ Err Fault.Read → P.count packets.new ≡ P.count packets.old }
     ensures write { result ≡ Err Fault.Write → W.count symbols.new + O.count out.new ≡ W.count symbols.old + O.count out.old + 1 }
     ensures no_write { result ≢ Err Fault.Write → W.count symbols.new + O.count out.new ≡ W.count symbols.old + O.count out.old }
@@ -108,15 +106,12 @@ fn send_files<R: CountedRead, P: CountedRead, W: CountedWrite, O: CountedWrite>(
     requires out { CanCount (O.count out.old) }
     ensures whole { IsOk result → O.count out.new ≡ O.count out.old }
     ensures run { Modulates (setup_of link) (R.remaining rows.old)
-        (record { packets = P.remaining packets.old; symbols = W.contents symbols.old; out = O.contents out.old; reads = R.count rows.old + P.count packets.old; writes = W.count symbols.old + O.count out.old })
-        (record { packets = P.remaining packets.new; symbols = W.contents symbols.new; out = O.contents out.new; reads = R.count rows.new + P.count packets.new; writes = W.count symbols.new + O.count out.new })
+        (record { taken = P.remaining packets.old; given = W.contents symbols.old; out = O.contents out.old; reads = R.count rows.old + P.count packets.old; writes = W.count symbols.old + O.count out.old })
+        (record { taken = P.remaining packets.new; given = W.contents symbols.new; out = O.contents out.new; reads = R.count rows.new + P.count packets.new; writes = W.count symbols.new + O.count out.new })
         result }
 {
     let setup = link.setup();
-    let rows = read_row_file(alloc, rows, setup.mode.shape())?;
-    let Ok(matrix) = Matrix::build(alloc, &rows) else {
-        return Err(Fault::NoMemory);
-    };
+    let matrix = read_matrix(alloc, rows, setup.mode.shape())?;
     let mut transmitter = transmitter_of(alloc, setup, &matrix)?;
     send_packets(alloc, &mut transmitter, packets, symbols, out)
 }
@@ -146,8 +141,8 @@ pub fn mod_command<
     ensures whole { result ≢ Exit.Fault → O.count console.new.output ≡ O.count console.old.output }
     ensures run { (ended : Result Exit Fault) × (result ≡ exit_of ended)
         × Modulates (setup_of link) (R.remaining rows.old)
-        (record { packets = P.remaining packets.old; symbols = W.contents symbols.old; out = O.contents console.old.output; reads = R.count rows.old + P.count packets.old; writes = W.count symbols.old + O.count console.old.output })
-        (record { packets = P.remaining packets.new; symbols = W.contents symbols.new; out = O.contents console.new.output; reads = R.count rows.new + P.count packets.new; writes = W.count symbols.new + O.count console.new.output })
+        (record { taken = P.remaining packets.old; given = W.contents symbols.old; out = O.contents console.old.output; reads = R.count rows.old + P.count packets.old; writes = W.count symbols.old + O.count console.old.output })
+        (record { taken = P.remaining packets.new; given = W.contents symbols.new; out = O.contents console.new.output; reads = R.count rows.new + P.count packets.new; writes = W.count symbols.new + O.count console.new.output })
         ended
         × Complains ended (E.count console.old.errors) (E.count console.new.errors) (E.contents console.old.errors) (E.contents console.new.errors) }
 {

@@ -4,6 +4,7 @@ ghost use Rattle.s2_mode.specs.Mode.{IsMode, mode_of};
 ghost use Rattle.s2_mode.specs.Shape.{IsShape};
 ghost use Rattle.s2_mode.specs.Shape as shapes;
 ghost use Rattle.s2_tool.specs.Counting.{CanCount};
+ghost use Rattle.s2_tool.specs.Links as links;
 ghost use Rattle.s2_tool.specs.Serving.{Served, Began};
 
 use crate::certify::certify_command;
@@ -13,10 +14,13 @@ use crate::exit::Exit;
 use crate::fault::Fault;
 use crate::judge::{judge_command, self_command};
 use crate::link::LinkSetup;
+use crate::loopback::run_command;
 use crate::noise::noise_command;
-use crate::opening::{create, create_buffered, open};
+use crate::opening::{create, create_buffered, open, open_unbuffered};
+use crate::receive::demod_command;
 use crate::request::{
-    CheckWords, JudgeWords, LinkWords, ModWords, NoiseWords, Request, RowsWords, ShapeWords,
+    CheckWords, DemodWords, JudgeWords, LinkWords, ModWords, NoiseWords, Request, RowsWords,
+    RunWords, ShapeWords,
 };
 use crate::rows::rows_command;
 use crate::send::mod_command;
@@ -40,6 +44,7 @@ fn shape_of(words: ShapeWords) -> Option<Shape>
 fn setup_of(words: LinkWords) -> Option<LinkSetup>
     ensures found { IsSome result ↔ IsMode (mode_of words.modcod words.short words.pilots) }
     ensures value { IfSome result (λ s. s ≡ record { mode = mode_of words.modcod words.short words.pilots; number = words.number; roll_off = words.roll_off }) }
+    ensures setup { IfSome result (λ s. links.setup_of s ≡ links.asked_setup words) }
 {
     Some(LinkSetup {
         mode: Mode::of(words.modcod, words.short, words.pilots)?,
@@ -71,6 +76,8 @@ pub fn serve<R: Files + AllocGlobal, S: CountedRead, O: CountedWrite, E: Counted
         Request::Check(words) => serve_check(rt, words, console),
         Request::Mod(words) => serve_mod(rt, words, console),
         Request::Noise(words) => serve_noise(rt, words, console),
+        Request::Demod(words) => serve_demod(rt, words, console),
+        Request::Run(words) => serve_run(rt, words, console),
     };
     match begun {
         Ok(exit) => exit,
@@ -247,4 +254,70 @@ fn serve_noise<'a, R: Files + AllocGlobal, O: CountedWrite, E: CountedWrite>(
         return Err(Fault::Write);
     }
     Ok(exit)
+}
+
+/// Receives symbols. The packet file is made once the others are open.
+fn serve_demod<'a, R: Files + AllocGlobal, O: CountedWrite, E: CountedWrite>(
+    rt: &R,
+    words: DemodWords<'a>,
+    console: &mut Console<O, E>,
+) -> Result<Exit, Fault<'a>>
+    requires output { CanCount (O.count console.old.output) }
+    requires errors { CanCount (E.count console.old.errors) }
+    ensures quiet { IfOk result (λ exit. exit ≢ Exit.Fault → E.count console.new.errors ≡ E.count console.old.errors) }
+    ensures whole { IfOk result (λ exit. exit ≢ Exit.Fault → O.count console.new.output ≡ O.count console.old.output) }
+    ensures began { Began (Request.Demod words.entry) None result
+        (record { output = O.contents console.old.output; errors = E.contents console.old.errors; errors_failed = E.count console.old.errors })
+        (record { output = O.contents console.new.output; errors = E.contents console.new.errors; errors_failed = E.count console.new.errors }) }
+    ensures not_begun { OnErr result (console.new ≡ console.old) }
+{
+    let Some(link) = setup_of(words.link) else {
+        return Err(Fault::Mode);
+    };
+    let mut rows = open(rt, words.rows)?;
+    let mut symbols = open_unbuffered(rt, words.symbols)?;
+    let mut packets = create(rt, words.packets)?;
+    Ok(demod_command(
+        rt.alloc(),
+        link,
+        words.rounds,
+        &mut rows,
+        &mut symbols,
+        &mut packets,
+        console,
+    ))
+}
+
+/// Sends, spoils and receives packets. The file of what is received is made once the others are open.
+fn serve_run<'a, R: Files + AllocGlobal, O: CountedWrite, E: CountedWrite>(
+    rt: &R,
+    words: RunWords<'a>,
+    console: &mut Console<O, E>,
+) -> Result<Exit, Fault<'a>>
+    requires output { CanCount (O.count console.old.output) }
+    requires errors { CanCount (E.count console.old.errors) }
+    ensures quiet { IfOk result (λ exit. exit ≢ Exit.Fault → E.count console.new.errors ≡ E.count console.old.errors) }
+    ensures whole { IfOk result (λ exit. exit ≢ Exit.Fault → O.count console.new.output ≡ O.count console.old.output) }
+    ensures began { Began (Request.Run words.entry) None result
+        (record { output = O.contents console.old.output; errors = E.contents console.old.errors; errors_failed = E.count console.old.errors })
+        (record { output = O.contents console.new.output; errors = E.contents console.new.errors; errors_failed = E.count console.new.errors }) }
+    ensures not_begun { OnErr result (console.new ≡ console.old) }
+{
+    let Some(link) = setup_of(words.link) else {
+        return Err(Fault::Mode);
+    };
+    let mut rows = open(rt, words.rows)?;
+    let mut packets = open(rt, words.packets)?;
+    let mut to = create(rt, words.to)?;
+    Ok(run_command(
+        rt.alloc(),
+        link,
+        words.rounds,
+        words.seed,
+        words.level,
+        &mut rows,
+        &mut packets,
+        &mut to,
+        console,
+    ))
 }

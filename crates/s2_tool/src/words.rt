@@ -1,8 +1,10 @@
 //! The command line of the program.
 use crate::link::RollOff;
 use crate::request::{
-    CheckWords, JudgeWords, LinkWords, ModWords, NoiseWords, Request, RowsWords, ShapeWords,
+    CheckWords, DemodWords, JudgeWords, LinkWords, ModWords, NoiseWords, Request, RowsWords,
+    RunWords, ShapeWords,
 };
+use crate::rounds::Rounds;
 use crate::scrambling::ScramblingNumber;
 use clap::builder::ValueParser;
 use clap::{Arg, ArgAction, ArgMatches, Command, Error, value_parser};
@@ -54,6 +56,20 @@ fn with_link<'a>(alloc: Global, command: Command<'a>) -> Result<Command<'a>, All
         .arg(roll_off.help("Roll-off that headers tell: 0 is 0.35, 1 is 0.25, 2 is 0.20"))
 }
 
+fn with_rounds<'a>(alloc: Global, command: Command<'a>) -> Result<Command<'a>, AllocError> {
+    let rounds = value_parser!(u32).range(1..=200);
+    let rounds = number(alloc, "rounds", rounds, "K").default_value("50");
+    command.arg(rounds.help("Rounds of min-sum at most, 1 to 200"))
+}
+
+fn with_noise<'a>(alloc: Global, command: Command<'a>) -> Result<Command<'a>, AllocError> {
+    let seed = value_parser!(u64);
+    let level = value_parser!(u16).range(0..=65535);
+    command
+        .arg(required(alloc, "seed", seed, "S").help("Seed of the generator"))?
+        .arg(required(alloc, "level", level, "L").help("Level of the noise, 0 to 65535"))
+}
+
 fn rows_words<'a>(alloc: Global) -> Result<Command<'a>, AllocError> {
     let weight = value_parser!(u8).range(1..=24);
     let seed = value_parser!(u64);
@@ -64,7 +80,7 @@ fn rows_words<'a>(alloc: Global) -> Result<Command<'a>, AllocError> {
 }
 
 fn judge_words<'a>(alloc: Global) -> Result<Command<'a>, AllocError> {
-    let command = Command::new(alloc, "judge").about("Judges the hard decision of soft values");
+    let command = Command::new(alloc, "judge").about("Decides on soft values");
     let certificate = Arg::new(alloc, "cert")
         .long("cert")
         .value_name("FILE")
@@ -95,14 +111,31 @@ fn mod_words<'a>(alloc: Global) -> Result<Command<'a>, AllocError> {
 }
 
 fn noise_words<'a>(alloc: Global) -> Result<Command<'a>, AllocError> {
-    let seed = value_parser!(u64);
-    let level = value_parser!(u16).range(0..=65535);
-    Command::new(alloc, "noise")
-        .about("Adds noise that a seed determines to symbols")
-        .arg(required(alloc, "seed", seed, "S").help("Seed of the generator"))?
-        .arg(required(alloc, "level", level, "L").help("Level of the noise, 0 to 65535"))?
+    let command = Command::new(alloc, "noise").about(
+        "Adds noise that a seed determines to symbols",
+    );
+    with_noise(alloc, command)?
         .arg(file(alloc, "IN", "File of symbols"))?
         .arg(file(alloc, "OUT", "File for the symbols with noise"))
+}
+
+fn demod_words<'a>(alloc: Global) -> Result<Command<'a>, AllocError> {
+    let command = Command::new(alloc, "demod").about("Receives the packets of symbols");
+    let command = with_link(alloc, command)?;
+    with_rounds(alloc, command)?
+        .arg(file(alloc, "ROWS", "Row file"))?
+        .arg(file(alloc, "SYMBOLS", "File of symbols, four bytes each"))?
+        .arg(file(alloc, "PACKETS", "File for the packets"))
+}
+
+fn run_words<'a>(alloc: Global) -> Result<Command<'a>, AllocError> {
+    let command = Command::new(alloc, "run").about("Sends packets, adds noise, and receives them");
+    let command = with_link(alloc, command)?;
+    let command = with_rounds(alloc, command)?;
+    with_noise(alloc, command)?
+        .arg(file(alloc, "ROWS", "Row file"))?
+        .arg(file(alloc, "PACKETS", "Transport stream, packets of 188 bytes"))?
+        .arg(file(alloc, "OUT", "File for the packets that are received"))
 }
 
 /// All that the program understands.
@@ -115,7 +148,9 @@ fn command<'a>(alloc: Global) -> Result<Command<'a>, AllocError> {
         .subcommand(judge_words(alloc)?)?
         .subcommand(check_words(alloc)?)?
         .subcommand(mod_words(alloc)?)?
-        .subcommand(noise_words(alloc)?)
+        .subcommand(noise_words(alloc)?)?
+        .subcommand(demod_words(alloc)?)?
+        .subcommand(run_words(alloc)?)
 }
 
 fn shape_of(m: &ArgMatches<'_>) -> Option<ShapeWords> {
@@ -133,6 +168,32 @@ fn link_of(m: &ArgMatches<'_>) -> Option<LinkWords> {
         pilots: m.get_flag("pilots"),
         number: ScramblingNumber::new(m.get_one::<u32>("number")?)?,
         roll_off: RollOff::new(m.get_one::<u8>("ro")?)?,
+    })
+}
+
+fn rounds_of(m: &ArgMatches<'_>) -> Option<Rounds> {
+    Rounds::new(m.get_one::<u32>("rounds")?)
+}
+
+fn demod_of<'a>(m: &ArgMatches<'a>) -> Option<DemodWords<'a>> {
+    Some(DemodWords {
+        link: link_of(m)?,
+        rounds: rounds_of(m)?,
+        rows: m.get_str("ROWS")?,
+        symbols: m.get_str("SYMBOLS")?,
+        packets: m.get_str("PACKETS")?,
+    })
+}
+
+fn run_of<'a>(m: &ArgMatches<'a>) -> Option<RunWords<'a>> {
+    Some(RunWords {
+        link: link_of(m)?,
+        rounds: rounds_of(m)?,
+        seed: m.get_one::<u64>("seed")?,
+        level: m.get_one::<u16>("level")?,
+        rows: m.get_str("ROWS")?,
+        packets: m.get_str("PACKETS")?,
+        to: m.get_str("OUT")?,
     })
 }
 
@@ -165,6 +226,8 @@ fn request_of<'a>(name: &str, m: &ArgMatches<'a>) -> Option<Request<'a>> {
             from: m.get_str("IN")?,
             to: m.get_str("OUT")?,
         })),
+        "demod" => Some(Request::Demod(demod_of(m)?)),
+        "run" => Some(Request::Run(run_of(m)?)),
         _ => None,
     }
 }

@@ -6,7 +6,7 @@ use crate::judge::TOY_ROWS;
 use s2_mode::{ByOne, Counting, Endless, FailAt, InMemory};
 
 /// The soft value of bit 0 is -4, all others are 10, and check 0 moves 4 to bit 0.
-fn wrong_bit() -> [u8; 228] {
+pub(super) fn wrong_bit() -> [u8; 228] {
     let mut file = [0; 228];
     let header = [
         0x53, 0x32, 0x4D, 0x4C, 1, 0, 4, 0, 2, 0, 3, 0, 1, 0, 0, 0, 0x2F,

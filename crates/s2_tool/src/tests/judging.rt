@@ -24,7 +24,7 @@ fn judged<R: Abort + AllocGlobal>(
 
 #[test]
 fn judges_under_the_toy_rows(rt: HostRuntime) {
-    let cases: [(&[u8], Exit, &[u8], &[u8]); 9] = [
+    let cases: [(&[u8], Exit, &[u8], &[u8]); 10] = [
         (
             b"-5 7 7 7 7 7 7 7 -5 -5 -5 -5 7 7 7 7 -5 -5 -5 -5",
             Exit::Fine,
@@ -45,8 +45,14 @@ fn judges_under_the_toy_rows(rt: HostRuntime) {
         ),
         (
             b"-4 10 10 10 10 10 10 10 10 10 10 10 10 10 10 10 10 10 10 10",
-            Exit::No,
-            b"broken cost -4 check 0\n",
+            Exit::Fine,
+            b"most-likely cost 0\n",
+            b"",
+        ),
+        (
+            b"-4 10 10 10 1 1 1 10 10 10 10 10 10 10 10 10 10 10 10 10",
+            Exit::Fine,
+            b"most-likely cost 0\n",
             b"",
         ),
         (
@@ -85,6 +91,25 @@ fn judges_under_the_toy_rows(rt: HostRuntime) {
         assert_eq!(rt; answer.0, exit);
         assert_eq!(rt; answer.1.as_slice(), out);
         assert_eq!(rt; answer.2.as_slice(), errors);
+    }
+}
+
+/// Each verdict behind the first two steps, on codes of one information bit.
+#[test]
+fn tells_each_verdict(rt: HostRuntime) {
+    let pair: (usize, usize, usize) = (1, 1, 1);
+    let chain: (usize, usize, usize) = (1, 1, 3);
+    let cases: [(_, &[u8], &[u8], Exit, &[u8]); 4] = [
+        (pair, b"0", b"-5 3", Exit::Fine, b"most-likely cost -2\n"),
+        (pair, b"0", b"-5 5", Exit::No, b"broken cost -5 check 0\n"),
+        (chain, b"0 1 2", b"0 -1 -1 0", Exit::No, b"parity cost 0\n"),
+        (chain, b"0 1 2", b"1 0 -3 0", Exit::No, b"parity cost 0\n"),
+    ];
+    for (sizes, rows, soft, exit, out) in cases {
+        let answer = judged(&rt, sizes, rows, soft);
+        assert_eq!(rt; answer.1.as_slice(), out);
+        assert_eq!(rt; answer.0, exit);
+        assert_eq!(rt; answer.2.len(), 0);
     }
 }
 

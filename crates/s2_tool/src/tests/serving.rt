@@ -87,10 +87,12 @@ fn reads_and_writes_each_file_in_its_role(rt: HostRuntime) -> Result<(), Fail> {
             ),
         ],
     )?;
-    let broken = "-4 10 10 10 10 10 10 10 10 10 10 10 10 10 10 10 10 10 10 10";
-    let (exit, out, _) = served(&rt, "s2", broken.as_bytes(), 1)?;
+    fs::write(&rt, "s2_roles/one", b"0")?;
+    fs::write(&rt, "s2_roles/odd", b"-5 5")?;
+    let broken = "s2 judge --group 1 --groups 1 --q 1 s2_roles/one s2_roles/odd";
+    let (exit, out, _) = served(&rt, broken, b"", 1)?;
     assert_eq!(rt; exit, Exit::No);
-    assert_eq!(rt; out.as_slice(), b"broken cost -4 check 0\n".as_slice());
+    assert_eq!(rt; out.as_slice(), b"broken cost -5 check 0\n".as_slice());
     let certificate = fs::read(&rt, "s2_roles/cert")?;
     assert_eq!(rt; certificate.as_slice(), stored_certificate().as_slice());
     assert_eq!(rt; fs::read(&rt, "s2_roles/rows")?.as_slice(), TOY_ROWS);
@@ -105,6 +107,7 @@ fn names_the_file_that_cannot_be_opened(rt: HostRuntime) -> Result<(), Fail> {
     fs::create_dir(&rt, "s2_missing")?;
     fs::write(&rt, "s2_missing/file", TOY_ROWS)?;
     let toy = "s2 judge --group 4 --groups 2 --q 3";
+    let looped = "s2 run --modcod 1 --seed 1 --level 1";
     for (words, name) in [
         ("R N F", "s2_missing/none"),
         ("R F N", "s2_missing/none"),
@@ -122,8 +125,15 @@ fn names_the_file_that_cannot_be_opened(rt: HostRuntime) -> Result<(), Fail> {
             "s2_missing/none",
         ),
         ("s2 noise --seed 1 --level 1 F N/s", "s2_missing/none/s"),
+        ("s2 demod --modcod 1 N F s2_missing/s", "s2_missing/none"),
+        ("s2 demod --modcod 1 F N s2_missing/s", "s2_missing/none"),
+        ("s2 demod --modcod 1 F F N/s", "s2_missing/none/s"),
+        ("X N F s2_missing/s", "s2_missing/none"),
+        ("X F N s2_missing/s", "s2_missing/none"),
+        ("X F F N/s", "s2_missing/none/s"),
     ] {
         let line = words.replace(rt.alloc(), "R", toy)?;
+        let line = line.replace(rt.alloc(), "X", looped)?;
         let line = line.replace(rt.alloc(), "F", "s2_missing/file")?;
         let line = line.replace(rt.alloc(), "N", "s2_missing/none")?;
         let errors = format!(in rt.alloc(); "s2: cannot open {name}\n")?;
@@ -145,6 +155,10 @@ fn leaves_an_output_file_where_an_input_is_missing(rt: HostRuntime) -> Result<()
         "s2 mod --modcod 11 --short s2_untouched/rows s2_untouched/rows s2_untouched/old",
         "s2 judge --group 360 --groups 90 --q 91 --cert s2_untouched/old s2_none s2_none",
         "s2 noise --seed 1 --level 1 s2_none s2_untouched/old",
+        "s2 demod --modcod 1 s2_none s2_untouched/rows s2_untouched/old",
+        "s2 demod --modcod 1 s2_untouched/rows s2_none s2_untouched/old",
+        "s2 demod --modcod 11 --short s2_untouched/rows s2_untouched/rows s2_untouched/old",
+        "s2 run --modcod 1 --seed 1 --level 1 s2_untouched/rows s2_none s2_untouched/old",
     ] {
         let (exit, _, _) = served(&rt, line, b"", 1)?;
         assert_eq!(rt; exit, Exit::Fault, "{line}");
@@ -176,6 +190,22 @@ fn names_what_there_is_not(rt: HostRuntime) -> Result<(), Fail> {
             (
                 "s2 mod --modcod 11 --short s2_no_file s2_no_file s2_no_file",
                 "s2: no such mode\n",
+            ),
+            (
+                "s2 demod --modcod 1 /dev/null s2_no_file s2_no_file",
+                "s2: cannot open s2_no_file\n",
+            ),
+            (
+                "s2 demod --modcod 1 /dev/null /dev/null /dev/null",
+                "s2: rows: too few rows\n",
+            ),
+            (
+                "s2 run --modcod 11 --short --seed 1 --level 1 s2_no_file s2_no_file s2_no_file",
+                "s2: no such mode\n",
+            ),
+            (
+                "s2 run --modcod 1 --seed 1 --level 1 /dev/null /dev/null /dev/null",
+                "s2: rows: too few rows\n",
             ),
             (
                 "s2 mod --modcod 11 --pilots s2_no_file s2_no_file s2_no_file",

@@ -4,8 +4,10 @@ use crate::exit::Exit;
 use crate::explain;
 use crate::link::RollOff;
 use crate::request::{
-    CheckWords, JudgeWords, LinkWords, ModWords, NoiseWords, Request, RowsWords, ShapeWords,
+    CheckWords, DemodWords, JudgeWords, LinkWords, ModWords, NoiseWords, Request, RowsWords,
+    RunWords, ShapeWords,
 };
+use crate::rounds::Rounds;
 use crate::scrambling::ScramblingNumber;
 use crate::words::read_words;
 use std::cell::Cell;
@@ -103,11 +105,67 @@ fn reads_the_words_of_noise(rt: HostRuntime) -> Result<(), Fail> {
 }
 
 #[test]
+fn reads_the_words_of_demod_and_run(rt: HostRuntime) -> Result<(), Fail> {
+    let link = LinkWords {
+        modcod: 2,
+        short: true,
+        pilots: false,
+        number: ScramblingNumber::new(7).ok_or("a number")?,
+        roll_off: RollOff::Middle,
+    };
+    for (rounds, count) in [("", 50u32), ("--rounds 1 ", 1), ("--rounds 200 ", 200)] {
+        let rounds_are = Rounds::new(count).ok_or("rounds")?;
+        let words = format!(in rt.alloc();
+            "s2 demod --modcod 2 --short --number 7 --ro 1 {rounds}r s p"
+        )?;
+        let words = words_of(&rt, words.as_str())?;
+        let wanted = Request::Demod(DemodWords {
+            link,
+            rounds: rounds_are,
+            rows: "r",
+            symbols: "s",
+            packets: "p",
+        });
+        assert_eq!(rt; read_words(rt.alloc(), &words).ok(), Some(Some(wanted)));
+        let words = format!(in rt.alloc();
+            "s2 run --modcod 2 --short --number 7 --ro 1 {rounds}--seed 18446744073709551615 --level 65535 r p o"
+        )?;
+        let words = words_of(&rt, words.as_str())?;
+        let wanted = Request::Run(RunWords {
+            link,
+            rounds: rounds_are,
+            seed: u64::MAX,
+            level: 65535,
+            rows: "r",
+            packets: "p",
+            to: "o",
+        });
+        assert_eq!(rt; read_words(rt.alloc(), &words).ok(), Some(Some(wanted)));
+    }
+    Ok(())
+}
+
+#[test]
 fn refuses_other_words(rt: HostRuntime) -> Result<(), Fail> {
     for (line, on_errors) in [
         ("s2 --help", false),
         ("s2 judge --help", false),
         ("s2 demod", true),
+        ("s2 demod --help", false),
+        ("s2 demod r s p", true),
+        ("s2 demod --modcod 1 r s", true),
+        ("s2 demod --modcod 1 --rounds 0 r s p", true),
+        ("s2 demod --modcod 1 --rounds 201 r s p", true),
+        ("s2 demod --modcod 1 --seed 1 r s p", true),
+        ("s2 run --help", false),
+        ("s2 run --modcod 1 --seed 1 r p o", true),
+        ("s2 run --modcod 1 --level 1 r p o", true),
+        ("s2 run --seed 1 --level 1 r p o", true),
+        (
+            "s2 run --modcod 1 --seed 1 --level 1 --rounds 201 r p o",
+            true,
+        ),
+        ("s2 run --modcod 1 --seed 1 --level 1 r p", true),
         ("s2 judge r s", true),
         ("s2 judge --group 361 --groups 2 --q 3 r s", true),
         ("s2 judge --group 4 --groups 0 --q 3 r s", true),
@@ -180,7 +238,7 @@ fn tells_help_and_usage(rt: HostRuntime) -> Result<(), Fail> {
     for (line, text, on_errors) in [
         (
             "s2 --help",
-            "A DVB-S2 modem with maximum-likelihood certificates. Without a command it judges the 20 soft values of standard input under a toy code\n\nUsage: s2 [COMMAND]\n\nCommands:\n  rows   Prints a row file that a seed determines\n  judge  Judges the hard decision of soft values\n  check  Checks a certificate that its word is most likely\n  mod    Makes the symbols of packets\n  noise  Adds noise that a seed determines to symbols\n  help   Print this message or the help of the given subcommand(s)\n\nOptions:\n  -h, --help  Print help\n",
+            "A DVB-S2 modem with maximum-likelihood certificates. Without a command it judges the 20 soft values of standard input under a toy code\n\nUsage: s2 [COMMAND]\n\nCommands:\n  rows   Prints a row file that a seed determines\n  judge  Decides on soft values\n  check  Checks a certificate that its word is most likely\n  mod    Makes the symbols of packets\n  noise  Adds noise that a seed determines to symbols\n  demod  Receives the packets of symbols\n  run    Sends packets, adds noise, and receives them\n  help   Print this message or the help of the given subcommand(s)\n\nOptions:\n  -h, --help  Print help\n",
             false,
         ),
         (

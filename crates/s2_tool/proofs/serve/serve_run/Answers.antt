@@ -1,0 +1,25 @@
+use Rattle.std.proofs.Common.{refl}
+use Rattle.std.proofs.lemmas.Result.{err_from_is_err_and}
+use Rattle.s2_tool.specs.declared.fault.Fault.TheVariants as faults
+use Rattle.s2_tool.specs.Links.{asked_setup}
+use Rattle.s2_tool.specs.Looping.{Loops}
+use Rattle.s2_tool.proofs.ReceiveLemmas.{unbegun}
+use Rattle.s2_tool.proofs.serve.serve_run.Goals as goal
+
+pub returns-in_default-clause-began : goal.returns-in_default-clause-began
+returns-in_default-clause-began g c = (unbegun (Loops c.args.words.rounds.count c.args.words.seed c.args.words.level) (asked_setup c.args.words.link) faults.Mode (g.O.CountedWrite.contents c.args.console.now.output), refl)
+
+pub returns-in_err-rows-clause-began : goal.returns-in_err-rows-clause-began
+returns-in_err-rows-clause-began g c =
+    let p = err_from_is_err_and c.from_residual.result c.from_residual.ensures.1 in
+    rw (p.1, p.2) (unbegun (Loops c.args.words.rounds.count c.args.words.seed c.args.words.level) (asked_setup c.args.words.link) c.in_err-rows.field-0.0 (g.O.CountedWrite.contents c.args.console.now.output), refl)
+
+pub returns-in_err-packets-clause-began : goal.returns-in_err-packets-clause-began
+returns-in_err-packets-clause-began g c =
+    let p = err_from_is_err_and c.from_residual-in_err-packets.result c.from_residual-in_err-packets.ensures.1 in
+    rw (p.1, p.2) (unbegun (Loops c.args.words.rounds.count c.args.words.seed c.args.words.level) (asked_setup c.args.words.link) c.in_err-packets.field-0.0 (g.O.CountedWrite.contents c.args.console.now.output), refl)
+
+pub returns-in_err-to-clause-began : goal.returns-in_err-to-clause-began
+returns-in_err-to-clause-began g c =
+    let p = err_from_is_err_and c.from_residual-in_err-to.result c.from_residual-in_err-to.ensures.1 in
+    rw (p.1, p.2) (unbegun (Loops c.args.words.rounds.count c.args.words.seed c.args.words.level) (asked_setup c.args.words.link) c.in_err-to.field-0.0 (g.O.CountedWrite.contents c.args.console.now.output), refl)

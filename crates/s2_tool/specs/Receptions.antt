@@ -1,0 +1,37 @@
+-- What `demod` receives, writes and reports.
+use Rattle.std.specs.Prelude.{◌≡◌, ◌≢◌, ℕ, ◌+◌, Bool, if◌then◌else◌, List, Option, Result, Ok, Err}
+use Rattle.s2_receive.specs.Receiving.{Rules, State, begun, RunsTo, StopsAfter, BreaksAfter, Reaches}
+use Rattle.s2_receive.specs.declared.receiver.TheConstants.{MOST_SYMBOLS}
+use Rattle.s2_modem.specs.Link.{Link}
+use Rattle.s2_modem.specs.Reception.{link_rules}
+use Rattle.s2_modem.specs.declared.setup.Setup.{Setup}
+use Rattle.s2_tool.specs.declared.exit.Exit.{Exit}
+use Rattle.s2_tool.specs.declared.exit.Exit.TheVariants as exits
+use Rattle.s2_tool.specs.declared.fault.Fault.{Fault}
+use Rattle.s2_tool.specs.declared.fault.Fault.TheVariants as faults
+use Rattle.s2_tool.specs.Links.{Streams, Deed, OnLink}
+
+-- the exit of a stream that was received to its end, by whether all was well
+abbrev pub exit_by : Bool → Exit
+exit_by well = if well then exits.Fine else exits.No
+
+-- a read failed, or as many symbols came as a receiver takes
+abbrev pub MayStop : ℕ → Streams → Streams → Type 0
+MayStop limit old new = new.reads ≢ old.reads + 1 → (new.reads ≡ old.reads) × Reaches limit 0 old.taken new.taken
+
+-- All was received to the end: the packets of each frame and its line are written, then the end line. Or a read failed: what was
+-- met before is written, and nothing else. Or a write failed: of the next thing a part is written.
+abbrev pub Receives : Rules → Streams → Streams → Result Exit Fault → Type 0
+Receives rules old new (Ok exit) =
+    (state : State) × (well : Bool) × RunsTo rules begun state old.taken new.taken old.given new.given old.out new.out well × (exit ≡ exit_by well)
+Receives rules old new (Err faults.Read) = StopsAfter rules begun old.taken old.given new.given old.out new.out × MayStop rules.limit old new
+Receives rules old new (Err faults.Write) = BreaksAfter rules begun old.taken old.given new.given old.out new.out
+Receives rules old new (Err f) = ⊥
+
+-- `demod` on a link: what a new receiver makes of the symbols
+abbrev pub Hears : ℕ → Deed
+Hears rounds link old new ended = Receives (link_rules link rounds MOST_SYMBOLS) old new ended
+
+-- `demod` on a setup, rounds and a row file
+abbrev pub Demodulates : Setup → ℕ → Option (List ℕ) → Streams → Streams → Result Exit Fault → Type 0
+Demodulates setup rounds rows old new ended = OnLink (Hears rounds) setup rows old new ended
