@@ -73,14 +73,20 @@ fn with_noise<'a>(alloc: Global, command: Command<'a>) -> Result<Command<'a>, Al
 fn rows_words<'a>(alloc: Global) -> Result<Command<'a>, AllocError> {
     let weight = value_parser!(u8).range(1..=24);
     let seed = value_parser!(u64);
-    let command = Command::new(alloc, "rows").about("Prints a row file that a seed determines");
+    let command = Command::new(alloc, "rows")
+        .about("Prints a row file that a seed determines")
+        .after_help(
+            "Example:\n  s2 rows --group 360 --groups 90 --q 90 --weight 8 --seed 1 > rows",
+        );
     with_shape(alloc, command)?
         .arg(required(alloc, "weight", weight, "W").help("Addresses of each row"))?
         .arg(required(alloc, "seed", seed, "S").help("Seed of the generator"))
 }
 
 fn judge_words<'a>(alloc: Global) -> Result<Command<'a>, AllocError> {
-    let command = Command::new(alloc, "judge").about("Decides on soft values");
+    let command = Command::new(alloc, "judge")
+        .about("Decides on soft values")
+        .after_help("Example:\n  s2 judge --group 4 --groups 2 --q 3 --cert certificate rows soft");
     let certificate = Arg::new(alloc, "cert")
         .long("cert")
         .value_name("FILE")
@@ -98,12 +104,15 @@ fn judge_words<'a>(alloc: Global) -> Result<Command<'a>, AllocError> {
 fn check_words<'a>(alloc: Global) -> Result<Command<'a>, AllocError> {
     Command::new(alloc, "check")
         .about("Checks a certificate that its word is most likely")
+        .after_help("Example:\n  s2 check rows certificate")
         .arg(file(alloc, "ROWS", "Row file"))?
         .arg(file(alloc, "CERT", "Certificate file"))
 }
 
 fn mod_words<'a>(alloc: Global) -> Result<Command<'a>, AllocError> {
-    let command = Command::new(alloc, "mod").about("Makes the symbols of packets");
+    let command = Command::new(alloc, "mod")
+        .about("Makes the symbols of packets")
+        .after_help("Example:\n  s2 mod --modcod 4 --pilots rows packets.ts symbols");
     with_link(alloc, command)?
         .arg(file(alloc, "ROWS", "Row file"))?
         .arg(file(alloc, "PACKETS", "Transport stream, packets of 188 bytes"))?
@@ -111,16 +120,18 @@ fn mod_words<'a>(alloc: Global) -> Result<Command<'a>, AllocError> {
 }
 
 fn noise_words<'a>(alloc: Global) -> Result<Command<'a>, AllocError> {
-    let command = Command::new(alloc, "noise").about(
-        "Adds noise that a seed determines to symbols",
-    );
+    let command = Command::new(alloc, "noise")
+        .about("Adds noise that a seed determines to symbols")
+        .after_help("Example:\n  s2 noise --seed 1 --level 100 symbols noisy");
     with_noise(alloc, command)?
         .arg(file(alloc, "IN", "File of symbols"))?
         .arg(file(alloc, "OUT", "File for the symbols with noise"))
 }
 
 fn demod_words<'a>(alloc: Global) -> Result<Command<'a>, AllocError> {
-    let command = Command::new(alloc, "demod").about("Receives the packets of symbols");
+    let command = Command::new(alloc, "demod")
+        .about("Receives the packets of symbols")
+        .after_help("Example:\n  s2 demod --modcod 4 --pilots rows noisy received.ts");
     let command = with_link(alloc, command)?;
     with_rounds(alloc, command)?
         .arg(file(alloc, "ROWS", "Row file"))?
@@ -129,7 +140,11 @@ fn demod_words<'a>(alloc: Global) -> Result<Command<'a>, AllocError> {
 }
 
 fn run_words<'a>(alloc: Global) -> Result<Command<'a>, AllocError> {
-    let command = Command::new(alloc, "run").about("Sends packets, adds noise, and receives them");
+    let command = Command::new(alloc, "run")
+        .about("Sends packets, adds noise, and receives them")
+        .after_help(
+            "Example:\n  s2 run --modcod 4 --pilots --seed 1 --level 100 rows packets.ts received.ts",
+        );
     let command = with_link(alloc, command)?;
     let command = with_rounds(alloc, command)?;
     with_noise(alloc, command)?
@@ -141,6 +156,7 @@ fn run_words<'a>(alloc: Global) -> Result<Command<'a>, AllocError> {
 /// All that the program understands.
 fn command<'a>(alloc: Global) -> Result<Command<'a>, AllocError> {
     Command::new(alloc, "s2")
+        .version("0.1")
         .about(
             "A DVB-S2 modem with maximum-likelihood certificates. Without a command it judges the 20 soft values of standard input under a toy code",
         )
