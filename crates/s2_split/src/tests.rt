@@ -90,6 +90,42 @@ fn finds_no_split_of_a_word_that_costs_more(rt: HostRuntime) -> Result<(), Fail>
     assert_made(&rt, alloc, &pair, &mut maker, &[-5, 3], 0, &[])
 }
 
+/// A split that is found after 63 passes, one after all 64, and one that would take another pass.
+#[test]
+fn makes_64_passes(rt: HostRuntime) -> Result<(), Fail> {
+    let alloc = rt.alloc();
+    let chain = matrix_of(alloc, [1, 1, 11], b"2 7\n")?;
+    let mut maker = Maker::new(alloc, &chain)?;
+    let mut soft = [21i16, 15, -12, 24, -23, -3, -1, 0, -47, 61, -7, 34];
+    let after_63 = [
+        0, 240, -240, 48, 48, -48, 432, -432, 64, -64, 16, -16, 0, 0, 0, 0, 0, -752, 752, 112,
+        -112, 0, 0,
+    ];
+    let after_64 = [
+        0, 240, -240, 48, 48, -48, 432, -432, 64, -64, 16, -16, 0, 0, 0, 0, 0, -784, 784, 112,
+        -112, 0, 0,
+    ];
+    assert_made(&rt, alloc, &chain, &mut maker, &soft, 16, &after_63)?;
+    soft[8] = -49;
+    soft[9] = 60;
+    assert_made(&rt, alloc, &chain, &mut maker, &soft, 16, &after_64)?;
+    soft[8] = -50;
+    soft[9] = 63;
+    assert_made(&rt, alloc, &chain, &mut maker, &soft, 0, &[])
+}
+
+/// What is lacking may be all that the others have: one more, and greedy amounts don't suffice; nor
+/// does spreading, once the word costs more than another.
+#[test]
+fn keeps_to_what_is_spare(rt: HostRuntime) -> Result<(), Fail> {
+    let alloc = rt.alloc();
+    let pair = matrix_of(alloc, [1, 1, 1], b"0\n")?;
+    let mut maker = Maker::new(alloc, &pair)?;
+    assert_made(&rt, alloc, &pair, &mut maker, &[-63, 63], 1, &[-63, 63])?;
+    assert_made(&rt, alloc, &pair, &mut maker, &[-63, 62], 0, &[])?;
+    assert_made(&rt, alloc, &pair, &mut maker, &[0, 0], 1, &[0, 0])
+}
+
 /// A wrong bit in each mode, repaired.
 #[test]
 fn has_room_for_every_mode(rt: HostRuntime) -> Result<(), Fail> {
