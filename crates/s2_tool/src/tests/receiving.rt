@@ -82,6 +82,7 @@ fn receives_two_short_frames(rt: HostRuntime) {
 fn tells_what_a_cut_stream_has(rt: HostRuntime) -> Result<(), Fail> {
     let packets = two_packets();
     let mut symbols = sent(&rt, setup(&rt, true), &packets).1;
+    let packet = packets.get(..188).expect(&rt, "a packet");
     let first = b"frame 1 at 0 most-likely fixed 0\n";
     let end = b"end frames 1 delivered 1 packets 1 bad 0\n";
     for (bytes, cut) in [
@@ -100,7 +101,7 @@ fn tells_what_a_cut_stream_has(rt: HostRuntime) -> Result<(), Fail> {
         }
         report.extend_from_slice(end)?;
         let exit = if cut.is_some() { Exit::No } else { Exit::Fine };
-        receives(&rt, true, &symbols, (exit, &report, &packets[..188]));
+        receives(&rt, true, &symbols, (exit, &report, packet));
     }
     Ok(())
 }
