@@ -8,6 +8,7 @@ ghost use Rattle.s2_bbframe.specs.Joining.{run_of};
 
 use crate::crc::crc8;
 use crate::header::SYNC;
+use crate::slicer::PACKET_BYTES;
 use s2_mode::{CountedWrite, WriteFault, write_full};
 
 /// The bytes of a packet behind its sync byte.
@@ -21,18 +22,25 @@ pub(crate) struct Bodies {
     pub(crate) bad: usize,
 }
 
-// writes the packet of this body
+// the packet of this body
+fn packet_of(body: &[u8]) -> [u8; PACKET_BYTES]
+    requires { length body.now ≡ BODY_BYTES }
+    ensures { result ≡ 71 ∷ body.now }
+{
+    let mut packet = [SYNC; PACKET_BYTES];
+    packet[1..].copy_from_slice(body);
+    packet
+}
+
+// writes the packet of this body, in one piece
 fn write_packet<W: CountedWrite>(body: &[u8], out: &mut W) -> Result<(), WriteFault>
-    requires { W.count out.old < 2 ^ 64 - 1 }
+    requires count { W.count out.old < 2 ^ 64 - 1 }
+    requires body { length body.now ≡ BODY_BYTES }
     ensures bytes { OnOk result (Appends (W.contents out.old) (W.contents out.new) (71 ∷ body.now)) }
     ensures part { OnErr result (AppendsPart (71 ∷ body.now) (W.contents out.old) (W.contents out.new)) }
     ensures cause { CountsFault (W.count out.old) (W.count out.new) result }
 {
-    write_full(out, &[SYNC])?;
-    let Ok(()) = write_full(out, body) else {
-        return Err(WriteFault);
-    };
-    Ok(())
+    write_full(out, &packet_of(body))
 }
 
 // reads on in a run, with the first `start` bytes of `body` held

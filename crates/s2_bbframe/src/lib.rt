@@ -34,4 +34,6 @@ pub use joiner::{Fed, Joiner};
 pub use slicer::{NoSync, PACKET_BYTES, Slicer};
 
 #[cfg(test)]
+mod memory_tests;
+#[cfg(test)]
 mod tests;

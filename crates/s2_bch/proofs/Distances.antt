@@ -1,6 +1,6 @@
--- The two ways to count the places that differ: by place, and along the lists.
-use Rattle.std.specs.Prelude.{ℕ, zero, suc, ◌≡◌, ◌+◌, refl, Bool, List, [], ◌∷◌, length}
-use Rattle.std.proofs.Common.{◌∙◌, ap, arith}
+-- How many places differ.
+use Rattle.std.specs.Prelude.{ℕ, zero, suc, ◌≡◌, ◌+◌, ◌≤◌, refl, Bool, true, false, List, ◌∷◌, length}
+use Rattle.std.proofs.Common.{ap, ap₂, arith, ◌∙◌}
 use Rattle.s2_bits.specs.Bits.{xor, bit_at, number, differences}
 use Rattle.s2_bch.specs.Words.{distance}
 
@@ -9,8 +9,28 @@ differences-cons zero x y a b = omega arith
 differences-cons (suc n) x y a b =
     ap (λ k. k + number (xor (bit_at a n) (bit_at b n))) (differences-cons n x y a b) ∙ omega arith
 
-pub differences_distance : (a b : List Bool) → length a ≡ length b → differences (length a) a b ≡ distance a b
-differences_distance [] b e = refl
-differences_distance (x ∷ a) [] e = absurd (omega arith)
-differences_distance (x ∷ a) (y ∷ b) e =
-    differences-cons (length a) x y a b ∙ ap (λ n. number (xor x y) + n) (differences_distance a b (omega arith))
+-- the first place, and those behind it
+pub distance-cons : (x y : Bool) (a b : List Bool) → distance (x ∷ a) (y ∷ b) ≡ number (xor x y) + distance a b
+distance-cons x y a b = differences-cons (length a) x y a b
+
+self-number : (b : Bool) → number (xor b b) ≡ 0
+self-number true = refl
+self-number false = refl
+
+none : (n : ℕ) (u : List Bool) → differences n u u ≡ 0
+none zero u = refl
+none (suc n) u = ap₂ (λ a b. a + b) (none n u) (self-number (bit_at u n))
+
+pub distance_self : (u : List Bool) → distance u u ≡ 0
+distance_self u = none (length u) u
+
+number-most : (b : Bool) → number b ≤ 1
+number-most true = omega arith
+number-most false = omega arith
+
+most : (n : ℕ) (u v : List Bool) → differences n u v ≤ n
+most zero u v = omega arith
+most (suc n) u v = omega (arith, most n u v, number-most (xor (bit_at u n) (bit_at v n)))
+
+pub distance_most : (u v : List Bool) → distance u v ≤ length u
+distance_most u v = most (length u) u v

@@ -1,6 +1,7 @@
 -- The decoder's theorem: a word within t places of a multiple is flipped into it.
 use Rattle.std.specs.Prelude.{ℕ, suc, ◌≡◌, ◌≢◌, ◌+◌, ◌<◌, ◌≤◌, refl, Bool, true, false, List, [], ◌∷◌, ◌++◌, length}
 use Rattle.std.proofs.Common.{sym, ◌∙◌, ap, ap₂, subst, arith, get_or, length-append, append_assoc}
+use Rattle.s2_field.specs.Operations.{Operations}
 use Rattle.s2_field.specs.Laws.{FieldLaws}
 use Rattle.s2_field.specs.Polynomials as P
 use Rattle.s2_bch.specs.Sequences as S
@@ -11,38 +12,38 @@ use Rattle.s2_bch.specs.Words.{distance, IsMultiple}
 use Rattle.s2_bch.proofs.WordFacts.{length-added}
 use Rattle.s2_bch.proofs.ValueFacts.{value, value-sum, multiple-root, locators, locators-differ, locators-nonzero, locators-apart, value-power_sum, length-locators, PowersDiffer}
 
-module _ {F : Type 0} (nil one : F) (add mul : F → F → F) (inv : F → F) (L : FieldLaws nil one add mul inv) where
+module _ {F : Type 0} (field : Operations F) (L : FieldLaws field) where
   open L use {add_comm, add_assoc, add_zero, add_self, mul_comm, mul_assoc, mul_one, mul_add, mul_inv, one_ne_zero}
 
   abbrev Is : ℕ → ℕ → List F → List F → F → (ℕ → F) → Type 0
-  Is = S.Shortest nil one add mul
+  Is = S.Shortest field
 
   abbrev power : F → ℕ → F
-  power = P.pow nil one add mul
+  power = P.pow field
 
   abbrev evaluate : List F → F → F
-  evaluate = P.eval nil one add mul
+  evaluate = P.eval field
 
   abbrev places : F → List Bool → List F
-  places = locators nil one add mul inv L
+  places = locators field L
 
   -- only the first n terms matter
   pub shortest-along : (n d : ℕ) (f b : List F) (delta : F) (s t : ℕ → F) → ((j : ℕ) → j < n → s j ≡ t j)
-      → S.Shortest nil one add mul n d f b delta s → S.Shortest nil one add mul n d f b delta t
+      → S.Shortest field n d f b delta s → S.Shortest field n d f b delta t
   shortest-along n d f b delta s t h H = record {
     monic = H.monic;
     fits = H.fits;
     annihilates = λ i hi.
-        dot-same nil one add mul inv L f _ _
-        (λ j hj. sym (h (i + j) (omega (arith, monic-length nil one add mul inv L d f H.monic))))
+        dot-same field L f _ _
+        (λ j hj. sym (h (i + j) (omega (arith, monic-length field L d f H.monic))))
         ∙ H.annihilates i hi;
     least = λ e g m k. H.least e g m (λ i hi.
-        dot-same nil one add mul inv L g _ _ (λ j hj. h (i + j) (omega (arith, monic-length nil one add mul inv L e g m)))
+        dot-same field L g _ _ (λ j hj. h (i + j) (omega (arith, monic-length field L e g m)))
         ∙ k i hi);
     auxiliary_zero = λ i hi.
-        dot-same nil one add mul inv L b _ _ (λ j hj. sym (h (i + j) (omega (arith, H.auxiliary_length)))) ∙ H.auxiliary_zero i hi;
+        dot-same field L b _ _ (λ j hj. sym (h (i + j) (omega (arith, H.auxiliary_length)))) ∙ H.auxiliary_zero i hi;
     auxiliary_top = λ i hi.
-        dot-same nil one add mul inv L b _ _ (λ j hj. sym (h (i + j) (omega (arith, H.auxiliary_length)))) ∙ H.auxiliary_top i hi;
+        dot-same field L b _ _ (λ j hj. sym (h (i + j) (omega (arith, H.auxiliary_length)))) ∙ H.auxiliary_top i hi;
     auxiliary_length = H.auxiliary_length;
     nonzero = H.nonzero;
   }
@@ -54,21 +55,21 @@ module _ {F : Type 0} (nil one : F) (add mul : F → F → F) (inv : F → F) (L
   at-one P a (false ∷ pre) w h = at-one P a pre w h
 
   -- no place's power is that of a place with no one
-  at-zero : (a : F) (bound : ℕ) → PowersDiffer nil one add mul inv L a bound → (pre w : List Bool) → length (pre ++ false ∷ w) ≤ bound
+  at-zero : (a : F) (bound : ℕ) → PowersDiffer field L a bound → (pre w : List Bool) → length (pre ++ false ∷ w) ≤ bound
       → Each (λ x. x ≢ power a (length w)) (places a (pre ++ false ∷ w))
-  at-zero a bound p [] w h = locators-apart nil one add mul inv L a bound (length w) p (omega arith) w (omega arith)
+  at-zero a bound p [] w h = locators-apart field L a bound (length w) p (omega arith) w (omega arith)
   at-zero a bound p (true ∷ pre) w h = (
     (λ e. p (length w) (length (pre ++ false ∷ w)) (omega (arith, length-append pre (false ∷ w))) (omega arith) (sym e)),
     at-zero a bound p pre w (omega arith),
   )
   at-zero a bound p (false ∷ pre) w h = at-zero a bound p pre w (omega arith)
 
-  module _ (a : F) (bound : ℕ) (p : PowersDiffer nil one add mul inv L a bound) (f : List F) where
+  module _ (a : F) (bound : ℕ) (p : PowersDiffer field L a bound) (f : List F) where
     -- the flipped places are where the words differ
     flipped : (pre r v w : List Bool) → length r ≡ length v → length (pre ++ added r v) ≤ bound
-        → Each (λ x. evaluate f x ≡ nil) (places a (pre ++ added r v))
-        → ((z : F) → evaluate f z ≡ nil → Each (λ x. x ≢ z) (places a (pre ++ added r v)) → ⊥)
-        → flips.FlipsRoots nil one add mul a f r w → w ≡ v
+        → Each (λ x. evaluate f x ≡ field.zero) (places a (pre ++ added r v))
+        → ((z : F) → evaluate f z ≡ field.zero → Each (λ x. x ≢ z) (places a (pre ++ added r v)) → ⊥)
+        → flips.FlipsRoots field a f r w → w ≡ v
     flipped pre [] [] [] e h roots others k = refl
     flipped pre [] [] (x ∷ w) e h roots others k = absurd k
     flipped pre [] (c ∷ v) w e h roots others k = absurd (omega arith)
@@ -81,8 +82,8 @@ module _ {F : Type 0} (nil one : F) (add mul : F → F → F) (inv : F → F) (L
         ap₂ (λ y u. y ∷ u)
         (bit b c x (xor b c) refl h roots others same k.0 k.1)
         (flipped (pre ++ xor b c ∷ []) r v w (omega arith) (subst (λ u. length u ≤ bound) moved h)
-        (subst (λ u. Each (λ y. evaluate f y ≡ nil) (places a u)) moved roots)
-        (subst (λ u. (z : F) → evaluate f z ≡ nil → Each (λ y. y ≢ z) (places a u) → ⊥) moved others)
+        (subst (λ u. Each (λ y. evaluate f y ≡ field.zero) (places a u)) moved roots)
+        (subst (λ u. (z : F) → evaluate f z ≡ field.zero → Each (λ y. y ≢ z) (places a u) → ⊥) moved others)
         k.2)
       where
         different : (b c : Bool) → true ≡ xor b c → xor true b ≡ c
@@ -92,13 +93,13 @@ module _ {F : Type 0} (nil one : F) (add mul : F → F → F) (inv : F → F) (L
         different false false e = e
 
         bit : (b c x y : Bool) → y ≡ xor b c → length (pre ++ y ∷ added r v) ≤ bound
-            → Each (λ z. evaluate f z ≡ nil) (places a (pre ++ y ∷ added r v))
-            → ((z : F) → evaluate f z ≡ nil → Each (λ x. x ≢ z) (places a (pre ++ y ∷ added r v)) → ⊥)
+            → Each (λ z. evaluate f z ≡ field.zero) (places a (pre ++ y ∷ added r v))
+            → ((z : F) → evaluate f z ≡ field.zero → Each (λ x. x ≢ z) (places a (pre ++ y ∷ added r v)) → ⊥)
             → length (added r v) ≡ length r
-            → (evaluate f (power a (length r)) ≡ nil → x ≡ xor true b)
-            → (evaluate f (power a (length r)) ≢ nil → x ≡ b) → x ≡ c
+            → (evaluate f (power a (length r)) ≡ field.zero → x ≡ xor true b)
+            → (evaluate f (power a (length r)) ≢ field.zero → x ≡ b) → x ≡ c
         bit b c x true ey h roots others same at_root elsewhere =
-            at_root (subst (λ n. evaluate f (power a n) ≡ nil) same (at-one (λ z. evaluate f z ≡ nil) a pre (added r v) roots))
+            at_root (subst (λ n. evaluate f (power a n) ≡ field.zero) same (at-one (λ z. evaluate f z ≡ field.zero) a pre (added r v) roots))
             ∙ different b c ey
         bit b c x false ey h roots others same at_root elsewhere =
             elsewhere (λ root. others (power a (length r)) root
@@ -113,56 +114,56 @@ module _ {F : Type 0} (nil one : F) (add mul : F → F → F) (inv : F → F) (L
             equal false false e = refl
 
   pub decoded : (a : F) (bound t d : ℕ) (g r v w : List Bool) (S' f b : List F) (delta : F)
-      → a ≢ nil → PowersDiffer nil one add mul inv L a bound → 0 < length g
-      → ((j : ℕ) → j < t + t → value nil one add mul inv L g (power a (suc j)) ≡ nil)
+      → a ≢ field.zero → PowersDiffer field L a bound → 0 < length g
+      → ((j : ℕ) → j < t + t → value field L g (power a (suc j)) ≡ field.zero)
       → IsMultiple g v → length r ≡ length v → length v ≤ bound → distance r v ≤ t
-      → ((j : ℕ) → j < t + t → get_or S' j nil ≡ value nil one add mul inv L r (power a (suc j)))
-      → S.Shortest nil one add mul (t + t) d f b delta (S.sequence_of nil S')
-      → flips.FlipsRoots nil one add mul a f r w → w ≡ v
+      → ((j : ℕ) → j < t + t → get_or S' j field.zero ≡ value field L r (power a (suc j)))
+      → S.Shortest field (t + t) d f b delta (S.sequence_of field.zero S')
+      → flips.FlipsRoots field a f r w → w ≡ v
   decoded a bound t d g r v w S' f b delta na p hg roots mv e h near syndromes H k =
       let error : List Bool = added r v in
       let xs : List F = places a error in
       let le : length error ≡ length v = length-added r v in
-      let H' : S.Shortest nil one add mul (t + t) d f b delta (S.power_sum nil one add mul xs (λ x. x)) =
+      let H' : S.Shortest field (t + t) d f b delta (S.power_sum field xs (λ x. x)) =
       shortest-along (t + t) d f b delta _ _
       (λ j hj.
       syndromes j hj
-      ∙ sym (value-sum nil one add mul inv L r v (power a (suc j)) e
-      ∙ ap (add (value nil one add mul inv L r (power a (suc j)))) (multiple-root nil one add mul inv L g v (power a (suc j)) hg mv (roots j hj))
+      ∙ sym (value-sum field L r v (power a (suc j)) e
+      ∙ ap (field.sum (value field L r (power a (suc j)))) (multiple-root field L g v (power a (suc j)) hg mv (roots j hj))
       ∙ add_zero _)
-      ∙ value-power_sum nil one add mul inv L a error j)
+      ∙ value-power_sum field L a error j)
       H in
-      let few : length xs + length xs ≤ t + t = omega (arith, length-locators nil one add mul inv L a r v e) in
-      let apart : AllDiffer xs = locators-differ nil one add mul inv L a bound p error (omega arith) in
-      let present : Each (λ x. x ≢ nil) xs = locators-nonzero nil one add mul inv L a na error in
+      let few : length xs + length xs ≤ t + t = omega (arith, length-locators field L a r v e) in
+      let apart : AllDiffer xs = locators-differ field L a bound p error (omega arith) in
+      let present : Each (λ x. x ≢ field.zero) xs = locators-nonzero field L a na error in
       flipped a bound p f [] r v w e (omega arith)
-      (elements-are-roots nil one add mul inv L (t + t) d f b delta xs (λ x. x) H' few apart present)
-      (roots-are-elements nil one add mul inv L (t + t) d f b delta xs (λ x. x) H' few apart present)
+      (elements-are-roots field L (t + t) d f b delta xs (λ x. x) H' few apart present)
+      (roots-are-elements field L (t + t) d f b delta xs (λ x. x) H' few apart present)
       k
 
   -- a locator for a word within t places has degree t at most
   pub degree_few : (a : F) (bound t d : ℕ) (g r v : List Bool) (S' f b : List F) (delta : F)
-      → a ≢ nil → PowersDiffer nil one add mul inv L a bound → 0 < length g
-      → ((j : ℕ) → j < t + t → value nil one add mul inv L g (power a (suc j)) ≡ nil)
+      → a ≢ field.zero → PowersDiffer field L a bound → 0 < length g
+      → ((j : ℕ) → j < t + t → value field L g (power a (suc j)) ≡ field.zero)
       → IsMultiple g v → length r ≡ length v → length v ≤ bound → distance r v ≤ t
-      → ((j : ℕ) → j < t + t → get_or S' j nil ≡ value nil one add mul inv L r (power a (suc j)))
-      → S.Shortest nil one add mul (t + t) d f b delta (S.sequence_of nil S') → d ≤ t
+      → ((j : ℕ) → j < t + t → get_or S' j field.zero ≡ value field L r (power a (suc j)))
+      → S.Shortest field (t + t) d f b delta (S.sequence_of field.zero S') → d ≤ t
   degree_few a bound t d g r v S' f b delta na p hg roots mv e h near syndromes H =
       let error : List Bool = added r v in
       let xs : List F = places a error in
       let le : length error ≡ length v = length-added r v in
-      let H' : S.Shortest nil one add mul (t + t) d f b delta (S.power_sum nil one add mul xs (λ x. x)) =
+      let H' : S.Shortest field (t + t) d f b delta (S.power_sum field xs (λ x. x)) =
       shortest-along (t + t) d f b delta _ _
       (λ j hj.
       syndromes j hj
-      ∙ sym (value-sum nil one add mul inv L r v (power a (suc j)) e
-      ∙ ap (add (value nil one add mul inv L r (power a (suc j)))) (multiple-root nil one add mul inv L g v (power a (suc j)) hg mv (roots j hj))
+      ∙ sym (value-sum field L r v (power a (suc j)) e
+      ∙ ap (field.sum (value field L r (power a (suc j)))) (multiple-root field L g v (power a (suc j)) hg mv (roots j hj))
       ∙ add_zero _)
-      ∙ value-power_sum nil one add mul inv L a error j)
+      ∙ value-power_sum field L a error j)
       H in
-      let size : length xs ≡ distance r v = length-locators nil one add mul inv L a r v e in
+      let size : length xs ≡ distance r v = length-locators field L a r v e in
       let few : length xs + length xs ≤ t + t = omega arith in
-      let apart : AllDiffer xs = locators-differ nil one add mul inv L a bound p error (omega arith) in
-      let present : Each (λ x. x ≢ nil) xs = locators-nonzero nil one add mul inv L a na error in
-      let least : d ≤ length xs = degree-least nil one add mul inv L (t + t) d f b delta xs (λ x. x) H' few apart present in
+      let apart : AllDiffer xs = locators-differ field L a bound p error (omega arith) in
+      let present : Each (λ x. x ≢ field.zero) xs = locators-nonzero field L a na error in
+      let least : d ≤ length xs = degree-least field L (t + t) d f b delta xs (λ x. x) H' few apart present in
       omega arith

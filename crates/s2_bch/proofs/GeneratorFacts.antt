@@ -2,6 +2,7 @@
 use Rattle.std.specs.Prelude.{ℕ, suc, ◌≡◌, ◌≢◌, ◌⊎◌, ◌+◌, ◌*◌, ◌<◌, ◌≤◌, refl, Bool, true, false, ◌==◌, ◌||◌, List, ◌∷◌, length, drop, if◌then◌else◌}
 use Rattle.std.proofs.Common.{sym, ◌∙◌, ap, subst, arith, inl, inr}
 use Rattle.std.proofs.lemmas.Bool.{eqb-true}
+use Rattle.s2_field.specs.Operations.{Operations}
 use Rattle.s2_field.specs.Gf16 as gf16
 use Rattle.s2_field.specs.Gf14 as gf14
 use Rattle.s2_mode.specs.Mode.{Mode, IsMode, t_of, k_of, kbch_of, rate_of, rate_index, HasCodeSizes}
@@ -44,16 +45,18 @@ t_normal m is e =
 
 -- ---- the generator's shape
 
--- a generator begins with 1, has as many more bits as its degree, and has the first 2t powers of a among its roots
-pub record IsNormalGenerator (t : ℕ) (g : List Bool) : Type 0 where
+-- a generator of so many minimal polynomials begins with 1, has as many more bits as its degree, and has the first 2t powers of
+-- a among its roots
+pub record IsGeneratorIn {F : Type 0} (field : Operations F) (a : F) (degree t : ℕ) (g : List Bool) : Type 0 where
   pub begins : g ≡ true ∷ drop 1 g
-  pub size : length g ≡ suc (16 * t)
-  pub roots : HasRoots gf16.zero gf16.one gf16.sum gf16.product gf16.alpha (t + t) g
+  pub size : length g ≡ suc (degree * t)
+  pub roots : HasRoots field a (t + t) g
 
-pub record IsShortGenerator (t : ℕ) (g : List Bool) : Type 0 where
-  pub begins : g ≡ true ∷ drop 1 g
-  pub size : length g ≡ suc (14 * t)
-  pub roots : HasRoots gf14.zero gf14.one gf14.sum gf14.product gf14.alpha (t + t) g
+abbrev pub IsNormalGenerator : ℕ → List Bool → Type 0
+IsNormalGenerator = IsGeneratorIn gf16.field gf16.alpha 16
+
+abbrev pub IsShortGenerator : ℕ → List Bool → Type 0
+IsShortGenerator = IsGeneratorIn gf14.field gf14.alpha 14
 
 normal-8 : IsNormalGenerator 8 (generator_16 8)
 normal-8 = subst (IsNormalGenerator 8) (sym generator_16_8-is)

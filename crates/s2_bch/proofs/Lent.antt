@@ -7,7 +7,6 @@ use Rattle.s2_bch.specs.Words.{IsWordOf, distance}
 use Rattle.s2_bch.proofs.WordFacts.{take-append}
 use Rattle.s2_bits.specs.Bits.{differences}
 use Rattle.s2_bch.specs.Codes.{IsBchWord, IsWithin}
-use Rattle.s2_bch.proofs.Distances.{differences_distance}
 use Rattle.s2_bch.specs.Generators.{generator_of}
 use Rattle.s2_bch.proofs.GeneratorFacts.{HasGenerator}
 
@@ -41,24 +40,20 @@ pub within_of : (m : Mode) (old lent new : List Bool) (n : ℕ) → lent ≡ old
     → IsBchWord m new × (n ≡ distance lent new) × (n ≤ t_of m)
     → IsWithin m old (refill (length old) old new) × (n ≡ differences (length old) old (refill (length old) old new))
 within_of m old lent new n el e h =
-    let size : length old ≡ length new = omega (arith, ap length el) in
-    let d : differences (length old) old new ≡ distance old new = differences_distance old new size in
     let k : distance lent new ≡ distance old new = ap (λ u. distance u new) el in
     subst (λ u. IsWithin m old u × (n ≡ differences (length old) old u)) (sym (refilled old lent new el e))
-    (record { word = h.0; near = omega (arith, d, k, h.1, h.2) }, h.1 ∙ k ∙ sym d)
+    (record { word = h.0; near = omega (arith, k, h.1, h.2) }, h.1 ∙ k)
 
 pub only_of : (m : Mode) (old lent new : List Bool) → lent ≡ old → length new ≡ length lent → length old ≡ k_of m
     → ((v : List Bool) → IsBchWord m v → distance lent v ≤ t_of m → new ≡ v)
     → (v : List Bool) → IsWithin m old v → v ≡ refill (length old) old new
 only_of m old lent new el e lo h v w =
-    let d : differences (length old) old v ≡ distance old v = differences_distance old v (lo ∙ sym w.word.size) in
     let k : distance lent v ≡ distance old v = ap (λ u. distance u v) el in
-    sym (h v w.word (omega (arith, d, k, w.near))) ∙ sym (refilled old lent new el e)
+    sym (h v w.word (omega (arith, k, w.near))) ∙ sym (refilled old lent new el e)
 
 pub none_of : (m : Mode) (old lent : List Bool) → lent ≡ old → length old ≡ k_of m
     → ((v : List Bool) → IsBchWord m v → t_of m < distance lent v) → (v : List Bool) → IsWithin m old v → ⊥
 none_of m old lent el lo h v w =
-    let d : differences (length old) old v ≡ distance old v = differences_distance old v (lo ∙ sym w.word.size) in
     let k : distance lent v ≡ distance old v = ap (λ u. distance u v) el in
     let far = h v w.word in
-    omega (arith, d, k, w.near, far)
+    omega (arith, k, w.near, far)

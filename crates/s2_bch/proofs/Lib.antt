@@ -19,5 +19,6 @@ mod MinimalFacts
 mod CodeFacts
 mod Lent
 mod RestFacts
+mod NearWords
 mod Distances
 pub mod NearestWords

@@ -1,53 +1,54 @@
 -- The steps of the loops over locators.
 use Rattle.std.specs.Prelude.{ℕ, zero, suc, ◌≡◌, ◌+◌, ◌<◌, ◌≤◌, refl, List, [], ◌∷◌, length, drop}
 use Rattle.std.proofs.Common.{sym, ◌∙◌, ap, ap₂, arith, get_or, add-one, drop-cons}
+use Rattle.s2_field.specs.Operations.{Operations}
 use Rattle.s2_field.specs.Laws.{FieldLaws}
 use Rattle.s2_bch.proofs.LocatorTheory.{dot, plus, scale, shift, dot-same, zero-add as nil-add, mul-zero}
 
-module _ {F : Type 0} (nil one : F) (add mul : F → F → F) (inv : F → F) (L : FieldLaws nil one add mul inv) where
+module _ {F : Type 0} (field : Operations F) (L : FieldLaws field) where
   open L use {add_assoc, add_zero}
 
-  pub get_or-shift-below : (k : ℕ) (f : List F) (i : ℕ) → i < k → get_or (shift nil one add mul inv L k f) i nil ≡ nil
+  pub get_or-shift-below : (k : ℕ) (f : List F) (i : ℕ) → i < k → get_or (shift field L k f) i field.zero ≡ field.zero
   get_or-shift-below zero f i h = absurd (omega arith)
   get_or-shift-below (suc k) f zero h = refl
   get_or-shift-below (suc k) f (suc i) h = get_or-shift-below k f i (omega arith)
 
-  pub get_or-shift-above : (k : ℕ) (f : List F) (i j : ℕ) → i ≡ k + j → get_or (shift nil one add mul inv L k f) i nil ≡ get_or f j nil
-  get_or-shift-above zero f i j h = let e : i ≡ j = omega arith in ap (λ n. get_or f n nil) e
+  pub get_or-shift-above : (k : ℕ) (f : List F) (i j : ℕ) → i ≡ k + j → get_or (shift field L k f) i field.zero ≡ get_or f j field.zero
+  get_or-shift-above zero f i j h = let e : i ≡ j = omega arith in ap (λ n. get_or f n field.zero) e
   get_or-shift-above (suc k) f zero j h = absurd (omega arith)
   get_or-shift-above (suc k) f (suc i) j h = get_or-shift-above k f i j (omega arith)
 
-  pub get_or-past : (f : List F) (j : ℕ) → length f ≤ j → get_or f j nil ≡ nil
+  pub get_or-past : (f : List F) (j : ℕ) → length f ≤ j → get_or f j field.zero ≡ field.zero
   get_or-past [] j h = refl
   get_or-past (c ∷ f) zero h = absurd (omega arith)
   get_or-past (c ∷ f) (suc j) h = get_or-past f j (omega arith)
 
-  pub get_or-scale : (a : F) (f : List F) (i : ℕ) → get_or (scale nil one add mul inv L a f) i nil ≡ mul a (get_or f i nil)
-  get_or-scale a [] i = sym (mul-zero nil one add mul inv L a)
+  pub get_or-scale : (a : F) (f : List F) (i : ℕ) → get_or (scale field L a f) i field.zero ≡ field.product a (get_or f i field.zero)
+  get_or-scale a [] i = sym (mul-zero field L a)
   get_or-scale a (c ∷ f) zero = refl
   get_or-scale a (c ∷ f) (suc i) = get_or-scale a f i
 
-  pub get_or-plus : (f g : List F) (i : ℕ) → get_or (plus nil one add mul inv L f g) i nil ≡ add (get_or f i nil) (get_or g i nil)
-  get_or-plus [] g i = sym (nil-add nil one add mul inv L (get_or g i nil))
-  get_or-plus (c ∷ f) [] i = sym (add_zero (get_or (c ∷ f) i nil))
+  pub get_or-plus : (f g : List F) (i : ℕ) → get_or (plus field L f g) i field.zero ≡ field.sum (get_or f i field.zero) (get_or g i field.zero)
+  get_or-plus [] g i = sym (nil-add field L (get_or g i field.zero))
+  get_or-plus (c ∷ f) [] i = sym (add_zero (get_or (c ∷ f) i field.zero))
   get_or-plus (c ∷ f) (d ∷ g) zero = refl
   get_or-plus (c ∷ f) (d ∷ g) (suc i) = get_or-plus f g i
 
-  pub length-plus : (f g : List F) → length g ≤ length f → length (plus nil one add mul inv L f g) ≡ length f
+  pub length-plus : (f g : List F) → length g ≤ length f → length (plus field L f g) ≡ length f
   length-plus [] [] h = refl
   length-plus [] (d ∷ g) h = absurd (omega arith)
   length-plus (c ∷ f) [] h = refl
   length-plus (c ∷ f) (d ∷ g) h = ap suc (length-plus f g (omega arith))
 
   pub dot-step : (f : List F) (s : ℕ → F) (j : ℕ) (t v : F) → j < length f
-      → add t (dot nil one add mul inv L (drop j f) (λ k. s (j + k))) ≡ v
-      → add (add t (mul (get_or f j nil) (s j))) (dot nil one add mul inv L (drop (j + 1) f) (λ k. s (j + 1 + k))) ≡ v
+      → field.sum t (dot field L (drop j f) (λ k. s (j + k))) ≡ v
+      → field.sum (field.sum t (field.product (get_or f j field.zero) (s j))) (dot field L (drop (j + 1) f) (λ k. s (j + 1 + k))) ≡ v
   dot-step f s j t v h e =
-      add_assoc t (mul (get_or f j nil) (s j)) _
-      ∙ ap (add t)
-      (ap₂ add
-      (let z : j ≡ j + zero = omega arith in ap (λ n. mul (get_or f j nil) (s n)) z)
-      (dot-same nil one add mul inv L (drop (j + 1) f) _ _ (λ k _. let q : j + 1 + k ≡ j + suc k = omega arith in ap s q)
-      ∙ ap (λ n. dot nil one add mul inv L (drop n f) (λ k. s (j + suc k))) (add-one j))
-      ∙ ap (λ g. dot nil one add mul inv L g (λ k. s (j + k))) (sym (drop-cons f j nil h)))
+      add_assoc t (field.product (get_or f j field.zero) (s j)) _
+      ∙ ap (field.sum t)
+      (ap₂ field.sum
+      (let z : j ≡ j + zero = omega arith in ap (λ n. field.product (get_or f j field.zero) (s n)) z)
+      (dot-same field L (drop (j + 1) f) _ _ (λ k _. let q : j + 1 + k ≡ j + suc k = omega arith in ap s q)
+      ∙ ap (λ n. dot field L (drop n f) (λ k. s (j + suc k))) (add-one j))
+      ∙ ap (λ g. dot field L g (λ k. s (j + k))) (sym (drop-cons f j field.zero h)))
       ∙ e

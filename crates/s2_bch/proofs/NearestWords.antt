@@ -14,7 +14,7 @@ use Rattle.s2_bch.specs.Decoding.{all_lists, all_words, nearest}
 use Rattle.s2_bch.proofs.WordFacts.{length-product}
 use Rattle.s2_bch.proofs.GeneratorFacts.{generator_facts}
 use Rattle.s2_bch.proofs.CodeFacts.{words_same}
-use Rattle.s2_bch.proofs.Distances.{differences_distance}
+use Rattle.s2_bch.proofs.Distances.{distance-cons}
 
 -- ---- the first element that passes
 
@@ -103,19 +103,19 @@ bit-triangle false true false = omega arith
 bit-triangle false false true = omega arith
 bit-triangle false false false = omega arith
 
-triangle : (r u v : List Bool) → length u ≡ length r → distance u v ≤ distance r u + distance r v
-triangle r [] v e = omega arith
-triangle [] (b ∷ u) v e = absurd (omega arith)
-triangle (a ∷ r) (b ∷ u) [] e = omega arith
-triangle (a ∷ r) (b ∷ u) (c ∷ v) e = omega (arith, bit-triangle a b c, triangle r u v (omega arith))
+triangle : (r u v : List Bool) → length u ≡ length r → length v ≡ length r → distance u v ≤ distance r u + distance r v
+triangle [] [] v e h = omega arith
+triangle [] (b ∷ u) v e h = absurd (omega arith)
+triangle (a ∷ r) [] v e h = absurd (omega arith)
+triangle (a ∷ r) (b ∷ u) [] e h = absurd (omega arith)
+triangle (a ∷ r) (b ∷ u) (c ∷ v) e h =
+    omega (arith, bit-triangle a b c, triangle r u v (omega arith) (omega arith), distance-cons b c u v, distance-cons a b r u, distance-cons a c r v)
 
 module _ (m : Mode) (is : IsMode m) (sizes : HasCodeSizes m) (r : List Bool) (whole : length r ≡ k_of m) where
   -- at most one word lies within t places
   one_within : (u v : List Bool) → IsWithin m r u → IsWithin m r v → u ≡ v
   one_within u v hu hv =
-      let du = differences_distance r u (whole ∙ sym hu.word.size) in
-      let dv = differences_distance r v (whole ∙ sym hv.word.size) in
-      words_same m is u v hu.word hv.word (omega (arith, triangle r u v (hu.word.size ∙ sym whole), du, dv, hu.near, hv.near))
+      words_same m is u v hu.word hv.word (omega (arith, triangle r u v (hu.word.size ∙ sym whole) (hv.word.size ∙ sym whole), hu.near, hv.near))
 
   near : List Bool → Bool
   near v = nat_le (differences (length r) r v) (t_of m)

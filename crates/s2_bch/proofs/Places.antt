@@ -5,22 +5,23 @@ use Rattle.std.proofs.Math.Nat.{mul-le-mul_left, mod-lt, mod-eq_of_lt, mul-add-m
 use Rattle.std.proofs.lemmas.List.{length-set}
 use Rattle.std.proofs.lemmas.Bool.{cases_lt}
 use Rattle.s2_bits.specs.Bits.{xor, number}
+use Rattle.s2_field.specs.Operations.{Operations}
 use Rattle.s2_field.specs.Polynomials as P
 use Rattle.s2_bch.specs.Flips as flips
 use Rattle.s2_bch.specs.Flips.{bit_from_end}
 use Rattle.s2_bch.specs.Words.{distance}
-use Rattle.s2_bch.proofs.CodeFacts.{distance_self}
+use Rattle.s2_bch.proofs.Distances.{distance-cons, distance_self}
 
 -- of a word of n bits
 pub from_end : (w : List Bool) (n e : ℕ) → length w ≡ n → bit_from_end w e ≡ get_or w (n - 1 - e) false
 from_end w n e size = ap (λ m. get_or w (m - 1 - e) false) size
 
-module _ {F : Type 0} (nil one : F) (add mul : F → F → F) (a : F) (f : List F) where
+module _ {F : Type 0} (field : Operations F) (a : F) (f : List F) where
   -- at the place e, counted from the end, the word is flipped where a^e is a root
   pub record IsRightAt (old now : List Bool) (e : ℕ) : Type 0 where
-    pub root : P.eval nil one add mul f (P.pow nil one add mul a e) ≡ nil
+    pub root : P.eval field f (P.pow field a e) ≡ field.zero
         → get_or now (length old - 1 - e) false ≡ xor true (get_or old (length old - 1 - e) false)
-    pub other : P.eval nil one add mul f (P.pow nil one add mul a e) ≢ nil
+    pub other : P.eval field f (P.pow field a e) ≢ field.zero
         → get_or now (length old - 1 - e) false ≡ get_or old (length old - 1 - e) false
 
   behind_one : (b c : Bool) (w u : List Bool) (e : ℕ) → e < length w → IsRightAt (b ∷ w) (c ∷ u) e → IsRightAt w u e
@@ -32,7 +33,7 @@ module _ {F : Type 0} (nil one : F) (add mul : F → F → F) (a : F) (f : List 
       }
 
   pub flips_everywhere : (old now : List Bool) → length now ≡ length old → ((e : ℕ) → e < length old → IsRightAt old now e)
-      → flips.FlipsRoots nil one add mul a f old now
+      → flips.FlipsRoots field a f old now
   flips_everywhere [] [] size right = tt
   flips_everywhere [] (c ∷ u) size right = absurd (omega arith)
   flips_everywhere (b ∷ w) [] size right = absurd (omega arith)
@@ -55,10 +56,11 @@ pub distance_turned : (o now : List Bool) (p : ℕ) → length o ≡ length now 
     → distance o (set now p (not (get_or now p false))) ≡ distance o now + 1
 distance_turned [] now p size h same = absurd (omega arith)
 distance_turned (x ∷ o) [] p size h same = absurd (omega arith)
-distance_turned (x ∷ o) (y ∷ now) zero size h same = let w = turned-number x y same in omega (arith, w)
+distance_turned (x ∷ o) (y ∷ now) zero size h same =
+    omega (arith, turned-number x y same, distance-cons x (not y) o now, distance-cons x y o now)
 distance_turned (x ∷ o) (y ∷ now) (suc p) size h same =
     let rest : distance o (set now p (not (get_or now p false))) ≡ distance o now + 1 = distance_turned o now p (omega arith) (omega arith) same in
-    omega (arith, rest)
+    omega (arith, rest, distance-cons x y o (set now p (not (get_or now p false))), distance-cons x y o now)
 
 not-xor : (b : Bool) → not b ≡ xor true b
 not-xor true = refl
@@ -147,23 +149,11 @@ module _ {F : Type 0} (nil : F) (values : List F) (stride step : ℕ) (old : Lis
               omega (arith, turned, before);
         }
 
-number-most : (b : Bool) → number b ≤ 1
-number-most true = omega arith
-number-most false = omega arith
-
-pub distance_most : (u v : List Bool) → distance u v ≤ length u
-distance_most [] v = omega arith
-distance_most (b ∷ u) [] = omega arith
-distance_most (b ∷ u) (c ∷ v) =
-    let first = number-most (xor b c) in
-    let rest = distance_most u v in
-    omega (arith, first, rest)
-
-module _ {F : Type 0} (nil one : F) (add mul : F → F → F) (a : F) (f : List F) (stride : ℕ) (old : List Bool) where
+module _ {F : Type 0} (field : Operations F) (a : F) (f : List F) (stride : ℕ) (old : List Bool) where
   -- the lanes' first places are searched, and `count` of them flipped
   pub record AreSearched (steps count : ℕ) (now : List Bool) : Type 0 where
     pub size : length now ≡ length old
-    pub right : (e : ℕ) → e < length old → e % stride < steps → IsRightAt nil one add mul a f old now e
+    pub right : (e : ℕ) → e < length old → e % stride < steps → IsRightAt field a f old now e
     pub left : (e : ℕ) → e < length old → steps ≤ e % stride → get_or now (length old - 1 - e) false ≡ get_or old (length old - 1 - e) false
     pub counted : count ≡ distance old now
 
@@ -176,13 +166,13 @@ module _ {F : Type 0} (nil one : F) (add mul : F → F → F) (a : F) (f : List 
   }
 
   pub search_end : (steps count : ℕ) (now : List Bool) → 0 < stride → stride ≤ steps → AreSearched steps count now
-      → flips.FlipsRoots nil one add mul a f old now
+      → flips.FlipsRoots field a f old now
   search_end steps count now positive all D =
-      flips_everywhere nil one add mul a f old now D.size
+      flips_everywhere field a f old now D.size
       (λ e he. let lt : e % stride < stride = mod-lt e positive in D.right e he (omega (arith, lt, all)))
 
   module _ (step count : ℕ) (now : List Bool) (D : AreSearched step count now) (values : List F)
-      (are : (l : ℕ) → l < 16 → get_or values l nil ≡ P.eval nil one add mul f (P.pow nil one add mul a (stride * l + step)))
+      (are : (l : ℕ) → l < 16 → get_or values l field.zero ≡ P.eval field f (P.pow field a (stride * l + step)))
       (fits : step < stride) (reach : length old < 16 * stride) where
     -- a place of this step: its lane, and the value there
     lane-fits : (e : ℕ) → e < length old → e / stride < 16
@@ -191,12 +181,12 @@ module _ {F : Type 0} (nil one : F) (add mul : F → F → F) (a : F) (f : List 
     again : (e : ℕ) → e % stride ≡ step → stride * (e / stride) + step ≡ e
     again e here = let m = mod-add-div e stride in omega (arith, m, here)
 
-    value : (e : ℕ) → e < length old → e % stride ≡ step → get_or values (e / stride) nil ≡ P.eval nil one add mul f (P.pow nil one add mul a e)
+    value : (e : ℕ) → e < length old → e % stride ≡ step → get_or values (e / stride) field.zero ≡ P.eval field f (P.pow field a e)
     value e he here =
-        are (e / stride) (lane-fits e he) ∙ ap (λ n. P.eval nil one add mul f (P.pow nil one add mul a n)) (again e here)
+        are (e / stride) (lane-fits e he) ∙ ap (λ n. P.eval field f (P.pow field a n)) (again e here)
 
     -- a step without a root
-    pub step_kept : ((l : ℕ) → l < 16 → get_or values l nil ≢ nil) → AreSearched (step + 1) count now
+    pub step_kept : ((l : ℕ) → l < 16 → get_or values l field.zero ≢ field.zero) → AreSearched (step + 1) count now
     step_kept none = record {
       size = D.size;
       right = λ e he lt.
@@ -215,9 +205,9 @@ module _ {F : Type 0} (nil one : F) (add mul : F → F → F) (a : F) (f : List 
 
     -- a step that flips the lanes' roots
     pub step_turned : (next : List Bool) (more : ℕ) → length next ≡ length now
-        → ((l : ℕ) → l < 16 → stride * l + step < length now → get_or values l nil ≡ nil
+        → ((l : ℕ) → l < 16 → stride * l + step < length now → get_or values l field.zero ≡ field.zero
         → bit_from_end next (stride * l + step) ≡ xor true (bit_from_end now (stride * l + step)))
-        → ((l : ℕ) → l < 16 → stride * l + step < length now → get_or values l nil ≢ nil
+        → ((l : ℕ) → l < 16 → stride * l + step < length now → get_or values l field.zero ≢ field.zero
         → bit_from_end next (stride * l + step) ≡ bit_from_end now (stride * l + step))
         → ((e : ℕ) → e < length now → e % stride ≢ step → bit_from_end next e ≡ bit_from_end now e)
         → distance old next ≡ distance old now + more
@@ -254,7 +244,7 @@ module _ {F : Type 0} (nil one : F) (add mul : F → F → F) (a : F) (f : List 
         other_place : (e : ℕ) → e < length old → e % stride ≢ step → get_or next (length old - 1 - e) false ≡ get_or now (length old - 1 - e) false
         other_place e he ne = next_bit e ∙ others e (omega (arith, size, he)) ne ∙ now_bit e
 
-        turned : (e : ℕ) → e < length old → e % stride ≡ step → get_or values (e / stride) nil ≡ nil
+        turned : (e : ℕ) → e < length old → e % stride ≡ step → get_or values (e / stride) field.zero ≡ field.zero
             → get_or next (length old - 1 - e) false ≡ xor true (get_or now (length old - 1 - e) false)
         turned e he here z =
             let at = again e here in
@@ -262,7 +252,7 @@ module _ {F : Type 0} (nil one : F) (add mul : F → F → F) (a : F) (f : List 
             ∙ subst (λ i. bit_from_end next i ≡ xor true (bit_from_end now i)) at (hit (e / stride) (lane-fits e he) (omega (arith, at, size, he)) z)
             ∙ ap (xor true) (now_bit e)
 
-        same : (e : ℕ) → e < length old → e % stride ≡ step → get_or values (e / stride) nil ≢ nil
+        same : (e : ℕ) → e < length old → e % stride ≡ step → get_or values (e / stride) field.zero ≢ field.zero
             → get_or next (length old - 1 - e) false ≡ get_or now (length old - 1 - e) false
         same e he here n =
             let at = again e here in

@@ -4,6 +4,7 @@ use Rattle.std.proofs.Common.{sym, ◌∙◌, ap, ap₂, subst, arith, inl, inr,
 use Rattle.std.proofs.lemmas.List.{take-append-drop}
 use Rattle.std.proofs.lemmas.Bool.{cases_lt}
 use lib.Pow.{pow_pos}
+use Rattle.s2_field.specs.Operations.{Operations}
 use Rattle.s2_field.specs.Laws.{FieldLaws}
 use Rattle.s2_bits.specs.Bits.{xor, added}
 use Rattle.s2_bch.specs.Words.{IsMultiple, distance}
@@ -79,14 +80,14 @@ module _ (t : List Bool) (k : ℕ) (w : List Bool) (size : length w ≡ k + leng
       drop-front [] v = refl
       drop-front (b ∷ u) v = drop-front u v
 
-  module _ {F : Type 0} (nil one : F) (add mul : F → F → F) (inv : F → F) (L : FieldLaws nil one add mul inv) where
-    value-zeros : (n : ℕ) (v : List Bool) (x : F) → value nil one add mul inv L (replicate n false ++ v) x ≡ value nil one add mul inv L v x
+  module _ {F : Type 0} (field : Operations F) (L : FieldLaws field) where
+    value-zeros : (n : ℕ) (v : List Bool) (x : F) → value field L (replicate n false ++ v) x ≡ value field L v x
     value-zeros zero v x = refl
-    value-zeros (suc n) v x = nil-add nil one add mul inv L _ ∙ value-zeros n v x
+    value-zeros (suc n) v x = nil-add field L _ ∙ value-zeros n v x
 
     -- the rest has the word's values at the generator's roots
-    rest-value : (x : F) → value nil one add mul inv L (true ∷ t) x ≡ nil
-        → value nil one add mul inv L (rest_of t k w) x ≡ value nil one add mul inv L w x
+    rest-value : (x : F) → value field L (true ∷ t) x ≡ field.zero
+        → value field L (rest_of t k w) x ≡ value field L w x
     rest-value x root =
         let u : List Bool = take k w ++ divided t (take k w) in
         let lu : length u ≡ length w = omega (arith, (encoded-is-word t (take k w)).size, length-front) in
@@ -94,18 +95,18 @@ module _ (t : List Bool) (k : ℕ) (w : List Bool) (size : length w ≡ k + leng
         let joined : added u w ≡ replicate (length (take k w)) false ++ rest_of t k w =
         ap (added u) (sym (take-append-drop k w)) ∙ sum-front (take k w) (divided t (take k w)) (drop k w) in
         sym (value-zeros (length (take k w)) (rest_of t k w) x)
-        ∙ sym (ap (λ v. value nil one add mul inv L v x) joined)
-        ∙ value-sum nil one add mul inv L u w x lu
-        ∙ ap (λ v. add v (value nil one add mul inv L w x))
-        (multiple-root nil one add mul inv L (true ∷ t) u x some (encoded-is-word t (take k w)).multiple root)
-        ∙ nil-add nil one add mul inv L _
+        ∙ sym (ap (λ v. value field L v x) joined)
+        ∙ value-sum field L u w x lu
+        ∙ ap (λ v. field.sum v (value field L w x))
+        (multiple-root field L (true ∷ t) u x some (encoded-is-word t (take k w)).multiple root)
+        ∙ nil-add field L _
 
-    pub rest_values : (a : F) (r : ℕ) → HasRoots nil one add mul a r (true ∷ t) → HaveSameValues nil one add mul a r (rest_of t k w) w
+    pub rest_values : (a : F) (r : ℕ) → HasRoots field a r (true ∷ t) → HaveSameValues field a r (rest_of t k w) w
     rest_values a r roots = record { same = λ j hj. rest-value _ (roots.root j hj) }
 
-    pub values_of_rest : (a : F) (r : ℕ) (rest : List Bool) → rest ≡ rest_of t k w → HasRoots nil one add mul a r (true ∷ t)
-        → HaveSameValues nil one add mul a r rest w
-    values_of_rest a r rest e roots = subst (λ v. HaveSameValues nil one add mul a r v w) (sym e) (rest_values a r roots)
+    pub values_of_rest : (a : F) (r : ℕ) (rest : List Bool) → rest ≡ rest_of t k w → HasRoots field a r (true ∷ t)
+        → HaveSameValues field a r rest w
+    values_of_rest a r rest e roots = subst (λ v. HaveSameValues field a r v w) (sym e) (rest_values a r roots)
 
 -- the only candidate is no multiple
 pub none_left : (limit k : ℕ) (t r w v : List Bool) (s : Register) → length w ≡ k + length t → Holds s (rest_of t k w) → (value_of s ≡ 0 → ⊥)

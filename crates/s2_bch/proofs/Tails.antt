@@ -1,6 +1,8 @@
 -- The generators of all modes, multiplied out.
 use Rattle.std.specs.Prelude.{ℕ, zero, suc, ◌≡◌, refl, Bool, true, false, ◌==◌, ◌&&◌, List, [], ◌∷◌, bit_xor}
 use Rattle.s2_field.specs.Binary.{times}
+use Rattle.s2_field.specs.Inverse.{inverse}
+use Rattle.s2_field.specs.Operations.{Operations}
 use Rattle.s2_bch.proofs.Horner.{horner_of}
 use Rattle.s2_bch.specs.Generators.{generator_16, generator_14}
 
@@ -33,10 +35,14 @@ pub generator_14_12-is : generator_14 12 ≡ true ∷ tail_14_12
 unfolding generator_14
 generator_14_12-is = refl
 
+-- the field's operations on the numbers of its elements
+abbrev pub numbers : ℕ → ℕ → Operations ℕ
+numbers m low = record { zero = 0; one = 1; sum = bit_xor; product = times m low; inverse = inverse m low }
+
 -- the n powers of 2 from x on are roots of g
 abbrev pub has_roots : ℕ → ℕ → List Bool → ℕ → ℕ → Bool
 has_roots m low g zero x = true
-has_roots m low g (suc n) x = (horner_of 0 1 bit_xor (times m low) 0 g x == 0) && has_roots m low g n (times m low 2 x)
+has_roots m low g (suc n) x = (horner_of (numbers m low) 0 g x == 0) && has_roots m low g n (times m low 2 x)
 
 pub roots_16_8 : has_roots 16 45 (true ∷ tail_16_8) 16 2 ≡ true
 unfolding times

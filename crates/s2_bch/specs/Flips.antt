@@ -1,5 +1,6 @@
 -- A word flipped at the places whose powers of a are roots of f.
 use Rattle.std.specs.Prelude.{ℕ, ◌≡◌, ◌≢◌, ◌-◌, Bool, true, false, List, [], ◌∷◌, length, slice_index_or, ⊤}
+use Rattle.s2_field.specs.Operations.{Operations}
 use Rattle.s2_field.specs.Polynomials.{pow, eval}
 use Rattle.s2_bits.specs.Bits.{xor}
 
@@ -7,12 +8,12 @@ use Rattle.s2_bits.specs.Bits.{xor}
 abbrev pub bit_from_end : List Bool → ℕ → Bool
 bit_from_end w e = slice_index_or w (length w - 1 - e) false
 
-module _ {F : Type 0} (nil one : F) (add mul : F → F → F) where
+module _ {F : Type 0} (field : Operations F) where
   abbrev pub FlipsRoots : F → List F → List Bool → List Bool → Type 0
   FlipsRoots a f [] [] = ⊤
   FlipsRoots a f [] (c ∷ u) = ⊥
   FlipsRoots a f (b ∷ w) [] = ⊥
   FlipsRoots a f (b ∷ w) (c ∷ u) =
-      (eval nil one add mul f (pow nil one add mul a (length w)) ≡ nil → c ≡ xor true b)
-      × (eval nil one add mul f (pow nil one add mul a (length w)) ≢ nil → c ≡ b)
+      (eval field f (pow field a (length w)) ≡ field.zero → c ≡ xor true b)
+      × (eval field f (pow field a (length w)) ≢ field.zero → c ≡ b)
       × FlipsRoots a f w u

@@ -1,28 +1,29 @@
 -- Minimal polynomials, and the generator as their product (EN 302 307-1, 5.3.1).
 use Rattle.std.specs.Prelude.{ℕ, zero, suc, ◌≡◌, ◌≢◌, ◌+◌, ◌*◌, ◌<◌, Bool, true, false, List, [], ◌∷◌, length, reverse}
 use Rattle.std.proofs.Common.{get_or}
+use Rattle.s2_field.specs.Operations.{Operations}
 use Rattle.s2_field.specs.Polynomials.{pow}
 use Rattle.s2_bch.specs.Sequences.{plus, scale}
 use Rattle.s2_bch.specs.Generators.{product_of_all}
 
-module _ {F : Type 0} (nil one : F) (add mul : F → F → F) where
+module _ {F : Type 0} (field : Operations F) where
   -- bits as elements of the field
   abbrev pub elements : List Bool → List F
   elements [] = []
-  elements (true ∷ w) = one ∷ elements w
-  elements (false ∷ w) = nil ∷ elements w
+  elements (true ∷ w) = field.one ∷ elements w
+  elements (false ∷ w) = field.zero ∷ elements w
 
   -- b^(2^i)
   abbrev pub conjugate : ℕ → F → F
   conjugate zero b = b
-  conjugate (suc i) b = conjugate i (mul b b)
+  conjugate (suc i) b = conjugate i (field.product b b)
 
   -- the product of x + b^(2^i) for i < k, the constant first
   abbrev pub conjugate_product : ℕ → F → List F
-  conjugate_product zero b = one ∷ []
+  conjugate_product zero b = field.one ∷ []
   conjugate_product (suc k) b =
-      let p = conjugate_product k (mul b b) in
-      plus nil one add mul (nil ∷ p) (scale nil one add mul b p)
+      let p = conjugate_product k (field.product b b) in
+      plus field (field.zero ∷ p) (scale field b p)
 
   -- f, the highest power first, is the minimal polynomial of b: the product of x + b^(2^i) for i < m, and none of these
   -- elements but the first is b
@@ -34,5 +35,5 @@ module _ {F : Type 0} (nil one : F) (add mul : F → F → F) where
   pub record IsProductOfMinimals (m t : ℕ) (a : F) (g : List Bool) : Type 0 where
     pub factors : List (List Bool)
     pub count : length factors ≡ t
-    pub each : (j : ℕ) → j < t → IsMinimal m (pow nil one add mul a (1 + 2 * j)) (get_or factors j [])
+    pub each : (j : ℕ) → j < t → IsMinimal m (pow field a (1 + 2 * j)) (get_or factors j [])
     pub product : product_of_all factors ≡ g

@@ -1,9 +1,10 @@
 -- The terms of a polynomial at sixteen elements of the field, a lane each.
 use Rattle.std.specs.Prelude.{ℕ, ◌≡◌, ◌+◌, ◌*◌, ◌<◌, List, length, slice_index_or}
+use Rattle.s2_field.specs.Operations.{Operations}
 use Rattle.s2_field.specs.Polynomials.{pow}
 
-module _ {F : Type 0} (nil one : F) (add mul : F → F → F) where
+module _ {F : Type 0} (field : Operations F) where
   -- row j has coefficient j times the jth power of each lane's element
   pub record AreTerms (f : List F) (x : ℕ → F) (terms : List F) : Type 0 where
     pub each : (j l : ℕ) → j < length f → l < 16
-        → slice_index_or terms (16 * j + l) nil ≡ mul (slice_index_or f j nil) (pow nil one add mul (x l) j)
+        → slice_index_or terms (16 * j + l) field.zero ≡ field.product (slice_index_or f j field.zero) (pow field (x l) j)

@@ -1,6 +1,6 @@
 -- Words of bits as polynomials, the first bit the highest power: products, multiples, and division by a register.
 use Rattle.std.specs.Prelude.{ℕ, ◌≡◌, ◌+◌, ◌-◌, Bool, false, ◌&&◌, List, [], ◌∷◌, ◌++◌, length, take, replicate}
-use Rattle.s2_bits.specs.Bits.{xor, added, number}
+use Rattle.s2_bits.specs.Bits.{xor, added, differences}
 
 -- b times the word
 abbrev pub times_bit : Bool → List Bool → List Bool
@@ -9,9 +9,7 @@ times_bit b (c ∷ g) = (b && c) ∷ times_bit b g
 
 -- how many places differ
 abbrev pub distance : List Bool → List Bool → ℕ
-distance [] v = 0
-distance (a ∷ u) [] = 0
-distance (a ∷ u) (b ∷ v) = number (xor a b) + distance u v
+distance u v = differences (length u) u v
 
 -- the product of q and g, of length q + length g - 1 bits
 abbrev pub product : List Bool → List Bool → List Bool

@@ -55,11 +55,11 @@ impl<F: Field> FieldWorkspace<F> {
     pub(crate) fn flip_near(&mut self, rest: &[bool], word: &mut [bool]) -> usize
         requires short { length word.old < F.ORDER }
         requires few { length word.old < 65536 }
-        requires rest { HaveSameValues F.zero F.one F.sum F.product F.alpha (self.old + self.old) rest.now word.old }
+        requires rest { HaveSameValues F.field F.alpha (self.old + self.old) rest.now word.old }
         ensures same { self.new ≡ self.old }
         ensures size { length word.new ≡ length word.old }
         ensures count { result ≡ distance word.old word.new }
-        ensures only { (g v : List Bool) → 0 < length g → HasRoots F.zero F.one F.sum F.product F.alpha (self.old + self.old) g
+        ensures only { (g v : List Bool) → 0 < length g → HasRoots F.field F.alpha (self.old + self.old) g
             → IsMultiple g v → length v ≡ length word.old → distance word.old v ≤ self.old → word.new ≡ v }
     {
         put_syndromes(rest, &mut self.syndromes);
@@ -85,7 +85,7 @@ impl<F: Field> FieldWorkspace<F> {
 #[inline(always)]
 fn times_alpha<F: Field>(value: F, power: u32) -> F
     requires { power ≤ 30 }
-    ensures { result ≡ F.product value (pow F.zero F.one F.sum F.product F.alpha power) }
+    ensures { result ≡ F.field.product value (pow F.field F.alpha power) }
 {
     let first = power / 2;
     value.times_power(first).times_power(power - first)
@@ -94,7 +94,7 @@ fn times_alpha<F: Field>(value: F, power: u32) -> F
 /// The word's value at a power of alpha.
 fn evaluate_word<F: Field>(word: &[bool], power: u32) -> F
     requires { power ≤ 30 }
-    ensures { result ≡ value_at F.zero F.one F.sum F.product word.now (pow F.zero F.one F.sum F.product F.alpha power) }
+    ensures { result ≡ value_at F.field word.now (pow F.field F.alpha power) }
 {
     let mut value = F::zero();
     for bit in word {
@@ -109,8 +109,8 @@ fn evaluate_word<F: Field>(word: &[bool], power: u32) -> F
 /// The word's values at alpha, alpha^2 and so on.
 fn put_syndromes<F: Field>(word: &[bool], syndromes: &mut [F])
     requires { length syndromes.old ≤ 30 }
-    ensures { (j : ℕ) → j < length syndromes.old → slice_index_or syndromes.new j F.zero
-        ≡ value_at F.zero F.one F.sum F.product word.now (pow F.zero F.one F.sum F.product F.alpha (suc j)) }
+    ensures { (j : ℕ) → j < length syndromes.old → slice_index_or syndromes.new j F.field.zero
+        ≡ value_at F.field word.now (pow F.field F.alpha (suc j)) }
 {
     for j in 0..syndromes.len() {
         syndromes[j] = evaluate_word(word, j as u32 + 1);

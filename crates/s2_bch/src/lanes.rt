@@ -11,8 +11,8 @@ pub(crate) const LANES: usize = 16;
 /// A row of terms: the coefficient times 1, the ratio, its square and so on.
 fn put_row<F: Field>(coefficient: F, ratio: F, terms: &mut [F], at: usize)
     requires { at + 16 ≤ length terms.old }
-    ensures row { (l : ℕ) → l < 16 → slice_index_or terms.new (at + l) F.zero ≡ F.product coefficient (pow F.zero F.one F.sum F.product ratio l) }
-    ensures before { (k : ℕ) → k < at → slice_index_or terms.new k F.zero ≡ slice_index_or terms.old k F.zero }
+    ensures row { (l : ℕ) → l < 16 → slice_index_or terms.new (at + l) F.field.zero ≡ F.field.product coefficient (pow F.field ratio l) }
+    ensures before { (k : ℕ) → k < at → slice_index_or terms.new k F.field.zero ≡ slice_index_or terms.old k F.field.zero }
 {
     let mut term = coefficient;
     for lane in 0..LANES {
@@ -24,7 +24,7 @@ fn put_row<F: Field>(coefficient: F, ratio: F, terms: &mut [F], at: usize)
 /// The polynomial's terms at 1, x, x^2 and so on, a lane each: a row for each coefficient.
 pub(crate) fn put_terms<F: Field>(polynomial: &[F], x: F, terms: &mut [F])
     requires { 16 * length polynomial.now ≤ length terms.old }
-    ensures { AreTerms F.zero F.one F.sum F.product polynomial.now (λ l. pow F.zero F.one F.sum F.product x l) terms.new }
+    ensures { AreTerms F.field polynomial.now (λ l. pow F.field x l) terms.new }
 {
     let mut ratio = F::one();
     for j in 0..polynomial.len() {
@@ -40,10 +40,10 @@ fn move_row<F: Field>(terms: &mut [F], at: usize, power: u32, values: &mut [F])
     requires row { at + 16 ≤ length terms.old }
     requires lanes { length values.old ≡ 16 }
     requires power { power ≤ 15 }
-    ensures values { (l : ℕ) → l < 16 → slice_index_or values.new l F.zero ≡ F.sum (slice_index_or values.old l F.zero) (slice_index_or terms.old (at + l) F.zero) }
-    ensures moved { (l : ℕ) → l < 16 → slice_index_or terms.new (at + l) F.zero ≡ F.product (pow F.zero F.one F.sum F.product F.alpha power) (slice_index_or terms.old (at + l) F.zero) }
-    ensures before { (k : ℕ) → k < at → slice_index_or terms.new k F.zero ≡ slice_index_or terms.old k F.zero }
-    ensures behind { (k : ℕ) → at + 16 ≤ k → slice_index_or terms.new k F.zero ≡ slice_index_or terms.old k F.zero }
+    ensures values { (l : ℕ) → l < 16 → slice_index_or values.new l F.field.zero ≡ F.field.sum (slice_index_or values.old l F.field.zero) (slice_index_or terms.old (at + l) F.field.zero) }
+    ensures moved { (l : ℕ) → l < 16 → slice_index_or terms.new (at + l) F.field.zero ≡ F.field.product (pow F.field F.alpha power) (slice_index_or terms.old (at + l) F.field.zero) }
+    ensures before { (k : ℕ) → k < at → slice_index_or terms.new k F.field.zero ≡ slice_index_or terms.old k F.field.zero }
+    ensures behind { (k : ℕ) → at + 16 ≤ k → slice_index_or terms.new k F.field.zero ≡ slice_index_or terms.old k F.field.zero }
 {
     for lane in 0..LANES {
         let term = terms[at + lane];
@@ -56,7 +56,7 @@ fn move_row<F: Field>(terms: &mut [F], at: usize, power: u32, values: &mut [F])
 #[inline(always)]
 fn clear<F: Field>(values: &mut [F])
     requires { length values.old ≡ 16 }
-    ensures { (l : ℕ) → l < 16 → slice_index_or values.new l F.zero ≡ F.zero }
+    ensures { (l : ℕ) → l < 16 → slice_index_or values.new l F.field.zero ≡ F.field.zero }
 {
     for lane in 0..LANES {
         values[lane] = F::zero();
@@ -70,10 +70,10 @@ pub(crate) fn advance<F: Field>(terms: &mut [F], count: usize, values: &mut [F])
     requires few { count ≤ 16 }
     requires room { 16 * count ≤ length terms.old }
     requires lanes { length values.old ≡ 16 }
-    ensures values { (f : List F) (x : ℕ → F) → length f ≡ count → AreTerms F.zero F.one F.sum F.product f x terms.old
-        → (l : ℕ) → l < 16 → slice_index_or values.new l F.zero ≡ eval F.zero F.one F.sum F.product f (x l) }
-    ensures terms { (f : List F) (x : ℕ → F) → length f ≡ count → AreTerms F.zero F.one F.sum F.product f x terms.old
-        → AreTerms F.zero F.one F.sum F.product f (λ l. F.product F.alpha (x l)) terms.new }
+    ensures values { (f : List F) (x : ℕ → F) → length f ≡ count → AreTerms F.field f x terms.old
+        → (l : ℕ) → l < 16 → slice_index_or values.new l F.field.zero ≡ eval F.field f (x l) }
+    ensures terms { (f : List F) (x : ℕ → F) → length f ≡ count → AreTerms F.field f x terms.old
+        → AreTerms F.field f (λ l. F.field.product F.alpha (x l)) terms.new }
 {
     clear(values);
     for j in 0..count {
@@ -85,7 +85,7 @@ pub(crate) fn advance<F: Field>(terms: &mut [F], count: usize, values: &mut [F])
 #[inline(always)]
 pub(crate) fn has_zero<F: Field>(values: &[F]) -> bool
     requires { length values.now ≡ 16 }
-    ensures { result ≡ false → (l : ℕ) → l < 16 → slice_index_or values.now l F.zero ≢ F.zero }
+    ensures { result ≡ false → (l : ℕ) → l < 16 → slice_index_or values.now l F.field.zero ≢ F.field.zero }
 {
     let mut found = false;
     for lane in 0..LANES {

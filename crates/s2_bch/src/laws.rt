@@ -17,9 +17,9 @@ use s2_mode::Mode;
 /// (EN 302 307-1, 5.3.1).
 pub fn generators(mode: Mode)
     ensures normal { mode.short ≡ false
-        → IsProductOfMinimals gf16.zero gf16.one gf16.sum gf16.product 16 (t_of mode) gf16.alpha (generator_of mode) }
+        → IsProductOfMinimals gf16.field 16 (t_of mode) gf16.alpha (generator_of mode) }
     ensures short { mode.short ≡ true
-        → IsProductOfMinimals gf14.zero gf14.one gf14.sum gf14.product 14 (t_of mode) gf14.alpha (generator_of mode) }
+        → IsProductOfMinimals gf14.field 14 (t_of mode) gf14.alpha (generator_of mode) }
 {
     let _ = mode.t();
 }
@@ -34,9 +34,9 @@ pub fn unique(mode: Mode)
 /// A multiple of the generator, so every word of the code, has a, a^2, .., a^(2t) among its roots.
 pub fn roots(mode: Mode)
     ensures normal { mode.short ≡ false → (w : List Bool) → IsMultiple (generator_of mode) w
-        → HasRoots gf16.zero gf16.one gf16.sum gf16.product gf16.alpha (t_of mode + t_of mode) w }
+        → HasRoots gf16.field gf16.alpha (t_of mode + t_of mode) w }
     ensures short { mode.short ≡ true → (w : List Bool) → IsMultiple (generator_of mode) w
-        → HasRoots gf14.zero gf14.one gf14.sum gf14.product gf14.alpha (t_of mode + t_of mode) w }
+        → HasRoots gf14.field gf14.alpha (t_of mode + t_of mode) w }
 {
     let _ = mode.t();
 }

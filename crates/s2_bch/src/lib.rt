@@ -28,4 +28,6 @@ mod search;
 pub use bch::Bch;
 
 #[cfg(test)]
+mod memory_tests;
+#[cfg(test)]
 mod tests;

@@ -7,7 +7,7 @@ use s2_field::Field;
 /// The sum of locator[j] * sequence[at + j].
 fn discrepancy<F: Field>(locator: &[F], sequence: &[F], at: usize) -> F
     requires { at + length locator.now ≤ length sequence.now }
-    ensures { result ≡ discrepancies F.zero F.one F.sum F.product locator.now (sequence_of F.zero sequence.now) at }
+    ensures { result ≡ discrepancies F.field locator.now (sequence_of F.field.zero sequence.now) at }
 {
     let mut total = F::zero();
     for j in 0..locator.len() {
@@ -18,7 +18,7 @@ fn discrepancy<F: Field>(locator: &[F], sequence: &[F], at: usize) -> F
 
 /// The coefficient at i of x^by times the polynomial.
 fn shifted<F: Field>(polynomial: &[F], by: usize, i: usize) -> F
-    ensures { result ≡ slice_index_or (shift F.zero F.one F.sum F.product by polynomial.now) i F.zero }
+    ensures { result ≡ slice_index_or (shift F.field by polynomial.now) i F.field.zero }
 {
     if i < by {
         return F::zero();
@@ -43,9 +43,9 @@ fn combine<F: Field>(
 )
     requires locator_fits { locator_shift + length locator.now ≡ length out.old }
     requires auxiliary_fits { auxiliary_shift + length auxiliary.now ≤ length out.old }
-    ensures { out.new ≡ plus F.zero F.one F.sum F.product
-        (shift F.zero F.one F.sum F.product locator_shift locator.now)
-        (scale F.zero F.one F.sum F.product factor (shift F.zero F.one F.sum F.product auxiliary_shift auxiliary.now)) }
+    ensures { out.new ≡ plus F.field
+        (shift F.field locator_shift locator.now)
+        (scale F.field factor (shift F.field auxiliary_shift auxiliary.now)) }
 {
     for i in 0..out.len() {
         let term = shifted(auxiliary, auxiliary_shift, i);
@@ -66,9 +66,9 @@ fn renew<F: Field>(
     requires same_size { length next.old ≡ length locator.old }
     requires locator_fits { degree + 1 ≤ length locator.old }
     requires auxiliary_fits { auxiliary_shift + length auxiliary.now ≤ degree + 1 }
-    ensures { take (degree + 1) locator.new ≡ plus F.zero F.one F.sum F.product
-        (shift F.zero F.one F.sum F.product 0 (take (degree + 1) locator.old))
-        (scale F.zero F.one F.sum F.product factor (shift F.zero F.one F.sum F.product auxiliary_shift auxiliary.now)) }
+    ensures { take (degree + 1) locator.new ≡ plus F.field
+        (shift F.field 0 (take (degree + 1) locator.old))
+        (scale F.field factor (shift F.field auxiliary_shift auxiliary.now)) }
 {
     let size = degree + 1;
     combine(
@@ -95,8 +95,8 @@ pub fn shortest_locator<F: Field>(
     requires auxiliary_room { length auxiliary.old ≡ length sequence.now + 1 }
     requires next_room { length next.old ≡ length sequence.now + 1 }
     ensures { (b : List F) × (delta : F)
-        × Shortest F.zero F.one F.sum F.product (length sequence.now) result (take (result + 1) locator.new) b delta
-        (sequence_of F.zero sequence.now) }
+        × Shortest F.field (length sequence.now) result (take (result + 1) locator.new) b delta
+        (sequence_of F.field.zero sequence.now) }
 {
     locator[0] = F::one();
     let mut degree = 0;
@@ -145,9 +145,9 @@ fn grow<F: Field>(
     requires auxiliary_room { length auxiliary.old ≡ length locator.old }
     requires locator_fits { locator_shift + degree + 1 ≤ length locator.old }
     requires auxiliary_fits { auxiliary_size ≤ locator_shift + degree + 1 }
-    ensures locator { take (locator_shift + degree + 1) locator.new ≡ plus F.zero F.one F.sum F.product
-        (shift F.zero F.one F.sum F.product locator_shift (take (degree + 1) locator.old))
-        (scale F.zero F.one F.sum F.product factor (shift F.zero F.one F.sum F.product 0 (take auxiliary_size auxiliary.old))) }
+    ensures locator { take (locator_shift + degree + 1) locator.new ≡ plus F.field
+        (shift F.field locator_shift (take (degree + 1) locator.old))
+        (scale F.field factor (shift F.field 0 (take auxiliary_size auxiliary.old))) }
     ensures auxiliary { take (degree + 1) auxiliary.new ≡ take (degree + 1) locator.old }
 {
     let size = locator_shift + degree + 1;

@@ -13,9 +13,9 @@ fn flip_lanes<F: Field>(values: &[F], stride: usize, step: usize, word: &mut [bo
     requires lanes { length values.now ≡ 16 }
     requires step { step < stride }
     requires reach { 16 * stride ≤ length word.old + 16 }
-    ensures hit { (l : ℕ) → l < 16 → stride * l + step < length word.old → slice_index_or values.now l F.zero ≡ F.zero
+    ensures hit { (l : ℕ) → l < 16 → stride * l + step < length word.old → slice_index_or values.now l F.field.zero ≡ F.field.zero
         → bit_from_end word.new (stride * l + step) ≡ xor true (bit_from_end word.old (stride * l + step)) }
-    ensures miss { (l : ℕ) → l < 16 → stride * l + step < length word.old → slice_index_or values.now l F.zero ≢ F.zero
+    ensures miss { (l : ℕ) → l < 16 → stride * l + step < length word.old → slice_index_or values.now l F.field.zero ≢ F.field.zero
         → bit_from_end word.new (stride * l + step) ≡ bit_from_end word.old (stride * l + step) }
     ensures others { (e : ℕ) → e < length word.old → e % stride ≢ step → bit_from_end word.new e ≡ bit_from_end word.old e }
     ensures count { (o : List Bool) → length o ≡ length word.old
@@ -47,7 +47,7 @@ pub(crate) fn flip_roots<F: Field>(
     requires room { length terms.old ≡ 256 }
     requires lanes { length values.old ≡ 16 }
     requires short { length word.old < 65536 }
-    ensures flips { FlipsRoots F.zero F.one F.sum F.product F.alpha locator.now word.old word.new }
+    ensures flips { FlipsRoots F.field F.alpha locator.now word.old word.new }
     ensures count { result ≡ distance word.old word.new }
 {
     let stride = word.len() / LANES + 1;

@@ -22,4 +22,6 @@ pub use bits::Bits;
 pub use turns::add_turned;
 
 #[cfg(test)]
+mod memory_tests;
+#[cfg(test)]
 mod tests;

@@ -1,14 +1,14 @@
 -- The list of the shares of a split.
-use Rattle.std.proofs.Common.{◌≡◌, ℕ, zero, suc, ◌+◌, ◌-◌, ◌<◌, ◌≤◌, Bool, true, false, not, cond, List, [], ◌∷◌, ◌++◌, length, map, get_or, length-append, append-nil, ℤ, pos, neg_ℤ, FitsSigned, All, inl, inr, refl, sym, ap, ap₂, ◌∙◌, arith, eqb, ◌==◌}
-use Rattle.std.specs.List.{range_with_len, position_or_len}
+use Rattle.std.proofs.Common.{◌≡◌, ℕ, zero, suc, ◌+◌, ◌-◌, ◌<◌, Bool, true, false, cond, List, [], ◌∷◌, ◌++◌, length, map, get_or, length-append, append-nil, ℤ, pos, neg_ℤ, FitsSigned, All, inl, inr, refl, sym, ap, ◌∙◌, arith, ◌==◌}
+use Rattle.std.specs.List.{position_or_len}
 use Rattle.std.specs.Int.{w32}
 use Rattle.std.proofs.lemmas.Bool.{cases_lt, eqb-true}
-use Rattle.std.proofs.lemmas.List.{length-map, get_or-map, get_or_append_left, get_or-append_right, get_or_default}
+use Rattle.std.proofs.lemmas.List.{length-map, get_or-map, get_or_append_left, get_or-append_right}
 use Rattle.std.proofs.lemmas.List.Sums.{passes_at_first}
-use Rattle.s2_matrix.specs.Total.{upto, total}
-use Rattle.s2_matrix.specs.Code.{Code, members, checks_of, first_edge, edge_of}
+use Rattle.s2_matrix.specs.Total.{upto}
+use Rattle.s2_matrix.specs.Code.{Code, members, first_edge}
 use Rattle.s2_matrix.proofs.Totals.{upto_more}
-use Rattle.s2_matrix.proofs.Members.{first_edge_more, first_edge-le, place_in_members, place_of, members_rising}
+use Rattle.s2_matrix.proofs.Members.{first_edge_more, first_edge-le, place_in_members}
 use Rattle.s2_check.specs.Split.{Split, split_of}
 use Rattle.s2_check.specs.Moves.{listed, all_shares, moves}
 use Rattle.s2_bits.specs.Bits.{bit_at}

@@ -40,4 +40,6 @@ pub use step::Move;
 pub use view::CertView;
 
 #[cfg(test)]
+mod memory_tests;
+#[cfg(test)]
 mod tests;

@@ -6,6 +6,7 @@ use lib.Bits.{xor_assoc, xor_self, xor_zero_r}
 use lib.Pow.{pow_pos}
 use Rattle.s2_field.specs.Binary.{times, times-one, times_comm, times-act, times-xor}
 use Rattle.s2_field.specs.Inverse.{squared, choose, agree_at_powers, inverse, one-below, times-below, inverse-below, inverse-times}
+use Rattle.s2_field.specs.Operations.{Operations}
 use Rattle.s2_field.specs.Laws.{FieldLaws}
 
 one-ne-zero : (n : ℕ) → n ≡ 1 → n ≡ 0 → ⊥
@@ -15,20 +16,14 @@ module _ (m low : ℕ) (positive : 0 < m) (low_fits : low < 2 ^ m)
     {F : Type 0} (number : F → ℕ) (below : (x : F) → number x < 2 ^ m) (make : (n : ℕ) → n < 2 ^ m → F)
     (number-make : (n : ℕ) (h : n < 2 ^ m) → number (make n h) ≡ n)
     (same : (x y : F) → number x ≡ number y → x ≡ y) where
-  abbrev pub zero_of : F
-  zero_of = make 0 (pow_pos m)
-
-  abbrev pub one_of : F
-  one_of = make 1 (one-below m low positive low_fits)
-
-  abbrev pub sum_of : F → F → F
-  sum_of x y = make (bit_xor (number x) (number y)) (xor_lt m (number x) (number y) (below x) (below y))
-
-  abbrev pub product_of : F → F → F
-  product_of x y = make (times m low (number x) (number y)) (times-below m low positive low_fits (number x) (number y) (below y))
-
-  abbrev pub inverse_of : F → F
-  inverse_of x = make (inverse m low (number x)) (inverse-below m low positive low_fits (number x) (below x))
+  abbrev pub field_of : Operations F
+  field_of = record {
+    zero = make 0 (pow_pos m);
+    one = make 1 (one-below m low positive low_fits);
+    sum = λ x y. make (bit_xor (number x) (number y)) (xor_lt m (number x) (number y) (below x) (below y));
+    product = λ x y. make (times m low (number x) (number y)) (times-below m low positive low_fits (number x) (number y) (below y));
+    inverse = λ x. make (inverse m low (number x)) (inverse-below m low positive low_fits (number x) (below x));
+  }
 
   -- two values made of equal numbers
   made : (a b : ℕ) (ha : a < 2 ^ m) (hb : b < 2 ^ m) → a ≡ b → make a ha ≡ make b hb
@@ -37,7 +32,7 @@ module _ (m low : ℕ) (positive : 0 < m) (low_fits : low < 2 ^ m)
   pub laws_of : (cs : List ℕ)
       → agree_at_powers m (squared m low m) (λ a. a) ≡ true
       → agree_at_powers m (λ a. choose cs (bit_xor (times m low a a) a)) (λ a. bit_xor a (a % 2)) ≡ true
-      → FieldLaws zero_of one_of sum_of product_of inverse_of
+      → FieldLaws field_of
   laws_of cs frobenius kernel = record {
     add_comm = λ a b. made _ _ _ _ (xor_comm (number a) (number b));
     add_assoc = λ a b c. made _ _ _ _

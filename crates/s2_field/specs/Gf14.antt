@@ -3,9 +3,10 @@ use Rattle.std.specs.Prelude.{ℕ, ◌≡◌, ◌<◌, ◌^◌, refl, List, [], 
 use Rattle.std.proofs.Common.{arith}
 use Rattle.std.specs.Coded.{le_prop}
 use mathlib.Core.HLevel.{is_prop→PathP}
+use Rattle.s2_field.specs.Operations.{Operations}
 use Rattle.s2_field.specs.declared.gf14.Gf14.{Gf14}
 use Rattle.s2_field.specs.Laws.{FieldLaws, IsNumbered}
-use Rattle.s2_field.specs.Elements.{zero_of, one_of, sum_of, product_of, inverse_of, laws_of}
+use Rattle.s2_field.specs.Elements.{field_of, laws_of}
 use Rattle.s2_field.specs.Facts.{half_list_14, frobenius_14, kernel_14, walk_14, last_14}
 use Rattle.s2_field.specs.Binary.{times}
 use Rattle.s2_field.specs.Order.{iterate, order_of, power_product}
@@ -29,22 +30,10 @@ fourteen = omega arith
 pub low_fits : 43 < 2 ^ 14
 low_fits = omega arith
 
-abbrev pub zero : Gf14
-zero = zero_of 14 43 fourteen low_fits number below make (λ n h. refl) same
+abbrev pub field : Operations Gf14
+field = field_of 14 43 fourteen low_fits number below make (λ n h. refl) same
 
-abbrev pub one : Gf14
-one = one_of 14 43 fourteen low_fits number below make (λ n h. refl) same
-
-abbrev pub sum : Gf14 → Gf14 → Gf14
-sum = sum_of 14 43 fourteen low_fits number below make (λ n h. refl) same
-
-abbrev pub product : Gf14 → Gf14 → Gf14
-product = product_of 14 43 fourteen low_fits number below make (λ n h. refl) same
-
-abbrev pub inverse : Gf14 → Gf14
-inverse = inverse_of 14 43 fourteen low_fits number below make (λ n h. refl) same
-
-pub laws : FieldLaws zero one sum product inverse
+pub laws : FieldLaws field
 laws = laws_of 14 43 fourteen low_fits number below make (λ n h. refl) same half_list_14 frobenius_14 kernel_14
 
 pub two_fits : 2 < 2 ^ 14
@@ -54,14 +43,14 @@ two_fits = omega arith
 abbrev pub alpha : Gf14
 alpha = make 2 two_fits
 
-pub order : HasOrder zero one sum product alpha 16383
+pub order : HasOrder field alpha 16383
 order = order_of 14 43 fourteen low_fits number below make (λ n h. refl) same two_fits refl 16382 walk_14 last_14
 
 -- what i steps make of x is the product with a^i
-pub raised : (i : ℕ) (x y : Gf14) → number y ≡ iterate 14 43 i (number x) → y ≡ product (pow zero one sum product alpha i) x
+pub raised : (i : ℕ) (x y : Gf14) → number y ≡ iterate 14 43 i (number x) → y ≡ field.product (pow field alpha i) x
 raised = power_product 14 43 fourteen low_fits number below make (λ n h. refl) same two_fits refl
 
-pub numbered : IsNumbered zero number 16383
+pub numbered : IsNumbered field.zero number 16383
 numbered = record {
   at_zero = refl;
   most = λ a. let h = below a in omega arith;
@@ -72,8 +61,8 @@ numbered = record {
 
 -- the polynomial of the field, the constant first
 abbrev pub polynomial : List Gf14
-polynomial = one ∷ one ∷ zero ∷ one ∷ zero ∷ one ∷ zero ∷ zero ∷ zero ∷ zero ∷ zero ∷ zero ∷ zero ∷ zero ∷ one ∷ []
+polynomial = field.one ∷ field.one ∷ field.zero ∷ field.one ∷ field.zero ∷ field.one ∷ field.zero ∷ field.zero ∷ field.zero ∷ field.zero ∷ field.zero ∷ field.zero ∷ field.zero ∷ field.zero ∷ field.one ∷ []
 
-pub root : eval zero one sum product polynomial alpha ≡ zero
+pub root : eval field polynomial alpha ≡ field.zero
 unfolding times
 root = same _ _ refl

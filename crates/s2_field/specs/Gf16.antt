@@ -3,9 +3,10 @@ use Rattle.std.specs.Prelude.{ℕ, ◌≡◌, ◌<◌, ◌^◌, refl, List, [], 
 use Rattle.std.proofs.Common.{arith}
 use Rattle.std.specs.Coded.{le_prop}
 use mathlib.Core.HLevel.{is_prop→PathP}
+use Rattle.s2_field.specs.Operations.{Operations}
 use Rattle.s2_field.specs.declared.gf16.Gf16.{Gf16}
 use Rattle.s2_field.specs.Laws.{FieldLaws, IsNumbered}
-use Rattle.s2_field.specs.Elements.{zero_of, one_of, sum_of, product_of, inverse_of, laws_of}
+use Rattle.s2_field.specs.Elements.{field_of, laws_of}
 use Rattle.s2_field.specs.Facts.{half_list_16, frobenius_16, kernel_16, walk_16, last_16}
 use Rattle.s2_field.specs.Binary.{times}
 use Rattle.s2_field.specs.Order.{iterate, order_of, power_product}
@@ -29,22 +30,10 @@ sixteen = omega arith
 pub low_fits : 45 < 2 ^ 16
 low_fits = omega arith
 
-abbrev pub zero : Gf16
-zero = zero_of 16 45 sixteen low_fits number below make (λ n h. refl) same
+abbrev pub field : Operations Gf16
+field = field_of 16 45 sixteen low_fits number below make (λ n h. refl) same
 
-abbrev pub one : Gf16
-one = one_of 16 45 sixteen low_fits number below make (λ n h. refl) same
-
-abbrev pub sum : Gf16 → Gf16 → Gf16
-sum = sum_of 16 45 sixteen low_fits number below make (λ n h. refl) same
-
-abbrev pub product : Gf16 → Gf16 → Gf16
-product = product_of 16 45 sixteen low_fits number below make (λ n h. refl) same
-
-abbrev pub inverse : Gf16 → Gf16
-inverse = inverse_of 16 45 sixteen low_fits number below make (λ n h. refl) same
-
-pub laws : FieldLaws zero one sum product inverse
+pub laws : FieldLaws field
 laws = laws_of 16 45 sixteen low_fits number below make (λ n h. refl) same half_list_16 frobenius_16 kernel_16
 
 pub two_fits : 2 < 2 ^ 16
@@ -54,14 +43,14 @@ two_fits = omega arith
 abbrev pub alpha : Gf16
 alpha = make 2 two_fits
 
-pub order : HasOrder zero one sum product alpha 65535
+pub order : HasOrder field alpha 65535
 order = order_of 16 45 sixteen low_fits number below make (λ n h. refl) same two_fits refl 65534 walk_16 last_16
 
 -- what i steps make of x is the product with a^i
-pub raised : (i : ℕ) (x y : Gf16) → number y ≡ iterate 16 45 i (number x) → y ≡ product (pow zero one sum product alpha i) x
+pub raised : (i : ℕ) (x y : Gf16) → number y ≡ iterate 16 45 i (number x) → y ≡ field.product (pow field alpha i) x
 raised = power_product 16 45 sixteen low_fits number below make (λ n h. refl) same two_fits refl
 
-pub numbered : IsNumbered zero number 65535
+pub numbered : IsNumbered field.zero number 65535
 numbered = record {
   at_zero = refl;
   most = λ a. let h = below a in omega arith;
@@ -72,8 +61,8 @@ numbered = record {
 
 -- the polynomial of the field, the constant first
 abbrev pub polynomial : List Gf16
-polynomial = one ∷ zero ∷ one ∷ one ∷ zero ∷ one ∷ zero ∷ zero ∷ zero ∷ zero ∷ zero ∷ zero ∷ zero ∷ zero ∷ zero ∷ zero ∷ one ∷ []
+polynomial = field.one ∷ field.zero ∷ field.one ∷ field.one ∷ field.zero ∷ field.one ∷ field.zero ∷ field.zero ∷ field.zero ∷ field.zero ∷ field.zero ∷ field.zero ∷ field.zero ∷ field.zero ∷ field.zero ∷ field.zero ∷ field.one ∷ []
 
-pub root : eval zero one sum product polynomial alpha ≡ zero
+pub root : eval field polynomial alpha ≡ field.zero
 unfolding times
 root = same _ _ refl

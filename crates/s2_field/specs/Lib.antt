@@ -1,3 +1,4 @@
+pub mod Operations
 pub mod Laws
 pub mod Polynomials
 pub mod Binary

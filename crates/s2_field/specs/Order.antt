@@ -5,7 +5,8 @@ use Rattle.std.proofs.lemmas.Bool.{and_parts, eq-eqb}
 use Rattle.s2_field.specs.Binary.{times_x, times, act-times_x, times-one, times_comm, times-act}
 use Rattle.s2_field.specs.Inverse.{one-below, times-below}
 use Rattle.s2_field.specs.Polynomials.{pow, HasOrder}
-use Rattle.s2_field.specs.Elements.{zero_of, one_of, sum_of, product_of}
+use Rattle.s2_field.specs.Operations.{Operations}
+use Rattle.s2_field.specs.Elements.{field_of}
 
 -- the n values from v on, each `x` times the one before, are none of them 1
 abbrev pub avoids_one : ℕ → ℕ → ℕ → ℕ → Bool
@@ -34,15 +35,11 @@ module _ (m low : ℕ) (positive : 0 < m) (low_fits : low < 2 ^ m)
     (number-make : (n : ℕ) (h : n < 2 ^ m) → number (make n h) ≡ n)
     (same : (x y : F) → number x ≡ number y → x ≡ y)
     (two_fits : 2 < 2 ^ m) (doubled : times_x m low 1 ≡ 2) where
-  abbrev one : F
-  one = one_of m low positive low_fits number below make number-make same
+  abbrev field : Operations F
+  field = field_of m low positive low_fits number below make number-make same
 
   abbrev power : ℕ → F
-  power i =
-      pow (zero_of m low positive low_fits number below make number-make same)
-      (one_of m low positive low_fits number below make number-make same)
-      (sum_of m low positive low_fits number below make number-make same)
-      (product_of m low positive low_fits number below make number-make same) (make 2 two_fits) i
+  power i = pow field (make 2 two_fits) i
 
   pub times-two : (v : ℕ) → v < 2 ^ m → times m low 2 v ≡ times_x m low v
   unfolding times
@@ -52,7 +49,7 @@ module _ (m low : ℕ) (positive : 0 < m) (low_fits : low < 2 ^ m)
 
   number-power : (i : ℕ) → number (power (suc i)) ≡ iterate m low i 2
   number-power zero =
-      number-make _ _ ∙ ap (λ x. times m low x (number one)) (number-make 2 two_fits)
+      number-make _ _ ∙ ap (λ x. times m low x (number field.one)) (number-make 2 two_fits)
       ∙ ap (times m low 2) (number-make _ _)
       ∙ times-one m low positive 2 two_fits
   number-power (suc i) =
@@ -62,16 +59,13 @@ module _ (m low : ℕ) (positive : 0 < m) (low_fits : low < 2 ^ m)
       ∙ sym (iterate-last m low i 2)
 
   pub order_of : (n : ℕ) → avoids_one m low n 2 ≡ true → iterate m low n 2 ≡ 1
-      → HasOrder (zero_of m low positive low_fits number below make number-make same)
-      (one_of m low positive low_fits number below make number-make same)
-      (sum_of m low positive low_fits number below make number-make same)
-      (product_of m low positive low_fits number below make number-make same) (make 2 two_fits) (suc n)
+      → HasOrder field (make 2 two_fits) (suc n)
   order_of n walk last = record {
     power = same _ _ (number-power n ∙ last ∙ sym (number-make _ _));
     least = λ i h0 hi e. not-before i h0 hi e;
   }
     where
-      not-before : (i : ℕ) → 0 < i → i < suc n → power i ≡ one → ⊥
+      not-before : (i : ℕ) → 0 < i → i < suc n → power i ≡ field.one → ⊥
       not-before zero h0 hi e = absurd (omega arith)
       not-before (suc i) h0 hi e = avoided m low n 2 i walk (omega arith) (sym (number-power i) ∙ ap number e ∙ number-make _ _)
 
@@ -88,5 +82,5 @@ module _ (m low : ℕ) (positive : 0 < m) (low_fits : low < 2 ^ m)
 
   -- the product with a power of `x`, as a number
   pub power_product : (i : ℕ) (x y : F) → number y ≡ iterate m low i (number x)
-      → y ≡ product_of m low positive low_fits number below make number-make same (power i) x
+      → y ≡ field.product (power i) x
   power_product i x y e = same _ _ (e ∙ sym (power-times i (number x) (below x)) ∙ sym (number-make _ _))

@@ -1,20 +1,13 @@
 //! Fields, whatever their elements.
 ghost use Rattle.std.specs.Prelude.{◌≡◌, ◌≢◌, ◌↔◌, ◌<◌, ◌≤◌, ℕ, IsTrue};
+ghost use Rattle.s2_field.specs.Operations.{Operations};
 ghost use Rattle.s2_field.specs.Laws.{FieldLaws, IsNumbered};
 ghost use Rattle.s2_field.specs.Polynomials.{pow, HasOrder};
 
 /// A finite field in which each element is its own negative, with an element whose powers are all
 /// the others but zero.
 pub trait Field: Copy + Drop {
-    ghost zero: { Self };
-
-    ghost one: { Self };
-
-    ghost sum: { Self → Self → Self };
-
-    ghost product: { Self → Self → Self };
-
-    ghost inverse: { Self → Self };
+    ghost field: { Operations Self };
 
     ghost alpha: { Self };
 
@@ -27,11 +20,11 @@ pub trait Field: Copy + Drop {
 
     /// The neutral element of addition.
     fn zero() -> Self
-        ensures { result ≡ zero };
+        ensures { result ≡ field.zero };
 
     /// The neutral element of multiplication.
     fn one() -> Self
-        ensures { result ≡ one };
+        ensures { result ≡ field.one };
 
     /// The root of the field's polynomial of which all elements but zero are powers.
     fn alpha() -> Self
@@ -39,40 +32,40 @@ pub trait Field: Copy + Drop {
 
     /// Whether this is zero.
     fn is_zero(self) -> bool
-        ensures { IsTrue result ↔ (self ≡ zero) };
+        ensures { IsTrue result ↔ (self ≡ field.zero) };
 
     /// The sum, which is the difference too.
     fn add(self, other: Self) -> Self
-        ensures { result ≡ sum self other };
+        ensures { result ≡ field.sum self other };
 
     /// The product.
     fn mul(self, other: Self) -> Self
-        ensures { result ≡ product self other };
+        ensures { result ≡ field.product self other };
 
     /// The product with a power of `alpha`, the fifteenth at most.
     fn times_power(self, exponent: u32) -> Self
         requires { exponent ≤ 15 }
-        ensures { result ≡ product (pow zero one sum product alpha exponent) self };
+        ensures { result ≡ field.product (pow field alpha exponent) self };
 
     /// The inverse of an element that is not zero.
     fn inv(self) -> Self
-        requires { self ≢ zero }
-        ensures { result ≡ inverse self };
+        requires { self ≢ field.zero }
+        ensures { result ≡ field.inverse self };
 
     /// The number from 0 to `ORDER` that stands for the element.
     fn number(self) -> usize
         ensures { result ≡ number self };
 
-    ghost laws: { FieldLaws zero one sum product inverse };
+    ghost laws: { FieldLaws field };
 
-    ghost order: { HasOrder zero one sum product alpha ORDER };
+    ghost order: { HasOrder field alpha ORDER };
 
-    ghost numbered: { IsNumbered zero number ORDER };
+    ghost numbered: { IsNumbered field.zero number ORDER };
 }
 
 /// The element multiplied by itself: x^exponent, and 1 for exponent 0.
 pub fn pow<F: Field>(x: F, exponent: u32) -> F
-    ensures { result ≡ pow F.zero F.one F.sum F.product x exponent }
+    ensures { result ≡ pow F.field x exponent }
 {
     let mut power = F::one();
     let mut square = x;

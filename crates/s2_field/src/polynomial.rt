@@ -6,7 +6,7 @@ use crate::Field;
 
 /// The polynomial's value at x.
 pub fn eval<F: Field>(polynomial: &[F], x: F) -> F
-    ensures { result ≡ eval F.zero F.one F.sum F.product polynomial.now x }
+    ensures { result ≡ eval F.field polynomial.now x }
 {
     let mut value = F::zero();
     let mut i = polynomial.len();
@@ -19,8 +19,8 @@ pub fn eval<F: Field>(polynomial: &[F], x: F) -> F
 
 /// The polynomial's degree. `None` where all coefficients are zero.
 pub fn degree<F: Field>(polynomial: &[F]) -> Option<usize>
-    ensures some { IfSome result (λ d. IsDegree F.zero d polynomial.now) }
-    ensures none { IfNone result (IsZeroFrom F.zero 0 polynomial.now) }
+    ensures some { IfSome result (λ d. IsDegree F.field.zero d polynomial.now) }
+    ensures none { IfNone result (IsZeroFrom F.field.zero 0 polynomial.now) }
 {
     let mut i = polynomial.len();
     while i > 0 {

@@ -36,4 +36,6 @@ pub use views::{GroupEntry, LayerEntry};
 #[cfg(test)]
 mod agreement;
 #[cfg(test)]
+mod memory_tests;
+#[cfg(test)]
 mod tests;

@@ -2,7 +2,8 @@
 use crate::{GroupEntry, LayerEntry, Matrix, laws};
 use s2_bits::Bits;
 use s2_mode::Shape;
-use s2_rows::read_rows;
+use s2_rows::{RowFault, read_rows};
+use std::alloc::Global;
 use std::process::Abort;
 use std::test::Fail;
 
@@ -46,6 +47,32 @@ fn builds_the_checks_of_a_small_code(rt: HostRuntime) -> Result<(), Fail> {
         for at in 0..matrix.degree(j) {
             assert_eq!(rt; Some(matrix.members(j, at) as u32), check.get(at).copied());
         }
+    }
+    Ok(())
+}
+
+/// How many edges the matrix of a row file has.
+fn edges(alloc: Global, text: &[u8], shape: Shape) -> Result<usize, RowFault> {
+    let rows = read_rows(alloc, text, shape)?;
+    match Matrix::build(alloc, &rows) {
+        Ok(matrix) => Ok(matrix.edges()),
+        Err(_) => Err(RowFault::NoMemory),
+    }
+}
+
+/// A cut file lacks a row, or its last row has fewer addresses.
+#[test]
+fn builds_what_is_left_of_a_cut_row_file(rt: HostRuntime) -> Result<(), Fail> {
+    let shape = Shape::new(4, 2, 3).ok_or("no shape")?;
+    let text = b"0 4 8\n0 1 2\n";
+    for len in 0..=text.len() {
+        let want = match len {
+            0..=6 => Err(RowFault::TooFewRows),
+            7 | 8 => Ok(39),
+            9 | 10 => Ok(43),
+            _ => Ok(47),
+        };
+        assert_eq!(rt; edges(rt.alloc(), &text[..len], shape), want, "{len}");
     }
     Ok(())
 }

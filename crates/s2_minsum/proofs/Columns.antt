@@ -1,20 +1,19 @@
 -- The bits that a lane of a layer's entries shows are the members of its check.
-use Rattle.std.proofs.Common.{◌≡◌, ◌≢◌, ℕ, zero, suc, ◌+◌, ◌-◌, ◌*◌, ◌<◌, ◌≤◌, ◌==◌, ◌&&◌, ◌%◌, Bool, true, false, cond, not, min, eqb, List, [], ◌∷◌, length, get_or, map, filter, fold, count_by, sum_by, All, ℤ, pos, int_lt, unsigned_abs, refl, ap, sym, subst, ◌∙◌, inl, inr, arith, eq-eqb, ne_eqb}
+use Rattle.std.proofs.Common.{◌≡◌, ◌≢◌, ℕ, suc, ◌+◌, ◌-◌, ◌*◌, ◌<◌, ◌≤◌, ◌==◌, ◌&&◌, ◌%◌, Bool, true, false, cond, not, min, eqb, List, [], ◌∷◌, length, get_or, map, filter, fold, count_by, All, ℤ, pos, int_lt, unsigned_abs, refl, ap, sym, ◌∙◌, inl, inr, arith, eq-eqb, ne_eqb}
 use Rattle.std.specs.List.{AllPairs, list_any, position_or_len}
-use Rattle.std.proofs.lemmas.Bool.{cases_Bool, cases_lt, cases_eq, eqb-true, and_parts}
-use Rattle.std.proofs.lemmas.List.{get_or-map, length-map, get_or_default}
-use Rattle.std.proofs.lemmas.List.Elements.{All-filter, filter_passes, All-nil, All-cons, All-head, All-tail}
-use Rattle.std.proofs.lemmas.List.FromFn.{length-range_with_len, get_or-range_with_len}
+use Rattle.std.proofs.lemmas.Bool.{cases_Bool, cases_eq, eqb-true, and_parts}
+use Rattle.std.proofs.lemmas.List.{get_or-map, length-map}
+use Rattle.std.proofs.lemmas.List.Elements.{All-filter, filter_passes}
 use Rattle.std.proofs.lemmas.List.Folds.{list_any_at}
 use Rattle.std.proofs.lemmas.List.Sums.{sum_by-cons}
 use Rattle.std.proofs.lemmas.List.Kept.{AllPairs-filter}
-use Rattle.s2_mode.specs.Shape.{Shape, IsShape, code_bits}
+use Rattle.s2_mode.specs.Shape.{IsShape, code_bits}
 use Rattle.s2_matrix.specs.Code.{is_member}
 use Rattle.s2_rows.specs.Rows.{Rows}
 use Rattle.s2_matrix.specs.Total.{upto}
 use Rattle.s2_matrix.specs.Code.{Code, code_of, members}
 use Rattle.s2_matrix.proofs.Members.{members_rising, members_below, place_in_members, place_of_upto}
-use Rattle.s2_minsum.specs.Plain.{size_cap, State, input, others, least_size, reduced, with_sign, made}
+use Rattle.s2_minsum.specs.Plain.{size_cap, State, input, others, reduced, with_sign, made}
 use Rattle.s2_minsum.specs.Nodes.{sent}
 use Rattle.s2_minsum.specs.Words.{is_lacking}
 use Rattle.s2_minsum.specs.Layout.{row_of_bit, lane_of_bit, last_check, forth, back, entry_of, lacked_row}

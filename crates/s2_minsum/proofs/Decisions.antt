@@ -1,5 +1,5 @@
 -- A hard decision, bit by bit.
-use Rattle.std.proofs.Common.{◌≡◌, ℕ, ◌<◌, false, map, length, get_or, pos, int_lt, ap, ◌∙◌, arith}
+use Rattle.std.proofs.Common.{◌≡◌, ℕ, ◌<◌, false, length, get_or, pos, int_lt, ap, ◌∙◌, arith}
 use Rattle.std.proofs.lemmas.List.{get_or-map, length-map}
 use Rattle.std.proofs.lemmas.List.FromFn.{length-range_with_len, get_or-range_with_len}
 use Rattle.s2_matrix.specs.Total.{upto}

@@ -1,12 +1,10 @@
 -- The check and the member of an edge by its number.
-use Rattle.std.proofs.Common.{◌≡◌, ℕ, zero, ◌+◌, ◌-◌, ◌<◌, ◌≤◌, ◌==◌, true, length, get_or, ℤ, refl, ap, sym, subst, ◌∙◌, inl, inr, arith}
+use Rattle.std.proofs.Common.{◌≡◌, ℕ, ◌+◌, ◌-◌, ◌<◌, ◌≤◌, ◌==◌, true, length, get_or, ℤ, refl, ap, sym, ◌∙◌, inl, inr, arith}
 use Rattle.std.specs.List.{position_or_len}
 use Rattle.std.proofs.lemmas.Bool.{cases_lt}
-use Rattle.s2_rows.specs.Rows.{Rows}
-use Rattle.s2_matrix.specs.Code.{Code, code_of, members, first_edge, edge_of}
+use Rattle.s2_matrix.specs.Code.{Code, members, first_edge, edge_of}
 use Rattle.s2_matrix.proofs.Members.{first_edge_more, first_edge-le, place_in_members}
 use Rattle.s2_minsum.specs.Plain.{State, is_edge}
-use Rattle.s2_minsum.specs.Decoding.{Decoding, decoded}
 use Rattle.s2_minsum.proofs.Columns.{found}
 use Rattle.s2_minsum.proofs.StepStates.{edge_parts}
 

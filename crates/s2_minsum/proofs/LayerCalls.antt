@@ -1,5 +1,5 @@
 -- A layer over the parts of a decoder's lists.
-use Rattle.std.proofs.Common.{◌≡◌, ◌≢◌, ℕ, zero, suc, ◌+◌, ◌-◌, ◌*◌, ◌/◌, ◌%◌, ◌<◌, ◌≤◌, All, List, length, get_or, take, drop, ℤ, refl, ap, sym, subst, ◌∙◌, inl, inr, arith}
+use Rattle.std.proofs.Common.{◌≡◌, ◌≢◌, ℕ, suc, ◌+◌, ◌-◌, ◌*◌, ◌<◌, ◌≤◌, List, length, get_or, take, drop, ℤ, ap, sym, subst, ◌∙◌, inl, inr, arith}
 use Rattle.std.proofs.Math.Nat.{mul-le-mul_right}
 use Rattle.std.proofs.lemmas.Bool.{cases_lt}
 use Rattle.std.proofs.lemmas.List.{get_or-take, get_or-drop, length-take-le, length-drop, get_or_default, get_or_past}
@@ -12,11 +12,10 @@ use Rattle.s2_matrix.specs.Code.{code_of, members}
 use Rattle.s2_minsum.specs.declared.rows.Entry.{Entry}
 use Rattle.s2_minsum.specs.Plain.{layer as after_layer}
 use Rattle.s2_minsum.specs.Nodes.{first_of, second_of, signs_of}
-use Rattle.s2_minsum.specs.Words.{signed16, cell, no_entry, entry_at, AreIn, size16, sent16, received, change_of, changed}
+use Rattle.s2_minsum.specs.Words.{cell, no_entry, entry_at, AreIn, size16, sent16, received, change_of, changed}
 use Rattle.s2_minsum.specs.Layout.{row_of_bit, last_check, entry_of, entry_count, first_row, kept_of, state_of, lacked_row}
 use Rattle.s2_minsum.specs.Decoding.{AreLayers, AreNumbers, AreMessages}
 use Rattle.s2_minsum.proofs.Parts.{row_before, put_mid_below, put_mid_at, put_mid_above, length-put_mid}
-use Rattle.s2_minsum.proofs.RowLemmas.{length-part, part_at, row_room}
 use Rattle.s2_minsum.proofs.FirstRows.{first_row_before}
 use Rattle.s2_minsum.proofs.LayerIs.{ys_small, state_is, numbers}
 

@@ -1,18 +1,18 @@
 -- What a layer does to the rows is what the layer does to the state.
-use Rattle.std.proofs.Common.{◌≡◌, ◌≢◌, ℕ, zero, suc, ◌+◌, ◌-◌, ◌*◌, ◌/◌, ◌%◌, ◌<◌, ◌≤◌, ◌==◌, ◌&&◌, nat_lt, Bool, true, false, cond, All, List, length, get_or, ℤ, pos, ◌+ℤ◌, ◌-ℤ◌, eqb, unsigned_abs, refl, ap, sym, ◌∙◌, inl, inr, arith, eq-eqb, ne_eqb, lt-ltb, le-ltb}
+use Rattle.std.proofs.Common.{◌≡◌, ◌≢◌, ℕ, zero, suc, ◌+◌, ◌-◌, ◌*◌, ◌/◌, ◌%◌, ◌<◌, ◌≤◌, ◌==◌, ◌&&◌, nat_lt, Bool, true, false, cond, List, length, get_or, ℤ, pos, ◌+ℤ◌, ◌-ℤ◌, eqb, unsigned_abs, refl, ap, sym, ◌∙◌, inl, inr, arith, eq-eqb, ne_eqb, lt-ltb, le-ltb}
 use Rattle.std.specs.List.{position_or_len}
 use Rattle.std.proofs.lemmas.Bool.{cases_Bool, cases_lt, cases_eq}
 use Rattle.std.proofs.lemmas.List.{get_or_past, get_or_default}
 use Rattle.std.proofs.lemmas.Nat.{div-add-mod', mod-mul-add, div-mul-add}
 use Rattle.std.proofs.lemmas.Int.{ints}
 use Rattle.std.proofs.Math.Nat.{mul-le-mul_right}
-use Rattle.s2_mode.specs.Shape.{Shape, IsShape, code_bits, check_count}
+use Rattle.s2_mode.specs.Shape.{code_bits}
 use Rattle.s2_rows.specs.Rows.{Rows}
-use Rattle.s2_matrix.specs.Code.{Code, code_of, members, checks_of, is_member}
+use Rattle.s2_matrix.specs.Code.{code_of, members, is_member}
 use Rattle.s2_matrix.proofs.Members.{members_rising, place_of}
 use Rattle.s2_matrix.proofs.Joins.{div_below}
 use Rattle.s2_minsum.specs.declared.rows.Entry.{Entry}
-use Rattle.s2_minsum.specs.Plain.{size_cap, most_soft, most_message, most_posterior, State, is_edge, input, posterior, others, made, layer as after_layer}
+use Rattle.s2_minsum.specs.Plain.{size_cap, most_soft, most_message, most_posterior, is_edge, input, posterior, others, made, layer as after_layer}
 use Rattle.s2_minsum.specs.Nodes.{first_of, second_of, signs_of, sent}
 use Rattle.s2_minsum.specs.Words.{signed16, cell, entry_at, plus16, minus16, size16, sent16, turned, turned_back, is_lacking, received, change_of, changed}
 use Rattle.s2_minsum.specs.Layout.{row_of_bit, lane_of_bit, bit_of, last_check, forth, back, entry_of, entry_count, first_row, place_at, message_of, state_of, kept_of, lacked_row}

@@ -1,10 +1,10 @@
 -- Posteriors: their bound, and how one changed message changes one of them.
-use Rattle.std.proofs.Common.{◌≡◌, ◌≢◌, ℕ, zero, suc, ◌+◌, ◌*◌, ◌<◌, ◌≤◌, Bool, true, false, cond, List, [], ◌∷◌, length, get_or, filter, ℤ, pos, ◌+ℤ◌, ◌-ℤ◌, unsigned_abs, refl, ap, sym, ◌∙◌, inl, inr, arith}
+use Rattle.std.proofs.Common.{◌≡◌, ◌≢◌, ℕ, zero, suc, ◌+◌, ◌*◌, ◌<◌, ◌≤◌, Bool, true, cond, List, [], ◌∷◌, length, get_or, filter, ℤ, pos, ◌+ℤ◌, ◌-ℤ◌, unsigned_abs, refl, ap, inl, inr, arith}
 use Rattle.std.specs.List.{range_with_len}
 use Rattle.std.proofs.lemmas.Bool.{cases_eq}
 use Rattle.std.proofs.lemmas.Int.{ints}
 use Rattle.s2_matrix.specs.Total.{total, upto}
-use Rattle.s2_matrix.specs.Code.{Code, members, checks_of}
+use Rattle.s2_matrix.specs.Code.{Code, checks_of}
 use Rattle.s2_matrix.proofs.Totals.{total-filter}
 use Rattle.s2_minsum.specs.Plain.{most_soft, most_message, most_posterior, State, posterior}
 

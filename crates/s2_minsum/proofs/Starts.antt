@@ -1,7 +1,7 @@
 -- The state of soft values with all messages 0, and how many rows there are.
-use Rattle.std.proofs.Common.{◌≡◌, ℕ, zero, suc, ◌+◌, ◌-◌, ◌*◌, ◌/◌, ◌%◌, ◌<◌, ◌≤◌, Bool, true, false, cond, map, int_lt, List, ◌++◌, take, drop, replicate, length, get_or, ℤ, pos, ◌+ℤ◌, refl, ap, sym, ◌∙◌, inl, inr, arith}
+use Rattle.std.proofs.Common.{◌≡◌, ℕ, zero, suc, ◌+◌, ◌*◌, ◌/◌, ◌%◌, ◌<◌, ◌≤◌, Bool, true, false, cond, map, int_lt, List, ◌++◌, take, drop, replicate, length, get_or, ℤ, pos, refl, ap, sym, ◌∙◌, inl, inr, arith}
 use Rattle.std.proofs.Math.Nat.{mul-le-mul_right}
-use Rattle.std.proofs.lemmas.Bool.{cases_Bool, cases_lt}
+use Rattle.std.proofs.lemmas.Bool.{cases_lt}
 use Rattle.std.proofs.lemmas.List.{get_or-map, length-map, same_lists, get_or_default, get_or-replicate, length-replicate, get_or_past}
 use Rattle.std.proofs.Math.Seq.{take-append_seam}
 use Rattle.std.proofs.lemmas.Int.{ints}
@@ -10,9 +10,9 @@ use Rattle.s2_rows.specs.Rows.{Rows}
 use Rattle.s2_matrix.specs.Code.{code_of, checks_of}
 use Rattle.s2_matrix.proofs.Totals.{total-zero}
 use Rattle.s2_matrix.proofs.Members.{length-members}
-use Rattle.s2_minsum.specs.Plain.{most_soft, State, is_edge, posterior, start, decision}
+use Rattle.s2_minsum.specs.Plain.{most_soft, is_edge, posterior, start, decision}
 use Rattle.s2_minsum.specs.Words.{signed16, cell}
-use Rattle.s2_minsum.specs.Layout.{row_of_bit, lane_of_bit, bit_of, last_check, place_at, entry_count, first_row, kept_of, state_of, message_of}
+use Rattle.s2_minsum.specs.Layout.{row_of_bit, lane_of_bit, bit_of, last_check, place_at, first_row, kept_of, state_of}
 use Rattle.s2_minsum.specs.Decoding.{AreNumbers, AreWithin, is_one}
 use Rattle.s2_minsum.proofs.Places
 use Rattle.s2_minsum.proofs.WordLemmas.{negative_is}

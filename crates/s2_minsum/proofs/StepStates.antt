@@ -1,23 +1,23 @@
 -- The states between the entries of a layer: the messages of the entries below e are replaced.
-use Rattle.std.proofs.Common.{◌≡◌, ◌≢◌, ℕ, zero, suc, ◌+◌, ◌-◌, ◌*◌, ◌/◌, ◌%◌, ◌<◌, ◌≤◌, ◌==◌, ◌&&◌, nat_lt, Bool, true, false, cond, List, length, get_or, ℤ, pos, ◌+ℤ◌, ◌-ℤ◌, eqb, unsigned_abs, refl, ap, sym, ◌∙◌, inl, inr, arith, eq-eqb, ne_eqb, lt-ltb, le-ltb}
+use Rattle.std.proofs.Common.{◌≡◌, ◌≢◌, ℕ, ◌+◌, ◌-◌, ◌*◌, ◌/◌, ◌%◌, ◌<◌, ◌≤◌, ◌==◌, ◌&&◌, nat_lt, true, false, cond, List, length, get_or, ℤ, pos, ◌+ℤ◌, ◌-ℤ◌, eqb, refl, ap, sym, ◌∙◌, inl, inr, arith, eq-eqb, ne_eqb, lt-ltb, le-ltb}
 use Rattle.std.specs.List.{position_or_len}
 use Rattle.std.proofs.Math.Nat.{mod-eq_of_lt, mul-le-mul_right}
-use Rattle.std.proofs.lemmas.Bool.{cases_Bool, cases_lt, cases_eq, eqb-true, and_from, and_parts}
+use Rattle.std.proofs.lemmas.Bool.{cases_Bool, cases_eq, and_from, and_parts}
 use Rattle.std.proofs.lemmas.Bool.Decides.{nat_tests}
 use Rattle.std.proofs.lemmas.Nat.{mod-mul-add, div-mul-add, div-add-mod'}
 use Rattle.std.proofs.lemmas.Int.{ints}
-use Rattle.s2_mode.specs.Shape.{Shape, IsShape, code_bits, check_count}
+use Rattle.s2_mode.specs.Shape.{IsShape, code_bits, check_count}
 use Rattle.s2_rows.specs.Rows.{Rows}
-use Rattle.s2_matrix.specs.Code.{Code, code_of, members, checks_of, is_member}
+use Rattle.s2_matrix.specs.Code.{Code, code_of, members, is_member}
 use Rattle.s2_matrix.proofs.Members.{members_rising, place_of}
 use Rattle.s2_matrix.proofs.Joins.{div_below}
-use Rattle.s2_minsum.specs.Plain.{most_soft, most_message, most_posterior, State, is_edge, posterior}
-use Rattle.s2_minsum.specs.Words.{signed16, plus16, minus16, is_lacking}
+use Rattle.s2_minsum.specs.Plain.{is_edge, posterior}
+use Rattle.s2_minsum.specs.Words.{signed16, is_lacking}
 use Rattle.s2_minsum.specs.Layout.{row_of_bit, lane_of_bit, bit_of, last_check, forth, back, entry_of, place_at, message_of, state_of, lacked_row}
 use Rattle.s2_minsum.proofs.Places
 use Rattle.s2_minsum.proofs.Columns.{found, member_below, member_has, lacks, present, place_in}
 use Rattle.s2_minsum.proofs.Turning.{lane_cases}
-use Rattle.s2_minsum.proofs.Posteriors.{posterior_same, posterior_change, posterior_small}
+use Rattle.s2_minsum.proofs.Posteriors.{posterior_same, posterior_change}
 
 -- what is kept once the entries of layer r below e are replaced
 abbrev pub replaced : (ℕ → ℕ → ℕ → ℕ) → (ℕ → ℕ → ℕ) → ℕ → ℕ → ℕ → ℕ → ℕ → ℕ

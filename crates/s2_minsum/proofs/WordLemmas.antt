@@ -1,10 +1,12 @@
 -- What words of 16 bits say of the numbers that they stand for.
-use Rattle.std.proofs.Common.{◌≡◌, ℕ, zero, suc, ◌+◌, ◌-◌, ◌*◌, ◌/◌, ◌%◌, ◌<◌, ◌≤◌, ◌==◌, ◌^◌, min, max, nat_le, cond, Bool, true, false, eqb, ℤ, pos, neg_ℤ, ◌+ℤ◌, ◌-ℤ◌, int_lt, unsigned_abs, refl, ap, sym, ◌∙◌, inl, inr, arith, lt-ltb, le-ltb}
+use Rattle.std.proofs.Common.{◌≡◌, ℕ, zero, suc, ◌+◌, ◌-◌, ◌*◌, ◌/◌, ◌%◌, ◌<◌, ◌≤◌, ◌==◌, ◌^◌, min, max, nat_le, cond, Bool, true, false, eqb, ℤ, pos, neg_ℤ, ◌+ℤ◌, ◌-ℤ◌, int_lt, unsigned_abs, refl, ap, sym, ◌∙◌, inl, inr, arith, lt-ltb, le-ltb, bit_xor}
 use Rattle.std.specs.Int.{cast_signed, int_wrap}
 use Rattle.std.specs.Int.RustNames.{FitsSigned}
 use Rattle.std.proofs.lemmas.Int.{ints, int_wrap_fits, fits_signed_from_abs, wrapping_sub-bits, wrapping_add-bits}
 use Rattle.std.proofs.lemmas.Bool.{cases_lt, cases_eq}
 use Rattle.std.proofs.lemmas.Bool.Decides.{nat_tests}
+use Rattle.std.proofs.lemmas.Nat.Bits.{bit_at_xor}
+use Rattle.std.proofs.lemmas.Nat.{xor_of_16}
 use mir.Syntax.{w16}
 use Rattle.s2_minsum.specs.Plain.{size_cap, with_sign, reduced}
 use Rattle.s2_minsum.specs.Words.{signed16, minus16, plus16, size16, sign16, sent16}
@@ -58,10 +60,14 @@ negative_is v low = elim (cases_lt v 32768) [
 pub size_small : (v : ℕ) → v < 65536 → size16 v ≤ 32768
 size_small v low = omega arith
 
-wrapped : (a b : ℕ) → plus16 (a % 65536) b ≡ (a + b) % 65536
-wrapped a b = omega arith
+-- the sign of words that are joined bit by bit
+sign_xor : (a b : ℕ) → a < 65536 → b < 65536 → sign16 (bit_xor a b) ≡ (sign16 a + sign16 b) % 2
+sign_xor a b low low' =
+    let both = bit_at_xor a b 15 in
+    let low'' : bit_xor a b < 65536 = xor_of_16 a b low low' in
+    omega (arith, both)
 
-even_out : (a b o : ℕ) → a ≡ b + o → plus16 (a % 65536) o % 2 ≡ b % 2
+even_out : (a b o : ℕ) → a ≡ b + o → (a % 2 + o) % 2 ≡ b % 2
 even_out a b o is = omega arith
 
 signed : (negative : Bool) (m : ℕ) → m < 32768 → signed16 (cond negative (minus16 0 m) m) ≡ with_sign negative m
@@ -87,20 +93,30 @@ module _ (g : ℕ → ℕ) (f : ℕ → ℤ) (n : ℕ) (fits : (k : ℕ) → k <
   second_same zero h = refl
   second_same (suc m) h = λ i. min (second_same m (omega arith) i) (max (first_same m (omega arith) i) (size_same m (omega arith) i))
 
-  signs_same : (m : ℕ) → m ≤ n → signs_of g m ≡ negatives_of f m % 65536
+  signs_fit : (m : ℕ) → m ≤ n → signs_of g m < 65536
+  signs_fit zero h = omega arith
+  signs_fit (suc m) h = xor_of_16 (signs_of g m) (g m) (signs_fit m (omega arith)) (fits m (omega arith))
+
+  sign_same : (k : ℕ) → k < n → sign16 (g k) ≡ cond (int_lt (f k) (pos 0)) 1 0
+  sign_same k lt = sign_is (g k) (fits k lt) ∙ ap (λ v. cond {A = ℕ} (int_lt v (pos 0)) 1 0) (is k lt)
+
+  signs_same : (m : ℕ) → m ≤ n → sign16 (signs_of g m) ≡ negatives_of f m % 2
   signs_same zero h = refl
   signs_same (suc m) h =
       let rest = signs_same m (omega arith) in
-      let one : sign16 (g m) ≡ cond (int_lt (f m) (pos 0)) 1 0 = sign_is (g m) (fits m (omega arith)) ∙ ap (λ v. cond {A = ℕ} (int_lt v (pos 0)) 1 0) (is m (omega arith)) in
-      (λ i. plus16 (rest i) (one i)) ∙ wrapped (negatives_of f m) (cond (int_lt (f m) (pos 0)) 1 0)
+      let one = sign_same m (omega arith) in
+      let count : ℕ = cond (int_lt (f m) (pos 0)) 1 0 in
+      let joined = sign_xor (signs_of g m) (g m) (signs_fit m (omega arith)) (fits m (omega arith)) in
+      joined ∙ (λ i. (rest i + one i) % 2) ∙ (let halves : (negatives_of f m % 2 + count) % 2 ≡ (negatives_of f m + count) % 2 = omega arith in halves)
 
-  parity_same : (e : ℕ) → e < n → plus16 (signs_of g n) (sign16 (g e)) % 2 ≡ negatives_but f e n % 2
+  parity_same : (e : ℕ) → e < n → sign16 (bit_xor (signs_of g n) (g e)) ≡ negatives_but f e n % 2
   parity_same e lt =
       let all = negatives_are f e n lt in
-      let own : sign16 (g e) ≡ cond (int_lt (f e) (pos 0)) 1 0 = sign_is (g e) (fits e lt) ∙ ap (λ v. cond {A = ℕ} (int_lt v (pos 0)) 1 0) (is e lt) in
+      let own = sign_same e lt in
       let signs = signs_same n (omega arith) in
       let count : ℕ = cond (int_lt (f e) (pos 0)) 1 0 in
-      (λ i. plus16 (signs i) (own i) % 2) ∙ even_out (negatives_of f n) (negatives_but f e n) count all
+      let joined = sign_xor (signs_of g n) (g e) (signs_fit n (omega arith)) (fits e lt) in
+      joined ∙ (λ i. (signs i + own i) % 2) ∙ even_out (negatives_of f n) (negatives_but f e n) count all
 
   pub sent_word : (e : ℕ) → e < n → signed16 (sent16 (g e) (first_of (λ k. size16 (g k)) n) (second_of (λ k. size16 (g k)) n) (signs_of g n)) ≡ sent f n e
   sent_word e lt =

@@ -2,7 +2,7 @@
 use Rattle.std.specs.Prelude.{◌≡◌, ℕ, ◌+◌, ◌*◌, ◌<◌, ◌≤◌, nat_le, Bool, All, List, length, get_or, ℤ, unsigned_abs}
 use Rattle.s2_mode.specs.Shape.{Shape, IsShape, code_bits}
 use Rattle.s2_rows.specs.Rows.{Rows}
-use Rattle.s2_matrix.specs.Code.{Code, code_of, members, checks_of}
+use Rattle.s2_matrix.specs.Code.{code_of, members, checks_of}
 use Rattle.s2_minsum.specs.declared.rows.Entry.{Entry}
 use Rattle.s2_minsum.specs.Plain.{most_soft, most_message, State, posterior}
 use Rattle.s2_minsum.specs.Words.{signed16, cell, entry_at}

@@ -1,9 +1,9 @@
 -- Bits in rows of a group, and the messages of a layer by the members of its last check.
-use Rattle.std.specs.Prelude.{ℕ, ◌+◌, ◌-◌, ◌*◌, ◌/◌, ◌%◌, ◌==◌, nat_lt, if◌then◌else◌, List, length, get_or, sum_by, ℤ, pos}
+use Rattle.std.specs.Prelude.{ℕ, ◌+◌, ◌-◌, ◌*◌, ◌/◌, ◌%◌, ◌==◌, nat_lt, if◌then◌else◌, List, length, sum_by, ℤ, pos}
 use Rattle.std.specs.List.{position_or_len}
 use Rattle.s2_mode.specs.Shape.{Shape, information_bits}
 use Rattle.s2_rows.specs.Rows.{Rows}
-use Rattle.s2_matrix.specs.Code.{Code, code_of, members}
+use Rattle.s2_matrix.specs.Code.{code_of, members}
 use Rattle.s2_minsum.specs.declared.rows.Entry.{Entry}
 use Rattle.s2_minsum.specs.Plain.{State, is_edge}
 use Rattle.s2_minsum.specs.Words.{signed16, cell}

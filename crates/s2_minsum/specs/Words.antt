@@ -1,5 +1,5 @@
 -- Words of 16 bits in two's complement, and rows of them.
-use Rattle.std.specs.Prelude.{ℕ, zero, suc, ◌+◌, ◌-◌, ◌*◌, ◌/◌, ◌%◌, ◌==◌, ◌&&◌, ◌<◌, ◌≤◌, min, max, Bool, if◌then◌else◌, List, length, get_or, ℤ}
+use Rattle.std.specs.Prelude.{ℕ, zero, suc, ◌+◌, ◌-◌, ◌*◌, ◌/◌, ◌%◌, ◌==◌, ◌&&◌, ◌<◌, ◌≤◌, min, max, Bool, if◌then◌else◌, List, length, get_or, ℤ, bit_xor}
 use Rattle.std.specs.Int.{cast_signed}
 use Rattle.s2_minsum.specs.Plain.{size_cap}
 use mir.Syntax.{w16}
@@ -22,11 +22,11 @@ size16 v = min v (minus16 0 v)
 abbrev pub sign16 : ℕ → ℕ
 sign16 v = v / 32768
 
--- the message to a member with input v of a check with these two least sizes and so many negative inputs
+-- the message to a member with input v of a check with these two least sizes, and a word that is negative where an odd number of its inputs are
 abbrev pub sent16 : ℕ → ℕ → ℕ → ℕ → ℕ
-sent16 v first second negatives =
+sent16 v first second signs =
     let m = (if size16 v == first then second else first) in
-    (if plus16 negatives (sign16 v) % 2 == 1 then minus16 0 (m - m / 4) else (m - m / 4))
+    (if sign16 (bit_xor signs v) == 1 then minus16 0 (m - m / 4) else (m - m / 4))
 
 -- where place k of n looks that are turned by s
 abbrev pub turned : ℕ → ℕ → ℕ → ℕ

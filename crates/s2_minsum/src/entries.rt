@@ -48,7 +48,7 @@ pub fn layers_of(alloc: Global, matrix: &Matrix) -> Result<Layers, AllocError>
 }
 
 /// How many entries the largest layer has.
-pub(crate) fn most_entries(matrix: &Matrix) -> usize
+pub fn most_entries(matrix: &Matrix) -> usize
     ensures most { (r : ℕ) → r < matrix.now.shape.q → entry_count matrix.now r ≤ result }
     ensures few { result ≤ 64800 }
 {

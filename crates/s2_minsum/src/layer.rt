@@ -4,7 +4,7 @@ ghost use Rattle.s2_minsum.specs.Words.{turned, minus16, sent16, size16, cell, e
 ghost use Rattle.s2_minsum.specs.Nodes.{first_of, second_of, signs_of};
 
 use crate::limits::SIZE_CAP;
-use crate::rows::{Entry, add, give, send, track};
+use crate::rows::{Entry, add, give, send, track, track_two};
 
 /// What the members of a layer's checks give.
 fn give_all(entries: &[Entry], n: usize, posteriors: &[u16], messages: &[u16], inputs: &mut [u16])
@@ -27,30 +27,41 @@ fn give_all(entries: &[Entry], n: usize, posteriors: &[u16], messages: &[u16], i
     }
 }
 
-/// Takes the inputs into the two least sizes and the counts of negative inputs of each check.
+/// Takes the inputs into the two least sizes of each check and the product of its signs.
 fn track_all(
     inputs: &[u16],
     n: usize,
     count: usize,
     first: &mut [u16],
     second: &mut [u16],
-    negatives: &mut [u16],
+    signs: &mut [u16],
 )
     requires few { n ≤ 360 }
     requires same_first { length first.old ≡ n }
     requires long { length inputs.now ≡ count * n }
     requires same_second { length second.old ≡ n }
-    requires same_negatives { length negatives.old ≡ n }
+    requires same_signs { length signs.old ≡ n }
     ensures first { EachIndex first.new (λ c. slice_index first.new c ≡ first_of (λ e. size16 (cell inputs.now n e c)) count) }
     ensures second { EachIndex second.new (λ c. slice_index second.new c ≡ second_of (λ e. size16 (cell inputs.now n e c)) count) }
-    ensures negatives { EachIndex negatives.new (λ c. slice_index negatives.new c ≡ signs_of (λ e. cell inputs.now n e c) count) }
+    ensures signs { EachIndex signs.new (λ c. slice_index signs.new c ≡ signs_of (λ e. cell inputs.now n e c) count) }
 {
     first.fill(SIZE_CAP);
     second.fill(SIZE_CAP);
-    negatives.fill(0);
-    for e in 0..count {
-        let at = e * n;
-        track(first, second, negatives, &inputs[at..at + n]);
+    signs.fill(0);
+    for pair in 0..count / 2 {
+        let one = 2 * pair * n;
+        let other = one + n;
+        track_two(
+            first,
+            second,
+            signs,
+            &inputs[one..other],
+            &inputs[other..other + n],
+        );
+    }
+    if count % 2 == 1 {
+        let last = (count - 1) * n;
+        track(first, second, signs, &inputs[last..last + n]);
     }
 }
 
@@ -62,16 +73,16 @@ fn send_all(
     count: usize,
     first: &[u16],
     second: &[u16],
-    negatives: &[u16],
+    signs: &[u16],
 )
     requires few { n ≤ 360 }
     requires same_first { length first.now ≡ n }
     requires long { length inputs.old ≡ count * n }
     requires same { length messages.old ≡ count * n }
     requires same_second { length second.now ≡ n }
-    requires same_negatives { length negatives.now ≡ n }
-    ensures sent { (e c : ℕ) → e < count → c < n → cell messages.new n e c ≡ sent16 (cell inputs.old n e c) (slice_index first.now c) (slice_index second.now c) (slice_index negatives.now c) }
-    ensures changes { (e c : ℕ) → e < count → c < n → cell inputs.new n e c ≡ minus16 (sent16 (cell inputs.old n e c) (slice_index first.now c) (slice_index second.now c) (slice_index negatives.now c)) (cell messages.old n e c) }
+    requires same_signs { length signs.now ≡ n }
+    ensures sent { (e c : ℕ) → e < count → c < n → cell messages.new n e c ≡ sent16 (cell inputs.old n e c) (slice_index first.now c) (slice_index second.now c) (slice_index signs.now c) }
+    ensures changes { (e c : ℕ) → e < count → c < n → cell inputs.new n e c ≡ minus16 (sent16 (cell inputs.old n e c) (slice_index first.now c) (slice_index second.now c) (slice_index signs.now c)) (cell messages.old n e c) }
 {
     for e in 0..count {
         let at = e * n;
@@ -80,7 +91,7 @@ fn send_all(
             &mut messages[at..at + n],
             first,
             second,
-            negatives,
+            signs,
         );
     }
 }
@@ -166,7 +177,7 @@ pub(crate) fn run(
     inputs: &mut [u16],
     first: &mut [u16],
     second: &mut [u16],
-    negatives: &mut [u16],
+    signs: &mut [u16],
 )
     requires entries { AreIn n entries.now (length posteriors.old) }
     requires few { length posteriors.old ≤ 64800 }
@@ -174,13 +185,13 @@ pub(crate) fn run(
     requires same { length inputs.old ≡ length entries.now * n }
     requires first { length first.old ≡ n }
     requires second { length second.old ≡ n }
-    requires negatives { length negatives.old ≡ n }
+    requires signs { length signs.old ≡ n }
     ensures messages { (e c : ℕ) → e < length entries.now → c < n → cell messages.new n e c ≡ sent16 (received n entries.now last posteriors.old messages.old e c) (first_of (λ k. size16 (received n entries.now last posteriors.old messages.old k c)) (length entries.now)) (second_of (λ k. size16 (received n entries.now last posteriors.old messages.old k c)) (length entries.now)) (signs_of (λ k. received n entries.now last posteriors.old messages.old k c) (length entries.now)) }
     ensures posteriors { (p : ℕ) → p < length posteriors.old → slice_index posteriors.new p ≡ changed n entries.now posteriors.old (change_of n entries.now last messages.old messages.new) (length entries.now) p }
 {
     let count = entries.len();
     receive(entries, n, last, posteriors, messages, inputs);
-    track_all(inputs, n, count, first, second, negatives);
-    send_all(inputs, messages, n, count, first, second, negatives);
+    track_all(inputs, n, count, first, second, signs);
+    send_all(inputs, messages, n, count, first, second, signs);
     apply(entries, n, last, posteriors, inputs);
 }

@@ -43,7 +43,7 @@ pub(crate) fn place_of(shape: Shape, bit: usize) -> usize
 }
 
 /// The bit in lane 0 of a row.
-pub(crate) fn first_bit(shape: Shape, row: usize) -> usize
+pub fn first_bit(shape: Shape, row: usize) -> usize
     requires { row < shape.groups + shape.q }
     ensures { result ≡ bit_of shape row 0 }
 {
@@ -55,7 +55,7 @@ pub(crate) fn first_bit(shape: Shape, row: usize) -> usize
 }
 
 /// How far apart the bits of a row are.
-pub(crate) fn step_of(shape: Shape, row: usize) -> usize
+pub fn step_of(shape: Shape, row: usize) -> usize
     ensures is { result ≡ step_of_row shape row }
     ensures few { result ≤ 64800 }
 {
@@ -82,7 +82,7 @@ pub(crate) fn back_to(shape: Shape, check_lane: usize, bit: usize) -> usize
 }
 
 /// The place of a number in a list; its length where it has none.
-pub(crate) fn place_among(members: &[u32], bit: u32) -> usize
+pub fn place_among(members: &[u32], bit: u32) -> usize
     ensures { result ≡ position_or_len (λ m. m == bit) members.now }
 {
     for place in 0..members.len() {

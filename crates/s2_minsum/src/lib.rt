@@ -36,11 +36,14 @@ mod one_layer;
 mod rows;
 
 pub use decoder::Decoder;
-pub use entries::{Layers, layers_of};
+pub use entries::{Layers, layers_of, most_entries};
+pub use layout::{first_bit, place_among, step_of};
 pub use limits::{MOST_MESSAGE, MOST_SOFT, SIZE_CAP};
 pub use rows::Entry;
 
 #[cfg(test)]
 mod agreement;
+#[cfg(test)]
+mod memory_tests;
 #[cfg(test)]
 mod tests;

@@ -78,7 +78,7 @@ pub(crate) fn run_layer(
     let width = span.count * n;
     let (first, rest) = scratch.split_at_mut(n);
     let (second, rest) = rest.split_at_mut(n);
-    let (negatives, inputs) = rest.split_at_mut(n);
+    let (signs, inputs) = rest.split_at_mut(n);
     run(
         &entries[span.start..span.start + span.count],
         n,
@@ -88,6 +88,6 @@ pub(crate) fn run_layer(
         &mut inputs[..width],
         first,
         second,
-        negatives,
+        signs,
     );
 }

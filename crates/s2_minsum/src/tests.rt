@@ -14,15 +14,15 @@ use std::process::Abort;
 use std::test::Fail;
 
 // Group 4, two groups, q 3: bit 0 is -4, the others are 10; posteriors after layer 0.
-const ONE_WRONG: [i16; 20] = [
+pub(crate) const ONE_WRONG: [i16; 20] = [
     -4, 10, 10, 10, 10, 10, 10, 10, 10, 10, 10, 10, 10, 10, 10, 10, 10, 10, 10, 10,
 ];
 
-const ONE_WRONG_AFTER: [i16; 20] = [
+pub(crate) const ONE_WRONG_AFTER: [i16; 20] = [
     4, 18, 18, 18, 7, 18, 18, 18, 7, 10, 18, 18, 10, 18, 18, 10, 18, 18, 10, 10,
 ];
 // The messages of checks 0 to 3: check 0 is b0 b4 p0, check 3 has edges 11 to 14.
-const ONE_WRONG_SENT: [i16; 16] = [8, -3, -3, 0, 0, 0, 0, 0, 0, 0, 0, 8, 8, 8, 8, 0];
+pub(crate) const ONE_WRONG_SENT: [i16; 16] = [8, -3, -3, 0, 0, 0, 0, 0, 0, 0, 0, 8, 8, 8, 8, 0];
 
 // Group 4, one group, q 3, row 0 3: each information bit is twice in layer 0.
 const TWICE_AFTER: [i16; 16] = [20, 20, 20, 20, 14, 8, 14, 14, 8, 14, 14, 8, 14, 14, 8, 8];
@@ -46,7 +46,7 @@ fn matrix<R: Abort + AllocGlobal>(
 }
 
 /// These values, none of a size over 63.
-fn soft_values(alloc: Global, values: &[i16]) -> Result<Vec<i16>, AllocError>
+pub(crate) fn soft_values(alloc: Global, values: &[i16]) -> Result<Vec<i16>, AllocError>
     ensures long { IfOk result (λ v. length v.items ≡ length values.now) }
     ensures small { IfOk result (λ v. AreWithin most_soft v.items) }
 {

@@ -14,7 +14,7 @@ use Rattle.s2_modem.specs.Link.{Link}
 use Rattle.s2_modem.specs.Spelling.{bytes_of}
 use Rattle.s2_modem.specs.Frames.{frame_bytes}
 use Rattle.s2_modem.specs.Sending.{AreFrames, joined as bytes_joined}
-use Rattle.s2_modem.specs.declared.outcome.Counts.{Counts}
+use Rattle.s2_modem.specs.declared.send.outcome.Counts.{Counts}
 use Rattle.s2_bbframe.specs.Joining.{Placed}
 use Rattle.s2_receive.specs.Meeting.{Met, frame, ended, met_from}
 use Rattle.s2_receive.specs.Finding.{Meets}

@@ -5,20 +5,19 @@ use Rattle.s2_rows.specs.Rows.{Rows}
 use Rattle.s2_matrix.specs.Code.{code_of}
 use Rattle.s2_check.specs.Views.{View}
 use Rattle.s2_split.specs.Scattered.{repaired}
-use Rattle.s2_split.specs.Making.{made_view}
 use Rattle.s2_receive.specs.declared.report.Verdict.TheVariants.{Parity, Broken}
-use Rattle.s2_modem.specs.Deciding.{Decided, uncertified, satisfies, decoded_bits, with_made, decided}
+use Rattle.s2_modem.specs.Deciding.{Decided, uncertified, satisfies, decoded_bits, with_made, decided, view_for, Effort}
 use Rattle.s2_modem.proofs.Decisions.{length-decoded, length-repaired, found_codeword, by_ways}
 
-pub decided_long : (r : Rows) (rounds : ℕ) (soft : List ℤ) → length soft ≡ (code_of r).bits → length (decided r rounds soft).bits ≡ (code_of r).bits
-decided_long r rounds soft long =
-    by_ways r rounds soft (λ d. length d.bits ≡ (code_of r).bits) (λ even. length-map soft _ ∙ long) (λ view even is. length-repaired (code_of r) soft)
-    (λ bits none is. with_view bits (found_codeword r rounds soft bits is).long (made_view r soft bits)) (λ none is. last (satisfies (code_of r) (repaired (code_of r) soft)))
+pub decided_long : (r : Rows) (effort : Effort) (soft : List ℤ) → length soft ≡ (code_of r).bits → length (decided r effort soft).bits ≡ (code_of r).bits
+decided_long r effort soft long =
+    by_ways r effort soft (λ d. length d.bits ≡ (code_of r).bits) (λ even. length-map soft _ ∙ long) (λ view even is. length-repaired (code_of r) soft)
+    (λ bits none is. with_view bits (found_codeword r effort.rounds soft bits is).long (view_for r effort.passes soft bits)) (λ none is. last (satisfies (code_of r) (repaired (code_of r) soft)))
   where
     with_view : (bits : List Bool) → length bits ≡ (code_of r).bits → (o : Option View) → length (with_made bits o).bits ≡ (code_of r).bits
     with_view bits whole (Some view) = whole
     with_view bits whole None = whole
 
-    last : (b : Bool) → length (cond b (uncertified Parity (repaired (code_of r) soft)) (uncertified Broken (decoded_bits r soft rounds))).bits ≡ (code_of r).bits
+    last : (b : Bool) → length (cond b (uncertified Parity (repaired (code_of r) soft)) (uncertified Broken (decoded_bits r soft effort.rounds))).bits ≡ (code_of r).bits
     last true = length-repaired (code_of r) soft
-    last false = length-decoded r soft rounds
+    last false = length-decoded r soft effort.rounds

@@ -1,10 +1,8 @@
 -- What holds of what is decided.
-use Rattle.std.proofs.Common.{◌≡◌, ◌≢◌, ℕ, ◌≤◌, Bool, true, false, cond, List, length, replicate, ℤ, pos, Option, None, Some, IfSome, inl, inr, refl, sym, ap, subst, ◌∙◌}
-use Rattle.std.proofs.lemmas.Bool.{cases_Bool}
+use Rattle.std.proofs.Common.{◌≡◌, ◌≢◌, Bool, true, false, cond, List, length, ℤ, pos, Option, None, Some, IfSome, refl, sym, ap, subst, ◌∙◌}
 use Rattle.std.proofs.lemmas.List.{length-map, length-replicate}
 use Rattle.s2_rows.specs.Rows.{Rows}
-use Rattle.s2_bits.specs.Bits.{bit_at}
-use Rattle.s2_matrix.specs.Code.{Code, code_of, first_edge, IsCodeword}
+use Rattle.s2_matrix.specs.Code.{code_of, first_edge, IsCodeword}
 use Rattle.s2_check.specs.Cost.{IsMostLikely}
 use Rattle.s2_check.specs.Hard.{hard_decision}
 use Rattle.s2_check.specs.Views.{View, unsplit_view}
@@ -12,18 +10,16 @@ use Rattle.s2_check.specs.Checking.{IsCertificate, split_in}
 use Rattle.s2_check.proofs.Duality.{weak_duality_lem}
 use Rattle.s2_check.proofs.UnsplitSplits.{unsplit_accepted_lem}
 use Rattle.s2_split.specs.Scattered.{repaired, IsScattered}
-use Rattle.s2_split.specs.Making.{Shared, shared, shared_views, made_view}
-use Rattle.s2_split.specs.Spreading.{made_split}
 use Rattle.s2_split.proofs.RepairLemmas.{repair_lem}
-use Rattle.s2_split.proofs.Accepted.{made_certificate, scattered_view}
-use Rattle.s2_modem.specs.Deciding.{Decided, certified, uncertified, satisfies, decoded_bits, first_codeword, without_certificate, with_made, repair_view, decided, CleanLaw, LikelyLaw, IsCertified, IsShown, CertifiedLaw, BrokenLaw, ScatteredLaw}
+use Rattle.s2_modem.specs.Deciding.{Decided, certified, uncertified, satisfies, decoded_bits, first_codeword, without_certificate, with_made, repair_view, view_for, decided, CleanLaw, LikelyLaw, IsCertified, IsShown, CertifiedLaw, BrokenLaw, ScatteredLaw}
 use Rattle.s2_receive.specs.declared.report.Verdict.{Verdict}
 use Rattle.s2_receive.specs.declared.report.Verdict.TheVariants.{MostLikely, Parity, Broken}
+use Rattle.s2_modem.proofs.Certificates.{found_shown}
 use Rattle.s2_modem.proofs.Decisions.{satisfied_codeword, codeword_satisfied, not_codeword, length-repaired, found_codeword, last_odd, by_hard, repair_made, by_ways}
 
 pub clean_lem : CleanLaw
-clean_lem r rounds soft codeword =
-    by_hard r rounds soft (codeword_satisfied (code_of r) (hard_decision soft) codeword)
+clean_lem r effort soft codeword =
+    by_hard r effort soft (codeword_satisfied (code_of r) (hard_decision soft) codeword)
 
 -- ---- certificates
 
@@ -37,22 +33,6 @@ unsplit_shown r soft codeword = record {
   values = refl;
   word = refl;
 }
-
--- the made view of a codeword
-made_shown : (r : Rows) (soft : List ℤ) (bits : List Bool) (view : View) → IsCodeword (code_of r) bits → made_view r soft bits ≡ Some view → IsCertified r soft bits view
-made_shown r soft bits view codeword is =
-    let lists = of_lists (shared (code_of r) (made_split (code_of r) soft bits)) is in
-    record {
-      accepted = subst (λ (o : Option View). IfSome o (λ v. IsCertificate r v)) is (made_certificate r soft bits codeword);
-      values = lists.0;
-      word = lists.1;
-    }
-  where
-    of_lists : (o : Option Shared) → shared_views r soft bits o ≡ Some view → (view.soft ≡ soft) × (view.bits ≡ bits)
-    of_lists None e = cc
-    of_lists (Some s) e =
-        let same : record { shape = r.shape; scale = s.scale; soft = soft; bits = bits; shares = s.shares } ≡ view = cc in
-        (sym (ap (λ (v : View). v.soft) same), sym (ap (λ (v : View). v.bits) same))
 
 by_certificate : (r : Rows) (soft : List ℤ) (bits : List Bool) (view : View) → IsCertified r soft bits view → IsShown r soft (certified bits view)
 by_certificate r soft bits view c = record { some = λ e none. cc; only = λ some. refl; certified = c }
@@ -69,23 +49,23 @@ repaired_codeword r soft even =
     satisfied_codeword (code_of r) (repaired (code_of r) soft) (length-repaired (code_of r) soft) even
 
 pub certified_lem : CertifiedLaw
-certified_lem r rounds soft long =
-    by_ways r rounds soft (IsShown r soft) (λ even. by_certificate r soft (hard_decision soft) _ (unsplit_shown r soft (hard_codeword r soft long even))) (λ view even is. by_certificate r soft (repaired (code_of r) soft) view (made_shown r soft (repaired (code_of r) soft) view (repaired_codeword r soft even) is)) (λ bits none is. with_view bits (found_codeword r rounds soft bits is) (made_view r soft bits) refl) (λ none is. either (satisfies (code_of r) (repaired (code_of r) soft)))
+certified_lem r effort soft long =
+    by_ways r effort soft (IsShown r soft) (λ even. by_certificate r soft (hard_decision soft) _ (unsplit_shown r soft (hard_codeword r soft long even))) (λ view even is. by_certificate r soft (repaired (code_of r) soft) view (found_shown r effort.passes soft (repaired (code_of r) soft) view (repaired_codeword r soft even) is)) (λ bits none is. with_view bits (found_codeword r effort.rounds soft bits is) (view_for r effort.passes soft bits) refl) (λ none is. either (satisfies (code_of r) (repaired (code_of r) soft)))
   where
-    with_view : (bits : List Bool) → IsCodeword (code_of r) bits → (o : Option View) → made_view r soft bits ≡ o → IsShown r soft (with_made bits o)
-    with_view bits codeword (Some view) e = by_certificate r soft bits view (made_shown r soft bits view codeword e)
+    with_view : (bits : List Bool) → IsCodeword (code_of r) bits → (o : Option View) → view_for r effort.passes soft bits ≡ o → IsShown r soft (with_made bits o)
+    with_view bits codeword (Some view) e = by_certificate r soft bits view (found_shown r effort.passes soft bits view codeword e)
     with_view bits codeword None e = without r soft Parity bits (λ e. cc)
 
-    either : (b : Bool) → IsShown r soft (cond b (uncertified Parity (repaired (code_of r) soft)) (uncertified Broken (decoded_bits r soft rounds)))
+    either : (b : Bool) → IsShown r soft (cond b (uncertified Parity (repaired (code_of r) soft)) (uncertified Broken (decoded_bits r soft effort.rounds)))
     either true = without r soft Parity (repaired (code_of r) soft) (λ e. cc)
-    either false = without r soft Broken (decoded_bits r soft rounds) (λ e. cc)
+    either false = without r soft Broken (decoded_bits r soft effort.rounds) (λ e. cc)
 
 pub likely_lem : LikelyLaw
-likely_lem r rounds soft long e =
-    let shown = certified_lem r rounds soft long in
-    go (decided r rounds soft).certificate (shown.some e) shown.certified
+likely_lem r effort soft long e =
+    let shown = certified_lem r effort soft long in
+    go (decided r effort soft).certificate (shown.some e) shown.certified
   where
-    go : (o : Option View) → o ≢ None → IfSome o (IsCertified r soft (decided r rounds soft).bits) → IsMostLikely (code_of r) soft (decided r rounds soft).bits
+    go : (o : Option View) → o ≢ None → IfSome o (IsCertified r soft (decided r effort soft).bits) → IsMostLikely (code_of r) soft (decided r effort soft).bits
     go None some c = absurd (some refl)
     go (Some view) some c =
         subst (λ (bits : List Bool). IsMostLikely (code_of r) soft bits) c.word (subst (λ (values : List ℤ). IsMostLikely (code_of r) values view.bits) c.values (weak_duality_lem (code_of r) view.soft (split_in r view) view.bits c.accepted.accepted))
@@ -102,15 +82,15 @@ says_yes r verdict bits view other codeword = (λ _. codeword, λ e. absurd (oth
 
 pub broken_lem : BrokenLaw
 unfolding Says
-broken_lem r rounds soft long some =
-    by_ways r rounds soft (Says r) (λ even. says_yes r MostLikely (hard_decision soft) (Some (unsplit_view r soft (hard_decision soft))) (λ e. cc) (hard_codeword r soft long even)) (λ view even is. says_yes r MostLikely (repaired (code_of r) soft) (Some view) (λ e. cc) (repaired_codeword r soft even)) (λ bits none is. with_view bits (found_codeword r rounds soft bits is) (made_view r soft bits)) (λ none is. either (satisfies (code_of r) (repaired (code_of r) soft)) refl is)
+broken_lem r effort soft long some =
+    by_ways r effort soft (Says r) (λ even. says_yes r MostLikely (hard_decision soft) (Some (unsplit_view r soft (hard_decision soft))) (λ e. cc) (hard_codeword r soft long even)) (λ view even is. says_yes r MostLikely (repaired (code_of r) soft) (Some view) (λ e. cc) (repaired_codeword r soft even)) (λ bits none is. with_view bits (found_codeword r effort.rounds soft bits is) (view_for r effort.passes soft bits)) (λ none is. either (satisfies (code_of r) (repaired (code_of r) soft)) refl is)
   where
     with_view : (bits : List Bool) → IsCodeword (code_of r) bits → (o : Option View) → Says r (with_made bits o)
     with_view bits codeword (Some view) = says_yes r MostLikely bits (Some view) (λ e. cc) codeword
     with_view bits codeword None = says_yes r Parity bits None (λ e. cc) codeword
 
-    either : (b : Bool) → satisfies (code_of r) (repaired (code_of r) soft) ≡ b → first_codeword r rounds soft ≡ None → Says r (cond b (uncertified Parity (repaired (code_of r) soft)) (uncertified Broken (decoded_bits r soft rounds)))
+    either : (b : Bool) → satisfies (code_of r) (repaired (code_of r) soft) ≡ b → first_codeword r effort.rounds soft ≡ None → Says r (cond b (uncertified Parity (repaired (code_of r) soft)) (uncertified Broken (decoded_bits r soft effort.rounds)))
     either true even is = says_yes r Parity (repaired (code_of r) soft) None (λ e. cc) (repaired_codeword r soft even)
-    either false odd is = (λ other. absurd (other refl), λ e. not_codeword (code_of r) (decoded_bits r soft rounds) (last_odd r rounds soft some is))
+    either false odd is = (λ other. absurd (other refl), λ e. not_codeword (code_of r) (decoded_bits r soft effort.rounds) (last_odd r effort.rounds soft some is))
 
 -- ---- scattered values: see Scattering

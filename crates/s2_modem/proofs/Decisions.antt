@@ -1,19 +1,16 @@
 -- The ways in which is decided, and what holds of what is decided.
-use Rattle.std.proofs.Common.{◌≡◌, ◌≢◌, ◌↔◌, IsTrue, ℕ, zero, suc, ◌+◌, ◌%◌, ◌==◌, ◌<◌, ◌≤◌, eq-eqb, eqb-true, Bool, true, false, cond, List, [], ◌∷◌, length, map, get_or, replicate, ℤ, pos, Option, None, Some, IfSome, inl, inr, refl, sym, ap, ap₂, subst, ◌∙◌, arith}
-use Rattle.std.specs.List.{list_all, find, range_with_len}
+use Rattle.std.proofs.Common.{◌≡◌, ◌↔◌, IsTrue, ℕ, zero, suc, ◌+◌, ◌%◌, ◌==◌, ◌<◌, ◌≤◌, eq-eqb, eqb-true, Bool, true, false, cond, List, [], ◌∷◌, length, map, get_or, ℤ, Option, None, Some, inl, inr, refl, sym, ap, subst, ◌∙◌, arith}
+use Rattle.std.specs.List.{find, range_with_len}
 use Rattle.std.proofs.lemmas.Bool.{cases_Bool, both_ways, false_from_ne_true}
-use Rattle.std.proofs.lemmas.List.{length-map}
 use Rattle.std.proofs.lemmas.List.FromFn.{length-range_with_len, get_or-range_with_len, length-map-range_with_len}
 use Rattle.std.proofs.lemmas.List.Sums.{AllPass-from_list_all, list_all-from_AllPass}
 use Rattle.s2_rows.specs.Rows.{Rows}
 use Rattle.s2_matrix.specs.Total.{upto}
 use Rattle.s2_matrix.specs.Code.{Code, code_of, ones_in, IsCodeword}
-use Rattle.s2_check.specs.Cost.{IsMostLikely}
 use Rattle.s2_check.specs.Hard.{hard_decision}
 use Rattle.s2_check.specs.Views.{View, unsplit_view}
 use Rattle.s2_split.specs.Scattered.{repaired}
-use Rattle.s2_split.specs.Making.{made_view}
-use Rattle.s2_modem.specs.Deciding.{Decided, certified, uncertified, satisfies, decoded_bits, first_codeword, without_certificate, with_made, by_min_sum, repair_view, by_repair, decided}
+use Rattle.s2_modem.specs.Deciding.{Decided, certified, uncertified, satisfies, decoded_bits, first_codeword, without_certificate, with_made, by_min_sum, repair_view, by_repair, decided, view_for, Effort}
 use Rattle.s2_receive.specs.declared.report.Verdict.TheVariants.{MostLikely, Parity, Broken}
 
 -- ---- the test of every check
@@ -107,41 +104,41 @@ last_odd r (suc k) soft some is =
 
 -- ---- the ways in which is decided
 
-module _ (r : Rows) (rounds : ℕ) (soft : List ℤ) where
-  pub by_hard : satisfies (code_of r) (hard_decision soft) ≡ true → decided r rounds soft ≡ certified (hard_decision soft) (unsplit_view r soft (hard_decision soft))
+module _ (r : Rows) (effort : Effort) (soft : List ℤ) where
+  pub by_hard : satisfies (code_of r) (hard_decision soft) ≡ true → decided r effort soft ≡ certified (hard_decision soft) (unsplit_view r soft (hard_decision soft))
   unfolding decided
   by_hard e =
-      ap (λ b. cond b (certified (hard_decision soft) (unsplit_view r soft (hard_decision soft))) (by_repair r rounds soft (repair_view r soft))) e
+      ap (λ b. cond b (certified (hard_decision soft) (unsplit_view r soft (hard_decision soft))) (by_repair r effort soft (repair_view r effort.passes soft))) e
 
-  pub not_hard : satisfies (code_of r) (hard_decision soft) ≡ false → decided r rounds soft ≡ by_repair r rounds soft (repair_view r soft)
+  pub not_hard : satisfies (code_of r) (hard_decision soft) ≡ false → decided r effort soft ≡ by_repair r effort soft (repair_view r effort.passes soft)
   unfolding decided
   not_hard e =
-      ap (λ b. cond b (certified (hard_decision soft) (unsplit_view r soft (hard_decision soft))) (by_repair r rounds soft (repair_view r soft))) e
+      ap (λ b. cond b (certified (hard_decision soft) (unsplit_view r soft (hard_decision soft))) (by_repair r effort soft (repair_view r effort.passes soft))) e
 
-  pub repair_made : satisfies (code_of r) (repaired (code_of r) soft) ≡ true → repair_view r soft ≡ made_view r soft (repaired (code_of r) soft)
-  repair_made e = ap (λ b. cond b (made_view r soft (repaired (code_of r) soft)) None) e
+  pub repair_made : satisfies (code_of r) (repaired (code_of r) soft) ≡ true → repair_view r effort.passes soft ≡ view_for r effort.passes soft (repaired (code_of r) soft)
+  repair_made e = ap (λ b. cond b (view_for r effort.passes soft (repaired (code_of r) soft)) None) e
 
-  pub repair_odd : satisfies (code_of r) (repaired (code_of r) soft) ≡ false → repair_view r soft ≡ None
-  repair_odd e = ap (λ b. cond b (made_view r soft (repaired (code_of r) soft)) None) e
+  pub repair_odd : satisfies (code_of r) (repaired (code_of r) soft) ≡ false → repair_view r effort.passes soft ≡ None
+  repair_odd e = ap (λ b. cond b (view_for r effort.passes soft (repaired (code_of r) soft)) None) e
 
   -- a proof for each way is a proof for what is decided
-  pub by_ways : (P : Decided → Type 0) → (satisfies (code_of r) (hard_decision soft) ≡ true → P (certified (hard_decision soft) (unsplit_view r soft (hard_decision soft)))) → ((view : View) → satisfies (code_of r) (repaired (code_of r) soft) ≡ true → made_view r soft (repaired (code_of r) soft) ≡ Some view → P (certified (repaired (code_of r) soft) view)) → ((bits : List Bool) → repair_view r soft ≡ None → first_codeword r rounds soft ≡ Some bits → P (with_made bits (made_view r soft bits))) → (repair_view r soft ≡ None → first_codeword r rounds soft ≡ None → P (without_certificate r rounds soft)) → P (decided r rounds soft)
+  pub by_ways : (P : Decided → Type 0) → (satisfies (code_of r) (hard_decision soft) ≡ true → P (certified (hard_decision soft) (unsplit_view r soft (hard_decision soft)))) → ((view : View) → satisfies (code_of r) (repaired (code_of r) soft) ≡ true → view_for r effort.passes soft (repaired (code_of r) soft) ≡ Some view → P (certified (repaired (code_of r) soft) view)) → ((bits : List Bool) → repair_view r effort.passes soft ≡ None → first_codeword r effort.rounds soft ≡ Some bits → P (with_made bits (view_for r effort.passes soft bits))) → (repair_view r effort.passes soft ≡ None → first_codeword r effort.rounds soft ≡ None → P (without_certificate r effort soft)) → P (decided r effort soft)
   by_ways P hard repair found left =
       elim (cases_Bool (satisfies (code_of r) (hard_decision soft))) [
         | inl even ↦ subst P (sym (by_hard even)) (hard even)
-        | inr odd ↦ subst P (sym (not_hard odd)) (at_repair (repair_view r soft) refl)
+        | inr odd ↦ subst P (sym (not_hard odd)) (at_repair (repair_view r effort.passes soft) refl)
       ]
     where
       both : (b : Bool) (o : Option View) (view : View) → cond b o None ≡ Some view → (b ≡ true) × (o ≡ Some view)
       both true o view e = (refl, e)
       both false o view e = cc
 
-      at_min_sum : repair_view r soft ≡ None → (o : Option (List Bool)) → first_codeword r rounds soft ≡ o → P (by_min_sum r rounds soft o)
+      at_min_sum : repair_view r effort.passes soft ≡ None → (o : Option (List Bool)) → first_codeword r effort.rounds soft ≡ o → P (by_min_sum r effort soft o)
       at_min_sum none (Some bits) e = found bits none e
       at_min_sum none None e = left none e
 
-      at_repair : (o : Option View) → repair_view r soft ≡ o → P (by_repair r rounds soft o)
+      at_repair : (o : Option View) → repair_view r effort.passes soft ≡ o → P (by_repair r effort soft o)
       at_repair (Some view) e =
-          let is = both (satisfies (code_of r) (repaired (code_of r) soft)) (made_view r soft (repaired (code_of r) soft)) view e in
+          let is = both (satisfies (code_of r) (repaired (code_of r) soft)) (view_for r effort.passes soft (repaired (code_of r) soft)) view e in
           repair view is.0 is.1
-      at_repair None e = at_min_sum e (first_codeword r rounds soft) refl
+      at_repair None e = at_min_sum e (first_codeword r effort.rounds soft) refl

@@ -5,9 +5,9 @@ use Rattle.std.proofs.lemmas.Bool.{eq-eqb, ne_eqb, lt-ltb, le-ltb}
 use Rattle.std.specs.Io.KnownBytes.{Appends}
 use Rattle.s2_mode.specs.Mode.{Mode}
 use Rattle.s2_bbframe.specs.DataStream.{stream_of, cuts, fields_of, field_bytes, header_at}
-use Rattle.s2_modem.specs.declared.outcome.Counts.{Counts}
-use Rattle.s2_modem.specs.declared.outcome.SendFault.{SendFault}
-use Rattle.s2_modem.specs.declared.outcome.SendFault.TheVariants.{NotWholePacket, NoSync, Read, Write}
+use Rattle.s2_modem.specs.declared.send.outcome.Counts.{Counts}
+use Rattle.s2_modem.specs.declared.send.outcome.SendFault.{SendFault}
+use Rattle.s2_modem.specs.declared.send.outcome.SendFault.TheVariants.{NotWholePacket, NoSync, Read, Write}
 use Rattle.s2_modem.specs.Link.{Link}
 use Rattle.s2_modem.specs.Sending.{joined, AreFrames}
 use Rattle.s2_modem.specs.Laws.{IsLinkOf, FrameLaw, ReadFails, RunLaw}

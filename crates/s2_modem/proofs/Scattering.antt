@@ -1,5 +1,5 @@
 -- What is decided where the values are scattered about a codeword.
-use Rattle.std.proofs.Common.{◌≡◌, ◌≢◌, ℕ, ◌<◌, Bool, true, false, not, cond, List, length, get_or, ℤ, pos, int_lt, Option, None, Some, inl, inr, refl, sym, ap, subst, ◌∙◌, arith}
+use Rattle.std.proofs.Common.{◌≡◌, ◌≢◌, ℕ, ◌<◌, Bool, true, false, not, cond, List, get_or, ℤ, pos, int_lt, None, inl, inr, refl, sym, ap, ◌∙◌, arith}
 use Rattle.std.proofs.lemmas.Bool.{cases_Bool}
 use Rattle.std.proofs.lemmas.List.{ext_get_or, length-map}
 use Rattle.s2_rows.specs.Rows.{Rows}
@@ -9,12 +9,11 @@ use Rattle.s2_matrix.proofs.Members.{place_in_members}
 use Rattle.s2_check.specs.Cost.{value_at}
 use Rattle.s2_check.specs.Hard.{hard_decision}
 use Rattle.s2_split.specs.Scattered.{IsScattered, differs, repaired}
-use Rattle.s2_split.specs.Making.{made_view}
 use Rattle.s2_check.proofs.BoundListed.{check_at}
 use Rattle.s2_split.proofs.RepairLemmas.{odd_is, hard_at, count_some, repair_lem}
-use Rattle.s2_split.proofs.Accepted.{scattered_view}
 use Rattle.s2_receive.specs.declared.report.Verdict.TheVariants.{MostLikely}
-use Rattle.s2_modem.specs.Deciding.{Decided, satisfies, repair_view, ScatteredLaw}
+use Rattle.s2_modem.specs.Deciding.{Decided, satisfies, repair_view, view_for, Effort, ScatteredLaw}
+use Rattle.s2_modem.proofs.Certificates.{scattered_found}
 use Rattle.s2_modem.proofs.Decisions.{satisfied_codeword, codeword_satisfied, repair_made, by_ways}
 
 -- where the hard decision is a codeword, no place differs from the word that the values are scattered about
@@ -45,15 +44,15 @@ hard_scattered code soft word s codeword =
     ))
 
 -- the repair is that word, and has a certificate
-repair_shown : (r : Rows) (soft : List ℤ) (sent : List Bool) → IsScattered (code_of r) soft sent → repair_view r soft ≢ None
-repair_shown r soft sent s none =
+repair_shown : (r : Rows) (effort : Effort) (soft : List ℤ) (sent : List Bool) → IsScattered (code_of r) soft sent → repair_view r effort.passes soft ≢ None
+repair_shown r effort soft sent s none =
     let code = code_of r in
     let is = repair_lem code soft sent s in
     let even = ap (satisfies code) is ∙ codeword_satisfied code sent s.codeword in
-    scattered_view r soft sent s (ap (made_view r soft) (sym is) ∙ sym (repair_made r 0 soft even) ∙ none)
+    scattered_found r effort.passes soft sent s (ap (view_for r effort.passes soft) (sym is) ∙ sym (repair_made r effort soft even) ∙ none)
 
 pub scattered_lem : ScatteredLaw
-scattered_lem r rounds soft sent s =
+scattered_lem r effort soft sent s =
     let code = code_of r in
     let P : Decided → Type 0 = λ d. ((d.verdict ≡ MostLikely) × (d.bits ≡ sent)) in
-    by_ways r rounds soft P (λ even. (refl, hard_scattered code soft sent s (satisfied_codeword code (hard_decision soft) (length-map soft _ ∙ s.long) even))) (λ view even is. (refl, repair_lem code soft sent s)) (λ bits none is. absurd (repair_shown r soft sent s none)) (λ none is. absurd (repair_shown r soft sent s none))
+    by_ways r effort soft P (λ even. (refl, hard_scattered code soft sent s (satisfied_codeword code (hard_decision soft) (length-map soft _ ∙ s.long) even))) (λ view even is. (refl, repair_lem code soft sent s)) (λ bits none is. absurd (repair_shown r effort soft sent s none)) (λ none is. absurd (repair_shown r effort soft sent s none))

@@ -11,10 +11,10 @@ use Rattle.s2_mode.specs.Pieces.{AppendsPart}
 use Rattle.s2_modem.specs.Link.{Link}
 use Rattle.s2_modem.specs.Frames.{IsFrameOf}
 use Rattle.s2_bbframe.specs.DataStream.{IsPacket, Slicing, Sliced, IsReady, next_field, after_packet, gained, header_at, stream_of, full_fields, fields_of, field_bytes}
-use Rattle.s2_modem.specs.declared.outcome.Counts.{Counts}
-use Rattle.s2_modem.specs.declared.outcome.SendFault.{SendFault}
-use Rattle.s2_modem.specs.declared.outcome.SendFault.TheVariants.{Write}
-use Rattle.s2_modem.specs.Sending.{joined, AreFrames, Sends, FailsToSend, Runs, Outcome, EndsThere, Begins}
+use Rattle.s2_modem.specs.declared.send.outcome.Counts.{Counts}
+use Rattle.s2_modem.specs.declared.send.outcome.SendFault.{SendFault}
+use Rattle.s2_modem.specs.declared.send.outcome.SendFault.TheVariants.{Write}
+use Rattle.s2_modem.specs.Sending.{joined, AreFrames, SendsNext, FailsToSend, TransmitterRuns, Outcome, EndsThere, Begins}
 use Rattle.s2_modem.proofs.Waiting.{length_gained, ready_full, full_ready}
 use Rattle.s2_modem.proofs.FieldLemmas.{joined-push, AreFrames-push, IsFull, full_are, fields_are, fields_are_and}
 
@@ -53,9 +53,9 @@ module _ (link : Link) (r0 w0 : Option (List ℕ)) where
   pub one_more : (r r' w w' : Option (List ℕ)) (s s1 s2 : Slicing) (p f : ℕ) (buf : List ℕ) (b : Bool)
       → Sending link size r0 r w0 w s p f → 189 ≤ size → Consumes r r' buf → IsPacket buf
       → s1 ≡ after_packet buf s → ((ps fs : List (List ℕ)) → Sliced ps fs s → Sliced (ps ++ buf ∷ []) fs s1)
-      → (link' : Link) → link' ≡ link → Sends link' s1 s2 w w' b → Sending link size r0 r' w0 w' s2 (p + 1) (f + bool_byte b)
+      → (link' : Link) → link' ≡ link → SendsNext link' s1 s2 w w' b → Sending link size r0 r' w0 w' s2 (p + 1) (f + bool_byte b)
   one_more r r' w w' s s1 s2 p f buf true h large consumes packet is more link' same_link sent =
-      let sends = subst (λ x. Sends x s1 s2 w w' true) same_link sent in
+      let sends = subst (λ x. SendsNext x s1 s2 w w' true) same_link sent in
       let closed : s1.closed ≡ false = ap (λ x. x.closed) is ∙ h.goes_on in
       let size1 : s1.size ≡ size = ap (λ x. x.size) is ∙ h.size_is in
       let length1 : length s1.waiting ≡ length (s.waiting ++ gained s.begun buf) = ap (λ x. length x.waiting) is in
@@ -85,7 +85,7 @@ module _ (link : Link) (r0 w0 : Option (List ℕ)) where
         room = omega arith;
       }
   one_more r r' w w' s s1 s2 p f buf false h large consumes packet is more link' same_link sent =
-      let sends = subst (λ x. Sends x s1 s2 w w' false) same_link sent in
+      let sends = subst (λ x. SendsNext x s1 s2 w w' false) same_link sent in
       let closed : s1.closed ≡ false = ap (λ x. x.closed) is ∙ h.goes_on in
       let size1 : s1.size ≡ size = ap (λ x. x.size) is ∙ h.size_is in
       let same : s2 ≡ s1 = sends.1 in
@@ -120,7 +120,7 @@ module _ (link : Link) (r0 w0 : Option (List ℕ)) where
   -- a run that stops keeps what it has done
   pub stops : (r r' w : Option (List ℕ)) (s : Slicing) (p f : ℕ) (most : ℕ) (MayFail : ℕ → Type 0) (rest : List ℕ) (result : Result Counts SendFault)
       → (h : Sending link size r0 r w0 w s p f) → Consumes r r' rest → EndsThere result r' → Outcome most size MayFail h.ps rest h.fs result
-      → Begins link r' h.ps h.fs [] result → Runs link most MayFail r0 r' w0 w result
+      → Begins link r' h.ps h.fs [] result → TransmitterRuns link most MayFail r0 r' w0 w result
   stops r r' w s p f most MayFail rest result h more end outcome none = record {
     packets = h.ps;
     rest = rest;
@@ -156,9 +156,9 @@ module _ (link : Link) (r0 w0 : Option (List ℕ)) where
   -- the end, with the last field
   pub ends : (r r' w w' : Option (List ℕ)) (s s1 s2 : Slicing) (p f : ℕ) (b : Bool) (most : ℕ) (MayFail : ℕ → Type 0)
       → Sending link size r0 r w0 w s p f → 189 ≤ size → p < most → Consumes r r' [] → IsAtEnd r' → s1 ≡ record s { closed = true }
-      → (link' : Link) → link' ≡ link → Sends link' s1 s2 w w' b → Runs link most MayFail r0 r' w0 w' (Ok (record { packets = p; frames = f + bool_byte b }))
+      → (link' : Link) → link' ≡ link → SendsNext link' s1 s2 w w' b → TransmitterRuns link most MayFail r0 r' w0 w' (Ok (record { packets = p; frames = f + bool_byte b }))
   ends r r' w w' s s1 s2 p f true most MayFail h large few none end is link' same_link sent =
-      let sends = subst (λ x. Sends x s1 s2 w w' true) same_link sent in
+      let sends = subst (λ x. SendsNext x s1 s2 w w' true) same_link sent in
       let next = sends.2 h.ps h.fs (closed_sliced r w s s1 p f h is) in
       let p0 : p ≡ length h.ps = h.packet_count in
       let f0 : f ≡ length h.fs = h.frame_count in
@@ -177,7 +177,7 @@ module _ (link : Link) (r0 w0 : Option (List ℕ)) where
         written = none_behind w' (h.gs ++ next.1.0 ∷ []) (more_frames w w' h.gs next.1.0 h.written next.1.2);
       }
   ends r r' w w' s s1 s2 p f false most MayFail h large less none end is link' same_link sent =
-      let sends = subst (λ x. Sends x s1 s2 w w' false) same_link sent in
+      let sends = subst (λ x. SendsNext x s1 s2 w w' false) same_link sent in
       let closed : s1.closed ≡ true = ap (λ x. x.closed) is in
       let same : s1.waiting ≡ s.waiting = ap (λ x. x.waiting) is in
       let few : (0 < length s1.waiting) → ⊥ = λ k. sends.0 (subst (λ b. MatchBool b (0 < length s1.waiting) (s1.size ≤ length s1.waiting)) (sym closed) k) in
@@ -205,7 +205,7 @@ module _ (link : Link) (r0 w0 : Option (List ℕ)) where
       → All IsPacket ps → Consumes r0 r' (joined ps) → length ps ≤ most → AreFrames link 0 fs gs → Appends w0 w (joined gs)
       → (fs ++ field ∷ [] ≡ full_fields size (stream_of ps)) ⊎ ((fs ++ field ∷ [] ≡ fields_of size (stream_of ps)) × IsAtEnd r')
       → ((frame : List ℕ) × IsFrameOf link (header_at link.setup.roll_off (length (joined fs)) field) field frame × AppendsPart frame w w')
-      → Runs link most MayFail r0 r' w0 w' (Err Write)
+      → TransmitterRuns link most MayFail r0 r' w0 w' (Err Write)
   broken r' w w' most MayFail ps fs gs field each consumed within are written last next =
       let k = next.2.0 in
       record {
@@ -227,7 +227,7 @@ module _ (link : Link) (r0 w0 : Option (List ℕ)) where
   pub breaks : (r r' w w' : Option (List ℕ)) (s s1 : Slicing) (p f : ℕ) (buf : List ℕ) (most : ℕ) (MayFail : ℕ → Type 0)
       → Sending link size r0 r w0 w s p f → 189 ≤ size → p < most → Consumes r r' buf → IsPacket buf
       → s1 ≡ after_packet buf s → ((ps fs : List (List ℕ)) → Sliced ps fs s → Sliced (ps ++ buf ∷ []) fs s1)
-      → (link' : Link) → link' ≡ link → FailsToSend link' s1 w w' → Runs link most MayFail r0 r' w0 w' (Err Write)
+      → (link' : Link) → link' ≡ link → FailsToSend link' s1 w w' → TransmitterRuns link most MayFail r0 r' w0 w' (Err Write)
   breaks r r' w w' s s1 p f buf most MayFail h large less consumes packet is more link' same_link failed =
       let fails = subst (λ x. FailsToSend x s1 w w') same_link failed in
       let sliced1 = more h.ps h.fs h.sliced in
@@ -253,7 +253,7 @@ module _ (link : Link) (r0 w0 : Option (List ℕ)) where
   -- that of the last field
   pub breaks_at_end : (r r' w w' : Option (List ℕ)) (s s1 : Slicing) (p f : ℕ) (most : ℕ) (MayFail : ℕ → Type 0)
       → Sending link size r0 r w0 w s p f → p < most → Consumes r r' [] → IsAtEnd r' → s1 ≡ record s { closed = true }
-      → (link' : Link) → link' ≡ link → FailsToSend link' s1 w w' → Runs link most MayFail r0 r' w0 w' (Err Write)
+      → (link' : Link) → link' ≡ link → FailsToSend link' s1 w w' → TransmitterRuns link most MayFail r0 r' w0 w' (Err Write)
   breaks_at_end r r' w w' s s1 p f most MayFail h less none end is link' same_link failed =
       let fails = subst (λ x. FailsToSend x s1 w w') same_link failed in
       let p0 : p ≡ length h.ps = h.packet_count in

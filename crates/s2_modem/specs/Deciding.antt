@@ -1,6 +1,6 @@
 -- What the receiver decides on the soft values of one frame: the bits, a verdict on them, and a certificate where
 -- they are shown to be most likely. The first of four steps that succeeds decides.
-use Rattle.std.specs.Prelude.{◌≡◌, ◌≢◌, ℕ, ◌+◌, ◌%◌, ◌==◌, ◌≤◌, Bool, if◌then◌else◌, List, All, length, map, fold, ℤ, Option, None, Some, IfSome}
+use Rattle.std.specs.Prelude.{◌≡◌, ◌≢◌, ℕ, ◌+◌, ◌%◌, ◌==◌, ◌≤◌, Bool, if◌then◌else◌, List, length, map, fold, ℤ, Option, None, Some, IfSome}
 use Rattle.std.specs.List.{list_all, find}
 use Rattle.s2_rows.specs.Rows.{Rows}
 use Rattle.s2_matrix.specs.Total.{upto}
@@ -10,10 +10,20 @@ use Rattle.s2_check.specs.Hard.{hard_decision}
 use Rattle.s2_check.specs.Views.{View, unsplit_view}
 use Rattle.s2_check.specs.Checking.{IsCertificate}
 use Rattle.s2_split.specs.Scattered.{repaired, IsScattered}
-use Rattle.s2_split.specs.Making.{made_view}
+use Rattle.s2_split.specs.Making.{made_view, greedy_view}
+use Rattle.s2_settle.specs.Settled.{settled}
 use Rattle.s2_minsum.specs.Plain.{State, start, round, decision}
 use Rattle.s2_receive.specs.declared.report.Verdict.{Verdict}
 use Rattle.s2_receive.specs.declared.report.Verdict.TheVariants.{MostLikely, Parity, Broken}
+
+-- how much is tried: so many rounds of min-sum, and so many passes of settling; with no passes a certificate is made by
+-- greedy amounts and spreading
+pub record Effort : Type 0 where
+  pub rounds : ℕ
+  pub passes : ℕ
+
+abbrev pub effort_of : ℕ → ℕ → Effort
+effort_of rounds passes = record { rounds = rounds; passes = passes }
 
 -- a verdict, the bits that it speaks of, and their certificate
 pub record Decided : Type 0 where
@@ -50,12 +60,23 @@ abbrev pub first_codeword : Rows → ℕ → List ℤ → Option (List Bool)
 first_codeword r rounds soft =
     find (satisfies (code_of r)) (map (λ k. decoded_bits r soft (k + 1)) (upto rounds))
 
+-- ---- certificates of codewords
+
+abbrev pub or_else : Option View → Option View → Option View
+or_else (Some view) other = Some view
+or_else None other = other
+
+-- the certificate that is made for a codeword: by greedy amounts, else by spreading or by so many passes of settling
+abbrev pub view_for : Rows → ℕ → List ℤ → List Bool → Option View
+view_for r passes soft bits =
+    if passes == 0 then made_view r soft bits else or_else (greedy_view r soft bits) (settled r soft bits passes)
+
 -- ---- the steps, the last one first
 
 -- step 4: the repair where it satisfies every check, else min-sum's last hard decision
-abbrev pub without_certificate : Rows → ℕ → List ℤ → Decided
-without_certificate r rounds soft =
-    if satisfies (code_of r) (repaired (code_of r) soft) then uncertified Parity (repaired (code_of r) soft) else uncertified Broken (decoded_bits r soft rounds)
+abbrev pub without_certificate : Rows → Effort → List ℤ → Decided
+without_certificate r effort soft =
+    if satisfies (code_of r) (repaired (code_of r) soft) then uncertified Parity (repaired (code_of r) soft) else uncertified Broken (decoded_bits r soft effort.rounds)
 
 -- a codeword that min-sum found, with the certificate that is made for it, or with none
 abbrev pub with_made : List Bool → Option View → Decided
@@ -63,36 +84,36 @@ with_made bits (Some view) = certified bits view
 with_made bits None = uncertified Parity bits
 
 -- step 3: what min-sum found
-abbrev pub by_min_sum : Rows → ℕ → List ℤ → Option (List Bool) → Decided
-by_min_sum r rounds soft (Some bits) = with_made bits (made_view r soft bits)
-by_min_sum r rounds soft None = without_certificate r rounds soft
+abbrev pub by_min_sum : Rows → Effort → List ℤ → Option (List Bool) → Decided
+by_min_sum r effort soft (Some bits) = with_made bits (view_for r effort.passes soft bits)
+by_min_sum r effort soft None = without_certificate r effort soft
 
 -- the certificate that is made for the repair, if that satisfies every check
-abbrev pub repair_view : Rows → List ℤ → Option View
-repair_view r soft =
-    if satisfies (code_of r) (repaired (code_of r) soft) then made_view r soft (repaired (code_of r) soft) else None
+abbrev pub repair_view : Rows → ℕ → List ℤ → Option View
+repair_view r passes soft =
+    if satisfies (code_of r) (repaired (code_of r) soft) then view_for r passes soft (repaired (code_of r) soft) else None
 
 -- step 2: the repair with its certificate
-abbrev pub by_repair : Rows → ℕ → List ℤ → Option View → Decided
-by_repair r rounds soft (Some view) = certified (repaired (code_of r) soft) view
-by_repair r rounds soft None = by_min_sum r rounds soft (first_codeword r rounds soft)
+abbrev pub by_repair : Rows → Effort → List ℤ → Option View → Decided
+by_repair r effort soft (Some view) = certified (repaired (code_of r) soft) view
+by_repair r effort soft None = by_min_sum r effort soft (first_codeword r effort.rounds soft)
 
 -- step 1: the hard decision, where it satisfies every check
-unfoldable pub decided : Rows → ℕ → List ℤ → Decided
-decided r rounds soft =
-    if satisfies (code_of r) (hard_decision soft) then certified (hard_decision soft) (unsplit_view r soft (hard_decision soft)) else by_repair r rounds soft (repair_view r soft)
+unfoldable pub decided : Rows → Effort → List ℤ → Decided
+decided r effort soft =
+    if satisfies (code_of r) (hard_decision soft) then certified (hard_decision soft) (unsplit_view r soft (hard_decision soft)) else by_repair r effort soft (repair_view r effort.passes soft)
 
 -- ---- laws
 
 -- a hard decision that is a codeword is decided, by its unsplit certificate
 abbrev pub CleanLaw : Type 0
 CleanLaw =
-    (r : Rows) (rounds : ℕ) (soft : List ℤ) → IsCodeword (code_of r) (hard_decision soft) → decided r rounds soft ≡ certified (hard_decision soft) (unsplit_view r soft (hard_decision soft))
+    (r : Rows) (effort : Effort) (soft : List ℤ) → IsCodeword (code_of r) (hard_decision soft) → decided r effort soft ≡ certified (hard_decision soft) (unsplit_view r soft (hard_decision soft))
 
 -- bits that are called most likely are
 abbrev pub LikelyLaw : Type 0
 LikelyLaw =
-    (r : Rows) (rounds : ℕ) (soft : List ℤ) → length soft ≡ (code_of r).bits → (decided r rounds soft).verdict ≡ MostLikely → IsMostLikely (code_of r) soft (decided r rounds soft).bits
+    (r : Rows) (effort : Effort) (soft : List ℤ) → length soft ≡ (code_of r).bits → (decided r effort soft).verdict ≡ MostLikely → IsMostLikely (code_of r) soft (decided r effort soft).bits
 
 -- a certificate that is accepted, of these values and these bits
 pub record IsCertified (r : Rows) (soft : List ℤ) (bits : List Bool) (view : View) : Type 0 where
@@ -108,14 +129,14 @@ pub record IsShown (r : Rows) (soft : List ℤ) (d : Decided) : Type 0 where
 
 abbrev pub CertifiedLaw : Type 0
 CertifiedLaw =
-    (r : Rows) (rounds : ℕ) (soft : List ℤ) → length soft ≡ (code_of r).bits → IsShown r soft (decided r rounds soft)
+    (r : Rows) (effort : Effort) (soft : List ℤ) → length soft ≡ (code_of r).bits → IsShown r soft (decided r effort soft)
 
 -- bits that are not called broken satisfy every check, and those that are don't
 abbrev pub BrokenLaw : Type 0
 BrokenLaw =
-    (r : Rows) (rounds : ℕ) (soft : List ℤ) → length soft ≡ (code_of r).bits → 1 ≤ rounds → (((decided r rounds soft).verdict ≢ Broken → IsCodeword (code_of r) (decided r rounds soft).bits) × ((decided r rounds soft).verdict ≡ Broken → IsCodeword (code_of r) (decided r rounds soft).bits → ⊥))
+    (r : Rows) (effort : Effort) (soft : List ℤ) → length soft ≡ (code_of r).bits → 1 ≤ effort.rounds → (((decided r effort soft).verdict ≢ Broken → IsCodeword (code_of r) (decided r effort soft).bits) × ((decided r effort soft).verdict ≡ Broken → IsCodeword (code_of r) (decided r effort soft).bits → ⊥))
 
 -- where the values are scattered about a codeword, that is decided, with a certificate
 abbrev pub ScatteredLaw : Type 0
 ScatteredLaw =
-    (r : Rows) (rounds : ℕ) (soft : List ℤ) (sent : List Bool) → IsScattered (code_of r) soft sent → ((decided r rounds soft).verdict ≡ MostLikely) × ((decided r rounds soft).bits ≡ sent)
+    (r : Rows) (effort : Effort) (soft : List ℤ) (sent : List Bool) → IsScattered (code_of r) soft sent → ((decided r effort soft).verdict ≡ MostLikely) × ((decided r effort soft).bits ≡ sent)

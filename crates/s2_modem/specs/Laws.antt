@@ -3,12 +3,12 @@ use Rattle.std.specs.Prelude.{◌≡◌, ◌≢◌, ℕ, ◌+◌, ◌≤◌, ◌
 use Rattle.s2_mode.specs.Mode.{Mode}
 use Rattle.s2_bbframe.specs.DataStream.{field_bytes}
 use Rattle.s2_bbframe.specs.declared.header.Header.{Header}
-use Rattle.s2_modem.specs.declared.outcome.Counts.{Counts}
-use Rattle.s2_modem.specs.declared.outcome.SendFault.{SendFault}
-use Rattle.s2_modem.specs.declared.outcome.SendFault.TheVariants.{Read, Write}
+use Rattle.s2_modem.specs.declared.send.outcome.Counts.{Counts}
+use Rattle.s2_modem.specs.declared.send.outcome.SendFault.{SendFault}
+use Rattle.s2_modem.specs.declared.send.outcome.SendFault.TheVariants.{Read, Write}
 use Rattle.s2_modem.specs.Link.{Link, HasShape}
 use Rattle.s2_modem.specs.Frames.{IsFrameOf}
-use Rattle.s2_modem.specs.Sending.{Runs}
+use Rattle.s2_modem.specs.Sending.{TransmitterRuns}
 
 -- the links of a mode, with rows of its shape
 abbrev pub IsLinkOf : Mode → Link → Type 0
@@ -33,6 +33,6 @@ abbrev pub RunLaw : Mode → Type 0
 RunLaw m =
     (link : Link) (most : ℕ) (bytes held : List ℕ) (count_a count_b new_a new_b : ℕ) (reader_a reader_b writer_a writer_b : Option (List ℕ)) (a b : Result Counts SendFault)
     → IsLinkOf m link → NoneFailed a → NoneFailed b
-    → Runs link most (ReadFails most count_a new_a) (Some bytes) reader_a (Some held) writer_a a
-    → Runs link most (ReadFails most count_b new_b) (Some bytes) reader_b (Some held) writer_b b
+    → TransmitterRuns link most (ReadFails most count_a new_a) (Some bytes) reader_a (Some held) writer_a a
+    → TransmitterRuns link most (ReadFails most count_b new_b) (Some bytes) reader_b (Some held) writer_b b
     → (a ≡ b) × (writer_a ≡ writer_b)

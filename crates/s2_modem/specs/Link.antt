@@ -2,7 +2,7 @@
 use Rattle.std.specs.Prelude.{◌≡◌, ◌≢◌, ℕ, ◌<◌, ◌≤◌, Result, Ok, Err}
 use Rattle.s2_mode.specs.Mode.{shape_in}
 use Rattle.s2_rows.specs.Rows.{Rows}
-use Rattle.s2_modem.specs.declared.sending.TheConstants.{MOST_PACKETS}
+use Rattle.s2_modem.specs.declared.send.sending.TheConstants.{MOST_PACKETS}
 use Rattle.s2_modem.specs.declared.setup.Setup.{Setup}
 use Rattle.s2_modem.specs.declared.setup.SetupFault.{SetupFault}
 use Rattle.s2_modem.specs.declared.setup.SetupFault.TheVariants as faults
@@ -25,10 +25,11 @@ pub record Transmitter : Type 0 where
   pub limit : ℕ
 
 -- the answer for a setup and rows: the first of three refusals, or else a transmitter on the link, unless there is no memory
-abbrev pub Answers : Setup → Rows → Result Transmitter SetupFault → Type 0
-Answers setup rows (Ok t) = HasShape setup rows × (setup.number ≤ 262141) × (setup.roll_off ≤ 2) × (t ≡ record { link = link_of setup rows; limit = MOST_PACKETS })
-Answers setup rows (Err faults.OtherShape) = rows.shape ≢ shape_in setup.mode
-Answers setup rows (Err faults.BadNumber) = HasShape setup rows × (262141 < setup.number)
-Answers setup rows (Err faults.BadRollOff) = HasShape setup rows × (setup.number ≤ 262141) × (2 < setup.roll_off)
-Answers setup rows (Err faults.BadRounds) = ⊥
-Answers setup rows (Err faults.NoMemory) = HasShape setup rows × (setup.number ≤ 262141) × (setup.roll_off ≤ 2)
+abbrev pub TransmitterAnswers : Setup → Rows → Result Transmitter SetupFault → Type 0
+TransmitterAnswers setup rows (Ok t) = HasShape setup rows × (setup.number ≤ 262141) × (setup.roll_off ≤ 2) × (t ≡ record { link = link_of setup rows; limit = MOST_PACKETS })
+TransmitterAnswers setup rows (Err faults.OtherShape) = rows.shape ≢ shape_in setup.mode
+TransmitterAnswers setup rows (Err faults.BadNumber) = HasShape setup rows × (262141 < setup.number)
+TransmitterAnswers setup rows (Err faults.BadRollOff) = HasShape setup rows × (setup.number ≤ 262141) × (2 < setup.roll_off)
+TransmitterAnswers setup rows (Err faults.BadRounds) = ⊥
+TransmitterAnswers setup rows (Err faults.BadPasses) = ⊥
+TransmitterAnswers setup rows (Err faults.NoMemory) = HasShape setup rows × (setup.number ≤ 262141) × (setup.roll_off ≤ 2)

@@ -1,5 +1,5 @@
 -- What the parts of a receiver hold.
-use Rattle.std.specs.Prelude.{◌≡◌, ℕ, ◌*◌, ◌≤◌, Bool, List, length, take, Option, Some, None, ℤ}
+use Rattle.std.specs.Prelude.{◌≡◌, ℕ, ◌*◌, ◌≤◌, Bool, List, Option, Some, None, ℤ}
 use Rattle.s2_mode.specs.Mode.{Mode, kbch_of, k_of, n_of, slots_of, shape_in, HasCodeSizes}
 use Rattle.s2_rows.specs.Rows.{Rows}
 use Rattle.s2_bits.specs.Bits.{differences}
@@ -12,6 +12,7 @@ use Rattle.s2_receive.specs.Receiving.{Decision}
 use Rattle.s2_receive.specs.declared.parts.Decided.{Decided}
 use Rattle.s2_receive.specs.declared.report.Outcome.{Outcome}
 use Rattle.s2_receive.specs.declared.report.Outcome.TheVariants.{NoWord}
+use Rattle.s2_modem.specs.Deciding.{Effort}
 use Rattle.s2_modem.specs.declared.setup.Setup.{Setup}
 use Rattle.s2_modem.specs.Link.{Link}
 use Rattle.s2_bch.specs.Decoding.{nearest}
@@ -29,10 +30,10 @@ Reads m word (Some fixed) outcome delivered =
     × (delivered ≡ delivered_by (scrambled (message_of m word)) (reading m (header_in (scrambled (message_of m word)))))
 Reads m word None outcome delivered = (outcome ≡ NoWord) × (delivered ≡ None)
 
--- a decider of frames: its link, the rounds of its judge, what it decided last, and the data field that came of that
+-- a decider of frames: its link, how much its judge tries, what it decided last, and the data field that came of that
 pub record Listening : Type 0 where
   pub link : Link
-  pub rounds : ℕ
+  pub effort : Effort
   pub last : Decision
   pub field : List ℕ
 

@@ -11,31 +11,33 @@ use Rattle.s2_modem.specs.declared.setup.SetupFault.{SetupFault}
 use Rattle.s2_modem.specs.declared.setup.SetupFault.TheVariants as faults
 use Rattle.s2_modem.specs.declared.receive.whole.DemodFault.{DemodFault}
 use Rattle.s2_modem.specs.declared.receive.whole.DemodFault.TheVariants as demod_faults
+use Rattle.s2_modem.specs.Deciding.{Effort}
 use Rattle.s2_modem.specs.Link.{Link, link_of, HasShape}
 use Rattle.s2_modem.specs.Passing.{passes_as}
 use Rattle.s2_modem.specs.Reports.{frame_decision}
 use Rattle.s2_modem.specs.ReportLines.{frame_line, cut_line, end_line}
 
 -- a link's rules: its header, its frames, what is decided of them, the lines of the report, and how many symbols are taken
-abbrev pub link_rules : Link → ℕ → ℕ → Rules
-link_rules link rounds limit =
-    rules_of (passes_as link.setup.mode) (symbols_in link.setup.mode) (frame_decision link rounds) frame_line cut_line end_line limit
+abbrev pub link_rules : Link → Effort → ℕ → Rules
+link_rules link effort limit =
+    rules_of (passes_as link.setup.mode) (symbols_in link.setup.mode) (frame_decision link effort) frame_line cut_line end_line limit
 
--- a receiver: its link, the rounds of min-sum, how many symbols it takes at most, where it stands, and what it decided last
+-- a receiver: its link, how much is tried, how many symbols it takes at most, where it stands, and what it decided last
 pub record Receiver : Type 0 where
   pub link : Link
-  pub rounds : ℕ
+  pub effort : Effort
   pub limit : ℕ
   pub state : State
   pub last : Decision
 
 abbrev pub rules_for : Receiver → Rules
-rules_for r = link_rules r.link r.rounds r.limit
+rules_for r = link_rules r.link r.effort r.limit
 
--- 1 to 200 rounds of min-sum
-pub record HasRounds (rounds : ℕ) : Type 0 where
-  pub some : 1 ≤ rounds
-  pub most : rounds ≤ 200
+-- 1 to 200 rounds of min-sum, and at most 1000 passes of settling
+pub record HasEffort (effort : Effort) : Type 0 where
+  pub some : 1 ≤ effort.rounds
+  pub most : effort.rounds ≤ 200
+  pub passes : effort.passes ≤ 1000
 
 -- the matrix is of the mode's shape, and the scrambling number and the roll-off are some
 pub record IsSetUp (setup : Setup) (rows : Rows) : Type 0 where
@@ -44,26 +46,27 @@ pub record IsSetUp (setup : Setup) (rows : Rows) : Type 0 where
   pub roll_off : setup.roll_off ≤ 2
 
 -- when each refusal comes: the first of five
-abbrev pub Refuses : Setup → Rows → ℕ → SetupFault → Type 0
-Refuses setup rows rounds faults.OtherShape = rows.shape ≢ shape_in setup.mode
-Refuses setup rows rounds faults.BadNumber = HasShape setup rows × (262141 < setup.number)
-Refuses setup rows rounds faults.BadRollOff = HasShape setup rows × (setup.number ≤ 262141) × (2 < setup.roll_off)
-Refuses setup rows rounds faults.BadRounds = IsSetUp setup rows × ((rounds ≡ 0) ⊎ (200 < rounds))
-Refuses setup rows rounds faults.NoMemory = IsSetUp setup rows × HasRounds rounds
+abbrev pub Refuses : Setup → Rows → Effort → SetupFault → Type 0
+Refuses setup rows effort faults.OtherShape = rows.shape ≢ shape_in setup.mode
+Refuses setup rows effort faults.BadNumber = HasShape setup rows × (262141 < setup.number)
+Refuses setup rows effort faults.BadRollOff = HasShape setup rows × (setup.number ≤ 262141) × (2 < setup.roll_off)
+Refuses setup rows effort faults.BadRounds = IsSetUp setup rows × ((effort.rounds ≡ 0) ⊎ (200 < effort.rounds))
+Refuses setup rows effort faults.BadPasses = IsSetUp setup rows × (1 ≤ effort.rounds) × (effort.rounds ≤ 200) × (1000 < effort.passes)
+Refuses setup rows effort faults.NoMemory = IsSetUp setup rows × HasEffort effort
 
--- a new receiver of a setup, rows and rounds
-pub record IsNew (setup : Setup) (rows : Rows) (rounds : ℕ) (r : Receiver) : Type 0 where
+-- a new receiver of a setup, rows and an effort
+pub record IsNew (setup : Setup) (rows : Rows) (effort : Effort) (r : Receiver) : Type 0 where
   pub set_up : IsSetUp setup rows
-  pub has_rounds : HasRounds rounds
+  pub has_effort : HasEffort effort
   pub link : r.link ≡ link_of setup rows
-  pub rounds_are : r.rounds ≡ rounds
+  pub effort_is : r.effort ≡ effort
   pub limit : r.limit ≡ MOST_SYMBOLS
   pub state : r.state ≡ begun
 
--- the answer for a setup, rows and rounds
-abbrev pub Makes : Setup → Rows → ℕ → Result Receiver SetupFault → Type 0
-Makes setup rows rounds (Ok r) = IsNew setup rows rounds r
-Makes setup rows rounds (Err fault) = Refuses setup rows rounds fault
+-- the answer for a setup, rows and an effort
+abbrev pub Makes : Setup → Rows → Effort → Result Receiver SetupFault → Type 0
+Makes setup rows effort (Ok r) = IsNew setup rows effort r
+Makes setup rows effort (Err fault) = Refuses setup rows effort fault
 
 -- ---- whole streams in memory
 
@@ -75,12 +78,12 @@ pub record Receives (rules : Rules) (bytes : List ℕ) (packets_old packets_new 
   pub totals_are : totals ≡ state.standing.totals
 
 -- the answer for bytes: all that they spell, or the beginning of it up to a write that failed, or a refusal that writes nothing
-abbrev pub Demodulates : Setup → Rows → ℕ → List ℕ → (packets_old packets_new report_old report_new : Option (List ℕ)) → Result Totals DemodFault → Type 0
-Demodulates setup rows rounds bytes p p' w w' (Ok totals) =
-    IsSetUp setup rows × HasRounds rounds × Receives (link_rules (link_of setup rows) rounds MOST_SYMBOLS) bytes p p' w w' totals
-Demodulates setup rows rounds bytes p p' w w' (Err demod_faults.Write) =
-    IsSetUp setup rows × HasRounds rounds × BreaksAfter (link_rules (link_of setup rows) rounds MOST_SYMBOLS) begun (Some bytes) p p' w w'
-Demodulates setup rows rounds bytes p p' w w' (Err (demod_faults.Setup fault)) = Refuses setup rows rounds fault × (p' ≡ p) × (w' ≡ w)
+abbrev pub Demodulates : Setup → Rows → Effort → List ℕ → (packets_old packets_new report_old report_new : Option (List ℕ)) → Result Totals DemodFault → Type 0
+Demodulates setup rows effort bytes p p' w w' (Ok totals) =
+    IsSetUp setup rows × HasEffort effort × Receives (link_rules (link_of setup rows) effort MOST_SYMBOLS) bytes p p' w w' totals
+Demodulates setup rows effort bytes p p' w w' (Err demod_faults.Write) =
+    IsSetUp setup rows × HasEffort effort × BreaksAfter (link_rules (link_of setup rows) effort MOST_SYMBOLS) begun (Some bytes) p p' w w'
+Demodulates setup rows effort bytes p p' w w' (Err (demod_faults.Setup fault)) = Refuses setup rows effort fault × (p' ≡ p) × (w' ≡ w)
 
 -- ---- what a receiver holds
 

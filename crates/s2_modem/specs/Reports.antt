@@ -1,5 +1,5 @@
 -- What is decided and delivered of a frame's symbols.
-use Rattle.std.specs.Prelude.{ℕ, ◌+◌, ◌*◌, ◌/◌, Bool, List, length, map, take, Option, Some, None, Result, Ok, Err, ℤ}
+use Rattle.std.specs.Prelude.{ℕ, ◌+◌, ◌*◌, ◌/◌, Bool, List, map, take, Option, Some, None, Result, Ok, Err, ℤ}
 use Rattle.std.specs.List.{range_with_len}
 use Rattle.s2_mode.specs.Mode.{Mode, kbch_of, k_of}
 use Rattle.s2_mode.specs.declared.symbols.Symbol.{Symbol}
@@ -14,7 +14,7 @@ use Rattle.s2_receive.specs.Receiving.{Decision}
 use Rattle.s2_receive.specs.declared.report.Outcome.{Outcome}
 use Rattle.s2_receive.specs.declared.report.Outcome.TheVariants.{Delivered, NoWord, BadHeader}
 use Rattle.s2_modem.specs.Link.{Link}
-use Rattle.s2_modem.specs.Deciding.{Decided, decided}
+use Rattle.s2_modem.specs.Deciding.{Decided, decided, Effort}
 use Rattle.s2_bch.specs.Decoding.{nearest}
 
 -- the soft values of a frame's codeword
@@ -78,6 +78,6 @@ abbrev pub decision_on : Mode → List ℤ → Decided → Decision
 decision_on m soft d = decision_by m soft d (nearest m (received_word m d.bits))
 
 -- what is decided of a frame's symbols
-unfoldable pub frame_decision : Link → ℕ → List Symbol → Decision
-frame_decision link rounds symbols =
-    decision_on link.setup.mode (frame_soft link symbols) (decided link.rows rounds (frame_soft link symbols))
+unfoldable pub frame_decision : Link → Effort → List Symbol → Decision
+frame_decision link effort symbols =
+    decision_on link.setup.mode (frame_soft link symbols) (decided link.rows effort (frame_soft link symbols))

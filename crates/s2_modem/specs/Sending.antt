@@ -6,9 +6,9 @@ use Rattle.s2_mode.specs.Pieces.{AppendsPart}
 use Rattle.s2_bbframe.specs.DataStream.{IsPacket, stream_of, full_fields, fields_of, header_at, field_bytes, Slicing, Sliced, IsReady, next_field, after_field}
 use Rattle.s2_modem.specs.Link.{Link}
 use Rattle.s2_modem.specs.Frames.{IsFrameOf}
-use Rattle.s2_modem.specs.declared.outcome.Counts.{Counts}
-use Rattle.s2_modem.specs.declared.outcome.SendFault.{SendFault}
-use Rattle.s2_modem.specs.declared.outcome.SendFault.TheVariants.{NotWholePacket, NoSync, Read, Write}
+use Rattle.s2_modem.specs.declared.send.outcome.Counts.{Counts}
+use Rattle.s2_modem.specs.declared.send.outcome.SendFault.{SendFault}
+use Rattle.s2_modem.specs.declared.send.outcome.SendFault.TheVariants.{NotWholePacket, NoSync, Read, Write}
 
 -- what stands in one list after another
 abbrev pub joined : List (List ℕ) → List ℕ
@@ -66,7 +66,7 @@ Begins link reader_new packets fields begun result = begun ≡ []
 -- A run accepted these packets, read the rest behind them and no more, and wrote the frames of these data fields, and behind
 -- them nothing but the beginning of a frame that failed. It takes at most so many packets, and `MayFail` says of a number of
 -- packets that a read may fail behind them.
-pub record Runs (link : Link) (most : ℕ) (MayFail : ℕ → Type 0) (reader_old reader_new writer_old writer_new : Option (List ℕ)) (result : Result Counts SendFault) : Type 0 where
+pub record TransmitterRuns (link : Link) (most : ℕ) (MayFail : ℕ → Type 0) (reader_old reader_new writer_old writer_new : Option (List ℕ)) (result : Result Counts SendFault) : Type 0 where
   pub packets : List (List ℕ)
   pub rest : List ℕ
   pub fields : List (List ℕ)
@@ -86,12 +86,12 @@ abbrev pub IsNextFrame : Link → List (List ℕ) → Slicing → List ℕ → T
 IsNextFrame link fields s frame = IsFrameOf link (header_at link.setup.roll_off (length (joined fields)) (next_field s)) (next_field s) frame
 
 -- The next data field's frame is written exactly where a field can be taken.
-abbrev pub Sends : Link → Slicing → Slicing → Option (List ℕ) → Option (List ℕ) → Bool → Type 0
-Sends link old new writer_old writer_new true =
+abbrev pub SendsNext : Link → Slicing → Slicing → Option (List ℕ) → Option (List ℕ) → Bool → Type 0
+SendsNext link old new writer_old writer_new true =
     IsReady old × (new ≡ after_field old)
     × ((packets fields : List (List ℕ)) → Sliced packets fields old → Sliced packets (fields ++ next_field old ∷ []) new
     × ((frame : List ℕ) × IsNextFrame link fields old frame × Appends writer_old writer_new frame))
-Sends link old new writer_old writer_new false = (IsReady old → ⊥) × (new ≡ old) × (writer_new ≡ writer_old)
+SendsNext link old new writer_old writer_new false = (IsReady old → ⊥) × (new ≡ old) × (writer_new ≡ writer_old)
 
 -- Where that fails, a field could be taken, and a part of its frame is written.
 abbrev pub FailsToSend : Link → Slicing → Option (List ℕ) → Option (List ℕ) → Type 0

@@ -1,4 +1,5 @@
 //! What the definitions determine: each a call that does nothing, whose clause is the law.
+ghost use Rattle.s2_modem.specs.Limits.{LimitsLaw};
 ghost use Rattle.s2_modem.specs.Laws.{FrameLaw, RunLaw};
 ghost use Rattle.s2_modem.specs.Headline.{LikelyFrameLaw, BothCodesLaw, ScatteredFrameLaw, HearsLaw, ArrivalLaw};
 ghost use Rattle.s2_modem.specs.Streams.{FirstFramesLaw, OneStreamLaw};
@@ -73,4 +74,9 @@ pub fn first_frames(mode: Mode)
 /// and come to the same totals and the same answer, however their readers cut the bytes.
 pub fn one_stream()
     ensures { OneStreamLaw }
+{}
+
+/// The limit that is tested, [`crate::MOST_PACKETS`], is 2^32 packets.
+pub fn limits()
+    ensures { LimitsLaw }
 {}

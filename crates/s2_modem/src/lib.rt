@@ -21,27 +21,23 @@
 //! let setup = Setup { mode, number: 0, roll_off: 0 };
 //! let mut transmitter = Transmitter::new(alloc, setup, &matrix)?;
 //! let counts = transmitter.run(&mut reader, &mut writer)?;
-//! let mut receiver = Receiver::new(alloc, setup, &matrix, 50)?;
+//! let mut receiver = Receiver::new(alloc, setup, &matrix, 50, 0)?;
 //! let step = receiver.next(&mut symbols, &mut packets, &mut report)?;
 //! ```
 #![tactic(auto)]
 
-mod coder;
-mod framer;
 pub mod laws;
-mod modulator;
-mod outcome;
 pub mod receive;
-mod sending;
+mod send;
 mod setup;
-mod spelling;
-mod transmitter;
 
-pub use outcome::{Counts, SendFault};
-pub use receive::{DemodFault, Judge, MOST_ROUNDS, Receiver, demodulate};
-pub use sending::MOST_PACKETS;
+pub use receive::{DemodFault, Judge, MOST_PASSES, MOST_ROUNDS, Receiver, demodulate};
+pub use send::{Counts, MOST_PACKETS, SendFault, Transmitter};
 pub use setup::{MOST_ROLL_OFF, Setup, SetupFault};
-pub use transmitter::Transmitter;
 
+#[cfg(test)]
+mod memory_tests;
+#[cfg(test)]
+mod streams;
 #[cfg(test)]
 mod tests;

@@ -2,6 +2,7 @@
 mod bytes;
 mod decider;
 pub mod deciding_laws;
+mod ground;
 mod judge;
 mod lines;
 mod receiver;
@@ -9,8 +10,12 @@ mod search;
 mod whole;
 
 pub use judge::Judge;
-pub use receiver::{MOST_ROUNDS, Receiver};
+pub use receiver::{MOST_PASSES, MOST_ROUNDS, Receiver};
 pub use whole::{DemodFault, demodulate};
 
 #[cfg(test)]
+mod hostile_tests;
+#[cfg(test)]
 mod judge_tests;
+#[cfg(test)]
+mod tests;

@@ -30,6 +30,9 @@ pub enum SetupFault {
     /// The rounds of a receiver are not 1 to 200.
     #[error("no such number of rounds")]
     BadRounds,
+    /// The passes of a receiver are over 1000.
+    #[error("no such number of passes")]
+    BadPasses,
     #[error("no memory")]
     NoMemory,
 }

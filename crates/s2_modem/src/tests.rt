@@ -1,14 +1,20 @@
 //! The transmitter on known streams. The symbols are those of the modulator in plain C.
-use crate::spelling::frame_bits_into;
-use crate::{Counts, SendFault, Setup, SetupFault, Transmitter};
+use crate::send::bits::frame_bits_into;
+use crate::streams::{
+    Link, link_of, packet_of_zeros, packets_of, send, send_all, symbols_of, transmitter_of,
+};
+use crate::{Counts, SendFault, Setup, SetupFault};
 use s2_bbframe::Header;
 use s2_bits::Bits;
 use s2_matrix::Matrix;
-use s2_mode::{ByOne, Counted, Counting, FailAt, InMemory, Mode, Shape};
+use s2_mode::{ByOne, Endless, FailAt, Mode, Shape};
 use s2_rows::make_rows;
 use s2_scramble::bb_xor_in_place;
 use std::alloc::Global;
 use std::test::Fail;
+
+/// The bytes of a short frame of QPSK.
+const FRAME: usize = 4 * 8190;
 
 /// A sum of bytes in which each place counts.
 fn sum_of(bytes: &[u8]) -> u64 {
@@ -19,178 +25,159 @@ fn sum_of(bytes: &[u8]) -> u64 {
     sum
 }
 
-fn setup_of(modcod: u8, short: bool, pilots: bool) -> Result<Setup, Fail> {
-    let mode = Mode::of(modcod, short, pilots).ok_or("no mode")?;
-    Ok(Setup {
-        mode,
-        number: 0,
-        roll_off: 0,
-    })
+fn counts(packets: u64, frames: u64) -> Counts {
+    Counts { packets, frames }
 }
 
-/// The matrix of rows of weight 3 that seed 1 makes.
-fn matrix_of(alloc: Global, mode: Mode) -> Result<Matrix, Fail> {
-    let rows = make_rows(alloc, mode.shape(), 3, 1)?;
-    Ok(Matrix::build(alloc, &rows)?)
+/// What is sent of these packets: the counts, how many bytes, and their sum.
+fn sent(alloc: Global, link: &Link, packets: &[u8]) -> Result<(Counts, usize, u64), Fail> {
+    let sent = send(alloc, link, u32::MAX, packets, Vec::new(alloc))?;
+    Ok((sent.answer?, sent.writer.len(), sum_of(&sent.writer)))
 }
 
-/// A packet of zeros.
-fn packet_of_zeros() -> [u8; 188] {
-    let mut packet = [0; 188];
-    packet[0] = 0x47;
-    packet
-}
-
-/// Two packets that count in steps of 7.
-fn counting_packets() -> [u8; 376] {
-    let mut packets = [0u8; 376];
-    for p in 0..2usize {
-        packets[188 * p] = 0x47;
-        for i in 0..187usize {
-            packets[188 * p + 1 + i] = ((7 * i + p + 1) % 256) as u8;
-        }
-    }
-    packets
-}
-
-/// What is sent of these packets by rows of weight 3: the counts, how many bytes, and their sum.
-fn sent(alloc: Global, setup: Setup, packets: &[u8]) -> Result<(Counts, usize, u64), Fail> {
-    let matrix = matrix_of(alloc, setup.mode)?;
-    let mut transmitter = Transmitter::new(alloc, setup, &matrix)?;
-    let mut writer = Counting::new(Vec::new(alloc));
-    let counts = transmitter.run(&mut InMemory::new(packets), &mut writer)?;
-    let bytes = writer.into_inner();
-    Ok((counts, bytes.len(), sum_of(&bytes)))
-}
-
-const ONE: Counts = Counts {
-    packets: 1,
-    frames: 1,
-};
-
+/// QPSK 1/4, and 8PSK 3/4 and, in short frames under the last number, 3/5 with pilots.
 #[test]
 fn sends_a_single_packet(rt: HostRuntime) -> Result<(), Fail> {
-    let sent = sent(rt.alloc(), setup_of(1, false, false)?, &packet_of_zeros())?;
-    assert_eq!(rt; sent, (ONE, 4 * 32490, 3895363348699734475));
+    let cases = [
+        (1, false, false, 0, 0, 4 * 32490, 3895363348699734475),
+        (14, false, true, 5, 2, 4 * 22194, 7255257953277741230),
+        (12, true, true, 262141, 1, 4 * 5598, 10383846973982908413),
+    ];
+    for (modcod, short, pilots, number, roll_off, bytes, sum) in cases {
+        let mut link = link_of(rt.alloc(), modcod, short)?;
+        link.setup = Setup {
+            mode: Mode::of(modcod, short, pilots).ok_or("no mode")?,
+            number,
+            roll_off,
+        };
+        let sent = sent(rt.alloc(), &link, &packet_of_zeros())?;
+        assert_eq!(rt; sent, (counts(1, 1), bytes, sum), "MODCOD {modcod}");
+    }
     Ok(())
 }
 
 #[test]
-fn sends_8psk_with_pilots(rt: HostRuntime) -> Result<(), Fail> {
-    let mut setup = setup_of(14, false, true)?;
-    setup.number = 5;
-    setup.roll_off = 2;
-    assert_eq!(rt;
-        sent(rt.alloc(), setup, &packet_of_zeros())?,
-        (ONE, 4 * 22194, 7255257953277741230)
-    );
-    Ok(())
-}
-
-#[test]
-fn sends_8psk_3_5_short_under_the_last_number(rt: HostRuntime) -> Result<(), Fail> {
-    let mut setup = setup_of(12, true, true)?;
-    setup.number = 262141;
-    setup.roll_off = 1;
-    assert_eq!(rt;
-        sent(rt.alloc(), setup, &packet_of_zeros())?,
-        (ONE, 4 * 5598, 10383846973982908413)
-    );
-    Ok(())
-}
-
-#[test]
-fn sends_nothing_of_nothing(rt: HostRuntime) -> Result<(), Fail> {
-    let none = Counts {
-        packets: 0,
-        frames: 0,
-    };
-    assert_eq!(rt;
-        sent(rt.alloc(), setup_of(1, false, false)?, &[])?,
-        (none, 0, 0)
-    );
-    Ok(())
-}
-
-#[test]
-fn sends_two_packets_however_they_are_read(rt: HostRuntime) -> Result<(), Fail> {
-    let packets = counting_packets();
-    let setup = setup_of(1, true, false)?;
-    let want = Counts {
-        packets: 2,
-        frames: 2,
-    };
-    assert_eq!(rt;
-        sent(rt.alloc(), setup, &packets)?,
-        (want, 8 * 8190, 2965807906010956920)
-    );
-    let matrix = matrix_of(rt.alloc(), setup.mode)?;
-    let mut transmitter = Transmitter::new(rt.alloc(), setup, &matrix)?;
-    let mut reader = Counting::new(ByOne::new(&packets));
-    let mut writer = Counting::new(Vec::new(rt.alloc()));
-    assert_eq!(rt; transmitter.run(&mut reader, &mut writer), Ok(want));
-    assert_eq!(rt; sum_of(&writer.into_inner()), 2965807906010956920);
+fn sends_none_or_two_packets(rt: HostRuntime) -> Result<(), Fail> {
+    let link = link_of(rt.alloc(), 1, true)?;
+    let none = sent(rt.alloc(), &link, &[])?;
+    assert_eq!(rt; none, (counts(0, 0), 0, 0));
+    let two = sent(rt.alloc(), &link, &packets_of(rt.alloc(), 2)?)?;
+    assert_eq!(rt; two, (counts(2, 2), 2 * FRAME, 2965807906010956920));
     Ok(())
 }
 
 #[test]
 fn begins_a_new_stream_after_a_refusal(rt: HostRuntime) -> Result<(), Fail> {
-    let setup = setup_of(1, false, false)?;
-    let matrix = matrix_of(rt.alloc(), setup.mode)?;
-    let mut transmitter = Transmitter::new(rt.alloc(), setup, &matrix)?;
-    let mut writer = Counting::new(Vec::new(rt.alloc()));
-    let mut packets = counting_packets();
-    packets[188] = 0x48;
-    let no_sync = transmitter.run(&mut InMemory::new(&packets), &mut writer);
-    assert_eq!(rt; no_sync, Err(SendFault::NoSync { packet: 2 }));
-    assert!(rt; writer.count() < 1);
-    let short = transmitter.run(&mut InMemory::new(&[0x47; 187]), &mut writer);
-    assert_eq!(rt; short, Err(SendFault::NotWholePacket));
-    assert!(rt; writer.count() < 1);
-    assert_eq!(rt;
-        transmitter.run(&mut InMemory::new(&packet_of_zeros()), &mut writer),
-        Ok(ONE)
-    );
-    assert_eq!(rt; sum_of(&writer.into_inner()), 3895363348699734475);
+    let link = link_of(rt.alloc(), 1, false)?;
+    let good = packet_of_zeros();
+    let mut no_sync = [0x47; 376];
+    no_sync[188] = 0x48;
+    let streams = [no_sync.as_slice(), [0x47; 187].as_slice(), good.as_slice()];
+    let all = send_all(rt.alloc(), &link, &streams)?;
+    let want = [
+        (Err(SendFault::NoSync { packet: 2 }), 0),
+        (Err(SendFault::NotWholePacket), 0),
+        (Ok(counts(1, 1)), 3895363348699734475),
+    ];
+    assert_eq!(rt; all.len(), 3);
+    for (sent, (answer, sum)) in all.iter().zip(want.iter()) {
+        assert_eq!(rt; sent.answer, *answer);
+        assert_eq!(rt; sent.failed, [0, 0]);
+        assert_eq!(rt; sum_of(&sent.writer), *sum);
+    }
+    Ok(())
+}
+
+/// The link of QPSK 1/4 in short frames, two packets, and their symbols.
+fn two_packets(alloc: Global) -> Result<(Link, Vec<u8>, Vec<u8>), Fail> {
+    let link = link_of(alloc, 1, true)?;
+    let packets = packets_of(alloc, 2)?;
+    let symbols = symbols_of(alloc, &link, &packets)?;
+    Ok((link, packets, symbols))
+}
+
+/// The first frame is full once both packets are accepted, so it stands where the end can't be read.
+#[test]
+fn each_read_fails_in_turn(rt: HostRuntime) -> Result<(), Fail> {
+    let (link, packets, symbols) = two_packets(rt.alloc())?;
+    for at in 0..378u64 {
+        let reader = FailAt::new(ByOne::new(&packets), at);
+        let sent = send(rt.alloc(), &link, u32::MAX, reader, Vec::new(rt.alloc()))?;
+        let (want, failed, length) = match at {
+            0..376 => (Err(SendFault::Read), [1, 0], 0),
+            376 => (Err(SendFault::Read), [1, 0], FRAME),
+            _ => (Ok(counts(2, 2)), [0, 0], 2 * FRAME),
+        };
+        assert_eq!(rt; (sent.answer, sent.failed), (want, failed), "read {at}");
+        assert!(rt; sent.writer.len() == length && symbols.starts_with(&sent.writer));
+    }
     Ok(())
 }
 
 #[test]
-fn tells_what_failed(rt: HostRuntime) -> Result<(), Fail> {
-    let packets = counting_packets();
-    let setup = setup_of(1, true, false)?;
-    let matrix = matrix_of(rt.alloc(), setup.mode)?;
-    let mut transmitter = Transmitter::new(rt.alloc(), setup, &matrix)?;
-    let mut writer = Counting::new(Vec::new(rt.alloc()));
-    let mut reader = Counting::new(FailAt::new(ByOne::new(&packets), 376));
-    assert_eq!(rt;
-        transmitter.run(&mut reader, &mut writer),
-        Err(SendFault::Read)
-    );
-    assert_eq!(rt; reader.count(), 1);
-    assert_eq!(rt; writer.into_inner().len(), 4 * 8190);
-    let mut writer = Counting::new(FailAt::new(Vec::new(rt.alloc()), 1));
-    let failed = transmitter.run(&mut InMemory::new(&packets), &mut writer);
-    assert_eq!(rt; failed, Err(SendFault::Write));
-    assert_eq!(rt; writer.count(), 1);
+fn each_write_fails_in_turn(rt: HostRuntime) -> Result<(), Fail> {
+    let (link, packets, symbols) = two_packets(rt.alloc())?;
+    let cases = [
+        (0, 0, Err(SendFault::Write), [0, 1]),
+        (1, FRAME, Err(SendFault::Write), [0, 1]),
+        (2, 2 * FRAME, Ok(counts(2, 2)), [0, 0]),
+    ];
+    for (at, length, want, failed) in cases {
+        let writer = FailAt::new(Vec::new(rt.alloc()), at);
+        let sent = send(rt.alloc(), &link, u32::MAX, packets.as_slice(), writer)?;
+        assert_eq!(rt; (sent.answer, sent.failed), (want, failed), "write {at}");
+        let written = sent.writer.into_inner();
+        assert!(rt; written.len() == length && symbols.starts_with(&written));
+    }
     Ok(())
+}
+
+#[test]
+fn takes_no_more_packets_than_its_limit(rt: HostRuntime) -> Result<(), Fail> {
+    let link = link_of(rt.alloc(), 1, true)?;
+    let packet = packet_of_zeros();
+    let sent = send(
+        rt.alloc(),
+        &link,
+        3,
+        Endless::new(&packet),
+        Vec::new(rt.alloc()),
+    )?;
+    assert_eq!(rt; sent.answer, Err(SendFault::Read));
+    assert_eq!(rt; sent.failed, [0, 0]);
+    assert_eq!(rt; sent.writer.len(), FRAME);
+    Ok(())
+}
+
+/// Why there is no transmitter of this number and roll-off.
+fn refusal(
+    alloc: Global,
+    number: u32,
+    roll_off: u8,
+    other_shape: bool,
+) -> Result<Option<SetupFault>, Fail> {
+    let mut link = link_of(alloc, 1, true)?;
+    link.setup.number = number;
+    link.setup.roll_off = roll_off;
+    if other_shape {
+        let toy = Shape::new(4, 2, 3).ok_or("no shape")?;
+        link.matrix = Matrix::build(alloc, &make_rows(alloc, toy, 3, 1)?)?;
+    }
+    Ok(transmitter_of(alloc, &link).err())
 }
 
 #[test]
 fn refuses_setups_in_order(rt: HostRuntime) -> Result<(), Fail> {
-    let mut setup = setup_of(1, true, false)?;
-    setup.number = 262142;
-    setup.roll_off = 3;
-    let toy = Shape::new(4, 2, 3).ok_or("no shape")?;
-    let small = Matrix::build(rt.alloc(), &make_rows(rt.alloc(), toy, 3, 1)?)?;
-    let other = Transmitter::new(rt.alloc(), setup, &small).err();
-    assert_eq!(rt; other, Some(SetupFault::OtherShape));
-    let matrix = matrix_of(rt.alloc(), setup.mode)?;
-    let number = Transmitter::new(rt.alloc(), setup, &matrix).err();
-    assert_eq!(rt; number, Some(SetupFault::BadNumber));
-    setup.number = 262141;
-    let roll_off = Transmitter::new(rt.alloc(), setup, &matrix).err();
-    assert_eq!(rt; roll_off, Some(SetupFault::BadRollOff));
+    let cases = [
+        (262142, 3, true, Some(SetupFault::OtherShape)),
+        (262142, 3, false, Some(SetupFault::BadNumber)),
+        (262141, 3, false, Some(SetupFault::BadRollOff)),
+        (262141, 2, false, None),
+    ];
+    for (number, roll_off, other_shape, want) in cases {
+        let fault = refusal(rt.alloc(), number, roll_off, other_shape)?;
+        assert_eq!(rt; fault, want, "number {number}, roll-off {roll_off}");
+    }
     Ok(())
 }
 
@@ -220,6 +207,7 @@ fn prints_setup_faults(rt: HostRuntime) -> Result<(), Fail> {
         (SetupFault::BadNumber, "no such scrambling number"),
         (SetupFault::BadRollOff, "no such roll-off"),
         (SetupFault::BadRounds, "no such number of rounds"),
+        (SetupFault::BadPasses, "no such number of passes"),
         (SetupFault::NoMemory, "no memory"),
     ];
     for (fault, want) in texts {

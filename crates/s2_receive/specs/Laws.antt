@@ -6,7 +6,7 @@ use Rattle.s2_bbframe.specs.declared.header.Header.{Header}
 use Rattle.s2_bbframe.specs.DataStream.{IsPacket, stream_of, fields_of, header_at}
 use Rattle.s2_bbframe.specs.Joining.{Event, gap, joining, closed_in}
 use Rattle.s2_receive.specs.Meeting.{Met, frame, cut, ended, starts, met_from}
-use Rattle.s2_receive.specs.Receiving.{Rules, Decision, Standing, State, Went, Answers, RunsOut, begun, delivery, at_start, after_all, all_packets, all_lines}
+use Rattle.s2_receive.specs.Receiving.{Rules, Decision, Standing, State, Went, StepAnswers, RunsOut, begun, delivery, at_start, after_all, all_packets, all_lines}
 use Rattle.s2_receive.specs.declared.report.Step.{Step}
 use Rattle.s2_mode.specs.Symbols.{symbols_of}
 use Rattle.std.specs.Io.KnownBytes.{Appends}
@@ -120,6 +120,6 @@ abbrev pub SameStepLaw : Type 0
 SameStepLaw =
     (rules : Rules) (old first second : State) (bytes other : List ℕ) (left other_left p p' q q' w w' v v' : Option (List ℕ)) (step other_step : Step)
     → symbols_of bytes ≡ symbols_of other
-    → Answers rules old first (Some bytes) left p p' w w' (Ok step) → Answers rules old second (Some other) other_left q q' v v' (Ok other_step)
+    → StepAnswers rules old first (Some bytes) left p p' w w' (Ok step) → StepAnswers rules old second (Some other) other_left q q' v v' (Ok other_step)
     → (step ≡ other_step) × (first.phase ≡ second.phase) × (first.standing ≡ second.standing)
     × ((met : List Met) × HasGiven rules old first p p' w w' met × HasGiven rules old second q q' v v' met)

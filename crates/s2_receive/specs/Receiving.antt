@@ -198,12 +198,12 @@ pub record BreaksOff (rules : Rules) (old : State) (reader_old packets_old packe
   pub part : FailsIn (packets_of rules old.standing met) (line_of rules old.standing met) packets_old packets_new report_old report_new
 
 -- what a call answers where more could be met
-abbrev pub Answers : Rules → State → State → (reader_old reader_new packets_old packets_new report_old report_new : Option (List ℕ)) → Result Step Fault → Type 0
-Answers rules old new r r' p p' w w' (Ok step) =
+abbrev pub StepAnswers : Rules → State → State → (reader_old reader_new packets_old packets_new report_old report_new : Option (List ℕ)) → Result Step Fault → Type 0
+StepAnswers rules old new r r' p p' w w' (Ok step) =
     (met : Met) × (step ≡ step_of rules old.standing met) × (new.phase ≡ phase_after met) × Went rules old new r r' p p' w w' (met ∷ [])
-Answers rules old new r r' p p' w w' (Err faults.Read) = new.phase ≡ phases.Failed
-Answers rules old new r r' p p' w w' (Err faults.Write) = (new.phase ≡ phases.Failed) × BreaksOff rules old r p p' w w'
-Answers rules old new r r' p p' w w' (Err faults.Failed) = ⊥
+StepAnswers rules old new r r' p p' w w' (Err faults.Read) = new.phase ≡ phases.Failed
+StepAnswers rules old new r r' p p' w w' (Err faults.Write) = (new.phase ≡ phases.Failed) × BreaksOff rules old r p p' w w'
+StepAnswers rules old new r r' p p' w w' (Err faults.Failed) = ⊥
 
 -- how many symbols were taken after a step: up to the frame's end, or to the end of what there is of a cut one
 abbrev pub StandsBehind : ℕ → ℕ → Result Step Fault → Type 0

@@ -1,7 +1,7 @@
 //! The receiver between two steps.
 ghost use Rattle.std.specs.Prelude.{◌≡◌, ◌≢◌, ◌+◌, ◌-◌, ◌*◌, ◌^◌, ◌<◌, ◌≤◌, ◌⊎◌, Ok, Err, IfOk, IsErrOf, length};
 ghost use Rattle.s2_receive.specs.declared.report.Report.{Report as ReportValue};
-ghost use Rattle.s2_receive.specs.Receiving.{IsLive, Answers, MetFrame, Reaches, StandsBehind, begun, rules_of, state_of};
+ghost use Rattle.s2_receive.specs.Receiving.{IsLive, StepAnswers, MetFrame, Reaches, StandsBehind, begun, rules_of, state_of};
 ghost use Rattle.s2_receive.specs.Stepping.{IsSound};
 
 use crate::parts::{Decide, Lines};
@@ -120,7 +120,7 @@ impl<S: Search, D: Decide, L: Lines> Receiver<S, D, L> {
         ensures takes { length self.new.frame.items ≡ D.size self.new.decider }
         ensures rules { rules_of (S.passes self.new.search) (length self.new.frame.items) (D.decide self.new.decider) (L.frame_line self.new.lines) (L.cut_line self.new.lines) (L.end_line self.new.lines) self.new.limit
             ≡ rules_of (S.passes self.old.search) (length self.old.frame.items) (D.decide self.old.decider) (L.frame_line self.old.lines) (L.cut_line self.old.lines) (L.end_line self.old.lines) self.old.limit }
-        ensures live { IsLive self.old.place.phase → Answers
+        ensures live { IsLive self.old.place.phase → StepAnswers
             (rules_of (S.passes self.old.search) (length self.old.frame.items) (D.decide self.old.decider) (L.frame_line self.old.lines) (L.cut_line self.old.lines) (L.end_line self.old.lines) self.old.limit)
             (state_of self.old.place.phase self.old.place.at self.old.joiner self.old.place.totals) (state_of self.new.place.phase self.new.place.at self.new.joiner self.new.place.totals)
             (R.remaining reader.old) (R.remaining reader.new)

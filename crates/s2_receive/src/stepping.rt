@@ -5,7 +5,7 @@ ghost use Rattle.std.specs.Io.KnownBytes.{Appends};
 ghost use Rattle.s2_mode.specs.Counts.{CountsFault};
 ghost use Rattle.s2_mode.specs.Pieces.{AppendsPart};
 ghost use Rattle.s2_receive.specs.declared.report.Report.{Report as ReportValue};
-ghost use Rattle.s2_receive.specs.Receiving.{IsLive, Answers, MetFrame, Reaches, StandsBehind, joined_after, totals_after, cut_totals, count_of, rules_of, state_of, report_for};
+ghost use Rattle.s2_receive.specs.Receiving.{IsLive, StepAnswers, MetFrame, Reaches, StandsBehind, joined_after, totals_after, cut_totals, count_of, rules_of, state_of, report_for};
 ghost use Rattle.s2_receive.specs.Stepping.{Fits, HasRoom, FailsIn};
 
 use crate::delivering::{Given, give_packets};
@@ -106,7 +106,7 @@ pub(crate) fn take_step<
     requires bytes { length bytes.old ≡ 4 * length frame.old }
     requires takes { length frame.old ≡ D.size decider.old }
     requires fits { Fits limit place.old.at place.old.totals }
-    ensures live { IsLive place.old.phase → Answers
+    ensures live { IsLive place.old.phase → StepAnswers
         (rules_of (S.passes search.old) (length frame.old) (D.decide decider.old) (L.frame_line lines.now) (L.cut_line lines.now) (L.end_line lines.now) limit)
         (state_of place.old.phase place.old.at joiner.old place.old.totals) (state_of place.new.phase place.new.at joiner.new place.new.totals)
         (R.remaining reader.old) (R.remaining reader.new) (P.contents packets.old) (P.contents packets.new) (W.contents report.old) (W.contents report.new) result }

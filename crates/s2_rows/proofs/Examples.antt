@@ -76,7 +76,7 @@ is_text_of : IsTextOf (codes "-5 07\n") (negsuc 4 ∷ pos 7 ∷ [])
 unfolding digits
 is_text_of = ([], codes "-5", codes " 07\n", refl, tt, minus 0 5 (omega arith) refl refl, refl, (codes " ", codes "07", codes "\n", refl, (refl, tt), plain 1 7 (omega arith) refl refl, refl, (refl, tt)))
 
-values_refused_large : reading_values (codes "1\n64") 2 ≡ Err (value_faults.OutOfRange 2)
+values_refused_large : reading_values (codes "1\n512") 2 ≡ Err (value_faults.OutOfRange 2)
 unfolding values_of digits_from pieces_of
 values_refused_large = refl
 

@@ -32,4 +32,6 @@ pub use values::{ValueFault, read_values};
 pub use write::write_rows;
 
 #[cfg(test)]
+mod memory_tests;
+#[cfg(test)]
 mod tests;

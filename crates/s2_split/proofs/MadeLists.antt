@@ -10,6 +10,7 @@ use Rattle.s2_check.specs.Moves.{in_favour, moves, no_move, placed_of, listed, a
 use Rattle.s2_check.specs.declared.step.Move.{Move}
 use Rattle.s2_check.specs.Split.{Split}
 use Rattle.s2_split.specs.Making.{shared, AreLeft}
+use Rattle.s2_rows.specs.Limits.{most_soft}
 use Rattle.s2_split.specs.Spreading.{has_no_negative_rest, spread, split_by, made_split}
 use Rattle.s2_split.specs.Greedy.{Moved, none_moved, greedy}
 use Rattle.s2_bits.specs.Bits.{bit_at}
@@ -98,7 +99,7 @@ start_kept code soft word s rests ms lr lm some are none_held = record {
   };
 }
 
-low_signs : (b : Bool) (v : ℤ) → neg_ℤ (pos 63) ≤ℤ v → v ≤ℤ pos 63 → neg_ℤ (pos 63) ≤ℤ cond b (neg_ℤ v) v
+low_signs : (b : Bool) (v : ℤ) → neg_ℤ (pos most_soft) ≤ℤ v → v ≤ℤ pos most_soft → neg_ℤ (pos most_soft) ≤ℤ cond b (neg_ℤ v) v
 low_signs true v l h = omega (arith, ints)
 low_signs false v l h = omega (arith, ints)
 
@@ -126,10 +127,10 @@ shared_if code b split other e = ap (λ t. shared code (cond t (Some split) othe
 shared_else : (code : Code) (b : Bool) (split : Split) (other : Option Split) → b ≡ false → shared code (cond b (Some split) other) ≡ shared code other
 shared_else code b split other e = ap (λ t. shared code (cond t (Some split) other)) e
 
-pub made_greedy : (code : Code) (soft : List ℤ) (word : List Bool) (rests : List ℤ) (ms : List Move) → AreKept code soft word 1 (greedy code soft word) rests ms → has_no_negative_rest code soft word 1 (greedy code soft word) ≡ true → Some (record { scale = 1; shares = all_shares code (placed_of code word 1 ms) }) ≡ shared code (made_split code soft word)
-made_greedy code soft word rests ms kept h =
+pub shared_greedy : (code : Code) (soft : List ℤ) (word : List Bool) (rests : List ℤ) (ms : List Move) (other : Option Split) → AreKept code soft word 1 (greedy code soft word) rests ms → has_no_negative_rest code soft word 1 (greedy code soft word) ≡ true → Some (record { scale = 1; shares = all_shares code (placed_of code word 1 ms) }) ≡ shared code (cond (has_no_negative_rest code soft word 1 (greedy code soft word)) (Some (moves word 1 (greedy code soft word).target (greedy code soft word).amount)) other)
+shared_greedy code soft word rests ms other kept h =
     let g = greedy code soft word in
-    sym (shared_if code (has_no_negative_rest code soft word 1 g) (moves word 1 g.target g.amount) (split_by word 16 (spread code soft word 64 none_moved)) h ∙ ap (λ (l : List ℤ). Some (record { scale = 1; shares = l })) (same_shares code word 1 g ms kept.held))
+    sym (shared_if code (has_no_negative_rest code soft word 1 g) (moves word 1 g.target g.amount) other h ∙ ap (λ (l : List ℤ). Some (record { scale = 1; shares = l })) (same_shares code word 1 g ms kept.held))
 
 pub made_spread : (code : Code) (soft : List ℤ) (word : List Bool) (found : Bool) (rests : List ℤ) (ms : List Move) → Ends code soft word (spread code soft word 64 none_moved) found rests ms → has_no_negative_rest code soft word 1 (greedy code soft word) ≡ false → cond found (Some (record { scale = 16; shares = all_shares code (placed_of code word 1 ms) })) None ≡ shared code (made_split code soft word)
 made_spread code soft word found rests ms ends h =

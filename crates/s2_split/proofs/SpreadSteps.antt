@@ -1,19 +1,22 @@
 -- The lists after one check has spread.
-use Rattle.std.proofs.Common.{◌≡◌, ◌≢◌, ℕ, ◌<◌, ◌≤◌, ◌==◌, nat_lt, Bool, true, false, not, cond, List, [], ◌∷◌, length, get_or, set, map, filter, fold, All, ℤ, pos, neg_ℤ, ◌+ℤ◌, ◌-ℤ◌, ◌≤ℤ◌, int_lt, inl, inr, refl, sym, ap, ap₂, subst, ◌∙◌, arith}
+use Rattle.std.proofs.Common.{◌≡◌, ◌≢◌, ℕ, ◌<◌, ◌≤◌, ◌==◌, nat_lt, Bool, true, false, not, cond, List, [], ◌∷◌, length, get_or, set, map, filter, fold, All, ℤ, pos, neg_ℤ, ◌+ℤ◌, ◌-ℤ◌, ◌≤ℤ◌, int_lt, inl, inr, refl, sym, ap, ap₂, subst, ◌∙◌, arith, ne_eqb}
 use Rattle.std.specs.Int.{int_min}
 use Rattle.std.specs.List.{AllPairs, list_any}
-use Rattle.std.proofs.lemmas.Bool.{cases_Bool, cases_eq, cond-false, ltb-true}
+use Rattle.std.proofs.lemmas.Bool.{cases_Bool, cases_eq, cases_lt, cond-false, ltb-true}
 use Rattle.std.proofs.lemmas.Int.{ints}
-use Rattle.std.proofs.lemmas.List.{set-get_or, ext_get_or}
+use Rattle.std.proofs.lemmas.List.{set-get_or, get_or_past, get_or-map, length-map}
+use Rattle.std.proofs.lemmas.List.FromFn.{length-range_with_len, get_or-range_with_len}
 use Rattle.std.proofs.lemmas.List.Elements.{All-filter, All-head, All-tail}
 use Rattle.s2_matrix.specs.Code.{Code, members}
 use Rattle.s2_matrix.proofs.Members.{members_below}
+use Rattle.std.proofs.lemmas.List.Folds.{list_any_none}
+use Rattle.s2_matrix.specs.Total.{upto}
 use Rattle.s2_check.specs.Moves.{no_move}
 use Rattle.s2_check.specs.declared.step.Move.{Move}
 use Rattle.s2_split.specs.Scattered.{least_of}
 use Rattle.s2_split.specs.Greedy.{Moved, rest_at, put}
-use Rattle.s2_split.specs.Spreading.{least_member, spread_amount, amount_to, give_back, spread_check}
-use Rattle.s2_split.specs.Kept.{taken_at, AreRests, IsHeld, AreKept}
+use Rattle.s2_split.specs.Spreading.{most_moved, least_member, spread_amount, amount_to, give_back, spread_check}
+use Rattle.s2_split.specs.Kept.{most_between, taken_at, given_back, AreRests, IsHeld, AreKept}
 use Rattle.s2_split.proofs.FittingLemmas.{none_given'}
 use Rattle.s2_split.proofs.GreedyLemmas.{put_same, put_other}
 use Rattle.s2_split.proofs.Shifts.{given, rest_change, taken_back}
@@ -23,7 +26,7 @@ use Rattle.s2_split.proofs.Steps.{with_move, rests_given, held_as, held_own, mov
 
 -- ---- what is moved
 
-pub gap_is : (f : ℕ → ℤ) (ms : List ℕ) (e : ℕ) (rest other : ℤ) → AllPairs (λ a b. a < b) ms → ((k : ℕ) → f k ≤ℤ pos 1000000000) → (1 ≤ length ms → rest ≡ f e) → other ≡ fold int_min (pos 2147483647) (map f (filter (λ i. not (i == e)) ms)) → cond (nat_lt 1 (length ms)) (spread_amount rest other) 0 ≡ amount_to f ms e
+pub gap_is : (f : ℕ → ℤ) (ms : List ℕ) (e : ℕ) (rest other : ℤ) → AllPairs (λ a b. a < b) ms → ((k : ℕ) → f k ≤ℤ pos most_between) → (1 ≤ length ms → rest ≡ f e) → other ≡ fold int_min (pos 2147483647) (map f (filter (λ i. not (i == e)) ms)) → cond (nat_lt 1 (length ms)) (spread_amount rest other) 0 ≡ amount_to f ms e
 gap_is f ms e rest other rising small is other_is =
     elim (cases_Bool (nat_lt 1 (length ms))) [
       | inl two ↦ (
@@ -147,7 +150,7 @@ among_held code j f own h = record {
   unmoved = λ none. h.unmoved (h.amount_is ∙ none);
 }
 
-pub spread_step : (code : Code) (soft : List ℤ) (word : List Bool) (m : Moved) (j : ℕ) (own : Move) (rests rests1 rests2 : List ℤ) (moves : List Move) → AreKept code soft word 16 m rests moves → j < code.checks → length rests1 ≡ length rests → ((k : ℕ) → get_or rests1 k (pos 0) ≡ get_or rests k (pos 0) -ℤ taken_at (members code j) (target_of code j (get_or moves j no_move)) (neg_ℤ (pos (get_or moves j no_move).amount)) k) → IsHeld code j (least_member (λ i. get_or rests1 i (pos 0)) (members code j)) (amount_to (λ i. get_or rests1 i (pos 0)) (members code j) (least_member (λ i. get_or rests1 i (pos 0)) (members code j))) own → own.amount ≤ 1048576 → length rests2 ≡ length rests1 → ((k : ℕ) → get_or rests2 k (pos 0) ≡ get_or rests1 k (pos 0) -ℤ taken_at (members code j) (target_of code j own) (pos own.amount) k) → AreKept code soft word 16 (spread_check code soft word m j) rests2 (set moves j own)
+pub spread_step : (code : Code) (soft : List ℤ) (word : List Bool) (m : Moved) (j : ℕ) (own : Move) (rests rests1 rests2 : List ℤ) (moves : List Move) → AreKept code soft word 16 m rests moves → j < code.checks → length rests1 ≡ length rests → ((k : ℕ) → get_or rests1 k (pos 0) ≡ get_or rests k (pos 0) -ℤ taken_at (members code j) (target_of code j (get_or moves j no_move)) (neg_ℤ (pos (get_or moves j no_move).amount)) k) → IsHeld code j (least_member (λ i. get_or rests1 i (pos 0)) (members code j)) (amount_to (λ i. get_or rests1 i (pos 0)) (members code j) (least_member (λ i. get_or rests1 i (pos 0)) (members code j))) own → own.amount ≤ most_moved → length rests2 ≡ length rests1 → ((k : ℕ) → get_or rests2 k (pos 0) ≡ get_or rests1 k (pos 0) -ℤ taken_at (members code j) (target_of code j own) (pos own.amount) k) → AreKept code soft word 16 (spread_check code soft word m j) rests2 (set moves j own)
 unfolding with_move
 spread_step code soft word m j own rests rests1 rests2 moves kept h long1 is1 here small long2 is2 =
     let m1 = give_back m j in
@@ -175,17 +178,53 @@ taken_again true true a = omega (arith, ints)
 taken_again true false a = omega (arith, ints)
 taken_again false c a = refl
 
--- a move that is made again leaves both lists as they were
-pub moved_again : (ms : List ℕ) (t : Move → ℕ) (j : ℕ) (own : Move) (rests rests1 rests2 : List ℤ) (moves : List Move) → own ≡ get_or moves j no_move → length rests1 ≡ length rests → ((k : ℕ) → get_or rests1 k (pos 0) ≡ get_or rests k (pos 0) -ℤ taken_at ms (t (get_or moves j no_move)) (neg_ℤ (pos (get_or moves j no_move).amount)) k) → length rests2 ≡ length rests1 → ((k : ℕ) → get_or rests2 k (pos 0) ≡ get_or rests1 k (pos 0) -ℤ taken_at ms (t own) (pos own.amount) k) → (rests2 ≡ rests) × (set moves j own ≡ moves)
-moved_again ms t j own rests rests1 rests2 moves same long1 is1 long2 is2 = (
-  ext_get_or (pos 0) rests2 rests (long2 ∙ long1) (λ k low. (
-      let was = get_or moves j no_move in
-      let again = ap (λ (v : Move). taken_at ms (t v) (pos v.amount) k) same in
-      let none = taken_again (list_any (λ m. m == k) ms) (k == t was) was.amount in
-      let sum : get_or rests2 k (pos 0) ≡ get_or rests k (pos 0) = omega (arith, ints, is1 k, is2 k, again, none) in sum
-      )),
-  ap (set moves j) same ∙ set-get_or moves j no_move,
-)
+-- a move that is made again leaves the rests as they were
+pub same_rests : (rests : List ℤ) (ms : List ℕ) (held own : Move) → own ≡ held → (k : ℕ) → get_or rests k (pos 0) ≡ given_back rests ms held k -ℤ taken_at ms (get_or ms own.place 0) (pos own.amount) k
+same_rests rests ms held own same k =
+    let again = ap (λ (v : Move). taken_at ms (get_or ms v.place 0) (pos v.amount) k) same in
+    let none = taken_again (list_any (λ m. m == k) ms) (k == get_or ms held.place 0) held.amount in
+    omega (arith, ints, again, none)
+
+-- nothing is taken from a place past all members
+none_past : (ms : List ℕ) (n k t : ℕ) (a : ℤ) → All (λ i. i < n) ms → n ≤ k → taken_at ms t a k ≡ pos 0
+none_past ms n k t a below past =
+    let none = list_any_none (λ m. m == k) ms (λ p d within. ne_eqb (get_or ms p d) k (λ same. (let low = below p d within in omega arith))) in
+    ap (λ b. cond b (cond (k == t) (neg_ℤ a) a) (pos 0)) none
+
+listed_at : (f : ℕ → ℤ) (n k : ℕ) → (n ≤ k → f k ≡ pos 0) → get_or (map f (upto n)) k (pos 0) ≡ f k
+listed_at f n k past =
+    elim (cases_lt k n) [
+      | inl low ↦ (
+          let place : get_or (upto n) k 0 ≡ k = omega (arith, get_or-range_with_len 0 n k 0 low) in
+          get_or-map f (upto n) k 0 (pos 0) (omega (arith, length-range_with_len 0 n)) ∙ ap f place
+          )
+      | inr high ↦ get_or_past (map f (upto n)) k (pos 0) (omega (arith, length-map (upto n) f, length-range_with_len 0 n)) ∙ sym (past high)
+    ]
+
+-- a check's move is given back, and another is made
+pub anew_step : (code : Code) (soft : List ℤ) (word : List Bool) (m : Moved) (j : ℕ) (own : Move) (rests rests2 : List ℤ) (moves : List Move) → AreKept code soft word 16 m rests moves → j < code.checks → IsHeldAmong (members code j) (given_back rests (members code j) (get_or moves j no_move)) own → own.amount ≤ most_moved → length rests2 ≡ length rests → ((k : ℕ) → get_or rests2 k (pos 0) ≡ given_back rests (members code j) (get_or moves j no_move) k -ℤ taken_at (members code j) (target_of code j own) (pos own.amount) k) → AreKept code soft word 16 (spread_check code soft word m j) rests2 (set moves j own)
+anew_step code soft word m j own rests rests2 moves kept h among few long is =
+    let ms = members code j in
+    let was = get_or moves j no_move in
+    let f = given_back rests ms was in
+    let rests1 = map f (upto code.bits) in
+    let g = λ (k : ℕ). get_or rests1 k (pos 0) in
+    let nothing = λ (k : ℕ) (past : code.bits ≤ k). (
+    let none = none_past ms code.bits k (target_of code j was) (neg_ℤ (pos was.amount)) (members_below code j) past in
+    let rest = get_or_past rests k (pos 0) (omega (arith, kept.left.long)) in
+    let zero : f k ≡ pos 0 = omega (arith, ints, none, rest) in zero
+    ) in
+    let at = λ (k : ℕ). listed_at f code.bits k (nothing k) in
+    let all : All (λ x. f x ≡ g x) ms = λ k d within. sym (at (get_or ms k d)) in
+    let to = least_member_same f g ms all in
+    let here : IsHeldAmong ms g own = record {
+      place = among.place;
+      amount_is = among.amount_is ∙ amount_same f g ms all;
+      target_is = λ some. among.target_is some ∙ to;
+      unmoved = among.unmoved;
+    } in
+    let long1 : length rests1 ≡ length rests = length-map (upto code.bits) f ∙ length-range_with_len 0 code.bits ∙ sym kept.left.long in
+    spread_step code soft word m j own rests rests1 rests2 moves kept h long1 at (among_held code j g own here) few (long ∙ sym long1) (λ k. is k ∙ ap (λ v. v -ℤ taken_at ms (target_of code j own) (pos own.amount) k) (sym (at k)))
 
 -- ---- a check that is passed over
 
@@ -227,14 +266,3 @@ idle_step code soft word m j rests moves kept h none_held all =
     let still = λ (k : ℕ). (let nil = ap (λ a. taken_at ms t (pos a) k) none_held ∙ taken_none ms t k in let same : f k ≡ f k -ℤ taken_at ms t (pos own.amount) k = omega (arith, ints, nil) in same) in
     let after = spread_step code soft word m j own rests rests rests moves kept h refl stays here (omega (arith, none_held)) refl still in
     subst (λ (l : List Move). AreKept code soft word 16 (spread_check code soft word m j) rests l) (set-get_or moves j no_move) after
-
--- a change of a rest by one amount
-pub still_within : (ms : List ℕ) (t k : ℕ) (a old new : ℤ) → new ≡ old -ℤ taken_at ms t a k → neg_ℤ (pos 1048576) ≤ℤ a → a ≤ℤ pos 1048576 → (neg_ℤ (pos 30000000) ≤ℤ old) × (old ≤ℤ pos 30000000) → (neg_ℤ (pos 900000000) ≤ℤ new) × (new ≤ℤ pos 900000000)
-still_within ms t k a old new is low high within =
-    elim (cases_Bool (list_any (λ m. m == k) ms)) [
-      | inl there ↦ elim (cases_Bool (k == t)) [
-        | inl same ↦ (let e : taken_at ms t a k ≡ neg_ℤ a = rw there (rw same refl) in (omega (arith, ints, within.0), omega (arith, ints, within.1)))
-        | inr other ↦ (let e : taken_at ms t a k ≡ a = rw there (rw other refl) in (omega (arith, ints, within.0), omega (arith, ints, within.1)))
-      ]
-      | inr none ↦ (let e : taken_at ms t a k ≡ pos 0 = rw none refl in (omega (arith, ints, within.0), omega (arith, ints, within.1)))
-    ]

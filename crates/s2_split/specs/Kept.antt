@@ -1,13 +1,17 @@
 -- What the maker's lists hold while it works: for each bit its rest, for each check its move.
-use Rattle.std.specs.Prelude.{◌≡◌, ◌≢◌, ℕ, ◌<◌, ◌≤◌, ◌==◌, Bool, true, false, if◌then◌else◌, Option, None, Some, List, length, get_or, All, ℤ, pos, neg_ℤ, ◌*ℤ◌, ◌≤ℤ◌}
+use Rattle.std.specs.Prelude.{◌≡◌, ◌≢◌, ℕ, ◌+◌, ◌*◌, ◌<◌, ◌≤◌, ◌==◌, Bool, true, false, if◌then◌else◌, Option, None, Some, List, length, get_or, All, filter, fold, ℤ, pos, neg_ℤ, ◌*ℤ◌, ◌-ℤ◌, ◌≤ℤ◌}
 use Rattle.std.specs.List.{list_any}
+use Rattle.s2_matrix.specs.Total.{upto}
 use Rattle.s2_matrix.specs.Code.{Code, members, checks_of}
 use Rattle.s2_bits.specs.Bits.{bit_at}
 use Rattle.s2_check.specs.Cost.{value_at}
 use Rattle.s2_check.specs.Views.{IsSoft}
 use Rattle.s2_check.specs.Moves.{no_move}
 use Rattle.s2_check.specs.declared.step.Move.{Move}
-use Rattle.s2_split.specs.Greedy.{Moved, rest_at}
+use Rattle.s2_rows.specs.Limits.{most_addresses, most_soft}
+use Rattle.s2_split.specs.Greedy.{Moved, rest_at, none_moved, serve}
+use Rattle.s2_split.specs.Scattered.{differs}
+use Rattle.s2_split.specs.Spreading.{most_moved, spread_scale}
 
 -- a bit's scaled value in favour of the word
 abbrev pub scaled_at : List ℤ → List Bool → ℕ → ℕ → ℤ
@@ -23,6 +27,27 @@ abbrev pub taken_at : List ℕ → ℕ → ℤ → ℕ → ℤ
 taken_at members target amount k =
     if is_among members k then (if k == target then neg_ℤ amount else amount) else pos 0
 
+-- what a check takes that takes as much from each of its members
+abbrev pub evenly_at : List ℕ → ℤ → ℕ → ℤ
+evenly_at members amount k = if is_among members k then amount else pos 0
+
+-- the rest of a place once a check's move is given back
+abbrev pub given_back : List ℤ → List ℕ → Move → ℕ → ℤ
+given_back rests members held k =
+    get_or rests k (pos 0) -ℤ taken_at members (get_or members held.place 0) (neg_ℤ (pos held.amount)) k
+
+-- no scaled value is larger than this in size
+abbrev pub most_scaled : ℕ
+most_scaled = spread_scale * most_soft
+
+-- nor a rest: a scaled value, and what each of its bit's checks moves
+abbrev pub most_rest : ℕ
+most_rest = most_scaled + most_addresses * most_moved
+
+-- nor a rest while a check has given its amount back
+abbrev pub most_between : ℕ
+most_between = most_rest + most_moved
+
 -- no number of a list is larger than this in size
 abbrev pub AreWithin : ℕ → List ℤ → Type 0
 AreWithin most xs =
@@ -30,17 +55,17 @@ AreWithin most xs =
 
 -- no rest is further below zero than a soft value
 abbrev pub AreLow : List ℤ → Type 0
-AreLow rests = (k : ℕ) → neg_ℤ (pos 63) ≤ℤ get_or rests k (pos 0)
+AreLow rests = (k : ℕ) → neg_ℤ (pos most_soft) ≤ℤ get_or rests k (pos 0)
 
 -- each bit is in few checks
 abbrev pub AreFew : Code → Type 0
-AreFew code = (i : ℕ) → i < code.bits → length (checks_of code i) ≤ 24
+AreFew code = (i : ℕ) → i < code.bits → length (checks_of code i) ≤ most_addresses
 
 -- what is left of each bit's scaled value after these moves, none of them larger than spreading makes
 pub record AreRests (code : Code) (soft : List ℤ) (word : List Bool) (scale : ℕ) (m : Moved) (rests : List ℤ) : Type 0 where
   pub long : length rests ≡ code.bits
   pub are : (i : ℕ) → i < code.bits → get_or rests i (pos 0) ≡ rest_at code soft word scale m i
-  pub small : (j : ℕ) → j < code.checks → m.amount j ≤ 1048576
+  pub small : (j : ℕ) → j < code.checks → m.amount j ≤ most_moved
 
 -- a check's move in a list: an amount and its target's place among the members, 0 where nothing is moved
 pub record IsHeld (code : Code) (j target amount : ℕ) (own : Move) : Type 0 where
@@ -65,6 +90,10 @@ pub record AreOfValues (code : Code) (rests : List ℤ) (ms : List Move) : Type 
   pub m : Moved
   pub range : All IsSoft soft
   pub kept : AreKept code soft word 16 m rests ms
+
+-- the greedy amounts of the bits before a place
+abbrev pub served : Code → List ℤ → List Bool → ℕ → Moved
+served code soft word n = fold (serve code soft word) none_moved (filter (differs soft word) (upto n))
 
 -- what spreading finds, and whether it does
 abbrev pub Ends : Code → List ℤ → List Bool → Option Moved → Bool → List ℤ → List Move → Type 0

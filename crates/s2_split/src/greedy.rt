@@ -1,13 +1,13 @@
 //! The greedy amounts: each bit where the hard decision differs from the word takes from its
 //! checks, rising, what it lacks and what is free there.
-ghost use Rattle.std.specs.Prelude.{◌≡◌, ℕ, ◌<◌, ◌≤◌, Bool, List, true, All, length, get_or, ℤ, pos, neg_ℤ, ◌≤ℤ◌};
+ghost use Rattle.std.specs.Prelude.{◌≡◌, ℕ, ◌^◌, ◌<◌, ◌≤◌, Bool, List, true, All, length, get_or, ℤ, pos, neg_ℤ, ◌≤ℤ◌};
 ghost use Rattle.s2_matrix.specs.Code.{code_of, members};
 ghost use Rattle.s2_check.specs.Views.{IsSoft};
 ghost use Rattle.s2_split.specs.Greedy.{Moved, none_moved, move_to, greedy};
-ghost use Rattle.s2_split.specs.Kept.{AreWithin, AreLow, AreFew, AreKept};
+ghost use Rattle.s2_split.specs.Kept.{served, most_rest, AreWithin, AreLow, AreFew, AreKept};
 
 use crate::rests::{free_amount, move_of, shift};
-use crate::start::differs;
+use crate::start::{any_differs, differs};
 use s2_check::Move;
 use s2_matrix::Matrix;
 
@@ -27,7 +27,7 @@ fn take_from(
     requires at { get_or (members (code_of matrix.now) check) place 0 ≡ bit }
     requires rests_long { length rests.old ≡ (code_of matrix.now).bits }
     requires moves_long { length moves.old ≡ (code_of matrix.now).checks }
-    requires small { AreWithin 30000000 rests.old }
+    requires small { AreWithin most_rest rests.old }
     requires low { AreLow rests.old }
     ensures low { AreLow rests.new }
     ensures kept { (soft : List ℤ) (word : List Bool) (m : Moved) → AreKept (code_of matrix.now) soft word 1 m rests.old moves.old → AreKept (code_of matrix.now) soft word 1 (move_to (code_of matrix.now) soft word bit m check) rests.new moves.new }
@@ -40,7 +40,45 @@ fn take_from(
     }
 }
 
-/// The greedy amounts, from rests at scale 1 and no moves.
+/// How many bits are looked at together for one that differs.
+const BLOCK: usize = 32;
+
+/// Each bit between two places where the hard decision differs, rising, takes from its checks.
+fn serve_between(
+    matrix: &Matrix,
+    soft: &[i16],
+    word: &[bool],
+    rests: &mut [i32],
+    moves: &mut [Move],
+    from: usize,
+    to: usize,
+)
+    requires soft { length soft.now ≡ (code_of matrix.now).bits }
+    requires range { All IsSoft soft.now }
+    requires word { length word.now ≡ (code_of matrix.now).bits }
+    requires few { AreFew (code_of matrix.now) }
+    requires between { from ≤ to }
+    requires end { to ≤ (code_of matrix.now).bits }
+    requires fits { to < 2 ^ 32 }
+    requires low { AreLow rests.old }
+    requires start { AreKept (code_of matrix.now) soft.now word.now 1 (served (code_of matrix.now) soft.now word.now from) rests.old moves.old }
+    ensures low { AreLow rests.new }
+    ensures kept { AreKept (code_of matrix.now) soft.now word.now 1 (served (code_of matrix.now) soft.now word.now to) rests.new moves.new }
+{
+    for bit in from..to {
+        if differs(soft, word, bit) {
+            let checks = matrix.checks_at(bit);
+            let edges = matrix.edges_at(bit);
+            for at in 0..checks.len() {
+                let check = checks[at] as usize;
+                let place = edges[at] as usize - matrix.first_edge(check);
+                take_from(matrix, rests, moves, bit as u32, check, place);
+            }
+        }
+    }
+}
+
+/// The greedy amounts, from rests at scale 1 and no moves. Most blocks of bits have none that differs.
 pub(crate) fn greedy(
     matrix: &Matrix,
     soft: &[i16],
@@ -56,15 +94,12 @@ pub(crate) fn greedy(
     requires start { AreKept (code_of matrix.now) soft.now word.now 1 none_moved rests.old moves.old }
     ensures { AreKept (code_of matrix.now) soft.now word.now 1 (greedy (code_of matrix.now) soft.now word.now) rests.new moves.new }
 {
-    for bit in 0..matrix.bits() {
-        if differs(soft, word, bit) {
-            let checks = matrix.checks_at(bit);
-            let edges = matrix.edges_at(bit);
-            for at in 0..checks.len() {
-                let check = checks[at] as usize;
-                let place = edges[at] as usize - matrix.first_edge(check);
-                take_from(matrix, rests, moves, bit as u32, check, place);
-            }
+    let mut from = 0usize;
+    for block in 0..matrix.bits().div_ceil(BLOCK) {
+        let to = matrix.bits().min(from + BLOCK);
+        if any_differs(soft, word, from, to) {
+            serve_between(matrix, soft, word, rests, moves, from, to);
         }
+        from = to;
     }
 }

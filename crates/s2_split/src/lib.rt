@@ -31,4 +31,6 @@ mod start;
 pub use maker::Maker;
 
 #[cfg(test)]
+mod memory_tests;
+#[cfg(test)]
 mod tests;

@@ -3,8 +3,8 @@ ghost use Rattle.std.specs.Prelude.{◌≡◌, ◌≢◌, ℕ, ◌<◌, ◌≤�
 ghost use Rattle.s2_matrix.specs.Code.{code_of};
 ghost use Rattle.s2_check.specs.Views.{IsSoft};
 ghost use Rattle.s2_check.specs.Moves.{no_move, placed_of, ArePlaced};
-ghost use Rattle.s2_split.specs.Greedy.{none_moved};
-ghost use Rattle.s2_split.specs.Spreading.{made_split};
+ghost use Rattle.s2_split.specs.Greedy.{none_moved, greedy};
+ghost use Rattle.s2_split.specs.Spreading.{has_no_negative_rest, greedy_split, made_split};
 ghost use Rattle.s2_split.specs.Kept.{AreFew, AreLow, AreKept};
 ghost use Rattle.s2_split.specs.Making.{shared, made_of, AreLeft};
 
@@ -50,6 +50,56 @@ fn begin(
     clear(moves);
 }
 
+/// Moves the greedy amounts: whether they leave no negative rest.
+fn try_greedily(
+    matrix: &Matrix,
+    soft: &[i16],
+    word: &[bool],
+    rests: &mut [i32],
+    moves: &mut [Move],
+) -> bool
+    requires soft { length soft.now ≡ (code_of matrix.now).bits }
+    requires range { All IsSoft soft.now }
+    requires word { length word.now ≡ (code_of matrix.now).bits }
+    requires few { AreFew (code_of matrix.now) }
+    requires rests { length rests.old ≡ (code_of matrix.now).bits }
+    requires moves { length moves.old ≡ (code_of matrix.now).checks }
+    ensures test { has_no_negative_rest (code_of matrix.now) soft.now word.now 1 (greedy (code_of matrix.now) soft.now word.now) ≡ result }
+    ensures kept { AreKept (code_of matrix.now) soft.now word.now 1 (greedy (code_of matrix.now) soft.now word.now) rests.new moves.new }
+{
+    begin(matrix, soft, word, 1, rests, moves);
+    greedy(matrix, soft, word, rests, moves);
+    none_negative(rests)
+}
+
+/// Makes the split of a codeword by the greedy amounts alone: its scale of 1, or 0 where they leave a
+/// negative rest.
+pub(crate) fn make_greedily(
+    matrix: &Matrix,
+    soft: &[i16],
+    word: &[bool],
+    rests: &mut [i32],
+    moves: &mut [Move],
+) -> u16
+    requires soft { length soft.now ≡ (code_of matrix.now).bits }
+    requires range { All IsSoft soft.now }
+    requires word { length word.now ≡ (code_of matrix.now).bits }
+    requires few { AreFew (code_of matrix.now) }
+    requires rests { length rests.old ≡ (code_of matrix.now).bits }
+    requires moves { length moves.old ≡ (code_of matrix.now).checks }
+    ensures made { made_of matrix.now word.now result moves.new ≡ shared (code_of matrix.now) (greedy_split (code_of matrix.now) soft.now word.now) }
+    ensures moves { ArePlaced (code_of matrix.now) word.now moves.new }
+    ensures rests { result ≢ 0 → AreLeft (code_of matrix.now) soft.now word.now (placed_of (code_of matrix.now) word.now result moves.new) rests.new }
+    ensures scaled { result ≤ 16 }
+    ensures long { length rests.new ≡ length rests.old }
+{
+    if try_greedily(matrix, soft, word, rests, moves) {
+        1
+    } else {
+        0
+    }
+}
+
 /// Makes the split of a codeword: its scale, or 0 where none is found.
 pub(crate) fn make_moves(
     matrix: &Matrix,
@@ -70,9 +120,7 @@ pub(crate) fn make_moves(
     ensures scaled { result ≤ 16 }
     ensures long { length rests.new ≡ length rests.old }
 {
-    begin(matrix, soft, word, 1, rests, moves);
-    greedy(matrix, soft, word, rests, moves);
-    if none_negative(rests) {
+    if try_greedily(matrix, soft, word, rests, moves) {
         return 1;
     }
     begin(matrix, soft, word, 16, rests, moves);

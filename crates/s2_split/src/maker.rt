@@ -5,9 +5,9 @@ ghost use Rattle.s2_check.specs.Checking.{IsCertificate};
 ghost use Rattle.s2_check.specs.Views.{IsSoft};
 ghost use Rattle.s2_split.specs.Making.{shared, shared_view, made_view, HoldsRests};
 ghost use Rattle.s2_split.specs.Scattered.{repaired, IsScattered};
-ghost use Rattle.s2_split.specs.Spreading.{made_split};
+ghost use Rattle.s2_split.specs.Spreading.{greedy_split, made_split};
 
-use crate::make::make_moves;
+use crate::make::{make_greedily, make_moves};
 use crate::repair::repair;
 use s2_bits::Bits;
 use s2_check::{CertView, Move, hard_into};
@@ -129,6 +129,28 @@ impl<'a> Maker<'a> {
     {
         self.word.copy_prefix(word, word.len());
         self.scale = make_moves(
+            self.matrix,
+            soft,
+            word.truths(),
+            &mut self.rests,
+            &mut self.moves,
+        );
+        self.scale > 0
+    }
+
+    /// As [`Maker::certify_codeword`], by the greedy amounts alone.
+    pub fn certify_greedily(&mut self, soft: &[i16], word: &Bits) -> bool
+        requires soft { length soft.now ≡ (code_of self.old.rows).bits }
+        requires range { All IsSoft soft.now }
+        requires codeword { IsCodeword (code_of self.old.rows) word.now }
+        ensures rows { self.new.rows ≡ self.old.rows }
+        ensures word { self.new.word ≡ word.now }
+        ensures found { IsTrue result ↔ (self.new.made ≢ None) }
+        ensures made { self.new.made ≡ shared (code_of self.old.rows) (greedy_split (code_of self.old.rows) soft.now word.now) }
+        ensures rests { HoldsRests self.new soft.now word.now }
+    {
+        self.word.copy_prefix(word, word.len());
+        self.scale = make_greedily(
             self.matrix,
             soft,
             word.truths(),

@@ -2,9 +2,10 @@
 ghost use Rattle.std.specs.Prelude.{◌≡◌, ◌≢◌, ℕ, true, ◌<◌, ◌≤◌, ◌==◌, not, nat_lt, if◌then◌else◌, All, length, get_or, map, filter, fold, pos, neg_ℤ, ◌≤ℤ◌, ◌-ℤ◌};
 ghost use Rattle.std.specs.List.{AllPairs};
 ghost use Rattle.std.specs.Int.{int_min};
+ghost use Rattle.s2_rows.specs.Limits.{most_soft};
 ghost use Rattle.s2_split.specs.Greedy.{free_for};
-ghost use Rattle.s2_split.specs.Kept.{is_among, taken_at, AreWithin, AreLow};
-ghost use Rattle.s2_split.specs.Spreading.{least_member, spread_amount, amount_to};
+ghost use Rattle.s2_split.specs.Kept.{most_rest, most_between, is_among, taken_at, evenly_at, given_back, AreWithin, AreLow};
+ghost use Rattle.s2_split.specs.Spreading.{most_moved, least_member, spread_amount, amount_to};
 
 use s2_check::Move;
 
@@ -13,9 +14,9 @@ use s2_check::Move;
 pub(crate) fn shift(rests: &mut [i32], members: &[u32], target: u32, amount: i32)
     requires below { All (λ i. i < length rests.old) members.now }
     requires rising { AllPairs (λ a b. a < b) members.now }
-    requires small { AreWithin 1000000000 rests.old }
-    requires low { neg_ℤ (pos 1048576) ≤ℤ amount }
-    requires high { amount ≤ℤ pos 1048576 }
+    requires small { AreWithin most_between rests.old }
+    requires low { neg_ℤ (pos most_moved) ≤ℤ amount }
+    requires high { amount ≤ℤ pos most_moved }
     ensures long { length rests.new ≡ length rests.old }
     ensures moved { (k : ℕ) → get_or rests.new k (pos 0) ≡ get_or rests.old k (pos 0) -ℤ taken_at members.now target amount k }
 {
@@ -50,10 +51,10 @@ pub(crate) fn free_amount(rests: &[i32], members: &[u32], bit: u32) -> u32
     requires below { All (λ i. i < length rests.now) members.now }
     requires rising { AllPairs (λ a b. a < b) members.now }
     requires among { is_among members.now bit ≡ true }
-    requires small { AreWithin 1000000000 rests.now }
+    requires small { AreWithin most_between rests.now }
     requires low { AreLow rests.now }
     ensures value { result ≡ free_for (λ i. get_or rests.now i (pos 0)) bit members.now }
-    ensures few { result ≤ 63 }
+    ensures few { result ≤ most_soft }
     ensures spared { (k : ℕ) → is_among members.now k ≡ true → k ≢ bit → 0 < result → pos result ≤ℤ get_or rests.now k (pos 0) }
 {
     if members.len() < 2 {
@@ -73,28 +74,33 @@ pub(crate) struct Least {
     pub other: i32,
 }
 
-/// The least two rests of the members.
-pub(crate) fn least_two(rests: &[i32], members: &[u32]) -> Least
+/// The least two rests of the members, once the move that their check holds is given back.
+pub(crate) fn least_two(rests: &[i32], members: &[u32], held: Move) -> Least
     requires below { All (λ i. i < length rests.now) members.now }
     requires rising { AllPairs (λ a b. a < b) members.now }
-    requires small { AreWithin 1000000000 rests.now }
-    requires some { 1 ≤ length members.now }
+    requires small { AreWithin most_rest rests.now }
+    requires held_place { held.place < length members.now }
+    requires held_few { held.amount ≤ most_moved }
     ensures place { result.place < length members.now }
-    ensures least { get_or members.now result.place 0 ≡ least_member (λ i. get_or rests.now i (pos 0)) members.now }
-    ensures rest { result.rest ≡ get_or rests.now (get_or members.now result.place 0) (pos 0) }
-    ensures other { result.other ≡ fold int_min (pos 2147483647) (map (λ i. get_or rests.now i (pos 0)) (filter (λ i. not (i == get_or members.now result.place 0)) members.now)) }
+    ensures least { get_or members.now result.place 0 ≡ least_member (given_back rests.now members.now held) members.now }
+    ensures rest { result.rest ≡ given_back rests.now members.now held (get_or members.now result.place 0) }
+    ensures other { result.other ≡ fold int_min (pos 2147483647) (map (given_back rests.now members.now held) (filter (λ i. not (i == get_or members.now result.place 0)) members.now)) }
 {
     let mut place = 0usize;
     let mut least = i32::MAX;
     let mut other = i32::MAX;
     for at in 0..members.len() {
-        let rest = rests[members[at] as usize];
+        let amount = held.amount as i32;
+        let back = if at == usize::from(held.place) {
+            -amount
+        } else {
+            amount
+        };
+        let rest = rests[members[at] as usize] + back;
+        other = other.min(rest.max(least));
         if rest < least {
-            other = least;
             least = rest;
             place = at;
-        } else if rest < other {
-            other = rest;
         }
     }
     Least {
@@ -135,36 +141,58 @@ pub(crate) fn move_of(place: usize, amount: u32) -> Move
     }
 }
 
-/// What the members of a check with no amount move, to the one with the least rest.
-pub(crate) fn spread_move(rests: &[i32], members: &[u32]) -> Move
+/// What the members of a check move to the one with the least rest, once the move that it holds is
+/// given back.
+pub(crate) fn spread_move(rests: &[i32], members: &[u32], held: Move) -> Move
     requires below { All (λ i. i < length rests.now) members.now }
     requires rising { AllPairs (λ a b. a < b) members.now }
-    requires small { AreWithin 1000000000 rests.now }
-    requires some { 1 ≤ length members.now }
+    requires small { AreWithin most_rest rests.now }
     requires short { length members.now ≤ 65536 }
-    ensures amount { result.amount ≡ amount_to (λ i. get_or rests.now i (pos 0)) members.now (least_member (λ i. get_or rests.now i (pos 0)) members.now) }
-    ensures few { result.amount ≤ 1048576 }
+    requires held_place { held.place < length members.now }
+    requires held_few { held.amount ≤ most_moved }
+    ensures amount { result.amount ≡ amount_to (given_back rests.now members.now held) members.now (least_member (given_back rests.now members.now held) members.now) }
+    ensures few { result.amount ≤ most_moved }
     ensures place { result.place < length members.now }
-    ensures target { result.amount ≢ 0 → get_or members.now result.place 0 ≡ least_member (λ i. get_or rests.now i (pos 0)) members.now }
+    ensures target { result.amount ≢ 0 → get_or members.now result.place 0 ≡ least_member (given_back rests.now members.now held) members.now }
     ensures unmoved { result.amount ≡ 0 → result.place ≡ 0 }
 {
-    let least = least_two(rests, members);
+    let least = least_two(rests, members, held);
     let amount = half_gap(members.len(), least.rest, least.other);
     move_of(least.place, amount)
 }
 
-/// As [`shift`], to the member at a place, and nothing at all where the amount is 0.
-pub(crate) fn shift_some(rests: &mut [i32], members: &[u32], place: usize, amount: i32)
+/// Takes a signed amount from the rest of each member.
+fn take_evenly(rests: &mut [i32], members: &[u32], amount: i32)
     requires below { All (λ i. i < length rests.old) members.now }
     requires rising { AllPairs (λ a b. a < b) members.now }
-    requires place { place < length members.now }
-    requires small { AreWithin 900000000 rests.old }
-    requires low { neg_ℤ (pos 1048576) ≤ℤ amount }
-    requires high { amount ≤ℤ pos 1048576 }
+    requires small { AreWithin most_rest rests.old }
+    requires low { neg_ℤ (pos most_moved) ≤ℤ amount }
+    requires high { amount ≤ℤ pos most_moved }
     ensures long { length rests.new ≡ length rests.old }
-    ensures moved { (k : ℕ) → get_or rests.new k (pos 0) ≡ get_or rests.old k (pos 0) -ℤ taken_at members.now (get_or members.now place 0) amount k }
+    ensures taken { (k : ℕ) → get_or rests.new k (pos 0) ≡ get_or rests.old k (pos 0) -ℤ evenly_at members.now amount k }
 {
-    if amount != 0 {
-        shift(rests, members, members[place], amount);
+    for member in members {
+        rests[*member as usize] -= amount;
     }
+}
+
+/// The move that a check holds is given back, and another is made.
+pub(crate) fn move_anew(rests: &mut [i32], members: &[u32], held: Move, own: Move)
+    requires below { All (λ i. i < length rests.old) members.now }
+    requires rising { AllPairs (λ a b. a < b) members.now }
+    requires small { AreWithin most_rest rests.old }
+    requires held_place { held.place < length members.now }
+    requires held_few { held.amount ≤ most_moved }
+    requires own_place { own.place < length members.now }
+    requires own_few { own.amount ≤ most_moved }
+    ensures long { length rests.new ≡ length rests.old }
+    ensures moved { (k : ℕ) → get_or rests.new k (pos 0) ≡ given_back rests.old members.now held k -ℤ taken_at members.now (get_or members.now own.place 0) (pos own.amount) k }
+{
+    let from = members[usize::from(held.place)] as usize;
+    let to = members[usize::from(own.place)] as usize;
+    let back = held.amount as i32;
+    let amount = own.amount as i32;
+    take_evenly(rests, members, amount - back);
+    rests[from] -= 2 * back;
+    rests[to] += 2 * amount;
 }

@@ -5,10 +5,10 @@ ghost use Rattle.s2_matrix.specs.Code.{code_of, members};
 ghost use Rattle.s2_check.specs.Moves.{no_move, ArePlaced};
 ghost use Rattle.s2_check.specs.Views.{IsSoft};
 ghost use Rattle.s2_split.specs.Greedy.{Moved, none_moved};
-ghost use Rattle.s2_split.specs.Spreading.{spread_check, spread_pass, spread};
-ghost use Rattle.s2_split.specs.Kept.{AreWithin, AreFew, AreKept, AreOfValues, Ends};
+ghost use Rattle.s2_split.specs.Spreading.{most_moved, spread_check, spread_pass, spread};
+ghost use Rattle.s2_split.specs.Kept.{most_rest, AreWithin, AreFew, AreKept, AreOfValues, Ends};
 
-use crate::rests::{shift_some, spread_move};
+use crate::rests::{move_anew, spread_move};
 use crate::start::none_negative;
 use s2_check::Move;
 use s2_matrix::Matrix;
@@ -18,24 +18,21 @@ fn spread_check(matrix: &Matrix, rests: &mut [i32], moves: &mut [Move], check: u
     requires check { check < (code_of matrix.now).checks }
     requires rests_long { length rests.old ≡ (code_of matrix.now).bits }
     requires moves_long { length moves.old ≡ (code_of matrix.now).checks }
-    requires small { AreWithin 30000000 rests.old }
+    requires small { AreWithin most_rest rests.old }
     requires place { (get_or moves.old check no_move).place < length (members (code_of matrix.now) check) }
-    requires held { (get_or moves.old check no_move).amount ≤ 1048576 }
+    requires held { (get_or moves.old check no_move).amount ≤ most_moved }
     ensures kept { (soft : List ℤ) (word : List Bool) (m : Moved) → AreKept (code_of matrix.now) soft word 16 m rests.old moves.old → AreKept (code_of matrix.now) soft word 16 (spread_check (code_of matrix.now) soft word m check) rests.new moves.new }
     ensures same { IsTrue result → (rests.new ≡ rests.old) × (moves.new ≡ moves.old) }
 {
     let members = matrix.members_at(check);
     let held = moves[check];
-    shift_some(
-        rests,
-        members,
-        usize::from(held.place),
-        -(held.amount as i32),
-    );
-    let own = spread_move(rests, members);
+    let own = spread_move(rests, members, held);
+    if own == held {
+        return true;
+    }
     moves[check] = own;
-    shift_some(rests, members, usize::from(own.place), own.amount as i32);
-    own == held
+    move_anew(rests, members, held, own);
+    false
 }
 
 /// Whether no rest at these places is negative.
@@ -43,12 +40,11 @@ fn none_negative_at(rests: &[i32], places: &[u32]) -> bool
     requires { All (λ i. i < length rests.now) places.now }
     ensures { IsTrue result → (k : ℕ) → k < length places.now → pos 0 ≤ℤ get_or rests.now (get_or places.now k 0) (pos 0) }
 {
+    let mut none = true;
     for place in places {
-        if rests[*place as usize] < 0 {
-            return false;
-        }
+        none = none & (rests[*place as usize] >= 0);
     }
-    true
+    none
 }
 
 /// A check in its turn: whether it moves as before. One that holds no amount, and none of whose
@@ -57,9 +53,9 @@ fn visit(matrix: &Matrix, rests: &mut [i32], moves: &mut [Move], check: usize) -
     requires check { check < (code_of matrix.now).checks }
     requires rests_long { length rests.old ≡ (code_of matrix.now).bits }
     requires moves_long { length moves.old ≡ (code_of matrix.now).checks }
-    requires small { AreWithin 30000000 rests.old }
+    requires small { AreWithin most_rest rests.old }
     requires place { (get_or moves.old check no_move).place < length (members (code_of matrix.now) check) }
-    requires held { (get_or moves.old check no_move).amount ≤ 1048576 }
+    requires held { (get_or moves.old check no_move).amount ≤ most_moved }
     ensures kept { (soft : List ℤ) (word : List Bool) (m : Moved) → AreKept (code_of matrix.now) soft word 16 m rests.old moves.old → AreKept (code_of matrix.now) soft word 16 (spread_check (code_of matrix.now) soft word m check) rests.new moves.new }
     ensures same { IsTrue result → (rests.new ≡ rests.old) × (moves.new ≡ moves.old) }
 {

@@ -13,7 +13,7 @@ use std::process::Abort;
 use std::test::Fail;
 
 /// Whether all values lie within the limits of a soft value.
-fn are_soft(values: &[i16]) -> bool
+pub(crate) fn are_soft(values: &[i16]) -> bool
     ensures { IsTrue result → All IsSoft values.now }
 {
     for value in values {

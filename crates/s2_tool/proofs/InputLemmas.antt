@@ -9,11 +9,11 @@ use Rattle.s2_check.specs.CertificateFiles as certificate_files
 use Rattle.s2_tool.specs.declared.console.Printed.{Printed}
 use Rattle.s2_tool.specs.declared.exit.Exit.{Exit}
 use Rattle.s2_tool.specs.declared.fault.Fault.{Fault}
-use Rattle.s2_tool.specs.Exits.{Answers, Runs}
+use Rattle.s2_tool.specs.Exits.{CommandAnswers, CommandRuns}
 use Rattle.s2_tool.specs.Inputs.{taken, rows_said, rows_in, values_in, then_values, AreInputs}
 use Rattle.s2_tool.specs.Judging.{IsJudged}
 use Rattle.s2_tool.specs.Checking.{certificate_said, with_rows, beside, then_parts, parts_in, ArePartsIn, AreCheckInputs, IsAnswered}
-use Rattle.s2_tool.proofs.Runs.{answers_moved}
+use Rattle.s2_tool.proofs.CommandLemmas.{answers_moved}
 
 -- ---- rows and soft values
 
@@ -29,10 +29,10 @@ are_inputs shape (Some xs) (Some ys) rows soft p q = both (rows_in shape xs) (va
 
 -- the same rows by other names
 pub at_rows : (known_soft : Option (List ℕ)) (ended : Result Exit Fault) (old new : Option (List ℕ)) (shape shape' : Shape) (xs xs' : List ℕ)
-    → shape ≡ shape' → xs ≡ xs' → Runs IsJudged (AreInputs shape (Some xs) known_soft) ended old new → Runs IsJudged (AreInputs shape' (Some xs') known_soft) ended old new
+    → shape ≡ shape' → xs ≡ xs' → CommandRuns (IsJudged 0) (AreInputs shape (Some xs) known_soft) ended old new → CommandRuns (IsJudged 0) (AreInputs shape' (Some xs') known_soft) ended old new
 at_rows known_soft ended old new shape shape' xs xs' p q h =
-    let P : Shape → Type 0 = λ s. Runs IsJudged (AreInputs s (Some xs) known_soft) ended old new in
-    let Q : List ℕ → Type 0 = λ x. Runs IsJudged (AreInputs shape' (Some x) known_soft) ended old new in
+    let P : Shape → Type 0 = λ s. CommandRuns (IsJudged 0) (AreInputs s (Some xs) known_soft) ended old new in
+    let Q : List ℕ → Type 0 = λ x. CommandRuns (IsJudged 0) (AreInputs shape' (Some x) known_soft) ended old new in
     subst Q q (subst P p h)
 
 -- ---- rows and a certificate
@@ -54,7 +54,7 @@ said_of_files (Some xs) (Some ys) rows certificate said p q h = both_taken (take
 -- the answer on two files that were read
 pub answers_on_files : (known_rows known_certificate : Option (List ℕ)) (rows certificate : List ℕ) (made : Result Printed Fault)
     → IfSome known_rows (λ xs. taken xs ≡ Ok rows) → IfSome known_certificate (λ ys. taken ys ≡ Ok certificate)
-    → Answers IsAnswered (ArePartsIn rows certificate) made → Answers IsAnswered (AreCheckInputs known_rows known_certificate) made
+    → CommandAnswers IsAnswered (ArePartsIn rows certificate) made → CommandAnswers IsAnswered (AreCheckInputs known_rows known_certificate) made
 answers_on_files known_rows known_certificate rows certificate made p q h =
     answers_moved IsAnswered (ArePartsIn rows certificate) (AreCheckInputs known_rows known_certificate) made
     (λ said. said_of_files known_rows known_certificate rows certificate said p q) h

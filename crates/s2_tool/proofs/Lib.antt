@@ -1,4 +1,4 @@
-pub mod Runs
+pub mod CommandLemmas
 pub mod CountLemmas
 pub mod InputLemmas
 pub mod CertifyLemmas

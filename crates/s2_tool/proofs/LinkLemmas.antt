@@ -1,15 +1,15 @@
 -- A command on a link, or on none.
-use Rattle.std.proofs.Common.{◌≡◌, ◌≢◌, ℕ, ◌+◌, List, [], Option, Some, None, Result, Ok, Err, ap, sym, subst, refl, inl, inr, ◌⊎◌, ◌∙◌, arith}
+use Rattle.std.proofs.Common.{◌≡◌, ◌≢◌, ℕ, ◌+◌, List, [], Option, Some, None, Result, Ok, Err, ap, sym, subst, refl, inl, inr, ◌∙◌, arith}
 use Rattle.std.specs.Prelude.{IfSome}
 use Rattle.s2_mode.specs.Mode.{shape_in}
 use Rattle.s2_mode.specs.Shape.{Shape}
 use Rattle.s2_rows.specs.Rows.{Rows}
 use Rattle.s2_receive.specs.Receiving.{Rules}
-use Rattle.s2_modem.specs.Link.{Link, Transmitter}
-use Rattle.s2_modem.specs.Sending.{Runs, Outcome}
-use Rattle.s2_modem.specs.declared.outcome.Counts.{Counts}
-use Rattle.s2_modem.specs.declared.outcome.SendFault.{SendFault}
-use Rattle.s2_modem.specs.declared.outcome.SendFault.TheVariants as refusals
+use Rattle.s2_modem.specs.Link.{Link, link_of, Transmitter}
+use Rattle.s2_modem.specs.Sending.{TransmitterRuns, Outcome}
+use Rattle.s2_modem.specs.declared.send.outcome.Counts.{Counts}
+use Rattle.s2_modem.specs.declared.send.outcome.SendFault.{SendFault}
+use Rattle.s2_modem.specs.declared.send.outcome.SendFault.TheVariants as refusals
 use Rattle.s2_modem.specs.declared.setup.Setup.{Setup}
 use Rattle.s2_tool.specs.declared.exit.Exit.{Exit}
 use Rattle.s2_tool.specs.declared.fault.Fault.{Fault}
@@ -42,14 +42,14 @@ refused setup (faults.Certificate f) planned h = ap (link_on setup) h
 refused setup faults.NotWholePacket planned h = ap (link_on setup) h
 refused setup (faults.NoSync packet) planned h = ap (link_on setup) h
 
-pub linked_refused : (setup : Setup) (known : Option (List ℕ)) (shape : Shape) (f : Fault) → shape ≡ shape_in setup.mode
+linked_refused : (setup : Setup) (known : Option (List ℕ)) (shape : Shape) (f : Fault) → shape ≡ shape_in setup.mode
     → IfSome known (λ text. Follows {V = Rows} (λ r. r) (Err f) (rows_in shape text)) → IfSome known (λ text. Follows {V = Link} (λ l. l) (Err f) (link_in setup text))
 linked_refused setup known shape f same h =
     in_some known (λ text. Follows {V = Rows} (λ r. r) (Err f) (rows_in shape text)) (λ text. Follows {V = Link} (λ l. l) (Err f) (link_in setup text))
     (λ text p. (let P : Shape → Type 0 = λ s. Follows {V = Rows} (λ r. r) (Err f) (rows_in s text) in refused setup f (rows_in (shape_in setup.mode) text) (subst P same p))) h
 
 -- the link on rows that were read
-pub linked_on : (setup : Setup) (known : Option (List ℕ)) (shape : Shape) (rows : Rows) (link : Result Link Fault) → shape ≡ shape_in setup.mode
+linked_on : (setup : Setup) (known : Option (List ℕ)) (shape : Shape) (rows : Rows) (link : Result Link Fault) → shape ≡ shape_in setup.mode
     → IfSome known (λ text. rows_in shape text ≡ Ok rows) → Follows {V = Link} (λ l. l) link (link_on setup (Ok rows)) → IfSome known (λ text. Follows {V = Link} (λ l. l) link (link_in setup text))
 linked_on setup known shape rows link same h follows =
     in_some known (λ text. rows_in shape text ≡ Ok rows) (λ text. Follows {V = Link} (λ l. l) link (link_in setup text))
@@ -58,14 +58,14 @@ linked_on setup known shape rows link same h follows =
     let is : rows_in (shape_in setup.mode) text ≡ Ok rows = ap (λ s. rows_in s text) (sym same) ∙ p in
     subst P (sym is) follows)) h
 
-pub no_memory : (setup : Setup) (known : Option (List ℕ)) → IfSome known (λ text. Follows {V = Link} (λ l. l) (Err faults.NoMemory) (link_in setup text))
+no_memory : (setup : Setup) (known : Option (List ℕ)) → IfSome known (λ text. Follows {V = Link} (λ l. l) (Err faults.NoMemory) (link_in setup text))
 no_memory setup None = tt
 no_memory setup (Some text) = tt
 
 -- ---- what is done
 
 -- nothing
-pub undone : (Does : Deed) (setup : Setup) (known : Option (List ℕ)) (f : Fault) (old new : Streams) → IfSome known (λ text. Follows {V = Link} (λ l. l) (Err f) (link_in setup text))
+undone : (Does : Deed) (setup : Setup) (known : Option (List ℕ)) (f : Fault) (old new : Streams) → IfSome known (λ text. Follows {V = Link} (λ l. l) (Err f) (link_in setup text))
     → f ≢ faults.Write → (f ≡ faults.Read → new.reads ≡ old.reads + 1) → (f ≢ faults.Read → new.reads ≡ old.reads)
     → new.writes ≡ old.writes → new.taken ≡ old.taken → new.given ≡ old.given → new.out ≡ old.out → OnLink Does setup known old new (Err f)
 undone Does setup known f old new linked other failed well writes taken given out =
@@ -84,15 +84,48 @@ pub never : {T : Type 0} → (x : T) → Ok x ≢ Err faults.Read
 never x h = cc
 
 -- nothing, since memory ran out
-pub undone_memory : (Does : Deed) (setup : Setup) (known : Option (List ℕ)) (f : Fault) (old new : Streams) → f ≡ faults.NoMemory
+undone_memory : (Does : Deed) (setup : Setup) (known : Option (List ℕ)) (f : Fault) (old new : Streams) → f ≡ faults.NoMemory
     → new.reads ≡ old.reads → new.writes ≡ old.writes → new.taken ≡ old.taken → new.given ≡ old.given → new.out ≡ old.out → OnLink Does setup known old new (Err f)
 undone_memory Does setup known f old new is reads writes taken given out =
     let P : Fault → Type 0 = λ x. OnLink Does setup known old new (Err x) in
     subst P (sym is) (undone Does setup known faults.NoMemory old new (no_memory setup known) (λ e. cc) (λ e. cc) (λ e. reads) writes taken given out)
 
--- the same of a setup by another name
-pub on_setup : (Does : Deed) (setup setup' : Setup) (known : Option (List ℕ)) (old new : Streams) (ended : Result Exit Fault) → setup ≡ setup' → OnLink Does setup known old new ended → OnLink Does setup' known old new ended
-on_setup Does setup setup' known old new ended same h = let P : Setup → Type 0 = λ s. OnLink Does s known old new ended in subst P same h
+-- ---- a setup, and its row file that is read by this shape
+
+module _ (Does : Deed) (setup setup' : Setup) (same : setup ≡ setup') (known : Option (List ℕ)) where
+  -- the same of the setup by its other name
+  on_setup : (old new : Streams) (ended : Result Exit Fault) → OnLink Does setup known old new ended → OnLink Does setup' known old new ended
+  on_setup old new ended h = let P : Setup → Type 0 = λ s. OnLink Does s known old new ended in subst P same h
+
+  -- the rows are refused
+  pub refused_rows : (shape : Shape) (f : Fault) (old new : Streams) → shape ≡ shape_in setup.mode → IfSome known (λ text. Follows {V = Rows} (λ r. r) (Err f) (rows_in shape text))
+      → f ≢ faults.Write → (f ≡ faults.Read → new.reads ≡ old.reads + 1) → (f ≢ faults.Read → new.reads ≡ old.reads)
+      → new.writes ≡ old.writes → new.taken ≡ old.taken → new.given ≡ old.given → new.out ≡ old.out → OnLink Does setup' known old new (Err f)
+  refused_rows shape f old new is h other failed well writes taken given out =
+      on_setup old new (Err f) (undone Does setup known f old new (linked_refused setup known shape f is h) other failed well writes taken given out)
+
+  -- there is no memory for what the link needs
+  pub no_room : (f : Fault) (old new : Streams) → f ≡ faults.NoMemory → new.reads ≡ old.reads → new.writes ≡ old.writes
+      → new.taken ≡ old.taken → new.given ≡ old.given → new.out ≡ old.out → OnLink Does setup' known old new (Err f)
+  no_room f old new is reads writes taken given out =
+      on_setup old new (Err f) (undone_memory Does setup known f old new is reads writes taken given out)
+
+  -- it is done on these rows
+  pub done : (shape : Shape) (rows : Rows) (old new : Streams) (ended : Result Exit Fault) → shape ≡ shape_in setup.mode → IfSome known (λ text. rows_in shape text ≡ Ok rows)
+      → Does (link_of setup rows) old new ended
+      → (ended ≢ Err faults.Read → new.reads ≡ old.reads) → (ended ≡ Err faults.Write → new.writes ≡ old.writes + 1) → (ended ≢ Err faults.Write → new.writes ≡ old.writes)
+      → OnLink Does setup' known old new ended
+  done shape rows old new ended is read does no_read write no_write =
+      on_setup old new ended
+      (record {
+        link = Ok (link_of setup rows);
+        linked = linked_on setup known shape rows (Ok (link_of setup rows)) is read refl;
+        setup_kept = refl;
+        does = does;
+        no_read = no_read;
+        write = write;
+        no_write = no_write;
+      })
 
 -- ---- packets sent
 
@@ -106,7 +139,7 @@ outcome most F G size packets rest fields (Err refusals.Read) f (may, stops, ful
 outcome most F G size packets rest fields (Err refusals.Write) f h = h
 
 runs_still : (t : Transmitter) (F G : ℕ → Type 0) (a b c d : Option (List ℕ)) (answer : Result Counts SendFault)
-    → ((n : ℕ) → F n → G n) → Runs t.link t.limit F a b c d answer → Runs t.link t.limit G a b c d answer
+    → ((n : ℕ) → F n → G n) → TransmitterRuns t.link t.limit F a b c d answer → TransmitterRuns t.link t.limit G a b c d answer
 runs_still t F G a b c d answer f r =
     record {
       packets = r.packets;
@@ -139,7 +172,7 @@ sent_behind t t' a b old new ended same kept (answer, runs, told) =
 pub passed : (t : Transmitter) (seed level a b : ℕ) (old new old' new' : Streams) (received : Result (List ℕ) Fault) → b ≡ a → old'.reads ≡ a + old.reads → new'.reads ≡ b + new.reads
     → old'.taken ≡ old.taken → new'.taken ≡ new.taken → Passes t seed level old new received → Passes t seed level old' new' received
 passed t seed level a b old new old' new' received kept p q x y h =
-    let R : Option (List ℕ) → Option (List ℕ) → Type 0 = λ u v. Runs t.link t.limit (MayFail t.limit old' new') u v (Some []) (Some h.symbols) h.answer in
+    let R : Option (List ℕ) → Option (List ℕ) → Type 0 = λ u v. TransmitterRuns t.link t.limit (MayFail t.limit old' new') u v (Some []) (Some h.symbols) h.answer in
     let runs : R old.taken new.taken = runs_still t _ _ _ _ _ _ h.answer (λ n may. fails t.limit a b old new old' new' n kept p q may) h.runs in
     record { answer = h.answer; symbols = h.symbols; runs = subst (λ u. R u new'.taken) (sym x) (subst (λ v. R old.taken v) (sym y) runs); comes = h.comes }
 

@@ -1,15 +1,18 @@
 -- Symbols received, and what is reported of them.
-use Rattle.std.proofs.Common.{◌≡◌, ◌≢◌, ℕ, ◌+◌, List, Option, Some, None, Result, Ok, Err, ap, ◌∙◌, sym, subst, refl, arith}
+use Rattle.std.proofs.Common.{◌≡◌, ℕ, ◌+◌, List, Option, None, Result, Ok, Err, ◌∙◌, sym, subst, refl, arith}
 use Rattle.std.specs.Prelude.{IfOk}
 use Rattle.s2_receive.specs.Receiving.{Rules}
-use Rattle.s2_modem.specs.Link.{Link}
 use Rattle.s2_modem.specs.declared.setup.Setup.{Setup}
 use Rattle.s2_tool.specs.declared.exit.Exit.{Exit}
 use Rattle.s2_tool.specs.declared.fault.Fault.{Fault}
 use Rattle.s2_tool.specs.declared.fault.Fault.TheVariants as faults
+use Rattle.s2_tool.specs.declared.request.Request.{Request}
+use Rattle.s2_tool.specs.declared.request.Request.TheVariants as requests
+use Rattle.s2_tool.specs.declared.request.RunWords.{RunWords}
 use Rattle.s2_tool.specs.Links.{Streams, Deed, OnLink}
 use Rattle.s2_tool.specs.Receptions.{Receives}
-use Rattle.s2_tool.specs.Serving.{Reports}
+use Rattle.s2_tool.specs.Screens.{Screen}
+use Rattle.s2_tool.specs.Serving.{Reports, Began, Served}
 
 -- the same with rows read before, where that did not fail
 pub behind_rows : (rules rules' : Rules) (ended : Result Exit Fault) (taken taken' given given' out out' : Option (List ℕ)) (a b p q w v : ℕ) → rules ≡ rules' → b ≡ a
@@ -64,3 +67,15 @@ unbegun Does setup f out =
       out = refl;
       out_new = refl;
     }
+
+-- what `run` did on the files that it was asked for serves the request
+pub served_run : (request : Request) (words : RunWords) (input : Option (List ℕ)) (begun made : Result Exit Fault) (exit : Exit) (old new shown : Screen)
+    → request ≡ requests.Run words → begun ≡ made → begun ≡ Ok exit → shown ≡ new → Began (requests.Run words) None made old new → Served request input exit old shown
+served_run request words input begun made exit old new shown asked is ended shows h =
+    let P : Result Exit Fault → Type 0 = λ r. Began (requests.Run words) None r old new in
+    let Q : Request → Type 0 = λ r. Served r input exit old shown in
+    let R : Screen → Type 0 = λ s. Served (requests.Run words) input exit old s in
+    let s : Served (requests.Run words) None exit old new = subst P (sym is ∙ ended) h in
+    subst Q (sym asked)
+    (subst R (sym shows)
+    (record { ended = s.ended; exit_is = s.exit_is; prints = s.prints; complains = s.complains; whole = s.whole; quiet = s.quiet }))

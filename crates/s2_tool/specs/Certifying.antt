@@ -18,20 +18,20 @@ Writes (Some view) old new = Appends old new (bytes_of view)
 
 -- What is written for an input beside a verdict of this exit: the certificate of the decided bits. It is accepted, and there is
 -- one exactly where they are most likely.
-pub record Wrote (input : Rows × List ℤ) (exit : Exit) (old new : Option (List ℕ)) : Type 0 where
-  pub shown : IsShown input.0 input.1 (judged input.0 input.1)
-  pub exit_is : exit ≡ exit_on (judged input.0 input.1).verdict
-  pub written : Writes (judged input.0 input.1).certificate old new
+pub record Wrote (passes : ℕ) (input : Rows × List ℤ) (exit : Exit) (old new : Option (List ℕ)) : Type 0 where
+  pub shown : IsShown input.0 input.1 (judged passes input.0 input.1)
+  pub exit_is : exit ≡ exit_on (judged passes input.0 input.1).verdict
+  pub written : Writes (judged passes input.0 input.1).certificate old new
 
 -- What is written before the verdict is printed: nothing where there is none, and nothing is promised where the writer failed.
-abbrev pub IsCertified : (Result (Rows × List ℤ) Fault → Type 0) → Result Printed Fault → Option (List ℕ) → Option (List ℕ) → Type 0
-IsCertified IsInput (Ok printed) old new = (input : Rows × List ℤ) × IsInput (Ok input) × Wrote input printed.exit old new
-IsCertified IsInput (Err faults.Write) old new = ⊤
-IsCertified IsInput (Err f) old new = new ≡ old
+abbrev pub IsCertified : ℕ → (Result (Rows × List ℤ) Fault → Type 0) → Result Printed Fault → Option (List ℕ) → Option (List ℕ) → Type 0
+IsCertified passes IsInput (Ok printed) old new = (input : Rows × List ℤ) × IsInput (Ok input) × Wrote passes input printed.exit old new
+IsCertified passes IsInput (Err faults.Write) old new = ⊤
+IsCertified passes IsInput (Err f) old new = new ≡ old
 
 -- The same at the end. Where the output failed and the certificate's writer did not, what was written stands whole.
-abbrev pub Certifies : (Result (Rows × List ℤ) Fault → Type 0) → Result Exit Fault → ℕ → ℕ → Option (List ℕ) → Option (List ℕ) → Type 0
-Certifies IsInput (Ok exit) before after old new = (input : Rows × List ℤ) × IsInput (Ok input) × Wrote input exit old new
-Certifies IsInput (Err faults.Write) before after old new =
-    after ≡ before → (input : Rows × List ℤ) × IsInput (Ok input) × ((exit : Exit) × Wrote input exit old new)
-Certifies IsInput (Err f) before after old new = new ≡ old
+abbrev pub Certifies : ℕ → (Result (Rows × List ℤ) Fault → Type 0) → Result Exit Fault → ℕ → ℕ → Option (List ℕ) → Option (List ℕ) → Type 0
+Certifies passes IsInput (Ok exit) before after old new = (input : Rows × List ℤ) × IsInput (Ok input) × Wrote passes input exit old new
+Certifies passes IsInput (Err faults.Write) before after old new =
+    after ≡ before → (input : Rows × List ℤ) × IsInput (Ok input) × ((exit : Exit) × Wrote passes input exit old new)
+Certifies passes IsInput (Err f) before after old new = new ≡ old

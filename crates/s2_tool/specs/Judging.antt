@@ -5,14 +5,14 @@ use Rattle.s2_rows.specs.Rows.{Rows}
 use Rattle.s2_check.specs.Cost.{cost, IsMostLikely}
 use Rattle.s2_receive.specs.declared.report.Verdict.{Verdict}
 use Rattle.s2_receive.specs.declared.report.Verdict.TheVariants as verdicts
-use Rattle.s2_modem.specs.Deciding.{Decided, decided}
+use Rattle.s2_modem.specs.Deciding.{Decided, decided, effort_of}
 use Rattle.s2_tool.specs.declared.exit.Exit.{Exit}
 use Rattle.s2_tool.specs.declared.exit.Exit.TheVariants as exits
 use Rattle.s2_tool.specs.Lines.{most_likely_line, parity_line, broken_line}
 
--- what a receiver decides on soft values, by at most 50 rounds of min-sum
-abbrev pub judged : Rows → List ℤ → Decided
-judged rows soft = decided rows 50 soft
+-- what a receiver decides on soft values, by at most 50 rounds of min-sum and so many passes of settling
+abbrev pub judged : ℕ → Rows → List ℤ → Decided
+judged passes rows soft = decided rows (effort_of 50 passes) soft
 
 -- the exit of a verdict
 abbrev pub exit_on : Verdict → Exit
@@ -45,8 +45,8 @@ Says verdicts.MostLikely rows soft bits exit text = SaysMostLikely rows soft bit
 Says verdicts.Parity rows soft bits exit text = SaysParity rows soft bits exit text
 Says verdicts.Broken rows soft bits exit text = SaysBroken rows soft bits exit text
 
-abbrev pub Judges : Rows → List ℤ → Exit → List ℕ → Type 0
-Judges rows soft exit text = Says (judged rows soft).verdict rows soft (judged rows soft).bits exit text
+abbrev pub Judges : ℕ → Rows → List ℤ → Exit → List ℕ → Type 0
+Judges passes rows soft exit text = Says (judged passes rows soft).verdict rows soft (judged passes rows soft).bits exit text
 
-abbrev pub IsJudged : Rows × List ℤ → Exit → List ℕ → Type 0
-IsJudged input exit text = Judges input.0 input.1 exit text
+abbrev pub IsJudged : ℕ → Rows × List ℤ → Exit → List ℕ → Type 0
+IsJudged passes input exit text = Judges passes input.0 input.1 exit text

@@ -1,4 +1,5 @@
 pub mod Counting
+pub mod Screens
 pub mod Faults
 pub mod Exits
 pub mod Lines

@@ -6,12 +6,13 @@ use Rattle.s2_channel.specs.Pcg.{pcg32_of_seed}
 use Rattle.s2_channel.specs.Pcg32Seed.{pcg32_seed}
 use Rattle.s2_receive.specs.Receiving.{Rules}
 use Rattle.s2_receive.specs.declared.receiver.TheConstants.{MOST_SYMBOLS}
+use Rattle.s2_modem.specs.Deciding.{Effort}
 use Rattle.s2_modem.specs.Link.{Transmitter}
 use Rattle.s2_modem.specs.Reception.{link_rules}
-use Rattle.s2_modem.specs.Sending.{Runs}
-use Rattle.s2_modem.specs.declared.outcome.Counts.{Counts}
-use Rattle.s2_modem.specs.declared.outcome.SendFault.{SendFault}
-use Rattle.s2_modem.specs.declared.outcome.SendFault.TheVariants as refusals
+use Rattle.s2_modem.specs.Sending.{TransmitterRuns}
+use Rattle.s2_modem.specs.declared.send.outcome.Counts.{Counts}
+use Rattle.s2_modem.specs.declared.send.outcome.SendFault.{SendFault}
+use Rattle.s2_modem.specs.declared.send.outcome.SendFault.TheVariants as refusals
 use Rattle.s2_modem.specs.declared.setup.Setup.{Setup}
 use Rattle.s2_tool.specs.declared.exit.Exit.{Exit}
 use Rattle.s2_tool.specs.declared.fault.Fault.{Fault}
@@ -45,7 +46,7 @@ ComesOf seed level symbols (Err refusal) received = received ≡ Err (kept_fault
 pub record Passes (t : Transmitter) (seed level : ℕ) (old new : Streams) (received : Result (List ℕ) Fault) : Type 0 where
   pub answer : Result Counts SendFault
   pub symbols : List ℕ
-  pub runs : Runs t.link t.limit (MayFail t.limit old new) old.taken new.taken (Some []) (Some symbols) answer
+  pub runs : TransmitterRuns t.link t.limit (MayFail t.limit old new) old.taken new.taken (Some []) (Some symbols) answer
   pub comes : ComesOf seed level symbols answer received
 
 -- What came is received, from memory. Where nothing came the fault is told, and nothing written.
@@ -59,9 +60,9 @@ abbrev pub LoopsBy : Transmitter → Rules → ℕ → ℕ → Streams → Strea
 LoopsBy t rules seed level old new ended = (received : Result (List ℕ) Fault) × Passes t seed level old new received × HearsAll rules received old new ended
 
 -- `run` on a link
-abbrev pub Loops : ℕ → ℕ → ℕ → Deed
-Loops rounds seed level link old new ended = LoopsBy (transmitter_on link) (link_rules link rounds MOST_SYMBOLS) seed level old new ended
+abbrev pub Loops : Effort → ℕ → ℕ → Deed
+Loops effort seed level link old new ended = LoopsBy (transmitter_on link) (link_rules link effort MOST_SYMBOLS) seed level old new ended
 
--- `run` on a setup, rounds, a seed, a level and a row file
-abbrev pub LoopsBack : Setup → ℕ → ℕ → ℕ → Option (List ℕ) → Streams → Streams → Result Exit Fault → Type 0
-LoopsBack setup rounds seed level rows old new ended = OnLink (Loops rounds seed level) setup rows old new ended
+-- `run` on a setup, an effort, a seed, a level and a row file
+abbrev pub LoopsBack : Setup → Effort → ℕ → ℕ → Option (List ℕ) → Streams → Streams → Result Exit Fault → Type 0
+LoopsBack setup effort seed level rows old new ended = OnLink (Loops effort seed level) setup rows old new ended

@@ -2,6 +2,7 @@
 use Rattle.std.specs.Prelude.{◌≡◌, ◌≢◌, ℕ, ◌+◌, Bool, if◌then◌else◌, List, Option, Result, Ok, Err}
 use Rattle.s2_receive.specs.Receiving.{Rules, State, begun, RunsTo, StopsAfter, BreaksAfter, Reaches}
 use Rattle.s2_receive.specs.declared.receiver.TheConstants.{MOST_SYMBOLS}
+use Rattle.s2_modem.specs.Deciding.{Effort}
 use Rattle.s2_modem.specs.Link.{Link}
 use Rattle.s2_modem.specs.Reception.{link_rules}
 use Rattle.s2_modem.specs.declared.setup.Setup.{Setup}
@@ -29,9 +30,9 @@ Receives rules old new (Err faults.Write) = BreaksAfter rules begun old.taken ol
 Receives rules old new (Err f) = ⊥
 
 -- `demod` on a link: what a new receiver makes of the symbols
-abbrev pub Hears : ℕ → Deed
-Hears rounds link old new ended = Receives (link_rules link rounds MOST_SYMBOLS) old new ended
+abbrev pub Hears : Effort → Deed
+Hears effort link old new ended = Receives (link_rules link effort MOST_SYMBOLS) old new ended
 
--- `demod` on a setup, rounds and a row file
-abbrev pub Demodulates : Setup → ℕ → Option (List ℕ) → Streams → Streams → Result Exit Fault → Type 0
-Demodulates setup rounds rows old new ended = OnLink (Hears rounds) setup rows old new ended
+-- `demod` on a setup, an effort and a row file
+abbrev pub Demodulates : Setup → Effort → Option (List ℕ) → Streams → Streams → Result Exit Fault → Type 0
+Demodulates setup effort rows old new ended = OnLink (Hears effort) setup rows old new ended

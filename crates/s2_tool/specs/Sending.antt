@@ -3,11 +3,11 @@ use Rattle.std.specs.Prelude.{◌≡◌, ℕ, ◌+◌, List, ◌++◌, codes, de
 use Rattle.std.specs.Io.KnownBytes.{Appends}
 use Rattle.s2_mode.specs.Pieces.{AppendsPart}
 use Rattle.s2_modem.specs.Link.{Link, Transmitter}
-use Rattle.s2_modem.specs.Sending.{Runs}
-use Rattle.s2_modem.specs.declared.outcome.Counts.{Counts}
-use Rattle.s2_modem.specs.declared.outcome.SendFault.{SendFault}
-use Rattle.s2_modem.specs.declared.outcome.SendFault.TheVariants as refusals
-use Rattle.s2_modem.specs.declared.sending.TheConstants.{MOST_PACKETS}
+use Rattle.s2_modem.specs.Sending.{TransmitterRuns}
+use Rattle.s2_modem.specs.declared.send.outcome.Counts.{Counts}
+use Rattle.s2_modem.specs.declared.send.outcome.SendFault.{SendFault}
+use Rattle.s2_modem.specs.declared.send.outcome.SendFault.TheVariants as refusals
+use Rattle.s2_modem.specs.declared.send.sending.TheConstants.{MOST_PACKETS}
 use Rattle.s2_modem.specs.declared.setup.Setup.{Setup}
 use Rattle.s2_tool.specs.declared.exit.Exit.{Exit}
 use Rattle.s2_tool.specs.declared.exit.Exit.TheVariants as exits
@@ -33,7 +33,6 @@ IsSent counts exit text = (exit ≡ exits.Fine) × (text ≡ sent_line counts)
 abbrev pub Tells : Result Counts SendFault → Result Exit Fault → Option (List ℕ) → Option (List ℕ) → Type 0
 Tells (Ok counts) (Ok exit) old new = (exit ≡ exits.Fine) × Appends old new (sent_line counts)
 Tells (Ok counts) (Err faults.Write) old new = AppendsPart (sent_line counts) old new
-Tells (Ok counts) (Err faults.NoMemory) old new = new ≡ old
 Tells (Ok counts) (Err f) old new = ⊥
 Tells (Err refusal) ended old new = (ended ≡ Err (refusal_fault refusal)) × (new ≡ old)
 
@@ -44,7 +43,7 @@ MayFail most old new packets = (new.reads ≡ old.reads + 1) ⊎ ((new.reads ≡
 -- a transmitter runs, and its answer is told
 abbrev pub SendsBy : Transmitter → Streams → Streams → Result Exit Fault → Type 0
 SendsBy t old new ended =
-    (answer : Result Counts SendFault) × Runs t.link t.limit (MayFail t.limit old new) old.taken new.taken old.given new.given answer × Tells answer ended old.out new.out
+    (answer : Result Counts SendFault) × TransmitterRuns t.link t.limit (MayFail t.limit old new) old.taken new.taken old.given new.given answer × Tells answer ended old.out new.out
 
 -- a new transmitter on a link
 abbrev pub transmitter_on : Link → Transmitter

@@ -1,16 +1,19 @@
 -- What the program prints for a request.
-use Rattle.std.specs.Prelude.{◌≡◌, ℕ, List, Option, Some, Result, Ok, Err, IfOk, codes, ⊤, ◌⊎◌}
+use Rattle.std.specs.Prelude.{◌≡◌, ◌≢◌, ℕ, List, Option, Some, Result, Ok, Err, IfOk, codes, ⊤, ◌⊎◌}
 use Rattle.s2_mode.specs.Shape.{IsShape, Shape, shape_of}
+use Rattle.s2_modem.specs.Deciding.{effort_of}
 use Rattle.s2_modem.specs.Link.{Link}
 use Rattle.s2_modem.specs.declared.setup.Setup.{Setup}
 use Rattle.s2_tool.specs.declared.exit.Exit.{Exit}
+use Rattle.s2_tool.specs.declared.exit.Exit.TheVariants as exits
 use Rattle.s2_tool.specs.declared.fault.Fault.{Fault}
 use Rattle.s2_tool.specs.declared.fault.Fault.TheVariants as faults
 use Rattle.s2_tool.specs.declared.request.Request.{Request}
 use Rattle.s2_tool.specs.declared.request.Request.TheVariants as requests
 use Rattle.s2_tool.specs.declared.request.RowsWords.{RowsWords}
 use Rattle.s2_tool.specs.declared.request.ShapeWords.{ShapeWords}
-use Rattle.s2_tool.specs.Exits.{exit_of, Runs, Complains}
+use Rattle.s2_tool.specs.Exits.{exit_of, CommandRuns, Complains}
+use Rattle.s2_tool.specs.Screens.{Screen}
 use Rattle.s2_tool.specs.Inputs.{AreInputs, IsRowFile, rows_made}
 use Rattle.s2_tool.specs.Judging.{IsJudged}
 use Rattle.s2_tool.specs.Checking.{IsAnswered}
@@ -47,27 +50,24 @@ pub record Reports (Does : Deed) (setup : Setup) (ended : Result Exit Fault) (ol
 -- One that names files prints what their command says of some rows, soft values, certificate, packets or symbols; where a file
 -- cannot be opened, nothing.
 abbrev pub Serves : Request → Option (List ℕ) → Result Exit Fault → Option (List ℕ) → Option (List ℕ) → Type 0
-Serves requests.Own input ended old new = Runs IsJudged (AreInputs (shape_of 4 2 3) (Some (codes "0 4 8\n0 1 2\n")) input) ended old new
-Serves (requests.Rows words) input ended old new = Runs IsRowFile (AreAskedRows words) ended old new
-Serves (requests.Judge words) input ended old new = Runs IsJudged Anything ended old new
-Serves (requests.Check words) input ended old new = Runs IsAnswered Anything ended old new
-Serves (requests.Mod words) input ended old new = Runs IsSent Anything ended old new
+Serves requests.Own input ended old new = CommandRuns (IsJudged 0) (AreInputs (shape_of 4 2 3) (Some (codes "0 4 8\n0 1 2\n")) input) ended old new
+Serves (requests.Rows words) input ended old new = CommandRuns IsRowFile (AreAskedRows words) ended old new
+Serves (requests.Judge words) input ended old new = CommandRuns (IsJudged words.passes) Anything ended old new
+Serves (requests.Check words) input ended old new = CommandRuns IsAnswered Anything ended old new
+Serves (requests.Mod words) input ended old new = CommandRuns IsSent Anything ended old new
 Serves (requests.Noise words) input ended old new = new ≡ old
-Serves (requests.Demod words) input ended old new = Reports (Hears words.rounds.count) (asked_setup words.link) ended old new
-Serves (requests.Run words) input ended old new = Reports (Loops words.rounds.count words.seed words.level) (asked_setup words.link) ended old new
-
--- what stands in the output and in the errors of a console, where that is known, and how many calls of the errors have failed
-pub record Screen : Type 0 where
-  pub output : Option (List ℕ)
-  pub errors : Option (List ℕ)
-  pub errors_failed : ℕ
+Serves (requests.Demod words) input ended old new = Reports (Hears (effort_of words.effort.rounds words.effort.passes)) (asked_setup words.link) ended old new
+Serves (requests.Run words) input ended old new = Reports (Loops (effort_of words.effort.rounds words.effort.passes) words.seed words.level) (asked_setup words.link) ended old new
 
 -- a request was served with this exit: how it ended decides the exit, the output and the errors
 pub record Served (request : Request) (input : Option (List ℕ)) (exit : Exit) (old new : Screen) : Type 0 where
   pub ended : Result Exit Fault
   pub exit_is : exit ≡ exit_of ended
   pub prints : Serves request input ended old.output new.output
-  pub complains : Complains ended old.errors_failed new.errors_failed old.errors new.errors
+  pub complains : Complains ended old new
+  -- only where a fault is told may a call of the output or of the errors have failed
+  pub whole : exit ≢ exits.Fault → new.output_failed ≡ old.output_failed
+  pub quiet : exit ≢ exits.Fault → new.errors_failed ≡ old.errors_failed
 
 -- A command was begun and ended so, or it could not be begun and did nothing.
 abbrev pub Began : Request → Option (List ℕ) → Result Exit Fault → Screen → Screen → Type 0

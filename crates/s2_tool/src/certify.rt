@@ -4,7 +4,8 @@ ghost use Rattle.s2_mode.specs.Counts.{CountsFault};
 ghost use Rattle.s2_matrix.specs.Code.{code_of};
 ghost use Rattle.s2_check.specs.Views.{IsSoft};
 ghost use Rattle.s2_tool.specs.Counting.{CanCount};
-ghost use Rattle.s2_tool.specs.Exits.{exit_of, Answers, Runs, Counts, Complains};
+ghost use Rattle.s2_tool.specs.Screens.{CanShow};
+ghost use Rattle.s2_tool.specs.Exits.{exit_of, CommandAnswers, CommandRuns, CommandCounts, Complains};
 ghost use Rattle.s2_tool.specs.Inputs.{AreInputs, IsOnly};
 ghost use Rattle.s2_tool.specs.Judging.{IsJudged};
 ghost use Rattle.s2_tool.specs.Certifying.{Writes, Certifies, IsCertified};
@@ -39,19 +40,20 @@ fn write_certificate<C: CountedWrite>(
 fn certify_soft<C: CountedWrite>(
     alloc: Global,
     matrix: &Matrix,
+    passes: u32,
     soft: &[i16],
     certificate: &mut C,
 ) -> Result<Printed, Fault<'static>>
     requires soft { length soft.now ≡ (code_of matrix.now).bits }
     requires range { All IsSoft soft.now }
     requires certificate { CanCount (C.count certificate.old) }
-    ensures answers { Answers IsJudged (IsOnly (matrix.now, soft.now)) result }
-    ensures certified { IsCertified (IsOnly (matrix.now, soft.now)) result (C.contents certificate.old) (C.contents certificate.new) }
+    ensures answers { CommandAnswers (IsJudged passes) (IsOnly (matrix.now, soft.now)) result }
+    ensures certified { IsCertified passes (IsOnly (matrix.now, soft.now)) result (C.contents certificate.old) (C.contents certificate.new) }
     ensures read { result ≢ Err Fault.Read }
     ensures write { result ≡ Err Fault.Write → C.count certificate.new ≡ C.count certificate.old + 1 }
     ensures no_write { result ≢ Err Fault.Write → C.count certificate.new ≡ C.count certificate.old }
 {
-    let Ok(mut judge) = Judge::new(alloc, matrix, DEFAULT_ROUNDS) else {
+    let Ok(mut judge) = Judge::new(alloc, matrix, DEFAULT_ROUNDS, passes) else {
         return Err(Fault::NoMemory);
     };
     let verdict = judge.judge(soft);
@@ -68,6 +70,7 @@ fn certify_soft<C: CountedWrite>(
 fn certify_files<R: CountedRead, S: CountedRead, C: CountedWrite>(
     alloc: Global,
     shape: Shape,
+    passes: u32,
     rows: &mut R,
     soft: &mut S,
     certificate: &mut C,
@@ -75,8 +78,8 @@ fn certify_files<R: CountedRead, S: CountedRead, C: CountedWrite>(
     requires rows { CanCount (R.count rows.old) }
     requires soft { CanCount (S.count soft.old) }
     requires certificate { CanCount (C.count certificate.old) }
-    ensures answers { Answers IsJudged (AreInputs shape (R.remaining rows.old) (S.remaining soft.old)) result }
-    ensures certified { IsCertified (AreInputs shape (R.remaining rows.old) (S.remaining soft.old)) result (C.contents certificate.old) (C.contents certificate.new) }
+    ensures answers { CommandAnswers (IsJudged passes) (AreInputs shape (R.remaining rows.old) (S.remaining soft.old)) result }
+    ensures certified { IsCertified passes (AreInputs shape (R.remaining rows.old) (S.remaining soft.old)) result (C.contents certificate.old) (C.contents certificate.new) }
     ensures read { result ≡ Err Fault.Read → R.count rows.new + S.count soft.new ≡ R.count rows.old + S.count soft.old + 1 }
     ensures no_read { result ≢ Err Fault.Read → R.count rows.new + S.count soft.new ≡ R.count rows.old + S.count soft.old }
     ensures write { result ≡ Err Fault.Write → C.count certificate.new ≡ C.count certificate.old + 1 }
@@ -87,13 +90,14 @@ fn certify_files<R: CountedRead, S: CountedRead, C: CountedWrite>(
     let Ok(matrix) = Matrix::build(alloc, &rows) else {
         return Err(Fault::NoMemory);
     };
-    certify_soft(alloc, &matrix, &soft, certificate)
+    certify_soft(alloc, &matrix, passes, &soft, certificate)
 }
 
 /// Reads rows and soft values, judges, certifies, and then prints the verdict.
 fn print_certified<R: CountedRead, S: CountedRead, C: CountedWrite, O: CountedWrite>(
     alloc: Global,
     shape: Shape,
+    passes: u32,
     rows: &mut R,
     soft: &mut S,
     certificate: &mut C,
@@ -104,13 +108,13 @@ fn print_certified<R: CountedRead, S: CountedRead, C: CountedWrite, O: CountedWr
     requires certificate { CanCount (C.count certificate.old) }
     requires out { CanCount (O.count out.old) }
     ensures whole { IsOk result → O.count out.new ≡ O.count out.old }
-    ensures run { Runs IsJudged (AreInputs shape (R.remaining rows.old) (S.remaining soft.old)) result (O.contents out.old) (O.contents out.new) }
-    ensures certified { Certifies (AreInputs shape (R.remaining rows.old) (S.remaining soft.old)) result
+    ensures run { CommandRuns (IsJudged passes) (AreInputs shape (R.remaining rows.old) (S.remaining soft.old)) result (O.contents out.old) (O.contents out.new) }
+    ensures certified { Certifies passes (AreInputs shape (R.remaining rows.old) (S.remaining soft.old)) result
         (C.count certificate.old) (C.count certificate.new) (C.contents certificate.old) (C.contents certificate.new) }
-    ensures causes { Counts result (R.count rows.old + S.count soft.old) (R.count rows.new + S.count soft.new)
+    ensures causes { CommandCounts result (R.count rows.old + S.count soft.old) (R.count rows.new + S.count soft.new)
         (C.count certificate.old + O.count out.old) (C.count certificate.new + O.count out.new) }
 {
-    certify_files(alloc, shape, rows, soft, certificate)?.print(out)
+    certify_files(alloc, shape, passes, rows, soft, certificate)?.print(out)
 }
 
 /// `judge --cert`: `judge`, and the certificate of the decided bits where they are most likely. It is
@@ -124,6 +128,7 @@ pub fn certify_command<
 >(
     alloc: Global,
     shape: Shape,
+    passes: u32,
     rows: &mut R,
     soft: &mut S,
     certificate: &mut C,
@@ -132,18 +137,25 @@ pub fn certify_command<
     requires rows { CanCount (R.count rows.old) }
     requires soft { CanCount (S.count soft.old) }
     requires certificate { CanCount (C.count certificate.old) }
-    requires output { CanCount (O.count console.old.output) }
-    requires errors { CanCount (E.count console.old.errors) }
-    ensures quiet { result ≢ Exit.Fault → E.count console.new.errors ≡ E.count console.old.errors }
-    ensures whole { result ≢ Exit.Fault → O.count console.new.output ≡ O.count console.old.output }
+    requires console { CanShow console.old }
+    ensures quiet { result ≢ Exit.Fault → console.new.errors_failed ≡ console.old.errors_failed }
+    ensures whole { result ≢ Exit.Fault → console.new.output_failed ≡ console.old.output_failed }
     ensures run { (ended : Result Exit Fault) × (result ≡ exit_of ended)
-        × Runs IsJudged (AreInputs shape (R.remaining rows.old) (S.remaining soft.old)) ended (O.contents console.old.output) (O.contents console.new.output)
-        × Certifies (AreInputs shape (R.remaining rows.old) (S.remaining soft.old)) ended
+        × CommandRuns (IsJudged passes) (AreInputs shape (R.remaining rows.old) (S.remaining soft.old)) ended console.old.output console.new.output
+        × Certifies passes (AreInputs shape (R.remaining rows.old) (S.remaining soft.old)) ended
         (C.count certificate.old) (C.count certificate.new) (C.contents certificate.old) (C.contents certificate.new)
-        × Counts ended (R.count rows.old + S.count soft.old) (R.count rows.new + S.count soft.new)
-        (C.count certificate.old + O.count console.old.output) (C.count certificate.new + O.count console.new.output)
-        × Complains ended (E.count console.old.errors) (E.count console.new.errors) (E.contents console.old.errors) (E.contents console.new.errors) }
+        × CommandCounts ended (R.count rows.old + S.count soft.old) (R.count rows.new + S.count soft.new)
+        (C.count certificate.old + console.old.output_failed) (C.count certificate.new + console.new.output_failed)
+        × Complains ended console.old console.new }
 {
-    let ended = print_certified(alloc, shape, rows, soft, certificate, &mut console.output);
+    let ended = print_certified(
+        alloc,
+        shape,
+        passes,
+        rows,
+        soft,
+        certificate,
+        &mut console.output,
+    );
     console.conclude(ended)
 }

@@ -3,7 +3,8 @@ ghost use Rattle.std.specs.Prelude.{◌≡◌, ◌≢◌, ◌+◌, Result, Err, 
 ghost use Rattle.s2_rows.specs.RowFiles as row_files;
 ghost use Rattle.s2_check.specs.CertificateFiles.{reading};
 ghost use Rattle.s2_tool.specs.Counting.{CanCount};
-ghost use Rattle.s2_tool.specs.Exits.{exit_of, Follows, Answers, Runs, Counts, Complains};
+ghost use Rattle.s2_tool.specs.Screens.{CanShow};
+ghost use Rattle.s2_tool.specs.Exits.{exit_of, Follows, CommandAnswers, CommandRuns, CommandCounts, Complains};
 ghost use Rattle.s2_tool.specs.Inputs.{rows_said};
 ghost use Rattle.s2_tool.specs.Checking.{certificate_said, ArePartsIn, AreCheckInputs, answer_line, answer_exit, SaysAnswer, IsAnswered};
 
@@ -79,7 +80,7 @@ fn rows_of(alloc: Global, text: &[u8], shape: Shape) -> Result<Rows, Fault<'stat
 
 /// Takes two files in memory apart, and checks.
 fn check_parts(alloc: Global, rows: &[u8], certificate: &[u8]) -> Result<Printed, Fault<'static>>
-    ensures answers { Answers IsAnswered (ArePartsIn rows.now certificate.now) result }
+    ensures answers { CommandAnswers IsAnswered (ArePartsIn rows.now certificate.now) result }
     ensures read { result ≢ Err Fault.Read }
     ensures write { result ≢ Err Fault.Write }
 {
@@ -103,7 +104,7 @@ fn check_files<R: CountedRead, S: CountedRead>(
 ) -> Result<Printed, Fault<'static>>
     requires rows { CanCount (R.count rows.old) }
     requires certificate { CanCount (S.count certificate.old) }
-    ensures answers { Answers IsAnswered (AreCheckInputs (R.remaining rows.old) (S.remaining certificate.old)) result }
+    ensures answers { CommandAnswers IsAnswered (AreCheckInputs (R.remaining rows.old) (S.remaining certificate.old)) result }
     ensures read { result ≡ Err Fault.Read → R.count rows.new + S.count certificate.new ≡ R.count rows.old + S.count certificate.old + 1 }
     ensures no_read { result ≢ Err Fault.Read → R.count rows.new + S.count certificate.new ≡ R.count rows.old + S.count certificate.old }
     ensures write { result ≢ Err Fault.Write }
@@ -124,8 +125,8 @@ fn print_check<R: CountedRead, S: CountedRead, O: CountedWrite>(
     requires certificate { CanCount (S.count certificate.old) }
     requires out { CanCount (O.count out.old) }
     ensures whole { IsOk result → O.count out.new ≡ O.count out.old }
-    ensures run { Runs IsAnswered (AreCheckInputs (R.remaining rows.old) (S.remaining certificate.old)) result (O.contents out.old) (O.contents out.new) }
-    ensures causes { Counts result (R.count rows.old + S.count certificate.old) (R.count rows.new + S.count certificate.new) (O.count out.old) (O.count out.new) }
+    ensures run { CommandRuns IsAnswered (AreCheckInputs (R.remaining rows.old) (S.remaining certificate.old)) result (O.contents out.old) (O.contents out.new) }
+    ensures causes { CommandCounts result (R.count rows.old + S.count certificate.old) (R.count rows.new + S.count certificate.new) (O.count out.old) (O.count out.new) }
 {
     check_files(alloc, rows, certificate)?.print(out)
 }
@@ -139,14 +140,13 @@ pub fn check_command<R: CountedRead, S: CountedRead, O: CountedWrite, E: Counted
 ) -> Exit
     requires rows { CanCount (R.count rows.old) }
     requires certificate { CanCount (S.count certificate.old) }
-    requires output { CanCount (O.count console.old.output) }
-    requires errors { CanCount (E.count console.old.errors) }
-    ensures quiet { result ≢ Exit.Fault → E.count console.new.errors ≡ E.count console.old.errors }
-    ensures whole { result ≢ Exit.Fault → O.count console.new.output ≡ O.count console.old.output }
+    requires console { CanShow console.old }
+    ensures quiet { result ≢ Exit.Fault → console.new.errors_failed ≡ console.old.errors_failed }
+    ensures whole { result ≢ Exit.Fault → console.new.output_failed ≡ console.old.output_failed }
     ensures run { (ended : Result Exit Fault) × (result ≡ exit_of ended)
-        × Runs IsAnswered (AreCheckInputs (R.remaining rows.old) (S.remaining certificate.old)) ended (O.contents console.old.output) (O.contents console.new.output)
-        × Counts ended (R.count rows.old + S.count certificate.old) (R.count rows.new + S.count certificate.new) (O.count console.old.output) (O.count console.new.output)
-        × Complains ended (E.count console.old.errors) (E.count console.new.errors) (E.contents console.old.errors) (E.contents console.new.errors) }
+        × CommandRuns IsAnswered (AreCheckInputs (R.remaining rows.old) (S.remaining certificate.old)) ended console.old.output console.new.output
+        × CommandCounts ended (R.count rows.old + S.count certificate.old) (R.count rows.new + S.count certificate.new) console.old.output_failed console.new.output_failed
+        × Complains ended console.old console.new }
 {
     let ended = print_check(alloc, rows, certificate, &mut console.output);
     console.conclude(ended)

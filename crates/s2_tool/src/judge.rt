@@ -5,7 +5,8 @@ ghost use Rattle.s2_matrix.specs.Code.{code_of, IsCodeword};
 ghost use Rattle.s2_check.specs.Cost.{IsMostLikely};
 ghost use Rattle.s2_check.specs.Views.{IsSoft};
 ghost use Rattle.s2_tool.specs.Counting.{CanCount};
-ghost use Rattle.s2_tool.specs.Exits.{exit_of, Answers, Runs, Counts, Complains};
+ghost use Rattle.s2_tool.specs.Screens.{CanShow};
+ghost use Rattle.s2_tool.specs.Exits.{exit_of, CommandAnswers, CommandRuns, CommandCounts, Complains};
 ghost use Rattle.s2_tool.specs.Inputs.{AreInputs};
 ghost use Rattle.s2_tool.specs.Judging.{Says, Judges, IsJudged, exit_on};
 
@@ -69,12 +70,17 @@ pub(crate) fn judgement(
 }
 
 /// Judges soft values.
-fn judge_soft(alloc: Global, matrix: &Matrix, soft: &[i16]) -> Result<Printed, AllocError>
+fn judge_soft(
+    alloc: Global,
+    matrix: &Matrix,
+    passes: u32,
+    soft: &[i16],
+) -> Result<Printed, AllocError>
     requires long { length soft.now ≡ (code_of matrix.now).bits }
     requires range { All IsSoft soft.now }
-    ensures { IfOk result (λ p. Judges matrix.now soft.now p.exit p.text.items) }
+    ensures { IfOk result (λ p. Judges passes matrix.now soft.now p.exit p.text.items) }
 {
-    let mut judge = Judge::new(alloc, matrix, DEFAULT_ROUNDS)?;
+    let mut judge = Judge::new(alloc, matrix, DEFAULT_ROUNDS, passes)?;
     let verdict = judge.judge(soft);
     judgement(alloc, matrix, soft, judge.word(), verdict)
 }
@@ -83,12 +89,13 @@ fn judge_soft(alloc: Global, matrix: &Matrix, soft: &[i16]) -> Result<Printed, A
 fn judge_files<R: CountedRead, S: CountedRead>(
     alloc: Global,
     shape: Shape,
+    passes: u32,
     rows: &mut R,
     soft: &mut S,
 ) -> Result<Printed, Fault<'static>>
     requires rows { CanCount (R.count rows.old) }
     requires soft { CanCount (S.count soft.old) }
-    ensures answers { Answers IsJudged (AreInputs shape (R.remaining rows.old) (S.remaining soft.old)) result }
+    ensures answers { CommandAnswers (IsJudged passes) (AreInputs shape (R.remaining rows.old) (S.remaining soft.old)) result }
     ensures read { result ≡ Err Fault.Read → R.count rows.new + S.count soft.new ≡ R.count rows.old + S.count soft.old + 1 }
     ensures no_read { result ≢ Err Fault.Read → R.count rows.new + S.count soft.new ≡ R.count rows.old + S.count soft.old }
     ensures write { result ≢ Err Fault.Write }
@@ -98,7 +105,7 @@ fn judge_files<R: CountedRead, S: CountedRead>(
     let Ok(matrix) = Matrix::build(alloc, &rows) else {
         return Err(Fault::NoMemory);
     };
-    let Ok(printed) = judge_soft(alloc, &matrix, &soft) else {
+    let Ok(printed) = judge_soft(alloc, &matrix, passes, &soft) else {
         return Err(Fault::NoMemory);
     };
     Ok(printed)
@@ -108,6 +115,7 @@ fn judge_files<R: CountedRead, S: CountedRead>(
 fn print_judgement<R: CountedRead, S: CountedRead, O: CountedWrite>(
     alloc: Global,
     shape: Shape,
+    passes: u32,
     rows: &mut R,
     soft: &mut S,
     out: &mut O,
@@ -116,33 +124,33 @@ fn print_judgement<R: CountedRead, S: CountedRead, O: CountedWrite>(
     requires soft { CanCount (S.count soft.old) }
     requires out { CanCount (O.count out.old) }
     ensures whole { IsOk result → O.count out.new ≡ O.count out.old }
-    ensures run { Runs IsJudged (AreInputs shape (R.remaining rows.old) (S.remaining soft.old)) result (O.contents out.old) (O.contents out.new) }
-    ensures causes { Counts result (R.count rows.old + S.count soft.old) (R.count rows.new + S.count soft.new) (O.count out.old) (O.count out.new) }
+    ensures run { CommandRuns (IsJudged passes) (AreInputs shape (R.remaining rows.old) (S.remaining soft.old)) result (O.contents out.old) (O.contents out.new) }
+    ensures causes { CommandCounts result (R.count rows.old + S.count soft.old) (R.count rows.new + S.count soft.new) (O.count out.old) (O.count out.new) }
 {
-    judge_files(alloc, shape, rows, soft)?.print(out)
+    judge_files(alloc, shape, passes, rows, soft)?.print(out)
 }
 
 /// `judge`: what a receiver decides on the soft values of a file under the code of a row file, and what is
-/// known of it.
+/// known of it, by so many passes of settling or none.
 pub fn judge_command<R: CountedRead, S: CountedRead, O: CountedWrite, E: CountedWrite>(
     alloc: Global,
     shape: Shape,
+    passes: u32,
     rows: &mut R,
     soft: &mut S,
     console: &mut Console<O, E>,
 ) -> Exit
     requires rows { CanCount (R.count rows.old) }
     requires soft { CanCount (S.count soft.old) }
-    requires output { CanCount (O.count console.old.output) }
-    requires errors { CanCount (E.count console.old.errors) }
-    ensures quiet { result ≢ Exit.Fault → E.count console.new.errors ≡ E.count console.old.errors }
-    ensures whole { result ≢ Exit.Fault → O.count console.new.output ≡ O.count console.old.output }
+    requires console { CanShow console.old }
+    ensures quiet { result ≢ Exit.Fault → console.new.errors_failed ≡ console.old.errors_failed }
+    ensures whole { result ≢ Exit.Fault → console.new.output_failed ≡ console.old.output_failed }
     ensures run { (ended : Result Exit Fault) × (result ≡ exit_of ended)
-        × Runs IsJudged (AreInputs shape (R.remaining rows.old) (S.remaining soft.old)) ended (O.contents console.old.output) (O.contents console.new.output)
-        × Counts ended (R.count rows.old + S.count soft.old) (R.count rows.new + S.count soft.new) (O.count console.old.output) (O.count console.new.output)
-        × Complains ended (E.count console.old.errors) (E.count console.new.errors) (E.contents console.old.errors) (E.contents console.new.errors) }
+        × CommandRuns (IsJudged passes) (AreInputs shape (R.remaining rows.old) (S.remaining soft.old)) ended console.old.output console.new.output
+        × CommandCounts ended (R.count rows.old + S.count soft.old) (R.count rows.new + S.count soft.new) console.old.output_failed console.new.output_failed
+        × Complains ended console.old console.new }
 {
-    let ended = print_judgement(alloc, shape, rows, soft, &mut console.output);
+    let ended = print_judgement(alloc, shape, passes, rows, soft, &mut console.output);
     console.conclude(ended)
 }
 
@@ -153,18 +161,17 @@ pub fn self_command<S: CountedRead, O: CountedWrite, E: CountedWrite>(
     console: &mut Console<O, E>,
 ) -> Exit
     requires soft { CanCount (S.count soft.old) }
-    requires output { CanCount (O.count console.old.output) }
-    requires errors { CanCount (E.count console.old.errors) }
-    ensures quiet { result ≢ Exit.Fault → E.count console.new.errors ≡ E.count console.old.errors }
-    ensures whole { result ≢ Exit.Fault → O.count console.new.output ≡ O.count console.old.output }
+    requires console { CanShow console.old }
+    ensures quiet { result ≢ Exit.Fault → console.new.errors_failed ≡ console.old.errors_failed }
+    ensures whole { result ≢ Exit.Fault → console.new.output_failed ≡ console.old.output_failed }
     ensures run { (ended : Result Exit Fault) × (result ≡ exit_of ended)
-        × Runs IsJudged (AreInputs (shape_of 4 2 3) (Some (codes "0 4 8\n0 1 2\n")) (S.remaining soft.old)) ended (O.contents console.old.output) (O.contents console.new.output)
-        × Counts ended (S.count soft.old) (S.count soft.new) (O.count console.old.output) (O.count console.new.output)
-        × Complains ended (E.count console.old.errors) (E.count console.new.errors) (E.contents console.old.errors) (E.contents console.new.errors) }
+        × CommandRuns (IsJudged 0) (AreInputs (shape_of 4 2 3) (Some (codes "0 4 8\n0 1 2\n")) (S.remaining soft.old)) ended console.old.output console.new.output
+        × CommandCounts ended (S.count soft.old) (S.count soft.new) console.old.output_failed console.new.output_failed
+        × Complains ended console.old console.new }
 {
     let Some(shape) = Shape::new(4, 2, 3) else {
         unreachable!();
     };
     let mut rows = InMemory::new(TOY_ROWS);
-    judge_command(alloc, shape, &mut rows, soft, console)
+    judge_command(alloc, shape, 0, &mut rows, soft, console)
 }

@@ -1,20 +1,22 @@
 //! Packets sent, spoilt and received, all in memory.
 ghost use Rattle.std.specs.Prelude.{◌≡◌, ◌≢◌, ◌+◌, None, Result, Ok, Err, IfOk, IfErr, IsOk};
 ghost use Rattle.s2_receive.specs.Receiving.{begun};
+ghost use Rattle.s2_modem.specs.Deciding.{effort_of};
 ghost use Rattle.s2_modem.specs.Reception.{rules_for};
 ghost use Rattle.s2_tool.specs.Counting.{CanCount};
+ghost use Rattle.s2_tool.specs.Screens.{CanShow};
 ghost use Rattle.s2_tool.specs.Exits.{exit_of, Complains};
 ghost use Rattle.s2_tool.specs.Links.{setup_of};
 ghost use Rattle.s2_tool.specs.Looping.{kept_fault, Spoilt, Passes, LoopsBy, LoopsBack};
 
 use crate::console::Console;
+use crate::effort::Effort;
 use crate::exit::Exit;
 use crate::fault::Fault;
 use crate::files::read_matrix;
 use crate::link::LinkSetup;
 use crate::noise::spoil;
 use crate::receive::{receive_frames, receiver_of};
-use crate::rounds::Rounds;
 use crate::send::{fault_of, transmitter_of};
 use s2_mode::{CountedRead, CountedWrite, Counting, InMemory};
 use s2_modem::{Receiver, SendFault, Transmitter};
@@ -108,7 +110,7 @@ fn loop_packets<P: CountedRead, W: CountedWrite, O: CountedWrite>(
 fn loop_files<R: CountedRead, P: CountedRead, W: CountedWrite, O: CountedWrite>(
     alloc: Global,
     link: LinkSetup,
-    rounds: Rounds,
+    effort: Effort,
     seed: u64,
     level: u16,
     rows: &mut R,
@@ -121,7 +123,7 @@ fn loop_files<R: CountedRead, P: CountedRead, W: CountedWrite, O: CountedWrite>(
     requires to { CanCount (W.count to.old) }
     requires out { CanCount (O.count out.old) }
     ensures whole { IsOk result → O.count out.new ≡ O.count out.old }
-    ensures run { LoopsBack (setup_of link) rounds.count seed level (R.remaining rows.old)
+    ensures run { LoopsBack (setup_of link) (effort_of effort.rounds effort.passes) seed level (R.remaining rows.old)
         (record { taken = P.remaining packets.old; given = W.contents to.old; out = O.contents out.old; reads = R.count rows.old + P.count packets.old; writes = W.count to.old + O.count out.old })
         (record { taken = P.remaining packets.new; given = W.contents to.new; out = O.contents out.new; reads = R.count rows.new + P.count packets.new; writes = W.count to.new + O.count out.new })
         result }
@@ -129,7 +131,7 @@ fn loop_files<R: CountedRead, P: CountedRead, W: CountedWrite, O: CountedWrite>(
     let setup = link.setup();
     let matrix = read_matrix(alloc, rows, setup.mode.shape())?;
     let mut transmitter = transmitter_of(alloc, setup, &matrix)?;
-    let mut receiver = receiver_of(alloc, setup, &matrix, rounds)?;
+    let mut receiver = receiver_of(alloc, setup, &matrix, effort)?;
     loop_packets(
         alloc,
         &mut transmitter,
@@ -154,7 +156,7 @@ pub fn run_command<
 >(
     alloc: Global,
     link: LinkSetup,
-    rounds: Rounds,
+    effort: Effort,
     seed: u64,
     level: u16,
     rows: &mut R,
@@ -165,18 +167,17 @@ pub fn run_command<
     requires rows { CanCount (R.count rows.old) }
     requires packets { CanCount (P.count packets.old) }
     requires to { CanCount (W.count to.old) }
-    requires output { CanCount (O.count console.old.output) }
-    requires errors { CanCount (E.count console.old.errors) }
-    ensures quiet { result ≢ Exit.Fault → E.count console.new.errors ≡ E.count console.old.errors }
-    ensures whole { result ≢ Exit.Fault → O.count console.new.output ≡ O.count console.old.output }
+    requires console { CanShow console.old }
+    ensures quiet { result ≢ Exit.Fault → console.new.errors_failed ≡ console.old.errors_failed }
+    ensures whole { result ≢ Exit.Fault → console.new.output_failed ≡ console.old.output_failed }
     ensures run { (ended : Result Exit Fault) × (result ≡ exit_of ended)
-        × LoopsBack (setup_of link) rounds.count seed level (R.remaining rows.old)
-        (record { taken = P.remaining packets.old; given = W.contents to.old; out = O.contents console.old.output; reads = R.count rows.old + P.count packets.old; writes = W.count to.old + O.count console.old.output })
-        (record { taken = P.remaining packets.new; given = W.contents to.new; out = O.contents console.new.output; reads = R.count rows.new + P.count packets.new; writes = W.count to.new + O.count console.new.output })
+        × LoopsBack (setup_of link) (effort_of effort.rounds effort.passes) seed level (R.remaining rows.old)
+        (record { taken = P.remaining packets.old; given = W.contents to.old; out = console.old.output; reads = R.count rows.old + P.count packets.old; writes = W.count to.old + console.old.output_failed })
+        (record { taken = P.remaining packets.new; given = W.contents to.new; out = console.new.output; reads = R.count rows.new + P.count packets.new; writes = W.count to.new + console.new.output_failed })
         ended
-        × Complains ended (E.count console.old.errors) (E.count console.new.errors) (E.contents console.old.errors) (E.contents console.new.errors) }
+        × Complains ended console.old console.new }
 {
     let out = &mut console.output;
-    let ended = loop_files(alloc, link, rounds, seed, level, rows, packets, to, out);
+    let ended = loop_files(alloc, link, effort, seed, level, rows, packets, to, out);
     console.conclude(ended)
 }

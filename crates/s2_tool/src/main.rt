@@ -3,11 +3,13 @@
 
 ghost use Rattle.std.specs.Prelude.{◌≡◌, ◌≢◌};
 ghost use Rattle.s2_tool.specs.Counting.{CanCount};
+ghost use Rattle.s2_tool.specs.Screens.{CanShow};
 ghost use Rattle.s2_tool.specs.Serving.{SomeServed};
 
 mod certify;
 mod check;
 mod console;
+mod effort;
 mod exit;
 mod fault;
 mod files;
@@ -19,7 +21,6 @@ mod noise;
 mod opening;
 mod receive;
 mod request;
-mod rounds;
 mod rows;
 mod scrambling;
 mod send;
@@ -62,13 +63,10 @@ fn run<
     E: CountedWrite,
 >(rt: &R, input: &mut S, console: &mut Console<O, E>) -> Exit
     requires input { CanCount (S.count input.old) }
-    requires output { CanCount (O.count console.old.output) }
-    requires errors { CanCount (E.count console.old.errors) }
-    ensures quiet { result ≢ Exit.Fault → E.count console.new.errors ≡ E.count console.old.errors }
-    ensures whole { result ≢ Exit.Fault → O.count console.new.output ≡ O.count console.old.output }
-    ensures served { SomeServed (S.remaining input.old) result
-        (record { output = O.contents console.old.output; errors = E.contents console.old.errors; errors_failed = E.count console.old.errors })
-        (record { output = O.contents console.new.output; errors = E.contents console.new.errors; errors_failed = E.count console.new.errors }) }
+    requires console { CanShow console.old }
+    ensures quiet { result ≢ Exit.Fault → console.new.errors_failed ≡ console.old.errors_failed }
+    ensures whole { result ≢ Exit.Fault → console.new.output_failed ≡ console.old.output_failed }
+    ensures served { SomeServed (S.remaining input.old) result console.old console.new }
 {
     let Some(words) = words_given(rt) else {
         return console.complain(Fault::NoMemory);

@@ -44,16 +44,17 @@ pub fn noise_command<R: CountedRead, W: CountedWrite, O: CountedWrite, E: Counte
 ) -> Exit
     requires from { CanCount (R.count from.old) }
     requires to { CanCount (W.count to.old) }
-    requires errors { CanCount (E.count console.old.errors) }
-    ensures quiet { result ≢ Exit.Fault → E.count console.new.errors ≡ E.count console.old.errors }
+    requires errors { CanCount console.old.errors_failed }
+    ensures quiet { result ≢ Exit.Fault → console.new.errors_failed ≡ console.old.errors_failed }
     ensures output { console.new.output ≡ console.old.output }
+    ensures whole { console.new.output_failed ≡ console.old.output_failed }
     ensures run { (ended : Result Exit Fault) × (result ≡ exit_of ended)
         × Spoils seed level (R.remaining from.old) ended (W.contents to.old) (W.contents to.new)
         × (ended ≡ Err Fault.Read → MayRead (R.remaining from.old) (R.count from.old) (R.count from.new))
         × (ended ≢ Err Fault.Read → R.count from.new ≡ R.count from.old)
         × (ended ≡ Err Fault.Write → W.count to.new ≡ W.count to.old + 1)
         × (ended ≢ Err Fault.Write → W.count to.new ≡ W.count to.old)
-        × Complains ended (E.count console.old.errors) (E.count console.new.errors) (E.contents console.old.errors) (E.contents console.new.errors) }
+        × Complains ended console.old console.new }
 {
     let ended = spoil(seed, level, from, to);
     console.conclude(ended)

@@ -3,19 +3,21 @@ ghost use Rattle.std.specs.Prelude.{◌≡◌, ◌≢◌, ◌+◌, ◌≤◌, Re
 ghost use Rattle.s2_mode.specs.Mode.{shape_in};
 ghost use Rattle.s2_receive.specs.Receiving.{begun};
 ghost use Rattle.s2_receive.specs.declared.receiver.TheConstants.{MOST_SYMBOLS};
+ghost use Rattle.s2_modem.specs.Deciding.{effort_of};
 ghost use Rattle.s2_modem.specs.Link.{link_of};
 ghost use Rattle.s2_modem.specs.Reception.{rules_for, link_rules};
 ghost use Rattle.s2_tool.specs.Counting.{CanCount};
+ghost use Rattle.s2_tool.specs.Screens.{CanShow};
 ghost use Rattle.s2_tool.specs.Exits.{exit_of, Complains};
 ghost use Rattle.s2_tool.specs.Links.{setup_of};
 ghost use Rattle.s2_tool.specs.Receptions.{exit_by, Receives, Demodulates};
 
 use crate::console::Console;
+use crate::effort::Effort;
 use crate::exit::Exit;
 use crate::fault::Fault;
 use crate::files::read_matrix;
 use crate::link::LinkSetup;
-use crate::rounds::Rounds;
 use s2_matrix::Matrix;
 use s2_mode::{CountedRead, CountedWrite};
 use s2_modem::{Receiver, Setup, SetupFault};
@@ -27,16 +29,16 @@ pub(crate) fn receiver_of<'a>(
     alloc: Global,
     setup: Setup,
     matrix: &'a Matrix,
-    rounds: Rounds,
+    effort: Effort,
 ) -> Result<Receiver<'a>, Fault<'static>>
     requires shape { matrix.now.shape ≡ shape_in setup.mode }
     requires number { setup.number ≤ 262141 }
     requires roll_off { setup.roll_off ≤ 2 }
-    ensures rules { IfOk result (λ r. rules_for r ≡ link_rules (link_of setup matrix.now) rounds.count MOST_SYMBOLS) }
+    ensures rules { IfOk result (λ r. rules_for r ≡ link_rules (link_of setup matrix.now) (effort_of effort.rounds effort.passes) MOST_SYMBOLS) }
     ensures begun { IfOk result (λ r. r.state ≡ begun) }
     ensures memory { IsOkUnless result Fault.NoMemory }
 {
-    match Receiver::new(alloc, setup, matrix, rounds.get()) {
+    match Receiver::new(alloc, setup, matrix, effort.rounds(), effort.passes()) {
         Ok(receiver) => Ok(receiver),
         Err(SetupFault::NoMemory) => Err(Fault::NoMemory),
         Err(_) => unreachable!(),
@@ -82,7 +84,7 @@ pub(crate) fn receive_frames<S: CountedRead, P: CountedWrite, O: CountedWrite>(
 fn receive_files<R: CountedRead, S: CountedRead, P: CountedWrite, O: CountedWrite>(
     alloc: Global,
     link: LinkSetup,
-    rounds: Rounds,
+    effort: Effort,
     rows: &mut R,
     symbols: &mut S,
     packets: &mut P,
@@ -93,14 +95,14 @@ fn receive_files<R: CountedRead, S: CountedRead, P: CountedWrite, O: CountedWrit
     requires packets { CanCount (P.count packets.old) }
     requires out { CanCount (O.count out.old) }
     ensures whole { IsOk result → O.count out.new ≡ O.count out.old }
-    ensures run { Demodulates (setup_of link) rounds.count (R.remaining rows.old)
+    ensures run { Demodulates (setup_of link) (effort_of effort.rounds effort.passes) (R.remaining rows.old)
         (record { taken = S.remaining symbols.old; given = P.contents packets.old; out = O.contents out.old; reads = R.count rows.old + S.count symbols.old; writes = P.count packets.old + O.count out.old })
         (record { taken = S.remaining symbols.new; given = P.contents packets.new; out = O.contents out.new; reads = R.count rows.new + S.count symbols.new; writes = P.count packets.new + O.count out.new })
         result }
 {
     let setup = link.setup();
     let matrix = read_matrix(alloc, rows, setup.mode.shape())?;
-    let mut receiver = receiver_of(alloc, setup, &matrix, rounds)?;
+    let mut receiver = receiver_of(alloc, setup, &matrix, effort)?;
     receive_frames(&mut receiver, symbols, packets, out)
 }
 
@@ -117,7 +119,7 @@ pub fn demod_command<
 >(
     alloc: Global,
     link: LinkSetup,
-    rounds: Rounds,
+    effort: Effort,
     rows: &mut R,
     symbols: &mut S,
     packets: &mut P,
@@ -126,18 +128,17 @@ pub fn demod_command<
     requires rows { CanCount (R.count rows.old) }
     requires symbols { CanCount (S.count symbols.old) }
     requires packets { CanCount (P.count packets.old) }
-    requires output { CanCount (O.count console.old.output) }
-    requires errors { CanCount (E.count console.old.errors) }
-    ensures quiet { result ≢ Exit.Fault → E.count console.new.errors ≡ E.count console.old.errors }
-    ensures whole { result ≢ Exit.Fault → O.count console.new.output ≡ O.count console.old.output }
+    requires console { CanShow console.old }
+    ensures quiet { result ≢ Exit.Fault → console.new.errors_failed ≡ console.old.errors_failed }
+    ensures whole { result ≢ Exit.Fault → console.new.output_failed ≡ console.old.output_failed }
     ensures run { (ended : Result Exit Fault) × (result ≡ exit_of ended)
-        × Demodulates (setup_of link) rounds.count (R.remaining rows.old)
-        (record { taken = S.remaining symbols.old; given = P.contents packets.old; out = O.contents console.old.output; reads = R.count rows.old + S.count symbols.old; writes = P.count packets.old + O.count console.old.output })
-        (record { taken = S.remaining symbols.new; given = P.contents packets.new; out = O.contents console.new.output; reads = R.count rows.new + S.count symbols.new; writes = P.count packets.new + O.count console.new.output })
+        × Demodulates (setup_of link) (effort_of effort.rounds effort.passes) (R.remaining rows.old)
+        (record { taken = S.remaining symbols.old; given = P.contents packets.old; out = console.old.output; reads = R.count rows.old + S.count symbols.old; writes = P.count packets.old + console.old.output_failed })
+        (record { taken = S.remaining symbols.new; given = P.contents packets.new; out = console.new.output; reads = R.count rows.new + S.count symbols.new; writes = P.count packets.new + console.new.output_failed })
         ended
-        × Complains ended (E.count console.old.errors) (E.count console.new.errors) (E.contents console.old.errors) (E.contents console.new.errors) }
+        × Complains ended console.old console.new }
 {
     let out = &mut console.output;
-    let ended = receive_files(alloc, link, rounds, rows, symbols, packets, out);
+    let ended = receive_files(alloc, link, effort, rows, symbols, packets, out);
     console.conclude(ended)
 }

@@ -1,6 +1,6 @@
 //! What the words of a command line ask for.
+use crate::effort::Effort;
 use crate::link::RollOff;
-use crate::rounds::Rounds;
 use crate::scrambling::ScramblingNumber;
 
 /// The numbers of a shape.
@@ -31,6 +31,7 @@ pub struct RowsWords {
 #[derive(Clone, Copy, Debug, PartialEq, Eq)]
 pub struct JudgeWords<'a> {
     pub shape: ShapeWords,
+    pub passes: u32,
     pub certificate: Option<&'a str>,
     pub rows: &'a str,
     pub soft: &'a str,
@@ -61,7 +62,7 @@ pub struct NoiseWords<'a> {
 #[derive(Clone, Copy, Debug, PartialEq, Eq)]
 pub struct DemodWords<'a> {
     pub link: LinkWords,
-    pub rounds: Rounds,
+    pub effort: Effort,
     pub rows: &'a str,
     pub symbols: &'a str,
     pub packets: &'a str,
@@ -70,7 +71,7 @@ pub struct DemodWords<'a> {
 #[derive(Clone, Copy, Debug, PartialEq, Eq)]
 pub struct RunWords<'a> {
     pub link: LinkWords,
-    pub rounds: Rounds,
+    pub effort: Effort,
     pub seed: u64,
     pub level: u16,
     pub rows: &'a str,

@@ -1,7 +1,8 @@
 //! Rows made.
 ghost use Rattle.std.specs.Prelude.{◌≡◌, ◌≢◌, IsOk, Result, Err};
 ghost use Rattle.s2_tool.specs.Counting.{CanCount};
-ghost use Rattle.s2_tool.specs.Exits.{exit_of, Answers, Runs, Counts, Complains};
+ghost use Rattle.s2_tool.specs.Screens.{CanShow};
+ghost use Rattle.s2_tool.specs.Exits.{exit_of, CommandAnswers, CommandRuns, CommandCounts, Complains};
 ghost use Rattle.s2_tool.specs.Inputs.{IsRowFile, AreMadeRows};
 
 use crate::console::{Console, Printed};
@@ -18,7 +19,7 @@ fn row_file(
     weight: usize,
     seed: u64,
 ) -> Result<Printed, Fault<'static>>
-    ensures answers { Answers IsRowFile (AreMadeRows shape weight seed) result }
+    ensures answers { CommandAnswers IsRowFile (AreMadeRows shape weight seed) result }
     ensures read { result ≢ Err Fault.Read }
     ensures write { result ≢ Err Fault.Write }
 {
@@ -47,8 +48,8 @@ fn print_rows<O: CountedWrite>(
 ) -> Result<Exit, Fault<'static>>
     requires { CanCount (O.count out.old) }
     ensures whole { IsOk result → O.count out.new ≡ O.count out.old }
-    ensures run { Runs IsRowFile (AreMadeRows shape weight seed) result (O.contents out.old) (O.contents out.new) }
-    ensures causes { Counts result 0 0 (O.count out.old) (O.count out.new) }
+    ensures run { CommandRuns IsRowFile (AreMadeRows shape weight seed) result (O.contents out.old) (O.contents out.new) }
+    ensures causes { CommandCounts result 0 0 (O.count out.old) (O.count out.new) }
 {
     row_file(alloc, shape, weight, seed)?.print(out)
 }
@@ -61,14 +62,13 @@ pub fn rows_command<O: CountedWrite, E: CountedWrite>(
     seed: u64,
     console: &mut Console<O, E>,
 ) -> Exit
-    requires output { CanCount (O.count console.old.output) }
-    requires errors { CanCount (E.count console.old.errors) }
-    ensures quiet { result ≢ Exit.Fault → E.count console.new.errors ≡ E.count console.old.errors }
-    ensures whole { result ≢ Exit.Fault → O.count console.new.output ≡ O.count console.old.output }
+    requires console { CanShow console.old }
+    ensures quiet { result ≢ Exit.Fault → console.new.errors_failed ≡ console.old.errors_failed }
+    ensures whole { result ≢ Exit.Fault → console.new.output_failed ≡ console.old.output_failed }
     ensures run { (ended : Result Exit Fault) × (result ≡ exit_of ended)
-        × Runs IsRowFile (AreMadeRows shape weight seed) ended (O.contents console.old.output) (O.contents console.new.output)
-        × Counts ended 0 0 (O.count console.old.output) (O.count console.new.output)
-        × Complains ended (E.count console.old.errors) (E.count console.new.errors) (E.contents console.old.errors) (E.contents console.new.errors) }
+        × CommandRuns IsRowFile (AreMadeRows shape weight seed) ended console.old.output console.new.output
+        × CommandCounts ended 0 0 console.old.output_failed console.new.output_failed
+        × Complains ended console.old console.new }
 {
     let ended = print_rows(alloc, shape, weight, seed, &mut console.output);
     console.conclude(ended)

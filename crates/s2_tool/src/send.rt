@@ -1,29 +1,64 @@
 //! Packets sent.
-ghost use Rattle.std.specs.Prelude.{◌≡◌, ◌≢◌, ◌+◌, ◌≤◌, Result, Err, IfOk, IsOk, IsOkUnless};
+ghost use Rattle.std.specs.Prelude.{◌≡◌, ◌≢◌, ◌+◌, ◌≤◌, ◌++◌, Result, Ok, Err, IfOk, IsOk, IsOkUnless, decimal, length};
 ghost use Rattle.s2_mode.specs.Mode.{shape_in};
 ghost use Rattle.s2_modem.specs.Link.{link_of};
 ghost use Rattle.s2_tool.specs.Counting.{CanCount};
+ghost use Rattle.s2_tool.specs.Screens.{CanShow};
 ghost use Rattle.s2_tool.specs.Exits.{exit_of, Complains};
 ghost use Rattle.s2_tool.specs.Links.{setup_of};
-ghost use Rattle.s2_tool.specs.Sending.{sent_line, refusal_fault, transmitter_on, SendsBy, Modulates};
+ghost use Rattle.s2_tool.specs.Sending.{sent_line, refusal_fault, transmitter_on, Tells, SendsBy, Modulates};
 
-use crate::console::{Console, Printed};
+use crate::console::Console;
 use crate::exit::Exit;
 use crate::fault::Fault;
 use crate::files::read_matrix;
 use crate::link::LinkSetup;
+use arrayvec::ArrayString;
+use itoa::Buffer;
 use s2_matrix::Matrix;
-use s2_mode::{CountedRead, CountedWrite};
+use s2_mode::{CountedRead, CountedWrite, write_full};
 use s2_modem::{Counts, SendFault, Setup, SetupFault, Transmitter};
-use std::alloc::{AllocError, Global};
+use std::alloc::Global;
 
-/// The line of a run's counts.
-fn sent_line(alloc: Global, counts: Counts) -> Result<Vec<u8>, AllocError>
-    ensures { IfOk result (λ text. text.items ≡ sent_line counts) }
+/// Room for the line of a run's counts: 17 bytes of words, and two numbers of at most 40 digits.
+const LINE_ROOM: usize = 128;
+
+/// A line in the making.
+type Line = ArrayString<LINE_ROOM>;
+
+/// Puts words and a number behind a line.
+fn push_numbered(line: &mut Line, words: &str, number: u64)
+    requires { length line.old.bytes + (length words.now + 40) ≤ LINE_ROOM }
+    ensures bytes { line.new.bytes ≡ line.old.bytes ++ (words.now ++ decimal number) }
+    ensures room { length line.new.bytes ≤ length line.old.bytes + (length words.now + 40) }
 {
-    let Counts { packets, frames } = counts;
-    let line = format!(in alloc; "packets {packets} frames {frames}\n")?;
-    Ok(line.into_bytes())
+    let mut digits = Buffer::new();
+    line.push_str(words);
+    line.push_str(digits.format(number));
+}
+
+/// The line of a run's counts. It takes no memory, so that none can lack once frames are written.
+fn sent_line(counts: Counts) -> Line
+    ensures { result.bytes ≡ sent_line counts }
+{
+    let mut line = Line::new();
+    push_numbered(&mut line, "packets ", counts.packets);
+    push_numbered(&mut line, " frames ", counts.frames);
+    line.push_str("\n");
+    line
+}
+
+/// Prints the line of a run's counts, whole.
+fn print_counts<O: CountedWrite>(counts: Counts, out: &mut O) -> Result<Exit, Fault<'static>>
+    requires { CanCount (O.count out.old) }
+    ensures tells { Tells (Ok counts) result (O.contents out.old) (O.contents out.new) }
+    ensures write { result ≡ Err Fault.Write → O.count out.new ≡ O.count out.old + 1 }
+    ensures no_write { result ≢ Err Fault.Write → O.count out.new ≡ O.count out.old }
+{
+    match write_full(out, sent_line(counts).as_str().as_bytes()) {
+        Ok(()) => Ok(Exit::Fine),
+        Err(_) => Err(Fault::Write),
+    }
 }
 
 /// The fault of a refusal.
@@ -59,7 +94,6 @@ pub(crate) fn transmitter_of<'a>(
 
 /// Sends packets, and prints the counts.
 fn send_packets<P: CountedRead, W: CountedWrite, O: CountedWrite>(
-    alloc: Global,
     transmitter: &mut Transmitter<'_>,
     packets: &mut P,
     symbols: &mut W,
@@ -77,18 +111,10 @@ fn send_packets<P: CountedRead, W: CountedWrite, O: CountedWrite>(
     ensures write { result ≡ Err Fault.Write → W.count symbols.new + O.count out.new ≡ W.count symbols.old + O.count out.old + 1 }
     ensures no_write { result ≢ Err Fault.Write → W.count symbols.new + O.count out.new ≡ W.count symbols.old + O.count out.old }
 {
-    let counts = match transmitter.run(packets, symbols) {
-        Ok(counts) => counts,
-        Err(refusal) => return Err(fault_of(refusal)),
-    };
-    let Ok(text) = sent_line(alloc, counts) else {
-        return Err(Fault::NoMemory);
-    };
-    let printed = Printed {
-        exit: Exit::Fine,
-        text,
-    };
-    printed.print(out)
+    match transmitter.run(packets, symbols) {
+        Ok(counts) => print_counts(counts, out),
+        Err(refusal) => Err(fault_of(refusal)),
+    }
 }
 
 /// Reads rows, and sends packets.
@@ -113,7 +139,7 @@ fn send_files<R: CountedRead, P: CountedRead, W: CountedWrite, O: CountedWrite>(
     let setup = link.setup();
     let matrix = read_matrix(alloc, rows, setup.mode.shape())?;
     let mut transmitter = transmitter_of(alloc, setup, &matrix)?;
-    send_packets(alloc, &mut transmitter, packets, symbols, out)
+    send_packets(&mut transmitter, packets, symbols, out)
 }
 
 /// `mod`: sends the packets of a stream on the link of a setup and a row file, and prints how many
@@ -135,16 +161,15 @@ pub fn mod_command<
     requires rows { CanCount (R.count rows.old) }
     requires packets { CanCount (P.count packets.old) }
     requires symbols { CanCount (W.count symbols.old) }
-    requires output { CanCount (O.count console.old.output) }
-    requires errors { CanCount (E.count console.old.errors) }
-    ensures quiet { result ≢ Exit.Fault → E.count console.new.errors ≡ E.count console.old.errors }
-    ensures whole { result ≢ Exit.Fault → O.count console.new.output ≡ O.count console.old.output }
+    requires console { CanShow console.old }
+    ensures quiet { result ≢ Exit.Fault → console.new.errors_failed ≡ console.old.errors_failed }
+    ensures whole { result ≢ Exit.Fault → console.new.output_failed ≡ console.old.output_failed }
     ensures run { (ended : Result Exit Fault) × (result ≡ exit_of ended)
         × Modulates (setup_of link) (R.remaining rows.old)
-        (record { taken = P.remaining packets.old; given = W.contents symbols.old; out = O.contents console.old.output; reads = R.count rows.old + P.count packets.old; writes = W.count symbols.old + O.count console.old.output })
-        (record { taken = P.remaining packets.new; given = W.contents symbols.new; out = O.contents console.new.output; reads = R.count rows.new + P.count packets.new; writes = W.count symbols.new + O.count console.new.output })
+        (record { taken = P.remaining packets.old; given = W.contents symbols.old; out = console.old.output; reads = R.count rows.old + P.count packets.old; writes = W.count symbols.old + console.old.output_failed })
+        (record { taken = P.remaining packets.new; given = W.contents symbols.new; out = console.new.output; reads = R.count rows.new + P.count packets.new; writes = W.count symbols.new + console.new.output_failed })
         ended
-        × Complains ended (E.count console.old.errors) (E.count console.new.errors) (E.contents console.old.errors) (E.contents console.new.errors) }
+        × Complains ended console.old console.new }
 {
     let ended = send_files(alloc, link, rows, packets, symbols, &mut console.output);
     console.conclude(ended)

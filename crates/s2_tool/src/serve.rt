@@ -1,9 +1,10 @@
 //! The commands on the files and streams that their words name.
-ghost use Rattle.std.specs.Prelude.{◌≡◌, ◌≢◌, ◌↔◌, None, IfOk, OnErr, IsSome, IfSome};
+ghost use Rattle.std.specs.Prelude.{◌≡◌, ◌↔◌, None, IsSome, IfSome};
 ghost use Rattle.s2_mode.specs.Mode.{IsMode, mode_of};
 ghost use Rattle.s2_mode.specs.Shape.{IsShape};
 ghost use Rattle.s2_mode.specs.Shape as shapes;
 ghost use Rattle.s2_tool.specs.Counting.{CanCount};
+ghost use Rattle.s2_tool.specs.Screens.{CanShow};
 ghost use Rattle.s2_tool.specs.Links as links;
 ghost use Rattle.s2_tool.specs.Serving.{Served, Began};
 
@@ -61,13 +62,8 @@ pub fn serve<R: Files + AllocGlobal, S: CountedRead, O: CountedWrite, E: Counted
     console: &mut Console<O, E>,
 ) -> Exit
     requires input { CanCount (S.count input.old) }
-    requires output { CanCount (O.count console.old.output) }
-    requires errors { CanCount (E.count console.old.errors) }
-    ensures quiet { result ≢ Exit.Fault → E.count console.new.errors ≡ E.count console.old.errors }
-    ensures whole { result ≢ Exit.Fault → O.count console.new.output ≡ O.count console.old.output }
-    ensures served { Served request.entry (S.remaining input.old) result
-        (record { output = O.contents console.old.output; errors = E.contents console.old.errors; errors_failed = E.count console.old.errors })
-        (record { output = O.contents console.new.output; errors = E.contents console.new.errors; errors_failed = E.count console.new.errors }) }
+    requires console { CanShow console.old }
+    ensures served { Served request.entry (S.remaining input.old) result console.old console.new }
 {
     let begun = match request {
         Request::Own => Ok(self_command(rt.alloc(), input, console)),
@@ -91,14 +87,8 @@ fn serve_rows<R: AllocGlobal, O: CountedWrite, E: CountedWrite>(
     words: RowsWords,
     console: &mut Console<O, E>,
 ) -> Result<Exit, Fault<'static>>
-    requires output { CanCount (O.count console.old.output) }
-    requires errors { CanCount (E.count console.old.errors) }
-    ensures quiet { IfOk result (λ exit. exit ≢ Exit.Fault → E.count console.new.errors ≡ E.count console.old.errors) }
-    ensures whole { IfOk result (λ exit. exit ≢ Exit.Fault → O.count console.new.output ≡ O.count console.old.output) }
-    ensures began { Began (Request.Rows words) None result
-        (record { output = O.contents console.old.output; errors = E.contents console.old.errors; errors_failed = E.count console.old.errors })
-        (record { output = O.contents console.new.output; errors = E.contents console.new.errors; errors_failed = E.count console.new.errors }) }
-    ensures not_begun { OnErr result (console.new ≡ console.old) }
+    requires { CanShow console.old }
+    ensures { Began (Request.Rows words) None result console.old console.new }
 {
     let Some(shape) = shape_of(words.shape) else {
         return Err(Fault::Shape);
@@ -113,14 +103,8 @@ fn serve_judge<'a, R: Files + AllocGlobal, O: CountedWrite, E: CountedWrite>(
     words: JudgeWords<'a>,
     console: &mut Console<O, E>,
 ) -> Result<Exit, Fault<'a>>
-    requires output { CanCount (O.count console.old.output) }
-    requires errors { CanCount (E.count console.old.errors) }
-    ensures quiet { IfOk result (λ exit. exit ≢ Exit.Fault → E.count console.new.errors ≡ E.count console.old.errors) }
-    ensures whole { IfOk result (λ exit. exit ≢ Exit.Fault → O.count console.new.output ≡ O.count console.old.output) }
-    ensures began { Began (Request.Judge words.entry) None result
-        (record { output = O.contents console.old.output; errors = E.contents console.old.errors; errors_failed = E.count console.old.errors })
-        (record { output = O.contents console.new.output; errors = E.contents console.new.errors; errors_failed = E.count console.new.errors }) }
-    ensures not_begun { OnErr result (console.new ≡ console.old) }
+    requires { CanShow console.old }
+    ensures { Began (Request.Judge words.entry) None result console.old console.new }
 {
     let Some(shape) = shape_of(words.shape) else {
         return Err(Fault::Shape);
@@ -137,18 +121,19 @@ fn serve_verdict<'a, R: Files + AllocGlobal, O: CountedWrite, E: CountedWrite>(
     words: JudgeWords<'a>,
     console: &mut Console<O, E>,
 ) -> Result<Exit, Fault<'a>>
-    requires output { CanCount (O.count console.old.output) }
-    requires errors { CanCount (E.count console.old.errors) }
-    ensures quiet { IfOk result (λ exit. exit ≢ Exit.Fault → E.count console.new.errors ≡ E.count console.old.errors) }
-    ensures whole { IfOk result (λ exit. exit ≢ Exit.Fault → O.count console.new.output ≡ O.count console.old.output) }
-    ensures began { Began (Request.Judge words.entry) None result
-        (record { output = O.contents console.old.output; errors = E.contents console.old.errors; errors_failed = E.count console.old.errors })
-        (record { output = O.contents console.new.output; errors = E.contents console.new.errors; errors_failed = E.count console.new.errors }) }
-    ensures not_begun { OnErr result (console.new ≡ console.old) }
+    requires { CanShow console.old }
+    ensures { Began (Request.Judge words.entry) None result console.old console.new }
 {
     let mut rows = open(rt, words.rows)?;
     let mut soft = open(rt, words.soft)?;
-    Ok(judge_command(rt.alloc(), shape, &mut rows, &mut soft, console))
+    Ok(judge_command(
+        rt.alloc(),
+        shape,
+        words.passes,
+        &mut rows,
+        &mut soft,
+        console,
+    ))
 }
 
 fn serve_certify<'a, R: Files + AllocGlobal, O: CountedWrite, E: CountedWrite>(
@@ -158,14 +143,8 @@ fn serve_certify<'a, R: Files + AllocGlobal, O: CountedWrite, E: CountedWrite>(
     words: JudgeWords<'a>,
     console: &mut Console<O, E>,
 ) -> Result<Exit, Fault<'a>>
-    requires output { CanCount (O.count console.old.output) }
-    requires errors { CanCount (E.count console.old.errors) }
-    ensures quiet { IfOk result (λ exit. exit ≢ Exit.Fault → E.count console.new.errors ≡ E.count console.old.errors) }
-    ensures whole { IfOk result (λ exit. exit ≢ Exit.Fault → O.count console.new.output ≡ O.count console.old.output) }
-    ensures began { Began (Request.Judge words.entry) None result
-        (record { output = O.contents console.old.output; errors = E.contents console.old.errors; errors_failed = E.count console.old.errors })
-        (record { output = O.contents console.new.output; errors = E.contents console.new.errors; errors_failed = E.count console.new.errors }) }
-    ensures not_begun { OnErr result (console.new ≡ console.old) }
+    requires { CanShow console.old }
+    ensures { Began (Request.Judge words.entry) None result console.old console.new }
 {
     let mut certificate = create(rt, certificate)?;
     let mut rows = open(rt, words.rows)?;
@@ -173,6 +152,7 @@ fn serve_certify<'a, R: Files + AllocGlobal, O: CountedWrite, E: CountedWrite>(
     Ok(certify_command(
         rt.alloc(),
         shape,
+        words.passes,
         &mut rows,
         &mut soft,
         &mut certificate,
@@ -186,14 +166,8 @@ fn serve_check<'a, R: Files + AllocGlobal, O: CountedWrite, E: CountedWrite>(
     words: CheckWords<'a>,
     console: &mut Console<O, E>,
 ) -> Result<Exit, Fault<'a>>
-    requires output { CanCount (O.count console.old.output) }
-    requires errors { CanCount (E.count console.old.errors) }
-    ensures quiet { IfOk result (λ exit. exit ≢ Exit.Fault → E.count console.new.errors ≡ E.count console.old.errors) }
-    ensures whole { IfOk result (λ exit. exit ≢ Exit.Fault → O.count console.new.output ≡ O.count console.old.output) }
-    ensures began { Began (Request.Check words.entry) None result
-        (record { output = O.contents console.old.output; errors = E.contents console.old.errors; errors_failed = E.count console.old.errors })
-        (record { output = O.contents console.new.output; errors = E.contents console.new.errors; errors_failed = E.count console.new.errors }) }
-    ensures not_begun { OnErr result (console.new ≡ console.old) }
+    requires { CanShow console.old }
+    ensures { Began (Request.Check words.entry) None result console.old console.new }
 {
     let mut rows = open(rt, words.rows)?;
     let mut certificate = open(rt, words.certificate)?;
@@ -206,14 +180,8 @@ fn serve_mod<'a, R: Files + AllocGlobal, O: CountedWrite, E: CountedWrite>(
     words: ModWords<'a>,
     console: &mut Console<O, E>,
 ) -> Result<Exit, Fault<'a>>
-    requires output { CanCount (O.count console.old.output) }
-    requires errors { CanCount (E.count console.old.errors) }
-    ensures quiet { IfOk result (λ exit. exit ≢ Exit.Fault → E.count console.new.errors ≡ E.count console.old.errors) }
-    ensures whole { IfOk result (λ exit. exit ≢ Exit.Fault → O.count console.new.output ≡ O.count console.old.output) }
-    ensures began { Began (Request.Mod words.entry) None result
-        (record { output = O.contents console.old.output; errors = E.contents console.old.errors; errors_failed = E.count console.old.errors })
-        (record { output = O.contents console.new.output; errors = E.contents console.new.errors; errors_failed = E.count console.new.errors }) }
-    ensures not_begun { OnErr result (console.new ≡ console.old) }
+    requires { CanShow console.old }
+    ensures { Began (Request.Mod words.entry) None result console.old console.new }
 {
     let Some(link) = setup_of(words.link) else {
         return Err(Fault::Mode);
@@ -238,14 +206,8 @@ fn serve_noise<'a, R: Files + AllocGlobal, O: CountedWrite, E: CountedWrite>(
     words: NoiseWords<'a>,
     console: &mut Console<O, E>,
 ) -> Result<Exit, Fault<'a>>
-    requires output { CanCount (O.count console.old.output) }
-    requires errors { CanCount (E.count console.old.errors) }
-    ensures quiet { IfOk result (λ exit. exit ≢ Exit.Fault → E.count console.new.errors ≡ E.count console.old.errors) }
-    ensures whole { IfOk result (λ exit. exit ≢ Exit.Fault → O.count console.new.output ≡ O.count console.old.output) }
-    ensures began { Began (Request.Noise words.entry) None result
-        (record { output = O.contents console.old.output; errors = E.contents console.old.errors; errors_failed = E.count console.old.errors })
-        (record { output = O.contents console.new.output; errors = E.contents console.new.errors; errors_failed = E.count console.new.errors }) }
-    ensures not_ended { OnErr result (E.count console.new.errors ≡ E.count console.old.errors) }
+    requires { CanShow console.old }
+    ensures { Began (Request.Noise words.entry) None result console.old console.new }
 {
     let mut from = open(rt, words.from)?;
     let mut to = create_buffered(rt, words.to)?;
@@ -262,14 +224,8 @@ fn serve_demod<'a, R: Files + AllocGlobal, O: CountedWrite, E: CountedWrite>(
     words: DemodWords<'a>,
     console: &mut Console<O, E>,
 ) -> Result<Exit, Fault<'a>>
-    requires output { CanCount (O.count console.old.output) }
-    requires errors { CanCount (E.count console.old.errors) }
-    ensures quiet { IfOk result (λ exit. exit ≢ Exit.Fault → E.count console.new.errors ≡ E.count console.old.errors) }
-    ensures whole { IfOk result (λ exit. exit ≢ Exit.Fault → O.count console.new.output ≡ O.count console.old.output) }
-    ensures began { Began (Request.Demod words.entry) None result
-        (record { output = O.contents console.old.output; errors = E.contents console.old.errors; errors_failed = E.count console.old.errors })
-        (record { output = O.contents console.new.output; errors = E.contents console.new.errors; errors_failed = E.count console.new.errors }) }
-    ensures not_begun { OnErr result (console.new ≡ console.old) }
+    requires { CanShow console.old }
+    ensures { Began (Request.Demod words.entry) None result console.old console.new }
 {
     let Some(link) = setup_of(words.link) else {
         return Err(Fault::Mode);
@@ -280,7 +236,7 @@ fn serve_demod<'a, R: Files + AllocGlobal, O: CountedWrite, E: CountedWrite>(
     Ok(demod_command(
         rt.alloc(),
         link,
-        words.rounds,
+        words.effort,
         &mut rows,
         &mut symbols,
         &mut packets,
@@ -294,14 +250,8 @@ fn serve_run<'a, R: Files + AllocGlobal, O: CountedWrite, E: CountedWrite>(
     words: RunWords<'a>,
     console: &mut Console<O, E>,
 ) -> Result<Exit, Fault<'a>>
-    requires output { CanCount (O.count console.old.output) }
-    requires errors { CanCount (E.count console.old.errors) }
-    ensures quiet { IfOk result (λ exit. exit ≢ Exit.Fault → E.count console.new.errors ≡ E.count console.old.errors) }
-    ensures whole { IfOk result (λ exit. exit ≢ Exit.Fault → O.count console.new.output ≡ O.count console.old.output) }
-    ensures began { Began (Request.Run words.entry) None result
-        (record { output = O.contents console.old.output; errors = E.contents console.old.errors; errors_failed = E.count console.old.errors })
-        (record { output = O.contents console.new.output; errors = E.contents console.new.errors; errors_failed = E.count console.new.errors }) }
-    ensures not_begun { OnErr result (console.new ≡ console.old) }
+    requires { CanShow console.old }
+    ensures { Began (Request.Run words.entry) None result console.old console.new }
 {
     let Some(link) = setup_of(words.link) else {
         return Err(Fault::Mode);
@@ -312,7 +262,7 @@ fn serve_run<'a, R: Files + AllocGlobal, O: CountedWrite, E: CountedWrite>(
     Ok(run_command(
         rt.alloc(),
         link,
-        words.rounds,
+        words.effort,
         words.seed,
         words.level,
         &mut rows,

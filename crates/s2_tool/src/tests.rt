@@ -3,6 +3,7 @@ ghost use Rattle.std.specs.Prelude.{◌≡◌};
 
 mod certifying;
 mod checking;
+mod hostile;
 mod judging;
 mod looping;
 mod making;
@@ -31,8 +32,8 @@ fn shape<R: Abort>(rt: &R, sizes: (usize, usize, usize)) -> Shape {
 type Screen = Console<Counting<Vec<u8>>, Counting<Vec<u8>>>;
 
 fn screen<R: AllocGlobal>(rt: &R) -> Screen
-    ensures output { result.output.failed ≡ 0 }
-    ensures errors { result.errors.failed ≡ 0 }
+    ensures output { result.output_failed ≡ 0 }
+    ensures errors { result.errors_failed ≡ 0 }
 {
     let output = Counting::new(Vec::new(rt.alloc()));
     let errors = Counting::new(Vec::new(rt.alloc()));

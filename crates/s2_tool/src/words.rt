@@ -1,10 +1,10 @@
 //! The command line of the program.
+use crate::effort::Effort;
 use crate::link::RollOff;
 use crate::request::{
     CheckWords, DemodWords, JudgeWords, LinkWords, ModWords, NoiseWords, Request, RowsWords,
     RunWords, ShapeWords,
 };
-use crate::rounds::Rounds;
 use crate::scrambling::ScramblingNumber;
 use clap::builder::ValueParser;
 use clap::{Arg, ArgAction, ArgMatches, Command, Error, value_parser};
@@ -56,10 +56,17 @@ fn with_link<'a>(alloc: Global, command: Command<'a>) -> Result<Command<'a>, All
         .arg(roll_off.help("Roll-off that headers tell: 0 is 0.35, 1 is 0.25, 2 is 0.20"))
 }
 
-fn with_rounds<'a>(alloc: Global, command: Command<'a>) -> Result<Command<'a>, AllocError> {
+fn with_passes<'a>(alloc: Global, command: Command<'a>) -> Result<Command<'a>, AllocError> {
+    let passes = value_parser!(u32).range(0..=1000);
+    let passes = number(alloc, "passes", passes, "P").default_value("0");
+    command.arg(passes.help("Passes at most that look for a certificate, 0 to 1000"))
+}
+
+fn with_effort<'a>(alloc: Global, command: Command<'a>) -> Result<Command<'a>, AllocError> {
     let rounds = value_parser!(u32).range(1..=200);
     let rounds = number(alloc, "rounds", rounds, "K").default_value("50");
-    command.arg(rounds.help("Rounds of min-sum at most, 1 to 200"))
+    let command = command.arg(rounds.help("Rounds of min-sum at most, 1 to 200"))?;
+    with_passes(alloc, command)
 }
 
 fn with_noise<'a>(alloc: Global, command: Command<'a>) -> Result<Command<'a>, AllocError> {
@@ -91,8 +98,8 @@ fn judge_words<'a>(alloc: Global) -> Result<Command<'a>, AllocError> {
         .long("cert")
         .value_name("FILE")
         .help("File for the certificate of a most likely word");
-    with_shape(alloc, command)?
-        .arg(certificate)?
+    let command = with_shape(alloc, command)?.arg(certificate)?;
+    with_passes(alloc, command)?
         .arg(file(alloc, "ROWS", "Row file"))?
         .arg(file(
             alloc,
@@ -133,7 +140,7 @@ fn demod_words<'a>(alloc: Global) -> Result<Command<'a>, AllocError> {
         .about("Receives the packets of symbols")
         .after_help("Example:\n  s2 demod --modcod 4 --pilots rows noisy received.ts");
     let command = with_link(alloc, command)?;
-    with_rounds(alloc, command)?
+    with_effort(alloc, command)?
         .arg(file(alloc, "ROWS", "Row file"))?
         .arg(file(alloc, "SYMBOLS", "File of symbols, four bytes each"))?
         .arg(file(alloc, "PACKETS", "File for the packets"))
@@ -146,7 +153,7 @@ fn run_words<'a>(alloc: Global) -> Result<Command<'a>, AllocError> {
             "Example:\n  s2 run --modcod 4 --pilots --seed 1 --level 100 rows packets.ts received.ts",
         );
     let command = with_link(alloc, command)?;
-    let command = with_rounds(alloc, command)?;
+    let command = with_effort(alloc, command)?;
     with_noise(alloc, command)?
         .arg(file(alloc, "ROWS", "Row file"))?
         .arg(file(alloc, "PACKETS", "Transport stream, packets of 188 bytes"))?
@@ -187,14 +194,14 @@ fn link_of(m: &ArgMatches<'_>) -> Option<LinkWords> {
     })
 }
 
-fn rounds_of(m: &ArgMatches<'_>) -> Option<Rounds> {
-    Rounds::new(m.get_one::<u32>("rounds")?)
+fn effort_of(m: &ArgMatches<'_>) -> Option<Effort> {
+    Effort::new(m.get_one::<u32>("rounds")?, m.get_one::<u32>("passes")?)
 }
 
 fn demod_of<'a>(m: &ArgMatches<'a>) -> Option<DemodWords<'a>> {
     Some(DemodWords {
         link: link_of(m)?,
-        rounds: rounds_of(m)?,
+        effort: effort_of(m)?,
         rows: m.get_str("ROWS")?,
         symbols: m.get_str("SYMBOLS")?,
         packets: m.get_str("PACKETS")?,
@@ -204,7 +211,7 @@ fn demod_of<'a>(m: &ArgMatches<'a>) -> Option<DemodWords<'a>> {
 fn run_of<'a>(m: &ArgMatches<'a>) -> Option<RunWords<'a>> {
     Some(RunWords {
         link: link_of(m)?,
-        rounds: rounds_of(m)?,
+        effort: effort_of(m)?,
         seed: m.get_one::<u64>("seed")?,
         level: m.get_one::<u16>("level")?,
         rows: m.get_str("ROWS")?,
@@ -222,6 +229,7 @@ fn request_of<'a>(name: &str, m: &ArgMatches<'a>) -> Option<Request<'a>> {
         })),
         "judge" => Some(Request::Judge(JudgeWords {
             shape: shape_of(m)?,
+            passes: m.get_one::<u32>("passes")?,
             certificate: m.get_str("cert"),
             rows: m.get_str("ROWS")?,
             soft: m.get_str("SOFT")?,

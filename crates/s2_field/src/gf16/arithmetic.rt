@@ -4,7 +4,7 @@ ghost use Rattle.s2_field.specs.Binary.{times_x, times};
 ghost use Rattle.s2_field.specs.Order.{iterate};
 ghost use Rattle.s2_field.specs.Shifts.{folded_16};
 ghost use Rattle.s2_field.specs.Inverse.{norm, inverse as number_inverse};
-ghost use Rattle.s2_field.specs.Gf16.{zero, one, sum, product, inverse, alpha, number, laws, order, numbered};
+ghost use Rattle.s2_field.specs.Gf16.{field, alpha, number, laws, order, numbered};
 
 use super::Gf16;
 use crate::Field;
@@ -68,15 +68,7 @@ fn invert(a: u16) -> u16
 }
 
 impl Field for Gf16 {
-    ghost zero = { zero };
-
-    ghost one = { one };
-
-    ghost sum = { sum };
-
-    ghost product = { product };
-
-    ghost inverse = { inverse };
+    ghost field = { field };
 
     ghost alpha = { alpha };
 

@@ -9,6 +9,7 @@ ghost use Rattle.s2_scramble.specs.Baseband.{scrambled};
 ghost use Rattle.s2_plframe.specs.Payload.{received_payload};
 ghost use Rattle.s2_soft.specs.Soft.{soft_values};
 ghost use Rattle.s2_receive.specs.Parts.{delivered_of, HasPlace};
+ghost use Rattle.s2_modem.specs.Deciding.{effort_of};
 ghost use Rattle.s2_modem.specs.Reports.{received_word, message_of, header_in, field_in, frame_decision};
 ghost use Rattle.s2_modem.specs.Listening.{FindsWord, Reads, IsListening, decision_held};
 ghost use Rattle.s2_modem.specs.Link.{link_of};
@@ -146,10 +147,10 @@ fn decide_frame(
     requires parts { IsListening setup judge.old.rows gold.now bch.old (length payload.old) (length soft.old) (length word.old) (length frame.old) (length field.old) filled.old }
     requires frame { length symbols.now ≡ symbols_in setup.mode }
     ensures parts { IsListening setup judge.new.rows gold.now bch.new (length payload.new) (length soft.new) (length word.new) (length frame.new) (length field.new) filled.new }
-    ensures is { decision_held setup.mode soft.new judge.new.bits word.new result (take filled.new field.new) ≡ frame_decision (link_of setup judge.old.rows) judge.old.rounds symbols.now }
+    ensures is { decision_held setup.mode soft.new judge.new.bits word.new result (take filled.new field.new) ≡ frame_decision (link_of setup judge.old.rows) judge.old.effort symbols.now }
     ensures place { IfSome result.header (HasPlace (take filled.new field.new)) }
     ensures rows { judge.new.rows ≡ judge.old.rows }
-    ensures rounds { judge.new.rounds ≡ judge.old.rounds }
+    ensures effort { judge.new.effort ≡ judge.old.effort }
 {
     let mode = setup.mode;
     find_soft(mode, gold, symbols, payload, soft);
@@ -182,7 +183,7 @@ impl<'a> Model for Decider<'a> {
 
     ghost view = { λ d. record {
       link = record { setup = d.setup; rows = d.judge.rows };
-      rounds = d.judge.rounds;
+      effort = d.judge.effort;
       last = decision_held d.setup.mode d.soft.items d.judge.bits d.word d.last (take d.filled d.field.items);
       field = take d.filled d.field.items;
     } };
@@ -198,15 +199,16 @@ impl<'a> Decider<'a> {
         gold: Gold,
         matrix: &'a Matrix,
         rounds: u32,
+        passes: u32,
     ) -> Result<Decider<'a>, AllocError>
         requires shape { matrix.now.shape ≡ shape_in setup.mode }
         requires number { gold ≡ setup.number }
         requires rounds { (1 ≤ rounds) × (rounds ≤ 200) }
         ensures link { IfOk result (λ d. d.link ≡ record { setup = setup; rows = matrix.now }) }
-        ensures rounds { IfOk result (λ d. d.rounds ≡ rounds) }
+        ensures effort { IfOk result (λ d. d.effort ≡ effort_of rounds passes) }
     {
         let mode = setup.mode;
-        let judge = Judge::new(alloc, matrix, rounds as usize)?;
+        let judge = Judge::new(alloc, matrix, rounds as usize, passes)?;
         let bch = Bch::new(alloc, mode)?;
         let origin = Symbol { i: 0, q: 0 };
         let payload = vec![in alloc; origin; 90 * mode.slots()]?;
@@ -262,7 +264,7 @@ impl<'a> Decide for Decider<'a> {
 
     ghost size = { λ d. symbols_in d.link.setup.mode };
 
-    ghost decide = { λ d. frame_decision d.link d.rounds };
+    ghost decide = { λ d. frame_decision d.link d.effort };
 
     ghost field = { λ d. d.field };
 

@@ -5,41 +5,19 @@ ghost use Rattle.s2_check.specs.Cost.{IsMostLikely};
 ghost use Rattle.s2_check.specs.Hard.{hard_decision};
 ghost use Rattle.s2_check.specs.Views.{IsSoft};
 ghost use Rattle.s2_split.specs.Scattered.{repaired, IsScattered};
-ghost use Rattle.s2_modem.specs.Deciding.{decoded_bits, first_codeword, by_min_sum, repair_view, decided, IsShown};
-ghost use Rattle.s2_modem.specs.Judging.{verdict_of, shown_by, IsGround};
+ghost use Rattle.s2_modem.specs.Deciding.{effort_of, decoded_bits, first_codeword, by_min_sum, decided, IsShown};
+ghost use Rattle.s2_modem.specs.Judging.{shown_by, IsGround};
 
+use crate::receive::ground::{Ground, find_ground, is_certified, try_repair, verdict_on};
 use s2_bits::Bits;
 use s2_check::{CertView, judge_unsplit};
 use s2_matrix::Matrix;
 use s2_minsum::Decoder;
 use s2_receive::Verdict;
+use s2_settle::Settler;
 use s2_split::Maker;
 use std::alloc::{AllocError, Global};
 use std::marker::Model;
-
-/// What a decision stands on.
-#[derive(Clone, Copy)]
-pub(crate) enum Ground {
-    /// The hard decision satisfies every check.
-    HardDecision,
-    /// The maker holds a split for the bits.
-    Made,
-    /// The bits satisfy every check, and no certificate was found.
-    Checks,
-    /// They do not.
-    Nothing,
-}
-
-/// The verdict on such a ground.
-fn verdict_on(ground: Ground) -> Verdict
-    ensures { result ≡ verdict_of ground }
-{
-    match ground {
-        Ground::HardDecision | Ground::Made => Verdict::MostLikely,
-        Ground::Checks => Verdict::Parity,
-        Ground::Nothing => Verdict::Broken,
-    }
-}
 
 /// Runs min-sum, at most so many rounds, until its hard decision satisfies every check: whether it
 /// does. The bits are its last hard decision.
@@ -75,13 +53,16 @@ fn decode(
 fn decide_by_min_sum(
     matrix: &Matrix,
     maker: &mut Maker<'_>,
+    settler: &mut Settler<'_>,
     decoder: &mut Decoder<'_>,
     soft: &[i16],
     rounds: usize,
+    passes: u32,
     repair: &Bits,
     bits: &mut Bits,
 ) -> Ground
     requires maker { maker.old.rows ≡ matrix.now }
+    requires settler { settler.old.rows ≡ matrix.now }
     requires decoder { decoder.old.rows ≡ matrix.now }
     requires soft { length soft.now ≡ (code_of matrix.now).bits }
     requires range { All IsSoft soft.now }
@@ -89,16 +70,14 @@ fn decide_by_min_sum(
     requires repair { repair.now ≡ repaired (code_of matrix.now) soft.now }
     requires bits { length bits.old ≡ (code_of matrix.now).bits }
     ensures maker { maker.new.rows ≡ matrix.now }
+    ensures settler { settler.new.rows ≡ matrix.now }
     ensures decoder { decoder.new.rows ≡ matrix.now }
     ensures long { length bits.new ≡ (code_of matrix.now).bits }
     ensures ground { IsGround bits.new maker.new result }
-    ensures decided { by_min_sum matrix.now rounds soft.now (first_codeword matrix.now rounds soft.now) ≡ shown_by matrix.now soft.now bits.new maker.new result }
+    ensures decided { by_min_sum matrix.now (effort_of rounds passes) soft.now (first_codeword matrix.now rounds soft.now) ≡ shown_by matrix.now soft.now bits.new maker.new settler.new result }
 {
     if decode(matrix, decoder, soft, rounds, bits) {
-        if maker.certify_codeword(soft, bits) {
-            return Ground::Made;
-        }
-        return Ground::Checks;
+        return find_ground(maker, settler, soft, bits, passes);
     }
     if matrix.satisfied(repair) {
         bits.copy_prefix(repair, repair.len());
@@ -111,13 +90,16 @@ fn decide_by_min_sum(
 fn decide(
     matrix: &Matrix,
     maker: &mut Maker<'_>,
+    settler: &mut Settler<'_>,
     decoder: &mut Decoder<'_>,
     soft: &[i16],
     rounds: usize,
+    passes: u32,
     repair: &mut Bits,
     bits: &mut Bits,
 ) -> Ground
     requires maker { maker.old.rows ≡ matrix.now }
+    requires settler { settler.old.rows ≡ matrix.now }
     requires decoder { decoder.old.rows ≡ matrix.now }
     requires soft { length soft.now ≡ (code_of matrix.now).bits }
     requires range { All IsSoft soft.now }
@@ -125,21 +107,24 @@ fn decide(
     requires repair { length repair.old ≡ (code_of matrix.now).bits }
     requires bits { length bits.old ≡ (code_of matrix.now).bits }
     ensures maker { maker.new.rows ≡ matrix.now }
+    ensures settler { settler.new.rows ≡ matrix.now }
     ensures decoder { decoder.new.rows ≡ matrix.now }
     ensures repair { length repair.new ≡ (code_of matrix.now).bits }
     ensures long { length bits.new ≡ (code_of matrix.now).bits }
     ensures ground { IsGround bits.new maker.new result }
-    ensures decided { decided matrix.now rounds soft.now ≡ shown_by matrix.now soft.now bits.new maker.new result }
+    ensures decided { decided matrix.now (effort_of rounds passes) soft.now ≡ shown_by matrix.now soft.now bits.new maker.new settler.new result }
 {
     if judge_unsplit(matrix, soft, bits) {
         return Ground::HardDecision;
     }
-    maker.repair_into(soft, repair);
-    if maker.certify(soft, repair) {
+    let ground = try_repair(matrix, maker, settler, soft, passes, repair);
+    if is_certified(ground) {
         bits.copy_prefix(repair, repair.len());
-        return Ground::Made;
+        return ground;
     }
-    decide_by_min_sum(matrix, maker, decoder, soft, rounds, repair, bits)
+    decide_by_min_sum(
+        matrix, maker, settler, decoder, soft, rounds, passes, repair, bits,
+    )
 }
 
 /// The receiver's decision on the soft values of one frame, with all the memory that it takes.
@@ -147,18 +132,23 @@ fn decide(
 /// The first of four steps that succeeds decides:
 /// 1. the hard decision satisfies every check: it is most likely, by its unsplit certificate;
 /// 2. its repair does (each bit flipped that is in at least two checks, all of them odd), and a
-///    certificate is made for it: it is most likely;
+///    certificate is found for it: it is most likely;
 /// 3. the hard decision after one of the rounds of min-sum does, and no further round is run: it is
-///    most likely if a certificate is made for it, else it is said to satisfy the checks;
+///    most likely if a certificate is found for it, else it is said to satisfy the checks;
 /// 4. the repair where it satisfies every check; if not, min-sum's last hard decision, broken.
 ///
-/// To contracts a judge is its matrix's rows, its rounds, the bits that were last decided, and
+/// A certificate is found by the maker's greedy amounts, else, with no passes, by its spreading, and
+/// with passes by so many at most of the settler.
+///
+/// To contracts a judge is its matrix's rows, how much it tries, the bits that were last decided, and
 /// their certificate.
 #[derive(Drop)]
 pub struct Judge<'a> {
     matrix: &'a Matrix,
     rounds: usize,
+    passes: u32,
     maker: Maker<'a>,
+    settler: Settler<'a>,
     decoder: Decoder<'a>,
     soft: Vec<i16>,
     repair: Bits,
@@ -167,27 +157,34 @@ pub struct Judge<'a> {
 }
 
 impl<'a> Model for Judge<'a> {
+    ghost use Rattle.s2_modem.specs.Deciding.{effort_of};
     ghost use Rattle.s2_modem.specs.Judging.{Judging, IsJudge, view_by};
 
     ghost Value = { Judging };
 
-    ghost view = { λ j. record { rows = j.matrix.now; rounds = j.rounds; bits = j.bits; certificate = view_by j.matrix.now j.soft.items j.bits j.maker j.ground } };
+    ghost view = { λ j. record { rows = j.matrix.now; effort = effort_of j.rounds j.passes; bits = j.bits; certificate = view_by j.matrix.now j.soft.items j.bits j.maker j.settler j.ground } };
 
-    ghost invariant = { λ j. IsJudge j.matrix.now j.rounds j.soft.items j.repair j.bits j.maker j.decoder j.ground };
+    ghost invariant = { λ j. IsJudge j.matrix.now j.rounds j.soft.items j.repair j.bits j.maker j.settler j.decoder j.ground };
 }
 
 impl<'a> Judge<'a> {
-    /// A judge for this matrix, of 1 to 200 rounds of min-sum. `AllocError` only where memory is
-    /// refused.
-    pub fn new(alloc: Global, matrix: &'a Matrix, rounds: usize) -> Result<Judge<'a>, AllocError>
+    /// A judge for this matrix, of 1 to 200 rounds of min-sum, and of so many passes of settling, or
+    /// of none. `AllocError` only where memory is refused.
+    pub fn new(
+        alloc: Global,
+        matrix: &'a Matrix,
+        rounds: usize,
+        passes: u32,
+    ) -> Result<Judge<'a>, AllocError>
         requires some { 1 ≤ rounds }
         requires few { rounds ≤ 200 }
         ensures rows { IfOk result (λ j. j.rows ≡ matrix.now) }
-        ensures rounds { IfOk result (λ j. j.rounds ≡ rounds) }
+        ensures effort { IfOk result (λ j. j.effort ≡ effort_of rounds passes) }
         ensures bits { IfOk result (λ j. j.bits ≡ replicate (code_of matrix.now).bits false) }
         ensures none { IfOk result (λ j. j.certificate ≡ None) }
     {
         let maker = Maker::new(alloc, matrix)?;
+        let settler = Settler::new(alloc, matrix)?;
         let decoder = Decoder::new(alloc, matrix)?;
         let soft = vec![in alloc; 0i16; matrix.bits()]?;
         let repair = Bits::zeroed(alloc, matrix.bits())?;
@@ -195,7 +192,9 @@ impl<'a> Judge<'a> {
         Ok(Judge {
             matrix,
             rounds,
+            passes,
             maker,
+            settler,
             decoder,
             soft,
             repair,
@@ -210,10 +209,10 @@ impl<'a> Judge<'a> {
         requires long { length soft.now ≡ (code_of self.old.rows).bits }
         requires range { All IsSoft soft.now }
         ensures rows { self.new.rows ≡ self.old.rows }
-        ensures rounds { self.new.rounds ≡ self.old.rounds }
-        ensures verdict { result ≡ (decided self.old.rows self.old.rounds soft.now).verdict }
-        ensures bits { self.new.bits ≡ (decided self.old.rows self.old.rounds soft.now).bits }
-        ensures certificate { self.new.certificate ≡ (decided self.old.rows self.old.rounds soft.now).certificate }
+        ensures effort { self.new.effort ≡ self.old.effort }
+        ensures verdict { result ≡ (decided self.old.rows self.old.effort soft.now).verdict }
+        ensures bits { self.new.bits ≡ (decided self.old.rows self.old.effort soft.now).bits }
+        ensures certificate { self.new.certificate ≡ (decided self.old.rows self.old.effort soft.now).certificate }
         ensures likely { result ≡ Verdict.MostLikely → IsMostLikely (code_of self.old.rows) soft.now self.new.bits }
         ensures certified { IsShown self.old.rows soft.now (record { verdict = result; bits = self.new.bits; certificate = self.new.certificate }) }
         ensures codeword { result ≢ Verdict.Broken → IsCodeword (code_of self.old.rows) self.new.bits }
@@ -225,9 +224,11 @@ impl<'a> Judge<'a> {
         self.ground = decide(
             self.matrix,
             &mut self.maker,
+            &mut self.settler,
             &mut self.decoder,
             soft,
             self.rounds,
+            self.passes,
             &mut self.repair,
             &mut self.bits,
         );
@@ -250,6 +251,7 @@ impl<'a> Judge<'a> {
         match self.ground {
             Ground::HardDecision => Some(CertView::unsplit(self.matrix, &self.soft, &self.bits)),
             Ground::Made => Some(self.maker.held(&self.soft, &self.bits)),
+            Ground::Settled => Some(self.settler.held(&self.soft, &self.bits)),
             Ground::Checks | Ground::Nothing => None,
         }
     }

@@ -4,12 +4,13 @@ ghost use Rattle.std.specs.Prelude.{All, IsTrue};
 ghost use Rattle.s2_check.specs.Views.{IsSoft};
 
 use super::Judge;
-use s2_check::{Answer, check};
+use s2_bits::Bits;
+use s2_check::{Answer, Certificate, check};
 use s2_matrix::Matrix;
-use s2_mode::{Mode, Shape};
+use s2_mode::{Counting, Mode, Shape};
 use s2_receive::Verdict;
 use s2_rows::{make_rows, read_rows};
-use std::alloc::Global;
+use std::alloc::{AllocError, Global};
 use std::process::Abort;
 use std::test::Fail;
 
@@ -32,6 +33,27 @@ fn matrix_of(alloc: Global, sizes: [usize; 3], rows: &[u8]) -> Result<Matrix, Fa
     Ok(Matrix::build(alloc, &rows)?)
 }
 
+/// What is decided of these values: the verdict, the bits, and what the checker says of their
+/// certificate, where there is one.
+fn decided(
+    alloc: Global,
+    matrix: &Matrix,
+    soft: &[i16],
+) -> Result<(Verdict, Bits, Option<Answer>), Fail> {
+    if soft.len() != matrix.bits() || !are_soft(soft) {
+        return Err(Fail::from("other values"));
+    }
+    let mut judge = Judge::new(alloc, matrix, 50, 0)?;
+    let verdict = judge.judge(soft);
+    let mut bits = Bits::zeroed(alloc, matrix.bits())?;
+    bits.copy_prefix(judge.word(), matrix.bits());
+    let answer = match judge.certificate() {
+        Some(view) => Some(check(matrix, &view)),
+        None => None,
+    };
+    Ok((verdict, bits, answer))
+}
+
 /// Asserts what is decided of these values, and that there is a certificate where it is to be, and
 /// that the checker accepts it.
 fn assert_decided<R: Abort>(
@@ -42,15 +64,11 @@ fn assert_decided<R: Abort>(
     verdict: Verdict,
     bits: &[bool],
 ) -> Result<(), Fail> {
-    assert_eq!(rt; soft.len(), matrix.bits());
-    assert!(rt; are_soft(soft));
-    let mut judge = Judge::new(alloc, matrix, 50)?;
-    assert_eq!(rt; judge.judge(soft), verdict);
-    assert_eq!(rt; judge.word().truths(), bits);
-    match judge.certificate() {
-        Some(view) => assert_eq!(rt; check(matrix, &view), Answer::Yes),
-        None => assert_ne!(rt; verdict, Verdict::MostLikely),
-    }
+    let (found, word, answer) = decided(alloc, matrix, soft)?;
+    assert_eq!(rt; found, verdict);
+    assert_eq!(rt; word.truths(), bits);
+    let is_certain = verdict == Verdict::MostLikely;
+    assert_eq!(rt; answer, if is_certain { Some(Answer::Yes) } else { None });
     Ok(())
 }
 
@@ -104,11 +122,62 @@ fn has_room_for_every_mode(rt: HostRuntime) -> Result<(), Fail> {
                 let rows = make_rows(alloc, mode.shape(), 3, 1)?;
                 let matrix = Matrix::build(alloc, &rows)?;
                 let soft = vec![in alloc; 10i16; matrix.bits()]?;
-                assert!(rt; are_soft(&soft));
-                let mut judge = Judge::new(alloc, &matrix, 1)?;
-                assert_eq!(rt; judge.judge(&soft), Verdict::MostLikely);
+                let (verdict, _, answer) = decided(alloc, &matrix, &soft)?;
+                assert_eq!(rt; verdict, Verdict::MostLikely, "MODCOD {modcod}");
+                assert_eq!(rt; answer, Some(Answer::Yes));
             }
         }
     }
+    Ok(())
+}
+
+/// Soft values of zeros in noise: each is 16 and what twelve numbers from -4 to 4 add up to.
+fn noisy_zeros(alloc: Global, count: usize) -> Result<Vec<i16>, AllocError> {
+    let mut values = Vec::new(alloc);
+    let mut state = 1u32;
+    for _value in 0..count {
+        let mut value = 16i16;
+        for _part in 0..12u32 {
+            state = state.wrapping_mul(1664525).wrapping_add(1013904223);
+            value = value.wrapping_add((state / 65536 % 9) as i16 - 4);
+        }
+        values.push(value.clamp(-63, 63))?;
+    }
+    Ok(values)
+}
+
+/// The verdict by so many passes of settling, and the certificate's file.
+fn judged<R: Abort + AllocGlobal>(
+    rt: &R,
+    matrix: &Matrix,
+    soft: &[i16],
+    passes: u32,
+) -> Result<(Verdict, Vec<u8>), Fail> {
+    assert_eq!(rt; soft.len(), matrix.bits());
+    assert!(rt; are_soft(soft));
+    let mut judge = Judge::new(rt.alloc(), matrix, 50, passes)?;
+    let verdict = judge.judge(soft);
+    let mut file = Counting::new(Vec::new(rt.alloc()));
+    if let Some(view) = judge.certificate() {
+        view.write(&mut file)?;
+    }
+    Ok((verdict, file.into_inner()))
+}
+
+/// A noisy frame of QPSK 1/2 short whose certificate passes find and spreading does not.
+#[test]
+fn finds_certificates_in_noise(rt: HostRuntime) -> Result<(), Fail> {
+    let alloc = rt.alloc();
+    let mode = Mode::of(4, true, false).ok_or("no mode")?;
+    let rows = make_rows(alloc, mode.shape(), 3, 1)?;
+    let matrix = Matrix::build(alloc, &rows)?;
+    let soft = noisy_zeros(alloc, matrix.bits())?;
+    let (verdict, file) = judged(&rt, &matrix, &soft, 0)?;
+    assert_eq!(rt; verdict, Verdict::Parity);
+    assert_eq!(rt; file.len(), 0);
+    let (verdict, file) = judged(&rt, &matrix, &soft, 96)?;
+    assert_eq!(rt; verdict, Verdict::MostLikely);
+    let certificate = Certificate::read(alloc, &file)?;
+    assert_eq!(rt; check(&matrix, &certificate.view()), Answer::Yes);
     Ok(())
 }

@@ -5,13 +5,14 @@ ghost use Rattle.s2_receive.specs.declared.report.Report.{Report as ReportValue}
 ghost use Rattle.s2_receive.specs.declared.report.Phase.TheVariants as phases;
 ghost use Rattle.s2_receive.specs.declared.report.Step.TheVariants as steps;
 ghost use Rattle.s2_receive.specs.declared.report.Fault.TheVariants as faults;
-ghost use Rattle.s2_receive.specs.Receiving.{IsLive, Answers, MetFrame, Reaches, RunsTo, StandsBehind, StopsAfter, BreaksAfter, begun, rules_of, state_of};
+ghost use Rattle.s2_receive.specs.Receiving.{IsLive, StepAnswers, MetFrame, Reaches, RunsTo, StandsBehind, StopsAfter, BreaksAfter, begun, rules_of, state_of};
 ghost use Rattle.s2_receive.specs.Stepping.{IsSound};
+ghost use Rattle.s2_modem.specs.Deciding.{effort_of};
 ghost use Rattle.s2_modem.specs.Link.{link_of};
 ghost use Rattle.s2_modem.specs.Passing.{passes_as};
 ghost use Rattle.s2_modem.specs.Reports.{frame_decision};
 ghost use Rattle.s2_modem.specs.ReportLines.{frame_line, cut_line, end_line};
-ghost use Rattle.s2_modem.specs.Reception.{link_rules, rules_for, IsSetUp, HasRounds, Refuses, Makes, IsTuned};
+ghost use Rattle.s2_modem.specs.Reception.{link_rules, rules_for, IsSetUp, HasEffort, Refuses, Makes, IsTuned};
 
 use crate::receive::decider::Decider;
 use crate::receive::lines::ReportLines;
@@ -28,6 +29,9 @@ use std::marker::Model;
 /// How many rounds of min-sum a receiver runs at most.
 pub const MOST_ROUNDS: u32 = 200;
 
+/// How many passes of settling it runs at most.
+pub const MOST_PASSES: u32 = 1000;
+
 /// A receiver over the parts of a link.
 pub(crate) type Inner<'a> = s2_receive::Receiver<HeaderSearch, Decider<'a>, ReportLines>;
 
@@ -37,12 +41,13 @@ pub(crate) fn tune<'a>(
     setup: Setup,
     matrix: &'a Matrix,
     rounds: u32,
+    passes: u32,
 ) -> Result<Inner<'a>, SetupFault>
-    ensures refuses { IfErr result (Refuses setup matrix.now rounds) }
+    ensures refuses { IfErr result (Refuses setup matrix.now (effort_of rounds passes)) }
     ensures set_up { IfOk result (λ _. IsSetUp setup matrix.now) }
-    ensures rounds { IfOk result (λ _. HasRounds rounds) }
-    ensures rules { IfOk result (λ r. rules_of (passes_as r.search.search.mode) (length r.frame.items) (frame_decision r.decider.link r.decider.rounds) frame_line cut_line end_line r.limit
-        ≡ link_rules (link_of setup matrix.now) rounds MOST_SYMBOLS) }
+    ensures effort { IfOk result (λ _. HasEffort (effort_of rounds passes)) }
+    ensures rules { IfOk result (λ r. rules_of (passes_as r.search.search.mode) (length r.frame.items) (frame_decision r.decider.link r.decider.effort) frame_line cut_line end_line r.limit
+        ≡ link_rules (link_of setup matrix.now) (effort_of rounds passes) MOST_SYMBOLS) }
     ensures takes { IfOk result (λ r. length r.frame.items ≡ symbols_in r.decider.link.setup.mode) }
     ensures limit { IfOk result (λ r. r.limit ≡ MOST_SYMBOLS) }
     ensures begun { IfOk result (λ r. state_of r.place.phase r.place.at r.joiner r.place.totals ≡ begun) }
@@ -60,10 +65,13 @@ pub(crate) fn tune<'a>(
     if rounds < 1 || rounds > MOST_ROUNDS {
         return Err(SetupFault::BadRounds);
     }
+    if passes > MOST_PASSES {
+        return Err(SetupFault::BadPasses);
+    }
     let Ok(gold) = Gold::new(alloc, setup.number) else {
         return Err(SetupFault::NoMemory);
     };
-    let Ok(decider) = Decider::new(alloc, setup, gold, matrix, rounds) else {
+    let Ok(decider) = Decider::new(alloc, setup, gold, matrix, rounds, passes) else {
         return Err(SetupFault::NoMemory);
     };
     let search = HeaderSearch {
@@ -89,6 +97,7 @@ pub struct Receiver<'a> {
     setup: Setup,
     matrix: &'a Matrix,
     rounds: u32,
+    passes: u32,
     inner: Inner<'a>,
 }
 
@@ -97,6 +106,7 @@ impl<'a> Model for Receiver<'a> {
     ghost use Rattle.s2_mode.specs.Mode.{symbols_in};
     ghost use Rattle.s2_receive.specs.Receiving.{rules_of, state_of};
     ghost use Rattle.s2_modem.specs.Passing.{passes_as};
+    ghost use Rattle.s2_modem.specs.Deciding.{effort_of};
     ghost use Rattle.s2_modem.specs.Reports.{frame_decision};
     ghost use Rattle.s2_modem.specs.ReportLines.{frame_line, cut_line, end_line};
     ghost use Rattle.s2_modem.specs.Reception.{Receiver as ReceiverValue, link_rules, IsTuned};
@@ -106,15 +116,15 @@ impl<'a> Model for Receiver<'a> {
 
     ghost view = { λ r. record {
       link = link_of r.setup r.matrix.now;
-      rounds = r.rounds;
+      effort = effort_of r.rounds r.passes;
       limit = r.inner.limit;
       state = state_of r.inner.place.phase r.inner.place.at r.inner.joiner r.inner.place.totals;
       last = r.inner.decider.last;
     } };
 
     ghost invariant = { λ r. IsTuned
-        (rules_of (passes_as r.inner.search.search.mode) (length r.inner.frame.items) (frame_decision r.inner.decider.link r.inner.decider.rounds) frame_line cut_line end_line r.inner.limit)
-        (link_rules (link_of r.setup r.matrix.now) r.rounds r.inner.limit)
+        (rules_of (passes_as r.inner.search.search.mode) (length r.inner.frame.items) (frame_decision r.inner.decider.link r.inner.decider.effort) frame_line cut_line end_line r.inner.limit)
+        (link_rules (link_of r.setup r.matrix.now) (effort_of r.rounds r.passes) r.inner.limit)
         (symbols_in r.inner.decider.link.setup.mode) (length r.inner.frame.items) (length r.inner.bytes.items) r.inner.limit r.inner.place.at r.inner.place.totals };
 }
 
@@ -122,14 +132,16 @@ impl<'a> Receiver<'a> {
     /// A receiver with all the memory that it needs. Of several refusals the first is answered:
     /// `OtherShape` where the matrix is not of the shape of the mode's code, `BadNumber` where the
     /// scrambling number is over 262141, `BadRollOff` where the roll-off is over 2, `BadRounds` where
-    /// the rounds of min-sum are not 1 to 200, and then `NoMemory` where memory does not suffice.
+    /// the rounds of min-sum are not 1 to 200, `BadPasses` where the passes of settling are over 1000,
+    /// and then `NoMemory` where memory does not suffice.
     pub fn new(
         alloc: Global,
         setup: Setup,
         matrix: &'a Matrix,
         rounds: u32,
+        passes: u32,
     ) -> Result<Receiver<'a>, SetupFault>
-        ensures { Makes setup matrix.now rounds result }
+        ensures { Makes setup matrix.now (effort_of rounds passes) result }
     {
         let Setup {
             mode,
@@ -141,20 +153,26 @@ impl<'a> Receiver<'a> {
             number,
             roll_off,
         };
-        match tune(alloc, setup, matrix, rounds) {
-            Ok(inner) => Ok(Receiver::of_parts(kept, matrix, rounds, inner)),
+        match tune(alloc, setup, matrix, rounds, passes) {
+            Ok(inner) => Ok(Receiver::of_parts(kept, matrix, rounds, passes, inner)),
             Err(fault) => Err(fault),
         }
     }
 
     /// The receiver that has these parts.
-    fn of_parts(setup: Setup, matrix: &'a Matrix, rounds: u32, inner: Inner<'a>) -> Receiver<'a>
+    fn of_parts(
+        setup: Setup,
+        matrix: &'a Matrix,
+        rounds: u32,
+        passes: u32,
+        inner: Inner<'a>,
+    ) -> Receiver<'a>
         requires { IsTuned
-            (rules_of (passes_as inner.search.search.mode) (length inner.frame.items) (frame_decision inner.decider.link inner.decider.rounds) frame_line cut_line end_line inner.limit)
-            (link_rules (link_of setup matrix.now) rounds inner.limit)
+            (rules_of (passes_as inner.search.search.mode) (length inner.frame.items) (frame_decision inner.decider.link inner.decider.effort) frame_line cut_line end_line inner.limit)
+            (link_rules (link_of setup matrix.now) (effort_of rounds passes) inner.limit)
             (symbols_in inner.decider.link.setup.mode) (length inner.frame.items) (length inner.bytes.items) inner.limit inner.place.at inner.place.totals }
         ensures link { result.link ≡ link_of setup matrix.now }
-        ensures rounds { result.rounds ≡ rounds }
+        ensures effort { result.effort ≡ effort_of rounds passes }
         ensures limit { result.limit ≡ inner.entry.limit }
         ensures state { result.state ≡ state_of inner.entry.place.phase inner.entry.place.at inner.entry.joiner inner.entry.place.totals }
     {
@@ -162,6 +180,7 @@ impl<'a> Receiver<'a> {
             setup,
             matrix,
             rounds,
+            passes,
             inner,
         }
     }
@@ -192,7 +211,7 @@ impl<'a> Receiver<'a> {
         requires reader { R.count reader.old < 2 ^ 64 - 1 }
         requires packets { P.count packets.old < 2 ^ 64 - 1 }
         requires report { W.count report.old < 2 ^ 64 - 1 }
-        ensures live { IsLive self.old.state.phase → Answers (rules_for self.old) self.old.state self.new.state (R.remaining reader.old) (R.remaining reader.new)
+        ensures live { IsLive self.old.state.phase → StepAnswers (rules_for self.old) self.old.state self.new.state (R.remaining reader.old) (R.remaining reader.new)
             (P.contents packets.old) (P.contents packets.new) (W.contents report.old) (W.contents report.new) result }
         ensures frame { (r : ReportValue) → result ≡ Ok (steps.Frame r) → MetFrame (rules_for self.old) self.old.state self.new.state (R.remaining reader.old) (R.remaining reader.new)
             (P.contents packets.old) (P.contents packets.new) (W.contents report.old) (W.contents report.new) r self.new.last }
@@ -206,7 +225,7 @@ impl<'a> Receiver<'a> {
         ensures write { IsErrOf result faults.Write → ((P.count packets.new ≡ P.count packets.old + 1) × (W.count report.new ≡ W.count report.old))
             ⊎ ((P.count packets.new ≡ P.count packets.old) × (W.count report.new ≡ W.count report.old + 1)) }
         ensures no_write { result ≢ Err faults.Write → (P.count packets.new ≡ P.count packets.old) × (W.count report.new ≡ W.count report.old) }
-        ensures same { (self.new.link ≡ self.old.link) × (self.new.rounds ≡ self.old.rounds) × (self.new.limit ≡ self.old.limit) }
+        ensures same { (self.new.link ≡ self.old.link) × (self.new.effort ≡ self.old.effort) × (self.new.limit ≡ self.old.limit) }
     {
         self.inner.next(reader, packets, report)
     }
@@ -241,7 +260,7 @@ impl<'a> Receiver<'a> {
             ⊎ ((P.count packets.new ≡ P.count packets.old) × (W.count report.new ≡ W.count report.old + 1)) }
         ensures no_write { result ≢ Err faults.Write → (P.count packets.new ≡ P.count packets.old) × (W.count report.new ≡ W.count report.old) }
         ensures no_other { result ≢ Err faults.Failed }
-        ensures same { (self.new.link ≡ self.old.link) × (self.new.rounds ≡ self.old.rounds) × (self.new.limit ≡ self.old.limit) }
+        ensures same { (self.new.link ≡ self.old.link) × (self.new.effort ≡ self.old.effort) × (self.new.limit ≡ self.old.limit) }
     {
         receive_all(&mut self.inner, reader, packets, report)
     }

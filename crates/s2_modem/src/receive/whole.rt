@@ -1,5 +1,6 @@
 //! A whole stream of symbols in memory.
 ghost use Rattle.std.specs.Prelude.{◌≡◌, ◌≢◌, ◌+◌, ◌-◌, ◌*◌, ◌^◌, ◌<◌, ◌⊎◌, Err, IsErrOf, length};
+ghost use Rattle.s2_modem.specs.Deciding.{effort_of};
 ghost use Rattle.s2_modem.specs.Reception.{Demodulates};
 
 use crate::receive::receiver::tune;
@@ -29,6 +30,7 @@ pub fn demodulate<P: CountedWrite, W: CountedWrite>(
     setup: Setup,
     matrix: &Matrix,
     rounds: u32,
+    passes: u32,
     bytes: &[u8],
     packets: &mut P,
     report: &mut W,
@@ -36,12 +38,12 @@ pub fn demodulate<P: CountedWrite, W: CountedWrite>(
     requires packets { P.count packets.old < 2 ^ 64 - 1 }
     requires report { W.count report.old < 2 ^ 64 - 1 }
     requires few { length bytes.now < 2 ^ 42 }
-    ensures demodulates { Demodulates setup matrix.now rounds bytes.now (P.contents packets.old) (P.contents packets.new) (W.contents report.old) (W.contents report.new) result }
+    ensures demodulates { Demodulates setup matrix.now (effort_of rounds passes) bytes.now (P.contents packets.old) (P.contents packets.new) (W.contents report.old) (W.contents report.new) result }
     ensures write { IsErrOf result DemodFault.Write → ((P.count packets.new ≡ P.count packets.old + 1) × (W.count report.new ≡ W.count report.old))
         ⊎ ((P.count packets.new ≡ P.count packets.old) × (W.count report.new ≡ W.count report.old + 1)) }
     ensures no_write { result ≢ Err DemodFault.Write → (P.count packets.new ≡ P.count packets.old) × (W.count report.new ≡ W.count report.old) }
 {
-    let mut receiver = match tune(alloc, setup, matrix, rounds) {
+    let mut receiver = match tune(alloc, setup, matrix, rounds, passes) {
         Ok(receiver) => receiver,
         Err(fault) => return Err(DemodFault::Setup(fault)),
     };

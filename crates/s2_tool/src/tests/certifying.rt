@@ -22,6 +22,7 @@ fn certified<R: Abort + AllocGlobal>(
     let exit = certify_command(
         rt.alloc(),
         shape,
+        0,
         &mut rows,
         &mut soft,
         &mut file,
@@ -78,6 +79,7 @@ fn prints_no_verdict_without_its_certificate(rt: HostRuntime) {
     let exit = certify_command(
         rt.alloc(),
         toy,
+        0,
         &mut rows,
         &mut soft,
         &mut full,

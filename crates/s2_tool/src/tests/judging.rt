@@ -17,7 +17,7 @@ fn judged<R: Abort + AllocGlobal>(
     let mut soft = Counting::new(ByOne::new(soft));
     let mut console = screen(rt);
     let shape = shape(rt, sizes);
-    let exit = judge_command(rt.alloc(), shape, &mut rows, &mut soft, &mut console);
+    let exit = judge_command(rt.alloc(), shape, 0, &mut rows, &mut soft, &mut console);
     let (out, errors) = seen(console);
     (exit, out, errors)
 }
@@ -153,7 +153,7 @@ fn reads_rows_before_the_soft_values(rt: HostRuntime) {
     let mut soft = Counting::new(FailAt::new(ByOne::new(b"0"), 0));
     let mut console = screen(&rt);
     let toy = shape(&rt, TOY);
-    let exit = judge_command(rt.alloc(), toy, &mut rows, &mut soft, &mut console);
+    let exit = judge_command(rt.alloc(), toy, 0, &mut rows, &mut soft, &mut console);
     assert_eq!(rt; exit, Exit::Fault);
     let (out, errors) = seen(console);
     assert_eq!(rt; out.len(), 0);

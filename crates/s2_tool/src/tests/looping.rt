@@ -2,9 +2,9 @@
 use super::sending::{packet_of_zeros, row_file, setup, two_packets};
 use super::serving::served;
 use super::{screen, seen};
+use crate::effort::Effort;
 use crate::exit::Exit;
 use crate::loopback::run_command;
-use crate::rounds::Rounds;
 use s2_mode::{ByOne, Counting, InMemory};
 use std::fs;
 use std::process::Abort;
@@ -26,7 +26,7 @@ fn looped<R: Abort + AllocGlobal>(
     let exit = run_command(
         rt.alloc(),
         link,
-        Rounds::new(50).expect(rt, "rounds"),
+        Effort::new(50, 0).expect(rt, "an effort"),
         1,
         0,
         &mut rows,

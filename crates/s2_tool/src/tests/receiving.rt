@@ -3,10 +3,10 @@ use super::sending::{packet_of_zeros, row_file, sent, setup, two_packets};
 use super::serving::served;
 use super::{screen, seen};
 use crate::console::Console;
+use crate::effort::Effort;
 use crate::exit::Exit;
 use crate::link::LinkSetup;
 use crate::receive::demod_command;
-use crate::rounds::Rounds;
 use s2_mode::{ByOne, Counting, FailAt, InMemory};
 use std::fs;
 use std::process::Abort;
@@ -16,14 +16,14 @@ use std::test::Fail;
 const SINGLE: &[u8] =
     b"frame 1 at 0 most-likely fixed 0\nend frames 1 delivered 1 packets 1 bad 0\n";
 
-const TWO: &[u8] =
+pub(super) const TWO: &[u8] =
     b"frame 1 at 0 most-likely fixed 0\nframe 2 at 8190 most-likely fixed 0\nend frames 2 delivered 2 packets 2 bad 0\n";
 
 const NONE: &[u8] = b"end frames 0 delivered 0 packets 0 bad 0\n";
 
-/// At most 50 rounds.
-fn rounds<R: Abort>(rt: &R) -> Rounds {
-    Rounds::new(50).expect(rt, "rounds")
+/// At most 50 rounds, and no passes.
+pub(super) fn effort<R: Abort>(rt: &R) -> Effort {
+    Effort::new(50, 0).expect(rt, "an effort")
 }
 
 /// What `demod` does with symbols: its exit, the packets, and its lines.
@@ -40,7 +40,7 @@ fn received<R: Abort + AllocGlobal>(
     let exit = demod_command(
         rt.alloc(),
         setup,
-        rounds(rt),
+        effort(rt),
         &mut rows,
         &mut symbols,
         &mut packets,
@@ -106,6 +106,24 @@ fn tells_what_a_cut_stream_has(rt: HostRuntime) -> Result<(), Fail> {
     Ok(())
 }
 
+/// From 90 symbols on a frame has begun.
+#[test]
+fn tells_how_much_of_a_first_frame_came(rt: HostRuntime) -> Result<(), Fail> {
+    let symbols = sent(&rt, setup(&rt, false), &packet_of_zeros()).1;
+    for count in [0usize, 89, 90, 32_489] {
+        let mut report = Vec::new(rt.alloc());
+        if count >= 90 {
+            let line = format!(in rt.alloc(); "cut at 0 symbols {count}\n")?;
+            report.extend_from_slice(line.as_bytes())?;
+        }
+        report.extend_from_slice(NONE)?;
+        let exit = if count >= 90 { Exit::No } else { Exit::Fine };
+        let front = symbols.get(..4 * count).expect(&rt, "symbols");
+        receives(&rt, false, front, (exit, &report, b""));
+    }
+    Ok(())
+}
+
 #[test]
 fn receives_nothing_of_less_than_a_header(rt: HostRuntime) {
     for bytes in [b"".as_slice(), b"1", b"12", b"123", &[0; 359]] {
@@ -141,7 +159,7 @@ fn failing<R: Abort + AllocGlobal>(
     let exit = demod_command(
         rt.alloc(),
         short,
-        rounds(rt),
+        effort(rt),
         &mut rows,
         &mut symbols,
         &mut packets,
@@ -168,8 +186,7 @@ fn keeps_what_came_before_a_fault(rt: HostRuntime) {
         ([1, many, many], 188, first, read),
         ([2, many, many], 376, &TWO[..69], read),
         ([many, 0, many], 0, b"", write),
-        ([many, 1, many], 1, b"", write),
-        ([many, 2, many], 188, first, write),
+        ([many, 1, many], 188, first, write),
         ([many, many, 0], 188, b"", write),
         ([many, many, 1], 376, first, write),
         ([many, many, 2], 376, &TWO[..69], write),

@@ -1,5 +1,6 @@
 //! The words of the command line.
 use super::words_of;
+use crate::effort::Effort;
 use crate::exit::Exit;
 use crate::explain;
 use crate::link::RollOff;
@@ -7,7 +8,6 @@ use crate::request::{
     CheckWords, DemodWords, JudgeWords, LinkWords, ModWords, NoiseWords, Request, RowsWords,
     RunWords, ShapeWords,
 };
-use crate::rounds::Rounds;
 use crate::scrambling::ScramblingNumber;
 use crate::words::read_words;
 use std::cell::Cell;
@@ -28,6 +28,7 @@ fn reads_the_words_of_a_command(rt: HostRuntime) -> Result<(), Fail> {
     let judge = words_of(&rt, "s2 judge --group 4 --groups 2 --q 3 r s")?;
     let wanted = Request::Judge(JudgeWords {
         shape: toy,
+        passes: 0,
         certificate: None,
         rows: "r",
         soft: "s",
@@ -113,27 +114,32 @@ fn reads_the_words_of_demod_and_run(rt: HostRuntime) -> Result<(), Fail> {
         number: ScramblingNumber::new(7).ok_or("a number")?,
         roll_off: RollOff::Middle,
     };
-    for (rounds, count) in [("", 50u32), ("--rounds 1 ", 1), ("--rounds 200 ", 200)] {
-        let rounds_are = Rounds::new(count).ok_or("rounds")?;
+    for (effort, rounds, passes) in [
+        ("", 50u32, 0u32),
+        ("--rounds 1 ", 1, 0),
+        ("--rounds 200 --passes 0 ", 200, 0),
+        ("--passes 1000 ", 50, 1000),
+    ] {
+        let wanted_effort = Effort::new(rounds, passes).ok_or("an effort")?;
         let words = format!(in rt.alloc();
-            "s2 demod --modcod 2 --short --number 7 --ro 1 {rounds}r s p"
+            "s2 demod --modcod 2 --short --number 7 --ro 1 {effort}r s p"
         )?;
         let words = words_of(&rt, words.as_str())?;
         let wanted = Request::Demod(DemodWords {
             link,
-            rounds: rounds_are,
+            effort: wanted_effort,
             rows: "r",
             symbols: "s",
             packets: "p",
         });
         assert_eq!(rt; read_words(rt.alloc(), &words).ok(), Some(Some(wanted)));
         let words = format!(in rt.alloc();
-            "s2 run --modcod 2 --short --number 7 --ro 1 {rounds}--seed 18446744073709551615 --level 65535 r p o"
+            "s2 run --modcod 2 --short --number 7 --ro 1 {effort}--seed 18446744073709551615 --level 65535 r p o"
         )?;
         let words = words_of(&rt, words.as_str())?;
         let wanted = Request::Run(RunWords {
             link,
-            rounds: rounds_are,
+            effort: wanted_effort,
             seed: u64::MAX,
             level: 65535,
             rows: "r",
@@ -156,6 +162,11 @@ fn refuses_other_words(rt: HostRuntime) -> Result<(), Fail> {
         ("s2 demod --modcod 1 r s", true),
         ("s2 demod --modcod 1 --rounds 0 r s p", true),
         ("s2 demod --modcod 1 --rounds 201 r s p", true),
+        ("s2 demod --modcod 1 --passes 1001 r s p", true),
+        (
+            "s2 judge --group 4 --groups 2 --q 3 --passes 1001 r s",
+            true,
+        ),
         ("s2 demod --modcod 1 --seed 1 r s p", true),
         ("s2 run --help", false),
         ("s2 run --modcod 1 --seed 1 r p o", true),
@@ -206,13 +217,17 @@ fn refuses_other_words(rt: HostRuntime) -> Result<(), Fail> {
 
 #[test]
 fn reads_the_word_of_a_certificate_file(rt: HostRuntime) -> Result<(), Fail> {
-    let words = words_of(&rt, "s2 judge --group 4 --groups 2 --q 3 --cert c r s")?;
+    let words = words_of(
+        &rt,
+        "s2 judge --group 4 --groups 2 --q 3 --passes 96 --cert c r s",
+    )?;
     let wanted = Request::Judge(JudgeWords {
         shape: ShapeWords {
             group: 4,
             groups: 2,
             q: 3,
         },
+        passes: 96,
         certificate: Some("c"),
         rows: "r",
         soft: "s",

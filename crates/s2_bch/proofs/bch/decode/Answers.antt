@@ -5,7 +5,8 @@ use Rattle.s2_bch.specs.Registers.{rest_of}
 use Rattle.s2_bch.specs.Words.{IsMultiple}
 use Rattle.s2_bch.specs.Codes.{IsBchWord}
 use Rattle.s2_bch.proofs.GeneratorFacts.{generator_facts}
-use Rattle.s2_bch.proofs.CodeFacts.{words_same, distance_self}
+use Rattle.s2_bch.proofs.CodeFacts.{words_same}
+use Rattle.s2_bch.proofs.Distances.{distance_self}
 use Rattle.s2_bch.proofs.RestFacts.{zero_rest, length-rest}
 use Rattle.s2_bch.proofs.bch.decode.Goals as goal
 

@@ -7,6 +7,6 @@ use Rattle.s2_bch.proofs.find.evaluate_word.Goals as goal
 pub returns : goal.returns
 returns g c =
     let f = g.F.Field in
-    let x = pow f.zero f.one f.sum f.product f.alpha c.args.power in
-    let looped : c.loop-bit.value ≡ horner_of f.zero f.one f.sum f.product f.zero c.args.word.now x = first_of (search rules, grind (arith, common_steps)) in
-    looped ∙ by_horner f.zero f.one f.sum f.product f.inverse g.met.F.Field.laws c.args.word.now x
+    let x = pow f.field f.alpha c.args.power in
+    let looped : c.loop-bit.value ≡ horner_of f.field f.field.zero c.args.word.now x = first_of (search rules, grind (arith, common_steps)) in
+    looped ∙ by_horner f.field g.met.F.Field.laws c.args.word.now x

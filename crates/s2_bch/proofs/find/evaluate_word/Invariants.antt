@@ -6,5 +6,5 @@ use Rattle.s2_bch.proofs.find.evaluate_word.Given as goal
 abbrev pub invariant-loop-bit : goal.invariant-loop-bit
 invariant-loop-bit g l =
     let f = g.F.Field in
-    horner_of f.zero f.one f.sum f.product l.value (drop l.bit-index l.word) (pow f.zero f.one f.sum f.product f.alpha l.power)
-    ≡ horner_of f.zero f.one f.sum f.product f.zero l.word (pow f.zero f.one f.sum f.product f.alpha l.power)
+    horner_of f.field l.value (drop l.bit-index l.word) (pow f.field f.alpha l.power)
+    ≡ horner_of f.field f.field.zero l.word (pow f.field f.alpha l.power)

@@ -11,4 +11,4 @@ loop-j-preserved g c =
     below_more _ _
     (λ k h. let ne : k ≢ c.loop-j.j = omega arith in rw get_or-set_other (c.loop-j.invariant k h))
     (rw get_or-set_same
-    (c.evaluate_word.ensures ∙ ap (λ n. value_at f.zero f.one f.sum f.product c.args.word.now (pow f.zero f.one f.sum f.product f.alpha n)) e))
+    (c.evaluate_word.ensures ∙ ap (λ n. value_at f.field c.args.word.now (pow f.field f.alpha n)) e))

@@ -6,5 +6,5 @@ use Rattle.s2_bch.proofs.find.put_syndromes.Given as goal
 abbrev pub invariant-loop-j : goal.invariant-loop-j
 invariant-loop-j g l =
     let f = g.F.Field in
-    (k : ℕ) → k < l.j → get_or l.syndromes k f.zero
-    ≡ value_at f.zero f.one f.sum f.product l.word (pow f.zero f.one f.sum f.product f.alpha (suc k))
+    (k : ℕ) → k < l.j → get_or l.syndromes k f.field.zero
+    ≡ value_at f.field l.word (pow f.field f.alpha (suc k))

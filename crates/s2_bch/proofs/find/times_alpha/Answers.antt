@@ -7,5 +7,5 @@ pub returns : goal.returns
 returns g c =
     let f = g.F.Field in
     c.times_power-2.ensures
-    ∙ ap (f.product (pow f.zero f.one f.sum f.product f.alpha (c.args.power - c.args.power / 2))) c.times_power.ensures
-    ∙ two_powers f.zero f.one f.sum f.product f.inverse g.met.F.Field.laws f.alpha c.args.value (c.args.power / 2) (c.args.power - c.args.power / 2) c.args.power (omega arith)
+    ∙ ap (f.field.product (pow f.field f.alpha (c.args.power - c.args.power / 2))) c.times_power.ensures
+    ∙ two_powers f.field g.met.F.Field.laws f.alpha c.args.value (c.args.power / 2) (c.args.power - c.args.power / 2) c.args.power (omega arith)

@@ -24,19 +24,19 @@ loop-j-preserved g c =
       size = omega (arith, v.size, c.move_row.auto.terms);
       moved = below_more _ _
           (λ k hk m hm. c.move_row.ensures.before (16 * k + m) (omega arith) ∙ v.moved k hk m hm)
-          (λ m hm. c.move_row.ensures.moved m hm ∙ ap (f.product (pow f.zero f.one f.sum f.product f.alpha j)) (v.left (16 * j + m) (omega arith)));
+          (λ m hm. c.move_row.ensures.moved m hm ∙ ap (f.field.product (pow f.field f.alpha j)) (v.left (16 * j + m) (omega arith)));
       left = λ k hk. c.move_row.ensures.behind k (omega arith) ∙ v.left k (omega arith);
       summed = λ h x long are m hm.
           c.move_row.ensures.values m hm
-          ∙ ap₂ f.sum (v.summed h x long are m hm) (v.left (16 * j + m) (omega arith) ∙ are.each j m (omega arith) hm)
-          ∙ sym (eval_next f.zero f.one f.sum f.product f.inverse laws h (x m) j (omega arith));
+          ∙ ap₂ f.field.sum (v.summed h x long are m hm) (v.left (16 * j + m) (omega arith) ∙ are.each j m (omega arith) hm)
+          ∙ sym (eval_next f.field laws h (x m) j (omega arith));
     }
 
 pub returns-clause-values : goal.returns-clause-values
 returns-clause-values g c h x long are l hl =
     let f = g.F.Field in
     c.loop-j.invariant.summed h x long are l hl
-    ∙ ap (λ u. eval f.zero f.one f.sum f.product u (x l)) (take_all c.loop-j.j h (omega arith))
+    ∙ ap (λ u. eval f.field u (x l)) (take_all c.loop-j.j h (omega arith))
 
 pub returns-clause-terms : goal.returns-clause-terms
 returns-clause-terms g c h x long are =
@@ -45,6 +45,6 @@ returns-clause-terms g c h x long are =
     record {
       each = λ j l hj hl.
           c.loop-j.invariant.moved j (omega arith) l hl
-          ∙ ap (f.product (pow f.zero f.one f.sum f.product f.alpha j)) (are.each j l hj hl)
-          ∙ moved_term f.zero f.one f.sum f.product f.inverse laws f.alpha (get_or h j f.zero) (x l) j;
+          ∙ ap (f.field.product (pow f.field f.alpha j)) (are.each j l hj hl)
+          ∙ moved_term f.field laws f.alpha (get_or h j f.field.zero) (x l) j;
     }

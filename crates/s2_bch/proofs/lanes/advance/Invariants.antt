@@ -9,8 +9,8 @@ invariant-loop-j g l =
     record {
       size : length l.terms ≡ length l.fn.terms;
       moved : (k : ℕ) → k < l.j → (m : ℕ) → m < 16
-          → get_or l.terms (16 * k + m) f.zero ≡ f.product (pow f.zero f.one f.sum f.product f.alpha k) (get_or l.fn.terms (16 * k + m) f.zero);
-      left : (k : ℕ) → 16 * l.j ≤ k → get_or l.terms k f.zero ≡ get_or l.fn.terms k f.zero;
-      summed : (h : List g.row.F.Denot) (x : ℕ → g.row.F.Denot) → length h ≡ l.count → AreTerms f.zero f.one f.sum f.product h x l.fn.terms
-          → (m : ℕ) → m < 16 → get_or l.values m f.zero ≡ eval f.zero f.one f.sum f.product (take l.j h) (x m);
+          → get_or l.terms (16 * k + m) f.field.zero ≡ f.field.product (pow f.field f.alpha k) (get_or l.fn.terms (16 * k + m) f.field.zero);
+      left : (k : ℕ) → 16 * l.j ≤ k → get_or l.terms k f.field.zero ≡ get_or l.fn.terms k f.field.zero;
+      summed : (h : List g.row.F.Denot) (x : ℕ → g.row.F.Denot) → length h ≡ l.count → AreTerms f.field h x l.fn.terms
+          → (m : ℕ) → m < 16 → get_or l.values m f.field.zero ≡ eval f.field (take l.j h) (x m);
     }

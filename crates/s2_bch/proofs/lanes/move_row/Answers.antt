@@ -20,18 +20,18 @@ loop-lane-preserved g c =
     let here : c.args.at + lane < length c.loop-lane.terms = omega arith in
     let there : lane < length c.loop-lane.values = omega arith in
     let term = c.index-terms-at.result in
-    let is : term ≡ get_or c.args.terms.now (c.args.at + lane) f.zero =
-    get_or_read c.loop-lane.terms (c.args.at + lane) term here c.index-terms-at.is f.zero ∙ v.behind (c.args.at + lane) (omega arith) in
+    let is : term ≡ get_or c.args.terms.now (c.args.at + lane) f.field.zero =
+    get_or_read c.loop-lane.terms (c.args.at + lane) term here c.index-terms-at.is f.field.zero ∙ v.behind (c.args.at + lane) (omega arith) in
     let value = c.index-values-lane.result in
-    let read : value ≡ get_or c.args.values.now lane f.zero =
-    get_or_read c.loop-lane.values lane value there c.index-values-lane.is f.zero ∙ v.unsummed lane (omega arith) in
+    let read : value ≡ get_or c.args.values.now lane f.field.zero =
+    get_or_read c.loop-lane.values lane value there c.index-values-lane.is f.field.zero ∙ v.unsummed lane (omega arith) in
     record {
       summed = below_more _ _
           (λ k hk. let ne : k ≢ lane = omega arith in rw get_or-set_other (v.summed k hk))
-          (rw get_or-set_same (c.add.ensures ∙ ap₂ f.sum read is));
+          (rw get_or-set_same (c.add.ensures ∙ ap₂ f.field.sum read is));
       moved = below_more _ _
           (λ k hk. let ne : c.args.at + k ≢ c.args.at + lane = omega arith in rw get_or-set_other (v.moved k hk))
-          (rw get_or-set_same (c.times_power.ensures ∙ ap (f.product (pow f.zero f.one f.sum f.product f.alpha c.args.power)) is));
+          (rw get_or-set_same (c.times_power.ensures ∙ ap (f.field.product (pow f.field f.alpha c.args.power)) is));
       unsummed = λ k hk. let ne : k ≢ lane = omega arith in rw get_or-set_other (v.unsummed k (omega arith));
       before = λ k hk. let ne : k ≢ c.args.at + lane = omega arith in rw get_or-set_other (v.before k hk);
       behind = λ k hk. let ne : k ≢ c.args.at + lane = omega arith in rw get_or-set_other (v.behind k (omega arith));

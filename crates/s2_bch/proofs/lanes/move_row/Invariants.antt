@@ -6,10 +6,10 @@ abbrev pub invariant-loop-lane : goal.invariant-loop-lane
 invariant-loop-lane g l =
     let f = g.F.Field in
     record {
-      summed : (k : ℕ) → k < l.lane → get_or l.values k f.zero ≡ f.sum (get_or l.fn.values k f.zero) (get_or l.fn.terms (l.at + k) f.zero);
+      summed : (k : ℕ) → k < l.lane → get_or l.values k f.field.zero ≡ f.field.sum (get_or l.fn.values k f.field.zero) (get_or l.fn.terms (l.at + k) f.field.zero);
       moved : (k : ℕ) → k < l.lane
-          → get_or l.terms (l.at + k) f.zero ≡ f.product (pow f.zero f.one f.sum f.product f.alpha l.power) (get_or l.fn.terms (l.at + k) f.zero);
-      unsummed : (k : ℕ) → l.lane ≤ k → get_or l.values k f.zero ≡ get_or l.fn.values k f.zero;
-      before : (k : ℕ) → k < l.at → get_or l.terms k f.zero ≡ get_or l.fn.terms k f.zero;
-      behind : (k : ℕ) → l.at + l.lane ≤ k → get_or l.terms k f.zero ≡ get_or l.fn.terms k f.zero;
+          → get_or l.terms (l.at + k) f.field.zero ≡ f.field.product (pow f.field f.alpha l.power) (get_or l.fn.terms (l.at + k) f.field.zero);
+      unsummed : (k : ℕ) → l.lane ≤ k → get_or l.values k f.field.zero ≡ get_or l.fn.values k f.field.zero;
+      before : (k : ℕ) → k < l.at → get_or l.terms k f.field.zero ≡ get_or l.fn.terms k f.field.zero;
+      behind : (k : ℕ) → l.at + l.lane ≤ k → get_or l.terms k f.field.zero ≡ get_or l.fn.terms k f.field.zero;
     }

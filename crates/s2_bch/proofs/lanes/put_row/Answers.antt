@@ -18,14 +18,14 @@ loop-lane-preserved g c =
     let laws = g.met.F.Field.laws in
     let v = c.loop-lane.invariant in
     let here : c.args.at + c.loop-lane.lane < length c.loop-lane.terms = omega arith in
-    let power = pow f.zero f.one f.sum f.product c.args.ratio c.loop-lane.lane in
+    let power = pow f.field c.args.ratio c.loop-lane.lane in
     let up : suc c.loop-lane.lane ≡ c.loop-lane.lane + 1 = omega arith in
     record {
       next = c.mul-term.ensures
-          ∙ ap (λ u. f.product u c.args.ratio) v.next
+          ∙ ap (λ u. f.field.product u c.args.ratio) v.next
           ∙ laws.mul_assoc c.args.coefficient power c.args.ratio
-          ∙ ap (f.product c.args.coefficient) (pow_last f.zero f.one f.sum f.product f.inverse laws c.args.ratio c.loop-lane.lane
-          ∙ ap (pow f.zero f.one f.sum f.product c.args.ratio) up);
+          ∙ ap (f.field.product c.args.coefficient) (pow_last f.field laws c.args.ratio c.loop-lane.lane
+          ∙ ap (pow f.field c.args.ratio) up);
       row = below_more _ _
           (λ k hk. let ne : c.args.at + k ≢ c.args.at + c.loop-lane.lane = omega arith in rw get_or-set_other (v.row k hk))
           (rw get_or-set_same v.next);

@@ -6,7 +6,7 @@ abbrev pub invariant-loop-lane : goal.invariant-loop-lane
 invariant-loop-lane g l =
     let f = g.F.Field in
     record {
-      next : l.term ≡ f.product l.fn.coefficient (pow f.zero f.one f.sum f.product l.ratio l.lane);
-      row : (k : ℕ) → k < l.lane → get_or l.terms (l.at + k) f.zero ≡ f.product l.fn.coefficient (pow f.zero f.one f.sum f.product l.ratio k);
-      before : (k : ℕ) → k < l.at → get_or l.terms k f.zero ≡ get_or l.fn.terms k f.zero;
+      next : l.term ≡ f.field.product l.fn.coefficient (pow f.field l.ratio l.lane);
+      row : (k : ℕ) → k < l.lane → get_or l.terms (l.at + k) f.field.zero ≡ f.field.product l.fn.coefficient (pow f.field l.ratio k);
+      before : (k : ℕ) → k < l.at → get_or l.terms k f.field.zero ≡ get_or l.fn.terms k f.field.zero;
     }

@@ -19,17 +19,17 @@ loop-j-preserved g c =
     let polynomial = c.args.polynomial.now in
     let here : j < length polynomial = omega arith in
     let up : suc j ≡ j + 1 = omega arith in
-    let read = get_or_read polynomial j c.index-polynomial-j.result here c.index-polynomial-j.is f.zero in
+    let read = get_or_read polynomial j c.index-polynomial-j.result here c.index-polynomial-j.is f.field.zero in
     record {
       next = c.mul-ratio.ensures
-          ∙ ap (λ u. f.product u c.args.x) v.next
-          ∙ pow_last f.zero f.one f.sum f.product f.inverse laws c.args.x j
-          ∙ ap (pow f.zero f.one f.sum f.product c.args.x) up;
+          ∙ ap (λ u. f.field.product u c.args.x) v.next
+          ∙ pow_last f.field laws c.args.x j
+          ∙ ap (pow f.field c.args.x) up;
       rows = below_more _ _
           (λ k hk m hm. c.put_row.ensures.before (16 * k + m) (omega arith) ∙ v.rows k hk m hm)
           (λ m hm. c.put_row.ensures.row m hm
-          ∙ ap₂ f.product read (ap (λ u. pow f.zero f.one f.sum f.product u m) v.next
-          ∙ pow_swap f.zero f.one f.sum f.product f.inverse laws c.args.x j m));
+          ∙ ap₂ f.field.product read (ap (λ u. pow f.field u m) v.next
+          ∙ pow_swap f.field laws c.args.x j m));
     }
 
 pub returns : goal.returns

@@ -6,8 +6,8 @@ abbrev pub invariant-loop-j : goal.invariant-loop-j
 invariant-loop-j g l =
     let f = g.F.Field in
     record {
-      next : l.ratio ≡ pow f.zero f.one f.sum f.product l.x l.j;
+      next : l.ratio ≡ pow f.field l.x l.j;
       rows : (k : ℕ) → k < l.j → (m : ℕ) → m < 16
-          → get_or l.terms (16 * k + m) f.zero
-          ≡ f.product (get_or l.polynomial k f.zero) (pow f.zero f.one f.sum f.product (pow f.zero f.one f.sum f.product l.x m) k);
+          → get_or l.terms (16 * k + m) f.field.zero
+          ≡ f.field.product (get_or l.polynomial k f.field.zero) (pow f.field (pow f.field l.x m) k);
     }

@@ -10,11 +10,11 @@ use Rattle.s2_bch.proofs.laws.roots.Goals as goal
 pub returns-clause-normal : goal.returns-clause-normal
 returns-clause-normal c e w is =
     let made = normal_generator c.args.mode c.t.ensures.valid e in
-    multiple_has_roots gf16.zero gf16.one gf16.sum gf16.product gf16.inverse gf16.laws gf16.alpha (t_of c.args.mode + t_of c.args.mode)
+    multiple_has_roots gf16.field gf16.laws gf16.alpha (t_of c.args.mode + t_of c.args.mode)
     (generator_of c.args.mode) w (omega (arith, made.size)) made.roots is
 
 pub returns-clause-short : goal.returns-clause-short
 returns-clause-short c e w is =
     let made = short_generator c.args.mode c.t.ensures.valid e in
-    multiple_has_roots gf14.zero gf14.one gf14.sum gf14.product gf14.inverse gf14.laws gf14.alpha (t_of c.args.mode + t_of c.args.mode)
+    multiple_has_roots gf14.field gf14.laws gf14.alpha (t_of c.args.mode + t_of c.args.mode)
     (generator_of c.args.mode) w (omega (arith, made.size)) made.roots is

@@ -14,21 +14,21 @@ loop-i-preserved g c =
     (λ k h. let ne : k ≢ i = omega arith in rw get_or-set_other (c.loop-i.invariant k h))
     (rw get_or-set_same
     (c.add.ensures
-    ∙ ap₂ f.sum c.shifted.ensures
-    (c.mul.ensures ∙ ap (f.product c.args.factor) c.shifted-term.ensures
-    ∙ sym (get_or-scale f.zero f.one f.sum f.product f.inverse g.met.F.Field.laws c.args.factor
-    (shift f.zero f.one f.sum f.product c.args.auxiliary_shift c.args.auxiliary.now) i))
-    ∙ sym (get_or-plus f.zero f.one f.sum f.product f.inverse g.met.F.Field.laws
-    (shift f.zero f.one f.sum f.product c.args.locator_shift c.args.locator.now)
-    (scale f.zero f.one f.sum f.product c.args.factor (shift f.zero f.one f.sum f.product c.args.auxiliary_shift c.args.auxiliary.now)) i)))
+    ∙ ap₂ f.field.sum c.shifted.ensures
+    (c.mul.ensures ∙ ap (f.field.product c.args.factor) c.shifted-term.ensures
+    ∙ sym (get_or-scale f.field g.met.F.Field.laws c.args.factor
+    (shift f.field c.args.auxiliary_shift c.args.auxiliary.now) i))
+    ∙ sym (get_or-plus f.field g.met.F.Field.laws
+    (shift f.field c.args.locator_shift c.args.locator.now)
+    (scale f.field c.args.factor (shift f.field c.args.auxiliary_shift c.args.auxiliary.now)) i)))
 
 pub returns : goal.returns
 returns g c =
     let f = g.F.Field in
-    let e1 = length-shift f.zero f.one f.sum f.product f.inverse g.met.F.Field.laws c.args.locator_shift c.args.locator.now in
-    let e2 = length-shift f.zero f.one f.sum f.product f.inverse g.met.F.Field.laws c.args.auxiliary_shift c.args.auxiliary.now in
-    let e3 = length-scale f.zero f.one f.sum f.product f.inverse g.met.F.Field.laws c.args.factor (shift f.zero f.one f.sum f.product c.args.auxiliary_shift c.args.auxiliary.now) in
-    let fits : length (scale f.zero f.one f.sum f.product c.args.factor (shift f.zero f.one f.sum f.product c.args.auxiliary_shift c.args.auxiliary.now))
-    ≤ length (shift f.zero f.one f.sum f.product c.args.locator_shift c.args.locator.now) = omega (arith, e1, e2, e3) in
-    let e4 = length-plus f.zero f.one f.sum f.product f.inverse g.met.F.Field.laws _ _ fits in
-    ext_get_or f.zero _ _ (omega (arith, e1, e2, e3, e4)) (λ k hk. c.loop-i.invariant k (omega arith))
+    let e1 = length-shift f.field g.met.F.Field.laws c.args.locator_shift c.args.locator.now in
+    let e2 = length-shift f.field g.met.F.Field.laws c.args.auxiliary_shift c.args.auxiliary.now in
+    let e3 = length-scale f.field g.met.F.Field.laws c.args.factor (shift f.field c.args.auxiliary_shift c.args.auxiliary.now) in
+    let fits : length (scale f.field c.args.factor (shift f.field c.args.auxiliary_shift c.args.auxiliary.now))
+    ≤ length (shift f.field c.args.locator_shift c.args.locator.now) = omega (arith, e1, e2, e3) in
+    let e4 = length-plus f.field g.met.F.Field.laws _ _ fits in
+    ext_get_or f.field.zero _ _ (omega (arith, e1, e2, e3, e4)) (λ k hk. c.loop-i.invariant k (omega arith))

@@ -5,5 +5,5 @@ use Rattle.s2_bch.proofs.locate.discrepancy.Given as goal
 abbrev pub invariant-loop-j : goal.invariant-loop-j
 invariant-loop-j g l =
     let f = g.F.Field in
-    f.sum l.total (dot f.zero f.one f.sum f.product (drop l.j l.locator) (λ k. sequence_of f.zero l.sequence (l.at + (l.j + k))))
-    ≡ discrepancies f.zero f.one f.sum f.product l.locator (sequence_of f.zero l.sequence) l.at
+    f.field.sum l.total (dot f.field (drop l.j l.locator) (λ k. sequence_of f.field.zero l.sequence (l.at + (l.j + k))))
+    ≡ discrepancies f.field l.locator (sequence_of f.field.zero l.sequence) l.at

@@ -6,18 +6,18 @@ use Rattle.s2_bch.proofs.locate.shifted.Goals as goal
 pub returns-then-i-by : goal.returns-then-i-by
 returns-then-i-by g c =
     let f = g.F.Field in
-    c.zero.ensures ∙ sym (get_or-shift-below f.zero f.one f.sum f.product f.inverse g.met.F.Field.laws c.args.by c.args.polynomial.now c.args.i c.if-i-by.true)
+    c.zero.ensures ∙ sym (get_or-shift-below f.field g.met.F.Field.laws c.args.by c.args.polynomial.now c.args.i c.if-i-by.true)
 
 pub returns-then-j-polynomial : goal.returns-then-j-polynomial
 returns-then-j-polynomial g c =
     let f = g.F.Field in
     c.index-polynomial-j.is
-    ∙ get_or_default c.args.polynomial.now _ _ f.zero c.if-j-polynomial.true
-    ∙ sym (get_or-shift-above f.zero f.one f.sum f.product f.inverse g.met.F.Field.laws c.args.by c.args.polynomial.now c.args.i (c.args.i - c.args.by) (omega arith))
+    ∙ get_or_default c.args.polynomial.now _ _ f.field.zero c.if-j-polynomial.true
+    ∙ sym (get_or-shift-above f.field g.met.F.Field.laws c.args.by c.args.polynomial.now c.args.i (c.args.i - c.args.by) (omega arith))
 
 pub returns-else-j-polynomial : goal.returns-else-j-polynomial
 returns-else-j-polynomial g c =
     let f = g.F.Field in
     c.zero-else-j-polynomial.ensures
-    ∙ sym (get_or-shift-above f.zero f.one f.sum f.product f.inverse g.met.F.Field.laws c.args.by c.args.polynomial.now c.args.i (c.args.i - c.args.by) (omega arith)
-    ∙ get_or-past f.zero f.one f.sum f.product f.inverse g.met.F.Field.laws c.args.polynomial.now (c.args.i - c.args.by) (omega arith))
+    ∙ sym (get_or-shift-above f.field g.met.F.Field.laws c.args.by c.args.polynomial.now c.args.i (c.args.i - c.args.by) (omega arith)
+    ∙ get_or-past f.field g.met.F.Field.laws c.args.polynomial.now (c.args.i - c.args.by) (omega arith))

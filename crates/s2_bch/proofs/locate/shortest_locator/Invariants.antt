@@ -6,8 +6,8 @@ abbrev pub invariant-loop-n : goal.invariant-loop-n
 invariant-loop-n g l =
     let f = g.F.Field in
     record {
-      shortest : Shortest f.zero f.one f.sum f.product l.n l.degree (take (l.degree + 1) l.locator) (take l.auxiliary_size l.auxiliary) l.delta
-          (sequence_of f.zero l.sequence);
+      shortest : Shortest f.field l.n l.degree (take (l.degree + 1) l.locator) (take l.auxiliary_size l.auxiliary) l.delta
+          (sequence_of f.field.zero l.sequence);
       short : l.degree ≤ l.n;
       room : l.auxiliary_size + l.degree ≤ l.n + 1;
     }

@@ -8,7 +8,7 @@ use Rattle.s2_bch.proofs.search.flip_lanes.Goals as goal
 use Rattle.s2_bch.proofs.search.flip_lanes.Goals.{then-place-word+then-is_zero, else-place-word, else-place-word-via-then-place-word+else-is_zero, else-place-word-via-else-place-word}
 
 pub loop-lane-init : goal.loop-lane-init
-loop-lane-init g c = lanes_start g.F.Field.zero c.args.values.now c.args.stride c.args.step c.args.word.now
+loop-lane-init g c = lanes_start g.F.Field.field.zero c.args.values.now c.args.stride c.args.step c.args.word.now
 
 pub overflow_mul-place : goal.overflow_mul-place
 overflow_mul-place g c =
@@ -17,7 +17,7 @@ overflow_mul-place g c =
 
 pub loop-lane-preserved : goal.loop-lane-preserved
 loop-lane-preserved g c =
-    let nil = g.F.Field.zero in
+    let nil = g.F.Field.field.zero in
     let values = c.args.values.now in
     let old = c.args.word.now in
     let now = c.loop-lane.word in

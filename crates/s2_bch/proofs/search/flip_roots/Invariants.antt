@@ -10,7 +10,7 @@ invariant-loop-step g l =
     record {
       room : length l.terms ≡ 256;
       lanes : length l.values ≡ 16;
-      terms : AreTerms f.zero f.one f.sum f.product l.locator
-          (λ k. pow f.zero f.one f.sum f.product f.alpha (l.stride * k + l.step)) l.terms;
-      searched : AreSearched f.zero f.one f.sum f.product f.alpha l.locator l.stride l.fn.word l.step l.count l.word;
+      terms : AreTerms f.field l.locator
+          (λ k. pow f.field f.alpha (l.stride * k + l.step)) l.terms;
+      searched : AreSearched f.field f.alpha l.locator l.stride l.fn.word l.step l.count l.word;
     }

@@ -5,7 +5,7 @@ use Rattle.s2_field.proofs.polynomial.eval.Given as goal
 abbrev pub invariant-loop-i : goal.invariant-loop-i
 invariant-loop-i g l =
     let f = g.F.Field in
-    (l.i ≤ length l.polynomial) × (l.value ≡ eval f.zero f.one f.sum f.product (drop l.i l.polynomial) l.x)
+    (l.i ≤ length l.polynomial) × (l.value ≡ eval f.field (drop l.i l.polynomial) l.x)
 
 abbrev pub decreases-loop-i : goal.decreases-loop-i
 decreases-loop-i g l = l.i

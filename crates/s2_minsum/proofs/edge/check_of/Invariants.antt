@@ -1,4 +1,4 @@
-use Rattle.std.proofs.Common.{◌-◌, ◌+◌, ◌<◌, ◌≤◌}
+use Rattle.std.proofs.Common.{◌-◌, ◌<◌, ◌≤◌}
 use Rattle.s2_matrix.specs.Code.{code_of, first_edge}
 use Rattle.s2_minsum.proofs.edge.check_of.Given as goal
 

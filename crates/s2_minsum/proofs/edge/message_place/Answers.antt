@@ -1,7 +1,7 @@
-use Rattle.std.proofs.Common.{◌≡◌, ℕ, ◌+◌, ◌-◌, ◌*◌, ◌/◌, ◌%◌, ◌<◌, ◌≤◌, length, get_or, ap, sym, ◌∙◌, arith}
+use Rattle.std.proofs.Common.{◌≡◌, ◌+◌, ◌*◌, ◌/◌, ◌%◌, ◌≤◌, get_or, ap, ◌∙◌, arith}
 use Rattle.s2_mode.specs.Shape.{Shape}
 use Rattle.s2_matrix.specs.Code.{code_of, members}
-use Rattle.s2_minsum.specs.Layout.{back, place_at, entry_count, first_row}
+use Rattle.s2_minsum.specs.Layout.{back, place_at, first_row}
 use Rattle.s2_minsum.proofs.Places
 use Rattle.s2_minsum.proofs.MessagePlaces.{same_place, place_low, place_within}
 use Rattle.std.proofs.Math.Nat.{mul-le-mul_right}

@@ -1,4 +1,4 @@
-use Rattle.std.proofs.Common.{◌≡◌, ◌++◌, ◌∷◌, [], ◌+◌, ◌-◌, ◌*◌, map, take, take_all, length, get_or, ap, sym, ◌∙◌, arith}
+use Rattle.std.proofs.Common.{◌≡◌, ◌++◌, ◌+◌, ◌-◌, ◌*◌, map, take_all, get_or, ap, ◌∙◌, arith}
 use Rattle.s2_mode.specs.Shape.{Shape}
 use Rattle.s2_matrix.specs.Code.{code_of, members}
 use Rattle.s2_minsum.specs.Layout.{entry_of}

@@ -1,5 +1,5 @@
-use Rattle.std.proofs.Common.{◌≡◌, ℕ, ◌+◌, ◌<◌, ◌≤◌, length, get_or, [], ◌∷◌, length-append, ap, sym, ◌∙◌, arith}
-use Rattle.s2_mode.specs.Shape.{Shape, IsShape}
+use Rattle.std.proofs.Common.{◌≡◌, length, [], ◌∷◌, length-append, ap, ◌∙◌, arith}
+use Rattle.s2_mode.specs.Shape.{Shape}
 use Rattle.s2_minsum.specs.Layout.{first_row}
 use Rattle.s2_minsum.proofs.Made.{firsts_more, entries_length, entries_more}
 use Rattle.s2_minsum.proofs.Starts.{rows_few}

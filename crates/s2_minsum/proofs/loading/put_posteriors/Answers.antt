@@ -1,7 +1,7 @@
-use Rattle.std.proofs.Common.{◌≡◌, ℕ, ◌+◌, ◌-◌, ◌*◌, ◌<◌, ◌≤◌, length, get_or, pos, ap, sym, subst, ◌∙◌, inl, inr, arith}
+use Rattle.std.proofs.Common.{◌≡◌, ◌+◌, ◌-◌, ◌*◌, ◌<◌, ◌≤◌, length, get_or, pos, ap, sym, ◌∙◌, inl, inr, arith}
 use Rattle.std.proofs.lemmas.Bool.{cases_eq}
 use borrow.Rule.Slice.PartMut.{put_mid}
-use Rattle.s2_mode.specs.Shape.{Shape, code_bits}
+use Rattle.s2_mode.specs.Shape.{Shape}
 use Rattle.s2_minsum.specs.Words.{signed16, cell}
 use Rattle.s2_minsum.specs.Layout.{bit_of, step_of_row}
 use Rattle.s2_minsum.proofs.Places

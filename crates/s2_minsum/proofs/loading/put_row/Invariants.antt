@@ -1,4 +1,4 @@
-use Rattle.std.proofs.Common.{◌≡◌, ℕ, ◌+◌, ◌*◌, ◌<◌, length, get_or, pos}
+use Rattle.std.proofs.Common.{◌≡◌, ℕ, ◌+◌, ◌*◌, ◌<◌, get_or, pos}
 use Rattle.s2_minsum.specs.Words.{signed16}
 use Rattle.s2_minsum.proofs.loading.put_row.Given as goal
 

@@ -1,6 +1,6 @@
-use Rattle.std.proofs.Common.{◌≡◌, ◌+◌, ◌-◌, ◌*◌, ◌≤◌, get_or, length, arith}
+use Rattle.std.proofs.Common.{◌+◌, ◌-◌, ◌≤◌, get_or, arith}
 use Rattle.std.proofs.Math.Nat.{mul-le-mul_right}
-use Rattle.s2_minsum.specs.Layout.{entry_count, first_row}
+use Rattle.s2_minsum.specs.Layout.{first_row}
 use Rattle.s2_minsum.proofs.FirstRows.{first_row_more, first_row_before}
 use Rattle.s2_minsum.proofs.one_layer.find_span.Goals as goal
 

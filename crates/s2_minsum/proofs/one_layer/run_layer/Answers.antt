@@ -1,11 +1,8 @@
-use Rattle.std.proofs.Common.{◌≡◌, ℕ, ◌+◌, ◌-◌, ◌*◌, ◌<◌, ◌≤◌, length, get_or, take, drop, ap, sym, ◌∙◌, arith}
-use Rattle.std.proofs.lemmas.List.{get_or-take, get_or-drop, length-take-le, length-drop}
+use Rattle.std.proofs.Common.{◌≡◌, ◌*◌, length, ap, sym, ◌∙◌, arith}
+use Rattle.std.proofs.lemmas.List.{length-take-le}
 use Rattle.s2_mode.specs.Shape.{Shape}
-use Rattle.s2_rows.specs.Rows.{Rows}
-use Rattle.s2_matrix.specs.Code.{code_of, members}
-use Rattle.s2_minsum.specs.Words.{no_entry, entry_at, AreIn}
-use Rattle.s2_minsum.specs.Layout.{last_check, entry_count, first_row, lacked_row}
-use Rattle.s2_minsum.proofs.LayerCalls.{entries_part, rows_part, gives, are_in, length-entries_part, Gives}
+use Rattle.s2_minsum.specs.Layout.{entry_count, lacked_row}
+use Rattle.s2_minsum.proofs.LayerCalls.{entries_part, gives, are_in, length-entries_part}
 use Rattle.s2_minsum.proofs.one_layer.run_layer.Goals as goal
 
 pub slice_bounds-run-end-3 : goal.slice_bounds-run-end-3
@@ -14,7 +11,7 @@ slice_bounds-run-end-3 c =
     let g = c.group-n.ensures.is ∙ ap (λ (s : Shape). s.group) c.shape-shape.ensures.is in
     let count = c.find_span-span.ensures.count in
     let product : c.find_span-span.result.count * c.group-n.result ≡ entry_count rows c.args.r * rows.shape.group = λ i. count i * g i in
-    omega (arith, product, c.requires.room c.args.r c.requires.layer, g, c.split_at_mut-first.ensures.back_len, c.split_at_mut-second.ensures.back_len, c.split_at_mut-negatives.ensures.back_len)
+    omega (arith, product, c.requires.room c.args.r c.requires.layer, g, c.split_at_mut-first.ensures.back_len, c.split_at_mut-second.ensures.back_len, c.split_at_mut-signs.ensures.back_len)
 
 pub slice_bounds-run-end-4 : goal.slice_bounds-run-end-4
 slice_bounds-run-end-4 c =
@@ -22,7 +19,7 @@ slice_bounds-run-end-4 c =
     let g = c.group-n.ensures.is ∙ ap (λ (s : Shape). s.group) c.shape-shape.ensures.is in
     let count = c.find_span-span.ensures.count in
     let product : c.find_span-span.result.count * c.group-n.result ≡ entry_count rows c.args.r * rows.shape.group = λ i. count i * g i in
-    sym (length-take-le _ _ (omega (arith, product, c.requires.room c.args.r c.requires.layer, g, c.split_at_mut-first.ensures.back_len, c.split_at_mut-second.ensures.back_len, c.split_at_mut-negatives.ensures.back_len)))
+    sym (length-take-le _ _ (omega (arith, product, c.requires.room c.args.r c.requires.layer, g, c.split_at_mut-first.ensures.back_len, c.split_at_mut-second.ensures.back_len, c.split_at_mut-signs.ensures.back_len)))
 
 pub run-requires-clause-same : goal.run-requires-clause-same
 run-requires-clause-same c =
@@ -31,7 +28,7 @@ run-requires-clause-same c =
     let count = c.find_span-span.ensures.count in
     let product : c.find_span-span.result.count * c.group-n.result ≡ entry_count rows c.args.r * rows.shape.group = λ i. count i * g i in
     let long = length-entries_part rows c.args.entries.now c.args.firsts.now c.requires.layers c.args.r c.requires.layer (length c.args.posteriors.now) c.requires.numbers.posteriors_long c.find_span-span.result.start c.find_span-span.result.count (sym c.find_span-span.ensures.start) (sym count) in
-    length-take-le _ _ (omega (arith, product, c.requires.room c.args.r c.requires.layer, g, c.split_at_mut-first.ensures.back_len, c.split_at_mut-second.ensures.back_len, c.split_at_mut-negatives.ensures.back_len))
+    length-take-le _ _ (omega (arith, product, c.requires.room c.args.r c.requires.layer, g, c.split_at_mut-first.ensures.back_len, c.split_at_mut-second.ensures.back_len, c.split_at_mut-signs.ensures.back_len))
     ∙ ap (λ x. x * c.group-n.result) (sym long)
 
 pub run-requires-clause-entries : goal.run-requires-clause-entries

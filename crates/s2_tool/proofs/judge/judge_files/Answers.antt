@@ -8,6 +8,6 @@ pub returns-clause-answers : goal.returns-clause-answers
 returns-clause-answers g c =
     let rows : Rows = c.in_ok-rows.rows in
     let soft : List ℤ = c.in_ok-soft.soft.items in
-    let P : Rows → List ℤ → Type 0 = λ r s. Judges r s c.in-Ok-judge_soft.printed.exit c.in-Ok-judge_soft.printed.text.items in
+    let P : Rows → List ℤ → Type 0 = λ r s. Judges c.args.passes r s c.in-Ok-judge_soft.printed.exit c.in-Ok-judge_soft.printed.text.items in
     let judges : P rows soft = subst (λ r. P r soft) c.in-Ok.ensures (subst (λ v. P c.in-Ok.matrix v) c.deref.ensures.value c.in-Ok-judge_soft.ensures) in
     ((rows, soft), are_inputs c.args.shape _ _ rows soft c.in_ok-rows.ensures.rows c.in_ok-soft.ensures.values, judges)

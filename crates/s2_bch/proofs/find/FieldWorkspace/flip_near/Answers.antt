@@ -2,7 +2,8 @@ use Rattle.std.proofs.Common.{arith, ◌≡◌, ◌+◌, ◌++◌, ℕ, List, le
 use Rattle.std.proofs.Math.Seq.{take-append_seam}
 use Rattle.s2_bch.specs.Values.{HasRoots}
 use Rattle.s2_bch.specs.Flips.{FlipsRoots}
-use Rattle.s2_bch.proofs.CodeFacts.{not_nil, powers_differ, distance_self}
+use Rattle.s2_bch.proofs.CodeFacts.{not_nil, powers_differ}
+use Rattle.s2_bch.proofs.Distances.{distance_self}
 use Rattle.s2_bch.proofs.Decoder.{only_word, few_places}
 use Rattle.s2_bch.proofs.find.FieldWorkspace.flip_near.Goals as goal
 
@@ -26,15 +27,15 @@ returns-then-degree-self-clause-only g c G v some roots m e near =
     let degree = c.shortest_locator-degree.result in
     let long : length sequence ≡ t + t = omega (arith, ap length is, c.put_syndromes.auto.syndromes, c.self.invariant.syndromes_fit) in
     let few : degree ≤ t =
-    few_places f.zero f.one f.sum f.product f.inverse laws f.alpha f.ORDER t
+    few_places f.field laws f.alpha f.ORDER t
     (length sequence) degree G c.args.word.now v
     sequence (take (degree + 1) c.shortest_locator-degree.new.locator)
     c.shortest_locator-degree.ensures.0 c.shortest_locator-degree.ensures.1
-    (not_nil f.zero f.one f.sum f.product f.inverse laws f.alpha f.ORDER g.met.F.Field.order g.met.F.Field.numbered.some)
-    (powers_differ f.zero f.one f.sum f.product f.inverse laws f.alpha f.ORDER g.met.F.Field.order g.met.F.Field.numbered.some)
-    some (subst (λ t. HasRoots f.zero f.one f.sum f.product f.alpha (t + t) G) (sym c.self.view_is) roots) long
+    (not_nil f.field laws f.alpha f.ORDER g.met.F.Field.order g.met.F.Field.numbered.some)
+    (powers_differ f.field laws f.alpha f.ORDER g.met.F.Field.order g.met.F.Field.numbered.some)
+    some (subst (λ t. HasRoots f.field f.alpha (t + t) G) (sym c.self.view_is) roots) long
     (λ j hj.
-    ap (λ s. slice_index_or s j f.zero) is ∙ c.put_syndromes.ensures j (omega (arith, long, ap length is))
+    ap (λ s. slice_index_or s j f.field.zero) is ∙ c.put_syndromes.ensures j (omega (arith, long, ap length is))
     ∙ c.requires.rest.same j (omega (arith, long, c.self.view_is)))
     c.shortest_locator-degree.ensures.2
     m e (omega (arith, c.requires.short)) (omega (arith, near, c.self.view_is)) in
@@ -57,16 +58,16 @@ returns-clause-only g c G v some roots m e near =
     let is : sequence ≡ c.put_syndromes.new.syndromes = c.deref.ensures.value ∙ whole _ c.put_syndromes.new.syndromes _ (omega (arith, c.deref.ensures.len, c.put_syndromes.auto.syndromes)) in
     let degree = c.shortest_locator-degree.result in
     let long : length sequence ≡ t + t = omega (arith, ap length is, c.put_syndromes.auto.syndromes, c.self.invariant.syndromes_fit) in
-    only_word f.zero f.one f.sum f.product f.inverse laws f.alpha f.ORDER t
+    only_word f.field laws f.alpha f.ORDER t
     (length sequence) degree G c.args.word.now v c.flip_roots.new.word
     sequence (take (degree + 1) c.shortest_locator-degree.new.locator)
     c.shortest_locator-degree.ensures.0 c.shortest_locator-degree.ensures.1
-    (not_nil f.zero f.one f.sum f.product f.inverse laws f.alpha f.ORDER g.met.F.Field.order g.met.F.Field.numbered.some)
-    (powers_differ f.zero f.one f.sum f.product f.inverse laws f.alpha f.ORDER g.met.F.Field.order g.met.F.Field.numbered.some)
-    some (subst (λ t. HasRoots f.zero f.one f.sum f.product f.alpha (t + t) G) (sym c.self.view_is) roots) long
+    (not_nil f.field laws f.alpha f.ORDER g.met.F.Field.order g.met.F.Field.numbered.some)
+    (powers_differ f.field laws f.alpha f.ORDER g.met.F.Field.order g.met.F.Field.numbered.some)
+    some (subst (λ t. HasRoots f.field f.alpha (t + t) G) (sym c.self.view_is) roots) long
     (λ j hj.
-    ap (λ s. slice_index_or s j f.zero) is ∙ c.put_syndromes.ensures j (omega (arith, long, ap length is))
+    ap (λ s. slice_index_or s j f.field.zero) is ∙ c.put_syndromes.ensures j (omega (arith, long, ap length is))
     ∙ c.requires.rest.same j (omega (arith, long, c.self.view_is)))
     c.shortest_locator-degree.ensures.2
-    (subst (λ l. FlipsRoots f.zero f.one f.sum f.product f.alpha (take (degree + 1) l) c.args.word.now c.flip_roots.new.word) (c.deref-2.ensures.value ∙ whole _ c.shortest_locator-degree.new.locator _ (omega (arith, c.deref-2.ensures.len, c.shortest_locator-degree.auto.locator))) c.flip_roots.ensures.flips)
+    (subst (λ l. FlipsRoots f.field f.alpha (take (degree + 1) l) c.args.word.now c.flip_roots.new.word) (c.deref-2.ensures.value ∙ whole _ c.shortest_locator-degree.new.locator _ (omega (arith, c.deref-2.ensures.len, c.shortest_locator-degree.auto.locator))) c.flip_roots.ensures.flips)
     m e (omega (arith, c.requires.short)) (omega (arith, near, c.self.view_is))

@@ -4,7 +4,6 @@ use Rattle.std.specs.List.{flat_map}
 use Rattle.std.specs.Io.KnownBytes.{Appends}
 use Rattle.s2_file.specs.Field.{bytes_of_bits}
 use Rattle.s2_file.specs.Format.{header_bytes, soft, share}
-use Rattle.s2_file.specs.declared.header.Header.{Header}
 use Rattle.s2_file.specs.declared.version.Version.TheVariants as versions
 use Rattle.s2_file.proofs.Pages.{all_out}
 use Rattle.s2_check.specs.Views.{View}

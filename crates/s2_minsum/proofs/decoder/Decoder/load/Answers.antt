@@ -1,4 +1,4 @@
-use Rattle.std.proofs.Common.{◌≡◌, ℕ, vec_len, get_or, length, pos, ap, sym, subst, ◌∙◌, arith}
+use Rattle.std.proofs.Common.{ℕ, vec_len, get_or, pos, ap, sym, subst, ◌∙◌, arith}
 use Rattle.s2_minsum.specs.Plain.{most_soft, start}
 use Rattle.s2_minsum.specs.Layout.{bit_of}
 use Rattle.s2_minsum.specs.Decoding.{AreWithin}

@@ -1,14 +1,14 @@
-use Rattle.std.proofs.Common.{rules, ◌≡◌, ℕ, ◌+◌, ◌*◌, ◌/◌, ◌%◌, ◌<◌, cond, true, length, get_or, pos, SFits, w16, ap, sym, ◌∙◌, arith}
+use Rattle.std.proofs.Common.{rules, ◌≡◌, ◌+◌, ◌*◌, ◌/◌, ◌%◌, ◌<◌, cond, true, length, get_or, pos, SFits, w16, ap, sym, ◌∙◌, arith}
 use Rattle.std.proofs.lemmas.Int.{to_z-of_z}
 use Rattle.std.proofs.lemmas.List.{get_or_default}
 use Rattle.std.proofs.lemmas.List.Elements.{filter_passes}
-use Rattle.s2_mode.specs.Shape.{Shape, code_bits}
+use Rattle.s2_mode.specs.Shape.{code_bits}
 use Rattle.s2_matrix.specs.Total.{upto}
 use Rattle.s2_matrix.specs.Code.{code_of, members, is_member}
 use Rattle.s2_matrix.proofs.Members.{members_below}
 use Rattle.s2_minsum.specs.Words.{signed16}
 use Rattle.s2_minsum.specs.Layout.{first_row, place_at, kept_of, message_of}
-use Rattle.s2_minsum.specs.Decoding.{Decoding, decoded}
+use Rattle.s2_minsum.specs.Decoding.{Decoding}
 use Rattle.s2_minsum.proofs.StepStates.{is_edge-true}
 use Rattle.s2_minsum.proofs.decoder.Decoder.message_at.Goals as goal
 

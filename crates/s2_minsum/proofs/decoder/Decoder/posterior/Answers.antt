@@ -1,10 +1,10 @@
-use Rattle.std.proofs.Common.{rules, ◌≡◌, ◌+◌, ◌*◌, ◌<◌, length, get_or, SFits, w16, ap, sym, ◌∙◌, arith}
+use Rattle.std.proofs.Common.{rules, ◌≡◌, ◌+◌, ◌*◌, ◌<◌, length, get_or, SFits, w16, ap, ◌∙◌, arith}
 use Rattle.std.proofs.lemmas.Int.{to_z-of_z}
 use Rattle.std.proofs.lemmas.List.{get_or_default}
 use Rattle.s2_mode.specs.Shape.{Shape, code_bits}
 use Rattle.s2_matrix.specs.Code.{code_of}
 use Rattle.s2_minsum.specs.Plain.{posterior}
-use Rattle.s2_minsum.specs.Words.{signed16, cell}
+use Rattle.s2_minsum.specs.Words.{signed16}
 use Rattle.s2_minsum.specs.Layout.{row_of_bit, lane_of_bit, kept_of, state_of}
 use Rattle.s2_minsum.specs.Decoding.{Decoding, decoded}
 use Rattle.s2_minsum.proofs.Places

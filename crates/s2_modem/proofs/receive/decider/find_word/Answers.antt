@@ -1,4 +1,4 @@
-use Rattle.std.proofs.Common.{◌≡◌, ◌≤◌, ℕ, List, Bool, length, take, sym, ap, subst, ◌∙◌, arith}
+use Rattle.std.proofs.Common.{◌≡◌, ◌≤◌, List, Bool, length, take, sym, ap, subst, ◌∙◌, arith}
 use Rattle.s2_mode.specs.Mode.{k_of}
 use Rattle.s2_modem.specs.Reports.{received_word}
 use Rattle.s2_modem.specs.Listening.{FindsWord}

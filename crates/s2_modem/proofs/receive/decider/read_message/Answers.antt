@@ -1,4 +1,4 @@
-use Rattle.std.proofs.Common.{◌≡◌, ◌≤◌, ◌+◌, ◌*◌, ◌/◌, ℕ, List, Bool, true, length, take, sym, ap, subst, ◌∙◌, arith}
+use Rattle.std.proofs.Common.{◌≡◌, ◌/◌, true, length, take, sym, ap, ◌∙◌, arith}
 use Rattle.s2_mode.specs.Mode.{kbch_of}
 use Rattle.s2_scramble.specs.Baseband.{scrambled}
 use Rattle.s2_bbframe.specs.Headers.{reading, has_valid_lengths}

@@ -1,4 +1,4 @@
-use Rattle.std.proofs.Common.{length, List, Bool, sym, ap, ◌∙◌, arith, ℤ, ◌≢◌, IfSome, ℕ, subst, take, drop, ◌++◌}
+use Rattle.std.proofs.Common.{length, List, Bool, sym, ap, ◌∙◌, arith, ℤ, ◌≢◌, IfSome, subst, take, drop, ◌++◌}
 use Rattle.s2_rows.specs.Rows.{Rows}
 use Rattle.s2_matrix.specs.Code.{code_of}
 use Rattle.s2_check.specs.Split.{split_of}

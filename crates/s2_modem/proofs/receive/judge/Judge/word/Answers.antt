@@ -1,4 +1,4 @@
-use Rattle.std.proofs.Common.{◌≡◌, ap, ◌∙◌}
+use Rattle.std.proofs.Common.{ap, ◌∙◌}
 use Rattle.s2_matrix.specs.Code.{code_of}
 use Rattle.s2_modem.specs.Judging.{Judging}
 use Rattle.s2_modem.proofs.receive.judge.Judge.word.Goals as goal

@@ -1,4 +1,4 @@
-use Rattle.std.proofs.Common.{◌≡◌, sym, ap, ◌∙◌}
+use Rattle.std.proofs.Common.{sym, ap, ◌∙◌}
 use Rattle.s2_modem.proofs.HeaderWindows.{fed, is_coded}
 use Rattle.s2_modem.proofs.receive.search.HeaderSearchSearch.feed.Goals as goal
 

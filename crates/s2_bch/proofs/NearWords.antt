@@ -1,0 +1,30 @@
+-- The search for the nearest word in one of the two fields, on what the division leaves.
+use Rattle.std.specs.Prelude.{ℕ, ◌≡◌, ◌+◌, ◌<◌, ◌≤◌, Bool, true, ◌∷◌, List, length, drop}
+use Rattle.std.proofs.Common.{sym, subst, arith}
+use Rattle.s2_field.specs.Operations.{Operations}
+use Rattle.s2_field.specs.Laws.{FieldLaws}
+use Rattle.s2_mode.specs.Mode.{Mode, IsMode, HasCodeSizes, k_of, kbch_of, t_of}
+use Rattle.s2_bch.specs.Codes.{IsBchWord}
+use Rattle.s2_bch.specs.Generators.{generator_of}
+use Rattle.s2_bch.specs.Registers.{rest_of}
+use Rattle.s2_bch.specs.Values.{HasRoots, HaveSameValues}
+use Rattle.s2_bch.specs.Words.{distance, IsMultiple}
+use Rattle.s2_bch.proofs.GeneratorFacts.{IsGeneratorIn, generator_facts}
+use Rattle.s2_bch.proofs.RestFacts.{values_of_rest}
+
+module _ {F : Type 0} (field : Operations F) (laws : FieldLaws field) (a : F) (degree : ℕ) (m : Mode) (is : IsMode m) (sizes : HasCodeSizes m)
+    (made : IsGeneratorIn field a degree (t_of m) (generator_of m)) (t : ℕ) (same : t ≡ t_of m) where
+  -- the rest has the word's values
+  pub rest_has_values : (word rest : List Bool) → length word ≡ k_of m → rest ≡ rest_of (drop 1 (generator_of m)) (kbch_of m) word → HaveSameValues field a (t + t) rest word
+  rest_has_values word rest size left =
+      let tail : List Bool = drop 1 (generator_of m) in
+      values_of_rest tail (kbch_of m) word (let g = generator_facts m is sizes in omega (arith, g.size, size)) field laws a _ rest left
+      (subst (λ n. HasRoots field a (n + n) (true ∷ tail)) (sym same) (subst (HasRoots field a (t_of m + t_of m)) made.begins made.roots))
+
+  -- the only word in reach is a word of the mode's code
+  pub only_in_reach : (old new : List Bool) → length old ≡ k_of m
+      → ((g v : List Bool) → 0 < length g → HasRoots field a (t + t) g → IsMultiple g v → length v ≡ length old → distance old v ≤ t → new ≡ v)
+      → (v : List Bool) → IsBchWord m v → distance old v ≤ t_of m → new ≡ v
+  only_in_reach old new size only v word near =
+      only (generator_of m) v (omega (arith, made.size)) (subst (λ t. HasRoots field a (t + t) (generator_of m)) (sym same) made.roots)
+      word.multiple (omega (arith, word.size, size)) (omega (arith, same, near))

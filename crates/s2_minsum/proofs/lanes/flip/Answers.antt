@@ -1,0 +1,6 @@
+use Rattle.std.proofs.Common.{bit_xor}
+use Rattle.s2_minsum.proofs.Unsigned.{operator}
+use Rattle.s2_minsum.proofs.lanes.flip.Goals as goal
+
+pub returns : goal.returns
+returns c = operator bit_xor c.args.a c.args.b c.fits-a.0 c.fits-b.0

@@ -1,0 +1,58 @@
+//! A decoder, where memory may be refused once: then it says so, and the same call again answers.
+ghost use Rattle.std.specs.Prelude.{◌≡◌, IfOk, length};
+ghost use Rattle.s2_minsum.specs.Plain.{most_soft};
+ghost use Rattle.s2_minsum.specs.Decoding.{AreWithin};
+
+use super::tests::{ONE_WRONG, ONE_WRONG_AFTER, soft_values};
+use crate::Decoder;
+use s2_matrix::Matrix;
+use s2_mode::Shape;
+use s2_rows::read_rows;
+use std::alloc::{AllocError, Global};
+use std::test::Fail;
+
+fn matrix(alloc: Global) -> Result<Matrix, Fail> {
+    let shape = Shape::new(4, 2, 3).ok_or("no shape")?;
+    let rows = match read_rows(alloc, b"0 4 8\n0 1 2\n", shape) {
+        Err(_) => read_rows(alloc, b"0 4 8\n0 1 2\n", shape)?,
+        Ok(rows) => rows,
+    };
+    match Matrix::build(alloc, &rows) {
+        Err(_) => Ok(Matrix::build(alloc, &rows)?),
+        Ok(matrix) => Ok(matrix),
+    }
+}
+
+fn decoder<'a>(alloc: Global, matrix: &'a Matrix) -> Result<Decoder<'a>, AllocError>
+    ensures { IfOk result (λ d. d.rows ≡ matrix.now) }
+{
+    match Decoder::new(alloc, matrix) {
+        Err(AllocError) => Decoder::new(alloc, matrix),
+        made => made,
+    }
+}
+
+fn soft(alloc: Global, values: &[i16]) -> Result<Vec<i16>, AllocError>
+    ensures long { IfOk result (λ v. length v.items ≡ length values.now) }
+    ensures small { IfOk result (λ v. AreWithin most_soft v.items) }
+{
+    match soft_values(alloc, values) {
+        Err(AllocError) => soft_values(alloc, values),
+        made => made,
+    }
+}
+
+#[test]
+fn asks_again_where_memory_is_refused(rt: HostRuntime) -> Result<(), Fail> {
+    let matrix = matrix(rt.alloc())?;
+    let mut decoder = decoder(rt.alloc(), &matrix)?;
+    assert!(rt; matrix.bits() == 20 && matrix.shape().q() == 3);
+    let soft = soft(rt.alloc(), &ONE_WRONG)?;
+    assert_eq!(rt; soft.len(), matrix.bits());
+    decoder.load(&soft);
+    decoder.layer(0);
+    for bit in 0..20usize {
+        assert_eq!(rt; decoder.posterior(bit), ONE_WRONG_AFTER[bit]);
+    }
+    Ok(())
+}

@@ -1,0 +1,30 @@
+//! A scrambler, where memory may be refused once: then it says so, and the same call again answers.
+use crate::{Gold, GoldFault};
+use s2_mode::Symbol;
+use std::alloc::Global;
+use std::test::Fail;
+
+fn gold(alloc: Global, number: u32) -> Result<Gold, GoldFault> {
+    match Gold::new(alloc, number) {
+        Err(GoldFault::NoMemory) => Gold::new(alloc, number),
+        made => made,
+    }
+}
+
+#[test]
+fn asks_again_where_memory_is_refused(rt: HostRuntime) -> Result<(), Fail> {
+    let gold = gold(rt.alloc(), 0)?;
+    let wanted = [0u8, 1, 1, 1, 1, 3, 1, 3, 1, 3, 1, 3];
+    for i in 0..12 {
+        assert_eq!(rt; gold.quarter(i), wanted[i]);
+    }
+    let sent = Symbol { i: 700, q: 700 };
+    assert_eq!(rt; gold.turn(5, sent), Symbol { i: 700, q: -700 });
+    Ok(())
+}
+
+#[test]
+fn refuses_a_number_before_it_asks_for_memory(rt: HostRuntime) {
+    let refused = gold(rt.alloc(), 262142).err();
+    assert_eq!(rt; refused, Some(GoldFault::BadNumber));
+}

@@ -1,0 +1,10 @@
+pub mod Unsigned
+pub mod Pieces
+pub mod Sames
+pub mod Few
+pub mod Layers
+pub mod Shown
+pub mod Spreads
+pub mod MadeMoves
+pub mod Makes
+pub mod SettledViews

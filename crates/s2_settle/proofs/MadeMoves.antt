@@ -1,0 +1,94 @@
+-- The moves that are made, check by check.
+use Rattle.std.proofs.Common.{◌≡◌, ℕ, ◌+◌, ◌/◌, ◌%◌, ◌<◌, ◌≤◌, ◌==◌, ◌||◌, nat_lt, min, true, cond, List, length, get_or, replicate, ap, sym, refl, ◌∙◌, inl, inr, arith, eq-eqb, ne_eqb, lt-ltb, le-ltb}
+use Rattle.std.proofs.lemmas.Bool.{cases_lt, cases_eq}
+use Rattle.std.proofs.lemmas.List.{get_or_past, get_or-replicate, length-replicate}
+use Rattle.s2_mode.specs.Shape.{information_bits}
+use Rattle.s2_rows.specs.Rows.{Rows}
+use Rattle.s2_matrix.specs.Code.{code_of, members}
+use Rattle.s2_matrix.proofs.Joins.{parity_has}
+use Rattle.s2_matrix.proofs.Members.{place_in_members}
+use Rattle.s2_check.specs.Moves.{no_move}
+use Rattle.s2_check.specs.declared.step.Move.{Move}
+use Rattle.s2_settle.specs.Settled.{shown, place_of_check, place_in, move_to, move_of, moves_of}
+use Rattle.s2_settle.specs.Holding.{AreMoves}
+use Rattle.s2_settle.proofs.Layers.{upto_at, length-upto_map}
+
+-- each check has a member: its own parity bit
+some_member : (r : Rows) (j : ℕ) → j < (code_of r).checks → 1 ≤ length (members (code_of r) j)
+some_member r j low =
+    let own = information_bits r.shape + j in
+    let within : own < (code_of r).bits = omega arith in
+    let has : (code_of r).has j own ≡ true = parity_has r j j ∙ ap (λ b. b || (j + 1 == j)) (eq-eqb j j refl) in
+    omega (arith, place_in_members (code_of r) own j within has)
+
+-- a move that is made, or none
+record IsMove (members amount : ℕ) (own : Move) : Type 0 where
+  place : own.place < members
+  most : own.amount ≤ amount
+  unmoved : own.amount ≡ 0 → own.place ≡ 0
+
+none_is : (members amount : ℕ) → 1 ≤ members → (own : Move) → own ≡ no_move → IsMove members amount own
+none_is members amount some own is = record {
+  place = omega (arith, ap (λ (m : Move). m.place) is);
+  most = omega (arith, ap (λ (m : Move). m.amount) is);
+  unmoved = λ _. ap (λ (m : Move). m.place) is;
+}
+
+move_is : (xs : List ℕ) (bit amount : ℕ) → 1 ≤ length xs → IsMove (length xs) amount (move_to xs bit amount)
+move_is xs bit amount some =
+    let place = place_in xs bit in
+    let made : Move = record { place = place; amount = amount } in
+    elim (cases_eq amount 0) [
+      | inl none ↦ none_is (length xs) amount some (move_to xs bit amount) (ap (λ b. cond b no_move (cond (nat_lt place (length xs)) made no_move)) (eq-eqb amount 0 none))
+      | inr moved ↦ (
+          let first : move_to xs bit amount ≡ cond (nat_lt place (length xs)) made no_move = ap (λ b. cond b no_move (cond (nat_lt place (length xs)) made no_move)) (ne_eqb amount 0 moved) in
+          elim (cases_lt place (length xs)) [
+            | inr out ↦ none_is (length xs) amount some (move_to xs bit amount) (first ∙ ap (λ b. cond b made no_move) (le-ltb place (length xs) out))
+            | inl inside ↦ (
+                let is : move_to xs bit amount ≡ made = first ∙ ap (λ b. cond b made no_move) (lt-ltb place (length xs) inside) in
+                record {
+                  place = omega (arith, ap (λ (m : Move). m.place) is);
+                  most = omega (arith, ap (λ (m : Move). m.amount) is);
+                  unmoved = λ none. absurd (moved (sym (ap (λ (m : Move). m.amount) is) ∙ none));
+                }
+                )
+          ]
+          )
+    ]
+
+-- a list of moves, each made or none
+are_moves : (rows : Rows) (ms : List Move) → length ms ≡ (code_of rows).checks → ((j : ℕ) → j < (code_of rows).checks → IsMove (length (members (code_of rows) j)) 1048576 (get_or ms j no_move)) → AreMoves (code_of rows) ms
+are_moves rows ms long each = record {
+  long = long;
+  targets = λ j low. (each j low).place;
+  fit = λ j. elim (cases_lt j (length ms)) [
+    | inl low ↦ (let most = (each j (omega (arith, long))).most in omega (arith, most))
+    | inr past ↦ omega (arith, ap (λ (m : Move). m.amount) (get_or_past ms j no_move past))
+  ];
+  unmoved = λ j none. elim (cases_lt j (length ms)) [
+    | inl low ↦ (each j (omega (arith, long))).unmoved none
+    | inr past ↦ ap (λ (m : Move). m.place) (get_or_past ms j no_move past)
+  ];
+}
+
+pub moves_are : (rows : Rows) (targets amounts : List ℕ) (ms : List Move) → ms ≡ moves_of rows targets amounts → AreMoves (code_of rows) ms
+moves_are rows targets amounts ms is =
+    let checks = (code_of rows).checks in
+    let f = move_of rows targets amounts in
+    are_moves rows ms (ap length is ∙ length-upto_map f checks) (λ j low. (
+    let at : get_or ms j no_move ≡ f j = ap (λ xs. get_or xs j no_move) is ∙ upto_at no_move f checks j low in
+    let bit = shown rows (j % rows.shape.q) (j / rows.shape.q) (get_or targets (place_of_check rows.shape j) 0) in
+    let amount = min (get_or amounts (place_of_check rows.shape j) 0) 1048576 in
+    let one = move_is (members (code_of rows) j) bit amount (some_member rows j low) in
+    record {
+      place = omega (arith, ap (λ (m : Move). m.place) at, one.place);
+      most = omega (arith, ap (λ (m : Move). m.amount) at, one.most);
+      unmoved = λ none. ap (λ (m : Move). m.place) at ∙ one.unmoved (sym (ap (λ (m : Move). m.amount) at) ∙ none);
+    }
+    ))
+
+-- lists that move nothing
+pub none_are : (rows : Rows) (n : ℕ) (ms : List Move) → n ≡ (code_of rows).checks → ms ≡ replicate n no_move → AreMoves (code_of rows) ms
+none_are rows n ms long is =
+    let all = ap length is ∙ length-replicate n no_move in
+    are_moves rows ms (all ∙ long) (λ j low. none_is (length (members (code_of rows) j)) 1048576 (some_member rows j low) (get_or ms j no_move) (ap (λ xs. get_or xs j no_move) is ∙ get_or-replicate n j no_move no_move (omega (arith, long))))

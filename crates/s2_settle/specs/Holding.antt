@@ -1,0 +1,35 @@
+-- What a settler holds.
+use Rattle.std.specs.Prelude.{◌≡◌, ℕ, ◌+◌, ◌*◌, ◌<◌, ◌≤◌, Bool, List, length, get_or, ℤ}
+use Rattle.s2_rows.specs.Rows.{Rows}
+use Rattle.s2_matrix.specs.Code.{Code, code_of}
+use Rattle.s2_check.specs.Moves.{no_move, AreTargets}
+use Rattle.s2_check.specs.Views.{View}
+use Rattle.s2_check.specs.declared.step.Move.{Move}
+use Rattle.s2_minsum.specs.declared.rows.Entry.{Entry}
+use Rattle.s2_minsum.specs.Layout.{entry_count}
+use Rattle.s2_minsum.specs.Decoding.{AreLayers}
+use Rattle.s2_settle.specs.Layer.{AreLong}
+use Rattle.s2_settle.specs.Settled.{moved_view}
+
+-- the rows of a settler's matrix, and the moves that it made last, check by check
+pub record Settling : Type 0 where
+  pub rows : Rows
+  pub moves : List Move
+
+-- the certificate of these values and this word by the moves that were made last
+abbrev pub view_by : Settling → List ℤ → List Bool → View
+view_by s soft word = moved_view s.rows soft word s.moves
+
+-- a move for each check, to one of its members, of less than 2^31, to place 0 where nothing is moved
+pub record AreMoves (code : Code) (ms : List Move) : Type 0 where
+  pub long : length ms ≡ code.checks
+  pub targets : AreTargets code ms
+  pub fit : (j : ℕ) → (get_or ms j no_move).amount < 2147483648
+  pub unmoved : (j : ℕ) → (get_or ms j no_move).amount ≡ 0 → (get_or ms j no_move).place ≡ 0
+
+-- what holds of a settler's lists
+pub record IsSettler (rows : Rows) (entries : List Entry) (firsts rests targets amounts : List ℕ) (ms : List Move) (scratch : ℕ) : Type 0 where
+  pub layers : AreLayers rows entries firsts
+  pub long : AreLong rows rests targets amounts
+  pub room : (r : ℕ) → r < rows.shape.q → (entry_count rows r + 3) * rows.shape.group ≤ scratch
+  pub moves : AreMoves (code_of rows) ms

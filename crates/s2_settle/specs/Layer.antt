@@ -1,0 +1,66 @@
+-- One layer: rests in rows, and for each check of each layer the entry of its target and its amount.
+use Rattle.std.specs.Prelude.{◌≡◌, ℕ, ◌+◌, ◌*◌, ◌/◌, ◌%◌, ◌==◌, if◌then◌else◌, List, map, get_or, length}
+use Rattle.s2_mode.specs.Shape.{code_bits}
+use Rattle.s2_rows.specs.Rows.{Rows}
+use Rattle.s2_matrix.specs.Total.{upto}
+use Rattle.s2_matrix.specs.Code.{code_of, members}
+use Rattle.s2_minsum.specs.declared.rows.Entry.{Entry}
+use Rattle.s2_minsum.specs.Words.{entry_at, is_lacking}
+use Rattle.s2_minsum.specs.Layout.{entry_of, last_check, lacked_row}
+use Rattle.s2_settle.specs.Words.{change, changed, gap, received}
+use Rattle.s2_settle.specs.Nodes.{first_of, second_of, least_at}
+
+-- the rest of each place, and of each check, layer by layer, the entry of its target and its amount
+pub record Held : Type 0 where
+  pub rests : List ℕ
+  pub targets : List ℕ
+  pub amounts : List ℕ
+
+abbrev pub held : List ℕ → List ℕ → List ℕ → Held
+held rests targets amounts =
+    record { rests = rests; targets = targets; amounts = amounts }
+
+-- the entries of a layer
+abbrev pub entries_of : Rows → ℕ → List Entry
+entries_of rows r = map (entry_of rows.shape) (members (code_of rows) (last_check rows.shape r))
+
+-- layer r of a list
+abbrev pub of_layer : ℕ → ℕ → List ℕ → List ℕ
+of_layer n r xs = map (λ c. get_or xs (r * n + c) 0) (upto n)
+
+-- a list with another layer r
+abbrev pub with_layer : ℕ → ℕ → List ℕ → (ℕ → ℕ) → List ℕ
+with_layer n r xs f =
+    map (λ k. if k / n == r then f (k % n) else get_or xs k 0) (upto (length xs))
+
+-- what the members of layer r give to the check in lane c
+abbrev pub gifts : Rows → ℕ → Held → ℕ → ℕ → ℕ
+gifts rows r h c e =
+    received rows.shape.group (entries_of rows r) (lacked_row rows.shape r) h.rests (of_layer rows.shape.group r h.targets) (of_layer rows.shape.group r h.amounts) e c
+
+-- to which entry the check in lane c moves, and how much
+abbrev pub new_target : Rows → ℕ → Held → ℕ → ℕ
+new_target rows r h c = least_at (gifts rows r h c) (length (entries_of rows r))
+
+abbrev pub new_amount : Rows → ℕ → ℕ → Held → ℕ → ℕ
+new_amount rows reserve r h c =
+    gap reserve (first_of (gifts rows r h c) (length (entries_of rows r))) (second_of (gifts rows r h c) (length (entries_of rows r)))
+
+-- by how much the rest of its member at entry e changes
+abbrev pub change_in : Rows → ℕ → ℕ → Held → ℕ → ℕ → ℕ
+change_in rows reserve r h e c =
+    if is_lacking (lacked_row rows.shape r) (entry_at (entries_of rows r) e) c then 0 else change (get_or h.targets (r * rows.shape.group + c) 0) (get_or h.amounts (r * rows.shape.group + c) 0) (new_target rows r h c) (new_amount rows reserve r h c) e
+
+-- each check of layer r takes its move back and moves anew, all by the rests before the layer
+abbrev pub layer : Rows → ℕ → Held → ℕ → Held
+layer rows reserve h r = record {
+  rests = map (changed rows.shape.group (entries_of rows r) h.rests (change_in rows reserve r h) (length (entries_of rows r))) (upto (length h.rests));
+  targets = with_layer rows.shape.group r h.targets (new_target rows r h);
+  amounts = with_layer rows.shape.group r h.amounts (new_amount rows reserve r h);
+}
+
+-- the sizes of the lists
+pub record AreLong (rows : Rows) (rests targets amounts : List ℕ) : Type 0 where
+  pub rests_long : length rests ≡ code_bits rows.shape
+  pub targets_long : length targets ≡ rows.shape.q * rows.shape.group
+  pub amounts_long : length amounts ≡ rows.shape.q * rows.shape.group

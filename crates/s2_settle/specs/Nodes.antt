@@ -1,0 +1,15 @@
+-- One check by places: its least number, the least of the others, and where the least stands.
+use Rattle.std.specs.Prelude.{ℕ, zero, suc, min, max}
+use Rattle.s2_settle.specs.Words.{no_rest, seen_at}
+
+abbrev pub first_of : (ℕ → ℕ) → ℕ → ℕ
+first_of f zero = no_rest
+first_of f (suc n) = min (first_of f n) (f n)
+
+abbrev pub second_of : (ℕ → ℕ) → ℕ → ℕ
+second_of f zero = no_rest
+second_of f (suc n) = min (second_of f n) (max (first_of f n) (f n))
+
+abbrev pub least_at : (ℕ → ℕ) → ℕ → ℕ
+least_at f zero = 0
+least_at f (suc n) = seen_at (least_at f n) (first_of f n) (f n) n

@@ -1,0 +1,31 @@
+-- The rests before any move: scaled soft values in favour of the word.
+use Rattle.std.specs.Prelude.{ℕ, ◌+◌, ◌-◌, ◌*◌, ◌/◌, ◌%◌, Bool, not, if◌then◌else◌, List, map, replicate, ℤ, pos, int_lt, unsigned_abs}
+use Rattle.s2_mode.specs.Shape.{code_bits}
+use Rattle.s2_rows.specs.Rows.{Rows}
+use Rattle.s2_bits.specs.Bits.{bit_at}
+use Rattle.s2_matrix.specs.Total.{upto}
+use Rattle.s2_check.specs.Cost.{value_at}
+use Rattle.s2_minsum.specs.Layout.{bit_of}
+use Rattle.s2_settle.specs.Words.{zero_rest}
+use Rattle.s2_settle.specs.Layer.{Held}
+
+-- what a soft value is multiplied by
+abbrev pub settling_scale : ℕ
+settling_scale = 256
+
+-- whether the hard decision differs from the word
+abbrev pub differs : List ℤ → List Bool → ℕ → Bool
+differs soft word i = if int_lt (value_at soft i) (pos 0) then not (bit_at word i) else bit_at word i
+
+-- the scaled soft value, in favour of the word
+abbrev pub started : List ℤ → List Bool → ℕ → ℕ
+started soft word i =
+    if differs soft word i then zero_rest - settling_scale * unsigned_abs (value_at soft i) else zero_rest + settling_scale * unsigned_abs (value_at soft i)
+
+-- these rests in rows, and no moves
+abbrev pub start : Rows → List ℤ → List Bool → Held
+start rows soft word = record {
+  rests = map (λ p. started soft word (bit_of rows.shape (p / rows.shape.group) (p % rows.shape.group))) (upto (code_bits rows.shape));
+  targets = replicate (rows.shape.q * rows.shape.group) 0;
+  amounts = replicate (rows.shape.q * rows.shape.group) 0;
+}

@@ -1,0 +1,51 @@
+-- Words of 32 bits: rests, each 2^31 higher than it is, and how a check's moves change them.
+use Rattle.std.specs.Prelude.{ℕ, zero, suc, ◌+◌, ◌-◌, ◌/◌, ◌%◌, ◌==◌, min, max, if◌then◌else◌, List, get_or}
+use Rattle.s2_minsum.specs.declared.rows.Entry.{Entry}
+use Rattle.s2_minsum.specs.Words.{turned, turned_back, cell, entry_at, is_lacking}
+
+-- the word of a rest of 0
+abbrev pub zero_rest : ℕ
+zero_rest = 2147483648
+
+-- the most that a check moves
+abbrev pub most_moved : ℕ
+most_moved = 1048576
+
+-- the word of no rest: more than any
+abbrev pub no_rest : ℕ
+no_rest = 4294967295
+
+abbrev pub minus32 : ℕ → ℕ → ℕ
+minus32 a b = (a + (4294967296 - b)) % 4294967296
+
+abbrev pub plus32 : ℕ → ℕ → ℕ
+plus32 a b = (a + b) % 4294967296
+
+-- what member e of a check gives: its rest once the check has taken its move back
+abbrev pub given : ℕ → ℕ → ℕ → ℕ → ℕ
+given rest target amount e = if target == e then minus32 rest amount else plus32 rest amount
+
+-- what is moved to the least, with the least other and what is held in reserve
+abbrev pub gap : ℕ → ℕ → ℕ → ℕ
+gap reserve first second =
+    min (minus32 (max (minus32 second first) reserve) reserve / 2) most_moved
+
+-- by how much the rest of member e changes
+abbrev pub change : ℕ → ℕ → ℕ → ℕ → ℕ → ℕ
+change old_target old_amount target amount e =
+    minus32 (if target == e then amount else minus32 0 amount) (if old_target == e then old_amount else minus32 0 old_amount)
+
+-- the place of the least in place of the one before, where a number is lower than the least so far
+abbrev pub seen_at : ℕ → ℕ → ℕ → ℕ → ℕ
+seen_at at first x e = if min first x == first then at else e
+
+-- what place p holds once the changes of the first entries are added
+abbrev pub changed : ℕ → List Entry → List ℕ → (ℕ → ℕ → ℕ) → ℕ → ℕ → ℕ
+changed n entries old f zero p = get_or old p 0
+changed n entries old f (suc e) p =
+    if (entry_at entries e).row == p / n then plus32 (changed n entries old f e p) (f e (turned_back n (entry_at entries e).shift (p % n))) else changed n entries old f e p
+
+-- what the member at entry e gives to the check in lane c; more than any rest where there is none
+abbrev pub received : ℕ → List Entry → ℕ → List ℕ → List ℕ → List ℕ → ℕ → ℕ → ℕ
+received n entries last rests targets amounts e c =
+    if is_lacking last (entry_at entries e) c then no_rest else given (cell rests n (entry_at entries e).row (turned n (entry_at entries e).shift c)) (get_or targets c 0) (get_or amounts c 0) e

@@ -1,0 +1,55 @@
+//! The moves that passes find.
+ghost use Rattle.std.specs.Prelude.{◌≡◌, ℕ, ◌≤◌, ◌<◌, ◌+◌, ◌*◌, All, length};
+ghost use Rattle.s2_mode.specs.Shape.{code_bits};
+ghost use Rattle.s2_matrix.specs.Code.{code_of};
+ghost use Rattle.s2_check.specs.Views.{IsSoft};
+ghost use Rattle.s2_minsum.specs.Layout.{entry_count};
+ghost use Rattle.s2_minsum.specs.Decoding.{AreLayers};
+ghost use Rattle.s2_settle.specs.Layer.{AreLong};
+ghost use Rattle.s2_settle.specs.Passes.{spread as after_spread};
+ghost use Rattle.s2_settle.specs.Start.{start};
+ghost use Rattle.s2_settle.specs.Settled.{Finds};
+ghost use Rattle.s2_settle.specs.Holding.{AreMoves};
+
+use crate::moves::put_moves;
+use crate::passes::spread;
+use crate::start::{clear, put_rests};
+use s2_check::Move;
+use s2_matrix::Matrix;
+use s2_minsum::Entry;
+
+/// Finds moves in at most so many passes, and writes them check by check: whether there are.
+pub(crate) fn find_moves(
+    matrix: &Matrix,
+    entries: &[Entry],
+    firsts: &[usize],
+    soft: &[i16],
+    word: &[bool],
+    passes: u32,
+    rests: &mut [u32],
+    targets: &mut [u32],
+    amounts: &mut [u32],
+    scratch: &mut [u32],
+    moves: &mut [Move],
+) -> bool
+    requires layers { AreLayers matrix.now entries.now firsts.now }
+    requires range { All IsSoft soft.now }
+    requires soft { length soft.now ≡ code_bits matrix.now.shape }
+    requires word { length word.now ≡ code_bits matrix.now.shape }
+    requires long { AreLong matrix.now rests.old targets.old amounts.old }
+    requires room { (i : ℕ) → i < matrix.now.shape.q → (entry_count matrix.now i + 3) * matrix.now.shape.group ≤ length scratch.old }
+    requires moves { AreMoves (code_of matrix.now) moves.old }
+    ensures found { Finds matrix.now (after_spread matrix.now passes 0 0 (start matrix.now soft.now word.now)) result moves.new }
+    ensures moves { AreMoves (code_of matrix.now) moves.new }
+{
+    put_rests(matrix, soft, word, rests);
+    clear(targets);
+    clear(amounts);
+    if !spread(
+        matrix, entries, firsts, passes, rests, targets, amounts, scratch,
+    ) {
+        return false;
+    }
+    put_moves(matrix, entries, firsts, targets, amounts, moves);
+    true
+}

@@ -1,0 +1,40 @@
+//! Certificates for noisy frames: settling, the second maker of splits.
+//!
+//! It stands beside the maker of greedy amounts (`s2_split`), in the place of its spreading: where links run,
+//! it finds a certificate for nearly every codeword that min-sum decodes. Each check moves an amount to the
+//! least of its members' rests from the others, layer by layer; how far a rest must lie below the next one
+//! before anything is moved is held in reserve, which falls from pass to pass. So a rest is lifted above zero,
+//! and its neighbours are not dragged to exactly zero. The rule is this project's own and stands in `specs/`.
+//!
+//! [`Settler::settle`] answers exactly what the definition `settled` says of its arguments and the matrix, and
+//! only what the checker of certificates accepts; a refusal of the checker is a `None`. That passes lead to a
+//! certificate is not promised. Only [`Settler::new`] takes memory.
+//!
+//! The settler keeps rests in rows of a group, and a layer's targets and amounts in rows of as many lanes, one
+//! check a lane, so that all checks of a layer go at once; the definitions speak of the same rows.
+//!
+//! ```text
+//! let mut settler = Settler::new(alloc, &matrix)?;
+//! if let Some(view) = settler.settle(&soft, &word, 96) {
+//!     view.write(&mut file)?;
+//! }
+//! ```
+#![tactic(auto)]
+
+mod find;
+mod lanes;
+pub mod laws;
+mod layer;
+mod limits;
+mod moves;
+mod one_layer;
+mod passes;
+mod rows;
+mod settler;
+mod start;
+
+pub use limits::{FIRST_RESERVE, MOST_MOVED, RESERVE_STEP, SCALE};
+pub use settler::Settler;
+
+#[cfg(test)]
+mod tests;

@@ -1,0 +1,100 @@
+//! The moves that passes have found, check by check.
+ghost use Rattle.std.specs.Prelude.{◌≡◌, ℕ, ◌≤◌, ◌<◌, ◌+◌, ◌*◌, length};
+ghost use Rattle.s2_mode.specs.Shape.{code_bits};
+ghost use Rattle.s2_matrix.specs.Code.{code_of};
+ghost use Rattle.s2_minsum.specs.Words.{turned};
+ghost use Rattle.s2_minsum.specs.Layout.{bit_of};
+ghost use Rattle.s2_minsum.specs.Decoding.{AreLayers};
+ghost use Rattle.s2_settle.specs.Settled.{shown, move_to, moves_of};
+ghost use Rattle.s2_settle.specs.Holding.{AreMoves};
+
+use crate::limits::MOST_MOVED;
+use crate::one_layer::find_span;
+use s2_check::Move;
+use s2_matrix::Matrix;
+use s2_minsum::{Entry, first_bit, place_among, step_of};
+use s2_mode::Shape;
+
+/// The bit that an entry shows to the check in a lane.
+fn shown_by(shape: Shape, entry: Entry, lane: usize) -> usize
+    requires row { entry.row < shape.groups + shape.q }
+    requires turn { entry.shift < shape.group }
+    requires lane { lane < shape.group }
+    ensures is { result ≡ bit_of shape entry.row (turned shape.group entry.shift lane) }
+    ensures few { result < code_bits shape }
+{
+    let n = shape.group();
+    let row = entry.row as usize;
+    let turned = (lane + n - entry.shift as usize) % n;
+    first_bit(shape, row) + turned * step_of(shape, row)
+}
+
+/// The bit that an entry of a layer shows to the check in a lane; 0 where there is no such entry.
+fn target_of(
+    matrix: &Matrix,
+    entries: &[Entry],
+    firsts: &[usize],
+    r: usize,
+    lane: usize,
+    e: usize,
+) -> usize
+    requires layers { AreLayers matrix.now entries.now firsts.now }
+    requires layer { r < matrix.now.shape.q }
+    requires lane { lane < matrix.now.shape.group }
+    ensures is { result ≡ shown matrix.now r lane e }
+    ensures few { result ≤ 64800 }
+{
+    let span = find_span(matrix, entries, firsts, r);
+    if e < span.count {
+        shown_by(matrix.shape(), entries[span.start + e], lane)
+    } else {
+        0
+    }
+}
+
+/// The move of an amount to a bit of a check; none to a bit that is no member.
+fn move_to(members: &[u32], bit: u32, amount: u32) -> Move
+    requires { length members.now ≤ 64800 }
+    ensures { result ≡ move_to members.now bit amount }
+{
+    let place = place_among(members, bit);
+    if amount == 0 || place >= members.len() {
+        return Move {
+            place: 0,
+            amount: 0,
+        };
+    }
+    Move {
+        place: place as u16,
+        amount,
+    }
+}
+
+/// Writes the moves check by check.
+pub(crate) fn put_moves(
+    matrix: &Matrix,
+    entries: &[Entry],
+    firsts: &[usize],
+    targets: &[u32],
+    amounts: &[u32],
+    moves: &mut [Move],
+)
+    requires layers { AreLayers matrix.now entries.now firsts.now }
+    requires targets { length targets.now ≡ matrix.now.shape.q * matrix.now.shape.group }
+    requires amounts { length amounts.now ≡ matrix.now.shape.q * matrix.now.shape.group }
+    requires moves { length moves.old ≡ (code_of matrix.now).checks }
+    ensures are { moves.new ≡ moves_of matrix.now targets.now amounts.now }
+    ensures moves { AreMoves (code_of matrix.now) moves.new }
+{
+    let shape = matrix.shape();
+    let n = shape.group();
+    let q = shape.q();
+    for check in 0..matrix.check_count() {
+        let r = check % q;
+        let lane = check / q;
+        let e = targets[r * n + lane] as usize;
+        let bit = target_of(matrix, entries, firsts, r, lane, e);
+        let amount = amounts[r * n + lane].min(MOST_MOVED);
+        moves[check] = move_to(matrix.members_at(check), bit as u32, amount);
+    }
+}

@@ -1,0 +1,49 @@
+/* For LD_PRELOAD: refuses one growth of a program's memory, as where there is no more, and only that one.
+
+   A growth is a call of malloc, calloc, realloc, aligned_alloc or posix_memalign; they count from 1, and the one of the number
+   REFUSE_AT is refused. Then the file REFUSE_TOLD is made, so that who started the program knows. */
+#include <errno.h>
+#include <fcntl.h>
+#include <stdlib.h>
+#include <unistd.h>
+
+void *__libc_malloc(size_t size);
+void *__libc_calloc(size_t count, size_t size);
+void *__libc_realloc(void *old, size_t size);
+void *__libc_memalign(size_t alignment, size_t size);
+
+static unsigned long growths, refused;
+
+__attribute__((constructor)) static void begin(void) {
+    const char *at = getenv("REFUSE_AT");
+    growths = 0;
+    refused = at ? strtoul(at, 0, 10) : 0;
+}
+
+static int is_refused(void) {
+    growths += 1;
+    if (growths != refused)
+        return 0;
+    const char *told = getenv("REFUSE_TOLD");
+    int file = told ? open(told, O_WRONLY | O_CREAT, 0644) : -1;
+    if (file >= 0)
+        close(file);
+    errno = ENOMEM;
+    return 1;
+}
+
+void *malloc(size_t size) { return is_refused() ? 0 : __libc_malloc(size); }
+
+void *calloc(size_t count, size_t size) { return is_refused() ? 0 : __libc_calloc(count, size); }
+
+void *realloc(void *old, size_t size) { return is_refused() ? 0 : __libc_realloc(old, size); }
+
+void *aligned_alloc(size_t alignment, size_t size) { return is_refused() ? 0 : __libc_memalign(alignment, size); }
+
+int posix_memalign(void **made, size_t alignment, size_t size) {
+    void *found = is_refused() ? 0 : __libc_memalign(alignment, size);
+    if (!found)
+        return ENOMEM;
+    *made = found;
+    return 0;
+}
