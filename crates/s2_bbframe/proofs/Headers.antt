@@ -6,25 +6,25 @@ use Rattle.s2_bbframe.specs.declared.header.HeaderFault.TheVariants as faults
 use Rattle.std.proofs.lemmas.Bool.{eq-eqb}
 use Rattle.std.proofs.lemmas.Nat.{from_be_bytes-to_be_bytes_2}
 use Rattle.s2_bbframe.proofs.Finite.{at_number}
-use Rattle.s2_bbframe.specs.Headers.{two_bytes, is_whole, is_constant_transport, is_packet_stream, header_of, has_valid_lengths, reading, header_bytes}
+use Rattle.s2_bbframe.specs.Headers.{two_bytes, is_whole, is_constant_transport, is_packet_stream, header_of, has_valid_lengths, header_of_bytes, header_bytes}
 
 -- ---- reading, by its tests in their order
 
-pub reading-bad_crc : (m : Mode) (bytes : List ℕ) → is_whole bytes ≡ false → reading m bytes ≡ Err faults.BadCrc
-unfolding reading
-reading-bad_crc m bytes whole = rw whole
+pub header_of_bytes-bad_crc : (m : Mode) (bytes : List ℕ) → is_whole bytes ≡ false → header_of_bytes m bytes ≡ Err faults.BadCrc
+unfolding header_of_bytes
+header_of_bytes-bad_crc m bytes whole = rw whole
 
-pub reading-other : (m : Mode) (bytes : List ℕ) → is_whole bytes ≡ true → is_packet_stream bytes ≡ false → reading m bytes ≡ Err faults.OtherStream
-unfolding reading
-reading-other m bytes whole ours = rw (whole, ours)
+pub header_of_bytes-other : (m : Mode) (bytes : List ℕ) → is_whole bytes ≡ true → is_packet_stream bytes ≡ false → header_of_bytes m bytes ≡ Err faults.OtherStream
+unfolding header_of_bytes
+header_of_bytes-other m bytes whole ours = rw (whole, ours)
 
-pub reading-bad_lengths : (m : Mode) (bytes : List ℕ) → is_whole bytes ≡ true → is_packet_stream bytes ≡ true → has_valid_lengths m (header_of bytes) ≡ false → reading m bytes ≡ Err faults.BadLengths
-unfolding reading
-reading-bad_lengths m bytes whole ours valid = rw (whole, ours, valid)
+pub header_of_bytes-bad_lengths : (m : Mode) (bytes : List ℕ) → is_whole bytes ≡ true → is_packet_stream bytes ≡ true → has_valid_lengths m (header_of bytes) ≡ false → header_of_bytes m bytes ≡ Err faults.BadLengths
+unfolding header_of_bytes
+header_of_bytes-bad_lengths m bytes whole ours valid = rw (whole, ours, valid)
 
-pub reading-accepted : (m : Mode) (bytes : List ℕ) → is_whole bytes ≡ true → is_packet_stream bytes ≡ true → has_valid_lengths m (header_of bytes) ≡ true → reading m bytes ≡ Ok (header_of bytes)
-unfolding reading
-reading-accepted m bytes whole ours valid = rw (whole, ours, valid)
+pub header_of_bytes-accepted : (m : Mode) (bytes : List ℕ) → is_whole bytes ≡ true → is_packet_stream bytes ≡ true → has_valid_lengths m (header_of bytes) ≡ true → header_of_bytes m bytes ≡ Ok (header_of bytes)
+unfolding header_of_bytes
+header_of_bytes-accepted m bytes whole ours valid = rw (whole, ours, valid)
 
 -- ---- writing
 
@@ -47,7 +47,7 @@ header_of-bytes h ro dfl syncd =
     ∙ ap (λ x. made h.roll_off h.second x (two_bytes (header_bytes h) 7)) (from_be_bytes-to_be_bytes_2 h.dfl dfl)
     ∙ ap (λ x. made h.roll_off h.second h.dfl x) (from_be_bytes-to_be_bytes_2 h.syncd syncd)
 
-pub reading-header_bytes : (m : Mode) (h : Header) → h.roll_off ≤ 3 → h.dfl < 2 ^ 16 → h.syncd < 2 ^ 16 → has_valid_lengths m h ≡ true → reading m (header_bytes h) ≡ Ok h
-reading-header_bytes m h ro dfl syncd valid =
+pub header_of_bytes-header_bytes : (m : Mode) (h : Header) → h.roll_off ≤ 3 → h.dfl < 2 ^ 16 → h.syncd < 2 ^ 16 → has_valid_lengths m h ≡ true → header_of_bytes m (header_bytes h) ≡ Ok h
+header_of_bytes-header_bytes m h ro dfl syncd valid =
     let is = header_of-bytes h ro dfl syncd in
-    reading-accepted m (header_bytes h) (whole h) (packet_stream h ro) (ap (has_valid_lengths m) is ∙ valid) ∙ ap (λ x. Ok x) is
+    header_of_bytes-accepted m (header_bytes h) (whole h) (packet_stream h ro) (ap (has_valid_lengths m) is ∙ valid) ∙ ap (λ x. Ok x) is

@@ -37,8 +37,8 @@ has_valid_lengths m h =
     && ((h.dfl == 0) || ((h.syncd == 65535) || ((h.syncd % 8 == 0) && (nat_lt h.syncd 1504 && nat_lt h.syncd h.dfl)))))
 
 -- what a header's bytes say, or the first fault
-unfoldable pub reading : Mode → List ℕ → Result Header HeaderFault
-reading m bytes =
+unfoldable pub header_of_bytes : Mode → List ℕ → Result Header HeaderFault
+header_of_bytes m bytes =
     if not (is_whole bytes)
     then Err faults.BadCrc
     else if not (is_packet_stream bytes)

@@ -83,7 +83,7 @@ fn header_of(bytes: &[u8; 10]) -> Header
 
 impl Header {
     ghost use Rattle.s2_mode.specs.Mode.{Mode as ModeValue};
-    ghost use Rattle.s2_bbframe.specs.Headers.{has_valid_lengths, reading, header_bytes};
+    ghost use Rattle.s2_bbframe.specs.Headers.{has_valid_lengths, header_of_bytes, header_bytes};
 
     fn has_valid_lengths(&self, mode: Mode) -> bool
         ensures { result ≡ has_valid_lengths mode self.now }
@@ -98,7 +98,7 @@ impl Header {
     /// What these bytes say of a frame of this mode (EN 302 307-1, 5.1.6). Refuses, in this order, a
     /// wrong CRC-8, a header of another stream, and lengths that no frame of the mode has.
     pub fn read(bytes: &[u8; 10], mode: Mode) -> Result<Header, HeaderFault>
-        ensures { result ≡ reading mode bytes.now }
+        ensures { result ≡ header_of_bytes mode bytes.now }
     {
         if !is_whole(bytes) {
             return Err(HeaderFault::BadCrc);
@@ -118,7 +118,7 @@ impl Header {
     pub fn write(&self, bytes: &mut [u8; 10])
         requires { self.now.roll_off ≤ 3 }
         ensures bytes { bytes.new ≡ header_bytes self.now }
-        ensures accepted { (m : ModeValue) → has_valid_lengths m self.now ≡ true → reading m bytes.new ≡ Ok self.now }
+        ensures accepted { (m : ModeValue) → has_valid_lengths m self.now ≡ true → header_of_bytes m bytes.new ≡ Ok self.now }
     {
         let [length, length_low] = self.dfl.to_be_bytes();
         let [distance, distance_low] = self.syncd.to_be_bytes();

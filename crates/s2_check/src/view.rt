@@ -5,7 +5,7 @@ ghost use Rattle.std.specs.Io.KnownBytes.{Appends};
 ghost use Rattle.s2_mode.specs.Counts.{CountsFault};
 ghost use Rattle.s2_mode.specs.Shape.{code_bits};
 ghost use Rattle.s2_check.specs.CertificateBytes.{bytes_of};
-ghost use Rattle.s2_check.specs.CertificateFiles.{reading};
+ghost use Rattle.s2_check.specs.CertificateFiles.{certificate_of_bytes};
 ghost use Rattle.s2_bits.specs.Bits.{bit_at};
 ghost use Rattle.s2_check.specs.Cost.{cost, value_at};
 ghost use Rattle.s2_matrix.specs.Code.{code_of, first_edge, IsCodeword};
@@ -251,7 +251,7 @@ impl<'a> CertView<'a> {
     pub fn write<W: CountedWrite>(&self, out: &mut W) -> Result<(), WriteFault>
         requires { W.count out.old < 2 ^ 64 - 1 }
         ensures bytes { OnOk result (Appends (W.contents out.old) (W.contents out.new) (bytes_of self.now)) }
-        ensures read_back { OnOk result (reading (bytes_of self.now) ≡ Ok self.now) }
+        ensures read_back { OnOk result (certificate_of_bytes (bytes_of self.now) ≡ Ok self.now) }
         ensures cause { CountsFault (W.count out.old) (W.count out.new) result }
     {
         let mut page = ArrayVec::new();

@@ -12,7 +12,7 @@ use Rattle.s2_file.specs.declared.header.Header.{Header}
 use Rattle.s2_file.specs.declared.version.Version.{Version}
 use Rattle.s2_file.specs.declared.version.Version.TheVariants as versions
 use Rattle.s2_file.specs.File.{File, Split, Listed, IsFile, IsSplit}
-use Rattle.s2_file.specs.Format.{◌>>=◌, is_shape, demand, front_at, number_at, count_at, is_ranged, ranged, header_at, body, body_at, file_of, reading, IsHeader, version_of, count_of, count_bytes, header_bytes, header_of, ReadBackLaw}
+use Rattle.s2_file.specs.Format.{◌>>=◌, is_shape, demand, front_at, number_at, count_at, is_ranged, ranged, header_at, body, body_at, file_of, file_of_bytes, IsHeader, version_of, count_of, count_bytes, header_bytes, header_of, ReadBackLaw}
 use Rattle.s2_file.proofs.Bodies.{body_accepted}
 use Rattle.s2_file.proofs.Fields.{IsOf, IsBody, body_is}
 
@@ -79,7 +79,7 @@ header_of_file f h = record {
 }
 
 pub read_back_lem : ReadBackLaw
-unfolding reading
+unfolding file_of_bytes
 read_back_lem f p =
     let h = header_of f in
     let x : List ℤ × (List Bool × Split) = (f.soft, (f.bits, f.split)) in

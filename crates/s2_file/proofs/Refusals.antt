@@ -9,8 +9,8 @@ use Rattle.s2_file.specs.declared.header.Header.{Header}
 use Rattle.s2_file.specs.declared.version.Version.{Version}
 use Rattle.s2_file.specs.declared.version.Version.TheVariants as versions
 use Rattle.s2_file.specs.File.{File}
-use Rattle.s2_file.specs.Format.{◌>>=◌, is_shape, demand, letter_at, version_at, front_at, number_at, count_at, is_ranged, ranged, header_at, body_at, reading}
-use Rattle.s2_file.specs.Answers.{Answers}
+use Rattle.s2_file.specs.Format.{◌>>=◌, is_shape, demand, letter_at, version_at, front_at, number_at, count_at, is_ranged, ranged, header_at, body_at, file_of_bytes}
+use Rattle.s2_file.specs.Answers.{FileAnswer}
 
 abbrev IsOther : CertFault → Type 0
 IsOther faults.NoMemory = ⊥
@@ -56,7 +56,7 @@ unfolding header_at
 header_none v bytes =
     bind_none (number_at w16 bytes) _ (number_none w16 bytes) (λ g. bind_none (number_at w16 g.1) _ (number_none w16 g.1) (λ i. bind_none (number_at w16 i.1) _ (number_none w16 i.1) (λ q. bind_none (number_at w16 q.1) _ (number_none w16 q.1) (λ s. bind_none (count_at v s.1) _ (count_none v s.1) (λ c. ranged_none (record { version = v; shape = shape_of g.0 i.0 q.0; scale = s.0; count = c.0 }) c.1)))))
 
-as_answer : {V : Type 0} (view : V → File) (e : CertFault) (read : Result File CertFault) → IsOther e → read ≡ Err e → Answers view (Err e) read
+as_answer : {V : Type 0} (view : V → File) (e : CertFault) (read : Result File CertFault) → IsOther e → read ≡ Err e → FileAnswer view (Err e) read
 as_answer view faults.Magic read h p = p
 as_answer view faults.Cut read h p = p
 as_answer view faults.Extra read h p = p
@@ -71,13 +71,13 @@ then : {A B : Type 0} (r : Result A CertFault) (e : CertFault) (f : A → Result
 then r e f p = ap (λ x. x >>= f) p
 
 -- the front's refusal is the file's
-pub front_refuses : {V : Type 0} (view : V → File) (bytes : List ℕ) (e : CertFault) → front_at bytes ≡ Err e → Answers view (Err e) (reading bytes)
-unfolding reading
+pub front_refuses : {V : Type 0} (view : V → File) (bytes : List ℕ) (e : CertFault) → front_at bytes ≡ Err e → FileAnswer view (Err e) (file_of_bytes bytes)
+unfolding file_of_bytes
 front_refuses view bytes e p =
-    as_answer view e (reading bytes) (other (front_at bytes) e (front_none bytes) p) (then (front_at bytes) e (λ f. header_at f.0 f.1 >>= λ h. body_at h.0 h.1) p)
+    as_answer view e (file_of_bytes bytes) (other (front_at bytes) e (front_none bytes) p) (then (front_at bytes) e (λ f. header_at f.0 f.1 >>= λ h. body_at h.0 h.1) p)
 
 -- and so is the header's
-pub header_refuses : {V : Type 0} (view : V → File) (bytes : List ℕ) (v : Version) (rest : List ℕ) (e : CertFault) → front_at bytes ≡ Ok (v, rest) → header_at v rest ≡ Err e → Answers view (Err e) (reading bytes)
-unfolding reading
+pub header_refuses : {V : Type 0} (view : V → File) (bytes : List ℕ) (v : Version) (rest : List ℕ) (e : CertFault) → front_at bytes ≡ Ok (v, rest) → header_at v rest ≡ Err e → FileAnswer view (Err e) (file_of_bytes bytes)
+unfolding file_of_bytes
 header_refuses view bytes v rest e front p =
-    as_answer view e (reading bytes) (other (header_at v rest) e (header_none v rest) p) (ap (λ x. x >>= λ f. header_at f.0 f.1 >>= λ h. body_at h.0 h.1) front ∙ then (header_at v rest) e (λ h. body_at h.0 h.1) p)
+    as_answer view e (file_of_bytes bytes) (other (header_at v rest) e (header_none v rest) p) (ap (λ x. x >>= λ f. header_at f.0 f.1 >>= λ h. body_at h.0 h.1) front ∙ then (header_at v rest) e (λ h. body_at h.0 h.1) p)

@@ -124,8 +124,8 @@ body_at h bytes =
 -- ---- the file
 
 -- what a file says, or its first refusal
-unfoldable pub reading : List ℕ → Result File CertFault
-reading bytes = do
+unfoldable pub file_of_bytes : List ℕ → Result File CertFault
+file_of_bytes bytes = do
   front ← front_at bytes
   header ← header_at front.0 front.1
   body_at header.0 header.1
@@ -160,4 +160,4 @@ bytes_of f = header_bytes (header_of f) ++ (body (header_of f)).bytes (f.soft, (
 
 -- what is written is accepted, as the same file
 abbrev pub ReadBackLaw : Type 0
-ReadBackLaw = (f : File) → IsFile f → reading (bytes_of f) ≡ Ok f
+ReadBackLaw = (f : File) → IsFile f → file_of_bytes (bytes_of f) ≡ Ok f

@@ -1,9 +1,9 @@
 //! What a certificate file says, in memory.
 ghost use Rattle.std.specs.Prelude.{◌≡◌, IfOk, OnOk, true, length};
 ghost use Rattle.s2_file.specs.File.{IsFile, IsSplit};
-ghost use Rattle.s2_file.specs.Format.{body, body_at, file_of, reading, split, IsHeader};
+ghost use Rattle.s2_file.specs.Format.{body, body_at, file_of, file_of_bytes, split, IsHeader};
 ghost use Rattle.s2_file.specs.Held.{split_in};
-ghost use Rattle.s2_file.specs.Answers.{Answers, Reads};
+ghost use Rattle.s2_file.specs.Answers.{FileAnswer, Reads};
 
 use crate::fault::CertFault;
 use crate::header::{Header, read_front, read_header};
@@ -113,7 +113,7 @@ impl Contents {
     /// The contents of a body.
     fn read_body(alloc: Global, header: &Header, bytes: &[u8]) -> Result<Contents, CertFault>
         requires { IsHeader header.now }
-        ensures { Answers (λ c. c) result (body_at header.now bytes.now) }
+        ensures { FileAnswer (λ c. c) result (body_at header.now bytes.now) }
     {
         accept(header, bytes)?;
         match Contents::take_apart(alloc, bytes, header) {
@@ -125,9 +125,9 @@ impl Contents {
     /// The contents of a file, or its first refusal in this order: magic, cut (before the end of
     /// the header), shape, range (the scale or the count), cut, extra, range (a soft value or a
     /// padding bit). `NoMemory` comes only for a file that is otherwise accepted.
-    #[tactic(auto, unfolding(crate::specs::Format::reading))]
+    #[tactic(auto, unfolding(crate::specs::Format::file_of_bytes))]
     pub fn read(alloc: Global, bytes: &[u8]) -> Result<Contents, CertFault>
-        ensures { Answers (λ c. c) result (reading bytes.now) }
+        ensures { FileAnswer (λ c. c) result (file_of_bytes bytes.now) }
     {
         let (version, rest) = read_front(bytes)?;
         match read_header(version, rest) {

@@ -17,10 +17,10 @@ use Rattle.s2_check.specs.Hard.{hard_decision}
 use Rattle.s2_bbframe.specs.Crc.{crc8}
 use Rattle.s2_bits.specs.Bits.{bits_of_byte as byte_bits}
 use Rattle.s2_bbframe.specs.declared.header.Header.{Header}
-use Rattle.s2_bbframe.specs.Headers.{header_bytes, has_valid_lengths, reading, signalling}
+use Rattle.s2_bbframe.specs.Headers.{header_bytes, has_valid_lengths, header_of_bytes, signalling}
 use Rattle.s2_bbframe.specs.DataStream.{header_at, to_place, field_bytes}
 use Rattle.s2_bbframe.proofs.Finite.{at_number}
-use Rattle.s2_bbframe.proofs.Headers.{reading-header_bytes}
+use Rattle.s2_bbframe.proofs.Headers.{header_of_bytes-header_bytes}
 use Rattle.s2_bbframe.proofs.Division.{divided}
 use Rattle.s2_scramble.specs.Baseband.{scrambled}
 use Rattle.s2_scramble.proofs.Blocks.{scrambled-scrambled}
@@ -133,7 +133,7 @@ differences_none (suc n) a = ap (λ d. d + number (xor (bit_at a n) (bit_at a n)
 
 -- a word that BCH decoding finds gives what its message says
 pub decision_of_word : (m : Mode) (soft : List ℤ) (d : Decided) (word : List Bool) (header : Header) → nearest m (received_word m d.bits) ≡ Some word
-    → reading m (header_in (scrambled (message_of m word))) ≡ Ok header
+    → header_of_bytes m (header_in (scrambled (message_of m word))) ≡ Ok header
     → IsDelivered (decision_on m soft d) (differences (k_of m) (received_word m d.bits) word) header (field_in header (scrambled (message_of m word)))
 decision_of_word m soft d word header near read =
     let is = ap (decision_by m soft d) near in
@@ -210,10 +210,10 @@ module _ (link : Link) (valid : IsMode link.setup.mode) (sizes : HasCodeSizes li
     all_bytes : AreBytes (header_bytes header ++ field)
     all_bytes = All-append IsByte (header_bytes header) field (header_is_bytes link.setup.roll_off at field ro) bytes
 
-    read_back : reading m (header_in (scrambled (message_of m c.bch_word))) ≡ Ok header
+    read_back : header_of_bytes m (header_in (scrambled (message_of m c.bch_word))) ≡ Ok header
     read_back =
-        ap (reading m) (says_header m valid sizes header field fits all_bytes refl c.bch_word c.is_bch_word)
-        ∙ reading-header_bytes m header (omega arith) (omega (arith, sizes.field_most)) (omega arith) (valid_header m link.setup.roll_off at field sizes place fits)
+        ap (header_of_bytes m) (says_header m valid sizes header field fits all_bytes refl c.bch_word c.is_bch_word)
+        ∙ header_of_bytes-header_bytes m header (omega arith) (omega (arith, sizes.field_most)) (omega arith) (valid_header m link.setup.roll_off at field sizes place fits)
 
     -- where the sent word is the nearest one
     near_delivers : nearest m (received_word m (decided link.rows effort (frame_soft link symbols)).bits) ≡ Some c.bch_word

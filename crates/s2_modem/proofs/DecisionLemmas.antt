@@ -14,8 +14,8 @@ use Rattle.s2_modem.specs.Link.{Link}
 use Rattle.s2_bits.specs.Bits.{bit_at, differences, Rewritten}
 use Rattle.s2_bbframe.specs.declared.header.Header.{Header}
 use Rattle.s2_bbframe.specs.declared.header.HeaderFault.{HeaderFault}
-use Rattle.s2_bbframe.specs.Headers.{is_whole, is_packet_stream, header_of, has_valid_lengths, reading}
-use Rattle.s2_bbframe.proofs.Headers.{reading-bad_crc, reading-other, reading-bad_lengths, reading-accepted}
+use Rattle.s2_bbframe.specs.Headers.{is_whole, is_packet_stream, header_of, has_valid_lengths, header_of_bytes}
+use Rattle.s2_bbframe.proofs.Headers.{header_of_bytes-bad_crc, header_of_bytes-other, header_of_bytes-bad_lengths, header_of_bytes-accepted}
 use Rattle.s2_bbframe.proofs.Finite.{both}
 use Rattle.s2_bch.specs.Codes.{IsWithin}
 use Rattle.s2_bch.specs.Decoding.{nearest}
@@ -64,13 +64,13 @@ not_ok r h fails e = differ (sym fails ∙ ap is_ok e)
     differ e = cc
 
 by_tests : (m : Mode) (bytes : List ℕ) (h : Header) (whole ours valid : Bool) → is_whole bytes ≡ whole → is_packet_stream bytes ≡ ours → has_valid_lengths m (header_of bytes) ≡ valid
-    → reading m bytes ≡ Ok h → has_valid_lengths m h ≡ true
-by_tests m bytes h false ours valid a b c ok = absurd (not_ok (reading m bytes) h (ap is_ok (reading-bad_crc m bytes a)) ok)
-by_tests m bytes h true false valid a b c ok = absurd (not_ok (reading m bytes) h (ap is_ok (reading-other m bytes a b)) ok)
-by_tests m bytes h true true false a b c ok = absurd (not_ok (reading m bytes) h (ap is_ok (reading-bad_lengths m bytes a b c)) ok)
-by_tests m bytes h true true true a b c ok = subst (λ x. has_valid_lengths m x ≡ true) (ap (header_or h) (sym (reading-accepted m bytes a b c) ∙ ok)) c
+    → header_of_bytes m bytes ≡ Ok h → has_valid_lengths m h ≡ true
+by_tests m bytes h false ours valid a b c ok = absurd (not_ok (header_of_bytes m bytes) h (ap is_ok (header_of_bytes-bad_crc m bytes a)) ok)
+by_tests m bytes h true false valid a b c ok = absurd (not_ok (header_of_bytes m bytes) h (ap is_ok (header_of_bytes-other m bytes a b)) ok)
+by_tests m bytes h true true false a b c ok = absurd (not_ok (header_of_bytes m bytes) h (ap is_ok (header_of_bytes-bad_lengths m bytes a b c)) ok)
+by_tests m bytes h true true true a b c ok = subst (λ x. has_valid_lengths m x ≡ true) (ap (header_or h) (sym (header_of_bytes-accepted m bytes a b c) ∙ ok)) c
 
-pub accepted_valid : (m : Mode) (bytes : List ℕ) (h : Header) → reading m bytes ≡ Ok h → has_valid_lengths m h ≡ true
+pub accepted_valid : (m : Mode) (bytes : List ℕ) (h : Header) → header_of_bytes m bytes ≡ Ok h → has_valid_lengths m h ≡ true
 accepted_valid m bytes h ok = by_tests m bytes h (is_whole bytes) (is_packet_stream bytes) (has_valid_lengths m (header_of bytes)) refl refl refl ok
 
 -- a field of these lengths fits in a frame
@@ -126,7 +126,7 @@ pub decision_is : (m : Mode) (soft : List ℤ) (d : Decided) (word : List Bool) 
     → FindsWord m (received_word m d.bits) word found → Reads m word found outcome delivered → made m soft d word outcome delivered ≡ decision_on m soft d
 decision_is m soft d word (Some fixed) outcome delivered finds reads =
     let frame = scrambled (message_of m word) in
-    let read : Result Header HeaderFault = reading m (header_in frame) in
+    let read : Result Header HeaderFault = header_of_bytes m (header_in frame) in
     ap (λ o. made m soft d word o delivered) reads.0
     ∙ ap (λ x. made m soft d word (outcome_by fixed read) x) reads.1
     ∙ ap (λ n. made m soft d word (outcome_by n read) (delivered_by frame read)) finds.1

@@ -5,7 +5,7 @@ use Rattle.s2_rows.specs.Rows.{Rows}
 use Rattle.s2_bits.specs.Bits.{differences}
 use Rattle.s2_bbframe.specs.declared.header.Header.{Header}
 use Rattle.s2_bbframe.specs.DataStream.{field_bytes}
-use Rattle.s2_bbframe.specs.Headers.{reading}
+use Rattle.s2_bbframe.specs.Headers.{header_of_bytes}
 use Rattle.s2_scramble.specs.Baseband.{scrambled}
 use Rattle.s2_receive.specs.Parts.{delivered_of}
 use Rattle.s2_receive.specs.Receiving.{Decision}
@@ -26,8 +26,8 @@ FindsWord m received word None = (nearest m received ≡ None) × (word ≡ rece
 -- what comes of that
 abbrev pub Reads : Mode → List Bool → Option ℕ → Outcome → Option (Header × List ℕ) → Type 0
 Reads m word (Some fixed) outcome delivered =
-    (outcome ≡ outcome_by fixed (reading m (header_in (scrambled (message_of m word)))))
-    × (delivered ≡ delivered_by (scrambled (message_of m word)) (reading m (header_in (scrambled (message_of m word)))))
+    (outcome ≡ outcome_by fixed (header_of_bytes m (header_in (scrambled (message_of m word)))))
+    × (delivered ≡ delivered_by (scrambled (message_of m word)) (header_of_bytes m (header_in (scrambled (message_of m word)))))
 Reads m word None outcome delivered = (outcome ≡ NoWord) × (delivered ≡ None)
 
 -- a decider of frames: its link, how much its judge tries, what it decided last, and the data field that came of that

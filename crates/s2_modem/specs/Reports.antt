@@ -6,7 +6,7 @@ use Rattle.s2_mode.specs.declared.symbols.Symbol.{Symbol}
 use Rattle.s2_bits.specs.Bits.{bit_at, byte_of, differences}
 use Rattle.s2_bbframe.specs.declared.header.Header.{Header}
 use Rattle.s2_bbframe.specs.declared.header.HeaderFault.{HeaderFault}
-use Rattle.s2_bbframe.specs.Headers.{reading}
+use Rattle.s2_bbframe.specs.Headers.{header_of_bytes}
 use Rattle.s2_scramble.specs.Baseband.{scrambled}
 use Rattle.s2_plframe.specs.Payload.{received_payload}
 use Rattle.s2_soft.specs.Soft.{soft_values}
@@ -61,8 +61,8 @@ decision_by m soft d (Some word) = record {
   bits = d.bits;
   verdict = d.verdict;
   message = message_of m word;
-  outcome = outcome_by (differences (k_of m) (received_word m d.bits) word) (reading m (header_in (scrambled (message_of m word))));
-  delivered = delivered_by (scrambled (message_of m word)) (reading m (header_in (scrambled (message_of m word))));
+  outcome = outcome_by (differences (k_of m) (received_word m d.bits) word) (header_of_bytes m (header_in (scrambled (message_of m word))));
+  delivered = delivered_by (scrambled (message_of m word)) (header_of_bytes m (header_in (scrambled (message_of m word))));
 }
 decision_by m soft d None = record {
   soft = soft;

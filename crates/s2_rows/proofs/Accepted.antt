@@ -10,7 +10,7 @@ use Rattle.s2_mode.specs.Shape.{Shape, IsShape, check_count}
 use Rattle.s2_rows.specs.Numbers.{natural_of}
 use Rattle.s2_rows.specs.Readings.{ok_cons}
 use Rattle.s2_rows.specs.Rows.{AreAddresses, IsRows, rows_value}
-use Rattle.s2_rows.specs.RowFiles.{address_of, with_address, with_word, row_from, row_in, rows_of, reading}
+use Rattle.s2_rows.specs.RowFiles.{address_of, with_address, with_word, row_from, row_in, rows_of, rows_of_text}
 use Rattle.s2_rows.specs.Text.{words_of, lines_of, is_passed_over}
 use Rattle.s2_rows.specs.declared.row_file.RowFault.{RowFault}
 
@@ -155,5 +155,5 @@ pub are_rows : (shape : Shape) (rows : List (List ℕ)) → IsShape shape → Ar
 are_rows shape rows shaped are = record { shaped = shaped; long = are.long; each = λ g below. (are.each g below).are; some = λ g below. (are.each g below).some; short = λ g below. (are.each g below).short }
 
 -- an accepted text gives the rows of its shape
-pub is_rows : (text : List ℕ) (shape : Shape) (rows : List (List ℕ)) → IsShape shape → reading text shape ≡ Ok rows → IsRows (rows_value shape rows)
+pub is_rows : (text : List ℕ) (shape : Shape) (rows : List (List ℕ)) → IsShape shape → rows_of_text text shape ≡ Ok rows → IsRows (rows_value shape rows)
 is_rows text shape rows shaped h = are_rows shape rows shaped (line_by_line (check_count shape) (lines_of text) shape.groups 1 rows h)

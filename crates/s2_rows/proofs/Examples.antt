@@ -2,8 +2,8 @@
 use Rattle.std.proofs.Common.{◌≡◌, ℕ, List, [], ◌∷◌, Ok, Err, pos, negsuc, codes, refl, arith}
 use Rattle.std.specs.Fmt.{digits}
 use Rattle.s2_mode.specs.Shape.{Shape, shape_of}
-use Rattle.s2_rows.specs.RowFiles.{rows_of, row_from, reading}
-use Rattle.s2_rows.specs.Values.{values_of, reading as reading_values}
+use Rattle.s2_rows.specs.RowFiles.{rows_of, row_from, rows_of_text}
+use Rattle.s2_rows.specs.Values.{values_of, values_of_text}
 use Rattle.s2_rows.specs.ValueTexts.{plain, minus, IsTextOf}
 use Rattle.s2_rows.specs.Numbers.{digits_from}
 use Rattle.s2_rows.specs.Text.{pieces_of}
@@ -20,35 +20,35 @@ toy_rows = (0 ∷ 4 ∷ 8 ∷ []) ∷ (0 ∷ 1 ∷ 2 ∷ []) ∷ []
 
 -- ---- row files
 
-rows_read : reading (codes "0 4 8\n0 1 2\n") toy ≡ Ok toy_rows
+rows_read : rows_of_text (codes "0 4 8\n0 1 2\n") toy ≡ Ok toy_rows
 unfolding toy rows_of row_from digits_from pieces_of
 rows_read = refl
 
-rows_read_laid_out : reading (codes "# x\n\n\t0\t4  8\r\n \n0 01 0002\r\n\n# y") toy ≡ Ok toy_rows
+rows_read_laid_out : rows_of_text (codes "# x\n\n\t0\t4  8\r\n \n0 01 0002\r\n\n# y") toy ≡ Ok toy_rows
 unfolding toy rows_of row_from digits_from pieces_of
 rows_read_laid_out = refl
 
-rows_refused_none : reading [] toy ≡ Err faults.TooFewRows
+rows_refused_none : rows_of_text [] toy ≡ Err faults.TooFewRows
 unfolding toy rows_of row_from digits_from pieces_of
 rows_refused_none = refl
 
-rows_refused_large : reading (codes "0 4 12\n0 1 2\n") toy ≡ Err (faults.AddressTooLarge 1)
+rows_refused_large : rows_of_text (codes "0 4 12\n0 1 2\n") toy ≡ Err (faults.AddressTooLarge 1)
 unfolding toy rows_of row_from digits_from pieces_of
 rows_refused_large = refl
 
-rows_refused_repeated : reading (codes "0 0\n0 1 2\n") toy ≡ Err (faults.Repeated 1)
+rows_refused_repeated : rows_of_text (codes "0 0\n0 1 2\n") toy ≡ Err (faults.Repeated 1)
 unfolding toy rows_of row_from digits_from pieces_of
 rows_refused_repeated = refl
 
-rows_refused_letter : reading (codes "# x\n0 4 8\n0 x\n") toy ≡ Err (faults.NotNumber 3)
+rows_refused_letter : rows_of_text (codes "# x\n0 4 8\n0 x\n") toy ≡ Err (faults.NotNumber 3)
 unfolding toy rows_of row_from digits_from pieces_of
 rows_refused_letter = refl
 
-rows_refused_third : reading (codes "0 4 8\n0 1 2\n3\n") toy ≡ Err faults.TooManyRows
+rows_refused_third : rows_of_text (codes "0 4 8\n0 1 2\n3\n") toy ≡ Err faults.TooManyRows
 unfolding toy rows_of row_from digits_from pieces_of
 rows_refused_third = refl
 
-rows_refused_long : reading (codes "0 1 2 3 4 5 6 7 8 9 10 11 12 13 14 15 16 17 18 19 20 21 22 23 24") (shape_of 1 1 30) ≡ Err (faults.RowTooLong 1)
+rows_refused_long : rows_of_text (codes "0 1 2 3 4 5 6 7 8 9 10 11 12 13 14 15 16 17 18 19 20 21 22 23 24") (shape_of 1 1 30) ≡ Err (faults.RowTooLong 1)
 unfolding rows_of row_from digits_from pieces_of
 rows_refused_long = refl
 
@@ -63,11 +63,11 @@ address_moves = refl
 
 -- ---- value files
 
-values_read : reading_values (codes "-5 7 7 7 7 7 7 7\n-5 -5 -5 -5 7 7 7 7 -5 -5 -5 -5\n") 20 ≡ Ok (negsuc 4 ∷ pos 7 ∷ pos 7 ∷ pos 7 ∷ pos 7 ∷ pos 7 ∷ pos 7 ∷ pos 7 ∷ negsuc 4 ∷ negsuc 4 ∷ negsuc 4 ∷ negsuc 4 ∷ pos 7 ∷ pos 7 ∷ pos 7 ∷ pos 7 ∷ negsuc 4 ∷ negsuc 4 ∷ negsuc 4 ∷ negsuc 4 ∷ [])
+values_read : values_of_text (codes "-5 7 7 7 7 7 7 7\n-5 -5 -5 -5 7 7 7 7 -5 -5 -5 -5\n") 20 ≡ Ok (negsuc 4 ∷ pos 7 ∷ pos 7 ∷ pos 7 ∷ pos 7 ∷ pos 7 ∷ pos 7 ∷ pos 7 ∷ negsuc 4 ∷ negsuc 4 ∷ negsuc 4 ∷ negsuc 4 ∷ pos 7 ∷ pos 7 ∷ pos 7 ∷ pos 7 ∷ negsuc 4 ∷ negsuc 4 ∷ negsuc 4 ∷ negsuc 4 ∷ [])
 unfolding values_of digits_from pieces_of
 values_read = refl
 
-values_read_laid_out : reading_values (codes "# x\n1 -63\t007\r\n\n63") 4 ≡ Ok (pos 1 ∷ negsuc 62 ∷ pos 7 ∷ pos 63 ∷ [])
+values_read_laid_out : values_of_text (codes "# x\n1 -63\t007\r\n\n63") 4 ≡ Ok (pos 1 ∷ negsuc 62 ∷ pos 7 ∷ pos 63 ∷ [])
 unfolding values_of digits_from pieces_of
 values_read_laid_out = refl
 
@@ -76,18 +76,18 @@ is_text_of : IsTextOf (codes "-5 07\n") (negsuc 4 ∷ pos 7 ∷ [])
 unfolding digits
 is_text_of = ([], codes "-5", codes " 07\n", refl, tt, minus 0 5 (omega arith) refl refl, refl, (codes " ", codes "07", codes "\n", refl, (refl, tt), plain 1 7 (omega arith) refl refl, refl, (refl, tt)))
 
-values_refused_large : reading_values (codes "1\n512") 2 ≡ Err (value_faults.OutOfRange 2)
+values_refused_large : values_of_text (codes "1\n512") 2 ≡ Err (value_faults.OutOfRange 2)
 unfolding values_of digits_from pieces_of
 values_refused_large = refl
 
-values_refused_letter : reading_values (codes "x 2") 2 ≡ Err (value_faults.NotNumber 1)
+values_refused_letter : values_of_text (codes "x 2") 2 ≡ Err (value_faults.NotNumber 1)
 unfolding values_of digits_from pieces_of
 values_refused_letter = refl
 
-values_refused_few : reading_values (codes "1") 2 ≡ Err value_faults.TooFew
+values_refused_few : values_of_text (codes "1") 2 ≡ Err value_faults.TooFew
 unfolding values_of digits_from pieces_of
 values_refused_few = refl
 
-values_refused_many : reading_values (codes "1 2 3") 2 ≡ Err value_faults.TooMany
+values_refused_many : values_of_text (codes "1 2 3") 2 ≡ Err value_faults.TooMany
 unfolding values_of digits_from pieces_of
 values_refused_many = refl

@@ -43,11 +43,11 @@ rows_of checks left number (line ∷ lines) =
     else ok_cons (row_in checks number (words_of line)) (rows_of checks (left - 1) (number + 1) lines))
 
 -- the rows of a text for a shape, or the first fault in reading order
-abbrev pub reading : List ℕ → Shape → Result (List (List ℕ)) RowFault
-reading text shape = rows_of (check_count shape) shape.groups 1 (lines_of text)
+abbrev pub rows_of_text : List ℕ → Shape → Result (List (List ℕ)) RowFault
+rows_of_text text shape = rows_of (check_count shape) shape.groups 1 (lines_of text)
 
--- What was answered is the reading, unless memory ran out.
-abbrev pub Answers : {V : Type 0} → (V → List (List ℕ)) → Result V RowFault → Result (List (List ℕ)) RowFault → Type 0
-Answers view (Ok v) reading = reading ≡ Ok (view v)
-Answers view (Err faults.NoMemory) reading = ⊤
-Answers view (Err e) reading = reading ≡ Err e
+-- What was answered is what the text says, unless memory ran out.
+abbrev pub RowsAnswer : {V : Type 0} → (V → List (List ℕ)) → Result V RowFault → Result (List (List ℕ)) RowFault → Type 0
+RowsAnswer view (Ok v) said = said ≡ Ok (view v)
+RowsAnswer view (Err faults.NoMemory) said = ⊤
+RowsAnswer view (Err e) said = said ≡ Err e

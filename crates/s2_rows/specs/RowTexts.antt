@@ -2,7 +2,7 @@
 use Rattle.std.specs.Prelude.{◌≡◌, ℕ, ◌⊎◌, IsTrue, List, [], ◌∷◌, ◌++◌, Ok, codes, decimal, ⊤}
 use Rattle.std.specs.List.{flat_map}
 use Rattle.s2_rows.specs.Rows.{Rows, IsRows}
-use Rattle.s2_rows.specs.RowFiles.{reading}
+use Rattle.s2_rows.specs.RowFiles.{rows_of_text}
 use Rattle.s2_rows.specs.Text.{is_space, lines_of}
 use Rattle.s2_rows.specs.ValueTexts.{digits_of}
 
@@ -22,7 +22,7 @@ rows_text rows = flat_map row_text rows
 
 -- what is written is accepted, as the same rows
 abbrev pub ReadBackLaw : Type 0
-ReadBackLaw = (r : Rows) → IsRows r → reading (rows_text r.rows) r.shape ≡ Ok r.rows
+ReadBackLaw = (r : Rows) → IsRows r → rows_of_text (rows_text r.rows) r.shape ≡ Ok r.rows
 
 -- ---- row files however they are laid out
 
@@ -55,4 +55,4 @@ AreLinesOf (line ∷ lines) (row ∷ rows) = (IsSilent line × AreLinesOf lines 
 
 -- a file of such lines is accepted, as these rows
 abbrev pub RowFileLaw : Type 0
-RowFileLaw = (r : Rows) (text : List ℕ) → IsRows r → AreLinesOf (lines_of text) r.rows → reading text r.shape ≡ Ok r.rows
+RowFileLaw = (r : Rows) (text : List ℕ) → IsRows r → AreLinesOf (lines_of text) r.rows → rows_of_text text r.shape ≡ Ok r.rows

@@ -2,7 +2,7 @@
 use Rattle.std.specs.Prelude.{◌≡◌, ℕ, ◌≤◌, ◌||◌, IsTrue, Bool, List, [], ◌∷◌, ◌++◌, length, replicate, ⊤, ℤ, pos, neg_ℤ, Ok, decimal}
 use Rattle.s2_rows.specs.Limits.{most_soft}
 use Rattle.s2_rows.specs.Text.{is_space, is_line_feed}
-use Rattle.s2_rows.specs.Values.{reading}
+use Rattle.s2_rows.specs.Values.{values_of_text}
 
 -- space, tab, CR and LF separate numbers
 abbrev pub is_separator : ℕ → Bool
@@ -34,4 +34,4 @@ IsTextOf text (v ∷ values) =
 
 -- such a text is read as its values
 abbrev pub ValueTextLaw : Type 0
-ValueTextLaw = (values : List ℤ) (text : List ℕ) → IsTextOf text values → reading text (length values) ≡ Ok values
+ValueTextLaw = (values : List ℤ) (text : List ℕ) → IsTextOf text values → values_of_text text (length values) ≡ Ok values

@@ -4,7 +4,7 @@ ghost use Rattle.s2_mode.specs.Shape.{IsShape, check_count};
 ghost use Rattle.s2_mode.specs.declared.shape.TheConstants.{MOST_BITS};
 ghost use Rattle.s2_rows.specs.Numbers.{natural_of};
 ghost use Rattle.s2_rows.specs.Readings.{after, GoesOn};
-ghost use Rattle.s2_rows.specs.RowFiles.{address_of, with_word, row_in, rows_of, reading, Answers};
+ghost use Rattle.s2_rows.specs.RowFiles.{address_of, with_word, row_in, rows_of, rows_of_text, RowsAnswer};
 ghost use Rattle.s2_rows.specs.Text.{words_of};
 
 use crate::numbers::natural;
@@ -117,7 +117,7 @@ pub fn read_lines<A: Allocator>(
     text: &[u8],
     shape: Shape,
 ) -> Result<Vec<Row, A>, RowFault>
-    ensures read { Answers (λ v. map (λ row. row.items) v.items) result (reading text.now shape) }
+    ensures read { RowsAnswer (λ v. map (λ row. row.items) v.items) result (rows_of_text text.now shape) }
     ensures valid { IsShape shape }
 {
     let mut rows = Vec::with_capacity(alloc, shape.groups()).map_err(|_| RowFault::NoMemory)?;
@@ -140,7 +140,7 @@ pub fn read_lines<A: Allocator>(
 /// group of information bits. Its words, between spaces, tabs and CR, are decimal addresses: 1 to
 /// 24 of them, below n - k, each once. `NoMemory` comes before all other faults.
 pub fn read_rows(alloc: Global, text: &[u8], shape: Shape) -> Result<Rows, RowFault>
-    ensures rows { Answers (λ r. r.rows) result (reading text.now shape) }
+    ensures rows { RowsAnswer (λ r. r.rows) result (rows_of_text text.now shape) }
     ensures shape { IfOk result (λ r. r.shape ≡ shape) }
 {
     let rows = read_lines(alloc, text, shape)?;

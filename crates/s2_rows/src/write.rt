@@ -2,7 +2,7 @@
 ghost use Rattle.std.specs.Prelude.{◌≡◌, ◌-◌, ◌^◌, ◌<◌, Ok, OnOk};
 ghost use Rattle.std.specs.Io.KnownBytes.{Appends};
 ghost use Rattle.s2_mode.specs.Counts.{CountsFault};
-ghost use Rattle.s2_rows.specs.RowFiles.{reading};
+ghost use Rattle.s2_rows.specs.RowFiles.{rows_of_text};
 ghost use Rattle.s2_rows.specs.RowTexts.{after_address, row_text, rows_text};
 
 use crate::rows::Rows;
@@ -38,7 +38,7 @@ fn write_row<W: CountedWrite>(row: &[u32], out: &mut W) -> Result<(), WriteFault
 pub fn write_rows<W: CountedWrite>(rows: &Rows, out: &mut W) -> Result<(), WriteFault>
     requires { W.count out.old < 2 ^ 64 - 1 }
     ensures lines { OnOk result (Appends (W.contents out.old) (W.contents out.new) (rows_text rows.now.rows)) }
-    ensures read_back { OnOk result (reading (rows_text rows.now.rows) rows.now.shape ≡ Ok rows.now.rows) }
+    ensures read_back { OnOk result (rows_of_text (rows_text rows.now.rows) rows.now.shape ≡ Ok rows.now.rows) }
     ensures cause { CountsFault (W.count out.old) (W.count out.new) result }
 {
     for g in 0..rows.shape().groups() {

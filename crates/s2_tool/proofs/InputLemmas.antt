@@ -38,8 +38,8 @@ at_rows known_soft ended old new shape shape' xs xs' p q h =
 -- ---- rows and a certificate
 
 -- two files in memory say this certificate and these rows
-pub are_parts : (rows certificate : List ℕ) (view : View) (r : Rows) → certificate_said (certificate_files.reading certificate) ≡ Ok view
-    → rows_said view.shape (row_files.reading rows view.shape) ≡ Ok r → ArePartsIn rows certificate (Ok (r, view))
+pub are_parts : (rows certificate : List ℕ) (view : View) (r : Rows) → certificate_said (certificate_files.certificate_of_bytes certificate) ≡ Ok view
+    → rows_said view.shape (row_files.rows_of_text rows view.shape) ≡ Ok r → ArePartsIn rows certificate (Ok (r, view))
 are_parts rows certificate view r p q = ap (with_rows rows) p ∙ ap (beside view) q
 
 both_taken : (a b : Result (List ℕ) Fault) (rows certificate : List ℕ) → a ≡ Ok rows → b ≡ Ok certificate → then_parts a b ≡ parts_in rows certificate

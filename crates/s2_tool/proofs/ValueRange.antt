@@ -6,7 +6,7 @@ use Rattle.s2_rows.specs.declared.limits.TheConstants.{MOST_SOFT}
 use Rattle.s2_rows.specs.declared.values.ValueFault.{ValueFault}
 use Rattle.s2_rows.specs.Readings.{ok_cons}
 use Rattle.s2_rows.specs.Text.{lines_of}
-use Rattle.s2_rows.specs.Values.{is_value, in_range, number_of, value_of, values_of, tokens_from, reading}
+use Rattle.s2_rows.specs.Values.{is_value, in_range, number_of, value_of, values_of, tokens_from, values_of_text}
 use Rattle.s2_check.specs.Views.{IsSoft}
 
 soft : (v : ℤ) → is_value v ≡ true → IsSoft v
@@ -36,5 +36,5 @@ values_soft left [] vs h =
 values_soft left (token ∷ tokens) vs h =
     elim (cases_Bool (left == 0)) [ inl none ↦ (let h' = rw none at h in cc) | inr some ↦ (let h' = rw some at h in joined (value_of token.0 token.1) (values_of (left - 1) tokens) vs (λ v e. said token.0 (number_of token.1) v e) (λ ws e. values_soft (left - 1) tokens ws e) h') ]
 
-pub reading_soft : (text : List ℕ) (count : ℕ) (vs : List ℤ) → reading text count ≡ Ok vs → All IsSoft vs
+pub reading_soft : (text : List ℕ) (count : ℕ) (vs : List ℤ) → values_of_text text count ≡ Ok vs → All IsSoft vs
 reading_soft text count vs h = values_soft count (tokens_from 1 (lines_of text)) vs h

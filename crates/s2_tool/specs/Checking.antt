@@ -30,12 +30,12 @@ beside view (Err f) = Err f
 
 -- the rows by the certificate's shape
 abbrev pub with_rows : List ℕ → Result View Fault → Result (Rows × View) Fault
-with_rows text (Ok view) = beside view (rows_said view.shape (row_files.reading text view.shape))
+with_rows text (Ok view) = beside view (rows_said view.shape (row_files.rows_of_text text view.shape))
 with_rows text (Err f) = Err f
 
 -- what two files in memory say: first the certificate is taken apart
 abbrev pub parts_in : List ℕ → List ℕ → Result (Rows × View) Fault
-parts_in rows certificate = with_rows rows (certificate_said (certificate_files.reading certificate))
+parts_in rows certificate = with_rows rows (certificate_said (certificate_files.certificate_of_bytes certificate))
 
 abbrev pub then_parts : Result (List ℕ) Fault → Result (List ℕ) Fault → Result (Rows × View) Fault
 then_parts (Err f) certificate = Err f

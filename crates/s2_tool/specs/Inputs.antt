@@ -27,7 +27,7 @@ taken bytes = if nat_le (length bytes) most_bytes then Ok bytes else Err faults.
 
 -- the rows of a row file, at most 16,777,216 bytes
 abbrev pub rows_in : Shape → List ℕ → Result Rows Fault
-rows_in shape bytes = if nat_le (length bytes) most_bytes then rows_said shape (row_files.reading bytes shape) else Err faults.TooLong
+rows_in shape bytes = if nat_le (length bytes) most_bytes then rows_said shape (row_files.rows_of_text bytes shape) else Err faults.TooLong
 
 -- the rows that a shape, a weight and a seed determine
 abbrev pub rows_made : Shape → ℕ → ℕ → Result (List (List ℕ)) Fault
@@ -39,7 +39,7 @@ values_said (Err e) = Err (faults.Values e)
 
 -- the values of a value file, at most 16,777,216 bytes
 abbrev pub values_in : Shape → List ℕ → Result (List ℤ) Fault
-values_in shape bytes = if nat_le (length bytes) most_bytes then values_said (values.reading bytes (code_bits shape)) else Err faults.TooLong
+values_in shape bytes = if nat_le (length bytes) most_bytes then values_said (values.values_of_text bytes (code_bits shape)) else Err faults.TooLong
 
 -- the rows, then the values
 abbrev pub then_values : Result Rows Fault → Result (List ℤ) Fault → Result (Rows × List ℤ) Fault

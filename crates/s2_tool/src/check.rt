@@ -1,7 +1,7 @@
 //! Certificates checked.
 ghost use Rattle.std.specs.Prelude.{◌≡◌, ◌≢◌, ◌+◌, Result, Err, IfOk, IsOk};
 ghost use Rattle.s2_rows.specs.RowFiles as row_files;
-ghost use Rattle.s2_check.specs.CertificateFiles.{reading};
+ghost use Rattle.s2_check.specs.CertificateFiles.{certificate_of_bytes};
 ghost use Rattle.s2_tool.specs.Counting.{CanCount};
 ghost use Rattle.s2_tool.specs.Screens.{CanShow};
 ghost use Rattle.s2_tool.specs.Exits.{exit_of, Follows, CommandAnswers, CommandRuns, CommandCounts, Complains};
@@ -54,7 +54,7 @@ fn answered(alloc: Global, matrix: &Matrix, view: &CertView<'_>) -> Result<Print
 
 /// The certificate of a file in memory.
 fn certificate_of(alloc: Global, bytes: &[u8]) -> Result<Certificate, Fault<'static>>
-    ensures says { Follows (λ c. c) result (certificate_said (reading bytes.now)) }
+    ensures says { Follows (λ c. c) result (certificate_said (certificate_of_bytes bytes.now)) }
     ensures read { result ≢ Err Fault.Read }
     ensures write { result ≢ Err Fault.Write }
 {
@@ -67,7 +67,7 @@ fn certificate_of(alloc: Global, bytes: &[u8]) -> Result<Certificate, Fault<'sta
 
 /// The rows of a row file in memory.
 fn rows_of(alloc: Global, text: &[u8], shape: Shape) -> Result<Rows, Fault<'static>>
-    ensures says { Follows (λ r. r) result (rows_said shape (row_files.reading text.now shape)) }
+    ensures says { Follows (λ r. r) result (rows_said shape (row_files.rows_of_text text.now shape)) }
     ensures read { result ≢ Err Fault.Read }
     ensures write { result ≢ Err Fault.Write }
 {

@@ -4,7 +4,7 @@ ghost use Rattle.s2_mode.specs.Mode.{kbch_of, k_of, n_of, slots_of, symbols_in, 
 ghost use Rattle.s2_bits.specs.Bits.{differences};
 ghost use Rattle.s2_check.specs.Views.{IsSoft};
 ghost use Rattle.s2_bbframe.specs.DataStream.{field_bytes};
-ghost use Rattle.s2_bbframe.specs.Headers.{reading, has_valid_lengths};
+ghost use Rattle.s2_bbframe.specs.Headers.{header_of_bytes, has_valid_lengths};
 ghost use Rattle.s2_scramble.specs.Baseband.{scrambled};
 ghost use Rattle.s2_plframe.specs.Payload.{received_payload};
 ghost use Rattle.s2_soft.specs.Soft.{soft_values};
@@ -65,7 +65,7 @@ fn read_message(
     requires word { length word.now ≡ k_of mode }
     requires frame { length frame.old ≡ kbch_of mode }
     requires field { length field.old ≡ field_bytes mode }
-    ensures header { result ≡ reading mode (header_in (scrambled (message_of mode word.now))) }
+    ensures header { result ≡ header_of_bytes mode (header_in (scrambled (message_of mode word.now))) }
     ensures field { IfOk result (λ h. take (h.dfl / 8) field.new ≡ field_in h (scrambled (message_of mode word.now))) }
     ensures valid { IfOk result (λ h. has_valid_lengths mode h ≡ true) }
     ensures room { IfOk result (λ h. h.dfl / 8 ≤ length field.new) }

@@ -9,7 +9,7 @@ use Rattle.s2_file.proofs.Pages.{all_out}
 use Rattle.s2_check.specs.Views.{View}
 use Rattle.s2_check.specs.Held.{shares_of}
 use Rattle.s2_check.specs.CertificateBytes.{bytes_of}
-use Rattle.s2_check.specs.CertificateFiles.{reading}
+use Rattle.s2_check.specs.CertificateFiles.{certificate_of_bytes}
 use Rattle.s2_check.proofs.ViewFiles.{read_back_lem}
 use Rattle.s2_check.proofs.view.CertView.write.Goals as goal
 
@@ -29,4 +29,4 @@ returns-clause-bytes g c =
 
 pub returns-clause-read_back : goal.returns-clause-read_back
 returns-clause-read_back g c =
-    let P : View → Type 0 = λ v. reading (bytes_of v) ≡ Ok v in subst P c.self.view_is (read_back_lem _ c.self.invariant.0)
+    let P : View → Type 0 = λ v. certificate_of_bytes (bytes_of v) ≡ Ok v in subst P c.self.view_is (read_back_lem _ c.self.invariant.0)

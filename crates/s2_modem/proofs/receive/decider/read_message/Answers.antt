@@ -1,7 +1,7 @@
 use Rattle.std.proofs.Common.{◌≡◌, ◌/◌, true, length, take, sym, ap, ◌∙◌, arith}
 use Rattle.s2_mode.specs.Mode.{kbch_of}
 use Rattle.s2_scramble.specs.Baseband.{scrambled}
-use Rattle.s2_bbframe.specs.Headers.{reading, has_valid_lengths}
+use Rattle.s2_bbframe.specs.Headers.{header_of_bytes, has_valid_lengths}
 use Rattle.s2_modem.specs.Reports.{message_of, bytes_from}
 use Rattle.s2_modem.proofs.DecisionLemmas.{frame_read, header_read, accepted_valid, field_fits}
 use Rattle.s2_modem.proofs.receive.decider.read_message.Goals as goal
@@ -10,13 +10,13 @@ pub returns-in-Err-clause-header : goal.returns-in-Err-clause-header
 returns-in-Err-clause-header c =
     let frame : c.bb_xor_in_place.new.bits ≡ scrambled (message_of c.args.mode c.args.word.now) =
     frame_read c.args.mode c.args.word.now c.args.frame.now c.copy_prefix.new.self c.bb_xor_in_place.new.bits c.kbch.result c.kbch.ensures.is c.kbch.ensures.sizes c.requires.word c.requires.frame c.copy_prefix.ensures c.bb_xor_in_place.ensures.is in
-    sym c.in-Err.is ∙ (c.read.ensures ∙ ap (reading c.args.mode) (header_read c.args.mode c.args.word.now c.bb_xor_in_place.new.bits c.truths-bits.result.now c.bytes_from.new.bytes frame c.truths-bits.ensures c.bytes_from.ensures c.bytes_from.auto.bytes))
+    sym c.in-Err.is ∙ (c.read.ensures ∙ ap (header_of_bytes c.args.mode) (header_read c.args.mode c.args.word.now c.bb_xor_in_place.new.bits c.truths-bits.result.now c.bytes_from.new.bytes frame c.truths-bits.ensures c.bytes_from.ensures c.bytes_from.auto.bytes))
 
 pub returns-in-Ok-clause-header : goal.returns-in-Ok-clause-header
 returns-in-Ok-clause-header c =
     let frame : c.bb_xor_in_place.new.bits ≡ scrambled (message_of c.args.mode c.args.word.now) =
     frame_read c.args.mode c.args.word.now c.args.frame.now c.copy_prefix.new.self c.bb_xor_in_place.new.bits c.kbch.result c.kbch.ensures.is c.kbch.ensures.sizes c.requires.word c.requires.frame c.copy_prefix.ensures c.bb_xor_in_place.ensures.is in
-    sym c.in-Ok.is ∙ (c.read.ensures ∙ ap (reading c.args.mode) (header_read c.args.mode c.args.word.now c.bb_xor_in_place.new.bits c.truths-bits.result.now c.bytes_from.new.bytes frame c.truths-bits.ensures c.bytes_from.ensures c.bytes_from.auto.bytes))
+    sym c.in-Ok.is ∙ (c.read.ensures ∙ ap (header_of_bytes c.args.mode) (header_read c.args.mode c.args.word.now c.bb_xor_in_place.new.bits c.truths-bits.result.now c.bytes_from.new.bytes frame c.truths-bits.ensures c.bytes_from.ensures c.bytes_from.auto.bytes))
 
 pub bytes_from-requires-in-Ok-clause-bits : goal.bytes_from-requires-in-Ok-clause-bits
 bytes_from-requires-in-Ok-clause-bits c =
