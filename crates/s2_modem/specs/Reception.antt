@@ -45,7 +45,7 @@ pub record IsSetUp (setup : Setup) (rows : Rows) : Type 0 where
   pub number : setup.number ≤ 262141
   pub roll_off : setup.roll_off ≤ 2
 
--- when each refusal comes: the first of five
+-- when each refusal comes: the first of five; want of memory only where none of them does
 abbrev pub Refuses : Setup → Rows → Effort → SetupFault → Type 0
 Refuses setup rows effort faults.OtherShape = rows.shape ≢ shape_in setup.mode
 Refuses setup rows effort faults.BadNumber = HasShape setup rows × (262141 < setup.number)
