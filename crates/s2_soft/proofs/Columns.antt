@@ -13,6 +13,8 @@ use Rattle.s2_map.proofs.Labels.{width_qpsk, width_psk}
 use Rattle.s2_map.proofs.Places.{sent_qpsk, sent_psk, sent_place}
 use Rattle.s2_soft.specs.Soft.{least_distance, soft_values, InRange, quantized, soft_value, soft_bit, value_at}
 use Rattle.s2_soft.specs.Closed.{component_difference, first_difference, second_difference, third_difference}
+use Rattle.s2_soft.specs.Lanes.{component_at}
+use Rattle.s2_soft.proofs.Components.{is_i, is_q}
 use Rattle.s2_soft.proofs.Distances.{qpsk_first, qpsk_second, psk_first, psk_second, psk_third}
 
 -- ---- QPSK
@@ -24,21 +26,19 @@ qpsk_bit m payload b s j e row column =
     λ t. soft_value m (symbol_at payload (place t)) (bit t)
 
 pub qpsk_values : (m : Mode) (payload : List Symbol) (values : List ℤ) (rows : ℕ) → is_qpsk m ≡ true
-    → ((s : ℕ) → s < rows → value_at values (2 * s) ≡ quantized (component_difference (symbol_at payload s).i))
-    → ((s : ℕ) → s < rows → value_at values (2 * s + 1) ≡ quantized (component_difference (symbol_at payload s).q))
+    → ((b : ℕ) → b < 2 * rows → value_at values b ≡ quantized (component_difference (component_at payload b)))
     → (b : ℕ) → b < 2 * rows → value_at values b ≡ soft_bit m payload b
-qpsk_values m payload values rows e first second b lt =
+qpsk_values m payload values rows e holds b lt =
     let s = b / 2 in
-    let inside : s < rows = omega arith in
     elim (cases_lt (b % 2) 1) [
       | inl even ↦
-          let at : 2 * s ≡ b = omega arith in
+          let at : b ≡ 2 * s = omega arith in
           let bit : b % 2 ≡ 0 = omega arith in
-          ap (value_at values) (sym at) ∙ (first s inside ∙ sym (qpsk_bit m payload b s 0 e (λ t. s) bit ∙ ap quantized (qpsk_first m (symbol_at payload s) e)))
+          holds b lt ∙ (ap (λ z. quantized (component_difference z)) (is_i payload b s at) ∙ sym (qpsk_bit m payload b s 0 e (λ t. s) bit ∙ ap quantized (qpsk_first m (symbol_at payload s) e)))
       | inr odd ↦
-          let at : 2 * s + 1 ≡ b = omega arith in
+          let at : b ≡ 2 * s + 1 = omega arith in
           let bit : b % 2 ≡ 1 = omega arith in
-          ap (value_at values) (sym at) ∙ (second s inside ∙ sym (qpsk_bit m payload b s 1 e (λ t. s) bit ∙ ap quantized (qpsk_second m (symbol_at payload s) e)))
+          holds b lt ∙ (ap (λ z. quantized (component_difference z)) (is_q payload b s at) ∙ sym (qpsk_bit m payload b s 1 e (λ t. s) bit ∙ ap quantized (qpsk_second m (symbol_at payload s) e)))
     ]
 
 -- ---- 8PSK

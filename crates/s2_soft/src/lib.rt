@@ -13,6 +13,7 @@
 #![tactic(auto)]
 
 mod constants;
+mod lanes;
 pub mod laws;
 mod soft;
 mod values;

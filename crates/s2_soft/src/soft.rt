@@ -4,8 +4,10 @@ ghost use Rattle.s2_mode.specs.Mode.{is_qpsk, n_of, slots_of, width_of};
 ghost use Rattle.s2_mode.specs.Symbols.{symbol_at};
 ghost use Rattle.s2_soft.specs.Soft.{quantized, soft_value, soft_bit, soft_values, value_at, InRange};
 ghost use Rattle.s2_map.specs.Mapping.{place_of};
+ghost use Rattle.s2_soft.specs.Lanes.{component_at};
 ghost use Rattle.s2_soft.specs.Closed.{component_difference, first_difference, second_difference, third_difference};
 
+use crate::lanes::{component_values, components, store};
 use crate::values::{component_value, psk_values};
 use s2_map::PSK_3_5;
 use s2_mode::{Mode, Symbol};
@@ -13,7 +15,7 @@ use s2_mode::{Mode, Symbol};
 /// Writes the soft values of a payload whose scrambling is undone, in the order of the codeword's bits.
 /// A value is how much nearer the symbol is to the points with 0 at the bit's place of their labels
 /// (EN 302 307-1, 5.4) than to those with 1: the difference of the least squared distances, divided
-/// by 65536 toward zero and held within -63 to 63. Any components are taken.
+/// by `DIVISOR` toward zero and held within -`LIMIT` to `LIMIT`. Any components are taken.
 ///
 /// `payload` has 90 symbols for each slot of the mode: 32400 or 8100 for QPSK, 21600 or 5400 for 8PSK.
 /// `soft` has a value for each of the codeword's 64800 bits (normal frames) or 16200 (short ones).
@@ -35,10 +37,13 @@ pub fn soft_into(mode: Mode, payload: &[Symbol], soft: &mut [i16])
 /// QPSK: each component is the soft value of a bit.
 fn pairs_into(payload: &[Symbol], soft: &mut [i16])
     requires { length soft.old ≡ 2 * length payload.now }
-    ensures first { (s : ℕ) → s < length payload.now → value_at soft.new (2 * s) ≡ quantized (component_difference (symbol_at payload.now s).i) }
-    ensures second { (s : ℕ) → s < length payload.now → value_at soft.new (2 * s + 1) ≡ quantized (component_difference (symbol_at payload.now s).q) }
+    ensures { (b : ℕ) → b < 2 * length payload.now → value_at soft.new b ≡ quantized (component_difference (component_at payload.now b)) }
 {
-    for s in 0..payload.len() {
+    for block in 0..payload.len() / 4 {
+        let values = component_values(components(payload, 4 * block));
+        store(values, soft, 8 * block);
+    }
+    for s in payload.len() / 4 * 4..payload.len() {
         let Symbol { i, q } = payload[s];
         soft[2 * s] = component_value(i);
         soft[2 * s + 1] = component_value(q);

@@ -9,7 +9,7 @@ use s2_mode::Symbol;
 
 /// What a component of QPSK is multiplied by, where 65536 divides: for lanes of 16 bits, whose
 /// products have their upper halves at hand.
-const SCALE: u32 = 4 * DIAGONAL as u32 * (65536 / DIVISOR as u32);
+pub(crate) const SCALE: u32 = 4 * DIAGONAL as u32 * (65536 / DIVISOR as u32);
 
 /// What multiplies both components in twice an inner product with a point between the axes.
 const BETWEEN: i32 = 2 * DIAGONAL as i32;
