@@ -35,7 +35,7 @@ pub fn soft_into(mode: Mode, payload: &[Symbol], soft: &mut [i16])
 }
 
 /// QPSK: each component is the soft value of a bit.
-fn pairs_into(payload: &[Symbol], soft: &mut [i16])
+pub(crate) fn pairs_into(payload: &[Symbol], soft: &mut [i16])
     requires { length soft.old ≡ 2 * length payload.now }
     ensures { (b : ℕ) → b < 2 * length payload.now → value_at soft.new b ≡ quantized (component_difference (component_at payload.now b)) }
 {
@@ -67,7 +67,12 @@ fn rows_into(mode: Mode, payload: &[Symbol], soft: &mut [i16])
 }
 
 /// 8PSK: each symbol has a bit in each column.
-fn columns_into(payload: &[Symbol], first: &mut [i16], second: &mut [i16], third: &mut [i16])
+pub(crate) fn columns_into(
+    payload: &[Symbol],
+    first: &mut [i16],
+    second: &mut [i16],
+    third: &mut [i16],
+)
     requires first { length first.old ≡ length payload.now }
     requires second { length second.old ≡ length payload.now }
     requires third { length third.old ≡ length payload.now }

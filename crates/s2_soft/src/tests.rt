@@ -1,56 +1,282 @@
-//! Soft values of known symbols, and of codewords.
+//! Soft values beside those of the definition, and of codewords.
+ghost use Rattle.std.specs.Prelude.{◌≡◌, ◌*◌, ◌<◌, length};
+
+use crate::constants::{DIVISOR, LIMIT};
+use crate::soft::{columns_into, pairs_into};
 use crate::soft_into;
 use s2_bits::Bits;
 use s2_map::map_into;
 use s2_mode::{Mode, Symbol};
 use std::test::Fail;
 
-/// The soft values of one symbol in the place of a payload's first.
-fn of_first(rt: &HostRuntime, modcod: u8, symbol: Symbol) -> Result<[i16; 3], Fail> {
-    let mode = Mode::of(modcod, true, false).ok_or("no mode")?;
-    let mut payload = vec![in rt.alloc(); Symbol { i: 0, q: 0 }; 90 * mode.slots()]?;
-    let mut soft = vec![in rt.alloc(); 1i16; mode.n()]?;
-    payload[0] = symbol;
-    soft_into(mode, &payload, &mut soft);
-    let rows = mode.n() / 3;
-    if mode.is_qpsk() {
-        Ok([soft[0], soft[1], 0])
-    } else if modcod == 12 {
-        Ok([soft[2 * rows], soft[rows], soft[0]])
-    } else {
-        Ok([soft[0], soft[rows], soft[2 * rows]])
+/// A point, and which bits of its label are ones.
+struct Labelled {
+    i: i64,
+    q: i64,
+    ones: [bool; 3],
+}
+
+/// The points of QPSK (EN 302 307-1, 5.4.1).
+static QPSK: [Labelled; 4] = [
+    Labelled {
+        i: 700,
+        q: 700,
+        ones: [false, false, false],
+    },
+    Labelled {
+        i: 700,
+        q: -700,
+        ones: [false, true, false],
+    },
+    Labelled {
+        i: -700,
+        q: 700,
+        ones: [true, false, false],
+    },
+    Labelled {
+        i: -700,
+        q: -700,
+        ones: [true, true, false],
+    },
+];
+
+/// The points of 8PSK (EN 302 307-1, 5.4.2).
+static PSK: [Labelled; 8] = [
+    Labelled {
+        i: 700,
+        q: 700,
+        ones: [false, false, false],
+    },
+    Labelled {
+        i: 990,
+        q: 0,
+        ones: [false, false, true],
+    },
+    Labelled {
+        i: -990,
+        q: 0,
+        ones: [false, true, false],
+    },
+    Labelled {
+        i: -700,
+        q: -700,
+        ones: [false, true, true],
+    },
+    Labelled {
+        i: 0,
+        q: 990,
+        ones: [true, false, false],
+    },
+    Labelled {
+        i: 700,
+        q: -700,
+        ones: [true, false, true],
+    },
+    Labelled {
+        i: -700,
+        q: 700,
+        ones: [true, true, false],
+    },
+    Labelled {
+        i: 0,
+        q: -990,
+        ones: [true, true, true],
+    },
+];
+
+/// The least squared distance of a symbol to a point whose label has this bit.
+fn least_distance(points: &[Labelled], symbol: Symbol, place: usize, bit: bool) -> i64
+    requires { place < 3 }
+{
+    let mut least = i64::MAX;
+    for point in points {
+        let i = i64::from(symbol.i).wrapping_sub(point.i);
+        let q = i64::from(symbol.q).wrapping_sub(point.q);
+        if point.ones[place] == bit {
+            least = least.min(i.wrapping_mul(i).wrapping_add(q.wrapping_mul(q)));
+        }
+    }
+    least
+}
+
+/// The soft value of a bit of a symbol's label, by the definition.
+fn defined(points: &[Labelled], symbol: Symbol, place: usize) -> i64
+    requires { place < 3 }
+{
+    let one = least_distance(points, symbol, place, true);
+    let zero = least_distance(points, symbol, place, false);
+    let limit = i64::from(LIMIT);
+    (one.wrapping_sub(zero) / i64::from(DIVISOR))
+        .min(limit)
+        .max(-limit)
+}
+
+/// The soft values of a symbol of 8PSK, by the definition.
+fn defined_psk(symbol: Symbol) -> [i64; 3] {
+    [
+        defined(&PSK, symbol, 0),
+        defined(&PSK, symbol, 1),
+        defined(&PSK, symbol, 2),
+    ]
+}
+
+/// Whether these are the soft values of QPSK symbols.
+fn are_of_qpsk(symbols: &[Symbol], soft: &[i16]) -> bool
+    requires { length soft.now ≡ 2 * length symbols.now }
+{
+    let mut same = true;
+    for s in 0..symbols.len() {
+        let first = i64::from(soft[2 * s]) == defined(&QPSK, symbols[s], 0);
+        let second = i64::from(soft[2 * s + 1]) == defined(&QPSK, symbols[s], 1);
+        same = same && first && second;
+    }
+    same
+}
+
+/// Whether these are the soft values of 8PSK symbols.
+fn are_of_psk(symbols: &[Symbol], first: &[i16], second: &[i16], third: &[i16]) -> bool
+    requires first { length first.now ≡ length symbols.now }
+    requires second { length second.now ≡ length symbols.now }
+    requires third { length third.now ≡ length symbols.now }
+{
+    let mut same = true;
+    for s in 0..symbols.len() {
+        let values = [
+            i64::from(first[s]),
+            i64::from(second[s]),
+            i64::from(third[s]),
+        ];
+        same = same && values == defined_psk(symbols[s]);
+    }
+    same
+}
+
+/// The least component of QPSK whose soft value is not 0.
+const STEP: i16 = ((DIVISOR + 2799) / 2800) as i16;
+
+/// The least component of QPSK whose soft value is the limit.
+const CAP: i16 = ((LIMIT as i32 * DIVISOR + 2799) / 2800) as i16;
+
+/// Symbols at the ends of the range, and at both sides of the first and the last step of QPSK.
+static EDGES: [Symbol; 13] = [
+    Symbol {
+        i: -32768,
+        q: 32767,
+    },
+    Symbol {
+        i: 32767,
+        q: -32768,
+    },
+    Symbol { i: CAP, q: -CAP },
+    Symbol {
+        i: CAP - 1,
+        q: 1 - CAP,
+    },
+    Symbol { i: STEP, q: -STEP },
+    Symbol {
+        i: STEP - 1,
+        q: 1 - STEP,
+    },
+    Symbol { i: 0, q: 0 },
+    Symbol { i: -1, q: 1 },
+    Symbol { i: 990, q: 0 },
+    Symbol { i: 0, q: -990 },
+    Symbol {
+        i: -32768,
+        q: -32768,
+    },
+    Symbol { i: -32768, q: 0 },
+    Symbol {
+        i: CAP + 1,
+        q: -1 - CAP,
+    },
+];
+
+#[test]
+fn qpsk_of_each_length(rt: HostRuntime) {
+    let mut soft = [1i16; 26];
+    for n in 0..14usize {
+        let values = &mut soft[..2 * n];
+        pairs_into(&EDGES[..n], values);
+        assert!(rt; are_of_qpsk(&EDGES[..n], values));
     }
 }
 
 #[test]
-fn values_of_qpsk(rt: HostRuntime) -> Result<(), Fail> {
-    assert_eq!(rt; of_first(&rt, 4, Symbol { i: 700, q: 700 })?, [29, 29, 0]);
-    assert_eq!(rt; of_first(&rt, 4, Symbol { i: 16, q: -16 })?, [0, 0, 0]);
-    assert_eq!(rt; of_first(&rt, 4, Symbol { i: 32767, q: 0 })?, [63, 0, 0]);
-    assert_eq!(rt;
-        of_first(&rt, 4, Symbol { i: -32768, q: -700 })?,
-        [-63, -29, 0]
-    );
+fn psk_of_each_length(rt: HostRuntime) {
+    let mut first = [1i16; 13];
+    let mut second = [1i16; 13];
+    let mut third = [1i16; 13];
+    for n in 0..14usize {
+        columns_into(
+            &EDGES[..n],
+            &mut first[..n],
+            &mut second[..n],
+            &mut third[..n],
+        );
+        assert!(rt; are_of_psk(&EDGES[..n], &first[..n], &second[..n], &third[..n]));
+    }
+}
+
+/// Symbols that have each component on both axes.
+fn fill(symbols: &mut [Symbol]) {
+    let mut word = 0u16;
+    for s in 0..symbols.len() {
+        symbols[s] = Symbol {
+            i: word.cast_signed(),
+            q: word.wrapping_mul(40503).cast_signed(),
+        };
+        word = word.wrapping_add(1);
+    }
+}
+
+#[test]
+fn qpsk_of_each_component(rt: HostRuntime) -> Result<(), Fail> {
+    let mut symbols = vec![in rt.alloc(); Symbol { i: 0, q: 0 }; 65539]?;
+    let mut soft = vec![in rt.alloc(); 1i16; 131078]?;
+    fill(&mut symbols);
+    pairs_into(&symbols, &mut soft);
+    assert!(rt; are_of_qpsk(&symbols, &soft));
     Ok(())
 }
 
 #[test]
-fn values_of_psk(rt: HostRuntime) -> Result<(), Fail> {
-    assert_eq!(rt; of_first(&rt, 13, Symbol { i: 700, q: 700 })?, [8, 29, 8]);
-    assert_eq!(rt; of_first(&rt, 13, Symbol { i: 990, q: 0 })?, [8, 29, -8]);
-    assert_eq!(rt; of_first(&rt, 13, Symbol { i: 0, q: 0 })?, [0, 0, 0]);
-    assert_eq!(rt; of_first(&rt, 12, Symbol { i: 990, q: 0 })?, [8, 29, -8]);
-    assert_eq!(rt;
-        of_first(
-            &rt,
-            13,
-            Symbol {
-                i: -32768,
-                q: -32768
-            }
-        )?,
-        [63, -63, -63]
-    );
+fn psk_of_each_component(rt: HostRuntime) -> Result<(), Fail> {
+    let mut symbols = vec![in rt.alloc(); Symbol { i: 0, q: 0 }; 65539]?;
+    let mut first = vec![in rt.alloc(); 1i16; 65539]?;
+    let mut second = vec![in rt.alloc(); 1i16; 65539]?;
+    let mut third = vec![in rt.alloc(); 1i16; 65539]?;
+    fill(&mut symbols);
+    columns_into(&symbols, &mut first, &mut second, &mut third);
+    assert!(rt; are_of_psk(&symbols, &first, &second, &third));
+    Ok(())
+}
+
+/// The soft values of a frame of 8PSK whose last symbols are on an axis and whose others are 0.
+fn are_in_columns(rt: &HostRuntime, modcod: u8) -> Result<bool, Fail> {
+    let mode = Mode::of(modcod, true, false).ok_or("no mode")?;
+    let mut payload = vec![in rt.alloc(); Symbol { i: 0, q: 0 }; 90 * mode.slots()]?;
+    let mut soft = vec![in rt.alloc(); 1i16; mode.n()]?;
+    for s in 5395..payload.len() {
+        payload[s] = Symbol { i: 990, q: 0 };
+    }
+    soft_into(mode, &payload, &mut soft);
+    if payload.len() != 5400 || soft.len() != 16200 {
+        return Ok(false);
+    }
+    let (first, rest) = soft.split_at(5400);
+    let (second, third) = rest.split_at(5400);
+    Ok(if modcod == 12 {
+        are_of_psk(&payload, third, second, first)
+    } else {
+        are_of_psk(&payload, first, second, third)
+    })
+}
+
+#[test]
+fn reads_columns_in_order(rt: HostRuntime) -> Result<(), Fail> {
+    assert!(rt; are_in_columns(&rt, 12)?);
+    assert!(rt; are_in_columns(&rt, 13)?);
     Ok(())
 }
 
@@ -85,24 +311,6 @@ fn says_each_clean_codeword(rt: HostRuntime) -> Result<(), Fail> {
             if let Some(mode) = Mode::of(modcod, short, false) {
                 assert!(rt; are_told(&rt, mode)?);
             }
-        }
-    }
-    Ok(())
-}
-
-#[test]
-fn values_of_the_last_symbols(rt: HostRuntime) -> Result<(), Fail> {
-    let mode = Mode::of(13, true, false).ok_or("no mode")?;
-    let mut payload = vec![in rt.alloc(); Symbol { i: 0, q: 0 }; 90 * mode.slots()]?;
-    let mut soft = vec![in rt.alloc(); 1i16; mode.n()]?;
-    for s in 5395..payload.len() {
-        payload[s] = Symbol { i: 990, q: 0 };
-    }
-    soft_into(mode, &payload, &mut soft);
-    for s in 5390..5400usize {
-        if soft.len() == 16200 {
-            let values = [soft[s], soft[s + 5400], soft[s + 10800]];
-            assert_eq!(rt; values, if s < 5395 { [0, 0, 0] } else { [8, 29, -8] });
         }
     }
     Ok(())
