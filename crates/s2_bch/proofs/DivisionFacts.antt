@@ -183,3 +183,43 @@ module _ (m low : ℕ) (positive : 0 < m) where
       ∙ sym (xor_shifted (bit_xor top v) (m - n) rest hr))
       ∙ steps-xor n (bit_xor top v * 2 ^ (m - n)) rest
       ∙ ap (bit_xor (steps m low n (bit_xor top v * 2 ^ (m - n)))) (steps-small n rest h hr)
+
+  -- steps, and then others
+  pub steps-add : (a b v : ℕ) → steps m low (a + b) v ≡ steps m low b (steps m low a v)
+  unfolding steps
+  steps-add zero b v = let e : 0 + b ≡ b = omega arith in ap (λ n. steps m low n v) e
+  steps-add (suc a) b v =
+      let e : suc a + b ≡ suc (a + b) = omega arith in
+      ap (λ n. steps m low n v) e ∙ steps-add a b (times_x m low v)
+
+  -- what two parts of w bits at the top leave, each by itself and the second one step by step later
+  pub steps-joined : (w n p q high rest : ℕ) → p + w ≡ m → q + w ≡ p → rest < 2 ^ w
+      → bit_xor (steps m low (w + n) (high * 2 ^ p)) (steps m low n (rest * 2 ^ p)) ≡ steps m low (w + n) ((high * 2 ^ w + rest) * 2 ^ q)
+  steps-joined w n p q high rest e f h =
+      let y : ℕ = rest * 2 ^ q in
+      let up : w + q ≡ p = omega arith in
+      let left : p ≡ m - w = omega arith in
+      let few : w ≤ m = omega arith in
+      let hy : y < 2 ^ p = subst (λ k. y < 2 ^ k) up (shl_lt w q h) in
+      let later : steps m low (w + n) y ≡ steps m low n (rest * 2 ^ p) =
+      steps-add w n y
+      ∙ ap (steps m low n)
+      (steps-small w y few (subst (λ k. y < 2 ^ k) left hy)
+      ∙ mul_assoc rest (2 ^ q) (2 ^ w) ∙ ap (λ x. rest * x) (sym (pow-add 2 q w) ∙ ap (λ k. 2 ^ k) f)) in
+      let whole : (high * 2 ^ w + rest) * 2 ^ q ≡ bit_xor (high * 2 ^ p) y =
+      add-mul (high * 2 ^ w) rest (2 ^ q)
+      ∙ ap (λ x. x + y) (mul_assoc high (2 ^ w) (2 ^ q) ∙ ap (λ x. high * x) (sym (pow-add 2 w q) ∙ ap (λ k. 2 ^ k) up))
+      ∙ sym (xor_shifted high p y hy) in
+      sym (ap (steps m low (w + n)) whole
+      ∙ steps-xor (w + n) (high * 2 ^ p) y
+      ∙ ap (bit_xor (steps m low (w + n) (high * 2 ^ p))) later)
+
+-- the number of a word in two parts
+pub number_of-parts : (u v : List Bool) → number_of (u ++ v) ≡ number_of u * 2 ^ length v + number_of v
+number_of-parts [] v = omega arith
+number_of-parts (b ∷ u) v =
+    let p : 2 ^ length (u ++ v) ≡ 2 ^ length u * 2 ^ length v = ap (λ k. 2 ^ k) (length-append u v) ∙ pow-add 2 (length u) (length v) in
+    let s : (bit b * 2 ^ length u + number_of u) * 2 ^ length v ≡ bit b * (2 ^ length u * 2 ^ length v) + number_of u * 2 ^ length v =
+    add-mul (bit b * 2 ^ length u) (number_of u) (2 ^ length v)
+    ∙ ap (λ x. x + number_of u * 2 ^ length v) (mul_assoc (bit b) (2 ^ length u) (2 ^ length v)) in
+    omega (arith, ap (λ x. bit b * x) p, s, number_of-parts u v)

@@ -6,6 +6,7 @@ mod ValueFacts
 mod Flipping
 mod Tails
 mod RegisterFacts
+mod TableFacts
 mod MessageFacts
 mod Locators
 mod TermLemmas

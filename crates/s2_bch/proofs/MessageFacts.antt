@@ -1,13 +1,13 @@
 -- A message's division, a byte at a time.
 use Rattle.std.specs.Prelude.{ℕ, ◌≡◌, ◌+◌, ◌-◌, ◌*◌, ◌^◌, ◌<◌, ◌≤◌, bit_xor, refl, Bool, false, List, [], ◌∷◌, ◌++◌, length, take, drop, replicate}
 use Rattle.std.proofs.Common.{sym, ◌∙◌, ap, ap₂, subst, arith, length-take, length-drop, get_or}
-use Rattle.std.proofs.lemmas.List.{get_or-drop}
+use Rattle.std.proofs.lemmas.List.{get_or-drop, drop-drop}
 use Rattle.std.proofs.Math.Seq.{take-add}
 use Rattle.std.proofs.Math.ListN.{length-replicate}
 use Rattle.s2_bch.specs.Words.{register_after}
 use Rattle.s2_bch.proofs.WordFacts.{length-after}
 use Rattle.s2_bch.specs.Division.{bit, number_of, steps}
-use Rattle.s2_bch.proofs.DivisionFacts.{register-steps}
+use Rattle.s2_bch.proofs.DivisionFacts.{register-steps, number_of-parts}
 use Rattle.s2_bch.specs.declared.register.Register.{Register}
 use Rattle.s2_bch.specs.Registers.{value_of, Holds, IsTableFor}
 use Rattle.s2_bch.proofs.RegisterFacts.{zeros-number}
@@ -54,6 +54,15 @@ byte_bits w at h =
     let whole = ap number_of (eight (drop at w) long) ∙ eight-number _ _ _ _ _ _ _ _ in
     omega (arith, whole, first, digit-at w at 1, digit-at w at 2, digit-at w at 3, digit-at w at 4, digit-at w at 5, digit-at w at 6, digit-at w at 7)
 
+-- a number of bits that is made of two halves
+pub number_of-joined : (k : ℕ) (w : List Bool) (at : ℕ) → at + (k + k) ≤ length w
+    → number_of (take (k + k) (drop at w)) ≡ number_of (take k (drop at w)) * 2 ^ k + number_of (take k (drop (at + k) w))
+number_of-joined k w at h =
+    let long : length (take k (drop (at + k) w)) ≡ k = omega (arith, length-take {A = Bool}, length-drop {A = Bool}) in
+    ap number_of (take-add k k (drop at w) ∙ ap (λ u. take k (drop at w) ++ take k u) (drop-drop k at w))
+    ∙ number_of-parts (take k (drop at w)) (take k (drop (at + k) w))
+    ∙ ap (λ n. number_of (take k (drop at w)) * 2 ^ n + number_of (take k (drop (at + k) w))) long
+
 -- what is left of a message, from zeros
 abbrev pub divided : List Bool → List Bool → List Bool
 divided t m = register_after t (replicate (length t) false) m
@@ -70,32 +79,31 @@ holds_zeros r t h z =
       value = z ∙ sym (ap (λ x. x * p) (zeros-number (length t)) ∙ none);
     }
 
--- eight more bits of the message
-pub holds_byte : (t : List Bool) (table : List Register) (m : List Bool) (n : ℕ) (r s : Register) (byte : ℕ) → IsTableFor t table
-    → 8 * n + 8 ≤ length m → Holds r (divided t (take (8 * n) m)) → byte ≡ number_of (take 8 (drop (8 * n) m))
-    → value_of s ≡ steps 192 (number_of t * 2 ^ (192 - length t)) 8 (bit_xor (value_of r) (byte * 2 ^ 184))
-    → Holds s (divided t (take (8 * (n + 1)) m))
-holds_byte t table m n r s byte T h hr eb es =
-    let u : List Bool = divided t (take (8 * n) m) in
-    let w : List Bool = take 8 (drop (8 * n) m) in
+-- k more bits of the message
+pub holds_more : (k : ℕ) (t : List Bool) (table : List Register) (m : List Bool) (at : ℕ) (r s : Register) (bits : ℕ) → IsTableFor t table
+    → k ≤ 192 → at + k ≤ length m → Holds r (divided t (take at m)) → bits ≡ number_of (take k (drop at m))
+    → value_of s ≡ steps 192 (number_of t * 2 ^ (192 - length t)) k (bit_xor (value_of r) (bits * 2 ^ (192 - k)))
+    → Holds s (divided t (take (at + k) m))
+holds_more k t table m at r s bits T few h hr eb es =
+    let u : List Bool = divided t (take at m) in
+    let w : List Bool = take k (drop at m) in
     let low : ℕ = number_of t * 2 ^ (192 - length t) in
-    let lw : length w ≡ 8 = omega (arith, length-take {A = Bool}, length-drop {A = Bool}) in
-    let lu : length u ≡ length t = length-divided t (take (8 * n) m) in
+    let lw : length w ≡ k = omega (arith, length-take {A = Bool}, length-drop {A = Bool}) in
+    let lu : length u ≡ length t = length-divided t (take at m) in
     let lr : length (register_after t u w) ≡ length t = length-after t u w ∙ lu in
     let whole : length t + (192 - length t) ≡ 192 = omega (arith, T.fits) in
-    let next : 8 * (n + 1) ≡ 8 * n + 8 = omega arith in
     let positive : 0 < 192 = omega arith in
-    let few : length w ≤ 192 = omega arith in
-    let held : value_of r ≡ number_of u * 2 ^ (192 - length t) = hr.value ∙ ap (λ k. number_of u * 2 ^ (192 - k)) lu in
+    let short : length w ≤ 192 = omega arith in
+    let held : value_of r ≡ number_of u * 2 ^ (192 - length t) = hr.value ∙ ap (λ i. number_of u * 2 ^ (192 - i)) lu in
     let stepped : number_of (register_after t u w) * 2 ^ (192 - length t)
     ≡ steps 192 low (length w) (bit_xor (number_of u * 2 ^ (192 - length t)) (number_of w * 2 ^ (192 - length w))) =
-    register-steps 192 low positive t (192 - length t) whole T.some refl w u lu few in
+    register-steps 192 low positive t (192 - length t) whole T.some refl w u lu short in
     subst (Holds s)
-    (sym (ap (λ k. divided t (take k m)) next ∙ ap (divided t) (take-add (8 * n) 8 m) ∙ after_append t (replicate (length t) false) (take (8 * n) m) w))
+    (sym (ap (divided t) (take-add at k m) ∙ after_append t (replicate (length t) false) (take at m) w))
     (record {
       fits = omega (arith, lr, T.fits);
       value = es
-          ∙ ap₂ (λ x y. steps 192 low 8 (bit_xor x (y * 2 ^ 184))) held eb
-          ∙ sym (stepped ∙ ap (λ k. steps 192 low k (bit_xor (number_of u * 2 ^ (192 - length t)) (number_of w * 2 ^ (192 - k)))) lw)
-          ∙ ap (λ k. number_of (register_after t u w) * 2 ^ (192 - k)) (sym lr);
+          ∙ ap₂ (λ x y. steps 192 low k (bit_xor x (y * 2 ^ (192 - k)))) held eb
+          ∙ sym (stepped ∙ ap (λ i. steps 192 low i (bit_xor (number_of u * 2 ^ (192 - length t)) (number_of w * 2 ^ (192 - i)))) lw)
+          ∙ ap (λ i. number_of (register_after t u w) * 2 ^ (192 - i)) (sym lr);
     })

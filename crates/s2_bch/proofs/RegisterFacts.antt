@@ -9,7 +9,7 @@ use Rattle.s2_field.specs.Binary.{times_x}
 use Rattle.s2_bits.specs.Bits.{added}
 use Rattle.s2_bch.proofs.WordFacts.{length-added}
 use Rattle.s2_bch.specs.Division.{bit, number_of, steps}
-use Rattle.s2_bch.proofs.DivisionFacts.{number_of-below, number_of-sum, xor-scale, steps-at_once}
+use Rattle.s2_bch.proofs.DivisionFacts.{number_of-below, number_of-sum, xor-scale, steps-at_once, steps-joined}
 use Rattle.s2_bch.specs.declared.register.Register.{Register}
 use Rattle.s2_bch.specs.Registers.{value_of, Holds}
 
@@ -86,21 +86,44 @@ bit_same true false e = absurd (omega arith)
 bit_same false true e = absurd (omega arith)
 bit_same false false e = refl
 
--- a byte's steps at once
+-- n steps at once
+at_once : (low n v top left new up : ℕ) → n ≤ 192 → v ≡ top * 2 ^ (192 - n) + left → left < 2 ^ (192 - n) → up ≡ left * 2 ^ n
+    → bit_xor up (steps 192 low n (bit_xor top new * 2 ^ (192 - n))) ≡ steps 192 low n (bit_xor v (new * 2 ^ (192 - n)))
+at_once low n v top left new up few whole fits moved =
+    let positive : 0 < 192 = omega arith in
+    xor_comm up _
+    ∙ ap (bit_xor (steps 192 low n (bit_xor top new * 2 ^ (192 - n)))) moved
+    ∙ sym (ap (λ x. steps 192 low n (bit_xor x (new * 2 ^ (192 - n)))) whole
+    ∙ steps-at_once 192 low positive n top new left few fits)
+
 pub byte_step : (low v byte : ℕ) → v < 2 ^ 192
     → bit_xor (v * 2 ^ 8 % 2 ^ 192) (steps 192 low 8 (bit_xor (v / 2 ^ 184) byte * 2 ^ 184)) ≡ steps 192 low 8 (bit_xor v (byte * 2 ^ 184))
 byte_step low v byte h =
-    let top : ℕ = v / 2 ^ 184 in
-    let left : ℕ = v % 2 ^ 184 in
-    let whole : v ≡ top * 2 ^ 184 + left = omega arith in
-    let up : v * 2 ^ 8 % 2 ^ 192 ≡ left * 2 ^ 8 = omega arith in
-    let positive : 0 < 192 = omega arith in
     let few : 8 ≤ 192 = omega arith in
-    let fits : left < 2 ^ 184 = omega arith in
-    xor_comm (v * 2 ^ 8 % 2 ^ 192) _
-    ∙ ap (bit_xor (steps 192 low 8 (bit_xor top byte * 2 ^ 184))) up
-    ∙ sym (ap (λ x. steps 192 low 8 (bit_xor x (byte * 2 ^ 184))) whole
-    ∙ steps-at_once 192 low positive 8 top byte left few fits)
+    let whole : v ≡ v / 2 ^ 184 * 2 ^ 184 + v % 2 ^ 184 = omega arith in
+    let fits : v % 2 ^ 184 < 2 ^ 184 = omega arith in
+    let up : v * 2 ^ 8 % 2 ^ 192 ≡ v % 2 ^ 184 * 2 ^ 8 = omega arith in
+    at_once low 8 v (v / 2 ^ 184) (v % 2 ^ 184) byte (v * 2 ^ 8 % 2 ^ 192) few whole fits up
+
+pub word_step : (low v word : ℕ) → v < 2 ^ 192
+    → bit_xor (v * 2 ^ 64 % 2 ^ 192) (steps 192 low 64 (bit_xor (v / 2 ^ 128) word * 2 ^ 128)) ≡ steps 192 low 64 (bit_xor v (word * 2 ^ 128))
+word_step low v word h =
+    let few : 64 ≤ 192 = omega arith in
+    let whole : v ≡ v / 2 ^ 128 * 2 ^ 128 + v % 2 ^ 128 = omega arith in
+    let fits : v % 2 ^ 128 < 2 ^ 128 = omega arith in
+    let up : v * 2 ^ 64 % 2 ^ 192 ≡ v % 2 ^ 128 * 2 ^ 64 = omega arith in
+    at_once low 64 v (v / 2 ^ 128) (v % 2 ^ 128) word (v * 2 ^ 64 % 2 ^ 192) few whole fits up
+
+-- what the upper and the lower half of a number at the top leave together
+pub halves_carried : (low w n p q k v a b : ℕ) → p + w ≡ 192 → q + w ≡ p → k ≡ w + n
+    → (high rest : ℕ) → v ≡ high * 2 ^ w + rest → rest < 2 ^ w
+    → a ≡ steps 192 low k (high * 2 ^ p) → b ≡ steps 192 low n (rest * 2 ^ p)
+    → bit_xor a b ≡ steps 192 low k (v * 2 ^ q)
+halves_carried low w n p q k v a b e f g high rest whole fits ea eb =
+    let positive : 0 < 192 = omega arith in
+    ap₂ bit_xor (ea ∙ ap (λ i. steps 192 low i (high * 2 ^ p)) g) eb
+    ∙ steps-joined 192 low positive w n p q high rest e f fits
+    ∙ sym (ap₂ (λ i x. steps 192 low i (x * 2 ^ q)) g whole)
 
 -- ---- the bits that a register holds
 

@@ -17,13 +17,13 @@ pub record Holds (r : Register) (bits : List Bool) : Type 0 where
   pub fits : length bits ≤ 192
   pub value : value_of r ≡ number_of bits * 2 ^ (192 - length bits)
 
--- entry b is what the byte b at the top leaves after eight steps of the division by x^degree + t
+-- entry 256 k + b is what the byte b at the top leaves after 8 (k + 1) steps of the division by x^degree + t
 pub record IsTableFor (t : List Bool) (table : List Register) : Type 0 where
   pub some : 0 < length t
   pub fits : length t ≤ 192
-  pub size : length table ≡ 256
-  pub entries : (b : ℕ) → b < 256
-      → value_of (slice_index_or table b empty) ≡ steps 192 (number_of t * 2 ^ (192 - length t)) 8 (b * 2 ^ 184)
+  pub size : length table ≡ 2048
+  pub entries : (k b : ℕ) → k < 8 → b < 256
+      → value_of (slice_index_or table (256 * k + b) empty) ≡ steps 192 (number_of t * 2 ^ (192 - length t)) (8 * k + 8) (b * 2 ^ 184)
 
 -- what the division by x^degree + t leaves of a word with k bits of message: zeros where it is a multiple
 abbrev pub rest_of : List Bool → ℕ → List Bool → List Bool

@@ -1,40 +1,56 @@
-//! Division by the generator, eight bits a step.
-ghost use Rattle.std.specs.Prelude.{◌≡◌, ◌+◌, ◌*◌, ◌/◌, ◌-◌, ◌^◌, ◌<◌, ◌≤◌, ◌∷◌, ℕ, List, Bool, true, false, bit_xor, drop, length, take, replicate, IfOk};
+//! Division by the generator, 64 bits a step, and what is left of the message eight bits a step.
+ghost use Rattle.std.specs.Prelude.{◌≡◌, ◌+◌, ◌*◌, ◌/◌, ◌-◌, ◌^◌, ◌<◌, ◌≤◌, ◌∷◌, ℕ, List, Bool, true, false, bit_xor, drop, length, take, replicate, slice_index_or, IfOk};
 ghost use Rattle.s2_mode.specs.Mode.{Mode as ModeValue};
 ghost use Rattle.s2_bch.specs.Division.{bit, number_of, steps};
 ghost use Rattle.s2_bch.specs.Words.{register_after, IsWordOf};
 ghost use Rattle.s2_bch.specs.Generators.{generator_of};
-ghost use Rattle.s2_bch.specs.Registers.{value_of, Holds, IsTableFor, rest_of};
+ghost use Rattle.s2_bch.specs.Registers.{value_of, empty, Holds, IsTableFor, rest_of};
 
 use crate::generators::tail_of;
 use crate::register::Register;
 use s2_mode::Mode;
 use std::alloc::{AllocError, Global};
 
-/// What the byte at the top of a register leaves after eight steps.
-fn entry(tail: Register, byte: u64) -> Register
-    requires { byte < 256 }
-    ensures { value_of result ≡ steps 192 (value_of tail) 8 (byte * 2 ^ 184) }
+/// Eight steps of the division by x^192 + `tail`.
+fn eight_steps(tail: Register, start: Register) -> Register
+    ensures { value_of result ≡ steps 192 (value_of tail) 8 (value_of start) }
 {
-    let mut register = Register {
-        high: byte << 56,
-        middle: 0,
-        low: 0,
-    };
+    let mut register = start;
     for _ in 0..8u32 {
         register = register.step(tail);
     }
     register
 }
 
-/// The table of the division by a mode's generator.
+/// The entry that follows these.
+fn next_entry(tail: Register, table: &[Register]) -> Register
+    requires { length table.now < 2048 }
+    ensures first { length table.now < 256 → value_of result ≡ steps 192 (value_of tail) 8 (length table.now * 2 ^ 184) }
+    ensures later { 256 ≤ length table.now
+        → value_of result ≡ steps 192 (value_of tail) 8 (value_of (slice_index_or table.now (length table.now - 256) empty)) }
+{
+    let at = table.len();
+    if at >= 256 {
+        return eight_steps(tail, table[at - 256]);
+    }
+    let byte = Register {
+        high: (at as u64) << 56,
+        middle: 0,
+        low: 0,
+    };
+    eight_steps(tail, byte)
+}
+
+/// The tables of the division by a mode's generator, 256 entries for each byte of a word, the last
+/// byte's first.
 pub(crate) fn table_of(alloc: Global, mode: Mode) -> Result<Vec<Register>, AllocError>
     ensures { IfOk result (λ v. IsTableFor (drop 1 (generator_of mode)) v.items) }
 {
     let tail = tail_of(mode);
-    let mut table = Vec::with_capacity(alloc, 256)?;
-    for byte in 0..256u64 {
-        table.push(entry(tail, byte))?;
+    let mut table = Vec::with_capacity(alloc, 2048)?;
+    for _ in 0..2048u32 {
+        let entry = next_entry(tail, &table);
+        table.push(entry)?;
     }
     Ok(table)
 }
@@ -46,25 +62,100 @@ fn digit(truth: bool) -> u8
     u8::from(truth)
 }
 
-/// Eight bits as a byte, the first the highest.
+/// Eight bits as a byte, the first the highest. The product has a sum of each bit of its last byte
+/// with no other, and carries nothing.
 fn byte_at(bits: &[bool], at: usize) -> u8
     requires { at + 8 ≤ length bits.now }
     ensures { result ≡ number_of (take 8 (drop at bits.now)) }
 {
-    let high = 8 * digit(bits[at])
-        + 4 * digit(bits[at + 1])
-        + 2 * digit(bits[at + 2])
-        + digit(bits[at + 3]);
-    let low = 8 * digit(bits[at + 4])
-        + 4 * digit(bits[at + 5])
-        + 2 * digit(bits[at + 6])
-        + digit(bits[at + 7]);
-    16 * high + low
+    let digits = u64::from_le_bytes([
+        digit(bits[at]),
+        digit(bits[at + 1]),
+        digit(bits[at + 2]),
+        digit(bits[at + 3]),
+        digit(bits[at + 4]),
+        digit(bits[at + 5]),
+        digit(bits[at + 6]),
+        digit(bits[at + 7]),
+    ]);
+    (digits.wrapping_mul(0x8040201008040201) >> 56) as u8
+}
+
+/// 16 bits as a number, the first the highest.
+fn pair_at(bits: &[bool], at: usize) -> u16
+    requires { at + 16 ≤ length bits.now }
+    ensures { result ≡ number_of (take 16 (drop at bits.now)) }
+{
+    (u16::from(byte_at(bits, at)) << 8) + u16::from(byte_at(bits, at + 8))
+}
+
+/// 32 bits as a number, the first the highest.
+fn half_at(bits: &[bool], at: usize) -> u32
+    requires { at + 32 ≤ length bits.now }
+    ensures { result ≡ number_of (take 32 (drop at bits.now)) }
+{
+    (u32::from(pair_at(bits, at)) << 16) + u32::from(pair_at(bits, at + 16))
+}
+
+/// 64 bits as a number, the first the highest.
+fn word_at(bits: &[bool], at: usize) -> u64
+    requires { at + 64 ≤ length bits.now }
+    ensures { result ≡ number_of (take 64 (drop at bits.now)) }
+{
+    (u64::from(half_at(bits, at)) << 32) + u64::from(half_at(bits, at + 32))
+}
+
+/// What two bytes at the top of a register leave, where `behind` more bytes follow them.
+#[inline(always)]
+fn carried_by_pair(table: &[Register], behind: usize, pair: u16) -> Register
+    requires table { length table.now ≡ 2048 }
+    requires behind { behind ≤ 6 }
+    ensures { (t : List Bool) → IsTableFor t table.now
+        → value_of result ≡ steps 192 (number_of t * 2 ^ (192 - length t)) (8 * behind + 16) (pair * 2 ^ 176) }
+{
+    let first = usize::from(pair >> 8);
+    let second = usize::from(pair % 256);
+    table[256 * (behind + 1) + first].plus(table[256 * behind + second])
+}
+
+/// What four bytes at the top of a register leave, where `behind` more bytes follow them.
+#[inline(always)]
+fn carried_by_half(table: &[Register], behind: usize, half: u32) -> Register
+    requires table { length table.now ≡ 2048 }
+    requires behind { behind ≤ 4 }
+    ensures { (t : List Bool) → IsTableFor t table.now
+        → value_of result ≡ steps 192 (number_of t * 2 ^ (192 - length t)) (8 * behind + 32) (half * 2 ^ 160) }
+{
+    let first = carried_by_pair(table, behind + 2, (half >> 16) as u16);
+    first.plus(carried_by_pair(table, behind, (half % 65536) as u16))
+}
+
+/// What eight bytes at the top of a register leave.
+#[inline(always)]
+fn carried_by_word(table: &[Register], word: u64) -> Register
+    requires { length table.now ≡ 2048 }
+    ensures { (t : List Bool) → IsTableFor t table.now
+        → value_of result ≡ steps 192 (number_of t * 2 ^ (192 - length t)) 64 (word * 2 ^ 128) }
+{
+    let first = carried_by_half(table, 4, (word >> 32) as u32);
+    first.plus(carried_by_half(table, 0, (word % 4294967296) as u32))
+}
+
+/// The register after 64 more bits.
+#[inline(always)]
+fn feed_word(table: &[Register], register: Register, word: u64) -> Register
+    requires { length table.now ≡ 2048 }
+    ensures { (t : List Bool) → IsTableFor t table.now
+        → value_of result ≡ steps 192 (number_of t * 2 ^ (192 - length t)) 64 (bit_xor (value_of register) (word * 2 ^ 128)) }
+{
+    register
+        .up_a_word()
+        .plus(carried_by_word(table, register.high ^ word))
 }
 
 /// The register after eight more bits.
 fn feed(table: &[Register], register: Register, byte: u8) -> Register
-    requires { length table.now ≡ 256 }
+    requires { length table.now ≡ 2048 }
     ensures { (t : List Bool) → IsTableFor t table.now
         → value_of result ≡ steps 192 (number_of t * 2 ^ (192 - length t)) 8 (bit_xor (value_of register) (byte * 2 ^ 184)) }
 {
@@ -72,19 +163,32 @@ fn feed(table: &[Register], register: Register, byte: u8) -> Register
     register.up_a_byte().plus(table[usize::from(at)])
 }
 
-/// What the division of a message leaves.
-fn divide(table: &[Register], message: &[bool]) -> Register
-    requires table { length table.now ≡ 256 }
-    requires whole_bytes { length message.now ≡ 8 * (length message.now / 8) }
+/// What the division of a message's whole words leaves.
+fn divide_words(table: &[Register], message: &[bool]) -> Register
+    requires { length table.now ≡ 2048 }
     ensures { (t : List Bool) → IsTableFor t table.now
-        → Holds result (register_after t (replicate (length t) false) message.now) }
+        → Holds result (register_after t (replicate (length t) false) (take (64 * (length message.now / 64)) message.now)) }
 {
     let mut register = Register {
         high: 0,
         middle: 0,
         low: 0,
     };
-    for byte in 0..message.len() / 8 {
+    for word in 0..message.len() / 64 {
+        register = feed_word(table, register, word_at(message, 64 * word));
+    }
+    register
+}
+
+/// What the division of a message leaves.
+fn divide(table: &[Register], message: &[bool]) -> Register
+    requires table { length table.now ≡ 2048 }
+    requires whole_bytes { length message.now ≡ 8 * (length message.now / 8) }
+    ensures { (t : List Bool) → IsTableFor t table.now
+        → Holds result (register_after t (replicate (length t) false) message.now) }
+{
+    let mut register = divide_words(table, message);
+    for byte in 8 * (message.len() / 64)..message.len() / 8 {
         register = feed(table, register, byte_at(message, 8 * byte));
     }
     register
@@ -92,7 +196,7 @@ fn divide(table: &[Register], message: &[bool]) -> Register
 
 /// Puts the message and the rest of its division into the word.
 pub(crate) fn encode_into(table: &[Register], message: &[bool], word: &mut [bool])
-    requires table { length table.now ≡ 256 }
+    requires table { length table.now ≡ 2048 }
     requires whole_bytes { length message.now ≡ 8 * (length message.now / 8) }
     requires more { length message.now ≤ length word.old }
     requires few { length word.old ≤ length message.now + 192 }
@@ -106,7 +210,7 @@ pub(crate) fn encode_into(table: &[Register], message: &[bool], word: &mut [bool
 
 /// What the division leaves of a word with `front` bits of message.
 pub(crate) fn rest(table: &[Register], word: &[bool], front: usize) -> Register
-    requires table { length table.now ≡ 256 }
+    requires table { length table.now ≡ 2048 }
     requires whole_bytes { front ≡ 8 * (front / 8) }
     requires more { front ≤ length word.now }
     requires few { length word.now ≤ front + 192 }

@@ -36,6 +36,17 @@ impl Register {
         }
     }
 
+    /// All bits 64 places up: the word at the top falls out.
+    pub(crate) fn up_a_word(self) -> Register
+        ensures { value_of result ≡ value_of self * 2 ^ 64 % 2 ^ 192 }
+    {
+        Register {
+            high: self.middle,
+            middle: self.low,
+            low: 0,
+        }
+    }
+
     /// All bits one place down, below a new one: the lowest falls out.
     fn below(self, top: bool) -> Register
         ensures { value_of result ≡ bit top * 2 ^ 191 + value_of self / 2 }

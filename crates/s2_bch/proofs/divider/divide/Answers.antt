@@ -1,17 +1,23 @@
-use Rattle.std.proofs.Common.{arith, ◌≡◌, ◌∙◌, ◌*◌, ap, sym, subst, length, take}
+use Rattle.std.proofs.Common.{arith, ◌≡◌, ◌∙◌, ◌+◌, ◌*◌, ◌/◌, ap, sym, subst, length, take}
 use Rattle.std.specs.Prelude.{false, replicate}
 use Rattle.s2_bch.specs.Words.{register_after}
 use Rattle.s2_bch.specs.Registers.{Holds}
-use Rattle.s2_bch.proofs.MessageFacts.{holds_zeros, holds_byte, take_end}
+use Rattle.s2_bch.proofs.MessageFacts.{holds_more, take_end}
 use Rattle.s2_bch.proofs.divider.divide.Goals as goal
 
 pub loop-byte-init : goal.loop-byte-init
-loop-byte-init c t h = holds_zeros _ t h.fits (omega arith)
+loop-byte-init c t h =
+    let n = length c.args.message.now / 64 in
+    let e : 64 * n ≡ 8 * (8 * n) = omega arith in
+    subst (λ k. Holds c.divide_words-register.result (register_after t (replicate (length t) false) (take k c.args.message.now))) e
+    (c.divide_words-register.ensures t h)
 
 pub loop-byte-preserved : goal.loop-byte-preserved
 loop-byte-preserved c t h =
-    holds_byte t c.args.table.now c.args.message.now c.loop-byte.byte c.loop-byte.register c.feed-register.result c.byte_at.result h
-    (omega arith) (c.loop-byte.invariant t h) c.byte_at.ensures (c.feed-register.ensures t h)
+    let next : 8 * c.loop-byte.byte + 8 ≡ 8 * (c.loop-byte.byte + 1) = omega arith in
+    subst (λ n. Holds c.feed-register.result (register_after t (replicate (length t) false) (take n c.args.message.now))) next
+    (holds_more 8 t c.args.table.now c.args.message.now (8 * c.loop-byte.byte) c.loop-byte.register c.feed-register.result c.byte_at.result h
+    (omega arith) (omega arith) (c.loop-byte.invariant t h) c.byte_at.ensures (c.feed-register.ensures t h))
 
 pub returns : goal.returns
 returns c t h =

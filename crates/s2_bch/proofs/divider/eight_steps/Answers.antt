@@ -2,7 +2,7 @@ use Rattle.std.proofs.Common.{arith, ◌≡◌, ◌∙◌, ◌+◌, ◌-◌, suc
 use Rattle.s2_bch.specs.Division.{steps}
 use Rattle.s2_bch.proofs.DivisionFacts.{no_steps, more_steps}
 use Rattle.s2_bch.specs.Registers.{value_of}
-use Rattle.s2_bch.proofs.divider.entry.Goals as goal
+use Rattle.s2_bch.proofs.divider.eight_steps.Goals as goal
 
 pub loop-init : goal.loop-init
 loop-init c = ap (steps 192 (value_of c.args.tail) 8) (omega arith)

@@ -1,8 +1,0 @@
-use Rattle.std.proofs.Common.{◌≡◌, ◌-◌, ◌*◌, ◌^◌}
-use Rattle.s2_bch.specs.Division.{steps}
-use Rattle.s2_bch.specs.Registers.{value_of}
-use Rattle.s2_bch.proofs.divider.entry.Given as goal
-
-abbrev pub invariant-loop : goal.invariant-loop
-invariant-loop l =
-    steps 192 (value_of l.tail) (8 - l.counter) (value_of l.register) ≡ steps 192 (value_of l.tail) 8 (l.byte * 2 ^ 184)

@@ -1,0 +1,6 @@
+use Rattle.std.proofs.Common.{arith}
+use Rattle.s2_bch.proofs.MessageFacts.{number_of-joined}
+use Rattle.s2_bch.proofs.divider.pair_at.Goals as goal
+
+pub returns : goal.returns
+returns c = omega (arith, number_of-joined 8 c.args.bits.now c.args.at (omega arith), c.byte_at.ensures, c.byte_at-2.ensures)
