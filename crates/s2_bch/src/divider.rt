@@ -22,7 +22,8 @@ fn eight_steps(tail: Register, start: Register) -> Register
     register
 }
 
-/// The entry that follows these.
+/// The entry that follows these: eight steps from the byte at the top, or from the entry of the same
+/// byte in the table before.
 fn next_entry(tail: Register, table: &[Register]) -> Register
     requires { length table.now < 2048 }
     ensures first { length table.now < 256 → value_of result ≡ steps 192 (value_of tail) 8 (length table.now * 2 ^ 184) }
@@ -62,8 +63,8 @@ fn digit(truth: bool) -> u8
     u8::from(truth)
 }
 
-/// Eight bits as a byte, the first the highest. The product has a sum of each bit of its last byte
-/// with no other, and carries nothing.
+/// Eight bits as a byte, the first the highest. The product puts each of eight digits, a byte each,
+/// at its own place of the highest byte, and nothing is carried into it.
 fn byte_at(bits: &[bool], at: usize) -> u8
     requires { at + 8 ≤ length bits.now }
     ensures { result ≡ number_of (take 8 (drop at bits.now)) }
