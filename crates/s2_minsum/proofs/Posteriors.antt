@@ -8,14 +8,14 @@ use Rattle.s2_matrix.specs.Code.{Code, checks_of}
 use Rattle.s2_matrix.proofs.Totals.{total-filter}
 use Rattle.s2_minsum.specs.Plain.{most_soft, most_message, most_posterior, State, posterior}
 
-total-within : (f g : ℕ → ℤ) (a n : ℕ) → ((i : ℕ) → a ≤ i → i < a + n → f i ≡ g i) → total f (range_with_len a n) ≡ total g (range_with_len a n)
+pub total-within : (f g : ℕ → ℤ) (a n : ℕ) → ((i : ℕ) → a ≤ i → i < a + n → f i ≡ g i) → total f (range_with_len a n) ≡ total g (range_with_len a n)
 total-within f g a zero h = refl
 total-within f g a (suc n) h =
     let first : f a ≡ g a = h a (omega arith) (omega arith) in
     let rest = total-within f g (a + 1) n (λ i low high. h i (omega arith) (omega arith)) in
     λ x. first x +ℤ rest x
 
-total_small : (f : ℕ → ℤ) (m : ℕ) (xs : List ℕ) → ((k : ℕ) → unsigned_abs (f k) ≤ m) → unsigned_abs (total f xs) ≤ m * length xs
+pub total_small : (f : ℕ → ℤ) (m : ℕ) (xs : List ℕ) → ((k : ℕ) → unsigned_abs (f k) ≤ m) → unsigned_abs (total f xs) ≤ m * length xs
 total_small f m [] small = omega arith
 total_small f m (x ∷ xs) small =
     let rest = total_small f m xs small in

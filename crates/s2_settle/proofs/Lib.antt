@@ -8,3 +8,13 @@ pub mod Spreads
 pub mod MadeMoves
 pub mod Makes
 pub mod SettledViews
+pub mod Least
+pub mod LeastMember
+pub mod RestWords
+pub mod LaneMoves
+pub mod LayerSums
+pub mod ShownMoves
+pub mod PlainLayers
+pub mod PlainPasses
+pub mod PlainSettled
+pub mod RuleLaws

@@ -14,7 +14,7 @@ use Rattle.s2_settle.specs.Holding.{AreMoves}
 use Rattle.s2_settle.proofs.Layers.{upto_at, length-upto_map}
 
 -- each check has a member: its own parity bit
-some_member : (r : Rows) (j : ℕ) → j < (code_of r).checks → 1 ≤ length (members (code_of r) j)
+pub some_member : (r : Rows) (j : ℕ) → j < (code_of r).checks → 1 ≤ length (members (code_of r) j)
 some_member r j low =
     let own = information_bits r.shape + j in
     let within : own < (code_of r).bits = omega arith in

@@ -1,3 +1,4 @@
+pub mod Plain
 pub mod Words
 pub mod Nodes
 pub mod Layer
@@ -5,4 +6,5 @@ pub mod Passes
 pub mod Start
 pub mod Settled
 pub mod Holding
+pub mod Shows
 pub mod Laws

@@ -2,6 +2,7 @@
 use Rattle.std.specs.Prelude.{◌≡◌, ℕ, zero, suc, ◌+◌, ◌-◌, ◌*◌, ◌/◌, ◌%◌, ◌==◌, ◌&&◌, nat_lt, nat_le, Bool, true, false, if◌then◌else◌, List, fold, count_by, length, Option, None, Some}
 use Rattle.s2_rows.specs.Rows.{Rows}
 use Rattle.s2_matrix.specs.Total.{upto}
+pub use Rattle.s2_settle.specs.Plain.{reserve_in, is_hopeless}
 use Rattle.s2_settle.specs.Words.{zero_rest}
 use Rattle.s2_settle.specs.Layer.{Held, layer}
 
@@ -9,18 +10,9 @@ use Rattle.s2_settle.specs.Layer.{Held, layer}
 abbrev pub pass : Rows → ℕ → Held → Held
 pass rows reserve h = fold (layer rows reserve) h (upto rows.shape.q)
 
--- what is held in reserve in a pass: less from pass to pass, down to nothing
-abbrev pub reserve_in : ℕ → ℕ
-reserve_in p = 256 - 8 * p
-
 -- how many rests are negative
 abbrev pub negatives : List ℕ → ℕ
 negatives rests = count_by (λ v. nat_lt v zero_rest) rests
-
--- after every fourth pass from the eighth on: whether there are many negative rests, and a sixteenth more than four passes before
-abbrev pub is_hopeless : ℕ → ℕ → ℕ → ℕ → Bool
-is_hopeless bits p before count =
-    (p % 4 == 0) && (nat_le 8 p && (nat_lt (bits / 128) count && nat_le (before + before / 16) count))
 
 -- so many passes from pass p on, until no rest is negative
 unfoldable pub spread : Rows → ℕ → ℕ → ℕ → Held → Option Held

@@ -4,7 +4,7 @@ use Rattle.std.specs.List.{position_or_len}
 use Rattle.s2_mode.specs.Shape.{Shape}
 use Rattle.s2_rows.specs.Rows.{Rows}
 use Rattle.s2_matrix.specs.Total.{upto}
-use Rattle.s2_matrix.specs.Code.{code_of, members}
+use Rattle.s2_matrix.specs.Code.{Code, code_of, members}
 use Rattle.s2_check.specs.Cost.{cost}
 use Rattle.s2_check.specs.Split.{bound}
 use Rattle.s2_check.specs.Moves.{no_move, placed_of}
@@ -14,6 +14,7 @@ use Rattle.s2_check.specs.declared.step.Move.{Move}
 use Rattle.s2_minsum.specs.Words.{turned, entry_at}
 use Rattle.s2_minsum.specs.Layout.{bit_of}
 use Rattle.s2_settle.specs.Words.{most_moved}
+use Rattle.s2_settle.specs.Plain.{State}
 use Rattle.s2_settle.specs.Layer.{Held, entries_of}
 use Rattle.s2_settle.specs.Passes.{spread}
 use Rattle.s2_settle.specs.Start.{settling_scale, start}
@@ -65,6 +66,17 @@ view_of rows soft word (Some h) = if_reached rows (moved_view rows soft word (mo
 unfoldable pub settled : Rows → List ℤ → List Bool → ℕ → Option View
 settled rows soft word passes =
     view_of rows soft word (spread rows passes 0 0 (start rows soft word))
+
+-- the moves of a state of checks and members, check by check, and the certificate of the state in which passes end
+abbrev pub move_in : Code → State → ℕ → Move
+move_in code s j = move_to (members code j) (s.target j) (s.amount j)
+
+abbrev pub moves_in : Code → State → List Move
+moves_in code s = map (move_in code s) (upto code.checks)
+
+abbrev pub view_in : Rows → List ℤ → List Bool → Option State → Option View
+view_in rows soft word None = None
+view_in rows soft word (Some s) = if_reached rows (moved_view rows soft word (moves_in (code_of rows) s))
 
 -- what is made of what passes find
 abbrev pub Finds : Rows → Option Held → Bool → List Move → Type 0

@@ -6,12 +6,9 @@ use Rattle.s2_bits.specs.Bits.{bit_at}
 use Rattle.s2_matrix.specs.Total.{upto}
 use Rattle.s2_check.specs.Cost.{value_at}
 use Rattle.s2_minsum.specs.Layout.{bit_of}
+pub use Rattle.s2_settle.specs.Plain.{settling_scale}
 use Rattle.s2_settle.specs.Words.{zero_rest}
 use Rattle.s2_settle.specs.Layer.{Held}
-
--- what a soft value is multiplied by
-abbrev pub settling_scale : ℕ
-settling_scale = 256
 
 -- whether the hard decision differs from the word
 abbrev pub differs : List ℤ → List Bool → ℕ → Bool

@@ -1,15 +1,12 @@
 -- Words of 32 bits: rests, each 2^31 higher than it is, and how a check's moves change them.
 use Rattle.std.specs.Prelude.{ℕ, zero, suc, ◌+◌, ◌-◌, ◌/◌, ◌%◌, ◌==◌, min, max, if◌then◌else◌, List, get_or}
 use Rattle.s2_minsum.specs.declared.rows.Entry.{Entry}
+pub use Rattle.s2_settle.specs.Plain.{most_moved}
 use Rattle.s2_minsum.specs.Words.{turned, turned_back, cell, entry_at, is_lacking}
 
 -- the word of a rest of 0
 abbrev pub zero_rest : ℕ
 zero_rest = 2147483648
-
--- the most that a check moves
-abbrev pub most_moved : ℕ
-most_moved = 1048576
 
 -- the word of no rest: more than any
 abbrev pub no_rest : ℕ

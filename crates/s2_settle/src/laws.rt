@@ -1,15 +1,34 @@
 //! Laws of the definitions: each a call that does nothing, whose clause is the law.
 ghost use Rattle.std.specs.Prelude.{◌≡◌};
-ghost use Rattle.s2_settle.specs.Laws.{SettledLaw};
-ghost use Rattle.s2_settle.specs.Words.{most_moved};
-ghost use Rattle.s2_settle.specs.Passes.{reserve_in};
-ghost use Rattle.s2_settle.specs.Start.{settling_scale};
+ghost use Rattle.s2_settle.specs.Laws.{SettledLaw, StartLaw, LayerLaw, PassesLaw, RuleLaw};
+ghost use Rattle.s2_settle.specs.Plain.{settling_scale, most_moved, reserve_in};
 
 use crate::limits::{FIRST_RESERVE, MOST_MOVED, SCALE};
 
 /// What is settled for a codeword is an accepted certificate of these values and this word.
 pub fn settled()
     ensures { SettledLaw }
+{}
+
+/// The rows before any move show the state of checks and members without moves.
+pub fn start()
+    ensures { StartLaw }
+{}
+
+/// Where rows and lanes show a state of checks and members, they show its layer after their layer.
+pub fn layer()
+    ensures { LayerLaw }
+{}
+
+/// Where rows and lanes show a state, their passes end where its passes end: found by both or by neither, and
+/// what is found shows the state.
+pub fn passes()
+    ensures { PassesLaw }
+{}
+
+/// What is settled is the certificate of the state in which the passes over checks and members end.
+pub fn rule()
+    ensures { RuleLaw }
 {}
 
 /// The program's numbers are those of the rule.

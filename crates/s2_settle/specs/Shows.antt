@@ -1,0 +1,39 @@
+-- What it means that rows and lanes show a state of checks and members.
+use Rattle.std.specs.Prelude.{◌≡◌, ℕ, ◌/◌, ◌%◌, ◌<◌, ◌≤◌, List, length, get_or, ℤ, pos, ◌+ℤ◌, unsigned_abs, Option, None, Some}
+use Rattle.s2_mode.specs.Shape.{IsShape, code_bits}
+use Rattle.s2_rows.specs.Rows.{Rows}
+use Rattle.s2_matrix.specs.Code.{code_of, checks_of}
+use Rattle.s2_minsum.specs.Words.{cell}
+use Rattle.s2_minsum.specs.Layout.{row_of_bit, lane_of_bit, entry_count}
+use Rattle.s2_settle.specs.Words.{zero_rest}
+use Rattle.s2_settle.specs.Plain.{most_moved, State, rest}
+use Rattle.s2_settle.specs.Layer.{Held, AreLong}
+use Rattle.s2_settle.specs.Settled.{shown, place_of_check}
+
+-- of each check the amount at its place, and where it is above 0 the bit of its target
+pub record ShowsMoves (rows : Rows) (targets amounts : List ℕ) (s : State) : Type 0 where
+  pub amount : (j : ℕ) → j < (code_of rows).checks → get_or amounts (place_of_check rows.shape j) 0 ≡ s.amount j
+  pub within : (j : ℕ) → j < (code_of rows).checks → 0 < s.amount j → get_or targets (place_of_check rows.shape j) 0 < entry_count rows (j % rows.shape.q)
+  pub target : (j : ℕ) → j < (code_of rows).checks → 0 < s.amount j → shown rows (j % rows.shape.q) (j / rows.shape.q) (get_or targets (place_of_check rows.shape j) 0) ≡ s.target j
+
+-- at the row and lane of each bit its rest
+pub record Shows (rows : Rows) (h : Held) (s : State) : Type 0 where
+  pub long : AreLong rows h.rests h.targets h.amounts
+  pub rests : (i : ℕ) → i < code_bits rows.shape → pos (cell h.rests rows.shape.group (row_of_bit rows.shape i) (lane_of_bit rows.shape i)) ≡ pos zero_rest +ℤ rest (code_of rows) s i
+  pub moves : ShowsMoves rows h.targets h.amounts s
+
+-- the rows of a code as the standard's are: of a valid shape, and no bit in more than 24 checks
+pub record AreFit (rows : Rows) : Type 0 where
+  pub shaped : IsShape rows.shape
+  pub few : (i : ℕ) → i < code_bits rows.shape → length (checks_of (code_of rows) i) ≤ 24
+
+-- values of soft values within their limits, and no amount above the most that a check moves
+pub record IsWithin (rows : Rows) (s : State) : Type 0 where
+  pub values : (i : ℕ) → i < code_bits rows.shape → unsigned_abs (s.value i) ≤ 16128
+  pub amounts : (j : ℕ) → s.amount j ≤ most_moved
+
+-- where passes end: found by both or by neither, and what rows and lanes then hold shows the state
+abbrev pub ShowsEnd : Rows → Option Held → Option State → Type 0
+ShowsEnd rows None end = end ≡ None
+ShowsEnd rows (Some h) None = ⊥
+ShowsEnd rows (Some h) (Some s) = Shows rows h s
