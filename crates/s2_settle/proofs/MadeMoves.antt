@@ -9,7 +9,8 @@ use Rattle.s2_matrix.proofs.Joins.{parity_has}
 use Rattle.s2_matrix.proofs.Members.{place_in_members}
 use Rattle.s2_check.specs.Moves.{no_move}
 use Rattle.s2_check.specs.declared.step.Move.{Move}
-use Rattle.s2_settle.specs.Settled.{shown, place_of_check, place_in, move_to, move_of, moves_of}
+use Rattle.s2_settle.specs.Settled.{place_in, move_to}
+use Rattle.s2_settle.specs.Placing.{shown, place_of_check, move_of, moves_of}
 use Rattle.s2_settle.specs.Holding.{AreMoves}
 use Rattle.s2_settle.proofs.Layers.{upto_at, length-upto_map}
 

@@ -17,7 +17,8 @@ use Rattle.s2_check.proofs.Listing.{length-all_shares}
 use Rattle.s2_settle.specs.Layer.{Held}
 use Rattle.s2_settle.specs.Passes.{spread, Ends}
 use Rattle.s2_settle.specs.Start.{start}
-use Rattle.s2_settle.specs.Settled.{settled, view_of, moves_of, moved_view, if_reached, Finds}
+use Rattle.s2_settle.specs.Settled.{moved_view, if_reached}
+use Rattle.s2_settle.specs.Placing.{held_view, moves_of, Finds}
 
 pub found_is : (rows : Rows) (soft : List ℤ) (word : List Bool) (passes : ℕ) (h h' : Held) (found : Bool) (ms : List Move) → h' ≡ start rows soft word → found ≡ true → Ends (spread rows passes 0 0 h') found h → ms ≡ moves_of rows h.targets h.amounts → Finds rows (spread rows passes 0 0 (start rows soft word)) true ms
 found_is rows soft word passes h h' found ms from yes' ends are =
@@ -35,23 +36,21 @@ never_found rows soft word passes h h' found ms from no' ends =
     lift None e = refl
     lift (Some s) e = absurd (true≢false (sym e.0 ∙ no'))
 
--- passes that find nothing settle nothing
-pub none_settled : (rows : Rows) (soft : List ℤ) (word : List Bool) (passes : ℕ) (found : Bool) (ms : List Move) → found ≡ false → Finds rows (spread rows passes 0 0 (start rows soft word)) found ms → settled rows soft word passes ≡ None
-unfolding settled
+-- passes that find nothing make nothing
+pub none_settled : (rows : Rows) (soft : List ℤ) (word : List Bool) (passes : ℕ) (found : Bool) (ms : List Move) → found ≡ false → Finds rows (spread rows passes 0 0 (start rows soft word)) found ms → held_view rows soft word (spread rows passes 0 0 (start rows soft word)) ≡ None
 none_settled rows soft word passes found ms no' finds =
     lift (spread rows passes 0 0 (start rows soft word)) finds
   where
-    lift : (o : Option Held) → Finds rows o found ms → view_of rows soft word o ≡ None
+    lift : (o : Option Held) → Finds rows o found ms → held_view rows soft word o ≡ None
     lift None e = refl
     lift (Some s) e = absurd (true≢false (sym e.0 ∙ no'))
 
--- what passes find is settled where it reaches
-pub held_settled : (rows : Rows) (soft : List ℤ) (word : List Bool) (passes : ℕ) (found : Bool) (ms : List Move) → found ≡ true → Finds rows (spread rows passes 0 0 (start rows soft word)) found ms → settled rows soft word passes ≡ if_reached rows (moved_view rows soft word ms)
-unfolding settled
+-- what passes find is a certificate where it reaches
+pub held_settled : (rows : Rows) (soft : List ℤ) (word : List Bool) (passes : ℕ) (found : Bool) (ms : List Move) → found ≡ true → Finds rows (spread rows passes 0 0 (start rows soft word)) found ms → held_view rows soft word (spread rows passes 0 0 (start rows soft word)) ≡ if_reached rows (moved_view rows soft word ms)
 held_settled rows soft word passes found ms yes' finds =
     lift (spread rows passes 0 0 (start rows soft word)) finds
   where
-    lift : (o : Option Held) → Finds rows o found ms → view_of rows soft word o ≡ if_reached rows (moved_view rows soft word ms)
+    lift : (o : Option Held) → Finds rows o found ms → held_view rows soft word o ≡ if_reached rows (moved_view rows soft word ms)
     lift None e = absurd (true≢false (sym yes' ∙ e))
     lift (Some s) e = ap (λ (xs : List Move). if_reached rows (moved_view rows soft word xs)) (sym e.1)
 

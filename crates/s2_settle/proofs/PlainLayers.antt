@@ -20,7 +20,7 @@ use Rattle.s2_minsum.proofs.StepStates.{of_lane, lane_small, stands}
 use Rattle.s2_settle.specs.Words.{plus32, change, changed}
 use Rattle.s2_settle.specs.Plain.{State, raise, rest, input, least_of, amount_to, new_target as to_target, new_amount as to_amount, layer as layer_of_checks}
 use Rattle.s2_settle.specs.Layer.{Held, AreLong, entries_of, with_layer, new_target, new_amount, change_in, layer as layer_of_rows}
-use Rattle.s2_settle.specs.Settled.{shown, place_of_check}
+use Rattle.s2_settle.specs.Placing.{shown, place_of_check}
 use Rattle.s2_settle.specs.Shows.{ShowsMoves, Shows, AreFit, IsWithin}
 use Rattle.s2_settle.proofs.Layers.{upto_at, length-upto_map}
 use Rattle.s2_settle.proofs.RestWords.{signed, change_adds}

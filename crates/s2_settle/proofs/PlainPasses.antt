@@ -31,7 +31,7 @@ use Rattle.s2_settle.specs.Plain as plain
 use Rattle.s2_settle.specs.Layer.{Held, AreLong, layer}
 use Rattle.s2_settle.specs.Start.{started, differs, start}
 use Rattle.s2_settle.specs.Passes.{pass, negatives, spread}
-use Rattle.s2_settle.specs.Settled.{place_of_check}
+use Rattle.s2_settle.specs.Placing.{place_of_check}
 use Rattle.s2_settle.specs.Shows.{ShowsMoves, Shows, ShowsEnd, AreFit, IsWithin}
 use Rattle.s2_settle.proofs.Layers.{upto_at, length-upto_map, by_places, pass_more}
 use Rattle.s2_settle.proofs.Spreads.{spread_now, spread_never, spread_hopeless, spread_later}

@@ -11,7 +11,8 @@ use Rattle.s2_settle.specs.Plain as plain
 use Rattle.s2_settle.specs.Layer.{Held}
 use Rattle.s2_settle.specs.Start.{start}
 use Rattle.s2_settle.specs.Passes.{spread}
-use Rattle.s2_settle.specs.Settled.{shown, place_of_check, place_in, move_to, move_of, moves_of, moved_view, if_reached, view_of, settled, move_in, moves_in, view_in}
+use Rattle.s2_settle.specs.Settled.{place_in, move_to, moved_view, if_reached, settled, move_in, moves_in, view_in}
+use Rattle.s2_settle.specs.Placing.{shown, place_of_check, move_of, moves_of, held_view}
 use Rattle.s2_settle.specs.Shows.{Shows, AreFit, IsWithin}
 use Rattle.s2_settle.proofs.Layers.{upto_at, length-upto_map, by_places}
 use Rattle.s2_settle.proofs.PlainPasses.{Both, BothEnd, spread_both, start_shown, start_within}
@@ -35,13 +36,13 @@ moves_shown rows h s both =
     let n = (code_of rows).checks in
     by_places no_move (move_in (code_of rows) s) n (moves_of rows h.targets h.amounts) (length-upto_map (move_of rows h.targets h.amounts) n) (λ k lt. upto_at no_move (move_of rows h.targets h.amounts) n k lt ∙ move_shown rows h s both k lt)
 
-view_shown : (rows : Rows) (soft : List ℤ) (word : List Bool) (o : Option Held) (o' : Option State) → BothEnd rows o o' → view_of rows soft word o ≡ view_in rows soft word o'
+view_shown : (rows : Rows) (soft : List ℤ) (word : List Bool) (o : Option Held) (o' : Option State) → BothEnd rows o o' → held_view rows soft word o ≡ view_in rows soft word o'
 view_shown rows soft word None o' end = sym (ap (view_in rows soft word) end)
 view_shown rows soft word (Some h) None end = absurd end
 view_shown rows soft word (Some h) (Some s) end =
     ap (λ ms. if_reached rows (moved_view rows soft word ms)) (moves_shown rows h s end)
 
-pub settled_plain : (rows : Rows) (soft : List ℤ) (word : List Bool) (passes : ℕ) → AreFit rows → All IsSoft soft → settled rows soft word passes ≡ view_in rows soft word (plain.passes (code_of rows) rows.shape.q passes 0 0 (plain.start soft word))
+pub found_settled : (rows : Rows) (soft : List ℤ) (word : List Bool) (most : ℕ) → AreFit rows → All IsSoft soft → held_view rows soft word (spread rows most 0 0 (start rows soft word)) ≡ settled rows soft word most
 unfolding settled
-settled_plain rows soft word passes fit all =
-    view_shown rows soft word (spread rows passes 0 0 (start rows soft word)) (plain.passes (code_of rows) rows.shape.q passes 0 0 (plain.start soft word)) (spread_both rows fit passes 0 0 (start rows soft word) (plain.start soft word) (start_within rows soft word all) (start_shown rows fit soft word all))
+found_settled rows soft word most fit all =
+    view_shown rows soft word (spread rows most 0 0 (start rows soft word)) (plain.passes (code_of rows) rows.shape.q most 0 0 (plain.start soft word)) (spread_both rows fit most 0 0 (start rows soft word) (plain.start soft word) (start_within rows soft word all) (start_shown rows fit soft word all))

@@ -6,7 +6,7 @@ use Rattle.s2_settle.specs.Passes.{spread}
 use Rattle.s2_settle.specs.Laws.{StartLaw, LayerLaw, PassesLaw, RuleLaw}
 use Rattle.s2_settle.proofs.PlainLayers.{layer_shown, layer_within}
 use Rattle.s2_settle.proofs.PlainPasses.{start_shown, start_within, spread_both, ends_shown}
-use Rattle.s2_settle.proofs.PlainSettled.{settled_plain}
+use Rattle.s2_settle.proofs.PlainSettled.{found_settled}
 
 pub start_law : StartLaw
 start_law rows soft word fit all = (start_shown rows fit soft word all, start_within rows soft word all)
@@ -20,4 +20,4 @@ passes_law rows left p before h s fit within shows =
     ends_shown rows (spread rows left p before h) (plain.passes (code_of rows) rows.shape.q left p before s) (spread_both rows fit left p before h s within shows)
 
 pub rule_law : RuleLaw
-rule_law rows soft word passes fit all = settled_plain rows soft word passes fit all
+rule_law rows soft word passes fit all = found_settled rows soft word passes fit all

@@ -11,10 +11,8 @@ use Rattle.s2_check.specs.Checking.{IsCertificate, split_in}
 use Rattle.s2_check.specs.declared.step.Move.{Move}
 use Rattle.s2_check.proofs.Duality.{bound-le-cost}
 use Rattle.s2_check.proofs.Listing.{length-all_shares}
-use Rattle.s2_settle.specs.Layer.{Held}
-use Rattle.s2_settle.specs.Passes.{spread}
-use Rattle.s2_settle.specs.Start.{start}
-use Rattle.s2_settle.specs.Settled.{settled, view_of, moves_of, moved_view, reaches}
+use Rattle.s2_settle.specs.Plain.{State, start, passes}
+use Rattle.s2_settle.specs.Settled.{settled, view_in, moves_in, moved_view, reaches}
 use Rattle.s2_settle.specs.Laws.{SettledLaw}
 
 not_below : (a b : ℤ) → b ≤ℤ a → not (int_lt b a) ≡ true → a ≡ b
@@ -39,10 +37,10 @@ module _ (rows : Rows) (soft : List ℤ) (word : List Bool) (codeword : IsCodewo
 
 pub settled_lem : SettledLaw
 unfolding settled
-settled_lem rows soft word passes view codeword is =
-    go (spread rows passes 0 0 (start rows soft word)) is
+settled_lem rows soft word most view codeword is =
+    go (passes (code_of rows) rows.shape.q most 0 0 (start soft word)) is
   where
-    go : (o : Option Held) → view_of rows soft word o ≡ Some view → IsCertificate rows view × (view.soft ≡ soft) × (view.bits ≡ word)
+    go : (o : Option State) → view_in rows soft word o ≡ Some view → IsCertificate rows view × (view.soft ≡ soft) × (view.bits ≡ word)
     go None e = cc
-    go (Some h) e =
-        of_moves rows soft word codeword (moves_of rows h.targets h.amounts) (reaches rows (moved_view rows soft word (moves_of rows h.targets h.amounts))) view refl e
+    go (Some s) e =
+        of_moves rows soft word codeword (moves_in (code_of rows) s) (reaches rows (moved_view rows soft word (moves_in (code_of rows) s))) view refl e

@@ -13,7 +13,7 @@ use Rattle.s2_minsum.specs.Decoding.{AreLayers}
 use Rattle.s2_minsum.proofs.Places
 use Rattle.s2_minsum.proofs.Columns.{member_below}
 use Rattle.s2_settle.specs.Layer.{entries_of}
-use Rattle.s2_settle.specs.Settled.{shown, place_of_check}
+use Rattle.s2_settle.specs.Placing.{shown, place_of_check}
 
 module _ (rows : Rows) (entries : List Entry) (firsts : List ℕ) (l : AreLayers rows entries firsts) (r : ℕ) (layer : r < rows.shape.q) where
   abbrev bit : ℕ → ℕ

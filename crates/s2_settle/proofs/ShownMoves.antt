@@ -22,7 +22,7 @@ use Rattle.s2_minsum.proofs.StepStates.{of_lane, lane_of, layer_of}
 use Rattle.s2_settle.specs.Words.{given}
 use Rattle.s2_settle.specs.Plain.{State, raise, rest, input, new_target as to_target, new_amount as to_amount}
 use Rattle.s2_settle.specs.Layer.{Held, entries_of, of_layer, gifts, new_target, new_amount}
-use Rattle.s2_settle.specs.Settled.{shown, place_of_check}
+use Rattle.s2_settle.specs.Placing.{shown, place_of_check}
 use Rattle.s2_settle.specs.Shows.{ShowsMoves, Shows, AreFit, IsWithin}
 use Rattle.s2_settle.proofs.Layers.{upto_at}
 use Rattle.s2_settle.proofs.MadeMoves.{some_member}

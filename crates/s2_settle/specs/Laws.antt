@@ -9,7 +9,8 @@ use Rattle.s2_settle.specs.Plain as plain
 use Rattle.s2_settle.specs.Layer.{Held, layer}
 use Rattle.s2_settle.specs.Passes.{spread}
 use Rattle.s2_settle.specs.Start.{start}
-use Rattle.s2_settle.specs.Settled.{settled, view_in}
+use Rattle.s2_settle.specs.Settled.{settled}
+use Rattle.s2_settle.specs.Placing.{held_view}
 use Rattle.s2_settle.specs.Shows.{Shows, ShowsEnd, AreFit, IsWithin}
 
 -- it is accepted, and of these values and this word
@@ -33,7 +34,7 @@ abbrev pub PassesLaw : Type 0
 PassesLaw =
     (rows : Rows) (left p before : ℕ) (h : Held) (s : State) → AreFit rows → IsWithin rows s → Shows rows h s → ShowsEnd rows (spread rows left p before h) (plain.passes (code_of rows) rows.shape.q left p before s)
 
--- what is settled is the certificate of the state in which passes over checks and members end
+-- what passes over rows and lanes find is what is settled
 abbrev pub RuleLaw : Type 0
 RuleLaw =
-    (rows : Rows) (soft : List ℤ) (word : List Bool) (passes : ℕ) → AreFit rows → All IsSoft soft → settled rows soft word passes ≡ view_in rows soft word (plain.passes (code_of rows) rows.shape.q passes 0 0 (plain.start soft word))
+    (rows : Rows) (soft : List ℤ) (word : List Bool) (passes : ℕ) → AreFit rows → All IsSoft soft → held_view rows soft word (spread rows passes 0 0 (start rows soft word)) ≡ settled rows soft word passes

@@ -1,10 +1,11 @@
 pub mod Plain
+pub mod Settled
 pub mod Words
 pub mod Nodes
 pub mod Layer
 pub mod Passes
 pub mod Start
-pub mod Settled
-pub mod Holding
+pub mod Placing
 pub mod Shows
+pub mod Holding
 pub mod Laws

@@ -8,7 +8,7 @@ use Rattle.s2_minsum.specs.Layout.{row_of_bit, lane_of_bit, entry_count}
 use Rattle.s2_settle.specs.Words.{zero_rest}
 use Rattle.s2_settle.specs.Plain.{most_moved, State, rest}
 use Rattle.s2_settle.specs.Layer.{Held, AreLong}
-use Rattle.s2_settle.specs.Settled.{shown, place_of_check}
+use Rattle.s2_settle.specs.Placing.{shown, place_of_check}
 
 -- of each check the amount at its place, and where it is above 0 the bit of its target
 pub record ShowsMoves (rows : Rows) (targets amounts : List ℕ) (s : State) : Type 0 where

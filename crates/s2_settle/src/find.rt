@@ -8,7 +8,7 @@ ghost use Rattle.s2_minsum.specs.Decoding.{AreLayers};
 ghost use Rattle.s2_settle.specs.Layer.{AreLong};
 ghost use Rattle.s2_settle.specs.Passes.{spread as after_spread};
 ghost use Rattle.s2_settle.specs.Start.{start};
-ghost use Rattle.s2_settle.specs.Settled.{Finds};
+ghost use Rattle.s2_settle.specs.Placing.{Finds};
 ghost use Rattle.s2_settle.specs.Holding.{AreMoves};
 
 use crate::moves::put_moves;

@@ -26,7 +26,7 @@ pub fn passes()
     ensures { PassesLaw }
 {}
 
-/// What is settled is the certificate of the state in which the passes over checks and members end.
+/// What passes over rows and lanes find is what is settled by checks and members.
 pub fn rule()
     ensures { RuleLaw }
 {}

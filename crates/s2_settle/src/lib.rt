@@ -4,14 +4,17 @@
 //! it finds a certificate for nearly every codeword that min-sum decodes. Each check moves an amount to the
 //! least of its members' rests from the others, layer by layer; how far a rest must lie below the next one
 //! before anything is moved is held in reserve, which falls from pass to pass. So a rest is lifted above zero,
-//! and its neighbours are not dragged to exactly zero. The rule is this project's own and stands in `specs/`.
+//! and its neighbours are not dragged to exactly zero. The rule is this project's own and stands in
+//! `specs/Plain.antt`, by checks and their members.
 //!
 //! [`Settler::settle`] answers exactly what the definition `settled` says of its arguments and the matrix, and
 //! only what the checker of certificates accepts; a refusal of the checker is a `None`. That passes lead to a
 //! certificate is not promised. Only [`Settler::new`] takes memory.
 //!
 //! The settler keeps rests in rows of a group, and a layer's targets and amounts in rows of as many lanes, one
-//! check a lane, so that all checks of a layer go at once; the definitions speak of the same rows.
+//! check a lane, so that all checks of a layer go at once. That the rows and lanes are the checks and members is
+//! a law ([`laws::rule`], by way of [`laws::start`], [`laws::layer`] and [`laws::passes`]); none of it shows in a
+//! clause.
 //!
 //! ```text
 //! let mut settler = Settler::new(alloc, &matrix)?;

@@ -5,7 +5,8 @@ ghost use Rattle.s2_matrix.specs.Code.{code_of};
 ghost use Rattle.s2_minsum.specs.Words.{turned};
 ghost use Rattle.s2_minsum.specs.Layout.{bit_of};
 ghost use Rattle.s2_minsum.specs.Decoding.{AreLayers};
-ghost use Rattle.s2_settle.specs.Settled.{shown, move_to, moves_of};
+ghost use Rattle.s2_settle.specs.Settled.{move_to};
+ghost use Rattle.s2_settle.specs.Placing.{shown, moves_of};
 ghost use Rattle.s2_settle.specs.Holding.{AreMoves};
 
 use crate::limits::MOST_MOVED;

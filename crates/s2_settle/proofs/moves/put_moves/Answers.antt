@@ -3,7 +3,8 @@ use Rattle.std.proofs.Math.ListN.{length-set}
 use Rattle.s2_mode.specs.Shape.{Shape}
 use Rattle.s2_matrix.specs.Code.{code_of}
 use Rattle.s2_check.specs.Moves.{no_move}
-use Rattle.s2_settle.specs.Settled.{shown, place_of_check, move_to, move_of}
+use Rattle.s2_settle.specs.Settled.{move_to}
+use Rattle.s2_settle.specs.Placing.{shown, place_of_check, move_of}
 use Rattle.s2_settle.proofs.Shown.{place_low}
 use Rattle.s2_settle.proofs.Layers.{by_places, set_more}
 use Rattle.s2_settle.proofs.MadeMoves.{moves_are}

@@ -1,6 +1,6 @@
 use Rattle.std.proofs.Common.{◌≡◌, ℕ, ◌<◌, length, get_or}
 use Rattle.s2_check.specs.Moves.{no_move}
-use Rattle.s2_settle.specs.Settled.{move_of}
+use Rattle.s2_settle.specs.Placing.{move_of}
 use Rattle.s2_settle.proofs.moves.put_moves.Given as goal
 
 abbrev pub invariant-loop-check : goal.invariant-loop-check

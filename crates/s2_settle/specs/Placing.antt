@@ -1,0 +1,40 @@
+-- Where rows and lanes hold a layer's moves, and the certificate of these.
+use Rattle.std.specs.Prelude.{◌≡◌, ℕ, ◌+◌, ◌*◌, ◌/◌, ◌%◌, min, nat_lt, Bool, true, false, if◌then◌else◌, List, map, get_or, length, ℤ, Option, None, Some}
+use Rattle.s2_mode.specs.Shape.{Shape}
+use Rattle.s2_rows.specs.Rows.{Rows}
+use Rattle.s2_matrix.specs.Total.{upto}
+use Rattle.s2_matrix.specs.Code.{code_of, members}
+use Rattle.s2_check.specs.Views.{View}
+use Rattle.s2_check.specs.declared.step.Move.{Move}
+use Rattle.s2_minsum.specs.Words.{turned, entry_at}
+use Rattle.s2_minsum.specs.Layout.{bit_of}
+use Rattle.s2_settle.specs.Plain.{most_moved}
+use Rattle.s2_settle.specs.Layer.{Held, entries_of}
+use Rattle.s2_settle.specs.Settled.{move_to, moved_view, if_reached}
+
+-- the bit that an entry of layer r shows to the check in lane c; 0 where there is no such entry
+abbrev pub shown : Rows → ℕ → ℕ → ℕ → ℕ
+shown rows r c e = if nat_lt e (length (entries_of rows r)) then
+    bit_of rows.shape (entry_at (entries_of rows r) e).row (turned rows.shape.group (entry_at (entries_of rows r) e).shift c) else 0
+
+-- where the target and the amount of check j stand
+abbrev pub place_of_check : Shape → ℕ → ℕ
+place_of_check s j = j % s.q * s.group + j / s.q
+
+-- the move of check j
+abbrev pub move_of : Rows → List ℕ → List ℕ → ℕ → Move
+move_of rows targets amounts j =
+    move_to (members (code_of rows) j) (shown rows (j % rows.shape.q) (j / rows.shape.q) (get_or targets (place_of_check rows.shape j) 0)) (min (get_or amounts (place_of_check rows.shape j) 0) most_moved)
+
+abbrev pub moves_of : Rows → List ℕ → List ℕ → List Move
+moves_of rows targets amounts = map (move_of rows targets amounts) (upto (code_of rows).checks)
+
+-- the certificate of what rows and lanes hold, where its bound reaches the scaled cost
+abbrev pub held_view : Rows → List ℤ → List Bool → Option Held → Option View
+held_view rows soft word None = None
+held_view rows soft word (Some h) = if_reached rows (moved_view rows soft word (moves_of rows h.targets h.amounts))
+
+-- what is made of what passes find
+abbrev pub Finds : Rows → Option Held → Bool → List Move → Type 0
+Finds rows None found ms = found ≡ false
+Finds rows (Some h) found ms = (found ≡ true) × (ms ≡ moves_of rows h.targets h.amounts)
