@@ -159,6 +159,36 @@ fn decide_frame(
     read_found(mode, verdict, found, word, frame, field, filled)
 }
 
+/// The buffers of one frame.
+#[derive(Drop)]
+struct Buffers {
+    payload: Vec<Symbol>,
+    soft: Vec<i16>,
+    word: Bits,
+    frame: Bits,
+    field: Vec<u8>,
+}
+
+impl Buffers {
+    /// Buffers for the frames of a mode.
+    fn new(alloc: Global, mode: Mode) -> Result<Buffers, AllocError>
+        ensures payload { IfOk result (λ b. length b.payload.items ≡ 90 * slots_of mode) }
+        ensures soft { IfOk result (λ b. length b.soft.items ≡ n_of mode) }
+        ensures word { IfOk result (λ b. length b.word ≡ k_of mode) }
+        ensures frame { IfOk result (λ b. length b.frame ≡ kbch_of mode) }
+        ensures field { IfOk result (λ b. length b.field.items ≡ field_bytes mode) }
+    {
+        let origin = Symbol { i: 0, q: 0 };
+        Ok(Buffers {
+            payload: vec![in alloc; origin; 90 * mode.slots()]?,
+            soft: vec![in alloc; 0i16; mode.n()]?,
+            word: Bits::zeroed(alloc, mode.k())?,
+            frame: Bits::zeroed(alloc, mode.kbch())?,
+            field: vec![in alloc; 0u8; (mode.kbch() - 80) / 8]?,
+        })
+    }
+}
+
 /// Decides the frames of a link, in buffers of its own.
 #[derive(Drop)]
 pub(crate) struct Decider<'a> {
@@ -207,20 +237,21 @@ impl<'a> Decider<'a> {
         ensures link { IfOk result (λ d. d.link ≡ record { setup = setup; rows = matrix.now }) }
         ensures effort { IfOk result (λ d. d.effort ≡ effort_of rounds passes) }
     {
-        let mode = setup.mode;
+        let buffers = Buffers::new(alloc, setup.mode)?;
+        let bch = Bch::new(alloc, setup.mode)?;
         let judge = Judge::new(alloc, matrix, rounds as usize, passes)?;
-        let bch = Bch::new(alloc, mode)?;
-        let origin = Symbol { i: 0, q: 0 };
-        let payload = vec![in alloc; origin; 90 * mode.slots()]?;
-        let soft = vec![in alloc; 0i16; mode.n()]?;
-        let word = Bits::zeroed(alloc, mode.k())?;
-        let frame = Bits::zeroed(alloc, mode.kbch())?;
-        let field = vec![in alloc; 0u8; (mode.kbch() - 80) / 8]?;
         let last = Decided {
             verdict: Verdict::Broken,
             outcome: Outcome::NoWord,
             header: None,
         };
+        let Buffers {
+            payload,
+            soft,
+            word,
+            frame,
+            field,
+        } = buffers;
         Ok(Decider {
             setup,
             gold,
