@@ -1,0 +1,120 @@
+//! Four symbols at a time, their eight components in the lanes of a vector.
+ghost use Rattle.std.specs.Prelude.{◌≡◌, ℕ, ◌+◌, ◌-◌, ◌%◌, ◌<◌, ◌≤◌, length, slice_index, [], ◌∷◌};
+ghost use Rattle.s2_mode.specs.declared.symbols.Symbol.{Symbol};
+ghost use Rattle.s2_mode.specs.Symbols.{IsSymbol, symbol_at};
+ghost use Rattle.s2_scramble.specs.Turns.{turned};
+ghost use Rattle.s2_scramble.specs.Words.{words_of, twice};
+
+use s2_mode::Symbol;
+use std::simd::prelude::*;
+
+/// The words of four symbols.
+#[inline(always)]
+fn load(symbols: &[Symbol], at: usize) -> u16x8
+    requires { at + 4 ≤ length symbols.now }
+    ensures a { IsSymbol (symbol_at symbols.now at) }
+    ensures b { IsSymbol (symbol_at symbols.now (at + 1)) }
+    ensures c { IsSymbol (symbol_at symbols.now (at + 2)) }
+    ensures d { IsSymbol (symbol_at symbols.now (at + 3)) }
+    ensures words { result ≡ words_of (symbol_at symbols.now at) (symbol_at symbols.now (at + 1)) (symbol_at symbols.now (at + 2)) (symbol_at symbols.now (at + 3)) }
+{
+    u16x8::from_array([
+        symbols[at].i.cast_unsigned(),
+        symbols[at].q.cast_unsigned(),
+        symbols[at + 1].i.cast_unsigned(),
+        symbols[at + 1].q.cast_unsigned(),
+        symbols[at + 2].i.cast_unsigned(),
+        symbols[at + 2].q.cast_unsigned(),
+        symbols[at + 3].i.cast_unsigned(),
+        symbols[at + 3].q.cast_unsigned(),
+    ])
+}
+
+/// Four symbols of their words.
+#[inline(always)]
+fn symbols_of(words: u16x8) -> [Symbol; 4]
+    ensures { (a b c d : Symbol) → IsSymbol a → IsSymbol b → IsSymbol c → IsSymbol d → words ≡ words_of a b c d → result ≡ a ∷ b ∷ c ∷ d ∷ [] }
+{
+    let [a, b, c, d, e, f, g, h] = words.to_array();
+    [
+        Symbol {
+            i: a.cast_signed(),
+            q: b.cast_signed(),
+        },
+        Symbol {
+            i: c.cast_signed(),
+            q: d.cast_signed(),
+        },
+        Symbol {
+            i: e.cast_signed(),
+            q: f.cast_signed(),
+        },
+        Symbol {
+            i: g.cast_signed(),
+            q: h.cast_signed(),
+        },
+    ]
+}
+
+/// Turns four symbols. Each number of quarters stands in both lanes of its symbol.
+#[inline(always)]
+fn turned_words(quarters: u16x8, words: u16x8) -> u16x8
+    ensures { (k l m n : ℕ) (a b c d : Symbol) → k < 4 → l < 4 → m < 4 → n < 4 → IsSymbol a → IsSymbol b → IsSymbol c → IsSymbol d → quarters ≡ twice k l m n → words ≡ words_of a b c d → result ≡ words_of (turned k a) (turned l b) (turned m c) (turned n d) }
+{
+    let odd = (quarters & u16x8::splat(1)).simd_eq(u16x8::splat(1));
+    let chosen = odd.select(words.swizzle([1, 0, 3, 2, 5, 4, 7, 6]), words);
+    let least = chosen.simd_eq(u16x8::splat(32768));
+    let negative = u16x8::splat(0) - chosen + least.select(u16x8::splat(65535), u16x8::splat(0));
+    let signs = quarters + u16x8::from_array([1, 0, 1, 0, 1, 0, 1, 0]);
+    let negate = (signs & u16x8::splat(2)).simd_eq(u16x8::splat(2));
+    negate.select(negative, chosen)
+}
+
+/// Four numbers of quarters, each in both lanes of its symbol.
+#[inline(always)]
+pub(crate) fn quarters_of(quarters: &[u16], at: usize) -> u16x8
+    requires { at + 4 ≤ length quarters.now }
+    ensures { result ≡ twice (slice_index quarters.now at) (slice_index quarters.now (at + 1)) (slice_index quarters.now (at + 2)) (slice_index quarters.now (at + 3)) }
+{
+    u16x4::from_array([
+        quarters[at],
+        quarters[at + 1],
+        quarters[at + 2],
+        quarters[at + 3],
+    ])
+    .swizzle([0, 0, 1, 1, 2, 2, 3, 3])
+}
+
+/// The numbers of quarters that turn back what so many turn.
+#[inline(always)]
+pub(crate) fn back(quarters: u16x8) -> u16x8
+    ensures { (k l m n : ℕ) → k < 4 → l < 4 → m < 4 → n < 4 → quarters ≡ twice k l m n → result ≡ twice ((4 - k) % 4) ((4 - l) % 4) ((4 - m) % 4) ((4 - n) % 4) }
+{
+    (u16x8::splat(4) - quarters) & u16x8::splat(3)
+}
+
+/// The four symbols from a place on, turned.
+#[inline(always)]
+pub(crate) fn turn_four(quarters: u16x8, symbols: &[Symbol], at: usize) -> [Symbol; 4]
+    requires { at + 4 ≤ length symbols.now }
+    ensures { (k l m n : ℕ) → k < 4 → l < 4 → m < 4 → n < 4 → quarters ≡ twice k l m n → result ≡ turned k (symbol_at symbols.now at) ∷ turned l (symbol_at symbols.now (at + 1)) ∷ turned m (symbol_at symbols.now (at + 2)) ∷ turned n (symbol_at symbols.now (at + 3)) ∷ [] }
+{
+    symbols_of(turned_words(quarters, load(symbols, at)))
+}
+
+/// Writes four symbols from a place on.
+#[inline(always)]
+pub(crate) fn put(out: &mut [Symbol], at: usize, four: [Symbol; 4])
+    requires { at + 4 ≤ length out.old }
+    ensures kept { (k : ℕ) → k < at → symbol_at out.new k ≡ symbol_at out.old k }
+    ensures a { symbol_at out.new at ≡ symbol_at four 0 }
+    ensures b { symbol_at out.new (at + 1) ≡ symbol_at four 1 }
+    ensures c { symbol_at out.new (at + 2) ≡ symbol_at four 2 }
+    ensures d { symbol_at out.new (at + 3) ≡ symbol_at four 3 }
+{
+    let [a, b, c, d] = four;
+    out[at] = a;
+    out[at + 1] = b;
+    out[at + 2] = c;
+    out[at + 3] = d;
+}
