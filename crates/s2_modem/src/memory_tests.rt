@@ -4,20 +4,23 @@ ghost use Rattle.std.specs.Prelude.{◌≡◌, All, IfOk, IsTrue};
 ghost use Rattle.s2_check.specs.Views.{IsSoft};
 ghost use Rattle.s2_receive.specs.Receiving.{begun};
 
-use crate::{DemodFault, Judge, Receiver, Setup, SetupFault, Transmitter, demodulate};
+use crate::{DemodFault, Judge, Receiver, SendFault, Setup, SetupFault, Transmitter, demodulate};
 use s2_matrix::Matrix;
 use s2_mode::{Counting, InMemory, Mode, Shape};
-use s2_receive::Verdict;
+use s2_receive::{Fault, Verdict};
 use s2_rows::{MakeFault, RowFault, Rows, make_rows, read_rows};
 use std::alloc::{AllocError, Global};
-use std::process::Abort;
 use std::test::Fail;
 
 const REPORT: &[u8] =
     b"frame 1 at 0 most-likely fixed 0\nend frames 1 delivered 1 packets 1 bad 0\n";
 
 /// Packets and lines.
-type Received = (Vec<u8>, Vec<u8>);
+#[derive(Drop)]
+struct Written {
+    packets: Vec<u8>,
+    report: Vec<u8>,
+}
 
 fn room(alloc: Global, size: usize) -> Result<Vec<u8>, AllocError> {
     match Vec::with_capacity(alloc, size) {
@@ -47,6 +50,15 @@ fn toy_rows(alloc: Global, shape: Shape) -> Result<Rows, RowFault> {
     }
 }
 
+/// The writers' room for a packet and its report.
+fn rooms(alloc: Global) -> Result<Written, AllocError> {
+    let packets = room(alloc, 188)?;
+    Ok(Written {
+        packets,
+        report: room(alloc, REPORT.len())?,
+    })
+}
+
 /// QPSK 1/4 in normal frames.
 fn setup() -> Result<Setup, Fail> {
     Ok(Setup {
@@ -56,19 +68,45 @@ fn setup() -> Result<Setup, Fail> {
     })
 }
 
-fn transmitter<'a>(alloc: Global, matrix: &'a Matrix) -> Result<Transmitter<'a>, Fail> {
-    match Transmitter::new(alloc, setup()?, matrix) {
-        Err(SetupFault::NoMemory) => Ok(Transmitter::new(alloc, setup()?, matrix)?),
-        made => Ok(made?),
+fn transmitter_of<'a>(
+    alloc: Global,
+    setup: &Setup,
+    matrix: &'a Matrix,
+) -> Result<Transmitter<'a>, SetupFault> {
+    Transmitter::new(alloc, *setup, matrix)
+}
+
+fn transmitter<'a>(
+    alloc: Global,
+    setup: &Setup,
+    matrix: &'a Matrix,
+) -> Result<Transmitter<'a>, SetupFault> {
+    match transmitter_of(alloc, setup, matrix) {
+        Err(SetupFault::NoMemory) => transmitter_of(alloc, setup, matrix),
+        made => made,
     }
 }
 
-fn receiver<'a>(alloc: Global, matrix: &'a Matrix) -> Result<Receiver<'a>, Fail>
+fn receiver_of<'a>(
+    alloc: Global,
+    setup: &Setup,
+    matrix: &'a Matrix,
+) -> Result<Receiver<'a>, SetupFault>
     ensures { IfOk result (λ r. r.state ≡ begun) }
 {
-    match Receiver::new(alloc, setup()?, matrix, 50, 0) {
-        Err(SetupFault::NoMemory) => Ok(Receiver::new(alloc, setup()?, matrix, 50, 0)?),
-        made => Ok(made?),
+    Receiver::new(alloc, *setup, matrix, 50, 0)
+}
+
+fn receiver<'a>(
+    alloc: Global,
+    setup: &Setup,
+    matrix: &'a Matrix,
+) -> Result<Receiver<'a>, SetupFault>
+    ensures { IfOk result (λ r. r.state ≡ begun) }
+{
+    match receiver_of(alloc, setup, matrix) {
+        Err(SetupFault::NoMemory) => receiver_of(alloc, setup, matrix),
+        made => made,
     }
 }
 
@@ -81,44 +119,57 @@ fn judge<'a>(alloc: Global, matrix: &'a Matrix) -> Result<Judge<'a>, AllocError>
     }
 }
 
+fn send(
+    transmitter: &mut Transmitter<'_>,
+    packets: &[u8],
+    room: Vec<u8>,
+) -> Result<Vec<u8>, SendFault> {
+    let mut symbols = Counting::new(room);
+    match transmitter.run(&mut InMemory::new(packets), &mut symbols) {
+        Ok(_) => Ok(symbols.into_inner()),
+        Err(fault) => Err(fault),
+    }
+}
+
 /// The symbols of packets.
-fn sent(alloc: Global, matrix: &Matrix, packets: &[u8]) -> Result<Vec<u8>, Fail> {
-    let mut symbols = Counting::new(room(alloc, 129_960)?);
-    let mut transmitter = transmitter(alloc, matrix)?;
-    transmitter.run(&mut InMemory::new(packets), &mut symbols)?;
-    Ok(symbols.into_inner())
+fn sent(alloc: Global, setup: Setup, matrix: &Matrix, packets: &[u8]) -> Result<Vec<u8>, Fail> {
+    let mut transmitter = transmitter(alloc, &setup, matrix)?;
+    Ok(send(&mut transmitter, packets, room(alloc, 129_960)?)?)
+}
+
+fn receive(receiver: &mut Receiver<'_>, symbols: &[u8], room: Written) -> Result<Written, Fault>
+    requires { receiver.old.state ≡ begun }
+{
+    let mut packets = Counting::new(room.packets);
+    let mut report = Counting::new(room.report);
+    match receiver.run(&mut InMemory::new(symbols), &mut packets, &mut report) {
+        Ok(_) => Ok(Written {
+            packets: packets.into_inner(),
+            report: report.into_inner(),
+        }),
+        Err(fault) => Err(fault),
+    }
 }
 
 /// What a receiver makes of symbols.
-fn received(alloc: Global, matrix: &Matrix, symbols: &[u8]) -> Result<Received, Fail> {
-    let mut packets = Counting::new(room(alloc, 188)?);
-    let mut report = Counting::new(room(alloc, REPORT.len())?);
-    let mut receiver = receiver(alloc, matrix)?;
-    receiver.run(&mut InMemory::new(symbols), &mut packets, &mut report)?;
-    Ok((packets.into_inner(), report.into_inner()))
+fn received(alloc: Global, setup: Setup, matrix: &Matrix, symbols: &[u8]) -> Result<Written, Fail> {
+    let room = rooms(alloc)?;
+    let mut receiver = receiver(alloc, &setup, matrix)?;
+    Ok(receive(&mut receiver, symbols, room)?)
 }
 
 /// The same of symbols in memory, written to these.
 fn demodulated(
     alloc: Global,
+    setup: Setup,
     matrix: &Matrix,
     symbols: &[u8],
-    written: Received,
-) -> Result<Received, DemodFault> {
-    if symbols.len() > 129_960 {
-        return Err(DemodFault::Write);
-    }
-    let Some(mode) = Mode::of(1, false, false) else {
-        return Err(DemodFault::Setup(SetupFault::OtherShape));
-    };
-    let setup = Setup {
-        mode,
-        number: 0,
-        roll_off: 0,
-    };
-    let mut packets = Counting::new(written.0);
-    let mut report = Counting::new(written.1);
-    demodulate(
+    room: Written,
+) -> Result<Written, DemodFault> {
+    let mut packets = Counting::new(room.packets);
+    let mut report = Counting::new(room.report);
+    let symbols = &symbols[..symbols.len().min(129_960)];
+    match demodulate(
         alloc,
         setup,
         matrix,
@@ -127,19 +178,24 @@ fn demodulated(
         symbols,
         &mut packets,
         &mut report,
-    )?;
-    Ok((packets.into_inner(), report.into_inner()))
+    ) {
+        Ok(_) => Ok(Written {
+            packets: packets.into_inner(),
+            report: report.into_inner(),
+        }),
+        Err(fault) => Err(fault),
+    }
 }
 
-fn rooms(alloc: Global) -> Result<Received, AllocError> {
-    Ok((room(alloc, 188)?, room(alloc, REPORT.len())?))
-}
-
-fn demodulated_again(alloc: Global, matrix: &Matrix, symbols: &[u8]) -> Result<Received, Fail> {
-    let no_memory = DemodFault::Setup(SetupFault::NoMemory);
-    match demodulated(alloc, matrix, symbols, rooms(alloc)?) {
-        Err(fault) if fault == no_memory => {
-            Ok(demodulated(alloc, matrix, symbols, rooms(alloc)?)?)
+fn demodulated_again(
+    alloc: Global,
+    setup: Setup,
+    matrix: &Matrix,
+    symbols: &[u8],
+) -> Result<Written, Fail> {
+    match demodulated(alloc, setup, matrix, symbols, rooms(alloc)?) {
+        Err(DemodFault::Setup(SetupFault::NoMemory)) => {
+            Ok(demodulated(alloc, setup, matrix, symbols, rooms(alloc)?)?)
         }
         ended => Ok(ended?),
     }
@@ -159,50 +215,43 @@ fn are_soft(values: &[i16]) -> bool
 
 /// The verdict on these values and how many ones were decided.
 fn judged(alloc: Global, matrix: &Matrix, soft: &[i16; 20]) -> Result<(Verdict, usize), Fail> {
-    let mut judge = judge(alloc, matrix)?;
     if matrix.bits() != 20 || !are_soft(soft) {
         return Err(Fail::from("other values"));
     }
+    let mut judge = judge(alloc, matrix)?;
     Ok((judge.judge(soft), judge.word().count_ones()))
 }
 
-/// Asserts the decisions on values of one sign.
-fn judge_again<R: Abort + AllocGlobal>(rt: &R) -> Result<(), Fail> {
+/// The decision on 20 times this value.
+fn judged_on(alloc: Global, value: i16) -> Result<(Verdict, usize), Fail> {
     let toy = Shape::new(4, 2, 3).ok_or("no shape")?;
-    let matrix = built(rt.alloc(), &toy_rows(rt.alloc(), toy)?)?;
-    let likely = (Verdict::MostLikely, 0usize);
-    assert_eq!(rt; judged(rt.alloc(), &matrix, &[10; 20])?, likely);
-    assert_eq!(rt; judged(rt.alloc(), &matrix, &[0; 20])?, likely);
-    Ok(())
+    let matrix = built(alloc, &toy_rows(alloc, toy)?)?;
+    judged(alloc, &matrix, &[value; 20])
 }
 
-/// The matrix of QPSK 1/4 in normal frames.
-fn quarter(alloc: Global) -> Result<Matrix, Fail> {
-    Ok(built(alloc, &made_rows(alloc, setup()?.mode.shape())?)?)
-}
-
-/// Asserts what comes of a packet.
-fn assert_received<R: Abort>(rt: &R, received: &Received, packet: &[u8]) {
-    assert_eq!(rt; received.0.as_slice(), packet);
-    assert_eq!(rt; received.1.as_slice(), REPORT);
-}
-
-/// Sends a packet of zeros, and asserts what comes.
-fn link_again<R: Abort + AllocGlobal>(rt: &R) -> Result<(), Fail> {
-    let matrix = quarter(rt.alloc())?;
-    let mut packet = [0; 188];
-    packet[0] = 0x47;
-    let symbols = sent(rt.alloc(), &matrix, &packet)?;
-    assert_eq!(rt; symbols.len(), 129_960);
-    let run = received(rt.alloc(), &matrix, &symbols)?;
-    assert_received(rt, &run, &packet);
-    let whole = demodulated_again(rt.alloc(), &matrix, &symbols)?;
-    assert_received(rt, &whole, &packet);
-    Ok(())
+/// What comes of a packet by a receiver, and by a call for symbols in memory.
+fn linked(alloc: Global, packet: &[u8]) -> Result<[Written; 2], Fail> {
+    let setup = setup()?;
+    let matrix = built(alloc, &made_rows(alloc, setup.mode.shape())?)?;
+    let symbols = sent(alloc, setup, &matrix, packet)?;
+    if symbols.len() != 129_960 {
+        return Err(Fail::from("other symbols"));
+    }
+    let by_receiver = received(alloc, setup, &matrix, &symbols)?;
+    let whole = demodulated_again(alloc, setup, &matrix, &symbols)?;
+    Ok([by_receiver, whole])
 }
 
 #[test]
 fn asks_again_where_memory_is_refused(rt: HostRuntime) -> Result<(), Fail> {
-    judge_again(&rt)?;
-    link_again(&rt)
+    let likely = (Verdict::MostLikely, 0usize);
+    assert_eq!(rt; judged_on(rt.alloc(), 10)?, likely);
+    assert_eq!(rt; judged_on(rt.alloc(), 0)?, likely);
+    let mut packet = [0; 188];
+    packet[0] = 0x47;
+    for written in &linked(rt.alloc(), &packet)? {
+        assert_eq!(rt; written.packets.as_slice(), packet.as_slice());
+        assert_eq!(rt; written.report.as_slice(), REPORT);
+    }
+    Ok(())
 }

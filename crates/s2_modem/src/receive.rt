@@ -18,4 +18,6 @@ mod hostile_tests;
 #[cfg(test)]
 mod judge_tests;
 #[cfg(test)]
+mod scattered_tests;
+#[cfg(test)]
 mod tests;

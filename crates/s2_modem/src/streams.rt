@@ -1,5 +1,7 @@
 //! Small links and their streams, for tests. What has a large contract is called here and nowhere else
-//! in the tests, by functions that have none, so that a test's own proof stays small.
+//! in the tests, each such call by a function that has none, so that a test's own proof stays small.
+ghost use Rattle.s2_receive.specs.Receiving.{IsLive};
+
 use crate::send::coder::Coder;
 use crate::send::framer::Framer;
 use crate::send::modulator::Modulator;
@@ -7,17 +9,20 @@ use crate::{Counts, DemodFault, Receiver, SendFault, Setup, SetupFault, Transmit
 use s2_bbframe::Header;
 use s2_bits::Bits;
 use s2_matrix::Matrix;
-use s2_mode::{Counted, Counting, InMemory, Mode};
+use s2_mode::{Counted, CountedRead, Counting, FailAt, InMemory, Mode};
 use s2_receive::{Fault, MOST_SYMBOLS, Received, Step, Totals};
 use s2_rows::make_rows;
 use s2_scramble::Gold;
-use std::alloc::Global;
-use std::io::{Read, Write};
+use std::alloc::{AllocError, Global};
+use std::io::Read;
 use std::process::Abort;
 use std::test::Fail;
 
 /// The rounds of a receiver here.
 pub(crate) const ROUNDS: u32 = 50;
+
+/// Where no write fails.
+pub(crate) const ALL: u64 = u64::MAX;
 
 /// What both ends of a link share.
 #[derive(Drop)]
@@ -57,22 +62,18 @@ pub(crate) fn packet_of(number: u8) -> [u8; 188] {
     packet
 }
 
-/// The packets of the numbers from 0 on.
-pub(crate) fn packets_of(alloc: Global, count: u8) -> Result<Vec<u8>, Fail> {
-    let mut packets = Vec::new(alloc);
-    for number in 0..count {
-        packets.extend_from_slice(&packet_of(number))?;
-    }
-    Ok(packets)
+/// The packets of the numbers 0 and 1.
+pub(crate) fn two_packets() -> [[u8; 188]; 2] {
+    [packet_of(0), packet_of(1)]
 }
 
 /// What a run of a transmitter came to.
 #[derive(Drop)]
-pub(crate) struct Sent<W> {
+pub(crate) struct Sent {
     pub(crate) answer: Result<Counts, SendFault>,
     /// How many reads, and how many writes failed.
     pub(crate) failed: [u64; 2],
-    pub(crate) writer: W,
+    pub(crate) symbols: Vec<u8>,
 }
 
 pub(crate) fn transmitter_of<'a>(
@@ -82,54 +83,61 @@ pub(crate) fn transmitter_of<'a>(
     Transmitter::new(alloc, link.setup, &link.matrix)
 }
 
-/// Sends on a link from a reader to a writer, at most so many packets.
-pub(crate) fn send<R: Read + Drop, W: Write + Drop>(
+/// Runs a transmitter, of whose writes so many pass.
+fn run<R: Read + Drop>(
     alloc: Global,
-    link: &Link,
-    limit: u32,
-    reader: R,
-    writer: W,
-) -> Result<Sent<W>, Fail> {
-    let mut transmitter = Transmitter::new(alloc, link.setup, &link.matrix)?;
-    transmitter.limit(u64::from(limit.max(1)));
-    Ok(run(&mut transmitter, reader, writer))
-}
-
-/// What one transmitter makes of several streams.
-pub(crate) fn send_all(
-    alloc: Global,
-    link: &Link,
-    streams: &[&[u8]],
-) -> Result<Vec<Sent<Vec<u8>>>, Fail> {
-    let mut transmitter = transmitter_of(alloc, link)?;
-    let mut all = Vec::new(alloc);
-    for packets in streams {
-        all.push(run(&mut transmitter, *packets, Vec::new(alloc)))?;
-    }
-    Ok(all)
-}
-
-/// Runs a transmitter.
-fn run<R: Read + Drop, W: Write>(
     transmitter: &mut Transmitter<'_>,
     reader: R,
-    writer: W,
-) -> Sent<W> {
+    writes: u64,
+) -> Sent {
     let mut reader = Counting::new(reader);
-    let mut writer = Counting::new(writer);
+    let mut writer = Counting::new(FailAt::new(Vec::new(alloc), writes));
     let answer = transmitter.run(&mut reader, &mut writer);
     Sent {
         answer,
         failed: [reader.count(), writer.count()],
-        writer: writer.into_inner(),
+        symbols: writer.into_inner().into_inner(),
     }
+}
+
+/// Lets a transmitter take at most so many packets.
+fn limit(transmitter: &mut Transmitter<'_>, packets: u32) {
+    transmitter.limit(u64::from(packets.max(1)));
+}
+
+/// Sends on a link from a reader, at most so many packets, where so many writes pass.
+pub(crate) fn send<R: Read + Drop>(
+    alloc: Global,
+    link: &Link,
+    packets: u32,
+    reader: R,
+    writes: u64,
+) -> Result<Sent, SetupFault> {
+    let mut transmitter = transmitter_of(alloc, link)?;
+    limit(&mut transmitter, packets);
+    Ok(run(alloc, &mut transmitter, reader, writes))
+}
+
+/// What one transmitter makes of three streams.
+pub(crate) fn send_three(
+    alloc: Global,
+    link: &Link,
+    streams: [&[u8]; 3],
+) -> Result<[Sent; 3], SetupFault> {
+    let [first, second, third] = streams;
+    let mut transmitter = transmitter_of(alloc, link)?;
+    Ok([
+        run(alloc, &mut transmitter, first, ALL),
+        run(alloc, &mut transmitter, second, ALL),
+        run(alloc, &mut transmitter, third, ALL),
+    ])
 }
 
 /// The symbols of packets on a link.
 pub(crate) fn symbols_of(alloc: Global, link: &Link, packets: &[u8]) -> Result<Vec<u8>, Fail> {
-    let sent = send(alloc, link, u32::MAX, packets, Vec::new(alloc))?;
+    let sent = send(alloc, link, u32::MAX, packets, ALL)?;
     sent.answer?;
-    Ok(sent.writer)
+    Ok(sent.symbols)
 }
 
 /// The symbols of the frame of a header, whatever it says, and of the bytes behind it.
@@ -188,16 +196,18 @@ pub(crate) fn frame_of_word(alloc: Global, link: &Link, word: &Bits) -> Result<V
     Ok(symbols)
 }
 
-/// Receives symbols in memory into two writers.
-pub(crate) fn receive_into<P: Write, W: Write>(
-    alloc: Global,
-    link: &Link,
-    symbols: &[u8],
-    packets: P,
-    report: W,
-) -> (Result<Totals, DemodFault>, P, W) {
-    let mut packets = Counting::new(packets);
-    let mut report = Counting::new(report);
+/// What is received of symbols in memory.
+#[derive(Drop)]
+pub(crate) struct Demodulated {
+    pub(crate) answer: Result<Totals, DemodFault>,
+    pub(crate) packets: Vec<u8>,
+    pub(crate) report: Vec<u8>,
+}
+
+/// Receives symbols in memory, where so many writes of packets and so many of lines pass.
+pub(crate) fn receive(alloc: Global, link: &Link, symbols: &[u8], writes: [u64; 2]) -> Demodulated {
+    let mut packets = Counting::new(FailAt::new(Vec::new(alloc), writes[0]));
+    let mut report = Counting::new(FailAt::new(Vec::new(alloc), writes[1]));
     let symbols = &symbols[..symbols.len().min(1 << 30)];
     let answer = demodulate(
         alloc,
@@ -209,46 +219,42 @@ pub(crate) fn receive_into<P: Write, W: Write>(
         &mut packets,
         &mut report,
     );
-    (answer, packets.into_inner(), report.into_inner())
+    Demodulated {
+        answer,
+        packets: packets.into_inner().into_inner(),
+        report: report.into_inner().into_inner(),
+    }
 }
 
-/// What is received of symbols in memory: the totals, the packets and the report.
-pub(crate) fn received(
-    alloc: Global,
-    link: &Link,
-    symbols: &[u8],
-) -> Result<(Totals, Vec<u8>, Vec<u8>), Fail> {
-    let (answer, packets, report) = receive_into(
-        alloc,
-        link,
-        symbols,
-        Vec::new(alloc),
-        Vec::new(alloc),
-    );
-    Ok((answer?, packets, report))
+/// Receives symbols in memory.
+pub(crate) fn received(alloc: Global, link: &Link, symbols: &[u8]) -> Demodulated {
+    receive(alloc, link, symbols, [ALL, ALL])
 }
 
-/// Asserts what is reported of symbols in memory, and the packets.
+/// Asserts what was reported, and the packets.
 pub(crate) fn assert_received<A: Abort>(
     rt: &A,
-    alloc: Global,
-    link: &Link,
-    symbols: &[u8],
+    received: &Demodulated,
     report: &str,
     packets: &[u8],
-) -> Result<(), Fail> {
-    let (_, received, lines) = received(alloc, link, symbols)?;
-    assert_eq!(rt; lines.as_slice(), report.as_bytes());
-    assert_eq!(rt; received.as_slice(), packets);
-    Ok(())
+) {
+    assert_eq!(rt; received.report.as_slice(), report.as_bytes());
+    assert_eq!(rt; received.packets.as_slice(), packets);
+}
+
+/// Receives symbols in memory to their end by a single call.
+fn run_to_end(alloc: Global, receiver: &mut Receiver<'_>, symbols: &[u8]) -> Result<Received, Fault>
+    requires { IsLive receiver.old.state.phase }
+{
+    let mut packets = Counting::new(Vec::new(alloc));
+    let mut report = Counting::new(Vec::new(alloc));
+    receiver.run(&mut InMemory::new(symbols), &mut packets, &mut report)
 }
 
 /// What a receiver takes of symbols in memory by a single call.
 pub(crate) fn received_whole(alloc: Global, link: &Link, symbols: &[u8]) -> Result<Received, Fail> {
     let mut receiver = Receiver::new(alloc, link.setup, &link.matrix, ROUNDS, 0)?;
-    let mut packets = Counting::new(Vec::new(alloc));
-    let mut report = Counting::new(Vec::new(alloc));
-    Ok(receiver.run(&mut InMemory::new(symbols), &mut packets, &mut report)?)
+    Ok(run_to_end(alloc, &mut receiver, symbols)?)
 }
 
 /// The receiver of a link, of so many rounds.
@@ -260,45 +266,30 @@ pub(crate) fn receiver_of<'a>(
     Receiver::new(alloc, link.setup, &link.matrix, rounds, 0)
 }
 
-/// What the calls of a receiver answered, and its writers after them.
-#[derive(Drop)]
-pub(crate) struct Heard<P, W> {
-    pub(crate) steps: Vec<Result<Step, Fault>>,
-    pub(crate) packets: P,
-    pub(crate) report: W,
+/// The receiver of a link, which takes at most so many symbols.
+fn receiver_within<'a>(
+    alloc: Global,
+    link: &'a Link,
+    symbols: u64,
+) -> Result<Receiver<'a>, SetupFault> {
+    let mut receiver = Receiver::new(alloc, link.setup, &link.matrix, ROUNDS, 0)?;
+    receiver.limit(symbols.clamp(1, MOST_SYMBOLS));
+    Ok(receiver)
 }
 
-/// Calls a new receiver so many times, which takes at most so many symbols.
-pub(crate) fn hear<R: Read + Drop, P: Write + Drop, W: Write + Drop>(
-    alloc: Global,
-    link: &Link,
-    (calls, limit): (usize, u64),
-    reader: R,
-    packets: P,
-    report: W,
-) -> Result<Heard<P, W>, Fail> {
-    let mut receiver = Receiver::new(alloc, link.setup, &link.matrix, ROUNDS, 0)?;
-    receiver.limit(limit.clamp(1, MOST_SYMBOLS));
-    let mut reader = Counting::new(reader);
-    let mut packets = Counting::new(packets);
-    let mut report = Counting::new(report);
-    let mut steps = Vec::new(alloc);
-    for _ in 0..calls {
-        steps.push(step(&mut receiver, &mut reader, &mut packets, &mut report))?;
-    }
-    Ok(Heard {
-        steps,
-        packets: packets.into_inner(),
-        report: report.into_inner(),
-    })
+/// A writer of which so many writes pass.
+type Failing = Counting<FailAt<Vec<u8>>>;
+
+fn failing(alloc: Global, writes: u64) -> Failing {
+    Counting::new(FailAt::new(Vec::new(alloc), writes))
 }
 
 /// Calls a receiver once.
-fn step<R: Read, P: Write, W: Write>(
+fn step<R: CountedRead>(
     receiver: &mut Receiver<'_>,
-    reader: &mut Counting<R>,
-    packets: &mut Counting<P>,
-    report: &mut Counting<W>,
+    reader: &mut R,
+    packets: &mut Failing,
+    report: &mut Failing,
 ) -> Result<Step, Fault> {
     let failed = [reader.count(), packets.count(), report.count()];
     if failed[0] == u64::MAX || failed[1] == u64::MAX || failed[2] == u64::MAX {
@@ -307,21 +298,60 @@ fn step<R: Read, P: Write, W: Write>(
     receiver.next(reader, packets, report)
 }
 
-/// What a receiver shows of a frame: its soft values, its word's first 32 bits and its message.
+/// What five calls of a receiver answer.
+pub(crate) type Steps = [Result<Step, Fault>; 5];
+
+fn five_steps<R: CountedRead>(
+    receiver: &mut Receiver<'_>,
+    reader: &mut R,
+    packets: &mut Failing,
+    report: &mut Failing,
+) -> Steps {
+    let mut steps = [Err(Fault::Failed); 5];
+    for answer in steps.iter_mut() {
+        *answer = step(receiver, reader, packets, report);
+    }
+    steps
+}
+
+/// What five calls of a receiver answered and wrote.
+#[derive(Drop)]
+pub(crate) struct Heard {
+    pub(crate) steps: Steps,
+    pub(crate) packets: Vec<u8>,
+    pub(crate) report: Vec<u8>,
+}
+
+/// Calls a new receiver five times, which takes at most so many symbols, and where so many writes of
+/// packets and so many of lines pass.
+pub(crate) fn hear<R: CountedRead>(
+    alloc: Global,
+    link: &Link,
+    symbols: u64,
+    reader: &mut R,
+    writes: [u64; 2],
+) -> Result<Heard, SetupFault> {
+    let mut receiver = receiver_within(alloc, link, symbols)?;
+    let mut packets = failing(alloc, writes[0]);
+    let mut report = failing(alloc, writes[1]);
+    let steps = five_steps(&mut receiver, reader, &mut packets, &mut report);
+    Ok(Heard {
+        steps,
+        packets: packets.into_inner().into_inner(),
+        report: report.into_inner().into_inner(),
+    })
+}
+
+/// What a receiver shows of a frame.
 #[derive(Drop)]
 pub(crate) struct Shown {
     pub(crate) soft: Vec<i16>,
+    /// The word's first 32 bits.
     pub(crate) word: [u8; 4],
     pub(crate) message: Vec<bool>,
 }
 
-/// What a receiver shows after its first call.
-pub(crate) fn show(alloc: Global, link: &Link, symbols: &[u8]) -> Result<Shown, Fail> {
-    let mut receiver = receiver_of(alloc, link, ROUNDS)?;
-    let mut reader = Counting::new(symbols);
-    let mut packets = Counting::new(Vec::new(alloc));
-    let mut report = Counting::new(Vec::new(alloc));
-    let _step = step(&mut receiver, &mut reader, &mut packets, &mut report)?;
+fn shown_by(alloc: Global, receiver: &Receiver<'_>) -> Result<Shown, AllocError> {
     let mut soft = Vec::new(alloc);
     soft.extend_from_slice(receiver.soft())?;
     let mut message = Vec::new(alloc);
@@ -332,4 +362,18 @@ pub(crate) fn show(alloc: Global, link: &Link, symbols: &[u8]) -> Result<Shown, 
         word: [bits.byte(0), bits.byte(1), bits.byte(2), bits.byte(3)],
         message,
     })
+}
+
+/// What a receiver shows after its first call.
+pub(crate) fn show(alloc: Global, link: &Link, symbols: &[u8]) -> Result<Shown, Fail> {
+    let mut receiver = receiver_of(alloc, link, ROUNDS)?;
+    let mut packets = failing(alloc, ALL);
+    let mut report = failing(alloc, ALL);
+    let _step = step(
+        &mut receiver,
+        &mut InMemory::new(symbols),
+        &mut packets,
+        &mut report,
+    )?;
+    Ok(shown_by(alloc, &receiver)?)
 }

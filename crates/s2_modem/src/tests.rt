@@ -1,7 +1,7 @@
 //! The transmitter on known streams. The symbols are those of the modulator in plain C.
 use crate::send::bits::frame_bits_into;
 use crate::streams::{
-    Link, link_of, packet_of_zeros, packets_of, send, send_all, symbols_of, transmitter_of,
+    ALL, Link, link_of, packet_of_zeros, send, send_three, symbols_of, transmitter_of, two_packets,
 };
 use crate::{Counts, SendFault, Setup, SetupFault};
 use s2_bbframe::Header;
@@ -31,8 +31,8 @@ fn counts(packets: u64, frames: u64) -> Counts {
 
 /// What is sent of these packets: the counts, how many bytes, and their sum.
 fn sent(alloc: Global, link: &Link, packets: &[u8]) -> Result<(Counts, usize, u64), Fail> {
-    let sent = send(alloc, link, u32::MAX, packets, Vec::new(alloc))?;
-    Ok((sent.answer?, sent.writer.len(), sum_of(&sent.writer)))
+    let sent = send(alloc, link, u32::MAX, packets, ALL)?;
+    Ok((sent.answer?, sent.symbols.len(), sum_of(&sent.symbols)))
 }
 
 /// QPSK 1/4, and 8PSK 3/4 and, in short frames under the last number, 3/5 with pilots.
@@ -61,7 +61,7 @@ fn sends_none_or_two_packets(rt: HostRuntime) -> Result<(), Fail> {
     let link = link_of(rt.alloc(), 1, true)?;
     let none = sent(rt.alloc(), &link, &[])?;
     assert_eq!(rt; none, (counts(0, 0), 0, 0));
-    let two = sent(rt.alloc(), &link, &packets_of(rt.alloc(), 2)?)?;
+    let two = sent(rt.alloc(), &link, two_packets().as_flattened())?;
     assert_eq!(rt; two, (counts(2, 2), 2 * FRAME, 2965807906010956920));
     Ok(())
 }
@@ -73,61 +73,54 @@ fn begins_a_new_stream_after_a_refusal(rt: HostRuntime) -> Result<(), Fail> {
     let mut no_sync = [0x47; 376];
     no_sync[188] = 0x48;
     let streams = [no_sync.as_slice(), [0x47; 187].as_slice(), good.as_slice()];
-    let all = send_all(rt.alloc(), &link, &streams)?;
+    let all = send_three(rt.alloc(), &link, streams)?;
     let want = [
         (Err(SendFault::NoSync { packet: 2 }), 0),
         (Err(SendFault::NotWholePacket), 0),
         (Ok(counts(1, 1)), 3895363348699734475),
     ];
-    assert_eq!(rt; all.len(), 3);
     for (sent, (answer, sum)) in all.iter().zip(want.iter()) {
         assert_eq!(rt; sent.answer, *answer);
         assert_eq!(rt; sent.failed, [0, 0]);
-        assert_eq!(rt; sum_of(&sent.writer), *sum);
+        assert_eq!(rt; sum_of(&sent.symbols), *sum);
     }
     Ok(())
-}
-
-/// The link of QPSK 1/4 in short frames, two packets, and their symbols.
-fn two_packets(alloc: Global) -> Result<(Link, Vec<u8>, Vec<u8>), Fail> {
-    let link = link_of(alloc, 1, true)?;
-    let packets = packets_of(alloc, 2)?;
-    let symbols = symbols_of(alloc, &link, &packets)?;
-    Ok((link, packets, symbols))
 }
 
 /// The first frame is full once both packets are accepted, so it stands where the end can't be read.
 #[test]
 fn each_read_fails_in_turn(rt: HostRuntime) -> Result<(), Fail> {
-    let (link, packets, symbols) = two_packets(rt.alloc())?;
+    let link = link_of(rt.alloc(), 1, true)?;
+    let packets = two_packets();
+    let symbols = symbols_of(rt.alloc(), &link, packets.as_flattened())?;
     for at in 0..378u64 {
-        let reader = FailAt::new(ByOne::new(&packets), at);
-        let sent = send(rt.alloc(), &link, u32::MAX, reader, Vec::new(rt.alloc()))?;
+        let reader = FailAt::new(ByOne::new(packets.as_flattened()), at);
+        let sent = send(rt.alloc(), &link, u32::MAX, reader, ALL)?;
         let (want, failed, length) = match at {
             0..376 => (Err(SendFault::Read), [1, 0], 0),
             376 => (Err(SendFault::Read), [1, 0], FRAME),
             _ => (Ok(counts(2, 2)), [0, 0], 2 * FRAME),
         };
         assert_eq!(rt; (sent.answer, sent.failed), (want, failed), "read {at}");
-        assert!(rt; sent.writer.len() == length && symbols.starts_with(&sent.writer));
+        assert!(rt; sent.symbols.len() == length && symbols.starts_with(&sent.symbols));
     }
     Ok(())
 }
 
 #[test]
 fn each_write_fails_in_turn(rt: HostRuntime) -> Result<(), Fail> {
-    let (link, packets, symbols) = two_packets(rt.alloc())?;
+    let link = link_of(rt.alloc(), 1, true)?;
+    let packets = two_packets();
+    let symbols = symbols_of(rt.alloc(), &link, packets.as_flattened())?;
     let cases = [
         (0, 0, Err(SendFault::Write), [0, 1]),
         (1, FRAME, Err(SendFault::Write), [0, 1]),
         (2, 2 * FRAME, Ok(counts(2, 2)), [0, 0]),
     ];
     for (at, length, want, failed) in cases {
-        let writer = FailAt::new(Vec::new(rt.alloc()), at);
-        let sent = send(rt.alloc(), &link, u32::MAX, packets.as_slice(), writer)?;
+        let sent = send(rt.alloc(), &link, u32::MAX, packets.as_flattened(), at)?;
         assert_eq!(rt; (sent.answer, sent.failed), (want, failed), "write {at}");
-        let written = sent.writer.into_inner();
-        assert!(rt; written.len() == length && symbols.starts_with(&written));
+        assert!(rt; sent.symbols.len() == length && symbols.starts_with(&sent.symbols));
     }
     Ok(())
 }
@@ -136,16 +129,10 @@ fn each_write_fails_in_turn(rt: HostRuntime) -> Result<(), Fail> {
 fn takes_no_more_packets_than_its_limit(rt: HostRuntime) -> Result<(), Fail> {
     let link = link_of(rt.alloc(), 1, true)?;
     let packet = packet_of_zeros();
-    let sent = send(
-        rt.alloc(),
-        &link,
-        3,
-        Endless::new(&packet),
-        Vec::new(rt.alloc()),
-    )?;
+    let sent = send(rt.alloc(), &link, 3, Endless::new(&packet), ALL)?;
     assert_eq!(rt; sent.answer, Err(SendFault::Read));
     assert_eq!(rt; sent.failed, [0, 0]);
-    assert_eq!(rt; sent.writer.len(), FRAME);
+    assert_eq!(rt; sent.symbols.len(), FRAME);
     Ok(())
 }
 

@@ -12,6 +12,7 @@ mod receiving;
 mod sending;
 mod serving;
 mod spoiling;
+mod threshold;
 mod words;
 
 use crate::console::Console;

@@ -11,7 +11,6 @@ use s2_mode::{Counting, Mode, Shape};
 use s2_receive::Verdict;
 use s2_rows::{make_rows, read_rows};
 use std::alloc::{AllocError, Global};
-use std::process::Abort;
 use std::test::Fail;
 
 /// Whether all values lie within the limits of a soft value.
@@ -33,98 +32,92 @@ fn matrix_of(alloc: Global, sizes: [usize; 3], rows: &[u8]) -> Result<Matrix, Fa
     Ok(Matrix::build(alloc, &rows)?)
 }
 
-/// What is decided of these values: the verdict, the bits, and what the checker says of their
-/// certificate, where there is one.
-fn decided(
+/// The judge of a matrix, by at most 50 rounds and so many passes of settling, and its verdict on these
+/// values.
+fn judged<'a>(
     alloc: Global,
-    matrix: &Matrix,
+    matrix: &'a Matrix,
     soft: &[i16],
-) -> Result<(Verdict, Bits, Option<Answer>), Fail> {
+    passes: u32,
+) -> Result<(Verdict, Judge<'a>), Fail> {
     if soft.len() != matrix.bits() || !are_soft(soft) {
         return Err(Fail::from("other values"));
     }
-    let mut judge = Judge::new(alloc, matrix, 50, 0)?;
-    let verdict = judge.judge(soft);
-    let mut bits = Bits::zeroed(alloc, matrix.bits())?;
-    bits.copy_prefix(judge.word(), matrix.bits());
-    let answer = match judge.certificate() {
-        Some(view) => Some(check(matrix, &view)),
-        None => None,
-    };
-    Ok((verdict, bits, answer))
+    let mut judge = Judge::new(alloc, matrix, 50, passes)?;
+    Ok((judge.judge(soft), judge))
 }
 
-/// Asserts what is decided of these values, and that there is a certificate where it is to be, and
-/// that the checker accepts it.
-fn assert_decided<R: Abort>(
-    rt: &R,
-    alloc: Global,
-    matrix: &Matrix,
-    soft: &[i16],
-    verdict: Verdict,
-    bits: &[bool],
-) -> Result<(), Fail> {
-    let (found, word, answer) = decided(alloc, matrix, soft)?;
-    assert_eq!(rt; found, verdict);
-    assert_eq!(rt; word.truths(), bits);
-    let is_certain = verdict == Verdict::MostLikely;
-    assert_eq!(rt; answer, if is_certain { Some(Answer::Yes) } else { None });
-    Ok(())
+/// What the checker says of a judge's certificate, where there is one.
+fn answer_on(matrix: &Matrix, judge: &Judge<'_>) -> Option<Answer> {
+    match judge.certificate() {
+        Some(view) => Some(check(matrix, &view)),
+        None => None,
+    }
+}
+
+/// What is decided of some values: the verdict, whether the bits are these, and what the checker says of
+/// their certificate, where there is one.
+type Decided = (Verdict, bool, Option<Answer>);
+
+/// Bits that are right and have a certificate.
+const LIKELY: Decided = (Verdict::MostLikely, true, Some(Answer::Yes));
+
+fn decided(alloc: Global, matrix: &Matrix, soft: &[i16], bits: &[bool]) -> Result<Decided, Fail> {
+    let (verdict, judge) = judged(alloc, matrix, soft, 0)?;
+    let is_word = judge.word().truths() == bits;
+    Ok((verdict, is_word, answer_on(matrix, &judge)))
 }
 
 #[test]
 fn repairs_a_wrong_bit(rt: HostRuntime) -> Result<(), Fail> {
-    let alloc = rt.alloc();
-    let toy = matrix_of(alloc, [4, 2, 3], b"0 4 8\n0 1 2\n")?;
-    let zeros = [false; 20];
-    assert_decided(&rt, alloc, &toy, &[10; 20], Verdict::MostLikely, &zeros)?;
-    assert_decided(&rt, alloc, &toy, &[0; 20], Verdict::MostLikely, &zeros)?;
-    let mut soft = [10i16; 20];
-    soft[0] = -4;
-    assert_decided(&rt, alloc, &toy, &soft, Verdict::MostLikely, &zeros)?;
-    soft[4] = 1;
-    soft[5] = 1;
-    soft[6] = 1;
-    assert_decided(&rt, alloc, &toy, &soft, Verdict::MostLikely, &zeros)
+    let toy = matrix_of(rt.alloc(), [4, 2, 3], b"0 4 8\n0 1 2\n")?;
+    let mut wrong = [10i16; 20];
+    wrong[0] = -4;
+    let mut weak = wrong;
+    weak[4..7].fill(1);
+    for soft in [[10; 20], [0; 20], wrong, weak] {
+        let found = decided(rt.alloc(), &toy, &soft, &[false; 20])?;
+        assert_eq!(rt; found, LIKELY, "{soft:?}");
+    }
+    Ok(())
 }
 
 #[test]
 fn decodes_where_the_repair_has_an_odd_check(rt: HostRuntime) -> Result<(), Fail> {
-    let alloc = rt.alloc();
-    let pair = matrix_of(alloc, [1, 1, 1], b"0\n")?;
-    assert_decided(
-        &rt,
-        alloc,
-        &pair,
-        &[-5, 3],
-        Verdict::MostLikely,
-        &[true, true],
-    )?;
-    assert_decided(&rt, alloc, &pair, &[-5, 5], Verdict::Broken, &[true, false])
+    let pair = matrix_of(rt.alloc(), [1, 1, 1], b"0\n")?;
+    let found = decided(rt.alloc(), &pair, &[-5, 3], &[true, true])?;
+    assert_eq!(rt; found, LIKELY);
+    let found = decided(rt.alloc(), &pair, &[-5, 5], &[true, false])?;
+    assert_eq!(rt; found, (Verdict::Broken, true, None));
+    Ok(())
 }
 
 #[test]
 fn finds_codewords_without_a_certificate(rt: HostRuntime) -> Result<(), Fail> {
-    let alloc = rt.alloc();
-    let chain = matrix_of(alloc, [1, 1, 3], b"0 1 2\n")?;
-    let zeros = [false; 4];
-    assert_decided(&rt, alloc, &chain, &[0, -1, -1, 0], Verdict::Parity, &zeros)?;
-    assert_decided(&rt, alloc, &chain, &[1, 0, -3, 0], Verdict::Parity, &zeros)
+    let chain = matrix_of(rt.alloc(), [1, 1, 3], b"0 1 2\n")?;
+    for soft in [[0, -1, -1, 0], [1, 0, -3, 0]] {
+        let found = decided(rt.alloc(), &chain, &soft, &[false; 4])?;
+        assert_eq!(rt; found, (Verdict::Parity, true, None), "{soft:?}");
+    }
+    Ok(())
+}
+
+/// What is decided of a clean frame of zeros in a mode, by rows of weight 3 that seed 1 makes.
+fn decided_on_zeros(alloc: Global, mode: Mode) -> Result<Decided, Fail> {
+    let matrix = Matrix::build(alloc, &make_rows(alloc, mode.shape(), 3, 1)?)?;
+    let soft = vec![in alloc; 10i16; matrix.bits()]?;
+    let zeros = vec![in alloc; false; matrix.bits()]?;
+    decided(alloc, &matrix, &soft, &zeros)
 }
 
 /// Judges a clean frame in each mode.
 #[test]
 fn has_room_for_every_mode(rt: HostRuntime) -> Result<(), Fail> {
-    let alloc = rt.alloc();
     for modcod in 1..18u8 {
         for short in [false, true] {
             if let Some(mode) = Mode::of(modcod, short, false) {
-                let rows = make_rows(alloc, mode.shape(), 3, 1)?;
-                let matrix = Matrix::build(alloc, &rows)?;
-                let soft = vec![in alloc; 10i16; matrix.bits()]?;
-                let (verdict, _, answer) = decided(alloc, &matrix, &soft)?;
-                assert_eq!(rt; verdict, Verdict::MostLikely, "MODCOD {modcod}");
-                assert_eq!(rt; answer, Some(Answer::Yes));
+                let found = decided_on_zeros(rt.alloc(), mode)?;
+                assert_eq!(rt; found, LIKELY, "MODCOD {modcod}");
             }
         }
     }
@@ -146,22 +139,30 @@ fn noisy_zeros(alloc: Global, count: usize) -> Result<Vec<i16>, AllocError> {
     Ok(values)
 }
 
+/// The file of a judge's certificate, empty where there is none.
+fn file_of(alloc: Global, judge: &Judge<'_>) -> Result<Vec<u8>, Fail> {
+    let mut file = Counting::new(Vec::new(alloc));
+    if let Some(view) = judge.certificate() {
+        view.write(&mut file)?;
+    }
+    Ok(file.into_inner())
+}
+
 /// The verdict by so many passes of settling, and the certificate's file.
-fn judged<R: Abort + AllocGlobal>(
-    rt: &R,
+fn certified(
+    alloc: Global,
     matrix: &Matrix,
     soft: &[i16],
     passes: u32,
 ) -> Result<(Verdict, Vec<u8>), Fail> {
-    assert_eq!(rt; soft.len(), matrix.bits());
-    assert!(rt; are_soft(soft));
-    let mut judge = Judge::new(rt.alloc(), matrix, 50, passes)?;
-    let verdict = judge.judge(soft);
-    let mut file = Counting::new(Vec::new(rt.alloc()));
-    if let Some(view) = judge.certificate() {
-        view.write(&mut file)?;
-    }
-    Ok((verdict, file.into_inner()))
+    let (verdict, judge) = judged(alloc, matrix, soft, passes)?;
+    Ok((verdict, file_of(alloc, &judge)?))
+}
+
+/// What the checker says of a certificate's file.
+fn answer_on_file(alloc: Global, matrix: &Matrix, file: &[u8]) -> Result<Answer, Fail> {
+    let certificate = Certificate::read(alloc, file)?;
+    Ok(check(matrix, &certificate.view()))
 }
 
 /// A noisy frame of QPSK 1/2 short whose certificate passes find and spreading does not.
@@ -169,15 +170,12 @@ fn judged<R: Abort + AllocGlobal>(
 fn finds_certificates_in_noise(rt: HostRuntime) -> Result<(), Fail> {
     let alloc = rt.alloc();
     let mode = Mode::of(4, true, false).ok_or("no mode")?;
-    let rows = make_rows(alloc, mode.shape(), 3, 1)?;
-    let matrix = Matrix::build(alloc, &rows)?;
+    let matrix = Matrix::build(alloc, &make_rows(alloc, mode.shape(), 3, 1)?)?;
     let soft = noisy_zeros(alloc, matrix.bits())?;
-    let (verdict, file) = judged(&rt, &matrix, &soft, 0)?;
-    assert_eq!(rt; verdict, Verdict::Parity);
-    assert_eq!(rt; file.len(), 0);
-    let (verdict, file) = judged(&rt, &matrix, &soft, 96)?;
+    let (verdict, file) = certified(alloc, &matrix, &soft, 0)?;
+    assert_eq!(rt; (verdict, file.len()), (Verdict::Parity, 0));
+    let (verdict, file) = certified(alloc, &matrix, &soft, 96)?;
     assert_eq!(rt; verdict, Verdict::MostLikely);
-    let certificate = Certificate::read(alloc, &file)?;
-    assert_eq!(rt; check(&matrix, &certificate.view()), Answer::Yes);
+    assert_eq!(rt; answer_on_file(alloc, &matrix, &file)?, Answer::Yes);
     Ok(())
 }

@@ -1,16 +1,15 @@
 //! Whole streams through a receiver.
 use crate::streams::{
-    Link, assert_received, bch_word_of, frame_of_word, hear, link_of, packet_of, packet_of_zeros,
-    packets_of, received, received_whole, receiver_of, show, symbols_of,
+    ALL, assert_received, bch_word_of, frame_of_word, hear, link_of, packet_of, packet_of_zeros,
+    received, received_whole, receiver_of, show, symbols_of, two_packets,
 };
 use crate::{DemodFault, SetupFault};
 use s2_bbframe::Header;
 use s2_matrix::Matrix;
-use s2_mode::{ByOne, Shape};
+use s2_mode::{ByOne, Counting, Shape};
 use s2_receive::{MOST_SYMBOLS, Outcome, Report, Step, Totals, Verdict};
 use s2_rows::make_rows;
 use std::alloc::Global;
-use std::process::Abort;
 use std::test::Fail;
 
 /// A delivered frame in which nothing was wrong.
@@ -30,22 +29,41 @@ fn one_packet_arrives(rt: HostRuntime) -> Result<(), Fail> {
     let symbols = symbols_of(rt.alloc(), &link, &packet)?;
     assert_eq!(rt; symbols.len(), 129960);
     let report = "frame 1 at 0 most-likely fixed 0\nend frames 1 delivered 1 packets 1 bad 0\n";
-    assert_received(&rt, rt.alloc(), &link, &symbols, report, &packet)
+    assert_received(&rt, &received(rt.alloc(), &link, &symbols), report, &packet);
+    Ok(())
 }
 
+/// The totals of so many frames with a packet each.
+fn totals(frames: u64, cut: bool) -> Totals {
+    Totals {
+        frames,
+        delivered: frames,
+        packets: frames,
+        bad: 0,
+        cut,
+    }
+}
+
+/// From 90 symbols on a frame has begun, and without its last symbol it is cut.
 #[test]
 fn totals_are_answered(rt: HostRuntime) -> Result<(), Fail> {
-    let link = link_of(rt.alloc(), 1, true)?;
-    let symbols = symbols_of(rt.alloc(), &link, &packet_of_zeros())?;
-    let (totals, _, _) = received(rt.alloc(), &link, &symbols)?;
-    let want = Totals {
-        frames: 1,
-        delivered: 1,
-        packets: 1,
-        bad: 0,
-        cut: false,
-    };
-    assert_eq!(rt; totals, want);
+    for (short, whole) in [(true, 4 * 8190), (false, 4 * 32490)] {
+        let link = link_of(rt.alloc(), 1, short)?;
+        let symbols = symbols_of(rt.alloc(), &link, &packet_of_zeros())?;
+        let cases = [
+            (0, totals(0, false)),
+            (4 * 89, totals(0, false)),
+            (4 * 89 + 3, totals(0, false)),
+            (4 * 90, totals(0, true)),
+            (whole - 1, totals(0, true)),
+            (whole, totals(1, false)),
+        ];
+        for (bytes, want) in cases {
+            let front = symbols.get(..bytes).ok_or("too few symbols")?;
+            let answer = received(rt.alloc(), &link, front).answer;
+            assert_eq!(rt; answer, Ok(want), "{bytes} bytes");
+        }
+    }
     Ok(())
 }
 
@@ -56,33 +74,26 @@ const TWO: &str =
 #[test]
 fn two_packets_arrive(rt: HostRuntime) -> Result<(), Fail> {
     let link = link_of(rt.alloc(), 1, true)?;
-    let source = packets_of(rt.alloc(), 2)?;
-    let symbols = symbols_of(rt.alloc(), &link, &source)?;
-    assert_received(&rt, rt.alloc(), &link, &symbols, TWO, &source)
-}
-
-/// Asserts what four calls answer and write on the symbols of two packets, read byte by byte.
-fn assert_by_one<A: Abort>(rt: &A, alloc: Global, link: &Link, symbols: &[u8]) -> Result<(), Fail> {
-    let reader = ByOne::new(symbols);
-    let calls = (4, MOST_SYMBOLS);
-    let heard = hear(alloc, link, calls, reader, Vec::new(alloc), Vec::new(alloc))?;
-    let want = [
-        Ok(frame(1, 0)),
-        Ok(frame(2, 8190)),
-        Ok(Step::End),
-        Ok(Step::End),
-    ];
-    assert_eq!(rt; heard.steps.as_slice(), want.as_slice());
-    assert_eq!(rt; heard.packets, packets_of(alloc, 2)?);
-    assert_eq!(rt; heard.report.as_slice(), TWO.as_bytes());
+    let source = two_packets();
+    let symbols = symbols_of(rt.alloc(), &link, source.as_flattened())?;
+    let received = received(rt.alloc(), &link, &symbols);
+    assert_received(&rt, &received, TWO, source.as_flattened());
     Ok(())
 }
 
 #[test]
 fn two_packets_arrive_byte_by_byte(rt: HostRuntime) -> Result<(), Fail> {
     let link = link_of(rt.alloc(), 1, true)?;
-    let symbols = symbols_of(rt.alloc(), &link, &packets_of(rt.alloc(), 2)?)?;
-    assert_by_one(&rt, rt.alloc(), &link, &symbols)
+    let source = two_packets();
+    let symbols = symbols_of(rt.alloc(), &link, source.as_flattened())?;
+    let mut reader = Counting::new(ByOne::new(&symbols));
+    let heard = hear(rt.alloc(), &link, MOST_SYMBOLS, &mut reader, [ALL, ALL])?;
+    let end = Ok(Step::End);
+    let want = [Ok(frame(1, 0)), Ok(frame(2, 8190)), end, end, end];
+    assert_eq!(rt; heard.steps, want);
+    assert_eq!(rt; heard.packets.as_slice(), source.as_flattened());
+    assert_eq!(rt; heard.report.as_slice(), TWO.as_bytes());
+    Ok(())
 }
 
 /// QPSK points of 700 without noise are 29 away from zero.
@@ -118,21 +129,22 @@ fn a_run_tells_whether_all_was_well(rt: HostRuntime) -> Result<(), Fail> {
 #[test]
 fn a_lost_frame_is_not_joined_over(rt: HostRuntime) -> Result<(), Fail> {
     let link = link_of(rt.alloc(), 1, true)?;
-    let source = packets_of(rt.alloc(), 5)?;
-    let mut symbols = symbols_of(rt.alloc(), &link, &source)?;
+    let source = [
+        packet_of(0),
+        packet_of(1),
+        packet_of(2),
+        packet_of(3),
+        packet_of(4),
+    ];
+    let mut symbols = symbols_of(rt.alloc(), &link, source.as_flattened())?;
     assert_eq!(rt; symbols.len(), 4 * 3 * 8190);
     symbols[4 * (8190 + 90)..4 * 2 * 8190].fill(0);
     let report =
         "frame 1 at 0 most-likely fixed 0\nframe 2 at 8190 most-likely lost\nframe 3 at 16380 most-likely fixed 0\nend frames 3 delivered 2 packets 2 bad 0\n";
     let want = [packet_of(0), packet_of(4)];
-    assert_received(
-        &rt,
-        rt.alloc(),
-        &link,
-        &symbols,
-        report,
-        want.as_flattened(),
-    )
+    let received = received(rt.alloc(), &link, &symbols);
+    assert_received(&rt, &received, report, want.as_flattened());
+    Ok(())
 }
 
 #[test]
@@ -142,7 +154,8 @@ fn passes_over_what_is_no_frame(rt: HostRuntime) -> Result<(), Fail> {
     let mut stream = vec![in rt.alloc(); 0u8; 4 * 1000]?;
     stream.extend_from_slice(&symbols_of(rt.alloc(), &link, &packet)?)?;
     let report = "frame 1 at 1000 most-likely fixed 0\nend frames 1 delivered 1 packets 1 bad 0\n";
-    assert_received(&rt, rt.alloc(), &link, &stream, report, &packet)
+    assert_received(&rt, &received(rt.alloc(), &link, &stream), report, &packet);
+    Ok(())
 }
 
 /// The data field of the first packet, 189 bytes, and its header.
@@ -170,7 +183,9 @@ fn corrects_twelve_wrong_bits(rt: HostRuntime) -> Result<(), Fail> {
     }
     let symbols = frame_of_word(rt.alloc(), &link, &word)?;
     let report = "frame 1 at 0 most-likely fixed 12\nend frames 1 delivered 1 packets 1 bad 0\n";
-    assert_received(&rt, rt.alloc(), &link, &symbols, report, &packet_of(0))
+    let received = received(rt.alloc(), &link, &symbols);
+    assert_received(&rt, &received, report, &packet_of(0));
+    Ok(())
 }
 
 /// Why there is no receiver of this number, roll-off and rounds.
