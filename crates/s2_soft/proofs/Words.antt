@@ -8,7 +8,7 @@ use Rattle.s2_soft.specs.Soft.{quantized}
 use Rattle.s2_soft.specs.Closed.{component_difference}
 use Rattle.s2_soft.specs.Lanes.{signed, minus16, size16}
 
-word_low : (v : ℕ) → v < 32768 → signed v ≡ pos v
+pub word_low : (v : ℕ) → v < 32768 → signed v ≡ pos v
 word_low v low = let test = lt-ltb v 32768 low in rw test refl
 
 word_high : (v : ℕ) → 32768 ≤ v → v < 65536 → signed v ≡ neg_ℤ (pos (65536 - v))
@@ -24,7 +24,7 @@ above s = omega (arith, ints, clamps)
 below : (s : ℕ) → neg_ℤ (pos (value_size s)) ≡ quantized (component_difference (neg_ℤ (pos s)))
 below s = omega (arith, ints, clamps)
 
-negative_word : (m : ℕ) → m ≤ limit → signed (minus16 0 m) ≡ neg_ℤ (pos m)
+pub negative_word : (m : ℕ) → m ≤ limit → signed (minus16 0 m) ≡ neg_ℤ (pos m)
 negative_word m small = elim (cases_eq m 0) [
   | inl none ↦ rw none refl
   | inr some ↦ (

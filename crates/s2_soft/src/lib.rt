@@ -15,6 +15,7 @@
 mod constants;
 mod lanes;
 pub mod laws;
+mod quads;
 mod soft;
 mod values;
 

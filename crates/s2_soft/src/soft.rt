@@ -8,6 +8,9 @@ ghost use Rattle.s2_soft.specs.Lanes.{component_at};
 ghost use Rattle.s2_soft.specs.Closed.{component_difference, first_difference, second_difference, third_difference};
 
 use crate::lanes::{component_values, components, store};
+use crate::quads::{
+    self, first_differences, numbers, pairs, second_differences, third_differences, upper_numbers,
+};
 use crate::values::{component_value, psk_values};
 use s2_map::PSK_3_5;
 use s2_mode::{Mode, Symbol};
@@ -80,7 +83,17 @@ pub(crate) fn columns_into(
     ensures second { (s : ℕ) → s < length payload.now → value_at second.new s ≡ quantized (second_difference (symbol_at payload.now s).i (symbol_at payload.now s).q) }
     ensures third { (s : ℕ) → s < length payload.now → value_at third.new s ≡ quantized (third_difference (symbol_at payload.now s).i (symbol_at payload.now s).q) }
 {
-    for s in 0..payload.len() {
+    for block in 0..payload.len() / 4 {
+        let at = 4 * block;
+        let pairs = pairs(payload, at);
+        let i = numbers(pairs);
+        let q = upper_numbers(pairs);
+        quads::store(quads::quantized(first_differences(i, q)), first, at);
+        quads::store(quads::quantized(second_differences(i, q)), second, at);
+        quads::store(quads::quantized(third_differences(i, q)), third, at);
+    }
+    let done = payload.len() / 4 * 4;
+    for s in done..payload.len() {
         let values = psk_values(payload[s]);
         first[s] = values.first;
         second[s] = values.second;

@@ -12,13 +12,13 @@ use s2_mode::Symbol;
 pub(crate) const SCALE: u32 = 4 * DIAGONAL as u32 * (65536 / DIVISOR as u32);
 
 /// What multiplies both components in twice an inner product with a point between the axes.
-const BETWEEN: i32 = 2 * DIAGONAL as i32;
+pub(crate) const BETWEEN: i32 = 2 * DIAGONAL as i32;
 
 /// What multiplies a component in twice an inner product with a point on an axis.
-const ON_AXIS: i32 = 2 * AXIS as i32;
+pub(crate) const ON_AXIS: i32 = 2 * AXIS as i32;
 
 /// By how much the squared length of a point on an axis is larger than that of one between them.
-const LONGER: i32 = AXIS as i32 * AXIS as i32 - 2 * DIAGONAL as i32 * DIAGONAL as i32;
+pub(crate) const LONGER: i32 = AXIS as i32 * AXIS as i32 - 2 * DIAGONAL as i32 * DIAGONAL as i32;
 
 /// A difference of squared distances as a soft value.
 #[inline(always)]

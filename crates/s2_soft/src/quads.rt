@@ -1,0 +1,223 @@
+//! Soft values of 8PSK, four symbols at a time. Lanes hold words of 32 bits in two's complement.
+ghost use Rattle.std.specs.Prelude.{◌≡◌, ℕ, ◌+◌, ◌*◌, ◌/◌, ◌%◌, ◌<◌, ◌≤◌, ◌==◌, min, max, length, if◌then◌else◌};
+ghost use Rattle.s2_mode.specs.Symbols.{symbol_at};
+ghost use Rattle.s2_soft.specs.Soft.{quantized, value_at};
+ghost use Rattle.s2_soft.specs.Closed.{first_difference, second_difference, third_difference};
+ghost use Rattle.s2_soft.specs.Lanes.{HasFour, AreComponents, lane, signed, number, plus32, minus32, times32, size32};
+
+use crate::constants::{DIVISOR, LIMIT};
+use crate::values::{BETWEEN, LONGER, ON_AXIS};
+use s2_mode::Symbol;
+use std::simd::prelude::*;
+
+/// More than any inner product: what is raised by this has no sign.
+const RAISED: u32 = 1 << 27;
+
+#[inline(always)]
+fn all(x: u32) -> u32x4
+    ensures { HasFour (λ k. x) result }
+{
+    u32x4::splat(x)
+}
+
+#[inline(always)]
+fn least(a: u32x4, b: u32x4) -> u32x4
+    ensures { HasFour (λ k. min (lane a k) (lane b k)) result }
+{
+    a.simd_min(b)
+}
+
+#[inline(always)]
+fn most(a: u32x4, b: u32x4) -> u32x4
+    ensures { HasFour (λ k. max (lane a k) (lane b k)) result }
+{
+    a.simd_max(b)
+}
+
+#[inline(always)]
+fn plus(a: u32x4, b: u32x4) -> u32x4
+    ensures { HasFour (λ k. plus32 (lane a k) (lane b k)) result }
+{
+    a + b
+}
+
+#[inline(always)]
+fn minus(a: u32x4, b: u32x4) -> u32x4
+    ensures { HasFour (λ k. minus32 (lane a k) (lane b k)) result }
+{
+    a - b
+}
+
+#[inline(always)]
+fn times(a: u32x4, b: u32x4) -> u32x4
+    ensures { HasFour (λ k. times32 (lane a k) (lane b k)) result }
+{
+    a * b
+}
+
+/// Words divided by a number.
+#[inline(always)]
+fn quotient(a: u32x4, by: u32) -> u32x4
+    requires { 0 < by }
+    ensures { HasFour (λ k. lane a k / by) result }
+{
+    a / u32x4::splat(by)
+}
+
+/// The lower halves of words.
+#[inline(always)]
+fn lower(a: u32x4) -> u32x4
+    ensures { HasFour (λ k. lane a k % 65536) result }
+{
+    a % u32x4::splat(65536)
+}
+
+/// x where a is b, else y.
+#[inline(always)]
+fn where_same(a: u32x4, b: u32x4, x: u32x4, y: u32x4) -> u32x4
+    ensures { HasFour (λ k. if lane a k == lane b k then lane x k else lane y k) result }
+{
+    a.simd_eq(b).select(x, y)
+}
+
+/// How far words are from 0.
+#[inline(always)]
+fn size(v: u32x4) -> u32x4
+    ensures { HasFour (λ k. size32 (lane v k)) result }
+{
+    least(v, minus(all(0), v))
+}
+
+/// The components of a symbol in one word, I in its lower half.
+#[inline(always)]
+fn pair(symbol: Symbol) -> u32
+    ensures i { signed (result % 65536) ≡ symbol.i }
+    ensures q { signed (result / 65536 % 65536) ≡ symbol.q }
+{
+    u32::from(symbol.q.cast_unsigned()) * 65536 + u32::from(symbol.i.cast_unsigned())
+}
+
+/// The components of four symbols, a word for each.
+#[inline(always)]
+pub(crate) fn pairs(payload: &[Symbol], at: usize) -> u32x4
+    requires { at + 4 ≤ length payload.now }
+    ensures i { (k : ℕ) → k < 4 → signed (lane result k % 65536) ≡ (symbol_at payload.now (at + k)).i }
+    ensures q { (k : ℕ) → k < 4 → signed (lane result k / 65536 % 65536) ≡ (symbol_at payload.now (at + k)).q }
+{
+    u32x4::from_array([
+        pair(payload[at]),
+        pair(payload[at + 1]),
+        pair(payload[at + 2]),
+        pair(payload[at + 3]),
+    ])
+}
+
+/// What the lower halves stand for.
+#[inline(always)]
+pub(crate) fn numbers(v: u32x4) -> u32x4
+    ensures is { (k : ℕ) → k < 4 → number (lane result k) ≡ signed (lane v k % 65536) }
+    ensures small { AreComponents result }
+{
+    minus(lower(plus(v, all(32768))), all(32768))
+}
+
+/// What the upper halves stand for.
+#[inline(always)]
+pub(crate) fn upper_numbers(v: u32x4) -> u32x4
+    ensures is { (k : ℕ) → k < 4 → number (lane result k) ≡ signed (lane v k / 65536 % 65536) }
+    ensures small { AreComponents result }
+{
+    numbers(quotient(v, 65536))
+}
+
+/// By how much symbols are nearer to the points whose first bit is 0.
+#[inline(always)]
+pub(crate) fn first_differences(i: u32x4, q: u32x4) -> u32x4
+    requires i { AreComponents i }
+    requires q { AreComponents q }
+    ensures { (k : ℕ) → k < 4 → number (lane result k) ≡ first_difference (number (lane i k)) (number (lane q k)) }
+{
+    let p = times(i, all(BETWEEN as u32));
+    let r = times(q, all(BETWEEN as u32));
+    let longer = all(LONGER as u32);
+    let zero = most(
+        plus(size(plus(p, r)), longer),
+        size(times(i, all(ON_AXIS as u32))),
+    );
+    let one = most(
+        plus(size(minus(p, r)), longer),
+        size(times(q, all(ON_AXIS as u32))),
+    );
+    minus(zero, one)
+}
+
+/// By how much symbols are nearer to the points whose second bit is 0.
+#[inline(always)]
+pub(crate) fn second_differences(i: u32x4, q: u32x4) -> u32x4
+    requires i { AreComponents i }
+    requires q { AreComponents q }
+    ensures { (k : ℕ) → k < 4 → number (lane result k) ≡ second_difference (number (lane i k)) (number (lane q k)) }
+{
+    let p = times(i, all(BETWEEN as u32));
+    let x = times(i, all(ON_AXIS as u32));
+    let y = times(q, all(ON_AXIS as u32));
+    let raised = all(RAISED);
+    let height = plus(
+        size(times(q, all(BETWEEN as u32))),
+        all(RAISED + LONGER as u32),
+    );
+    let zero = most(plus(p, height), most(plus(x, raised), plus(y, raised)));
+    let one = most(minus(height, p), most(minus(raised, x), minus(raised, y)));
+    minus(zero, one)
+}
+
+/// By how much symbols are nearer to the points whose third bit is 0.
+#[inline(always)]
+pub(crate) fn third_differences(i: u32x4, q: u32x4) -> u32x4
+    requires i { AreComponents i }
+    requires q { AreComponents q }
+    ensures { (k : ℕ) → k < 4 → number (lane result k) ≡ third_difference (number (lane i k)) (number (lane q k)) }
+{
+    let r = times(q, all(BETWEEN as u32));
+    let x = times(i, all(ON_AXIS as u32));
+    let y = times(q, all(ON_AXIS as u32));
+    let raised = all(RAISED);
+    let width = plus(
+        size(times(i, all(BETWEEN as u32))),
+        all(RAISED + LONGER as u32),
+    );
+    let zero = most(plus(r, width), most(minus(raised, x), plus(y, raised)));
+    let one = most(minus(width, r), most(plus(x, raised), minus(raised, y)));
+    minus(zero, one)
+}
+
+/// Differences of squared distances as soft values.
+#[inline(always)]
+pub(crate) fn quantized(differences: u32x4) -> u16x4
+    ensures { (k : ℕ) → k < 4 → signed (lane result k) ≡ quantized (number (lane differences k)) }
+{
+    let sizes = least(
+        quotient(size(differences), DIVISOR as u32),
+        all(LIMIT as u32),
+    );
+    let negative = quotient(differences, 1 << 31);
+    let words = where_same(negative, all(1), minus(all(65536), sizes), sizes);
+    lower(words).cast::<u16>()
+}
+
+/// Writes four soft values at a place and the next ones.
+#[inline(always)]
+pub(crate) fn store(values: u16x4, soft: &mut [i16], at: usize)
+    requires { at + 4 ≤ length soft.old }
+    ensures here { (k : ℕ) → k < 4 → value_at soft.new (at + k) ≡ signed (lane values k) }
+    ensures before { (b : ℕ) → b < at → value_at soft.new b ≡ value_at soft.old b }
+{
+    let [a, b, c, d] = values.to_array();
+    let signed = i16x4::from_array([
+        a.cast_signed(),
+        b.cast_signed(),
+        c.cast_signed(),
+        d.cast_signed(),
+    ]);
+    signed.copy_to_slice(&mut soft[at..]);
+}
