@@ -37,15 +37,23 @@ pub fn soft_into(mode: Mode, payload: &[Symbol], soft: &mut [i16])
     }
 }
 
-/// QPSK: each component is the soft value of a bit.
-pub(crate) fn pairs_into(payload: &[Symbol], soft: &mut [i16])
+/// QPSK: each component of whole fours of symbols is the soft value of a bit.
+fn pairs_by_fours(payload: &[Symbol], soft: &mut [i16])
     requires { length soft.old ≡ 2 * length payload.now }
-    ensures { (b : ℕ) → b < 2 * length payload.now → value_at soft.new b ≡ quantized (component_difference (component_at payload.now b)) }
+    ensures { (b : ℕ) → b < length payload.now / 4 * 8 → value_at soft.new b ≡ quantized (component_difference (component_at payload.now b)) }
 {
     for block in 0..payload.len() / 4 {
         let values = component_values(components(payload, 4 * block));
         store(values, soft, 8 * block);
     }
+}
+
+/// QPSK: each component is the soft value of a bit.
+pub(crate) fn pairs_into(payload: &[Symbol], soft: &mut [i16])
+    requires { length soft.old ≡ 2 * length payload.now }
+    ensures { (b : ℕ) → b < 2 * length payload.now → value_at soft.new b ≡ quantized (component_difference (component_at payload.now b)) }
+{
+    pairs_by_fours(payload, soft);
     for s in payload.len() / 4 * 4..payload.len() {
         let Symbol { i, q } = payload[s];
         soft[2 * s] = component_value(i);
@@ -69,6 +77,26 @@ fn rows_into(mode: Mode, payload: &[Symbol], soft: &mut [i16])
     }
 }
 
+/// 8PSK: each symbol of whole fours has a bit in each column.
+fn columns_by_fours(payload: &[Symbol], first: &mut [i16], second: &mut [i16], third: &mut [i16])
+    requires first { length first.old ≡ length payload.now }
+    requires second { length second.old ≡ length payload.now }
+    requires third { length third.old ≡ length payload.now }
+    ensures first { (s : ℕ) → s < length payload.now / 4 * 4 → value_at first.new s ≡ quantized (first_difference (symbol_at payload.now s).i (symbol_at payload.now s).q) }
+    ensures second { (s : ℕ) → s < length payload.now / 4 * 4 → value_at second.new s ≡ quantized (second_difference (symbol_at payload.now s).i (symbol_at payload.now s).q) }
+    ensures third { (s : ℕ) → s < length payload.now / 4 * 4 → value_at third.new s ≡ quantized (third_difference (symbol_at payload.now s).i (symbol_at payload.now s).q) }
+{
+    for block in 0..payload.len() / 4 {
+        let at = 4 * block;
+        let pairs = pairs(payload, at);
+        let i = numbers(pairs);
+        let q = upper_numbers(pairs);
+        quads::store(quads::quantized(first_differences(i, q)), first, at);
+        quads::store(quads::quantized(second_differences(i, q)), second, at);
+        quads::store(quads::quantized(third_differences(i, q)), third, at);
+    }
+}
+
 /// 8PSK: each symbol has a bit in each column.
 pub(crate) fn columns_into(
     payload: &[Symbol],
@@ -83,15 +111,7 @@ pub(crate) fn columns_into(
     ensures second { (s : ℕ) → s < length payload.now → value_at second.new s ≡ quantized (second_difference (symbol_at payload.now s).i (symbol_at payload.now s).q) }
     ensures third { (s : ℕ) → s < length payload.now → value_at third.new s ≡ quantized (third_difference (symbol_at payload.now s).i (symbol_at payload.now s).q) }
 {
-    for block in 0..payload.len() / 4 {
-        let at = 4 * block;
-        let pairs = pairs(payload, at);
-        let i = numbers(pairs);
-        let q = upper_numbers(pairs);
-        quads::store(quads::quantized(first_differences(i, q)), first, at);
-        quads::store(quads::quantized(second_differences(i, q)), second, at);
-        quads::store(quads::quantized(third_differences(i, q)), third, at);
-    }
+    columns_by_fours(payload, first, second, third);
     let done = payload.len() / 4 * 4;
     for s in done..payload.len() {
         let values = psk_values(payload[s]);
