@@ -2,7 +2,7 @@ use Rattle.std.proofs.Common.{◌+◌, ◌*◌, slice_index, arith}
 use Rattle.s2_mode.specs.Symbols.{symbol_at}
 use Rattle.s2_scramble.specs.Turns.{turned}
 use Rattle.s2_scramble.proofs.LaneLemmas.{four_more}
-use Rattle.s2_scramble.proofs.turn.turn_each.Goals as goal
+use Rattle.s2_scramble.proofs.turn.turn_fours.Goals as goal
 
 pub loop-block-preserved : goal.loop-block-preserved
 loop-block-preserved c =

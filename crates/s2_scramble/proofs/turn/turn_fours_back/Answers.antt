@@ -4,7 +4,7 @@ use Rattle.s2_mode.specs.Symbols.{symbol_at}
 use Rattle.s2_scramble.specs.Turns.{turned_back}
 use Rattle.s2_scramble.proofs.Quarters.{turned-back}
 use Rattle.s2_scramble.proofs.LaneLemmas.{four_more}
-use Rattle.s2_scramble.proofs.turn.turn_each_back.Goals as goal
+use Rattle.s2_scramble.proofs.turn.turn_fours_back.Goals as goal
 
 pub loop-block-preserved : goal.loop-block-preserved
 loop-block-preserved c =
