@@ -4,9 +4,9 @@ ghost use Rattle.s2_matrix.specs.Code.{code_of};
 ghost use Rattle.s2_check.specs.Views.{IsSoft};
 ghost use Rattle.s2_check.specs.Moves.{no_move, placed_of, ArePlaced};
 ghost use Rattle.s2_split.specs.Greedy.{none_moved, greedy};
-ghost use Rattle.s2_split.specs.Spreading.{has_no_negative_rest, greedy_split, made_split};
+ghost use Rattle.s2_split.specs.Spreading.{has_no_negative_rest};
 ghost use Rattle.s2_split.specs.Kept.{AreFew, AreLow, AreKept};
-ghost use Rattle.s2_split.specs.Making.{shared, made_of, AreLeft};
+ghost use Rattle.s2_split.specs.Making.{shared, split_in_ways, made_of, AreLeft};
 
 use crate::greedy::greedy;
 use crate::spread::spread;
@@ -72,39 +72,21 @@ fn try_greedily(
     none_negative(rests)
 }
 
-/// Makes the split of a codeword by the greedy amounts alone: its scale of 1, or 0 where they leave a
-/// negative rest.
-pub(crate) fn make_greedily(
-    matrix: &Matrix,
-    soft: &[i16],
-    word: &[bool],
-    rests: &mut [i32],
-    moves: &mut [Move],
-) -> u16
-    requires soft { length soft.now ≡ (code_of matrix.now).bits }
-    requires range { All IsSoft soft.now }
-    requires word { length word.now ≡ (code_of matrix.now).bits }
-    requires few { AreFew (code_of matrix.now) }
-    requires rests { length rests.old ≡ (code_of matrix.now).bits }
-    requires moves { length moves.old ≡ (code_of matrix.now).checks }
-    ensures made { made_of matrix.now word.now result moves.new ≡ shared (code_of matrix.now) (greedy_split (code_of matrix.now) soft.now word.now) }
-    ensures moves { ArePlaced (code_of matrix.now) word.now moves.new }
-    ensures rests { result ≢ 0 → AreLeft (code_of matrix.now) soft.now word.now (placed_of (code_of matrix.now) word.now result moves.new) rests.new }
-    ensures scaled { result ≤ 16 }
-    ensures long { length rests.new ≡ length rests.old }
-{
-    if try_greedily(matrix, soft, word, rests, moves) {
-        1
-    } else {
-        0
-    }
+/// In which ways a split is looked for.
+#[derive(Clone, Copy, Drop)]
+pub(crate) enum Ways {
+    /// By the greedy amounts alone.
+    Greedy,
+    /// By the greedy amounts, and where they leave a negative rest, by spreading.
+    GreedyThenSpreading,
 }
 
-/// Makes the split of a codeword: its scale, or 0 where none is found.
+/// Makes the split of a codeword in these ways: its scale, or 0 where none is found.
 pub(crate) fn make_moves(
     matrix: &Matrix,
     soft: &[i16],
     word: &[bool],
+    ways: Ways,
     rests: &mut [i32],
     moves: &mut [Move],
 ) -> u16
@@ -114,7 +96,7 @@ pub(crate) fn make_moves(
     requires few { AreFew (code_of matrix.now) }
     requires rests { length rests.old ≡ (code_of matrix.now).bits }
     requires moves { length moves.old ≡ (code_of matrix.now).checks }
-    ensures made { made_of matrix.now word.now result moves.new ≡ shared (code_of matrix.now) (made_split (code_of matrix.now) soft.now word.now) }
+    ensures made { made_of matrix.now word.now result moves.new ≡ shared (code_of matrix.now) (split_in_ways ways (code_of matrix.now) soft.now word.now) }
     ensures moves { ArePlaced (code_of matrix.now) word.now moves.new }
     ensures rests { result ≢ 0 → AreLeft (code_of matrix.now) soft.now word.now (placed_of (code_of matrix.now) word.now result moves.new) rests.new }
     ensures scaled { result ≤ 16 }
@@ -123,10 +105,15 @@ pub(crate) fn make_moves(
     if try_greedily(matrix, soft, word, rests, moves) {
         return 1;
     }
-    begin(matrix, soft, word, 16, rests, moves);
-    if spread(matrix, soft, word, rests, moves) {
-        16
-    } else {
-        0
+    match ways {
+        Ways::Greedy => 0,
+        Ways::GreedyThenSpreading => {
+            begin(matrix, soft, word, 16, rests, moves);
+            if spread(matrix, soft, word, rests, moves) {
+                16
+            } else {
+                0
+            }
+        }
     }
 }

@@ -3,11 +3,11 @@ ghost use Rattle.std.specs.Prelude.{◌≡◌, ◌≤◌, IfOk, Bool, All, lengt
 ghost use Rattle.s2_matrix.specs.Code.{code_of, IsCodeword};
 ghost use Rattle.s2_check.specs.Checking.{IsCertificate};
 ghost use Rattle.s2_check.specs.Views.{IsSoft};
-ghost use Rattle.s2_split.specs.Making.{shared, shared_view, made_view, HoldsRests};
+ghost use Rattle.s2_split.specs.Making.{shared, shared_view, made_view, split_in_ways, HoldsRests};
 ghost use Rattle.s2_split.specs.Scattered.{repaired, IsScattered};
 ghost use Rattle.s2_split.specs.Spreading.{greedy_split, made_split};
 
-use crate::make::{make_greedily, make_moves};
+use crate::make::{Ways, make_moves};
 use crate::repair::repair;
 use s2_bits::Bits;
 use s2_check::{CertView, Move, hard_into};
@@ -127,15 +127,7 @@ impl<'a> Maker<'a> {
         ensures made { self.new.made ≡ shared (code_of self.old.rows) (made_split (code_of self.old.rows) soft.now word.now) }
         ensures rests { HoldsRests self.new soft.now word.now }
     {
-        self.word.copy_prefix(word, word.len());
-        self.scale = make_moves(
-            self.matrix,
-            soft,
-            word.truths(),
-            &mut self.rests,
-            &mut self.moves,
-        );
-        self.scale > 0
+        self.certify_in(Ways::GreedyThenSpreading, soft, word)
     }
 
     /// As [`Maker::certify_codeword`], by the greedy amounts alone.
@@ -149,11 +141,26 @@ impl<'a> Maker<'a> {
         ensures made { self.new.made ≡ shared (code_of self.old.rows) (greedy_split (code_of self.old.rows) soft.now word.now) }
         ensures rests { HoldsRests self.new soft.now word.now }
     {
+        self.certify_in(Ways::Greedy, soft, word)
+    }
+
+    /// Makes the split for a codeword in these ways, and says whether there is one.
+    fn certify_in(&mut self, ways: Ways, soft: &[i16], word: &Bits) -> bool
+        requires soft { length soft.now ≡ (code_of self.old.rows).bits }
+        requires range { All IsSoft soft.now }
+        requires codeword { IsCodeword (code_of self.old.rows) word.now }
+        ensures rows { self.new.rows ≡ self.old.rows }
+        ensures word { self.new.word ≡ word.now }
+        ensures found { IsTrue result ↔ (self.new.made ≢ None) }
+        ensures made { self.new.made ≡ shared (code_of self.old.rows) (split_in_ways ways (code_of self.old.rows) soft.now word.now) }
+        ensures rests { HoldsRests self.new soft.now word.now }
+    {
         self.word.copy_prefix(word, word.len());
-        self.scale = make_greedily(
+        self.scale = make_moves(
             self.matrix,
             soft,
             word.truths(),
+            ways,
             &mut self.rests,
             &mut self.moves,
         );

@@ -4,10 +4,9 @@ use Rattle.s2_matrix.specs.Code.{code_of}
 use Rattle.s2_check.specs.Split.{split_of}
 use Rattle.s2_check.specs.Moves.{placed_of}
 use Rattle.s2_check.specs.declared.step.Move.{Move}
-use Rattle.s2_split.specs.Making.{Making, made_of, shared, AreLeft}
-use Rattle.s2_split.specs.Spreading.{made_split}
+use Rattle.s2_split.specs.Making.{Making, made_of, shared, split_in_ways, AreLeft}
 use Rattle.s2_split.proofs.Held.{copied, refilled, held_left}
-use Rattle.s2_split.proofs.maker.Maker.certify_codeword.Goals as goal
+use Rattle.s2_split.proofs.maker.Maker.certify_in.Goals as goal
 
 pub returns-clause-word : goal.returns-clause-word
 returns-clause-word c =
@@ -23,8 +22,8 @@ returns-clause-made c =
     let moves = refilled inside.moves.len make.new.moves inside.moves.items (sym c.deref_mut-2.ensures.len ∙ ap length c.deref_mut-2.ensures.value) (omega (arith, ap length c.deref_mut-2.ensures.value)) in
     let there = ap (made_of inside.matrix.now c.copy_prefix.new.self make.result) moves in
     let here = ap (λ (w : List Bool). made_of inside.matrix.now w make.result make.new.moves) (word ∙ sym c.truths.ensures) in
-    let made = make.ensures.made ∙ ap (λ (w : List Bool). shared (code_of inside.matrix.now) (made_split (code_of inside.matrix.now) c.args.soft.now w)) c.truths.ensures in
-    there ∙ here ∙ made ∙ ap (λ (r : Rows). shared (code_of r) (made_split (code_of r) c.args.soft.now c.args.word.now)) rows
+    let made = make.ensures.made ∙ ap (λ (w : List Bool). shared (code_of inside.matrix.now) (split_in_ways c.args.ways (code_of inside.matrix.now) c.args.soft.now w)) c.truths.ensures in
+    there ∙ here ∙ made ∙ ap (λ (r : Rows). shared (code_of r) (split_in_ways c.args.ways (code_of r) c.args.soft.now c.args.word.now)) rows
 
 pub returns-clause-rests : goal.returns-clause-rests
 returns-clause-rests c =
