@@ -1,5 +1,6 @@
 //! One row of a layer: a word in each lane.
-ghost use Rattle.std.specs.Prelude.{◌≡◌, ◌≤◌, ◌<◌, ◌+◌, ◌-◌, ◌==◌, if◌then◌else◌, min, max, length, slice_index, EachIndex};
+ghost use Rattle.std.specs.Prelude.{◌≡◌, ◌≤◌, ◌<◌, ◌+◌, ◌-◌, ◌*◌, ◌/◌, ◌==◌, if◌then◌else◌, min, max, length, slice_index, EachIndex};
+ghost use Rattle.s2_minsum.specs.Lanes.{DoneTo};
 ghost use Rattle.s2_minsum.specs.Words.{turned, turned_back};
 ghost use Rattle.s2_settle.specs.Words.{minus32, plus32, given, gap, change, seen_at};
 
@@ -8,16 +9,25 @@ use crate::lanes::load;
 use crate::limits::MOST_MOVED;
 use std::simd::prelude::*;
 
-/// Adds a row to a row.
-fn sum_into(to: &mut [u32], from: &[u32])
+/// Adds the whole vectors of a row to those of a row.
+fn sum_blocks_into(to: &mut [u32], from: &[u32])
     requires { length from.now ≡ length to.old }
-    ensures { EachIndex to.new (λ k. slice_index to.new k ≡ plus32 (slice_index to.old k) (slice_index from.now k)) }
+    ensures { DoneTo 0 (length to.old / 4 * 4) (λ k. plus32 (slice_index to.old k) (slice_index from.now k)) to.old to.new }
 {
     let n = to.len();
     for block in 0..n / 4 {
         let at = 4 * block;
         lanes::plus(load(to, at), load(from, at)).copy_to_slice(&mut to[at..]);
     }
+}
+
+/// Adds a row to a row.
+fn sum_into(to: &mut [u32], from: &[u32])
+    requires { length from.now ≡ length to.old }
+    ensures { EachIndex to.new (λ k. slice_index to.new k ≡ plus32 (slice_index to.old k) (slice_index from.now k)) }
+{
+    let n = to.len();
+    sum_blocks_into(to, from);
     for i in n / 4 * 4..n {
         to[i] = to[i].wrapping_add(from[i]);
     }
@@ -36,12 +46,12 @@ pub(crate) fn add(row: &mut [u32], changes: &[u32], shift: usize)
     sum_into(high, first);
 }
 
-/// What the members of a piece of a row give.
-fn give_piece(to: &mut [u32], rests: &[u32], targets: &[u32], amounts: &[u32], e: u32)
+/// What the members of the whole vectors of a piece of a row give.
+fn give_blocks(to: &mut [u32], rests: &[u32], targets: &[u32], amounts: &[u32], e: u32)
     requires same_rests { length rests.now ≡ length to.old }
     requires same_targets { length targets.now ≡ length to.old }
     requires same_amounts { length amounts.now ≡ length to.old }
-    ensures { EachIndex to.new (λ k. slice_index to.new k ≡ given (slice_index rests.now k) (slice_index targets.now k) (slice_index amounts.now k) e) }
+    ensures { DoneTo 0 (length to.old / 4 * 4) (λ k. given (slice_index rests.now k) (slice_index targets.now k) (slice_index amounts.now k) e) to.old to.new }
 {
     let n = to.len();
     let es = lanes::all(e);
@@ -51,6 +61,17 @@ fn give_piece(to: &mut [u32], rests: &[u32], targets: &[u32], amounts: &[u32], e
             &mut to[at..],
         );
     }
+}
+
+/// What the members of a piece of a row give.
+fn give_piece(to: &mut [u32], rests: &[u32], targets: &[u32], amounts: &[u32], e: u32)
+    requires same_rests { length rests.now ≡ length to.old }
+    requires same_targets { length targets.now ≡ length to.old }
+    requires same_amounts { length amounts.now ≡ length to.old }
+    ensures { EachIndex to.new (λ k. slice_index to.new k ≡ given (slice_index rests.now k) (slice_index targets.now k) (slice_index amounts.now k) e) }
+{
+    let n = to.len();
+    give_blocks(to, rests, targets, amounts, e);
     for i in n / 4 * 4..n {
         to[i] = if targets[i] == e {
             rests[i].wrapping_sub(amounts[i])
@@ -84,6 +105,30 @@ pub(crate) fn give(
     give_piece(last, low, last_targets, last_amounts, e);
 }
 
+/// Takes the whole vectors of a row of inputs in, as [`track`] takes the row.
+fn track_blocks(first: &mut [u32], second: &mut [u32], places: &mut [u32], input: &[u32], e: u32)
+    requires same_first { length first.old ≡ length input.now }
+    requires same_second { length second.old ≡ length input.now }
+    requires same_places { length places.old ≡ length input.now }
+    ensures first { DoneTo 0 (length input.now / 4 * 4) (λ k. min (slice_index first.old k) (slice_index input.now k)) first.old first.new }
+    ensures second { DoneTo 0 (length input.now / 4 * 4) (λ k. min (slice_index second.old k) (max (slice_index first.old k) (slice_index input.now k))) second.old second.new }
+    ensures places { DoneTo 0 (length input.now / 4 * 4) (λ k. seen_at (slice_index places.old k) (slice_index first.old k) (slice_index input.now k) e) places.old places.new }
+{
+    let n = input.len();
+    let es = lanes::all(e);
+    for block in 0..n / 4 {
+        let at = 4 * block;
+        let v = load(input, at);
+        let before = load(first, at);
+        let next = lanes::least(load(second, at), lanes::most(before, v));
+        let lower = lanes::least(before, v);
+        let place = lanes::where_same(lower, before, load(places, at), es);
+        next.copy_to_slice(&mut second[at..]);
+        lower.copy_to_slice(&mut first[at..]);
+        place.copy_to_slice(&mut places[at..]);
+    }
+}
+
 /// Takes a row of inputs into the least, the least of the others, and where the least stands.
 pub(crate) fn track(
     first: &mut [u32],
@@ -100,18 +145,7 @@ pub(crate) fn track(
     ensures places { EachIndex places.new (λ k. slice_index places.new k ≡ seen_at (slice_index places.old k) (slice_index first.old k) (slice_index input.now k) e) }
 {
     let n = input.len();
-    let es = lanes::all(e);
-    for block in 0..n / 4 {
-        let at = 4 * block;
-        let v = load(input, at);
-        let before = load(first, at);
-        let next = lanes::least(load(second, at), lanes::most(before, v));
-        let lower = lanes::least(before, v);
-        let place = lanes::where_same(lower, before, load(places, at), es);
-        next.copy_to_slice(&mut second[at..]);
-        lower.copy_to_slice(&mut first[at..]);
-        place.copy_to_slice(&mut places[at..]);
-    }
+    track_blocks(first, second, places, input, e);
     for lane in n / 4 * 4..n {
         let v = input[lane];
         let before = first[lane];
@@ -123,10 +157,10 @@ pub(crate) fn track(
     }
 }
 
-/// Writes what is moved in place of the least of the others.
-pub(crate) fn take_gaps(first: &[u32], second: &mut [u32], reserve: u32)
+/// Writes the whole vectors of what is moved in place of the least of the others.
+fn take_gap_blocks(first: &[u32], second: &mut [u32], reserve: u32)
     requires { length first.now ≡ length second.old }
-    ensures { EachIndex second.new (λ k. slice_index second.new k ≡ gap reserve (slice_index first.now k) (slice_index second.old k)) }
+    ensures { DoneTo 0 (length second.old / 4 * 4) (λ k. gap reserve (slice_index first.now k) (slice_index second.old k)) second.old second.new }
 {
     let n = second.len();
     let held = lanes::all(reserve);
@@ -134,6 +168,15 @@ pub(crate) fn take_gaps(first: &[u32], second: &mut [u32], reserve: u32)
         let at = 4 * block;
         lanes::gap(held, load(first, at), load(second, at)).copy_to_slice(&mut second[at..]);
     }
+}
+
+/// Writes what is moved in place of the least of the others.
+pub(crate) fn take_gaps(first: &[u32], second: &mut [u32], reserve: u32)
+    requires { length first.now ≡ length second.old }
+    ensures { EachIndex second.new (λ k. slice_index second.new k ≡ gap reserve (slice_index first.now k) (slice_index second.old k)) }
+{
+    let n = second.len();
+    take_gap_blocks(first, second, reserve);
     for i in n / 4 * 4..n {
         let wide = second[i].wrapping_sub(first[i]).max(reserve);
         second[i] = (wide.wrapping_sub(reserve) / 2).min(MOST_MOVED);
@@ -148,6 +191,36 @@ fn moved(target: u32, amount: u32, e: u32) -> u32
         amount
     } else {
         0u32.wrapping_sub(amount)
+    }
+}
+
+/// Writes the whole vectors of by how much the rests of an entry's members change.
+fn give_change_blocks(
+    changes: &mut [u32],
+    old_targets: &[u32],
+    old_amounts: &[u32],
+    targets: &[u32],
+    amounts: &[u32],
+    e: u32,
+)
+    requires same_old_targets { length old_targets.now ≡ length changes.old }
+    requires same_old_amounts { length old_amounts.now ≡ length changes.old }
+    requires same_targets { length targets.now ≡ length changes.old }
+    requires same_amounts { length amounts.now ≡ length changes.old }
+    ensures { DoneTo 0 (length changes.old / 4 * 4) (λ k. change (slice_index old_targets.now k) (slice_index old_amounts.now k) (slice_index targets.now k) (slice_index amounts.now k) e) changes.old changes.new }
+{
+    let n = changes.len();
+    let es = lanes::all(e);
+    for block in 0..n / 4 {
+        let at = 4 * block;
+        lanes::change(
+            load(old_targets, at),
+            load(old_amounts, at),
+            load(targets, at),
+            load(amounts, at),
+            es,
+        )
+        .copy_to_slice(&mut changes[at..]);
     }
 }
 
@@ -167,18 +240,7 @@ pub(crate) fn give_changes(
     ensures { EachIndex changes.new (λ k. slice_index changes.new k ≡ change (slice_index old_targets.now k) (slice_index old_amounts.now k) (slice_index targets.now k) (slice_index amounts.now k) e) }
 {
     let n = changes.len();
-    let es = lanes::all(e);
-    for block in 0..n / 4 {
-        let at = 4 * block;
-        lanes::change(
-            load(old_targets, at),
-            load(old_amounts, at),
-            load(targets, at),
-            load(amounts, at),
-            es,
-        )
-        .copy_to_slice(&mut changes[at..]);
-    }
+    give_change_blocks(changes, old_targets, old_amounts, targets, amounts, e);
     for i in n / 4 * 4..n {
         changes[i] = moved(targets[i], amounts[i], e).wrapping_sub(moved(
             old_targets[i],
