@@ -14,6 +14,7 @@ use Rattle.s2_check.specs.declared.checker.Refusal.{Refusal}
 use Rattle.s2_check.specs.declared.checker.Refusal.TheVariants.{OtherShape, OddCheck, BoundBelow}
 use Rattle.s2_check.specs.Moves.{placed_of}
 use Rattle.s2_check.proofs.Listing.{length-all_shares}
+use Rattle.s2_settle.specs.Plain.{settling_scale}
 use Rattle.s2_settle.specs.Layer.{Held}
 use Rattle.s2_settle.specs.Passes.{spread, Ends}
 use Rattle.s2_settle.specs.Start.{start}
@@ -77,7 +78,7 @@ missed rows soft word ms v r is codeword refuses =
         let even = codeword.even j odd.1.within in
         absurd (omega (arith, even, odd.1.odd))
     go BoundBelow below =
-        ap (λ b. cond b (Some (moved_view rows soft word ms)) None) (below_misses (pos 256 *ℤ cost soft word) (bound (code_of rows) soft (split_in rows (moved_view rows soft word ms))) below.2)
+        ap (λ b. cond b (Some (moved_view rows soft word ms)) None) (below_misses (pos settling_scale *ℤ cost soft word) (bound (code_of rows) soft (split_in rows (moved_view rows soft word ms))) below.2)
 
 pub refilled : {A : Type 0} (n : ℕ) (new items : List A) → n ≡ length items → length new ≡ length items → take n (new ++ drop (length new) items) ≡ new
 refilled n new items all long =

@@ -21,12 +21,13 @@ use Rattle.s2_bits.specs.Bits.{bit_at}
 use Rattle.s2_check.specs.Cost.{value_at}
 use Rattle.s2_check.specs.Moves.{in_favour}
 use Rattle.s2_check.specs.Views.{IsSoft}
+use Rattle.s2_minsum.specs.Plain.{most_soft}
 use Rattle.s2_minsum.specs.Words.{cell}
 use Rattle.s2_minsum.specs.Layout.{row_of_bit, lane_of_bit, bit_of}
 use Rattle.s2_minsum.proofs.Places
 use Rattle.s2_minsum.proofs.Orders.{Within, sum_within}
 use Rattle.s2_settle.specs.Words.{zero_rest}
-use Rattle.s2_settle.specs.Plain.{State, raise, rest, reserve_in, is_hopeless}
+use Rattle.s2_settle.specs.Plain.{settling_scale, State, raise, rest, reserve_in, is_hopeless}
 use Rattle.s2_settle.specs.Plain as plain
 use Rattle.s2_settle.specs.Layer.{Held, AreLong, layer}
 use Rattle.s2_settle.specs.Start.{started, differs, start}
@@ -40,26 +41,26 @@ use Rattle.s2_settle.proofs.RestWords.{less_is, no_less_is, less_of, no_less_of}
 
 -- ---- the start
 
-soft_small : (soft : List ℤ) → All IsSoft soft → (i : ℕ) → unsigned_abs (value_at soft i) ≤ 63
+soft_small : (soft : List ℤ) → All IsSoft soft → (i : ℕ) → unsigned_abs (value_at soft i) ≤ most_soft
 soft_small soft all i = elim (cases_lt i (length soft)) [
   | inl lt ↦ (let is = all i (pos 0) lt in omega (arith, ints, is.low, is.high))
   | inr le ↦ (let none = get_or_past soft i (pos 0) le in omega (arith, ints, none))
 ]
 
-started_is : (soft : List ℤ) (word : List Bool) → All IsSoft soft → (i : ℕ) → pos (started soft word i) ≡ pos zero_rest +ℤ in_favour word i (pos 256 *ℤ value_at soft i)
+started_is : (soft : List ℤ) (word : List Bool) → All IsSoft soft → (i : ℕ) → pos (started soft word i) ≡ pos zero_rest +ℤ in_favour word i (pos settling_scale *ℤ value_at soft i)
 started_is soft word all i =
     go (int_lt (value_at soft i) (pos 0)) (bit_at word i) refl refl
   where
-    small : unsigned_abs (value_at soft i) ≤ 63
+    small : unsigned_abs (value_at soft i) ≤ most_soft
     small = soft_small soft all i
 
-    go : (s b : Bool) → int_lt (value_at soft i) (pos 0) ≡ s → bit_at word i ≡ b → pos (started soft word i) ≡ pos zero_rest +ℤ in_favour word i (pos 256 *ℤ value_at soft i)
+    go : (s b : Bool) → int_lt (value_at soft i) (pos 0) ≡ s → bit_at word i ≡ b → pos (started soft word i) ≡ pos zero_rest +ℤ in_favour word i (pos settling_scale *ℤ value_at soft i)
     go true true s b = (let lt = less_of (value_at soft i) (pos 0) s in rw (s, b) (omega (arith, ints, small, lt)))
     go true false s b = (let lt = less_of (value_at soft i) (pos 0) s in rw (s, b) (omega (arith, ints, small, lt)))
     go false true s b = (let le = no_less_of (value_at soft i) (pos 0) s in rw (s, b) (omega (arith, ints, small, le)))
     go false false s b = (let le = no_less_of (value_at soft i) (pos 0) s in rw (s, b) (omega (arith, ints, small, le)))
 
-favour_small : (b : Bool) (z : ℤ) → unsigned_abs z ≤ 63 → unsigned_abs (cond b (neg_ℤ (pos 256 *ℤ z)) (pos 256 *ℤ z)) ≤ 16128
+favour_small : (b : Bool) (z : ℤ) → unsigned_abs z ≤ most_soft → unsigned_abs (cond b (neg_ℤ (pos settling_scale *ℤ z)) (pos settling_scale *ℤ z)) ≤ settling_scale * most_soft
 favour_small true z h = omega (arith, ints)
 favour_small false z h = omega (arith, ints)
 
@@ -115,7 +116,7 @@ pub record Both (rows : Rows) (a : Held) (b : State) : Type 0 where
   pub within : IsWithin rows b
   pub shows : Shows rows a b
 
-module _ (rows : Rows) (fit : AreFit rows) (reserve : ℕ) (few : reserve ≤ 256) (h : Held) (st : State) (within : IsWithin rows st) (shows : Shows rows h st) where
+module _ (rows : Rows) (fit : AreFit rows) (reserve : ℕ) (few : reserve ≤ reserve_in 0) (h : Held) (st : State) (within : IsWithin rows st) (shows : Shows rows h st) where
   plain_more : (n : ℕ) → fold (plain.layer (code_of rows) rows.shape.q reserve) st (upto (n + 1)) ≡ plain.layer (code_of rows) rows.shape.q reserve (fold (plain.layer (code_of rows) rows.shape.q reserve) st (upto n)) n
   plain_more n =
       ap (fold (plain.layer (code_of rows) rows.shape.q reserve) st) (upto_more n) ∙ fold-append (plain.layer (code_of rows) rows.shape.q reserve) st (upto n) (n ∷ [])
@@ -287,7 +288,7 @@ module _ (rows : Rows) (fit : AreFit rows) where
   spread_both (suc m) p before h s within shows =
       let same = negatives_same rows fit h s shows in
       let reserve = reserve_in p in
-      let few : reserve ≤ 256 = omega arith in
+      let few : reserve ≤ reserve_in 0 = omega arith in
       let later = spread_both m (p + 1) (cond (p % 4 == 0) (negatives h.rests) before) (pass rows reserve h) (plain.pass (code_of rows) rows.shape.q reserve s) (pass_within rows fit reserve few h s within shows) (pass_shown rows fit reserve few h s within shows) in
       elim (cases_Bool (negatives h.rests == 0)) [
         | inl none ↦ now_both (suc m) p before h s within shows none

@@ -11,7 +11,7 @@ use Rattle.s2_check.specs.Checking.{IsCertificate, split_in}
 use Rattle.s2_check.specs.declared.step.Move.{Move}
 use Rattle.s2_check.proofs.Duality.{bound-le-cost}
 use Rattle.s2_check.proofs.Listing.{length-all_shares}
-use Rattle.s2_settle.specs.Plain.{State, start, passes}
+use Rattle.s2_settle.specs.Plain.{settling_scale, State, start, passes}
 use Rattle.s2_settle.specs.Settled.{settled, view_in, moves_in, moved_view, reaches}
 use Rattle.s2_settle.specs.Laws.{SettledLaw}
 
@@ -25,7 +25,7 @@ module _ (rows : Rows) (soft : List ℤ) (word : List Bool) (codeword : IsCodewo
     accepted = record {
       scaled = omega arith;
       codeword = codeword;
-      tight = not_below (pos 256 *ℤ cost soft word) (bound (code_of rows) soft (split_in rows (moved_view rows soft word ms))) (bound-le-cost (code_of rows) soft (split_in rows (moved_view rows soft word ms)) word codeword) h;
+      tight = not_below (pos settling_scale *ℤ cost soft word) (bound (code_of rows) soft (split_in rows (moved_view rows soft word ms))) (bound-le-cost (code_of rows) soft (split_in rows (moved_view rows soft word ms)) word codeword) h;
     };
   }
 

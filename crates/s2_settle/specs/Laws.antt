@@ -4,7 +4,7 @@ use Rattle.s2_rows.specs.Rows.{Rows}
 use Rattle.s2_matrix.specs.Code.{code_of, IsCodeword}
 use Rattle.s2_check.specs.Views.{View, IsSoft}
 use Rattle.s2_check.specs.Checking.{IsCertificate}
-use Rattle.s2_settle.specs.Plain.{State}
+use Rattle.s2_settle.specs.Plain.{reserve_in, State}
 use Rattle.s2_settle.specs.Plain as plain
 use Rattle.s2_settle.specs.Layer.{Held, layer}
 use Rattle.s2_settle.specs.Passes.{spread}
@@ -26,7 +26,7 @@ StartLaw =
 -- where rows and lanes show a state, they show its layer after their layer
 abbrev pub LayerLaw : Type 0
 LayerLaw =
-    (rows : Rows) (reserve r : ℕ) (h : Held) (s : State) → AreFit rows → reserve ≤ 256 → r < rows.shape.q → IsWithin rows s → Shows rows h s
+    (rows : Rows) (reserve r : ℕ) (h : Held) (s : State) → AreFit rows → reserve ≤ reserve_in 0 → r < rows.shape.q → IsWithin rows s → Shows rows h s
     → Shows rows (layer rows reserve h r) (plain.layer (code_of rows) rows.shape.q reserve s r) × IsWithin rows (plain.layer (code_of rows) rows.shape.q reserve s r)
 
 -- and their passes end where its passes end

@@ -1,12 +1,13 @@
 -- What it means that rows and lanes show a state of checks and members.
-use Rattle.std.specs.Prelude.{◌≡◌, ℕ, ◌/◌, ◌%◌, ◌<◌, ◌≤◌, List, length, get_or, ℤ, pos, ◌+ℤ◌, unsigned_abs, Option, None, Some}
+use Rattle.std.specs.Prelude.{◌≡◌, ℕ, ◌*◌, ◌/◌, ◌%◌, ◌<◌, ◌≤◌, List, length, get_or, ℤ, pos, ◌+ℤ◌, unsigned_abs, Option, None, Some}
 use Rattle.s2_mode.specs.Shape.{IsShape, code_bits}
 use Rattle.s2_rows.specs.Rows.{Rows}
 use Rattle.s2_matrix.specs.Code.{code_of, checks_of}
+use Rattle.s2_minsum.specs.Plain.{most_soft}
 use Rattle.s2_minsum.specs.Words.{cell}
 use Rattle.s2_minsum.specs.Layout.{row_of_bit, lane_of_bit, entry_count}
 use Rattle.s2_settle.specs.Words.{zero_rest}
-use Rattle.s2_settle.specs.Plain.{most_moved, State, rest}
+use Rattle.s2_settle.specs.Plain.{settling_scale, most_moved, State, rest}
 use Rattle.s2_settle.specs.Layer.{Held, AreLong}
 use Rattle.s2_settle.specs.Placing.{shown, place_of_check}
 
@@ -29,7 +30,7 @@ pub record AreFit (rows : Rows) : Type 0 where
 
 -- values of soft values within their limits, and no amount above the most that a check moves
 pub record IsWithin (rows : Rows) (s : State) : Type 0 where
-  pub values : (i : ℕ) → i < code_bits rows.shape → unsigned_abs (s.value i) ≤ 16128
+  pub values : (i : ℕ) → i < code_bits rows.shape → unsigned_abs (s.value i) ≤ settling_scale * most_soft
   pub amounts : (j : ℕ) → s.amount j ≤ most_moved
 
 -- where passes end: found by both or by neither, and what rows and lanes then hold shows the state
