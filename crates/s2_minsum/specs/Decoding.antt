@@ -44,11 +44,16 @@ pub record AreNumbers (rows : Rows) (soft : List ℤ) (messages posteriors : Lis
   pub posteriors_long : length posteriors ≡ code_bits rows.shape
   pub posteriors_are : (row lane : ℕ) → row < rows.shape.groups + rows.shape.q → lane < rows.shape.group → signed16 (cell posteriors rows.shape.group row lane) ≡ posterior (code_of rows) (state_of rows soft (kept_of rows messages)) (bit_of rows.shape row lane)
 
+-- so many words are enough for each layer: a row for each of its entries, and three rows more
+abbrev pub HasRoom : Rows → ℕ → Type 0
+HasRoom rows words =
+    (r : ℕ) → r < rows.shape.q → (entry_count rows r + 3) * rows.shape.group ≤ words
+
 -- what holds of a decoder
 pub record IsDecoder (rows : Rows) (soft : List ℤ) (entries : List Entry) (firsts messages posteriors : List ℕ) (scratch : ℕ) : Type 0 where
   pub layers : AreLayers rows entries firsts
   pub numbers : AreNumbers rows soft messages posteriors
-  pub room : (r : ℕ) → r < rows.shape.q → (entry_count rows r + 3) * rows.shape.group ≤ scratch
+  pub room : HasRoom rows scratch
 
 -- whether the posterior of a bit is negative
 abbrev pub is_one : Shape → List ℕ → ℕ → Bool

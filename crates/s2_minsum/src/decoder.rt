@@ -6,7 +6,7 @@ ghost use Rattle.s2_minsum.specs.Plain.{most_soft, posterior as posterior_of, la
 ghost use Rattle.s2_minsum.specs.Decoding.{AreWithin, Decoding, decoded};
 
 use crate::edge::{check_of, message_place};
-use crate::entries::{layers_of, most_entries};
+use crate::entries::{layers_of, scratch_len};
 use crate::hard::decide;
 use crate::layout::place_of;
 use crate::loading::put_posteriors;
@@ -54,7 +54,7 @@ impl<'a> Decoder<'a> {
         let soft = vec![in alloc; 0i16; matrix.bits()]?;
         let messages = vec![in alloc; 0u16; rows * group]?;
         let posteriors = vec![in alloc; 0u16; matrix.bits()]?;
-        let scratch = vec![in alloc; 0u16; (most_entries(matrix) + 3) * group]?;
+        let scratch = vec![in alloc; 0u16; scratch_len(matrix)]?;
         Ok(Decoder {
             matrix,
             soft,

@@ -4,8 +4,8 @@ ghost use Rattle.s2_matrix.specs.Code.{code_of, members, first_edge};
 ghost use Rattle.s2_minsum.specs.Layout.{place_at, first_row};
 ghost use Rattle.s2_minsum.specs.Decoding.{AreLayers};
 
+use crate::entries::find_span;
 use crate::layout::{back_to, place_among};
-use crate::one_layer::find_span;
 use crate::rows::Entry;
 use s2_matrix::Matrix;
 
@@ -48,7 +48,7 @@ pub(crate) fn message_place(
     let shape = matrix.shape();
     let r = check % shape.q();
     let lane = check / shape.q();
-    let span = find_span(matrix, entries, firsts, messages, r);
+    let span = find_span(matrix, entries, firsts, r);
     let last = matrix.members_at(r + (shape.group() - 1) * shape.q());
     let place = place_among(last, back_to(shape, lane, matrix.members(check, at)) as u32);
     (span.start + place) * shape.group() + lane

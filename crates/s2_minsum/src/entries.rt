@@ -1,8 +1,8 @@
 //! The entries of each layer: which rows its checks read, and how far turned.
 ghost use Rattle.std.specs.Prelude.{◌≡◌, ◌++◌, ℕ, ◌+◌, ◌*◌, ◌<◌, ◌≤◌, IfOk, OnOk, map, length};
 ghost use Rattle.s2_matrix.specs.Code.{code_of, members};
-ghost use Rattle.s2_minsum.specs.Layout.{entry_of, entry_count, last_check};
-ghost use Rattle.s2_minsum.specs.Decoding.{AreLayers};
+ghost use Rattle.s2_minsum.specs.Layout.{entry_of, entry_count, first_row, last_check};
+ghost use Rattle.s2_minsum.specs.Decoding.{AreLayers, HasRoom};
 
 use crate::layout::entry_of;
 use crate::rows::Entry;
@@ -48,7 +48,7 @@ pub fn layers_of(alloc: Global, matrix: &Matrix) -> Result<Layers, AllocError>
 }
 
 /// How many entries the largest layer has.
-pub fn most_entries(matrix: &Matrix) -> usize
+fn most_entries(matrix: &Matrix) -> usize
     ensures most { (r : ℕ) → r < matrix.now.shape.q → entry_count matrix.now r ≤ result }
     ensures few { result ≤ 64800 }
 {
@@ -61,4 +61,35 @@ pub fn most_entries(matrix: &Matrix) -> usize
         }
     }
     most
+}
+
+/// How many words each layer works in at most: a row for each of its entries, and three rows more.
+pub fn scratch_len(matrix: &Matrix) -> usize
+    ensures { HasRoom matrix.now result }
+{
+    (most_entries(matrix) + 3) * matrix.shape().group()
+}
+
+/// Where the entries of a layer begin among those of all layers, and how many they are.
+#[derive(Clone, Copy, Drop)]
+pub struct Span {
+    pub start: usize,
+    pub count: usize,
+}
+
+/// Where the entries of a layer stand.
+pub fn find_span(matrix: &Matrix, entries: &[Entry], firsts: &[usize], r: usize) -> Span
+    requires layers { AreLayers matrix.now entries.now firsts.now }
+    requires layer { r < matrix.now.shape.q }
+    ensures start { result.start ≡ first_row matrix.now r }
+    ensures count { result.count ≡ entry_count matrix.now r }
+    ensures entries { result.start + result.count ≤ length entries.now }
+    ensures few { result.count ≤ 64800 }
+{
+    let (_matrix, _entries) = (matrix, entries);
+    let start = firsts[r];
+    Span {
+        start,
+        count: firsts[r + 1] - start,
+    }
 }

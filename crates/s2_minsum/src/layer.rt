@@ -3,6 +3,7 @@ ghost use Rattle.std.specs.Prelude.{◌≡◌, ℕ, ◌≤◌, ◌<◌, ◌+◌,
 ghost use Rattle.s2_minsum.specs.Words.{turned, minus16, sent16, size16, cell, entry_at, AreIn, changed, is_lacking, received, change_of};
 ghost use Rattle.s2_minsum.specs.Nodes.{first_of, second_of, signs_of};
 
+use crate::lacking::mask_lacking;
 use crate::limits::SIZE_CAP;
 use crate::rows::{Entry, add, give, send, track, track_two};
 
@@ -115,28 +116,6 @@ fn add_all(entries: &[Entry], n: usize, posteriors: &mut [u16], changes: &[u16])
     }
 }
 
-/// Whether an entry is the one that lane 0 of the first layer lacks.
-fn is_absent(entry: Entry, last: usize) -> bool
-    ensures { result ≡ ((entry.row == last) && (entry.shift == 1)) }
-{
-    entry.row as usize == last && entry.shift == 1
-}
-
-/// Writes a number in lane 0 of the entry in which the first check has no bit.
-fn mask(entries: &[Entry], n: usize, last: usize, rows: &mut [u16], value: u16)
-    requires some { 1 ≤ n }
-    requires few { n ≤ 360 }
-    requires long { length rows.old ≡ length entries.now * n }
-    ensures { (e c : ℕ) → e < length entries.now → c < n → cell rows.new n e c ≡ (if is_lacking last (entry_at entries.now e) c then value else cell rows.old n e c) }
-{
-    for e in 0..entries.len() {
-        let entry = entries[e];
-        if is_absent(entry, last) {
-            rows[e * n] = value;
-        }
-    }
-}
-
 /// What the members of a layer's checks give; the cap where the first check lacks one.
 fn receive(
     entries: &[Entry],
@@ -153,7 +132,7 @@ fn receive(
     ensures { (e c : ℕ) → e < length entries.now → c < n → cell inputs.new n e c ≡ received n entries.now last posteriors.now messages.now e c }
 {
     give_all(entries, n, posteriors, messages, inputs);
-    mask(entries, n, last, inputs, SIZE_CAP);
+    mask_lacking(entries, n, last, inputs, SIZE_CAP);
 }
 
 /// Adds the changes of a layer's messages, but none where the first check lacks a member.
@@ -163,7 +142,7 @@ fn apply(entries: &[Entry], n: usize, last: usize, posteriors: &mut [u16], chang
     requires long { length changes.old ≡ length entries.now * n }
     ensures { (p : ℕ) → p < length posteriors.old → slice_index posteriors.new p ≡ changed n entries.now posteriors.old (λ e c. if is_lacking last (entry_at entries.now e) c then 0 else cell changes.old n e c) (length entries.now) p }
 {
-    mask(entries, n, last, changes, 0);
+    mask_lacking(entries, n, last, changes, 0);
     add_all(entries, n, posteriors, changes);
 }
 

@@ -2,29 +2,50 @@
 ghost use Rattle.std.specs.Prelude.{◌≡◌, ℕ, ◌+◌, ◌*◌, ◌<◌, ◌≤◌, ◌==◌};
 ghost use Rattle.std.specs.List.{position_or_len};
 ghost use Rattle.s2_mode.specs.Shape.{code_bits};
-ghost use Rattle.s2_minsum.specs.Layout.{entry_of, row_of_bit, lane_of_bit, bit_of, step_of_row, back};
+ghost use Rattle.s2_minsum.specs.Layout.{entry_of, row_of_bit, lane_of_bit, bit_of, step_of_row, lacked_row, back};
 
 use crate::rows::Entry;
 use s2_mode::Shape;
+
+/// Where a bit stands: its row, and its lane there.
+#[derive(Clone, Copy, Drop)]
+struct Spot {
+    row: usize,
+    lane: usize,
+}
+
+/// Where a bit stands.
+fn spot_of(shape: Shape, bit: usize) -> Spot
+    requires { bit < code_bits shape }
+    ensures row { result.row ≡ row_of_bit shape bit }
+    ensures lane { result.lane ≡ lane_of_bit shape bit }
+    ensures row_low { result.row < shape.groups + shape.q }
+    ensures lane_low { result.lane < shape.group }
+{
+    let group = shape.group();
+    let k = shape.k();
+    if bit < k {
+        Spot {
+            row: bit / group,
+            lane: bit % group,
+        }
+    } else {
+        Spot {
+            row: shape.groups() + (bit - k) % shape.q(),
+            lane: (bit - k) / shape.q(),
+        }
+    }
+}
 
 /// The row and the turn that show a member of a layer's last check to all checks of the layer.
 pub(crate) fn entry_of(shape: Shape, bit: usize) -> Entry
     requires { bit < code_bits shape }
     ensures { result ≡ entry_of shape bit }
 {
-    let group = shape.group();
-    let k = shape.k();
-    let (row, lane) = if bit < k {
-        (bit / group, bit % group)
-    } else {
-        (
-            shape.groups() + (bit - k) % shape.q(),
-            (bit - k) / shape.q(),
-        )
-    };
+    let spot = spot_of(shape, bit);
     Entry {
-        row: row as u32,
-        shift: (group - 1 - lane) as u32,
+        row: spot.row as u32,
+        shift: (shape.group() - 1 - spot.lane) as u32,
     }
 }
 
@@ -33,13 +54,8 @@ pub(crate) fn place_of(shape: Shape, bit: usize) -> usize
     requires { bit < code_bits shape }
     ensures { result ≡ row_of_bit shape bit * shape.group + lane_of_bit shape bit }
 {
-    let group = shape.group();
-    let k = shape.k();
-    if bit < k {
-        bit / group * group + bit % group
-    } else {
-        (shape.groups() + (bit - k) % shape.q()) * group + (bit - k) / shape.q()
-    }
+    let spot = spot_of(shape, bit);
+    spot.row * shape.group() + spot.lane
 }
 
 /// The bit in lane 0 of a row.
@@ -62,6 +78,17 @@ pub fn step_of(shape: Shape, row: usize) -> usize
     if row < shape.groups() { 1 } else { shape.q() }
 }
 
+/// The row in which the first check of a layer has no bit: the last row for layer 0, none for any other.
+pub fn last_row(shape: Shape, r: usize) -> usize
+    ensures { result ≡ lacked_row shape r }
+{
+    if r == 0 {
+        shape.groups() + shape.q() - 1
+    } else {
+        shape.groups() + shape.q()
+    }
+}
+
 /// The member of a layer's last check that stands where a bit stands in the check of this lane.
 pub(crate) fn back_to(shape: Shape, check_lane: usize, bit: usize) -> usize
     requires bit { bit < code_bits shape }
@@ -69,16 +96,8 @@ pub(crate) fn back_to(shape: Shape, check_lane: usize, bit: usize) -> usize
     ensures { result ≡ back shape check_lane bit }
 {
     let n = shape.group();
-    let k = shape.k();
-    let (row, lane) = if bit < k {
-        (bit / n, bit % n)
-    } else {
-        (
-            shape.groups() + (bit - k) % shape.q(),
-            (bit - k) / shape.q(),
-        )
-    };
-    first_bit(shape, row) + (lane + n - 1 - check_lane) % n * step_of(shape, row)
+    let spot = spot_of(shape, bit);
+    first_bit(shape, spot.row) + (spot.lane + n - 1 - check_lane) % n * step_of(shape, spot.row)
 }
 
 /// The place of a number in a list; its length where it has none.

@@ -11,7 +11,10 @@
 //! Only [`Decoder::new`] takes memory.
 //!
 //! The decoder keeps posteriors in rows of a group, and the messages of a layer in rows of as many lanes, one
-//! check a lane, so that all checks of a layer go at once. None of it shows in a clause.
+//! check a lane, so that all checks of a layer go at once. None of it shows in a clause of [`Decoder`]. Who keeps
+//! other numbers in such rows takes the layout from here: the entries of each layer ([`layers_of`],
+//! [`find_span`]), the member that its first check can lack ([`last_row`], [`mask_lacking`]), the bits of a row
+//! ([`first_bit`], [`step_of`]), and how much room a layer works in ([`scratch_len`]).
 //!
 //! ```
 //! let mut decoder = Decoder::new(alloc, &matrix)?;
@@ -26,6 +29,7 @@ mod decoder;
 mod edge;
 mod entries;
 mod hard;
+mod lacking;
 mod lanes;
 pub mod laws;
 mod layer;
@@ -36,8 +40,9 @@ mod one_layer;
 mod rows;
 
 pub use decoder::Decoder;
-pub use entries::{Layers, layers_of, most_entries};
-pub use layout::{first_bit, place_among, step_of};
+pub use entries::{Layers, Span, find_span, layers_of, scratch_len};
+pub use lacking::mask_lacking;
+pub use layout::{first_bit, last_row, place_among, step_of};
 pub use limits::{MOST_MESSAGE, MOST_SOFT, SIZE_CAP};
 pub use rows::Entry;
 

@@ -1,7 +1,6 @@
 pub mod Unsigned
 pub mod Pieces
 pub mod Sames
-pub mod Few
 pub mod Layers
 pub mod Shown
 pub mod Spreads

@@ -6,8 +6,7 @@ use Rattle.s2_check.specs.Moves.{no_move, AreTargets}
 use Rattle.s2_check.specs.Views.{View}
 use Rattle.s2_check.specs.declared.step.Move.{Move}
 use Rattle.s2_minsum.specs.declared.rows.Entry.{Entry}
-use Rattle.s2_minsum.specs.Layout.{entry_count}
-use Rattle.s2_minsum.specs.Decoding.{AreLayers}
+use Rattle.s2_minsum.specs.Decoding.{AreLayers, HasRoom}
 use Rattle.s2_settle.specs.Layer.{AreLong}
 use Rattle.s2_settle.specs.Settled.{moved_view}
 
@@ -31,5 +30,5 @@ pub record AreMoves (code : Code) (ms : List Move) : Type 0 where
 pub record IsSettler (rows : Rows) (entries : List Entry) (firsts rests targets amounts : List ℕ) (ms : List Move) (scratch : ℕ) : Type 0 where
   pub layers : AreLayers rows entries firsts
   pub long : AreLong rows rests targets amounts
-  pub room : (r : ℕ) → r < rows.shape.q → (entry_count rows r + 3) * rows.shape.group ≤ scratch
+  pub room : HasRoom rows scratch
   pub moves : AreMoves (code_of rows) ms

@@ -3,8 +3,7 @@ ghost use Rattle.std.specs.Prelude.{◌≡◌, ℕ, ◌≤◌, ◌<◌, ◌+◌,
 ghost use Rattle.s2_mode.specs.Shape.{code_bits};
 ghost use Rattle.s2_matrix.specs.Code.{code_of};
 ghost use Rattle.s2_check.specs.Views.{IsSoft};
-ghost use Rattle.s2_minsum.specs.Layout.{entry_count};
-ghost use Rattle.s2_minsum.specs.Decoding.{AreLayers};
+ghost use Rattle.s2_minsum.specs.Decoding.{AreLayers, HasRoom};
 ghost use Rattle.s2_settle.specs.Layer.{AreLong};
 ghost use Rattle.s2_settle.specs.Passes.{spread as after_spread};
 ghost use Rattle.s2_settle.specs.Start.{start};
@@ -13,7 +12,7 @@ ghost use Rattle.s2_settle.specs.Holding.{AreMoves};
 
 use crate::moves::put_moves;
 use crate::passes::spread;
-use crate::start::{clear, put_rests};
+use crate::start::put_rests;
 use s2_check::Move;
 use s2_matrix::Matrix;
 use s2_minsum::Entry;
@@ -37,14 +36,14 @@ pub(crate) fn find_moves(
     requires soft { length soft.now ≡ code_bits matrix.now.shape }
     requires word { length word.now ≡ code_bits matrix.now.shape }
     requires long { AreLong matrix.now rests.old targets.old amounts.old }
-    requires room { (i : ℕ) → i < matrix.now.shape.q → (entry_count matrix.now i + 3) * matrix.now.shape.group ≤ length scratch.old }
+    requires room { HasRoom matrix.now (length scratch.old) }
     requires moves { AreMoves (code_of matrix.now) moves.old }
     ensures found { Finds matrix.now (after_spread matrix.now passes 0 0 (start matrix.now soft.now word.now)) result moves.new }
     ensures moves { AreMoves (code_of matrix.now) moves.new }
 {
     put_rests(matrix, soft, word, rests);
-    clear(targets);
-    clear(amounts);
+    targets.fill(0);
+    amounts.fill(0);
     if !spread(
         matrix, entries, firsts, passes, rests, targets, amounts, scratch,
     ) {

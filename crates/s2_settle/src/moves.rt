@@ -10,10 +10,9 @@ ghost use Rattle.s2_settle.specs.Placing.{shown, moves_of};
 ghost use Rattle.s2_settle.specs.Holding.{AreMoves};
 
 use crate::limits::MOST_MOVED;
-use crate::one_layer::find_span;
 use s2_check::Move;
 use s2_matrix::Matrix;
-use s2_minsum::{Entry, first_bit, place_among, step_of};
+use s2_minsum::{Entry, find_span, first_bit, place_among, step_of};
 use s2_mode::Shape;
 
 /// The bit that an entry shows to the check in a lane.

@@ -1,48 +1,11 @@
 //! One layer over a settler's lists.
 ghost use Rattle.std.specs.Prelude.{◌≡◌, ℕ, ◌≤◌, ◌<◌, ◌+◌, ◌*◌, length};
-ghost use Rattle.s2_minsum.specs.Layout.{lacked_row, entry_count, first_row};
-ghost use Rattle.s2_minsum.specs.Decoding.{AreLayers};
+ghost use Rattle.s2_minsum.specs.Decoding.{AreLayers, HasRoom};
 ghost use Rattle.s2_settle.specs.Layer.{held, AreLong, layer as after_layer};
 
 use crate::layer::run;
 use s2_matrix::Matrix;
-use s2_minsum::Entry;
-use s2_mode::Shape;
-
-/// The row that lane 0 of a layer lacks; in all but layer 0 no row there is.
-fn last_row(shape: Shape, r: usize) -> usize
-    ensures { result ≡ lacked_row shape r }
-{
-    if r == 0 {
-        shape.groups() + shape.q() - 1
-    } else {
-        shape.groups() + shape.q()
-    }
-}
-
-/// Where the entries of a layer begin, and how many they are.
-#[derive(Clone, Copy, Drop)]
-pub(crate) struct Span {
-    pub(crate) start: usize,
-    pub(crate) count: usize,
-}
-
-/// The entries of a layer.
-pub(crate) fn find_span(matrix: &Matrix, entries: &[Entry], firsts: &[usize], r: usize) -> Span
-    requires layers { AreLayers matrix.now entries.now firsts.now }
-    requires layer { r < matrix.now.shape.q }
-    ensures start { result.start ≡ first_row matrix.now r }
-    ensures count { result.count ≡ entry_count matrix.now r }
-    ensures entries { result.start + result.count ≤ length entries.now }
-    ensures few { result.count ≤ 64800 }
-{
-    let (_matrix, _entries) = (matrix, entries);
-    let start = firsts[r];
-    Span {
-        start,
-        count: firsts[r + 1] - start,
-    }
-}
+use s2_minsum::{Entry, find_span, last_row};
 
 /// Each check of layer r takes its move back and moves anew.
 pub(crate) fn run_layer(
@@ -58,7 +21,7 @@ pub(crate) fn run_layer(
 )
     requires layers { AreLayers matrix.now entries.now firsts.now }
     requires long { AreLong matrix.now rests.old targets.old amounts.old }
-    requires room { (i : ℕ) → i < matrix.now.shape.q → (entry_count matrix.now i + 3) * matrix.now.shape.group ≤ length scratch.old }
+    requires room { HasRoom matrix.now (length scratch.old) }
     requires layer { r < matrix.now.shape.q }
     ensures { held rests.new targets.new amounts.new ≡ after_layer matrix.now reserve (held rests.old targets.old amounts.old) r }
 {

@@ -1,7 +1,6 @@
 //! Passes over all layers, as long as a rest is negative.
 ghost use Rattle.std.specs.Prelude.{◌≡◌, ℕ, ◌≤◌, ◌<◌, ◌+◌, ◌*◌, length};
-ghost use Rattle.s2_minsum.specs.Layout.{entry_count};
-ghost use Rattle.s2_minsum.specs.Decoding.{AreLayers};
+ghost use Rattle.s2_minsum.specs.Decoding.{AreLayers, HasRoom};
 ghost use Rattle.s2_settle.specs.Layer.{held, AreLong};
 ghost use Rattle.s2_settle.specs.Passes.{pass as after_pass, reserve_in, negatives, is_hopeless, spread as after_spread, Ends};
 
@@ -23,7 +22,7 @@ fn run_pass(
 )
     requires layers { AreLayers matrix.now entries.now firsts.now }
     requires long { AreLong matrix.now rests.old targets.old amounts.old }
-    requires room { (i : ℕ) → i < matrix.now.shape.q → (entry_count matrix.now i + 3) * matrix.now.shape.group ≤ length scratch.old }
+    requires room { HasRoom matrix.now (length scratch.old) }
     ensures { held rests.new targets.new amounts.new ≡ after_pass matrix.now reserve (held rests.old targets.old amounts.old) }
 {
     let q = matrix.shape().q();
@@ -74,7 +73,7 @@ pub(crate) fn spread(
 ) -> bool
     requires layers { AreLayers matrix.now entries.now firsts.now }
     requires long { AreLong matrix.now rests.old targets.old amounts.old }
-    requires room { (i : ℕ) → i < matrix.now.shape.q → (entry_count matrix.now i + 3) * matrix.now.shape.group ≤ length scratch.old }
+    requires room { HasRoom matrix.now (length scratch.old) }
     ensures { Ends (after_spread matrix.now passes 0 0 (held rests.old targets.old amounts.old)) result (held rests.new targets.new amounts.new) }
 {
     let bits = rests.len();

@@ -11,7 +11,7 @@ use crate::limits::SCALE;
 use s2_bits::Bits;
 use s2_check::{Answer, CertView, Move, check};
 use s2_matrix::Matrix;
-use s2_minsum::{Entry, layers_of, most_entries};
+use s2_minsum::{Entry, layers_of, scratch_len};
 use std::alloc::{AllocError, Global};
 use std::marker::Model;
 
@@ -56,7 +56,7 @@ impl<'a> Settler<'a> {
         let rests = vec![in alloc; 0u32; matrix.bits()]?;
         let targets = vec![in alloc; 0u32; places]?;
         let amounts = vec![in alloc; 0u32; places]?;
-        let scratch = vec![in alloc; 0u32; (most_entries(matrix) + 3) * group]?;
+        let scratch = vec![in alloc; 0u32; scratch_len(matrix)]?;
         let moves = vec![in alloc; none; matrix.check_count()]?;
         Ok(Settler {
             matrix,

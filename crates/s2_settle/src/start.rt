@@ -1,5 +1,5 @@
 //! The rests before any move.
-ghost use Rattle.std.specs.Prelude.{◌≡◌, ℕ, ◌≤◌, ◌<◌, ◌+◌, ◌*◌, All, length, slice_index, EachIndex, replicate};
+ghost use Rattle.std.specs.Prelude.{◌≡◌, ℕ, ◌≤◌, ◌<◌, ◌+◌, ◌*◌, All, length, slice_index, EachIndex};
 ghost use Rattle.s2_mode.specs.Shape.{code_bits};
 ghost use Rattle.s2_check.specs.Views.{IsSoft};
 ghost use Rattle.s2_settle.specs.Start.{started, start};
@@ -59,14 +59,5 @@ pub(crate) fn put_rests(matrix: &Matrix, soft: &[i16], word: &[bool], rests: &mu
             first_bit(shape, row),
             step_of(shape, row),
         );
-    }
-}
-
-/// Writes zeros.
-pub(crate) fn clear(list: &mut [u32])
-    ensures { list.new ≡ replicate (length list.old) 0 }
-{
-    for i in 0..list.len() {
-        list[i] = 0;
     }
 }

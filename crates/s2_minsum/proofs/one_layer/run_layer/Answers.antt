@@ -1,9 +1,20 @@
 use Rattle.std.proofs.Common.{◌≡◌, ◌*◌, length, ap, sym, ◌∙◌, arith}
 use Rattle.std.proofs.lemmas.List.{length-take-le}
 use Rattle.s2_mode.specs.Shape.{Shape}
-use Rattle.s2_minsum.specs.Layout.{entry_count, lacked_row}
+use Rattle.s2_minsum.specs.Layout.{entry_count, first_row, lacked_row}
+use Rattle.s2_minsum.proofs.FirstRows.{lanes_before}
 use Rattle.s2_minsum.proofs.LayerCalls.{entries_part, gives, are_in, length-entries_part}
 use Rattle.s2_minsum.proofs.one_layer.run_layer.Goals as goal
+
+pub slice_bounds-run-end-2 : goal.slice_bounds-run-end-2
+slice_bounds-run-end-2 c =
+    let rows = c.args.matrix.now in
+    let n = c.group-n.result in
+    let all = first_row rows rows.shape.q in
+    let g = c.group-n.ensures.is ∙ ap (λ (s : Shape). s.group) c.shape-shape.ensures.is in
+    let lanes = lanes_before rows c.args.r n c.find_span-span.result.start c.find_span-span.result.count c.requires.layer c.find_span-span.ensures.start c.find_span-span.ensures.count in
+    let product : all * n ≡ all * rows.shape.group = ap (λ x. all * x) g in
+    omega (arith, lanes, product, c.requires.numbers.messages_long)
 
 pub slice_bounds-run-end-3 : goal.slice_bounds-run-end-3
 slice_bounds-run-end-3 c =

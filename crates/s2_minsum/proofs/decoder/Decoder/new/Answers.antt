@@ -4,7 +4,7 @@ use Rattle.std.proofs.lemmas.List.{get_or_default}
 use Rattle.s2_mode.specs.Shape.{Shape}
 use Rattle.s2_minsum.specs.Plain.{start}
 use Rattle.s2_minsum.specs.Words.{signed16}
-use Rattle.s2_minsum.specs.Layout.{bit_of, entry_count, first_row}
+use Rattle.s2_minsum.specs.Layout.{bit_of, first_row}
 use Rattle.s2_minsum.proofs.Starts.{start_is, started, zeros, zeros_ℤ}
 use Rattle.s2_minsum.proofs.decoder.Decoder.new.Goals as goal
 
@@ -38,10 +38,7 @@ invariant_of-result c =
           (omega (arith, c.in_ok-posteriors.ensures.len, c.bits-2.ensures.is))
           (λ k. let is = none' k in omega (arith, is))
           (λ row lane high low. ap signed16 (none' (row * rows.shape.group + lane)) ∙ sym (none'' (bit_of rows.shape row lane)));
-      room = λ r lt.
-          let one : (entry_count rows r + 3) * rows.shape.group ≤ (c.most_entries.result + 3) * rows.shape.group = mul-le-mul_right rows.shape.group (omega (arith, c.most_entries.ensures.most r lt)) in
-          let same : (c.most_entries.result + 3) * c.group-group.result ≡ (c.most_entries.result + 3) * rows.shape.group = ap (λ x. (c.most_entries.result + 3) * x) g in
-          omega (arith, one, same, c.in_ok-scratch.ensures.len);
+      room = λ r lt. omega (arith, c.scratch_len.ensures r lt, c.in_ok-scratch.ensures.len);
     }
 
 pub returns-clause-state : goal.returns-clause-state

@@ -1,7 +1,5 @@
 use Rattle.std.proofs.Common.{◌≡◌, ◌+◌, ◌*◌, ◌≤◌, ap, ◌∙◌, arith}
-use Rattle.std.proofs.Math.Nat.{mul-le-mul_right}
 use Rattle.s2_mode.specs.Shape.{Shape}
-use Rattle.s2_minsum.specs.Layout.{entry_count}
 use Rattle.s2_settle.proofs.MadeMoves.{none_are}
 use Rattle.s2_settle.proofs.settler.Settler.new.Goals as goal
 
@@ -20,9 +18,6 @@ invariant_of-result c =
         targets_long = omega (arith, c.in_ok-targets.ensures.len, places);
         amounts_long = omega (arith, c.in_ok-amounts.ensures.len, places);
       };
-      room = λ r lt.
-          let one : (entry_count rows r + 3) * rows.shape.group ≤ (c.most_entries.result + 3) * rows.shape.group = mul-le-mul_right rows.shape.group (omega (arith, c.most_entries.ensures.most r lt)) in
-          let same : (c.most_entries.result + 3) * c.group-group.result ≡ (c.most_entries.result + 3) * rows.shape.group = ap (λ x. (c.most_entries.result + 3) * x) g in
-          omega (arith, one, same, c.in_ok-scratch.ensures.len);
+      room = λ r lt. omega (arith, c.scratch_len.ensures r lt, c.in_ok-scratch.ensures.len);
       moves = none_are rows c.check_count.result c.in_ok-moves.moves.items c.check_count.ensures.is moves;
     }
