@@ -1,14 +1,12 @@
 -- What words of 16 bits say of the numbers that they stand for.
-use Rattle.std.proofs.Common.{◌≡◌, ℕ, zero, suc, ◌+◌, ◌-◌, ◌*◌, ◌/◌, ◌%◌, ◌<◌, ◌≤◌, ◌==◌, ◌^◌, min, max, nat_le, cond, Bool, true, false, eqb, ℤ, pos, neg_ℤ, ◌+ℤ◌, ◌-ℤ◌, int_lt, unsigned_abs, refl, ap, sym, ◌∙◌, inl, inr, arith, lt-ltb, le-ltb, bit_xor}
-use Rattle.std.specs.Int.{cast_signed, int_wrap}
-use Rattle.std.specs.Int.RustNames.{FitsSigned}
+use Rattle.std.proofs.Common.{◌≡◌, ℕ, zero, suc, ◌+◌, ◌-◌, ◌%◌, ◌<◌, ◌≤◌, ◌==◌, min, max, nat_le, cond, Bool, true, false, ℤ, pos, neg_ℤ, ◌+ℤ◌, ◌-ℤ◌, int_lt, unsigned_abs, refl, ap, sym, ◌∙◌, inl, inr, arith, lt-ltb, le-ltb, bit_xor}
 use Rattle.std.proofs.lemmas.Int.{ints, int_wrap_fits, fits_signed_from_abs, wrapping_sub-bits, wrapping_add-bits}
 use Rattle.std.proofs.lemmas.Bool.{cases_lt, cases_eq}
 use Rattle.std.proofs.lemmas.Bool.Decides.{nat_tests}
 use Rattle.std.proofs.lemmas.Nat.Bits.{bit_at_xor}
 use Rattle.std.proofs.lemmas.Nat.{xor_of_16}
 use mir.Syntax.{w16}
-use Rattle.s2_minsum.specs.Plain.{size_cap, with_sign, reduced}
+use Rattle.s2_minsum.specs.Plain.{with_sign, reduced}
 use Rattle.s2_minsum.specs.Words.{signed16, minus16, plus16, size16, sign16, sent16}
 use Rattle.s2_minsum.proofs.Nodes.{least_is, least_but_small, negatives_are}
 use Rattle.s2_minsum.specs.Nodes.{first_of, second_of, negatives_of, negatives_but, least_but, signs_of, sizes, sent}

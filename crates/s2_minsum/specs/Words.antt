@@ -1,5 +1,5 @@
 -- Words of 16 bits in two's complement, and rows of them.
-use Rattle.std.specs.Prelude.{ℕ, zero, suc, ◌+◌, ◌-◌, ◌*◌, ◌/◌, ◌%◌, ◌==◌, ◌&&◌, ◌<◌, ◌≤◌, min, max, Bool, if◌then◌else◌, List, length, get_or, ℤ, bit_xor}
+use Rattle.std.specs.Prelude.{ℕ, zero, suc, ◌+◌, ◌-◌, ◌*◌, ◌/◌, ◌%◌, ◌==◌, ◌&&◌, ◌<◌, ◌≤◌, min, Bool, if◌then◌else◌, List, length, get_or, ℤ, bit_xor}
 use Rattle.std.specs.Int.{cast_signed}
 use Rattle.s2_minsum.specs.Plain.{size_cap}
 use mir.Syntax.{w16}

@@ -1,4 +1,4 @@
-use Rattle.std.proofs.Common.{◌≡◌, ℕ, ◌==◌, ◌<◌, cond, get_or, replicate, ap, ◌∙◌}
+use Rattle.std.proofs.Common.{◌==◌, cond, get_or, ◌∙◌}
 use Rattle.s2_minsum.proofs.lanes.where_negative.Goals as goal
 
 pub returns : goal.returns

@@ -1,8 +1,8 @@
-use Rattle.std.proofs.Common.{◌≡◌, ℕ, suc, ◌+◌, ◌-◌, ◌*◌, ◌/◌, ◌<◌, ◌≤◌, min, max, bit_xor, length, get_or, take, drop, ap, sym, ◌∙◌, arith}
+use Rattle.std.proofs.Common.{◌≡◌, ℕ, suc, ◌+◌, ◌-◌, ◌*◌, ◌<◌, min, max, bit_xor, get_or, take, drop, ap, ◌∙◌, arith}
 use Rattle.std.proofs.Math.Nat.{mul-le-mul_right}
 use Rattle.s2_minsum.specs.Words.{cell, size16}
 use Rattle.s2_minsum.specs.Nodes.{first_of, second_of, signs_of}
-use Rattle.s2_minsum.proofs.RowLemmas.{length-part, part_at}
+use Rattle.s2_minsum.proofs.RowLemmas.{part_at}
 use Rattle.s2_minsum.proofs.layer.track_all.Goals as goal
 
 pub slice_bounds-track_two-end-in-loop-pair : goal.slice_bounds-track_two-end-in-loop-pair

@@ -1,6 +1,6 @@
-use Rattle.std.proofs.Common.{◌≡◌, ℕ, ◌+◌, ◌*◌, ◌<◌, min, max, bit_xor, get_or, ap, ◌∙◌, arith}
+use Rattle.std.proofs.Common.{min, max, bit_xor, get_or, ◌∙◌, arith}
 use Rattle.s2_minsum.specs.Words.{size16}
-use Rattle.s2_minsum.proofs.Steps.{DoneTo-store, DoneTo-set, HasLanes-same}
+use Rattle.s2_minsum.proofs.Steps.{DoneTo-set}
 use Rattle.s2_minsum.proofs.rows.track_two.Goals as goal
 
 pub loop-lane-preserved : goal.loop-lane-preserved

@@ -1,4 +1,4 @@
-use Rattle.std.proofs.Common.{◌*◌, get_or, min, max, bit_xor}
+use Rattle.std.proofs.Common.{get_or, min, max, bit_xor}
 use Rattle.s2_minsum.specs.Words.{size16}
 use Rattle.s2_minsum.specs.Lanes.{DoneTo}
 use Rattle.s2_minsum.proofs.rows.track_two.Given as goal
