@@ -80,6 +80,21 @@ fn message(inputs: &[i16], own: usize) -> i16 {
     if negative { size.wrapping_neg() } else { size }
 }
 
+/// Appends the messages of a check after a layer: the new ones if it is of the layer, else those before.
+fn push_messages(
+    next: &mut Vec<i16>,
+    messages: &[i16],
+    first: usize,
+    inputs: &[i16],
+    is_new: bool,
+) -> Result<(), AllocError> {
+    for place in 0..inputs.len() {
+        let sent = at(messages, first.wrapping_add(place));
+        next.push(if is_new { message(inputs, place) } else { sent })?;
+    }
+    Ok(())
+}
+
 /// The messages of all edges after a layer, each by the state before it.
 fn layer(
     alloc: Global,
@@ -95,11 +110,7 @@ fn layer(
         let first = matrix.first_edge(check);
         let members = matrix.members_at(check);
         let inputs = inputs(alloc, &posteriors, messages, first, members)?;
-        for place in 0..members.len() {
-            let sent = at(messages, first.wrapping_add(place));
-            let new = message(&inputs, place);
-            next.push(if check % q == r { new } else { sent })?;
-        }
+        push_messages(&mut next, messages, first, &inputs, check % q == r)?;
     }
     Ok(next)
 }
@@ -126,33 +137,68 @@ fn has_posteriors(decoder: &Decoder, matrix: &Matrix, posteriors: &[i16]) -> boo
     true
 }
 
-/// Whether lanes and rule agree after each layer of two rounds.
-fn agrees<R: Abort + AllocGlobal>(rt: &R, matrix: &Matrix, soft: &[i16]) -> Result<bool, Fail> {
-    let mut decoder = loaded(rt, matrix, soft)?;
+/// Whether a decoder has these messages, and their posteriors.
+fn has_state(
+    alloc: Global,
+    decoder: &Decoder,
+    matrix: &Matrix,
+    soft: &[i16],
+    messages: &[i16],
+) -> Result<bool, AllocError>
+    requires { decoder.now.rows ≡ matrix.now }
+{
+    let after = posteriors(alloc, matrix, soft, messages)?;
+    Ok(has_messages(decoder, matrix, messages) && has_posteriors(decoder, matrix, &after))
+}
+
+/// Whether a decoder and the rule agree after each layer of two rounds.
+fn agrees_by(
+    alloc: Global,
+    decoder: &mut Decoder<'_>,
+    matrix: &Matrix,
+    soft: &[i16],
+) -> Result<bool, AllocError>
+    requires { decoder.old.rows ≡ matrix.now }
+{
     let q = matrix.shape().q();
-    let mut messages = Vec::new(rt.alloc());
+    let mut messages = Vec::new(alloc);
     for step in 0..2 * q {
         decoder.layer(step % q);
-        messages = layer(rt.alloc(), matrix, soft, &messages, step % q)?;
-        let after = posteriors(rt.alloc(), matrix, soft, &messages)?;
-        if !has_messages(&decoder, matrix, &messages) || !has_posteriors(&decoder, matrix, &after) {
+        messages = layer(alloc, matrix, soft, &messages, step % q)?;
+        if !has_state(alloc, decoder, matrix, soft, &messages)? {
             return Ok(false);
         }
     }
     Ok(true)
 }
 
-/// Whether they agree over made rows of a shape, for values of both signs and of one.
-fn agrees_for<R: Abort + AllocGlobal>(rt: &R, shape: Shape, weight: usize) -> Result<bool, Fail> {
-    let rows = make_rows(rt.alloc(), shape, weight, 1)?;
-    let matrix = Matrix::build(rt.alloc(), &rows)?;
+/// Whether lanes and rule agree for these values.
+fn agrees<R: Abort + AllocGlobal>(rt: &R, matrix: &Matrix, soft: &[i16]) -> Result<bool, Fail> {
+    let mut decoder = loaded(rt, matrix, soft)?;
+    Ok(agrees_by(rt.alloc(), &mut decoder, matrix, soft)?)
+}
+
+/// The matrix of made rows of a shape.
+fn matrix_of(alloc: Global, shape: Shape, weight: usize) -> Result<Matrix, Fail> {
+    let rows = make_rows(alloc, shape, weight, 1)?;
+    Ok(Matrix::build(alloc, &rows)?)
+}
+
+/// Whether they agree for values of both signs and of one.
+fn agrees_for<R: Abort + AllocGlobal>(rt: &R, matrix: &Matrix) -> Result<bool, Fail> {
     let mut soft = noise(rt.alloc(), matrix.bits())?;
-    let both = agrees(rt, &matrix, &soft)?;
+    let both = agrees(rt, matrix, &soft)?;
     // Of one sign, so that inputs grow over the cap.
     for value in soft.iter_mut() {
         *value = value.saturating_abs();
     }
-    Ok(both && agrees(rt, &matrix, &soft)?)
+    Ok(both && agrees(rt, matrix, &soft)?)
+}
+
+/// Whether they agree over made rows of a shape.
+fn agrees_in<R: Abort + AllocGlobal>(rt: &R, shape: Shape, weight: usize) -> Result<bool, Fail> {
+    let matrix = matrix_of(rt.alloc(), shape, weight)?;
+    agrees_for(rt, &matrix)
 }
 
 // A group, groups, q and the weight of a row.
@@ -170,18 +216,22 @@ const SHAPES: [(usize, usize, usize, usize); 7] = [
 fn agrees_with_the_rule_for_any_group(rt: HostRuntime) -> Result<(), Fail> {
     for (group, groups, q, weight) in SHAPES {
         let shape = Shape::new(group, groups, q).expect(&rt, "a shape");
-        let agrees = agrees_for(&rt, shape, weight)?;
+        let agrees = agrees_in(&rt, shape, weight)?;
         assert!(rt; agrees, "group {group}");
     }
     Ok(())
 }
 
-/// Makes a decoder for a mode.
-fn makes<R: Abort + AllocGlobal>(rt: &R, mode: Mode) -> Result<(), Fail> {
-    let rows = make_rows(rt.alloc(), mode.shape(), 3, 1)?;
-    let matrix = Matrix::build(rt.alloc(), &rows)?;
-    let _decoder = Decoder::new(rt.alloc(), &matrix)?;
+/// Makes a decoder.
+fn makes_one(alloc: Global, matrix: &Matrix) -> Result<(), AllocError> {
+    let _decoder = Decoder::new(alloc, matrix)?;
     Ok(())
+}
+
+/// Makes a decoder for a mode.
+fn makes(alloc: Global, mode: Mode) -> Result<(), Fail> {
+    let matrix = matrix_of(alloc, mode.shape(), 3)?;
+    Ok(makes_one(alloc, &matrix)?)
 }
 
 #[test]
@@ -189,7 +239,7 @@ fn has_room_for_every_mode(rt: HostRuntime) -> Result<(), Fail> {
     for modcod in 1..18u8 {
         for short in [false, true] {
             if let Some(mode) = Mode::of(modcod, short, false) {
-                makes(&rt, mode)?;
+                makes(rt.alloc(), mode)?;
             }
         }
     }

@@ -7,20 +7,28 @@ use super::tests::{ONE_WRONG, ONE_WRONG_AFTER, soft_values};
 use crate::Decoder;
 use s2_matrix::Matrix;
 use s2_mode::Shape;
-use s2_rows::read_rows;
+use s2_rows::{RowFault, Rows, read_rows};
 use std::alloc::{AllocError, Global};
+use std::process::Abort;
 use std::test::Fail;
+
+fn rows(alloc: Global, shape: Shape) -> Result<Rows, RowFault> {
+    match read_rows(alloc, b"0 4 8\n0 1 2\n", shape) {
+        Err(_) => read_rows(alloc, b"0 4 8\n0 1 2\n", shape),
+        read => read,
+    }
+}
+
+fn built(alloc: Global, rows: &Rows) -> Result<Matrix, AllocError> {
+    match Matrix::build(alloc, rows) {
+        Err(AllocError) => Matrix::build(alloc, rows),
+        built => built,
+    }
+}
 
 fn matrix(alloc: Global) -> Result<Matrix, Fail> {
     let shape = Shape::new(4, 2, 3).ok_or("no shape")?;
-    let rows = match read_rows(alloc, b"0 4 8\n0 1 2\n", shape) {
-        Err(_) => read_rows(alloc, b"0 4 8\n0 1 2\n", shape)?,
-        Ok(rows) => rows,
-    };
-    match Matrix::build(alloc, &rows) {
-        Err(_) => Ok(Matrix::build(alloc, &rows)?),
-        Ok(matrix) => Ok(matrix),
-    }
+    Ok(built(alloc, &rows(alloc, shape)?)?)
 }
 
 fn decoder<'a>(alloc: Global, matrix: &'a Matrix) -> Result<Decoder<'a>, AllocError>
@@ -42,17 +50,30 @@ fn soft(alloc: Global, values: &[i16]) -> Result<Vec<i16>, AllocError>
     }
 }
 
-#[test]
-fn asks_again_where_memory_is_refused(rt: HostRuntime) -> Result<(), Fail> {
-    let matrix = matrix(rt.alloc())?;
-    let mut decoder = decoder(rt.alloc(), &matrix)?;
+/// Asserts the posteriors after layer 0.
+fn assert_after_layer<R: Abort>(rt: &R, matrix: &Matrix, decoder: &mut Decoder<'_>, soft: &[i16])
+    requires rows { decoder.old.rows ≡ matrix.now }
+    requires small { AreWithin most_soft soft.now }
+{
     assert!(rt; matrix.bits() == 20 && matrix.shape().q() == 3);
-    let soft = soft(rt.alloc(), &ONE_WRONG)?;
     assert_eq!(rt; soft.len(), matrix.bits());
-    decoder.load(&soft);
+    decoder.load(soft);
     decoder.layer(0);
     for bit in 0..20usize {
         assert_eq!(rt; decoder.posterior(bit), ONE_WRONG_AFTER[bit]);
     }
+}
+
+/// Asserts what a new decoder does.
+fn assert_decodes<R: Abort + AllocGlobal>(rt: &R, matrix: &Matrix) -> Result<(), Fail> {
+    let soft = soft(rt.alloc(), &ONE_WRONG)?;
+    let mut decoder = decoder(rt.alloc(), matrix)?;
+    assert_after_layer(rt, matrix, &mut decoder, &soft);
     Ok(())
+}
+
+#[test]
+fn asks_again_where_memory_is_refused(rt: HostRuntime) -> Result<(), Fail> {
+    let matrix = matrix(rt.alloc())?;
+    assert_decodes(&rt, &matrix)
 }

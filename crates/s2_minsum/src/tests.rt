@@ -91,18 +91,46 @@ fn messages(alloc: Global, decoder: &Decoder, matrix: &Matrix) -> Result<Vec<i16
     Ok(messages)
 }
 
-/// Posteriors and messages after layer 0.
-fn after_layer<R: Abort + AllocGlobal>(
+/// Asserts all posteriors.
+fn assert_posteriors<R: Abort + AllocGlobal>(
     rt: &R,
+    decoder: &Decoder,
     matrix: &Matrix,
+    want: &[i16],
+) -> Result<(), Fail>
+    requires { decoder.now.rows ≡ matrix.now }
+{
+    let found = posteriors(rt.alloc(), decoder, matrix)?;
+    assert_eq!(rt; found.as_slice(), want);
+    Ok(())
+}
+
+/// Asserts the first messages.
+fn assert_messages<R: Abort + AllocGlobal>(
+    rt: &R,
+    decoder: &Decoder,
+    matrix: &Matrix,
+    want: &[i16],
+) -> Result<(), Fail>
+    requires { decoder.now.rows ≡ matrix.now }
+{
+    let sent = messages(rt.alloc(), decoder, matrix)?;
+    assert_eq!(rt; sent.get(..want.len()), Some(want));
+    Ok(())
+}
+
+/// A decoder after layer 0.
+fn after_layer<'a, R: Abort + AllocGlobal>(
+    rt: &R,
+    matrix: &'a Matrix,
     values: &[i16],
-) -> Result<(Vec<i16>, Vec<i16>), Fail> {
+) -> Result<Decoder<'a>, Fail>
+    ensures { IfOk result (λ d. d.rows ≡ matrix.now) }
+{
     let mut decoder = loaded(rt, matrix, values)?;
     assert!(rt; matrix.shape().q() > 0);
     decoder.layer(0);
-    let after = posteriors(rt.alloc(), &decoder, matrix)?;
-    let sent = messages(rt.alloc(), &decoder, matrix)?;
-    Ok((after, sent))
+    Ok(decoder)
 }
 
 /// Posteriors after so many rounds.
@@ -119,41 +147,84 @@ fn after_rounds<R: Abort + AllocGlobal>(
     Ok(posteriors(rt.alloc(), &decoder, matrix)?)
 }
 
+/// Asserts the posteriors after so many rounds.
+fn assert_after_rounds<R: Abort + AllocGlobal>(
+    rt: &R,
+    matrix: &Matrix,
+    values: &[i16],
+    rounds: u32,
+    want: &[i16],
+) -> Result<(), Fail> {
+    let after = after_rounds(rt, matrix, values, rounds)?;
+    assert_eq!(rt; after.as_slice(), want);
+    Ok(())
+}
+
+/// Asserts the posteriors after layer 0.
+fn assert_posteriors_after_layer<R: Abort + AllocGlobal>(
+    rt: &R,
+    matrix: &Matrix,
+    values: &[i16],
+    want: &[i16],
+) -> Result<(), Fail> {
+    let decoder = after_layer(rt, matrix, values)?;
+    assert_posteriors(rt, &decoder, matrix, want)
+}
+
+/// Asserts the first messages after layer 0.
+fn assert_messages_after_layer<R: Abort + AllocGlobal>(
+    rt: &R,
+    matrix: &Matrix,
+    values: &[i16],
+    want: &[i16],
+) -> Result<(), Fail> {
+    let decoder = after_layer(rt, matrix, values)?;
+    assert_messages(rt, &decoder, matrix, want)
+}
+
+fn assert_sent<R: Abort + AllocGlobal>(rt: &R, toy: &Matrix) -> Result<(), Fail> {
+    assert_posteriors_after_layer(rt, toy, &ONE_WRONG, &ONE_WRONG_AFTER)?;
+    assert_messages_after_layer(rt, toy, &ONE_WRONG, &ONE_WRONG_SENT)
+}
+
 #[test]
 fn sends_the_messages_of_a_layer(rt: HostRuntime) -> Result<(), Fail> {
-    let matrix = matrix(&rt, 4, 2, 3, b"0 4 8\n0 1 2\n")?;
-    let (after, sent) = after_layer(&rt, &matrix, &ONE_WRONG)?;
-    assert_eq!(rt; after.as_slice(), ONE_WRONG_AFTER.as_slice());
-    assert_eq!(rt; sent.get(..16), Some(ONE_WRONG_SENT.as_slice()));
-    Ok(())
+    let toy = matrix(&rt, 4, 2, 3, b"0 4 8\n0 1 2\n")?;
+    assert_sent(&rt, &toy)
 }
 
 #[test]
 fn adds_both_changes_where_a_bit_is_twice_in_a_layer(rt: HostRuntime) -> Result<(), Fail> {
-    let matrix = matrix(&rt, 4, 1, 3, b"0 3\n")?;
-    let (after, _sent) = after_layer(&rt, &matrix, &[8; 16])?;
-    assert_eq!(rt; after.as_slice(), TWICE_AFTER.as_slice());
-    Ok(())
+    let twice = matrix(&rt, 4, 1, 3, b"0 3\n")?;
+    assert_posteriors_after_layer(&rt, &twice, &[8; 16], &TWICE_AFTER)
+}
+
+fn assert_repeated<R: Abort + AllocGlobal>(rt: &R, pair: &Matrix) -> Result<(), Fail> {
+    assert_after_rounds(rt, pair, &[-5, 3], 1, &[-2, -1])?;
+    assert_after_rounds(rt, pair, &[-5, 5], 3, &[-1, 1])
 }
 
 #[test]
 fn repeats_a_pair_of_bits(rt: HostRuntime) -> Result<(), Fail> {
-    let matrix = matrix(&rt, 1, 1, 1, b"0\n")?;
-    let after = after_rounds(&rt, &matrix, &[-5, 3], 1)?;
-    assert_eq!(rt; after.as_slice(), [-2, -1].as_slice());
-    let after = after_rounds(&rt, &matrix, &[-5, 5], 3)?;
-    assert_eq!(rt; after.as_slice(), [-1, 1].as_slice());
-    Ok(())
+    let pair = matrix(&rt, 1, 1, 1, b"0\n")?;
+    assert_repeated(&rt, &pair)
+}
+
+/// Asserts that of four messages the first is at the cap: check 0 is p0 alone, check 1 is b0 p0 p1.
+fn assert_capped<R: Abort + AllocGlobal>(rt: &R) -> Result<(), Fail> {
+    let single = matrix(rt, 1, 1, 2, b"1\n")?;
+    assert_eq!(rt; single.edges(), 4);
+    assert_messages_after_layer(rt, &single, &[63; 3], &[96, 0, 0, 0])
+}
+
+/// Asserts how far the posteriors of the largest values grow in five rounds.
+fn assert_grown<R: Abort + AllocGlobal>(rt: &R) -> Result<(), Fail> {
+    let toy = matrix(rt, 4, 2, 3, b"0 4 8\n0 1 2\n")?;
+    assert_after_rounds(rt, &toy, &[63; 20], 5, &GROWN)
 }
 
 #[test]
 fn sends_at_most_what_is_left_of_the_cap(rt: HostRuntime) -> Result<(), Fail> {
-    // Check 0 is p0 alone, check 1 is b0 p0 p1.
-    let single = matrix(&rt, 1, 1, 2, b"1\n")?;
-    let (_after, sent) = after_layer(&rt, &single, &[63; 3])?;
-    assert_eq!(rt; sent.as_slice(), [96, 0, 0, 0].as_slice());
-    let toy = matrix(&rt, 4, 2, 3, b"0 4 8\n0 1 2\n")?;
-    let after = after_rounds(&rt, &toy, &[63; 20], 5)?;
-    assert_eq!(rt; after.as_slice(), GROWN.as_slice());
-    Ok(())
+    assert_capped(&rt)?;
+    assert_grown(&rt)
 }

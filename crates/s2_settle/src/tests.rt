@@ -1,5 +1,6 @@
 //! Small codes against a small program in another language (bench/settle/shares.py).
-ghost use Rattle.std.specs.Prelude.{◌≡◌, All, IsTrue};
+ghost use Rattle.std.specs.Prelude.{◌≡◌, All, IfOk, IsTrue, length};
+ghost use Rattle.s2_matrix.specs.Code.{code_of, IsCodeword};
 ghost use Rattle.s2_check.specs.Views.{IsSoft};
 
 use crate::Settler;
@@ -122,30 +123,103 @@ fn assert_shares<R: Abort>(rt: &R, matrix: &Matrix, view: &CertView<'_>, shares:
     assert_eq!(rt; check(matrix, view), Answer::Yes);
 }
 
-/// Asserts what is found for a word with ones at these places in so many passes: these shares, or nothing.
+/// The codeword with ones at these places.
+fn codeword_of<R: Abort + AllocGlobal>(
+    rt: &R,
+    matrix: &Matrix,
+    ones: &[usize],
+) -> Result<Bits, Fail>
+    ensures long { IfOk result (λ w. length w ≡ (code_of matrix.now).bits) }
+    ensures codeword { IfOk result (λ w. IsCodeword (code_of matrix.now) w) }
+{
+    let word = word_of(rt.alloc(), matrix.bits(), ones)?;
+    assert_eq!(rt; word.len(), matrix.bits());
+    assert!(rt; matrix.satisfied(&word));
+    Ok(word)
+}
+
+/// Whether a certificate of a codeword is found.
+fn is_certified(settler: &mut Settler<'_>, soft: &[i16], word: &Bits, passes: u32) -> bool
+    requires soft { length soft.now ≡ (code_of settler.old.rows).bits }
+    requires range { All IsSoft soft.now }
+    requires codeword { IsCodeword (code_of settler.old.rows) word.now }
+    ensures { settler.new.rows ≡ settler.old.rows }
+{
+    settler.certify(soft, word, passes)
+}
+
+/// What is found for a word with ones at these places in so many passes: these shares, or nothing.
+#[derive(Clone, Copy)]
+struct Found<'a> {
+    soft: &'a [i16],
+    ones: &'a [usize],
+    passes: u32,
+    shares: Option<&'a [i32]>,
+}
+
+/// Asserts what is found.
 fn assert_settled<R: Abort + AllocGlobal>(
     rt: &R,
     matrix: &Matrix,
     settler: &mut Settler<'_>,
-    soft: &[i16],
-    ones: &[usize],
-    passes: u32,
-    shares: Option<&[i32]>,
+    frame: &Found<'_>,
 ) -> Result<(), Fail>
     requires { settler.old.rows ≡ matrix.now }
     ensures { settler.new.rows ≡ matrix.now }
 {
-    assert_eq!(rt; soft.len(), matrix.bits());
-    assert!(rt; are_soft(soft));
-    let word = word_of(rt.alloc(), matrix.bits(), ones)?;
-    assert_eq!(rt; word.len(), matrix.bits());
-    assert!(rt; matrix.satisfied(&word));
-    let found = settler.certify(soft, &word, passes);
-    assert_eq!(rt; found, shares.is_some());
-    if let Some(shares) = shares {
-        assert_shares(rt, matrix, &settler.held(soft, &word), shares);
+    assert_eq!(rt; frame.soft.len(), matrix.bits());
+    assert!(rt; are_soft(frame.soft));
+    let word = codeword_of(rt, matrix, frame.ones)?;
+    let found = is_certified(settler, frame.soft, &word, frame.passes);
+    assert_eq!(rt; found, frame.shares.is_some());
+    if let Some(shares) = frame.shares {
+        assert_shares(rt, matrix, &settler.held(frame.soft, &word), shares);
     }
     Ok(())
+}
+
+/// Asserts what a settler finds, frame after frame.
+fn assert_frames<R: Abort + AllocGlobal>(
+    rt: &R,
+    matrix: &Matrix,
+    settler: &mut Settler<'_>,
+    frames: &[Found<'_>],
+) -> Result<(), Fail>
+    requires { settler.old.rows ≡ matrix.now }
+{
+    for frame in frames {
+        assert_settled(rt, matrix, settler, frame)?;
+    }
+    Ok(())
+}
+
+/// Asserts what a new settler finds, frame after frame.
+fn assert_settled_anew<R: Abort + AllocGlobal>(
+    rt: &R,
+    matrix: &Matrix,
+    frames: &[Found<'_>],
+) -> Result<(), Fail> {
+    let mut settler = Settler::new(rt.alloc(), matrix)?;
+    assert_frames(rt, matrix, &mut settler, frames)
+}
+
+/// Asserts what a new settler finds, frame after frame, in the code of a row file.
+fn assert_all_settled<R: Abort + AllocGlobal>(
+    rt: &R,
+    code: ([usize; 3], &[u8]),
+    frames: &[Found<'_>],
+) -> Result<(), Fail> {
+    let matrix = matrix_of(rt.alloc(), code.0, code.1)?;
+    assert_settled_anew(rt, &matrix, frames)
+}
+
+/// Whether a certificate of a word is found.
+fn settles(settler: &mut Settler<'_>, soft: &[i16], word: &Bits, passes: u32) -> bool
+    requires soft { length soft.now ≡ (code_of settler.old.rows).bits }
+    requires range { All IsSoft soft.now }
+    requires word { length word.now ≡ (code_of settler.old.rows).bits }
+{
+    settler.settle(soft, word, passes).is_some()
 }
 
 /// Whether a new settler finds a certificate for a word with ones at these places.
@@ -158,10 +232,10 @@ fn is_settled<R: Abort + AllocGlobal>(
 ) -> Result<bool, Fail> {
     assert_eq!(rt; soft.len(), matrix.bits());
     assert!(rt; are_soft(soft));
-    let mut settler = Settler::new(rt.alloc(), matrix)?;
     let word = word_of(rt.alloc(), matrix.bits(), ones)?;
     assert_eq!(rt; word.len(), matrix.bits());
-    Ok(settler.settle(soft, &word, passes).is_some())
+    let mut settler = Settler::new(rt.alloc(), matrix)?;
+    Ok(settles(&mut settler, soft, &word, passes))
 }
 
 /// Asserts that a certificate with these shares is found in so many passes, and none in one pass less.
@@ -173,11 +247,19 @@ fn assert_found<R: Abort + AllocGlobal>(
     passes: u32,
     shares: &[i32],
 ) -> Result<(), Fail> {
-    let matrix = matrix_of(rt.alloc(), code.0, code.1)?;
-    let mut settler = Settler::new(rt.alloc(), &matrix)?;
-    let fewer = passes.saturating_sub(1);
-    assert_settled(rt, &matrix, &mut settler, soft, ones, fewer, None)?;
-    assert_settled(rt, &matrix, &mut settler, soft, ones, passes, Some(shares))
+    let none = Found {
+        soft,
+        ones,
+        passes: passes.saturating_sub(1),
+        shares: None,
+    };
+    let found = Found {
+        soft,
+        ones,
+        passes,
+        shares: Some(shares),
+    };
+    assert_all_settled(rt, code, &[none, found])
 }
 
 const TOY: ([usize; 3], &[u8]) = ([4, 2, 3], b"0 4 8\n0 1 2\n");
@@ -205,57 +287,67 @@ fn finds_them_in_groups_of_any_size(rt: HostRuntime) -> Result<(), Fail> {
     assert_found(&rt, nine, &GROUP_9, &GROUP_9_ONES, 3, &GROUP_9_SHARES)
 }
 
-/// Without a pass only a word without a negative rest has a certificate, and it moves nothing.
-fn assert_without_passes<R: Abort + AllocGlobal>(rt: &R) -> Result<(), Fail> {
-    let toy = matrix_of(rt.alloc(), TOY.0, TOY.1)?;
-    let mut settler = Settler::new(rt.alloc(), &toy)?;
-    let mut soft = [10i16; 20];
-    soft[3] = 0;
-    assert_settled(rt, &toy, &mut settler, &soft, &[], 0, Some(&[0; 47]))?;
-    soft[3] = -1;
-    assert_settled(rt, &toy, &mut settler, &soft, &[], 0, None)
+/// Values of 10 but for one.
+fn all_but_one(value: i16) -> [i16; 20] {
+    let mut soft = [10; 20];
+    soft[3] = value;
+    soft
 }
 
+/// Without a pass only a word without a negative rest has a certificate, and it moves nothing.
 #[test]
 fn moves_nothing_without_a_pass(rt: HostRuntime) -> Result<(), Fail> {
-    assert_without_passes(&rt)
+    let found = Found {
+        soft: &all_but_one(0),
+        ones: &[],
+        passes: 0,
+        shares: Some(&[0; 47]),
+    };
+    let none = Found {
+        soft: &all_but_one(-1),
+        ones: &[],
+        passes: 0,
+        shares: None,
+    };
+    assert_all_settled(&rt, TOY, &[found, none])
+}
+
+fn assert_codewords_alone<R: Abort + AllocGlobal>(rt: &R, toy: &Matrix) -> Result<(), Fail> {
+    let soft = all_but_one(-1);
+    assert!(rt; is_settled(rt, toy, &soft, &[], 1)?);
+    assert!(rt; !is_settled(rt, toy, &soft, &[], 0)?);
+    // One bit alone is no codeword.
+    assert!(rt; !is_settled(rt, toy, &soft, &[3], 9)?);
+    Ok(())
 }
 
 #[test]
 fn settles_codewords_alone(rt: HostRuntime) -> Result<(), Fail> {
     let toy = matrix_of(rt.alloc(), TOY.0, TOY.1)?;
-    let mut soft = [10i16; 20];
-    soft[3] = -1;
-    assert!(rt; is_settled(&rt, &toy, &soft, &[], 1)?);
-    assert!(rt; !is_settled(&rt, &toy, &soft, &[], 0)?);
-    // One bit alone is no codeword.
-    assert!(rt; !is_settled(&rt, &toy, &soft, &[3], 9)?);
-    Ok(())
+    assert_codewords_alone(&rt, &toy)
 }
 
 /// One settler, frame after frame.
-fn assert_anew<R: Abort + AllocGlobal>(rt: &R) -> Result<(), Fail> {
-    let toy = matrix_of(rt.alloc(), TOY.0, TOY.1)?;
-    let mut settler = Settler::new(rt.alloc(), &toy)?;
-    for _frame in 0..2u32 {
-        let shares = Some(ONE_PASS_SHARES.as_slice());
-        assert_settled(rt, &toy, &mut settler, &ONE_PASS, &ONE_PASS_ONES, 9, shares)?;
-        assert_settled(rt, &toy, &mut settler, &GIVEN_UP, &GIVEN_UP_ONES, 40, None)?;
-        let shares = Some(THREE_PASSES_SHARES.as_slice());
-        assert_settled(
-            rt,
-            &toy,
-            &mut settler,
-            &THREE_PASSES,
-            &THREE_PASSES_ONES,
-            9,
-            shares,
-        )?;
-    }
-    Ok(())
-}
-
 #[test]
 fn forgets_the_moves_of_an_earlier_frame(rt: HostRuntime) -> Result<(), Fail> {
-    assert_anew(&rt)
+    let one = Found {
+        soft: &ONE_PASS,
+        ones: &ONE_PASS_ONES,
+        passes: 9,
+        shares: Some(&ONE_PASS_SHARES),
+    };
+    let given_up = Found {
+        soft: &GIVEN_UP,
+        ones: &GIVEN_UP_ONES,
+        passes: 40,
+        shares: None,
+    };
+    let three = Found {
+        soft: &THREE_PASSES,
+        ones: &THREE_PASSES_ONES,
+        passes: 9,
+        shares: Some(&THREE_PASSES_SHARES),
+    };
+    let frames = [one, given_up, three, one, given_up, three];
+    assert_all_settled(&rt, TOY, &frames)
 }

@@ -6,20 +6,27 @@ use crate::Maker;
 use s2_bits::Bits;
 use s2_matrix::Matrix;
 use s2_mode::Shape;
-use s2_rows::read_rows;
+use s2_rows::{RowFault, Rows, read_rows};
 use std::alloc::{AllocError, Global};
 use std::test::Fail;
 
+fn rows(alloc: Global, shape: Shape) -> Result<Rows, RowFault> {
+    match read_rows(alloc, b"0\n", shape) {
+        Err(_) => read_rows(alloc, b"0\n", shape),
+        read => read,
+    }
+}
+
+fn built(alloc: Global, rows: &Rows) -> Result<Matrix, AllocError> {
+    match Matrix::build(alloc, rows) {
+        Err(AllocError) => Matrix::build(alloc, rows),
+        built => built,
+    }
+}
+
 fn pair(alloc: Global) -> Result<Matrix, Fail> {
     let shape = Shape::new(1, 1, 1).ok_or("no shape")?;
-    let rows = match read_rows(alloc, b"0\n", shape) {
-        Err(_) => read_rows(alloc, b"0\n", shape)?,
-        Ok(rows) => rows,
-    };
-    match Matrix::build(alloc, &rows) {
-        Err(_) => Ok(Matrix::build(alloc, &rows)?),
-        Ok(matrix) => Ok(matrix),
-    }
+    Ok(built(alloc, &rows(alloc, shape)?)?)
 }
 
 fn maker<'a>(alloc: Global, matrix: &'a Matrix) -> Result<Maker<'a>, AllocError>
@@ -40,12 +47,17 @@ fn zeros(alloc: Global, len: usize) -> Result<Bits, AllocError>
     }
 }
 
+/// Whether a split is made for these values and a word of zeros.
+fn is_made_by(alloc: Global, matrix: &Matrix, soft: &[i16; 2]) -> Result<bool, Fail> {
+    let word = zeros(alloc, 2)?;
+    let mut maker = maker(alloc, matrix)?;
+    Ok(matrix.bits() == 2 && are_soft(soft) && maker.make(soft, &word).is_some())
+}
+
 /// Whether a split is made for these values of a repeated bit and a word of zeros.
 fn is_made(alloc: Global, soft: &[i16; 2]) -> Result<bool, Fail> {
     let matrix = pair(alloc)?;
-    let word = zeros(alloc, 2)?;
-    let mut maker = maker(alloc, &matrix)?;
-    Ok(matrix.bits() == 2 && are_soft(soft) && maker.make(soft, &word).is_some())
+    is_made_by(alloc, &matrix, soft)
 }
 
 #[test]

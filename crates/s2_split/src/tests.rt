@@ -1,10 +1,11 @@
 //! Splits on small codes. The numbers are those of a program that makes splits by the plain rules.
-ghost use Rattle.std.specs.Prelude.{◌≡◌, All, IsTrue};
+ghost use Rattle.std.specs.Prelude.{◌≡◌, ◌≢◌, All, IsTrue, None, length};
+ghost use Rattle.s2_matrix.specs.Code.{code_of};
 ghost use Rattle.s2_check.specs.Views.{IsSoft};
 
 use crate::Maker;
 use s2_bits::Bits;
-use s2_check::{Answer, check};
+use s2_check::{Answer, CertView, check};
 use s2_matrix::Matrix;
 use s2_mode::{Mode, Shape};
 use s2_rows::{make_rows, read_rows};
@@ -31,118 +32,247 @@ fn matrix_of(alloc: Global, sizes: [usize; 3], rows: &[u8]) -> Result<Matrix, Fa
     Ok(Matrix::build(alloc, &rows)?)
 }
 
-/// Asserts what is made for a word of zeros: a scale, 0 for none, and the first shares. The checker
-/// accepts it.
+/// What is made for a word of zeros under these values: a scale, 0 for none, and the first shares.
+#[derive(Clone, Copy)]
+struct Made<'a> {
+    soft: &'a [i16],
+    scale: u16,
+    shares: &'a [i32],
+}
+
+/// Asserts that a view has this scale and these first shares, and that the checker accepts it.
+fn assert_view<R: Abort>(rt: &R, matrix: &Matrix, view: &CertView<'_>, made: &Made<'_>) {
+    assert_eq!(rt; view.scale(), made.scale);
+    assert!(rt; made.shares.len() <= view.share_count());
+    for edge in 0..made.shares.len() {
+        assert_eq!(rt; view.share(edge), made.shares[edge]);
+    }
+    assert_eq!(rt; check(matrix, view), Answer::Yes);
+}
+
+/// Whether a split is made for a word.
+fn is_certified(maker: &mut Maker<'_>, soft: &[i16], word: &Bits) -> bool
+    requires soft { length soft.now ≡ (code_of maker.old.rows).bits }
+    requires range { All IsSoft soft.now }
+    requires word { length word.now ≡ (code_of maker.old.rows).bits }
+    ensures rows { maker.new.rows ≡ maker.old.rows }
+    ensures word { maker.new.word ≡ word.now }
+    ensures found { IsTrue result → maker.new.made ≢ None }
+{
+    maker.certify(soft, word)
+}
+
+/// Asserts what is made.
 fn assert_made<R: Abort>(
     rt: &R,
     alloc: Global,
     matrix: &Matrix,
     maker: &mut Maker<'_>,
-    soft: &[i16],
-    scale: u16,
-    shares: &[i32],
+    made: &Made<'_>,
 ) -> Result<(), Fail>
     requires { maker.old.rows ≡ matrix.now }
     ensures { maker.new.rows ≡ matrix.now }
 {
     let word = Bits::zeroed(alloc, matrix.bits())?;
-    assert_eq!(rt; soft.len(), matrix.bits());
-    assert!(rt; are_soft(soft));
-    if maker.certify(soft, &word) {
-        let view = maker.held(soft, &word);
-        assert_eq!(rt; view.scale(), scale);
-        assert!(rt; shares.len() <= view.share_count());
-        for edge in 0..shares.len() {
-            assert_eq!(rt; view.share(edge), shares[edge]);
-        }
-        assert_eq!(rt; check(matrix, &view), Answer::Yes);
+    assert_eq!(rt; made.soft.len(), matrix.bits());
+    assert!(rt; are_soft(made.soft));
+    if is_certified(maker, made.soft, &word) {
+        assert_view(rt, matrix, &maker.held(made.soft, &word), made);
     } else {
-        assert_eq!(rt; scale, 0);
+        assert_eq!(rt; made.scale, 0);
     }
     Ok(())
 }
+
+/// Asserts what a maker makes of frame after frame.
+fn assert_frames<R: Abort>(
+    rt: &R,
+    alloc: Global,
+    matrix: &Matrix,
+    maker: &mut Maker<'_>,
+    frames: &[Made<'_>],
+) -> Result<(), Fail>
+    requires { maker.old.rows ≡ matrix.now }
+{
+    for frame in frames {
+        assert_made(rt, alloc, matrix, maker, frame)?;
+    }
+    Ok(())
+}
+
+/// Asserts what a new maker makes of frame after frame.
+fn assert_made_anew<R: Abort>(
+    rt: &R,
+    alloc: Global,
+    matrix: &Matrix,
+    frames: &[Made<'_>],
+) -> Result<(), Fail> {
+    let mut maker = Maker::new(alloc, matrix)?;
+    assert_frames(rt, alloc, matrix, &mut maker, frames)
+}
+
+/// Asserts what a new maker makes of frame after frame, in the code of a row file.
+fn assert_all_made<R: Abort + AllocGlobal>(
+    rt: &R,
+    sizes: [usize; 3],
+    rows: &[u8],
+    frames: &[Made<'_>],
+) -> Result<(), Fail> {
+    let matrix = matrix_of(rt.alloc(), sizes, rows)?;
+    assert_made_anew(rt, rt.alloc(), &matrix, frames)
+}
+
+const WRONG: [i16; 20] = [
+    -4, 10, 10, 10, 10, 10, 10, 10, 10, 10, 10, 10, 10, 10, 10, 10, 10, 10, 10, 10,
+];
+
+const WEAK: [i16; 20] = [
+    -4, 10, 10, 10, 1, 1, 1, 10, 10, 10, 10, 10, 10, 10, 10, 10, 10, 10, 10, 10,
+];
 
 /// A wrong bit, then one whose neighbours are weak, then the first again: what was made of one
 /// frame doesn't matter to the next.
 #[test]
 fn makes_greedy_and_spread_splits(rt: HostRuntime) -> Result<(), Fail> {
-    let alloc = rt.alloc();
-    let toy = matrix_of(alloc, [4, 2, 3], b"0 4 8\n0 1 2\n")?;
-    let mut maker = Maker::new(alloc, &toy)?;
-    let mut wrong = [10i16; 20];
-    wrong[0] = -4;
-    let mut weak = wrong;
-    weak[4] = 1;
-    weak[5] = 1;
-    weak[6] = 1;
-    let greedy = [-4, 4, 4, 0, 0, 0, 0];
-    let spread = [-40, 40, 40, 24, -24, 24, 24];
-    assert_made(&rt, alloc, &toy, &mut maker, &wrong, 1, &greedy)?;
-    assert_made(&rt, alloc, &toy, &mut maker, &weak, 16, &spread)?;
-    assert_made(&rt, alloc, &toy, &mut maker, &wrong, 1, &greedy)
+    let greedy = Made {
+        soft: &WRONG,
+        scale: 1,
+        shares: &[-4, 4, 4, 0, 0, 0, 0],
+    };
+    let spread = Made {
+        soft: &WEAK,
+        scale: 16,
+        shares: &[-40, 40, 40, 24, -24, 24, 24],
+    };
+    assert_all_made(&rt, [4, 2, 3], b"0 4 8\n0 1 2\n", &[greedy, spread, greedy])
 }
 
 #[test]
 fn finds_no_split_of_a_word_that_costs_more(rt: HostRuntime) -> Result<(), Fail> {
-    let alloc = rt.alloc();
-    let pair = matrix_of(alloc, [1, 1, 1], b"0\n")?;
-    let mut maker = Maker::new(alloc, &pair)?;
-    assert_made(&rt, alloc, &pair, &mut maker, &[-5, 3], 0, &[])
+    let none = Made {
+        soft: &[-5, 3],
+        scale: 0,
+        shares: &[],
+    };
+    assert_all_made(&rt, [1, 1, 1], b"0\n", &[none])
 }
+
+const FOUND_BY_63: [i16; 12] = [21, 15, -12, 24, -23, -3, -1, 0, -47, 61, -7, 34];
+
+const AFTER_63: [i32; 23] = [
+    0, 240, -240, 48, 48, -48, 432, -432, 64, -64, 16, -16, 0, 0, 0, 0, 0, -752, 752, 112, -112, 0,
+    0,
+];
+
+const FOUND_BY_64: [i16; 12] = [21, 15, -12, 24, -23, -3, -1, 0, -49, 60, -7, 34];
+
+const AFTER_64: [i32; 23] = [
+    0, 240, -240, 48, 48, -48, 432, -432, 64, -64, 16, -16, 0, 0, 0, 0, 0, -784, 784, 112, -112, 0,
+    0,
+];
+
+const NOT_FOUND: [i16; 12] = [21, 15, -12, 24, -23, -3, -1, 0, -50, 63, -7, 34];
 
 /// A split that is found after 63 passes, one after all 64, and one that would take another pass.
 #[test]
 fn makes_64_passes(rt: HostRuntime) -> Result<(), Fail> {
-    let alloc = rt.alloc();
-    let chain = matrix_of(alloc, [1, 1, 11], b"2 7\n")?;
-    let mut maker = Maker::new(alloc, &chain)?;
-    let mut soft = [21i16, 15, -12, 24, -23, -3, -1, 0, -47, 61, -7, 34];
-    let after_63 = [
-        0, 240, -240, 48, 48, -48, 432, -432, 64, -64, 16, -16, 0, 0, 0, 0, 0, -752, 752, 112,
-        -112, 0, 0,
+    let frames = [
+        Made {
+            soft: &FOUND_BY_63,
+            scale: 16,
+            shares: &AFTER_63,
+        },
+        Made {
+            soft: &FOUND_BY_64,
+            scale: 16,
+            shares: &AFTER_64,
+        },
+        Made {
+            soft: &NOT_FOUND,
+            scale: 0,
+            shares: &[],
+        },
     ];
-    let after_64 = [
-        0, 240, -240, 48, 48, -48, 432, -432, 64, -64, 16, -16, 0, 0, 0, 0, 0, -784, 784, 112,
-        -112, 0, 0,
-    ];
-    assert_made(&rt, alloc, &chain, &mut maker, &soft, 16, &after_63)?;
-    soft[8] = -49;
-    soft[9] = 60;
-    assert_made(&rt, alloc, &chain, &mut maker, &soft, 16, &after_64)?;
-    soft[8] = -50;
-    soft[9] = 63;
-    assert_made(&rt, alloc, &chain, &mut maker, &soft, 0, &[])
+    assert_all_made(&rt, [1, 1, 11], b"2 7\n", &frames)
 }
 
 /// What is lacking may be all that the others have: one more, and greedy amounts don't suffice; nor
 /// does spreading, once the word costs more than another.
 #[test]
 fn keeps_to_what_is_spare(rt: HostRuntime) -> Result<(), Fail> {
-    let alloc = rt.alloc();
-    let pair = matrix_of(alloc, [1, 1, 1], b"0\n")?;
-    let mut maker = Maker::new(alloc, &pair)?;
-    assert_made(&rt, alloc, &pair, &mut maker, &[-63, 63], 1, &[-63, 63])?;
-    assert_made(&rt, alloc, &pair, &mut maker, &[-63, 62], 0, &[])?;
-    assert_made(&rt, alloc, &pair, &mut maker, &[0, 0], 1, &[0, 0])
+    let frames = [
+        Made {
+            soft: &[-63, 63],
+            scale: 1,
+            shares: &[-63, 63],
+        },
+        Made {
+            soft: &[-63, 62],
+            scale: 0,
+            shares: &[],
+        },
+        Made {
+            soft: &[0, 0],
+            scale: 1,
+            shares: &[0, 0],
+        },
+    ];
+    assert_all_made(&rt, [1, 1, 1], b"0\n", &frames)
+}
+
+/// Asserts that what is repaired is the word of zeros, and that it has a split.
+fn assert_repaired<R: Abort>(rt: &R, maker: &mut Maker<'_>, soft: &[i16], word: &mut Bits)
+    requires soft { length soft.now ≡ (code_of maker.old.rows).bits }
+    requires word { length word.old ≡ (code_of maker.old.rows).bits }
+{
+    maker.repair_into(soft, word);
+    assert_eq!(rt; word.count_ones(), 0);
+    assert!(rt; are_soft(soft));
+    assert!(rt; maker.make(soft, word).is_some());
+}
+
+/// Asserts that a wrong bit is repaired.
+fn assert_wrong_bit_repaired<R: Abort>(
+    rt: &R,
+    alloc: Global,
+    matrix: &Matrix,
+    maker: &mut Maker<'_>,
+) -> Result<(), Fail>
+    requires { maker.old.rows ≡ matrix.now }
+{
+    assert!(rt; matrix.bits() > 0);
+    let mut soft = vec![in alloc; 10i16; matrix.bits()]?;
+    soft[0] = -4;
+    let mut word = Bits::zeroed(alloc, matrix.bits())?;
+    assert_repaired(rt, maker, &soft, &mut word);
+    Ok(())
+}
+
+/// Asserts that a new maker has room for a code.
+fn assert_has_room<R: Abort>(rt: &R, alloc: Global, matrix: &Matrix) -> Result<(), Fail> {
+    let mut maker = Maker::new(alloc, matrix)?;
+    assert_wrong_bit_repaired(rt, alloc, matrix, &mut maker)
+}
+
+/// A matrix of a mode's shape.
+fn matrix_in(alloc: Global, mode: Mode) -> Result<Matrix, Fail> {
+    let rows = make_rows(alloc, mode.shape(), 3, 1)?;
+    Ok(Matrix::build(alloc, &rows)?)
+}
+
+/// Asserts that a new maker has room for a mode.
+fn assert_has_room_in<R: Abort>(rt: &R, alloc: Global, mode: Mode) -> Result<(), Fail> {
+    let matrix = matrix_in(alloc, mode)?;
+    assert_has_room(rt, alloc, &matrix)
 }
 
 /// A wrong bit in each mode, repaired.
 #[test]
 fn has_room_for_every_mode(rt: HostRuntime) -> Result<(), Fail> {
-    let alloc = rt.alloc();
     for modcod in 1..18u8 {
         for short in [false, true] {
             if let Some(mode) = Mode::of(modcod, short, false) {
-                let rows = make_rows(alloc, mode.shape(), 3, 1)?;
-                let matrix = Matrix::build(alloc, &rows)?;
-                let mut maker = Maker::new(alloc, &matrix)?;
-                let mut soft = vec![in alloc; 10i16; matrix.bits()]?;
-                soft[0] = -4;
-                let mut word = Bits::zeroed(alloc, matrix.bits())?;
-                maker.repair_into(&soft, &mut word);
-                assert_eq!(rt; word.count_ones(), 0);
-                assert!(rt; are_soft(&soft));
-                assert!(rt; maker.make(&soft, &word).is_some());
+                assert_has_room_in(&rt, rt.alloc(), mode)?;
             }
         }
     }
