@@ -16,7 +16,7 @@ use Rattle.s2_tool.specs.declared.fault.Fault.{Fault}
 use Rattle.s2_tool.specs.declared.fault.Fault.TheVariants as faults
 use Rattle.s2_tool.specs.Exits.{Follows}
 use Rattle.s2_tool.specs.Inputs.{rows_in}
-use Rattle.s2_tool.specs.Links.{link_on, link_in, Streams, Deed, OnLink}
+use Rattle.s2_tool.specs.Links.{link_on, link_in, Streams, Deed, Tries, OnLink}
 use Rattle.s2_tool.specs.Looping.{Passes, HearsAll, LoopsBy}
 use Rattle.s2_tool.specs.Sending.{MayFail, SendsBy}
 
@@ -127,6 +127,21 @@ module _ (Does : Deed) (setup setup' : Setup) (same : setup ≡ setup') (known :
         no_write = no_write;
       })
 
+  -- it is tried on these rows, which were read before
+  pub tried : (shape : Shape) (rows : Rows) (a b : ℕ) (old new : Streams) (ended : Result Exit Fault) → b ≡ a → shape ≡ shape_in setup.mode → IfSome known (λ text. rows_in shape text ≡ Ok rows)
+      → (Does (link_of setup rows) old new ended → Does (link_of setup rows) (record old { reads = a + old.reads }) (record new { reads = b + new.reads }) ended)
+      → Tries Does (link_of setup rows) old new ended
+      → (ended ≢ Err faults.Read → new.reads ≡ old.reads) → (ended ≡ Err faults.Write → new.writes ≡ old.writes + 1) → (ended ≢ Err faults.Write → new.writes ≡ old.writes)
+      → OnLink Does setup' known (record old { reads = a + old.reads }) (record new { reads = b + new.reads }) ended
+  tried shape rows a b old new ended kept is read behind (inl does) no_read write no_write =
+      done shape rows (record old { reads = a + old.reads }) (record new { reads = b + new.reads }) ended is read (behind does) (λ h. (let still = no_read h in omega arith)) write no_write
+  tried shape rows a b old new ended kept is read behind (inr (lacking, same)) no_read write no_write =
+      let reads : new.reads ≡ old.reads = ap (λ (s : Streams). s.reads) same in
+      let P : Result Exit Fault → Type 0 = λ e. OnLink Does setup' known (record old { reads = a + old.reads }) (record new { reads = b + new.reads }) e in
+      subst P (sym lacking)
+      (no_room faults.NoMemory (record old { reads = a + old.reads }) (record new { reads = b + new.reads }) refl (omega (arith, reads, kept))
+      (ap (λ (s : Streams). s.writes) same) (ap (λ (s : Streams). s.taken) same) (ap (λ (s : Streams). s.given) same) (ap (λ (s : Streams). s.out) same))
+
 -- ---- packets sent
 
 -- a run may fail for another reason as well
@@ -162,11 +177,10 @@ fails most a b old new old' new' n same p q (inl failed) = inl (omega arith)
 fails most a b old new old' new' n same p q (inr (kept, all)) = inr (omega arith, all)
 
 -- packets are sent in the same way behind rows
-pub sent_behind : (t t' : Transmitter) (a b : ℕ) (old new : Streams) (ended : Result Exit Fault) → t ≡ t' → b ≡ a
-    → SendsBy t old new ended → SendsBy t' (record old { reads = a + old.reads }) (record new { reads = b + new.reads }) ended
-sent_behind t t' a b old new ended same kept (answer, runs, told) =
-    let P : Transmitter → Type 0 = λ x. SendsBy x (record old { reads = a + old.reads }) (record new { reads = b + new.reads }) ended in
-    subst P same (answer, runs_still t _ _ _ _ _ _ answer (λ n may. fails t.limit a b old new (record old { reads = a + old.reads }) (record new { reads = b + new.reads }) n kept refl refl may) runs, told)
+pub sent_behind : (t : Transmitter) (a b : ℕ) (old new : Streams) (ended : Result Exit Fault) → b ≡ a
+    → SendsBy t old new ended → SendsBy t (record old { reads = a + old.reads }) (record new { reads = b + new.reads }) ended
+sent_behind t a b old new ended kept (answer, runs, told) =
+    (answer, runs_still t _ _ _ _ _ _ answer (λ n may. fails t.limit a b old new (record old { reads = a + old.reads }) (record new { reads = b + new.reads }) n kept refl refl may) runs, told)
 
 -- and so is what comes of them
 pub passed : (t : Transmitter) (seed level a b : ℕ) (old new old' new' : Streams) (received : Result (List ℕ) Fault) → b ≡ a → old'.reads ≡ a + old.reads → new'.reads ≡ b + new.reads
@@ -182,11 +196,15 @@ heard : (rules : Rules) (received : Result (List ℕ) Fault) (a b : ℕ) (old ne
 heard rules (Ok bytes) a b old new ended h = h
 heard rules (Err f) a b old new ended h = h
 
-pub looped_behind : (t t' : Transmitter) (rules rules' : Rules) (seed level a b : ℕ) (old new : Streams) (ended : Result Exit Fault) → t ≡ t' → rules ≡ rules' → b ≡ a
-    → LoopsBy t rules seed level old new ended → LoopsBy t' rules' seed level (record old { reads = a + old.reads }) (record new { reads = b + new.reads }) ended
-looped_behind t t' rules rules' seed level a b old new ended same rules_same kept (received, passes, hears) =
+pub looped_on : (t t' : Transmitter) (rules rules' : Rules) (seed level : ℕ) (old new : Streams) (ended : Result Exit Fault) → t ≡ t' → rules ≡ rules' → LoopsBy t rules seed level old new ended → LoopsBy t' rules' seed level old new ended
+looped_on t t' rules rules' seed level old new ended same rules_same h =
+    let P : Transmitter → Type 0 = λ x. LoopsBy x rules' seed level old new ended in
+    let Q : Rules → Type 0 = λ x. LoopsBy t x seed level old new ended in
+    subst P same (subst Q rules_same h)
+
+pub looped_behind : (t : Transmitter) (rules : Rules) (seed level a b : ℕ) (old new : Streams) (ended : Result Exit Fault) → b ≡ a
+    → LoopsBy t rules seed level old new ended → LoopsBy t rules seed level (record old { reads = a + old.reads }) (record new { reads = b + new.reads }) ended
+looped_behind t rules seed level a b old new ended kept (received, passes, hears) =
     let old' : Streams = record old { reads = a + old.reads } in
     let new' : Streams = record new { reads = b + new.reads } in
-    let P : Transmitter → Type 0 = λ x. LoopsBy x rules' seed level old' new' ended in
-    let Q : Rules → Type 0 = λ x. HearsAll x received old' new' ended in
-    subst P same (received, passed t seed level a b old new old' new' received kept refl refl refl refl passes, subst Q rules_same (heard rules received (a + old.reads) (b + new.reads) old new ended hears))
+    (received, passed t seed level a b old new old' new' received kept refl refl refl refl passes, heard rules received (a + old.reads) (b + new.reads) old new ended hears)

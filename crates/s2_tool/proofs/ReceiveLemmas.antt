@@ -15,29 +15,26 @@ use Rattle.s2_tool.specs.Screens.{Screen}
 use Rattle.s2_tool.specs.Serving.{Reports, Began, Served}
 
 -- the same with rows read before, where that did not fail
-pub behind_rows : (rules rules' : Rules) (ended : Result Exit Fault) (taken taken' given given' out out' : Option (List ℕ)) (a b p q w v : ℕ) → rules ≡ rules' → b ≡ a
+pub behind_rows : (rules : Rules) (ended : Result Exit Fault) (taken taken' given given' out out' : Option (List ℕ)) (a b p q w v : ℕ) → b ≡ a
     → Receives rules (record { taken = taken; given = given; out = out; reads = p; writes = w }) (record { taken = taken'; given = given'; out = out'; reads = q; writes = v }) ended
-    → Receives rules' (record { taken = taken; given = given; out = out; reads = a + p; writes = w }) (record { taken = taken'; given = given'; out = out'; reads = b + q; writes = v }) ended
-behind_rows rules rules' (Ok exit) taken taken' given given' out out' a b p q w v same kept h =
-    let P : Rules → Type 0 = λ r. Receives r (record { taken = taken; given = given; out = out; reads = a + p; writes = w }) (record { taken = taken'; given = given'; out = out'; reads = b + q; writes = v }) (Ok exit) in
-    subst P same h
-behind_rows rules rules' (Err faults.Read) taken taken' given given' out out' a b p q w v same kept (stops, may) =
-    let P : Rules → Type 0 = λ r. Receives r (record { taken = taken; given = given; out = out; reads = a + p; writes = w }) (record { taken = taken'; given = given'; out = out'; reads = b + q; writes = v }) (Err faults.Read) in
-    subst P same (stops, λ other. (let (still, reaches) = may (λ e. other (omega arith)) in (omega arith, reaches)))
-behind_rows rules rules' (Err faults.Write) taken taken' given given' out out' a b p q w v same kept h =
-    let P : Rules → Type 0 = λ r. Receives r (record { taken = taken; given = given; out = out; reads = a + p; writes = w }) (record { taken = taken'; given = given'; out = out'; reads = b + q; writes = v }) (Err faults.Write) in
-    subst P same h
-behind_rows rules rules' (Err faults.NoMemory) taken taken' given given' out out' a b p q w v same kept h = absurd h
-behind_rows rules rules' (Err faults.Mode) taken taken' given given' out out' a b p q w v same kept h = absurd h
-behind_rows rules rules' (Err faults.Shape) taken taken' given given' out out' a b p q w v same kept h = absurd h
-behind_rows rules rules' (Err faults.Weight) taken taken' given given' out out' a b p q w v same kept h = absurd h
-behind_rows rules rules' (Err (faults.Open name)) taken taken' given given' out out' a b p q w v same kept h = absurd h
-behind_rows rules rules' (Err faults.TooLong) taken taken' given given' out out' a b p q w v same kept h = absurd h
-behind_rows rules rules' (Err (faults.Rows e)) taken taken' given given' out out' a b p q w v same kept h = absurd h
-behind_rows rules rules' (Err (faults.Values e)) taken taken' given given' out out' a b p q w v same kept h = absurd h
-behind_rows rules rules' (Err (faults.Certificate e)) taken taken' given given' out out' a b p q w v same kept h = absurd h
-behind_rows rules rules' (Err faults.NotWholePacket) taken taken' given given' out out' a b p q w v same kept h = absurd h
-behind_rows rules rules' (Err (faults.NoSync packet)) taken taken' given given' out out' a b p q w v same kept h = absurd h
+    → Receives rules (record { taken = taken; given = given; out = out; reads = a + p; writes = w }) (record { taken = taken'; given = given'; out = out'; reads = b + q; writes = v }) ended
+behind_rows rules (Ok exit) taken taken' given given' out out' a b p q w v kept h =
+    h
+behind_rows rules (Err faults.Read) taken taken' given given' out out' a b p q w v kept (stops, may) =
+    (stops, λ other. (let (still, reaches) = may (λ e. other (omega arith)) in (omega arith, reaches)))
+behind_rows rules (Err faults.Write) taken taken' given given' out out' a b p q w v kept h =
+    h
+behind_rows rules (Err faults.NoMemory) taken taken' given given' out out' a b p q w v kept h = absurd h
+behind_rows rules (Err faults.Mode) taken taken' given given' out out' a b p q w v kept h = absurd h
+behind_rows rules (Err faults.Shape) taken taken' given given' out out' a b p q w v kept h = absurd h
+behind_rows rules (Err faults.Weight) taken taken' given given' out out' a b p q w v kept h = absurd h
+behind_rows rules (Err (faults.Open name)) taken taken' given given' out out' a b p q w v kept h = absurd h
+behind_rows rules (Err faults.TooLong) taken taken' given given' out out' a b p q w v kept h = absurd h
+behind_rows rules (Err (faults.Rows e)) taken taken' given given' out out' a b p q w v kept h = absurd h
+behind_rows rules (Err (faults.Values e)) taken taken' given given' out out' a b p q w v kept h = absurd h
+behind_rows rules (Err (faults.Certificate e)) taken taken' given given' out out' a b p q w v kept h = absurd h
+behind_rows rules (Err faults.NotWholePacket) taken taken' given given' out out' a b p q w v kept h = absurd h
+behind_rows rules (Err (faults.NoSync packet)) taken taken' given given' out out' a b p q w v kept h = absurd h
 
 -- ---- what is reported
 

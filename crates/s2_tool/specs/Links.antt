@@ -1,5 +1,5 @@
 -- The link that a command works on: its setup, and the rows of its row file.
-use Rattle.std.specs.Prelude.{◌≡◌, ◌≢◌, ℕ, ◌+◌, List, Option, IfSome, Result, Ok, Err, IfOk}
+use Rattle.std.specs.Prelude.{◌≡◌, ◌≢◌, ◌⊎◌, ℕ, ◌+◌, List, Option, IfSome, Result, Ok, Err, IfOk}
 use Rattle.s2_mode.specs.Mode.{shape_in, mode_of}
 use Rattle.s2_rows.specs.Rows.{Rows}
 use Rattle.s2_modem.specs.Link.{Link}
@@ -54,6 +54,10 @@ abbrev pub DoesOn : Deed → Result Link Fault → Streams → Streams → Resul
 DoesOn Does (Ok link) old new ended = Does link old new ended
 DoesOn Does (Err f) old new ended =
     (ended ≡ Err f) × (f ≡ faults.Read → new.reads ≡ old.reads + 1) × (new.taken ≡ old.taken) × (new.given ≡ old.given) × (new.out ≡ old.out)
+
+-- what a command did on a link, or nothing since memory ran out
+abbrev pub Tries : Deed → Deed
+Tries Does link old new ended = Does link old new ended ⊎ ((ended ≡ Err faults.NoMemory) × (new ≡ old))
 
 -- a command on a setup and a row file
 pub record OnLink (Does : Deed) (setup : Setup) (rows : Option (List ℕ)) (old new : Streams) (ended : Result Exit Fault) : Type 0 where

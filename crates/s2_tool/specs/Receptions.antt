@@ -3,7 +3,6 @@ use Rattle.std.specs.Prelude.{◌≡◌, ◌≢◌, ℕ, ◌+◌, Bool, if◌the
 use Rattle.s2_receive.specs.Receiving.{Rules, State, begun, RunsTo, StopsAfter, BreaksAfter, Reaches}
 use Rattle.s2_receive.specs.declared.receiver.TheConstants.{MOST_SYMBOLS}
 use Rattle.s2_modem.specs.Deciding.{Effort}
-use Rattle.s2_modem.specs.Link.{Link}
 use Rattle.s2_modem.specs.Reception.{link_rules}
 use Rattle.s2_modem.specs.declared.setup.Setup.{Setup}
 use Rattle.s2_tool.specs.declared.exit.Exit.{Exit}

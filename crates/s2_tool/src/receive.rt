@@ -9,8 +9,8 @@ ghost use Rattle.s2_modem.specs.Reception.{rules_for, link_rules};
 ghost use Rattle.s2_tool.specs.Counting.{CanCount};
 ghost use Rattle.s2_tool.specs.Screens.{CanShow};
 ghost use Rattle.s2_tool.specs.Exits.{exit_of, Complains};
-ghost use Rattle.s2_tool.specs.Links.{setup_of};
-ghost use Rattle.s2_tool.specs.Receptions.{exit_by, Receives, Demodulates};
+ghost use Rattle.s2_tool.specs.Links.{setup_of, Tries};
+ghost use Rattle.s2_tool.specs.Receptions.{exit_by, Receives, Hears, Demodulates};
 
 use crate::console::Console;
 use crate::effort::Effort;
@@ -80,6 +80,35 @@ pub(crate) fn receive_frames<S: CountedRead, P: CountedWrite, O: CountedWrite>(
     }
 }
 
+/// Receives on the rows of a matrix.
+fn receive_link<S: CountedRead, P: CountedWrite, O: CountedWrite>(
+    alloc: Global,
+    setup: Setup,
+    matrix: &Matrix,
+    effort: Effort,
+    symbols: &mut S,
+    packets: &mut P,
+    out: &mut O,
+) -> Result<Exit, Fault<'static>>
+    requires shape { matrix.now.shape ≡ shape_in setup.mode }
+    requires number { setup.number ≤ 262141 }
+    requires roll_off { setup.roll_off ≤ 2 }
+    requires symbols { CanCount (S.count symbols.old) }
+    requires packets { CanCount (P.count packets.old) }
+    requires out { CanCount (O.count out.old) }
+    ensures whole { IsOk result → O.count out.new ≡ O.count out.old }
+    ensures hears { Tries (Hears (effort_of effort.rounds effort.passes)) (link_of setup matrix.now)
+        (record { taken = S.remaining symbols.old; given = P.contents packets.old; out = O.contents out.old; reads = S.count symbols.old; writes = P.count packets.old + O.count out.old })
+        (record { taken = S.remaining symbols.new; given = P.contents packets.new; out = O.contents out.new; reads = S.count symbols.new; writes = P.count packets.new + O.count out.new })
+        result }
+    ensures no_read { result ≢ Err Fault.Read → S.count symbols.new ≡ S.count symbols.old }
+    ensures write { result ≡ Err Fault.Write → P.count packets.new + O.count out.new ≡ P.count packets.old + O.count out.old + 1 }
+    ensures no_write { result ≢ Err Fault.Write → P.count packets.new + O.count out.new ≡ P.count packets.old + O.count out.old }
+{
+    let mut receiver = receiver_of(alloc, setup, matrix, effort)?;
+    receive_frames(&mut receiver, symbols, packets, out)
+}
+
 /// Reads rows, and receives.
 fn receive_files<R: CountedRead, S: CountedRead, P: CountedWrite, O: CountedWrite>(
     alloc: Global,
@@ -102,8 +131,7 @@ fn receive_files<R: CountedRead, S: CountedRead, P: CountedWrite, O: CountedWrit
 {
     let setup = link.setup();
     let matrix = read_matrix(alloc, rows, setup.mode.shape())?;
-    let mut receiver = receiver_of(alloc, setup, &matrix, effort)?;
-    receive_frames(&mut receiver, symbols, packets, out)
+    receive_link(alloc, setup, &matrix, effort, symbols, packets, out)
 }
 
 /// `demod`: receives the frames of a link to the end of the symbols, writes the packets that they carry,

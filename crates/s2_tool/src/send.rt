@@ -5,8 +5,8 @@ ghost use Rattle.s2_modem.specs.Link.{link_of};
 ghost use Rattle.s2_tool.specs.Counting.{CanCount};
 ghost use Rattle.s2_tool.specs.Screens.{CanShow};
 ghost use Rattle.s2_tool.specs.Exits.{exit_of, Complains};
-ghost use Rattle.s2_tool.specs.Links.{setup_of};
-ghost use Rattle.s2_tool.specs.Sending.{sent_line, refusal_fault, transmitter_on, Tells, SendsBy, Modulates};
+ghost use Rattle.s2_tool.specs.Links.{setup_of, Tries};
+ghost use Rattle.s2_tool.specs.Sending.{sent_line, refusal_fault, transmitter_on, Tells, SendsBy, Sends, Modulates};
 
 use crate::console::Console;
 use crate::exit::Exit;
@@ -117,6 +117,34 @@ fn send_packets<P: CountedRead, W: CountedWrite, O: CountedWrite>(
     }
 }
 
+/// Sends packets on the rows of a matrix.
+fn send_link<P: CountedRead, W: CountedWrite, O: CountedWrite>(
+    alloc: Global,
+    setup: Setup,
+    matrix: &Matrix,
+    packets: &mut P,
+    symbols: &mut W,
+    out: &mut O,
+) -> Result<Exit, Fault<'static>>
+    requires shape { matrix.now.shape ≡ shape_in setup.mode }
+    requires number { setup.number ≤ 262141 }
+    requires roll_off { setup.roll_off ≤ 2 }
+    requires packets { CanCount (P.count packets.old) }
+    requires symbols { CanCount (W.count symbols.old) }
+    requires out { CanCount (O.count out.old) }
+    ensures whole { IsOk result → O.count out.new ≡ O.count out.old }
+    ensures sends { Tries Sends (link_of setup matrix.now)
+        (record { taken = P.remaining packets.old; given = W.contents symbols.old; out = O.contents out.old; reads = P.count packets.old; writes = W.count symbols.old + O.count out.old })
+        (record { taken = P.remaining packets.new; given = W.contents symbols.new; out = O.contents out.new; reads = P.count packets.new; writes = W.count symbols.new + O.count out.new })
+        result }
+    ensures no_read { result ≢ Err Fault.Read → P.count packets.new ≡ P.count packets.old }
+    ensures write { result ≡ Err Fault.Write → W.count symbols.new + O.count out.new ≡ W.count symbols.old + O.count out.old + 1 }
+    ensures no_write { result ≢ Err Fault.Write → W.count symbols.new + O.count out.new ≡ W.count symbols.old + O.count out.old }
+{
+    let mut transmitter = transmitter_of(alloc, setup, matrix)?;
+    send_packets(&mut transmitter, packets, symbols, out)
+}
+
 /// Reads rows, and sends packets.
 fn send_files<R: CountedRead, P: CountedRead, W: CountedWrite, O: CountedWrite>(
     alloc: Global,
@@ -138,8 +166,7 @@ fn send_files<R: CountedRead, P: CountedRead, W: CountedWrite, O: CountedWrite>(
 {
     let setup = link.setup();
     let matrix = read_matrix(alloc, rows, setup.mode.shape())?;
-    let mut transmitter = transmitter_of(alloc, setup, &matrix)?;
-    send_packets(&mut transmitter, packets, symbols, out)
+    send_link(alloc, setup, &matrix, packets, symbols, out)
 }
 
 /// `mod`: sends the packets of a stream on the link of a setup and a row file, and prints how many

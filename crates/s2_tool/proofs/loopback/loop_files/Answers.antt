@@ -1,50 +1,25 @@
-use Rattle.std.proofs.Common.{◌≡◌, ◌+◌, arith, refl, rules}
+use Rattle.std.proofs.Common.{◌≡◌, ◌+◌, refl, rules}
 use Rattle.std.proofs.lemmas.Result.{err_from_is_err_and}
-use Rattle.s2_rows.specs.Rows.{Rows}
-use Rattle.s2_modem.specs.Link.{link_of}
-use Rattle.s2_modem.specs.declared.setup.Setup.{Setup}
 use Rattle.s2_modem.specs.Deciding.{effort_of}
 use Rattle.s2_tool.specs.Links.{setup_of, Deed, Streams}
 use Rattle.s2_tool.specs.Looping.{Loops}
-use Rattle.s2_tool.proofs.LinkLemmas.{never, refused_rows, no_room, done, looped_behind}
+use Rattle.s2_tool.proofs.LinkLemmas.{never, refused_rows, tried, looped_behind}
 use Rattle.s2_tool.proofs.loopback.loop_files.Goals as goal
 
 pub returns-in_err-matrix-clause-run : goal.returns-in_err-matrix-clause-run
 returns-in_err-matrix-clause-run g c =
-    let setup : Setup = c.setup-setup.result in
     let Does : Deed = Loops (effort_of c.args.effort.rounds c.args.effort.passes) c.args.seed c.args.level in
     let p = err_from_is_err_and c.from_residual.result c.from_residual.ensures.1 in
     rw (p.1, p.2) (refused_rows Does c.setup-setup.result (setup_of c.args.link) c.setup-setup.ensures.is (g.R.CountedRead.remaining c.args.rows.now)
     c.shape.result c.in_err-matrix.field-0.0 _ _ c.shape.ensures.is c.in_err-matrix.ensures.rows
     (search rules) (search rules) (search rules) refl refl refl refl)
 
-pub returns-in_err-transmitter-clause-run : goal.returns-in_err-transmitter-clause-run
-returns-in_err-transmitter-clause-run g c =
-    let setup : Setup = c.setup-setup.result in
-    let Does : Deed = Loops (effort_of c.args.effort.rounds c.args.effort.passes) c.args.seed c.args.level in
-    let same : g.R.Counted.count c.read_matrix.new.reader ≡ g.R.Counted.count c.args.rows.now = c.in_ok-matrix.ensures.no_other (never c.in_ok-matrix.matrix) in
-    let p = err_from_is_err_and c.from_residual-in_err-transmitter.result c.from_residual-in_err-transmitter.ensures.1 in
-    rw (p.1, p.2) (no_room Does c.setup-setup.result (setup_of c.args.link) c.setup-setup.ensures.is (g.R.CountedRead.remaining c.args.rows.now)
-    c.in_err-transmitter.field-0.0 _ _ (search rules) (omega (arith, same)) refl refl refl refl)
-
-pub returns-in_err-receiver-clause-run : goal.returns-in_err-receiver-clause-run
-returns-in_err-receiver-clause-run g c =
-    let setup : Setup = c.setup-setup.result in
-    let Does : Deed = Loops (effort_of c.args.effort.rounds c.args.effort.passes) c.args.seed c.args.level in
-    let same : g.R.Counted.count c.read_matrix.new.reader ≡ g.R.Counted.count c.args.rows.now = c.in_ok-matrix.ensures.no_other (never c.in_ok-matrix.matrix) in
-    let p = err_from_is_err_and c.from_residual-in_err-receiver.result c.from_residual-in_err-receiver.ensures.1 in
-    rw (p.1, p.2) (no_room Does c.setup-setup.result (setup_of c.args.link) c.setup-setup.ensures.is (g.R.CountedRead.remaining c.args.rows.now)
-    c.in_err-receiver.field-0.0 _ _ (search rules) (omega (arith, same)) refl refl refl refl)
-
 pub returns-clause-run : goal.returns-clause-run
 returns-clause-run g c =
-    let setup : Setup = c.setup-setup.result in
     let Does : Deed = Loops (effort_of c.args.effort.rounds c.args.effort.passes) c.args.seed c.args.level in
-    let rows : Rows = c.in_ok-matrix.matrix in
     let same : g.R.Counted.count c.read_matrix.new.reader ≡ g.R.Counted.count c.args.rows.now = c.in_ok-matrix.ensures.no_other (never c.in_ok-matrix.matrix) in
     let old : Streams = record { taken = g.P.CountedRead.remaining c.args.packets.now; given = g.W.CountedWrite.contents c.args.to.now; out = g.O.CountedWrite.contents c.args.out.now; reads = g.P.Counted.count c.args.packets.now; writes = g.W.Counted.count c.args.to.now + g.O.Counted.count c.args.out.now } in
-    let new : Streams = record { taken = g.P.CountedRead.remaining c.loop_packets.new.packets; given = g.W.CountedWrite.contents c.loop_packets.new.to; out = g.O.CountedWrite.contents c.loop_packets.new.out; reads = g.P.Counted.count c.loop_packets.new.packets; writes = g.W.Counted.count c.loop_packets.new.to + g.O.Counted.count c.loop_packets.new.out } in
-    done Does c.setup-setup.result (setup_of c.args.link) c.setup-setup.ensures.is (g.R.CountedRead.remaining c.args.rows.now)
-    c.shape.result c.in_ok-matrix.matrix _ _ _ c.shape.ensures.is c.in_ok-matrix.ensures.rows
-    (looped_behind _ _ _ _ _ _ _ _ old new _ c.in_ok-transmitter.ensures.is c.in_ok-receiver.ensures.rules same c.loop_packets.ensures.loops)
-    (λ h. (let kept = c.loop_packets.ensures.no_read h in omega arith)) c.loop_packets.ensures.write c.loop_packets.ensures.no_write
+    let new : Streams = record { taken = g.P.CountedRead.remaining c.loop_link.new.packets; given = g.W.CountedWrite.contents c.loop_link.new.to; out = g.O.CountedWrite.contents c.loop_link.new.out; reads = g.P.Counted.count c.loop_link.new.packets; writes = g.W.Counted.count c.loop_link.new.to + g.O.Counted.count c.loop_link.new.out } in
+    tried Does c.setup-setup.result (setup_of c.args.link) c.setup-setup.ensures.is (g.R.CountedRead.remaining c.args.rows.now)
+    c.shape.result c.in_ok-matrix.matrix _ _ old new _ same c.shape.ensures.is c.in_ok-matrix.ensures.rows
+    (λ h. looped_behind _ _ _ _ _ _ old new _ same h) c.loop_link.ensures.loops c.loop_link.ensures.no_read c.loop_link.ensures.write c.loop_link.ensures.no_write
