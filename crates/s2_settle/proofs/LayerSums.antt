@@ -1,5 +1,5 @@
 -- A sum over the checks of a bit that are in one layer, entry by entry.
-use Rattle.std.proofs.Common.{◌≡◌, ◌≢◌, ℕ, zero, suc, ◌+◌, ◌-◌, ◌*◌, ◌/◌, ◌%◌, ◌<◌, ◌≤◌, ◌==◌, ◌&&◌, nat_lt, Bool, true, false, cond, List, [], length, get_or, ℤ, pos, ◌+ℤ◌, ◌-ℤ◌, eqb, unsigned_abs, refl, ap, sym, ◌∙◌, inl, inr, arith, eq-eqb, ne_eqb, lt-ltb, le-ltb}
+use Rattle.std.proofs.Common.{◌≡◌, ◌≢◌, ℕ, ◌+◌, ◌-◌, ◌*◌, ◌/◌, ◌%◌, ◌<◌, ◌≤◌, ◌==◌, ◌&&◌, nat_lt, Bool, true, false, cond, [], length, get_or, ℤ, pos, ◌+ℤ◌, eqb, unsigned_abs, refl, ap, sym, ◌∙◌, inl, inr, arith, eq-eqb, ne_eqb, lt-ltb, le-ltb}
 use Rattle.std.specs.List.{position_or_len}
 use Rattle.std.proofs.Math.Nat.{mul-le-mul_right}
 use Rattle.std.proofs.lemmas.Bool.{cases_Bool, cases_eq}
@@ -16,7 +16,7 @@ use Rattle.s2_minsum.specs.Layout.{row_of_bit, lane_of_bit, last_check, forth, b
 use Rattle.s2_minsum.proofs.Places
 use Rattle.s2_minsum.proofs.Columns.{member_below, member_has, lacks, present, place_in}
 use Rattle.s2_minsum.proofs.Posteriors.{posterior_same, posterior_change, total-within, total_small}
-use Rattle.s2_minsum.proofs.StepStates.{edge_parts, is_edge-true, of_lane, lane_of, layer_of, lane_small, hit, stands}
+use Rattle.s2_minsum.proofs.StepStates.{edge_parts, is_edge-true, of_lane, layer_of, lane_small, hit, stands}
 
 module _ (rows : Rows) (shaped : IsShape rows.shape) (r : ℕ) (layer : r < rows.shape.q) (d : ℕ → ℕ → ℤ) where
   -- what the checks at entries below e add

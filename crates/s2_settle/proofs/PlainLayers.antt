@@ -1,25 +1,24 @@
 -- A layer over rows and lanes is the layer over checks and members.
-use Rattle.std.proofs.Common.{◌≡◌, ◌≢◌, ℕ, zero, suc, ◌+◌, ◌-◌, ◌*◌, ◌/◌, ◌%◌, ◌<◌, ◌≤◌, ◌==◌, Bool, true, false, cond, min, List, [], ◌∷◌, length, get_or, map, ℤ, pos, neg_ℤ, ◌+ℤ◌, ◌-ℤ◌, eqb, int_lt, unsigned_abs, refl, ap, sym, subst, ◌∙◌, inl, inr, arith, eq-eqb, ne_eqb}
+use Rattle.std.proofs.Common.{◌≡◌, ◌≢◌, ℕ, zero, suc, ◌+◌, ◌-◌, ◌*◌, ◌/◌, ◌%◌, ◌<◌, ◌≤◌, ◌==◌, Bool, true, false, cond, min, List, [], ◌∷◌, length, get_or, ℤ, pos, ◌+ℤ◌, ◌-ℤ◌, eqb, int_lt, unsigned_abs, refl, ap, sym, ◌∙◌, inl, inr, arith, eq-eqb, ne_eqb}
 use Rattle.std.proofs.Math.Nat.{mul-le-mul_right}
 use Rattle.std.proofs.lemmas.Bool.{cases_Bool, cases_eq}
 use Rattle.std.proofs.lemmas.Nat.{mod-mul-add, div-mul-add}
 use Rattle.std.proofs.lemmas.Int.{ints}
 use Rattle.s2_mode.specs.Shape.{code_bits, check_count}
 use Rattle.s2_rows.specs.Rows.{Rows}
-use Rattle.s2_matrix.specs.Total.{total, upto}
+use Rattle.s2_matrix.specs.Total.{total}
 use Rattle.s2_matrix.specs.Code.{code_of, members, checks_of}
 use Rattle.s2_matrix.proofs.Totals.{total-same, total-add}
 use Rattle.s2_minsum.specs.declared.rows.Entry.{Entry}
 use Rattle.s2_minsum.specs.Plain.{others}
-use Rattle.s2_minsum.specs.Words.{entry_at, cell, turned_back, is_lacking}
-use Rattle.s2_minsum.specs.Layout.{row_of_bit, lane_of_bit, last_check, forth, entry_of, entry_count, lacked_row}
+use Rattle.s2_minsum.specs.Words.{is_lacking}
+use Rattle.s2_minsum.specs.Layout.{row_of_bit, lane_of_bit, forth, entry_of, entry_count, lacked_row}
 use Rattle.s2_minsum.proofs.Places
-use Rattle.s2_minsum.proofs.Columns.{member_below}
 use Rattle.s2_minsum.proofs.StepStates
 use Rattle.s2_minsum.proofs.StepStates.{of_lane, lane_small, stands}
 use Rattle.s2_settle.specs.Words.{plus32, change, changed}
 use Rattle.s2_settle.specs.Plain.{State, raise, rest, input, least_of, amount_to, new_target as to_target, new_amount as to_amount, layer as layer_of_checks}
-use Rattle.s2_settle.specs.Layer.{Held, AreLong, entries_of, with_layer, new_target, new_amount, change_in, layer as layer_of_rows}
+use Rattle.s2_settle.specs.Layer.{Held, entries_of, with_layer, new_target, new_amount, change_in, layer as layer_of_rows}
 use Rattle.s2_settle.specs.Placing.{shown, place_of_check}
 use Rattle.s2_settle.specs.Shows.{ShowsMoves, Shows, AreFit, IsWithin}
 use Rattle.s2_settle.proofs.Layers.{upto_at, length-upto_map}

@@ -1,9 +1,8 @@
 -- Passes over rows and lanes are the passes over checks and members.
-use Rattle.std.proofs.Common.{◌≡◌, ◌≢◌, ℕ, zero, suc, ◌+◌, ◌-◌, ◌*◌, ◌/◌, ◌%◌, ◌<◌, ◌≤◌, ◌==◌, nat_lt, not, Bool, true, false, cond, List, [], ◌∷◌, length, get_or, map, fold, replicate, count_by, sum_by, All, ℤ, pos, neg_ℤ, ◌+ℤ◌, ◌-ℤ◌, ◌*ℤ◌, int_lt, eqb, unsigned_abs, Option, None, Some, refl, ap, sym, subst, ◌∙◌, inl, inr, arith, eq-eqb, ne_eqb, lt-ltb, le-ltb}
+use Rattle.std.proofs.Common.{◌≡◌, ◌≢◌, ℕ, zero, suc, ◌+◌, ◌*◌, ◌/◌, ◌%◌, ◌<◌, ◌≤◌, ◌==◌, nat_lt, Bool, true, false, cond, List, [], ◌∷◌, length, get_or, map, fold, replicate, sum_by, All, ℤ, pos, neg_ℤ, ◌+ℤ◌, ◌*ℤ◌, int_lt, unsigned_abs, Option, None, Some, refl, ap, sym, subst, ◌∙◌, inl, inr, arith, eq-eqb, lt-ltb, le-ltb}
 use Rattle.std.specs.List.{AllPairs, list_any}
-use Rattle.std.proofs.lemmas.Bool.{cases_Bool, cases_eq, cases_lt}
-use Rattle.std.proofs.lemmas.Bool.Decides.{nat_tests}
-use Rattle.std.proofs.lemmas.List.{get_or-map, length-map, get_or-replicate, length-replicate, get_or_past}
+use Rattle.std.proofs.lemmas.Bool.{cases_Bool, cases_lt}
+use Rattle.std.proofs.lemmas.List.{get_or-map, get_or-replicate, length-replicate, get_or_past}
 use Rattle.std.proofs.lemmas.List.FromFn.{length-range_with_len, get_or-range_with_len}
 use Rattle.std.proofs.lemmas.List.Folds.{list_any_at}
 use Rattle.std.proofs.lemmas.List.Elements.{All-head, All-tail}
@@ -12,7 +11,7 @@ use Rattle.std.proofs.lemmas.Nat.{mod-mul-add, div-mul-add, div-add-mod'}
 use Rattle.std.proofs.lemmas.Int.{ints}
 use Rattle.s2_mode.specs.Shape.{code_bits}
 use Rattle.s2_rows.specs.Rows.{Rows}
-use Rattle.s2_matrix.specs.Total.{total, upto}
+use Rattle.s2_matrix.specs.Total.{upto}
 use Rattle.s2_matrix.specs.Code.{code_of, checks_of}
 use Rattle.s2_matrix.proofs.Totals.{total-same, total-zero, upto_more}
 use Rattle.s2_matrix.proofs.Members.{upto_below}
@@ -22,18 +21,17 @@ use Rattle.s2_check.specs.Cost.{value_at}
 use Rattle.s2_check.specs.Moves.{in_favour}
 use Rattle.s2_check.specs.Views.{IsSoft}
 use Rattle.s2_minsum.specs.Plain.{most_soft}
-use Rattle.s2_minsum.specs.Words.{cell}
 use Rattle.s2_minsum.specs.Layout.{row_of_bit, lane_of_bit, bit_of}
 use Rattle.s2_minsum.proofs.Places
 use Rattle.s2_minsum.proofs.Orders.{Within, sum_within}
 use Rattle.s2_settle.specs.Words.{zero_rest}
 use Rattle.s2_settle.specs.Plain.{settling_scale, State, raise, rest, reserve_in, is_hopeless}
 use Rattle.s2_settle.specs.Plain as plain
-use Rattle.s2_settle.specs.Layer.{Held, AreLong, layer}
-use Rattle.s2_settle.specs.Start.{started, differs, start}
+use Rattle.s2_settle.specs.Layer.{Held, layer}
+use Rattle.s2_settle.specs.Start.{started, start}
 use Rattle.s2_settle.specs.Passes.{pass, negatives, spread}
 use Rattle.s2_settle.specs.Placing.{place_of_check}
-use Rattle.s2_settle.specs.Shows.{ShowsMoves, Shows, ShowsEnd, AreFit, IsWithin}
+use Rattle.s2_settle.specs.Shows.{Shows, ShowsEnd, AreFit, IsWithin}
 use Rattle.s2_settle.proofs.Layers.{upto_at, length-upto_map, by_places, pass_more}
 use Rattle.s2_settle.proofs.Spreads.{spread_now, spread_never, spread_hopeless, spread_later}
 use Rattle.s2_settle.proofs.PlainLayers.{layer_within, layer_shown}

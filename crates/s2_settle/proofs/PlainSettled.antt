@@ -1,19 +1,18 @@
 -- What is settled by rows and lanes is what is settled by checks and members.
-use Rattle.std.proofs.Common.{◌≡◌, ℕ, ◌+◌, ◌/◌, ◌%◌, ◌<◌, ◌≤◌, ◌==◌, nat_lt, min, Bool, true, cond, List, All, length, get_or, map, ℤ, Option, None, Some, refl, ap, sym, ◌∙◌, inl, inr, arith, eq-eqb}
+use Rattle.std.proofs.Common.{◌≡◌, ℕ, ◌/◌, ◌%◌, ◌<◌, min, Bool, List, All, get_or, ℤ, Option, None, Some, refl, ap, sym, ◌∙◌, inl, inr, arith, eq-eqb}
 use Rattle.std.proofs.lemmas.Bool.{cases_eq}
 use Rattle.s2_rows.specs.Rows.{Rows}
-use Rattle.s2_matrix.specs.Total.{upto}
 use Rattle.s2_matrix.specs.Code.{code_of, members}
-use Rattle.s2_check.specs.Views.{View, IsSoft}
+use Rattle.s2_check.specs.Views.{IsSoft}
 use Rattle.s2_check.specs.Moves.{no_move}
 use Rattle.s2_settle.specs.Plain.{State}
 use Rattle.s2_settle.specs.Plain as plain
 use Rattle.s2_settle.specs.Layer.{Held}
 use Rattle.s2_settle.specs.Start.{start}
 use Rattle.s2_settle.specs.Passes.{spread}
-use Rattle.s2_settle.specs.Settled.{place_in, move_to, moved_view, if_reached, settled, move_in, moves_in, view_in}
+use Rattle.s2_settle.specs.Settled.{move_to, moved_view, if_reached, settled, move_in, moves_in, view_in}
 use Rattle.s2_settle.specs.Placing.{shown, place_of_check, move_of, moves_of, held_view}
-use Rattle.s2_settle.specs.Shows.{Shows, AreFit, IsWithin}
+use Rattle.s2_settle.specs.Shows.{AreFit}
 use Rattle.s2_settle.proofs.Layers.{upto_at, length-upto_map, by_places}
 use Rattle.s2_settle.proofs.PlainPasses.{Both, BothEnd, spread_both, start_shown, start_within}
 

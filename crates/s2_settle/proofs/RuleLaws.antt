@@ -1,5 +1,4 @@
 -- The laws of rows and lanes.
-use Rattle.s2_rows.specs.Rows.{Rows}
 use Rattle.s2_matrix.specs.Code.{code_of}
 use Rattle.s2_settle.specs.Plain as plain
 use Rattle.s2_settle.specs.Passes.{spread}

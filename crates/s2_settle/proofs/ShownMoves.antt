@@ -1,8 +1,8 @@
 -- What the lanes of a layer show of its checks.
-use Rattle.std.proofs.Common.{◌≡◌, ◌≢◌, ℕ, zero, suc, ◌+◌, ◌-◌, ◌*◌, ◌/◌, ◌%◌, ◌<◌, ◌≤◌, ◌==◌, Bool, true, false, cond, List, length, get_or, map, All, ℤ, pos, neg_ℤ, ◌+ℤ◌, ◌-ℤ◌, eqb, unsigned_abs, refl, ap, sym, subst, ◌∙◌, inl, inr, arith, eq-eqb, ne_eqb, lt-ltb, le-ltb}
+use Rattle.std.proofs.Common.{◌≡◌, ℕ, ◌+◌, ◌-◌, ◌*◌, ◌%◌, ◌<◌, ◌≤◌, ◌==◌, Bool, true, false, cond, List, length, get_or, All, pos, ◌+ℤ◌, ◌-ℤ◌, eqb, unsigned_abs, refl, ap, sym, subst, ◌∙◌, inl, inr, arith, lt-ltb}
 use Rattle.std.specs.List.{position_or_len}
 use Rattle.std.proofs.Math.Nat.{mul-le-mul_right}
-use Rattle.std.proofs.lemmas.Bool.{cases_Bool, cases_eq, cases_lt}
+use Rattle.std.proofs.lemmas.Bool.{cases_Bool, cases_eq}
 use Rattle.std.proofs.lemmas.List.{get_or-map, length-map, get_or_default}
 use Rattle.std.proofs.lemmas.List.Elements.{filter_passes}
 use Rattle.std.proofs.lemmas.Int.{ints}
@@ -19,7 +19,7 @@ use Rattle.s2_minsum.proofs.Places
 use Rattle.s2_minsum.proofs.Turning.{same_tests}
 use Rattle.s2_minsum.proofs.Columns.{found, member_below, member_has, lacks, present, place_in}
 use Rattle.s2_minsum.proofs.Posteriors.{total_small}
-use Rattle.s2_minsum.proofs.StepStates.{of_lane, lane_of, layer_of}
+use Rattle.s2_minsum.proofs.StepStates.{lane_of, layer_of}
 use Rattle.s2_settle.specs.Words.{given}
 use Rattle.s2_settle.specs.Plain.{settling_scale, most_moved, State, raise, rest, input, new_target as to_target, new_amount as to_amount}
 use Rattle.s2_settle.specs.Layer.{Held, entries_of, of_layer, gifts, new_target, new_amount}

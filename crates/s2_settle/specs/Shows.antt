@@ -1,5 +1,5 @@
 -- What it means that rows and lanes show a state of checks and members.
-use Rattle.std.specs.Prelude.{◌≡◌, ℕ, ◌*◌, ◌/◌, ◌%◌, ◌<◌, ◌≤◌, List, length, get_or, ℤ, pos, ◌+ℤ◌, unsigned_abs, Option, None, Some}
+use Rattle.std.specs.Prelude.{◌≡◌, ℕ, ◌*◌, ◌/◌, ◌%◌, ◌<◌, ◌≤◌, List, length, get_or, pos, ◌+ℤ◌, unsigned_abs, Option, None, Some}
 use Rattle.s2_mode.specs.Shape.{IsShape, code_bits}
 use Rattle.s2_rows.specs.Rows.{Rows}
 use Rattle.s2_matrix.specs.Code.{code_of, checks_of}

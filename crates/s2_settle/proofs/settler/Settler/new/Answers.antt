@@ -1,4 +1,4 @@
-use Rattle.std.proofs.Common.{◌≡◌, ◌+◌, ◌*◌, ◌≤◌, ap, ◌∙◌, arith}
+use Rattle.std.proofs.Common.{◌≡◌, ◌*◌, ap, ◌∙◌, arith}
 use Rattle.s2_mode.specs.Shape.{Shape}
 use Rattle.s2_settle.proofs.MadeMoves.{none_are}
 use Rattle.s2_settle.proofs.settler.Settler.new.Goals as goal
