@@ -13,5 +13,6 @@ pub mod Parities
 pub mod Adding
 pub mod Planing
 pub mod Lanes
+pub mod Blocks
 pub mod Layering
 mod Toy

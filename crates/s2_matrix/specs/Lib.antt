@@ -8,4 +8,5 @@ pub mod Share
 pub mod Edges
 pub mod Sums
 pub mod Planes
+pub mod Turning
 pub mod Layers

@@ -1,8 +1,11 @@
 //! The accumulator: sums of checks added up in the order of the checks (EN 302 307-1, 5.3.2).
-ghost use Rattle.std.specs.Prelude.{◌≡◌, ℕ, ◌+◌, ◌-◌, ◌*◌, ◌<◌, ◌≤◌, length};
+ghost use Rattle.std.specs.Prelude.{◌≡◌, ℕ, ◌+◌, ◌-◌, ◌*◌, ◌<◌, ◌≤◌, false, length};
 ghost use Rattle.s2_bits.specs.Bits.{xor, bit_at};
 ghost use Rattle.s2_matrix.specs.Sums.{sum_of};
 ghost use Rattle.s2_matrix.specs.Planes.{plane_place};
+ghost use Rattle.s2_matrix.specs.Turning.{carry_at, accumulated};
+
+use crate::turning::{BLOCK, write_eight_lanes};
 
 /// Adds to the plane that begins at a place the plane before it.
 fn add_plane_before(planes: &mut [bool], group: usize, at: usize)
@@ -51,6 +54,46 @@ fn write_lane(
     }
 }
 
+/// Writes the checks lane by lane, where there are few lanes or few planes.
+fn write_lanes(planes: &[bool], group: usize, q: usize, parities: &mut [bool])
+    requires some { 1 ≤ q }
+    requires size { length parities.old ≡ group * q }
+    requires room { group * q ≤ length planes.now }
+    ensures long { length parities.new ≡ length parities.old }
+    ensures sums { (j : ℕ) → j < group * q → bit_at parities.new j ≡ accumulated group q planes.now j }
+{
+    let mut carry = false;
+    for lane in 0..group {
+        write_lane(planes, group, q, lane, carry, parities);
+        carry = parities[lane * q + q - 1];
+    }
+}
+
+/// The bit before a place, and zero before the first.
+fn bit_before(bits: &[bool], at: usize) -> bool
+    requires { at ≤ length bits.now }
+    ensures first { at ≡ 0 → result ≡ false }
+    ensures others { 0 < at → result ≡ bit_at bits.now (at - 1) }
+{
+    if at == 0 { false } else { bits[at - 1] }
+}
+
+/// Writes the checks by blocks of lanes. The last block may lie over the one before it.
+fn write_blocks(planes: &[bool], group: usize, q: usize, parities: &mut [bool])
+    requires lanes { 8 ≤ group }
+    requires planes { 8 ≤ q }
+    requires size { length parities.old ≡ group * q }
+    requires room { group * q ≤ length planes.now }
+    ensures long { length parities.new ≡ length parities.old }
+    ensures sums { (j : ℕ) → j < group * q → bit_at parities.new j ≡ accumulated group q planes.now j }
+{
+    for block in 0..group.div_ceil(BLOCK) {
+        let lane = (BLOCK * block).min(group - BLOCK);
+        let carry = bit_before(parities, lane * q);
+        write_eight_lanes(planes, group, q, lane, carry, parities);
+    }
+}
+
 /// Adds up the checks' sums in the order of the checks: first within each lane, for all lanes at
 /// once, then from lane to lane.
 pub(crate) fn accumulate(planes: &mut [bool], group: usize, q: usize, parities: &mut [bool])
@@ -61,9 +104,9 @@ pub(crate) fn accumulate(planes: &mut [bool], group: usize, q: usize, parities: 
     ensures sums { (j : ℕ) → j < group * q → bit_at parities.new j ≡ sum_of (λ i. bit_at planes.old (plane_place group q i)) (j + 1) }
 {
     add_planes_up(planes, group, q);
-    let mut carry = false;
-    for lane in 0..group {
-        write_lane(planes, group, q, lane, carry, parities);
-        carry = parities[lane * q + q - 1];
+    if group < BLOCK || q < BLOCK {
+        write_lanes(planes, group, q, parities);
+    } else {
+        write_blocks(planes, group, q, parities);
     }
 }

@@ -28,6 +28,7 @@ mod parity;
 mod planes;
 mod share;
 mod table;
+mod turning;
 mod views;
 
 pub use matrix::Matrix;

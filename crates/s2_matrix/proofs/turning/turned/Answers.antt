@@ -1,0 +1,29 @@
+use Rattle.std.proofs.Common.{◌≡◌, ℕ, ◌+◌, ◌*◌, List, ◌++◌, ◌∙◌, arith}
+use lib.Lanes.{pick_l}
+use Rattle.s2_bits.specs.Bits.{bit_at}
+use Rattle.s2_matrix.specs.Turning.{eight}
+use Rattle.s2_matrix.specs.declared.turning.TheConstants.{PAIRS, FOURS, EIGHTS}
+use Rattle.s2_matrix.proofs.turning.turned.Goals as goal
+
+abbrev shuffled : List ℕ → List ℕ → List ℕ → List ℕ
+shuffled positions a b = pick_l 0 (a ++ b) positions
+
+abbrev fours : List ℕ → List ℕ → List ℕ → List ℕ → List ℕ
+fours a b c d = shuffled FOURS (shuffled PAIRS a b) (shuffled PAIRS c d)
+
+pub returns : goal.returns
+returns c =
+    let at = c.args.at in
+    let group = c.args.group in
+    let planes = c.args.planes.now in
+    let none : at ≡ at + 0 * group = omega arith in
+    let one : at + group ≡ at + 1 * group = omega arith in
+    let first = c.load-first.ensures ∙ (λ t. eight (λ l. bit_at planes (none t + l))) in
+    let second = c.load-second.ensures ∙ (λ t. eight (λ l. bit_at planes (one t + l))) in
+    let third = c.load-third.ensures in
+    let fourth = c.load-fourth.ensures in
+    let fifth = c.load-fifth.ensures in
+    let sixth = c.load-sixth.ensures in
+    let seventh = c.load-seventh.ensures in
+    let eighth = c.load-eighth.ensures in
+    λ t. shuffled EIGHTS (fours (first t) (fifth t) (third t) (seventh t)) (fours (second t) (sixth t) (fourth t) (eighth t))
