@@ -1,3 +1,4 @@
 pub mod Constants
 pub mod Mapping
 pub mod Permutation
+pub mod Lanes

@@ -13,10 +13,10 @@
 
 mod constants;
 mod interleaver;
+mod lanes;
 pub mod laws;
 mod mapper;
 mod points;
-mod psk;
 
 pub use constants::{AXIS, DIAGONAL, PSK_3_5};
 pub use interleaver::place;

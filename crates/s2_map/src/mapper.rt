@@ -1,5 +1,5 @@
 //! Codewords to payload symbols (EN 302 307-1, 5.4).
-ghost use Rattle.std.specs.Prelude.{◌≡◌, ℕ, ◌+◌, ◌*◌, ◌<◌, false, pos, neg_ℤ, length, if◌then◌else◌};
+ghost use Rattle.std.specs.Prelude.{◌≡◌, ℕ, ◌+◌, ◌*◌, ◌/◌, ◌<◌, false, pos, neg_ℤ, length, if◌then◌else◌};
 ghost use Rattle.s2_mode.specs.Mode.{is_qpsk, n_of, slots_of};
 ghost use Rattle.s2_mode.specs.Symbols.{symbol_at};
 ghost use Rattle.s2_bits.specs.Bits.{bit_at, number};
@@ -7,7 +7,7 @@ ghost use Rattle.s2_map.specs.Constants.{diagonal};
 ghost use Rattle.s2_map.specs.Mapping.{qpsk_points, psk_points, payload_symbol, payload_of};
 
 use crate::constants::{DIAGONAL, PSK_3_5};
-use crate::psk::psk_point;
+use crate::lanes::map_eight;
 use s2_bits::Bits;
 use s2_mode::{Mode, Symbol};
 
@@ -67,14 +67,15 @@ fn map_rows(mode: Mode, bits: &[bool], payload: &mut [Symbol])
     }
 }
 
-/// 8PSK: each row of the three columns is a symbol.
+/// 8PSK: each row of the three columns, whose rows are whole blocks of eight, is a symbol.
 fn map_columns(first: &[bool], second: &[bool], third: &[bool], payload: &mut [Symbol])
     requires first { length first.now ≡ length payload.old }
     requires second { length second.now ≡ length payload.old }
     requires third { length third.now ≡ length payload.old }
+    requires blocks { 8 * (length payload.old / 8) ≡ length payload.old }
     ensures { (s : ℕ) → s < length payload.old → symbol_at payload.new s ≡ symbol_at psk_points (4 * number (bit_at first.now s) + 2 * number (bit_at second.now s) + number (bit_at third.now s)) }
 {
-    for s in 0..payload.len() {
-        payload[s] = psk_point(first[s], second[s], third[s]);
+    for block in 0..payload.len() / 8 {
+        map_eight(first, second, third, payload, 8 * block);
     }
 }

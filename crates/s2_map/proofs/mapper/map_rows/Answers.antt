@@ -3,7 +3,14 @@ use Rattle.s2_mode.specs.Symbols.{symbol_at}
 use Rattle.s2_bits.specs.Bits.{bit_at, number}
 use Rattle.s2_map.specs.Mapping.{psk_points}
 use Rattle.s2_map.proofs.Labels.{psk_reversed, psk_forward}
+use Rattle.s2_map.proofs.Eights.{whole_blocks}
 use Rattle.s2_map.proofs.mapper.map_rows.Goals as goal
+
+pub map_columns-requires-clause-blocks : goal.map_columns-requires-clause-blocks
+map_columns-requires-clause-blocks c = whole_blocks c.args.mode (length c.args.payload.now) c.requires.rows
+
+pub map_columns-requires-else-modcod-eq-PSK_3_5-clause-blocks : goal.map_columns-requires-else-modcod-eq-PSK_3_5-clause-blocks
+map_columns-requires-else-modcod-eq-PSK_3_5-clause-blocks c = whole_blocks c.args.mode (length c.args.payload.now) c.requires.rows
 
 pub returns-then-modcod-eq-PSK_3_5 : goal.returns-then-modcod-eq-PSK_3_5
 returns-then-modcod-eq-PSK_3_5 c = λ s lt.
