@@ -1,6 +1,8 @@
 //! CRC-8, headers, fields and joined packets by their worked values.
+ghost use Rattle.std.specs.Prelude.{◌≡◌, ◌/◌, ◌<◌, ◌⊎◌, false, length};
+
 use crate::{Fed, Header, HeaderFault, Joiner, NO_PLACE, NoSync, Slicer, crc8, laws};
-use s2_mode::{Counting, Mode};
+use s2_mode::{Counted, Counting, Mode, WriteFault};
 use std::process::Abort;
 use std::test::Fail;
 
@@ -152,10 +154,10 @@ fn prints_refusals(rt: HostRuntime) -> Result<(), Fail> {
     Ok(())
 }
 
-#[test]
-fn slices_one_packet(rt: HostRuntime) -> Result<(), Fail> {
-    let mode = Mode::of(1, false, false).ok_or("none")?;
-    let mut slicer = Slicer::new(rt.alloc(), mode)?;
+// One packet in a last field, after one that was refused.
+fn slice_one_packet(rt: &impl Abort, slicer: &mut Slicer) -> Result<(), Fail>
+    requires { slicer.old.closed ≡ false }
+{
     assert!(rt; slicer.size() == 1991 && !slicer.ready());
     let mut packet = [0; 188];
     let refused = slicer.put(&packet);
@@ -181,6 +183,13 @@ fn slices_one_packet(rt: HostRuntime) -> Result<(), Fail> {
     assert!(rt; slicer.size() == 1991);
     assert_eq!(rt; slicer.take(0, &mut field), None);
     Ok(())
+}
+
+#[test]
+fn slices_one_packet(rt: HostRuntime) -> Result<(), Fail> {
+    let mode = Mode::of(1, false, false).ok_or("none")?;
+    let mut slicer = Slicer::new(rt.alloc(), mode)?;
+    slice_one_packet(&rt, &mut slicer)
 }
 
 // Two packets in a full field and a last one, whatever was put before.
@@ -219,12 +228,16 @@ fn slice_two_packets(rt: &impl Abort, slicer: &mut Slicer) -> Result<(), Fail> {
     Ok(())
 }
 
+fn slice_twice(rt: &impl Abort, slicer: &mut Slicer) -> Result<(), Fail> {
+    slice_two_packets(rt, slicer)?;
+    slice_two_packets(rt, slicer)
+}
+
 #[test]
 fn slices_two_packets_into_two_fields(rt: HostRuntime) -> Result<(), Fail> {
     let mode = Mode::of(1, true, false).ok_or("none")?;
     let mut slicer = Slicer::new(rt.alloc(), mode)?;
-    slice_two_packets(&rt, &mut slicer)?;
-    slice_two_packets(&rt, &mut slicer)
+    slice_twice(&rt, &mut slicer)
 }
 
 // The stream of two packets of zeros is 377 zeros, since their CRC-8 is 00: a full field of QPSK 1/4
@@ -249,14 +262,34 @@ const ONE_GOOD: Fed = Fed { good: 1, bad: 0 };
 
 const ONE_BAD: Fed = Fed { good: 0, bad: 1 };
 
+/// Asserts what comes of a field.
+fn assert_fed(
+    rt: &impl Abort,
+    joiner: &mut Joiner,
+    header: &Header,
+    field: &[u8],
+    out: &mut Counting<Vec<u8>>,
+    want: Fed,
+) -> Result<(), WriteFault>
+    requires { (length field.now ≡ 0) ⊎ ((header.now.syncd ≡ NO_PLACE) ⊎ (header.now.syncd / 8 < length field.now)) }
+{
+    assert!(rt; out.count() < 1);
+    let fed = joiner.feed(header, field, out)?;
+    assert_eq!(rt; fed, want);
+    Ok(())
+}
+
+/// Asserts that two packets come of two fields.
+fn join_two_packets(rt: &impl Abort, out: &mut Counting<Vec<u8>>) -> Result<(), WriteFault> {
+    let mut joiner = Joiner::new();
+    assert_fed(rt, &mut joiner, &FULL, &[0; 374], out, ONE_GOOD)?;
+    assert_fed(rt, &mut joiner, &LAST, &[0; 3], out, ONE_GOOD)
+}
+
 #[test]
 fn joins_two_packets_from_two_fields(rt: HostRuntime) -> Result<(), Fail> {
-    let mut joiner = Joiner::new();
     let mut out = Counting::new(Vec::new(rt.alloc()));
-    let fed = joiner.feed(&FULL, &[0; 374], &mut out)?;
-    assert_eq!(rt; fed, ONE_GOOD);
-    let fed = joiner.feed(&LAST, &[0; 3], &mut out)?;
-    assert_eq!(rt; fed, ONE_GOOD);
+    join_two_packets(&rt, &mut out)?;
     let mut want = [0; 376];
     want[0] = 0x47;
     want[188] = 0x47;
@@ -265,62 +298,68 @@ fn joins_two_packets_from_two_fields(rt: HostRuntime) -> Result<(), Fail> {
     Ok(())
 }
 
+/// Asserts that nothing comes of a last field after a gap.
+fn join_across_a_gap(rt: &impl Abort, out: &mut Counting<Vec<u8>>) -> Result<(), WriteFault> {
+    let mut joiner = Joiner::new();
+    assert_fed(rt, &mut joiner, &FULL, &[0; 374], out, ONE_GOOD)?;
+    joiner.gap();
+    assert_fed(rt, &mut joiner, &LAST, &[0; 3], out, NOTHING)
+}
+
 #[test]
 fn joins_nothing_across_a_gap(rt: HostRuntime) -> Result<(), Fail> {
-    let mut joiner = Joiner::new();
     let mut out = Counting::new(Vec::new(rt.alloc()));
-    let fed = joiner.feed(&FULL, &[0; 374], &mut out)?;
-    assert_eq!(rt; fed, ONE_GOOD);
-    joiner.gap();
-    let fed = joiner.feed(&LAST, &[0; 3], &mut out)?;
-    assert_eq!(rt; fed, NOTHING);
+    join_across_a_gap(&rt, &mut out)?;
     assert_eq!(rt; out.into_inner().len(), 188);
     Ok(())
 }
 
-#[test]
-fn drops_a_body_with_a_wrong_crc(rt: HostRuntime) -> Result<(), Fail> {
-    let mut joiner = Joiner::new();
-    let mut out = Counting::new(Vec::new(rt.alloc()));
-    let fed = joiner.feed(&FULL, &[0; 374], &mut out)?;
-    assert_eq!(rt; fed, ONE_GOOD);
-    let fed = joiner.feed(&LAST, &[0, 0, 1], &mut out)?;
-    assert_eq!(rt; fed, ONE_BAD);
+/// Asserts that of three bodies the one with a wrong CRC-8 is dropped.
+fn join_a_wrong_body(rt: &impl Abort, out: &mut Counting<Vec<u8>>) -> Result<(), WriteFault> {
     let next = Header {
         roll_off: 0,
         second: 0,
         dfl: 1504,
         syncd: 1496,
     };
-    let fed = joiner.feed(&next, &[0; 188], &mut out)?;
-    assert_eq!(rt; fed, ONE_GOOD);
+    let mut joiner = Joiner::new();
+    assert_fed(rt, &mut joiner, &FULL, &[0; 374], out, ONE_GOOD)?;
+    assert_fed(rt, &mut joiner, &LAST, &[0, 0, 1], out, ONE_BAD)?;
+    assert_fed(rt, &mut joiner, &next, &[0; 188], out, ONE_GOOD)
+}
+
+#[test]
+fn drops_a_body_with_a_wrong_crc(rt: HostRuntime) -> Result<(), Fail> {
+    let mut out = Counting::new(Vec::new(rt.alloc()));
+    join_a_wrong_body(&rt, &mut out)?;
     assert_eq!(rt; out.into_inner().len(), 2 * 188);
     Ok(())
 }
 
-#[test]
-fn waits_for_a_place_and_passes_over_empty_fields(rt: HostRuntime) -> Result<(), Fail> {
-    let mut joiner = Joiner::new();
-    let mut out = Counting::new(Vec::new(rt.alloc()));
+/// Asserts what comes of fields with no place, full, empty and last.
+fn join_with_gaps(rt: &impl Abort, out: &mut Counting<Vec<u8>>) -> Result<(), WriteFault> {
     let placeless = Header {
         roll_off: 0,
         second: 0,
         dfl: 2992,
         syncd: NO_PLACE,
     };
-    let fed = joiner.feed(&placeless, &[0; 374], &mut out)?;
-    assert_eq!(rt; fed, NOTHING);
-    let fed = joiner.feed(&FULL, &[0; 374], &mut out)?;
-    assert_eq!(rt; fed, ONE_GOOD);
     let empty = Header {
         roll_off: 0,
         second: 0,
         dfl: 0,
         syncd: 4,
     };
-    let fed = joiner.feed(&empty, &[], &mut out)?;
-    assert_eq!(rt; fed, NOTHING);
-    let fed = joiner.feed(&LAST, &[0; 3], &mut out)?;
-    assert_eq!(rt; fed, ONE_GOOD);
+    let mut joiner = Joiner::new();
+    assert_fed(rt, &mut joiner, &placeless, &[0; 374], out, NOTHING)?;
+    assert_fed(rt, &mut joiner, &FULL, &[0; 374], out, ONE_GOOD)?;
+    assert_fed(rt, &mut joiner, &empty, &[], out, NOTHING)?;
+    assert_fed(rt, &mut joiner, &LAST, &[0; 3], out, ONE_GOOD)
+}
+
+#[test]
+fn waits_for_a_place_and_passes_over_empty_fields(rt: HostRuntime) -> Result<(), Fail> {
+    let mut out = Counting::new(Vec::new(rt.alloc()));
+    join_with_gaps(&rt, &mut out)?;
     Ok(())
 }

@@ -87,14 +87,24 @@ fn find_each(matrix: &Matrix, word: &mut Bits) -> bool {
     true
 }
 
-/// Whether they agree over made rows of a shape: on noise, on a codeword, and on its neighbours.
-fn agree_for<R: Abort + AllocGlobal>(rt: &R, shape: Shape, weight: usize) -> Result<bool, Fail> {
-    let rows = make_rows(rt.alloc(), shape, weight, 1)?;
-    let matrix = Matrix::build(rt.alloc(), &rows)?;
-    let mut word = noise(rt.alloc(), matrix.bits())?;
-    let none = agree(&matrix, &word, false);
-    complete(&matrix, &mut word);
-    Ok(none && agree(&matrix, &word, true) && find_each(&matrix, &mut word))
+/// The matrix of made rows of a shape.
+fn matrix_of(alloc: Global, shape: Shape, weight: usize) -> Result<Matrix, Fail> {
+    let rows = make_rows(alloc, shape, weight, 1)?;
+    Ok(Matrix::build(alloc, &rows)?)
+}
+
+/// Whether they agree on noise, on a codeword, and on its neighbours.
+fn agree_by(alloc: Global, matrix: &Matrix) -> Result<bool, AllocError> {
+    let mut word = noise(alloc, matrix.bits())?;
+    let none = agree(matrix, &word, false);
+    complete(matrix, &mut word);
+    Ok(none && agree(matrix, &word, true) && find_each(matrix, &mut word))
+}
+
+/// Whether they agree over made rows of a shape.
+fn agree_for(alloc: Global, shape: Shape, weight: usize) -> Result<bool, Fail> {
+    let matrix = matrix_of(alloc, shape, weight)?;
+    Ok(agree_by(alloc, &matrix)?)
 }
 
 // A group, groups, q and the weight of a row; each has more checks than are looked at one by one.
@@ -112,20 +122,24 @@ const SHAPES: [(usize, usize, usize, usize); 7] = [
 fn agrees_with_the_checks_one_by_one(rt: HostRuntime) -> Result<(), Fail> {
     for (group, groups, q, weight) in SHAPES {
         let shape = Shape::new(group, groups, q).expect(&rt, "a shape");
-        assert!(rt; agree_for(&rt, shape, weight)?, "group {group}");
+        assert!(rt; agree_for(rt.alloc(), shape, weight)?, "group {group}");
     }
     Ok(())
 }
 
-/// Whether a codeword of a mode is found to be one, and with its last bit wrong to be none.
-fn holds<R: Abort + AllocGlobal>(rt: &R, mode: Mode) -> Result<bool, Fail> {
-    let rows = make_rows(rt.alloc(), mode.shape(), 3, 1)?;
-    let matrix = Matrix::build(rt.alloc(), &rows)?;
-    let mut word = noise(rt.alloc(), matrix.bits())?;
-    complete(&matrix, &mut word);
-    let valid = agree(&matrix, &word, true);
-    flip(&mut word, mode.n().wrapping_sub(1));
-    Ok(valid && agree(&matrix, &word, false))
+/// Whether a codeword is found to be one, and with its last bit wrong to be none.
+fn holds_by(alloc: Global, matrix: &Matrix) -> Result<bool, AllocError> {
+    let mut word = noise(alloc, matrix.bits())?;
+    complete(matrix, &mut word);
+    let valid = agree(matrix, &word, true);
+    flip(&mut word, matrix.bits().wrapping_sub(1));
+    Ok(valid && agree(matrix, &word, false))
+}
+
+/// Whether that holds in a mode.
+fn holds(alloc: Global, mode: Mode) -> Result<bool, Fail> {
+    let matrix = matrix_of(alloc, mode.shape(), 3)?;
+    Ok(matrix.bits() == mode.n() && holds_by(alloc, &matrix)?)
 }
 
 #[test]
@@ -135,7 +149,7 @@ fn accepts_a_codeword_of_each_mode(rt: HostRuntime) -> Result<(), Fail> {
         for short in [false, true] {
             if let Some(mode) = Mode::of(modcod, short, false) {
                 modes = modes.wrapping_add(1);
-                assert!(rt; holds(&rt, mode)?, "modcod {modcod} short {short}");
+                assert!(rt; holds(rt.alloc(), mode)?, "modcod {modcod} short {short}");
             }
         }
     }

@@ -29,25 +29,34 @@ fn small<R: Abort + AllocGlobal>(rt: &R) -> Result<Matrix, Fail> {
     Ok(Matrix::build(rt.alloc(), &rows)?)
 }
 
-#[test]
-fn builds_the_checks_of_a_small_code(rt: HostRuntime) -> Result<(), Fail> {
-    let matrix = small(&rt)?;
+/// Asserts the members of a check, and the number of its first edge.
+fn assert_check<R: Abort>(rt: &R, matrix: &Matrix, j: usize, check: &[u32], edge: usize) {
+    assert!(rt; j < matrix.check_count());
+    assert_eq!(rt; matrix.members_at(j), check);
+    assert_eq!(rt; matrix.degree(j), check.len());
+    assert_eq!(rt; matrix.first_edge(j), edge);
+    for at in 0..matrix.degree(j) {
+        assert_eq!(rt; Some(matrix.members(j, at) as u32), check.get(at).copied());
+    }
+}
+
+fn assert_checks<R: Abort>(rt: &R, matrix: &Matrix) {
     assert_eq!(rt;
         [matrix.bits(), matrix.check_count(), matrix.edges()],
         [20, 12, 47]
     );
     assert_eq!(rt; [matrix.shape().k(), matrix.shape().n()], [8, 20]);
     let mut edge = 0usize;
-    for j in 0..matrix.check_count() {
-        let check = CHECKS.get(j).copied().unwrap_or(&[]);
-        assert_eq!(rt; matrix.members_at(j), check);
-        assert_eq!(rt; matrix.degree(j), check.len());
-        assert_eq!(rt; matrix.first_edge(j), edge);
-        edge = edge.wrapping_add(check.len());
-        for at in 0..matrix.degree(j) {
-            assert_eq!(rt; Some(matrix.members(j, at) as u32), check.get(at).copied());
-        }
+    for j in 0..CHECKS.len() {
+        assert_check(rt, matrix, j, CHECKS[j], edge);
+        edge = edge.wrapping_add(CHECKS[j].len());
     }
+}
+
+#[test]
+fn builds_the_checks_of_a_small_code(rt: HostRuntime) -> Result<(), Fail> {
+    let matrix = small(&rt)?;
+    assert_checks(&rt, &matrix);
     Ok(())
 }
 
@@ -77,32 +86,40 @@ fn builds_what_is_left_of_a_cut_row_file(rt: HostRuntime) -> Result<(), Fail> {
     Ok(())
 }
 
-#[test]
-fn gives_the_checks_and_edges_of_a_bit(rt: HostRuntime) -> Result<(), Fail> {
-    let matrix = small(&rt)?;
-    let cases: [(usize, &[u32], &[u32]); 3] = [
-        (0, &[0, 4, 8], &[0, 15, 31]),
-        (8, &[0, 1], &[2, 5]),
-        (19, &[11], &[46]),
-    ];
-    for (bit, checks, edges) in cases {
-        assert!(rt; bit < matrix.bits());
-        assert_eq!(rt; matrix.checks_at(bit), checks);
-        assert_eq!(rt; matrix.edges_at(bit), edges);
-        assert_eq!(rt; matrix.bit_degree(bit), checks.len());
-        for at in 0..matrix.bit_degree(bit) {
-            assert_eq!(rt;
-                Some(matrix.checks_of(bit, at) as u32),
-                checks.get(at).copied()
-            );
-        }
+/// Asserts the checks and the edges of a bit.
+fn assert_bit<R: Abort>(rt: &R, matrix: &Matrix, bit: usize, checks: &[u32], edges: &[u32]) {
+    assert!(rt; bit < matrix.bits());
+    assert_eq!(rt; matrix.checks_at(bit), checks);
+    assert_eq!(rt; matrix.edges_at(bit), edges);
+    assert_eq!(rt; matrix.bit_degree(bit), checks.len());
+    for at in 0..matrix.bit_degree(bit) {
+        assert_eq!(rt;
+            Some(matrix.checks_of(bit, at) as u32),
+            checks.get(at).copied()
+        );
     }
+}
+
+fn assert_rows<R: Abort>(rt: &R, matrix: &Matrix) {
     let rows: [&[u32]; 2] = [&[0, 4, 8], &[0, 1, 2]];
     assert_eq!(rt; matrix.shape().groups(), rows.len());
     for group in 0..matrix.shape().groups() {
         assert_eq!(rt; Some(matrix.addresses(group)), rows.get(group).copied());
     }
+}
+
+fn assert_bits<R: Abort>(rt: &R, matrix: &Matrix) {
+    assert_bit(rt, matrix, 0, &[0, 4, 8], &[0, 15, 31]);
+    assert_bit(rt, matrix, 8, &[0, 1], &[2, 5]);
+    assert_bit(rt, matrix, 19, &[11], &[46]);
+    assert_rows(rt, matrix);
     laws::members();
+}
+
+#[test]
+fn gives_the_checks_and_edges_of_a_bit(rt: HostRuntime) -> Result<(), Fail> {
+    let matrix = small(&rt)?;
+    assert_bits(&rt, &matrix);
     Ok(())
 }
 
@@ -118,32 +135,68 @@ const LAYER_ENTRIES: [[(usize, usize); 2]; 3] = [
     [(0, 2), (1, 0)],
 ];
 
-#[test]
-fn shows_groups_and_layers(rt: HostRuntime) -> Result<(), Fail> {
-    let matrix = small(&rt)?;
-    for group in 0..matrix.shape().groups() {
-        let entries = GROUP_ENTRIES.get(group).copied().unwrap_or_default();
-        assert_eq!(rt; matrix.group_len(group), entries.len());
-        for at in 0..matrix.group_len(group) {
-            let GroupEntry { layer, shift } = matrix.group_entry(group, at);
-            assert_eq!(rt; Some((layer, shift)), entries.get(at).copied());
-        }
+/// Asserts the entries of a group.
+fn assert_group<R: Abort>(rt: &R, matrix: &Matrix, group: usize, entries: &[(usize, usize)]) {
+    assert!(rt; group < matrix.shape().groups());
+    assert_eq!(rt; matrix.group_len(group), entries.len());
+    for at in 0..matrix.group_len(group) {
+        let GroupEntry { layer, shift } = matrix.group_entry(group, at);
+        assert_eq!(rt; Some((layer, shift)), entries.get(at).copied());
     }
-    for layer in 0..matrix.shape().q() {
-        let entries = LAYER_ENTRIES.get(layer).copied().unwrap_or_default();
-        assert_eq!(rt; matrix.layer_len(layer), entries.len());
-        for at in 0..matrix.layer_len(layer) {
-            let LayerEntry { group, shift } = matrix.layer_entry(layer, at);
-            assert_eq!(rt; Some((group, shift)), entries.get(at).copied());
-        }
+}
+
+/// Asserts the entries of a layer.
+fn assert_layer<R: Abort>(rt: &R, matrix: &Matrix, layer: usize, entries: &[(usize, usize)]) {
+    assert!(rt; layer < matrix.shape().q());
+    assert_eq!(rt; matrix.layer_len(layer), entries.len());
+    for at in 0..matrix.layer_len(layer) {
+        let LayerEntry { group, shift } = matrix.layer_entry(layer, at);
+        assert_eq!(rt; Some((group, shift)), entries.get(at).copied());
     }
+}
+
+fn assert_groups<R: Abort>(rt: &R, matrix: &Matrix) {
+    assert_eq!(rt; matrix.shape().groups(), GROUP_ENTRIES.len());
+    for group in 0..GROUP_ENTRIES.len() {
+        assert_group(rt, matrix, group, &GROUP_ENTRIES[group]);
+    }
+}
+
+fn assert_layers<R: Abort>(rt: &R, matrix: &Matrix) {
+    assert_eq!(rt; matrix.shape().q(), LAYER_ENTRIES.len());
+    for layer in 0..LAYER_ENTRIES.len() {
+        assert_layer(rt, matrix, layer, &LAYER_ENTRIES[layer]);
+    }
+}
+
+fn assert_entries<R: Abort>(rt: &R, matrix: &Matrix) {
+    assert_groups(rt, matrix);
+    assert_layers(rt, matrix);
     laws::layers();
-    Ok(())
 }
 
 #[test]
-fn finds_the_first_odd_check(rt: HostRuntime) -> Result<(), Fail> {
+fn shows_groups_and_layers(rt: HostRuntime) -> Result<(), Fail> {
     let matrix = small(&rt)?;
+    assert_entries(&rt, &matrix);
+    Ok(())
+}
+
+/// Asserts the first odd check of a word.
+fn assert_odd<R: Abort + AllocGlobal>(
+    rt: &R,
+    matrix: &Matrix,
+    bytes: &[u8; 3],
+    odd: Option<usize>,
+) -> Result<(), Fail> {
+    assert!(rt; matrix.bits() == 20);
+    let word = Bits::from_bytes(rt.alloc(), bytes, matrix.bits())?;
+    assert_eq!(rt; matrix.odd_check(&word), odd);
+    assert_eq!(rt; matrix.satisfied(&word), odd.is_none());
+    Ok(())
+}
+
+fn assert_odd_found<R: Abort + AllocGlobal>(rt: &R, matrix: &Matrix) -> Result<(), Fail> {
     // The codeword of bit 0 alone, and words that differ from it or from zero in one bit.
     let cases: [([u8; 3], Option<usize>); 5] = [
         ([0x80, 0xf0, 0xf0], None),
@@ -153,10 +206,13 @@ fn finds_the_first_odd_check(rt: HostRuntime) -> Result<(), Fail> {
         ([0x00, 0x10, 0x00], Some(3)),
     ];
     for (bytes, odd) in cases {
-        assert!(rt; matrix.bits() == 20);
-        let word = Bits::from_bytes(rt.alloc(), &bytes, matrix.bits())?;
-        assert_eq!(rt; matrix.odd_check(&word), odd);
-        assert_eq!(rt; matrix.satisfied(&word), odd.is_none());
+        assert_odd(rt, matrix, &bytes, odd)?;
     }
     Ok(())
+}
+
+#[test]
+fn finds_the_first_odd_check(rt: HostRuntime) -> Result<(), Fail> {
+    let matrix = small(&rt)?;
+    assert_odd_found(&rt, &matrix)
 }

@@ -3,6 +3,7 @@
 use crate::{MakeFault, RowFault, Rows, ValueFault, make_rows, read_rows, read_values};
 use s2_mode::{Mode, Shape};
 use std::alloc::Global;
+use std::process::Abort;
 use std::test::Fail;
 
 fn toy_rows(alloc: Global, shape: Shape) -> Result<Rows, RowFault> {
@@ -27,19 +28,28 @@ fn made_rows(alloc: Global, shape: Shape) -> Result<Rows, MakeFault> {
     }
 }
 
-#[test]
-fn asks_again_where_memory_is_refused(rt: HostRuntime) -> Result<(), Fail> {
+fn assert_toy_rows<R: Abort>(rt: &R, alloc: Global) -> Result<(), Fail> {
     let toy = Shape::new(4, 2, 3).ok_or("no shape")?;
-    let rows = toy_rows(rt.alloc(), toy)?;
+    let rows = toy_rows(alloc, toy)?;
     assert!(rt; rows.shape().groups() == 2);
     assert_eq!(rt; rows.row(0), [0, 4, 8].as_slice());
     assert_eq!(rt; rows.row(1), [0, 1, 2].as_slice());
-    let values = tens(rt.alloc())?;
-    assert_eq!(rt; values.as_slice(), [10i16; 20].as_slice());
+    Ok(())
+}
+
+fn assert_made_rows<R: Abort>(rt: &R, alloc: Global) -> Result<(), Fail> {
     let quarter = Mode::of(1, false, false).ok_or("no mode")?;
-    let rows = made_rows(rt.alloc(), quarter.shape())?;
+    let rows = made_rows(alloc, quarter.shape())?;
     assert!(rt; rows.shape().groups() == 45);
     assert_eq!(rt; rows.row(0), [47574, 3614, 26617].as_slice());
     assert_eq!(rt; rows.row(44), [30490, 45494, 4917].as_slice());
     Ok(())
+}
+
+#[test]
+fn asks_again_where_memory_is_refused(rt: HostRuntime) -> Result<(), Fail> {
+    assert_toy_rows(&rt, rt.alloc())?;
+    let values = tens(rt.alloc())?;
+    assert_eq!(rt; values.as_slice(), [10i16; 20].as_slice());
+    assert_made_rows(&rt, rt.alloc())
 }
