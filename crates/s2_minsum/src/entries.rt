@@ -50,6 +50,7 @@ pub fn layers_of(alloc: Global, matrix: &Matrix) -> Result<Layers, AllocError>
 /// How many entries the largest layer has.
 fn most_entries(matrix: &Matrix) -> usize
     ensures most { (r : ℕ) → r < matrix.now.shape.q → entry_count matrix.now r ≤ result }
+    ensures reached { (most : ℕ) → ((r : ℕ) → r < matrix.now.shape.q → entry_count matrix.now r ≤ most) → result ≤ most }
     ensures few { result ≤ 64800 }
 {
     let shape = matrix.shape();
@@ -63,9 +64,11 @@ fn most_entries(matrix: &Matrix) -> usize
     most
 }
 
-/// How many words each layer works in at most: a row for each of its entries, and three rows more.
+/// How many words each layer works in at most: a row for each of its entries, and three rows more. Fewer are too
+/// few for some layer.
 pub fn scratch_len(matrix: &Matrix) -> usize
-    ensures { HasRoom matrix.now result }
+    ensures room { HasRoom matrix.now result }
+    ensures least { (words : ℕ) → HasRoom matrix.now words → result ≤ words }
 {
     (most_entries(matrix) + 3) * matrix.shape().group()
 }

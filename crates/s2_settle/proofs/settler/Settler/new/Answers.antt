@@ -18,6 +18,6 @@ invariant_of-result c =
         targets_long = omega (arith, c.in_ok-targets.ensures.len, places);
         amounts_long = omega (arith, c.in_ok-amounts.ensures.len, places);
       };
-      room = λ r lt. omega (arith, c.scratch_len.ensures r lt, c.in_ok-scratch.ensures.len);
+      room = λ r lt. omega (arith, c.scratch_len.ensures.room r lt, c.in_ok-scratch.ensures.len);
       moves = none_are rows c.check_count.result c.in_ok-moves.moves.items c.check_count.ensures.is moves;
     }
