@@ -1,3 +1,4 @@
 pub mod Bits
 pub mod Lending
 pub mod Turns
+pub mod Lanes

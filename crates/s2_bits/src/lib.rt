@@ -5,7 +5,7 @@
 //! and [`Bits::from_bytes`] take memory. Bytes hold their highest bit first, as in all of
 //! EN 302 307-1. A loop over a whole list works on the slice that [`Bits::truths`] lends.
 //! [`add_turned`] adds a row of bits, turned, to another: the step of all that goes by groups of
-//! bits. What the other crates say of bytes and their bits is defined here, once.
+//! bits, and [`eight_from`] lends the lanes of a vector eight of them. What the other crates say of bytes and their bits is defined here, once.
 //!
 //! ```
 //! let bits = Bits::from_bytes(alloc, &[0xa0], 4)?;
@@ -16,9 +16,11 @@
 
 mod bits;
 mod bools;
+mod lanes;
 mod turns;
 
 pub use bits::Bits;
+pub use lanes::eight_from;
 pub use turns::add_turned;
 
 #[cfg(test)]

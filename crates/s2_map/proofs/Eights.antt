@@ -4,18 +4,13 @@ use Rattle.std.specs.Int.{cast_unsigned}
 use Rattle.std.proofs.lemmas.Bool.{cases_Bool, cases_lt}
 use Rattle.std.proofs.lemmas.Simd.{swz_l, SwzOk}
 use lib.Lanes.{zip2}
-use mir.Val.{bool_byte, zeroes}
+use mir.Val.{zeroes}
 use Rattle.s2_mode.specs.declared.symbols.Symbol.{Symbol}
 use Rattle.s2_mode.specs.Mode.{Mode, n_of}
 use Rattle.s2_mode.specs.Symbols.{IsSymbol, symbol_at}
 use Rattle.s2_bits.specs.Bits.{number}
 use Rattle.s2_map.specs.Lanes.{psk_label, psk_point, eight}
 use Rattle.s2_map.specs.declared.lanes.TheConstants.{I, Q}
-
--- a bit as a program makes it a byte
-pub byte_of_bit : (b : Bool) → bool_byte b ≡ number b
-byte_of_bit true = refl
-byte_of_bit false = refl
 
 -- ---- labels
 
@@ -114,32 +109,6 @@ point-fits false true true = record { i = record { sfits = omega arith }; q = re
 point-fits false true false = record { i = record { sfits = omega arith }; q = record { sfits = omega arith } }
 point-fits false false true = record { i = record { sfits = omega arith }; q = record { sfits = omega arith } }
 point-fits false false false = record { i = record { sfits = omega arith }; q = record { sfits = omega arith } }
-
--- four more symbols are written
-put_at : (at : ℕ) (f : ℕ → Symbol) (now : List Symbol)
-    → symbol_at now at ≡ f at → symbol_at now (at + 1) ≡ f (at + 1) → symbol_at now (at + 2) ≡ f (at + 2) → symbol_at now (at + 3) ≡ f (at + 3)
-    → (k : ℕ) → k < 4 → symbol_at now (at + k) ≡ f (at + k)
-put_at at f now first second third fourth zero lt = let e : at ≡ at + 0 = omega arith in subst (λ m. symbol_at now m ≡ f m) e first
-put_at at f now first second third fourth (suc zero) lt = second
-put_at at f now first second third fourth (suc (suc zero)) lt = third
-put_at at f now first second third fourth (suc (suc (suc zero))) lt = fourth
-put_at at f now first second third fourth (suc (suc (suc (suc k)))) lt = absurd (omega arith)
-
-pub four_more : (at : ℕ) (f : ℕ → Symbol) (old now four : List Symbol) → ((j : ℕ) → j < at → symbol_at old j ≡ f j)
-    → ((j : ℕ) → j < at → symbol_at now j ≡ symbol_at old j)
-    → symbol_at now at ≡ symbol_at four 0 → symbol_at now (at + 1) ≡ symbol_at four 1 → symbol_at now (at + 2) ≡ symbol_at four 2 → symbol_at now (at + 3) ≡ symbol_at four 3
-    → four ≡ f at ∷ f (at + 1) ∷ f (at + 2) ∷ f (at + 3) ∷ []
-    → (j : ℕ) → j < at + 4 → symbol_at now j ≡ f j
-four_more at f old now four done kept first second third fourth is j lt = elim (cases_lt j at) [
-  | inl before ↦ kept j before ∙ done j before
-  | inr after ↦ (
-      let e : at + (j - at) ≡ j = omega arith in
-      subst (λ m. symbol_at now m ≡ f m) e
-      (put_at at f now
-      (first ∙ ap (λ xs. symbol_at xs 0) is) (second ∙ ap (λ xs. symbol_at xs 1) is) (third ∙ ap (λ xs. symbol_at xs 2) is) (fourth ∙ ap (λ xs. symbol_at xs 3) is)
-      (j - at) (omega arith))
-      )
-]
 
 -- the rows of a frame are whole blocks of eight
 pub whole_blocks : (m : Mode) (rows : ℕ) → n_of m ≡ 3 * rows → 8 * (rows / 8) ≡ rows

@@ -18,12 +18,6 @@ psk_point first second third = symbol_at psk_points (psk_label first second thir
 abbrev pub eight : (ℕ → ℕ) → List ℕ
 eight f = f 0 ∷ f 1 ∷ f 2 ∷ f 3 ∷ f 4 ∷ f 5 ∷ f 6 ∷ f 7 ∷ []
 
--- the words of four symbols, I before Q
-abbrev pub words_of : Symbol → Symbol → Symbol → Symbol → List ℕ
-words_of a b c d =
-    cast_unsigned w16 a.i ∷ cast_unsigned w16 a.q ∷ cast_unsigned w16 b.i ∷ cast_unsigned w16 b.q
-    ∷ cast_unsigned w16 c.i ∷ cast_unsigned w16 c.q ∷ cast_unsigned w16 d.i ∷ cast_unsigned w16 d.q ∷ []
-
 -- the words of eight symbols
 abbrev pub eight_words : (ℕ → Symbol) → List ℕ
 eight_words f =

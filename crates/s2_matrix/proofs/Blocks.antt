@@ -4,12 +4,12 @@ use Rattle.std.proofs.lemmas.Bool.{cases_eq}
 use Rattle.std.proofs.lemmas.Nat.{div-mul-add}
 use Rattle.std.proofs.Math.Nat.{div-add-mod}
 use lib.Lanes.{zip2}
-use mir.Val.{bool_byte}
 use Rattle.s2_bits.specs.Bits.{xor, bit_at, number}
+use Rattle.s2_bits.specs.Lanes.{eight}
 use Rattle.s2_bits.proofs.Sums.{xor_assoc}
 use Rattle.s2_matrix.specs.Sums.{sum_of}
 use Rattle.s2_matrix.specs.Planes.{plane_place}
-use Rattle.s2_matrix.specs.Turning.{eight, eight_rows, carry_at, accumulated, Fills, FillsEight}
+use Rattle.s2_matrix.specs.Turning.{eight_rows, carry_at, accumulated, Fills, FillsEight}
 use Rattle.s2_matrix.proofs.Sums.{sum_of-same, sum_of-add}
 use Rattle.s2_matrix.proofs.Joins.{div_below}
 use Rattle.s2_matrix.proofs.Lanes.{lane_place, lane_sum}
@@ -55,12 +55,7 @@ rows-sum f g =
     λ t. eight-sum (f 0) (g 0) t ++ eight-sum (f 1) (g 1) t ++ eight-sum (f 2) (g 2) t ++ eight-sum (f 3) (g 3) t
     ++ eight-sum (f 4) (g 4) t ++ eight-sum (f 5) (g 5) t ++ eight-sum (f 6) (g 6) t ++ eight-sum (f 7) (g 7) t
 
--- a bit as a program makes it a byte
-pub byte_of_bit : (b : Bool) → bool_byte b ≡ number b
-byte_of_bit true = refl
-byte_of_bit false = refl
-
--- and as it tells it from one
+-- a bit as a program tells it from its number
 pub bit_test : (b : Bool) → not (eqb (number b) 0) ≡ b
 bit_test true = refl
 bit_test false = refl

@@ -1,12 +1,9 @@
 -- Bits of planes that are turned, eight planes and eight lanes at a time, so that each lane's bits follow one another.
-use Rattle.std.specs.Prelude.{◌≡◌, ℕ, ◌+◌, ◌-◌, ◌*◌, ◌/◌, ◌<◌, ◌≤◌, Bool, List, [], ◌∷◌, ◌++◌, length}
-use Rattle.s2_bits.specs.Bits.{xor, bit_at, number}
+use Rattle.std.specs.Prelude.{◌≡◌, ℕ, ◌+◌, ◌-◌, ◌*◌, ◌/◌, ◌<◌, ◌≤◌, Bool, List, ◌++◌, length}
+use Rattle.s2_bits.specs.Bits.{xor, bit_at}
+use Rattle.s2_bits.specs.Lanes.{eight}
 use Rattle.s2_matrix.specs.Sums.{sum_of}
 use Rattle.s2_matrix.specs.Planes.{plane_place}
-
--- eight bits as the lanes of a vector
-abbrev pub eight : (ℕ → Bool) → List ℕ
-eight f = number (f 0) ∷ number (f 1) ∷ number (f 2) ∷ number (f 3) ∷ number (f 4) ∷ number (f 5) ∷ number (f 6) ∷ number (f 7) ∷ []
 
 -- eight rows of eight bits, one after another
 abbrev pub eight_rows : (ℕ → ℕ → Bool) → List ℕ

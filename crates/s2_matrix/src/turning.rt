@@ -1,9 +1,11 @@
 //! Blocks of eight planes and eight lanes, turned so that the bits of each lane follow one another.
 ghost use Rattle.std.specs.Prelude.{◌≡◌, ℕ, ◌+◌, ◌-◌, ◌*◌, ◌<◌, ◌≤◌, Bool, length};
 ghost use Rattle.s2_bits.specs.Bits.{xor, bit_at};
+ghost use Rattle.s2_bits.specs.Lanes.{eight};
 ghost use Rattle.s2_matrix.specs.Sums.{sum_of};
-ghost use Rattle.s2_matrix.specs.Turning.{eight, eight_rows, carry_at, accumulated, Fills, FillsEight};
+ghost use Rattle.s2_matrix.specs.Turning.{eight_rows, carry_at, accumulated, Fills, FillsEight};
 
+use s2_bits::eight_from;
 use std::simd::prelude::*;
 
 /// How many planes and lanes a block has.
@@ -28,24 +30,6 @@ const EACH: [usize; 64] = [
     0, 0, 0, 0, 0, 0, 0, 0, 1, 1, 1, 1, 1, 1, 1, 1, 2, 2, 2, 2, 2, 2, 2, 2, 3, 3, 3, 3, 3, 3, 3, 3,
     4, 4, 4, 4, 4, 4, 4, 4, 5, 5, 5, 5, 5, 5, 5, 5, 6, 6, 6, 6, 6, 6, 6, 6, 7, 7, 7, 7, 7, 7, 7, 7,
 ];
-
-/// Eight bits from a place on.
-#[inline(always)]
-fn load(bits: &[bool], at: usize) -> u8x8
-    requires { at + 8 ≤ length bits.now }
-    ensures { result ≡ eight (λ k. bit_at bits.now (at + k)) }
-{
-    u8x8::from_array([
-        u8::from(bits[at]),
-        u8::from(bits[at + 1]),
-        u8::from(bits[at + 2]),
-        u8::from(bits[at + 3]),
-        u8::from(bits[at + 4]),
-        u8::from(bits[at + 5]),
-        u8::from(bits[at + 6]),
-        u8::from(bits[at + 7]),
-    ])
-}
 
 /// Writes eight bits from a place on.
 #[inline(always)]
@@ -97,14 +81,14 @@ fn turned(planes: &[bool], group: usize, at: usize) -> u8x64
     requires { at + 7 * group + 8 ≤ length planes.now }
     ensures { result ≡ eight_rows (λ l r. bit_at planes.now (at + r * group + l)) }
 {
-    let first = load(planes, at);
-    let second = load(planes, at + group);
-    let third = load(planes, at + 2 * group);
-    let fourth = load(planes, at + 3 * group);
-    let fifth = load(planes, at + 4 * group);
-    let sixth = load(planes, at + 5 * group);
-    let seventh = load(planes, at + 6 * group);
-    let eighth = load(planes, at + 7 * group);
+    let first = eight_from(planes, at);
+    let second = eight_from(planes, at + group);
+    let third = eight_from(planes, at + 2 * group);
+    let fourth = eight_from(planes, at + 3 * group);
+    let fifth = eight_from(planes, at + 4 * group);
+    let sixth = eight_from(planes, at + 5 * group);
+    let seventh = eight_from(planes, at + 6 * group);
+    let eighth = eight_from(planes, at + 7 * group);
     let odd = first
         .shuffle(fifth, PAIRS)
         .shuffle(third.shuffle(seventh, PAIRS), FOURS);

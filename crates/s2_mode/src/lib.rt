@@ -7,7 +7,8 @@
 //! bits. A call that reads or writes takes what is [`Counted`]: over memory its contract names the
 //! bytes, and a failed call raises the count, so no fault is answered where nothing failed.
 //! [`Counting`] counts for any reader or writer of std, [`InMemory`] reads a slice. A [`Symbol`] has four
-//! bytes in a file, and what is written is read back ([`laws::symbols_back`]).
+//! bytes in a file, and what is written is read back ([`laws::symbols_back`]); four of them fill a vector's lanes
+//! ([`words_from`], [`symbols_from`], [`put_four`]).
 //!
 //! ```
 //! let mode = Mode::of(4, true, false)?;
@@ -18,6 +19,7 @@
 
 mod counts;
 mod fakes;
+mod lanes;
 pub mod laws;
 mod memory;
 mod mode;
@@ -31,6 +33,7 @@ pub use counts::{
     Counted, CountedRead, CountedWrite, ReadFault, WriteFault, read_full, write_full,
 };
 pub use fakes::{ByOne, Endless, FailAt};
+pub use lanes::{put_four, symbols_from, words_from};
 pub use memory::InMemory;
 pub use mode::Mode;
 pub use shape::{MOST_BITS, MOST_GROUP, Shape};

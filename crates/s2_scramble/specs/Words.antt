@@ -1,14 +1,5 @@
--- Components as words of 16 bits, two's complement.
+-- Numbers of quarters in the lanes of four symbols.
 use Rattle.std.specs.Prelude.{ℕ, List, [], ◌∷◌}
-use Rattle.std.specs.Int.{cast_unsigned}
-use mir.Syntax.{w16}
-use Rattle.s2_mode.specs.declared.symbols.Symbol.{Symbol}
-
--- the words of four symbols, I before Q
-abbrev pub words_of : Symbol → Symbol → Symbol → Symbol → List ℕ
-words_of a b c d =
-    cast_unsigned w16 a.i ∷ cast_unsigned w16 a.q ∷ cast_unsigned w16 b.i ∷ cast_unsigned w16 b.q
-    ∷ cast_unsigned w16 c.i ∷ cast_unsigned w16 c.q ∷ cast_unsigned w16 d.i ∷ cast_unsigned w16 d.q ∷ []
 
 -- each of four numbers twice: once for each component of a symbol
 abbrev pub twice : ℕ → ℕ → ℕ → ℕ → List ℕ

@@ -3,58 +3,11 @@ ghost use Rattle.std.specs.Prelude.{◌≡◌, ℕ, ◌+◌, ◌-◌, ◌%◌, �
 ghost use Rattle.s2_mode.specs.declared.symbols.Symbol.{Symbol};
 ghost use Rattle.s2_mode.specs.Symbols.{IsSymbol, symbol_at};
 ghost use Rattle.s2_scramble.specs.Turns.{turned};
-ghost use Rattle.s2_scramble.specs.Words.{words_of, twice};
+ghost use Rattle.s2_mode.specs.Lanes.{words_of};
+ghost use Rattle.s2_scramble.specs.Words.{twice};
 
-use s2_mode::Symbol;
+use s2_mode::{Symbol, symbols_from, words_from};
 use std::simd::prelude::*;
-
-/// The words of four symbols.
-#[inline(always)]
-fn load(symbols: &[Symbol], at: usize) -> u16x8
-    requires { at + 4 ≤ length symbols.now }
-    ensures a { IsSymbol (symbol_at symbols.now at) }
-    ensures b { IsSymbol (symbol_at symbols.now (at + 1)) }
-    ensures c { IsSymbol (symbol_at symbols.now (at + 2)) }
-    ensures d { IsSymbol (symbol_at symbols.now (at + 3)) }
-    ensures words { result ≡ words_of (symbol_at symbols.now at) (symbol_at symbols.now (at + 1)) (symbol_at symbols.now (at + 2)) (symbol_at symbols.now (at + 3)) }
-{
-    u16x8::from_array([
-        symbols[at].i.cast_unsigned(),
-        symbols[at].q.cast_unsigned(),
-        symbols[at + 1].i.cast_unsigned(),
-        symbols[at + 1].q.cast_unsigned(),
-        symbols[at + 2].i.cast_unsigned(),
-        symbols[at + 2].q.cast_unsigned(),
-        symbols[at + 3].i.cast_unsigned(),
-        symbols[at + 3].q.cast_unsigned(),
-    ])
-}
-
-/// Four symbols of their words.
-#[inline(always)]
-fn symbols_of(words: u16x8) -> [Symbol; 4]
-    ensures { (a b c d : Symbol) → IsSymbol a → IsSymbol b → IsSymbol c → IsSymbol d → words ≡ words_of a b c d → result ≡ a ∷ b ∷ c ∷ d ∷ [] }
-{
-    let [a, b, c, d, e, f, g, h] = words.to_array();
-    [
-        Symbol {
-            i: a.cast_signed(),
-            q: b.cast_signed(),
-        },
-        Symbol {
-            i: c.cast_signed(),
-            q: d.cast_signed(),
-        },
-        Symbol {
-            i: e.cast_signed(),
-            q: f.cast_signed(),
-        },
-        Symbol {
-            i: g.cast_signed(),
-            q: h.cast_signed(),
-        },
-    ]
-}
 
 /// Turns four symbols. Each number of quarters stands in both lanes of its symbol.
 #[inline(always)]
@@ -99,22 +52,5 @@ pub(crate) fn turn_four(quarters: u16x8, symbols: &[Symbol], at: usize) -> [Symb
     requires { at + 4 ≤ length symbols.now }
     ensures { (k l m n : ℕ) → k < 4 → l < 4 → m < 4 → n < 4 → quarters ≡ twice k l m n → result ≡ turned k (symbol_at symbols.now at) ∷ turned l (symbol_at symbols.now (at + 1)) ∷ turned m (symbol_at symbols.now (at + 2)) ∷ turned n (symbol_at symbols.now (at + 3)) ∷ [] }
 {
-    symbols_of(turned_words(quarters, load(symbols, at)))
-}
-
-/// Writes four symbols from a place on.
-#[inline(always)]
-pub(crate) fn put(out: &mut [Symbol], at: usize, four: [Symbol; 4])
-    requires { at + 4 ≤ length out.old }
-    ensures kept { (k : ℕ) → k < at → symbol_at out.new k ≡ symbol_at out.old k }
-    ensures a { symbol_at out.new at ≡ symbol_at four 0 }
-    ensures b { symbol_at out.new (at + 1) ≡ symbol_at four 1 }
-    ensures c { symbol_at out.new (at + 2) ≡ symbol_at four 2 }
-    ensures d { symbol_at out.new (at + 3) ≡ symbol_at four 3 }
-{
-    let [a, b, c, d] = four;
-    out[at] = a;
-    out[at + 1] = b;
-    out[at + 2] = c;
-    out[at + 3] = d;
+    symbols_from(turned_words(quarters, words_from(symbols, at)))
 }

@@ -46,7 +46,5 @@ pub eight_values : (f : ℕ → ℤ) (a b c d e g h i : ℤ) → a ≡ f 0 → b
 eight_values f a b c d e g h i = by_eight (λ k. get_or (a ∷ b ∷ c ∷ d ∷ e ∷ g ∷ h ∷ i ∷ []) k (pos 0) ≡ f k)
 
 -- the word of a component
-pub word_of : (w : ℕ) (z y : ℤ) → SFits w16 z → w ≡ cast_unsigned w16 (cast_signed w16 (cast_unsigned w16 z)) → y ≡ z → signed w ≡ y
-word_of w z y fits is same =
-    let back = to_z-of_z w16 z fits in
-    ap signed (is ∙ ap (cast_unsigned w16) back) ∙ (back ∙ sym same)
+pub word_of : (z y : ℤ) → SFits w16 z → y ≡ z → signed (cast_unsigned w16 z) ≡ y
+word_of z y fits same = to_z-of_z w16 z fits ∙ sym same

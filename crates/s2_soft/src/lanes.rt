@@ -8,7 +8,7 @@ ghost use Rattle.s2_soft.specs.Lanes.{HasLanes, lane, signed, minus16, size16, c
 
 use crate::constants::LIMIT;
 use crate::values::SCALE;
-use s2_mode::Symbol;
+use s2_mode::{Symbol, words_from};
 use std::simd::prelude::*;
 
 #[inline(always)]
@@ -70,16 +70,7 @@ pub(crate) fn components(payload: &[Symbol], at: usize) -> u16x8
     requires { at + 4 ≤ length payload.now }
     ensures { (k : ℕ) → k < 8 → signed (lane result k) ≡ component_at payload.now (2 * at + k) }
 {
-    u16x8::from_array([
-        payload[at].i.cast_unsigned(),
-        payload[at].q.cast_unsigned(),
-        payload[at + 1].i.cast_unsigned(),
-        payload[at + 1].q.cast_unsigned(),
-        payload[at + 2].i.cast_unsigned(),
-        payload[at + 2].q.cast_unsigned(),
-        payload[at + 3].i.cast_unsigned(),
-        payload[at + 3].q.cast_unsigned(),
-    ])
+    words_from(payload, at)
 }
 
 /// The soft values of components of QPSK.

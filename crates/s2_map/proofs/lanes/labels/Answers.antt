@@ -6,5 +6,5 @@ use Rattle.s2_map.proofs.lanes.labels.Goals as goal
 pub returns : goal.returns
 returns c =
     let at = c.args.at in
-    (λ t. labels_of (c.load-first.ensures t) (c.load.ensures t) (c.load-2.ensures t))
+    (λ t. labels_of (c.eight_from-first.ensures t) (c.eight_from.ensures t) (c.eight_from-2.ensures t))
     ∙ labels_are (λ k. bit_at c.args.first.now (at + k)) (λ k. bit_at c.args.second.now (at + k)) (λ k. bit_at c.args.third.now (at + k))

@@ -3,7 +3,8 @@ use Rattle.s2_bits.specs.Bits.{bit_at, number}
 use Rattle.s2_bits.proofs.Sums.{xor_none, xor_code}
 use lib.Lanes.{pick_l}
 use Rattle.s2_matrix.specs.declared.turning.TheConstants.{EACH}
-use Rattle.s2_matrix.proofs.Blocks.{byte_of_bit, carry_more}
+use Rattle.s2_bits.proofs.Bytes.{byte_of_bit}
+use Rattle.s2_matrix.proofs.Blocks.{carry_more}
 use Rattle.s2_matrix.proofs.turning.carries.Goals as goal
 
 -- each lane eight times

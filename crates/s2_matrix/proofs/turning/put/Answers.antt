@@ -1,7 +1,7 @@
 use Rattle.std.proofs.Common.{◌≡◌, ℕ, ◌+◌, ◌*◌, List, ◌++◌, ap, ◌∙◌, arith}
 use Rattle.std.specs.List.{range_with_len}
 use lib.Lanes.{pick_l}
-use Rattle.s2_matrix.specs.Turning.{eight}
+use Rattle.s2_bits.specs.Lanes.{eight}
 use Rattle.s2_matrix.proofs.Blocks.{eight_pieces}
 use Rattle.s2_matrix.proofs.turning.put.Goals as goal
 

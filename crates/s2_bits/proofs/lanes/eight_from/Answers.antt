@@ -1,7 +1,7 @@
 use Rattle.std.proofs.Common.{◌≡◌, ◌+◌, [], ◌∷◌, ap, ◌∙◌, arith}
 use Rattle.s2_bits.specs.Bits.{bit_at, number}
-use Rattle.s2_map.proofs.Eights.{byte_of_bit}
-use Rattle.s2_map.proofs.lanes.load.Goals as goal
+use Rattle.s2_bits.proofs.Bytes.{byte_of_bit}
+use Rattle.s2_bits.proofs.lanes.eight_from.Goals as goal
 
 pub returns : goal.returns
 returns c =
