@@ -1,5 +1,5 @@
 -- What the maker's lists hold while it works: for each bit its rest, for each check its move.
-use Rattle.std.specs.Prelude.{◌≡◌, ◌≢◌, ℕ, ◌+◌, ◌*◌, ◌<◌, ◌≤◌, ◌==◌, Bool, true, false, if◌then◌else◌, Option, None, Some, List, length, get_or, All, filter, fold, ℤ, pos, neg_ℤ, ◌*ℤ◌, ◌-ℤ◌, ◌≤ℤ◌}
+use Rattle.std.specs.Prelude.{◌≡◌, ◌≢◌, ℕ, ◌+◌, ◌*◌, ◌<◌, ◌≤◌, ◌==◌, ◌↔◌, Bool, true, false, if◌then◌else◌, Option, None, Some, List, length, get_or, All, filter, fold, ℤ, pos, neg_ℤ, ◌*ℤ◌, ◌-ℤ◌, ◌≤ℤ◌}
 use Rattle.std.specs.List.{list_any}
 use Rattle.s2_matrix.specs.Total.{upto}
 use Rattle.s2_matrix.specs.Code.{Code, members, checks_of}
@@ -56,6 +56,15 @@ AreWithin most xs =
 -- no rest is further below zero than a soft value
 abbrev pub AreLow : List ℤ → Type 0
 AreLow rests = (k : ℕ) → neg_ℤ (pos most_soft) ≤ℤ get_or rests k (pos 0)
+
+-- two rests are negative, or neither is
+abbrev pub HaveOneSign : ℤ → ℤ → Type 0
+HaveOneSign a b = (pos 0 ≤ℤ a) ↔ (pos 0 ≤ℤ b)
+
+-- no rest between two places is negative
+abbrev pub NoneIsNegative : ℕ → ℕ → List ℤ → Type 0
+NoneIsNegative from to rests =
+    (k : ℕ) → from ≤ k → k < to → pos 0 ≤ℤ get_or rests k (pos 0)
 
 -- each bit is in few checks
 abbrev pub AreFew : Code → Type 0

@@ -10,7 +10,7 @@ ghost use Rattle.s2_split.specs.Making.{shared, split_in_ways, made_of, AreLeft}
 
 use crate::greedy::greedy;
 use crate::spread::spread;
-use crate::start::{none_negative, start_rests};
+use crate::start::start_rests;
 use s2_check::Move;
 use s2_matrix::Matrix;
 
@@ -68,8 +68,7 @@ fn try_greedily(
     ensures kept { AreKept (code_of matrix.now) soft.now word.now 1 (greedy (code_of matrix.now) soft.now word.now) rests.new moves.new }
 {
     begin(matrix, soft, word, 1, rests, moves);
-    greedy(matrix, soft, word, rests, moves);
-    none_negative(rests)
+    greedy(matrix, soft, word, rests, moves)
 }
 
 /// In which ways a split is looked for.

@@ -6,4 +6,4 @@ use Rattle.s2_split.proofs.make.try_greedily.Goals as goal
 pub returns-clause-test : goal.returns-clause-test
 returns-clause-test c =
     let code = code_of c.args.matrix.now in
-    test_is code c.args.soft.now c.args.word.now 1 (greedy code c.args.soft.now c.args.word.now) c.greedy.new.rests c.none_negative.result c.greedy.ensures.left c.none_negative.ensures
+    test_is code c.args.soft.now c.args.word.now 1 (greedy code c.args.soft.now c.args.word.now) c.greedy.new.rests c.greedy.result c.greedy.ensures.kept.left c.greedy.ensures.test
