@@ -1,11 +1,13 @@
 -- A certificate that was written, and the verdict that was printed behind it.
-use Rattle.std.proofs.Common.{ℕ, ℤ, List, Option, Result, Ok, Err, subst, sym}
+use Rattle.std.proofs.Common.{ℕ, ℤ, List, Option, Result, Ok, Err, subst, sym, refl}
+use Rattle.s2_mode.specs.Shape.{Shape}
 use Rattle.s2_rows.specs.Rows.{Rows}
 use Rattle.s2_tool.specs.declared.console.Printed.{Printed}
 use Rattle.s2_tool.specs.declared.exit.Exit.{Exit}
 use Rattle.s2_tool.specs.declared.fault.Fault.{Fault}
 use Rattle.s2_tool.specs.declared.fault.Fault.TheVariants as faults
 use Rattle.s2_tool.specs.Exits.{Prints}
+use Rattle.s2_tool.specs.Inputs.{AreInputs, IsOnly}
 use Rattle.s2_tool.specs.Certifying.{Wrote, IsCertified, Certifies}
 
 pub certified_moved : (passes : ℕ) (A B : Result (Rows × List ℤ) Fault → Type 0) (made : Result Printed Fault) (old new : Option (List ℕ))
@@ -25,6 +27,22 @@ certified_moved passes A B (Err (faults.Certificate e)) old new f h = h
 certified_moved passes A B (Err faults.NotWholePacket) old new f h = h
 certified_moved passes A B (Err (faults.NoSync packet)) old new f h = h
 
+-- where the input is refused nothing is written
+pub uncertified : (passes : ℕ) (IsInput : Result (Rows × List ℤ) Fault → Type 0) (f : Fault) (old : Option (List ℕ)) → IsCertified passes IsInput (Err f) old old
+uncertified passes IsInput faults.Write old = tt
+uncertified passes IsInput faults.Read old = refl
+uncertified passes IsInput faults.NoMemory old = refl
+uncertified passes IsInput faults.Mode old = refl
+uncertified passes IsInput faults.Shape old = refl
+uncertified passes IsInput faults.Weight old = refl
+uncertified passes IsInput (faults.Open name) old = refl
+uncertified passes IsInput faults.TooLong old = refl
+uncertified passes IsInput (faults.Rows e) old = refl
+uncertified passes IsInput (faults.Values e) old = refl
+uncertified passes IsInput (faults.Certificate e) old = refl
+uncertified passes IsInput faults.NotWholePacket old = refl
+uncertified passes IsInput (faults.NoSync packet) old = refl
+
 pub certifies : (passes : ℕ) (IsInput : Result (Rows × List ℤ) Fault → Type 0) (p : Printed) (ended : Result Exit Fault) (before after : ℕ) (out out' old new : Option (List ℕ))
     → Prints p ended out out' → IsCertified passes IsInput (Ok p) old new → Certifies passes IsInput ended before after old new
 certifies passes IsInput p (Ok exit) before after out out' old new (e, printed) (input, is, wrote) = (input, is, subst (λ x. Wrote passes input x old new) (sym e) wrote)
@@ -41,3 +59,9 @@ certifies passes IsInput p (Err (faults.Values e)) before after out out' old new
 certifies passes IsInput p (Err (faults.Certificate e)) before after out out' old new no_way h = absurd no_way
 certifies passes IsInput p (Err faults.NotWholePacket) before after out out' old new no_way h = absurd no_way
 certifies passes IsInput p (Err (faults.NoSync packet)) before after out out' old new no_way h = absurd no_way
+
+-- on files that were read
+pub certified_inputs : (passes : ℕ) (shape : Shape) (known_rows known_soft : Option (List ℕ)) (rows : Rows) (soft : List ℤ) (made : Result Printed Fault) (old new : Option (List ℕ))
+    → AreInputs shape known_rows known_soft (Ok (rows, soft)) → IsCertified passes (IsOnly (rows, soft)) made old new → IsCertified passes (AreInputs shape known_rows known_soft) made old new
+certified_inputs passes shape known_rows known_soft rows soft made old new is h =
+    certified_moved passes (IsOnly (rows, soft)) (AreInputs shape known_rows known_soft) made old new (λ said e. subst (AreInputs shape known_rows known_soft) (sym e) is) h

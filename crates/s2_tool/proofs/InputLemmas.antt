@@ -1,5 +1,5 @@
 -- What files say, put together.
-use Rattle.std.proofs.Common.{◌≡◌, ℕ, ℤ, List, Option, Some, None, Result, Ok, ap, ◌∙◌, subst}
+use Rattle.std.proofs.Common.{◌≡◌, ℕ, ℤ, List, Option, Some, None, Result, Ok, Err, ap, ◌∙◌, subst, sym}
 use Rattle.std.specs.Prelude.{IfSome}
 use Rattle.s2_mode.specs.Shape.{Shape}
 use Rattle.s2_rows.specs.Rows.{Rows}
@@ -9,10 +9,11 @@ use Rattle.s2_check.specs.CertificateFiles as certificate_files
 use Rattle.s2_tool.specs.declared.console.Printed.{Printed}
 use Rattle.s2_tool.specs.declared.exit.Exit.{Exit}
 use Rattle.s2_tool.specs.declared.fault.Fault.{Fault}
-use Rattle.s2_tool.specs.Exits.{CommandAnswers, CommandRuns}
-use Rattle.s2_tool.specs.Inputs.{taken, rows_said, rows_in, values_in, then_values, AreInputs}
+use Rattle.s2_tool.specs.declared.fault.Fault.TheVariants as faults
+use Rattle.s2_tool.specs.Exits.{Follows, CommandAnswers, CommandRuns}
+use Rattle.s2_tool.specs.Inputs.{taken, rows_said, rows_in, values_in, then_values, inputs, AreInputs, IsOnly}
 use Rattle.s2_tool.specs.Judging.{IsJudged}
-use Rattle.s2_tool.specs.Checking.{certificate_said, with_rows, beside, then_parts, parts_in, ArePartsIn, AreCheckInputs, IsAnswered}
+use Rattle.s2_tool.specs.Checking.{certificate_said, with_rows, beside, then_parts, parts_in, AreRowsBeside, ArePartsIn, AreCheckInputs, IsAnswered}
 use Rattle.s2_tool.proofs.CommandLemmas.{answers_moved}
 
 -- ---- rows and soft values
@@ -27,6 +28,61 @@ are_inputs shape None known_soft rows soft p q = tt
 are_inputs shape (Some xs) None rows soft p q = tt
 are_inputs shape (Some xs) (Some ys) rows soft p q = both (rows_in shape xs) (values_in shape ys) rows soft p q
 
+-- a fault of one file is the fault of all
+told : {V T W U : Type 0} → (v : V → T) (w : W → U) (f : Fault) (a : Result T Fault) (b : Result U Fault) → (a ≡ Err f → b ≡ Err f) → Follows v (Err f) a → Follows w (Err f) b
+told v w faults.Read a b g h = tt
+told v w faults.Write a b g h = tt
+told v w faults.NoMemory a b g h = tt
+told v w faults.Mode a b g h = g h
+told v w faults.Shape a b g h = g h
+told v w faults.Weight a b g h = g h
+told v w (faults.Open name) a b g h = g h
+told v w faults.TooLong a b g h = g h
+told v w (faults.Rows e) a b g h = g h
+told v w (faults.Values e) a b g h = g h
+told v w (faults.Certificate e) a b g h = g h
+told v w faults.NotWholePacket a b g h = g h
+told v w (faults.NoSync packet) a b g h = g h
+
+-- refused rows
+pub rows_refused : {W : Type 0} → (view : W → Rows × List ℤ) (shape : Shape) (known_rows known_soft : Option (List ℕ)) (f : Fault)
+    → IfSome known_rows (λ xs. Follows {V = Rows} (λ r. r) (Err f) (rows_in shape xs)) → IfSome known_rows (λ xs. IfSome known_soft (λ ys. Follows view (Err f) (inputs shape xs ys)))
+rows_refused view shape None known_soft f h = tt
+rows_refused view shape (Some xs) None f h = tt
+rows_refused view shape (Some xs) (Some ys) f h = told {V = Rows} (λ r. r) view f (rows_in shape xs) (inputs shape xs ys) (ap (λ r. then_values r (values_in shape ys))) h
+
+-- refused soft values
+pub values_refused : {V W : Type 0} → (read : Result V Fault) (values : V → List ℤ) (view : W → Rows × List ℤ) (shape : Shape) (known_rows known_soft : Option (List ℕ)) (rows : Rows) (f : Fault)
+    → IfSome known_rows (λ xs. rows_in shape xs ≡ Ok rows) → IfSome known_soft (λ ys. Follows values (Err f) (values_in shape ys))
+    → IfSome known_rows (λ xs. IfSome known_soft (λ ys. Follows view (Err f) (inputs shape xs ys)))
+values_refused read values view shape None known_soft rows f p h = tt
+values_refused read values view shape (Some xs) None rows f p h = tt
+values_refused read values view shape (Some xs) (Some ys) rows f p h =
+    told values view f (values_in shape ys) (inputs shape xs ys) (λ e. ap (λ r. then_values r (values_in shape ys)) p ∙ ap (then_values (Ok rows)) e) h
+
+-- a command on files that are refused
+pub refused_inputs : {W : Type 0} → (Says : Rows × List ℤ → Exit → List ℕ → Type 0) (view : W → Rows × List ℤ) (shape : Shape) (known_rows known_soft : Option (List ℕ)) (f : Fault)
+    → IfSome known_rows (λ xs. IfSome known_soft (λ ys. Follows view (Err f) (inputs shape xs ys))) → CommandAnswers Says (AreInputs shape known_rows known_soft) (Err f)
+refused_inputs Says view shape known_rows known_soft faults.Read h = tt
+refused_inputs Says view shape known_rows known_soft faults.Write h = tt
+refused_inputs Says view shape known_rows known_soft faults.NoMemory h = tt
+refused_inputs Says view shape known_rows known_soft faults.Mode h = h
+refused_inputs Says view shape known_rows known_soft faults.Shape h = h
+refused_inputs Says view shape known_rows known_soft faults.Weight h = h
+refused_inputs Says view shape known_rows known_soft (faults.Open name) h = h
+refused_inputs Says view shape known_rows known_soft faults.TooLong h = h
+refused_inputs Says view shape known_rows known_soft (faults.Rows e) h = h
+refused_inputs Says view shape known_rows known_soft (faults.Values e) h = h
+refused_inputs Says view shape known_rows known_soft (faults.Certificate e) h = h
+refused_inputs Says view shape known_rows known_soft faults.NotWholePacket h = h
+refused_inputs Says view shape known_rows known_soft (faults.NoSync packet) h = h
+
+-- a command on files that were read
+pub on_inputs : (Says : Rows × List ℤ → Exit → List ℕ → Type 0) (shape : Shape) (known_rows known_soft : Option (List ℕ)) (rows : Rows) (soft : List ℤ) (made : Result Printed Fault)
+    → AreInputs shape known_rows known_soft (Ok (rows, soft)) → CommandAnswers Says (IsOnly (rows, soft)) made → CommandAnswers Says (AreInputs shape known_rows known_soft) made
+on_inputs Says shape known_rows known_soft rows soft made is h =
+    answers_moved Says (IsOnly (rows, soft)) (AreInputs shape known_rows known_soft) made (λ said e. subst (AreInputs shape known_rows known_soft) (sym e) is) h
+
 -- the same rows by other names
 pub at_rows : (known_soft : Option (List ℕ)) (ended : Result Exit Fault) (old new : Option (List ℕ)) (shape shape' : Shape) (xs xs' : List ℕ)
     → shape ≡ shape' → xs ≡ xs' → CommandRuns (IsJudged 0) (AreInputs shape (Some xs) known_soft) ended old new → CommandRuns (IsJudged 0) (AreInputs shape' (Some xs') known_soft) ended old new
@@ -37,10 +93,49 @@ at_rows known_soft ended old new shape shape' xs xs' p q h =
 
 -- ---- rows and a certificate
 
--- two files in memory say this certificate and these rows
-pub are_parts : (rows certificate : List ℕ) (view : View) (r : Rows) → certificate_said (certificate_files.certificate_of_bytes certificate) ≡ Ok view
-    → rows_said view.shape (row_files.rows_of_text rows view.shape) ≡ Ok r → ArePartsIn rows certificate (Ok (r, view))
-are_parts rows certificate view r p q = ap (with_rows rows) p ∙ ap (beside view) q
+-- a certificate beside which the rows are refused
+pub rows_beside_refused : (text : List ℕ) (view : View) (f : Fault) → Follows {V = Rows} (λ r. r) (Err f) (rows_said view.shape (row_files.rows_of_text text view.shape))
+    → CommandAnswers IsAnswered (AreRowsBeside text view) (Err f)
+rows_beside_refused text view faults.Read h = tt
+rows_beside_refused text view faults.Write h = tt
+rows_beside_refused text view faults.NoMemory h = tt
+rows_beside_refused text view faults.Mode h = ap (beside view) h
+rows_beside_refused text view faults.Shape h = ap (beside view) h
+rows_beside_refused text view faults.Weight h = ap (beside view) h
+rows_beside_refused text view (faults.Open name) h = ap (beside view) h
+rows_beside_refused text view faults.TooLong h = ap (beside view) h
+rows_beside_refused text view (faults.Rows e) h = ap (beside view) h
+rows_beside_refused text view (faults.Values e) h = ap (beside view) h
+rows_beside_refused text view (faults.Certificate e) h = ap (beside view) h
+rows_beside_refused text view faults.NotWholePacket h = ap (beside view) h
+rows_beside_refused text view (faults.NoSync packet) h = ap (beside view) h
+
+-- a certificate beside which the rows are read
+pub on_rows : (text : List ℕ) (view : View) (rows : Rows) (made : Result Printed Fault) → rows_said view.shape (row_files.rows_of_text text view.shape) ≡ Ok rows
+    → CommandAnswers IsAnswered (IsOnly (rows, view)) made → CommandAnswers IsAnswered (AreRowsBeside text view) made
+on_rows text view rows made p h = answers_moved IsAnswered (IsOnly (rows, view)) (AreRowsBeside text view) made (λ said e. ap (beside view) p ∙ sym e) h
+
+-- a certificate that is refused
+pub certificate_refused : (text certificate : List ℕ) (f : Fault) → Follows {V = View} (λ c. c) (Err f) (certificate_said (certificate_files.certificate_of_bytes certificate))
+    → CommandAnswers IsAnswered (ArePartsIn text certificate) (Err f)
+certificate_refused text certificate faults.Read h = tt
+certificate_refused text certificate faults.Write h = tt
+certificate_refused text certificate faults.NoMemory h = tt
+certificate_refused text certificate faults.Mode h = ap (with_rows text) h
+certificate_refused text certificate faults.Shape h = ap (with_rows text) h
+certificate_refused text certificate faults.Weight h = ap (with_rows text) h
+certificate_refused text certificate (faults.Open name) h = ap (with_rows text) h
+certificate_refused text certificate faults.TooLong h = ap (with_rows text) h
+certificate_refused text certificate (faults.Rows e) h = ap (with_rows text) h
+certificate_refused text certificate (faults.Values e) h = ap (with_rows text) h
+certificate_refused text certificate (faults.Certificate e) h = ap (with_rows text) h
+certificate_refused text certificate faults.NotWholePacket h = ap (with_rows text) h
+certificate_refused text certificate (faults.NoSync packet) h = ap (with_rows text) h
+
+-- the rows beside the certificate that the other file says
+pub on_parts : (text certificate : List ℕ) (view : View) (made : Result Printed Fault) → certificate_said (certificate_files.certificate_of_bytes certificate) ≡ Ok view
+    → CommandAnswers IsAnswered (AreRowsBeside text view) made → CommandAnswers IsAnswered (ArePartsIn text certificate) made
+on_parts text certificate view made p h = answers_moved IsAnswered (AreRowsBeside text view) (ArePartsIn text certificate) made (λ said e. ap (with_rows text) p ∙ e) h
 
 both_taken : (a b : Result (List ℕ) Fault) (rows certificate : List ℕ) → a ≡ Ok rows → b ≡ Ok certificate → then_parts a b ≡ parts_in rows certificate
 both_taken a b rows certificate p q = ap (λ x. then_parts x b) p ∙ ap (then_parts (Ok rows)) q

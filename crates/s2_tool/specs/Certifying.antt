@@ -4,12 +4,12 @@ use Rattle.std.specs.Io.KnownBytes.{Appends}
 use Rattle.s2_rows.specs.Rows.{Rows}
 use Rattle.s2_check.specs.CertificateBytes.{bytes_of}
 use Rattle.s2_check.specs.Views.{View}
-use Rattle.s2_modem.specs.Deciding.{IsShown}
+use Rattle.s2_modem.specs.Deciding.{Decided, IsShown}
 use Rattle.s2_tool.specs.declared.console.Printed.{Printed}
 use Rattle.s2_tool.specs.declared.exit.Exit.{Exit}
 use Rattle.s2_tool.specs.declared.fault.Fault.{Fault}
 use Rattle.s2_tool.specs.declared.fault.Fault.TheVariants as faults
-use Rattle.s2_tool.specs.Judging.{judged, exit_on}
+use Rattle.s2_tool.specs.Judging.{SaysDecided, judged, exit_on}
 
 -- a certificate's bytes are written, or nothing where there is none
 abbrev pub Writes : Option View → Option (List ℕ) → Option (List ℕ) → Type 0
@@ -22,6 +22,15 @@ pub record Wrote (passes : ℕ) (input : Rows × List ℤ) (exit : Exit) (old ne
   pub shown : IsShown input.0 input.1 (judged passes input.0 input.1)
   pub exit_is : exit ≡ exit_on (judged passes input.0 input.1).verdict
   pub written : Writes (judged passes input.0 input.1).certificate old new
+
+-- What is to be printed tells what was decided, and its certificate is written, where there is one. Where memory ran out nothing
+-- is written.
+abbrev pub CertifiesDecided : Decided → Rows → List ℤ → Result Printed Fault → Option (List ℕ) → Option (List ℕ) → Type 0
+CertifiesDecided d rows soft (Ok printed) old new =
+    SaysDecided d rows soft printed.exit printed.text.items × IsShown rows soft d × (printed.exit ≡ exit_on d.verdict) × Writes d.certificate old new
+CertifiesDecided d rows soft (Err faults.Write) old new = ⊤
+CertifiesDecided d rows soft (Err faults.NoMemory) old new = new ≡ old
+CertifiesDecided d rows soft (Err f) old new = ⊥
 
 -- What is written before the verdict is printed: nothing where there is none, and nothing is promised where the writer failed.
 abbrev pub IsCertified : ℕ → (Result (Rows × List ℤ) Fault → Type 0) → Result Printed Fault → Option (List ℕ) → Option (List ℕ) → Type 0

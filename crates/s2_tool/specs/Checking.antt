@@ -46,6 +46,10 @@ then_parts (Ok rows) (Ok certificate) = parts_in rows certificate
 abbrev pub check_inputs : List ℕ → List ℕ → Result (Rows × View) Fault
 check_inputs rows certificate = then_parts (taken rows) (taken certificate)
 
+-- what is answered is what a row file in memory says beside a certificate
+abbrev pub AreRowsBeside : List ℕ → View → Result (Rows × View) Fault → Type 0
+AreRowsBeside rows view said = with_rows rows (Ok view) ≡ said
+
 -- what is answered is what two files in memory say
 abbrev pub ArePartsIn : List ℕ → List ℕ → Result (Rows × View) Fault → Type 0
 ArePartsIn rows certificate said = parts_in rows certificate ≡ said

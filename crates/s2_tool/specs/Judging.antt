@@ -45,8 +45,12 @@ Says verdicts.MostLikely rows soft bits exit text = SaysMostLikely rows soft bit
 Says verdicts.Parity rows soft bits exit text = SaysParity rows soft bits exit text
 Says verdicts.Broken rows soft bits exit text = SaysBroken rows soft bits exit text
 
+-- the exit and the text tell what was decided
+abbrev pub SaysDecided : Decided → Rows → List ℤ → Exit → List ℕ → Type 0
+SaysDecided d rows soft exit text = Says d.verdict rows soft d.bits exit text
+
 abbrev pub Judges : ℕ → Rows → List ℤ → Exit → List ℕ → Type 0
-Judges passes rows soft exit text = Says (judged passes rows soft).verdict rows soft (judged passes rows soft).bits exit text
+Judges passes rows soft exit text = SaysDecided (judged passes rows soft) rows soft exit text
 
 abbrev pub IsJudged : ℕ → Rows × List ℤ → Exit → List ℕ → Type 0
 IsJudged passes input exit text = Judges passes input.0 input.1 exit text

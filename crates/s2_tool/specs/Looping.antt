@@ -59,6 +59,10 @@ HearsAll rules (Err f) old new ended = (ended ≡ Err f) × (new.given ≡ old.g
 abbrev pub LoopsBy : Transmitter → Rules → ℕ → ℕ → Streams → Streams → Result Exit Fault → Type 0
 LoopsBy t rules seed level old new ended = (received : Result (List ℕ) Fault) × Passes t seed level old new received × HearsAll rules received old new ended
 
+-- the same on a link, by a transmitter that was made
+abbrev pub LoopsFrom : Transmitter → Effort → ℕ → ℕ → Deed
+LoopsFrom t effort seed level link old new ended = LoopsBy t (link_rules link effort MOST_SYMBOLS) seed level old new ended
+
 -- `run` on a link
 abbrev pub Loops : Effort → ℕ → ℕ → Deed
 Loops effort seed level link old new ended = LoopsBy (transmitter_on link) (link_rules link effort MOST_SYMBOLS) seed level old new ended

@@ -3,20 +3,20 @@ ghost use Rattle.std.specs.Prelude.{◌≡◌, ◌≢◌, ◌+◌, All, IsOk, On
 ghost use Rattle.s2_mode.specs.Counts.{CountsFault};
 ghost use Rattle.s2_matrix.specs.Code.{code_of};
 ghost use Rattle.s2_check.specs.Views.{IsSoft};
+ghost use Rattle.s2_modem.specs.Deciding.{decided};
 ghost use Rattle.s2_tool.specs.Counting.{CanCount};
 ghost use Rattle.s2_tool.specs.Screens.{CanShow};
 ghost use Rattle.s2_tool.specs.Exits.{exit_of, CommandAnswers, CommandRuns, CommandCounts, Complains};
 ghost use Rattle.s2_tool.specs.Inputs.{AreInputs, IsOnly};
 ghost use Rattle.s2_tool.specs.Judging.{IsJudged};
-ghost use Rattle.s2_tool.specs.Certifying.{Writes, Certifies, IsCertified};
+ghost use Rattle.s2_tool.specs.Certifying.{Writes, CertifiesDecided, Certifies, IsCertified};
 
 use crate::console::{Console, Printed};
 use crate::exit::Exit;
 use crate::fault::Fault;
-use crate::files::{read_row_file, read_value_file};
-use crate::judge::{DEFAULT_ROUNDS, judgement};
+use crate::files::{Judged, read_judged};
+use crate::judge::{DEFAULT_ROUNDS, decision};
 use s2_check::CertView;
-use s2_matrix::Matrix;
 use s2_mode::{CountedRead, CountedWrite, Shape, WriteFault};
 use s2_modem::Judge;
 use std::alloc::Global;
@@ -36,34 +36,52 @@ fn write_certificate<C: CountedWrite>(
     }
 }
 
-/// Judges soft values, and writes the certificate of what is decided, where there is one.
-fn certify_soft<C: CountedWrite>(
+/// Decides by a judge, and writes the certificate of what is decided, where there is one.
+fn certify_by<C: CountedWrite>(
     alloc: Global,
-    matrix: &Matrix,
-    passes: u32,
-    soft: &[i16],
+    judged: &Judged,
+    judge: &mut Judge<'_>,
     certificate: &mut C,
 ) -> Result<Printed, Fault<'static>>
-    requires soft { length soft.now ≡ (code_of matrix.now).bits }
-    requires range { All IsSoft soft.now }
+    requires rows { judge.old.rows ≡ judged.now.matrix }
+    requires long { length judged.now.soft.items ≡ (code_of judged.now.matrix).bits }
+    requires range { All IsSoft judged.now.soft.items }
     requires certificate { CanCount (C.count certificate.old) }
-    ensures answers { CommandAnswers (IsJudged passes) (IsOnly (matrix.now, soft.now)) result }
-    ensures certified { IsCertified passes (IsOnly (matrix.now, soft.now)) result (C.contents certificate.old) (C.contents certificate.new) }
+    ensures certified { CertifiesDecided (decided judged.now.matrix judge.old.effort judged.now.soft.items) judged.now.matrix judged.now.soft.items result
+        (C.contents certificate.old) (C.contents certificate.new) }
     ensures read { result ≢ Err Fault.Read }
     ensures write { result ≡ Err Fault.Write → C.count certificate.new ≡ C.count certificate.old + 1 }
     ensures no_write { result ≢ Err Fault.Write → C.count certificate.new ≡ C.count certificate.old }
 {
-    let Ok(mut judge) = Judge::new(alloc, matrix, DEFAULT_ROUNDS, passes) else {
+    let Ok(printed) = decision(alloc, &judged.matrix, judge, &judged.soft) else {
         return Err(Fault::NoMemory);
     };
-    let verdict = judge.judge(soft);
-    let Ok(printed) = judgement(alloc, matrix, soft, judge.word(), verdict) else {
-        return Err(Fault::NoMemory);
-    };
-    let Ok(()) = write_certificate(judge.certificate(), certificate) else {
-        return Err(Fault::Write);
-    };
-    Ok(printed)
+    match write_certificate(judge.certificate(), certificate) {
+        Ok(()) => Ok(printed),
+        Err(_) => Err(Fault::Write),
+    }
+}
+
+/// Judges soft values, and writes the certificate of what is decided, where there is one.
+fn certify_soft<C: CountedWrite>(
+    alloc: Global,
+    passes: u32,
+    judged: &Judged,
+    certificate: &mut C,
+) -> Result<Printed, Fault<'static>>
+    requires long { length judged.now.soft.items ≡ (code_of judged.now.matrix).bits }
+    requires range { All IsSoft judged.now.soft.items }
+    requires certificate { CanCount (C.count certificate.old) }
+    ensures answers { CommandAnswers (IsJudged passes) (IsOnly (judged.now.matrix, judged.now.soft.items)) result }
+    ensures certified { IsCertified passes (IsOnly (judged.now.matrix, judged.now.soft.items)) result (C.contents certificate.old) (C.contents certificate.new) }
+    ensures read { result ≢ Err Fault.Read }
+    ensures write { result ≡ Err Fault.Write → C.count certificate.new ≡ C.count certificate.old + 1 }
+    ensures no_write { result ≢ Err Fault.Write → C.count certificate.new ≡ C.count certificate.old }
+{
+    match Judge::new(alloc, &judged.matrix, DEFAULT_ROUNDS, passes) {
+        Ok(mut judge) => certify_by(alloc, judged, &mut judge, certificate),
+        Err(_) => Err(Fault::NoMemory),
+    }
 }
 
 /// Reads rows and soft values, judges, and certifies.
@@ -85,12 +103,8 @@ fn certify_files<R: CountedRead, S: CountedRead, C: CountedWrite>(
     ensures write { result ≡ Err Fault.Write → C.count certificate.new ≡ C.count certificate.old + 1 }
     ensures no_write { result ≢ Err Fault.Write → C.count certificate.new ≡ C.count certificate.old }
 {
-    let rows = read_row_file(alloc, rows, shape)?;
-    let soft = read_value_file(alloc, soft, shape)?;
-    let Ok(matrix) = Matrix::build(alloc, &rows) else {
-        return Err(Fault::NoMemory);
-    };
-    certify_soft(alloc, &matrix, passes, &soft, certificate)
+    let judged = read_judged(alloc, rows, soft, shape)?;
+    certify_soft(alloc, passes, &judged, certificate)
 }
 
 /// Reads rows and soft values, judges, certifies, and then prints the verdict.

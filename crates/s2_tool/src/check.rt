@@ -5,8 +5,8 @@ ghost use Rattle.s2_check.specs.CertificateFiles.{certificate_of_bytes};
 ghost use Rattle.s2_tool.specs.Counting.{CanCount};
 ghost use Rattle.s2_tool.specs.Screens.{CanShow};
 ghost use Rattle.s2_tool.specs.Exits.{exit_of, Follows, CommandAnswers, CommandRuns, CommandCounts, Complains};
-ghost use Rattle.s2_tool.specs.Inputs.{rows_said};
-ghost use Rattle.s2_tool.specs.Checking.{certificate_said, ArePartsIn, AreCheckInputs, answer_line, answer_exit, SaysAnswer, IsAnswered};
+ghost use Rattle.s2_tool.specs.Inputs.{rows_said, IsOnly};
+ghost use Rattle.s2_tool.specs.Checking.{certificate_said, AreRowsBeside, ArePartsIn, AreCheckInputs, answer_line, answer_exit, IsAnswered};
 
 use crate::console::{Console, Printed};
 use crate::exit::Exit;
@@ -42,14 +42,19 @@ fn answer_line(alloc: Global, cost: i64, answer: Answer) -> Result<Vec<u8>, Allo
 }
 
 /// Checks a certificate.
-fn answered(alloc: Global, matrix: &Matrix, view: &CertView<'_>) -> Result<Printed, AllocError>
-    ensures { IfOk result (λ p. SaysAnswer matrix.now view.now p.exit p.text.items) }
+fn answered(alloc: Global, matrix: &Matrix, view: &CertView<'_>) -> Result<Printed, Fault<'static>>
+    ensures answers { CommandAnswers IsAnswered (IsOnly (matrix.now, view.now)) result }
+    ensures read { result ≢ Err Fault.Read }
+    ensures write { result ≢ Err Fault.Write }
 {
     let answer = check(matrix, view);
-    Ok(Printed {
-        exit: exit_of_answer(answer),
-        text: answer_line(alloc, view.cost(), answer)?,
-    })
+    match answer_line(alloc, view.cost(), answer) {
+        Ok(text) => Ok(Printed {
+            exit: exit_of_answer(answer),
+            text,
+        }),
+        Err(_) => Err(Fault::NoMemory),
+    }
 }
 
 /// The certificate of a file in memory.
@@ -78,6 +83,29 @@ fn rows_of(alloc: Global, text: &[u8], shape: Shape) -> Result<Rows, Fault<'stat
     }
 }
 
+/// The matrix of the rows of a row file in memory.
+fn matrix_of(alloc: Global, text: &[u8], shape: Shape) -> Result<Matrix, Fault<'static>>
+    ensures says { Follows (λ m. m) result (rows_said shape (row_files.rows_of_text text.now shape)) }
+    ensures read { result ≢ Err Fault.Read }
+    ensures write { result ≢ Err Fault.Write }
+{
+    let rows = rows_of(alloc, text, shape)?;
+    match Matrix::build(alloc, &rows) {
+        Ok(matrix) => Ok(matrix),
+        Err(_) => Err(Fault::NoMemory),
+    }
+}
+
+/// Checks a certificate by a row file in memory.
+fn check_by(alloc: Global, rows: &[u8], view: &CertView<'_>) -> Result<Printed, Fault<'static>>
+    ensures answers { CommandAnswers IsAnswered (AreRowsBeside rows.now view.now) result }
+    ensures read { result ≢ Err Fault.Read }
+    ensures write { result ≢ Err Fault.Write }
+{
+    let matrix = matrix_of(alloc, rows, view.shape())?;
+    answered(alloc, &matrix, view)
+}
+
 /// Takes two files in memory apart, and checks.
 fn check_parts(alloc: Global, rows: &[u8], certificate: &[u8]) -> Result<Printed, Fault<'static>>
     ensures answers { CommandAnswers IsAnswered (ArePartsIn rows.now certificate.now) result }
@@ -85,15 +113,7 @@ fn check_parts(alloc: Global, rows: &[u8], certificate: &[u8]) -> Result<Printed
     ensures write { result ≢ Err Fault.Write }
 {
     let certificate = certificate_of(alloc, certificate)?;
-    let view = certificate.view();
-    let rows = rows_of(alloc, rows, view.shape())?;
-    let Ok(matrix) = Matrix::build(alloc, &rows) else {
-        return Err(Fault::NoMemory);
-    };
-    let Ok(printed) = answered(alloc, &matrix, &view) else {
-        return Err(Fault::NoMemory);
-    };
-    Ok(printed)
+    check_by(alloc, rows, &certificate.view())
 }
 
 /// Reads rows and a certificate into memory, and checks.

@@ -1,10 +1,11 @@
-//! Row files, their matrices, and value files.
+//! Row files, their matrices, value files, and what is judged.
 ghost use Rattle.std.specs.Prelude.{◌≡◌, ◌≢◌, ◌+◌, All, Err, IfOk, IfSome, length};
 ghost use Rattle.s2_check.specs.Views.{IsSoft};
 ghost use Rattle.s2_mode.specs.Shape.{code_bits};
 ghost use Rattle.s2_tool.specs.Counting.{CanCount};
 ghost use Rattle.s2_tool.specs.Exits.{Follows};
-ghost use Rattle.s2_tool.specs.Inputs.{taken, rows_in, values_in};
+ghost use Rattle.s2_matrix.specs.Code.{code_of};
+ghost use Rattle.s2_tool.specs.Inputs.{taken, rows_in, values_in, inputs};
 
 use crate::fault::Fault;
 use s2_matrix::Matrix;
@@ -95,4 +96,32 @@ pub(crate) fn read_value_file<R: CountedRead>(
         Err(ValueFault::NoMemory) => Err(Fault::NoMemory),
         Err(fault) => Err(Fault::Values(fault)),
     }
+}
+
+/// What is judged: the matrix of rows, and a soft value for each of its bits.
+#[derive(Drop)]
+pub struct Judged {
+    pub matrix: Matrix,
+    pub soft: Vec<i16>,
+}
+
+/// The rows of a row file and the values of a value file.
+pub(crate) fn read_judged<R: CountedRead, S: CountedRead>(
+    alloc: Global,
+    rows: &mut R,
+    soft: &mut S,
+    shape: Shape,
+) -> Result<Judged, Fault<'static>>
+    requires rows { CanCount (R.count rows.old) }
+    requires soft { CanCount (S.count soft.old) }
+    ensures says { IfSome (R.remaining rows.old) (λ xs. IfSome (S.remaining soft.old) (λ ys. Follows (λ j. (j.matrix, j.soft.items)) result (inputs shape xs ys))) }
+    ensures long { IfOk result (λ j. length j.soft.items ≡ (code_of j.matrix).bits) }
+    ensures range { IfOk result (λ j. All IsSoft j.soft.items) }
+    ensures read { result ≡ Err Fault.Read → R.count rows.new + S.count soft.new ≡ R.count rows.old + S.count soft.old + 1 }
+    ensures no_read { result ≢ Err Fault.Read → R.count rows.new + S.count soft.new ≡ R.count rows.old + S.count soft.old }
+    ensures write { result ≢ Err Fault.Write }
+{
+    let matrix = read_matrix(alloc, rows, shape)?;
+    let soft = read_value_file(alloc, soft, shape)?;
+    Ok(Judged { matrix, soft })
 }

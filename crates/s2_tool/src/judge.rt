@@ -1,19 +1,20 @@
 //! Soft values judged.
-ghost use Rattle.std.specs.Prelude.{◌≡◌, ◌≢◌, ◌+◌, All, Result, Err, IfOk, IsOk, codes, length, Some};
+ghost use Rattle.std.specs.Prelude.{◌≡◌, ◌≢◌, ◌+◌, All, Result, Err, IfOk, IfErr, IsOk, codes, length, Some};
 ghost use Rattle.s2_mode.specs.Shape.{shape_of};
 ghost use Rattle.s2_matrix.specs.Code.{code_of, IsCodeword};
 ghost use Rattle.s2_check.specs.Cost.{IsMostLikely};
 ghost use Rattle.s2_check.specs.Views.{IsSoft};
+ghost use Rattle.s2_modem.specs.Deciding.{decided, IsShown};
 ghost use Rattle.s2_tool.specs.Counting.{CanCount};
 ghost use Rattle.s2_tool.specs.Screens.{CanShow};
 ghost use Rattle.s2_tool.specs.Exits.{exit_of, CommandAnswers, CommandRuns, CommandCounts, Complains};
-ghost use Rattle.s2_tool.specs.Inputs.{AreInputs};
-ghost use Rattle.s2_tool.specs.Judging.{Says, Judges, IsJudged, exit_on};
+ghost use Rattle.s2_tool.specs.Inputs.{AreInputs, IsOnly};
+ghost use Rattle.s2_tool.specs.Judging.{Says, SaysDecided, IsJudged, exit_on};
 
 use crate::console::{Console, Printed};
 use crate::exit::Exit;
 use crate::fault::Fault;
-use crate::files::{read_row_file, read_value_file};
+use crate::files::{Judged, read_judged};
 use crate::lines::{broken_line, most_likely_line, parity_line};
 use s2_bits::Bits;
 use s2_check::cost;
@@ -69,20 +70,55 @@ pub(crate) fn judgement(
     }
 }
 
-/// Judges soft values.
-fn judge_soft(
+/// What a judge decides on soft values: its line and its exit.
+pub(crate) fn decision(
     alloc: Global,
     matrix: &Matrix,
-    passes: u32,
+    judge: &mut Judge<'_>,
     soft: &[i16],
 ) -> Result<Printed, AllocError>
+    requires rows { judge.old.rows ≡ matrix.now }
     requires long { length soft.now ≡ (code_of matrix.now).bits }
     requires range { All IsSoft soft.now }
-    ensures { IfOk result (λ p. Judges passes matrix.now soft.now p.exit p.text.items) }
+    ensures says { IfOk result (λ p. SaysDecided (decided matrix.now judge.old.effort soft.now) matrix.now soft.now p.exit p.text.items) }
+    ensures exit { IfOk result (λ p. p.exit ≡ exit_on (decided matrix.now judge.old.effort soft.now).verdict) }
+    ensures certificate { judge.new.certificate ≡ (decided matrix.now judge.old.effort soft.now).certificate }
+    ensures shown { IsShown matrix.now soft.now (decided matrix.now judge.old.effort soft.now) }
 {
-    let mut judge = Judge::new(alloc, matrix, DEFAULT_ROUNDS, passes)?;
     let verdict = judge.judge(soft);
     judgement(alloc, matrix, soft, judge.word(), verdict)
+}
+
+/// Decides by a judge.
+fn judge_by(
+    alloc: Global,
+    judged: &Judged,
+    judge: &mut Judge<'_>,
+) -> Result<Printed, Fault<'static>>
+    requires rows { judge.old.rows ≡ judged.now.matrix }
+    requires long { length judged.now.soft.items ≡ (code_of judged.now.matrix).bits }
+    requires range { All IsSoft judged.now.soft.items }
+    ensures says { IfOk result (λ p. SaysDecided (decided judged.now.matrix judge.old.effort judged.now.soft.items) judged.now.matrix judged.now.soft.items p.exit p.text.items) }
+    ensures memory { IfErr result (λ f. f ≡ Fault.NoMemory) }
+{
+    match decision(alloc, &judged.matrix, judge, &judged.soft) {
+        Ok(printed) => Ok(printed),
+        Err(_) => Err(Fault::NoMemory),
+    }
+}
+
+/// Judges soft values.
+fn judge_soft(alloc: Global, passes: u32, judged: &Judged) -> Result<Printed, Fault<'static>>
+    requires long { length judged.now.soft.items ≡ (code_of judged.now.matrix).bits }
+    requires range { All IsSoft judged.now.soft.items }
+    ensures answers { CommandAnswers (IsJudged passes) (IsOnly (judged.now.matrix, judged.now.soft.items)) result }
+    ensures read { result ≢ Err Fault.Read }
+    ensures write { result ≢ Err Fault.Write }
+{
+    match Judge::new(alloc, &judged.matrix, DEFAULT_ROUNDS, passes) {
+        Ok(mut judge) => judge_by(alloc, judged, &mut judge),
+        Err(_) => Err(Fault::NoMemory),
+    }
 }
 
 /// Reads rows and soft values, and judges.
@@ -100,15 +136,8 @@ fn judge_files<R: CountedRead, S: CountedRead>(
     ensures no_read { result ≢ Err Fault.Read → R.count rows.new + S.count soft.new ≡ R.count rows.old + S.count soft.old }
     ensures write { result ≢ Err Fault.Write }
 {
-    let rows = read_row_file(alloc, rows, shape)?;
-    let soft = read_value_file(alloc, soft, shape)?;
-    let Ok(matrix) = Matrix::build(alloc, &rows) else {
-        return Err(Fault::NoMemory);
-    };
-    let Ok(printed) = judge_soft(alloc, &matrix, passes, &soft) else {
-        return Err(Fault::NoMemory);
-    };
-    Ok(printed)
+    let judged = read_judged(alloc, rows, soft, shape)?;
+    judge_soft(alloc, passes, &judged)
 }
 
 /// Reads rows and soft values, judges, and prints the verdict.

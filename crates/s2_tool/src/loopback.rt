@@ -9,7 +9,7 @@ ghost use Rattle.s2_tool.specs.Counting.{CanCount};
 ghost use Rattle.s2_tool.specs.Screens.{CanShow};
 ghost use Rattle.s2_tool.specs.Exits.{exit_of, Complains};
 ghost use Rattle.s2_tool.specs.Links.{setup_of, Tries};
-ghost use Rattle.s2_tool.specs.Looping.{kept_fault, Spoilt, Passes, LoopsBy, Loops, LoopsBack};
+ghost use Rattle.s2_tool.specs.Looping.{kept_fault, Spoilt, Passes, LoopsBy, LoopsFrom, Loops, LoopsBack};
 
 use crate::console::Console;
 use crate::effort::Effort;
@@ -109,6 +109,47 @@ fn loop_packets<P: CountedRead, W: CountedWrite, O: CountedWrite>(
     receive_frames(receiver, &mut InMemory::new(&symbols), to, out)
 }
 
+/// Sends packets by a transmitter, and receives what comes on the rows of a matrix.
+fn loop_from<P: CountedRead, W: CountedWrite, O: CountedWrite>(
+    alloc: Global,
+    transmitter: &mut Transmitter<'_>,
+    setup: &Setup,
+    matrix: &Matrix,
+    effort: Effort,
+    seed: u64,
+    level: u16,
+    packets: &mut P,
+    to: &mut W,
+    out: &mut O,
+) -> Result<Exit, Fault<'static>>
+    requires shape { matrix.now.shape ≡ shape_in setup.now.mode }
+    requires number { setup.now.number ≤ 262141 }
+    requires roll_off { setup.now.roll_off ≤ 2 }
+    requires packets { CanCount (P.count packets.old) }
+    requires to { CanCount (W.count to.old) }
+    requires out { CanCount (O.count out.old) }
+    ensures whole { IsOk result → O.count out.new ≡ O.count out.old }
+    ensures loops { Tries (LoopsFrom transmitter.old (effort_of effort.rounds effort.passes) seed level) (link_of setup.now matrix.now)
+        (record { taken = P.remaining packets.old; given = W.contents to.old; out = O.contents out.old; reads = P.count packets.old; writes = W.count to.old + O.count out.old })
+        (record { taken = P.remaining packets.new; given = W.contents to.new; out = O.contents out.new; reads = P.count packets.new; writes = W.count to.new + O.count out.new })
+        result }
+    ensures no_read { result ≢ Err Fault.Read → P.count packets.new ≡ P.count packets.old }
+    ensures write { result ≡ Err Fault.Write → W.count to.new + O.count out.new ≡ W.count to.old + O.count out.old + 1 }
+    ensures no_write { result ≢ Err Fault.Write → W.count to.new + O.count out.new ≡ W.count to.old + O.count out.old }
+{
+    let mut receiver = receiver_of(alloc, *setup, matrix, effort)?;
+    loop_packets(
+        alloc,
+        transmitter,
+        &mut receiver,
+        seed,
+        level,
+        packets,
+        to,
+        out,
+    )
+}
+
 /// Sends packets on the rows of a matrix, and receives what comes.
 fn loop_link<P: CountedRead, W: CountedWrite, O: CountedWrite>(
     alloc: Global,
@@ -137,11 +178,12 @@ fn loop_link<P: CountedRead, W: CountedWrite, O: CountedWrite>(
     ensures no_write { result ≢ Err Fault.Write → W.count to.new + O.count out.new ≡ W.count to.old + O.count out.old }
 {
     let mut transmitter = transmitter_of(alloc, *setup, matrix)?;
-    let mut receiver = receiver_of(alloc, *setup, matrix, effort)?;
-    loop_packets(
+    loop_from(
         alloc,
         &mut transmitter,
-        &mut receiver,
+        setup,
+        matrix,
+        effort,
         seed,
         level,
         packets,

@@ -42,18 +42,36 @@ fn with_shape<'a>(alloc: Global, command: Command<'a>) -> Result<Command<'a>, Al
         .arg(required(alloc, "q", q, "Q").help("Checks by which a group's next bit moves on"))
 }
 
-fn with_link<'a>(alloc: Global, command: Command<'a>) -> Result<Command<'a>, AllocError> {
+fn modcod<'a>(alloc: Global) -> Arg<'a> {
     let modcod = value_parser!(u8).range(1..=17);
-    let scrambling = value_parser!(u32).range(0..=262141);
-    let roll_off = value_parser!(u8).range(0..=2);
-    let scrambling = number(alloc, "number", scrambling, "N").default_value("0");
-    let roll_off = number(alloc, "ro", roll_off, "R").default_value("0");
+    required(alloc, "modcod", modcod, "M").help("MODCOD, 1 to 17")
+}
+
+fn with_mode<'a>(alloc: Global, command: Command<'a>) -> Result<Command<'a>, AllocError> {
     command
-        .arg(required(alloc, "modcod", modcod, "M").help("MODCOD, 1 to 17"))?
+        .arg(modcod(alloc))?
         .arg(flag(alloc, "short", "Frames of 16200 bits"))?
-        .arg(flag(alloc, "pilots", "Frames with pilot blocks"))?
-        .arg(scrambling.help("Scrambling number, 0 to 262141"))?
-        .arg(roll_off.help("Roll-off that headers tell: 0 is 0.35, 1 is 0.25, 2 is 0.20"))
+        .arg(flag(alloc, "pilots", "Frames with pilot blocks"))
+}
+
+fn scrambling<'a>(alloc: Global) -> Arg<'a> {
+    let scrambling = value_parser!(u32).range(0..=262141);
+    number(alloc, "number", scrambling, "N")
+        .default_value("0")
+        .help("Scrambling number, 0 to 262141")
+}
+
+fn roll_off<'a>(alloc: Global) -> Arg<'a> {
+    let roll_off = value_parser!(u8).range(0..=2);
+    number(alloc, "ro", roll_off, "R").default_value("0").help(
+        "Roll-off that headers tell: 0 is 0.35, 1 is 0.25, 2 is 0.20",
+    )
+}
+
+fn with_link<'a>(alloc: Global, command: Command<'a>) -> Result<Command<'a>, AllocError> {
+    with_mode(alloc, command)?
+        .arg(scrambling(alloc))?
+        .arg(roll_off(alloc))
 }
 
 fn with_passes<'a>(alloc: Global, command: Command<'a>) -> Result<Command<'a>, AllocError> {
@@ -90,15 +108,18 @@ fn rows_words<'a>(alloc: Global) -> Result<Command<'a>, AllocError> {
         .arg(required(alloc, "seed", seed, "S").help("Seed of the generator"))
 }
 
+fn certificate<'a>(alloc: Global) -> Arg<'a> {
+    Arg::new(alloc, "cert")
+        .long("cert")
+        .value_name("FILE")
+        .help("File for the certificate of a most likely word")
+}
+
 fn judge_words<'a>(alloc: Global) -> Result<Command<'a>, AllocError> {
     let command = Command::new(alloc, "judge")
         .about("Decides on soft values")
         .after_help("Example:\n  s2 judge --group 4 --groups 2 --q 3 --cert certificate rows soft");
-    let certificate = Arg::new(alloc, "cert")
-        .long("cert")
-        .value_name("FILE")
-        .help("File for the certificate of a most likely word");
-    let command = with_shape(alloc, command)?.arg(certificate)?;
+    let command = with_shape(alloc, command)?.arg(certificate(alloc))?;
     with_passes(alloc, command)?
         .arg(file(alloc, "ROWS", "Row file"))?
         .arg(file(
@@ -160,20 +181,35 @@ fn run_words<'a>(alloc: Global) -> Result<Command<'a>, AllocError> {
         .arg(file(alloc, "OUT", "File for the packets that are received"))
 }
 
+/// A command with one more command below it.
+fn with_command<'a>(
+    command: Command<'a>,
+    below: Result<Command<'a>, AllocError>,
+) -> Result<Command<'a>, AllocError> {
+    command.subcommand(below?)
+}
+
+/// The commands of a code.
+fn with_code_commands<'a>(alloc: Global, command: Command<'a>) -> Result<Command<'a>, AllocError> {
+    let command = with_command(command, rows_words(alloc))?;
+    let command = with_command(command, judge_words(alloc))?;
+    with_command(command, check_words(alloc))
+}
+
+/// The commands of a link.
+fn with_link_commands<'a>(alloc: Global, command: Command<'a>) -> Result<Command<'a>, AllocError> {
+    let command = with_command(command, mod_words(alloc))?;
+    let command = with_command(command, noise_words(alloc))?;
+    let command = with_command(command, demod_words(alloc))?;
+    with_command(command, run_words(alloc))
+}
+
 /// All that the program understands.
 fn command<'a>(alloc: Global) -> Result<Command<'a>, AllocError> {
-    Command::new(alloc, "s2")
-        .version("0.1")
-        .about(
-            "A DVB-S2 modem with maximum-likelihood certificates. Without a command it judges the 20 soft values of standard input under a toy code",
-        )
-        .subcommand(rows_words(alloc)?)?
-        .subcommand(judge_words(alloc)?)?
-        .subcommand(check_words(alloc)?)?
-        .subcommand(mod_words(alloc)?)?
-        .subcommand(noise_words(alloc)?)?
-        .subcommand(demod_words(alloc)?)?
-        .subcommand(run_words(alloc)?)
+    let command = Command::new(alloc, "s2").version("0.1").about(
+        "A DVB-S2 modem with maximum-likelihood certificates. Without a command it judges the 20 soft values of standard input under a toy code",
+    );
+    with_link_commands(alloc, with_code_commands(alloc, command)?)
 }
 
 fn shape_of(m: &ArgMatches<'_>) -> Option<ShapeWords> {
@@ -196,6 +232,49 @@ fn link_of(m: &ArgMatches<'_>) -> Option<LinkWords> {
 
 fn effort_of(m: &ArgMatches<'_>) -> Option<Effort> {
     Effort::new(m.get_one::<u32>("rounds")?, m.get_one::<u32>("passes")?)
+}
+
+fn rows_of(m: &ArgMatches<'_>) -> Option<RowsWords> {
+    Some(RowsWords {
+        shape: shape_of(m)?,
+        weight: m.get_one::<u8>("weight")?,
+        seed: m.get_one::<u64>("seed")?,
+    })
+}
+
+fn judge_of<'a>(m: &ArgMatches<'a>) -> Option<JudgeWords<'a>> {
+    Some(JudgeWords {
+        shape: shape_of(m)?,
+        passes: m.get_one::<u32>("passes")?,
+        certificate: m.get_str("cert"),
+        rows: m.get_str("ROWS")?,
+        soft: m.get_str("SOFT")?,
+    })
+}
+
+fn check_of<'a>(m: &ArgMatches<'a>) -> Option<CheckWords<'a>> {
+    Some(CheckWords {
+        rows: m.get_str("ROWS")?,
+        certificate: m.get_str("CERT")?,
+    })
+}
+
+fn mod_of<'a>(m: &ArgMatches<'a>) -> Option<ModWords<'a>> {
+    Some(ModWords {
+        link: link_of(m)?,
+        rows: m.get_str("ROWS")?,
+        packets: m.get_str("PACKETS")?,
+        symbols: m.get_str("SYMBOLS")?,
+    })
+}
+
+fn noise_of<'a>(m: &ArgMatches<'a>) -> Option<NoiseWords<'a>> {
+    Some(NoiseWords {
+        seed: m.get_one::<u64>("seed")?,
+        level: m.get_one::<u16>("level")?,
+        from: m.get_str("IN")?,
+        to: m.get_str("OUT")?,
+    })
 }
 
 fn demod_of<'a>(m: &ArgMatches<'a>) -> Option<DemodWords<'a>> {
@@ -222,34 +301,11 @@ fn run_of<'a>(m: &ArgMatches<'a>) -> Option<RunWords<'a>> {
 
 fn request_of<'a>(name: &str, m: &ArgMatches<'a>) -> Option<Request<'a>> {
     match name {
-        "rows" => Some(Request::Rows(RowsWords {
-            shape: shape_of(m)?,
-            weight: m.get_one::<u8>("weight")?,
-            seed: m.get_one::<u64>("seed")?,
-        })),
-        "judge" => Some(Request::Judge(JudgeWords {
-            shape: shape_of(m)?,
-            passes: m.get_one::<u32>("passes")?,
-            certificate: m.get_str("cert"),
-            rows: m.get_str("ROWS")?,
-            soft: m.get_str("SOFT")?,
-        })),
-        "check" => Some(Request::Check(CheckWords {
-            rows: m.get_str("ROWS")?,
-            certificate: m.get_str("CERT")?,
-        })),
-        "mod" => Some(Request::Mod(ModWords {
-            link: link_of(m)?,
-            rows: m.get_str("ROWS")?,
-            packets: m.get_str("PACKETS")?,
-            symbols: m.get_str("SYMBOLS")?,
-        })),
-        "noise" => Some(Request::Noise(NoiseWords {
-            seed: m.get_one::<u64>("seed")?,
-            level: m.get_one::<u16>("level")?,
-            from: m.get_str("IN")?,
-            to: m.get_str("OUT")?,
-        })),
+        "rows" => Some(Request::Rows(rows_of(m)?)),
+        "judge" => Some(Request::Judge(judge_of(m)?)),
+        "check" => Some(Request::Check(check_of(m)?)),
+        "mod" => Some(Request::Mod(mod_of(m)?)),
+        "noise" => Some(Request::Noise(noise_of(m)?)),
         "demod" => Some(Request::Demod(demod_of(m)?)),
         "run" => Some(Request::Run(run_of(m)?)),
         _ => None,

@@ -1,13 +1,17 @@
-use Rattle.std.proofs.Common.{ℤ, List, subst}
+use Rattle.std.proofs.Common.{ℤ, List}
+use Rattle.std.proofs.lemmas.Result.{err_from_is_err_and}
 use Rattle.s2_rows.specs.Rows.{Rows}
-use Rattle.s2_tool.specs.Judging.{Judges}
-use Rattle.s2_tool.proofs.InputLemmas.{are_inputs}
+use Rattle.s2_tool.specs.declared.files.Judged.{Judged}
+use Rattle.s2_tool.specs.Judging.{IsJudged}
+use Rattle.s2_tool.proofs.InputLemmas.{refused_inputs, on_inputs}
 use Rattle.s2_tool.proofs.judge.judge_files.Goals as goal
+
+pub returns-in_err-judged-clause-answers : goal.returns-in_err-judged-clause-answers
+returns-in_err-judged-clause-answers g c =
+    let view : Judged → Rows × List ℤ = λ j. (j.matrix, j.soft.items) in
+    let p = err_from_is_err_and c.from_residual.result c.from_residual.ensures.1 in
+    rw (p.1, p.2) (refused_inputs (IsJudged c.args.passes) view c.args.shape (g.R.CountedRead.remaining c.args.rows.now) (g.S.CountedRead.remaining c.args.soft.now) c.in_err-judged.field-0.0 c.in_err-judged.ensures.says)
 
 pub returns-clause-answers : goal.returns-clause-answers
 returns-clause-answers g c =
-    let rows : Rows = c.in_ok-rows.rows in
-    let soft : List ℤ = c.in_ok-soft.soft.items in
-    let P : Rows → List ℤ → Type 0 = λ r s. Judges c.args.passes r s c.in-Ok-judge_soft.printed.exit c.in-Ok-judge_soft.printed.text.items in
-    let judges : P rows soft = subst (λ r. P r soft) c.in-Ok.ensures (subst (λ v. P c.in-Ok.matrix v) c.deref.ensures.value c.in-Ok-judge_soft.ensures) in
-    ((rows, soft), are_inputs c.args.shape _ _ rows soft c.in_ok-rows.ensures.rows c.in_ok-soft.ensures.values, judges)
+    on_inputs (IsJudged c.args.passes) c.args.shape (g.R.CountedRead.remaining c.args.rows.now) (g.S.CountedRead.remaining c.args.soft.now) c.in_ok-judged.judged.matrix c.in_ok-judged.judged.soft.items c.judge_soft.result c.in_ok-judged.ensures.says c.judge_soft.ensures.answers
