@@ -1,15 +1,18 @@
 //! Each call that takes memory, where memory may be refused once: then it says so, and the same call
 //! again answers. Made rows have weight 3 and seed 1; writers have their room beforehand.
-ghost use Rattle.std.specs.Prelude.{◌≡◌, All, IfOk, IsTrue};
+ghost use Rattle.std.specs.Prelude.{◌≡◌, All, IfOk, length};
+ghost use Rattle.s2_matrix.specs.Code.{code_of};
 ghost use Rattle.s2_check.specs.Views.{IsSoft};
 ghost use Rattle.s2_receive.specs.Receiving.{begun};
 
-use crate::{DemodFault, Judge, Receiver, SendFault, Setup, SetupFault, Transmitter, demodulate};
+use crate::streams::{Link, Sample, fits, packet_of_zeros, setup_of, transmitter_of};
+use crate::{DemodFault, Judge, Receiver, SendFault, SetupFault, Transmitter, demodulate};
 use s2_matrix::Matrix;
-use s2_mode::{Counting, InMemory, Mode, Shape};
+use s2_mode::{Counting, InMemory, Shape};
 use s2_receive::{Fault, Verdict};
 use s2_rows::{MakeFault, RowFault, Rows, make_rows, read_rows};
 use std::alloc::{AllocError, Global};
+use std::process::Abort;
 use std::test::Fail;
 
 const REPORT: &[u8] =
@@ -59,66 +62,54 @@ fn rooms(alloc: Global) -> Result<Written, AllocError> {
     })
 }
 
-/// QPSK 1/4 in normal frames.
-fn setup() -> Result<Setup, Fail> {
-    Ok(Setup {
-        mode: Mode::of(1, false, false).ok_or("no mode")?,
-        number: 0,
-        roll_off: 0,
+/// The link of QPSK 1/4 in normal frames.
+fn link(alloc: Global) -> Result<Link, Fail> {
+    let setup = setup_of(1, false)?;
+    let rows = made_rows(alloc, setup.mode.shape())?;
+    Ok(Link {
+        setup,
+        matrix: built(alloc, &rows)?,
     })
 }
 
-fn transmitter_of<'a>(
-    alloc: Global,
-    setup: &Setup,
-    matrix: &'a Matrix,
-) -> Result<Transmitter<'a>, SetupFault> {
-    Transmitter::new(alloc, *setup, matrix)
-}
-
-fn transmitter<'a>(
-    alloc: Global,
-    setup: &Setup,
-    matrix: &'a Matrix,
-) -> Result<Transmitter<'a>, SetupFault> {
-    match transmitter_of(alloc, setup, matrix) {
-        Err(SetupFault::NoMemory) => transmitter_of(alloc, setup, matrix),
+fn transmitter<'a>(alloc: Global, link: &'a Link) -> Result<Transmitter<'a>, SetupFault> {
+    match transmitter_of(alloc, link) {
+        Err(SetupFault::NoMemory) => transmitter_of(alloc, link),
         made => made,
     }
 }
 
-fn receiver_of<'a>(
-    alloc: Global,
-    setup: &Setup,
-    matrix: &'a Matrix,
-) -> Result<Receiver<'a>, SetupFault>
+fn receiver_of<'a>(alloc: Global, link: &'a Link) -> Result<Receiver<'a>, SetupFault>
     ensures { IfOk result (λ r. r.state ≡ begun) }
 {
-    Receiver::new(alloc, *setup, matrix, 50, 0)
+    Receiver::new(alloc, link.setup, &link.matrix, 50, 0)
 }
 
-fn receiver<'a>(
-    alloc: Global,
-    setup: &Setup,
-    matrix: &'a Matrix,
-) -> Result<Receiver<'a>, SetupFault>
+fn receiver<'a>(alloc: Global, link: &'a Link) -> Result<Receiver<'a>, SetupFault>
     ensures { IfOk result (λ r. r.state ≡ begun) }
 {
-    match receiver_of(alloc, setup, matrix) {
-        Err(SetupFault::NoMemory) => receiver_of(alloc, setup, matrix),
+    match receiver_of(alloc, link) {
+        Err(SetupFault::NoMemory) => receiver_of(alloc, link),
         made => made,
     }
+}
+
+fn judge_of<'a>(alloc: Global, matrix: &'a Matrix) -> Result<Judge<'a>, AllocError>
+    ensures { IfOk result (λ j. j.rows ≡ matrix.now) }
+{
+    Judge::new(alloc, matrix, 50, 0)
 }
 
 fn judge<'a>(alloc: Global, matrix: &'a Matrix) -> Result<Judge<'a>, AllocError>
     ensures { IfOk result (λ j. j.rows ≡ matrix.now) }
 {
-    match Judge::new(alloc, matrix, 50, 0) {
-        Err(AllocError) => Judge::new(alloc, matrix, 50, 0),
+    match judge_of(alloc, matrix) {
+        Err(AllocError) => judge_of(alloc, matrix),
         made => made,
     }
 }
 
+/// The symbols of packets, in this room.
 fn send(
     transmitter: &mut Transmitter<'_>,
     packets: &[u8],
@@ -131,12 +122,30 @@ fn send(
     }
 }
 
-/// The symbols of packets.
-fn sent(alloc: Global, setup: Setup, matrix: &Matrix, packets: &[u8]) -> Result<Vec<u8>, Fail> {
-    let mut transmitter = transmitter(alloc, &setup, matrix)?;
-    Ok(send(&mut transmitter, packets, room(alloc, 129_960)?)?)
+/// The symbols of a packet by a transmitter.
+fn sent_by(
+    alloc: Global,
+    transmitter: &mut Transmitter<'_>,
+    packet: &[u8],
+) -> Result<Vec<u8>, Fail> {
+    let room = room(alloc, 129_960)?;
+    Ok(send(transmitter, packet, room)?)
 }
 
+/// The symbols of a packet on a link.
+fn sent(alloc: Global, link: &Link, packet: &[u8]) -> Result<Vec<u8>, Fail> {
+    let mut transmitter = transmitter(alloc, link)?;
+    sent_by(alloc, &mut transmitter, packet)
+}
+
+/// A link and the symbols of a packet on it.
+fn sample(alloc: Global, packet: &[u8]) -> Result<Sample, Fail> {
+    let link = link(alloc)?;
+    let symbols = sent(alloc, &link, packet)?;
+    Ok(Sample { link, symbols })
+}
+
+/// What a receiver writes of symbols, in this room.
 fn receive(receiver: &mut Receiver<'_>, symbols: &[u8], room: Written) -> Result<Written, Fault>
     requires { receiver.old.state ≡ begun }
 {
@@ -152,27 +161,28 @@ fn receive(receiver: &mut Receiver<'_>, symbols: &[u8], room: Written) -> Result
 }
 
 /// What a receiver makes of symbols.
-fn received(alloc: Global, setup: Setup, matrix: &Matrix, symbols: &[u8]) -> Result<Written, Fail> {
+fn received_by(alloc: Global, receiver: &mut Receiver<'_>, symbols: &[u8]) -> Result<Written, Fail>
+    requires { receiver.old.state ≡ begun }
+{
     let room = rooms(alloc)?;
-    let mut receiver = receiver(alloc, &setup, matrix)?;
-    Ok(receive(&mut receiver, symbols, room)?)
+    Ok(receive(receiver, symbols, room)?)
 }
 
-/// The same of symbols in memory, written to these.
-fn demodulated(
-    alloc: Global,
-    setup: Setup,
-    matrix: &Matrix,
-    symbols: &[u8],
-    room: Written,
-) -> Result<Written, DemodFault> {
+/// What a new receiver makes of a sample.
+fn received(alloc: Global, sample: &Sample) -> Result<Written, Fail> {
+    let mut receiver = receiver(alloc, &sample.link)?;
+    received_by(alloc, &mut receiver, &sample.symbols)
+}
+
+/// The same by the call for symbols in memory, in this room.
+fn demodulated(alloc: Global, sample: &Sample, room: Written) -> Result<Written, DemodFault> {
     let mut packets = Counting::new(room.packets);
     let mut report = Counting::new(room.report);
-    let symbols = &symbols[..symbols.len().min(129_960)];
+    let symbols = &sample.symbols[..sample.symbols.len().min(129_960)];
     match demodulate(
         alloc,
-        setup,
-        matrix,
+        sample.link.setup,
+        &sample.link.matrix,
         50,
         0,
         symbols,
@@ -187,71 +197,76 @@ fn demodulated(
     }
 }
 
-fn demodulated_again(
-    alloc: Global,
-    setup: Setup,
-    matrix: &Matrix,
-    symbols: &[u8],
-) -> Result<Written, Fail> {
-    match demodulated(alloc, setup, matrix, symbols, rooms(alloc)?) {
-        Err(DemodFault::Setup(SetupFault::NoMemory)) => {
-            Ok(demodulated(alloc, setup, matrix, symbols, rooms(alloc)?)?)
-        }
-        ended => Ok(ended?),
+/// The same, or `None` where there was no memory.
+fn demodulated_once(alloc: Global, sample: &Sample) -> Result<Option<Written>, Fail> {
+    let room = rooms(alloc)?;
+    match demodulated(alloc, sample, room) {
+        Ok(written) => Ok(Some(written)),
+        Err(DemodFault::Setup(SetupFault::NoMemory)) => Ok(None),
+        Err(fault) => Err(Fail::from(fault)),
     }
 }
 
-/// Whether all values lie within the limits of a soft value.
-fn are_soft(values: &[i16]) -> bool
-    ensures { IsTrue result → All IsSoft values.now }
-{
-    for value in values {
-        if *value < -63 || *value > 63 {
-            return false;
-        }
+fn demodulated_again(alloc: Global, sample: &Sample) -> Result<Written, Fail> {
+    if let Some(written) = demodulated_once(alloc, sample)? {
+        return Ok(written);
     }
-    true
+    Ok(demodulated_once(alloc, sample)?.ok_or("no memory")?)
 }
 
 /// The verdict on these values and how many ones were decided.
-fn judged(alloc: Global, matrix: &Matrix, soft: &[i16; 20]) -> Result<(Verdict, usize), Fail> {
-    if matrix.bits() != 20 || !are_soft(soft) {
+fn judged_by(judge: &mut Judge<'_>, soft: &[i16]) -> (Verdict, usize)
+    requires long { length soft.now ≡ (code_of judge.old.rows).bits }
+    requires range { All IsSoft soft.now }
+{
+    (judge.judge(soft), judge.word().count_ones())
+}
+
+/// The same by a new judge.
+fn judged(alloc: Global, matrix: &Matrix, soft: &[i16]) -> Result<(Verdict, usize), Fail> {
+    if !fits(matrix, soft) {
         return Err(Fail::from("other values"));
     }
     let mut judge = judge(alloc, matrix)?;
-    Ok((judge.judge(soft), judge.word().count_ones()))
+    Ok(judged_by(&mut judge, soft))
 }
 
-/// The decision on 20 times this value.
-fn judged_on(alloc: Global, value: i16) -> Result<(Verdict, usize), Fail> {
-    let toy = Shape::new(4, 2, 3).ok_or("no shape")?;
-    let matrix = built(alloc, &toy_rows(alloc, toy)?)?;
-    judged(alloc, &matrix, &[value; 20])
+/// The checks of a small code.
+fn toy(alloc: Global) -> Result<Matrix, Fail> {
+    let rows = toy_rows(alloc, Shape::new(4, 2, 3).ok_or("no shape")?)?;
+    Ok(built(alloc, &rows)?)
 }
 
-/// What comes of a packet by a receiver, and by a call for symbols in memory.
-fn linked(alloc: Global, packet: &[u8]) -> Result<[Written; 2], Fail> {
-    let setup = setup()?;
-    let matrix = built(alloc, &made_rows(alloc, setup.mode.shape())?)?;
-    let symbols = sent(alloc, setup, &matrix, packet)?;
-    if symbols.len() != 129_960 {
-        return Err(Fail::from("other symbols"));
-    }
-    let by_receiver = received(alloc, setup, &matrix, &symbols)?;
-    let whole = demodulated_again(alloc, setup, &matrix, &symbols)?;
-    Ok([by_receiver, whole])
+/// Asserts that these values are decided as most likely zeros.
+fn assert_judged<A: Abort>(
+    rt: &A,
+    alloc: Global,
+    matrix: &Matrix,
+    soft: &[i16],
+) -> Result<(), Fail> {
+    let found = judged(alloc, matrix, soft)?;
+    assert_eq!(rt; found, (Verdict::MostLikely, 0));
+    Ok(())
+}
+
+fn assert_written<A: Abort>(rt: &A, written: &Written, packet: &[u8]) {
+    assert_eq!(rt; written.packets.as_slice(), packet);
+    assert_eq!(rt; written.report.as_slice(), REPORT);
+}
+
+/// Asserts that a packet arrives, by a receiver and by the call for symbols in memory.
+fn assert_arrives<A: Abort>(rt: &A, alloc: Global, packet: &[u8]) -> Result<(), Fail> {
+    let sample = sample(alloc, packet)?;
+    assert_eq!(rt; sample.symbols.len(), 129_960);
+    assert_written(rt, &received(alloc, &sample)?, packet);
+    assert_written(rt, &demodulated_again(alloc, &sample)?, packet);
+    Ok(())
 }
 
 #[test]
 fn asks_again_where_memory_is_refused(rt: HostRuntime) -> Result<(), Fail> {
-    let likely = (Verdict::MostLikely, 0usize);
-    assert_eq!(rt; judged_on(rt.alloc(), 10)?, likely);
-    assert_eq!(rt; judged_on(rt.alloc(), 0)?, likely);
-    let mut packet = [0; 188];
-    packet[0] = 0x47;
-    for written in &linked(rt.alloc(), &packet)? {
-        assert_eq!(rt; written.packets.as_slice(), packet.as_slice());
-        assert_eq!(rt; written.report.as_slice(), REPORT);
-    }
-    Ok(())
+    let toy = toy(rt.alloc())?;
+    assert_judged(&rt, rt.alloc(), &toy, &[10; 20])?;
+    assert_judged(&rt, rt.alloc(), &toy, &[0; 20])?;
+    assert_arrives(&rt, rt.alloc(), &packet_of_zeros())
 }

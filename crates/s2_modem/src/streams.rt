@@ -1,5 +1,8 @@
 //! Small links and their streams, for tests. What has a large contract is called here and nowhere else
 //! in the tests, each such call by a function that has none, so that a test's own proof stays small.
+ghost use Rattle.std.specs.Prelude.{◌≡◌, All, IsTrue, length};
+ghost use Rattle.s2_matrix.specs.Code.{code_of};
+ghost use Rattle.s2_check.specs.Views.{IsSoft};
 ghost use Rattle.s2_receive.specs.Receiving.{IsLive};
 
 use crate::send::coder::Coder;
@@ -9,11 +12,12 @@ use crate::{Counts, DemodFault, Receiver, SendFault, Setup, SetupFault, Transmit
 use s2_bbframe::Header;
 use s2_bits::Bits;
 use s2_matrix::Matrix;
-use s2_mode::{Counted, CountedRead, Counting, FailAt, InMemory, Mode};
+use s2_mode::{ByOne, Counted, Counting, Endless, FailAt, InMemory, Mode, Shape};
 use s2_receive::{Fault, MOST_SYMBOLS, Received, Step, Totals};
 use s2_rows::make_rows;
 use s2_scramble::Gold;
 use std::alloc::{AllocError, Global};
+use std::io;
 use std::io::Read;
 use std::process::Abort;
 use std::test::Fail;
@@ -31,19 +35,69 @@ pub(crate) struct Link {
     pub(crate) matrix: Matrix,
 }
 
-/// The link of a mode without pilots, of number 0 and roll-off 0, by rows of weight 3 that seed 1 makes.
-pub(crate) fn link_of(alloc: Global, modcod: u8, short: bool) -> Result<Link, Fail> {
+/// The checks of a code, by rows of this weight that seed 1 makes.
+pub(crate) fn matrix_of(alloc: Global, shape: Shape, weight: usize) -> Result<Matrix, Fail> {
+    let rows = make_rows(alloc, shape, weight, 1)?;
+    Ok(Matrix::build(alloc, &rows)?)
+}
+
+/// The link of a setup, by rows of weight 3.
+pub(crate) fn link_in(alloc: Global, setup: Setup) -> Result<Link, Fail> {
+    let matrix = matrix_of(alloc, setup.mode.shape(), 3)?;
+    Ok(Link { setup, matrix })
+}
+
+/// Whether all values lie within the limits of a soft value.
+fn are_soft(values: &[i16]) -> bool
+    ensures { IsTrue result → All IsSoft values.now }
+{
+    for value in values {
+        if *value < -63 || *value > 63 {
+            return false;
+        }
+    }
+    true
+}
+
+/// Whether a judge of these checks takes these values.
+pub(crate) fn fits(matrix: &Matrix, soft: &[i16]) -> bool
+    ensures long { IsTrue result → length soft.now ≡ (code_of matrix.now).bits }
+    ensures range { IsTrue result → All IsSoft soft.now }
+{
+    soft.len() == matrix.bits() && are_soft(soft)
+}
+
+/// The setup of a mode without pilots, of number 0 and roll-off 0.
+pub(crate) fn setup_of(modcod: u8, short: bool) -> Result<Setup, Fail> {
     let mode = Mode::of(modcod, short, false).ok_or("no mode")?;
-    let rows = make_rows(alloc, mode.shape(), 3, 1)?;
-    let setup = Setup {
+    Ok(Setup {
         mode,
         number: 0,
         roll_off: 0,
-    };
-    Ok(Link {
-        setup,
-        matrix: Matrix::build(alloc, &rows)?,
     })
+}
+
+/// The link of a mode without pilots, of number 0 and roll-off 0, by rows of weight 3.
+pub(crate) fn link_of(alloc: Global, modcod: u8, short: bool) -> Result<Link, Fail> {
+    link_in(alloc, setup_of(modcod, short)?)
+}
+
+/// The link of QPSK 1/4 in short frames with this number and roll-off, or one whose checks are of another shape.
+pub(crate) fn other_link(
+    alloc: Global,
+    number: u32,
+    roll_off: u8,
+    other_shape: bool,
+) -> Result<Link, Fail> {
+    let mut setup = setup_of(1, true)?;
+    setup.number = number;
+    setup.roll_off = roll_off;
+    if !other_shape {
+        return link_in(alloc, setup);
+    }
+    let toy = Shape::new(4, 2, 3).ok_or("no shape")?;
+    let matrix = matrix_of(alloc, toy, 3)?;
+    Ok(Link { setup, matrix })
 }
 
 /// A packet of zeros.
@@ -67,6 +121,43 @@ pub(crate) fn two_packets() -> [[u8; 188]; 2] {
     [packet_of(0), packet_of(1)]
 }
 
+/// What is read: a slice, all at once or byte by byte, or one that repeats for ever.
+#[derive(Clone, Copy)]
+pub(crate) enum Source<'a> {
+    Slice(&'a [u8]),
+    Bytes(ByOne<'a>),
+    Repeated(Endless<'a>),
+}
+
+impl Read for Source<'_> {
+    fn read(&mut self, buf: &mut [u8]) -> io::Result<usize> {
+        match self {
+            Source::Slice(bytes) => bytes.read(buf),
+            Source::Bytes(bytes) => bytes.read(buf),
+            Source::Repeated(bytes) => bytes.read(buf),
+        }
+    }
+}
+
+/// A reader of which so many reads pass.
+type Reader<'a> = Counting<FailAt<Source<'a>>>;
+
+/// A writer of which so many writes pass.
+type Writer = Counting<FailAt<Vec<u8>>>;
+
+fn reader_of(source: Source<'_>, passes: u64) -> Reader<'_> {
+    Counting::new(FailAt::new(source, passes))
+}
+
+fn writer_of(alloc: Global, passes: u64) -> Writer {
+    Counting::new(FailAt::new(Vec::new(alloc), passes))
+}
+
+/// What a writer has taken.
+fn taken(writer: Writer) -> Vec<u8> {
+    writer.into_inner().into_inner()
+}
+
 /// What a run of a transmitter came to.
 #[derive(Drop)]
 pub(crate) struct Sent {
@@ -83,20 +174,32 @@ pub(crate) fn transmitter_of<'a>(
     Transmitter::new(alloc, link.setup, &link.matrix)
 }
 
-/// Runs a transmitter, of whose writes so many pass.
-fn run<R: Read + Drop>(
+/// Runs a transmitter.
+fn run(
+    transmitter: &mut Transmitter<'_>,
+    reader: &mut Reader<'_>,
+    writer: &mut Writer,
+) -> Result<Counts, SendFault> {
+    if reader.count() == u64::MAX || writer.count() == u64::MAX {
+        return Err(SendFault::Read);
+    }
+    transmitter.run(reader, writer)
+}
+
+/// What a transmitter sends of what is read, where so many reads and so many writes pass.
+pub(crate) fn sent_by(
     alloc: Global,
     transmitter: &mut Transmitter<'_>,
-    reader: R,
-    writes: u64,
+    source: Source<'_>,
+    passes: [u64; 2],
 ) -> Sent {
-    let mut reader = Counting::new(reader);
-    let mut writer = Counting::new(FailAt::new(Vec::new(alloc), writes));
-    let answer = transmitter.run(&mut reader, &mut writer);
+    let mut reader = reader_of(source, passes[0]);
+    let mut writer = writer_of(alloc, passes[1]);
+    let answer = run(transmitter, &mut reader, &mut writer);
     Sent {
         answer,
         failed: [reader.count(), writer.count()],
-        symbols: writer.into_inner().into_inner(),
+        symbols: taken(writer),
     }
 }
 
@@ -105,39 +208,61 @@ fn limit(transmitter: &mut Transmitter<'_>, packets: u32) {
     transmitter.limit(u64::from(packets.max(1)));
 }
 
-/// Sends on a link from a reader, at most so many packets, where so many writes pass.
-pub(crate) fn send<R: Read + Drop>(
+/// What is sent on a link of what is read, at most so many packets, where so many reads and so many
+/// writes pass.
+pub(crate) fn send(
     alloc: Global,
     link: &Link,
     packets: u32,
-    reader: R,
-    writes: u64,
+    source: Source<'_>,
+    passes: [u64; 2],
 ) -> Result<Sent, SetupFault> {
     let mut transmitter = transmitter_of(alloc, link)?;
     limit(&mut transmitter, packets);
-    Ok(run(alloc, &mut transmitter, reader, writes))
+    Ok(sent_by(alloc, &mut transmitter, source, passes))
 }
 
-/// What one transmitter makes of three streams.
-pub(crate) fn send_three(
-    alloc: Global,
-    link: &Link,
-    streams: [&[u8]; 3],
-) -> Result<[Sent; 3], SetupFault> {
-    let [first, second, third] = streams;
-    let mut transmitter = transmitter_of(alloc, link)?;
-    Ok([
-        run(alloc, &mut transmitter, first, ALL),
-        run(alloc, &mut transmitter, second, ALL),
-        run(alloc, &mut transmitter, third, ALL),
-    ])
+/// What is sent of packets on a link.
+pub(crate) fn send_packets(alloc: Global, link: &Link, packets: &[u8]) -> Result<Sent, SetupFault> {
+    send(alloc, link, u32::MAX, Source::Slice(packets), [ALL, ALL])
 }
 
 /// The symbols of packets on a link.
 pub(crate) fn symbols_of(alloc: Global, link: &Link, packets: &[u8]) -> Result<Vec<u8>, Fail> {
-    let sent = send(alloc, link, u32::MAX, packets, ALL)?;
-    sent.answer?;
-    Ok(sent.symbols)
+    let sent = send_packets(alloc, link, packets)?;
+    match sent.answer {
+        Ok(_) => Ok(sent.symbols),
+        Err(fault) => Err(Fail::from(fault)),
+    }
+}
+
+/// A link and symbols on it.
+#[derive(Drop)]
+pub(crate) struct Sample {
+    pub(crate) link: Link,
+    pub(crate) symbols: Vec<u8>,
+}
+
+/// The link of a mode, and the symbols of packets on it.
+pub(crate) fn sample_of(
+    alloc: Global,
+    modcod: u8,
+    short: bool,
+    packets: &[u8],
+) -> Result<Sample, Fail> {
+    let link = link_of(alloc, modcod, short)?;
+    let symbols = symbols_of(alloc, &link, packets)?;
+    Ok(Sample { link, symbols })
+}
+
+/// The link of QPSK 1/4 in short frames, and the symbols of two packets on it.
+pub(crate) fn two_frames(alloc: Global) -> Result<Sample, Fail> {
+    sample_of(alloc, 1, true, two_packets().as_flattened())
+}
+
+/// The link of QPSK 1/4 in normal frames, and the symbols of a packet of zeros on it.
+pub(crate) fn one_frame(alloc: Global) -> Result<Sample, Fail> {
+    sample_of(alloc, 1, false, &packet_of_zeros())
 }
 
 /// The symbols of the frame of a header, whatever it says, and of the bytes behind it.
@@ -204,25 +329,39 @@ pub(crate) struct Demodulated {
     pub(crate) report: Vec<u8>,
 }
 
-/// Receives symbols in memory, where so many writes of packets and so many of lines pass.
-pub(crate) fn receive(alloc: Global, link: &Link, symbols: &[u8], writes: [u64; 2]) -> Demodulated {
-    let mut packets = Counting::new(FailAt::new(Vec::new(alloc), writes[0]));
-    let mut report = Counting::new(FailAt::new(Vec::new(alloc), writes[1]));
+/// Receives symbols in memory, and writes packets and lines to these.
+fn receive_into(
+    alloc: Global,
+    link: &Link,
+    symbols: &[u8],
+    packets: &mut Writer,
+    report: &mut Writer,
+) -> Result<Totals, DemodFault> {
+    if packets.count() == u64::MAX || report.count() == u64::MAX {
+        return Err(DemodFault::Write);
+    }
     let symbols = &symbols[..symbols.len().min(1 << 30)];
-    let answer = demodulate(
+    demodulate(
         alloc,
         link.setup,
         &link.matrix,
         ROUNDS,
         0,
         symbols,
-        &mut packets,
-        &mut report,
-    );
+        packets,
+        report,
+    )
+}
+
+/// Receives symbols in memory, where so many writes of packets and so many of lines pass.
+pub(crate) fn receive(alloc: Global, link: &Link, symbols: &[u8], writes: [u64; 2]) -> Demodulated {
+    let mut packets = writer_of(alloc, writes[0]);
+    let mut report = writer_of(alloc, writes[1]);
+    let answer = receive_into(alloc, link, symbols, &mut packets, &mut report);
     Demodulated {
         answer,
-        packets: packets.into_inner().into_inner(),
-        report: report.into_inner().into_inner(),
+        packets: taken(packets),
+        report: taken(report),
     }
 }
 
@@ -242,6 +381,29 @@ pub(crate) fn assert_received<A: Abort>(
     assert_eq!(rt; received.packets.as_slice(), packets);
 }
 
+/// Asserts what is reported of symbols in memory, and the packets.
+pub(crate) fn assert_reported<A: Abort>(
+    rt: &A,
+    alloc: Global,
+    link: &Link,
+    symbols: &[u8],
+    report: &str,
+    packets: &[u8],
+) {
+    assert_received(rt, &received(alloc, link, symbols), report, packets);
+}
+
+/// Asserts what is reported of a sample, and the packets.
+pub(crate) fn assert_sample<A: Abort>(
+    rt: &A,
+    alloc: Global,
+    sample: &Sample,
+    report: &str,
+    packets: &[u8],
+) {
+    assert_reported(rt, alloc, &sample.link, &sample.symbols, report, packets);
+}
+
 /// Receives symbols in memory to their end by a single call.
 fn run_to_end(alloc: Global, receiver: &mut Receiver<'_>, symbols: &[u8]) -> Result<Received, Fault>
     requires { IsLive receiver.old.state.phase }
@@ -251,10 +413,11 @@ fn run_to_end(alloc: Global, receiver: &mut Receiver<'_>, symbols: &[u8]) -> Res
     receiver.run(&mut InMemory::new(symbols), &mut packets, &mut report)
 }
 
-/// What a receiver takes of symbols in memory by a single call.
-pub(crate) fn received_whole(alloc: Global, link: &Link, symbols: &[u8]) -> Result<Received, Fail> {
+/// What a receiver takes of a sample by a single call.
+pub(crate) fn received_whole(alloc: Global, sample: &Sample) -> Result<Received, Fail> {
+    let link = &sample.link;
     let mut receiver = Receiver::new(alloc, link.setup, &link.matrix, ROUNDS, 0)?;
-    Ok(run_to_end(alloc, &mut receiver, symbols)?)
+    Ok(run_to_end(alloc, &mut receiver, &sample.symbols)?)
 }
 
 /// The receiver of a link, of so many rounds.
@@ -277,19 +440,12 @@ fn receiver_within<'a>(
     Ok(receiver)
 }
 
-/// A writer of which so many writes pass.
-type Failing = Counting<FailAt<Vec<u8>>>;
-
-fn failing(alloc: Global, writes: u64) -> Failing {
-    Counting::new(FailAt::new(Vec::new(alloc), writes))
-}
-
 /// Calls a receiver once.
-fn step<R: CountedRead>(
+fn step(
     receiver: &mut Receiver<'_>,
-    reader: &mut R,
-    packets: &mut Failing,
-    report: &mut Failing,
+    reader: &mut Reader<'_>,
+    packets: &mut Writer,
+    report: &mut Writer,
 ) -> Result<Step, Fault> {
     let failed = [reader.count(), packets.count(), report.count()];
     if failed[0] == u64::MAX || failed[1] == u64::MAX || failed[2] == u64::MAX {
@@ -301,11 +457,11 @@ fn step<R: CountedRead>(
 /// What five calls of a receiver answer.
 pub(crate) type Steps = [Result<Step, Fault>; 5];
 
-fn five_steps<R: CountedRead>(
+fn five_steps(
     receiver: &mut Receiver<'_>,
-    reader: &mut R,
-    packets: &mut Failing,
-    report: &mut Failing,
+    reader: &mut Reader<'_>,
+    packets: &mut Writer,
+    report: &mut Writer,
 ) -> Steps {
     let mut steps = [Err(Fault::Failed); 5];
     for answer in steps.iter_mut() {
@@ -322,24 +478,39 @@ pub(crate) struct Heard {
     pub(crate) report: Vec<u8>,
 }
 
-/// Calls a new receiver five times, which takes at most so many symbols, and where so many writes of
-/// packets and so many of lines pass.
-pub(crate) fn hear<R: CountedRead>(
+fn heard_by(
+    alloc: Global,
+    receiver: &mut Receiver<'_>,
+    source: Source<'_>,
+    passes: [u64; 3],
+) -> Heard {
+    let mut reader = reader_of(source, passes[0]);
+    let mut packets = writer_of(alloc, passes[1]);
+    let mut report = writer_of(alloc, passes[2]);
+    let steps = five_steps(receiver, &mut reader, &mut packets, &mut report);
+    Heard {
+        steps,
+        packets: taken(packets),
+        report: taken(report),
+    }
+}
+
+/// Calls a new receiver five times, which takes at most so many symbols, and where so many reads, writes
+/// of packets and writes of lines pass.
+pub(crate) fn hear(
     alloc: Global,
     link: &Link,
     symbols: u64,
-    reader: &mut R,
-    writes: [u64; 2],
+    source: Source<'_>,
+    passes: [u64; 3],
 ) -> Result<Heard, SetupFault> {
     let mut receiver = receiver_within(alloc, link, symbols)?;
-    let mut packets = failing(alloc, writes[0]);
-    let mut report = failing(alloc, writes[1]);
-    let steps = five_steps(&mut receiver, reader, &mut packets, &mut report);
-    Ok(Heard {
-        steps,
-        packets: packets.into_inner().into_inner(),
-        report: report.into_inner().into_inner(),
-    })
+    Ok(heard_by(alloc, &mut receiver, source, passes))
+}
+
+/// The first 32 bits of a word.
+pub(crate) fn first_bytes(word: &Bits) -> [u8; 4] {
+    [word.byte(0), word.byte(1), word.byte(2), word.byte(3)]
 }
 
 /// What a receiver shows of a frame.
@@ -356,24 +527,24 @@ fn shown_by(alloc: Global, receiver: &Receiver<'_>) -> Result<Shown, AllocError>
     soft.extend_from_slice(receiver.soft())?;
     let mut message = Vec::new(alloc);
     message.extend_from_slice(receiver.message())?;
-    let bits = receiver.word();
     Ok(Shown {
         soft,
-        word: [bits.byte(0), bits.byte(1), bits.byte(2), bits.byte(3)],
+        word: first_bytes(receiver.word()),
         message,
     })
+}
+
+/// Calls a receiver once, on symbols in memory.
+fn step_over(alloc: Global, receiver: &mut Receiver<'_>, symbols: &[u8]) -> Result<Step, Fault> {
+    let mut reader = reader_of(Source::Slice(symbols), ALL);
+    let mut packets = writer_of(alloc, ALL);
+    let mut report = writer_of(alloc, ALL);
+    step(receiver, &mut reader, &mut packets, &mut report)
 }
 
 /// What a receiver shows after its first call.
 pub(crate) fn show(alloc: Global, link: &Link, symbols: &[u8]) -> Result<Shown, Fail> {
     let mut receiver = receiver_of(alloc, link, ROUNDS)?;
-    let mut packets = failing(alloc, ALL);
-    let mut report = failing(alloc, ALL);
-    let _step = step(
-        &mut receiver,
-        &mut InMemory::new(symbols),
-        &mut packets,
-        &mut report,
-    )?;
+    let _step = step_over(alloc, &mut receiver, symbols)?;
     Ok(shown_by(alloc, &receiver)?)
 }

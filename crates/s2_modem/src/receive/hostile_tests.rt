@@ -1,12 +1,13 @@
 //! A receiver whose readers and writers fail or never end, and frames that are cut or whose headers are forged.
 use super::tests::frame;
-use crate::DemodFault;
 use crate::streams::{
-    ALL, Heard, Link, Steps, assert_received, frame_of, hear, link_of, packet_of, packet_of_zeros,
-    receive, received, symbols_of, two_packets,
+    ALL, Demodulated, Heard, Link, Sample, Source, Steps, assert_received, assert_reported,
+    assert_sample, frame_of, hear, link_of, one_frame, packet_of, packet_of_zeros, receive,
+    received, sample_of, two_frames, two_packets,
 };
+use crate::{DemodFault, SetupFault};
 use s2_bbframe::{Header, HeaderFault, crc8};
-use s2_mode::{ByOne, Counting, Endless, FailAt};
+use s2_mode::{ByOne, Endless};
 use s2_receive::{Fault, MOST_SYMBOLS, Outcome, Report, Step, Verdict};
 use std::alloc::Global;
 use std::process::Abort;
@@ -56,19 +57,6 @@ fn front(source: &[[u8; 188]; 2], count: usize) -> &[u8] {
     }
 }
 
-/// The link of QPSK 1/4 in short frames, and the symbols of two packets on it.
-#[derive(Drop)]
-struct Sample {
-    link: Link,
-    symbols: Vec<u8>,
-}
-
-fn two_frames(alloc: Global) -> Result<Sample, Fail> {
-    let link = link_of(alloc, 1, true)?;
-    let symbols = symbols_of(alloc, &link, two_packets().as_flattened())?;
-    Ok(Sample { link, symbols })
-}
-
 /// Asserts what five calls answered and wrote where a fault came after so many, and so many packets.
 fn assert_heard<A: Abort>(rt: &A, heard: &Heard, fault: Fault, well: usize, packets: usize) {
     assert_eq!(rt; heard.steps, answers(well, fault), "after {well}");
@@ -76,21 +64,40 @@ fn assert_heard<A: Abort>(rt: &A, heard: &Heard, fault: Fault, well: usize, pack
     assert_eq!(rt; heard.packets.as_slice(), front(&two_packets(), packets));
 }
 
+/// What a receiver hears of a sample, where so many reads, writes of packets and writes of lines pass.
+fn hear_sample(
+    alloc: Global,
+    sample: &Sample,
+    source: Source<'_>,
+    passes: [u64; 3],
+) -> Result<Heard, SetupFault> {
+    hear(alloc, &sample.link, MOST_SYMBOLS, source, passes)
+}
+
+/// Asserts what is heard of the two frames.
+fn assert_sample_heard<A: Abort>(
+    rt: &A,
+    alloc: Global,
+    sample: &Sample,
+    source: Source<'_>,
+    passes: [u64; 3],
+    fault: Fault,
+    came: (usize, usize),
+) -> Result<(), Fail> {
+    let heard = hear_sample(alloc, sample, source, passes)?;
+    assert_heard(rt, &heard, fault, came.0, came.1);
+    Ok(())
+}
+
 /// Each call reads once, and the third one finds the end.
 #[test]
 fn each_read_fails_in_turn(rt: HostRuntime) -> Result<(), Fail> {
     let sample = two_frames(rt.alloc())?;
+    let source = Source::Slice(&sample.symbols);
     for well in [0usize, 1, 2, 5] {
-        let passes = well.min(3) as u64;
-        let mut reader = Counting::new(FailAt::new(sample.symbols.as_slice(), passes));
-        let heard = hear(
-            rt.alloc(),
-            &sample.link,
-            MOST_SYMBOLS,
-            &mut reader,
-            [ALL, ALL],
-        )?;
-        assert_heard(&rt, &heard, Fault::Read, well, well.min(2));
+        let passes = [well.min(3) as u64, ALL, ALL];
+        let came = (well, well.min(2));
+        assert_sample_heard(&rt, rt.alloc(), &sample, source, passes, Fault::Read, came)?;
     }
     Ok(())
 }
@@ -98,6 +105,7 @@ fn each_read_fails_in_turn(rt: HostRuntime) -> Result<(), Fail> {
 #[test]
 fn the_read_of_a_byte_fails(rt: HostRuntime) -> Result<(), Fail> {
     let sample = two_frames(rt.alloc())?;
+    let source = Source::Bytes(ByOne::new(&sample.symbols));
     let cases = [
         (0, 0usize),
         (1, 0),
@@ -111,15 +119,16 @@ fn the_read_of_a_byte_fails(rt: HostRuntime) -> Result<(), Fail> {
         (2 * FRAME, 2),
     ];
     for (at, well) in cases {
-        let mut reader = Counting::new(FailAt::new(ByOne::new(&sample.symbols), at));
-        let heard = hear(
+        let passes = [at, ALL, ALL];
+        assert_sample_heard(
+            &rt,
             rt.alloc(),
-            &sample.link,
-            MOST_SYMBOLS,
-            &mut reader,
-            [ALL, ALL],
+            &sample,
+            source,
+            passes,
+            Fault::Read,
+            (well, well),
         )?;
-        assert_heard(&rt, &heard, Fault::Read, well, well);
     }
     Ok(())
 }
@@ -128,16 +137,11 @@ fn the_read_of_a_byte_fails(rt: HostRuntime) -> Result<(), Fail> {
 #[test]
 fn each_line_fails_in_turn(rt: HostRuntime) -> Result<(), Fail> {
     let sample = two_frames(rt.alloc())?;
+    let source = Source::Slice(&sample.symbols);
     for (at, well, packets) in [(0, 0usize, 1usize), (1, 1, 2), (2, 2, 2), (3, 5, 2)] {
-        let mut reader = Counting::new(sample.symbols.as_slice());
-        let heard = hear(
-            rt.alloc(),
-            &sample.link,
-            MOST_SYMBOLS,
-            &mut reader,
-            [ALL, at],
-        )?;
-        assert_heard(&rt, &heard, Fault::Write, well, packets);
+        let passes = [ALL, ALL, at];
+        let came = (well, packets);
+        assert_sample_heard(&rt, rt.alloc(), &sample, source, passes, Fault::Write, came)?;
     }
     Ok(())
 }
@@ -156,74 +160,94 @@ fn assert_packet_fails<A: Abort>(rt: &A, heard: &Heard) -> usize {
     well
 }
 
+/// Asserts it where so many writes of packets pass.
+fn assert_write_fails<A: Abort>(
+    rt: &A,
+    alloc: Global,
+    sample: &Sample,
+    at: u64,
+) -> Result<usize, Fail> {
+    let source = Source::Slice(&sample.symbols);
+    let heard = hear_sample(alloc, sample, source, [ALL, at, ALL])?;
+    Ok(assert_packet_fails(rt, &heard))
+}
+
 /// In how many writes a packet goes out is left open.
 #[test]
 fn each_write_of_a_packet_fails_in_turn(rt: HostRuntime) -> Result<(), Fail> {
     let sample = two_frames(rt.alloc())?;
     let mut well = 0;
     for at in 0..9u64 {
-        let mut reader = Counting::new(sample.symbols.as_slice());
-        let heard = hear(
-            rt.alloc(),
-            &sample.link,
-            MOST_SYMBOLS,
-            &mut reader,
-            [at, ALL],
-        )?;
-        well = assert_packet_fails(&rt, &heard);
+        well = assert_write_fails(&rt, rt.alloc(), &sample, at)?;
         assert!(rt; 0 < at || well == 0);
     }
     assert_eq!(rt; well, 5);
     Ok(())
 }
 
-/// A line's write fails: it is told, and what came before it stands.
+/// Asserts that the failed write of a line is told, and that what came before it stands.
+fn assert_line_fails<A: Abort>(rt: &A, alloc: Global, sample: &Sample, at: usize, packets: usize) {
+    let received = receive(alloc, &sample.link, &sample.symbols, [ALL, at as u64]);
+    assert_eq!(rt; received.answer, Err(DemodFault::Write));
+    assert_received(rt, &received, lines(at), front(&two_packets(), packets));
+}
+
 #[test]
 fn demodulate_tells_a_failed_line(rt: HostRuntime) -> Result<(), Fail> {
     let sample = two_frames(rt.alloc())?;
-    for (at, packets) in [(0usize, 1usize), (1, 2), (2, 2)] {
-        let received = receive(rt.alloc(), &sample.link, &sample.symbols, [ALL, at as u64]);
-        assert_eq!(rt; received.answer, Err(DemodFault::Write));
-        assert_received(&rt, &received, lines(at), front(&two_packets(), packets));
+    for (at, packets) in [(0, 1), (1, 2), (2, 2)] {
+        assert_line_fails(&rt, rt.alloc(), &sample, at, packets);
     }
+    Ok(())
+}
+
+/// Asserts that a receiver reads no more than 40000 symbols of a stream of zeros.
+fn assert_stops<A: Abort>(rt: &A, alloc: Global, link: &Link) -> Result<(), Fail> {
+    let source = Source::Repeated(Endless::new(&[0]));
+    let heard = hear(alloc, link, 40000, source, [ALL, ALL, ALL])?;
+    assert_heard(rt, &heard, Fault::Read, 0, 0);
     Ok(())
 }
 
 #[test]
 fn stops_at_its_limit(rt: HostRuntime) -> Result<(), Fail> {
     let link = link_of(rt.alloc(), 1, false)?;
-    let mut reader = Counting::new(Endless::new(&[0]));
-    let heard = hear(rt.alloc(), &link, 40000, &mut reader, [ALL, ALL])?;
-    assert_heard(&rt, &heard, Fault::Read, 0, 0);
-    Ok(())
+    assert_stops(&rt, rt.alloc(), &link)
 }
 
 /// The report of a stream that has no whole frame.
 const NONE: &str = "end frames 0 delivered 0 packets 0 bad 0\n";
 
+/// Asserts that the first bytes of a sample bring this report and no packet.
+fn assert_front<A: Abort>(rt: &A, alloc: Global, sample: &Sample, bytes: usize, report: &str) {
+    let front = &sample.symbols[..bytes.min(sample.symbols.len())];
+    assert_reported(rt, alloc, &sample.link, front, report, &[]);
+}
+
 #[test]
 fn drops_what_is_no_whole_symbol(rt: HostRuntime) -> Result<(), Fail> {
-    let link = link_of(rt.alloc(), 1, false)?;
-    let symbols = symbols_of(rt.alloc(), &link, &packet_of_zeros())?;
-    for bytes in [0usize, 1, 2, 3, 4 * 89 + 3] {
-        let front = &symbols[..bytes.min(symbols.len())];
-        assert_received(&rt, &received(rt.alloc(), &link, front), NONE, &[]);
+    let sample = one_frame(rt.alloc())?;
+    for bytes in [0, 1, 2, 3, 4 * 89 + 3] {
+        assert_front(&rt, rt.alloc(), &sample, bytes, NONE);
     }
     Ok(())
 }
 
-/// The frames of a packet in QPSK 1/4 and 1/2, whose last symbol lacks 1 to 3 bytes.
+/// Asserts that a packet's frame of 32490 symbols is cut where its last symbol lacks 1 to 3 bytes.
+fn assert_cut<A: Abort>(rt: &A, alloc: Global, sample: &Sample) {
+    let report = "cut at 0 symbols 32489\nend frames 0 delivered 0 packets 0 bad 0\n";
+    assert_eq!(rt; sample.symbols.len(), 4 * 32490);
+    for left in 1..4usize {
+        assert_front(rt, alloc, sample, 4 * 32489 + left, report);
+    }
+}
+
+/// The frames of a packet in QPSK 1/4 and 1/2.
 #[test]
 fn drops_what_is_left_of_a_cut_frame(rt: HostRuntime) -> Result<(), Fail> {
-    let report = "cut at 0 symbols 32489\nend frames 0 delivered 0 packets 0 bad 0\n";
-    for modcod in [1u8, 4] {
-        let link = link_of(rt.alloc(), modcod, false)?;
-        let symbols = symbols_of(rt.alloc(), &link, &packet_of_zeros())?;
-        assert_eq!(rt; symbols.len(), 4 * 32490);
-        for left in 1..4usize {
-            let front = &symbols[..(4 * 32489 + left).min(symbols.len())];
-            assert_received(&rt, &received(rt.alloc(), &link, front), report, &[]);
-        }
+    for modcod in [1, 4] {
+        let sample = sample_of(rt.alloc(), modcod, false, &packet_of_zeros())?;
+        assert_cut(&rt, rt.alloc(), &sample);
     }
     Ok(())
 }
@@ -236,20 +260,23 @@ fn cut_report(alloc: Global, count: usize) -> Result<String, Fail> {
     Ok(format!(in alloc; "cut at 0 symbols {count}\n{NONE}")?)
 }
 
+/// Whether this is reported, and no packet came.
+fn is_reported(received: &Demodulated, report: &str) -> bool {
+    received.packets.is_empty() && received.report.as_slice() == report.as_bytes()
+}
+
 /// Whether so much is reported of the first symbols of a packet's frame, and no packet.
-fn is_cut(alloc: Global, link: &Link, symbols: &[u8], count: usize) -> Result<bool, Fail> {
-    let front = &symbols[..symbols.len().min(4 * count.min(32490))];
-    let received = received(alloc, link, front);
+fn is_cut(alloc: Global, sample: &Sample, count: usize) -> Result<bool, Fail> {
     let report = cut_report(alloc, count)?;
-    Ok(received.packets.is_empty() && received.report.as_slice() == report.as_bytes())
+    let front = &sample.symbols[..sample.symbols.len().min(4 * count.min(32490))];
+    Ok(is_reported(&received(alloc, &sample.link, front), &report))
 }
 
 /// The first number of symbols in a range of which something else is reported than that the frame is cut.
 fn first_whole(alloc: Global, first: usize, end: usize) -> Result<Option<usize>, Fail> {
-    let link = link_of(alloc, 1, false)?;
-    let symbols = symbols_of(alloc, &link, &packet_of_zeros())?;
+    let sample = one_frame(alloc)?;
     for count in first..end {
-        if !is_cut(alloc, &link, &symbols, count)? {
+        if !is_cut(alloc, &sample, count)? {
             return Ok(Some(count));
         }
     }
@@ -302,56 +329,64 @@ fn data_stream() -> [u8; 377] {
     stream
 }
 
-/// The symbols of two packets' frames with these headers.
-fn with_headers(
+/// Appends the symbols of a frame.
+fn append_frame(
     alloc: Global,
     link: &Link,
-    first: &Header,
-    second: &Header,
-) -> Result<Vec<u8>, Fail> {
+    header: &Header,
+    field: &[u8],
+    symbols: &mut Vec<u8>,
+) -> Result<(), Fail> {
+    let frame = frame_of(alloc, link, header, field)?;
+    Ok(symbols.extend_from_slice(&frame)?)
+}
+
+/// The symbols of two packets' frames with these headers.
+fn with_headers(alloc: Global, link: &Link, headers: [&Header; 2]) -> Result<Vec<u8>, Fail> {
     let stream = data_stream();
     let (front, rest) = stream.split_at(374);
-    let mut symbols = frame_of(alloc, link, first, front)?;
-    symbols.extend_from_slice(&frame_of(alloc, link, second, rest)?)?;
+    let mut symbols = Vec::new(alloc);
+    append_frame(alloc, link, headers[0], front, &mut symbols)?;
+    append_frame(alloc, link, headers[1], rest, &mut symbols)?;
     Ok(symbols)
+}
+
+/// The same symbols and their link.
+fn forged(alloc: Global, first: Header, second: Header) -> Result<Sample, Fail> {
+    let link = link_of(alloc, 1, true)?;
+    let symbols = with_headers(alloc, &link, [&first, &second])?;
+    Ok(Sample { link, symbols })
 }
 
 #[test]
 fn frames_with_their_own_headers_are_those_sent(rt: HostRuntime) -> Result<(), Fail> {
-    let sample = two_frames(rt.alloc())?;
-    let made = with_headers(rt.alloc(), &sample.link, &header(2992, 0), &header(24, 16))?;
-    assert!(rt; made.as_slice() == sample.symbols.as_slice());
+    let sent = two_frames(rt.alloc())?;
+    let made = forged(rt.alloc(), header(2992, 0), header(24, 16))?;
+    assert!(rt; made.symbols.as_slice() == sent.symbols.as_slice());
     Ok(())
 }
 
 /// No frame of the mode has 3000 bits of data.
 #[test]
 fn a_forged_first_header_loses_both_packets(rt: HostRuntime) -> Result<(), Fail> {
-    let link = link_of(rt.alloc(), 1, true)?;
-    let symbols = with_headers(rt.alloc(), &link, &header(3000, 0), &header(24, 16))?;
+    let sample = forged(rt.alloc(), header(3000, 0), header(24, 16))?;
     let report =
         "frame 1 at 0 most-likely lost\nframe 2 at 8190 most-likely fixed 0\nend frames 2 delivered 1 packets 0 bad 0\n";
-    assert_received(&rt, &received(rt.alloc(), &link, &symbols), report, &[]);
+    assert_sample(&rt, rt.alloc(), &sample, report, &[]);
     Ok(())
 }
 
 #[test]
 fn a_forged_second_header_loses_its_packet(rt: HostRuntime) -> Result<(), Fail> {
-    let link = link_of(rt.alloc(), 1, true)?;
-    let symbols = with_headers(rt.alloc(), &link, &header(2992, 0), &header(3000, 0))?;
+    let sample = forged(rt.alloc(), header(2992, 0), header(3000, 0))?;
     let report =
         "frame 1 at 0 most-likely fixed 0\nframe 2 at 8190 most-likely lost\nend frames 2 delivered 1 packets 1 bad 0\n";
-    let received = received(rt.alloc(), &link, &symbols);
-    assert_received(&rt, &received, report, &packet_of(0));
+    assert_sample(&rt, rt.alloc(), &sample, report, &packet_of(0));
     Ok(())
 }
 
-#[test]
-fn a_forged_header_is_told(rt: HostRuntime) -> Result<(), Fail> {
-    let link = link_of(rt.alloc(), 1, true)?;
-    let symbols = with_headers(rt.alloc(), &link, &header(3000, 0), &header(24, 16))?;
-    let mut reader = Counting::new(symbols.as_slice());
-    let heard = hear(rt.alloc(), &link, MOST_SYMBOLS, &mut reader, [ALL, ALL])?;
+/// What five calls answer where the first header is forged.
+fn told() -> Steps {
     let lost = Step::Frame(Report {
         number: 1,
         at: 0,
@@ -359,6 +394,14 @@ fn a_forged_header_is_told(rt: HostRuntime) -> Result<(), Fail> {
         outcome: Outcome::BadHeader(HeaderFault::BadLengths),
     });
     let end = Ok(Step::End);
-    assert_eq!(rt; heard.steps, [Ok(lost), Ok(frame(2, 8190)), end, end, end]);
+    [Ok(lost), Ok(frame(2, 8190)), end, end, end]
+}
+
+#[test]
+fn a_forged_header_is_told(rt: HostRuntime) -> Result<(), Fail> {
+    let sample = forged(rt.alloc(), header(3000, 0), header(24, 16))?;
+    let source = Source::Slice(&sample.symbols);
+    let heard = hear_sample(rt.alloc(), &sample, source, [ALL, ALL, ALL])?;
+    assert_eq!(rt; heard.steps, told());
     Ok(())
 }

@@ -1,50 +1,40 @@
 //! Decisions on small codes. The verdicts and bits are those of a program that decides by the plain
 //! rules, one check after the other.
-ghost use Rattle.std.specs.Prelude.{All, IsTrue};
+ghost use Rattle.std.specs.Prelude.{◌≡◌, All, IfOk, length};
+ghost use Rattle.s2_matrix.specs.Code.{code_of};
 ghost use Rattle.s2_check.specs.Views.{IsSoft};
 
 use super::Judge;
-use s2_bits::Bits;
+use crate::streams::{fits, matrix_of};
 use s2_check::{Answer, Certificate, check};
 use s2_matrix::Matrix;
 use s2_mode::{Counting, Mode, Shape};
 use s2_receive::Verdict;
-use s2_rows::{make_rows, read_rows};
+use s2_rows::read_rows;
 use std::alloc::{AllocError, Global};
+use std::process::Abort;
 use std::test::Fail;
 
-/// Whether all values lie within the limits of a soft value.
-fn are_soft(values: &[i16]) -> bool
-    ensures { IsTrue result → All IsSoft values.now }
-{
-    for value in values {
-        if *value < -63 || *value > 63 {
-            return false;
-        }
-    }
-    true
-}
-
 /// The matrix of a row file.
-fn matrix_of(alloc: Global, sizes: [usize; 3], rows: &[u8]) -> Result<Matrix, Fail> {
+fn matrix_of_rows(alloc: Global, sizes: [usize; 3], rows: &[u8]) -> Result<Matrix, Fail> {
     let shape = Shape::new(sizes[0], sizes[1], sizes[2]).ok_or("no shape")?;
     let rows = read_rows(alloc, rows, shape)?;
     Ok(Matrix::build(alloc, &rows)?)
 }
 
-/// The judge of a matrix, by at most 50 rounds and so many passes of settling, and its verdict on these
-/// values.
-fn judged<'a>(
-    alloc: Global,
-    matrix: &'a Matrix,
-    soft: &[i16],
-    passes: u32,
-) -> Result<(Verdict, Judge<'a>), Fail> {
-    if soft.len() != matrix.bits() || !are_soft(soft) {
-        return Err(Fail::from("other values"));
-    }
-    let mut judge = Judge::new(alloc, matrix, 50, passes)?;
-    Ok((judge.judge(soft), judge))
+/// The judge of a matrix, by at most 50 rounds and so many passes of settling.
+fn judge_of<'a>(alloc: Global, matrix: &'a Matrix, passes: u32) -> Result<Judge<'a>, AllocError>
+    ensures { IfOk result (λ j. j.rows ≡ matrix.now) }
+{
+    Judge::new(alloc, matrix, 50, passes)
+}
+
+/// A judge's verdict.
+fn verdict_by(judge: &mut Judge<'_>, soft: &[i16]) -> Verdict
+    requires long { length soft.now ≡ (code_of judge.old.rows).bits }
+    requires range { All IsSoft soft.now }
+{
+    judge.judge(soft)
 }
 
 /// What the checker says of a judge's certificate, where there is one.
@@ -55,6 +45,11 @@ fn answer_on(matrix: &Matrix, judge: &Judge<'_>) -> Option<Answer> {
     }
 }
 
+/// Whether a judge decided on these bits.
+fn has_word(judge: &Judge<'_>, bits: &[bool]) -> bool {
+    judge.word().truths() == bits
+}
+
 /// What is decided of some values: the verdict, whether the bits are these, and what the checker says of
 /// their certificate, where there is one.
 type Decided = (Verdict, bool, Option<Answer>);
@@ -62,52 +57,91 @@ type Decided = (Verdict, bool, Option<Answer>);
 /// Bits that are right and have a certificate.
 const LIKELY: Decided = (Verdict::MostLikely, true, Some(Answer::Yes));
 
+/// What a judge decides.
+fn decided_by(matrix: &Matrix, judge: &mut Judge<'_>, soft: &[i16], bits: &[bool]) -> Decided
+    requires long { length soft.now ≡ (code_of judge.old.rows).bits }
+    requires range { All IsSoft soft.now }
+{
+    let verdict = verdict_by(judge, soft);
+    (verdict, has_word(judge, bits), answer_on(matrix, judge))
+}
+
+/// What is decided without passes of settling.
 fn decided(alloc: Global, matrix: &Matrix, soft: &[i16], bits: &[bool]) -> Result<Decided, Fail> {
-    let (verdict, judge) = judged(alloc, matrix, soft, 0)?;
-    let is_word = judge.word().truths() == bits;
-    Ok((verdict, is_word, answer_on(matrix, &judge)))
+    if !fits(matrix, soft) {
+        return Err(Fail::from("other values"));
+    }
+    let mut judge = judge_of(alloc, matrix, 0)?;
+    Ok(decided_by(matrix, &mut judge, soft, bits))
+}
+
+/// Asserts what is decided of some values.
+fn assert_decided<A: Abort>(
+    rt: &A,
+    alloc: Global,
+    matrix: &Matrix,
+    soft: &[i16],
+    bits: &[bool],
+    want: Decided,
+) -> Result<(), Fail> {
+    let found = decided(alloc, matrix, soft, bits)?;
+    assert_eq!(rt; found, want, "{soft:?}");
+    Ok(())
+}
+
+/// Zeros of which one is wrong, and whether its neighbours are weak.
+fn wrong_bit(weak: bool) -> [i16; 20] {
+    let mut soft = [10; 20];
+    soft[0] = -4;
+    if weak {
+        soft[4..7].fill(1);
+    }
+    soft
 }
 
 #[test]
 fn repairs_a_wrong_bit(rt: HostRuntime) -> Result<(), Fail> {
-    let toy = matrix_of(rt.alloc(), [4, 2, 3], b"0 4 8\n0 1 2\n")?;
-    let mut wrong = [10i16; 20];
-    wrong[0] = -4;
-    let mut weak = wrong;
-    weak[4..7].fill(1);
-    for soft in [[10; 20], [0; 20], wrong, weak] {
-        let found = decided(rt.alloc(), &toy, &soft, &[false; 20])?;
-        assert_eq!(rt; found, LIKELY, "{soft:?}");
+    let toy = matrix_of_rows(rt.alloc(), [4, 2, 3], b"0 4 8\n0 1 2\n")?;
+    for soft in [[10; 20], [0; 20], wrong_bit(false), wrong_bit(true)] {
+        assert_decided(&rt, rt.alloc(), &toy, &soft, &[false; 20], LIKELY)?;
     }
     Ok(())
 }
 
 #[test]
 fn decodes_where_the_repair_has_an_odd_check(rt: HostRuntime) -> Result<(), Fail> {
-    let pair = matrix_of(rt.alloc(), [1, 1, 1], b"0\n")?;
-    let found = decided(rt.alloc(), &pair, &[-5, 3], &[true, true])?;
-    assert_eq!(rt; found, LIKELY);
-    let found = decided(rt.alloc(), &pair, &[-5, 5], &[true, false])?;
-    assert_eq!(rt; found, (Verdict::Broken, true, None));
+    let pair = matrix_of_rows(rt.alloc(), [1, 1, 1], b"0\n")?;
+    let broken = (Verdict::Broken, true, None);
+    for (soft, bits, want) in [
+        ([-5, 3], [true, true], LIKELY),
+        ([-5, 5], [true, false], broken),
+    ] {
+        assert_decided(&rt, rt.alloc(), &pair, &soft, &bits, want)?;
+    }
     Ok(())
 }
 
 #[test]
 fn finds_codewords_without_a_certificate(rt: HostRuntime) -> Result<(), Fail> {
-    let chain = matrix_of(rt.alloc(), [1, 1, 3], b"0 1 2\n")?;
+    let chain = matrix_of_rows(rt.alloc(), [1, 1, 3], b"0 1 2\n")?;
+    let parity = (Verdict::Parity, true, None);
     for soft in [[0, -1, -1, 0], [1, 0, -3, 0]] {
-        let found = decided(rt.alloc(), &chain, &soft, &[false; 4])?;
-        assert_eq!(rt; found, (Verdict::Parity, true, None), "{soft:?}");
+        assert_decided(&rt, rt.alloc(), &chain, &soft, &[false; 4], parity)?;
     }
     Ok(())
 }
 
-/// What is decided of a clean frame of zeros in a mode, by rows of weight 3 that seed 1 makes.
-fn decided_on_zeros(alloc: Global, mode: Mode) -> Result<Decided, Fail> {
-    let matrix = Matrix::build(alloc, &make_rows(alloc, mode.shape(), 3, 1)?)?;
+/// What is decided of a clean frame of zeros.
+fn decided_on_zeros(alloc: Global, matrix: &Matrix) -> Result<Decided, Fail> {
     let soft = vec![in alloc; 10i16; matrix.bits()]?;
     let zeros = vec![in alloc; false; matrix.bits()]?;
-    decided(alloc, &matrix, &soft, &zeros)
+    decided(alloc, matrix, &soft, &zeros)
+}
+
+/// The same in a mode, by rows of weight 3 that seed 1 makes.
+fn decided_in(alloc: Global, mode: Mode) -> Result<Decided, Fail> {
+    let matrix = matrix_of(alloc, mode.shape(), 3)?;
+    decided_on_zeros(alloc, &matrix)
 }
 
 /// Judges a clean frame in each mode.
@@ -116,8 +150,7 @@ fn has_room_for_every_mode(rt: HostRuntime) -> Result<(), Fail> {
     for modcod in 1..18u8 {
         for short in [false, true] {
             if let Some(mode) = Mode::of(modcod, short, false) {
-                let found = decided_on_zeros(rt.alloc(), mode)?;
-                assert_eq!(rt; found, LIKELY, "MODCOD {modcod}");
+                assert_eq!(rt; decided_in(rt.alloc(), mode)?, LIKELY, "MODCOD {modcod}");
             }
         }
     }
@@ -148,15 +181,31 @@ fn file_of(alloc: Global, judge: &Judge<'_>) -> Result<Vec<u8>, Fail> {
     Ok(file.into_inner())
 }
 
-/// The verdict by so many passes of settling, and the certificate's file.
+/// A judge's verdict, and its certificate's file.
+fn certified_by(
+    alloc: Global,
+    judge: &mut Judge<'_>,
+    soft: &[i16],
+) -> Result<(Verdict, Vec<u8>), Fail>
+    requires long { length soft.now ≡ (code_of judge.old.rows).bits }
+    requires range { All IsSoft soft.now }
+{
+    let verdict = verdict_by(judge, soft);
+    Ok((verdict, file_of(alloc, judge)?))
+}
+
+/// The same by so many passes of settling.
 fn certified(
     alloc: Global,
     matrix: &Matrix,
     soft: &[i16],
     passes: u32,
 ) -> Result<(Verdict, Vec<u8>), Fail> {
-    let (verdict, judge) = judged(alloc, matrix, soft, passes)?;
-    Ok((verdict, file_of(alloc, &judge)?))
+    if !fits(matrix, soft) {
+        return Err(Fail::from("other values"));
+    }
+    let mut judge = judge_of(alloc, matrix, passes)?;
+    certified_by(alloc, &mut judge, soft)
 }
 
 /// What the checker says of a certificate's file.
@@ -165,17 +214,44 @@ fn answer_on_file(alloc: Global, matrix: &Matrix, file: &[u8]) -> Result<Answer,
     Ok(check(matrix, &certificate.view()))
 }
 
+/// Asserts that so many passes find no certificate.
+fn assert_uncertified<A: Abort>(
+    rt: &A,
+    alloc: Global,
+    matrix: &Matrix,
+    soft: &[i16],
+    passes: u32,
+) -> Result<(), Fail> {
+    let (verdict, file) = certified(alloc, matrix, soft, passes)?;
+    assert_eq!(rt; (verdict, file.len()), (Verdict::Parity, 0));
+    Ok(())
+}
+
+/// Asserts that so many passes find a certificate.
+fn assert_certified<A: Abort>(
+    rt: &A,
+    alloc: Global,
+    matrix: &Matrix,
+    soft: &[i16],
+    passes: u32,
+) -> Result<(), Fail> {
+    let (verdict, file) = certified(alloc, matrix, soft, passes)?;
+    assert_eq!(rt; verdict, Verdict::MostLikely);
+    assert_eq!(rt; answer_on_file(alloc, matrix, &file)?, Answer::Yes);
+    Ok(())
+}
+
+/// The checks of QPSK 1/2 in short frames.
+fn half_rate(alloc: Global) -> Result<Matrix, Fail> {
+    let mode = Mode::of(4, true, false).ok_or("no mode")?;
+    matrix_of(alloc, mode.shape(), 3)
+}
+
 /// A noisy frame of QPSK 1/2 short whose certificate passes find and spreading does not.
 #[test]
 fn finds_certificates_in_noise(rt: HostRuntime) -> Result<(), Fail> {
-    let alloc = rt.alloc();
-    let mode = Mode::of(4, true, false).ok_or("no mode")?;
-    let matrix = Matrix::build(alloc, &make_rows(alloc, mode.shape(), 3, 1)?)?;
-    let soft = noisy_zeros(alloc, matrix.bits())?;
-    let (verdict, file) = certified(alloc, &matrix, &soft, 0)?;
-    assert_eq!(rt; (verdict, file.len()), (Verdict::Parity, 0));
-    let (verdict, file) = certified(alloc, &matrix, &soft, 96)?;
-    assert_eq!(rt; verdict, Verdict::MostLikely);
-    assert_eq!(rt; answer_on_file(alloc, &matrix, &file)?, Answer::Yes);
-    Ok(())
+    let matrix = half_rate(rt.alloc())?;
+    let soft = noisy_zeros(rt.alloc(), matrix.bits())?;
+    assert_uncertified(&rt, rt.alloc(), &matrix, &soft, 0)?;
+    assert_certified(&rt, rt.alloc(), &matrix, &soft, 96)
 }

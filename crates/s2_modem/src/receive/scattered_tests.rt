@@ -1,7 +1,6 @@
 //! A frame whose wrong decisions are scattered.
-use crate::streams::{assert_received, link_of, packet_of_zeros, received, symbols_of};
+use crate::streams::{Link, assert_reported, matrix_of, packet_of_zeros, setup_of, symbols_of};
 use s2_matrix::Matrix;
-use s2_rows::make_rows;
 use std::alloc::{AllocError, Global};
 use std::test::Fail;
 
@@ -79,21 +78,37 @@ fn negate(component: &mut [u8]) {
     }
 }
 
+/// Negates a payload symbol of a frame.
+fn negate_symbol(symbols: &mut [u8], symbol: u8) {
+    let at = 4 * (90 + usize::from(symbol));
+    if at + 4 <= symbols.len() {
+        negate(&mut symbols[at..at + 2]);
+        negate(&mut symbols[at + 2..at + 4]);
+    }
+}
+
+/// The link of QPSK 1/2 in short frames, by rows of weight 6 that seed 1 makes.
+fn link(alloc: Global) -> Result<Link, Fail> {
+    let setup = setup_of(4, true)?;
+    let matrix = matrix_of(alloc, setup.mode.shape(), 6)?;
+    Ok(Link { setup, matrix })
+}
+
+/// The symbols of a packet of zeros, of which three are negated.
+fn three_negated(alloc: Global, link: &Link) -> Result<Vec<u8>, Fail> {
+    let wrong = three_symbols(alloc, &link.matrix)?;
+    let mut symbols = symbols_of(alloc, link, &packet_of_zeros())?;
+    for symbol in wrong {
+        negate_symbol(&mut symbols, symbol);
+    }
+    Ok(symbols)
+}
+
 #[test]
 fn three_negated_symbols_are_repaired(rt: HostRuntime) -> Result<(), Fail> {
-    let alloc = rt.alloc();
-    let mut link = link_of(alloc, 4, true)?;
-    link.matrix = Matrix::build(alloc, &make_rows(alloc, link.matrix.shape(), 6, 1)?)?;
-    let packet = packet_of_zeros();
-    let mut symbols = symbols_of(alloc, &link, &packet)?;
-    for symbol in three_symbols(alloc, &link.matrix)? {
-        let at = 4 * (90 + usize::from(symbol));
-        if at + 4 <= symbols.len() {
-            negate(&mut symbols[at..at + 2]);
-            negate(&mut symbols[at + 2..at + 4]);
-        }
-    }
+    let link = link(rt.alloc())?;
+    let symbols = three_negated(rt.alloc(), &link)?;
     let report = "frame 1 at 0 most-likely fixed 0\nend frames 1 delivered 1 packets 1 bad 0\n";
-    assert_received(&rt, &received(alloc, &link, &symbols), report, &packet);
+    assert_reported(&rt, rt.alloc(), &link, &symbols, report, &packet_of_zeros());
     Ok(())
 }

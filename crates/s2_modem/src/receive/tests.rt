@@ -1,15 +1,16 @@
 //! Whole streams through a receiver.
 use crate::streams::{
-    ALL, assert_received, bch_word_of, frame_of_word, hear, link_of, packet_of, packet_of_zeros,
-    received, received_whole, receiver_of, show, symbols_of, two_packets,
+    ALL, Link, Sample, Shown, Source, assert_reported, assert_sample, bch_word_of, frame_of_word,
+    hear, link_of, one_frame, other_link, packet_of, packet_of_zeros, received, received_whole,
+    receiver_of, sample_of, show, two_frames, two_packets,
 };
 use crate::{DemodFault, SetupFault};
 use s2_bbframe::Header;
-use s2_matrix::Matrix;
-use s2_mode::{ByOne, Counting, Shape};
+use s2_bits::Bits;
+use s2_mode::ByOne;
 use s2_receive::{MOST_SYMBOLS, Outcome, Report, Step, Totals, Verdict};
-use s2_rows::make_rows;
-use std::alloc::Global;
+use std::alloc::{AllocError, Global};
+use std::process::Abort;
 use std::test::Fail;
 
 /// A delivered frame in which nothing was wrong.
@@ -24,12 +25,10 @@ pub(crate) fn frame(number: u64, at: u64) -> Step {
 
 #[test]
 fn one_packet_arrives(rt: HostRuntime) -> Result<(), Fail> {
-    let link = link_of(rt.alloc(), 1, false)?;
-    let packet = packet_of_zeros();
-    let symbols = symbols_of(rt.alloc(), &link, &packet)?;
-    assert_eq!(rt; symbols.len(), 129960);
+    let sample = one_frame(rt.alloc())?;
+    assert_eq!(rt; sample.symbols.len(), 129960);
     let report = "frame 1 at 0 most-likely fixed 0\nend frames 1 delivered 1 packets 1 bad 0\n";
-    assert_received(&rt, &received(rt.alloc(), &link, &symbols), report, &packet);
+    assert_sample(&rt, rt.alloc(), &sample, report, &packet_of_zeros());
     Ok(())
 }
 
@@ -44,25 +43,35 @@ fn totals(frames: u64, cut: bool) -> Totals {
     }
 }
 
+/// Asserts the totals of the first bytes of a frame's symbols, which are so many.
+fn assert_totals<A: Abort>(
+    rt: &A,
+    alloc: Global,
+    sample: &Sample,
+    whole: usize,
+) -> Result<(), Fail> {
+    let cases = [
+        (0, totals(0, false)),
+        (4 * 89, totals(0, false)),
+        (4 * 89 + 3, totals(0, false)),
+        (4 * 90, totals(0, true)),
+        (whole.saturating_sub(1), totals(0, true)),
+        (whole, totals(1, false)),
+    ];
+    for (bytes, want) in cases {
+        let front = sample.symbols.get(..bytes).ok_or("too few symbols")?;
+        let answer = received(alloc, &sample.link, front).answer;
+        assert_eq!(rt; answer, Ok(want), "{bytes} bytes");
+    }
+    Ok(())
+}
+
 /// From 90 symbols on a frame has begun, and without its last symbol it is cut.
 #[test]
 fn totals_are_answered(rt: HostRuntime) -> Result<(), Fail> {
     for (short, whole) in [(true, 4 * 8190), (false, 4 * 32490)] {
-        let link = link_of(rt.alloc(), 1, short)?;
-        let symbols = symbols_of(rt.alloc(), &link, &packet_of_zeros())?;
-        let cases = [
-            (0, totals(0, false)),
-            (4 * 89, totals(0, false)),
-            (4 * 89 + 3, totals(0, false)),
-            (4 * 90, totals(0, true)),
-            (whole - 1, totals(0, true)),
-            (whole, totals(1, false)),
-        ];
-        for (bytes, want) in cases {
-            let front = symbols.get(..bytes).ok_or("too few symbols")?;
-            let answer = received(rt.alloc(), &link, front).answer;
-            assert_eq!(rt; answer, Ok(want), "{bytes} bytes");
-        }
+        let sample = sample_of(rt.alloc(), 1, short, &packet_of_zeros())?;
+        assert_totals(&rt, rt.alloc(), &sample, whole)?;
     }
     Ok(())
 }
@@ -73,54 +82,61 @@ const TWO: &str =
 
 #[test]
 fn two_packets_arrive(rt: HostRuntime) -> Result<(), Fail> {
-    let link = link_of(rt.alloc(), 1, true)?;
-    let source = two_packets();
-    let symbols = symbols_of(rt.alloc(), &link, source.as_flattened())?;
-    let received = received(rt.alloc(), &link, &symbols);
-    assert_received(&rt, &received, TWO, source.as_flattened());
+    let sample = two_frames(rt.alloc())?;
+    assert_sample(&rt, rt.alloc(), &sample, TWO, two_packets().as_flattened());
+    Ok(())
+}
+
+/// Asserts what is heard of the two packets' frames where their bytes are read one by one.
+fn assert_heard_by_one<A: Abort>(rt: &A, alloc: Global, sample: &Sample) -> Result<(), Fail> {
+    let source = Source::Bytes(ByOne::new(&sample.symbols));
+    let heard = hear(alloc, &sample.link, MOST_SYMBOLS, source, [ALL, ALL, ALL])?;
+    let end = Ok(Step::End);
+    let want = [Ok(frame(1, 0)), Ok(frame(2, 8190)), end, end, end];
+    assert_eq!(rt; heard.steps, want);
+    assert_eq!(rt; heard.packets.as_slice(), two_packets().as_flattened());
+    assert_eq!(rt; heard.report.as_slice(), TWO.as_bytes());
     Ok(())
 }
 
 #[test]
 fn two_packets_arrive_byte_by_byte(rt: HostRuntime) -> Result<(), Fail> {
-    let link = link_of(rt.alloc(), 1, true)?;
-    let source = two_packets();
-    let symbols = symbols_of(rt.alloc(), &link, source.as_flattened())?;
-    let mut reader = Counting::new(ByOne::new(&symbols));
-    let heard = hear(rt.alloc(), &link, MOST_SYMBOLS, &mut reader, [ALL, ALL])?;
-    let end = Ok(Step::End);
-    let want = [Ok(frame(1, 0)), Ok(frame(2, 8190)), end, end, end];
-    assert_eq!(rt; heard.steps, want);
-    assert_eq!(rt; heard.packets.as_slice(), source.as_flattened());
-    assert_eq!(rt; heard.report.as_slice(), TWO.as_bytes());
-    Ok(())
+    let sample = two_frames(rt.alloc())?;
+    assert_heard_by_one(&rt, rt.alloc(), &sample)
 }
 
 /// QPSK points of 700 without noise are 29 away from zero.
-#[test]
-fn shows_the_last_frame(rt: HostRuntime) -> Result<(), Fail> {
-    let link = link_of(rt.alloc(), 1, false)?;
-    let symbols = symbols_of(rt.alloc(), &link, &packet_of_zeros())?;
-    let shown = show(rt.alloc(), &link, &symbols)?;
-    assert_eq!(rt; shown.soft.len(), 64800);
-    for value in &shown.soft {
+fn assert_clean<A: Abort>(rt: &A, soft: &[i16]) {
+    assert_eq!(rt; soft.len(), 64800);
+    for value in soft {
         assert_eq!(rt; value.abs_diff(0), 29);
     }
+}
+
+/// Asserts what is shown of the frame of a packet of zeros.
+fn assert_shown<A: Abort>(rt: &A, shown: &Shown) {
+    assert_clean(rt, &shown.soft);
     assert_eq!(rt; shown.word, [0xf3, 0xf6, 0x0d, 0xd4]);
     assert_eq!(rt; shown.message.len(), 16008);
     let begins = [true, true, true, true, false, false, true, true];
     assert!(rt; shown.message.starts_with(&begins));
+}
+
+#[test]
+fn shows_the_last_frame(rt: HostRuntime) -> Result<(), Fail> {
+    let sample = one_frame(rt.alloc())?;
+    let shown = show(rt.alloc(), &sample.link, &sample.symbols)?;
+    assert_shown(&rt, &shown);
     Ok(())
 }
 
 #[test]
 fn a_run_tells_whether_all_was_well(rt: HostRuntime) -> Result<(), Fail> {
-    let link = link_of(rt.alloc(), 1, true)?;
-    let mut symbols = symbols_of(rt.alloc(), &link, &packet_of(0))?;
-    let whole = received_whole(rt.alloc(), &link, &symbols)?;
+    let mut sample = sample_of(rt.alloc(), 1, true, &packet_of(0))?;
+    let whole = received_whole(rt.alloc(), &sample)?;
     assert!(rt; whole.well && whole.totals.packets == 1);
-    let _lost = symbols.pop();
-    let cut = received_whole(rt.alloc(), &link, &symbols)?;
+    let _lost = sample.symbols.pop();
+    let cut = received_whole(rt.alloc(), &sample)?;
     assert!(rt; !cut.well && cut.totals.cut);
     Ok(())
 }
@@ -128,7 +144,6 @@ fn a_run_tells_whether_all_was_well(rt: HostRuntime) -> Result<(), Fail> {
 /// Symbols of zeros say the zero codeword, whose message has no header.
 #[test]
 fn a_lost_frame_is_not_joined_over(rt: HostRuntime) -> Result<(), Fail> {
-    let link = link_of(rt.alloc(), 1, true)?;
     let source = [
         packet_of(0),
         packet_of(1),
@@ -136,25 +151,36 @@ fn a_lost_frame_is_not_joined_over(rt: HostRuntime) -> Result<(), Fail> {
         packet_of(3),
         packet_of(4),
     ];
-    let mut symbols = symbols_of(rt.alloc(), &link, source.as_flattened())?;
-    assert_eq!(rt; symbols.len(), 4 * 3 * 8190);
-    symbols[4 * (8190 + 90)..4 * 2 * 8190].fill(0);
+    let mut sample = sample_of(rt.alloc(), 1, true, source.as_flattened())?;
+    assert_eq!(rt; sample.symbols.len(), 4 * 3 * 8190);
+    sample.symbols[4 * (8190 + 90)..4 * 2 * 8190].fill(0);
     let report =
         "frame 1 at 0 most-likely fixed 0\nframe 2 at 8190 most-likely lost\nframe 3 at 16380 most-likely fixed 0\nend frames 3 delivered 2 packets 2 bad 0\n";
     let want = [packet_of(0), packet_of(4)];
-    let received = received(rt.alloc(), &link, &symbols);
-    assert_received(&rt, &received, report, want.as_flattened());
+    assert_sample(&rt, rt.alloc(), &sample, report, want.as_flattened());
     Ok(())
+}
+
+/// Zeros for 1000 symbols, and then these.
+fn behind_zeros(alloc: Global, symbols: &[u8]) -> Result<Vec<u8>, AllocError> {
+    let mut stream = vec![in alloc; 0u8; 4 * 1000]?;
+    stream.extend_from_slice(symbols)?;
+    Ok(stream)
 }
 
 #[test]
 fn passes_over_what_is_no_frame(rt: HostRuntime) -> Result<(), Fail> {
-    let link = link_of(rt.alloc(), 1, true)?;
-    let packet = packet_of(0);
-    let mut stream = vec![in rt.alloc(); 0u8; 4 * 1000]?;
-    stream.extend_from_slice(&symbols_of(rt.alloc(), &link, &packet)?)?;
+    let sample = sample_of(rt.alloc(), 1, true, &packet_of(0))?;
+    let stream = behind_zeros(rt.alloc(), &sample.symbols)?;
     let report = "frame 1 at 1000 most-likely fixed 0\nend frames 1 delivered 1 packets 1 bad 0\n";
-    assert_received(&rt, &received(rt.alloc(), &link, &stream), report, &packet);
+    assert_reported(
+        &rt,
+        rt.alloc(),
+        &sample.link,
+        &stream,
+        report,
+        &packet_of(0),
+    );
     Ok(())
 }
 
@@ -173,36 +199,34 @@ fn first_field() -> (Header, [u8; 189]) {
     (header, field)
 }
 
-#[test]
-fn corrects_twelve_wrong_bits(rt: HostRuntime) -> Result<(), Fail> {
-    let link = link_of(rt.alloc(), 4, true)?;
+/// The BCH word of the first packet, in which the first twelve bits are wrong.
+fn twelve_wrong(alloc: Global, link: &Link) -> Result<Bits, Fail> {
     let (header, field) = first_field();
-    let mut word = bch_word_of(rt.alloc(), &link, &header, &field)?;
+    let mut word = bch_word_of(alloc, link, &header, &field)?;
     for bit in word.truths_mut().iter_mut().take(12) {
         *bit = !*bit;
     }
-    let symbols = frame_of_word(rt.alloc(), &link, &word)?;
+    Ok(word)
+}
+
+/// The symbols of its frame.
+fn frame_of_twelve_wrong(alloc: Global, link: &Link) -> Result<Vec<u8>, Fail> {
+    let word = twelve_wrong(alloc, link)?;
+    frame_of_word(alloc, link, &word)
+}
+
+#[test]
+fn corrects_twelve_wrong_bits(rt: HostRuntime) -> Result<(), Fail> {
+    let link = link_of(rt.alloc(), 4, true)?;
+    let symbols = frame_of_twelve_wrong(rt.alloc(), &link)?;
     let report = "frame 1 at 0 most-likely fixed 12\nend frames 1 delivered 1 packets 1 bad 0\n";
-    let received = received(rt.alloc(), &link, &symbols);
-    assert_received(&rt, &received, report, &packet_of(0));
+    assert_reported(&rt, rt.alloc(), &link, &symbols, report, &packet_of(0));
     Ok(())
 }
 
-/// Why there is no receiver of this number, roll-off and rounds.
-fn refusal(
-    alloc: Global,
-    numbers: (u32, u8, u32),
-    other_shape: bool,
-) -> Result<Option<SetupFault>, Fail> {
-    let (number, roll_off, rounds) = numbers;
-    let mut link = link_of(alloc, 1, true)?;
-    link.setup.number = number;
-    link.setup.roll_off = roll_off;
-    if other_shape {
-        let toy = Shape::new(4, 2, 3).ok_or("no shape")?;
-        link.matrix = Matrix::build(alloc, &make_rows(alloc, toy, 3, 1)?)?;
-    }
-    Ok(receiver_of(alloc, &link, rounds).err())
+/// Why there is no receiver of this link and so many rounds.
+fn refusal(alloc: Global, link: &Link, rounds: u32) -> Option<SetupFault> {
+    receiver_of(alloc, link, rounds).err()
 }
 
 #[test]
@@ -216,11 +240,9 @@ fn refuses_receivers_in_order(rt: HostRuntime) -> Result<(), Fail> {
         ((262141, 2, 200), false, None),
     ];
     for (numbers, other_shape, want) in cases {
-        assert_eq!(rt;
-            refusal(rt.alloc(), numbers, other_shape)?,
-            want,
-            "{numbers:?}"
-        );
+        let (number, roll_off, rounds) = numbers;
+        let link = other_link(rt.alloc(), number, roll_off, other_shape)?;
+        assert_eq!(rt; refusal(rt.alloc(), &link, rounds), want, "{numbers:?}");
     }
     Ok(())
 }
