@@ -24,6 +24,23 @@ pub(crate) fn open<'a, R: Files + AllocGlobal>(
     Ok(Counting::new(buffered))
 }
 
+/// A file that is read, behind a buffer and with its failed calls counted.
+type Reader<F> = Counting<BufReader<F>>;
+
+/// Opens two files that are read, the first one first.
+pub(crate) fn open_both<'a, R: Files + AllocGlobal>(
+    rt: &R,
+    first: &'a str,
+    second: &'a str,
+) -> Result<(Reader<R::File>, Reader<R::File>), Fault<'a>>
+    ensures first { IfOk result (λ files. files.0.failed ≡ 0) }
+    ensures second { IfOk result (λ files. files.1.failed ≡ 0) }
+    ensures fault { IfErr result (λ fault. (fault ≡ Fault.Open first.entry) ⊎ ((fault ≡ Fault.Open second.entry) ⊎ (fault ≡ Fault.NoMemory))) }
+{
+    let first = open(rt, first)?;
+    Ok((first, open(rt, second)?))
+}
+
 /// The same without a buffer, for who reads many bytes at a time.
 pub(crate) fn open_unbuffered<'a, R: Files>(
     rt: &R,

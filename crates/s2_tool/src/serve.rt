@@ -17,7 +17,7 @@ use crate::judge::{judge_command, self_command};
 use crate::link::LinkSetup;
 use crate::loopback::run_command;
 use crate::noise::noise_command;
-use crate::opening::{create, create_buffered, open, open_unbuffered};
+use crate::opening::{create, create_buffered, open, open_both, open_unbuffered};
 use crate::receive::demod_command;
 use crate::request::{
     CheckWords, DemodWords, JudgeWords, LinkWords, ModWords, NoiseWords, Request, RowsWords,
@@ -124,8 +124,7 @@ fn serve_verdict<'a, R: Files + AllocGlobal, O: CountedWrite, E: CountedWrite>(
     requires { CanShow console.old }
     ensures { Began (Request.Judge words.entry) None result console.old console.new }
 {
-    let mut rows = open(rt, words.rows)?;
-    let mut soft = open(rt, words.soft)?;
+    let (mut rows, mut soft) = open_both(rt, words.rows, words.soft)?;
     Ok(judge_command(
         rt.alloc(),
         shape,
@@ -147,8 +146,7 @@ fn serve_certify<'a, R: Files + AllocGlobal, O: CountedWrite, E: CountedWrite>(
     ensures { Began (Request.Judge words.entry) None result console.old console.new }
 {
     let mut certificate = create(rt, certificate)?;
-    let mut rows = open(rt, words.rows)?;
-    let mut soft = open(rt, words.soft)?;
+    let (mut rows, mut soft) = open_both(rt, words.rows, words.soft)?;
     Ok(certify_command(
         rt.alloc(),
         shape,
@@ -169,8 +167,7 @@ fn serve_check<'a, R: Files + AllocGlobal, O: CountedWrite, E: CountedWrite>(
     requires { CanShow console.old }
     ensures { Began (Request.Check words.entry) None result console.old console.new }
 {
-    let mut rows = open(rt, words.rows)?;
-    let mut certificate = open(rt, words.certificate)?;
+    let (mut rows, mut certificate) = open_both(rt, words.rows, words.certificate)?;
     Ok(check_command(rt.alloc(), &mut rows, &mut certificate, console))
 }
 
@@ -186,8 +183,7 @@ fn serve_mod<'a, R: Files + AllocGlobal, O: CountedWrite, E: CountedWrite>(
     let Some(link) = setup_of(words.link) else {
         return Err(Fault::Mode);
     };
-    let mut rows = open(rt, words.rows)?;
-    let mut packets = open(rt, words.packets)?;
+    let (mut rows, mut packets) = open_both(rt, words.rows, words.packets)?;
     let mut symbols = create(rt, words.symbols)?;
     Ok(mod_command(
         rt.alloc(),
@@ -256,8 +252,7 @@ fn serve_run<'a, R: Files + AllocGlobal, O: CountedWrite, E: CountedWrite>(
     let Some(link) = setup_of(words.link) else {
         return Err(Fault::Mode);
     };
-    let mut rows = open(rt, words.rows)?;
-    let mut packets = open(rt, words.packets)?;
+    let (mut rows, mut packets) = open_both(rt, words.rows, words.packets)?;
     let mut to = create(rt, words.to)?;
     Ok(run_command(
         rt.alloc(),

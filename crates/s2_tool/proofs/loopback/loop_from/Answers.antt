@@ -7,7 +7,8 @@ use Rattle.s2_tool.proofs.loopback.loop_from.Goals as goal
 pub returns-in_err-receiver-clause-loops : goal.returns-in_err-receiver-clause-loops
 returns-in_err-receiver-clause-loops g c =
     let p = err_from_is_err_and c.from_residual.result c.from_residual.ensures.1 in
-    rw (p.1, p.2) (inr (ap Err (search rules), refl))
+    let old : Streams = record { taken = g.P.CountedRead.remaining c.args.packets.now; given = g.W.CountedWrite.contents c.args.to.now; out = g.O.CountedWrite.contents c.args.out.now; reads = g.P.Counted.count c.args.packets.now; writes = g.W.Counted.count c.args.to.now + g.O.Counted.count c.args.out.now } in
+    rw (p.1, p.2) (inr (ap Err (search rules), refl {a = old}))
 
 pub returns-clause-loops : goal.returns-clause-loops
 returns-clause-loops g c =

@@ -8,7 +8,8 @@ use Rattle.s2_tool.proofs.receive.receive_link.Goals as goal
 pub returns-in_err-receiver-clause-hears : goal.returns-in_err-receiver-clause-hears
 returns-in_err-receiver-clause-hears g c =
     let p = err_from_is_err_and c.from_residual.result c.from_residual.ensures.1 in
-    rw (p.1, p.2) (inr (ap Err (search rules), refl))
+    let old : Streams = record { taken = g.S.CountedRead.remaining c.args.symbols.now; given = g.P.CountedWrite.contents c.args.packets.now; out = g.O.CountedWrite.contents c.args.out.now; reads = g.S.Counted.count c.args.symbols.now; writes = g.P.Counted.count c.args.packets.now + g.O.Counted.count c.args.out.now } in
+    rw (p.1, p.2) (inr (ap Err (search rules), refl {a = old}))
 
 pub returns-clause-hears : goal.returns-clause-hears
 returns-clause-hears g c =

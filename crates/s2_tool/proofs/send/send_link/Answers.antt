@@ -8,7 +8,8 @@ use Rattle.s2_tool.proofs.send.send_link.Goals as goal
 pub returns-in_err-transmitter-clause-sends : goal.returns-in_err-transmitter-clause-sends
 returns-in_err-transmitter-clause-sends g c =
     let p = err_from_is_err_and c.from_residual.result c.from_residual.ensures.1 in
-    rw (p.1, p.2) (inr (ap Err (search rules), refl))
+    let old : Streams = record { taken = g.P.CountedRead.remaining c.args.packets.now; given = g.W.CountedWrite.contents c.args.symbols.now; out = g.O.CountedWrite.contents c.args.out.now; reads = g.P.Counted.count c.args.packets.now; writes = g.W.Counted.count c.args.symbols.now + g.O.Counted.count c.args.out.now } in
+    rw (p.1, p.2) (inr (ap Err (search rules), refl {a = old}))
 
 pub returns-clause-sends : goal.returns-clause-sends
 returns-clause-sends g c =

@@ -15,11 +15,6 @@ returns-in_err-rows g c =
     let p = err_from_is_err_and c.from_residual.result c.from_residual.ensures.1 in
     rw (p.1, p.2) (unbegun (Loops (effort_of c.args.words.effort.rounds c.args.words.effort.passes) c.args.words.seed c.args.words.level) (asked_setup c.args.words.link) c.in_err-rows.field-0.0 c.args.console.now.output, refl)
 
-pub returns-in_err-packets : goal.returns-in_err-packets
-returns-in_err-packets g c =
-    let p = err_from_is_err_and c.from_residual-in_err-packets.result c.from_residual-in_err-packets.ensures.1 in
-    rw (p.1, p.2) (unbegun (Loops (effort_of c.args.words.effort.rounds c.args.words.effort.passes) c.args.words.seed c.args.words.level) (asked_setup c.args.words.link) c.in_err-packets.field-0.0 c.args.console.now.output, refl)
-
 pub returns-in_err-to : goal.returns-in_err-to
 returns-in_err-to g c =
     let p = err_from_is_err_and c.from_residual-in_err-to.result c.from_residual-in_err-to.ensures.1 in
