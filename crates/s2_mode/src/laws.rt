@@ -1,7 +1,14 @@
 //! Laws of the definitions: each a call that does nothing, whose clause is the law.
+ghost use Rattle.s2_mode.specs.Limits.{LimitsLaw};
 ghost use Rattle.s2_mode.specs.Symbols.{SymbolsBackLaw};
 
 /// Symbols of 16-bit components are read back from their bytes.
 pub fn symbols_back()
     ensures { SymbolsBackLaw }
+{}
+
+/// The limits that are tested, [`crate::MOST_BITS`], [`crate::MOST_GROUP`] and [`crate::MOST_SOFT`], are
+/// those of the definitions.
+pub fn limits()
+    ensures { LimitsLaw }
 {}

@@ -2,13 +2,8 @@
 ghost use Rattle.std.specs.Prelude.{◌≡◌, ◌+◌, ◌*◌, ◌≤◌, ◌↔◌, IsSome, IfSome};
 ghost use Rattle.s2_mode.specs.Shape.{information_bits, check_count, code_bits, IsShape, shape_of};
 
+use crate::limits::{MOST_BITS, MOST_GROUP};
 use std::marker::Model;
-
-/// The most bits of a codeword.
-pub const MOST_BITS: usize = 64800;
-
-/// The most bits of a group.
-pub const MOST_GROUP: usize = 360;
 
 /// The shape of a code whose rows are repeated by groups (EN 302 307-1, 5.3.2): the size of a
 /// group, how many groups of information bits there are, and by how many checks each next bit of

@@ -1,0 +1,21 @@
+-- What bounds codes and soft values.
+use Rattle.std.specs.Prelude.{◌≡◌, ℕ}
+use Rattle.s2_mode.specs.declared.limits.TheConstants.{MOST_BITS, MOST_GROUP, MOST_SOFT}
+
+-- the most bits of a codeword: those of a normal frame (EN 302 307-1, table 5a)
+abbrev pub most_bits : ℕ
+most_bits = 64800
+
+-- the most bits of a group: those of the standard's codes (EN 302 307-1, 5.3.2)
+abbrev pub most_group : ℕ
+most_group = 360
+
+-- the largest soft value; the least is its negative
+abbrev pub most_soft : ℕ
+most_soft = 63
+
+-- the limits that the code tests are these
+pub record LimitsLaw : Type 0 where
+  pub bits : MOST_BITS ≡ most_bits
+  pub group : MOST_GROUP ≡ most_group
+  pub soft : MOST_SOFT ≡ most_soft
