@@ -12,7 +12,7 @@ use Rattle.std.proofs.lemmas.List.FromFn.{length-range_with_len, get_or-range_wi
 use Rattle.s2_bits.specs.Bits.{bit_of_bytes}
 use Rattle.s2_file.specs.Field.{places}
 use Rattle.s2_rows.specs.Values.{is_value}
-use Rattle.s2_rows.specs.declared.limits.TheConstants.{MOST_SOFT}
+use Rattle.s2_mode.specs.Limits.{most_soft}
 use Rattle.s2_file.specs.Field.{byte_at, bytes_of_bits}
 use Rattle.s2_file.proofs.Padding.{padded_yes}
 use Rattle.s2_file.proofs.ByteBits.{bit_back}
@@ -97,8 +97,8 @@ bit_list_is n = record {
 
 soft_passes : (v : ℤ) → IsSoft v → is_value v ≡ true
 soft_passes v h =
-    let low : int_lt v (neg_ℤ (pos MOST_SOFT)) ≡ false = elim (cases_Bool (int_lt v (neg_ℤ (pos MOST_SOFT)))) [ inl less ↦ absurd (omega (arith, ints, h.low)) | inr ok ↦ ok ] in
-    let high : int_lt (pos MOST_SOFT) v ≡ false = elim (cases_Bool (int_lt (pos MOST_SOFT) v)) [ inl less ↦ absurd (omega (arith, ints, h.high)) | inr ok ↦ ok ] in
+    let low : int_lt v (neg_ℤ (pos most_soft)) ≡ false = elim (cases_Bool (int_lt v (neg_ℤ (pos most_soft)))) [ inl less ↦ absurd (omega (arith, ints, h.low)) | inr ok ↦ ok ] in
+    let high : int_lt (pos most_soft) v ≡ false = elim (cases_Bool (int_lt (pos most_soft) v)) [ inl less ↦ absurd (omega (arith, ints, h.high)) | inr ok ↦ ok ] in
     and_from _ _ (ap not low) (ap not high)
 
 -- a width whose numbers are read back

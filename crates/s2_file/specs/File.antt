@@ -2,7 +2,7 @@
 use Rattle.std.specs.Prelude.{◌≡◌, ℕ, ◌≤◌, List, Bool, length, All, FitsSigned, ℤ, pos, neg_ℤ, ◌≤ℤ◌}
 use Rattle.std.specs.Int.{w32}
 use Rattle.s2_mode.specs.Shape.{Shape, IsShape, code_bits}
-use Rattle.s2_rows.specs.declared.limits.TheConstants.{MOST_SOFT}
+use Rattle.s2_mode.specs.Limits.{most_soft}
 use Rattle.s2_file.specs.Limits.{most_scale, most_shares}
 
 -- the split of a file: a share for each edge, check by check, members rising
@@ -19,8 +19,8 @@ pub record File : Type 0 where
 
 -- from -63 to 63
 pub record IsSoft (v : ℤ) : Type 0 where
-  pub low : neg_ℤ (pos MOST_SOFT) ≤ℤ v
-  pub high : v ≤ℤ pos MOST_SOFT
+  pub low : neg_ℤ (pos most_soft) ≤ℤ v
+  pub high : v ≤ℤ pos most_soft
 
 -- not too many shares, of 32 bits
 abbrev pub IsSplit : Split → Type 0

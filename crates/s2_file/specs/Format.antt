@@ -3,7 +3,7 @@ use Rattle.std.specs.Prelude.{◌≡◌, ◌↔◌, IsTrue, ℕ, ◌≤◌, nat_
 use Rattle.std.specs.Int.{Width, w8, w16, w32, byte_len, from_be_bytes, to_be_bytes}
 use Rattle.std.specs.List.{flat_map}
 use Rattle.s2_mode.specs.Shape.{Shape, IsShape, shape_of, code_bits}
-use Rattle.s2_mode.specs.declared.shape.TheConstants.{MOST_BITS, MOST_GROUP}
+use Rattle.s2_mode.specs.Limits.{most_bits, most_group}
 use Rattle.s2_rows.specs.Values.{is_value}
 use Rattle.s2_file.specs.declared.fault.CertFault.{CertFault}
 use Rattle.s2_file.specs.declared.fault.CertFault.TheVariants as faults
@@ -54,7 +54,7 @@ count_at versions.Listed bytes = number_at w32 bytes
 -- numbers that are a shape
 abbrev pub is_shape : Shape → Bool
 is_shape s =
-    nat_le 1 s.group && (nat_le s.group MOST_GROUP && (nat_le 1 s.groups && (nat_le 1 s.q && nat_le (code_bits s) MOST_BITS)))
+    nat_le 1 s.group && (nat_le s.group most_group && (nat_le 1 s.groups && (nat_le 1 s.q && nat_le (code_bits s) most_bits)))
 
 -- the test and IsShape say the same
 abbrev pub ShapeLaw : Type 0

@@ -3,7 +3,7 @@ ghost use Rattle.std.specs.Prelude.{◌≡◌, length};
 ghost use Rattle.s2_file.specs.Format.{soft, share};
 
 use crate::version::{SHARE_BYTES, SOFT_BYTES};
-use s2_rows::MOST_SOFT;
+use s2_mode::MOST_SOFT;
 
 /// A soft value.
 pub(crate) fn soft_of(bytes: &[u8]) -> i16

@@ -1,7 +1,7 @@
 //! The lists of a body, tested and read.
 ghost use Rattle.std.specs.Prelude.{◌≡◌, ◌*◌, ◌≤◌, true, All, FitsSigned, IfOk, length};
 ghost use Rattle.std.specs.Int.{w32};
-ghost use Rattle.s2_mode.specs.declared.shape.TheConstants.{MOST_BITS};
+ghost use Rattle.s2_mode.specs.Limits.{most_bits};
 ghost use Rattle.s2_file.specs.File.{IsSoft};
 ghost use Rattle.s2_file.specs.Field.{is_padded, many};
 ghost use Rattle.s2_file.specs.Format.{soft, share};
@@ -28,7 +28,7 @@ pub(crate) fn are_soft(bytes: &[u8], n: usize) -> bool
 
 /// Whether the bits from n on are zero.
 pub(crate) fn is_padded(bytes: &[u8], n: usize) -> bool
-    requires few { length bytes.now ≤ MOST_BITS }
+    requires few { length bytes.now ≤ most_bits }
     requires within { n ≤ 8 * length bytes.now }
     ensures { result ≡ is_padded bytes.now n }
 {

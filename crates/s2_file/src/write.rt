@@ -2,7 +2,7 @@
 ghost use Rattle.std.specs.Prelude.{◌≡◌, ◌-◌, ◌^◌, ◌<◌, ◌≤◌, OnOk, All, length};
 ghost use Rattle.std.specs.List.{flat_map};
 ghost use Rattle.std.specs.Io.KnownBytes.{Appends, append_known};
-ghost use Rattle.s2_mode.specs.declared.shape.TheConstants.{MOST_BITS};
+ghost use Rattle.s2_mode.specs.Limits.{most_bits};
 ghost use Rattle.s2_mode.specs.Counts.{CountsFault};
 ghost use Rattle.s2_file.specs.Limits.{most_shares};
 ghost use Rattle.s2_file.specs.Field.{bytes_of_bits};
@@ -114,7 +114,7 @@ pub fn write_word<W: CountedWrite>(
     word: &Bits,
 ) -> Result<(), WriteFault>
     requires count { W.count out.old < 2 ^ 64 - 1 }
-    requires few { length word.now ≤ MOST_BITS }
+    requires few { length word.now ≤ most_bits }
     ensures bytes { OnOk result (Appends (append_known (W.contents out.old) page.old.items) (append_known (W.contents out.new) page.new.items) (bytes_of_bits word.now)) }
     ensures cause { CountsFault (W.count out.old) (W.count out.new) result }
 {

@@ -2,7 +2,7 @@
 use Rattle.std.specs.Prelude.{◌≡◌, ℕ, ◌+◌, ◌*◌, ◌<◌, ◌≤◌, Bool, if◌then◌else◌, All, filter, List, [], ◌∷◌, ◌++◌, map, length, get_or, replicate}
 use Rattle.s2_matrix.specs.Total.{upto}
 use Rattle.s2_rows.specs.Rows.{Rows, IsRows}
-use Rattle.s2_rows.specs.declared.limits.TheConstants.{MOST_ADDRESSES}
+use Rattle.s2_rows.specs.Limits.{most_addresses}
 use Rattle.s2_matrix.specs.Code.{Code, code_of, members, checks_of, first_edge, edges_at}
 use Rattle.s2_matrix.specs.Share.{shared}
 use Rattle.s2_matrix.specs.Joined.{joined}
@@ -20,7 +20,7 @@ pub record Gains (count : ℕ) (cs bs cs' bs' : List ℕ) (test : ℕ → Bool) 
 pub record AreEdges (code : Code) (n : ℕ) (cs bs : List ℕ) : Type 0 where
   pub paired : length bs ≡ length cs
   pub below : All (λ k. k < code.checks) cs
-  pub few : length cs ≤ MOST_ADDRESSES * n
+  pub few : length cs ≤ most_addresses * n
   pub are : (j : ℕ) → j < code.checks → shared cs bs j ≡ filter (code.has j) (upto n)
 
 -- the checks of all edges, in the order of the edges of the checks below n

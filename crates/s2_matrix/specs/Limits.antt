@@ -1,8 +1,8 @@
 -- Limits.
 use Rattle.std.specs.Prelude.{ℕ, ◌*◌}
-use Rattle.s2_mode.specs.declared.shape.TheConstants.{MOST_BITS}
-use Rattle.s2_rows.specs.declared.limits.TheConstants.{MOST_ADDRESSES}
+use Rattle.s2_mode.specs.Limits.{most_bits}
+use Rattle.s2_rows.specs.Limits.{most_addresses}
 
 -- no code has more edges: each of its bits is in at most so many checks
 abbrev pub most_edges : ℕ
-most_edges = MOST_ADDRESSES * MOST_BITS
+most_edges = most_addresses * most_bits

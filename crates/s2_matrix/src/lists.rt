@@ -1,7 +1,7 @@
 //! The flat lists of a matrix.
 ghost use Rattle.std.specs.Prelude.{◌≡◌, ◌<◌, ◌≤◌, ◌^◌, IfOk, map, length, sum_by};
 ghost use Rattle.s2_rows.specs.Rows.{row_of};
-ghost use Rattle.s2_rows.specs.declared.limits.TheConstants.{MOST_ADDRESSES};
+ghost use Rattle.s2_rows.specs.Limits.{most_addresses};
 ghost use Rattle.s2_matrix.specs.Limits.{most_edges};
 ghost use Rattle.s2_matrix.specs.Total.{upto};
 ghost use Rattle.s2_matrix.specs.Code.{code_of, members, checks_of, edges_at};
@@ -16,7 +16,7 @@ use std::alloc::{AllocError, Global};
 
 /// A copy of a row.
 fn copy_row(row: &[u32]) -> Row
-    requires { length row.now ≤ MOST_ADDRESSES }
+    requires { length row.now ≤ most_addresses }
     ensures { result.items ≡ row.now }
 {
     let mut copy = Row::new();

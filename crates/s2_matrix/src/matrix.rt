@@ -1,8 +1,8 @@
 //! The matrix and its reads.
 ghost use Rattle.std.specs.Prelude.{◌≡◌, ℕ, ◌+◌, ◌<◌, ◌≤◌, All, IfOk, length, slice_index};
 ghost use Rattle.s2_mode.specs.Shape.{IsShape, check_count};
-ghost use Rattle.s2_mode.specs.declared.shape.TheConstants.{MOST_BITS};
-ghost use Rattle.s2_rows.specs.declared.limits.TheConstants.{MOST_ADDRESSES};
+ghost use Rattle.s2_mode.specs.Limits.{most_bits};
+ghost use Rattle.s2_rows.specs.Limits.{most_addresses};
 ghost use Rattle.s2_rows.specs.Rows.{AreAddresses, row_of};
 ghost use Rattle.s2_matrix.specs.Code.{code_of, members, checks_of, edges_at, first_edge};
 ghost use Rattle.s2_matrix.specs.Limits.{most_edges};
@@ -73,7 +73,7 @@ impl Matrix {
         requires { group < self.now.shape.groups }
         ensures are { result.now ≡ row_of self.now group }
         ensures addresses { AreAddresses (check_count self.now.shape) result.now }
-        ensures short { length result.now ≤ MOST_ADDRESSES }
+        ensures short { length result.now ≤ most_addresses }
     {
         self.rows[group].as_slice()
     }
@@ -81,8 +81,8 @@ impl Matrix {
     /// n, how many bits a codeword has: at most 64800. Each is in at most 24 checks.
     pub fn bits(&self) -> usize
         ensures is { result ≡ (code_of self.now).bits }
-        ensures few { result ≤ MOST_BITS }
-        ensures few_checks { (i : ℕ) → length (checks_of (code_of self.now) i) ≤ MOST_ADDRESSES }
+        ensures few { result ≤ most_bits }
+        ensures few_checks { (i : ℕ) → length (checks_of (code_of self.now) i) ≤ most_addresses }
     {
         self.edges.len()
     }
@@ -90,7 +90,7 @@ impl Matrix {
     /// n - k, how many checks there are, and as many parity bits.
     pub fn check_count(&self) -> usize
         ensures is { result ≡ (code_of self.now).checks }
-        ensures few { result ≤ MOST_BITS }
+        ensures few { result ≤ most_bits }
     {
         self.members.len()
     }
@@ -118,7 +118,7 @@ impl Matrix {
         requires { check < (code_of self.now).checks }
         ensures are { result.now ≡ members (code_of self.now) check }
         ensures below { All (λ i. i < (code_of self.now).bits) result.now }
-        ensures short { length result.now ≤ MOST_BITS }
+        ensures short { length result.now ≤ most_bits }
         ensures within { first_edge (code_of self.now) check + length result.now ≤ first_edge (code_of self.now) (code_of self.now).checks }
     {
         self.members.row(check)
@@ -130,7 +130,7 @@ impl Matrix {
         requires { bit < (code_of self.now).bits }
         ensures are { result.now ≡ edges_at (code_of self.now) bit }
         ensures below { All (λ e. e < first_edge (code_of self.now) (code_of self.now).checks) result.now }
-        ensures few { length result.now ≤ MOST_ADDRESSES }
+        ensures few { length result.now ≤ most_addresses }
     {
         self.edges.row(bit)
     }
@@ -140,7 +140,7 @@ impl Matrix {
         requires { bit < (code_of self.now).bits }
         ensures are { result.now ≡ checks_of (code_of self.now) bit }
         ensures below { All (λ j. j < (code_of self.now).checks) result.now }
-        ensures few { length result.now ≤ MOST_ADDRESSES }
+        ensures few { length result.now ≤ most_addresses }
     {
         self.checks.row(bit)
     }
@@ -149,7 +149,7 @@ impl Matrix {
     pub fn degree(&self, check: usize) -> usize
         requires { check < (code_of self.now).checks }
         ensures is { result ≡ length (members (code_of self.now) check) }
-        ensures short { result ≤ MOST_BITS }
+        ensures short { result ≤ most_bits }
         ensures within { first_edge (code_of self.now) check + result ≤ first_edge (code_of self.now) (code_of self.now).checks }
     {
         self.members_at(check).len()
@@ -169,7 +169,7 @@ impl Matrix {
     pub fn bit_degree(&self, bit: usize) -> usize
         requires { bit < (code_of self.now).bits }
         ensures is { result ≡ length (checks_of (code_of self.now) bit) }
-        ensures few { result ≤ MOST_ADDRESSES }
+        ensures few { result ≤ most_addresses }
     {
         self.checks_at(bit).len()
     }

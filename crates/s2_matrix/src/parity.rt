@@ -2,7 +2,7 @@
 ghost use Rattle.std.specs.Prelude.{◌≡◌, ◌≢◌, ℕ, ◌+◌, ◌*◌, ◌<◌, ◌≤◌, ◌%◌, ◌↔◌, All, IsTrue, IfSome, MatchOption, false, length, count_by};
 ghost use Rattle.s2_bits.specs.Bits.{bit_at};
 ghost use Rattle.s2_mode.specs.Shape.{information_bits, check_count};
-ghost use Rattle.s2_mode.specs.declared.shape.TheConstants.{MOST_BITS};
+ghost use Rattle.s2_mode.specs.Limits.{most_bits};
 ghost use Rattle.s2_matrix.specs.Code.{code_of, IsCodeword, IsOddCheck};
 ghost use Rattle.s2_matrix.specs.Sums.{information_sum, parity_bit};
 ghost use Rattle.s2_matrix.specs.Planes.{plane_place};
@@ -21,7 +21,7 @@ const FIRST_CHECKS: usize = 64;
 fn add_groups(matrix: &Matrix, info: &[bool], planes: &mut [bool])
     requires info { length info.now ≡ information_bits matrix.now.shape }
     requires room { check_count matrix.now.shape ≤ length planes.old }
-    requires few { length planes.old ≤ MOST_BITS }
+    requires few { length planes.old ≤ most_bits }
     requires empty { (k : ℕ) → bit_at planes.old k ≡ false }
     ensures long { length planes.new ≡ length planes.old }
     ensures are { (j : ℕ) → j < check_count matrix.now.shape → bit_at planes.new (plane_place matrix.now.shape.group matrix.now.shape.q j) ≡ information_sum (code_of matrix.now) info.now j }

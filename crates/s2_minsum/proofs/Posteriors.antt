@@ -6,7 +6,8 @@ use Rattle.std.proofs.lemmas.Int.{ints}
 use Rattle.s2_matrix.specs.Total.{total, upto}
 use Rattle.s2_matrix.specs.Code.{Code, checks_of}
 use Rattle.s2_matrix.proofs.Totals.{total-filter}
-use Rattle.s2_minsum.specs.Plain.{most_soft, most_message, most_posterior, State, posterior}
+use Rattle.s2_mode.specs.Limits.{most_soft}
+use Rattle.s2_minsum.specs.Plain.{most_message, most_posterior, State, posterior}
 
 pub total-within : (f g : ℕ → ℤ) (a n : ℕ) → ((i : ℕ) → a ≤ i → i < a + n → f i ≡ g i) → total f (range_with_len a n) ≡ total g (range_with_len a n)
 total-within f g a zero h = refl

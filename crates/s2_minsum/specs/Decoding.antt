@@ -4,7 +4,8 @@ use Rattle.s2_mode.specs.Shape.{Shape, IsShape, code_bits}
 use Rattle.s2_rows.specs.Rows.{Rows}
 use Rattle.s2_matrix.specs.Code.{code_of, members, checks_of}
 use Rattle.s2_minsum.specs.declared.rows.Entry.{Entry}
-use Rattle.s2_minsum.specs.Plain.{most_soft, most_message, State, posterior}
+use Rattle.s2_mode.specs.Limits.{most_soft}
+use Rattle.s2_minsum.specs.Plain.{most_message, State, posterior}
 use Rattle.s2_minsum.specs.Words.{signed16, cell, entry_at}
 use Rattle.s2_minsum.specs.Layout.{row_of_bit, lane_of_bit, bit_of, last_check, entry_of, entry_count, first_row, kept_of, state_of}
 

@@ -1,14 +1,12 @@
 -- Layered min-sum over a code (this project's own: the standard leaves decoding free). Each check sends a message to each of its
 -- members; a message above 0 speaks for a zero, one below 0 for a one.
 use Rattle.std.specs.Prelude.{ℕ, ◌+◌, ◌-◌, ◌*◌, ◌/◌, ◌%◌, ◌==◌, min, nat_lt, Bool, not, ◌&&◌, if◌then◌else◌, List, map, filter, fold, count_by, get_or, ℤ, pos, neg_ℤ, ◌+ℤ◌, ◌-ℤ◌, int_lt, unsigned_abs}
+use Rattle.s2_mode.specs.Limits.{most_soft}
+use Rattle.s2_rows.specs.Limits.{most_addresses}
 use Rattle.s2_matrix.specs.Total.{total, upto}
 use Rattle.s2_matrix.specs.Code.{Code, members, checks_of}
 
 -- ---- the numbers
-
--- the largest size of a soft value
-abbrev pub most_soft : ℕ
-most_soft = 63
 
 -- the size of an input that is larger counts as this
 abbrev pub size_cap : ℕ
@@ -22,9 +20,9 @@ reduced m = m - m / 4
 abbrev pub most_message : ℕ
 most_message = reduced size_cap
 
--- the largest size of a posterior: a bit is in at most 24 checks
+-- the largest size of a posterior: a bit is in as many checks as its row has addresses, at most
 abbrev pub most_posterior : ℕ
-most_posterior = most_soft + 24 * most_message
+most_posterior = most_soft + most_addresses * most_message
 
 -- ---- states
 

@@ -2,7 +2,8 @@
 ghost use Rattle.std.specs.Prelude.{◌≡◌, ℕ, ◌+◌, ◌*◌, ◌<◌, ◌≤◌, IfOk, length, get_or, replicate, true, pos};
 ghost use Rattle.s2_mode.specs.Shape.{code_bits};
 ghost use Rattle.s2_matrix.specs.Code.{code_of, members, first_edge, edge_of};
-ghost use Rattle.s2_minsum.specs.Plain.{most_soft, posterior as posterior_of, layer as after_layer, round as after_round, start, decision, is_edge};
+ghost use Rattle.s2_mode.specs.Limits.{most_soft};
+ghost use Rattle.s2_minsum.specs.Plain.{posterior as posterior_of, layer as after_layer, round as after_round, start, decision, is_edge};
 ghost use Rattle.s2_minsum.specs.Decoding.{AreWithin, Decoding, decoded};
 
 use crate::edge::{check_of, message_place};

@@ -43,7 +43,7 @@ pub use decoder::Decoder;
 pub use entries::{Layers, Span, find_span, layers_of, scratch_len};
 pub use lacking::mask_lacking;
 pub use layout::{first_bit, last_row, place_among, step_of};
-pub use limits::{MOST_MESSAGE, MOST_SOFT, SIZE_CAP};
+pub use limits::{MOST_MESSAGE, SIZE_CAP};
 pub use rows::Entry;
 
 #[cfg(test)]

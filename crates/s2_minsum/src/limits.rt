@@ -1,8 +1,5 @@
 //! The numbers of the min-sum rule, all in one place.
 
-/// The largest size of a soft value.
-pub const MOST_SOFT: u16 = 63;
-
 /// The size of an input that is larger counts as this.
 pub const SIZE_CAP: u16 = 127;
 

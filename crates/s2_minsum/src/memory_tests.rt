@@ -1,6 +1,6 @@
 //! A decoder, where memory may be refused once: then it says so, and the same call again answers.
 ghost use Rattle.std.specs.Prelude.{◌≡◌, IfOk, length};
-ghost use Rattle.s2_minsum.specs.Plain.{most_soft};
+ghost use Rattle.s2_mode.specs.Limits.{most_soft};
 ghost use Rattle.s2_minsum.specs.Decoding.{AreWithin};
 
 use super::tests::{ONE_WRONG, ONE_WRONG_AFTER, soft_values};

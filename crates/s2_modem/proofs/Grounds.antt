@@ -10,7 +10,8 @@ use Rattle.s2_split.specs.Scattered.{repaired}
 use Rattle.s2_split.specs.Making.{Making, Shared, shared_views}
 use Rattle.s2_split.proofs.Passes.{fold_upto}
 use Rattle.s2_settle.specs.Holding.{Settling}
-use Rattle.s2_minsum.specs.Plain.{State, start, round, decision, most_soft}
+use Rattle.s2_mode.specs.Limits.{most_soft}
+use Rattle.s2_minsum.specs.Plain.{State, start, round, decision}
 use Rattle.s2_minsum.specs.Decoding.{AreWithin, Decoding, decoded}
 use Rattle.s2_modem.specs.declared.receive.ground.Ground.{Ground}
 use Rattle.s2_modem.specs.declared.receive.ground.Ground.TheVariants.{HardDecision, Made, Settled, Checks, Nothing}

@@ -3,7 +3,7 @@ use Rattle.std.proofs.Common.{◌≡◌, ℕ, zero, suc, ◌+◌, ◌-◌, ◌^�
 use Rattle.std.proofs.lemmas.Bool.{cond-true, cond-false, cases_Bool, and_from, ne_eqb}
 use Rattle.std.proofs.lemmas.Int.{ints}
 use Rattle.std.specs.Option.{option_map}
-use Rattle.s2_rows.specs.Limits.{most_soft}
+use Rattle.s2_mode.specs.Limits.{most_soft}
 use Rattle.s2_rows.specs.Numbers.{digits_from}
 use Rattle.s2_rows.specs.Readings.{ok_cons}
 use Rattle.s2_rows.specs.Text.{is_space, is_line_feed, in_front, pieces_of, words_of, lines_of, is_passed_over}

@@ -1,6 +1,6 @@
 -- The text of values, in the words of the format: decimal numbers between separators, and no line that is passed over.
 use Rattle.std.specs.Prelude.{◌≡◌, ℕ, ◌≤◌, ◌||◌, IsTrue, Bool, List, [], ◌∷◌, ◌++◌, length, replicate, ⊤, ℤ, pos, neg_ℤ, Ok, decimal}
-use Rattle.s2_rows.specs.Limits.{most_soft}
+use Rattle.s2_mode.specs.Limits.{most_soft}
 use Rattle.s2_rows.specs.Text.{is_space, is_line_feed}
 use Rattle.s2_rows.specs.Values.{values_of_text}
 

@@ -27,8 +27,7 @@ pub fn made_rows()
     ensures { MadeRowsLaw }
 {}
 
-/// The limits that are tested, [`crate::MOST_ADDRESSES`] and [`crate::MOST_SOFT`], are those of the
-/// formats.
+/// The limit that is tested, [`crate::MOST_ADDRESSES`], is that of the format.
 pub fn limits()
     ensures { LimitsLaw }
 {}

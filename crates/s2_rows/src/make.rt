@@ -2,6 +2,7 @@
 ghost use Rattle.std.specs.Prelude.{◌≡◌, ◌<◌, ◌≤◌, ◌==◌, [], map, false, length, IfOk};
 ghost use Rattle.std.specs.List.{list_any};
 ghost use Rattle.s2_mode.specs.Shape.{IsShape};
+ghost use Rattle.s2_rows.specs.Limits.{most_addresses};
 ghost use Rattle.s2_rows.specs.MadeRows.{free_from, drawn_row, Makes};
 
 use crate::limits::MOST_ADDRESSES;
@@ -44,7 +45,7 @@ fn free_from(row: &[u32], checks: u32, x: u32) -> u32
 
 /// A row of so many addresses, each drawn in its turn.
 fn draw_row(words: &mut Pcg32, checks: u32, weight: usize) -> Row
-    requires few { weight ≤ MOST_ADDRESSES }
+    requires few { weight ≤ most_addresses }
     requires free { weight ≤ checks }
     ensures { (result.items, words.new) ≡ drawn_row checks weight [] words.old }
 {

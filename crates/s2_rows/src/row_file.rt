@@ -1,7 +1,7 @@
 //! Row files.
 ghost use Rattle.std.specs.Prelude.{◌≡◌, ◌≢◌, ◌+◌, ◌-◌, ◌<◌, ◌≤◌, ◌∷◌, ℕ, List, Ok, Err, map, vec_len, vec_capacity, IfOk, MatchResult};
 ghost use Rattle.s2_mode.specs.Shape.{IsShape, check_count};
-ghost use Rattle.s2_mode.specs.declared.shape.TheConstants.{MOST_BITS};
+ghost use Rattle.s2_mode.specs.Limits.{most_bits};
 ghost use Rattle.s2_rows.specs.Numbers.{natural_of};
 ghost use Rattle.s2_rows.specs.Readings.{after, GoesOn};
 ghost use Rattle.s2_rows.specs.RowFiles.{address_of, with_word, row_in, rows_of, rows_of_text, RowsAnswer};
@@ -35,7 +35,7 @@ pub enum RowFault {
 
 /// The address that a word says.
 fn address(checks: usize, line: u64, word: &[u8]) -> Result<u32, RowFault>
-    requires { checks ≤ MOST_BITS }
+    requires { checks ≤ most_bits }
     ensures { result ≡ address_of checks line (natural_of word.now) }
 {
     match natural(word) {
@@ -47,7 +47,7 @@ fn address(checks: usize, line: u64, word: &[u8]) -> Result<u32, RowFault>
 
 /// Adds the address that a word says to its row.
 fn add_word(row: &mut Row, checks: usize, line: u64, word: &[u8]) -> Result<(), RowFault>
-    requires { checks ≤ MOST_BITS }
+    requires { checks ≤ most_bits }
     ensures read { MatchResult result
         (λ _. with_word checks line row.old.items word.now ≡ Ok row.new.items)
         (λ e. with_word checks line row.old.items word.now ≡ Err e) }
@@ -66,7 +66,7 @@ fn add_word(row: &mut Row, checks: usize, line: u64, word: &[u8]) -> Result<(), 
 
 /// The row of a line.
 fn read_row(checks: usize, number: u64, line: &[u8]) -> Result<Row, RowFault>
-    requires { checks ≤ MOST_BITS }
+    requires { checks ≤ most_bits }
     ensures read { MatchResult result
         (λ row. row_in checks number (words_of line.now) ≡ Ok row.items)
         (λ e. row_in checks number (words_of line.now) ≡ Err e) }

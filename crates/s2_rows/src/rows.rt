@@ -1,6 +1,7 @@
 //! Address rows.
 ghost use Rattle.std.specs.Prelude.{◌≡◌, ◌<◌, ◌≤◌, length, map};
 ghost use Rattle.s2_mode.specs.Shape.{check_count};
+ghost use Rattle.s2_rows.specs.Limits.{most_addresses};
 ghost use Rattle.s2_rows.specs.Rows.{AreAddresses, IsRows, row_of, rows_value};
 
 use crate::limits::MOST_ADDRESSES;
@@ -52,7 +53,7 @@ impl Rows {
         requires { i < self.now.shape.groups }
         ensures are { result.now ≡ row_of self.now i }
         ensures addresses { AreAddresses (check_count self.now.shape) result.now }
-        ensures short { length result.now ≤ MOST_ADDRESSES }
+        ensures short { length result.now ≤ most_addresses }
     {
         self.rows[i].as_slice()
     }

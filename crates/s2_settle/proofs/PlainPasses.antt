@@ -20,7 +20,7 @@ use Rattle.s2_bits.specs.Bits.{bit_at}
 use Rattle.s2_check.specs.Cost.{value_at}
 use Rattle.s2_check.specs.Moves.{in_favour}
 use Rattle.s2_check.specs.Views.{IsSoft}
-use Rattle.s2_minsum.specs.Plain.{most_soft}
+use Rattle.s2_mode.specs.Limits.{most_soft}
 use Rattle.s2_minsum.specs.Layout.{row_of_bit, lane_of_bit, bit_of}
 use Rattle.s2_minsum.proofs.Places
 use Rattle.s2_minsum.proofs.Orders.{Within, sum_within}

@@ -12,7 +12,7 @@ use Rattle.s2_matrix.specs.Total.{upto}
 use Rattle.s2_matrix.specs.Code.{code_of, members, checks_of, is_member}
 use Rattle.s2_matrix.proofs.Members.{members_rising, members_below, place_of, place_in_members}
 use Rattle.s2_minsum.specs.declared.rows.Entry.{Entry}
-use Rattle.s2_minsum.specs.Plain.{most_soft}
+use Rattle.s2_mode.specs.Limits.{most_soft}
 use Rattle.s2_minsum.specs.Words.{no_entry, entry_at, cell, turned, is_lacking}
 use Rattle.s2_minsum.specs.Layout.{row_of_bit, lane_of_bit, bit_of, last_check, forth, back, entry_of, entry_count, lacked_row}
 use Rattle.s2_minsum.proofs.Places

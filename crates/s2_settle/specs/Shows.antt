@@ -3,7 +3,7 @@ use Rattle.std.specs.Prelude.{◌≡◌, ℕ, ◌*◌, ◌/◌, ◌%◌, ◌<◌
 use Rattle.s2_mode.specs.Shape.{IsShape, code_bits}
 use Rattle.s2_rows.specs.Rows.{Rows}
 use Rattle.s2_matrix.specs.Code.{code_of, checks_of}
-use Rattle.s2_minsum.specs.Plain.{most_soft}
+use Rattle.s2_mode.specs.Limits.{most_soft}
 use Rattle.s2_minsum.specs.Words.{cell}
 use Rattle.s2_minsum.specs.Layout.{row_of_bit, lane_of_bit, entry_count}
 use Rattle.s2_settle.specs.Words.{zero_rest}

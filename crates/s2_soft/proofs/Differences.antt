@@ -3,7 +3,8 @@ use Rattle.std.proofs.Common.{◌≡◌, ◌≢◌, ℕ, ◌+◌, ◌-◌, ◌/�
 use Rattle.std.specs.Int.{int_max}
 use Rattle.std.proofs.lemmas.Bool.{cases_lt, eq-eqb, ne_eqb}
 use Rattle.std.proofs.lemmas.Int.{ints, clamps}
-use Rattle.s2_soft.specs.Constants.{limit, divisor}
+use Rattle.s2_mode.specs.Limits.{most_soft}
+use Rattle.s2_soft.specs.Constants.{divisor}
 use Rattle.s2_soft.specs.Soft.{quantized}
 use Rattle.s2_soft.specs.Lanes.{signed, minus16, number, plus32, minus32, times32, size32}
 use Rattle.s2_soft.specs.Closed.{along, across, axis, nearest, IsInner, IsNearest, first_difference, second_difference, third_difference}
@@ -204,15 +205,15 @@ third_is a b ca cb =
 
 -- the word of 16 bits of the soft value of a difference
 abbrev pub soft_size : ℕ → ℕ
-soft_size d = min (size32 d / divisor) limit
+soft_size d = min (size32 d / divisor) most_soft
 
 abbrev pub soft_word : ℕ → ℕ
 soft_word d = cond (eqb (d / 2147483648) 1) (minus32 65536 (soft_size d)) (soft_size d) % 65536
 
-positive_soft : (d : ℕ) → pos (min (d / divisor) limit) ≡ quantized (pos d)
+positive_soft : (d : ℕ) → pos (min (d / divisor) most_soft) ≡ quantized (pos d)
 positive_soft d = omega (arith, ints, clamps)
 
-negative_soft : (d : ℕ) → neg_ℤ (pos (min (d / divisor) limit)) ≡ quantized (neg_ℤ (pos d))
+negative_soft : (d : ℕ) → neg_ℤ (pos (min (d / divisor) most_soft)) ≡ quantized (neg_ℤ (pos d))
 negative_soft d = omega (arith, ints, clamps)
 
 pub soft_word_is : (d : ℕ) → d < 4294967296 → signed (soft_word d) ≡ quantized (number d)
@@ -225,7 +226,7 @@ soft_word_is d fits = elim (cases_lt d 2147483648) [
       ap (λ b. signed (cond b (minus32 65536 (soft_size d)) (soft_size d) % 65536)) test
       ∙ ap signed small
       ∙ word_low (soft_size d) (omega arith)
-      ∙ ap (λ s. pos (min (s / divisor) limit)) size
+      ∙ ap (λ s. pos (min (s / divisor) most_soft)) size
       ∙ positive_soft d
       ∙ ap quantized (sym (number_low d lt))
       )
@@ -237,7 +238,7 @@ soft_word_is d fits = elim (cases_lt d 2147483648) [
       ap (λ b. signed (cond b (minus32 65536 (soft_size d)) (soft_size d) % 65536)) test
       ∙ ap signed word
       ∙ negative_word (soft_size d) (omega arith)
-      ∙ ap (λ s. neg_ℤ (pos (min (s / divisor) limit))) size
+      ∙ ap (λ s. neg_ℤ (pos (min (s / divisor) most_soft))) size
       ∙ negative_soft (4294967296 - d)
       ∙ ap quantized (sym (number_high d le fits))
       )

@@ -3,7 +3,8 @@ use Rattle.std.proofs.Common.{◌≡◌, ◌≢◌, ℕ, ◌-◌, ◌*◌, ◌/�
 use Rattle.std.proofs.lemmas.Bool.{cases_lt, cases_eq, eq-eqb, ne_eqb}
 use Rattle.std.proofs.lemmas.Int.{ints, clamps}
 use Rattle.s2_map.specs.Constants.{diagonal}
-use Rattle.s2_soft.specs.Constants.{limit, divisor}
+use Rattle.s2_mode.specs.Limits.{most_soft}
+use Rattle.s2_soft.specs.Constants.{divisor}
 use Rattle.s2_soft.specs.Soft.{quantized}
 use Rattle.s2_soft.specs.Closed.{component_difference}
 use Rattle.s2_soft.specs.Lanes.{signed, minus16, size16}
@@ -16,7 +17,7 @@ word_high v high low = let test = le-ltb v 32768 high in rw test (omega (arith, 
 
 -- the size of the soft value of a component of this size
 abbrev pub value_size : ℕ → ℕ
-value_size s = min (s * (4 * diagonal * (65536 / divisor)) / 65536) limit
+value_size s = min (s * (4 * diagonal * (65536 / divisor)) / 65536) most_soft
 
 above : (s : ℕ) → pos (value_size s) ≡ quantized (component_difference (pos s))
 above s = omega (arith, ints, clamps)
@@ -24,7 +25,7 @@ above s = omega (arith, ints, clamps)
 below : (s : ℕ) → neg_ℤ (pos (value_size s)) ≡ quantized (component_difference (neg_ℤ (pos s)))
 below s = omega (arith, ints, clamps)
 
-pub negative_word : (m : ℕ) → m ≤ limit → signed (minus16 0 m) ≡ neg_ℤ (pos m)
+pub negative_word : (m : ℕ) → m ≤ most_soft → signed (minus16 0 m) ≡ neg_ℤ (pos m)
 negative_word m small = elim (cases_eq m 0) [
   | inl none ↦ rw none refl
   | inr some ↦ (

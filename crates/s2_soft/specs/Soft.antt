@@ -8,7 +8,8 @@ use Rattle.s2_mode.specs.Symbols.{symbol_at}
 use Rattle.s2_mode.specs.Mode.{Mode, n_of, width_of}
 use Rattle.s2_bits.specs.Bits.{bit_of_number}
 use Rattle.s2_map.specs.Mapping.{point_of, sent_as}
-use Rattle.s2_soft.specs.Constants.{limit, divisor}
+use Rattle.s2_mode.specs.Limits.{most_soft}
+use Rattle.s2_soft.specs.Constants.{divisor}
 
 abbrev pub squared_distance : Symbol → Symbol → ℤ
 squared_distance s p = (s.i -ℤ p.i) *ℤ (s.i -ℤ p.i) +ℤ (s.q -ℤ p.q) *ℤ (s.q -ℤ p.q)
@@ -32,7 +33,7 @@ least_distance m s j b =
 
 -- divided toward zero and clamped
 abbrev pub quantized : ℤ → ℤ
-quantized d = int_max (neg_ℤ (pos limit)) (int_min (pos limit) (int_div d (pos divisor)))
+quantized d = int_max (neg_ℤ (pos most_soft)) (int_min (pos most_soft) (int_div d (pos divisor)))
 
 -- how much nearer a symbol is to the points with 0 at place j of their labels than to those with 1
 abbrev pub soft_value : Mode → Symbol → ℕ → ℤ
@@ -52,5 +53,5 @@ value_at values k = slice_index_or values k (pos 0)
 
 -- a soft value of this profile
 pub record InRange (v : ℤ) : Type 0 where
-  pub low : neg_ℤ (pos limit) ≤ℤ v
-  pub high : v ≤ℤ pos limit
+  pub low : neg_ℤ (pos most_soft) ≤ℤ v
+  pub high : v ≤ℤ pos most_soft

@@ -1,7 +1,4 @@
-//! The two numbers of this profile's soft values.
-
-/// A soft value is at most this, and at least its negative.
-pub const LIMIT: i16 = 63;
+//! The number of this profile's soft values beside [`s2_mode::MOST_SOFT`].
 
 /// By what a difference of squared distances is divided.
 pub(crate) const DIVISOR: i32 = 65536;

@@ -6,9 +6,8 @@ ghost use Rattle.s2_soft.specs.Soft.{quantized, value_at};
 ghost use Rattle.s2_soft.specs.Closed.{component_difference};
 ghost use Rattle.s2_soft.specs.Lanes.{HasLanes, lane, signed, minus16, size16, component_at};
 
-use crate::constants::LIMIT;
 use crate::values::SCALE;
-use s2_mode::{Symbol, words_from};
+use s2_mode::{MOST_SOFT, Symbol, words_from};
 use std::simd::prelude::*;
 
 #[inline(always)]
@@ -78,7 +77,7 @@ pub(crate) fn components(payload: &[Symbol], at: usize) -> u16x8
 pub(crate) fn component_values(components: u16x8) -> u16x8
     ensures { (k : ℕ) → k < 8 → signed (lane result k) ≡ quantized (component_difference (signed (lane components k))) }
 {
-    let sizes = least(quotient(size(components)), all(LIMIT as u16));
+    let sizes = least(quotient(size(components)), all(MOST_SOFT));
     where_same(sign(components), all(1), minus(all(0), sizes), sizes)
 }
 

@@ -5,9 +5,9 @@ ghost use Rattle.s2_soft.specs.Soft.{quantized, value_at};
 ghost use Rattle.s2_soft.specs.Closed.{first_difference, second_difference, third_difference};
 ghost use Rattle.s2_soft.specs.Lanes.{HasFour, AreComponents, lane, signed, number, plus32, minus32, times32, size32};
 
-use crate::constants::{DIVISOR, LIMIT};
+use crate::constants::DIVISOR;
 use crate::values::{BETWEEN, LONGER, ON_AXIS};
-use s2_mode::Symbol;
+use s2_mode::{MOST_SOFT, Symbol};
 use std::simd::prelude::*;
 
 /// More than any inner product: what is raised by this has no sign.
@@ -198,7 +198,7 @@ pub(crate) fn quantized(differences: u32x4) -> u16x4
 {
     let sizes = least(
         quotient(size(differences), DIVISOR as u32),
-        all(LIMIT as u32),
+        all(u32::from(MOST_SOFT)),
     );
     let negative = quotient(differences, 1 << 31);
     let words = where_same(negative, all(1), minus(all(65536), sizes), sizes);

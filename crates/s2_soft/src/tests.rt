@@ -1,12 +1,12 @@
 //! Soft values beside those of the definition, and of codewords.
 ghost use Rattle.std.specs.Prelude.{◌≡◌, ◌*◌, ◌<◌, length};
 
-use crate::constants::{DIVISOR, LIMIT};
+use crate::constants::DIVISOR;
 use crate::soft::{columns_into, pairs_into};
 use crate::soft_into;
 use s2_bits::Bits;
 use s2_map::map_into;
-use s2_mode::{Mode, Symbol};
+use s2_mode::{MOST_SOFT, Mode, Symbol};
 use std::test::Fail;
 
 /// A point, and which bits of its label are ones.
@@ -105,7 +105,7 @@ fn defined(points: &[Labelled], symbol: Symbol, place: usize) -> i64
 {
     let one = least_distance(points, symbol, place, true);
     let zero = least_distance(points, symbol, place, false);
-    let limit = i64::from(LIMIT);
+    let limit = i64::from(MOST_SOFT);
     (one.wrapping_sub(zero) / i64::from(DIVISOR))
         .min(limit)
         .max(-limit)
@@ -155,7 +155,7 @@ fn are_of_psk(symbols: &[Symbol], first: &[i16], second: &[i16], third: &[i16]) 
 const STEP: i16 = ((DIVISOR + 2799) / 2800) as i16;
 
 /// The least component of QPSK whose soft value is the limit.
-const CAP: i16 = ((LIMIT as i32 * DIVISOR + 2799) / 2800) as i16;
+const CAP: i16 = ((MOST_SOFT as i32 * DIVISOR + 2799) / 2800) as i16;
 
 /// Symbols at the ends of the range, and at both sides of the first and the last step of QPSK.
 static EDGES: [Symbol; 13] = [

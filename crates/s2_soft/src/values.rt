@@ -3,9 +3,9 @@ ghost use Rattle.std.specs.Prelude.{◌≡◌, neg_ℤ, ◌-ℤ◌};
 ghost use Rattle.s2_soft.specs.Soft.{quantized};
 ghost use Rattle.s2_soft.specs.Closed.{component_difference, along, across, axis, nearest, IsInner, IsNearest, first_difference, second_difference, third_difference};
 
-use crate::constants::{DIVISOR, LIMIT};
+use crate::constants::DIVISOR;
 use s2_map::{AXIS, DIAGONAL};
-use s2_mode::Symbol;
+use s2_mode::{MOST_SOFT, Symbol};
 
 /// What a component of QPSK is multiplied by, where 65536 divides: for lanes of 16 bits, whose
 /// products have their upper halves at hand.
@@ -25,7 +25,7 @@ pub(crate) const LONGER: i32 = AXIS as i32 * AXIS as i32 - 2 * DIAGONAL as i32 *
 fn quantized(difference: i32) -> i16
     ensures { result ≡ quantized difference }
 {
-    (difference / DIVISOR).clamp(-(LIMIT as i32), LIMIT as i32) as i16
+    (difference / DIVISOR).clamp(-i32::from(MOST_SOFT), i32::from(MOST_SOFT)) as i16
 }
 
 /// The soft value of a component of QPSK.
@@ -34,7 +34,7 @@ pub(crate) fn component_value(component: i16) -> i16
     ensures { result ≡ quantized (component_difference component) }
 {
     let size = (u32::from(component.unsigned_abs()) * SCALE / 65536) as u16;
-    let least = size.min(LIMIT as u16) as i16;
+    let least = size.min(MOST_SOFT) as i16;
     if component < 0 { -least } else { least }
 }
 

@@ -10,7 +10,7 @@ use Rattle.s2_check.specs.Moves.{in_favour, moves, no_move, placed_of, listed, a
 use Rattle.s2_check.specs.declared.step.Move.{Move}
 use Rattle.s2_check.specs.Split.{Split}
 use Rattle.s2_split.specs.Making.{shared, AreLeft}
-use Rattle.s2_rows.specs.Limits.{most_soft}
+use Rattle.s2_mode.specs.Limits.{most_soft}
 use Rattle.s2_split.specs.Spreading.{has_no_negative_rest, spread, split_by, made_split}
 use Rattle.s2_split.specs.Greedy.{Moved, none_moved, greedy}
 use Rattle.s2_bits.specs.Bits.{bit_at}

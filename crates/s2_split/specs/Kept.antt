@@ -8,7 +8,8 @@ use Rattle.s2_check.specs.Cost.{value_at}
 use Rattle.s2_check.specs.Views.{IsSoft}
 use Rattle.s2_check.specs.Moves.{no_move}
 use Rattle.s2_check.specs.declared.step.Move.{Move}
-use Rattle.s2_rows.specs.Limits.{most_addresses, most_soft}
+use Rattle.s2_mode.specs.Limits.{most_soft}
+use Rattle.s2_rows.specs.Limits.{most_addresses}
 use Rattle.s2_split.specs.Greedy.{Moved, rest_at, none_moved, serve}
 use Rattle.s2_split.specs.Scattered.{differs}
 use Rattle.s2_split.specs.Spreading.{most_moved, spread_scale}

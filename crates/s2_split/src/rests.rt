@@ -2,7 +2,7 @@
 ghost use Rattle.std.specs.Prelude.{◌≡◌, ◌≢◌, ℕ, true, ◌<◌, ◌≤◌, ◌==◌, not, nat_lt, if◌then◌else◌, All, length, get_or, map, filter, fold, pos, neg_ℤ, ◌≤ℤ◌, ◌-ℤ◌};
 ghost use Rattle.std.specs.List.{AllPairs};
 ghost use Rattle.std.specs.Int.{int_min};
-ghost use Rattle.s2_rows.specs.Limits.{most_soft};
+ghost use Rattle.s2_mode.specs.Limits.{most_soft};
 ghost use Rattle.s2_split.specs.Greedy.{free_for};
 ghost use Rattle.s2_split.specs.Kept.{most_rest, most_between, is_among, taken_at, evenly_at, given_back, AreWithin, AreLow};
 ghost use Rattle.s2_split.specs.Spreading.{most_moved, least_member, spread_amount, amount_to};

@@ -1,7 +1,7 @@
 use Rattle.std.proofs.Common.{rules, ◌≡◌, ℤ, ◌≤◌, ◌++◌, ◌∷◌, [], length, length-append, All, unsigned_abs, SFits, w16, ap, sym, subst, ◌∙◌, arith}
 use Rattle.std.proofs.lemmas.Int.{ints, clamps, to_z-of_z}
 use Rattle.std.proofs.lemmas.List.Elements.{All-push}
-use Rattle.s2_minsum.specs.Plain.{most_soft}
+use Rattle.s2_mode.specs.Limits.{most_soft}
 use Rattle.s2_minsum.specs.Decoding.{AreWithin}
 use Rattle.s2_minsum.proofs.tests.soft_values.Goals as goal
 

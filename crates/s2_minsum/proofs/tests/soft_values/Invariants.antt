@@ -1,5 +1,5 @@
 use Rattle.std.proofs.Common.{◌≡◌, length}
-use Rattle.s2_minsum.specs.Plain.{most_soft}
+use Rattle.s2_mode.specs.Limits.{most_soft}
 use Rattle.s2_minsum.specs.Decoding.{AreWithin}
 use Rattle.s2_minsum.proofs.tests.soft_values.Given as goal
 

@@ -1,5 +1,6 @@
 use Rattle.std.proofs.Common.{ℕ, vec_len, get_or, pos, ap, sym, subst, ◌∙◌, arith}
-use Rattle.s2_minsum.specs.Plain.{most_soft, start}
+use Rattle.s2_mode.specs.Limits.{most_soft}
+use Rattle.s2_minsum.specs.Plain.{start}
 use Rattle.s2_minsum.specs.Layout.{bit_of}
 use Rattle.s2_minsum.specs.Decoding.{AreWithin}
 use Rattle.s2_minsum.proofs.Starts.{start_is, started, zeros, rewritten}
