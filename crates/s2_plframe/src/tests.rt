@@ -86,22 +86,33 @@ fn first_found(mode: Mode, symbols: &[Symbol]) -> (Found, usize) {
     (Found::Nothing, fed)
 }
 
-#[test]
-fn finds_a_header(rt: HostRuntime) -> Result<(), Fail> {
-    let mode = Mode::of(4, true, true).ok_or("no mode")?;
+/// Whether a header is found with 12 of its symbols negated, and not with 13.
+fn is_found(rt: &HostRuntime, mode: Mode) -> Result<bool, Fail> {
+    let mut right = true;
     for (wrong, found) in [
         (0, (Found::Coded, 90)),
         (12, (Found::Coded, 90)),
-        (13, (Found::Nothing, 8370)),
+        (13, (Found::Nothing, mode.symbols())),
     ] {
-        let frame = negated(&rt, mode, wrong)?;
-        assert_eq!(rt; first_found(mode, &frame), found);
+        let frame = negated(rt, mode, wrong)?;
         let mut header = [PILOT; 90];
         for (to, symbol) in header.iter_mut().zip(frame.iter()) {
             *to = *symbol;
         }
-        assert_eq!(rt; header_matches(mode, &header), wrong < 13);
+        right = right && first_found(mode, &frame) == found;
+        right = right && header_matches(mode, &header) == (wrong < 13);
     }
+    Ok(right)
+}
+
+#[test]
+fn finds_a_header(rt: HostRuntime) -> Result<(), Fail> {
+    let short = Mode::of(4, true, true).ok_or("no mode")?;
+    assert_eq!(rt; short.symbols(), 8370);
+    assert!(rt; is_found(&rt, short)?);
+    let normal = Mode::of(4, false, false).ok_or("no mode")?;
+    assert_eq!(rt; normal.symbols(), 32490);
+    assert!(rt; is_found(&rt, normal)?);
     Ok(())
 }
 

@@ -1,4 +1,4 @@
-//! Soft values beside those of the definition, and of codewords.
+//! Soft values worked by hand, beside those of the definition, and of codewords.
 ghost use Rattle.std.specs.Prelude.{◌≡◌, ◌*◌, ◌<◌, length};
 
 use crate::constants::DIVISOR;
@@ -191,6 +191,115 @@ static EDGES: [Symbol; 13] = [
         q: -1 - CAP,
     },
 ];
+
+#[test]
+fn qpsk_worked_by_hand(rt: HostRuntime) {
+    for (i, q, first, second) in [
+        (700, 700, 29, 29),
+        (700, -700, 29, -29),
+        (-700, 700, -29, 29),
+        (-700, -700, -29, -29),
+        (16, -16, 0, 0),
+        (23, 24, 0, 1),
+        (-23, -24, 0, -1),
+        (46, 47, 1, 2),
+        (-46, -47, -1, -2),
+        (1474, 1475, 62, 63),
+        (-1474, -1475, -62, -63),
+        (1498, -1498, 63, -63),
+        (32767, 0, 63, 0),
+        (0, -32768, 0, -63),
+    ] {
+        let mut soft = [1i16; 10];
+        pairs_into(&[Symbol { i, q }; 5], &mut soft);
+        let values = [
+            first, second, first, second, first, second, first, second, first, second,
+        ];
+        assert_eq!(rt; soft, values);
+    }
+}
+
+#[test]
+fn psk_worked_by_hand(rt: HostRuntime) {
+    for (i, q, values) in [
+        (700, 700, [8, 29, 8]),
+        (990, 0, [8, 29, -8]),
+        (-990, 0, [8, -29, 8]),
+        (-700, -700, [8, -29, -8]),
+        (0, 990, [-8, 8, 29]),
+        (700, -700, [-8, 8, -29]),
+        (-700, 700, [-8, -8, 29]),
+        (0, -990, [-8, -8, -29]),
+        (0, 0, [0, 0, 0]),
+        (60, 0, [0, 1, 0]),
+        (100, 50, [1, 4, 0]),
+        (-100, -50, [1, -4, 0]),
+        (1500, 300, [19, 54, -6]),
+        (-1500, 300, [6, -36, 19]),
+        (300, -1500, [-19, -6, -54]),
+        (32767, 32767, [63, 63, 63]),
+        (-32768, -32768, [63, -63, -63]),
+        (32767, -32768, [-63, 63, -63]),
+    ] {
+        let mut first = [1i16; 5];
+        let mut second = [1i16; 5];
+        let mut third = [1i16; 5];
+        columns_into(&[Symbol { i, q }; 5], &mut first, &mut second, &mut third);
+        let [one, two, three] = values;
+        assert_eq!(rt; (first, second, third), ([one; 5], [two; 5], [three; 5]));
+    }
+}
+
+/// The soft values of a payload whose symbols are all the same.
+fn of_one_symbol(rt: &HostRuntime, mode: Mode, i: i16, q: i16) -> Result<Vec<i16>, Fail> {
+    let payload = vec![in rt.alloc(); Symbol { i, q }; 90 * mode.slots()]?;
+    let mut soft = vec![in rt.alloc(); 1i16; mode.n()]?;
+    soft_into(mode, &payload, &mut soft);
+    Ok(soft)
+}
+
+#[test]
+fn qpsk_frames_worked_by_hand(rt: HostRuntime) -> Result<(), Fail> {
+    let mode = Mode::of(4, true, false).ok_or("no mode")?;
+    for (i, q, first, second) in [
+        (700, 700, 29, 29),
+        (16, -16, 0, 0),
+        (32767, 0, 63, 0),
+        (-24, 700, -1, 29),
+    ] {
+        let soft = of_one_symbol(&rt, mode, i, q)?;
+        assert_eq!(rt; soft.len(), 16200);
+        for (k, value) in soft.iter().enumerate() {
+            assert_eq!(rt; *value, if k % 2 == 0 { first } else { second });
+        }
+    }
+    Ok(())
+}
+
+#[test]
+fn psk_frames_worked_by_hand(rt: HostRuntime) -> Result<(), Fail> {
+    let mode = Mode::of(13, true, false).ok_or("no mode")?;
+    for (i, q, first, second, third) in [
+        (700, 700, 8, 29, 8),
+        (990, 0, 8, 29, -8),
+        (0, 0, 0, 0, 0),
+        (300, -1500, -19, -6, -54),
+    ] {
+        let soft = of_one_symbol(&rt, mode, i, q)?;
+        assert_eq!(rt; soft.len(), 16200);
+        for (k, value) in soft.iter().enumerate() {
+            let column = if k < 5400 {
+                first
+            } else if k < 10800 {
+                second
+            } else {
+                third
+            };
+            assert_eq!(rt; *value, column);
+        }
+    }
+    Ok(())
+}
 
 #[test]
 fn qpsk_of_each_length(rt: HostRuntime) {
