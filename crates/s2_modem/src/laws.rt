@@ -1,5 +1,6 @@
 //! What the definitions determine: each a call that does nothing, whose clause is the law.
 ghost use Rattle.s2_modem.specs.Limits.{LimitsLaw};
+ghost use Rattle.s2_modem.specs.Front.{CleanFrameLaw};
 ghost use Rattle.s2_modem.specs.Laws.{FrameLaw, RunLaw};
 ghost use Rattle.s2_modem.specs.Headline.{LikelyFrameLaw, BothCodesLaw, ScatteredFrameLaw, HearsLaw, ArrivalLaw};
 ghost use Rattle.s2_modem.specs.Streams.{FirstFramesLaw, OneStreamLaw};
@@ -45,6 +46,12 @@ pub fn scattered_frame(mode: Mode)
 {
     let _ = mode.k();
 }
+
+/// A frame without noise: its header is found, and the soft values of its payload say the codeword,
+/// none of them 0, in all modes.
+pub fn clean_frame()
+    ensures { CleanFrameLaw }
+{}
 
 /// A frame without noise is found where it begins, and delivered, certified, with no bit changed.
 pub fn hears(mode: Mode)

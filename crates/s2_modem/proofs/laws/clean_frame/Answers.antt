@@ -1,0 +1,5 @@
+use Rattle.s2_modem.proofs.Points.{received}
+use Rattle.s2_modem.proofs.laws.clean_frame.Goals as goal
+
+pub returns : goal.returns
+returns c = received
