@@ -1,6 +1,7 @@
 -- What a decoder shows, and what holds of its lists.
 use Rattle.std.specs.Prelude.{◌≡◌, ℕ, ◌+◌, ◌*◌, ◌<◌, ◌≤◌, nat_le, Bool, All, List, length, get_or, ℤ, unsigned_abs}
 use Rattle.s2_mode.specs.Shape.{Shape, IsShape, code_bits}
+use Rattle.s2_rows.specs.Limits.{most_addresses}
 use Rattle.s2_rows.specs.Rows.{Rows}
 use Rattle.s2_matrix.specs.Code.{code_of, members, checks_of}
 use Rattle.s2_minsum.specs.declared.rows.Entry.{Entry}
@@ -28,7 +29,7 @@ AreMessages vs = All (λ v. unsigned_abs (signed16 v) ≤ most_message) vs
 -- what holds of the rows and of the entries of all layers
 pub record AreLayers (rows : Rows) (entries : List Entry) (firsts : List ℕ) : Type 0 where
   pub shaped : IsShape rows.shape
-  pub few : (i : ℕ) → i < code_bits rows.shape → length (checks_of (code_of rows) i) ≤ 24
+  pub few : (i : ℕ) → i < code_bits rows.shape → length (checks_of (code_of rows) i) ≤ most_addresses
   pub entries_long : length entries ≡ first_row rows rows.shape.q
   pub entries_are : (r e : ℕ) → r < rows.shape.q → e < entry_count rows r → entry_at entries (first_row rows r + e) ≡ entry_of rows.shape (get_or (members (code_of rows) (last_check rows.shape r)) e 0)
   pub firsts_long : length firsts ≡ rows.shape.q + 1

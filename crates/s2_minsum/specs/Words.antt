@@ -3,6 +3,8 @@ use Rattle.std.specs.Prelude.{ℕ, zero, suc, ◌+◌, ◌-◌, ◌*◌, ◌/◌
 use Rattle.std.specs.Int.{cast_signed}
 use Rattle.s2_minsum.specs.Plain.{size_cap}
 use mir.Syntax.{w16}
+use Rattle.s2_mode.specs.Limits.{most_group}
+pub use Rattle.s2_bits.specs.Turns.{turned}
 use Rattle.s2_minsum.specs.declared.rows.Entry.{Entry}
 
 abbrev pub signed16 : ℕ → ℤ
@@ -28,10 +30,6 @@ sent16 v first second signs =
     let m = (if size16 v == first then second else first) in
     (if sign16 (bit_xor signs v) == 1 then minus16 0 (m - m / 4) else (m - m / 4))
 
--- where place k of n looks that are turned by s
-abbrev pub turned : ℕ → ℕ → ℕ → ℕ
-turned n s k = (k + n - s) % n
-
 -- where place k of n looks that are turned back by s
 abbrev pub turned_back : ℕ → ℕ → ℕ → ℕ
 turned_back n s k = (k + s) % n
@@ -49,15 +47,18 @@ entry_at entries e = get_or entries e no_entry
 -- the rows of entries lie within a list, and no turn is longer than a row
 pub record AreIn (n : ℕ) (entries : List Entry) (places : ℕ) : Type 0 where
   pub some : 1 ≤ n
-  pub few : n ≤ 360
+  pub few : n ≤ most_group
   pub rows : (e : ℕ) → e < length entries → (entry_at entries e).row * n + n ≤ places
   pub turns : (e : ℕ) → e < length entries → (entry_at entries e).shift ≤ n
 
--- what place p holds once the changes of the first entries are added
+-- what place p holds once the changes of the first entries are added by such an operation
+abbrev pub changed_by : (ℕ → ℕ → ℕ) → ℕ → List Entry → List ℕ → (ℕ → ℕ → ℕ) → ℕ → ℕ → ℕ
+changed_by plus n entries old change zero p = get_or old p 0
+changed_by plus n entries old change (suc e) p =
+    if (entry_at entries e).row == p / n then plus (changed_by plus n entries old change e p) (change e (turned_back n (entry_at entries e).shift (p % n))) else changed_by plus n entries old change e p
+
 abbrev pub changed : ℕ → List Entry → List ℕ → (ℕ → ℕ → ℕ) → ℕ → ℕ → ℕ
-changed n entries old change zero p = get_or old p 0
-changed n entries old change (suc e) p =
-    if (entry_at entries e).row == p / n then plus16 (changed n entries old change e p) (change e (turned_back n (entry_at entries e).shift (p % n))) else changed n entries old change e p
+changed = changed_by plus16
 
 -- whether lane c lacks the bit of an entry
 abbrev pub is_lacking : ℕ → Entry → ℕ → Bool

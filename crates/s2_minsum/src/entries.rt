@@ -1,5 +1,6 @@
 //! The entries of each layer: which rows its checks read, and how far turned.
 ghost use Rattle.std.specs.Prelude.{◌≡◌, ◌++◌, ℕ, ◌+◌, ◌*◌, ◌<◌, ◌≤◌, IfOk, OnOk, map, length};
+ghost use Rattle.s2_mode.specs.Limits.{most_bits};
 ghost use Rattle.s2_matrix.specs.Code.{code_of, members};
 ghost use Rattle.s2_minsum.specs.Layout.{entry_of, entry_count, first_row, last_check};
 ghost use Rattle.s2_minsum.specs.Decoding.{AreLayers, HasRoom};
@@ -32,7 +33,7 @@ pub struct Layers {
 /// The entries of all layers of a matrix. `AllocError` only where memory is refused.
 pub fn layers_of(alloc: Global, matrix: &Matrix) -> Result<Layers, AllocError>
     ensures are { IfOk result (λ t. AreLayers matrix.now t.entries.items t.firsts.items) }
-    ensures few { IfOk result (λ t. length t.entries.items ≤ 64800 * 64800) }
+    ensures few { IfOk result (λ t. length t.entries.items ≤ most_bits * most_bits) }
 {
     // What it promises of the bits is a part of what is promised here.
     let _bits = matrix.bits();
@@ -51,7 +52,7 @@ pub fn layers_of(alloc: Global, matrix: &Matrix) -> Result<Layers, AllocError>
 fn most_entries(matrix: &Matrix) -> usize
     ensures most { (r : ℕ) → r < matrix.now.shape.q → entry_count matrix.now r ≤ result }
     ensures reached { (most : ℕ) → ((r : ℕ) → r < matrix.now.shape.q → entry_count matrix.now r ≤ most) → result ≤ most }
-    ensures few { result ≤ 64800 }
+    ensures few { result ≤ most_bits }
 {
     let shape = matrix.shape();
     let mut most = 0;
@@ -87,7 +88,7 @@ pub fn find_span(matrix: &Matrix, entries: &[Entry], firsts: &[usize], r: usize)
     ensures start { result.start ≡ first_row matrix.now r }
     ensures count { result.count ≡ entry_count matrix.now r }
     ensures entries { result.start + result.count ≤ length entries.now }
-    ensures few { result.count ≤ 64800 }
+    ensures few { result.count ≤ most_bits }
 {
     let (_matrix, _entries) = (matrix, entries);
     let start = firsts[r];

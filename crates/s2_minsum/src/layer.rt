@@ -1,5 +1,6 @@
 //! The rule over the rows of one layer: all checks of the layer at once, one check a lane.
 ghost use Rattle.std.specs.Prelude.{◌≡◌, ℕ, ◌≤◌, ◌<◌, ◌+◌, ◌*◌, ◌==◌, ◌&&◌, if◌then◌else◌, length, slice_index, EachIndex};
+ghost use Rattle.s2_mode.specs.Limits.{most_bits, most_group};
 ghost use Rattle.s2_minsum.specs.Words.{turned, minus16, sent16, size16, cell, entry_at, AreIn, changed, is_lacking, received, change_of};
 ghost use Rattle.s2_minsum.specs.Nodes.{first_of, second_of, signs_of};
 
@@ -10,7 +11,7 @@ use crate::rows::{Entry, add, give, send, track, track_two};
 /// What the members of a layer's checks give.
 fn give_all(entries: &[Entry], n: usize, posteriors: &[u16], messages: &[u16], inputs: &mut [u16])
     requires entries { AreIn n entries.now (length posteriors.now) }
-    requires few { length posteriors.now ≤ 64800 }
+    requires few { length posteriors.now ≤ most_bits }
     requires long { length messages.now ≡ length entries.now * n }
     requires same { length inputs.old ≡ length entries.now * n }
     ensures { (e c : ℕ) → e < length entries.now → c < n → cell inputs.new n e c ≡ minus16 (cell posteriors.now n (entry_at entries.now e).row (turned n (entry_at entries.now e).shift c)) (cell messages.now n e c) }
@@ -37,7 +38,7 @@ fn track_all(
     second: &mut [u16],
     signs: &mut [u16],
 )
-    requires few { n ≤ 360 }
+    requires few { n ≤ most_group }
     requires same_first { length first.old ≡ n }
     requires long { length inputs.now ≡ count * n }
     requires same_second { length second.old ≡ n }
@@ -76,7 +77,7 @@ fn send_all(
     second: &[u16],
     signs: &[u16],
 )
-    requires few { n ≤ 360 }
+    requires few { n ≤ most_group }
     requires same_first { length first.now ≡ n }
     requires long { length inputs.old ≡ count * n }
     requires same { length messages.old ≡ count * n }
@@ -100,7 +101,7 @@ fn send_all(
 /// Adds the changes of a layer's messages, entry by entry.
 fn add_all(entries: &[Entry], n: usize, posteriors: &mut [u16], changes: &[u16])
     requires entries { AreIn n entries.now (length posteriors.old) }
-    requires few { length posteriors.old ≤ 64800 }
+    requires few { length posteriors.old ≤ most_bits }
     requires long { length changes.now ≡ length entries.now * n }
     ensures { (p : ℕ) → p < length posteriors.old → slice_index posteriors.new p ≡ changed n entries.now posteriors.old (cell changes.now n) (length entries.now) p }
 {
@@ -126,7 +127,7 @@ fn receive(
     inputs: &mut [u16],
 )
     requires entries { AreIn n entries.now (length posteriors.now) }
-    requires few { length posteriors.now ≤ 64800 }
+    requires few { length posteriors.now ≤ most_bits }
     requires long { length messages.now ≡ length entries.now * n }
     requires same { length inputs.old ≡ length entries.now * n }
     ensures { (e c : ℕ) → e < length entries.now → c < n → cell inputs.new n e c ≡ received n entries.now last posteriors.now messages.now e c }
@@ -138,7 +139,7 @@ fn receive(
 /// Adds the changes of a layer's messages, but none where the first check lacks a member.
 fn apply(entries: &[Entry], n: usize, last: usize, posteriors: &mut [u16], changes: &mut [u16])
     requires entries { AreIn n entries.now (length posteriors.old) }
-    requires few { length posteriors.old ≤ 64800 }
+    requires few { length posteriors.old ≤ most_bits }
     requires long { length changes.old ≡ length entries.now * n }
     ensures { (p : ℕ) → p < length posteriors.old → slice_index posteriors.new p ≡ changed n entries.now posteriors.old (λ e c. if is_lacking last (entry_at entries.now e) c then 0 else cell changes.old n e c) (length entries.now) p }
 {
@@ -159,7 +160,7 @@ pub(crate) fn run(
     signs: &mut [u16],
 )
     requires entries { AreIn n entries.now (length posteriors.old) }
-    requires few { length posteriors.old ≤ 64800 }
+    requires few { length posteriors.old ≤ most_bits }
     requires long { length messages.old ≡ length entries.now * n }
     requires same { length inputs.old ≡ length entries.now * n }
     requires first { length first.old ≡ n }

@@ -1,5 +1,6 @@
 //! Soft values as the first posteriors.
 ghost use Rattle.std.specs.Prelude.{◌≡◌, ℕ, ◌+◌, ◌*◌, ◌<◌, ◌≤◌, length, slice_index, get_or, pos, EachIndex};
+ghost use Rattle.s2_mode.specs.Limits.{most_bits, most_group};
 ghost use Rattle.s2_mode.specs.Shape.{code_bits};
 ghost use Rattle.s2_minsum.specs.Words.{signed16, cell};
 ghost use Rattle.s2_minsum.specs.Layout.{bit_of};
@@ -9,9 +10,9 @@ use s2_matrix::Matrix;
 
 /// Writes the soft values that stand `step` places apart.
 fn put_row(row: &mut [u16], soft: &[i16], first: usize, step: usize)
-    requires few { length soft.now ≤ 64800 }
-    requires lanes { length row.old ≤ 360 }
-    requires step { step ≤ 64800 }
+    requires few { length soft.now ≤ most_bits }
+    requires lanes { length row.old ≤ most_group }
+    requires step { step ≤ most_bits }
     requires within { (c : ℕ) → c < length row.old → first + c * step < length soft.now }
     ensures { EachIndex row.new (λ c. signed16 (slice_index row.new c) ≡ get_or soft.now (first + c * step) (pos 0)) }
 {

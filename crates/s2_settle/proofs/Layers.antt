@@ -17,10 +17,10 @@ use Rattle.s2_minsum.specs.Layout.{last_check, entry_of, entry_count, first_row,
 use Rattle.s2_minsum.specs.Decoding.{AreLayers}
 use Rattle.s2_minsum.proofs.LayerCalls.{entries_part, length-entries_part}
 use Rattle.s2_minsum.proofs.Parts.{row_before, put_mid_below, put_mid_at, put_mid_above, length-put_mid}
-use Rattle.s2_settle.specs.Words.{received, change, changed, gap}
+use Rattle.s2_settle.specs.Words.{received, change, changed, gap, plus32}
 use Rattle.s2_settle.specs.Nodes.{first_of, second_of, least_at}
 use Rattle.s2_settle.specs.Layer.{Held, held, AreLong, entries_of, of_layer, with_layer, new_target, new_amount, change_in, layer}
-use Rattle.s2_settle.proofs.Sames.{changed-same}
+use Rattle.s2_minsum.proofs.Sames.{changed-same}
 
 -- a list by its places
 pub upto_at : {A : Type 0} (d : A) (f : ℕ → A) (n k : ℕ) → k < n → get_or (map f (upto n)) k d ≡ f k
@@ -108,7 +108,7 @@ layer_is rows rests targets amounts rests' ts' as'' reserve r w some long lt wid
     let old_t = λ (c : ℕ) (low : c < n). upto_at 0 (λ x. get_or targets (r * n + x) 0) n c low in
     let old_a = λ (c : ℕ) (low : c < n). upto_at 0 (λ x. get_or amounts (r * n + x) 0) n c low in
     let p = by_places 0 (changed n es rests (change_in rows reserve r h) (length es)) (length rests) rests' ran.rests_long
-    (λ k low. ran.changes k low ∙ changed-same n es rests _ (change_in rows reserve r h) (length es) (length es) k some (omega arith) (λ e c lt' low'. ap (cond (is_lacking (lacked_row rows.shape r) (entry_at es e) c) 0) (λ i. change (old_t c low' i) (old_a c low' i) (ran.targets c low' i) (ran.amounts c low' i) e)))
+    (λ k low. ran.changes k low ∙ changed-same plus32 n es rests _ (change_in rows reserve r h) (length es) (length es) k some (omega arith) (λ e c lt' low'. ap (cond (is_lacking (lacked_row rows.shape r) (entry_at es e) c) 0) (λ i. change (old_t c low' i) (old_a c low' i) (ran.targets c low' i) (ran.amounts c low' i) e)))
     in
     let t = layer_put n r w rows.shape.q targets ts' (new_target rows r h) some lt long.targets_long width ran.targets_long ran.targets in
     let a = layer_put n r w rows.shape.q amounts as'' (new_amount rows reserve r h) some lt long.amounts_long width ran.amounts_long ran.amounts in

@@ -1,4 +1,3 @@
-pub mod Unsigned
 pub mod Pieces
 pub mod Sames
 pub mod Layers

@@ -1,14 +1,13 @@
 -- One check by places: its least number, the least of the others, and where the least stands.
-use Rattle.std.specs.Prelude.{ℕ, zero, suc, min, max}
+use Rattle.std.specs.Prelude.{ℕ, zero, suc}
+use Rattle.s2_minsum.specs.Nodes.{least_from, next_from}
 use Rattle.s2_settle.specs.Words.{no_rest, seen_at}
 
 abbrev pub first_of : (ℕ → ℕ) → ℕ → ℕ
-first_of f zero = no_rest
-first_of f (suc n) = min (first_of f n) (f n)
+first_of = least_from no_rest
 
 abbrev pub second_of : (ℕ → ℕ) → ℕ → ℕ
-second_of f zero = no_rest
-second_of f (suc n) = min (second_of f n) (max (first_of f n) (f n))
+second_of = next_from no_rest
 
 abbrev pub least_at : (ℕ → ℕ) → ℕ → ℕ
 least_at f zero = 0

@@ -2,7 +2,7 @@
 use Rattle.std.specs.Prelude.{◌≡◌, ℕ, zero, suc, ◌+◌, ◌%◌, ◌==◌, nat_lt, Bool, true, false, if◌then◌else◌, List, fold, count_by, length, Option, None, Some}
 use Rattle.s2_rows.specs.Rows.{Rows}
 use Rattle.s2_matrix.specs.Total.{upto}
-pub use Rattle.s2_settle.specs.Plain.{reserve_in, is_hopeless}
+pub use Rattle.s2_settle.specs.Plain.{reserve_in, passes_between, is_hopeless}
 use Rattle.s2_settle.specs.Words.{zero_rest}
 use Rattle.s2_settle.specs.Layer.{Held, layer}
 
@@ -20,7 +20,7 @@ spread rows zero p before h = if negatives h.rests == 0 then Some h else None
 spread rows (suc left) p before h =
     if negatives h.rests == 0 then Some h else
     if is_hopeless (length h.rests) p before (negatives h.rests) then None else
-    spread rows left (p + 1) (if p % 4 == 0 then negatives h.rests else before) (pass rows (reserve_in p) h)
+    spread rows left (p + 1) (if p % passes_between == 0 then negatives h.rests else before) (pass rows (reserve_in p) h)
 
 -- what the lists hold once spreading has ended
 abbrev pub Ends : Option Held → Bool → Held → Type 0

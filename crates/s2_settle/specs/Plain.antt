@@ -17,9 +17,29 @@ settling_scale = 256
 abbrev pub most_moved : ℕ
 most_moved = 1048576
 
--- what is held in reserve in a pass: less from pass to pass, down to nothing
+-- what is held in reserve in the first pass, and by how much less from pass to pass, down to nothing
+abbrev pub first_reserve : ℕ
+first_reserve = 256
+
+abbrev pub reserve_step : ℕ
+reserve_step = 8
+
 abbrev pub reserve_in : ℕ → ℕ
-reserve_in p = 256 - 8 * p
+reserve_in p = first_reserve - reserve_step * p
+
+-- the early end: the first pass after which there can be one, and after how many more each time
+abbrev pub first_end : ℕ
+first_end = 8
+
+abbrev pub passes_between : ℕ
+passes_between = 4
+
+-- and one negative rest in how many bits, grown by one in how many
+abbrev pub bits_a_negative : ℕ
+bits_a_negative = 128
+
+abbrev pub growth_part : ℕ
+growth_part = 16
 
 -- ---- states
 
@@ -91,10 +111,11 @@ layer code q reserve s r = record {
 abbrev pub pass : Code → ℕ → ℕ → State → State
 pass code q reserve s = fold (layer code q reserve) s (upto q)
 
--- after every fourth pass from the eighth on: whether there are many negative rests, and a sixteenth more than four passes before
+-- the early end, tested from `first_end` passes on, every `passes_between`: whether there are many negative rests, and these have grown
+-- by a `growth_part` since the test before
 abbrev pub is_hopeless : ℕ → ℕ → ℕ → ℕ → Bool
 is_hopeless bits p before count =
-    (p % 4 == 0) && (nat_le 8 p && (nat_lt (bits / 128) count && nat_le (before + before / 16) count))
+    (p % passes_between == 0) && (nat_le first_end p && (nat_lt (bits / bits_a_negative) count && nat_le (before + before / growth_part) count))
 
 -- so many passes from pass p on, until no rest is negative
 unfoldable pub passes : Code → ℕ → ℕ → ℕ → ℕ → State → Option State
@@ -102,4 +123,4 @@ passes code q zero p before s = if negatives code s == 0 then Some s else None
 passes code q (suc left) p before s =
     if negatives code s == 0 then Some s else
     if is_hopeless code.bits p before (negatives code s) then None else
-    passes code q left (p + 1) (if p % 4 == 0 then negatives code s else before) (pass code q (reserve_in p) s)
+    passes code q left (p + 1) (if p % passes_between == 0 then negatives code s else before) (pass code q (reserve_in p) s)

@@ -1,6 +1,7 @@
 -- What it means that rows and lanes show a state of checks and members.
 use Rattle.std.specs.Prelude.{◌≡◌, ℕ, ◌*◌, ◌/◌, ◌%◌, ◌<◌, ◌≤◌, List, length, get_or, pos, ◌+ℤ◌, unsigned_abs, Option, None, Some}
 use Rattle.s2_mode.specs.Shape.{IsShape, code_bits}
+use Rattle.s2_rows.specs.Limits.{most_addresses}
 use Rattle.s2_rows.specs.Rows.{Rows}
 use Rattle.s2_matrix.specs.Code.{code_of, checks_of}
 use Rattle.s2_mode.specs.Limits.{most_soft}
@@ -23,10 +24,10 @@ pub record Shows (rows : Rows) (h : Held) (s : State) : Type 0 where
   pub rests : (i : ℕ) → i < code_bits rows.shape → pos (cell h.rests rows.shape.group (row_of_bit rows.shape i) (lane_of_bit rows.shape i)) ≡ pos zero_rest +ℤ rest (code_of rows) s i
   pub moves : ShowsMoves rows h.targets h.amounts s
 
--- the rows of a code as the standard's are: of a valid shape, and no bit in more than 24 checks
+-- the rows of a code as the standard's are: of a valid shape, and no bit in more checks than a row has addresses at most
 pub record AreFit (rows : Rows) : Type 0 where
   pub shaped : IsShape rows.shape
-  pub few : (i : ℕ) → i < code_bits rows.shape → length (checks_of (code_of rows) i) ≤ 24
+  pub few : (i : ℕ) → i < code_bits rows.shape → length (checks_of (code_of rows) i) ≤ most_addresses
 
 -- values of soft values within their limits, and no amount above the most that a check moves
 pub record IsWithin (rows : Rows) (s : State) : Type 0 where

@@ -1,8 +1,8 @@
 -- Words of 32 bits: rests, each 2^31 higher than it is, and how a check's moves change them.
-use Rattle.std.specs.Prelude.{ℕ, zero, suc, ◌+◌, ◌-◌, ◌/◌, ◌%◌, ◌==◌, min, max, if◌then◌else◌, List, get_or}
+use Rattle.std.specs.Prelude.{ℕ, ◌+◌, ◌-◌, ◌/◌, ◌%◌, ◌==◌, min, max, if◌then◌else◌, List, get_or}
 use Rattle.s2_minsum.specs.declared.rows.Entry.{Entry}
 pub use Rattle.s2_settle.specs.Plain.{most_moved}
-use Rattle.s2_minsum.specs.Words.{turned, turned_back, cell, entry_at, is_lacking}
+use Rattle.s2_minsum.specs.Words.{turned, cell, entry_at, is_lacking, changed_by}
 
 -- the word of a rest of 0
 abbrev pub zero_rest : ℕ
@@ -38,9 +38,7 @@ seen_at at first x e = if min first x == first then at else e
 
 -- what place p holds once the changes of the first entries are added
 abbrev pub changed : ℕ → List Entry → List ℕ → (ℕ → ℕ → ℕ) → ℕ → ℕ → ℕ
-changed n entries old f zero p = get_or old p 0
-changed n entries old f (suc e) p =
-    if (entry_at entries e).row == p / n then plus32 (changed n entries old f e p) (f e (turned_back n (entry_at entries e).shift (p % n))) else changed n entries old f e p
+changed = changed_by plus32
 
 -- what the member at entry e gives to the check in lane c; more than any rest where there is none
 abbrev pub received : ℕ → List Entry → ℕ → List ℕ → List ℕ → List ℕ → ℕ → ℕ → ℕ

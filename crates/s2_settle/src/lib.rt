@@ -14,7 +14,7 @@
 //! The settler keeps rests in rows of a group, and a layer's targets and amounts in rows of as many lanes, one
 //! check a lane, so that all checks of a layer go at once. That the rows and lanes are the checks and members is
 //! a law ([`laws::rule`], by way of [`laws::start`], [`laws::layer`] and [`laws::passes`]); none of it shows in a
-//! clause.
+//! clause of [`Settler`].
 //!
 //! ```text
 //! let mut settler = Settler::new(alloc, &matrix)?;

@@ -1,5 +1,6 @@
 //! The moves that passes have found, check by check.
 ghost use Rattle.std.specs.Prelude.{◌≡◌, ℕ, ◌≤◌, ◌<◌, ◌+◌, ◌*◌, length};
+ghost use Rattle.s2_mode.specs.Limits.{most_bits};
 ghost use Rattle.s2_mode.specs.Shape.{code_bits};
 ghost use Rattle.s2_matrix.specs.Code.{code_of};
 ghost use Rattle.s2_minsum.specs.Words.{turned};
@@ -42,7 +43,7 @@ fn target_of(
     requires layer { r < matrix.now.shape.q }
     requires lane { lane < matrix.now.shape.group }
     ensures is { result ≡ shown matrix.now r lane e }
-    ensures few { result ≤ 64800 }
+    ensures few { result ≤ most_bits }
 {
     let span = find_span(matrix, entries, firsts, r);
     if e < span.count {
@@ -54,7 +55,7 @@ fn target_of(
 
 /// The move of an amount to a bit of a check; none to a bit that is no member.
 fn move_to(members: &[u32], bit: u32, amount: u32) -> Move
-    requires { length members.now ≤ 64800 }
+    requires { length members.now ≤ most_bits }
     ensures { result ≡ move_to members.now bit amount }
 {
     let place = place_among(members, bit);

@@ -1,10 +1,13 @@
 //! Passes over all layers, as long as a rest is negative.
 ghost use Rattle.std.specs.Prelude.{◌≡◌, ℕ, ◌≤◌, ◌<◌, ◌+◌, ◌*◌, length};
+ghost use Rattle.s2_mode.specs.Limits.{most_bits};
 ghost use Rattle.s2_minsum.specs.Decoding.{AreLayers, HasRoom};
 ghost use Rattle.s2_settle.specs.Layer.{held, AreLong};
 ghost use Rattle.s2_settle.specs.Passes.{pass as after_pass, reserve_in, negatives, is_hopeless, spread as after_spread, Ends};
 
-use crate::limits::{FIRST_RESERVE, RESERVE_STEP, ZERO_REST};
+use crate::limits::{
+    BITS_A_NEGATIVE, FIRST_END, FIRST_RESERVE, GROWTH_PART, PASSES_BETWEEN, RESERVE_STEP, ZERO_REST,
+};
 use crate::one_layer::run_layer;
 use s2_matrix::Matrix;
 use s2_minsum::Entry;
@@ -54,10 +57,13 @@ fn reserve_in(pass: u32) -> u32
 
 /// Whether passes are of no more use.
 fn is_hopeless(bits: usize, pass: u32, before: usize, count: usize) -> bool
-    requires { before ≤ 64800 }
+    requires { before ≤ most_bits }
     ensures { result ≡ is_hopeless bits pass before count }
 {
-    pass % 4 == 0 && pass >= 8 && count > bits / 128 && count >= before + before / 16
+    pass % PASSES_BETWEEN == 0
+        && pass >= FIRST_END
+        && count > bits / BITS_A_NEGATIVE
+        && count >= before + before / GROWTH_PART
 }
 
 /// At most so many passes, until no rest is negative: whether none is then.
@@ -86,7 +92,7 @@ pub(crate) fn spread(
         if is_hopeless(bits, pass, before, count) {
             return false;
         }
-        if pass % 4 == 0 {
+        if pass % PASSES_BETWEEN == 0 {
             before = count;
         }
         run_pass(

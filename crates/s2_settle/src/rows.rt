@@ -1,5 +1,6 @@
 //! One row of a layer: a word in each lane.
 ghost use Rattle.std.specs.Prelude.{◌≡◌, ◌≤◌, ◌<◌, ◌+◌, ◌-◌, ◌*◌, ◌/◌, ◌==◌, if◌then◌else◌, min, max, length, slice_index, EachIndex};
+ghost use Rattle.s2_mode.specs.Limits.{most_group};
 ghost use Rattle.s2_minsum.specs.Lanes.{DoneTo};
 ghost use Rattle.s2_minsum.specs.Words.{turned, turned_back};
 ghost use Rattle.s2_settle.specs.Words.{minus32, plus32, given, gap, change, seen_at};
@@ -36,7 +37,7 @@ fn sum_into(to: &mut [u32], from: &[u32])
 /// Adds changes to a turned row.
 pub(crate) fn add(row: &mut [u32], changes: &[u32], shift: usize)
     requires same { length changes.now ≡ length row.old }
-    requires few { length row.old ≤ 360 }
+    requires few { length row.old ≤ most_group }
     requires turn { shift ≤ length row.old }
     ensures { EachIndex row.new (λ k. slice_index row.new k ≡ plus32 (slice_index row.old k) (slice_index changes.now (turned_back (length row.old) shift k))) }
 {
@@ -93,7 +94,7 @@ pub(crate) fn give(
     requires same_row { length row.now ≡ length inputs.old }
     requires same_targets { length targets.now ≡ length inputs.old }
     requires same_amounts { length amounts.now ≡ length inputs.old }
-    requires few { length row.now ≤ 360 }
+    requires few { length row.now ≤ most_group }
     requires turn { shift ≤ length row.now }
     ensures { EachIndex inputs.new (λ k. slice_index inputs.new k ≡ given (slice_index row.now (turned (length row.now) shift k)) (slice_index targets.now k) (slice_index amounts.now k) e) }
 {

@@ -1,5 +1,6 @@
 //! The rests before any move.
 ghost use Rattle.std.specs.Prelude.{◌≡◌, ℕ, ◌≤◌, ◌<◌, ◌+◌, ◌*◌, All, length, slice_index, EachIndex};
+ghost use Rattle.s2_mode.specs.Limits.{most_bits, most_group};
 ghost use Rattle.s2_mode.specs.Shape.{code_bits};
 ghost use Rattle.s2_check.specs.Views.{IsSoft};
 ghost use Rattle.s2_settle.specs.Start.{started, start};
@@ -28,10 +29,10 @@ fn started(soft: &[i16], word: &[bool], i: usize) -> u32
 /// Writes the rests of the bits that stand `step` places apart.
 fn put_row(row: &mut [u32], soft: &[i16], word: &[bool], first: usize, step: usize)
     requires range { All IsSoft soft.now }
-    requires few { length soft.now ≤ 64800 }
+    requires few { length soft.now ≤ most_bits }
     requires word { length word.now ≡ length soft.now }
-    requires lanes { length row.old ≤ 360 }
-    requires step { step ≤ 64800 }
+    requires lanes { length row.old ≤ most_group }
+    requires step { step ≤ most_bits }
     requires within { (c : ℕ) → c < length row.old → first + c * step < length soft.now }
     ensures { EachIndex row.new (λ c. slice_index row.new c ≡ started soft.now word.now (first + c * step)) }
 {

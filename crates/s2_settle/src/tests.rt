@@ -7,8 +7,8 @@ use crate::Settler;
 use s2_bits::Bits;
 use s2_check::{Answer, CertView, check};
 use s2_matrix::Matrix;
-use s2_mode::Shape;
-use s2_rows::read_rows;
+use s2_mode::{Mode, Shape};
+use s2_rows::{make_rows, read_rows};
 use std::alloc::{AllocError, Global};
 use std::process::Abort;
 use std::test::Fail;
@@ -350,4 +350,35 @@ fn forgets_the_moves_of_an_earlier_frame(rt: HostRuntime) -> Result<(), Fail> {
     };
     let frames = [one, given_up, three, one, given_up, three];
     assert_all_settled(&rt, TOY, &frames)
+}
+
+/// A matrix of a mode's shape.
+fn matrix_in(alloc: Global, mode: Mode) -> Result<Matrix, Fail> {
+    let rows = make_rows(alloc, mode.shape(), 3, 1)?;
+    Ok(Matrix::build(alloc, &rows)?)
+}
+
+/// Makes a settler.
+fn makes_one(alloc: Global, matrix: &Matrix) -> Result<(), AllocError> {
+    let _settler = Settler::new(alloc, matrix)?;
+    Ok(())
+}
+
+/// Makes a settler for a mode.
+fn makes(alloc: Global, mode: Mode) -> Result<(), Fail> {
+    let matrix = matrix_in(alloc, mode)?;
+    Ok(makes_one(alloc, &matrix)?)
+}
+
+/// Pilots change no code, so that the modes without them have every shape.
+#[test]
+fn has_room_for_every_mode(rt: HostRuntime) -> Result<(), Fail> {
+    for modcod in 1..18u8 {
+        for short in [false, true] {
+            if let Some(mode) = Mode::of(modcod, short, false) {
+                makes(rt.alloc(), mode)?;
+            }
+        }
+    }
+    Ok(())
 }

@@ -3,4 +3,4 @@ use Rattle.s2_minsum.proofs.Unsigned.{operator}
 use Rattle.s2_minsum.proofs.lanes.flip.Goals as goal
 
 pub returns : goal.returns
-returns c = operator bit_xor c.args.a c.args.b c.fits-a.0 c.fits-b.0
+returns c = operator 8 bit_xor c.args.a c.args.b c.fits-a.0 c.fits-b.0
