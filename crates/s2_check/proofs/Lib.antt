@@ -1,6 +1,7 @@
 pub mod ShareLemmas
 pub mod Listing
 pub mod Places
+pub mod Lists
 pub mod MovedBound
 pub mod BoundListed
 pub mod SameCode

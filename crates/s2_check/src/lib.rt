@@ -1,5 +1,6 @@
 //! Hard decisions, their costs, and certificates that a word is most likely: what a receiver's
-//! verdict rests on, between the soft values and the BCH code.
+//! verdict rests on, between the soft values and the BCH code. A word is a bit for each place of a
+//! codeword, whether or not it is one.
 //!
 //! A codeword is most likely if no codeword costs less, where a word's cost is the sum of the soft
 //! values over its ones. [`judge_unsplit`] is true exactly where the hard decision is a codeword,

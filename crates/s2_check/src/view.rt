@@ -2,6 +2,7 @@
 ghost use Rattle.std.specs.Prelude.{◌≡◌, ◌<◌, ◌≤◌, ◌↔◌, IsTrue, length, slice_index_or, OnOk, ◌-◌, ◌^◌, All, pos, replicate, FitsSigned};
 ghost use Rattle.std.specs.Int.{w32};
 ghost use Rattle.std.specs.Io.KnownBytes.{Appends};
+ghost use Rattle.s2_mode.specs.Limits.{most_bits};
 ghost use Rattle.s2_mode.specs.Counts.{CountsFault};
 ghost use Rattle.s2_mode.specs.Shape.{code_bits};
 ghost use Rattle.s2_check.specs.CertificateBytes.{bytes_of};
@@ -135,7 +136,7 @@ impl<'a> CertView<'a> {
     pub(crate) fn soft_values(&self) -> &[i16]
         ensures is { result.now ≡ self.now.soft }
         ensures long { length result.now ≡ code_bits self.now.shape }
-        ensures few { length result.now ≤ 64800 }
+        ensures few { length result.now ≤ most_bits }
     {
         self.soft
     }

@@ -1,26 +1,16 @@
 -- The moves that are made, check by check.
-use Rattle.std.proofs.Common.{◌≡◌, ℕ, ◌+◌, ◌/◌, ◌%◌, ◌<◌, ◌≤◌, ◌==◌, ◌||◌, nat_lt, min, true, cond, List, length, get_or, replicate, ap, sym, refl, ◌∙◌, inl, inr, arith, eq-eqb, ne_eqb, lt-ltb, le-ltb}
+use Rattle.std.proofs.Common.{◌≡◌, ℕ, ◌/◌, ◌%◌, ◌<◌, ◌≤◌, nat_lt, min, cond, List, length, get_or, replicate, ap, sym, ◌∙◌, inl, inr, arith, eq-eqb, ne_eqb, lt-ltb, le-ltb}
 use Rattle.std.proofs.lemmas.Bool.{cases_lt, cases_eq}
 use Rattle.std.proofs.lemmas.List.{get_or_past, get_or-replicate, length-replicate}
-use Rattle.s2_mode.specs.Shape.{information_bits}
 use Rattle.s2_rows.specs.Rows.{Rows}
 use Rattle.s2_matrix.specs.Code.{code_of, members}
-use Rattle.s2_matrix.proofs.Joins.{parity_has}
-use Rattle.s2_matrix.proofs.Members.{place_in_members}
 use Rattle.s2_check.specs.Moves.{no_move}
 use Rattle.s2_check.specs.declared.step.Move.{Move}
+use Rattle.s2_check.proofs.Places.{some_member}
 use Rattle.s2_settle.specs.Settled.{place_in, move_to}
 use Rattle.s2_settle.specs.Placing.{shown, place_of_check, move_of, moves_of}
 use Rattle.s2_settle.specs.Holding.{AreMoves}
 use Rattle.s2_settle.proofs.Layers.{upto_at, length-upto_map}
-
--- each check has a member: its own parity bit
-pub some_member : (r : Rows) (j : ℕ) → j < (code_of r).checks → 1 ≤ length (members (code_of r) j)
-some_member r j low =
-    let own = information_bits r.shape + j in
-    let within : own < (code_of r).bits = omega arith in
-    let has : (code_of r).has j own ≡ true = parity_has r j j ∙ ap (λ b. b || (j + 1 == j)) (eq-eqb j j refl) in
-    omega (arith, place_in_members (code_of r) own j within has)
 
 -- a move that is made, or none
 record IsMove (members amount : ℕ) (own : Move) : Type 0 where

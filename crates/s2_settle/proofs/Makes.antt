@@ -1,8 +1,7 @@
 -- What passes find, and its certificate.
-use Rattle.std.proofs.Common.{◌≡◌, take, drop, ◌++◌, ℕ, ◌<ℤ◌, List, length, ap, sym, subst, refl, ◌∙◌, ℤ, pos, ◌*ℤ◌, int_lt, Bool, true, false, not, cond, Option, None, Some, append-nil, take_all, [], arith}
+use Rattle.std.proofs.Common.{◌≡◌, ℕ, ◌<ℤ◌, List, ap, sym, subst, refl, ◌∙◌, ℤ, pos, ◌*ℤ◌, int_lt, Bool, true, false, not, cond, Option, None, Some, arith}
 use Rattle.std.proofs.lemmas.Bool.{true≢false}
 use Rattle.std.proofs.lemmas.Int.{ints}
-use Rattle.std.proofs.Math.ListN.{drop_of_length-le}
 use Rattle.s2_rows.specs.Rows.{Rows}
 use Rattle.s2_matrix.specs.Code.{code_of, IsCodeword}
 use Rattle.s2_check.specs.Cost.{cost}
@@ -79,8 +78,3 @@ missed rows soft word ms v r is codeword refuses =
         absurd (omega (arith, even, odd.1.odd))
     go BoundBelow below =
         ap (λ b. cond b (Some (moved_view rows soft word ms)) None) (below_misses (pos settling_scale *ℤ cost soft word) (bound (code_of rows) soft (split_in rows (moved_view rows soft word ms))) below.2)
-
-pub refilled : {A : Type 0} (n : ℕ) (new items : List A) → n ≡ length items → length new ≡ length items → take n (new ++ drop (length new) items) ≡ new
-refilled n new items all long =
-    let past : drop (length new) items ≡ [] = drop_of_length-le items (omega arith) in
-    ap (λ l. take n (new ++ l)) past ∙ ap (take n) (append-nil new) ∙ take_all n new (omega arith)

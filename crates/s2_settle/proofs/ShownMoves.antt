@@ -26,7 +26,7 @@ use Rattle.s2_settle.specs.Layer.{Held, entries_of, of_layer, gifts, new_target,
 use Rattle.s2_settle.specs.Placing.{shown, place_of_check}
 use Rattle.s2_settle.specs.Shows.{ShowsMoves, Shows, AreFit, IsWithin}
 use Rattle.s2_settle.proofs.Layers.{upto_at}
-use Rattle.s2_settle.proofs.MadeMoves.{some_member}
+use Rattle.s2_check.proofs.Places.{some_member}
 use Rattle.s2_settle.proofs.RestWords.{signed, given_is}
 use Rattle.s2_settle.proofs.LaneMoves.{Has, Lanes, amount_is, target_low, target_is}
 

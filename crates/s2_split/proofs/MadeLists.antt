@@ -11,7 +11,7 @@ use Rattle.s2_check.specs.declared.step.Move.{Move}
 use Rattle.s2_check.specs.Split.{Split}
 use Rattle.s2_split.specs.Making.{shared, AreLeft}
 use Rattle.s2_mode.specs.Limits.{most_soft}
-use Rattle.s2_split.specs.Spreading.{has_no_negative_rest, spread, split_by, made_split}
+use Rattle.s2_split.specs.Spreading.{has_no_negative_rest, spread, split_by, made_split, spread_scale, most_passes}
 use Rattle.s2_split.specs.Greedy.{Moved, none_moved, greedy}
 use Rattle.s2_bits.specs.Bits.{bit_at}
 use Rattle.s2_check.specs.Cost.{value_at}
@@ -75,9 +75,9 @@ kept_left code soft word s m rests ms kept i low =
     let sum = total-same_in (given m i) (given m' i) js same in
     kept.left.are i low ∙ scaled_rest code soft word s m i ∙ ap (λ v. scaled_at soft word s i -ℤ v) sum ∙ sym (scaled_rest code soft word s m' i)
 
-pub found_left : (code : Code) (soft : List ℤ) (word : List Bool) (o : Option Moved) (found : Bool) (rests : List ℤ) (ms : List Move) → Ends code soft word o found rests ms → found ≡ true → AreLeft code soft word (placed_of code word 16 ms) rests
+pub found_left : (code : Code) (soft : List ℤ) (word : List Bool) (o : Option Moved) (found : Bool) (rests : List ℤ) (ms : List Move) → Ends code soft word o found rests ms → found ≡ true → AreLeft code soft word (placed_of code word spread_scale ms) rests
 found_left code soft word None found rests ms e yes' = absurd (both_ways found e yes')
-found_left code soft word (Some m) found rests ms e yes' = kept_left code soft word 16 m rests ms e.1
+found_left code soft word (Some m) found rests ms e yes' = kept_left code soft word spread_scale m rests ms e.1
 
 -- before any move
 pub start_kept : (code : Code) (soft : List ℤ) (word : List Bool) (s : ℕ) (rests : List ℤ) (ms : List Move) → length rests ≡ code.bits → length ms ≡ code.checks → ((j : ℕ) → j < code.checks → 1 ≤ length (members code j)) → ((i : ℕ) → i < code.bits → get_or rests i (pos 0) ≡ scaled_at soft word s i) → ((j : ℕ) → get_or ms j no_move ≡ no_move) → AreKept code soft word s none_moved rests ms
@@ -132,11 +132,11 @@ shared_greedy code soft word rests ms other kept h =
     let g = greedy code soft word in
     sym (shared_if code (has_no_negative_rest code soft word 1 g) (moves word 1 g.target g.amount) other h ∙ ap (λ (l : List ℤ). Some (record { scale = 1; shares = l })) (same_shares code word 1 g ms kept.held))
 
-pub made_spread : (code : Code) (soft : List ℤ) (word : List Bool) (found : Bool) (rests : List ℤ) (ms : List Move) → Ends code soft word (spread code soft word 64 none_moved) found rests ms → has_no_negative_rest code soft word 1 (greedy code soft word) ≡ false → cond found (Some (record { scale = 16; shares = all_shares code (placed_of code word 1 ms) })) None ≡ shared code (made_split code soft word)
+pub made_spread : (code : Code) (soft : List ℤ) (word : List Bool) (found : Bool) (rests : List ℤ) (ms : List Move) → Ends code soft word (spread code soft word most_passes none_moved) found rests ms → has_no_negative_rest code soft word 1 (greedy code soft word) ≡ false → cond found (Some (record { scale = spread_scale; shares = all_shares code (placed_of code word 1 ms) })) None ≡ shared code (made_split code soft word)
 made_spread code soft word found rests ms ends h =
     let g = greedy code soft word in
-    go (spread code soft word 64 none_moved) ends ∙ sym (shared_else code (has_no_negative_rest code soft word 1 g) (moves word 1 g.target g.amount) (split_by word 16 (spread code soft word 64 none_moved)) h)
+    go (spread code soft word most_passes none_moved) ends ∙ sym (shared_else code (has_no_negative_rest code soft word 1 g) (moves word 1 g.target g.amount) (split_by word spread_scale (spread code soft word most_passes none_moved)) h)
   where
-    go : (o : Option Moved) → Ends code soft word o found rests ms → cond found (Some (record { scale = 16; shares = all_shares code (placed_of code word 1 ms) })) None ≡ shared code (split_by word 16 o)
-    go None e = ap (λ b. cond b (Some (record { scale = 16; shares = all_shares code (placed_of code word 1 ms) })) None) e
-    go (Some m) e = ap (λ b. cond b (Some (record { scale = 16; shares = all_shares code (placed_of code word 1 ms) })) None) e.0 ∙ ap (λ (l : List ℤ). Some (record { scale = 16; shares = l })) (sym (same_shares code word 16 m ms e.1.held))
+    go : (o : Option Moved) → Ends code soft word o found rests ms → cond found (Some (record { scale = spread_scale; shares = all_shares code (placed_of code word 1 ms) })) None ≡ shared code (split_by word spread_scale o)
+    go None e = ap (λ b. cond b (Some (record { scale = spread_scale; shares = all_shares code (placed_of code word 1 ms) })) None) e
+    go (Some m) e = ap (λ b. cond b (Some (record { scale = spread_scale; shares = all_shares code (placed_of code word 1 ms) })) None) e.0 ∙ ap (λ (l : List ℤ). Some (record { scale = spread_scale; shares = l })) (sym (same_shares code word spread_scale m ms e.1.held))

@@ -18,8 +18,8 @@ both_pass a b ha hb = ap₂ ◌&&◌ ha hb
 passes : (v : ℤ) → pos 0 ≤ℤ v → int_le (pos 0) v ≡ true
 passes v h = grind (arith, ints)
 
-at_least : (v : ℤ) → int_le (pos 0) v ≡ true → pos 0 ≤ℤ v
-at_least v h = grind (arith, ints)
+passed : (v : ℤ) → int_le (pos 0) v ≡ true → pos 0 ≤ℤ v
+passed v h = grind (arith, ints)
 
 -- one bit more is looked at, after what turned no other sign
 pub none_more : (from e : ℕ) (old new : List ℤ) (b : Bool) (v : ℤ) → v ≡ get_or new e (pos 0) → from ≤ e → ((k : ℕ) → k ≢ e → HaveOneSign (get_or old k (pos 0)) (get_or new k (pos 0))) → (IsTrue b ↔ NoneIsNegative from e old) → IsTrue (b && int_le (pos 0) v) ↔ NoneIsNegative from (e + 1) new
@@ -28,7 +28,7 @@ none_more from e old new b v is low same test =
   where
     to : IsTrue (b && int_le (pos 0) v) → NoneIsNegative from (e + 1) new
     to h k above below = elim (cases_eq k e) [
-      | inl here ↦ subst (λ n. pos 0 ≤ℤ get_or new n (pos 0)) (sym here) (subst (λ n. pos 0 ≤ℤ n) is (at_least v (both_right b (int_le (pos 0) v) h)))
+      | inl here ↦ subst (λ n. pos 0 ≤ℤ get_or new n (pos 0)) (sym here) (subst (λ n. pos 0 ≤ℤ n) is (passed v (both_right b (int_le (pos 0) v) h)))
       | inr other ↦ (same k other).0 (test.0 (both_left b (int_le (pos 0) v) h) k above (omega arith))
     ]
 

@@ -15,7 +15,7 @@ use Rattle.s2_check.specs.Moves.{no_move}
 use Rattle.s2_check.specs.declared.step.Move.{Move}
 use Rattle.s2_split.specs.Scattered.{least_of}
 use Rattle.s2_split.specs.Greedy.{Moved, rest_at, put}
-use Rattle.s2_split.specs.Spreading.{most_moved, least_member, spread_amount, amount_to, give_back, spread_check}
+use Rattle.s2_split.specs.Spreading.{most_moved, least_member, spread_amount, amount_to, give_back, spread_check, spread_scale}
 use Rattle.s2_split.specs.Kept.{most_between, taken_at, given_back, AreRests, IsHeld, AreKept}
 use Rattle.s2_split.proofs.FittingLemmas.{none_given'}
 use Rattle.s2_split.proofs.GreedyLemmas.{put_same, put_other}
@@ -150,7 +150,7 @@ among_held code j f own h = record {
   unmoved = λ none. h.unmoved (h.amount_is ∙ none);
 }
 
-pub spread_step : (code : Code) (soft : List ℤ) (word : List Bool) (m : Moved) (j : ℕ) (own : Move) (rests rests1 rests2 : List ℤ) (moves : List Move) → AreKept code soft word 16 m rests moves → j < code.checks → length rests1 ≡ length rests → ((k : ℕ) → get_or rests1 k (pos 0) ≡ get_or rests k (pos 0) -ℤ taken_at (members code j) (target_of code j (get_or moves j no_move)) (neg_ℤ (pos (get_or moves j no_move).amount)) k) → IsHeld code j (least_member (λ i. get_or rests1 i (pos 0)) (members code j)) (amount_to (λ i. get_or rests1 i (pos 0)) (members code j) (least_member (λ i. get_or rests1 i (pos 0)) (members code j))) own → own.amount ≤ most_moved → length rests2 ≡ length rests1 → ((k : ℕ) → get_or rests2 k (pos 0) ≡ get_or rests1 k (pos 0) -ℤ taken_at (members code j) (target_of code j own) (pos own.amount) k) → AreKept code soft word 16 (spread_check code soft word m j) rests2 (set moves j own)
+pub spread_step : (code : Code) (soft : List ℤ) (word : List Bool) (m : Moved) (j : ℕ) (own : Move) (rests rests1 rests2 : List ℤ) (moves : List Move) → AreKept code soft word spread_scale m rests moves → j < code.checks → length rests1 ≡ length rests → ((k : ℕ) → get_or rests1 k (pos 0) ≡ get_or rests k (pos 0) -ℤ taken_at (members code j) (target_of code j (get_or moves j no_move)) (neg_ℤ (pos (get_or moves j no_move).amount)) k) → IsHeld code j (least_member (λ i. get_or rests1 i (pos 0)) (members code j)) (amount_to (λ i. get_or rests1 i (pos 0)) (members code j) (least_member (λ i. get_or rests1 i (pos 0)) (members code j))) own → own.amount ≤ most_moved → length rests2 ≡ length rests1 → ((k : ℕ) → get_or rests2 k (pos 0) ≡ get_or rests1 k (pos 0) -ℤ taken_at (members code j) (target_of code j own) (pos own.amount) k) → AreKept code soft word spread_scale (spread_check code soft word m j) rests2 (set moves j own)
 unfolding with_move
 spread_step code soft word m j own rests rests1 rests2 moves kept h long1 is1 here small long2 is2 =
     let m1 = give_back m j in
@@ -159,16 +159,16 @@ spread_step code soft word m j own rests rests1 rests2 moves kept h long1 is1 he
     let was = get_or moves j no_move in
     let held = kept.held.each j h in
     let f = λ (i : ℕ). get_or rests1 i (pos 0) in
-    let g = rest_at code soft word 16 m1 in
-    let back = rests_back code soft word 16 m j rests rests1 kept.left h long1 (λ k. is1 k ∙ ap (λ v. get_or rests k (pos 0) -ℤ v) (taken_same ms (target_of code j was) (m.target j) was.amount (m.amount j) k held.amount_is held.target_is)) in
+    let g = rest_at code soft word spread_scale m1 in
+    let back = rests_back code soft word spread_scale m j rests rests1 kept.left h long1 (λ k. is1 k ∙ ap (λ v. get_or rests k (pos 0) -ℤ v) (taken_same ms (target_of code j was) (m.target j) was.amount (m.amount j) k held.amount_is held.target_is)) in
     let all : All (λ x. f x ≡ g x) ms = λ k d' within. back.are (get_or ms k d') (members_below code j k d' within) in
     let e = least_member g ms in
     let to : least_member f ms ≡ e = least_member_same f g ms all in
     let amount : d ≡ amount_to g ms e = here.amount_is ∙ amount_same f g ms all in
     let is : with_move m1 j e d ≡ spread_check code soft word m j = ap (with_move m1 j e) amount in
     let own_is : IsHeld code j e d own = held_as code j (least_member f ms) e d d own own (sym to) refl refl (held_own code j (least_member f ms) (amount_to f ms (least_member f ms)) own here) in
-    subst (λ (n : Moved). AreKept code soft word 16 n rests2 (set moves j own)) is (record {
-      left = rests_given code soft word 16 m1 j e d rests1 rests2 back h (put_same m.amount j 0) small long2 (λ k. is2 k ∙ ap (λ v. get_or rests1 k (pos 0) -ℤ v) (taken_to ms (target_of code j own) e d k own_is.target_is));
+    subst (λ (n : Moved). AreKept code soft word spread_scale n rests2 (set moves j own)) is (record {
+      left = rests_given code soft word spread_scale m1 j e d rests1 rests2 back h (put_same m.amount j 0) small long2 (λ k. is2 k ∙ ap (λ v. get_or rests1 k (pos 0) -ℤ v) (taken_to ms (target_of code j own) e d k own_is.target_is));
       held = moves_after code m m1 j e d own moves kept.held h own_is (λ k other. (refl, put_other m.amount j 0 k other));
     })
 
@@ -202,7 +202,7 @@ listed_at f n k past =
     ]
 
 -- a check's move is given back, and another is made
-pub anew_step : (code : Code) (soft : List ℤ) (word : List Bool) (m : Moved) (j : ℕ) (own : Move) (rests rests2 : List ℤ) (moves : List Move) → AreKept code soft word 16 m rests moves → j < code.checks → IsHeldAmong (members code j) (given_back rests (members code j) (get_or moves j no_move)) own → own.amount ≤ most_moved → length rests2 ≡ length rests → ((k : ℕ) → get_or rests2 k (pos 0) ≡ given_back rests (members code j) (get_or moves j no_move) k -ℤ taken_at (members code j) (target_of code j own) (pos own.amount) k) → AreKept code soft word 16 (spread_check code soft word m j) rests2 (set moves j own)
+pub anew_step : (code : Code) (soft : List ℤ) (word : List Bool) (m : Moved) (j : ℕ) (own : Move) (rests rests2 : List ℤ) (moves : List Move) → AreKept code soft word spread_scale m rests moves → j < code.checks → IsHeldAmong (members code j) (given_back rests (members code j) (get_or moves j no_move)) own → own.amount ≤ most_moved → length rests2 ≡ length rests → ((k : ℕ) → get_or rests2 k (pos 0) ≡ given_back rests (members code j) (get_or moves j no_move) k -ℤ taken_at (members code j) (target_of code j own) (pos own.amount) k) → AreKept code soft word spread_scale (spread_check code soft word m j) rests2 (set moves j own)
 anew_step code soft word m j own rests rests2 moves kept h among few long is =
     let ms = members code j in
     let was = get_or moves j no_move in
@@ -248,7 +248,7 @@ nothing_moved f ms all =
     ]
 
 -- a check that holds no amount, and none of whose members has a negative rest
-pub idle_step : (code : Code) (soft : List ℤ) (word : List Bool) (m : Moved) (j : ℕ) (rests : List ℤ) (moves : List Move) → AreKept code soft word 16 m rests moves → j < code.checks → (get_or moves j no_move).amount ≡ 0 → All (λ i. pos 0 ≤ℤ get_or rests i (pos 0)) (members code j) → AreKept code soft word 16 (spread_check code soft word m j) rests moves
+pub idle_step : (code : Code) (soft : List ℤ) (word : List Bool) (m : Moved) (j : ℕ) (rests : List ℤ) (moves : List Move) → AreKept code soft word spread_scale m rests moves → j < code.checks → (get_or moves j no_move).amount ≡ 0 → All (λ i. pos 0 ≤ℤ get_or rests i (pos 0)) (members code j) → AreKept code soft word spread_scale (spread_check code soft word m j) rests moves
 idle_step code soft word m j rests moves kept h none_held all =
     let ms = members code j in
     let f = λ (i : ℕ). get_or rests i (pos 0) in
@@ -265,4 +265,4 @@ idle_step code soft word m j rests moves kept h none_held all =
     let stays = λ (k : ℕ). (let nil = ap (λ a. taken_at ms t (neg_ℤ (pos a)) k) none_held ∙ taken_none ms t k in let same : f k ≡ f k -ℤ taken_at ms t (neg_ℤ (pos own.amount)) k = omega (arith, ints, nil) in same) in
     let still = λ (k : ℕ). (let nil = ap (λ a. taken_at ms t (pos a) k) none_held ∙ taken_none ms t k in let same : f k ≡ f k -ℤ taken_at ms t (pos own.amount) k = omega (arith, ints, nil) in same) in
     let after = spread_step code soft word m j own rests rests rests moves kept h refl stays here (omega (arith, none_held)) refl still in
-    subst (λ (l : List Move). AreKept code soft word 16 (spread_check code soft word m j) rests l) (set-get_or moves j no_move) after
+    subst (λ (l : List Move). AreKept code soft word spread_scale (spread_check code soft word m j) rests l) (set-get_or moves j no_move) after

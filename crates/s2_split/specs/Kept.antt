@@ -99,7 +99,7 @@ pub record AreOfValues (code : Code) (rests : List ℤ) (ms : List Move) : Type 
   pub word : List Bool
   pub m : Moved
   pub range : All IsSoft soft
-  pub kept : AreKept code soft word 16 m rests ms
+  pub kept : AreKept code soft word spread_scale m rests ms
 
 -- the greedy amounts of the bits before a place
 abbrev pub served : Code → List ℤ → List Bool → ℕ → Moved
@@ -108,4 +108,4 @@ served code soft word n = fold (serve code soft word) none_moved (filter (differ
 -- what spreading finds, and whether it does
 abbrev pub Ends : Code → List ℤ → List Bool → Option Moved → Bool → List ℤ → List Move → Type 0
 Ends code soft word None found rests ms = found ≡ false
-Ends code soft word (Some m) found rests ms = (found ≡ true) × AreKept code soft word 16 m rests ms
+Ends code soft word (Some m) found rests ms = (found ≡ true) × AreKept code soft word spread_scale m rests ms

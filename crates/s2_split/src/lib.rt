@@ -1,5 +1,6 @@
 //! Certificates for frames with wrong hard decisions: the repair of a hard decision, and the split
-//! that shows a codeword to be most likely.
+//! that shows a codeword to be most likely. A word is a bit for each place of a codeword, whether or
+//! not it is one.
 //!
 //! A [`Maker`] stands above the parity checks and the checker of certificates, and below the
 //! receiver's decision. It takes all its memory when it is made: one rest for each bit and one
@@ -21,6 +22,7 @@
 
 mod greedy;
 pub mod laws;
+mod limits;
 mod make;
 mod maker;
 mod repair;
@@ -28,6 +30,7 @@ mod rests;
 mod spread;
 mod start;
 
+pub use limits::{MOST_MOVED, MOST_PASSES, SPREAD_SCALE};
 pub use maker::Maker;
 
 #[cfg(test)]

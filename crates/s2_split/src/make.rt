@@ -4,11 +4,12 @@ ghost use Rattle.s2_matrix.specs.Code.{code_of};
 ghost use Rattle.s2_check.specs.Views.{IsSoft};
 ghost use Rattle.s2_check.specs.Moves.{no_move, placed_of, ArePlaced};
 ghost use Rattle.s2_split.specs.Greedy.{none_moved, greedy};
-ghost use Rattle.s2_split.specs.Spreading.{has_no_negative_rest};
+ghost use Rattle.s2_split.specs.Spreading.{has_no_negative_rest, spread_scale};
 ghost use Rattle.s2_split.specs.Kept.{AreFew, AreLow, AreKept};
 ghost use Rattle.s2_split.specs.Making.{shared, split_in_ways, made_of, AreLeft};
 
 use crate::greedy::greedy;
+use crate::limits::SPREAD_SCALE;
 use crate::spread::spread;
 use crate::start::start_rests;
 use s2_check::Move;
@@ -27,7 +28,7 @@ fn clear(moves: &mut [Move])
     }
 }
 
-/// Rests at a scale of at most 16, and no moves.
+/// Rests at a scale of at most [`SPREAD_SCALE`], and no moves.
 fn begin(
     matrix: &Matrix,
     soft: &[i16],
@@ -39,7 +40,7 @@ fn begin(
     requires soft { length soft.now ≡ (code_of matrix.now).bits }
     requires range { All IsSoft soft.now }
     requires word { length word.now ≡ (code_of matrix.now).bits }
-    requires scale { scale ≤ 16 }
+    requires scale { scale ≤ spread_scale }
     requires rests { length rests.old ≡ (code_of matrix.now).bits }
     requires moves { length moves.old ≡ (code_of matrix.now).checks }
     ensures kept { AreKept (code_of matrix.now) soft.now word.now scale none_moved rests.new moves.new }
@@ -98,7 +99,7 @@ pub(crate) fn make_moves(
     ensures made { made_of matrix.now word.now result moves.new ≡ shared (code_of matrix.now) (split_in_ways ways (code_of matrix.now) soft.now word.now) }
     ensures moves { ArePlaced (code_of matrix.now) word.now moves.new }
     ensures rests { result ≢ 0 → AreLeft (code_of matrix.now) soft.now word.now (placed_of (code_of matrix.now) word.now result moves.new) rests.new }
-    ensures scaled { result ≤ 16 }
+    ensures scaled { result ≤ spread_scale }
     ensures long { length rests.new ≡ length rests.old }
 {
     if try_greedily(matrix, soft, word, rests, moves) {
@@ -107,9 +108,9 @@ pub(crate) fn make_moves(
     match ways {
         Ways::Greedy => 0,
         Ways::GreedyThenSpreading => {
-            begin(matrix, soft, word, 16, rests, moves);
+            begin(matrix, soft, word, SPREAD_SCALE, rests, moves);
             if spread(matrix, soft, word, rests, moves) {
-                16
+                SPREAD_SCALE
             } else {
                 0
             }

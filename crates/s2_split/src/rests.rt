@@ -7,6 +7,7 @@ ghost use Rattle.s2_split.specs.Greedy.{free_for};
 ghost use Rattle.s2_split.specs.Kept.{most_rest, most_between, is_among, taken_at, evenly_at, given_back, AreWithin, AreLow};
 ghost use Rattle.s2_split.specs.Spreading.{most_moved, least_member, spread_amount, amount_to};
 
+use crate::limits::MOST_MOVED;
 use s2_check::Move;
 
 /// Adds a signed amount to the rest of the target, and takes it from the rest of every other
@@ -111,7 +112,7 @@ pub(crate) fn least_two(rests: &[i32], members: &[u32], held: Move) -> Least
 }
 
 /// What is moved to the least rest of so many members: half of what lies between it and the least
-/// other, no more than it lacks, and no more than 2^20.
+/// other, no more than it lacks, and no more than [`MOST_MOVED`].
 fn half_gap(count: usize, rest: i32, other: i32) -> u32
     ensures { result ≡ (if nat_lt 1 count then spread_amount rest other else 0) }
 {
@@ -120,7 +121,7 @@ fn half_gap(count: usize, rest: i32, other: i32) -> u32
     } else {
         rest.unsigned_abs()
             .min(other.abs_diff(rest) / 2)
-            .min(1 << 20)
+            .min(MOST_MOVED)
     }
 }
 

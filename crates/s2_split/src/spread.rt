@@ -5,9 +5,10 @@ ghost use Rattle.s2_matrix.specs.Code.{code_of, members};
 ghost use Rattle.s2_check.specs.Moves.{no_move, ArePlaced};
 ghost use Rattle.s2_check.specs.Views.{IsSoft};
 ghost use Rattle.s2_split.specs.Greedy.{Moved, none_moved};
-ghost use Rattle.s2_split.specs.Spreading.{most_moved, spread_check, spread_pass, spread};
+ghost use Rattle.s2_split.specs.Spreading.{most_moved, spread_check, spread_pass, spread, spread_scale, most_passes};
 ghost use Rattle.s2_split.specs.Kept.{most_rest, AreWithin, AreFew, AreKept, AreOfValues, Ends};
 
+use crate::limits::MOST_PASSES;
 use crate::rests::{move_anew, spread_move};
 use crate::start::none_negative;
 use s2_check::Move;
@@ -21,7 +22,7 @@ fn spread_check(matrix: &Matrix, rests: &mut [i32], moves: &mut [Move], check: u
     requires small { AreWithin most_rest rests.old }
     requires place { (get_or moves.old check no_move).place < length (members (code_of matrix.now) check) }
     requires held { (get_or moves.old check no_move).amount ≤ most_moved }
-    ensures kept { (soft : List ℤ) (word : List Bool) (m : Moved) → AreKept (code_of matrix.now) soft word 16 m rests.old moves.old → AreKept (code_of matrix.now) soft word 16 (spread_check (code_of matrix.now) soft word m check) rests.new moves.new }
+    ensures kept { (soft : List ℤ) (word : List Bool) (m : Moved) → AreKept (code_of matrix.now) soft word spread_scale m rests.old moves.old → AreKept (code_of matrix.now) soft word spread_scale (spread_check (code_of matrix.now) soft word m check) rests.new moves.new }
     ensures same { IsTrue result → (rests.new ≡ rests.old) × (moves.new ≡ moves.old) }
 {
     let members = matrix.members_at(check);
@@ -56,7 +57,7 @@ fn visit(matrix: &Matrix, rests: &mut [i32], moves: &mut [Move], check: usize) -
     requires small { AreWithin most_rest rests.old }
     requires place { (get_or moves.old check no_move).place < length (members (code_of matrix.now) check) }
     requires held { (get_or moves.old check no_move).amount ≤ most_moved }
-    ensures kept { (soft : List ℤ) (word : List Bool) (m : Moved) → AreKept (code_of matrix.now) soft word 16 m rests.old moves.old → AreKept (code_of matrix.now) soft word 16 (spread_check (code_of matrix.now) soft word m check) rests.new moves.new }
+    ensures kept { (soft : List ℤ) (word : List Bool) (m : Moved) → AreKept (code_of matrix.now) soft word spread_scale m rests.old moves.old → AreKept (code_of matrix.now) soft word spread_scale (spread_check (code_of matrix.now) soft word m check) rests.new moves.new }
     ensures same { IsTrue result → (rests.new ≡ rests.old) × (moves.new ≡ moves.old) }
 {
     if moves[check].amount == 0 {
@@ -71,7 +72,7 @@ fn visit(matrix: &Matrix, rests: &mut [i32], moves: &mut [Move], check: usize) -
 fn spread_pass(matrix: &Matrix, rests: &mut [i32], moves: &mut [Move]) -> bool
     requires few { AreFew (code_of matrix.now) }
     requires start { AreOfValues (code_of matrix.now) rests.old moves.old }
-    ensures kept { (soft : List ℤ) (word : List Bool) (m : Moved) → AreKept (code_of matrix.now) soft word 16 m rests.old moves.old → AreKept (code_of matrix.now) soft word 16 (spread_pass (code_of matrix.now) soft word m) rests.new moves.new }
+    ensures kept { (soft : List ℤ) (word : List Bool) (m : Moved) → AreKept (code_of matrix.now) soft word spread_scale m rests.old moves.old → AreKept (code_of matrix.now) soft word spread_scale (spread_pass (code_of matrix.now) soft word m) rests.new moves.new }
     ensures same { IsTrue result → (rests.new ≡ rests.old) × (moves.new ≡ moves.old) }
 {
     let mut still = true;
@@ -83,8 +84,9 @@ fn spread_pass(matrix: &Matrix, rests: &mut [i32], moves: &mut [Move]) -> bool
     still
 }
 
-/// At most 64 passes over all checks, rising, until no rest is negative: whether none is then. A pass
-/// in which each check moves as before is the last, since all later ones would be the same.
+/// At most [`MOST_PASSES`] passes over all checks, rising, until no rest is negative: whether none is
+/// then. A pass in which each check moves as before is the last, since all later ones would be the
+/// same.
 pub(crate) fn spread(
     matrix: &Matrix,
     soft: &[i16],
@@ -95,13 +97,13 @@ pub(crate) fn spread(
     requires range { All IsSoft soft.now }
     requires word { length word.now ≡ (code_of matrix.now).bits }
     requires few { AreFew (code_of matrix.now) }
-    requires start { AreKept (code_of matrix.now) soft.now word.now 16 none_moved rests.old moves.old }
+    requires start { AreKept (code_of matrix.now) soft.now word.now spread_scale none_moved rests.old moves.old }
     ensures moves { ArePlaced (code_of matrix.now) word.now moves.new }
-    ensures ends { Ends (code_of matrix.now) soft.now word.now (spread (code_of matrix.now) soft.now word.now 64 none_moved) result rests.new moves.new }
+    ensures ends { Ends (code_of matrix.now) soft.now word.now (spread (code_of matrix.now) soft.now word.now most_passes none_moved) result rests.new moves.new }
 {
     let _soft = soft;
     let _word = word;
-    'passes: for pass in 0..64u32 {
+    'passes: for pass in 0..MOST_PASSES {
         if none_negative(rests) {
             return true;
         }

@@ -1,7 +1,7 @@
 use Rattle.std.proofs.Common.{arith, ◌∙◌, ap}
 use Rattle.s2_matrix.specs.Code.{code_of}
 use Rattle.s2_split.specs.Kept.{scaled_at}
-use Rattle.s2_split.proofs.Held.{some_member}
+use Rattle.s2_check.proofs.Places.{some_member}
 use Rattle.s2_split.proofs.MadeLists.{start_kept, start_low}
 use Rattle.s2_split.proofs.make.begin.Goals as goal
 

@@ -2,7 +2,7 @@ use Rattle.std.proofs.Common.{◌≡◌, suc, ◌-◌, Bool, true, false, sym, s
 use Rattle.std.proofs.lemmas.Bool.{cases_Bool}
 use Rattle.s2_matrix.specs.Code.{code_of}
 use Rattle.s2_split.specs.Greedy.{Moved, none_moved}
-use Rattle.s2_split.specs.Spreading.{has_no_negative_rest, spread, spread_pass}
+use Rattle.s2_split.specs.Spreading.{has_no_negative_rest, spread, spread_pass, spread_scale, most_passes}
 use Rattle.s2_split.specs.Kept.{AreKept, Ends}
 use Rattle.s2_split.proofs.Held.{kept_placed}
 use Rattle.s2_split.proofs.Passes.{lists_as}
@@ -25,13 +25,13 @@ passes-preserved c =
     let word = c.args.word.now in
     let p = c.passes.pass in
     let m = passed code soft word p in
-    let test : has_no_negative_rest code soft word 16 m ≡ false = test_is code soft word 16 m c.passes.rests c.none_negative.result c.passes.invariant.kept.left c.none_negative.ensures ∙ c.if-none_negative.false in
+    let test : has_no_negative_rest code soft word spread_scale m ≡ false = test_is code soft word spread_scale m c.passes.rests c.none_negative.result c.passes.invariant.kept.left c.none_negative.ensures ∙ c.if-none_negative.false in
     record {
       left = λ k h. (
           let before = c.passes.invariant.left (suc k) (omega arith) in
           before ∙ spread_later code soft word k m test ∙ ap (spread code soft word k) (sym (passed_more code soft word p))
           );
-      kept = subst (λ (n : Moved). AreKept code soft word 16 n c.spread_pass.new.rests c.spread_pass.new.moves) (sym (passed_more code soft word p)) (c.spread_pass.ensures.kept soft word m c.passes.invariant.kept);
+      kept = subst (λ (n : Moved). AreKept code soft word spread_scale n c.spread_pass.new.rests c.spread_pass.new.moves) (sym (passed_more code soft word p)) (c.spread_pass.ensures.kept soft word m c.passes.invariant.kept);
     }
 
 pub returns-then-spread_pass-clause-moves : goal.returns-then-spread_pass-clause-moves
@@ -39,28 +39,28 @@ returns-then-spread_pass-clause-moves c =
     let code = code_of c.args.matrix.now in
     let soft = c.args.soft.now in
     let word = c.args.word.now in
-    kept_placed code soft word 16 _ c.spread_pass.new.rests c.spread_pass.new.moves c.requires.word (c.spread_pass.ensures.kept soft word (passed code soft word c.passes.pass) c.passes.invariant.kept)
+    kept_placed code soft word spread_scale _ c.spread_pass.new.rests c.spread_pass.new.moves c.requires.word (c.spread_pass.ensures.kept soft word (passed code soft word c.passes.pass) c.passes.invariant.kept)
 
 pub returns-then-spread_pass-clause-ends : goal.returns-then-spread_pass-clause-ends
 returns-then-spread_pass-clause-ends c =
     let code = code_of c.args.matrix.now in
     let soft = c.args.soft.now in
     let word = c.args.word.now in
-    let k = 64 - c.passes.pass in
+    let k = most_passes - c.passes.pass in
     let m = passed code soft word c.passes.pass in
     let new = c.spread_pass.new in
     let rests = c.passes.rests in
     let moves = c.passes.moves in
     let same = c.spread_pass.ensures.same c.if-spread_pass.true in
-    let again = λ (n : Moved) (kept : AreKept code soft word 16 n rests moves). lists_as (λ r ms. AreKept code soft word 16 (spread_pass code soft word n) r ms) new.rests rests new.moves moves (sym same.0) (sym same.1) (c.spread_pass.ensures.kept soft word n kept) in
+    let again = λ (n : Moved) (kept : AreKept code soft word spread_scale n rests moves). lists_as (λ r ms. AreKept code soft word spread_scale (spread_pass code soft word n) r ms) new.rests rests new.moves moves (sym same.0) (sym same.1) (c.spread_pass.ensures.kept soft word n kept) in
     let never = c.passes.invariant.left k (omega arith) ∙ spread_stuck code soft word rests moves again c.none_negative.result c.none_negative.ensures c.if-none_negative.false k m c.passes.invariant.kept in
-    ends_none code soft word (spread code soft word 64 none_moved) new.rests new.moves never
+    ends_none code soft word (spread code soft word most_passes none_moved) new.rests new.moves never
 
 pub returns-then-none_negative-clause-moves : goal.returns-then-none_negative-clause-moves
-returns-then-none_negative-clause-moves c = kept_placed (code_of c.args.matrix.now) c.args.soft.now c.args.word.now 16 _ c.passes.rests c.passes.moves c.requires.word c.passes.invariant.kept
+returns-then-none_negative-clause-moves c = kept_placed (code_of c.args.matrix.now) c.args.soft.now c.args.word.now spread_scale _ c.passes.rests c.passes.moves c.requires.word c.passes.invariant.kept
 
 pub returns-clause-moves : goal.returns-clause-moves
-returns-clause-moves c = kept_placed (code_of c.args.matrix.now) c.args.soft.now c.args.word.now 16 _ c.passes.rests c.passes.moves c.requires.word c.passes.invariant.kept
+returns-clause-moves c = kept_placed (code_of c.args.matrix.now) c.args.soft.now c.args.word.now spread_scale _ c.passes.rests c.passes.moves c.requires.word c.passes.invariant.kept
 
 pub returns-then-none_negative-clause-ends : goal.returns-then-none_negative-clause-ends
 returns-then-none_negative-clause-ends c =
@@ -69,10 +69,10 @@ returns-then-none_negative-clause-ends c =
     let word = c.args.word.now in
     let p = c.passes.pass in
     let m = passed code soft word p in
-    let k = 64 - p in
-    let test : has_no_negative_rest code soft word 16 m ≡ true = test_is code soft word 16 m c.passes.rests c.none_negative.result c.passes.invariant.kept.left c.none_negative.ensures ∙ c.if-none_negative.true in
+    let k = most_passes - p in
+    let test : has_no_negative_rest code soft word spread_scale m ≡ true = test_is code soft word spread_scale m c.passes.rests c.none_negative.result c.passes.invariant.kept.left c.none_negative.ensures ∙ c.if-none_negative.true in
     let is = c.passes.invariant.left k (omega arith) ∙ spread_now code soft word k m test in
-    ends_some code soft word (spread code soft word 64 none_moved) m c.passes.rests c.passes.moves is c.passes.invariant.kept
+    ends_some code soft word (spread code soft word most_passes none_moved) m c.passes.rests c.passes.moves is c.passes.invariant.kept
 
 pub returns-clause-ends : goal.returns-clause-ends
 returns-clause-ends c =
@@ -80,9 +80,9 @@ returns-clause-ends c =
     let soft = c.args.soft.now in
     let word = c.args.word.now in
     let m = passed code soft word c.passes.pass in
-    let o = spread code soft word 64 none_moved in
+    let o = spread code soft word most_passes none_moved in
     let left = c.passes.invariant.left 0 (omega arith) in
-    let is = test_is code soft word 16 m c.passes.rests c.none_negative-2.result c.passes.invariant.kept.left c.none_negative-2.ensures in
+    let is = test_is code soft word spread_scale m c.passes.rests c.none_negative-2.result c.passes.invariant.kept.left c.none_negative-2.ensures in
     elim (cases_Bool c.none_negative-2.result) [
       | inl found ↦ subst (λ (b : Bool). Ends code soft word o b c.passes.rests c.passes.moves) (sym found) (ends_some code soft word o m c.passes.rests c.passes.moves (left ∙ spread_now code soft word 0 m (is ∙ found)) c.passes.invariant.kept)
       | inr none ↦ subst (λ (b : Bool). Ends code soft word o b c.passes.rests c.passes.moves) (sym none) (ends_none code soft word o c.passes.rests c.passes.moves (left ∙ spread_never code soft word m (is ∙ none)))

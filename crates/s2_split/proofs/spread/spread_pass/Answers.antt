@@ -3,7 +3,7 @@ use Rattle.std.proofs.lemmas.Bool.{both_ways}
 use Rattle.s2_matrix.specs.Total.{upto}
 use Rattle.s2_matrix.specs.Code.{code_of}
 use Rattle.s2_split.specs.Greedy.{Moved}
-use Rattle.s2_split.specs.Spreading.{spread_check}
+use Rattle.s2_split.specs.Spreading.{spread_check, spread_scale}
 use Rattle.s2_split.specs.Kept.{AreKept}
 use Rattle.s2_split.proofs.Shifts.{rests_within}
 use Rattle.s2_split.proofs.Passes.{fold_upto}
@@ -13,7 +13,7 @@ use Rattle.s2_split.proofs.spread.spread_pass.Goals.{then-not-visit, else-not-vi
 pub visit-requires-clause-small : goal.visit-requires-clause-small
 visit-requires-clause-small c =
     let s = c.requires.start in
-    rests_within (code_of c.args.matrix.now) s.soft s.word 16 _ c.loop-check.rests (omega arith) s.range c.requires.few (c.loop-check.invariant.kept s.soft s.word s.m s.kept).left
+    rests_within (code_of c.args.matrix.now) s.soft s.word spread_scale _ c.loop-check.rests (omega arith) s.range c.requires.few (c.loop-check.invariant.kept s.soft s.word s.m s.kept).left
 
 pub visit-requires-clause-rests_long : goal.visit-requires-clause-rests_long
 visit-requires-clause-rests_long c =
@@ -43,7 +43,7 @@ loop-check-preserved c =
     let n = c.loop-check.check in
     let before = c.loop-check.invariant in
     record {
-      kept = λ soft word m kept. subst (λ (x : Moved). AreKept code soft word 16 x c.visit.new.rests c.visit.new.moves) (sym (fold_upto (spread_check code soft word) m n)) (c.visit.ensures.kept soft word (fold (spread_check code soft word) m (upto n)) (before.kept soft word m kept));
+      kept = λ soft word m kept. subst (λ (x : Moved). AreKept code soft word spread_scale x c.visit.new.rests c.visit.new.moves) (sym (fold_upto (spread_check code soft word) m n)) (c.visit.ensures.kept soft word (fold (spread_check code soft word) m (upto n)) (before.kept soft word m kept));
       same = λ yes'. elim c.if-not-visit.branch [
         | then-not-visit w ↦ absurd (both_ways c.if-not-visit.still w.still-is yes')
         | else-not-visit w ↦ (
@@ -58,4 +58,4 @@ pub returns-clause-kept : goal.returns-clause-kept
 returns-clause-kept c soft word m kept =
     let code = code_of c.args.matrix.now in
     let all : c.loop-check.check ≡ code.checks = omega (arith, c.check_count-check-end.ensures.is) in
-    subst (λ (n : ℕ). AreKept code soft word 16 (fold (spread_check code soft word) m (upto n)) c.loop-check.rests c.loop-check.moves) all (c.loop-check.invariant.kept soft word m kept)
+    subst (λ (n : ℕ). AreKept code soft word spread_scale (fold (spread_check code soft word) m (upto n)) c.loop-check.rests c.loop-check.moves) all (c.loop-check.invariant.kept soft word m kept)

@@ -12,7 +12,8 @@ use Rattle.s2_settle.specs.Placing.{Finds}
 use Rattle.s2_settle.specs.Shows.{AreFit}
 use Rattle.s2_settle.specs.Holding.{Settling}
 use Rattle.s2_settle.proofs.PlainSettled.{found_settled}
-use Rattle.s2_settle.proofs.Makes.{none_settled, held_settled, reached, missed, refilled}
+use Rattle.s2_check.proofs.Lists.{refilled}
+use Rattle.s2_settle.proofs.Makes.{none_settled, held_settled, reached, missed}
 use Rattle.s2_settle.proofs.settler.Settler.certify.Goals as goal
 
 pub returns-then-not-find_moves-clause-is : goal.returns-then-not-find_moves-clause-is

@@ -4,8 +4,9 @@ use Rattle.s2_matrix.specs.Code.{code_of}
 use Rattle.s2_check.specs.Split.{split_of}
 use Rattle.s2_check.specs.Moves.{placed_of}
 use Rattle.s2_check.specs.declared.step.Move.{Move}
+use Rattle.s2_check.proofs.Lists.{refilled}
 use Rattle.s2_split.specs.Making.{Making, made_of, shared, split_in_ways, AreLeft}
-use Rattle.s2_split.proofs.Held.{copied, refilled, held_left}
+use Rattle.s2_split.proofs.Held.{copied, held_left}
 use Rattle.s2_split.proofs.maker.Maker.certify_in.Goals as goal
 
 pub returns-clause-word : goal.returns-clause-word
