@@ -198,7 +198,7 @@ pub(crate) fn quantized(differences: u32x4) -> u16x4
 {
     let sizes = least(
         quotient(size(differences), DIVISOR as u32),
-        all(u32::from(MOST_SOFT)),
+        all(MOST_SOFT as u32),
     );
     let negative = quotient(differences, 1 << 31);
     let words = where_same(negative, all(1), minus(all(65536), sizes), sizes);
