@@ -31,7 +31,7 @@ use Rattle.s2_receive.proofs.Reception.{gives}
 use Rattle.s2_receive.proofs.RunLemmas.{after-append, packets-append, lines-append}
 use Rattle.s2_receive.proofs.SymbolLists.{symbols-append}
 use Rattle.s2_receive.proofs.FieldPlaces.{placed_fields}
-use Rattle.s2_modem.specs.Both.{AreBytes, IsCertified, Hears, certified_lines, totals_of, LinkLaw, sent_symbols}
+use Rattle.s2_modem.specs.Both.{AreBytes, IsCertifiedFrame, Hears, certified_lines, totals_of, LinkLaw, sent_symbols}
 use Rattle.s2_modem.proofs.SymbolsBack.{frame_read}
 use Rattle.s2_modem.proofs.ByteStreams.{stream_bytes, cut_bytes}
 
@@ -53,11 +53,11 @@ module _ (link : Link) (rules : Rules) (hears : Hears link rules) where
 
   record Heard (at : ℕ) (fields frames : List (List ℕ)) : Type 0 where
     are : AreReceived rules link.setup.roll_off at fields (map symbols_of frames)
-    certified : All (IsCertified rules) (map symbols_of frames)
+    certified : All (IsCertifiedFrame rules) (map symbols_of frames)
     symbols : (rest : List ℕ) → symbols_of (bytes_joined frames ++ rest) ≡ joined (map symbols_of frames) ++ symbols_of rest
 
   heard : (at : ℕ) (fields frames : List (List ℕ)) → All AreBytes fields → Placed at fields → All (λ field. length field ≤ field_bytes link.setup.mode) fields → AreFrames link at fields frames → Heard at fields frames
-  heard at [] [] bytes placed short sent = record { are = tt; certified = All-nil (IsCertified rules); symbols = λ rest. refl }
+  heard at [] [] bytes placed short sent = record { are = tt; certified = All-nil (IsCertifiedFrame rules); symbols = λ rest. refl }
   heard at [] (b ∷ bs) bytes placed short sent = absurd sent
   heard at (f ∷ fs) [] bytes placed short sent = absurd sent
   heard at (f ∷ fs) (b ∷ bs) bytes placed short sent =
@@ -70,25 +70,25 @@ module _ (link : Link) (rules : Rules) (hears : Hears link rules) where
       let long : length b ≡ 4 * rules.size = ap length spelt ∙ long_frame codeword in
       record {
         are = (subst (λ l. IsReceived rules (header_at link.setup.roll_off at f) f l) (sym read) one.0, more.are);
-        certified = All-cons (IsCertified rules) (symbols_of b) (map symbols_of bs) (subst (IsCertified rules) (sym read) one.1) more.certified;
+        certified = All-cons (IsCertifiedFrame rules) (symbols_of b) (map symbols_of bs) (subst (IsCertifiedFrame rules) (sym read) one.1) more.certified;
         symbols = λ rest. ap symbols_of (append_assoc b (bytes_joined bs) rest) ∙ symbols-append rules.size b (bytes_joined bs ++ rest) long ∙ ap (λ l. symbols_of b ++ l) (more.symbols rest)
             ∙ sym (append_assoc (symbols_of b) (joined (map symbols_of bs)) (symbols_of rest));
       }
 
 module _ (rules : Rules) (roll_off : ℕ) where
   -- their lines
-  pub lines_frames : (at k : ℕ) (fields : List (List ℕ)) (frames : List (List Symbol)) (s : Standing) → AreReceived rules roll_off k fields frames → All (IsCertified rules) frames
+  pub lines_frames : (at k : ℕ) (fields : List (List ℕ)) (frames : List (List Symbol)) (s : Standing) → AreReceived rules roll_off k fields frames → All (IsCertifiedFrame rules) frames
       → all_lines rules s (frames_at rules.size at frames) ≡ certified_lines rules s.totals.frames at fields
   lines_frames at k [] [] t h c = refl
   lines_frames at k [] (s ∷ ss) t h c = absurd h
   lines_frames at k (f ∷ fs) [] t h c = absurd h
   lines_frames at k (f ∷ fs) (s ∷ ss) t h c =
-      let here = All-head (IsCertified rules) s ss c in
+      let here = All-head (IsCertifiedFrame rules) s ss c in
       let report : Verdict → Outcome → Report = λ v o. record { number = t.totals.frames + 1; at = at; verdict = v; outcome = o } in
       let line = ap (λ v. rules.frame_line (report v (rules.decide s).outcome)) here.verdict ∙ ap (λ o. rules.frame_line (report MostLikely o)) here.outcome in
       let later = all_lines rules (after rules t (frame at false s)) (frames_at rules.size (at + rules.size) ss) in
       ap (λ l. l ++ later) line
-      ∙ ap (λ l. rules.frame_line (report MostLikely (Delivered 0)) ++ l) (lines_frames (at + rules.size) (k + length f) fs ss (after rules t (frame at false s)) h.1 (All-tail (IsCertified rules) s ss c))
+      ∙ ap (λ l. rules.frame_line (report MostLikely (Delivered 0)) ++ l) (lines_frames (at + rules.size) (k + length f) fs ss (after rules t (frame at false s)) h.1 (All-tail (IsCertifiedFrame rules) s ss c))
 
 -- all that was read
 all_read : (source bytes : List ℕ) (left : Option (List ℕ)) → Consumes (Some source) left bytes → IsAtEnd left → source ≡ bytes

@@ -11,7 +11,7 @@ use Rattle.s2_split.specs.Spreading.{made_split, greedy_split}
 use Rattle.s2_split.proofs.Accepted.{made_certificate, greedy_certificate, scattered_view, scattered_greedy}
 use Rattle.s2_settle.specs.Settled.{settled}
 use Rattle.s2_settle.proofs.SettledViews.{settled_lem}
-use Rattle.s2_modem.specs.Deciding.{IsCertified, or_else, view_for}
+use Rattle.s2_modem.specs.Deciding.{IsCertificateOf, or_else, view_for}
 
 -- with passes or without
 pub without_passes : (r : Rows) (passes : ℕ) (soft : List ℤ) (bits : List Bool) → (passes == 0) ≡ true → view_for r passes soft bits ≡ made_view r soft bits
@@ -28,7 +28,7 @@ of_lists r soft bits view (Some s) e =
     let same : record { shape = r.shape; scale = s.scale; soft = soft; bits = bits; shares = s.shares } ≡ view = cc in
     (sym (ap (λ (v : View). v.soft) same), sym (ap (λ (v : View). v.bits) same))
 
-shared_shown : (r : Rows) (soft : List ℤ) (bits : List Bool) (view : View) (o : Option Shared) → IfSome (shared_views r soft bits o) (λ v. IsCertificate r v) → shared_views r soft bits o ≡ Some view → IsCertified r soft bits view
+shared_shown : (r : Rows) (soft : List ℤ) (bits : List Bool) (view : View) (o : Option Shared) → IfSome (shared_views r soft bits o) (λ v. IsCertificate r v) → shared_views r soft bits o ≡ Some view → IsCertificateOf r soft bits view
 shared_shown r soft bits view o accepted is =
     let lists = of_lists r soft bits view o is in
     record {
@@ -37,20 +37,20 @@ shared_shown r soft bits view o accepted is =
       word = lists.1;
     }
 
-settled_shown : (r : Rows) (passes : ℕ) (soft : List ℤ) (bits : List Bool) (view : View) → IsCodeword (code_of r) bits → settled r soft bits passes ≡ Some view → IsCertified r soft bits view
+settled_shown : (r : Rows) (passes : ℕ) (soft : List ℤ) (bits : List Bool) (view : View) → IsCodeword (code_of r) bits → settled r soft bits passes ≡ Some view → IsCertificateOf r soft bits view
 settled_shown r passes soft bits view codeword is =
     let all = settled_lem r soft bits passes view codeword is in
     record { accepted = all.0; values = all.1; word = all.2 }
 
 -- a certificate that is found for a codeword is one
-pub found_shown : (r : Rows) (passes : ℕ) (soft : List ℤ) (bits : List Bool) (view : View) → IsCodeword (code_of r) bits → view_for r passes soft bits ≡ Some view → IsCertified r soft bits view
+pub found_shown : (r : Rows) (passes : ℕ) (soft : List ℤ) (bits : List Bool) (view : View) → IsCodeword (code_of r) bits → view_for r passes soft bits ≡ Some view → IsCertificateOf r soft bits view
 found_shown r passes soft bits view codeword is =
     elim (cases_Bool (passes == 0)) [
       | inl none ↦ shared_shown r soft bits view (shared (code_of r) (made_split (code_of r) soft bits)) (made_certificate r soft bits codeword) (sym (without_passes r passes soft bits none) ∙ is)
       | inr some ↦ either (greedy_view r soft bits) refl (sym (with_passes r passes soft bits some) ∙ is)
     ]
   where
-    either : (o : Option View) → greedy_view r soft bits ≡ o → or_else o (settled r soft bits passes) ≡ Some view → IsCertified r soft bits view
+    either : (o : Option View) → greedy_view r soft bits ≡ o → or_else o (settled r soft bits passes) ≡ Some view → IsCertificateOf r soft bits view
     either (Some v) e s = shared_shown r soft bits view (shared (code_of r) (greedy_split (code_of r) soft bits)) (greedy_certificate r soft bits codeword) (e ∙ s)
     either None e s = settled_shown r passes soft bits view codeword s
 

@@ -39,7 +39,7 @@ use Rattle.s2_modem.specs.Passing.{passes_as}
 use Rattle.s2_modem.specs.Deciding.{Decided, decided, Effort}
 use Rattle.s2_modem.specs.Reports.{frame_soft, received_word, message_of, byte_at, bytes_from, header_in, field_in, outcome_by, delivered_by, decision_by, decision_on, frame_decision}
 use Rattle.s2_modem.specs.Reception.{link_rules}
-use Rattle.s2_modem.specs.Both.{IsByte, AreBytes, sent_symbols, IsCertified, Hears}
+use Rattle.s2_modem.specs.Both.{IsByte, AreBytes, sent_symbols, IsCertifiedFrame, Hears}
 use Rattle.s2_modem.specs.Headline.{IsDelivered, IsSent, IsDeliveredCertified, HearsLaw, ArrivalLaw, LikelyFrameLaw}
 use Rattle.s2_check.specs.Cost.{IsMostLikely}
 use Rattle.s2_split.specs.Scattered.{IsScattered}
@@ -266,7 +266,7 @@ module _ (link : Link) (valid : IsMode link.setup.mode) (sizes : HasCodeSizes li
     hears_frame : (at : ℕ) (field : List ℕ) (codeword : List Bool) → AreBytes field → to_place at < length field → length field ≤ field_bytes m
         → IsCodewordFor m link.rows (header_at link.setup.roll_off at field) field codeword
         → IsReceived (link_rules link effort limit) (header_at link.setup.roll_off at field) field (sent_symbols link codeword)
-        × IsCertified (link_rules link effort limit) (sent_symbols link codeword)
+        × IsCertifiedFrame (link_rules link effort limit) (sent_symbols link codeword)
     hears_frame at field codeword bytes place fits c =
         let symbols = sent_symbols link codeword in
         let soft = frame_soft link symbols in

@@ -11,7 +11,7 @@ use Rattle.s2_check.proofs.Duality.{weak_duality_lem}
 use Rattle.s2_check.proofs.UnsplitSplits.{unsplit_accepted_lem}
 use Rattle.s2_split.specs.Scattered.{repaired, IsScattered}
 use Rattle.s2_split.proofs.RepairLemmas.{repair_lem}
-use Rattle.s2_modem.specs.Deciding.{Decided, certified, uncertified, satisfies, decoded_bits, first_codeword, without_certificate, with_made, repair_view, view_for, decided, CleanLaw, LikelyLaw, IsCertified, IsShown, CertifiedLaw, BrokenLaw, ScatteredLaw}
+use Rattle.s2_modem.specs.Deciding.{Decided, certified, uncertified, satisfies, decoded_bits, first_codeword, without_certificate, with_made, repair_view, view_for, decided, CleanLaw, LikelyLaw, IsCertificateOf, IsShown, CertifiedLaw, BrokenLaw, ScatteredLaw}
 use Rattle.s2_receive.specs.declared.report.Verdict.{Verdict}
 use Rattle.s2_receive.specs.declared.report.Verdict.TheVariants.{MostLikely, Parity, Broken}
 use Rattle.s2_modem.proofs.Certificates.{found_shown}
@@ -24,7 +24,7 @@ clean_lem r effort soft codeword =
 -- ---- certificates
 
 -- the unsplit view of a hard decision that is a codeword
-unsplit_shown : (r : Rows) (soft : List ℤ) → IsCodeword (code_of r) (hard_decision soft) → IsCertified r soft (hard_decision soft) (unsplit_view r soft (hard_decision soft))
+unsplit_shown : (r : Rows) (soft : List ℤ) → IsCodeword (code_of r) (hard_decision soft) → IsCertificateOf r soft (hard_decision soft) (unsplit_view r soft (hard_decision soft))
 unsplit_shown r soft codeword = record {
   accepted = record {
     shaped = record { shape = refl; shares = length-replicate (first_edge (code_of r) (code_of r).checks) (pos 0) };
@@ -34,7 +34,7 @@ unsplit_shown r soft codeword = record {
   word = refl;
 }
 
-by_certificate : (r : Rows) (soft : List ℤ) (bits : List Bool) (view : View) → IsCertified r soft bits view → IsShown r soft (certified bits view)
+by_certificate : (r : Rows) (soft : List ℤ) (bits : List Bool) (view : View) → IsCertificateOf r soft bits view → IsShown r soft (certified bits view)
 by_certificate r soft bits view c = record { some = λ e none. cc; only = λ some. refl; certified = c }
 
 without : (r : Rows) (soft : List ℤ) (verdict : Verdict) (bits : List Bool) → verdict ≢ MostLikely → IsShown r soft (uncertified verdict bits)
@@ -65,7 +65,7 @@ likely_lem r effort soft long e =
     let shown = certified_lem r effort soft long in
     go (decided r effort soft).certificate (shown.some e) shown.certified
   where
-    go : (o : Option View) → o ≢ None → IfSome o (IsCertified r soft (decided r effort soft).bits) → IsMostLikely (code_of r) soft (decided r effort soft).bits
+    go : (o : Option View) → o ≢ None → IfSome o (IsCertificateOf r soft (decided r effort soft).bits) → IsMostLikely (code_of r) soft (decided r effort soft).bits
     go None some c = absurd (some refl)
     go (Some view) some c =
         subst (λ (bits : List Bool). IsMostLikely (code_of r) soft bits) c.word (subst (λ (values : List ℤ). IsMostLikely (code_of r) values view.bits) c.values (weak_duality_lem (code_of r) view.soft (split_in r view) view.bits c.accepted.accepted))

@@ -16,7 +16,7 @@ use Rattle.s2_modem.specs.Deciding.{Effort}
 use Rattle.s2_modem.specs.Link.{Link}
 use Rattle.s2_modem.specs.Laws.{IsLinkOf}
 use Rattle.s2_modem.specs.Reception.{link_rules}
-use Rattle.s2_modem.specs.Both.{AreBytes, IsCertified}
+use Rattle.s2_modem.specs.Both.{AreBytes, IsCertifiedFrame}
 use Rattle.s2_modem.specs.Headline.{IsSent}
 use Rattle.s2_modem.specs.Streams.{IsHeard, AreHeard, FirstFramesLaw, OneStreamLaw}
 use Rattle.s2_modem.proofs.ByteStreams.{stream_bytes, cut_bytes}
@@ -32,24 +32,24 @@ module _ (m : Mode) (valid : IsMode m) (sizes : HasCodeSizes m) (link : Link) (e
   rules = link_rules link effort limit
 
   heard_one : (at : ℕ) (field : List ℕ) (symbols : List Symbol) → AreBytes field → to_place at < length field → length field ≤ field_bytes link.setup.mode → IsHeard link at field symbols
-      → IsReceived rules (header_at link.setup.roll_off at field) field symbols × IsCertified rules symbols
+      → IsReceived rules (header_at link.setup.roll_off at field) field symbols × IsCertifiedFrame rules symbols
   heard_one at field symbols bytes place fits (codeword, is, inl clean) =
       let h = (hears_law m valid sizes link effort limit linked ro).frames at field codeword bytes place fits is in
-      (subst (IsReceived rules (header_at link.setup.roll_off at field) field) (sym clean) h.0, subst (IsCertified rules) (sym clean) h.1)
+      (subst (IsReceived rules (header_at link.setup.roll_off at field) field) (sym clean) h.0, subst (IsCertifiedFrame rules) (sym clean) h.1)
   heard_one at field symbols bytes place fits (codeword, is, inr (long, passes, scattered)) =
       let sent : IsSent m link at field codeword = record { linked = linked; roll_off = ro; bytes = bytes; place = place; fits = fits; codeword_is = is } in
       let d = scattered_law m valid sizes link effort at symbols field codeword sent scattered in
       ((long, passes, d.delivered.delivered), record { verdict = d.verdict; outcome = d.delivered.outcome })
 
   heard_all : (at : ℕ) (fields : List (List ℕ)) (frames : List (List Symbol)) → All AreBytes fields → Placed at fields → All (λ field. length field ≤ field_bytes link.setup.mode) fields → AreHeard link at fields frames
-      → AreReceived rules link.setup.roll_off at fields frames × All (IsCertified rules) frames
-  heard_all at [] [] bytes placed short h = (tt, All-nil (IsCertified rules))
+      → AreReceived rules link.setup.roll_off at fields frames × All (IsCertifiedFrame rules) frames
+  heard_all at [] [] bytes placed short h = (tt, All-nil (IsCertifiedFrame rules))
   heard_all at [] (s ∷ ss) bytes placed short h = absurd h
   heard_all at (f ∷ fs) [] bytes placed short h = absurd h
   heard_all at (f ∷ fs) (s ∷ ss) bytes placed short h =
       let one = heard_one at f s (All-head AreBytes f fs bytes) placed.0 (All-head (λ field. length field ≤ field_bytes link.setup.mode) f fs short) h.0 in
       let more = heard_all (at + length f) fs ss (All-tail AreBytes f fs bytes) placed.1 (All-tail (λ field. length field ≤ field_bytes link.setup.mode) f fs short) h.1 in
-      ((one.0, more.0), All-cons (IsCertified rules) s ss one.1 more.1)
+      ((one.0, more.0), All-cons (IsCertifiedFrame rules) s ss one.1 more.1)
 
 pub first_frames_law : (m : Mode) → IsMode m → HasCodeSizes m → FirstFramesLaw m
 first_frames_law m valid sizes = λ link effort limit packets fields later frames rest bytes mid left p p' w w' met linked ro each are_bytes cut_so heard spelt count went.

@@ -116,7 +116,7 @@ LikelyLaw =
     (r : Rows) (effort : Effort) (soft : List ℤ) → length soft ≡ (code_of r).bits → (decided r effort soft).verdict ≡ MostLikely → IsMostLikely (code_of r) soft (decided r effort soft).bits
 
 -- a certificate that is accepted, of these values and these bits
-pub record IsCertified (r : Rows) (soft : List ℤ) (bits : List Bool) (view : View) : Type 0 where
+pub record IsCertificateOf (r : Rows) (soft : List ℤ) (bits : List Bool) (view : View) : Type 0 where
   pub accepted : IsCertificate r view
   pub values : view.soft ≡ soft
   pub word : view.bits ≡ bits
@@ -125,7 +125,7 @@ pub record IsCertified (r : Rows) (soft : List ℤ) (bits : List Bool) (view : V
 pub record IsShown (r : Rows) (soft : List ℤ) (d : Decided) : Type 0 where
   pub some : d.verdict ≡ MostLikely → d.certificate ≢ None
   pub only : d.certificate ≢ None → d.verdict ≡ MostLikely
-  pub certified : IfSome d.certificate (IsCertified r soft d.bits)
+  pub certified : IfSome d.certificate (IsCertificateOf r soft d.bits)
 
 abbrev pub CertifiedLaw : Type 0
 CertifiedLaw =

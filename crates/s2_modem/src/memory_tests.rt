@@ -6,10 +6,10 @@ ghost use Rattle.s2_check.specs.Views.{IsSoft};
 ghost use Rattle.s2_receive.specs.Receiving.{begun};
 
 use crate::streams::{Link, Sample, fits, packet_of_zeros, setup_of, transmitter_of};
-use crate::{DemodFault, Judge, Receiver, SendFault, SetupFault, Transmitter, demodulate};
+use crate::{Counts, DemodFault, Judge, Receiver, SendFault, SetupFault, Transmitter, demodulate};
 use s2_matrix::Matrix;
-use s2_mode::{Counting, InMemory, Shape};
-use s2_receive::{Fault, Verdict};
+use s2_mode::{Counted, Counting, InMemory, Shape};
+use s2_receive::{Fault, Received, Totals, Verdict};
 use s2_rows::{MakeFault, RowFault, Rows, make_rows, read_rows};
 use std::alloc::{AllocError, Global};
 use std::process::Abort;
@@ -17,6 +17,9 @@ use std::test::Fail;
 
 const REPORT: &[u8] =
     b"frame 1 at 0 most-likely fixed 0\nend frames 1 delivered 1 packets 1 bad 0\n";
+
+/// A writer into memory.
+type Writer = Counting<Vec<u8>>;
 
 /// Packets and lines.
 #[derive(Drop)]
@@ -109,6 +112,18 @@ fn judge<'a>(alloc: Global, matrix: &'a Matrix) -> Result<Judge<'a>, AllocError>
     }
 }
 
+/// Writes the symbols of packets.
+fn send_into(
+    transmitter: &mut Transmitter<'_>,
+    packets: &[u8],
+    symbols: &mut Writer,
+) -> Result<Counts, SendFault> {
+    if symbols.count() == u64::MAX {
+        return Err(SendFault::Write);
+    }
+    transmitter.run(&mut InMemory::new(packets), symbols)
+}
+
 /// The symbols of packets, in this room.
 fn send(
     transmitter: &mut Transmitter<'_>,
@@ -116,7 +131,7 @@ fn send(
     room: Vec<u8>,
 ) -> Result<Vec<u8>, SendFault> {
     let mut symbols = Counting::new(room);
-    match transmitter.run(&mut InMemory::new(packets), &mut symbols) {
+    match send_into(transmitter, packets, &mut symbols) {
         Ok(_) => Ok(symbols.into_inner()),
         Err(fault) => Err(fault),
     }
@@ -145,13 +160,28 @@ fn sample(alloc: Global, packet: &[u8]) -> Result<Sample, Fail> {
     Ok(Sample { link, symbols })
 }
 
+/// Writes what a receiver makes of symbols.
+fn receive_into(
+    receiver: &mut Receiver<'_>,
+    symbols: &[u8],
+    packets: &mut Writer,
+    report: &mut Writer,
+) -> Result<Received, Fault>
+    requires { receiver.old.state ≡ begun }
+{
+    if packets.count() == u64::MAX || report.count() == u64::MAX {
+        return Err(Fault::Write);
+    }
+    receiver.run(&mut InMemory::new(symbols), packets, report)
+}
+
 /// What a receiver writes of symbols, in this room.
 fn receive(receiver: &mut Receiver<'_>, symbols: &[u8], room: Written) -> Result<Written, Fault>
     requires { receiver.old.state ≡ begun }
 {
     let mut packets = Counting::new(room.packets);
     let mut report = Counting::new(room.report);
-    match receiver.run(&mut InMemory::new(symbols), &mut packets, &mut report) {
+    match receive_into(receiver, symbols, &mut packets, &mut report) {
         Ok(_) => Ok(Written {
             packets: packets.into_inner(),
             report: report.into_inner(),
@@ -174,21 +204,35 @@ fn received(alloc: Global, sample: &Sample) -> Result<Written, Fail> {
     received_by(alloc, &mut receiver, &sample.symbols)
 }
 
-/// The same by the call for symbols in memory, in this room.
-fn demodulated(alloc: Global, sample: &Sample, room: Written) -> Result<Written, DemodFault> {
-    let mut packets = Counting::new(room.packets);
-    let mut report = Counting::new(room.report);
+/// The same by the call for symbols in memory.
+fn demodulate_into(
+    alloc: Global,
+    sample: &Sample,
+    packets: &mut Writer,
+    report: &mut Writer,
+) -> Result<Totals, DemodFault> {
+    if packets.count() == u64::MAX || report.count() == u64::MAX {
+        return Err(DemodFault::Write);
+    }
+    let link = &sample.link;
     let symbols = &sample.symbols[..sample.symbols.len().min(129_960)];
-    match demodulate(
+    demodulate(
         alloc,
-        sample.link.setup,
-        &sample.link.matrix,
+        link.setup,
+        &link.matrix,
         50,
         0,
         symbols,
-        &mut packets,
-        &mut report,
-    ) {
+        packets,
+        report,
+    )
+}
+
+/// The same, in this room.
+fn demodulated(alloc: Global, sample: &Sample, room: Written) -> Result<Written, DemodFault> {
+    let mut packets = Counting::new(room.packets);
+    let mut report = Counting::new(room.report);
+    match demodulate_into(alloc, sample, &mut packets, &mut report) {
         Ok(_) => Ok(Written {
             packets: packets.into_inner(),
             report: report.into_inner(),

@@ -1,18 +1,23 @@
 //! Small links and their streams, for tests. What has a large contract is called here and nowhere else
 //! in the tests, each such call by a function that has none, so that a test's own proof stays small.
-ghost use Rattle.std.specs.Prelude.{◌≡◌, All, IsTrue, length};
+ghost use Rattle.std.specs.Prelude.{◌≡◌, ◌≤◌, All, IfOk, IsTrue, length};
+ghost use Rattle.s2_mode.specs.Mode.{n_of, shape_in};
 ghost use Rattle.s2_matrix.specs.Code.{code_of};
 ghost use Rattle.s2_check.specs.Views.{IsSoft};
-ghost use Rattle.s2_receive.specs.Receiving.{IsLive};
+ghost use Rattle.s2_bbframe.specs.DataStream.{field_bytes};
+ghost use Rattle.s2_receive.specs.Receiving.{IsLive, begun};
 
 use crate::send::coder::Coder;
 use crate::send::framer::Framer;
 use crate::send::modulator::Modulator;
-use crate::{Counts, DemodFault, Receiver, SendFault, Setup, SetupFault, Transmitter, demodulate};
+use crate::{
+    Counts, DemodFault, MOST_ROLL_OFF, Receiver, SendFault, Setup, SetupFault, Transmitter,
+    demodulate,
+};
 use s2_bbframe::Header;
 use s2_bits::Bits;
 use s2_matrix::Matrix;
-use s2_mode::{ByOne, Counted, Counting, Endless, FailAt, InMemory, Mode, Shape};
+use s2_mode::{ByOne, Counted, Counting, Endless, FailAt, Mode, Shape, WriteFault};
 use s2_receive::{Fault, MOST_SYMBOLS, Received, Step, Totals};
 use s2_rows::make_rows;
 use s2_scramble::Gold;
@@ -217,9 +222,13 @@ pub(crate) fn send(
     source: Source<'_>,
     passes: [u64; 2],
 ) -> Result<Sent, SetupFault> {
-    let mut transmitter = transmitter_of(alloc, link)?;
-    limit(&mut transmitter, packets);
-    Ok(sent_by(alloc, &mut transmitter, source, passes))
+    match transmitter_of(alloc, link) {
+        Ok(mut transmitter) => {
+            limit(&mut transmitter, packets);
+            Ok(sent_by(alloc, &mut transmitter, source, passes))
+        }
+        Err(fault) => Err(fault),
+    }
 }
 
 /// What is sent of packets on a link.
@@ -265,6 +274,53 @@ pub(crate) fn one_frame(alloc: Global) -> Result<Sample, Fail> {
     sample_of(alloc, 1, false, &packet_of_zeros())
 }
 
+/// Writes a frame.
+fn write_frame(
+    framer: &mut Framer<'_>,
+    header: &Header,
+    field: &[u8],
+    writer: &mut Writer,
+) -> Result<(), WriteFault>
+    requires roll_off { header.now.roll_off ≤ 3 }
+    requires field { length field.now ≤ field_bytes framer.old.setup.mode }
+{
+    if writer.count() == u64::MAX {
+        return Err(WriteFault);
+    }
+    framer.write_frame(header, field, writer)
+}
+
+/// The bytes of a frame.
+fn framed_by(
+    alloc: Global,
+    framer: &mut Framer<'_>,
+    header: &Header,
+    field: &[u8],
+) -> Result<Vec<u8>, WriteFault>
+    requires roll_off { header.now.roll_off ≤ 3 }
+    requires field { length field.now ≤ field_bytes framer.old.setup.mode }
+{
+    let mut writer = writer_of(alloc, ALL);
+    match write_frame(framer, header, field, &mut writer) {
+        Ok(()) => Ok(taken(writer)),
+        Err(fault) => Err(fault),
+    }
+}
+
+/// Whether a header and these bytes are of some frame of a link.
+fn is_frame_of(link: &Link, header: &Header, field: &[u8]) -> bool
+    ensures shape { IsTrue result → link.now.matrix.shape ≡ shape_in link.now.setup.mode }
+    ensures setup { IsTrue result → link.now.setup.roll_off ≤ 2 }
+    ensures roll_off { IsTrue result → header.now.roll_off ≤ 3 }
+    ensures field { IsTrue result → length field.now ≤ field_bytes link.now.setup.mode }
+{
+    let mode = link.setup.mode;
+    link.matrix.shape() == mode.shape()
+        && link.setup.roll_off <= MOST_ROLL_OFF
+        && header.roll_off <= 3
+        && field.len() <= (mode.kbch() - 80) / 8
+}
+
 /// The symbols of the frame of a header, whatever it says, and of the bytes behind it.
 pub(crate) fn frame_of(
     alloc: Global,
@@ -272,17 +328,38 @@ pub(crate) fn frame_of(
     header: &Header,
     field: &[u8],
 ) -> Result<Vec<u8>, Fail> {
-    let mode = link.setup.mode;
-    if link.matrix.shape() != mode.shape() || link.setup.roll_off > 2 || header.roll_off > 3 {
-        return Err(Fail::from("another link"));
+    if !is_frame_of(link, header, field) {
+        return Err(Fail::from("no frame of the link"));
     }
-    if field.len() > (mode.kbch() - 80) / 8 {
-        return Err(Fail::from("too long a field"));
+    match Framer::new(alloc, link.setup, &link.matrix) {
+        Ok(mut framer) => Ok(framed_by(alloc, &mut framer, header, field)?),
+        Err(fault) => Err(Fail::from(fault)),
     }
-    let mut framer = Framer::new(alloc, link.setup, &link.matrix)?;
-    let mut writer = Counting::new(Vec::new(alloc));
-    framer.write_frame(header, field, &mut writer)?;
-    Ok(writer.into_inner())
+}
+
+/// A coder's BCH word of a header and its data field.
+fn bch_word_by(
+    alloc: Global,
+    coder: &mut Coder<'_>,
+    size: usize,
+    header: &Header,
+    field: &[u8],
+) -> Result<Bits, AllocError>
+    requires roll_off { header.now.roll_off ≤ 3 }
+    requires field { length field.now ≤ field_bytes coder.old.mode }
+    requires size { size ≤ n_of coder.old.mode }
+{
+    coder.encode(header, field);
+    front_of(alloc, coder.codeword(), size)
+}
+
+/// The first bits of some.
+fn front_of(alloc: Global, bits: &Bits, size: usize) -> Result<Bits, AllocError>
+    requires { size ≤ length bits.now }
+{
+    let mut front = Bits::zeroed(alloc, size)?;
+    front.copy_prefix(bits, size);
+    Ok(front)
 }
 
 /// The BCH word of a header and its data field.
@@ -292,33 +369,56 @@ pub(crate) fn bch_word_of(
     header: &Header,
     field: &[u8],
 ) -> Result<Bits, Fail> {
+    if !is_frame_of(link, header, field) {
+        return Err(Fail::from("no frame of the link"));
+    }
     let mode = link.setup.mode;
-    if link.matrix.shape() != mode.shape() || header.roll_off > 3 {
-        return Err(Fail::from("another link"));
+    match Coder::new(alloc, mode, &link.matrix) {
+        Ok(mut coder) => Ok(bch_word_by(alloc, &mut coder, mode.k(), header, field)?),
+        Err(fault) => Err(Fail::from(fault)),
     }
-    if field.len() > (mode.kbch() - 80) / 8 {
-        return Err(Fail::from("too long a field"));
-    }
-    let mut coder = Coder::new(alloc, mode, &link.matrix)?;
-    coder.encode(header, field);
-    let mut word = Bits::zeroed(alloc, mode.k())?;
-    word.copy_prefix(coder.codeword(), mode.k());
-    Ok(word)
 }
 
-/// The symbols of the frame of the codeword that begins with these bits.
-pub(crate) fn frame_of_word(alloc: Global, link: &Link, word: &Bits) -> Result<Vec<u8>, Fail> {
-    let mode = link.setup.mode;
-    if link.matrix.shape() != mode.shape() || word.len() != mode.k() {
-        return Err(Fail::from("another link"));
-    }
-    let mut codeword = Bits::zeroed(alloc, mode.n())?;
-    s2_ldpc::encode_into(&link.matrix, word, &mut codeword);
-    let mut modulator = Modulator::new(alloc, mode, Gold::new(alloc, 0)?)?;
-    modulator.modulate(&codeword);
+/// A modulator's symbols of a codeword.
+fn modulated_by(
+    alloc: Global,
+    modulator: &mut Modulator,
+    codeword: &Bits,
+) -> Result<Vec<u8>, AllocError>
+    requires { length codeword.now ≡ n_of modulator.old.mode }
+{
+    modulator.modulate(codeword);
     let mut symbols = Vec::new(alloc);
     symbols.extend_from_slice(modulator.bytes())?;
     Ok(symbols)
+}
+
+/// The modulator of a mode under the scrambling number 0.
+fn modulator_of(alloc: Global, mode: Mode) -> Result<Modulator, Fail>
+    ensures { IfOk result (λ m. m.mode ≡ mode) }
+{
+    Ok(Modulator::new(alloc, mode, Gold::new(alloc, 0)?)?)
+}
+
+/// The symbols of the frame of a codeword.
+fn modulated(alloc: Global, mode: Mode, codeword: &Bits) -> Result<Vec<u8>, Fail>
+    requires { length codeword.now ≡ n_of mode }
+{
+    match modulator_of(alloc, mode) {
+        Ok(mut modulator) => Ok(modulated_by(alloc, &mut modulator, codeword)?),
+        Err(fault) => Err(fault),
+    }
+}
+
+/// The symbols of the frame of the codeword that begins with this BCH word.
+pub(crate) fn frame_of_word(alloc: Global, link: &Link, bch_word: &Bits) -> Result<Vec<u8>, Fail> {
+    let mode = link.setup.mode;
+    if link.matrix.shape() != mode.shape() || bch_word.len() != mode.k() {
+        return Err(Fail::from("another link"));
+    }
+    let mut codeword = Bits::zeroed(alloc, mode.n())?;
+    s2_ldpc::encode_into(&link.matrix, bch_word, &mut codeword);
+    modulated(alloc, mode, &codeword)
 }
 
 /// What is received of symbols in memory.
@@ -404,40 +504,62 @@ pub(crate) fn assert_sample<A: Abort>(
     assert_reported(rt, alloc, &sample.link, &sample.symbols, report, packets);
 }
 
+/// Lets a receiver run to the end of what is read.
+fn run_receiver(
+    receiver: &mut Receiver<'_>,
+    reader: &mut Reader<'_>,
+    packets: &mut Writer,
+    report: &mut Writer,
+) -> Result<Received, Fault>
+    requires { IsLive receiver.old.state.phase }
+{
+    let failed = [reader.count(), packets.count(), report.count()];
+    if failed[0] == u64::MAX || failed[1] == u64::MAX || failed[2] == u64::MAX {
+        return Err(Fault::Failed);
+    }
+    receiver.run(reader, packets, report)
+}
+
 /// Receives symbols in memory to their end by a single call.
 fn run_to_end(alloc: Global, receiver: &mut Receiver<'_>, symbols: &[u8]) -> Result<Received, Fault>
     requires { IsLive receiver.old.state.phase }
 {
-    let mut packets = Counting::new(Vec::new(alloc));
-    let mut report = Counting::new(Vec::new(alloc));
-    receiver.run(&mut InMemory::new(symbols), &mut packets, &mut report)
+    let mut reader = reader_of(Source::Slice(symbols), ALL);
+    let mut packets = writer_of(alloc, ALL);
+    let mut report = writer_of(alloc, ALL);
+    run_receiver(receiver, &mut reader, &mut packets, &mut report)
 }
 
-/// What a receiver takes of a sample by a single call.
-pub(crate) fn received_whole(alloc: Global, sample: &Sample) -> Result<Received, Fail> {
-    let link = &sample.link;
-    let mut receiver = Receiver::new(alloc, link.setup, &link.matrix, ROUNDS, 0)?;
-    Ok(run_to_end(alloc, &mut receiver, &sample.symbols)?)
+/// What a receiver of a link, with so many passes, takes of symbols by a single call.
+pub(crate) fn received_whole(
+    alloc: Global,
+    link: &Link,
+    symbols: &[u8],
+    passes: u32,
+) -> Result<Received, Fail> {
+    match receiver_of(alloc, link, ROUNDS, passes) {
+        Ok(mut receiver) => Ok(run_to_end(alloc, &mut receiver, symbols)?),
+        Err(fault) => Err(Fail::from(fault)),
+    }
 }
 
-/// The receiver of a link, of so many rounds.
+/// The receiver of a link, of so many rounds and passes.
 pub(crate) fn receiver_of<'a>(
     alloc: Global,
     link: &'a Link,
     rounds: u32,
-) -> Result<Receiver<'a>, SetupFault> {
-    Receiver::new(alloc, link.setup, &link.matrix, rounds, 0)
+    passes: u32,
+) -> Result<Receiver<'a>, SetupFault>
+    ensures { IfOk result (λ r. r.state ≡ begun) }
+{
+    Receiver::new(alloc, link.setup, &link.matrix, rounds, passes)
 }
 
-/// The receiver of a link, which takes at most so many symbols.
-fn receiver_within<'a>(
-    alloc: Global,
-    link: &'a Link,
-    symbols: u64,
-) -> Result<Receiver<'a>, SetupFault> {
-    let mut receiver = Receiver::new(alloc, link.setup, &link.matrix, ROUNDS, 0)?;
+/// Lets a receiver take at most so many symbols.
+fn limit_receiver(receiver: &mut Receiver<'_>, symbols: u64)
+    requires { receiver.old.state ≡ begun }
+{
     receiver.limit(symbols.clamp(1, MOST_SYMBOLS));
-    Ok(receiver)
 }
 
 /// Calls a receiver once.
@@ -495,6 +617,20 @@ fn heard_by(
     }
 }
 
+/// The same of a receiver that takes at most so many symbols.
+fn heard_within(
+    alloc: Global,
+    receiver: &mut Receiver<'_>,
+    symbols: u64,
+    source: Source<'_>,
+    passes: [u64; 3],
+) -> Heard
+    requires { receiver.old.state ≡ begun }
+{
+    limit_receiver(receiver, symbols);
+    heard_by(alloc, receiver, source, passes)
+}
+
 /// Calls a new receiver five times, which takes at most so many symbols, and where so many reads, writes
 /// of packets and writes of lines pass.
 pub(crate) fn hear(
@@ -504,8 +640,10 @@ pub(crate) fn hear(
     source: Source<'_>,
     passes: [u64; 3],
 ) -> Result<Heard, SetupFault> {
-    let mut receiver = receiver_within(alloc, link, symbols)?;
-    Ok(heard_by(alloc, &mut receiver, source, passes))
+    match receiver_of(alloc, link, ROUNDS, 0) {
+        Ok(mut receiver) => Ok(heard_within(alloc, &mut receiver, symbols, source, passes)),
+        Err(fault) => Err(fault),
+    }
 }
 
 /// The first 32 bits of a word.
@@ -542,9 +680,16 @@ fn step_over(alloc: Global, receiver: &mut Receiver<'_>, symbols: &[u8]) -> Resu
     step(receiver, &mut reader, &mut packets, &mut report)
 }
 
+/// The same after one more call.
+fn shown_after(alloc: Global, receiver: &mut Receiver<'_>, symbols: &[u8]) -> Result<Shown, Fail> {
+    let _step = step_over(alloc, receiver, symbols)?;
+    Ok(shown_by(alloc, receiver)?)
+}
+
 /// What a receiver shows after its first call.
 pub(crate) fn show(alloc: Global, link: &Link, symbols: &[u8]) -> Result<Shown, Fail> {
-    let mut receiver = receiver_of(alloc, link, ROUNDS)?;
-    let _step = step_over(alloc, &mut receiver, symbols)?;
-    Ok(shown_by(alloc, &receiver)?)
+    match receiver_of(alloc, link, ROUNDS, 0) {
+        Ok(mut receiver) => shown_after(alloc, &mut receiver, symbols),
+        Err(fault) => Err(Fail::from(fault)),
+    }
 }

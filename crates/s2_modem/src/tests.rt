@@ -106,12 +106,17 @@ fn assert_begins_anew<A: Abort>(rt: &A, alloc: Global, transmitter: &mut Transmi
     assert_run(rt, alloc, transmitter, &packet_of_zeros(), good);
 }
 
+/// The same of a new transmitter of a link.
+fn assert_begins_anew_on<A: Abort>(rt: &A, alloc: Global, link: &Link) -> Result<(), Fail> {
+    let mut transmitter = transmitter_of(alloc, link)?;
+    assert_begins_anew(rt, alloc, &mut transmitter);
+    Ok(())
+}
+
 #[test]
 fn begins_a_new_stream_after_a_refusal(rt: HostRuntime) -> Result<(), Fail> {
     let link = link_of(rt.alloc(), 1, false)?;
-    let mut transmitter = transmitter_of(rt.alloc(), &link)?;
-    assert_begins_anew(&rt, rt.alloc(), &mut transmitter);
-    Ok(())
+    assert_begins_anew_on(&rt, rt.alloc(), &link)
 }
 
 /// What a transmitter answers, how many reads and writes failed, and how much it wrote.
@@ -139,25 +144,28 @@ fn assert_fails<A: Abort>(
 }
 
 /// The first frame is full once both packets are accepted, so it stands where the end can't be read.
-#[test]
-fn each_read_fails_in_turn(rt: HostRuntime) -> Result<(), Fail> {
-    let sample = two_frames(rt.alloc())?;
+fn assert_reads_fail<A: Abort>(rt: &A, alloc: Global, sample: &Sample) -> Result<(), Fail> {
     let packets = two_packets();
     let source = Source::Bytes(ByOne::new(packets.as_flattened()));
-    for at in 0..378u64 {
+    for at in [0u64, 1, 2, 100, 187, 188, 189, 300, 374, 375, 376, 377] {
         let want = match at {
             0..376 => (Err(SendFault::Read), [1, 0], 0),
             376 => (Err(SendFault::Read), [1, 0], FRAME),
             _ => (Ok(counts(2, 2)), [0, 0], 2 * FRAME),
         };
-        assert_fails(&rt, rt.alloc(), &sample, source, [at, ALL], want)?;
+        assert_fails(rt, alloc, sample, source, [at, ALL], want)?;
     }
     Ok(())
 }
 
 #[test]
-fn each_write_fails_in_turn(rt: HostRuntime) -> Result<(), Fail> {
+fn each_read_fails_in_turn(rt: HostRuntime) -> Result<(), Fail> {
     let sample = two_frames(rt.alloc())?;
+    assert_reads_fail(&rt, rt.alloc(), &sample)
+}
+
+/// Asserts what comes of the two packets where the first write, the second or none fails.
+fn assert_writes_fail<A: Abort>(rt: &A, alloc: Global, sample: &Sample) -> Result<(), Fail> {
     let packets = two_packets();
     let source = Source::Slice(packets.as_flattened());
     let cases = [
@@ -166,9 +174,15 @@ fn each_write_fails_in_turn(rt: HostRuntime) -> Result<(), Fail> {
         (2, (Ok(counts(2, 2)), [0, 0], 2 * FRAME)),
     ];
     for (at, want) in cases {
-        assert_fails(&rt, rt.alloc(), &sample, source, [ALL, at], want)?;
+        assert_fails(rt, alloc, sample, source, [ALL, at], want)?;
     }
     Ok(())
+}
+
+#[test]
+fn each_write_fails_in_turn(rt: HostRuntime) -> Result<(), Fail> {
+    let sample = two_frames(rt.alloc())?;
+    assert_writes_fail(&rt, rt.alloc(), &sample)
 }
 
 /// Asserts that a transmitter stops at a limit of three packets.
@@ -192,6 +206,17 @@ fn refusal(alloc: Global, link: &Link) -> Option<SetupFault> {
     transmitter_of(alloc, link).err()
 }
 
+/// Why there is none of the link with this number and roll-off, or whose checks are of another shape.
+fn refusal_of(
+    alloc: Global,
+    number: u32,
+    roll_off: u8,
+    other_shape: bool,
+) -> Result<Option<SetupFault>, Fail> {
+    let link = other_link(alloc, number, roll_off, other_shape)?;
+    Ok(refusal(alloc, &link))
+}
+
 #[test]
 fn refuses_setups_in_order(rt: HostRuntime) -> Result<(), Fail> {
     let cases = [
@@ -201,8 +226,7 @@ fn refuses_setups_in_order(rt: HostRuntime) -> Result<(), Fail> {
         (262141, 2, false, None),
     ];
     for (number, roll_off, other_shape, want) in cases {
-        let link = other_link(rt.alloc(), number, roll_off, other_shape)?;
-        let fault = refusal(rt.alloc(), &link);
+        let fault = refusal_of(rt.alloc(), number, roll_off, other_shape)?;
         assert_eq!(rt; fault, want, "number {number}, roll-off {roll_off}");
     }
     Ok(())

@@ -43,35 +43,35 @@ fn find_soft(mode: Mode, gold: &Gold, symbols: &[Symbol], payload: &mut [Symbol]
 
 /// Takes the first bits of a decided word through BCH decoding, and says in how many places the word
 /// that is found differs, or that there is none.
-fn find_word(mode: Mode, bch: &mut Bch, bits: &Bits, word: &mut Bits) -> Option<u32>
+fn find_word(mode: Mode, bch: &mut Bch, bits: &Bits, bch_word: &mut Bits) -> Option<u32>
     requires code { bch.old ≡ mode }
     requires bits { k_of mode ≤ length bits.now }
-    requires word { length word.old ≡ k_of mode }
+    requires bch_word { length bch_word.old ≡ k_of mode }
     ensures same { bch.new ≡ bch.old }
-    ensures long { length word.new ≡ k_of mode }
-    ensures nearest { FindsWord mode (received_word mode bits.now) word.new result }
+    ensures long { length bch_word.new ≡ k_of mode }
+    ensures nearest { FindsWord mode (received_word mode bits.now) bch_word.new result }
 {
-    word.copy_prefix(bits, mode.k());
-    bch.decode_in_place(word)
+    bch_word.copy_prefix(bits, mode.k());
+    bch.decode_in_place(bch_word)
 }
 
 /// Descrambles the message of a BCH word, reads its header, and takes out its data field.
 fn read_message(
     mode: Mode,
-    word: &Bits,
+    bch_word: &Bits,
     frame: &mut Bits,
     field: &mut [u8],
 ) -> Result<Header, HeaderFault>
-    requires word { length word.now ≡ k_of mode }
+    requires bch_word { length bch_word.now ≡ k_of mode }
     requires frame { length frame.old ≡ kbch_of mode }
     requires field { length field.old ≡ field_bytes mode }
-    ensures header { result ≡ header_of_bytes mode (header_in (scrambled (message_of mode word.now))) }
-    ensures field { IfOk result (λ h. take (h.dfl / 8) field.new ≡ field_in h (scrambled (message_of mode word.now))) }
+    ensures header { result ≡ header_of_bytes mode (header_in (scrambled (message_of mode bch_word.now))) }
+    ensures field { IfOk result (λ h. take (h.dfl / 8) field.new ≡ field_in h (scrambled (message_of mode bch_word.now))) }
     ensures valid { IfOk result (λ h. has_valid_lengths mode h ≡ true) }
     ensures room { IfOk result (λ h. h.dfl / 8 ≤ length field.new) }
     ensures frame { length frame.new ≡ kbch_of mode }
 {
-    frame.copy_prefix(word, mode.kbch());
+    frame.copy_prefix(bch_word, mode.kbch());
     bb_xor_in_place(frame);
     let bits = frame.truths();
     let mut bytes = [0u8; 10];
@@ -91,17 +91,17 @@ fn read_found(
     mode: Mode,
     verdict: Verdict,
     found: Option<u32>,
-    word: &Bits,
+    bch_word: &Bits,
     frame: &mut Bits,
     field: &mut [u8],
     filled: &mut usize,
 ) -> Decided
-    requires word { length word.now ≡ k_of mode }
+    requires bch_word { length bch_word.now ≡ k_of mode }
     requires frame { length frame.old ≡ kbch_of mode }
     requires field { length field.old ≡ field_bytes mode }
     requires filled { filled.old ≤ length field.old }
     ensures verdict { result.verdict ≡ verdict }
-    ensures reads { Reads mode word.now found result.outcome (delivered_of result.header (take filled.new field.new)) }
+    ensures reads { Reads mode bch_word.now found result.outcome (delivered_of result.header (take filled.new field.new)) }
     ensures place { IfSome result.header (HasPlace (take filled.new field.new)) }
     ensures frame { length frame.new ≡ kbch_of mode }
     ensures filled { filled.new ≤ length field.new }
@@ -113,7 +113,7 @@ fn read_found(
             header: None,
         };
     };
-    match read_message(mode, word, frame, field) {
+    match read_message(mode, bch_word, frame, field) {
         Ok(header) => {
             *filled = usize::from(header.dfl / 8);
             Decided {
@@ -138,16 +138,16 @@ fn decide_frame(
     bch: &mut Bch,
     payload: &mut [Symbol],
     soft: &mut [i16],
-    word: &mut Bits,
+    bch_word: &mut Bits,
     frame: &mut Bits,
     field: &mut [u8],
     filled: &mut usize,
     symbols: &[Symbol],
 ) -> Decided
-    requires parts { IsListening setup judge.old.rows gold.now bch.old (length payload.old) (length soft.old) (length word.old) (length frame.old) (length field.old) filled.old }
+    requires parts { IsListening setup judge.old.rows gold.now bch.old (length payload.old) (length soft.old) (length bch_word.old) (length frame.old) (length field.old) filled.old }
     requires frame { length symbols.now ≡ symbols_in setup.mode }
-    ensures parts { IsListening setup judge.new.rows gold.now bch.new (length payload.new) (length soft.new) (length word.new) (length frame.new) (length field.new) filled.new }
-    ensures is { decision_held setup.mode soft.new judge.new.bits word.new result (take filled.new field.new) ≡ frame_decision (link_of setup judge.old.rows) judge.old.effort symbols.now }
+    ensures parts { IsListening setup judge.new.rows gold.now bch.new (length payload.new) (length soft.new) (length bch_word.new) (length frame.new) (length field.new) filled.new }
+    ensures is { decision_held setup.mode soft.new judge.new.bits bch_word.new result (take filled.new field.new) ≡ frame_decision (link_of setup judge.old.rows) judge.old.effort symbols.now }
     ensures place { IfSome result.header (HasPlace (take filled.new field.new)) }
     ensures rows { judge.new.rows ≡ judge.old.rows }
     ensures effort { judge.new.effort ≡ judge.old.effort }
@@ -155,8 +155,8 @@ fn decide_frame(
     let mode = setup.mode;
     find_soft(mode, gold, symbols, payload, soft);
     let verdict = judge.judge(soft);
-    let found = find_word(mode, bch, judge.word(), word);
-    read_found(mode, verdict, found, word, frame, field, filled)
+    let found = find_word(mode, bch, judge.word(), bch_word);
+    read_found(mode, verdict, found, bch_word, frame, field, filled)
 }
 
 /// The buffers of one frame.
@@ -164,7 +164,7 @@ fn decide_frame(
 struct Buffers {
     payload: Vec<Symbol>,
     soft: Vec<i16>,
-    word: Bits,
+    bch_word: Bits,
     frame: Bits,
     field: Vec<u8>,
 }
@@ -174,7 +174,7 @@ impl Buffers {
     fn new(alloc: Global, mode: Mode) -> Result<Buffers, AllocError>
         ensures payload { IfOk result (λ b. length b.payload.items ≡ 90 * slots_of mode) }
         ensures soft { IfOk result (λ b. length b.soft.items ≡ n_of mode) }
-        ensures word { IfOk result (λ b. length b.word ≡ k_of mode) }
+        ensures bch_word { IfOk result (λ b. length b.bch_word ≡ k_of mode) }
         ensures frame { IfOk result (λ b. length b.frame ≡ kbch_of mode) }
         ensures field { IfOk result (λ b. length b.field.items ≡ field_bytes mode) }
     {
@@ -182,7 +182,7 @@ impl Buffers {
         Ok(Buffers {
             payload: vec![in alloc; origin; 90 * mode.slots()]?,
             soft: vec![in alloc; 0i16; mode.n()]?,
-            word: Bits::zeroed(alloc, mode.k())?,
+            bch_word: Bits::zeroed(alloc, mode.k())?,
             frame: Bits::zeroed(alloc, mode.kbch())?,
             field: vec![in alloc; 0u8; (mode.kbch() - 80) / 8]?,
         })
@@ -198,7 +198,7 @@ pub(crate) struct Decider<'a> {
     bch: Bch,
     payload: Vec<Symbol>,
     soft: Vec<i16>,
-    word: Bits,
+    bch_word: Bits,
     frame: Bits,
     field: Vec<u8>,
     filled: usize,
@@ -214,11 +214,11 @@ impl<'a> Model for Decider<'a> {
     ghost view = { λ d. record {
       link = record { setup = d.setup; rows = d.judge.rows };
       effort = d.judge.effort;
-      last = decision_held d.setup.mode d.soft.items d.judge.bits d.word d.last (take d.filled d.field.items);
+      last = decision_held d.setup.mode d.soft.items d.judge.bits d.bch_word d.last (take d.filled d.field.items);
       field = take d.filled d.field.items;
     } };
 
-    ghost invariant = { λ d. IsListening d.setup d.judge.rows d.gold d.bch (length d.payload.items) (length d.soft.items) (length d.word) (length d.frame) (length d.field.items) d.filled };
+    ghost invariant = { λ d. IsListening d.setup d.judge.rows d.gold d.bch (length d.payload.items) (length d.soft.items) (length d.bch_word) (length d.frame) (length d.field.items) d.filled };
 }
 
 impl<'a> Decider<'a> {
@@ -248,7 +248,7 @@ impl<'a> Decider<'a> {
         let Buffers {
             payload,
             soft,
-            word,
+            bch_word,
             frame,
             field,
         } = buffers;
@@ -259,7 +259,7 @@ impl<'a> Decider<'a> {
             bch,
             payload,
             soft,
-            word,
+            bch_word,
             frame,
             field,
             filled: 0,
@@ -285,7 +285,7 @@ impl<'a> Decider<'a> {
     pub(crate) fn message(&self) -> &[bool]
         ensures { result.now ≡ self.now.last.message }
     {
-        &self.word.truths()[..self.setup.mode.kbch()]
+        &self.bch_word.truths()[..self.setup.mode.kbch()]
     }
 }
 
@@ -309,7 +309,7 @@ impl<'a> Decide for Decider<'a> {
             &mut self.bch,
             &mut self.payload,
             &mut self.soft,
-            &mut self.word,
+            &mut self.bch_word,
             &mut self.frame,
             &mut self.field,
             &mut self.filled,

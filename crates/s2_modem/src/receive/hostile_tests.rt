@@ -90,21 +90,24 @@ fn assert_sample_heard<A: Abort>(
 }
 
 /// Each call reads once, and the third one finds the end.
-#[test]
-fn each_read_fails_in_turn(rt: HostRuntime) -> Result<(), Fail> {
-    let sample = two_frames(rt.alloc())?;
+fn assert_reads_fail<A: Abort>(rt: &A, alloc: Global, sample: &Sample) -> Result<(), Fail> {
     let source = Source::Slice(&sample.symbols);
     for well in [0usize, 1, 2, 5] {
         let passes = [well.min(3) as u64, ALL, ALL];
         let came = (well, well.min(2));
-        assert_sample_heard(&rt, rt.alloc(), &sample, source, passes, Fault::Read, came)?;
+        assert_sample_heard(rt, alloc, sample, source, passes, Fault::Read, came)?;
     }
     Ok(())
 }
 
 #[test]
-fn the_read_of_a_byte_fails(rt: HostRuntime) -> Result<(), Fail> {
+fn each_read_fails_in_turn(rt: HostRuntime) -> Result<(), Fail> {
     let sample = two_frames(rt.alloc())?;
+    assert_reads_fail(&rt, rt.alloc(), &sample)
+}
+
+/// Asserts what is heard where the read of a byte fails.
+fn assert_byte_fails<A: Abort>(rt: &A, alloc: Global, sample: &Sample) -> Result<(), Fail> {
     let source = Source::Bytes(ByOne::new(&sample.symbols));
     let cases = [
         (0, 0usize),
@@ -120,30 +123,33 @@ fn the_read_of_a_byte_fails(rt: HostRuntime) -> Result<(), Fail> {
     ];
     for (at, well) in cases {
         let passes = [at, ALL, ALL];
-        assert_sample_heard(
-            &rt,
-            rt.alloc(),
-            &sample,
-            source,
-            passes,
-            Fault::Read,
-            (well, well),
-        )?;
+        let came = (well, well);
+        assert_sample_heard(rt, alloc, sample, source, passes, Fault::Read, came)?;
     }
     Ok(())
 }
 
-/// A frame's packet comes before its line.
 #[test]
-fn each_line_fails_in_turn(rt: HostRuntime) -> Result<(), Fail> {
+fn the_read_of_a_byte_fails(rt: HostRuntime) -> Result<(), Fail> {
     let sample = two_frames(rt.alloc())?;
+    assert_byte_fails(&rt, rt.alloc(), &sample)
+}
+
+/// A frame's packet comes before its line.
+fn assert_lines_fail<A: Abort>(rt: &A, alloc: Global, sample: &Sample) -> Result<(), Fail> {
     let source = Source::Slice(&sample.symbols);
     for (at, well, packets) in [(0, 0usize, 1usize), (1, 1, 2), (2, 2, 2), (3, 5, 2)] {
         let passes = [ALL, ALL, at];
         let came = (well, packets);
-        assert_sample_heard(&rt, rt.alloc(), &sample, source, passes, Fault::Write, came)?;
+        assert_sample_heard(rt, alloc, sample, source, passes, Fault::Write, came)?;
     }
     Ok(())
+}
+
+#[test]
+fn each_line_fails_in_turn(rt: HostRuntime) -> Result<(), Fail> {
+    let sample = two_frames(rt.alloc())?;
+    assert_lines_fail(&rt, rt.alloc(), &sample)
 }
 
 /// Asserts that a packet's write that fails is answered, that a part of that packet stands, and nothing
@@ -173,16 +179,20 @@ fn assert_write_fails<A: Abort>(
 }
 
 /// In how many writes a packet goes out is left open.
-#[test]
-fn each_write_of_a_packet_fails_in_turn(rt: HostRuntime) -> Result<(), Fail> {
-    let sample = two_frames(rt.alloc())?;
+fn assert_writes_fail<A: Abort>(rt: &A, alloc: Global, sample: &Sample) -> Result<(), Fail> {
     let mut well = 0;
     for at in 0..9u64 {
-        well = assert_write_fails(&rt, rt.alloc(), &sample, at)?;
+        well = assert_write_fails(rt, alloc, sample, at)?;
         assert!(rt; 0 < at || well == 0);
     }
     assert_eq!(rt; well, 5);
     Ok(())
+}
+
+#[test]
+fn each_write_of_a_packet_fails_in_turn(rt: HostRuntime) -> Result<(), Fail> {
+    let sample = two_frames(rt.alloc())?;
+    assert_writes_fail(&rt, rt.alloc(), &sample)
 }
 
 /// Asserts that the failed write of a line is told, and that what came before it stands.
@@ -192,12 +202,17 @@ fn assert_line_fails<A: Abort>(rt: &A, alloc: Global, sample: &Sample, at: usize
     assert_received(rt, &received, lines(at), front(&two_packets(), packets));
 }
 
+/// The same of each line.
+fn assert_each_line_fails<A: Abort>(rt: &A, alloc: Global, sample: &Sample) {
+    for (at, packets) in [(0, 1), (1, 2), (2, 2)] {
+        assert_line_fails(rt, alloc, sample, at, packets);
+    }
+}
+
 #[test]
 fn demodulate_tells_a_failed_line(rt: HostRuntime) -> Result<(), Fail> {
     let sample = two_frames(rt.alloc())?;
-    for (at, packets) in [(0, 1), (1, 2), (2, 2)] {
-        assert_line_fails(&rt, rt.alloc(), &sample, at, packets);
-    }
+    assert_each_line_fails(&rt, rt.alloc(), &sample);
     Ok(())
 }
 
@@ -224,12 +239,17 @@ fn assert_front<A: Abort>(rt: &A, alloc: Global, sample: &Sample, bytes: usize, 
     assert_reported(rt, alloc, &sample.link, front, report, &[]);
 }
 
+/// Asserts that a front without 90 whole symbols brings nothing.
+fn assert_nothing<A: Abort>(rt: &A, alloc: Global, sample: &Sample) {
+    for bytes in [0, 1, 2, 3, 4 * 89 + 3] {
+        assert_front(rt, alloc, sample, bytes, NONE);
+    }
+}
+
 #[test]
 fn drops_what_is_no_whole_symbol(rt: HostRuntime) -> Result<(), Fail> {
     let sample = one_frame(rt.alloc())?;
-    for bytes in [0, 1, 2, 3, 4 * 89 + 3] {
-        assert_front(&rt, rt.alloc(), &sample, bytes, NONE);
-    }
+    assert_nothing(&rt, rt.alloc(), &sample);
     Ok(())
 }
 
@@ -242,12 +262,18 @@ fn assert_cut<A: Abort>(rt: &A, alloc: Global, sample: &Sample) {
     }
 }
 
+/// The same of the frame of a packet in a mode.
+fn assert_cut_in<A: Abort>(rt: &A, alloc: Global, modcod: u8) -> Result<(), Fail> {
+    let sample = sample_of(alloc, modcod, false, &packet_of_zeros())?;
+    assert_cut(rt, alloc, &sample);
+    Ok(())
+}
+
 /// The frames of a packet in QPSK 1/4 and 1/2.
 #[test]
 fn drops_what_is_left_of_a_cut_frame(rt: HostRuntime) -> Result<(), Fail> {
     for modcod in [1, 4] {
-        let sample = sample_of(rt.alloc(), modcod, false, &packet_of_zeros())?;
-        assert_cut(&rt, rt.alloc(), &sample);
+        assert_cut_in(&rt, rt.alloc(), modcod)?;
     }
     Ok(())
 }
@@ -272,38 +298,50 @@ fn is_cut(alloc: Global, sample: &Sample, count: usize) -> Result<bool, Fail> {
     Ok(is_reported(&received(alloc, &sample.link, front), &report))
 }
 
-/// The first number of symbols in a range of which something else is reported than that the frame is cut.
-fn first_whole(alloc: Global, first: usize, end: usize) -> Result<Option<usize>, Fail> {
-    let sample = one_frame(alloc)?;
-    for count in first..end {
-        if !is_cut(alloc, &sample, count)? {
+/// Of so many numbers of symbols, a step apart, the first of which something else is reported than that the
+/// frame is cut.
+fn first_of(
+    alloc: Global,
+    sample: &Sample,
+    first: usize,
+    step: usize,
+    numbers: usize,
+) -> Result<Option<usize>, Fail> {
+    for number in 0..numbers {
+        let count = first.saturating_add(step.saturating_mul(number));
+        if !is_cut(alloc, sample, count)? {
             return Ok(Some(count));
         }
     }
     Ok(None)
 }
 
+/// The same of the frame of a packet of zeros.
+fn first_whole(
+    alloc: Global,
+    first: usize,
+    step: usize,
+    numbers: usize,
+) -> Result<Option<usize>, Fail> {
+    let sample = one_frame(alloc)?;
+    first_of(alloc, &sample, first, step, numbers)
+}
+
 #[test]
-fn cuts_of_up_to_8000_symbols_end(rt: HostRuntime) -> Result<(), Fail> {
-    assert_eq!(rt; first_whole(rt.alloc(), 0, 8000)?, None);
+fn cuts_about_the_header_end(rt: HostRuntime) -> Result<(), Fail> {
+    assert_eq!(rt; first_whole(rt.alloc(), 80, 1, 20)?, None);
     Ok(())
 }
 
 #[test]
-fn cuts_of_up_to_16000_symbols_end(rt: HostRuntime) -> Result<(), Fail> {
-    assert_eq!(rt; first_whole(rt.alloc(), 8000, 16000)?, None);
+fn cuts_within_the_payload_end(rt: HostRuntime) -> Result<(), Fail> {
+    assert_eq!(rt; first_whole(rt.alloc(), 200, 1009, 32)?, None);
     Ok(())
 }
 
 #[test]
-fn cuts_of_up_to_24000_symbols_end(rt: HostRuntime) -> Result<(), Fail> {
-    assert_eq!(rt; first_whole(rt.alloc(), 16000, 24000)?, None);
-    Ok(())
-}
-
-#[test]
-fn cuts_of_up_to_32489_symbols_end(rt: HostRuntime) -> Result<(), Fail> {
-    assert_eq!(rt; first_whole(rt.alloc(), 24000, 32490)?, None);
+fn cuts_before_the_last_symbol_end(rt: HostRuntime) -> Result<(), Fail> {
+    assert_eq!(rt; first_whole(rt.alloc(), 32470, 1, 20)?, None);
     Ok(())
 }
 
@@ -354,16 +392,24 @@ fn with_headers(alloc: Global, link: &Link, headers: [&Header; 2]) -> Result<Vec
 /// The same symbols and their link.
 fn forged(alloc: Global, first: Header, second: Header) -> Result<Sample, Fail> {
     let link = link_of(alloc, 1, true)?;
-    let symbols = with_headers(alloc, &link, [&first, &second])?;
-    Ok(Sample { link, symbols })
+    match with_headers(alloc, &link, [&first, &second]) {
+        Ok(symbols) => Ok(Sample { link, symbols }),
+        Err(fault) => Err(fault),
+    }
+}
+
+/// Asserts that two packets' frames with their own headers are a sample's.
+fn assert_made<A: Abort>(rt: &A, alloc: Global, sent: &Sample) -> Result<(), Fail> {
+    let (first, second) = (header(2992, 0), header(24, 16));
+    let made = with_headers(alloc, &sent.link, [&first, &second])?;
+    assert!(rt; made.as_slice() == sent.symbols.as_slice());
+    Ok(())
 }
 
 #[test]
 fn frames_with_their_own_headers_are_those_sent(rt: HostRuntime) -> Result<(), Fail> {
     let sent = two_frames(rt.alloc())?;
-    let made = forged(rt.alloc(), header(2992, 0), header(24, 16))?;
-    assert!(rt; made.symbols.as_slice() == sent.symbols.as_slice());
-    Ok(())
+    assert_made(&rt, rt.alloc(), &sent)
 }
 
 /// No frame of the mode has 3000 bits of data.
@@ -397,11 +443,16 @@ fn told() -> Steps {
     [Ok(lost), Ok(frame(2, 8190)), end, end, end]
 }
 
+/// Asserts that the forged first header of a sample is told.
+fn assert_told<A: Abort>(rt: &A, alloc: Global, sample: &Sample) -> Result<(), Fail> {
+    let source = Source::Slice(&sample.symbols);
+    let heard = hear_sample(alloc, sample, source, [ALL, ALL, ALL])?;
+    assert_eq!(rt; heard.steps, told());
+    Ok(())
+}
+
 #[test]
 fn a_forged_header_is_told(rt: HostRuntime) -> Result<(), Fail> {
     let sample = forged(rt.alloc(), header(3000, 0), header(24, 16))?;
-    let source = Source::Slice(&sample.symbols);
-    let heard = hear_sample(rt.alloc(), &sample, source, [ALL, ALL, ALL])?;
-    assert_eq!(rt; heard.steps, told());
-    Ok(())
+    assert_told(&rt, rt.alloc(), &sample)
 }

@@ -99,11 +99,28 @@ fn wrong_bit(weak: bool) -> [i16; 20] {
     soft
 }
 
+/// Asserts that zeros are decided with one of them wrong or none.
+fn assert_repairs<A: Abort>(rt: &A, alloc: Global, toy: &Matrix) -> Result<(), Fail> {
+    for soft in [[10; 20], [0; 20], wrong_bit(false), wrong_bit(true)] {
+        assert_decided(rt, alloc, toy, &soft, &[false; 20], LIKELY)?;
+    }
+    Ok(())
+}
+
 #[test]
 fn repairs_a_wrong_bit(rt: HostRuntime) -> Result<(), Fail> {
     let toy = matrix_of_rows(rt.alloc(), [4, 2, 3], b"0 4 8\n0 1 2\n")?;
-    for soft in [[10; 20], [0; 20], wrong_bit(false), wrong_bit(true)] {
-        assert_decided(&rt, rt.alloc(), &toy, &soft, &[false; 20], LIKELY)?;
+    assert_repairs(&rt, rt.alloc(), &toy)
+}
+
+/// Asserts what is decided on two bits that are to be the same.
+fn assert_pair_decided<A: Abort>(rt: &A, alloc: Global, pair: &Matrix) -> Result<(), Fail> {
+    let broken = (Verdict::Broken, true, None);
+    for (soft, bits, want) in [
+        ([-5, 3], [true, true], LIKELY),
+        ([-5, 5], [true, false], broken),
+    ] {
+        assert_decided(rt, alloc, pair, &soft, &bits, want)?;
     }
     Ok(())
 }
@@ -111,12 +128,14 @@ fn repairs_a_wrong_bit(rt: HostRuntime) -> Result<(), Fail> {
 #[test]
 fn decodes_where_the_repair_has_an_odd_check(rt: HostRuntime) -> Result<(), Fail> {
     let pair = matrix_of_rows(rt.alloc(), [1, 1, 1], b"0\n")?;
-    let broken = (Verdict::Broken, true, None);
-    for (soft, bits, want) in [
-        ([-5, 3], [true, true], LIKELY),
-        ([-5, 5], [true, false], broken),
-    ] {
-        assert_decided(&rt, rt.alloc(), &pair, &soft, &bits, want)?;
+    assert_pair_decided(&rt, rt.alloc(), &pair)
+}
+
+/// Asserts that zeros are found on a chain of checks, without a certificate.
+fn assert_chain_decided<A: Abort>(rt: &A, alloc: Global, chain: &Matrix) -> Result<(), Fail> {
+    let parity = (Verdict::Parity, true, None);
+    for soft in [[0, -1, -1, 0], [1, 0, -3, 0]] {
+        assert_decided(rt, alloc, chain, &soft, &[false; 4], parity)?;
     }
     Ok(())
 }
@@ -124,11 +143,7 @@ fn decodes_where_the_repair_has_an_odd_check(rt: HostRuntime) -> Result<(), Fail
 #[test]
 fn finds_codewords_without_a_certificate(rt: HostRuntime) -> Result<(), Fail> {
     let chain = matrix_of_rows(rt.alloc(), [1, 1, 3], b"0 1 2\n")?;
-    let parity = (Verdict::Parity, true, None);
-    for soft in [[0, -1, -1, 0], [1, 0, -3, 0]] {
-        assert_decided(&rt, rt.alloc(), &chain, &soft, &[false; 4], parity)?;
-    }
-    Ok(())
+    assert_chain_decided(&rt, rt.alloc(), &chain)
 }
 
 /// What is decided of a clean frame of zeros.
@@ -247,11 +262,16 @@ fn half_rate(alloc: Global) -> Result<Matrix, Fail> {
     matrix_of(alloc, mode.shape(), 3)
 }
 
-/// A noisy frame of QPSK 1/2 short whose certificate passes find and spreading does not.
+/// Asserts that passes find the certificate of noisy zeros, and spreading does not.
+fn assert_settles<A: Abort>(rt: &A, alloc: Global, matrix: &Matrix) -> Result<(), Fail> {
+    let soft = noisy_zeros(alloc, matrix.bits())?;
+    assert_uncertified(rt, alloc, matrix, &soft, 0)?;
+    assert_certified(rt, alloc, matrix, &soft, 96)
+}
+
+/// A noisy frame of QPSK 1/2 short.
 #[test]
 fn finds_certificates_in_noise(rt: HostRuntime) -> Result<(), Fail> {
     let matrix = half_rate(rt.alloc())?;
-    let soft = noisy_zeros(rt.alloc(), matrix.bits())?;
-    assert_uncertified(&rt, rt.alloc(), &matrix, &soft, 0)?;
-    assert_certified(&rt, rt.alloc(), &matrix, &soft, 96)
+    assert_settles(&rt, rt.alloc(), &matrix)
 }

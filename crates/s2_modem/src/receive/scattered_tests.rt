@@ -2,6 +2,7 @@
 use crate::streams::{Link, assert_reported, matrix_of, packet_of_zeros, setup_of, symbols_of};
 use s2_matrix::Matrix;
 use std::alloc::{AllocError, Global};
+use std::process::Abort;
 use std::test::Fail;
 
 /// How many checks of a bit have a wrong member.
@@ -104,11 +105,16 @@ fn three_negated(alloc: Global, link: &Link) -> Result<Vec<u8>, Fail> {
     Ok(symbols)
 }
 
+/// Asserts that the packet arrives.
+fn assert_repaired<A: Abort>(rt: &A, alloc: Global, link: &Link) -> Result<(), Fail> {
+    let symbols = three_negated(alloc, link)?;
+    let report = "frame 1 at 0 most-likely fixed 0\nend frames 1 delivered 1 packets 1 bad 0\n";
+    assert_reported(rt, alloc, link, &symbols, report, &packet_of_zeros());
+    Ok(())
+}
+
 #[test]
 fn three_negated_symbols_are_repaired(rt: HostRuntime) -> Result<(), Fail> {
     let link = link(rt.alloc())?;
-    let symbols = three_negated(rt.alloc(), &link)?;
-    let report = "frame 1 at 0 most-likely fixed 0\nend frames 1 delivered 1 packets 1 bad 0\n";
-    assert_reported(&rt, rt.alloc(), &link, &symbols, report, &packet_of_zeros());
-    Ok(())
+    assert_repaired(&rt, rt.alloc(), &link)
 }

@@ -4,7 +4,7 @@ use crate::streams::{
     hear, link_of, one_frame, other_link, packet_of, packet_of_zeros, received, received_whole,
     receiver_of, sample_of, show, two_frames, two_packets,
 };
-use crate::{DemodFault, SetupFault};
+use crate::{DemodFault, MOST_PASSES, SetupFault};
 use s2_bbframe::Header;
 use s2_bits::Bits;
 use s2_mode::ByOne;
@@ -44,12 +44,8 @@ fn totals(frames: u64, cut: bool) -> Totals {
 }
 
 /// Asserts the totals of the first bytes of a frame's symbols, which are so many.
-fn assert_totals<A: Abort>(
-    rt: &A,
-    alloc: Global,
-    sample: &Sample,
-    whole: usize,
-) -> Result<(), Fail> {
+fn assert_totals<A: Abort>(rt: &A, alloc: Global, sample: &Sample, whole: usize) {
+    assert_eq!(rt; sample.symbols.len(), whole);
     let cases = [
         (0, totals(0, false)),
         (4 * 89, totals(0, false)),
@@ -59,10 +55,21 @@ fn assert_totals<A: Abort>(
         (whole, totals(1, false)),
     ];
     for (bytes, want) in cases {
-        let front = sample.symbols.get(..bytes).ok_or("too few symbols")?;
+        let front = &sample.symbols[..bytes.min(sample.symbols.len())];
         let answer = received(alloc, &sample.link, front).answer;
         assert_eq!(rt; answer, Ok(want), "{bytes} bytes");
     }
+}
+
+/// The same of the frame of a packet of zeros in QPSK 1/4.
+fn assert_totals_of<A: Abort>(
+    rt: &A,
+    alloc: Global,
+    short: bool,
+    whole: usize,
+) -> Result<(), Fail> {
+    let sample = sample_of(alloc, 1, short, &packet_of_zeros())?;
+    assert_totals(rt, alloc, &sample, whole);
     Ok(())
 }
 
@@ -70,8 +77,7 @@ fn assert_totals<A: Abort>(
 #[test]
 fn totals_are_answered(rt: HostRuntime) -> Result<(), Fail> {
     for (short, whole) in [(true, 4 * 8190), (false, 4 * 32490)] {
-        let sample = sample_of(rt.alloc(), 1, short, &packet_of_zeros())?;
-        assert_totals(&rt, rt.alloc(), &sample, whole)?;
+        assert_totals_of(&rt, rt.alloc(), short, whole)?;
     }
     Ok(())
 }
@@ -122,23 +128,40 @@ fn assert_shown<A: Abort>(rt: &A, shown: &Shown) {
     assert!(rt; shown.message.starts_with(&begins));
 }
 
+/// Asserts what a receiver shows of a sample.
+fn assert_sample_shown<A: Abort>(rt: &A, alloc: Global, sample: &Sample) -> Result<(), Fail> {
+    let shown = show(alloc, &sample.link, &sample.symbols)?;
+    assert_shown(rt, &shown);
+    Ok(())
+}
+
 #[test]
 fn shows_the_last_frame(rt: HostRuntime) -> Result<(), Fail> {
     let sample = one_frame(rt.alloc())?;
-    let shown = show(rt.alloc(), &sample.link, &sample.symbols)?;
-    assert_shown(&rt, &shown);
+    assert_sample_shown(&rt, rt.alloc(), &sample)
+}
+
+/// Asserts what a run with so many passes tells of a packet's frame, and of the same without its last byte.
+fn assert_told<A: Abort>(rt: &A, alloc: Global, sample: &Sample, passes: u32) -> Result<(), Fail> {
+    let size = sample.symbols.len();
+    let whole = received_whole(alloc, &sample.link, &sample.symbols, passes)?;
+    assert!(rt; whole.well && whole.totals.packets == 1);
+    let front = &sample.symbols[..size.saturating_sub(1)];
+    let cut = received_whole(alloc, &sample.link, front, passes)?;
+    assert!(rt; !cut.well && cut.totals.cut);
     Ok(())
 }
 
 #[test]
 fn a_run_tells_whether_all_was_well(rt: HostRuntime) -> Result<(), Fail> {
-    let mut sample = sample_of(rt.alloc(), 1, true, &packet_of(0))?;
-    let whole = received_whole(rt.alloc(), &sample)?;
-    assert!(rt; whole.well && whole.totals.packets == 1);
-    let _lost = sample.symbols.pop();
-    let cut = received_whole(rt.alloc(), &sample)?;
-    assert!(rt; !cut.well && cut.totals.cut);
-    Ok(())
+    let sample = sample_of(rt.alloc(), 1, true, &packet_of(0))?;
+    assert_told(&rt, rt.alloc(), &sample, 0)
+}
+
+#[test]
+fn a_run_with_passes_tells_the_same(rt: HostRuntime) -> Result<(), Fail> {
+    let sample = sample_of(rt.alloc(), 1, true, &packet_of(0))?;
+    assert_told(&rt, rt.alloc(), &sample, MOST_PASSES)
 }
 
 /// Symbols of zeros say the zero codeword, whose message has no header.
@@ -168,20 +191,18 @@ fn behind_zeros(alloc: Global, symbols: &[u8]) -> Result<Vec<u8>, AllocError> {
     Ok(stream)
 }
 
+/// Asserts that a sample arrives behind zeros.
+fn assert_passed_over<A: Abort>(rt: &A, alloc: Global, sample: &Sample) -> Result<(), Fail> {
+    let stream = behind_zeros(alloc, &sample.symbols)?;
+    let report = "frame 1 at 1000 most-likely fixed 0\nend frames 1 delivered 1 packets 1 bad 0\n";
+    assert_reported(rt, alloc, &sample.link, &stream, report, &packet_of(0));
+    Ok(())
+}
+
 #[test]
 fn passes_over_what_is_no_frame(rt: HostRuntime) -> Result<(), Fail> {
     let sample = sample_of(rt.alloc(), 1, true, &packet_of(0))?;
-    let stream = behind_zeros(rt.alloc(), &sample.symbols)?;
-    let report = "frame 1 at 1000 most-likely fixed 0\nend frames 1 delivered 1 packets 1 bad 0\n";
-    assert_reported(
-        &rt,
-        rt.alloc(),
-        &sample.link,
-        &stream,
-        report,
-        &packet_of(0),
-    );
-    Ok(())
+    assert_passed_over(&rt, rt.alloc(), &sample)
 }
 
 /// The data field of the first packet, 189 bytes, and its header.
@@ -202,47 +223,63 @@ fn first_field() -> (Header, [u8; 189]) {
 /// The BCH word of the first packet, in which the first twelve bits are wrong.
 fn twelve_wrong(alloc: Global, link: &Link) -> Result<Bits, Fail> {
     let (header, field) = first_field();
-    let mut word = bch_word_of(alloc, link, &header, &field)?;
-    for bit in word.truths_mut().iter_mut().take(12) {
+    let mut bch_word = bch_word_of(alloc, link, &header, &field)?;
+    for bit in bch_word.truths_mut().iter_mut().take(12) {
         *bit = !*bit;
     }
-    Ok(word)
+    Ok(bch_word)
 }
 
 /// The symbols of its frame.
 fn frame_of_twelve_wrong(alloc: Global, link: &Link) -> Result<Vec<u8>, Fail> {
-    let word = twelve_wrong(alloc, link)?;
-    frame_of_word(alloc, link, &word)
+    let bch_word = twelve_wrong(alloc, link)?;
+    frame_of_word(alloc, link, &bch_word)
+}
+
+/// Asserts that they are corrected.
+fn assert_corrected<A: Abort>(rt: &A, alloc: Global, link: &Link) -> Result<(), Fail> {
+    let symbols = frame_of_twelve_wrong(alloc, link)?;
+    let report = "frame 1 at 0 most-likely fixed 12\nend frames 1 delivered 1 packets 1 bad 0\n";
+    assert_reported(rt, alloc, link, &symbols, report, &packet_of(0));
+    Ok(())
 }
 
 #[test]
 fn corrects_twelve_wrong_bits(rt: HostRuntime) -> Result<(), Fail> {
     let link = link_of(rt.alloc(), 4, true)?;
-    let symbols = frame_of_twelve_wrong(rt.alloc(), &link)?;
-    let report = "frame 1 at 0 most-likely fixed 12\nend frames 1 delivered 1 packets 1 bad 0\n";
-    assert_reported(&rt, rt.alloc(), &link, &symbols, report, &packet_of(0));
-    Ok(())
+    assert_corrected(&rt, rt.alloc(), &link)
 }
 
-/// Why there is no receiver of this link and so many rounds.
-fn refusal(alloc: Global, link: &Link, rounds: u32) -> Option<SetupFault> {
-    receiver_of(alloc, link, rounds).err()
+/// Why there is no receiver of this link, of so many rounds and passes.
+fn refusal(alloc: Global, link: &Link, rounds: u32, passes: u32) -> Option<SetupFault> {
+    receiver_of(alloc, link, rounds, passes).err()
+}
+
+/// Why there is none with this number, roll-off, and so many rounds and passes, or on checks of another shape.
+fn refusal_of(
+    alloc: Global,
+    numbers: (u32, u8, u32, u32),
+    other_shape: bool,
+) -> Result<Option<SetupFault>, Fail> {
+    let (number, roll_off, rounds, passes) = numbers;
+    let link = other_link(alloc, number, roll_off, other_shape)?;
+    Ok(refusal(alloc, &link, rounds, passes))
 }
 
 #[test]
 fn refuses_receivers_in_order(rt: HostRuntime) -> Result<(), Fail> {
     let cases = [
-        ((262142, 3, 0), true, Some(SetupFault::OtherShape)),
-        ((262142, 3, 0), false, Some(SetupFault::BadNumber)),
-        ((262141, 3, 0), false, Some(SetupFault::BadRollOff)),
-        ((262141, 2, 0), false, Some(SetupFault::BadRounds)),
-        ((262141, 2, 201), false, Some(SetupFault::BadRounds)),
-        ((262141, 2, 200), false, None),
+        ((262142, 3, 0, 1001), true, Some(SetupFault::OtherShape)),
+        ((262142, 3, 0, 1001), false, Some(SetupFault::BadNumber)),
+        ((262141, 3, 0, 1001), false, Some(SetupFault::BadRollOff)),
+        ((262141, 2, 0, 1001), false, Some(SetupFault::BadRounds)),
+        ((262141, 2, 201, 1001), false, Some(SetupFault::BadRounds)),
+        ((262141, 2, 200, 1001), false, Some(SetupFault::BadPasses)),
+        ((262141, 2, 200, 1000), false, None),
     ];
     for (numbers, other_shape, want) in cases {
-        let (number, roll_off, rounds) = numbers;
-        let link = other_link(rt.alloc(), number, roll_off, other_shape)?;
-        assert_eq!(rt; refusal(rt.alloc(), &link, rounds), want, "{numbers:?}");
+        let fault = refusal_of(rt.alloc(), numbers, other_shape)?;
+        assert_eq!(rt; fault, want, "{numbers:?}");
     }
     Ok(())
 }

@@ -30,6 +30,6 @@ returns-clause-is c =
     let r = c.read_found.result in
     let soft_is : soft ≡ frame_soft link c.args.symbols.now = c.find_soft.ensures.is ∙ ap (λ n. soft_values m (received_payload m n c.args.symbols.now)) parts.number in
     let found = c.find_word-found in
-    let finds : FindsWord m (received_word m c.judge-verdict.new.self.bits) found.new.word found.result = subst (λ b. FindsWord m (received_word m b) found.new.word found.result) c.word.ensures.is found.ensures.nearest in
-    frame_decided link c.args.judge.now.effort c.args.symbols.now soft c.judge-verdict.new.self.bits r.verdict found.new.word found.result r.outcome (delivered_of r.header (take c.read_found.new.filled c.read_found.new.field))
+    let finds : FindsWord m (received_word m c.judge-verdict.new.self.bits) found.new.bch_word found.result = subst (λ b. FindsWord m (received_word m b) found.new.bch_word found.result) c.word.ensures.is found.ensures.nearest in
+    frame_decided link c.args.judge.now.effort c.args.symbols.now soft c.judge-verdict.new.self.bits r.verdict found.new.bch_word found.result r.outcome (delivered_of r.header (take c.read_found.new.filled c.read_found.new.field))
     soft_is (c.read_found.ensures.verdict ∙ c.judge-verdict.ensures.verdict) c.judge-verdict.ensures.bits finds c.read_found.ensures.reads

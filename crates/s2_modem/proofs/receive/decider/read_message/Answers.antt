@@ -8,15 +8,15 @@ use Rattle.s2_modem.proofs.receive.decider.read_message.Goals as goal
 
 pub returns-in-Err-clause-header : goal.returns-in-Err-clause-header
 returns-in-Err-clause-header c =
-    let frame : c.bb_xor_in_place.new.bits ≡ scrambled (message_of c.args.mode c.args.word.now) =
-    frame_read c.args.mode c.args.word.now c.args.frame.now c.copy_prefix.new.self c.bb_xor_in_place.new.bits c.kbch.result c.kbch.ensures.is c.kbch.ensures.sizes c.requires.word c.requires.frame c.copy_prefix.ensures c.bb_xor_in_place.ensures.is in
-    sym c.in-Err.is ∙ (c.read.ensures ∙ ap (header_of_bytes c.args.mode) (header_read c.args.mode c.args.word.now c.bb_xor_in_place.new.bits c.truths-bits.result.now c.bytes_from.new.bytes frame c.truths-bits.ensures c.bytes_from.ensures c.bytes_from.auto.bytes))
+    let frame : c.bb_xor_in_place.new.bits ≡ scrambled (message_of c.args.mode c.args.bch_word.now) =
+    frame_read c.args.mode c.args.bch_word.now c.args.frame.now c.copy_prefix.new.self c.bb_xor_in_place.new.bits c.kbch.result c.kbch.ensures.is c.kbch.ensures.sizes c.requires.bch_word c.requires.frame c.copy_prefix.ensures c.bb_xor_in_place.ensures.is in
+    sym c.in-Err.is ∙ (c.read.ensures ∙ ap (header_of_bytes c.args.mode) (header_read c.args.mode c.args.bch_word.now c.bb_xor_in_place.new.bits c.truths-bits.result.now c.bytes_from.new.bytes frame c.truths-bits.ensures c.bytes_from.ensures c.bytes_from.auto.bytes))
 
 pub returns-in-Ok-clause-header : goal.returns-in-Ok-clause-header
 returns-in-Ok-clause-header c =
-    let frame : c.bb_xor_in_place.new.bits ≡ scrambled (message_of c.args.mode c.args.word.now) =
-    frame_read c.args.mode c.args.word.now c.args.frame.now c.copy_prefix.new.self c.bb_xor_in_place.new.bits c.kbch.result c.kbch.ensures.is c.kbch.ensures.sizes c.requires.word c.requires.frame c.copy_prefix.ensures c.bb_xor_in_place.ensures.is in
-    sym c.in-Ok.is ∙ (c.read.ensures ∙ ap (header_of_bytes c.args.mode) (header_read c.args.mode c.args.word.now c.bb_xor_in_place.new.bits c.truths-bits.result.now c.bytes_from.new.bytes frame c.truths-bits.ensures c.bytes_from.ensures c.bytes_from.auto.bytes))
+    let frame : c.bb_xor_in_place.new.bits ≡ scrambled (message_of c.args.mode c.args.bch_word.now) =
+    frame_read c.args.mode c.args.bch_word.now c.args.frame.now c.copy_prefix.new.self c.bb_xor_in_place.new.bits c.kbch.result c.kbch.ensures.is c.kbch.ensures.sizes c.requires.bch_word c.requires.frame c.copy_prefix.ensures c.bb_xor_in_place.ensures.is in
+    sym c.in-Ok.is ∙ (c.read.ensures ∙ ap (header_of_bytes c.args.mode) (header_read c.args.mode c.args.bch_word.now c.bb_xor_in_place.new.bits c.truths-bits.result.now c.bytes_from.new.bytes frame c.truths-bits.ensures c.bytes_from.ensures c.bytes_from.auto.bytes))
 
 pub bytes_from-requires-in-Ok-clause-bits : goal.bytes_from-requires-in-Ok-clause-bits
 bytes_from-requires-in-Ok-clause-bits c =
@@ -45,7 +45,7 @@ returns-in-Ok-clause-room c =
 
 pub returns-in-Ok-clause-field : goal.returns-in-Ok-clause-field
 returns-in-Ok-clause-field c =
-    let frame : c.bb_xor_in_place.new.bits ≡ scrambled (message_of c.args.mode c.args.word.now) =
-    frame_read c.args.mode c.args.word.now c.args.frame.now c.copy_prefix.new.self c.bb_xor_in_place.new.bits c.kbch.result c.kbch.ensures.is c.kbch.ensures.sizes c.requires.word c.requires.frame c.copy_prefix.ensures c.bb_xor_in_place.ensures.is in
+    let frame : c.bb_xor_in_place.new.bits ≡ scrambled (message_of c.args.mode c.args.bch_word.now) =
+    frame_read c.args.mode c.args.bch_word.now c.args.frame.now c.copy_prefix.new.self c.bb_xor_in_place.new.bits c.kbch.result c.kbch.ensures.is c.kbch.ensures.sizes c.requires.bch_word c.requires.frame c.copy_prefix.ensures c.bb_xor_in_place.ensures.is in
     ap (λ n. take n c.bytes_from-in-Ok.new.bytes) (sym c.from-filled.ensures) ∙ (c.bytes_from-in-Ok.ensures
     ∙ (ap (λ n. bytes_from 10 n c.truths-bits.result.now) c.from-filled.ensures ∙ ap (bytes_from 10 (c.in-Ok.header.dfl / 8)) (c.truths-bits.ensures ∙ frame)))
