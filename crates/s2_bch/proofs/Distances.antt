@@ -2,6 +2,7 @@
 use Rattle.std.specs.Prelude.{ℕ, zero, suc, ◌≡◌, ◌+◌, ◌≤◌, refl, Bool, true, false, List, ◌∷◌, length}
 use Rattle.std.proofs.Common.{ap, ap₂, arith, ◌∙◌}
 use Rattle.s2_bits.specs.Bits.{xor, bit_at, number, differences}
+use Rattle.s2_bits.proofs.Sums.{xor_same}
 use Rattle.s2_bch.specs.Words.{distance}
 
 differences-cons : (n : ℕ) (x y : Bool) (a b : List Bool) → differences (suc n) (x ∷ a) (y ∷ b) ≡ number (xor x y) + differences n a b
@@ -13,13 +14,9 @@ differences-cons (suc n) x y a b =
 pub distance-cons : (x y : Bool) (a b : List Bool) → distance (x ∷ a) (y ∷ b) ≡ number (xor x y) + distance a b
 distance-cons x y a b = differences-cons (length a) x y a b
 
-self-number : (b : Bool) → number (xor b b) ≡ 0
-self-number true = refl
-self-number false = refl
-
 none : (n : ℕ) (u : List Bool) → differences n u u ≡ 0
 none zero u = refl
-none (suc n) u = ap₂ (λ a b. a + b) (none n u) (self-number (bit_at u n))
+none (suc n) u = ap₂ (λ a b. a + b) (none n u) (ap number (xor_same (bit_at u n)))
 
 pub distance_self : (u : List Bool) → distance u u ≡ 0
 distance_self u = none (length u) u

@@ -1,9 +1,10 @@
 -- A message's division, a byte at a time.
-use Rattle.std.specs.Prelude.{ℕ, ◌≡◌, ◌+◌, ◌-◌, ◌*◌, ◌^◌, ◌<◌, ◌≤◌, bit_xor, refl, Bool, false, List, [], ◌∷◌, ◌++◌, length, take, drop, replicate}
+use Rattle.std.specs.Prelude.{ℕ, ◌≡◌, ◌+◌, ◌-◌, ◌*◌, ◌^◌, ◌<◌, ◌≤◌, bit_xor, refl, Bool, true, false, List, [], ◌∷◌, ◌++◌, length, take, drop, replicate}
 use Rattle.std.proofs.Common.{sym, ◌∙◌, ap, ap₂, subst, arith, length-take, length-drop, get_or}
 use Rattle.std.proofs.lemmas.List.{get_or-drop, drop-drop}
 use Rattle.std.proofs.Math.Seq.{take-add}
 use Rattle.std.proofs.Math.ListN.{length-replicate}
+use Rattle.s2_bits.specs.Bits.{bit_at, byte_at, number}
 use Rattle.s2_bch.specs.Words.{register_after}
 use Rattle.s2_bch.proofs.WordFacts.{length-after}
 use Rattle.s2_bch.specs.Division.{bit, number_of, steps}
@@ -36,23 +37,23 @@ eight (a ∷ b ∷ c ∷ d ∷ e ∷ []) le = absurd (omega arith)
 eight (a ∷ b ∷ c ∷ d ∷ e ∷ f ∷ []) le = absurd (omega arith)
 eight (a ∷ b ∷ c ∷ d ∷ e ∷ f ∷ g ∷ []) le = absurd (omega arith)
 
+number-bit : (b : Bool) → number b ≡ bit b
+number-bit true = refl
+number-bit false = refl
+
+digit-at : (w : List Bool) (at k : ℕ) → number (bit_at w (at + k)) ≡ bit (get_or (drop at w) k false)
+digit-at w at k = number-bit (bit_at w (at + k)) ∙ sym (ap bit (get_or-drop at w k false))
+
 eight-number : (a b c d e f g h : Bool) → number_of (a ∷ b ∷ c ∷ d ∷ e ∷ f ∷ g ∷ h ∷ [])
-    ≡ 16 * (8 * bit a + 4 * bit b + 2 * bit c + bit d) + (8 * bit e + 4 * bit f + 2 * bit g + bit h)
+    ≡ 128 * bit a + 64 * bit b + 32 * bit c + 16 * bit d + 8 * bit e + 4 * bit f + 2 * bit g + bit h
 eight-number a b c d e f g h = omega arith
 
-digit-at : (w : List Bool) (at k : ℕ) → bit (get_or (drop at w) k false) ≡ bit (get_or w (at + k) false)
-digit-at w at k = ap bit (get_or-drop at w k false)
-
-pub byte_bits : (w : List Bool) (at : ℕ) → at + 8 ≤ length w
-    → 16 * (8 * bit (get_or w at false) + 4 * bit (get_or w (at + 1) false) + 2 * bit (get_or w (at + 2) false) + bit (get_or w (at + 3) false))
-    + (8 * bit (get_or w (at + 4) false) + 4 * bit (get_or w (at + 5) false) + 2 * bit (get_or w (at + 6) false) + bit (get_or w (at + 7) false))
-    ≡ number_of (take 8 (drop at w))
-byte_bits w at h =
+pub byte-number : (w : List Bool) (at : ℕ) → at + 8 ≤ length w → byte_at w at ≡ number_of (take 8 (drop at w))
+byte-number w at h =
     let long : 8 ≤ length (drop at w) = omega (arith, length-drop at w) in
-    let first : bit (get_or (drop at w) 0 false) ≡ bit (get_or w at false) =
-    digit-at w at 0 ∙ (let z : at + 0 ≡ at = omega arith in ap (λ n. bit (get_or w n false)) z) in
     let whole = ap number_of (eight (drop at w) long) ∙ eight-number _ _ _ _ _ _ _ _ in
-    omega (arith, whole, first, digit-at w at 1, digit-at w at 2, digit-at w at 3, digit-at w at 4, digit-at w at 5, digit-at w at 6, digit-at w at 7)
+    let digit = digit-at w at in
+    omega (arith, whole, digit 0, digit 1, digit 2, digit 3, digit 4, digit 5, digit 6, digit 7)
 
 -- a number of bits that is made of two halves
 pub number_of-joined : (k : ℕ) (w : List Bool) (at : ℕ) → at + (k + k) ≤ length w

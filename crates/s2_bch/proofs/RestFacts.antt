@@ -6,7 +6,8 @@ use Rattle.std.proofs.lemmas.Bool.{cases_lt}
 use lib.Pow.{pow_pos}
 use Rattle.s2_field.specs.Operations.{Operations}
 use Rattle.s2_field.specs.Laws.{FieldLaws}
-use Rattle.s2_bits.specs.Bits.{xor, added}
+use Rattle.s2_bits.specs.Bits.{added}
+use Rattle.s2_bits.proofs.Sums.{xor_same}
 use Rattle.s2_bch.specs.Words.{IsMultiple, distance}
 use Rattle.s2_bch.proofs.WordFacts.{encoded-is-word, word-unique, length-added}
 use Rattle.s2_bch.specs.Division.{number_of}
@@ -28,17 +29,13 @@ sum-zero (true ∷ u) (false ∷ w) e h = absurd (let p : 0 < 2 ^ length (added 
 sum-zero (false ∷ u) (true ∷ w) e h = absurd (let p : 0 < 2 ^ length (added u w) = pow_pos (length (added u w)) in omega arith)
 sum-zero (false ∷ u) (false ∷ w) e h = ap (λ x. false ∷ x) (sum-zero u w (omega arith) (omega arith))
 
-same-bit : (b : Bool) → xor b b ≡ false
-same-bit true = refl
-same-bit false = refl
-
 sum-self : (u : List Bool) → added u u ≡ replicate (length u) false
 sum-self [] = refl
-sum-self (b ∷ u) = ap₂ (λ x y. x ∷ y) (same-bit b) (sum-self u)
+sum-self (b ∷ u) = ap₂ (λ x y. x ∷ y) (xor_same b) (sum-self u)
 
 sum-front : (u r p : List Bool) → added (u ++ r) (u ++ p) ≡ replicate (length u) false ++ added r p
 sum-front [] r p = refl
-sum-front (b ∷ u) r p = ap₂ (λ x y. x ∷ y) (same-bit b) (sum-front u r p)
+sum-front (b ∷ u) r p = ap₂ (λ x y. x ∷ y) (xor_same b) (sum-front u r p)
 
 zero-factor : (n p : ℕ) → 0 < p → n * p ≡ 0 → n ≡ 0
 zero-factor zero p h e = refl

@@ -3,6 +3,7 @@ use Rattle.std.specs.Prelude.{ℕ, zero, suc, ◌≡◌, ◌+◌, ◌-◌, ◌�
 use Rattle.std.proofs.Common.{sym, ◌∙◌, ap, ap₂, arith, length-append}
 use Rattle.std.proofs.Math.ListN.{length-replicate}
 use Rattle.s2_bits.specs.Bits.{xor, added}
+use Rattle.s2_bits.proofs.Sums.{xor_none, xor_same}
 use Rattle.s2_bch.specs.Words.{times_bit, product, IsWordOf, register_step, register_after}
 
 -- the quotient's bits, as the register makes them
@@ -11,12 +12,6 @@ quotient t r [] = []
 quotient t [] (b ∷ m) = b ∷ quotient t [] m
 quotient t (h ∷ r) (b ∷ m) = xor h b ∷ quotient t (register_step t (h ∷ r) b) m
 
-flip_comm : (a b : Bool) → xor a b ≡ xor b a
-flip_comm true true = refl
-flip_comm true false = refl
-flip_comm false true = refl
-flip_comm false false = refl
-
 flip_twice : (a b c : Bool) → xor a (xor (xor a b) c) ≡ xor b c
 flip_twice false b c = refl
 flip_twice true true true = refl
@@ -24,17 +19,9 @@ flip_twice true true false = refl
 flip_twice true false true = refl
 flip_twice true false false = refl
 
-flip_self : (a : Bool) → xor a a ≡ false
-flip_self true = refl
-flip_self false = refl
-
 and-true : (b : Bool) → (b && true) ≡ b
 and-true true = refl
 and-true false = refl
-
-xor-false : (b : Bool) → xor b false ≡ b
-xor-false true = refl
-xor-false false = refl
 
 pub length-times_bit : (b : Bool) (g : List Bool) → length (times_bit b g) ≡ length g
 length-times_bit b [] = refl
@@ -53,7 +40,7 @@ length-product (b ∷ q) g =
 -- a product by a polynomial that begins with 1 begins with the first factor's first bit
 pub product-front : (b : Bool) (q t : List Bool) → product (b ∷ q) (true ∷ t) ≡ b ∷ added (times_bit b t) (product q (true ∷ t))
 product-front b q t =
-    ap (λ x. x ∷ added (times_bit b t) (product q (true ∷ t))) (xor-false (b && true) ∙ and-true b)
+    ap (λ x. x ∷ added (times_bit b t) (product q (true ∷ t))) (xor_none (b && true) ∙ and-true b)
 
 added-more : (r w : List Bool) → added (r ++ false ∷ []) w ≡ added r w
 added-more [] [] = refl
@@ -70,7 +57,7 @@ added-twice (a ∷ t) (b ∷ r) (c ∷ w) h =
 
 add_front_self : (r : List Bool) → added r r ≡ replicate (length r) false
 add_front_self [] = refl
-add_front_self (a ∷ r) = ap₂ (λ x y. x ∷ y) (flip_self a) (add_front_self r)
+add_front_self (a ∷ r) = ap₂ (λ x y. x ∷ y) (xor_same a) (add_front_self r)
 
 added-zeros : (n : ℕ) (w : List Bool) → added (replicate n false) w ≡ w
 added-zeros zero w = refl

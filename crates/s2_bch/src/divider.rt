@@ -1,13 +1,14 @@
 //! Division by the generator, 64 bits a step, and what is left of the message eight bits a step.
 ghost use Rattle.std.specs.Prelude.{◌≡◌, ◌+◌, ◌*◌, ◌/◌, ◌-◌, ◌^◌, ◌<◌, ◌≤◌, ◌∷◌, ℕ, List, Bool, true, false, bit_xor, drop, length, take, replicate, slice_index_or, IfOk};
 ghost use Rattle.s2_mode.specs.Mode.{Mode as ModeValue};
-ghost use Rattle.s2_bch.specs.Division.{bit, number_of, steps};
+ghost use Rattle.s2_bch.specs.Division.{number_of, steps};
 ghost use Rattle.s2_bch.specs.Words.{register_after, IsWordOf};
 ghost use Rattle.s2_bch.specs.Generators.{generator_of};
 ghost use Rattle.s2_bch.specs.Registers.{value_of, empty, Holds, IsTableFor, rest_of};
 
 use crate::generators::tail_of;
 use crate::register::Register;
+use s2_bits::byte_at;
 use s2_mode::Mode;
 use std::alloc::{AllocError, Global};
 
@@ -54,32 +55,6 @@ pub(crate) fn table_of(alloc: Global, mode: Mode) -> Result<Vec<Register>, Alloc
         table.push(entry)?;
     }
     Ok(table)
-}
-
-fn digit(truth: bool) -> u8
-    ensures is { result ≡ bit truth }
-    ensures small { result ≤ 1 }
-{
-    u8::from(truth)
-}
-
-/// Eight bits as a byte, the first the highest. The product puts each of eight digits, a byte each,
-/// at its own place of the highest byte, and nothing is carried into it.
-fn byte_at(bits: &[bool], at: usize) -> u8
-    requires { at + 8 ≤ length bits.now }
-    ensures { result ≡ number_of (take 8 (drop at bits.now)) }
-{
-    let digits = u64::from_le_bytes([
-        digit(bits[at]),
-        digit(bits[at + 1]),
-        digit(bits[at + 2]),
-        digit(bits[at + 3]),
-        digit(bits[at + 4]),
-        digit(bits[at + 5]),
-        digit(bits[at + 6]),
-        digit(bits[at + 7]),
-    ]);
-    (digits.wrapping_mul(0x8040201008040201) >> 56) as u8
 }
 
 /// 16 bits as a number, the first the highest.

@@ -5,7 +5,9 @@
 //! and [`Bits::from_bytes`] take memory. Bytes hold their highest bit first, as in all of
 //! EN 302 307-1. A loop over a whole list works on the slice that [`Bits::truths`] lends.
 //! [`add_turned`] adds a row of bits, turned, to another: the step of all that goes by groups of
-//! bits, and [`eight_from`] lends the lanes of a vector eight of them. What the other crates say of bytes and their bits is defined here, once.
+//! bits, and [`eight_from`] lends the lanes of a vector eight of them. Slices of bytes and of truth
+//! values go from one to the other by [`bits_into`], [`byte_at`] and [`bytes_from`]. What the other
+//! crates say of bytes and their bits is defined here, once.
 //!
 //! ```
 //! let bits = Bits::from_bytes(alloc, &[0xa0], 4)?;
@@ -17,10 +19,12 @@
 mod bits;
 mod bools;
 mod lanes;
+mod spelling;
 mod turns;
 
 pub use bits::Bits;
 pub use lanes::eight_from;
+pub use spelling::{bits_into, byte_at, bytes_from};
 pub use turns::add_turned;
 
 #[cfg(test)]

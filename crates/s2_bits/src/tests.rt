@@ -1,5 +1,5 @@
 //! Bit lists by their worked values.
-use crate::{Bits, add_turned};
+use crate::{Bits, add_turned, bits_into, byte_at, bytes_from};
 use std::test::Fail;
 
 #[test]
@@ -62,4 +62,19 @@ fn adds_a_row_turned_by_three_places(rt: HostRuntime) -> Result<(), Fail> {
     add_turned(&mut sums, &row, 7);
     assert_eq!(rt; sums, [true, true, false, false, true, false, true]);
     Ok(())
+}
+
+#[test]
+fn spells_bytes_as_bits_and_back(rt: HostRuntime) {
+    let mut bits = [true; 24];
+    bits_into(&[0xa0, 0x01, 0x5a], &mut bits);
+    let first = [true, false, true, false, false, false, false, false];
+    assert_eq!(rt; bits[..8], first.as_slice());
+    assert_eq!(rt;
+        [byte_at(&bits, 0), byte_at(&bits, 4), byte_at(&bits, 16)],
+        [0xa0, 0x00, 0x5a]
+    );
+    let mut bytes = [7; 3];
+    bytes_from(&bits, 1, 2, &mut bytes);
+    assert_eq!(rt; bytes, [0x01, 0x5a, 7]);
 }

@@ -7,8 +7,8 @@
 //! bits. A call that reads or writes takes what is [`Counted`]: over memory its contract names the
 //! bytes, and a failed call raises the count, so no fault is answered where nothing failed.
 //! [`Counting`] counts for any reader or writer of std, [`InMemory`] reads a slice. A [`Symbol`] has four
-//! bytes in a file, and what is written is read back ([`laws::symbols_back`]); four of them fill a vector's lanes
-//! ([`words_from`], [`symbols_from`], [`put_four`]).
+//! bytes in a file, and what is written is read back ([`laws::symbols_back`]); [`bytes_into`] writes those of
+//! many into a slice. Four symbols fill a vector's lanes ([`words_from`], [`symbols_from`], [`put_four`]).
 //!
 //! ```
 //! let mode = Mode::of(4, true, false)?;
@@ -39,7 +39,7 @@ pub use limits::{MOST_BITS, MOST_GROUP, MOST_SOFT};
 pub use memory::InMemory;
 pub use mode::Mode;
 pub use shape::Shape;
-pub use symbols::{Symbol, read_symbol, write_symbol};
+pub use symbols::{Symbol, bytes_into, read_symbol, write_symbol};
 pub use whole::{FileFault, read_all};
 pub use wrapped::Counting;
 

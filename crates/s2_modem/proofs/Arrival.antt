@@ -5,13 +5,12 @@ use Rattle.std.proofs.lemmas.List.Elements.{All-nil, All-cons, All-head, All-tai
 use Rattle.std.proofs.lemmas.List.FromFn.{length-map-range_with_len}
 use Rattle.std.specs.Io.KnownBytes.{Appends, Consumes, IsAtEnd}
 use Rattle.s2_mode.specs.Mode.{symbols_in}
-use Rattle.s2_mode.specs.Symbols.{symbols_of, symbol_bytes}
+use Rattle.s2_mode.specs.Symbols.{symbols_of, symbol_bytes, bytes_of_symbols}
 use Rattle.s2_mode.specs.declared.symbols.Symbol.{Symbol}
 use Rattle.s2_bbframe.specs.DataStream.{header_at, field_bytes, stream_of, cuts, fields_of}
 use Rattle.s2_map.specs.Mapping.{payload_of}
 use Rattle.s2_plframe.specs.Frame.{frame_symbol}
 use Rattle.s2_modem.specs.Link.{Link}
-use Rattle.s2_modem.specs.Spelling.{bytes_of}
 use Rattle.s2_modem.specs.Frames.{frame_bytes}
 use Rattle.s2_modem.specs.Sending.{AreFrames, joined as bytes_joined}
 use Rattle.s2_modem.specs.declared.send.outcome.Counts.{Counts}
@@ -35,9 +34,9 @@ use Rattle.s2_modem.specs.Both.{AreBytes, IsCertifiedFrame, Hears, certified_lin
 use Rattle.s2_modem.proofs.SymbolsBack.{frame_read}
 use Rattle.s2_modem.proofs.ByteStreams.{stream_bytes, cut_bytes}
 
-length_bytes : (symbols : List Symbol) → length (bytes_of symbols) ≡ 4 * length symbols
+length_bytes : (symbols : List Symbol) → length (bytes_of_symbols symbols) ≡ 4 * length symbols
 length_bytes [] = refl
-length_bytes (s ∷ symbols) = omega (arith, length-append (symbol_bytes s) (bytes_of symbols), length_bytes symbols)
+length_bytes (s ∷ symbols) = omega (arith, length-append (symbol_bytes s) (bytes_of_symbols symbols), length_bytes symbols)
 
 -- the lengths of cuts
 pub short_cuts : (size n : ℕ) (stream : List ℕ) → All (λ field. length field ≤ size) (cuts size n stream)

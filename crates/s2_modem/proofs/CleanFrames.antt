@@ -11,11 +11,11 @@ use Rattle.s2_mode.specs.declared.symbols.Symbol.{Symbol}
 use Rattle.s2_mode.proofs.Modes.{frame_sizes}
 use Rattle.s2_plframe.specs.declared.found.Found.TheVariants as founds
 use Rattle.s2_rows.specs.Rows.{Rows}
-use Rattle.s2_bits.specs.Bits.{bit_at, byte_of, differences, number, xor}
+use Rattle.s2_bits.specs.Bits.{bit_at, bits_of_byte, bits_of_bytes, byte_at, byte_of, bytes_from, differences, number, xor}
+use Rattle.s2_bits.proofs.Spelled.{byte_back, length-bits_of_byte}
 use Rattle.s2_matrix.specs.Code.{code_of, IsCodeword}
 use Rattle.s2_check.specs.Hard.{hard_decision}
 use Rattle.s2_bbframe.specs.Crc.{crc8}
-use Rattle.s2_bits.specs.Bits.{bits_of_byte as byte_bits}
 use Rattle.s2_bbframe.specs.declared.header.Header.{Header}
 use Rattle.s2_bbframe.specs.Headers.{header_bytes, has_valid_lengths, header_of_bytes, signalling}
 use Rattle.s2_bbframe.specs.DataStream.{header_at, to_place, field_bytes}
@@ -33,11 +33,10 @@ use Rattle.s2_plframe.specs.Search.{decision, found}
 use Rattle.s2_soft.specs.Soft.{soft_bit}
 use Rattle.s2_receive.specs.Laws.{IsReceived}
 use Rattle.s2_modem.specs.Link.{Link, HasShape}
-use Rattle.s2_modem.specs.Spelling.{bits_of, padded_bits}
-use Rattle.s2_modem.specs.Frames.{baseband_frame, IsCodewordFor}
+use Rattle.s2_modem.specs.Frames.{padded_bits, baseband_frame, IsCodewordFor}
 use Rattle.s2_modem.specs.Passing.{passes_as}
 use Rattle.s2_modem.specs.Deciding.{Decided, decided, Effort}
-use Rattle.s2_modem.specs.Reports.{frame_soft, received_word, message_of, byte_at, bytes_from, header_in, field_in, outcome_by, delivered_by, decision_by, decision_on, frame_decision}
+use Rattle.s2_modem.specs.Reports.{frame_soft, received_word, message_of, header_in, field_in, outcome_by, delivered_by, decision_by, decision_on, frame_decision}
 use Rattle.s2_modem.specs.Reception.{link_rules}
 use Rattle.s2_modem.specs.Both.{IsByte, AreBytes, sent_symbols, IsCertifiedFrame, Hears}
 use Rattle.s2_modem.specs.Headline.{IsDelivered, IsSent, IsDeliveredCertified, HearsLaw, ArrivalLaw, LikelyFrameLaw}
@@ -56,39 +55,31 @@ use Rattle.s2_modem.proofs.Points.{received}
 
 -- ---- bytes out of their bits
 
-eight : (b : ℕ) → length (byte_bits b) ≡ 8
-unfolding byte_bits
-eight b = refl
-
-byte_is : (b : ℕ) → b < 256 → byte_of (λ k. bit_at (byte_bits b) k) ≡ b
-unfolding byte_bits
-byte_is b low = eqb-true _ _ (at_number (λ x. byte_of (λ k. bit_at (byte_bits x) k) == x) 256 b refl low)
-
-byte_first : (b : ℕ) (bits : List Bool) → byte_of (λ k. bit_at (byte_bits b ++ bits) k) ≡ byte_of (λ k. bit_at (byte_bits b) k)
-unfolding byte_bits
+byte_first : (b : ℕ) (bits : List Bool) → byte_of (λ k. bit_at (bits_of_byte b ++ bits) k) ≡ byte_of (λ k. bit_at (bits_of_byte b) k)
+unfolding bits_of_byte
 byte_first b bits = refl
 
 byte_of_same : (f g : ℕ → Bool) → ((k : ℕ) → f k ≡ g k) → byte_of f ≡ byte_of g
 byte_of_same f g h = rw (h 0, h 1, h 2, h 3, h 4, h 5, h 6, h 7)
 
-spelt_byte : (bytes : List ℕ) (rest : List Bool) (i : ℕ) → AreBytes bytes → i < length bytes → byte_at (bits_of bytes ++ rest) i ≡ get_or bytes i 0
+spelt_byte : (bytes : List ℕ) (rest : List Bool) (i : ℕ) → AreBytes bytes → i < length bytes → byte_at (bits_of_bytes bytes ++ rest) (8 * i) ≡ get_or bytes i 0
 spelt_byte [] rest i h low = absurd (omega arith)
 spelt_byte (b ∷ bs) rest zero h low =
-    let later = bits_of bs ++ rest in
-    ap (λ l. byte_at l 0) (append_assoc (byte_bits b) (bits_of bs) rest)
-    ∙ byte_of_same (λ k. bit_at (byte_bits b ++ later) (8 * 0 + k)) (λ k. bit_at (byte_bits b ++ later) k) (λ k. let e : 8 * 0 + k ≡ k = omega arith in ap (bit_at (byte_bits b ++ later)) e)
-    ∙ byte_first b later ∙ byte_is b (All-head IsByte b bs h)
+    let later = bits_of_bytes bs ++ rest in
+    ap (λ l. byte_at l (8 * 0)) (append_assoc (bits_of_byte b) (bits_of_bytes bs) rest)
+    ∙ byte_of_same (λ k. bit_at (bits_of_byte b ++ later) (8 * 0 + k)) (λ k. bit_at (bits_of_byte b ++ later) k) (λ k. let e : 8 * 0 + k ≡ k = omega arith in ap (bit_at (bits_of_byte b ++ later)) e)
+    ∙ byte_first b later ∙ byte_back b (All-head IsByte b bs h)
 spelt_byte (b ∷ bs) rest (suc i) h low =
-    let later = bits_of bs ++ rest in
-    ap (λ l. byte_at l (suc i)) (append_assoc (byte_bits b) (bits_of bs) rest)
-    ∙ byte_of_same (λ k. bit_at (byte_bits b ++ later) (8 * suc i + k)) (λ k. bit_at later (8 * i + k))
-    (λ k. let e : 8 * suc i + k - 8 ≡ 8 * i + k = omega arith in get_or-append_right (byte_bits b) later 8 (8 * suc i + k) false (eight b) (omega arith) ∙ ap (bit_at later) e)
+    let later = bits_of_bytes bs ++ rest in
+    ap (λ l. byte_at l (8 * suc i)) (append_assoc (bits_of_byte b) (bits_of_bytes bs) rest)
+    ∙ byte_of_same (λ k. bit_at (bits_of_byte b ++ later) (8 * suc i + k)) (λ k. bit_at later (8 * i + k))
+    (λ k. let e : 8 * suc i + k - 8 ≡ 8 * i + k = omega arith in get_or-append_right (bits_of_byte b) later 8 (8 * suc i + k) false (length-bits_of_byte b) (omega arith) ∙ ap (bit_at later) e)
     ∙ spelt_byte bs rest i (All-tail IsByte b bs h) (omega arith)
 
-bytes_back : (bytes : List ℕ) (rest : List Bool) (first n : ℕ) → AreBytes bytes → first + n ≤ length bytes → bytes_from first n (bits_of bytes ++ rest) ≡ take n (drop first bytes)
+bytes_back : (bytes : List ℕ) (rest : List Bool) (first n : ℕ) → AreBytes bytes → first + n ≤ length bytes → bytes_from first n (bits_of_bytes bytes ++ rest) ≡ take n (drop first bytes)
 bytes_back bytes rest first n h fits =
     let long : length (take n (drop first bytes)) ≡ n = omega (arith, length-take n (drop first bytes), length-drop first bytes) in
-    sym (fill_by_all (λ i. byte_at (bits_of bytes ++ rest) (first + i)) (take n (drop first bytes)) n 0 long
+    sym (fill_by_all (λ i. byte_at (bits_of_bytes bytes ++ rest) (8 * (first + i))) (take n (drop first bytes)) n 0 long
     (λ k low. get_or-take n (drop first bytes) k 0 low ∙ (get_or-drop first bytes k 0 ∙ sym (spelt_byte bytes rest (first + k) h (omega arith)))))
 
 -- ---- the header of a field

@@ -11,7 +11,7 @@ use Rattle.s2_rows.specs.Rows.{Rows}
 use Rattle.s2_matrix.specs.Code.{code_of}
 use Rattle.s2_receive.specs.declared.report.Verdict.{Verdict}
 use Rattle.s2_modem.specs.Link.{Link}
-use Rattle.s2_bits.specs.Bits.{bit_at, differences, Rewritten}
+use Rattle.s2_bits.specs.Bits.{bit_at, bytes_from, differences, Rewritten}
 use Rattle.s2_bbframe.specs.declared.header.Header.{Header}
 use Rattle.s2_bbframe.specs.declared.header.HeaderFault.{HeaderFault}
 use Rattle.s2_bbframe.specs.Headers.{is_whole, is_packet_stream, header_of, has_valid_lengths, header_of_bytes}
@@ -23,7 +23,7 @@ use Rattle.s2_receive.specs.Parts.{HasPlace}
 use Rattle.s2_receive.specs.Receiving.{Decision}
 use Rattle.s2_receive.specs.declared.report.Outcome.{Outcome}
 use Rattle.s2_modem.specs.Deciding.{Decided, decided, Effort}
-use Rattle.s2_modem.specs.Reports.{frame_soft, frame_decision, received_word, message_of, bytes_from, header_in, outcome_by, delivered_by, decision_on, decision_by}
+use Rattle.s2_modem.specs.Reports.{frame_soft, frame_decision, received_word, message_of, header_in, outcome_by, delivered_by, decision_on, decision_by}
 use Rattle.s2_scramble.specs.Baseband.{scrambled}
 use Rattle.s2_receive.specs.declared.report.Outcome.TheVariants.{NoWord}
 use Rattle.s2_modem.specs.Listening.{FindsWord, Reads}

@@ -16,18 +16,10 @@ use Rattle.s2_bch.proofs.GeneratorDegrees.{parity_bits}
 use Rattle.s2_bch.proofs.WordFacts.{word-unique}
 use Rattle.s2_ldpc.specs.Encoding.{IsCodewordOf, UniqueLaw}
 use Rattle.s2_modem.specs.Link.{Link}
-use Rattle.s2_bits.specs.Bits.{bits_of_byte as byte_bits}
-use Rattle.s2_modem.specs.Spelling.{bits_of, padded_bits}
-use Rattle.s2_modem.specs.Frames.{baseband_frame, IsCodewordFor, IsFrameOf, frame_bytes}
+use Rattle.s2_bits.specs.Bits.{bits_of_bytes}
+use Rattle.s2_bits.proofs.Spelled.{length-bits_of_bytes}
+use Rattle.s2_modem.specs.Frames.{padded_bits, baseband_frame, IsCodewordFor, IsFrameOf, frame_bytes}
 use Rattle.s2_modem.specs.Laws.{FrameLaw}
-
-pub length-bits_of : (bytes : List ℕ) → length (bits_of bytes) ≡ 8 * length bytes
-unfolding byte_bits
-length-bits_of [] = refl
-length-bits_of (b ∷ bytes) =
-    let rest : length (bits_of bytes) ≡ 8 * length bytes = length-bits_of bytes in
-    let both : length (byte_bits b ++ bits_of bytes) ≡ 8 + length (bits_of bytes) = length-append (byte_bits b) (bits_of bytes) in
-    omega arith
 
 length-header_bytes : (h : Header) → length (header_bytes h) ≡ 10
 length-header_bytes h = refl
@@ -37,11 +29,11 @@ pub length-baseband_frame : (m : Mode) (h : Header) (field : List ℕ) → HasCo
 length-baseband_frame m h field sizes fits =
     let header : length (header_bytes h) ≡ 10 = length-header_bytes h in
     let bytes : length (header_bytes h ++ field) ≡ length (header_bytes h) + length field = length-append (header_bytes h) field in
-    let bits : length (bits_of (header_bytes h ++ field)) ≡ 8 * length (header_bytes h ++ field) = length-bits_of (header_bytes h ++ field) in
+    let bits : length (bits_of_bytes (header_bytes h ++ field)) ≡ 8 * length (header_bytes h ++ field) = length-bits_of_bytes (header_bytes h ++ field) in
     let zeros = length-replicate (kbch_of m - 8 * length (header_bytes h ++ field)) false in
     let most : kbch_of m ≡ 80 + 8 * field_bytes m = sizes.field in
     length-scrambled (padded_bits (kbch_of m) (header_bytes h) field)
-    ∙ (length-append (bits_of (header_bytes h ++ field)) _ ∙ omega (arith, bits, zeros))
+    ∙ (length-append (bits_of_bytes (header_bytes h ++ field)) _ ∙ omega (arith, bits, zeros))
 
 module _ (m : Mode) (sizes : HasCodeSizes m) where
   one_bch_word : (message u v : List Bool) → IsBchWordOf m message u → IsBchWordOf m message v → u ≡ v

@@ -1,6 +1,8 @@
 -- The frame of a header and its data field (EN 302 307-1, 5.2 to 5.5).
-use Rattle.std.specs.Prelude.{◌≡◌, ℕ, Bool, List, length}
+use Rattle.std.specs.Prelude.{◌≡◌, ℕ, ◌-◌, ◌*◌, Bool, false, List, ◌++◌, length, replicate}
 use Rattle.s2_mode.specs.Mode.{Mode, kbch_of, k_of, n_of, shape_in, HasCodeSizes}
+use Rattle.s2_mode.specs.Symbols.{bytes_of_symbols}
+use Rattle.s2_bits.specs.Bits.{bits_of_bytes}
 use Rattle.s2_rows.specs.Rows.{Rows}
 use Rattle.s2_matrix.specs.Code.{code_of}
 use Rattle.s2_bbframe.specs.declared.header.Header.{Header}
@@ -10,8 +12,11 @@ use Rattle.s2_bch.specs.Codes.{IsBchWordOf}
 use Rattle.s2_ldpc.specs.Encoding.{IsCodewordOf}
 use Rattle.s2_map.specs.Mapping.{payload_of}
 use Rattle.s2_plframe.specs.Frame.{frame_symbols}
-use Rattle.s2_modem.specs.Spelling.{padded_bits, bytes_of}
 use Rattle.s2_modem.specs.Link.{Link}
+
+-- the bits of a header and of its data field, and zeros to a length
+abbrev pub padded_bits : ℕ → List ℕ → List ℕ → List Bool
+padded_bits size header field = bits_of_bytes (header ++ field) ++ replicate (size - 8 * length (header ++ field)) false
 
 -- the baseband frame: the header's 80 bits, the data field's bits, zeros to Kbch; scrambled (5.2)
 abbrev pub baseband_frame : Mode → Header → List ℕ → List Bool
@@ -25,7 +30,7 @@ pub record IsCodewordFor (mode : Mode) (rows : Rows) (header : Header) (field : 
 
 -- the bytes of the symbols of the physical layer frame of a codeword (5.3.3 to 5.5)
 abbrev pub frame_bytes : Mode → ℕ → List Bool → List ℕ
-frame_bytes mode number codeword = bytes_of (frame_symbols mode number (payload_of mode codeword))
+frame_bytes mode number codeword = bytes_of_symbols (frame_symbols mode number (payload_of mode codeword))
 
 -- the bytes of the frame of a header and its data field
 pub record IsFrameOf (link : Link) (header : Header) (field bytes : List ℕ) : Type 0 where

@@ -1,9 +1,8 @@
 -- What is decided and delivered of a frame's symbols.
-use Rattle.std.specs.Prelude.{ℕ, ◌+◌, ◌*◌, ◌/◌, Bool, List, map, take, Option, Some, None, Result, Ok, Err, ℤ}
-use Rattle.std.specs.List.{range_with_len}
+use Rattle.std.specs.Prelude.{ℕ, ◌/◌, Bool, List, take, Option, Some, None, Result, Ok, Err, ℤ}
 use Rattle.s2_mode.specs.Mode.{Mode, kbch_of, k_of}
 use Rattle.s2_mode.specs.declared.symbols.Symbol.{Symbol}
-use Rattle.s2_bits.specs.Bits.{bit_at, byte_of, differences}
+use Rattle.s2_bits.specs.Bits.{bytes_from, differences}
 use Rattle.s2_bbframe.specs.declared.header.Header.{Header}
 use Rattle.s2_bbframe.specs.declared.header.HeaderFault.{HeaderFault}
 use Rattle.s2_bbframe.specs.Headers.{header_of_bytes}
@@ -28,14 +27,6 @@ received_word m bits = take (k_of m) bits
 -- the message of a BCH word: its first Kbch bits
 abbrev pub message_of : Mode → List Bool → List Bool
 message_of m word = take (kbch_of m) word
-
--- byte i of some bits, each byte's highest bit first
-abbrev pub byte_at : List Bool → ℕ → ℕ
-byte_at bits i = byte_of (λ k. bit_at bits (8 * i + k))
-
--- so many bytes from one on
-abbrev pub bytes_from : ℕ → ℕ → List Bool → List ℕ
-bytes_from first n bits = map (λ i. byte_at bits (first + i)) (range_with_len 0 n)
 
 -- the ten bytes of a baseband frame's header
 abbrev pub header_in : List Bool → List ℕ

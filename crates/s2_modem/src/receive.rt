@@ -1,5 +1,4 @@
 //! The receiving end: symbols in, packets out.
-mod bytes;
 mod decider;
 pub mod deciding_laws;
 mod ground;

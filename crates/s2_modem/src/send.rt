@@ -5,7 +5,6 @@ pub(crate) mod framer;
 pub(crate) mod modulator;
 mod outcome;
 mod sending;
-mod symbols;
 mod transmitter;
 
 pub use outcome::{Counts, SendFault};

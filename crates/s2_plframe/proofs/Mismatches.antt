@@ -16,6 +16,7 @@ use Rattle.std.proofs.lemmas.Bool.Decides.{eqb_tells}
 use Rattle.std.specs.Bool.{beq}
 use mir.Val.{bool_byte}
 use Rattle.s2_bits.specs.Bits.{xor, number}
+use Rattle.s2_bits.proofs.Bytes.{byte_of_bit}
 use Rattle.s2_bits.proofs.Sums.{xor_code}
 use Rattle.s2_plframe.proofs.Payloads.{number_small}
 use Rattle.std.proofs.Math.ListN.{get_or-map}
@@ -88,11 +89,7 @@ unfolding mismatches
 mismatches_none header window = refl
 
 pub byte_xor : (a b x y : Bool) (r : ℕ) → r ≡ bool_byte (not (beq a b)) → a ≡ x → b ≡ y → r ≡ number (xor x y)
-byte_xor a b x y r is p q = is ∙ (byte_of (not (beq a b)) ∙ (ap number (xor_code a b) ∙ (λ t. number (xor (p t) (q t)))))
-  where
-    byte_of : (b : Bool) → bool_byte b ≡ number b
-    byte_of true = refl
-    byte_of false = refl
+byte_xor a b x y r is p q = is ∙ (byte_of_bit (not (beq a b)) ∙ (ap number (xor_code a b) ∙ (λ t. number (xor (p t) (q t)))))
 
 pub decided_symbols : (symbols : List Symbol) (k : ℕ) → (if k % 2 == 0 then (decision (symbol_at symbols k)).odd else (decision (symbol_at symbols k)).even) ≡ decided (map decision symbols) k
 decided_symbols symbols k =

@@ -14,12 +14,11 @@ ghost use Rattle.s2_modem.specs.Reports.{received_word, message_of, header_in, f
 ghost use Rattle.s2_modem.specs.Listening.{FindsWord, Reads, IsListening, decision_held};
 ghost use Rattle.s2_modem.specs.Link.{link_of};
 
-use crate::receive::bytes::bytes_from;
 use crate::receive::judge::Judge;
 use crate::setup::Setup;
 use s2_bbframe::{Header, HeaderFault};
 use s2_bch::Bch;
-use s2_bits::Bits;
+use s2_bits::{Bits, bytes_from};
 use s2_matrix::Matrix;
 use s2_mode::{Mode, Symbol};
 use s2_plframe::payload_of;

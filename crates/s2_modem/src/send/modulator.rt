@@ -3,10 +3,9 @@ ghost use Rattle.std.specs.Prelude.{◌≡◌, length, IfOk};
 ghost use Rattle.s2_mode.specs.Mode.{n_of};
 ghost use Rattle.s2_modem.specs.Frames.{frame_bytes};
 
-use crate::send::symbols::bytes_into;
 use s2_bits::Bits;
 use s2_map::map_into;
-use s2_mode::{Mode, Symbol};
+use s2_mode::{Mode, Symbol, bytes_into};
 use s2_plframe::frame_into;
 use s2_scramble::Gold;
 use std::alloc::{AllocError, Global};

@@ -6,8 +6,7 @@ use Rattle.s2_matrix.specs.Code.{code_of}
 use Rattle.s2_bch.specs.Codes.{IsBchWordOf}
 use Rattle.s2_ldpc.specs.Encoding.{IsCodewordOf}
 use Rattle.s2_scramble.specs.Baseband.{scrambled}
-use Rattle.s2_modem.specs.Spelling.{padded_bits}
-use Rattle.s2_modem.specs.Frames.{baseband_frame}
+use Rattle.s2_modem.specs.Frames.{baseband_frame, padded_bits}
 use Rattle.s2_modem.proofs.send.coder.Coder.encode.Goals as goal
 
 -- a slice that is lent and has the list's length is the whole list

@@ -2,7 +2,7 @@
 use Rattle.std.proofs.Common.{◌≡◌, ℕ, ◌<◌, ◌/◌, ◌%◌, Bool, true, false, List, [], ◌∷◌, get_or, map, refl, sym, ap, ◌∙◌, arith}
 use Rattle.std.specs.List.{range_with_len}
 use Rattle.std.proofs.lemmas.List.FromFn.{get_or-map-range_with_len}
-use Rattle.s2_bits.specs.Bits.{bits_of_byte as byte_bits}
+use Rattle.s2_bits.specs.Bits.{bits_of_byte}
 
 -- the rows of the table
 abbrev pub nibbles : List (List Bool)
@@ -33,12 +33,12 @@ spelt high low =
     ∷ get_or (half low) 0 false ∷ get_or (half low) 1 false ∷ get_or (half low) 2 false ∷ get_or (half low) 3 false ∷ []
 
 -- all bytes at once
-all_spelt : map (λ b. spelt (b / 16) (b % 16)) (range_with_len 0 256) ≡ map byte_bits (range_with_len 0 256)
-unfolding byte_bits
+all_spelt : map (λ b. spelt (b / 16) (b % 16)) (range_with_len 0 256) ≡ map bits_of_byte (range_with_len 0 256)
+unfolding bits_of_byte
 all_spelt = refl
 
-pub spelt-bits : (b : ℕ) → b < 256 → spelt (b / 16) (b % 16) ≡ byte_bits b
+pub spelt-bits : (b : ℕ) → b < 256 → spelt (b / 16) (b % 16) ≡ bits_of_byte b
 spelt-bits b fits =
     sym (get_or-map-range_with_len (λ b. spelt (b / 16) (b % 16)) 0 256 b b [] fits (omega arith))
     ∙ ap (λ rows. get_or rows b []) all_spelt
-    ∙ get_or-map-range_with_len byte_bits 0 256 b b [] fits (omega arith)
+    ∙ get_or-map-range_with_len bits_of_byte 0 256 b b [] fits (omega arith)

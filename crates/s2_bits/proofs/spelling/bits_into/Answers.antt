@@ -1,0 +1,22 @@
+use Rattle.std.proofs.Common.{◌≡◌, ℕ, ◌<◌, ◌+◌, ◌*◌, ◌++◌, List, [], ◌∷◌, ap, ◌∙◌, take, get_or, length, sym, arith, append-nil}
+use Rattle.std.proofs.lemmas.List.{take_more}
+use Rattle.std.proofs.lemmas.List.Concat.{flat_map-append}
+use Rattle.s2_bits.specs.Bits.{bits_of_byte, bits_of_bytes}
+use Rattle.s2_bits.proofs.Eights.{eight_more}
+use Rattle.s2_bits.proofs.spelling.bits_into.Goals as goal
+
+one_byte_more : (bytes : List ℕ) (i : ℕ) → i < length bytes → bits_of_bytes (take (i + 1) bytes) ≡ bits_of_bytes (take i bytes) ++ bits_of_byte (get_or bytes i 0)
+one_byte_more bytes i lt =
+    ap bits_of_bytes (take_more bytes i 0 lt)
+    ∙ flat_map-append bits_of_byte (take i bytes) (get_or bytes i 0 ∷ [])
+    ∙ ap (λ l. bits_of_bytes (take i bytes) ++ l) (append-nil (bits_of_byte (get_or bytes i 0)))
+
+pub loop-i-preserved : goal.loop-i-preserved
+unfolding bits_of_byte
+loop-i-preserved c =
+    let i : ℕ = c.loop-i.i in
+    let bytes : List ℕ = c.args.bytes.now in
+    let lt : i < length bytes = c.loop-i-test.true in
+    let at : 8 * (i + 1) ≡ 8 * i + 8 = omega arith in
+    rw (at, c.byte_bits.ensures)
+    (eight_more (8 * i) c.loop-i.bits (bits_of_bytes (take i bytes)) _ _ _ _ _ _ _ _ (omega arith) c.loop-i.invariant ∙ sym (one_byte_more bytes i lt))
