@@ -1,11 +1,14 @@
 //! `judge --cert`.
 use super::checking::{checked, wrong_bit};
+use super::sending::row_file;
 use super::{STORED_RUN, TOY, screen, seen, shape, stored_certificate};
 use crate::certify::certify_command;
 use crate::exit::Exit;
 use crate::judge::TOY_ROWS;
-use s2_mode::{Counting, FailAt, InMemory};
+use s2_mode::{Counting, FailAt, InMemory, Mode};
+use std::alloc::{AllocError, Global};
 use std::process::Abort;
+use std::test::Fail;
 
 /// The exit of `judge --cert`, its certificate and its output.
 fn certified<R: Abort + AllocGlobal>(
@@ -49,6 +52,33 @@ fn certifies_a_repaired_word(rt: HostRuntime) {
     assert_eq!(rt; exit, Exit::Fine);
     assert_eq!(rt; out.as_slice(), b"most-likely cost 0\n".as_slice());
     assert_eq!(rt; file.as_slice(), wrong_bit().as_slice());
+}
+
+/// The soft values of a normal frame of zeros, of whose decisions each thousandth is wrong.
+fn frame_of_zeros(alloc: Global) -> Result<Vec<u8>, AllocError> {
+    let mut text = Vec::new(alloc);
+    for place in 0..64_800usize {
+        let value = if place % 1000 == 0 { b"-4 " } else { b"10 " };
+        text.extend_from_slice(value.as_slice())?;
+    }
+    Ok(text)
+}
+
+/// The header, 64800 soft values, the word, and the shares of three edges for each of 32400 information
+/// bits and two for each parity bit but the last.
+#[test]
+fn certifies_a_normal_frame(rt: HostRuntime) -> Result<(), Fail> {
+    let rows = row_file(&rt, Mode::of(4, false, false).ok_or("no mode")?);
+    let soft = frame_of_zeros(rt.alloc())?;
+    let (exit, file, out) = certified(&rt, (360, 90, 90), &rows, &soft);
+    assert_eq!(rt; out.as_slice(), b"most-likely cost 0\n".as_slice());
+    assert_eq!(rt; exit, Exit::Fine);
+    assert_eq!(rt; file.len(), 17 + 64_800 + 8100 + 4 * (97_200 + 64_799));
+    let (exit, answer, errors) = checked(&rt, &rows, &file);
+    assert_eq!(rt; answer.as_slice(), b"yes cost 0\n".as_slice());
+    assert_eq!(rt; exit, Exit::Fine);
+    assert_eq!(rt; errors.len(), 0);
+    Ok(())
 }
 
 #[test]

@@ -1,4 +1,5 @@
 //! `run`, and a link in three steps beside it.
+use super::receiving::TWO;
 use super::sending::{packet_of_zeros, row_file, setup, two_packets};
 use super::serving::served;
 use super::{screen, seen};
@@ -10,6 +11,9 @@ use std::fs;
 use std::process::Abort;
 use std::rt::Files;
 use std::test::Fail;
+
+const UNCERTIFIED: &[u8] =
+    b"frame 1 at 0 parity fixed 0\nframe 2 at 8190 parity fixed 0\nend frames 2 delivered 2 packets 2 bad 0\n";
 
 /// What `run` does with packets at level 0: its exit, the packets that come out, and its lines.
 fn looped<R: Abort + AllocGlobal>(
@@ -118,6 +122,28 @@ fn hears_through_noise(rt: HostRuntime) -> Result<(), Fail> {
     assert_eq!(rt; steps.2.len(), 0);
     assert_eq!(rt; heard(&rt, "s2_noisy", looped, "in")?, steps);
     fs::remove_dir_all(&rt, "s2_noisy")?;
+    Ok(())
+}
+
+/// Behind this noise spreading finds no certificates, and settling does.
+#[test]
+fn certifies_by_passes(rt: HostRuntime) -> Result<(), Fail> {
+    let packets = two_packets();
+    send(&rt, "s2_passes", "")?;
+    let line = "s2 noise --seed 1 --level 500 s2_passes/symbols s2_passes/noisy";
+    assert_eq!(rt; served(&rt, line, b"", 0)?.0, Exit::Fine);
+    for (passes, exit, report) in [(0u32, Exit::No, UNCERTIFIED), (96, Exit::Fine, TWO)] {
+        let demod = format!(in rt.alloc(); "demod --modcod 1 --short --passes {passes}")?;
+        let looped = format!(in rt.alloc();
+            "run --modcod 1 --short --passes {passes} --seed 1 --level 500"
+        )?;
+        let steps = heard(&rt, "s2_passes", demod.as_str(), "noisy")?;
+        assert_eq!(rt; steps.1.as_slice(), report);
+        assert_eq!(rt; steps.0, exit);
+        assert_eq!(rt; steps.2.as_slice(), packets.as_slice());
+        assert_eq!(rt; heard(&rt, "s2_passes", looped.as_str(), "in")?, steps);
+    }
+    fs::remove_dir_all(&rt, "s2_passes")?;
     Ok(())
 }
 

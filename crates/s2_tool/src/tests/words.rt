@@ -280,6 +280,22 @@ fn tells_help_and_usage(rt: HostRuntime) -> Result<(), Fail> {
     Ok(())
 }
 
+#[test]
+fn refuses_more_passes_than_there_may_be(rt: HostRuntime) -> Result<(), Fail> {
+    for line in [
+        "s2 judge --group 4 --groups 2 --q 3 --passes 1001 r s",
+        "s2 demod --modcod 1 --passes 1001 r s p",
+        "s2 run --modcod 1 --seed 1 --level 1 --passes 1001 r p o",
+    ] {
+        let (text, on_errors) = told(&rt, line)?.expect(&rt, "a text");
+        let wanted =
+            "error: invalid value '1001' for '--passes <P>': 1001 is not in 0..=1000\n\nFor more information, try '--help'.\n";
+        assert_eq!(rt; text.as_str(), wanted, "{line}");
+        assert!(rt; on_errors, "{line}");
+    }
+    Ok(())
+}
+
 /// Counts what is printed on standard output and on standard error, or fails at it.
 #[derive(Drop)]
 struct Screen {
