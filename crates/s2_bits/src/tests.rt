@@ -69,7 +69,7 @@ fn spells_bytes_as_bits_and_back(rt: HostRuntime) {
     let mut bits = [true; 24];
     bits_into(&[0xa0, 0x01, 0x5a], &mut bits);
     let first = [true, false, true, false, false, false, false, false];
-    assert_eq!(rt; bits[..8], first.as_slice());
+    assert!(rt; bits.starts_with(&first));
     assert_eq!(rt;
         [byte_at(&bits, 0), byte_at(&bits, 4), byte_at(&bits, 16)],
         [0xa0, 0x00, 0x5a]
