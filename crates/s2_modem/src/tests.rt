@@ -147,7 +147,7 @@ fn assert_fails<A: Abort>(
 fn assert_reads_fail<A: Abort>(rt: &A, alloc: Global, sample: &Sample) -> Result<(), Fail> {
     let packets = two_packets();
     let source = Source::Bytes(ByOne::new(packets.as_flattened()));
-    for at in [0u64, 1, 2, 100, 187, 188, 189, 300, 374, 375, 376, 377] {
+    for at in 0..378u64 {
         let want = match at {
             0..376 => (Err(SendFault::Read), [1, 0], 0),
             376 => (Err(SendFault::Read), [1, 0], FRAME),

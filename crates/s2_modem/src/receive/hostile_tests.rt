@@ -298,17 +298,14 @@ fn is_cut(alloc: Global, sample: &Sample, count: usize) -> Result<bool, Fail> {
     Ok(is_reported(&received(alloc, &sample.link, front), &report))
 }
 
-/// Of so many numbers of symbols, a step apart, the first of which something else is reported than that the
-/// frame is cut.
+/// The first number of symbols in a range of which something else is reported than that the frame is cut.
 fn first_of(
     alloc: Global,
     sample: &Sample,
     first: usize,
-    step: usize,
-    numbers: usize,
+    end: usize,
 ) -> Result<Option<usize>, Fail> {
-    for number in 0..numbers {
-        let count = first.saturating_add(step.saturating_mul(number));
+    for count in first..end {
         if !is_cut(alloc, sample, count)? {
             return Ok(Some(count));
         }
@@ -317,31 +314,32 @@ fn first_of(
 }
 
 /// The same of the frame of a packet of zeros.
-fn first_whole(
-    alloc: Global,
-    first: usize,
-    step: usize,
-    numbers: usize,
-) -> Result<Option<usize>, Fail> {
+fn first_whole(alloc: Global, first: usize, end: usize) -> Result<Option<usize>, Fail> {
     let sample = one_frame(alloc)?;
-    first_of(alloc, &sample, first, step, numbers)
+    first_of(alloc, &sample, first, end)
 }
 
 #[test]
-fn cuts_about_the_header_end(rt: HostRuntime) -> Result<(), Fail> {
-    assert_eq!(rt; first_whole(rt.alloc(), 80, 1, 20)?, None);
+fn cuts_of_up_to_8000_symbols_end(rt: HostRuntime) -> Result<(), Fail> {
+    assert_eq!(rt; first_whole(rt.alloc(), 0, 8000)?, None);
     Ok(())
 }
 
 #[test]
-fn cuts_within_the_payload_end(rt: HostRuntime) -> Result<(), Fail> {
-    assert_eq!(rt; first_whole(rt.alloc(), 200, 1009, 32)?, None);
+fn cuts_of_up_to_16000_symbols_end(rt: HostRuntime) -> Result<(), Fail> {
+    assert_eq!(rt; first_whole(rt.alloc(), 8000, 16000)?, None);
     Ok(())
 }
 
 #[test]
-fn cuts_before_the_last_symbol_end(rt: HostRuntime) -> Result<(), Fail> {
-    assert_eq!(rt; first_whole(rt.alloc(), 32470, 1, 20)?, None);
+fn cuts_of_up_to_24000_symbols_end(rt: HostRuntime) -> Result<(), Fail> {
+    assert_eq!(rt; first_whole(rt.alloc(), 16000, 24000)?, None);
+    Ok(())
+}
+
+#[test]
+fn cuts_of_up_to_32489_symbols_end(rt: HostRuntime) -> Result<(), Fail> {
+    assert_eq!(rt; first_whole(rt.alloc(), 24000, 32490)?, None);
     Ok(())
 }
 
