@@ -12,7 +12,7 @@ pub const FIRST_RESERVE: u32 = 256;
 /// By how much the reserve falls from pass to pass.
 pub const RESERVE_STEP: u32 = 8;
 
-/// The first pass after which spreading can be given up.
+/// The first pass after which settling can be given up.
 pub const FIRST_END: u32 = 8;
 
 /// From so many passes to so many passes it can be given up.
