@@ -2,7 +2,8 @@
 ghost use Rattle.std.specs.Prelude.{◌≡◌, ℕ, ◌<◌, ◌≤◌, false, length, count_by};
 ghost use Rattle.s2_bits.specs.Bits.{xor, bit_at, differences, Rewritten};
 
-pub(crate) fn xor_first(to: &mut [bool], from: &[bool], len: usize)
+/// Adds the first bits of one list to those of another, and leaves its others.
+pub fn xor_first(to: &mut [bool], from: &[bool], len: usize)
     requires room { len ≤ length to.old }
     requires enough { len ≤ length from.now }
     ensures { Rewritten false len (λ k. xor (bit_at to.old k) (bit_at from.now k)) to.old to.new }

@@ -6,7 +6,8 @@
 //! EN 302 307-1. A loop over a whole list works on the slice that [`Bits::truths`] lends.
 //! [`add_turned`] adds a row of bits, turned, to another: the step of all that goes by groups of
 //! bits, and [`eight_from`] lends the lanes of a vector eight of them. Slices of bytes and of truth
-//! values go from one to the other by [`bits_into`], [`byte_at`] and [`bytes_from`]. What the other
+//! values go from one to the other by [`bits_into`], [`byte_at`] and [`bytes_from`]; [`xor_first`] adds
+//! one slice of truth values to another. What the other
 //! crates say of bytes and their bits is defined here, once.
 //!
 //! ```
@@ -23,6 +24,7 @@ mod spelling;
 mod turns;
 
 pub use bits::Bits;
+pub use bools::xor_first;
 pub use lanes::eight_from;
 pub use spelling::{bits_into, byte_at, bytes_from};
 pub use turns::add_turned;

@@ -1,6 +1,6 @@
--- What bounds codes and soft values.
+-- What bounds codes, soft values and headers.
 use Rattle.std.specs.Prelude.{◌≡◌, ℕ}
-use Rattle.s2_mode.specs.declared.limits.TheConstants.{MOST_BITS, MOST_GROUP, MOST_SOFT}
+use Rattle.s2_mode.specs.declared.limits.TheConstants.{HEADER_SYMBOLS, MOST_BITS, MOST_GROUP, MOST_SOFT}
 
 -- the most bits of a codeword: those of a normal frame (EN 302 307-1, table 5a)
 abbrev pub most_bits : ℕ
@@ -14,8 +14,13 @@ most_group = 360
 abbrev pub most_soft : ℕ
 most_soft = 63
 
+-- the symbols of a physical layer header, and as many bits (EN 302 307-1, 5.5.2)
+abbrev pub header_symbols : ℕ
+header_symbols = 90
+
 -- the limits that the code tests are these
 pub record LimitsLaw : Type 0 where
   pub bits : MOST_BITS ≡ most_bits
   pub group : MOST_GROUP ≡ most_group
   pub soft : MOST_SOFT ≡ most_soft
+  pub header : HEADER_SYMBOLS ≡ header_symbols

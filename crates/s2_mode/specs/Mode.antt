@@ -1,5 +1,6 @@
 -- The modes of the profile (EN 302 307-1, tables 5a, 5b, 12 and clause 5.5): one line of the table for each code rate.
 use Rattle.std.specs.Prelude.{◌≡◌, ◌≢◌, ℕ, ◌+◌, ◌-◌, ◌*◌, ◌/◌, ◌≤◌, ◌<◌, nat_le, Bool, true, false, List, [], ◌∷◌, get_or, slice_index, if◌then◌else◌}
+use Rattle.s2_mode.specs.Limits.{most_bits, header_symbols}
 use Rattle.s2_mode.specs.Shape.{Shape, shape_of}
 use Rattle.s2_mode.specs.declared.rates.Rate.{Rate}
 
@@ -83,9 +84,9 @@ slots_of m = n_of m / width_of m / 90
 unfoldable pub pilot_blocks_of : Mode → ℕ
 pilot_blocks_of m = if m.pilots then (slots_of m - 1) / 16 else 0
 
--- the header's 90 symbols, the slots, and the pilot blocks of 36
+-- the header, the slots of 90 symbols, and the pilot blocks of 36
 unfoldable pub symbols_in : Mode → ℕ
-symbols_in m = 90 + 90 * slots_of m + 36 * pilot_blocks_of m
+symbols_in m = header_symbols + 90 * slots_of m + 36 * pilot_blocks_of m
 
 -- groups of 360 bits
 abbrev pub shape_in : Mode → Shape
@@ -105,7 +106,7 @@ pub record HasCodeSizes (m : Mode) : Type 0 where
   pub q_some : 1 ≤ q_of m
   pub t_least : 8 ≤ t_of m
   pub t_most : t_of m ≤ 12
-  pub n_most : n_of m ≤ 64800
+  pub n_most : n_of m ≤ most_bits
   pub field : kbch_of m ≡ 80 + 8 * ((kbch_of m - 80) / 8)
   pub field_least : 374 ≤ (kbch_of m - 80) / 8
   pub field_most : (kbch_of m - 80) / 8 ≤ 7264

@@ -8,7 +8,7 @@
 //! bytes, and a failed call raises the count, so no fault is answered where nothing failed.
 //! [`Counting`] counts for any reader or writer of std, [`InMemory`] reads a slice. A [`Symbol`] has four
 //! bytes in a file, and what is written is read back ([`laws::symbols_back`]); [`bytes_into`] writes those of
-//! many into a slice. Four symbols fill a vector's lanes ([`words_from`], [`symbols_from`], [`put_four`]).
+//! many into a slice, and [`symbols_into`] reads them. Four symbols fill a vector's lanes ([`words_from`], [`symbols_from`], [`put_four`]).
 //!
 //! ```
 //! let mode = Mode::of(4, true, false)?;
@@ -35,11 +35,11 @@ pub use counts::{
 };
 pub use fakes::{ByOne, Endless, FailAt};
 pub use lanes::{put_four, symbols_from, words_from};
-pub use limits::{MOST_BITS, MOST_GROUP, MOST_SOFT};
+pub use limits::{HEADER_SYMBOLS, MOST_BITS, MOST_GROUP, MOST_SOFT};
 pub use memory::InMemory;
 pub use mode::Mode;
 pub use shape::Shape;
-pub use symbols::{Symbol, bytes_into, read_symbol, write_symbol};
+pub use symbols::{Symbol, bytes_into, read_symbol, symbols_into, write_symbol};
 pub use whole::{FileFault, read_all};
 pub use wrapped::Counting;
 

@@ -1,4 +1,4 @@
-//! The numbers that bound codes and soft values, each here alone.
+//! The numbers that bound codes, soft values and headers, each here alone.
 
 /// The most bits of a codeword.
 pub const MOST_BITS: usize = 64800;
@@ -8,3 +8,6 @@ pub const MOST_GROUP: usize = 360;
 
 /// The largest soft value. The least is its negative.
 pub const MOST_SOFT: u16 = 63;
+
+/// The symbols of a physical layer header (PLHEADER, EN 302 307-1, 5.5.2), and as many bits.
+pub const HEADER_SYMBOLS: usize = 90;

@@ -2,6 +2,7 @@
 ghost use Rattle.std.specs.Prelude.{◌≡◌, ◌<◌, ◌↔◌, IsSome, IfSome};
 ghost use Rattle.s2_mode.specs.Mode.{mode_of, IsMode, is_qpsk, rate_index, kbch_of, k_of, n_of, t_of, q_of, rate_of, width_of, slots_of, pilot_blocks_of, symbols_in, shape_in, HasCodeSizes, HasFrameSizes};
 
+use crate::limits::HEADER_SYMBOLS;
 use crate::rates::{RATES, Rate};
 use crate::shape::Shape;
 use std::marker::Model;
@@ -208,6 +209,6 @@ impl Mode {
         ensures valid { IsMode self.now }
         ensures sizes { HasFrameSizes self.now }
     {
-        90 + 90 * self.slots() + 36 * self.pilot_blocks()
+        HEADER_SYMBOLS + 90 * self.slots() + 36 * self.pilot_blocks()
     }
 }

@@ -2,31 +2,9 @@
 ghost use Rattle.std.specs.Prelude.{◌≡◌, ◌+◌, ◌-◌, ◌*◌, ◌^◌, ◌<◌, ◌≤◌, IfOk, length, take};
 ghost use Rattle.std.specs.Io.KnownBytes.{IsAtEnd};
 ghost use Rattle.s2_mode.specs.Counts.{CountsFault};
-ghost use Rattle.s2_mode.specs.Symbols.{symbol_of, symbols_of};
 ghost use Rattle.s2_receive.specs.Finding.{YieldsSymbols};
 
-use s2_mode::{CountedRead, ReadFault, Symbol, read_full};
-
-/// The symbol that four bytes spell: I, then Q, each the higher byte first.
-fn symbol_of(a: u8, b: u8, c: u8, d: u8) -> Symbol
-    ensures { result ≡ symbol_of a b c d }
-{
-    Symbol {
-        i: i16::from_be_bytes([a, b]),
-        q: i16::from_be_bytes([c, d]),
-    }
-}
-
-/// Makes symbols of the bytes that spell them.
-fn symbols_into(bytes: &[u8], symbols: &mut [Symbol])
-    requires { length bytes.now ≡ 4 * length symbols.old }
-    ensures { symbols.new ≡ symbols_of bytes.now }
-{
-    'turn: for i in 0..symbols.len() {
-        let at = 4 * i;
-        symbols[i] = symbol_of(bytes[at], bytes[at + 1], bytes[at + 2], bytes[at + 3]);
-    }
-}
+use s2_mode::{CountedRead, ReadFault, Symbol, read_full, symbols_into};
 
 /// Takes the next symbols to the front of `symbols` and answers how many: fewer than there is room for only at
 /// the end, where up to three bytes are dropped.
