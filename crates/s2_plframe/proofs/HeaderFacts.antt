@@ -11,7 +11,7 @@ use Rattle.s2_mode.specs.Mode.{Mode, IsMode, slots_of, symbols_in}
 use Rattle.s2_mode.proofs.Modes.{at_each, frame_sizes}
 use Rattle.s2_bits.specs.Bits.{xor, number}
 use Rattle.s2_bits.proofs.Sums.{xor_same}
-use Rattle.s2_plframe.specs.Header.{header_bit, header_point, header_symbol, header_symbols, dummy_mode, sum_of_rows}
+use Rattle.s2_plframe.specs.Header.{header_bit, header_point, header_symbol, header_of, dummy_mode, sum_of_rows}
 use Rattle.s2_plframe.specs.Frame.{frame_symbol, frame_symbols}
 use Rattle.s2_plframe.specs.Search.{Decision, decision, decided, mismatches, passes, passes_dummy, found, recent}
 use Rattle.s2_plframe.specs.HeaderLaws.{seen_of, HoldsFrame}
@@ -137,15 +137,15 @@ seen_last symbols = ap (λ n. drop (n - 90) (map decision symbols)) (length-map 
 
 -- ---- dummy headers
 
-header_no_mismatch : (m : Mode) → mismatches (header_bit m) (map decision (header_symbols m)) 90 ≡ 0
+header_no_mismatch : (m : Mode) → mismatches (header_bit m) (map decision (header_of m)) 90 ≡ 0
 header_no_mismatch m =
-    let symbols = header_symbols m in
+    let symbols = header_of m in
     no_mismatch (header_bit m) (map decision symbols) 90
     (λ k lt. let here : 0 + k ≡ k = omega arith in
     let at : symbol_at symbols k ≡ header_symbol m k = get_or-map-range_with_len (header_symbol m) 0 90 k k (symbol (pos 0) (pos 0)) lt here in
     sym (decided_symbols symbols k) ∙ ((λ t. if k % 2 == 0 then (decision (at t)).odd else (decision (at t)).even) ∙ point_says k (header_bit m k)))
 
-header_passes : (m : Mode) → passes (header_bit m) (map decision (header_symbols m)) ≡ true
+header_passes : (m : Mode) → passes (header_bit m) (map decision (header_of m)) ≡ true
 header_passes m = ap (λ n. nat_le n 12) (header_no_mismatch m)
 
 first_passes : (a b c d : Bool) → a ≡ true → (a || (b || (c || d))) ≡ true
@@ -177,9 +177,9 @@ not_both : (a d : Bool) → (a ≡ true → d ≡ false) → d ≡ true → a �
 not_both true d h e = absurd (false≢true (sym (h refl) ∙ e))
 not_both false d h e = refl
 
-pub dummy_found : (m : Mode) (short pilots : Bool) → IsMode m → found m (map decision (header_symbols (dummy_mode short pilots))) ≡ founds.Dummy
+pub dummy_found : (m : Mode) (short pilots : Bool) → IsMode m → found m (map decision (header_of (dummy_mode short pilots))) ≡ founds.Dummy
 dummy_found m short pilots is =
-    let symbols = header_symbols (dummy_mode short pilots) in
+    let symbols = header_of (dummy_mode short pilots) in
     let window = map decision symbols in
     let long : length window ≡ 90 = length-map symbols decision ∙ length-map-range_with_len (header_symbol (dummy_mode short pilots)) 0 90 in
     let full : 90 ≤ length window = omega arith in

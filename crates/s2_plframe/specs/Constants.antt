@@ -1,11 +1,7 @@
 -- The numbers of a physical frame (EN 302 307-1, 5.5), and the one of this profile's header test.
 use Rattle.std.specs.Prelude.{ℕ}
 
--- how many symbols a header has, and as many bits
-abbrev pub header_length : ℕ
-header_length = 90
-
--- own: how many of them may be decided as the other bit
+-- own: how many of a header's bits may be decided as the other bit
 abbrev pub most_wrong : ℕ
 most_wrong = 12
 

@@ -3,10 +3,10 @@ use Rattle.std.specs.Prelude.{ℕ, zero, suc, ◌+◌, ◌-◌, ◌/◌, ◌%◌
 use Rattle.std.specs.List.{range_with_len}
 use Rattle.s2_mode.specs.declared.symbols.Symbol.{Symbol}
 use Rattle.s2_mode.specs.Symbols.{symbol}
+use Rattle.s2_mode.specs.Limits.{header_symbols}
 use Rattle.s2_mode.specs.Mode.{Mode, mode_of}
 use Rattle.s2_bits.specs.Bits.{xor, bit_of_number}
 use Rattle.s2_map.specs.Constants.{diagonal}
-use Rattle.s2_plframe.specs.Constants.{header_length}
 
 -- a header says a MODCOD and a TYPE, whose upper bit is one where frames are short, and the lower where they have pilots;
 -- dummy frames have MODCOD 0, which is no mode, and are known with any TYPE
@@ -45,5 +45,5 @@ abbrev pub header_symbol : Mode → ℕ → Symbol
 header_symbol m i = header_point i (header_bit m i)
 
 -- all symbols of the header
-abbrev pub header_symbols : Mode → List Symbol
-header_symbols m = map (header_symbol m) (range_with_len 0 header_length)
+abbrev pub header_of : Mode → List Symbol
+header_of m = map (header_symbol m) (range_with_len 0 header_symbols)

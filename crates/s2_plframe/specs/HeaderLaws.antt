@@ -1,9 +1,9 @@
 -- Laws of frames, of the header test and of the search.
 use Rattle.std.specs.Prelude.{drop, length, Bool, ◌-◌, ◌*◌, ◌≡◌, ℕ, true, false, List, [], ◌∷◌, ◌++◌, map, take}
 use Rattle.s2_mode.specs.declared.symbols.Symbol.{Symbol}
+use Rattle.s2_mode.specs.Limits.{header_symbols}
 use Rattle.s2_mode.specs.Mode.{Mode, IsMode, slots_of}
-use Rattle.s2_plframe.specs.Constants.{header_length}
-use Rattle.s2_plframe.specs.Header.{header_bit, header_symbols, dummy_mode}
+use Rattle.s2_plframe.specs.Header.{header_bit, header_of, dummy_mode}
 use Rattle.s2_plframe.specs.Frame.{frame_symbols}
 use Rattle.s2_plframe.specs.Payload.{received_payload, AllTurnBack}
 use Rattle.s2_plframe.specs.Search.{Decision, decision, passes, passes_dummy, found, recent}
@@ -11,7 +11,7 @@ use Rattle.s2_plframe.specs.declared.found.Found.TheVariants as founds
 
 -- a frame is a header, and a payload that can be taken out again
 pub record HoldsFrame (m : Mode) (number : ℕ) (payload frame : List Symbol) : Type 0 where
-  pub header : take header_length frame ≡ header_symbols m
+  pub header : take header_symbols frame ≡ header_of m
   pub payload_again : received_payload m number frame ≡ payload
 
 abbrev pub TakenOutLaw : Type 0
@@ -28,15 +28,15 @@ SeenLaw = (symbols : List Symbol) (next : Symbol) → recent (seen_of symbols ++
 
 -- what the last symbols say is what the last symbols are
 abbrev pub LastLaw : Type 0
-LastLaw = (symbols : List Symbol) → seen_of symbols ≡ map decision (drop (length symbols - header_length) symbols)
+LastLaw = (symbols : List Symbol) → seen_of symbols ≡ map decision (drop (length symbols - header_symbols) symbols)
 
 -- the header of a frame is found
 abbrev pub CleanHeaderLaw : Type 0
-CleanHeaderLaw = (m : Mode) (number : ℕ) (payload : List Symbol) → IsMode m → found m (map decision (take header_length (frame_symbols m number payload))) ≡ founds.Coded
+CleanHeaderLaw = (m : Mode) (number : ℕ) (payload : List Symbol) → IsMode m → found m (map decision (take header_symbols (frame_symbols m number payload))) ≡ founds.Coded
 
 -- that of a dummy frame is found as such, with each TYPE
 abbrev pub DummyHeaderLaw : Type 0
-DummyHeaderLaw = (m : Mode) (short pilots : Bool) → IsMode m → found m (map decision (header_symbols (dummy_mode short pilots))) ≡ founds.Dummy
+DummyHeaderLaw = (m : Mode) (short pilots : Bool) → IsMode m → found m (map decision (header_of (dummy_mode short pilots))) ≡ founds.Dummy
 
 -- no window passes as a header of a mode and as one of a dummy frame
 abbrev pub ApartLaw : Type 0

@@ -3,9 +3,10 @@ use Rattle.std.specs.Prelude.{ℕ, ◌+◌, ◌-◌, ◌*◌, ◌/◌, ◌%◌, 
 use Rattle.std.specs.List.{range_with_len}
 use Rattle.std.specs.Int.{bit_at as digit}
 use Rattle.std.specs.Int.RustNames.{count_ones, bit_xor}
+use Rattle.s2_mode.specs.Limits.{header_symbols}
 use Rattle.s2_mode.specs.Mode.{Mode}
 use Rattle.s2_bits.specs.Bits.{number}
-use Rattle.s2_plframe.specs.Constants.{header_length, most_wrong, sixteen_slots, pilot_block, spaced_slots}
+use Rattle.s2_plframe.specs.Constants.{most_wrong, sixteen_slots, pilot_block, spaced_slots}
 use Rattle.s2_plframe.specs.Header.{header_bit, dummy_mode}
 use Rattle.s2_plframe.specs.Search.{Decision, decided}
 use Rattle.s2_plframe.specs.declared.found.Found.{Found}
@@ -24,13 +25,13 @@ held_list odd even count = map (λ k. held odd even (count - 1 - k)) (range_with
 
 -- a header as a number, the first bit the highest
 pub record IsHeader (header : ℕ → Bool) (value : ℕ) : Type 0 where
-  pub small : value < 2 ^ 90
-  pub bits : (k : ℕ) → k < 90 → digit value (89 - k) ≡ number (header k)
+  pub small : value < 2 ^ header_symbols
+  pub bits : (k : ℕ) → k < header_symbols → digit value (header_symbols - 1 - k) ≡ number (header k)
 
 -- the bits of a window as a number
 pub record IsWindow (window : List Decision) (value : ℕ) : Type 0 where
-  pub small : value < 2 ^ 90
-  pub bits : (k : ℕ) → k < 90 → digit value (89 - k) ≡ number (decided window k)
+  pub small : value < 2 ^ header_symbols
+  pub bits : (k : ℕ) → k < header_symbols → digit value (header_symbols - 1 - k) ≡ number (decided window k)
 
 -- the same tests on numbers
 abbrev pub is_near : ℕ → ℕ → Bool
@@ -55,4 +56,4 @@ pub record AreHeaders (m : Mode) (coded dummy dummy_pilots dummy_short dummy_bot
 -- what holds of a search's fields
 pub record IsSearch (m : Mode) (coded dummy dummy_pilots dummy_short dummy_both count : ℕ) : Type 0 where
   pub headers : AreHeaders m coded dummy dummy_pilots dummy_short dummy_both
-  pub few : count ≤ header_length
+  pub few : count ≤ header_symbols

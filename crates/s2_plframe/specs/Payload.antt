@@ -3,10 +3,11 @@ use Rattle.std.specs.Prelude.{ℕ, ◌+◌, ◌*◌, ◌/◌, ◌%◌, ◌<◌, 
 use Rattle.std.specs.List.{range_with_len}
 use Rattle.s2_mode.specs.declared.symbols.Symbol.{Symbol}
 use Rattle.s2_mode.specs.Symbols.{symbol_at}
+use Rattle.s2_mode.specs.Limits.{header_symbols}
 use Rattle.s2_mode.specs.Mode.{Mode, slots_of}
 use Rattle.s2_scramble.specs.Gold.{quarter_turns}
 use Rattle.s2_scramble.specs.Turns.{turned_back, CanTurnBack}
-use Rattle.s2_plframe.specs.Constants.{header_length, sixteen_slots, spaced_slots}
+use Rattle.s2_plframe.specs.Constants.{sixteen_slots, spaced_slots}
 
 -- which symbol after the header payload symbol s is: a pilot block stands after each 16 slots
 abbrev pub slot_place : Mode → ℕ → ℕ
@@ -14,7 +15,7 @@ slot_place m s = if m.pilots then spaced_slots * (s / sixteen_slots) + s % sixte
 
 -- payload symbol s of a frame, under a scrambling number
 abbrev pub received_symbol : Mode → ℕ → List Symbol → ℕ → Symbol
-received_symbol m number frame s = turned_back (quarter_turns number (slot_place m s)) (symbol_at frame (header_length + slot_place m s))
+received_symbol m number frame s = turned_back (quarter_turns number (slot_place m s)) (symbol_at frame (header_symbols + slot_place m s))
 
 abbrev pub received_payload : Mode → ℕ → List Symbol → List Symbol
 received_payload m number frame = map (received_symbol m number frame) (range_with_len 0 (90 * slots_of m))

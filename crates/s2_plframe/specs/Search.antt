@@ -1,10 +1,11 @@
 -- The header test and the search for frames (own): the bits that a header's symbols are decided as, and how many differ.
 use Rattle.std.specs.Prelude.{ℕ, zero, suc, ◌+◌, ◌-◌, ◌%◌, ◌==◌, ◌||◌, Bool, true, false, List, length, drop, slice_index_or, pos, ◌+ℤ◌, ◌-ℤ◌, int_lt, nat_lt, nat_le, if◌then◌else◌}
 use Rattle.s2_mode.specs.declared.symbols.Symbol.{Symbol}
+use Rattle.s2_mode.specs.Limits.{header_symbols}
 use Rattle.s2_mode.specs.Mode.{Mode}
 use Rattle.s2_bits.specs.Bits.{xor, number}
 use Rattle.s2_plframe.specs.Header.{header_bit, dummy_mode}
-use Rattle.s2_plframe.specs.Constants.{header_length, most_wrong}
+use Rattle.s2_plframe.specs.Constants.{most_wrong}
 use Rattle.s2_plframe.specs.declared.found.Found.{Found}
 use Rattle.s2_plframe.specs.declared.found.Found.TheVariants as founds
 
@@ -31,7 +32,7 @@ mismatches header window (suc n) = mismatches header window n + number (xor (dec
 
 -- at most 12 of the 90 bits of a header differ
 abbrev pub passes : (ℕ → Bool) → List Decision → Bool
-passes header window = nat_le (mismatches header window header_length) most_wrong
+passes header window = nat_le (mismatches header window header_symbols) most_wrong
 
 -- the headers of dummy frames have MODCOD 0, and one of them each TYPE
 abbrev pub passes_dummy : List Decision → Bool
@@ -41,13 +42,13 @@ passes_dummy window =
 -- what the last 90 symbols are
 abbrev pub found : Mode → List Decision → Found
 found m window =
-    if nat_lt (length window) header_length
+    if nat_lt (length window) header_symbols
     then founds.Nothing
     else (if passes (header_bit m) window then founds.Coded else (if passes_dummy window then founds.Dummy else founds.Nothing))
 
 -- the last 90 of a list
 abbrev pub recent : List Decision → List Decision
-recent seen = drop (length seen - header_length) seen
+recent seen = drop (length seen - header_symbols) seen
 
 -- a mode, and what the last symbols say, at most 90
 pub record Search : Type 0 where

@@ -1,9 +1,6 @@
 //! The numbers of a physical frame (EN 302 307-1, 5.5), and the one of this profile's header test.
 
-/// How many symbols a header has, and as many bits.
-pub(crate) const HEADER: usize = 90;
-
-/// How many of them may be decided as the other bit.
+/// How many of a header's bits may be decided as the other bit.
 pub(crate) const MOST_WRONG: u32 = 12;
 
 /// The symbols of 16 slots, behind which a pilot block stands.

@@ -7,10 +7,10 @@ ghost use Rattle.s2_scramble.specs.Turns.{turned};
 ghost use Rattle.s2_plframe.specs.Constants.{sixteen_slots, pilot_block, spaced_slots};
 ghost use Rattle.s2_plframe.specs.Frame.{spaced_symbol, frame_symbols};
 
-use crate::constants::{HEADER, PILOT_BLOCK, SIXTEEN_SLOTS, SPACED_SLOTS};
+use crate::constants::{PILOT_BLOCK, SIXTEEN_SLOTS, SPACED_SLOTS};
 use crate::header::{pls_code, write_header};
 use s2_map::DIAGONAL;
-use s2_mode::{Mode, Symbol};
+use s2_mode::{HEADER_SYMBOLS, Mode, Symbol};
 use s2_scramble::Gold;
 
 /// A pilot block.
@@ -32,7 +32,7 @@ pub fn frame_into(mode: Mode, gold: &Gold, payload: &[Symbol], frame: &mut [Symb
     ensures { frame.new ≡ frame_symbols mode gold.now payload.now }
 {
     let blocks = mode.pilot_blocks();
-    let (header, slots) = frame.split_at_mut(HEADER);
+    let (header, slots) = frame.split_at_mut(HEADER_SYMBOLS);
     write_header(pls_code(mode), header);
     write_slots(blocks, gold, payload, slots);
 }

@@ -1,13 +1,12 @@
 //! The header of a frame (EN 302 307-1, 5.5.2).
 ghost use Rattle.std.specs.Prelude.{◌≡◌, ℕ, ◌<◌, length};
+ghost use Rattle.s2_mode.specs.Limits.{header_symbols};
 ghost use Rattle.s2_mode.specs.Mode.{mode_of};
 ghost use Rattle.s2_mode.specs.Symbols.{symbol_at};
-ghost use Rattle.s2_plframe.specs.Constants.{header_length};
 ghost use Rattle.s2_plframe.specs.Header.{chosen, sum_of_rows, code_bit, header_bit, header_point, header_symbol};
 
-use crate::constants::HEADER;
 use s2_map::DIAGONAL;
-use s2_mode::{Mode, Symbol};
+use s2_mode::{HEADER_SYMBOLS, Mode, Symbol};
 
 /// The mark of a frame's start (SOF), 26 bits.
 const START_OF_FRAME: u32 = 0x018D_2E82;
@@ -47,17 +46,17 @@ pub(crate) fn pls_code(mode: Mode) -> PlsCode
 
 /// Writes the header that says this.
 pub(crate) fn write_header(code: PlsCode, out: &mut [Symbol])
-    requires { length out.old ≡ header_length }
-    ensures { (i : ℕ) → i < header_length → symbol_at out.new i ≡ header_symbol (mode_of code.modcod code.short code.pilots) i }
+    requires { length out.old ≡ header_symbols }
+    ensures { (i : ℕ) → i < header_symbols → symbol_at out.new i ≡ header_symbol (mode_of code.modcod code.short code.pilots) i }
 {
-    for i in 0..HEADER {
+    for i in 0..HEADER_SYMBOLS {
         out[i] = header_point(i, header_bit(code, i));
     }
 }
 
 /// The bits of a header: those of the mark, and then those of the code.
 pub(crate) fn header_bit(code: PlsCode, k: usize) -> bool
-    requires { k < header_length }
+    requires { k < header_symbols }
     ensures { result ≡ header_bit (mode_of code.modcod code.short code.pilots) k }
 {
     if k < 26 {

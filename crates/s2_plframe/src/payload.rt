@@ -10,8 +10,8 @@ ghost use Rattle.s2_plframe.specs.Frame.{frame_symbols};
 ghost use Rattle.s2_plframe.specs.Payload.{received_payload, AllTurnBack};
 ghost use Rattle.s2_plframe.specs.Inside.{place_behind};
 
-use crate::constants::{HEADER, SIXTEEN_SLOTS, SPACED_SLOTS};
-use s2_mode::{Mode, Symbol};
+use crate::constants::{SIXTEEN_SLOTS, SPACED_SLOTS};
+use s2_mode::{HEADER_SYMBOLS, Mode, Symbol};
 use s2_scramble::Gold;
 
 /// Writes the payload (XFECFRAME) of a received frame (EN 302 307-1, 5.5): all symbols but the header's
@@ -27,7 +27,7 @@ pub fn payload_of(mode: Mode, gold: &Gold, frame: &[Symbol], payload: &mut [Symb
     ensures undoes { (sent : List Symbol) → length sent ≡ 90 * slots_of mode → AllTurnBack sent → frame.now ≡ frame_symbols mode gold.now sent → payload.new ≡ sent }
 {
     let blocks = mode.pilot_blocks();
-    read_slots(blocks, gold, &frame[HEADER..], payload);
+    read_slots(blocks, gold, &frame[HEADER_SYMBOLS..], payload);
 }
 
 /// Writes the symbols of so many times 16 slots, behind each of which is a pilot block, and of the

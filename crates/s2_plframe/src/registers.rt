@@ -1,14 +1,15 @@
 //! Bits of a header in registers of 128 bits, the last one the lowest.
 ghost use Rattle.std.specs.Prelude.{◌≡◌, ℕ, ◌+◌, ◌-◌, ◌*◌, ◌^◌, ◌%◌, ◌<◌, ◌==◌, Bool, if◌then◌else◌};
 ghost use Rattle.std.specs.Int.{bit_at as digit};
+ghost use Rattle.s2_mode.specs.Limits.{header_symbols};
 ghost use Rattle.s2_mode.specs.Mode.{mode_of};
 ghost use Rattle.s2_bits.specs.Bits.{number};
-ghost use Rattle.s2_plframe.specs.Constants.{header_length};
 ghost use Rattle.s2_plframe.specs.Header.{header_bit};
 ghost use Rattle.s2_plframe.specs.Inside.{IsHeader, is_near};
 
-use crate::constants::{HEADER, MOST_WRONG};
+use crate::constants::MOST_WRONG;
 use crate::header::{PlsCode, header_bit};
+use s2_mode::HEADER_SYMBOLS;
 
 /// The places of a header's first, third and so on bit in a register.
 const ODD: u128 = 0x2AA_AAAA_AAAA_AAAA_AAAA_AAAA;
@@ -30,8 +31,8 @@ pub(crate) fn pushed(register: u128, bit: bool) -> u128
 /// at the even ones.
 #[inline(always)]
 pub(crate) fn mixed(odd: u128, even: u128) -> u128
-    ensures small { result < 2 ^ 90 }
-    ensures bits { (k : ℕ) → k < header_length → digit result (89 - k) ≡ (if k % 2 == 0 then digit odd (89 - k) else digit even (89 - k)) }
+    ensures small { result < 2 ^ header_symbols }
+    ensures bits { (k : ℕ) → k < header_symbols → digit result (header_symbols - 1 - k) ≡ (if k % 2 == 0 then digit odd (header_symbols - 1 - k) else digit even (header_symbols - 1 - k)) }
 {
     (odd & ODD) | (even & EVEN)
 }
@@ -49,7 +50,7 @@ pub(crate) fn header_number(code: PlsCode) -> u128
     ensures { IsHeader (header_bit (mode_of code.modcod code.short code.pilots)) result }
 {
     let mut number = 0u128;
-    for k in 0..HEADER {
+    for k in 0..HEADER_SYMBOLS {
         number = pushed(number, header_bit(code, k));
     }
     number

@@ -6,11 +6,11 @@ ghost use Rattle.s2_plframe.specs.Header.{header_bit, dummy_mode};
 ghost use Rattle.s2_plframe.specs.Search.{decision, found, passes};
 ghost use Rattle.s2_plframe.specs.Inside.{AreHeaders, is_dummy, found_by};
 
-use crate::constants::{HEADER, MOST_WRONG};
+use crate::constants::MOST_WRONG;
 use crate::found::Found;
 use crate::header::{PlsCode, header_bit, pls_code};
 use crate::registers::{header_number, is_near, mixed, pushed};
-use s2_mode::{Mode, Symbol};
+use s2_mode::{HEADER_SYMBOLS, Mode, Symbol};
 use std::marker::Model;
 
 /// Whether a symbol says one in the first, third and so on place of a header.
@@ -42,12 +42,12 @@ fn says_at(k: usize, symbol: Symbol) -> bool
 
 /// Whether 90 symbols pass as a header of this mode: at most 12 of the bits that they are decided as
 /// differ from it. Bit `k`, counted from 1, is one where I + Q < 0 (odd `k`) or Q - I < 0 (even `k`).
-pub fn header_matches(mode: Mode, symbols: &[Symbol; 90]) -> bool
+pub fn header_matches(mode: Mode, symbols: &[Symbol; HEADER_SYMBOLS]) -> bool
     ensures { result ≡ passes (header_bit mode) (map decision symbols.now) }
 {
     let code = pls_code(mode);
     let mut different = 0u32;
-    for k in 0..HEADER {
+    for k in 0..HEADER_SYMBOLS {
         different += u32::from(says_at(k, symbols[k]) ^ header_bit(code, k));
     }
     different <= MOST_WRONG
@@ -167,8 +167,8 @@ impl Search {
     {
         self.odd = pushed(self.odd, says_odd(symbol));
         self.even = pushed(self.even, says_even(symbol));
-        self.count = (self.count + 1).min(HEADER);
-        if self.count < HEADER {
+        self.count = (self.count + 1).min(HEADER_SYMBOLS);
+        if self.count < HEADER_SYMBOLS {
             return Found::Nothing;
         }
         found_by(&self.headers, mixed(self.odd, self.even))

@@ -5,8 +5,8 @@ use Rattle.s2_plframe.specs.Inside.{IsWindow, held_list}
 use Rattle.s2_plframe.proofs.Windows.{seen_next, window_is, found_is, found_early, length-held}
 use Rattle.s2_plframe.proofs.search.Search.feed.Goals as goal
 
-pub returns-then-self-lt-HEADER-clause-seen : goal.returns-then-self-lt-HEADER-clause-seen
-returns-then-self-lt-HEADER-clause-seen c =
+pub returns-then-self-lt-HEADER_SYMBOLS-clause-seen : goal.returns-then-self-lt-HEADER_SYMBOLS-clause-seen
+returns-then-self-lt-HEADER_SYMBOLS-clause-seen c =
     let s = c.self.inside in
     let d : Decision = decision c.args.symbol in
     let next : held_list c.pushed-self-inside.result c.pushed-self-inside-2.result c.min-self-inside.result ≡ recent (held_list s.odd s.even s.count ++ d ∷ []) =
@@ -16,12 +16,12 @@ returns-then-self-lt-HEADER-clause-seen c =
     c.min-self-inside.result c.min-self-inside.ensures in
     ap (search_of s.mode) next ∙ ap (λ (v : SearchValue). search_of v.mode (recent (v.seen ++ d ∷ []))) c.self.view_is
 
-pub returns-then-self-lt-HEADER-clause-found : goal.returns-then-self-lt-HEADER-clause-found
-returns-then-self-lt-HEADER-clause-found c =
+pub returns-then-self-lt-HEADER_SYMBOLS-clause-found : goal.returns-then-self-lt-HEADER_SYMBOLS-clause-found
+returns-then-self-lt-HEADER_SYMBOLS-clause-found c =
     let seen : List Decision = held_list c.pushed-self-inside.result c.pushed-self-inside-2.result c.min-self-inside.result in
     let long : length seen ≡ c.min-self-inside.result = length-held c.pushed-self-inside.result c.pushed-self-inside-2.result c.min-self-inside.result in
     let few : length seen < 90 = omega arith in
-    found_early c.self.inside.mode seen few ∙ ap (λ (v : SearchValue). found v.mode v.seen) (returns-then-self-lt-HEADER-clause-seen c)
+    found_early c.self.inside.mode seen few ∙ ap (λ (v : SearchValue). found v.mode v.seen) (returns-then-self-lt-HEADER_SYMBOLS-clause-seen c)
 
 pub returns-clause-seen : goal.returns-clause-seen
 returns-clause-seen c =
