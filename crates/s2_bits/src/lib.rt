@@ -5,10 +5,10 @@
 //! and [`Bits::from_bytes`] take memory. Bytes hold their highest bit first, as in all of
 //! EN 302 307-1. A loop over a whole list works on the slice that [`Bits::truths`] lends.
 //! [`add_turned`] adds a row of bits, turned, to another: the step of all that goes by groups of
-//! bits, and [`eight_from`] lends the lanes of a vector eight of them. Slices of bytes and of truth
-//! values go from one to the other by [`bits_into`], [`byte_at`] and [`bytes_from`]; [`xor_first`] adds
-//! one slice of truth values to another. What the other
-//! crates say of bytes and their bits is defined here, once.
+//! bits, and [`eight_from`] lends the lanes of a vector eight of them. [`xor_first`] adds the first
+//! bits of one slice of truth values to those of another. Slices of bytes and of truth values go
+//! from one to the other by [`bits_into`], [`byte_at`] and [`bytes_from`]. What the other crates say
+//! of bits, of bytes and of the numbers that bits spell is defined here, once.
 //!
 //! ```
 //! let bits = Bits::from_bytes(alloc, &[0xa0], 4)?;
