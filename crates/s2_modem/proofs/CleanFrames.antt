@@ -9,7 +9,7 @@ use Rattle.std.proofs.lemmas.List.Elements.{All-nil, All-cons, All-head, All-tai
 use Rattle.s2_mode.specs.Mode.{Mode, IsMode, HasCodeSizes, k_of, kbch_of, n_of, t_of, symbols_in}
 use Rattle.s2_mode.specs.declared.symbols.Symbol.{Symbol}
 use Rattle.s2_mode.proofs.Modes.{frame_sizes}
-use Rattle.s2_plframe.specs.declared.found.Found.TheVariants as founds
+use Rattle.s2_plframe.specs.declared.receive.found.Found.TheVariants as founds
 use Rattle.s2_rows.specs.Rows.{Rows}
 use Rattle.s2_bits.specs.Bits.{bit_at, bits_of_byte, bits_of_bytes, byte_at, byte_of, bytes_from, differences, number, xor}
 use Rattle.s2_bits.proofs.Spelled.{byte_back, length-bits_of_byte}

@@ -8,8 +8,8 @@ use Rattle.s2_mode.specs.declared.symbols.Symbol.{Symbol}
 use Rattle.s2_plframe.specs.Header.{header_bit}
 use Rattle.s2_plframe.specs.Search.{Decision, decision, passes, passes_dummy, found, recent}
 use Rattle.s2_plframe.specs.HeaderLaws.{seen_of}
-use Rattle.s2_plframe.specs.declared.found.Found.{Found}
-use Rattle.s2_plframe.specs.declared.found.Found.TheVariants as founds
+use Rattle.s2_plframe.specs.declared.receive.found.Found.{Found}
+use Rattle.s2_plframe.specs.declared.receive.found.Found.TheVariants as founds
 use Rattle.s2_plframe.proofs.HeaderFacts.{seen_more, seen_last}
 use Rattle.s2_receive.specs.Finding.{ends_in_header}
 use Rattle.s2_modem.specs.Passing.{passes_as}

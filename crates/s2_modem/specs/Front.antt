@@ -5,7 +5,7 @@ use Rattle.s2_map.specs.Mapping.{payload_of}
 use Rattle.s2_plframe.specs.Frame.{frame_symbols}
 use Rattle.s2_plframe.specs.Payload.{received_payload}
 use Rattle.s2_plframe.specs.Search.{decision, found}
-use Rattle.s2_plframe.specs.declared.found.Found.TheVariants as founds
+use Rattle.s2_plframe.specs.declared.receive.found.Found.TheVariants as founds
 use Rattle.s2_soft.specs.Soft.{soft_values}
 use Rattle.s2_soft.specs.Clean.{Says}
 

@@ -15,7 +15,7 @@ use Rattle.s2_plframe.specs.Header.{header_bit, header_point, header_symbol, hea
 use Rattle.s2_plframe.specs.Frame.{frame_symbol, frame_symbols}
 use Rattle.s2_plframe.specs.Search.{Decision, decision, decided, mismatches, passes, passes_dummy, found, recent}
 use Rattle.s2_plframe.specs.HeaderLaws.{seen_of, HoldsFrame}
-use Rattle.s2_plframe.specs.declared.found.Found.TheVariants as founds
+use Rattle.s2_plframe.specs.declared.receive.found.Found.TheVariants as founds
 use Rattle.s2_plframe.specs.Payload.{AllTurnBack}
 use Rattle.s2_plframe.proofs.Payloads.{payload_again}
 use Rattle.s2_plframe.proofs.Mismatches.{decided_symbols}

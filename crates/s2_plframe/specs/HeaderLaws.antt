@@ -7,7 +7,7 @@ use Rattle.s2_plframe.specs.Header.{header_bit, header_of, dummy_mode}
 use Rattle.s2_plframe.specs.Frame.{frame_symbols}
 use Rattle.s2_plframe.specs.Payload.{received_payload, AllTurnBack}
 use Rattle.s2_plframe.specs.Search.{Decision, decision, passes, passes_dummy, found, recent}
-use Rattle.s2_plframe.specs.declared.found.Found.TheVariants as founds
+use Rattle.s2_plframe.specs.declared.receive.found.Found.TheVariants as founds
 
 -- a frame is a header, and a payload that can be taken out again
 pub record HoldsFrame (m : Mode) (number : ℕ) (payload frame : List Symbol) : Type 0 where

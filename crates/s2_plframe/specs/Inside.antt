@@ -9,8 +9,8 @@ use Rattle.s2_bits.specs.Bits.{number}
 use Rattle.s2_plframe.specs.Constants.{most_wrong, sixteen_slots, pilot_block, spaced_slots}
 use Rattle.s2_plframe.specs.Header.{header_bit, dummy_mode}
 use Rattle.s2_plframe.specs.Search.{Decision, decided}
-use Rattle.s2_plframe.specs.declared.found.Found.{Found}
-use Rattle.s2_plframe.specs.declared.found.Found.TheVariants as founds
+use Rattle.s2_plframe.specs.declared.receive.found.Found.{Found}
+use Rattle.s2_plframe.specs.declared.receive.found.Found.TheVariants as founds
 
 -- the place of symbol s where so many pilot blocks stand among the slots
 abbrev pub place_behind : ℕ → ℕ → ℕ

@@ -6,8 +6,8 @@ use Rattle.s2_mode.specs.Mode.{Mode}
 use Rattle.s2_bits.specs.Bits.{xor, number}
 use Rattle.s2_plframe.specs.Header.{header_bit, dummy_mode}
 use Rattle.s2_plframe.specs.Constants.{most_wrong}
-use Rattle.s2_plframe.specs.declared.found.Found.{Found}
-use Rattle.s2_plframe.specs.declared.found.Found.TheVariants as founds
+use Rattle.s2_plframe.specs.declared.receive.found.Found.{Found}
+use Rattle.s2_plframe.specs.declared.receive.found.Found.TheVariants as founds
 
 -- what a symbol would say at each place of a header
 pub record Decision : Type 0 where

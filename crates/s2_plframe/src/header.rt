@@ -1,12 +1,10 @@
-//! The header of a frame (EN 302 307-1, 5.5.2).
-ghost use Rattle.std.specs.Prelude.{◌≡◌, ℕ, ◌<◌, length};
+//! The bits of a frame's header (EN 302 307-1, 5.5.2).
+ghost use Rattle.std.specs.Prelude.{◌≡◌, ◌<◌};
 ghost use Rattle.s2_mode.specs.Limits.{header_symbols};
 ghost use Rattle.s2_mode.specs.Mode.{mode_of};
-ghost use Rattle.s2_mode.specs.Symbols.{symbol_at};
-ghost use Rattle.s2_plframe.specs.Header.{chosen, sum_of_rows, code_bit, header_bit, header_point, header_symbol};
+ghost use Rattle.s2_plframe.specs.Header.{chosen, sum_of_rows, code_bit, header_bit};
 
-use s2_map::DIAGONAL;
-use s2_mode::{HEADER_SYMBOLS, Mode, Symbol};
+use s2_mode::Mode;
 
 /// The mark of a frame's start (SOF), 26 bits.
 const START_OF_FRAME: u32 = 0x018D_2E82;
@@ -41,16 +39,6 @@ pub(crate) fn pls_code(mode: Mode) -> PlsCode
         modcod: mode.modcod(),
         short: mode.is_short(),
         pilots: mode.has_pilots(),
-    }
-}
-
-/// Writes the header that says this.
-pub(crate) fn write_header(code: PlsCode, out: &mut [Symbol])
-    requires { length out.old ≡ header_symbols }
-    ensures { (i : ℕ) → i < header_symbols → symbol_at out.new i ≡ header_symbol (mode_of code.modcod code.short code.pilots) i }
-{
-    for i in 0..HEADER_SYMBOLS {
-        out[i] = header_point(i, header_bit(code, i));
     }
 }
 
@@ -98,20 +86,5 @@ fn chooses(code: PlsCode, r: usize) -> bool
         code.short
     } else {
         (code.modcod >> (4 - r)) % 2 == 1
-    }
-}
-
-/// A header bit as a symbol.
-fn header_point(i: usize, bit: bool) -> Symbol
-    ensures { result ≡ header_point i bit }
-{
-    let level = if bit { -DIAGONAL } else { DIAGONAL };
-    if i % 2 == 0 {
-        Symbol { i: level, q: level }
-    } else {
-        Symbol {
-            i: -level,
-            q: level,
-        }
     }
 }

@@ -17,18 +17,13 @@
 #![tactic(auto)]
 
 mod constants;
-mod found;
-mod frame;
 mod header;
 pub mod laws;
-mod payload;
-mod registers;
-mod search;
+mod receive;
+mod send;
 
-pub use found::Found;
-pub use frame::frame_into;
-pub use payload::payload_of;
-pub use search::{Search, header_matches};
+pub use receive::{Found, Search, header_matches, payload_of};
+pub use send::frame_into;
 
 #[cfg(test)]
 mod tests;

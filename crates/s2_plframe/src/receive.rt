@@ -1,0 +1,9 @@
+//! The receiving end: the search for headers, and the payload of a frame.
+mod found;
+mod payload;
+mod registers;
+mod search;
+
+pub use found::Found;
+pub use payload::payload_of;
+pub use search::{Search, header_matches};

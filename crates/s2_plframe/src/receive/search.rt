@@ -1,0 +1,176 @@
+//! The search for frames.
+ghost use Rattle.std.specs.Prelude.{◌≡◌, ℕ, ◌<◌, ◌%◌, ◌==◌, if◌then◌else◌, [], ◌∷◌, ◌++◌, List, length, map};
+ghost use Rattle.s2_mode.specs.declared.symbols.Symbol.{Symbol};
+ghost use Rattle.s2_mode.specs.Mode.{mode_of};
+ghost use Rattle.s2_plframe.specs.Header.{header_bit, dummy_mode};
+ghost use Rattle.s2_plframe.specs.Search.{decision, found, passes};
+ghost use Rattle.s2_plframe.specs.Inside.{AreHeaders, is_dummy, found_by};
+
+use crate::constants::MOST_WRONG;
+use crate::header::{PlsCode, header_bit, pls_code};
+use crate::receive::found::Found;
+use crate::receive::registers::{header_number, is_near, mixed, pushed};
+use s2_mode::{HEADER_SYMBOLS, Mode, Symbol};
+use std::marker::Model;
+
+/// Whether a symbol says one in the first, third and so on place of a header.
+#[inline(always)]
+pub(crate) fn says_odd(symbol: Symbol) -> bool
+    ensures { result ≡ (decision symbol).odd }
+{
+    i32::from(symbol.i) + i32::from(symbol.q) < 0
+}
+
+/// Whether it says one in the others.
+#[inline(always)]
+pub(crate) fn says_even(symbol: Symbol) -> bool
+    ensures { result ≡ (decision symbol).even }
+{
+    i32::from(symbol.q) - i32::from(symbol.i) < 0
+}
+
+/// What a symbol says at place `k` of a header.
+fn says_at(k: usize, symbol: Symbol) -> bool
+    ensures { result ≡ (if k % 2 == 0 then (decision symbol).odd else (decision symbol).even) }
+{
+    if k % 2 == 0 {
+        says_odd(symbol)
+    } else {
+        says_even(symbol)
+    }
+}
+
+/// Whether 90 symbols pass as a header of this mode: at most 12 of the bits that they are decided as
+/// differ from it. Bit `k`, counted from 1, is one where I + Q < 0 (odd `k`) or Q - I < 0 (even `k`).
+pub fn header_matches(mode: Mode, symbols: &[Symbol; HEADER_SYMBOLS]) -> bool
+    ensures { result ≡ passes (header_bit mode) (map decision symbols.now) }
+{
+    let code = pls_code(mode);
+    let mut different = 0u32;
+    for k in 0..HEADER_SYMBOLS {
+        different += u32::from(says_at(k, symbols[k]) ^ header_bit(code, k));
+    }
+    different <= MOST_WRONG
+}
+
+/// The headers of a mode and of dummy frames, as numbers.
+#[derive(Clone, Copy)]
+struct Headers {
+    coded: u128,
+    dummy: u128,
+    dummy_pilots: u128,
+    dummy_short: u128,
+    dummy_both: u128,
+}
+
+/// What the header of a dummy frame says.
+fn dummy(short: bool, pilots: bool) -> PlsCode
+    ensures { mode_of result.modcod result.short result.pilots ≡ dummy_mode short pilots }
+{
+    PlsCode {
+        modcod: 0,
+        short,
+        pilots,
+    }
+}
+
+/// The headers that a search of this mode looks for.
+fn headers_of(mode: Mode) -> Headers
+    ensures { AreHeaders mode result.coded result.dummy result.dummy_pilots result.dummy_short result.dummy_both }
+{
+    Headers {
+        coded: header_number(pls_code(mode)),
+        dummy: header_number(dummy(false, false)),
+        dummy_pilots: header_number(dummy(false, true)),
+        dummy_short: header_number(dummy(true, false)),
+        dummy_both: header_number(dummy(true, true)),
+    }
+}
+
+/// Whether a window is a header of dummy frames.
+#[inline(always)]
+fn is_dummy(headers: &Headers, window: u128) -> bool
+    ensures { result ≡ is_dummy headers.now.dummy headers.now.dummy_pilots headers.now.dummy_short headers.now.dummy_both window }
+{
+    is_near(headers.dummy, window)
+        || is_near(headers.dummy_pilots, window)
+        || is_near(headers.dummy_short, window)
+        || is_near(headers.dummy_both, window)
+}
+
+/// What a window of 90 symbols is.
+#[inline(always)]
+fn found_by(headers: &Headers, window: u128) -> Found
+    ensures { result ≡ found_by headers.now.coded headers.now.dummy headers.now.dummy_pilots headers.now.dummy_short headers.now.dummy_both window }
+{
+    if is_near(headers.coded, window) {
+        Found::Coded
+    } else if is_dummy(headers, window) {
+        Found::Dummy
+    } else {
+        Found::Nothing
+    }
+}
+
+/// The search for the header of a mode's frames, symbol by symbol. Its value is the mode and what the
+/// last symbols say, at most 90 of them, since it was made or begun again.
+#[derive(Drop)]
+pub struct Search {
+    mode: Mode,
+    headers: Headers,
+    odd: u128,
+    even: u128,
+    count: usize,
+}
+
+impl Model for Search {
+    ghost use Rattle.std.specs.Prelude.{◌≤◌};
+    ghost use Rattle.s2_plframe.specs.Search.{Search as SearchValue, search_of};
+    ghost use Rattle.s2_plframe.specs.Inside.{held_list, IsSearch};
+
+    ghost Value = { SearchValue };
+
+    ghost view = { λ s. search_of s.mode (held_list s.odd s.even s.count) };
+
+    ghost invariant = { λ s. IsSearch s.mode s.headers.coded s.headers.dummy s.headers.dummy_pilots s.headers.dummy_short s.headers.dummy_both s.count };
+}
+
+impl Search {
+    ghost use Rattle.s2_plframe.specs.Search.{search_of, recent};
+
+    /// A search for frames of a mode, before its first symbol.
+    pub fn new(mode: Mode) -> Search
+        ensures { result ≡ search_of mode [] }
+    {
+        Search {
+            mode,
+            headers: headers_of(mode),
+            odd: 0,
+            even: 0,
+            count: 0,
+        }
+    }
+
+    /// Begins again, as if no symbol had come.
+    pub fn restart(&mut self)
+        ensures { self.new ≡ search_of self.old.mode [] }
+    {
+        self.count = 0;
+    }
+
+    /// Takes the next symbol, and says what the last 90 are: a header of the mode's frames, one of
+    /// dummy frames of any TYPE, or nothing, which is said too where fewer came. A header passes with at
+    /// most 12 wrong bits; no symbols pass as both ([`crate::laws::apart`]).
+    pub fn feed(&mut self, symbol: Symbol) -> Found
+        ensures seen { self.new ≡ search_of self.old.mode (recent (self.old.seen ++ decision symbol ∷ [])) }
+        ensures found { result ≡ found self.old.mode (recent (self.old.seen ++ decision symbol ∷ [])) }
+    {
+        self.odd = pushed(self.odd, says_odd(symbol));
+        self.even = pushed(self.even, says_even(symbol));
+        self.count = (self.count + 1).min(HEADER_SYMBOLS);
+        if self.count < HEADER_SYMBOLS {
+            return Found::Nothing;
+        }
+        found_by(&self.headers, mixed(self.odd, self.even))
+    }
+}

@@ -1,0 +1,5 @@
+//! The sending end: the frame of a payload.
+mod frame;
+mod header;
+
+pub use frame::frame_into;
