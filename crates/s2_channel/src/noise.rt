@@ -12,21 +12,21 @@ use s2_mode::Symbol;
 /// The mean of the sum of eight bytes.
 const MEAN: i32 = 1020;
 
-/// Noise of one level. To contracts it is the level, and the generator of its words as it stands.
+/// Noise of one level. To contracts it is the level, and the generator of random words as it stands.
 #[derive(Drop)]
 pub struct Noise {
     level: u16,
-    words: Pcg32,
+    generator: Pcg32,
 }
 
-/// The sum of the eight bytes of the next two words.
+/// The sum of the eight bytes of the generator's next two words.
 #[tactic(auto, unfolding(crate::specs::Noise::draw))]
-fn draw(words: &mut Pcg32) -> u16
-    ensures drawn { (result, words.new) ≡ draw words.old }
+fn draw(generator: &mut Pcg32) -> u16
+    ensures drawn { (result, generator.new) ≡ draw generator.old }
     ensures most { result ≤ 2040 }
 {
-    let [a, b, c, d] = words.next_word().to_le_bytes();
-    let [e, f, g, h] = words.next_word().to_le_bytes();
+    let [a, b, c, d] = generator.next_word().to_le_bytes();
+    let [e, f, g, h] = generator.next_word().to_le_bytes();
     let first = u16::from(a) + u16::from(b) + u16::from(c) + u16::from(d);
     let second = u16::from(e) + u16::from(f) + u16::from(g) + u16::from(h);
     first + second
@@ -54,15 +54,15 @@ fn moved(level: u16, component: i16, sum: u16) -> i16
 }
 
 impl Noise {
-    /// Noise of this level, drawn from the words of this seed. The standard deviation of what a component
+    /// Noise of this level, drawn from the generator of this seed. The standard deviation of what a component
     /// gains is 209.0 level / 256.
     pub fn new(seed: u64, level: u16) -> Noise
-        ensures words { result.words ≡ pcg32_of_seed (pcg32_seed 16 seed) }
+        ensures generator { result.generator ≡ pcg32_of_seed (pcg32_seed 16 seed) }
         ensures level { result.level ≡ level }
     {
         Noise {
             level,
-            words: Pcg32::seed_from_u64(seed),
+            generator: Pcg32::seed_from_u64(seed),
         }
     }
 
@@ -70,11 +70,11 @@ impl Noise {
     /// as any other.
     #[tactic(auto, unfolding(crate::specs::Noise::add))]
     pub fn add(&mut self, symbol: Symbol) -> Symbol
-        ensures drawn { (result, self.new.words) ≡ add self.old.level self.old.words symbol }
+        ensures drawn { (result, self.new.generator) ≡ add self.old.level self.old.generator symbol }
         ensures level { self.new.level ≡ self.old.level }
     {
-        let i = draw(&mut self.words);
-        let q = draw(&mut self.words);
+        let i = draw(&mut self.generator);
+        let q = draw(&mut self.generator);
         Symbol {
             i: moved(self.level, symbol.i, i),
             q: moved(self.level, symbol.q, q),

@@ -33,14 +33,14 @@ pub fn add_to_all<R: CountedRead, W: CountedWrite>(
     requires reader { R.count reader.old < 2 ^ 64 - 1 }
     requires writer { W.count writer.old < 2 ^ 64 - 1 }
     ensures written { OnOk result (IfSome (R.remaining reader.old) (λ xs.
-        Appends (W.contents writer.old) (W.contents writer.new) (noisy noise.old.level noise.old.words (symbols_of xs)))) }
+        Appends (W.contents writer.old) (W.contents writer.new) (noisy noise.old.level noise.old.generator (symbols_of xs)))) }
     ensures write { IsErrOf result StreamFault.Write → W.count writer.new ≡ W.count writer.old + 1 }
     ensures wrote { result ≢ Err StreamFault.Write → W.count writer.new ≡ W.count writer.old }
     ensures read { IsErrOf result StreamFault.Read → R.count reader.new ≡ R.count reader.old →
         IfSome (R.remaining reader.old) (λ xs. MOST_SYMBOLS ≤ length (symbols_of xs)) }
     ensures no_read { result ≢ Err StreamFault.Read → R.count reader.new ≡ R.count reader.old }
     ensures front { IsErrOf result StreamFault.Read → IfSome (R.remaining reader.old) (λ xs.
-        AppendsFront noise.old.level noise.old.words (symbols_of xs) (W.contents writer.old) (W.contents writer.new)) }
+        AppendsFront noise.old.level noise.old.generator (symbols_of xs) (W.contents writer.old) (W.contents writer.new)) }
     ensures level { noise.new.level ≡ noise.old.level }
 {
     for _taken in 0..MOST_SYMBOLS {

@@ -10,7 +10,7 @@ use Rattle.s2_mode.specs.declared.symbols.Symbol.{Symbol}
 use Rattle.s2_mode.specs.Symbols.{IsSymbol, symbol_at}
 use Rattle.s2_scramble.specs.Turns.{negative, turned}
 use Rattle.s2_mode.specs.Lanes.{words_of}
-use Rattle.s2_scramble.specs.Words.{twice}
+use Rattle.s2_scramble.specs.Lanes.{twice}
 
 -- the word of the negative of a word's number
 abbrev pub negated : ℕ → ℕ

@@ -4,7 +4,7 @@ ghost use Rattle.s2_mode.specs.declared.symbols.Symbol.{Symbol};
 ghost use Rattle.s2_mode.specs.Symbols.{IsSymbol, symbol_at};
 ghost use Rattle.s2_scramble.specs.Turns.{turned};
 ghost use Rattle.s2_mode.specs.Lanes.{words_of};
-ghost use Rattle.s2_scramble.specs.Words.{twice};
+ghost use Rattle.s2_scramble.specs.Lanes.{twice};
 
 use s2_mode::{Symbol, symbols_from, words_from};
 use std::simd::prelude::*;

@@ -6,7 +6,7 @@ use Rattle.s2_channel.proofs.whole.add_to_all.Given as goal
 abbrev pub invariant-loop-taken : goal.invariant-loop-taken
 invariant-loop-taken g l = record {
   passed : (xs : List ℕ) → g.R.CountedRead.remaining l.initial.reader ≡ Some xs
-      → Passed xs l._taken (g.R.CountedRead.remaining l.reader) (g.W.CountedWrite.contents l.initial.writer) (g.W.CountedWrite.contents l.writer) l.initial.noise.level l.noise.level l.initial.noise.words l.noise.words;
+      → Passed xs l._taken (g.R.CountedRead.remaining l.reader) (g.W.CountedWrite.contents l.initial.writer) (g.W.CountedWrite.contents l.writer) l.initial.noise.level l.noise.level l.initial.noise.generator l.noise.generator;
   level : l.noise.level ≡ l.initial.noise.level;
   reads : g.R.Counted.count l.reader ≡ g.R.Counted.count l.initial.reader;
   writes : g.W.Counted.count l.writer ≡ g.W.Counted.count l.initial.writer;
