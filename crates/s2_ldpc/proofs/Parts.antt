@@ -17,7 +17,7 @@ written r info front parities long is size are =
     let same = ap length is in
     let begins = λ (i : ℕ) (h : i < length info). (let low : i < length front = omega arith in get_or_append_left front parities false i low ∙ ap (λ l. bit_at l i) is) in
     record {
-      codeword = codeword_is r info (front ++ parities) long begins (omega (arith, length-append front parities)) (λ j h. (
+      in_code = codeword_is r info (front ++ parities) long begins (omega (arith, length-append front parities)) (λ j h. (
           let past : k ≤ k + j = omega arith in
           let at : k + j - k ≡ j = omega arith in
           get_or-append_right front parities k (k + j) false (same ∙ long) past ∙ ap (bit_at parities) at ∙ are j h
@@ -30,9 +30,9 @@ unique_lem r info a b long one two =
     let k = information_bits r.shape in
     let n = check_count r.shape in
     let all : code_bits r.shape ≡ k + n = omega arith in
-    same_lists a b (one.codeword.long ∙ sym two.codeword.long) (λ i d h. (
-    let low : i < k + n = omega (arith, one.codeword.long) in
-    let size : length b ≡ length a = two.codeword.long ∙ sym one.codeword.long in
+    same_lists a b (one.in_code.long ∙ sym two.in_code.long) (λ i d h. (
+    let low : i < k + n = omega (arith, one.in_code.long) in
+    let size : length b ≡ length a = two.in_code.long ∙ sym one.in_code.long in
     get_or_default a i d false h ∙ same i low ∙ sym (get_or_default b i d false (omega arith))
     ))
   where
@@ -44,6 +44,6 @@ unique_lem r info a b long one two =
           | inr ge ↦ (
               let at : i ≡ k + (i - k) = omega arith in
               let short : i - k < check_count r.shape = omega arith in
-              ap (bit_at a) at ∙ parities_are r info a long one.begins one.codeword (i - k) short ∙ sym (ap (bit_at b) at ∙ parities_are r info b long two.begins two.codeword (i - k) short)
+              ap (bit_at a) at ∙ parities_are r info a long one.begins one.in_code (i - k) short ∙ sym (ap (bit_at b) at ∙ parities_are r info b long two.begins two.in_code (i - k) short)
               )
         ]

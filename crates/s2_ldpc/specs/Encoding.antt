@@ -6,9 +6,9 @@ use Rattle.s2_rows.specs.Rows.{Rows}
 use Rattle.s2_matrix.specs.Code.{Code, code_of, IsCodeword}
 
 -- a codeword that begins with the information bits
-pub record IsCodewordOf (code : Code) (info word : List Bool) : Type 0 where
-  pub codeword : IsCodeword code word
-  pub begins : (i : ℕ) → i < length info → bit_at word i ≡ bit_at info i
+pub record IsCodewordOf (code : Code) (info codeword : List Bool) : Type 0 where
+  pub in_code : IsCodeword code codeword
+  pub begins : (i : ℕ) → i < length info → bit_at codeword i ≡ bit_at info i
 
 -- two codewords that begin with the same k information bits are the same
 abbrev pub UniqueLaw : Type 0

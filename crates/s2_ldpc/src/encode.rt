@@ -20,13 +20,13 @@ fn encode(matrix: &Matrix, info: &[bool], codeword: &mut [bool])
 
 /// Writes the codeword that begins with the information bits (EN 302 307-1, 5.3.2).
 ///
-/// `info` has the k information bits of the matrix's shape, group * groups of them. `word` has
+/// `info` has the k information bits of the matrix's shape, group * groups of them. `codeword` has
 /// n bits, group * (groups + q): for the standard's codes 64800 or 16200. Each is written, the n - k
 /// parity bits after the information bits.
-pub fn encode_into(matrix: &Matrix, info: &Bits, word: &mut Bits)
+pub fn encode_into(matrix: &Matrix, info: &Bits, codeword: &mut Bits)
     requires info { length info.now ≡ information_bits matrix.now.shape }
-    requires word { length word.old ≡ (code_of matrix.now).bits }
-    ensures { IsCodewordOf (code_of matrix.now) info.now word.new }
+    requires codeword { length codeword.old ≡ (code_of matrix.now).bits }
+    ensures { IsCodewordOf (code_of matrix.now) info.now codeword.new }
 {
-    encode(matrix, info.truths(), word.truths_mut());
+    encode(matrix, info.truths(), codeword.truths_mut());
 }

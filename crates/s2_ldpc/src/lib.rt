@@ -5,9 +5,9 @@
 //! other does. It takes no memory.
 //!
 //! ```
-//! let mut word = Bits::zeroed(alloc, matrix.bits())?;
-//! encode_into(&matrix, &info, &mut word);
-//! assert!(matrix.satisfied(&word));
+//! let mut codeword = Bits::zeroed(alloc, matrix.bits())?;
+//! encode_into(&matrix, &info, &mut codeword);
+//! assert!(matrix.satisfied(&codeword));
 //! ```
 #![tactic(auto)]
 

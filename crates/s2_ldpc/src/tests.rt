@@ -15,7 +15,7 @@ fn spell(bytes: &[u8], bits: &mut [bool]) {
     }
 }
 
-/// The codeword of these information bits, over a word of ones.
+/// The codeword of these information bits, over ones.
 fn encoded<R: Abort + AllocGlobal>(
     rt: &R,
     shape: Option<Shape>,
@@ -27,18 +27,18 @@ fn encoded<R: Abort + AllocGlobal>(
     let matrix = Matrix::build(rt.alloc(), &rows)?;
     let mut bits = Bits::zeroed(rt.alloc(), matrix.shape().k())?;
     spell(info, bits.truths_mut());
-    let mut word = Bits::zeroed(rt.alloc(), matrix.shape().n())?;
-    word.truths_mut().fill(true);
-    encode_into(&matrix, &bits, &mut word);
-    Ok(word)
+    let mut codeword = Bits::zeroed(rt.alloc(), matrix.shape().n())?;
+    codeword.truths_mut().fill(true);
+    encode_into(&matrix, &bits, &mut codeword);
+    Ok(codeword)
 }
 
 #[test]
 fn encodes_bit_0_alone(rt: HostRuntime) -> Result<(), Fail> {
-    let word = encoded(&rt, Shape::new(4, 2, 3), b"0 4 8\n0 1 2\n", &[0x80])?;
-    assert_eq!(rt; word.len(), 20);
+    let codeword = encoded(&rt, Shape::new(4, 2, 3), b"0 4 8\n0 1 2\n", &[0x80])?;
+    assert_eq!(rt; codeword.len(), 20);
     assert_eq!(rt;
-        [word.byte(0), word.byte(1), word.byte(2)],
+        [codeword.byte(0), codeword.byte(1), codeword.byte(2)],
         [0x80, 0xf0, 0xf0]
     );
     let zero = encoded(&rt, Shape::new(4, 2, 3), b"0 4 8\n0 1 2\n", &[0])?;
@@ -50,14 +50,14 @@ fn encodes_bit_0_alone(rt: HostRuntime) -> Result<(), Fail> {
 #[test]
 fn encodes_random_bits_as_another_program_does(rt: HostRuntime) -> Result<(), Fail> {
     let rows = b"10 9 11\n12 9 18 2\n10 14\n";
-    let word = encoded(&rt, Shape::new(5, 3, 4), rows, &[0x54, 0x46])?;
-    assert_eq!(rt; word.len(), 35);
+    let codeword = encoded(&rt, Shape::new(5, 3, 4), rows, &[0x54, 0x46])?;
+    assert_eq!(rt; codeword.len(), 35);
     let bytes = [
-        word.byte(0),
-        word.byte(1),
-        word.byte(2),
-        word.byte(3),
-        word.byte(4),
+        codeword.byte(0),
+        codeword.byte(1),
+        codeword.byte(2),
+        codeword.byte(3),
+        codeword.byte(4),
     ];
     assert_eq!(rt; bytes, [0x54, 0x46, 0xb1, 0x6c, 0x00]);
     Ok(())

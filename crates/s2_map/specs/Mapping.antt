@@ -55,8 +55,8 @@ label_of (suc n) bit = 2 * label_of n bit + number (bit n)
 
 -- payload symbol s: the point whose label is the bits of the codeword at the next places
 abbrev pub payload_symbol : Mode → List Bool → ℕ → Symbol
-payload_symbol m word s = point_of m (label_of (width_of m) (λ j. bit_at word (place_of m (width_of m * s + j))))
+payload_symbol m codeword s = point_of m (label_of (width_of m) (λ j. bit_at codeword (place_of m (width_of m * s + j))))
 
 -- the payload of a frame: 90 symbols for each slot
 abbrev pub payload_of : Mode → List Bool → List Symbol
-payload_of m word = map (payload_symbol m word) (range_with_len 0 (90 * slots_of m))
+payload_of m codeword = map (payload_symbol m codeword) (range_with_len 0 (90 * slots_of m))

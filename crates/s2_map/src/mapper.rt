@@ -14,15 +14,15 @@ use s2_mode::{Mode, Symbol};
 /// Writes the payload of a codeword: its bits interleaved (EN 302 307-1, 5.3.3), and each two
 /// (QPSK) or three (8PSK) of them as one symbol (5.4).
 ///
-/// `word` has the codeword's 64800 bits (normal frames) or 16200 (short ones). `payload` has 90
+/// `codeword` has 64800 bits (normal frames) or 16200 (short ones). `payload` has 90
 /// symbols for each slot of the mode: 32400 or 8100 for QPSK, 21600 or 5400 for 8PSK. Each is
 /// written.
-pub fn map_into(mode: Mode, word: &Bits, payload: &mut [Symbol])
-    requires word { length word.now ≡ n_of mode }
+pub fn map_into(mode: Mode, codeword: &Bits, payload: &mut [Symbol])
+    requires codeword { length codeword.now ≡ n_of mode }
     requires room { length payload.old ≡ 90 * slots_of mode }
-    ensures { payload.new ≡ payload_of mode word.now }
+    ensures { payload.new ≡ payload_of mode codeword.now }
 {
-    let bits = word.truths();
+    let bits = codeword.truths();
     if mode.is_qpsk() {
         map_pairs(bits, payload);
     } else {
@@ -54,7 +54,7 @@ fn map_pairs(bits: &[bool], payload: &mut [Symbol])
 /// 8PSK: the codeword is three columns, which are read from the first or from the last one.
 fn map_rows(mode: Mode, bits: &[bool], payload: &mut [Symbol])
     requires psk { is_qpsk mode ≡ false }
-    requires word { length bits.now ≡ n_of mode }
+    requires codeword { length bits.now ≡ n_of mode }
     requires rows { n_of mode ≡ 3 * length payload.old }
     ensures { (s : ℕ) → s < length payload.old → symbol_at payload.new s ≡ payload_symbol mode bits.now s }
 {

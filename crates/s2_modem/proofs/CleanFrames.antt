@@ -230,7 +230,7 @@ module _ (link : Link) (valid : IsMode link.setup.mode) (sizes : HasCodeSizes li
     -- where the codeword that was sent was decided
     pub codeword_delivers : (decided link.rows effort (frame_soft link symbols)).bits ≡ codeword → IsDelivered (frame_decision link effort symbols) 0 header field
     codeword_delivers bits =
-        let whole : length codeword ≡ n_of m = c.is_codeword.codeword.long ∙ code_is m link.rows sizes shape in
+        let whole : length codeword ≡ n_of m = c.is_codeword.in_code.long ∙ code_is m link.rows sizes shape in
         let enough : k_of m ≤ length codeword = omega (arith, whole, sizes.checks) in
         let e : received_word m (decided link.rows effort (frame_soft link symbols)).bits ≡ c.bch_word = ap (received_word m) bits ∙ first_bits m link.rows header field codeword c sizes fits enough in
         let none : differences (k_of m) (received_word m (decided link.rows effort (frame_soft link symbols)).bits) c.bch_word ≡ 0 = ap (λ r. differences (k_of m) r c.bch_word) e ∙ differences_none (k_of m) c.bch_word in
@@ -261,10 +261,10 @@ module _ (link : Link) (valid : IsMode link.setup.mode) (sizes : HasCodeSizes li
     hears_frame at field codeword bytes place fits c =
         let symbols = sent_symbols link codeword in
         let soft = frame_soft link symbols in
-        let long : length codeword ≡ n_of m = c.is_codeword.codeword.long ∙ code_is m link.rows sizes shape in
+        let long : length codeword ≡ n_of m = c.is_codeword.in_code.long ∙ code_is m link.rows sizes shape in
         let heard = received m link.setup.number codeword valid long in
         let hard : hard_decision soft ≡ codeword = heard.soft.decided in
-        let is : IsCodeword (code_of link.rows) (hard_decision soft) = subst (IsCodeword (code_of link.rows)) (sym hard) c.is_codeword.codeword in
+        let is : IsCodeword (code_of link.rows) (hard_decision soft) = subst (IsCodeword (code_of link.rows)) (sym hard) c.is_codeword.in_code in
         let sure = clean_lem link.rows effort soft is in
         let given = codeword_delivers effort at symbols field codeword ro bytes place fits c (ap (λ d. d.bits) sure ∙ hard) in (
           (length_sent codeword, passes_sent codeword heard.header, given.delivered),

@@ -5,10 +5,10 @@ use Rattle.s2_map.specs.Mapping.{payload_of}
 use Rattle.s2_soft.specs.Soft.{soft_values, value_at}
 
 -- soft values that say each bit of a codeword, and none of which is undecided
-pub record Says (values : List ℤ) (word : List Bool) : Type 0 where
-  pub decided : map (λ v. int_lt v (pos 0)) values ≡ word
-  pub some : (k : ℕ) → k < length word → value_at values k ≢ pos 0
+pub record Says (values : List ℤ) (codeword : List Bool) : Type 0 where
+  pub decided : map (λ v. int_lt v (pos 0)) values ≡ codeword
+  pub some : (k : ℕ) → k < length codeword → value_at values k ≢ pos 0
 
 -- the soft values of a codeword's payload say the codeword
 abbrev pub CleanLaw : Type 0
-CleanLaw = (m : Mode) (word : List Bool) → IsMode m → length word ≡ n_of m → Says (soft_values m (payload_of m word)) word
+CleanLaw = (m : Mode) (codeword : List Bool) → IsMode m → length codeword ≡ n_of m → Says (soft_values m (payload_of m codeword)) codeword

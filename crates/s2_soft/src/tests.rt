@@ -329,13 +329,13 @@ fn psk_of_each_length(rt: HostRuntime) {
 
 /// Symbols that have each component on both axes.
 fn fill(symbols: &mut [Symbol]) {
-    let mut word = 0u16;
+    let mut component = 0u16;
     for s in 0..symbols.len() {
         symbols[s] = Symbol {
-            i: word.cast_signed(),
-            q: word.wrapping_mul(40503).cast_signed(),
+            i: component.cast_signed(),
+            q: component.wrapping_mul(40503).cast_signed(),
         };
-        word = word.wrapping_add(1);
+        component = component.wrapping_add(1);
     }
 }
 
@@ -391,24 +391,24 @@ fn reads_columns_in_order(rt: HostRuntime) -> Result<(), Fail> {
 
 /// Whether the soft values of a mode's clean payload say each bit that was sent.
 fn are_told(rt: &HostRuntime, mode: Mode) -> Result<bool, Fail> {
-    let mut word = Bits::zeroed(rt.alloc(), mode.n())?;
+    let mut codeword = Bits::zeroed(rt.alloc(), mode.n())?;
     let mut state = 1u32;
     for k in 0..64800usize {
-        if k < word.len() {
+        if k < codeword.len() {
             state = state.wrapping_mul(1664525).wrapping_add(1013904223);
-            word.set(k, state >> 31 == 1);
+            codeword.set(k, state >> 31 == 1);
         }
     }
-    if word.len() != mode.n() {
+    if codeword.len() != mode.n() {
         return Ok(false);
     }
     let mut payload = vec![in rt.alloc(); Symbol { i: 0, q: 0 }; 90 * mode.slots()]?;
-    map_into(mode, &word, &mut payload);
+    map_into(mode, &codeword, &mut payload);
     let mut soft = vec![in rt.alloc(); 0i16; mode.n()]?;
     soft_into(mode, &payload, &mut soft);
     let mut told = true;
     for (k, value) in soft.iter().enumerate() {
-        told = told && *value != 0 && (*value < 0) == (k < word.len() && word.get(k));
+        told = told && *value != 0 && (*value < 0) == (k < codeword.len() && codeword.get(k));
     }
     Ok(told)
 }

@@ -14,7 +14,7 @@ map_columns-requires-else-modcod-eq-PSK_3_5-clause-blocks c = whole_blocks c.arg
 
 pub returns-then-modcod-eq-PSK_3_5 : goal.returns-then-modcod-eq-PSK_3_5
 returns-then-modcod-eq-PSK_3_5 c = λ s lt.
-    let word : List Bool = c.args.bits.now in
+    let codeword : List Bool = c.args.bits.now in
     let rows = length c.args.payload.now in
     let first = c.split_at.ensures.front in
     let second = c.split_at-2.ensures.front ∙ ap (take rows) c.split_at.ensures.back in
@@ -22,11 +22,11 @@ returns-then-modcod-eq-PSK_3_5 c = λ s lt.
     let is : c.args.mode.modcod ≡ 12 = sym c.modcod.ensures.is ∙ c.if-modcod-eq-PSK_3_5.true in
     c.map_columns.ensures s (omega arith)
     ∙ ((λ t. symbol_at psk_points (4 * number (bit_at (third t) s) + 2 * number (bit_at (second t) s) + number (bit_at (first t) s)))
-    ∙ sym (psk_reversed c.args.mode word rows s c.requires.psk c.requires.rows is lt))
+    ∙ sym (psk_reversed c.args.mode codeword rows s c.requires.psk c.requires.rows is lt))
 
 pub returns-else-modcod-eq-PSK_3_5 : goal.returns-else-modcod-eq-PSK_3_5
 returns-else-modcod-eq-PSK_3_5 c = λ s lt.
-    let word : List Bool = c.args.bits.now in
+    let codeword : List Bool = c.args.bits.now in
     let rows = length c.args.payload.now in
     let first = c.split_at.ensures.front in
     let second = c.split_at-2.ensures.front ∙ ap (take rows) c.split_at.ensures.back in
@@ -34,4 +34,4 @@ returns-else-modcod-eq-PSK_3_5 c = λ s lt.
     let other : c.args.mode.modcod ≢ 12 = λ e. c.if-modcod-eq-PSK_3_5.false (c.modcod.ensures.is ∙ e) in
     c.map_columns-else-modcod-eq-PSK_3_5.ensures s (omega arith)
     ∙ ((λ t. symbol_at psk_points (4 * number (bit_at (first t) s) + 2 * number (bit_at (second t) s) + number (bit_at (third t) s)))
-    ∙ sym (psk_forward c.args.mode word rows s c.requires.psk c.requires.rows other lt))
+    ∙ sym (psk_forward c.args.mode codeword rows s c.requires.psk c.requires.rows other lt))

@@ -31,5 +31,5 @@ returns-clause-codeword c =
     record {
       bch_word = word;
       is_bch_word = subst (λ m. IsBchWordOf m frame word) same_mode (subst (λ x. IsBchWordOf inside.bch x word) is_frame c.encode_into.ensures.is);
-      is_codeword = subst (λ r. IsCodewordOf (code_of r) word c.encode_into-2.new.word) (ap (λ x. x.rows) c.self.view_is) c.encode_into-2.ensures;
+      is_codeword = subst (λ r. IsCodewordOf (code_of r) word c.encode_into-2.new.codeword) (ap (λ x. x.rows) c.self.view_is) c.encode_into-2.ensures;
     }
