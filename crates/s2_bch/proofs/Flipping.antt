@@ -7,8 +7,8 @@ use Rattle.s2_field.specs.Polynomials as P
 use Rattle.s2_bch.specs.Sequences as S
 use Rattle.s2_bch.specs.Flips as flips
 use Rattle.s2_bch.proofs.LocatorTheory.{Each, AllDiffer, dot-same, monic-length, degree-least, elements-are-roots, roots-are-elements}
-use Rattle.s2_bits.specs.Bits.{xor, added}
-use Rattle.s2_bch.specs.Words.{distance, IsMultiple}
+use Rattle.s2_bits.specs.Bits.{xor, added, differences}
+use Rattle.s2_bch.specs.Words.{IsMultiple}
 use Rattle.s2_bch.proofs.WordFacts.{length-added}
 use Rattle.s2_bch.proofs.ValueFacts.{value, value-sum, multiple-root, locators, locators-differ, locators-nonzero, locators-apart, value-power_sum, length-locators, PowersDiffer}
 
@@ -116,7 +116,7 @@ module _ {F : Type 0} (field : Operations F) (L : FieldLaws field) where
   pub decoded : (a : F) (bound t d : ℕ) (g r v w : List Bool) (S' f b : List F) (delta : F)
       → a ≢ field.zero → PowersDiffer field L a bound → 0 < length g
       → ((j : ℕ) → j < t + t → value field L g (power a (suc j)) ≡ field.zero)
-      → IsMultiple g v → length r ≡ length v → length v ≤ bound → distance r v ≤ t
+      → IsMultiple g v → length r ≡ length v → length v ≤ bound → differences (length r) r v ≤ t
       → ((j : ℕ) → j < t + t → get_or S' j field.zero ≡ value field L r (power a (suc j)))
       → S.Shortest field (t + t) d f b delta (S.sequence_of field.zero S')
       → flips.FlipsRoots field a f r w → w ≡ v
@@ -145,7 +145,7 @@ module _ {F : Type 0} (field : Operations F) (L : FieldLaws field) where
   pub degree_few : (a : F) (bound t d : ℕ) (g r v : List Bool) (S' f b : List F) (delta : F)
       → a ≢ field.zero → PowersDiffer field L a bound → 0 < length g
       → ((j : ℕ) → j < t + t → value field L g (power a (suc j)) ≡ field.zero)
-      → IsMultiple g v → length r ≡ length v → length v ≤ bound → distance r v ≤ t
+      → IsMultiple g v → length r ≡ length v → length v ≤ bound → differences (length r) r v ≤ t
       → ((j : ℕ) → j < t + t → get_or S' j field.zero ≡ value field L r (power a (suc j)))
       → S.Shortest field (t + t) d f b delta (S.sequence_of field.zero S') → d ≤ t
   degree_few a bound t d g r v S' f b delta na p hg roots mv e h near syndromes H =
@@ -161,7 +161,7 @@ module _ {F : Type 0} (field : Operations F) (L : FieldLaws field) where
       ∙ add_zero _)
       ∙ value-power_sum field L a error j)
       H in
-      let size : length xs ≡ distance r v = length-locators field L a r v e in
+      let size : length xs ≡ differences (length r) r v = length-locators field L a r v e in
       let few : length xs + length xs ≤ t + t = omega arith in
       let apart : AllDiffer xs = locators-differ field L a bound p error (omega arith) in
       let present : Each (λ x. x ≢ field.zero) xs = locators-nonzero field L a na error in

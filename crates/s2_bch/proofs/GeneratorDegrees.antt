@@ -3,9 +3,9 @@ use Rattle.std.proofs.Common.{◌≡◌, ℕ, zero, suc, ◌+◌, ◌*◌, ◌/�
 use Rattle.std.specs.Prelude.{◌==◌, ◌&&◌}
 use Rattle.s2_mode.specs.Mode.{Mode, HasCodeSizes, kbch_of, k_of, t_of}
 use Rattle.s2_bch.specs.Words.{product, times_bit}
-use Rattle.s2_bits.specs.Bits.{added}
+use Rattle.s2_bits.specs.Bits.{added, bits_of_number}
 use Rattle.s2_bch.proofs.WordFacts.{product-front, length-product}
-use Rattle.s2_bch.specs.Generators.{bits_of, minimal_16, minimal_14, product_of_all, generator_16, generator_14, generator_of}
+use Rattle.s2_bch.specs.Generators.{minimal_16, minimal_14, product_of_all, generator_16, generator_14, generator_of}
 
 -- a polynomial of degree n: it begins with 1, and n bits follow
 pub record HasDegree (n : ℕ) (g : List Bool) : Type 0 where
@@ -22,12 +22,12 @@ degree-product n k f g F G =
       size = length-product f g ∙ omega (arith, F.size, G.size);
     }
 
-length-bits_of : (n v : ℕ) → length (bits_of n v) ≡ n
-length-bits_of zero v = refl
-length-bits_of (suc n) v = ap suc (length-bits_of n v)
+length-bits_of_number : (n v : ℕ) → length (bits_of_number n v) ≡ n
+length-bits_of_number zero v = refl
+length-bits_of_number (suc n) v = ap suc (length-bits_of_number n v)
 
-degree-bits_of : (n v : ℕ) → (v / 2 ^ n % 2 == 1) ≡ true → HasDegree n (bits_of (suc n) v)
-degree-bits_of n v e = record { begins = ap (λ b. b ∷ bits_of n v) e; size = ap suc (length-bits_of n v) }
+degree-bits_of_number : (n v : ℕ) → (v / 2 ^ n % 2 == 1) ≡ true → HasDegree n (bits_of_number (suc n) v)
+degree-bits_of_number n v e = record { begins = ap (λ b. b ∷ bits_of_number n v) e; size = ap suc (length-bits_of_number n v) }
 
 -- each of these numbers has the bit of x^n
 abbrev pub all_top : ℕ → List ℕ → Bool
@@ -38,14 +38,14 @@ both : (a b : Bool) → (a && b) ≡ true → (a ≡ true) × (b ≡ true)
 both true b e = (refl, e)
 both false b e = (e, absurd (cc))
 
-degree-product_of_all : (n t : ℕ) (vs : List ℕ) → all_top n vs ≡ true → t ≤ length vs → HasDegree (n * t) (product_of_all (map (bits_of (suc n)) (take t vs)))
+degree-product_of_all : (n t : ℕ) (vs : List ℕ) → all_top n vs ≡ true → t ≤ length vs → HasDegree (n * t) (product_of_all (map (bits_of_number (suc n)) (take t vs)))
 degree-product_of_all n zero vs h k = record { begins = refl; size = omega arith }
 degree-product_of_all n (suc t) [] h k = absurd (omega arith)
 degree-product_of_all n (suc t) (v ∷ vs) h k =
     let parts = both (v / 2 ^ n % 2 == 1) (all_top n vs) h in
     let e : n + n * t ≡ n * suc t = omega arith in
-    subst (λ d. HasDegree d (product (bits_of (suc n) v) (product_of_all (map (bits_of (suc n)) (take t vs))))) e
-    (degree-product n (n * t) (bits_of (suc n) v) _ (degree-bits_of n v parts.0) (degree-product_of_all n t vs parts.1 (omega arith)))
+    subst (λ d. HasDegree d (product (bits_of_number (suc n) v) (product_of_all (map (bits_of_number (suc n)) (take t vs))))) e
+    (degree-product n (n * t) (bits_of_number (suc n) v) _ (degree-bits_of_number n v parts.0) (degree-product_of_all n t vs parts.1 (omega arith)))
 
 degree-16 : (t : ℕ) → t ≤ 12 → HasDegree (16 * t) (generator_16 t)
 unfolding generator_16

@@ -3,7 +3,7 @@ use Rattle.std.specs.Prelude.{ℕ, ◌≡◌, ◌<◌, ◌≤◌, Bool, true, Li
 use Rattle.std.proofs.Common.{sym, ◌∙◌, ap, subst, arith}
 use Rattle.s2_mode.specs.Mode.{Mode, t_of, k_of, kbch_of}
 use Rattle.std.specs.List.{refill}
-use Rattle.s2_bch.specs.Words.{IsWordOf, distance}
+use Rattle.s2_bch.specs.Words.{IsWordOf}
 use Rattle.s2_bch.proofs.WordFacts.{take-append}
 use Rattle.s2_bits.specs.Bits.{differences}
 use Rattle.s2_bch.specs.Codes.{IsBchWord, IsWithin}
@@ -37,23 +37,23 @@ refilled old lent new el e =
     ap (λ n. take n (new ++ drop (length new) old)) size ∙ take-append new _
 
 pub within_of : (m : Mode) (old lent new : List Bool) (n : ℕ) → lent ≡ old → length new ≡ length lent
-    → IsBchWord m new × (n ≡ distance lent new) × (n ≤ t_of m)
+    → IsBchWord m new × (n ≡ differences (length lent) lent new) × (n ≤ t_of m)
     → IsWithin m old (refill (length old) old new) × (n ≡ differences (length old) old (refill (length old) old new))
 within_of m old lent new n el e h =
-    let k : distance lent new ≡ distance old new = ap (λ u. distance u new) el in
+    let k : differences (length lent) lent new ≡ differences (length old) old new = ap (λ u. differences (length u) u new) el in
     subst (λ u. IsWithin m old u × (n ≡ differences (length old) old u)) (sym (refilled old lent new el e))
     (record { word = h.0; near = omega (arith, k, h.1, h.2) }, h.1 ∙ k)
 
 pub only_of : (m : Mode) (old lent new : List Bool) → lent ≡ old → length new ≡ length lent → length old ≡ k_of m
-    → ((v : List Bool) → IsBchWord m v → distance lent v ≤ t_of m → new ≡ v)
+    → ((v : List Bool) → IsBchWord m v → differences (length lent) lent v ≤ t_of m → new ≡ v)
     → (v : List Bool) → IsWithin m old v → v ≡ refill (length old) old new
 only_of m old lent new el e lo h v w =
-    let k : distance lent v ≡ distance old v = ap (λ u. distance u v) el in
+    let k : differences (length lent) lent v ≡ differences (length old) old v = ap (λ u. differences (length u) u v) el in
     sym (h v w.word (omega (arith, k, w.near))) ∙ sym (refilled old lent new el e)
 
 pub none_of : (m : Mode) (old lent : List Bool) → lent ≡ old → length old ≡ k_of m
-    → ((v : List Bool) → IsBchWord m v → t_of m < distance lent v) → (v : List Bool) → IsWithin m old v → ⊥
+    → ((v : List Bool) → IsBchWord m v → t_of m < differences (length lent) lent v) → (v : List Bool) → IsWithin m old v → ⊥
 none_of m old lent el lo h v w =
-    let k : distance lent v ≡ distance old v = ap (λ u. distance u v) el in
+    let k : differences (length lent) lent v ≡ differences (length old) old v = ap (λ u. differences (length u) u v) el in
     let far = h v w.word in
     omega (arith, k, w.near, far)

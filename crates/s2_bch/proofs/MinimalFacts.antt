@@ -8,8 +8,9 @@ use Rattle.s2_field.specs.Polynomials.{pow}
 use Rattle.s2_field.specs.Gf16 as gf16
 use Rattle.s2_field.specs.Gf14 as gf14
 use Rattle.s2_mode.specs.Mode.{Mode, IsMode, t_of}
+use Rattle.s2_bits.specs.Bits.{bits_of_number}
 use Rattle.s2_bch.specs.Sequences as S
-use Rattle.s2_bch.specs.Generators.{bits_of, minimal_16, minimal_14, generator_16, generator_14, generator_of}
+use Rattle.s2_bch.specs.Generators.{minimal_16, minimal_14, generator_16, generator_14, generator_of}
 use Rattle.s2_bch.specs.Minimal.{elements, conjugate, conjugate_product, IsMinimal, IsProductOfMinimals}
 use Rattle.s2_bch.proofs.GeneratorDegrees.{generator_normal, generator_short}
 use Rattle.s2_bch.proofs.GeneratorFacts.{t_normal, t_short}
@@ -50,7 +51,7 @@ digits (false ∷ w) = 0 ∷ digits w
 abbrev AreMinimal : ℕ → ℕ → ℕ → List ℕ → Type 0
 AreMinimal m low i [] = Unit {0}
 AreMinimal m low i (f ∷ fs) =
-    (digits (reverse (bits_of (suc m) f)) ≡ conjugates m low m (to_power m low 2 i))
+    (digits (reverse (bits_of_number (suc m) f)) ≡ conjugates m low m (to_power m low 2 i))
     × (differs m low (m - 1) (to_power m low 2 i) (to_power m low 2 i) ≡ true)
     × AreMinimal m low (i + 2) fs
 
@@ -165,15 +166,15 @@ module _ (m low : ℕ) {F : Type 0} (field : Operations F) (number : F → ℕ)
       other-conjugate n i b (field.product c c)
       (subst (λ x. differs m low n (number b) x ≡ true) (sym (number-mul c c)) (and_parts _ _ h).1) (omega arith) e
 
-  minimal-at : (f i : ℕ) → digits (reverse (bits_of (suc m) f)) ≡ conjugates m low m (to_power m low 2 i)
+  minimal-at : (f i : ℕ) → digits (reverse (bits_of_number (suc m) f)) ≡ conjugates m low m (to_power m low 2 i)
       → differs m low (m - 1) (to_power m low 2 i) (to_power m low 2 i) ≡ true
-      → IsMinimal field m (pow field a i) (bits_of (suc m) f)
+      → IsMinimal field m (pow field a i) (bits_of_number (suc m) f)
   minimal-at f i coefficients walk =
       let b : F = pow field a i in
       let back : to_power m low 2 i ≡ number b = sym (number-power i) in
       record {
         product = same-list _ _
-            (numbers-elements (reverse (bits_of (suc m) f)) ∙ coefficients ∙ ap (conjugates m low m) back ∙ sym (numbers-conjugates m b));
+            (numbers-elements (reverse (bits_of_number (suc m) f)) ∙ coefficients ∙ ap (conjugates m low m) back ∙ sym (numbers-conjugates m b));
         others = λ j some hj e.
             (let before : j ≡ suc (j - 1) = omega arith in
             other-conjugate (m - 1) (j - 1) b b (subst (λ x. differs m low (m - 1) x x ≡ true) back walk) (omega arith)
@@ -181,20 +182,20 @@ module _ (m low : ℕ) {F : Type 0} (field : Operations F) (number : F → ℕ)
       }
 
   each-minimal : (fs : List ℕ) (t i j : ℕ) → AreMinimal m low i fs → t ≤ length fs → j < t
-      → IsMinimal field m (pow field a (i + 2 * j)) (get_or (map (bits_of (suc m)) (take t fs)) j [])
+      → IsMinimal field m (pow field a (i + 2 * j)) (get_or (map (bits_of_number (suc m)) (take t fs)) j [])
   each-minimal fs zero i j h le hj = absurd (omega arith)
   each-minimal [] (suc t) i j h le hj = absurd (omega arith)
   each-minimal (f ∷ fs) (suc t) i zero h le hj =
       let e : i ≡ i + 2 * zero = omega arith in
-      subst (λ n. IsMinimal field m (pow field a n) (bits_of (suc m) f)) e (minimal-at f i h.0 h.1)
+      subst (λ n. IsMinimal field m (pow field a n) (bits_of_number (suc m) f)) e (minimal-at f i h.0 h.1)
   each-minimal (f ∷ fs) (suc t) i (suc j) h le hj =
       let e : i + 2 + 2 * j ≡ i + 2 * suc j = omega arith in
-      subst (λ n. IsMinimal field m (pow field a n) (get_or (map (bits_of (suc m)) (take t fs)) j [])) e
+      subst (λ n. IsMinimal field m (pow field a n) (get_or (map (bits_of_number (suc m)) (take t fs)) j [])) e
       (each-minimal fs t (i + 2) j h.2 (omega arith) (omega arith))
 
 -- ---- the two fields
 
-length-first : (n t : ℕ) (fs : List ℕ) → t ≤ length fs → length (map (bits_of n) (take t fs)) ≡ t
+length-first : (n t : ℕ) (fs : List ℕ) → t ≤ length fs → length (map (bits_of_number n) (take t fs)) ≡ t
 length-first n zero fs le = refl
 length-first n (suc t) [] le = absurd (omega arith)
 length-first n (suc t) (f ∷ fs) le = ap suc (length-first n t fs (omega arith))
@@ -202,7 +203,7 @@ length-first n (suc t) (f ∷ fs) le = ap suc (length-first n t fs (omega arith)
 minimals_16 : (t : ℕ) → t ≤ 12 → IsProductOfMinimals gf16.field 16 t gf16.alpha (generator_16 t)
 unfolding generator_16
 minimals_16 t le = record {
-  factors = map (bits_of 17) (take t minimal_16);
+  factors = map (bits_of_number 17) (take t minimal_16);
   count = length-first 17 t minimal_16 le;
   each = λ j hj.
       each-minimal 16 45 gf16.field gf16.number refl refl (λ x y. refl) (λ x y. refl) gf16.same gf16.alpha refl
@@ -213,7 +214,7 @@ minimals_16 t le = record {
 minimals_14 : (t : ℕ) → t ≤ 12 → IsProductOfMinimals gf14.field 14 t gf14.alpha (generator_14 t)
 unfolding generator_14
 minimals_14 t le = record {
-  factors = map (bits_of 15) (take t minimal_14);
+  factors = map (bits_of_number 15) (take t minimal_14);
   count = length-first 15 t minimal_14 le;
   each = λ j hj.
       each-minimal 14 43 gf14.field gf14.number refl refl (λ x y. refl) (λ x y. refl) gf14.same gf14.alpha refl

@@ -4,11 +4,12 @@ use Rattle.std.proofs.Common.{sym, subst, arith}
 use Rattle.s2_field.specs.Operations.{Operations}
 use Rattle.s2_field.specs.Laws.{FieldLaws}
 use Rattle.s2_mode.specs.Mode.{Mode, IsMode, HasCodeSizes, k_of, kbch_of, t_of}
+use Rattle.s2_bits.specs.Bits.{differences}
 use Rattle.s2_bch.specs.Codes.{IsBchWord}
 use Rattle.s2_bch.specs.Generators.{generator_of}
 use Rattle.s2_bch.specs.Registers.{rest_of}
 use Rattle.s2_bch.specs.Values.{HasRoots, HaveSameValues}
-use Rattle.s2_bch.specs.Words.{distance, IsMultiple}
+use Rattle.s2_bch.specs.Words.{IsMultiple}
 use Rattle.s2_bch.proofs.GeneratorFacts.{IsGeneratorIn, generator_facts}
 use Rattle.s2_bch.proofs.RestFacts.{values_of_rest}
 
@@ -23,8 +24,8 @@ module _ {F : Type 0} (field : Operations F) (laws : FieldLaws field) (a : F) (d
 
   -- the only word in reach is a word of the mode's code
   pub only_in_reach : (old new : List Bool) → length old ≡ k_of m
-      → ((g v : List Bool) → 0 < length g → HasRoots field a (t + t) g → IsMultiple g v → length v ≡ length old → distance old v ≤ t → new ≡ v)
-      → (v : List Bool) → IsBchWord m v → distance old v ≤ t_of m → new ≡ v
+      → ((g v : List Bool) → 0 < length g → HasRoots field a (t + t) g → IsMultiple g v → length v ≡ length old → differences (length old) old v ≤ t → new ≡ v)
+      → (v : List Bool) → IsBchWord m v → differences (length old) old v ≤ t_of m → new ≡ v
   only_in_reach old new size only v word near =
       only (generator_of m) v (omega (arith, made.size)) (subst (λ t. HasRoots field a (t + t) (generator_of m)) (sym same) made.roots)
       word.multiple (omega (arith, word.size, size)) (omega (arith, same, near))

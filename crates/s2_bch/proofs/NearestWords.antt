@@ -7,7 +7,7 @@ use Rattle.std.proofs.lemmas.List.{length-map, get_or-map}
 use Rattle.std.proofs.lemmas.List.Elements.{All-nil, All-cons, All-head, All-tail, All-append, All-map, All-weaker, All-contains, Contains-append_left, Contains-append_right}
 use Rattle.s2_bits.specs.Bits.{xor, differences, number}
 use Rattle.s2_mode.specs.Mode.{Mode, IsMode, HasCodeSizes, kbch_of, k_of, t_of}
-use Rattle.s2_bch.specs.Words.{product, distance}
+use Rattle.s2_bch.specs.Words.{product}
 use Rattle.s2_bch.specs.Codes.{IsBchWord, IsWithin}
 use Rattle.s2_bch.specs.Generators.{generator_of}
 use Rattle.s2_bch.specs.Decoding.{all_lists, all_words, nearest}
@@ -103,7 +103,7 @@ bit-triangle false true false = omega arith
 bit-triangle false false true = omega arith
 bit-triangle false false false = omega arith
 
-triangle : (r u v : List Bool) → length u ≡ length r → length v ≡ length r → distance u v ≤ distance r u + distance r v
+triangle : (r u v : List Bool) → length u ≡ length r → length v ≡ length r → differences (length u) u v ≤ differences (length r) r u + differences (length r) r v
 triangle [] [] v e h = omega arith
 triangle [] (b ∷ u) v e h = absurd (omega arith)
 triangle (a ∷ r) [] v e h = absurd (omega arith)

@@ -4,12 +4,11 @@ use Rattle.std.proofs.Common.{sym, ◌∙◌, ap, subst, arith, get_or, get_or-s
 use Rattle.std.proofs.Math.Nat.{mul-le-mul_left, mod-lt, mod-eq_of_lt, mul-add-mod_self_left, mod-add-div, div-lt_iff_lt-mul}
 use Rattle.std.proofs.lemmas.List.{length-set}
 use Rattle.std.proofs.lemmas.Bool.{cases_lt}
-use Rattle.s2_bits.specs.Bits.{xor, number}
+use Rattle.s2_bits.specs.Bits.{xor, number, differences}
 use Rattle.s2_field.specs.Operations.{Operations}
 use Rattle.s2_field.specs.Polynomials as P
 use Rattle.s2_bch.specs.Flips as flips
 use Rattle.s2_bch.specs.Flips.{bit_from_end}
-use Rattle.s2_bch.specs.Words.{distance}
 use Rattle.s2_bch.proofs.Distances.{distance-cons, distance_self}
 
 -- of a word of n bits
@@ -53,13 +52,13 @@ turned-number false true e = absurd (cc)
 
 -- a place more in which two words differ
 pub distance_turned : (o now : List Bool) (p : ℕ) → length o ≡ length now → p < length now → get_or now p false ≡ get_or o p false
-    → distance o (set now p (not (get_or now p false))) ≡ distance o now + 1
+    → differences (length o) o (set now p (not (get_or now p false))) ≡ differences (length o) o now + 1
 distance_turned [] now p size h same = absurd (omega arith)
 distance_turned (x ∷ o) [] p size h same = absurd (omega arith)
 distance_turned (x ∷ o) (y ∷ now) zero size h same =
     omega (arith, turned-number x y same, distance-cons x (not y) o now, distance-cons x y o now)
 distance_turned (x ∷ o) (y ∷ now) (suc p) size h same =
-    let rest : distance o (set now p (not (get_or now p false))) ≡ distance o now + 1 = distance_turned o now p (omega arith) (omega arith) same in
+    let rest : differences (length o) o (set now p (not (get_or now p false))) ≡ differences (length o) o now + 1 = distance_turned o now p (omega arith) (omega arith) same in
     omega (arith, rest, distance-cons x y o (set now p (not (get_or now p false))), distance-cons x y o now)
 
 not-xor : (b : Bool) → not b ≡ xor true b
@@ -87,7 +86,7 @@ module _ {F : Type 0} (nil : F) (values : List F) (stride step : ℕ) (old : Lis
     pub counted : (o : List Bool) → length o ≡ length old
         → ((k : ℕ) → k < 16 → stride * k + step < length old
         → get_or old (length old - 1 - (stride * k + step)) false ≡ get_or o (length old - 1 - (stride * k + step)) false)
-        → distance o now ≡ distance o old + count
+        → differences (length o) o now ≡ differences (length o) o old + count
 
   pub lanes_start : AreDone 0 0 old
   lanes_start = record {
@@ -155,7 +154,7 @@ module _ {F : Type 0} (field : Operations F) (a : F) (f : List F) (stride : ℕ)
     pub size : length now ≡ length old
     pub right : (e : ℕ) → e < length old → e % stride < steps → IsRightAt field a f old now e
     pub left : (e : ℕ) → e < length old → steps ≤ e % stride → get_or now (length old - 1 - e) false ≡ get_or old (length old - 1 - e) false
-    pub counted : count ≡ distance old now
+    pub counted : count ≡ differences (length old) old now
 
   pub search_start : AreSearched 0 0 old
   search_start = record {
@@ -210,7 +209,7 @@ module _ {F : Type 0} (field : Operations F) (a : F) (f : List F) (stride : ℕ)
         → ((l : ℕ) → l < 16 → stride * l + step < length now → get_or values l field.zero ≢ field.zero
         → bit_from_end next (stride * l + step) ≡ bit_from_end now (stride * l + step))
         → ((e : ℕ) → e < length now → e % stride ≢ step → bit_from_end next e ≡ bit_from_end now e)
-        → distance old next ≡ distance old now + more
+        → differences (length old) old next ≡ differences (length old) old now + more
         → AreSearched (step + 1) (count + more) next
     step_turned next more long hit miss others further = record {
       size = long ∙ D.size;

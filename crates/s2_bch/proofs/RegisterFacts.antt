@@ -13,10 +13,10 @@ use Rattle.s2_bch.proofs.DivisionFacts.{number_of-below, number_of-sum, xor-scal
 use Rattle.s2_bch.specs.declared.register.Register.{Register}
 use Rattle.s2_bch.specs.Registers.{value_of, Holds}
 
--- words added one by one
-pub xor_words : (a b c d e f : ℕ) → b < 2 ^ 64 → c < 2 ^ 64 → e < 2 ^ 64 → f < 2 ^ 64
+-- blocks of 64 bits added one by one
+pub xor_blocks : (a b c d e f : ℕ) → b < 2 ^ 64 → c < 2 ^ 64 → e < 2 ^ 64 → f < 2 ^ 64
     → (bit_xor a d * 2 ^ 64 + bit_xor b e) * 2 ^ 64 + bit_xor c f ≡ bit_xor ((a * 2 ^ 64 + b) * 2 ^ 64 + c) ((d * 2 ^ 64 + e) * 2 ^ 64 + f)
-xor_words a b c d e f hb hc he hf =
+xor_blocks a b c d e f hb hc he hf =
     sym (xor_block 64 (a * 2 ^ 64 + b) (d * 2 ^ 64 + e) c f hc hf
     ∙ ap (λ x. x * 2 ^ 64 + bit_xor c f) (xor_block 64 a d b e hb he))
 
@@ -105,14 +105,14 @@ byte_step low v byte h =
     let up : v * 2 ^ 8 % 2 ^ 192 ≡ v % 2 ^ 184 * 2 ^ 8 = omega arith in
     at_once low 8 v (v / 2 ^ 184) (v % 2 ^ 184) byte (v * 2 ^ 8 % 2 ^ 192) few whole fits up
 
-pub word_step : (low v word : ℕ) → v < 2 ^ 192
-    → bit_xor (v * 2 ^ 64 % 2 ^ 192) (steps 192 low 64 (bit_xor (v / 2 ^ 128) word * 2 ^ 128)) ≡ steps 192 low 64 (bit_xor v (word * 2 ^ 128))
-word_step low v word h =
+pub block_step : (low v block : ℕ) → v < 2 ^ 192
+    → bit_xor (v * 2 ^ 64 % 2 ^ 192) (steps 192 low 64 (bit_xor (v / 2 ^ 128) block * 2 ^ 128)) ≡ steps 192 low 64 (bit_xor v (block * 2 ^ 128))
+block_step low v block h =
     let few : 64 ≤ 192 = omega arith in
     let whole : v ≡ v / 2 ^ 128 * 2 ^ 128 + v % 2 ^ 128 = omega arith in
     let fits : v % 2 ^ 128 < 2 ^ 128 = omega arith in
     let up : v * 2 ^ 64 % 2 ^ 192 ≡ v % 2 ^ 128 * 2 ^ 64 = omega arith in
-    at_once low 64 v (v / 2 ^ 128) (v % 2 ^ 128) word (v * 2 ^ 64 % 2 ^ 192) few whole fits up
+    at_once low 64 v (v / 2 ^ 128) (v % 2 ^ 128) block (v * 2 ^ 64 % 2 ^ 192) few whole fits up
 
 -- what the upper and the lower half of a number at the top leave together
 pub halves_carried : (low w n p q k v a b : ℕ) → p + w ≡ 192 → q + w ≡ p → k ≡ w + n

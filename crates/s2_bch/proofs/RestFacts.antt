@@ -6,9 +6,9 @@ use Rattle.std.proofs.lemmas.Bool.{cases_lt}
 use lib.Pow.{pow_pos}
 use Rattle.s2_field.specs.Operations.{Operations}
 use Rattle.s2_field.specs.Laws.{FieldLaws}
-use Rattle.s2_bits.specs.Bits.{added}
+use Rattle.s2_bits.specs.Bits.{added, differences}
 use Rattle.s2_bits.proofs.Sums.{xor_same}
-use Rattle.s2_bch.specs.Words.{IsMultiple, distance}
+use Rattle.s2_bch.specs.Words.{IsMultiple}
 use Rattle.s2_bch.proofs.WordFacts.{encoded-is-word, word-unique, length-added}
 use Rattle.s2_bch.specs.Division.{number_of}
 use Rattle.s2_bch.proofs.LocatorTheory.{zero-add as nil-add}
@@ -107,9 +107,9 @@ module _ (t : List Bool) (k : ℕ) (w : List Bool) (size : length w ≡ k + leng
 
 -- the only candidate is no multiple
 pub none_left : (limit k : ℕ) (t r w v : List Bool) (s : Register) → length w ≡ k + length t → Holds s (rest_of t k w) → (value_of s ≡ 0 → ⊥)
-    → IsMultiple (true ∷ t) v → (distance r v ≤ limit → w ≡ v) → limit < distance r v
+    → IsMultiple (true ∷ t) v → (differences (length r) r v ≤ limit → w ≡ v) → limit < differences (length r) r v
 none_left limit k t r w v s size h left mv only =
-    elim (cases_lt limit (distance r v)) [
+    elim (cases_lt limit (differences (length r) r v)) [
       | inl far ↦ far
       | inr near ↦ absurd (left (word_rest t k w size s h (subst (IsMultiple (true ∷ t)) (sym (only near)) mv)))
     ]

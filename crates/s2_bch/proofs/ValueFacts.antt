@@ -7,8 +7,8 @@ use Rattle.s2_field.specs.Laws.{FieldLaws}
 use Rattle.s2_bch.specs.Values as V
 use Rattle.s2_bch.specs.Values.{pick}
 use Rattle.s2_bch.proofs.LocatorTheory.{Each, AllDiffer, pow, power_sum, coefficients-vanish, zero-mul, mul-zero, zero-add as nil-add, add-mul, add_swap, no_zero_divisors}
-use Rattle.s2_bits.specs.Bits.{xor, added}
-use Rattle.s2_bch.specs.Words.{distance, times_bit, product, IsMultiple}
+use Rattle.s2_bits.specs.Bits.{xor, added, differences}
+use Rattle.s2_bch.specs.Words.{times_bit, product, IsMultiple}
 use Rattle.s2_bch.proofs.Distances.{distance-cons}
 use Rattle.s2_bch.proofs.WordFacts.{length-added, length-times_bit, length-product}
 
@@ -166,7 +166,7 @@ module _ {F : Type 0} (field : Operations F) (L : FieldLaws field) where
   no-ones-same a (false ∷ u) (true ∷ v) e h = cc
   no-ones-same a (false ∷ u) (false ∷ v) e h = ap (λ x. false ∷ x) (no-ones-same a u v (omega arith) h)
 
-  pub length-locators : (a : F) (u v : List Bool) → length u ≡ length v → length (locators a (added u v)) ≡ distance u v
+  pub length-locators : (a : F) (u v : List Bool) → length u ≡ length v → length (locators a (added u v)) ≡ differences (length u) u v
   length-locators a [] [] e = refl
   length-locators a [] (c ∷ v) e = absurd (omega arith)
   length-locators a (b ∷ u) [] e = absurd (omega arith)
@@ -183,9 +183,9 @@ module _ {F : Type 0} (field : Operations F) (L : FieldLaws field) where
   -- the BCH bound
   pub far-apart : (a : F) (bound r : ℕ) (g u v : List Bool) → a ≢ field.zero → PowersDiffer a bound → 0 < length g
       → ((j : ℕ) → j < r → value g (power a (suc j)) ≡ field.zero)
-      → IsMultiple g u → IsMultiple g v → length u ≡ length v → length v ≤ bound → u ≢ v → r < distance u v
+      → IsMultiple g u → IsMultiple g v → length u ≡ length v → length v ≤ bound → u ≢ v → r < differences (length u) u v
   far-apart a bound r g u v n p hg roots mu mv e h ne =
-      elim (cases_lt r (distance u v)) [
+      elim (cases_lt r (differences (length u) u v)) [
         | inl more ↦ more
         | inr few ↦ absurd (ne (no-ones-same a u v e
             (few-ones a bound r (added u v) n p (omega (arith, length-added u v))
@@ -198,7 +198,7 @@ module _ {F : Type 0} (field : Operations F) (L : FieldLaws field) where
   -- two words near each other are one
   pub close_same : (a : F) (bound r : ℕ) (g u v : List Bool) → a ≢ field.zero → PowersDiffer a bound → 0 < length g
       → ((j : ℕ) → j < r → value g (power a (suc j)) ≡ field.zero)
-      → IsMultiple g u → IsMultiple g v → length u ≡ length v → length v ≤ bound → distance u v ≤ r → u ≡ v
+      → IsMultiple g u → IsMultiple g v → length u ≡ length v → length v ≤ bound → differences (length u) u v ≤ r → u ≡ v
   close_same a bound r g u v n p hg roots mu mv e h near =
       no-ones-same a u v e
       (few-ones a bound r (added u v) n p (omega (arith, length-added u v))

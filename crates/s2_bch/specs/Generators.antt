@@ -1,12 +1,8 @@
 -- The generators (EN 302 307-1, 5.3.1): products of the minimal polynomials of a, a^3, a^5 and so on.
-use Rattle.std.specs.Prelude.{ℕ, zero, suc, ◌/◌, ◌%◌, ◌^◌, Bool, true, ◌==◌, List, [], ◌∷◌, take, map, if◌then◌else◌}
+use Rattle.std.specs.Prelude.{ℕ, Bool, true, List, [], ◌∷◌, take, map, if◌then◌else◌}
+use Rattle.s2_bits.specs.Bits.{bits_of_number}
 use Rattle.s2_bch.specs.Words.{product}
 use Rattle.s2_mode.specs.Mode.{Mode, t_of}
-
--- the n lowest bits of a number, the highest first
-abbrev pub bits_of : ℕ → ℕ → List Bool
-bits_of zero v = []
-bits_of (suc n) v = (v / 2 ^ n % 2 == 1) ∷ bits_of n v
 
 -- the minimal polynomials of a, a^3, .., a^23 in the field of 2^16 elements, x^i at bit i
 abbrev pub minimal_16 : List ℕ
@@ -22,10 +18,10 @@ product_of_all (f ∷ fs) = product f (product_of_all fs)
 
 -- the product of the minimal polynomials of a, a^3, .., a^(2t-1), the highest power first
 unfoldable pub generator_16 : ℕ → List Bool
-generator_16 t = product_of_all (map (bits_of 17) (take t minimal_16))
+generator_16 t = product_of_all (map (bits_of_number 17) (take t minimal_16))
 
 unfoldable pub generator_14 : ℕ → List Bool
-generator_14 t = product_of_all (map (bits_of 15) (take t minimal_14))
+generator_14 t = product_of_all (map (bits_of_number 15) (take t minimal_14))
 
 -- the generator of a mode's code
 unfoldable pub generator_of : Mode → List Bool

@@ -1,4 +1,4 @@
--- The division register of three words of 64 bits, and what a word's division leaves.
+-- The division register of three blocks of 64 bits, and what a word's division leaves.
 use Rattle.std.specs.Prelude.{ℕ, ◌≡◌, ◌+◌, ◌-◌, ◌*◌, ◌^◌, ◌<◌, ◌≤◌, Bool, false, List, length, take, drop, replicate, slice_index_or}
 use Rattle.s2_bch.specs.Division.{number_of, steps}
 use Rattle.s2_bch.specs.Words.{register_after}

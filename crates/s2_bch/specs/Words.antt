@@ -1,15 +1,11 @@
 -- Words of bits as polynomials, the first bit the highest power: products, multiples, and division by a register.
 use Rattle.std.specs.Prelude.{ℕ, ◌≡◌, ◌+◌, ◌-◌, Bool, false, ◌&&◌, List, [], ◌∷◌, ◌++◌, length, take, replicate}
-use Rattle.s2_bits.specs.Bits.{xor, added, differences}
+use Rattle.s2_bits.specs.Bits.{xor, added}
 
 -- b times the word
 abbrev pub times_bit : Bool → List Bool → List Bool
 times_bit b [] = []
 times_bit b (c ∷ g) = (b && c) ∷ times_bit b g
-
--- how many places differ
-abbrev pub distance : List Bool → List Bool → ℕ
-distance u v = differences (length u) u v
 
 -- the product of q and g, of length q + length g - 1 bits
 abbrev pub product : List Bool → List Bool → List Bool

@@ -2,7 +2,6 @@
 ghost use Rattle.std.specs.Prelude.{◌≡◌, ◌+◌, ◌*◌, ◌∷◌, ◌<◌, ◌≤◌, List, Bool, true, false, length, drop, IsTrue, ◌↔◌, IfOk, IfSome, IfNone, Some, None};
 ghost use Rattle.s2_bits.specs.Bits.{differences};
 ghost use Rattle.s2_mode.specs.Mode.{kbch_of, k_of, t_of, IsMode, HasCodeSizes};
-ghost use Rattle.s2_bch.specs.Words.{distance};
 ghost use Rattle.s2_bch.specs.Registers.{Holds, IsTableFor, rest_of};
 ghost use Rattle.s2_bch.specs.Generators.{generator_of};
 ghost use Rattle.s2_bch.specs.Ready.{IsWorkspace};
@@ -147,9 +146,9 @@ fn decode(
     requires bits { length bits.old + kbch_of mode ≡ k_of mode }
     requires candidate { length candidate.old ≡ k_of mode }
     ensures workspace { IsWorkspace mode workspace.new }
-    ensures some { IfSome result (λ c. IsBchWord mode word.new × (c ≡ distance word.old word.new) × (c ≤ t_of mode)) }
-    ensures only { IfSome result (λ c. (v : List Bool) → IsBchWord mode v → distance word.old v ≤ t_of mode → word.new ≡ v) }
-    ensures none { IfNone result ((v : List Bool) → IsBchWord mode v → t_of mode < distance word.old v) }
+    ensures some { IfSome result (λ c. IsBchWord mode word.new × (c ≡ differences (length word.old) word.old word.new) × (c ≤ t_of mode)) }
+    ensures only { IfSome result (λ c. (v : List Bool) → IsBchWord mode v → differences (length word.old) word.old v ≤ t_of mode → word.new ≡ v) }
+    ensures none { IfNone result ((v : List Bool) → IsBchWord mode v → t_of mode < differences (length word.old) word.old v) }
     ensures unchanged { IfNone result (word.new ≡ word.old) }
 {
     let left = rest(table, word, mode.kbch());
@@ -170,8 +169,8 @@ fn flip_near(workspace: &mut Workspace, mode: Mode, rest: &[bool], candidate: &m
     requires rest { rest.now ≡ rest_of (drop 1 (generator_of mode)) (kbch_of mode) candidate.old }
     ensures workspace { IsWorkspace mode workspace.new }
     ensures size { length candidate.new ≡ k_of mode }
-    ensures count { result ≡ distance candidate.old candidate.new }
-    ensures only { (v : List Bool) → IsBchWord mode v → distance candidate.old v ≤ t_of mode → candidate.new ≡ v }
+    ensures count { result ≡ differences (length candidate.old) candidate.old candidate.new }
+    ensures only { (v : List Bool) → IsBchWord mode v → differences (length candidate.old) candidate.old v ≤ t_of mode → candidate.new ≡ v }
 {
     match workspace {
         Workspace::Normal(workspace) => workspace.flip_near(rest, candidate),
@@ -195,9 +194,9 @@ fn correct(
     requires bits { bits.now ≡ rest_of (drop 1 (generator_of mode)) (kbch_of mode) word.old }
     requires candidate { length candidate.old ≡ k_of mode }
     ensures workspace { IsWorkspace mode workspace.new }
-    ensures some { IfSome result (λ c. IsBchWord mode word.new × (c ≡ distance word.old word.new) × (c ≤ t_of mode)) }
-    ensures only { IfSome result (λ c. (v : List Bool) → IsBchWord mode v → distance word.old v ≤ t_of mode → word.new ≡ v) }
-    ensures none { IfNone result ((v : List Bool) → IsBchWord mode v → t_of mode < distance word.old v) }
+    ensures some { IfSome result (λ c. IsBchWord mode word.new × (c ≡ differences (length word.old) word.old word.new) × (c ≤ t_of mode)) }
+    ensures only { IfSome result (λ c. (v : List Bool) → IsBchWord mode v → differences (length word.old) word.old v ≤ t_of mode → word.new ≡ v) }
+    ensures none { IfNone result ((v : List Bool) → IsBchWord mode v → t_of mode < differences (length word.old) word.old v) }
     ensures unchanged { IfNone result (word.new ≡ word.old) }
 {
     candidate.copy_from_slice(word);

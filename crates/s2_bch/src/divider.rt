@@ -1,4 +1,5 @@
-//! Division by the generator, 64 bits a step, and what is left of the message eight bits a step.
+//! Division by the generator, a block of 64 bits a step, and what is left of the message eight bits a
+//! step.
 ghost use Rattle.std.specs.Prelude.{◌≡◌, ◌+◌, ◌*◌, ◌/◌, ◌-◌, ◌^◌, ◌<◌, ◌≤◌, ◌∷◌, ℕ, List, Bool, true, false, bit_xor, drop, length, take, replicate, slice_index_or, IfOk};
 ghost use Rattle.s2_mode.specs.Mode.{Mode as ModeValue};
 ghost use Rattle.s2_bch.specs.Division.{number_of, steps};
@@ -43,7 +44,7 @@ fn next_entry(tail: Register, table: &[Register]) -> Register
     eight_steps(tail, byte)
 }
 
-/// The tables of the division by a mode's generator, 256 entries for each byte of a word, the last
+/// The tables of the division by a mode's generator, 256 entries for each byte of a block, the last
 /// byte's first.
 pub(crate) fn table_of(alloc: Global, mode: Mode) -> Result<Vec<Register>, AllocError>
     ensures { IfOk result (λ v. IsTableFor (drop 1 (generator_of mode)) v.items) }
@@ -73,8 +74,8 @@ fn half_at(bits: &[bool], at: usize) -> u32
     (u32::from(pair_at(bits, at)) << 16) + u32::from(pair_at(bits, at + 16))
 }
 
-/// 64 bits as a number, the first the highest.
-fn word_at(bits: &[bool], at: usize) -> u64
+/// A block of 64 bits as a number, the first the highest.
+fn block_at(bits: &[bool], at: usize) -> u64
     requires { at + 64 ≤ length bits.now }
     ensures { result ≡ number_of (take 64 (drop at bits.now)) }
 {
@@ -106,27 +107,27 @@ fn carried_by_half(table: &[Register], behind: usize, half: u32) -> Register
     first.plus(carried_by_pair(table, behind, (half % 65536) as u16))
 }
 
-/// What eight bytes at the top of a register leave.
+/// What a block at the top of a register leaves.
 #[inline(always)]
-fn carried_by_word(table: &[Register], word: u64) -> Register
+fn carried_by_block(table: &[Register], block: u64) -> Register
     requires { length table.now ≡ 2048 }
     ensures { (t : List Bool) → IsTableFor t table.now
-        → value_of result ≡ steps 192 (number_of t * 2 ^ (192 - length t)) 64 (word * 2 ^ 128) }
+        → value_of result ≡ steps 192 (number_of t * 2 ^ (192 - length t)) 64 (block * 2 ^ 128) }
 {
-    let first = carried_by_half(table, 4, (word >> 32) as u32);
-    first.plus(carried_by_half(table, 0, (word % 4294967296) as u32))
+    let first = carried_by_half(table, 4, (block >> 32) as u32);
+    first.plus(carried_by_half(table, 0, (block % 4294967296) as u32))
 }
 
-/// The register after 64 more bits.
+/// The register after a block more.
 #[inline(always)]
-fn feed_word(table: &[Register], register: Register, word: u64) -> Register
+fn feed_block(table: &[Register], register: Register, block: u64) -> Register
     requires { length table.now ≡ 2048 }
     ensures { (t : List Bool) → IsTableFor t table.now
-        → value_of result ≡ steps 192 (number_of t * 2 ^ (192 - length t)) 64 (bit_xor (value_of register) (word * 2 ^ 128)) }
+        → value_of result ≡ steps 192 (number_of t * 2 ^ (192 - length t)) 64 (bit_xor (value_of register) (block * 2 ^ 128)) }
 {
     register
-        .up_a_word()
-        .plus(carried_by_word(table, register.high ^ word))
+        .up_a_block()
+        .plus(carried_by_block(table, register.high ^ block))
 }
 
 /// The register after eight more bits.
@@ -139,8 +140,8 @@ fn feed(table: &[Register], register: Register, byte: u8) -> Register
     register.up_a_byte().plus(table[usize::from(at)])
 }
 
-/// What the division of a message's whole words leaves.
-fn divide_words(table: &[Register], message: &[bool]) -> Register
+/// What the division of a message's whole blocks leaves.
+fn divide_blocks(table: &[Register], message: &[bool]) -> Register
     requires { length table.now ≡ 2048 }
     ensures { (t : List Bool) → IsTableFor t table.now
         → Holds result (register_after t (replicate (length t) false) (take (64 * (length message.now / 64)) message.now)) }
@@ -150,8 +151,8 @@ fn divide_words(table: &[Register], message: &[bool]) -> Register
         middle: 0,
         low: 0,
     };
-    for word in 0..message.len() / 64 {
-        register = feed_word(table, register, word_at(message, 64 * word));
+    for block in 0..message.len() / 64 {
+        register = feed_block(table, register, block_at(message, 64 * block));
     }
     register
 }
@@ -163,7 +164,7 @@ fn divide(table: &[Register], message: &[bool]) -> Register
     ensures { (t : List Bool) → IsTableFor t table.now
         → Holds result (register_after t (replicate (length t) false) message.now) }
 {
-    let mut register = divide_words(table, message);
+    let mut register = divide_blocks(table, message);
     for byte in 8 * (message.len() / 64)..message.len() / 8 {
         register = feed(table, register, byte_at(message, 8 * byte));
     }

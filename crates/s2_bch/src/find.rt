@@ -1,7 +1,8 @@
 //! Finding the places in which a word differs from a word of the code.
 ghost use Rattle.std.specs.Prelude.{◌≡◌, ◌<◌, ◌≤◌, ◌+◌, ℕ, suc, Bool, List, length, slice_index_or, IfOk};
 ghost use Rattle.s2_field.specs.Polynomials.{pow};
-ghost use Rattle.s2_bch.specs.Words.{distance, IsMultiple};
+ghost use Rattle.s2_bits.specs.Bits.{differences};
+ghost use Rattle.s2_bch.specs.Words.{IsMultiple};
 ghost use Rattle.s2_bch.specs.Values.{value_at, HasRoots, HaveSameValues};
 ghost use Rattle.s2_bch.specs.Workspaces.{HasSizes};
 
@@ -58,9 +59,9 @@ impl<F: Field> FieldWorkspace<F> {
         requires rest { HaveSameValues F.field F.alpha (self.old + self.old) rest.now word.old }
         ensures same { self.new ≡ self.old }
         ensures size { length word.new ≡ length word.old }
-        ensures count { result ≡ distance word.old word.new }
+        ensures count { result ≡ differences (length word.old) word.old word.new }
         ensures only { (g v : List Bool) → 0 < length g → HasRoots F.field F.alpha (self.old + self.old) g
-            → IsMultiple g v → length v ≡ length word.old → distance word.old v ≤ self.old → word.new ≡ v }
+            → IsMultiple g v → length v ≡ length word.old → differences (length word.old) word.old v ≤ self.old → word.new ≡ v }
     {
         put_syndromes(rest, &mut self.syndromes);
         let degree = shortest_locator(

@@ -1,5 +1,8 @@
 //! The BCH codes of all modes (EN 302 307-1, 5.3.1): encoder, and decoder to the full radius.
 //!
+//! A word is a list of Nbch bits, whether it is one of the code or not; those that are, are words of
+//! the code.
+//!
 //! The transmitter encodes each baseband frame here before the LDPC code; the receiver decodes the
 //! first Nbch decided bits. Promised: `Bch::encode_into` leaves the only word of the code that
 //! begins with the message. `Bch::decode_in_place` answers `Some(c)` exactly where some word of the

@@ -4,8 +4,8 @@ ghost use Rattle.s2_field.specs.Binary.{times_x};
 ghost use Rattle.s2_bch.specs.Division.{bit};
 ghost use Rattle.s2_bch.specs.Registers.{value_of, Holds};
 
-/// A register of 192 bits. Fewer bits stand at the top, and zeros follow, so that all generators
-/// are divided by alike.
+/// A register of 192 bits, in three blocks of 64. Fewer bits stand at the top, and zeros follow, so
+/// that all generators are divided by alike.
 #[derive(Clone, Copy, Drop)]
 pub(crate) struct Register {
     pub(crate) high: u64,
@@ -36,8 +36,8 @@ impl Register {
         }
     }
 
-    /// All bits 64 places up: the word at the top falls out.
-    pub(crate) fn up_a_word(self) -> Register
+    /// All bits 64 places up: the highest 64 fall out.
+    pub(crate) fn up_a_block(self) -> Register
         ensures { value_of result ≡ value_of self * 2 ^ 64 % 2 ^ 192 }
     {
         Register {

@@ -1,8 +1,7 @@
 //! The search for a polynomial's roots among the powers of `alpha`.
 ghost use Rattle.std.specs.Prelude.{◌≡◌, ◌≢◌, ◌<◌, ◌≤◌, ◌+◌, ◌*◌, ◌%◌, ℕ, List, Bool, true, length, slice_index_or};
-ghost use Rattle.s2_bits.specs.Bits.{xor};
+ghost use Rattle.s2_bits.specs.Bits.{xor, differences};
 ghost use Rattle.s2_bch.specs.Flips.{FlipsRoots, bit_from_end};
-ghost use Rattle.s2_bch.specs.Words.{distance};
 
 use crate::lanes::{LANES, advance, has_zero, put_terms};
 use s2_field::{Field, pow};
@@ -20,7 +19,7 @@ fn flip_lanes<F: Field>(values: &[F], stride: usize, step: usize, word: &mut [bo
     ensures others { (e : ℕ) → e < length word.old → e % stride ≢ step → bit_from_end word.new e ≡ bit_from_end word.old e }
     ensures count { (o : List Bool) → length o ≡ length word.old
         → ((l : ℕ) → l < 16 → stride * l + step < length word.old → bit_from_end word.old (stride * l + step) ≡ bit_from_end o (stride * l + step))
-        → distance o word.new ≡ distance o word.old + result }
+        → differences (length o) o word.new ≡ differences (length o) o word.old + result }
 {
     let mut count = 0;
     for lane in 0..LANES {
@@ -48,7 +47,7 @@ pub(crate) fn flip_roots<F: Field>(
     requires lanes { length values.old ≡ 16 }
     requires short { length word.old < 65536 }
     ensures flips { FlipsRoots F.field F.alpha locator.now word.old word.new }
-    ensures count { result ≡ distance word.old word.new }
+    ensures count { result ≡ differences (length word.old) word.old word.new }
 {
     let stride = word.len() / LANES + 1;
     put_terms(locator, pow(F::alpha(), stride as u32), terms);

@@ -2,9 +2,10 @@ use Rattle.std.proofs.Common.{arith, ◌≡◌, ◌+◌, length, ◌∙◌, sym,
 use Rattle.std.specs.Prelude.{drop}
 use Rattle.std.proofs.lemmas.Bool.{true≢false}
 use Rattle.s2_mode.specs.Mode.{kbch_of, t_of}
+use Rattle.s2_bits.specs.Bits.{differences}
 use Rattle.s2_bch.specs.Generators.{generator_of}
 use Rattle.s2_bch.specs.Registers.{rest_of}
-use Rattle.s2_bch.specs.Words.{distance, IsMultiple}
+use Rattle.s2_bch.specs.Words.{IsMultiple}
 use Rattle.s2_bch.proofs.GeneratorFacts.{generator_facts}
 use Rattle.s2_bch.proofs.RestFacts.{zero_rest, none_left}
 use Rattle.s2_bch.proofs.bch.correct.Goals as goal
@@ -32,7 +33,7 @@ returns-then-not-is_zero-clause-none c v word =
     none_left (t_of c.args.mode) c.kbch.result t c.args.word.now w v c.rest.result size (c.rest.ensures t c.requires.table size)
     (λ z. true≢false (sym (c.is_zero.ensures.1 z) ∙ c.if-not-is_zero.true))
     (subst (λ g. IsMultiple g v) made.begins word.multiple)
-    (λ near. c.flip_near-count.ensures.only v word (omega (arith, near, ap (λ u. distance u v) c.copy_from_slice.ensures.after)))
+    (λ near. c.flip_near-count.ensures.only v word (omega (arith, near, ap (λ u. differences (length u) u v) c.copy_from_slice.ensures.after)))
 
 pub returns-clause-some : goal.returns-clause-some
 returns-clause-some c =
@@ -47,6 +48,6 @@ returns-clause-some c =
         size = omega (arith, ap length put, c.flip_near-count.ensures.size);
         multiple = subst (λ u. IsMultiple (generator_of c.args.mode) u) (sym put) (subst (λ g. IsMultiple g w) (sym made.begins) multiple);
       },
-      c.flip_near-count.ensures.count ∙ ap₂ distance c.copy_from_slice.ensures.after (sym put),
+      c.flip_near-count.ensures.count ∙ ap₂ (λ u v. differences (length u) u v) c.copy_from_slice.ensures.after (sym put),
       omega (arith, c.if-count-t.false, c.t.ensures.is),
     )

@@ -9,8 +9,8 @@ pub loop-byte-init : goal.loop-byte-init
 loop-byte-init c t h =
     let n = length c.args.message.now / 64 in
     let e : 64 * n ≡ 8 * (8 * n) = omega arith in
-    subst (λ k. Holds c.divide_words-register.result (register_after t (replicate (length t) false) (take k c.args.message.now))) e
-    (c.divide_words-register.ensures t h)
+    subst (λ k. Holds c.divide_blocks-register.result (register_after t (replicate (length t) false) (take k c.args.message.now))) e
+    (c.divide_blocks-register.ensures t h)
 
 pub loop-byte-preserved : goal.loop-byte-preserved
 loop-byte-preserved c t h =
