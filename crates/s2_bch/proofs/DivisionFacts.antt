@@ -5,11 +5,11 @@ use Rattle.std.proofs.Math.Nat.{pow-suc, add-mul, mul_assoc, mul_comm}
 use Rattle.std.proofs.lemmas.Nat.{xor_block}
 use lib.Bits.{xor_assoc, xor_zero_l, xor_zero_r, xor_shifted}
 use lib.Pow.{pow_pos, pow_mono, pow-add, shl_lt, shl-shr, low as low_part}
-use Rattle.s2_bits.specs.Bits.{xor, added}
+use Rattle.s2_bits.specs.Bits.{xor, added, number, number_of}
 use Rattle.s2_field.specs.Binary.{times_x, times_x-xor, times_x-zero, times_x-small}
 use Rattle.s2_bch.specs.Words.{times_bit, register_step, register_after}
 use Rattle.s2_bch.proofs.WordFacts.{length-times_bit, length-added, length-step}
-use Rattle.s2_bch.specs.Division.{bit, number_of, steps}
+use Rattle.s2_bch.specs.Division.{steps}
 
 pub no_steps : (m low v : ℕ) → steps m low 0 v ≡ v
 unfolding steps
@@ -19,7 +19,7 @@ pub more_steps : (m low n v : ℕ) → steps m low (suc n) v ≡ steps m low n (
 unfolding steps
 more_steps m low n v = refl
 
-below-more : (b : Bool) (n p q : ℕ) → n < p → q ≡ p * 2 → bit b * p + n < q
+below-more : (b : Bool) (n p q : ℕ) → n < p → q ≡ p * 2 → number b * p + n < q
 below-more true n p q h e = omega arith
 below-more false n p q h e = omega arith
 
@@ -27,11 +27,11 @@ pub number_of-below : (w : List Bool) → number_of w < 2 ^ length w
 number_of-below [] = pow_pos 0
 number_of-below (b ∷ w) = below-more b (number_of w) (2 ^ length w) (2 ^ suc (length w)) (number_of-below w) (pow-suc 2 (length w))
 
-bit-xor : (a b : Bool) → bit_xor (bit a) (bit b) ≡ bit (xor a b)
-bit-xor true true = refl
-bit-xor true false = refl
-bit-xor false true = refl
-bit-xor false false = refl
+number-xor : (a b : Bool) → bit_xor (number a) (number b) ≡ number (xor a b)
+number-xor true true = refl
+number-xor true false = refl
+number-xor false true = refl
+number-xor false false = refl
 
 -- the sum of two lists of one length is the sum of their numbers
 pub number_of-sum : (u v : List Bool) → length u ≡ length v → number_of (added u v) ≡ bit_xor (number_of u) (number_of v)
@@ -40,10 +40,10 @@ number_of-sum [] (c ∷ v) e = absurd (omega arith)
 number_of-sum (b ∷ u) [] e = absurd (omega arith)
 number_of-sum (b ∷ u) (c ∷ v) e =
     let same : length u ≡ length v = omega arith in
-    ap₂ (λ k s. bit (xor b c) * 2 ^ k + s) (length-added u v) (number_of-sum u v same)
-    ∙ ap (λ d. d * 2 ^ length v + bit_xor (number_of u) (number_of v)) (sym (bit-xor b c))
-    ∙ sym (ap (λ k. bit_xor (bit b * 2 ^ k + number_of u) (bit c * 2 ^ length v + number_of v)) same
-    ∙ xor_block (length v) (bit b) (bit c) (number_of u) (number_of v)
+    ap₂ (λ k s. number (xor b c) * 2 ^ k + s) (length-added u v) (number_of-sum u v same)
+    ∙ ap (λ d. d * 2 ^ length v + bit_xor (number_of u) (number_of v)) (sym (number-xor b c))
+    ∙ sym (ap (λ k. bit_xor (number b * 2 ^ k + number_of u) (number c * 2 ^ length v + number_of v)) same
+    ∙ xor_block (length v) (number b) (number c) (number_of u) (number_of v)
     (subst (λ k. number_of u < 2 ^ k) same (number_of-below u)) (number_of-below v))
 
 times_true : (g : List Bool) → times_bit true g ≡ g
@@ -54,11 +54,11 @@ times_false : (g : List Bool) → number_of (times_bit false g) ≡ 0
 times_false [] = refl
 times_false (d ∷ g) = omega (arith, times_false g)
 
-number_of-times_bit : (c : Bool) (g : List Bool) → number_of (times_bit c g) ≡ bit c * number_of g
+number_of-times_bit : (c : Bool) (g : List Bool) → number_of (times_bit c g) ≡ number c * number_of g
 number_of-times_bit true g = ap number_of (times_true g) ∙ omega arith
 number_of-times_bit false g = times_false g ∙ omega arith
 
-double-more : (b : Bool) (n s p q : ℕ) → s ≡ n * 2 → q ≡ p * 2 → bit b * q + s ≡ (bit b * p + n) * 2
+double-more : (b : Bool) (n s p q : ℕ) → s ≡ n * 2 → q ≡ p * 2 → number b * q + s ≡ (number b * p + n) * 2
 double-more true n s p q es eq = omega arith
 double-more false n s p q es eq = omega arith
 
@@ -66,7 +66,7 @@ number_of-more : (r : List Bool) → number_of (r ++ false ∷ []) ≡ number_of
 number_of-more [] = refl
 number_of-more (b ∷ r) =
     let l : length (r ++ false ∷ []) ≡ suc (length r) = omega (arith, length-append r (false ∷ [])) in
-    ap (λ k. bit b * 2 ^ k + number_of (r ++ false ∷ [])) l
+    ap (λ k. number b * 2 ^ k + number_of (r ++ false ∷ [])) l
     ∙ double-more b (number_of r) _ (2 ^ length r) (2 ^ suc (length r)) (number_of-more r) (pow-suc 2 (length r))
 
 -- a sum, moved up
@@ -77,7 +77,7 @@ xor-scale a b k =
 
 -- the highest of m bits is carried out as `low`
 module _ (m low : ℕ) (positive : 0 < m) where
-  times_top : (c : Bool) → times_x m low (bit c * 2 ^ (m - 1)) ≡ bit c * low
+  times_top : (c : Bool) → times_x m low (number c * 2 ^ (m - 1)) ≡ number c * low
   times_top false =
       let z : (n : ℕ) → 0 * n ≡ 0 = λ n. omega arith in
       ap (times_x m low) (z (2 ^ (m - 1))) ∙ times_x-zero m low ∙ sym (z low)
@@ -90,37 +90,37 @@ module _ (m low : ℕ) (positive : 0 < m) where
 
   -- what the register makes of its first bit and the next
   times_first : (h b : Bool) (y : ℕ) → y < 2 ^ (m - 1)
-      → times_x m low (bit_xor (bit h * 2 ^ (m - 1) + y) (bit b * 2 ^ (m - 1))) ≡ bit_xor (bit (xor h b) * low) (y * 2)
+      → times_x m low (bit_xor (number h * 2 ^ (m - 1) + y) (number b * 2 ^ (m - 1))) ≡ bit_xor (number (xor h b) * low) (y * 2)
   times_first h b y hy =
       ap (times_x m low)
-      (ap (bit_xor (bit h * 2 ^ (m - 1) + y)) (sym (add-zero (bit b * 2 ^ (m - 1))))
-      ∙ xor_block (m - 1) (bit h) (bit b) y 0 hy (pow_pos (m - 1))
-      ∙ ap₂ (λ c z. c * 2 ^ (m - 1) + z) (bit-xor h b) (xor_zero_r y)
-      ∙ sym (xor_shifted (bit (xor h b)) (m - 1) y hy))
-      ∙ times_x-xor m low (bit (xor h b) * 2 ^ (m - 1)) y
+      (ap (bit_xor (number h * 2 ^ (m - 1) + y)) (sym (add-zero (number b * 2 ^ (m - 1))))
+      ∙ xor_block (m - 1) (number h) (number b) y 0 hy (pow_pos (m - 1))
+      ∙ ap₂ (λ c z. c * 2 ^ (m - 1) + z) (number-xor h b) (xor_zero_r y)
+      ∙ sym (xor_shifted (number (xor h b)) (m - 1) y hy))
+      ∙ times_x-xor m low (number (xor h b) * 2 ^ (m - 1)) y
       ∙ ap₂ bit_xor (times_top (xor h b)) (times_x-small m low positive y hy)
 
   -- a step of the register
   pub register-number : (t r : List Bool) (b : Bool) (pad : ℕ) → length r ≡ length t → length t + pad ≡ m → 0 < length t
       → low ≡ number_of t * 2 ^ pad
-      → number_of (register_step t r b) * 2 ^ pad ≡ times_x m low (bit_xor (number_of r * 2 ^ pad) (bit b * 2 ^ (m - 1)))
+      → number_of (register_step t r b) * 2 ^ pad ≡ times_x m low (bit_xor (number_of r * 2 ^ pad) (number b * 2 ^ (m - 1)))
   register-number t [] b pad e w some is = absurd (omega arith)
   register-number t (h ∷ r) b pad e w some is =
       let k : ℕ = length r in
       let top : m - 1 ≡ k + pad = omega arith in
       let hy : number_of r * 2 ^ pad < 2 ^ (m - 1) = subst (λ n. number_of r * 2 ^ pad < 2 ^ n) (sym top) (shl_lt k pad (number_of-below r)) in
-      let split : number_of (h ∷ r) * 2 ^ pad ≡ bit h * 2 ^ (m - 1) + number_of r * 2 ^ pad =
-      add-mul (bit h * 2 ^ k) (number_of r) (2 ^ pad)
+      let split : number_of (h ∷ r) * 2 ^ pad ≡ number h * 2 ^ (m - 1) + number_of r * 2 ^ pad =
+      add-mul (number h * 2 ^ k) (number_of r) (2 ^ pad)
       ∙ ap (λ x. x + number_of r * 2 ^ pad)
-      (mul_assoc (bit h) (2 ^ k) (2 ^ pad) ∙ ap (λ x. bit h * x) (sym (ap (λ n. 2 ^ n) top ∙ pow-add 2 k pad))) in
+      (mul_assoc (number h) (2 ^ k) (2 ^ pad) ∙ ap (λ x. number h * x) (sym (ap (λ n. 2 ^ n) top ∙ pow-add 2 k pad))) in
       ap (λ n. n * 2 ^ pad)
       (number_of-sum (times_bit (xor h b) t) (r ++ false ∷ []) (omega (arith, length-times_bit (xor h b) t, length-append r (false ∷ [])))
       ∙ ap₂ bit_xor (number_of-times_bit (xor h b) t) (number_of-more r))
-      ∙ xor-scale (bit (xor h b) * number_of t) (number_of r * 2) pad
+      ∙ xor-scale (number (xor h b) * number_of t) (number_of r * 2) pad
       ∙ ap₂ bit_xor
-      (mul_assoc (bit (xor h b)) (number_of t) (2 ^ pad) ∙ ap (λ x. bit (xor h b) * x) (sym is))
+      (mul_assoc (number (xor h b)) (number_of t) (2 ^ pad) ∙ ap (λ x. number (xor h b) * x) (sym is))
       (mul_assoc (number_of r) 2 (2 ^ pad) ∙ ap (λ x. number_of r * x) (mul_comm 2 (2 ^ pad)) ∙ sym (mul_assoc (number_of r) (2 ^ pad) 2))
-      ∙ sym (ap (λ x. times_x m low (bit_xor x (bit b * 2 ^ (m - 1)))) split ∙ times_first h b (number_of r * 2 ^ pad) hy)
+      ∙ sym (ap (λ x. times_x m low (bit_xor x (number b * 2 ^ (m - 1)))) split ∙ times_first h b (number_of r * 2 ^ pad) hy)
 
   pub steps-xor : (n a b : ℕ) → steps m low n (bit_xor a b) ≡ bit_xor (steps m low n a) (steps m low n b)
   unfolding steps
@@ -139,7 +139,7 @@ module _ (m low : ℕ) (positive : 0 < m) where
   register-steps t pad fits some is (b ∷ w) r e h =
       let k : ℕ = length w in
       let R : ℕ = number_of r * 2 ^ pad in
-      let B : ℕ = bit b * 2 ^ (m - 1) in
+      let B : ℕ = number b * 2 ^ (m - 1) in
       let W : ℕ = number_of w * 2 ^ (m - suc k) in
       let top : k + (m - suc k) ≡ m - 1 = omega arith in
       let next : suc (m - suc k) ≡ m - k = omega arith in
@@ -148,9 +148,9 @@ module _ (m low : ℕ) (positive : 0 < m) where
       mul_assoc (number_of w) (2 ^ (m - suc k)) 2
       ∙ ap (λ x. number_of w * x) (sym (pow-suc 2 (m - suc k)) ∙ ap (λ n. 2 ^ n) next) in
       let split : number_of (b ∷ w) * 2 ^ (m - suc k) ≡ bit_xor B W =
-      add-mul (bit b * 2 ^ k) (number_of w) (2 ^ (m - suc k))
-      ∙ ap (λ x. x + W) (mul_assoc (bit b) (2 ^ k) (2 ^ (m - suc k)) ∙ ap (λ x. bit b * x) (sym (pow-add 2 k (m - suc k)) ∙ ap (λ n. 2 ^ n) top))
-      ∙ sym (xor_shifted (bit b) (m - 1) W hW) in
+      add-mul (number b * 2 ^ k) (number_of w) (2 ^ (m - suc k))
+      ∙ ap (λ x. x + W) (mul_assoc (number b) (2 ^ k) (2 ^ (m - suc k)) ∙ ap (λ x. number b * x) (sym (pow-add 2 k (m - suc k)) ∙ ap (λ n. 2 ^ n) top))
+      ∙ sym (xor_shifted (number b) (m - 1) W hW) in
       register-steps t pad fits some is w (register_step t r b) (length-step t r b ∙ e) (omega arith)
       ∙ ap (λ x. steps m low k (bit_xor x (number_of w * 2 ^ (m - k)))) (register-number t r b pad e fits some is)
       ∙ ap (steps m low k)
@@ -219,7 +219,7 @@ pub number_of-parts : (u v : List Bool) → number_of (u ++ v) ≡ number_of u *
 number_of-parts [] v = omega arith
 number_of-parts (b ∷ u) v =
     let p : 2 ^ length (u ++ v) ≡ 2 ^ length u * 2 ^ length v = ap (λ k. 2 ^ k) (length-append u v) ∙ pow-add 2 (length u) (length v) in
-    let s : (bit b * 2 ^ length u + number_of u) * 2 ^ length v ≡ bit b * (2 ^ length u * 2 ^ length v) + number_of u * 2 ^ length v =
-    add-mul (bit b * 2 ^ length u) (number_of u) (2 ^ length v)
-    ∙ ap (λ x. x + number_of u * 2 ^ length v) (mul_assoc (bit b) (2 ^ length u) (2 ^ length v)) in
-    omega (arith, ap (λ x. bit b * x) p, s, number_of-parts u v)
+    let s : (number b * 2 ^ length u + number_of u) * 2 ^ length v ≡ number b * (2 ^ length u * 2 ^ length v) + number_of u * 2 ^ length v =
+    add-mul (number b * 2 ^ length u) (number_of u) (2 ^ length v)
+    ∙ ap (λ x. x + number_of u * 2 ^ length v) (mul_assoc (number b) (2 ^ length u) (2 ^ length v)) in
+    omega (arith, ap (λ x. number b * x) p, s, number_of-parts u v)

@@ -4,10 +4,10 @@ use Rattle.std.proofs.Common.{sym, ◌∙◌, ap, ap₂, subst, arith, length-ta
 use Rattle.std.proofs.lemmas.List.{get_or-drop, drop-drop}
 use Rattle.std.proofs.Math.Seq.{take-add}
 use Rattle.std.proofs.Math.ListN.{length-replicate}
-use Rattle.s2_bits.specs.Bits.{bit_at, byte_at, number}
+use Rattle.s2_bits.specs.Bits.{bit_at, byte_at, number, number_of}
 use Rattle.s2_bch.specs.Words.{register_after}
 use Rattle.s2_bch.proofs.WordFacts.{length-after}
-use Rattle.s2_bch.specs.Division.{bit, number_of, steps}
+use Rattle.s2_bch.specs.Division.{steps}
 use Rattle.s2_bch.proofs.DivisionFacts.{register-steps, number_of-parts}
 use Rattle.s2_bch.specs.declared.register.Register.{Register}
 use Rattle.s2_bch.specs.Registers.{value_of, Holds, IsTableFor}
@@ -37,15 +37,11 @@ eight (a ∷ b ∷ c ∷ d ∷ e ∷ []) le = absurd (omega arith)
 eight (a ∷ b ∷ c ∷ d ∷ e ∷ f ∷ []) le = absurd (omega arith)
 eight (a ∷ b ∷ c ∷ d ∷ e ∷ f ∷ g ∷ []) le = absurd (omega arith)
 
-number-bit : (b : Bool) → number b ≡ bit b
-number-bit true = refl
-number-bit false = refl
-
-digit-at : (w : List Bool) (at k : ℕ) → number (bit_at w (at + k)) ≡ bit (get_or (drop at w) k false)
-digit-at w at k = number-bit (bit_at w (at + k)) ∙ sym (ap bit (get_or-drop at w k false))
+digit-at : (w : List Bool) (at k : ℕ) → number (bit_at w (at + k)) ≡ number (get_or (drop at w) k false)
+digit-at w at k = sym (ap number (get_or-drop at w k false))
 
 eight-number : (a b c d e f g h : Bool) → number_of (a ∷ b ∷ c ∷ d ∷ e ∷ f ∷ g ∷ h ∷ [])
-    ≡ 128 * bit a + 64 * bit b + 32 * bit c + 16 * bit d + 8 * bit e + 4 * bit f + 2 * bit g + bit h
+    ≡ 128 * number a + 64 * number b + 32 * number c + 16 * number d + 8 * number e + 4 * number f + 2 * number g + number h
 eight-number a b c d e f g h = omega arith
 
 pub byte-number : (w : List Bool) (at : ℕ) → at + 8 ≤ length w → byte_at w at ≡ number_of (take 8 (drop at w))

@@ -6,9 +6,9 @@ use Rattle.std.proofs.lemmas.Nat.{xor_block, xor_comm}
 use lib.Pow.{pow-add, shl_lt}
 use lib.Bits.{xor_zero_r}
 use Rattle.s2_field.specs.Binary.{times_x}
-use Rattle.s2_bits.specs.Bits.{added}
+use Rattle.s2_bits.specs.Bits.{added, number, number_of}
 use Rattle.s2_bch.proofs.WordFacts.{length-added}
-use Rattle.s2_bch.specs.Division.{bit, number_of, steps}
+use Rattle.s2_bch.specs.Division.{steps}
 use Rattle.s2_bch.proofs.DivisionFacts.{number_of-below, number_of-sum, xor-scale, steps-at_once, steps-joined}
 use Rattle.s2_bch.specs.declared.register.Register.{Register}
 use Rattle.s2_bch.specs.Registers.{value_of, Holds}
@@ -33,31 +33,31 @@ step_zero low v e =
 
 -- the number of one bit more
 more_bits : (b : Bool) (w : List Bool) (k : ℕ) → length w + k ≡ 191
-    → number_of (b ∷ w) * 2 ^ k ≡ bit b * 2 ^ 191 + number_of w * 2 ^ k
+    → number_of (b ∷ w) * 2 ^ k ≡ number b * 2 ^ 191 + number_of w * 2 ^ k
 more_bits b w k e =
-    add-mul (bit b * 2 ^ length w) (number_of w) (2 ^ k)
+    add-mul (number b * 2 ^ length w) (number_of w) (2 ^ k)
     ∙ ap (λ x. x + number_of w * 2 ^ k)
-    (mul_assoc (bit b) (2 ^ length w) (2 ^ k) ∙ ap (λ x. bit b * x) (sym (pow-add 2 (length w) k) ∙ ap (λ n. 2 ^ n) e))
+    (mul_assoc (number b) (2 ^ length w) (2 ^ k) ∙ ap (λ x. number b * x) (sym (pow-add 2 (length w) k) ∙ ap (λ n. 2 ^ n) e))
 
 twice : (n k j : ℕ) → j ≡ suc k → n * 2 ^ j ≡ n * 2 ^ k * 2
 twice n k j e = ap (λ i. n * 2 ^ i) e ∙ ap (λ x. n * x) (pow-suc 2 k) ∙ sym (mul_assoc n (2 ^ k) 2)
 
 -- a bit put on top
 pub held_below : (b : Bool) (w : List Bool) (v : ℕ) → length w < 192 → v ≡ number_of w * 2 ^ (192 - length w)
-    → bit b * 2 ^ 191 + v / 2 ≡ number_of (b ∷ w) * 2 ^ (192 - suc (length w))
+    → number b * 2 ^ 191 + v / 2 ≡ number_of (b ∷ w) * 2 ^ (192 - suc (length w))
 held_below b w v h e =
     let k : ℕ = 192 - suc (length w) in
     let fits : length w + k ≡ 191 = omega arith in
     let whole : v ≡ number_of w * 2 ^ k * 2 = e ∙ twice (number_of w) k (192 - length w) (omega arith) in
     let half : v / 2 ≡ number_of w * 2 ^ k = omega arith in
-    ap (λ x. bit b * 2 ^ 191 + x) half ∙ sym (more_bits b w k fits)
+    ap (λ x. number b * 2 ^ 191 + x) half ∙ sym (more_bits b w k fits)
 
 -- the top bit taken off
 module _ (b : Bool) (w : List Bool) (v : ℕ) (h : length w < 192) (e : v ≡ number_of (b ∷ w) * 2 ^ (192 - suc (length w))) where
   abbrev left : ℕ
   left = number_of w * 2 ^ (192 - suc (length w))
 
-  split : v ≡ bit b * 2 ^ 191 + left
+  split : v ≡ number b * 2 ^ 191 + left
   split = let fits : length w + (192 - suc (length w)) ≡ 191 = omega arith in e ∙ more_bits b w (192 - suc (length w)) fits
 
   left-below : left < 2 ^ 191
@@ -65,10 +65,10 @@ module _ (b : Bool) (w : List Bool) (v : ℕ) (h : length w < 192) (e : v ≡ nu
       let fits : length w + (192 - suc (length w)) ≡ 191 = omega arith in
       subst (λ n. left < 2 ^ n) fits (shl_lt (length w) (192 - suc (length w)) (number_of-below w))
 
-  pub held_top : v / 2 ^ 191 ≡ bit b
+  pub held_top : v / 2 ^ 191 ≡ number b
   held_top = let s = split in let l = left-below in omega arith
 
-  below-two : (c : Bool) → bit c ≤ 1
+  below-two : (c : Bool) → number c ≤ 1
   below-two true = omega arith
   below-two false = omega arith
 
@@ -80,11 +80,11 @@ module _ (b : Bool) (w : List Bool) (v : ℕ) (h : length w < 192) (e : v ≡ nu
       r ∙ sym (twice (number_of w) (192 - suc (length w)) (192 - length w) (omega arith))
 
 -- a bit is known by its number
-pub bit_same : (b c : Bool) → bit b ≡ bit c → b ≡ c
-bit_same true true e = refl
-bit_same true false e = absurd (omega arith)
-bit_same false true e = absurd (omega arith)
-bit_same false false e = refl
+pub number_same : (b c : Bool) → number b ≡ number c → b ≡ c
+number_same true true e = refl
+number_same true false e = absurd (omega arith)
+number_same false true e = absurd (omega arith)
+number_same false false e = refl
 
 -- n steps at once
 at_once : (low n v top left new up : ℕ) → n ≤ 192 → v ≡ top * 2 ^ (192 - n) + left → left < 2 ^ (192 - n) → up ≡ left * 2 ^ n
@@ -136,7 +136,7 @@ holds_nothing r w e z = subst (Holds r) (sym e) (record { fits = omega arith; va
 
 -- a bit put on top of those held
 pub holds_below : (r s : Register) (b : Bool) (u w : List Bool) → u ≡ b ∷ w → length u ≤ 192 → Holds r w
-    → value_of s ≡ bit b * 2 ^ 191 + value_of r / 2 → Holds s u
+    → value_of s ≡ number b * 2 ^ 191 + value_of r / 2 → Holds s u
 holds_below r s b u w e fits h v =
     let few : length w < 192 = omega (arith, ap length e) in
     subst (Holds s) (sym e) (record { fits = omega arith; value = v ∙ held_below b w (value_of r) few h.value })
@@ -148,11 +148,11 @@ holds_next r s b u w e h v =
     let few : length w < 192 = omega (arith, h'.fits) in
     record { fits = omega arith; value = v ∙ held_next b w (value_of r) few h'.value }
 
-pub holds_top : (r : Register) (b c : Bool) (u w : List Bool) → u ≡ b ∷ w → Holds r u → bit c ≡ value_of r / 2 ^ 191 → c ≡ b
+pub holds_top : (r : Register) (b c : Bool) (u w : List Bool) → u ≡ b ∷ w → Holds r u → number c ≡ value_of r / 2 ^ 191 → c ≡ b
 holds_top r b c u w e h v =
     let h' = subst (Holds r) e h in
     let few : length w < 192 = omega (arith, h'.fits) in
-    bit_same c b (v ∙ held_top b w (value_of r) few h'.value)
+    number_same c b (v ∙ held_top b w (value_of r) few h'.value)
 
 pub zeros-number : (n : ℕ) → number_of (replicate n false) ≡ 0
 zeros-number zero = refl

@@ -6,11 +6,10 @@ use Rattle.std.proofs.lemmas.Bool.{cases_lt}
 use lib.Pow.{pow_pos}
 use Rattle.s2_field.specs.Operations.{Operations}
 use Rattle.s2_field.specs.Laws.{FieldLaws}
-use Rattle.s2_bits.specs.Bits.{added, differences}
+use Rattle.s2_bits.specs.Bits.{added, differences, number_of}
 use Rattle.s2_bits.proofs.Sums.{xor_same}
 use Rattle.s2_bch.specs.Words.{IsMultiple}
 use Rattle.s2_bch.proofs.WordFacts.{encoded-is-word, word-unique, length-added}
-use Rattle.s2_bch.specs.Division.{number_of}
 use Rattle.s2_bch.proofs.LocatorTheory.{zero-add as nil-add}
 use Rattle.s2_bch.proofs.ValueFacts.{value, value-sum, multiple-root}
 use Rattle.s2_bch.specs.Values.{HasRoots, HaveSameValues}

@@ -1,8 +1,8 @@
 -- The division register of three blocks of 64 bits, and what a word's division leaves.
 use Rattle.std.specs.Prelude.{ℕ, ◌≡◌, ◌+◌, ◌-◌, ◌*◌, ◌^◌, ◌<◌, ◌≤◌, Bool, false, List, length, take, drop, replicate, slice_index_or}
-use Rattle.s2_bch.specs.Division.{number_of, steps}
+use Rattle.s2_bch.specs.Division.{steps}
 use Rattle.s2_bch.specs.Words.{register_after}
-use Rattle.s2_bits.specs.Bits.{added}
+use Rattle.s2_bits.specs.Bits.{added, number_of}
 use Rattle.s2_bch.specs.declared.register.Register.{Register}
 
 -- the register as a number of 192 bits

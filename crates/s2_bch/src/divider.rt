@@ -2,7 +2,8 @@
 //! step.
 ghost use Rattle.std.specs.Prelude.{◌≡◌, ◌+◌, ◌*◌, ◌/◌, ◌-◌, ◌^◌, ◌<◌, ◌≤◌, ◌∷◌, ℕ, List, Bool, true, false, bit_xor, drop, length, take, replicate, slice_index_or, IfOk};
 ghost use Rattle.s2_mode.specs.Mode.{Mode as ModeValue};
-ghost use Rattle.s2_bch.specs.Division.{number_of, steps};
+ghost use Rattle.s2_bits.specs.Bits.{number_of};
+ghost use Rattle.s2_bch.specs.Division.{steps};
 ghost use Rattle.s2_bch.specs.Words.{register_after, IsWordOf};
 ghost use Rattle.s2_bch.specs.Generators.{generator_of};
 ghost use Rattle.s2_bch.specs.Registers.{value_of, empty, Holds, IsTableFor, rest_of};

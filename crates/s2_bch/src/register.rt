@@ -1,7 +1,7 @@
 //! The division register.
 ghost use Rattle.std.specs.Prelude.{◌≡◌, ◌↔◌, ◌+◌, ◌*◌, ◌/◌, ◌%◌, ◌^◌, ◌<◌, ◌≤◌, ℕ, List, Bool, bit_xor, length, IsTrue};
 ghost use Rattle.s2_field.specs.Binary.{times_x};
-ghost use Rattle.s2_bch.specs.Division.{bit};
+ghost use Rattle.s2_bits.specs.Bits.{number};
 ghost use Rattle.s2_bch.specs.Registers.{value_of, Holds};
 
 /// A register of 192 bits, in three blocks of 64. Fewer bits stand at the top, and zeros follow, so
@@ -49,7 +49,7 @@ impl Register {
 
     /// All bits one place down, below a new one: the lowest falls out.
     fn below(self, top: bool) -> Register
-        ensures { value_of result ≡ bit top * 2 ^ 191 + value_of self / 2 }
+        ensures { value_of result ≡ number top * 2 ^ 191 + value_of self / 2 }
     {
         Register {
             high: (u64::from(top) << 63) + (self.high >> 1),
@@ -60,7 +60,7 @@ impl Register {
 
     /// The highest bit.
     fn top(self) -> bool
-        ensures { bit result ≡ value_of self / 2 ^ 191 }
+        ensures { number result ≡ value_of self / 2 ^ 191 }
     {
         self.high >> 63 == 1
     }

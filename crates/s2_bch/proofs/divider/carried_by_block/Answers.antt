@@ -1,5 +1,5 @@
 use Rattle.std.proofs.Common.{arith, ◌≡◌, ◌∙◌, ◌+◌, ◌-◌, ◌*◌, ◌/◌, ◌%◌, ◌^◌, ◌<◌, ℕ, length}
-use Rattle.s2_bch.specs.Division.{number_of}
+use Rattle.s2_bits.specs.Bits.{number_of}
 use Rattle.s2_bch.proofs.RegisterFacts.{halves_carried}
 use Rattle.s2_bch.proofs.divider.carried_by_block.Goals as goal
 

@@ -1,5 +1,6 @@
 use Rattle.std.proofs.Common.{arith, ◌≡◌, ◌∙◌, ◌+◌, ◌-◌, ◌*◌, ◌/◌, ◌%◌, ◌^◌, ◌<◌, ℕ, ap, length}
-use Rattle.s2_bch.specs.Division.{number_of, steps}
+use Rattle.s2_bits.specs.Bits.{number_of}
+use Rattle.s2_bch.specs.Division.{steps}
 use Rattle.s2_bch.proofs.RegisterFacts.{halves_carried}
 use Rattle.s2_bch.proofs.divider.carried_by_half.Goals as goal
 

@@ -1,7 +1,8 @@
 use Rattle.std.proofs.Common.{arith, ◌≡◌, ◌∙◌, ◌-◌, ◌*◌, ◌/◌, ◌^◌, ◌<◌, ℕ, sym, ap, ap₂, subst, length, get_or, ◌+◌}
 use Rattle.std.specs.Prelude.{bit_xor}
 use Rattle.std.proofs.lemmas.Nat.{xor_lt}
-use Rattle.s2_bch.specs.Division.{number_of, steps}
+use Rattle.s2_bits.specs.Bits.{number_of}
+use Rattle.s2_bch.specs.Division.{steps}
 use Rattle.s2_bch.specs.Registers.{value_of, empty}
 use Rattle.s2_bch.proofs.RegisterFacts.{byte_step}
 use Rattle.s2_bch.proofs.divider.feed.Goals as goal

@@ -1,6 +1,7 @@
 use Rattle.std.proofs.Common.{arith, ◌≡◌, ◌∙◌, ◌-◌, ◌*◌, ◌/◌, ◌^◌, ℕ, ap, ap₂, length}
 use Rattle.std.specs.Prelude.{bit_xor}
-use Rattle.s2_bch.specs.Division.{number_of, steps}
+use Rattle.s2_bits.specs.Bits.{number_of}
+use Rattle.s2_bch.specs.Division.{steps}
 use Rattle.s2_bch.specs.Registers.{value_of}
 use Rattle.s2_bch.proofs.RegisterFacts.{block_step}
 use Rattle.s2_bch.proofs.divider.feed_block.Goals as goal

@@ -1,6 +1,6 @@
 use Rattle.std.proofs.Common.{arith, ◌≡◌, ◌∙◌, ◌+◌, ◌-◌, ◌*◌, ◌/◌, ◌^◌, ◌∷◌, ℕ, suc, ap, subst, get_or, length, drop, drop-cons, length-drop}
 use Rattle.std.specs.Prelude.{false}
-use Rattle.s2_bch.specs.Division.{bit}
+use Rattle.s2_bits.specs.Bits.{number}
 use Rattle.s2_bch.specs.Registers.{value_of, Holds}
 use Rattle.s2_bch.proofs.RegisterFacts.{holds_nothing, holds_below, drop_end}
 use Rattle.s2_bch.proofs.register.Register.read.Goals as goal
@@ -20,7 +20,7 @@ loop-i-preserved c =
     (drop-cons bits j false (omega arith) ∙ ap (λ n. get_or bits j false ∷ drop n bits) next)
     (omega (arith, length-drop j bits))
     c.loop-i.invariant
-    (c.below-register.ensures ∙ ap (λ n. bit (get_or bits n false) * 2 ^ 191 + value_of c.loop-i.register / 2) place)
+    (c.below-register.ensures ∙ ap (λ n. number (get_or bits n false) * 2 ^ 191 + value_of c.loop-i.register / 2) place)
 
 pub returns : goal.returns
 returns c =
