@@ -7,7 +7,8 @@ use Rattle.s2_check.specs.Views.{View}
 use Rattle.s2_split.specs.Scattered.{repaired}
 use Rattle.s2_receive.specs.declared.report.Verdict.TheVariants.{Parity, Broken}
 use Rattle.s2_modem.specs.Deciding.{Decided, uncertified, satisfies, decoded_bits, with_made, decided, view_for, Effort}
-use Rattle.s2_modem.proofs.Decisions.{length-decoded, length-repaired, found_codeword, by_ways}
+use Rattle.s2_split.proofs.Repairs.{length-repaired}
+use Rattle.s2_modem.proofs.Decisions.{length-decoded, found_codeword, by_ways}
 
 pub decided_long : (r : Rows) (effort : Effort) (soft : List ℤ) → length soft ≡ (code_of r).bits → length (decided r effort soft).bits ≡ (code_of r).bits
 decided_long r effort soft long =

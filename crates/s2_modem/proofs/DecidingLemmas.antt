@@ -15,7 +15,8 @@ use Rattle.s2_modem.specs.Deciding.{Decided, certified, uncertified, satisfies, 
 use Rattle.s2_receive.specs.declared.report.Verdict.{Verdict}
 use Rattle.s2_receive.specs.declared.report.Verdict.TheVariants.{MostLikely, Parity, Broken}
 use Rattle.s2_modem.proofs.Certificates.{found_shown}
-use Rattle.s2_modem.proofs.Decisions.{satisfied_codeword, codeword_satisfied, not_codeword, length-repaired, found_codeword, last_odd, by_hard, repair_made, by_ways}
+use Rattle.s2_split.proofs.Repairs.{length-repaired}
+use Rattle.s2_modem.proofs.Decisions.{satisfied_codeword, codeword_satisfied, not_codeword, found_codeword, last_odd, by_hard, repair_made, by_ways}
 
 pub clean_lem : CleanLaw
 clean_lem r effort soft codeword =

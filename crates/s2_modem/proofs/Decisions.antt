@@ -84,9 +84,6 @@ pub length-decoded : (r : Rows) (soft : List ℤ) (k : ℕ) → length (decoded_
 unfolding decoded_bits
 length-decoded r soft k = length-map-range_with_len _ 0 (code_of r).bits
 
-pub length-repaired : (code : Code) (soft : List ℤ) → length (repaired code soft) ≡ code.bits
-length-repaired code soft = length-map-range_with_len _ 0 code.bits
-
 -- what min-sum finds is a codeword
 pub found_codeword : (r : Rows) (rounds : ℕ) (soft : List ℤ) (bits : List Bool) → first_codeword r rounds soft ≡ Some bits → IsCodeword (code_of r) bits
 found_codeword r rounds soft bits is =

@@ -5,7 +5,8 @@ use Rattle.s2_split.specs.Scattered.{repaired}
 use Rattle.s2_split.specs.Making.{Making}
 use Rattle.s2_modem.specs.Deciding.{effort_of, satisfies, view_for, with_made}
 use Rattle.s2_modem.specs.Judging.{shown_by, is_certified}
-use Rattle.s2_modem.proofs.Decisions.{length-repaired, repair_made, repair_odd, test_of}
+use Rattle.s2_split.proofs.Repairs.{length-repaired}
+use Rattle.s2_modem.proofs.Decisions.{repair_made, repair_odd, test_of}
 use Rattle.s2_modem.proofs.Grounds.{some_found, none_found}
 use Rattle.s2_modem.proofs.receive.ground.try_repair.Goals as goal
 

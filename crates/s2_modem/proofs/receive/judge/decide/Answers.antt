@@ -5,7 +5,8 @@ use Rattle.s2_check.specs.Hard.{hard_decision}
 use Rattle.s2_split.proofs.Held.{copied}
 use Rattle.s2_modem.specs.Deciding.{effort_of}
 use Rattle.s2_modem.specs.Judging.{IsGround}
-use Rattle.s2_modem.proofs.Decisions.{codeword_satisfied, length-repaired, test_of}
+use Rattle.s2_split.proofs.Repairs.{length-repaired}
+use Rattle.s2_modem.proofs.Decisions.{codeword_satisfied, test_of}
 use Rattle.s2_modem.proofs.Grounds.{step_one, step_two, past_two}
 use Rattle.s2_modem.proofs.receive.judge.decide.Goals as goal
 

@@ -5,7 +5,8 @@ use Rattle.s2_split.specs.Scattered.{repaired}
 use Rattle.s2_split.proofs.Held.{copied}
 use Rattle.s2_modem.specs.Deciding.{satisfies, first_codeword, with_made, view_for, effort_of}
 use Rattle.s2_modem.specs.Judging.{shown_by}
-use Rattle.s2_modem.proofs.Decisions.{found_codeword, length-repaired, test_of}
+use Rattle.s2_split.proofs.Repairs.{length-repaired}
+use Rattle.s2_modem.proofs.Decisions.{found_codeword, test_of}
 use Rattle.s2_modem.proofs.Grounds.{step_three, step_four, step_none}
 use Rattle.s2_modem.proofs.receive.judge.decide_by_min_sum.Goals as goal
 

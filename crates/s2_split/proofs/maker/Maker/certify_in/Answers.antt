@@ -2,7 +2,7 @@ use Rattle.std.proofs.Common.{length, List, Bool, sym, ap, ◌∙◌, arith, ℤ
 use Rattle.s2_rows.specs.Rows.{Rows}
 use Rattle.s2_matrix.specs.Code.{code_of}
 use Rattle.s2_check.specs.Split.{split_of}
-use Rattle.s2_check.specs.Moves.{placed_of}
+use Rattle.s2_check.specs.Moves.{placed_of, ArePlaced}
 use Rattle.s2_check.specs.declared.step.Move.{Move}
 use Rattle.s2_check.proofs.Lists.{refilled}
 use Rattle.s2_split.specs.Making.{Making, made_of, shared, split_in_ways, AreLeft}
@@ -41,3 +41,30 @@ returns-clause-rests c =
     let base : P make.new.moves make.new.rests = held_left own new w soft make.result make.new.rests make.new.moves (sym (returns-clause-word c)) left in
     let held = take inside.rests.len (make.new.rests ++ drop (length make.new.rests) inside.rests.items) in
     subst (λ (ms : List Move). P ms held) (sym moves) (subst (P make.new.moves) (sym rests) base)
+
+pub invariant_of-self : goal.invariant_of-self
+invariant_of-self c =
+    let inside = c.self.inside in
+    let make = c.make_moves-self-inside in
+    let own = inside.matrix.now in
+    let soft = c.args.soft.now in
+    let new = c.copy_prefix.new.self in
+    let rows = ap (λ (v : Making). (code_of v.rows).bits) c.self.view_is in
+    let moves = take inside.moves.len (make.new.moves ++ drop (length make.new.moves) inside.moves.items) in
+    let rests = take inside.rests.len (make.new.rests ++ drop (length make.new.rests) inside.rests.items) in
+    let same_moves = refilled inside.moves.len make.new.moves inside.moves.items (sym c.deref_mut-2.ensures.len ∙ ap length c.deref_mut-2.ensures.value) (omega (arith, ap length c.deref_mut-2.ensures.value)) in
+    let same_rests = refilled inside.rests.len make.new.rests inside.rests.items (sym c.deref_mut.ensures.len ∙ ap length c.deref_mut.ensures.value) (omega (arith, ap length c.deref_mut.ensures.value, make.ensures.long)) in
+    let P : List Bool → Type 0 = λ u. IfSome (made_of own new make.result moves) (λ s. AreLeft (code_of own) soft u (split_of (code_of own) s.scale s.shares) rests) in
+    record {
+      few = c.self.invariant.few;
+      scaled = make.ensures.scaled;
+      rests_long = ap length same_rests ∙ omega (arith, make.ensures.long, ap length c.deref_mut.ensures.value, c.self.invariant.rests_long);
+      odd_long = c.self.invariant.odd_long;
+      moves = subst (ArePlaced (code_of own) new) (sym same_moves) (subst (λ (u : List Bool). ArePlaced (code_of own) u make.new.moves) (c.truths.ensures ∙ sym (returns-clause-word c)) make.ensures.moves);
+      left = λ some. record {
+        soft = soft;
+        long = c.requires.soft ∙ sym rows;
+        range = c.requires.range;
+        left = subst P (sym (returns-clause-word c)) (returns-clause-rests c);
+      };
+    }

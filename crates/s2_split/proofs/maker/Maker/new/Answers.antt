@@ -1,4 +1,4 @@
-use Rattle.std.proofs.Common.{length, get_or, ap, ◌∙◌, arith}
+use Rattle.std.proofs.Common.{length, get_or, refl, ap, ◌∙◌, arith}
 use Rattle.std.proofs.lemmas.List.{get_or-replicate, length-replicate}
 use Rattle.s2_check.specs.Moves.{no_move}
 use Rattle.s2_split.proofs.Held.{none_placed}
@@ -16,4 +16,5 @@ invariant_of-result c =
       rests_long = omega (arith, c.in_ok-rests.ensures.len, c.bits-bits.ensures.is);
       odd_long = omega (arith, c.in_ok-odd.ensures.len, c.check_count-checks.ensures.is);
       moves = none_placed c.args.matrix.now c.in_ok-word.word c.in_ok-moves.moves.items (ap length c.in_ok-word.ensures ∙ length-replicate n _ ∙ c.bits-bits.ensures.is) (long ∙ c.check_count-checks.ensures.is) (λ j low. ap (λ xs. get_or xs j no_move) moves ∙ get_or-replicate checks j no_move no_move (omega (arith, long)));
+      left = λ some. absurd (some refl);
     }
