@@ -33,7 +33,7 @@ pub use crc::crc8;
 pub use header::{Header, HeaderFault};
 pub use joiner::{Fed, Joiner};
 pub use limits::{BODY_BYTES, NO_PLACE, PACKET_BITS, PACKET_BYTES, SYNC};
-pub use slicer::{NoSync, Slicer};
+pub use slicer::{NoSync, Slicer, field_bytes};
 
 #[cfg(test)]
 mod memory_tests;

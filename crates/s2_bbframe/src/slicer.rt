@@ -45,6 +45,14 @@ impl Model for Slicer {
         × EndsAtPlace s.begun s.phase (length s.waiting.items) };
 }
 
+/// The bytes of a full data field of this mode: Kbch less the 80 bits of a header.
+pub fn field_bytes(mode: Mode) -> usize
+    ensures is { result ≡ field_bytes mode }
+    ensures range { (packet_bytes < result) × (result < 8192) }
+{
+    (mode.kbch() - 80) / 8
+}
+
 // adds a packet's body and its CRC-8
 fn close_body(waiting: &mut Vec<u8>, packet: &[u8; PACKET_BYTES])
     requires { length waiting.old.items + packet_bytes ≤ vec_capacity waiting.old }
@@ -66,7 +74,7 @@ impl Slicer {
         ensures begins { IfOk result (λ s. s ≡ starting (field_bytes mode)) }
         ensures stream { IfOk result (Sliced [] []) }
     {
-        let size = (mode.kbch() - 80) / 8;
+        let size = field_bytes(mode);
         Ok(Slicer {
             waiting: Vec::with_capacity(alloc, size + PACKET_BYTES)?,
             size,

@@ -1,9 +1,9 @@
 -- What known bytes spell determines what is met.
-use Rattle.std.proofs.Common.{◌≡◌, ℕ, false, List, [], ◌∷◌, ◌++◌, Option, Some, None, Ok, refl, sym, ap, ◌∙◌, subst, append-nil}
+use Rattle.std.proofs.Common.{◌≡◌, ℕ, false, List, [], ◌∷◌, ◌++◌, Option, Some, None, refl, sym, ap, ◌∙◌, subst, append-nil}
 use Rattle.s2_mode.specs.Symbols.{symbols_of}
 use Rattle.s2_receive.specs.Meeting.{Met, ended, met_from}
 use Rattle.s2_receive.specs.Finding.{Meets}
-use Rattle.s2_receive.specs.Receiving.{Rules, State, Standing, Went, StepAnswers, RunsOut, met_left, after, step_of, phase_after}
+use Rattle.s2_receive.specs.Receiving.{Rules, State, Went, met_left, after, step_of, phase_after}
 use Rattle.s2_receive.specs.Laws.{HasGiven, SameRunLaw, SameStepLaw}
 use Rattle.s2_receive.specs.declared.report.Phase.{Phase}
 use Rattle.s2_receive.specs.declared.report.Phase.TheVariants as phases

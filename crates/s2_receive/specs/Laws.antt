@@ -1,8 +1,10 @@
 -- What follows from the definitions alone.
-use Rattle.std.specs.Prelude.{◌≡◌, ℕ, ◌+◌, ◌-◌, ◌*◌, ◌/◌, ◌<◌, ◌≤◌, Bool, true, false, if◌then◌else◌, nat_lt, List, [], ◌∷◌, ◌++◌, length, take, drop, All, Option, Some, Ok, ⊤}
+use Rattle.std.specs.Prelude.{◌≡◌, ℕ, ◌+◌, ◌-◌, ◌*◌, ◌<◌, ◌≤◌, Bool, true, false, if◌then◌else◌, nat_lt, List, [], ◌∷◌, ◌++◌, length, take, drop, All, Option, Some, Ok, ⊤}
 use Rattle.std.specs.List.{flat_map}
 use Rattle.s2_mode.specs.declared.symbols.Symbol.{Symbol}
 use Rattle.s2_bbframe.specs.declared.header.Header.{Header}
+use Rattle.s2_mode.specs.Limits.{header_symbols}
+use Rattle.s2_bbframe.specs.Limits.{packet_bytes}
 use Rattle.s2_bbframe.specs.DataStream.{IsPacket, stream_of, fields_of, header_at}
 use Rattle.s2_bbframe.specs.Joining.{Event, gap, joining, closed_in}
 use Rattle.s2_receive.specs.Meeting.{Met, frame, cut, ended, starts, met_from}
@@ -42,7 +44,7 @@ JoiningLaw = (rules : Rules) (s : Standing) (met : List Met) → IsJoined rules 
 -- symbols of a frame's size, whose header passes, and of which this header and this data field are delivered
 abbrev pub IsReceived : Rules → Header → List ℕ → List Symbol → Type 0
 IsReceived rules header field symbols =
-    (length symbols ≡ rules.size) × (rules.passes (take 90 symbols) ≡ true) × ((rules.decide symbols).delivered ≡ Some (header, field))
+    (length symbols ≡ rules.size) × (rules.passes (take header_symbols symbols) ≡ true) × ((rules.decide symbols).delivered ≡ Some (header, field))
 
 -- the frames of consecutive data fields, the first of which begins at this byte of the stream
 abbrev pub AreReceived : Rules → ℕ → ℕ → List (List ℕ) → List (List Symbol) → Type 0
@@ -72,7 +74,7 @@ pub record Gives (rules : Rules) (packets fields later : List (List ℕ)) (frame
 abbrev pub ReceptionLaw : Type 0
 ReceptionLaw =
     (rules : Rules) (roll_off size : ℕ) (packets fields later : List (List ℕ)) (frames : List (List Symbol)) (rest : List Symbol)
-    → 90 ≤ rules.size → 188 ≤ size → All IsPacket packets → fields ++ later ≡ fields_of size (stream_of packets) → AreReceived rules roll_off 0 fields frames
+    → header_symbols ≤ rules.size → packet_bytes ≤ size → All IsPacket packets → fields ++ later ≡ fields_of size (stream_of packets) → AreReceived rules roll_off 0 fields frames
     → Gives rules packets fields later frames rest
 
 -- What a receiver wrote when it had met as many things as so many frames that were received as sent, the first ones of a stream
@@ -81,7 +83,7 @@ abbrev pub FrontLaw : Type 0
 FrontLaw =
     (rules : Rules) (roll_off size : ℕ) (packets fields later : List (List ℕ)) (frames : List (List Symbol)) (rest : List Symbol) (bytes : List ℕ)
     (mid : State) (left packets_old packets_new report_old report_new : Option (List ℕ)) (met : List Met)
-    → 90 ≤ rules.size → 188 ≤ size → All IsPacket packets → fields ++ later ≡ fields_of size (stream_of packets) → AreReceived rules roll_off 0 fields frames
+    → header_symbols ≤ rules.size → packet_bytes ≤ size → All IsPacket packets → fields ++ later ≡ fields_of size (stream_of packets) → AreReceived rules roll_off 0 fields frames
     → symbols_of bytes ≡ joined frames ++ rest → length met ≡ length frames
     → Went rules begun mid (Some bytes) left packets_old packets_new report_old report_new met
     → (met ≡ frames_at rules.size 0 frames) × Appends packets_old packets_new (joined (take (closed_in (length (joined fields))) packets))
@@ -96,7 +98,7 @@ pub record Searches (passes : List Symbol → Bool) (size at : ℕ) (symbols : L
   pub none : ((i : ℕ) → i < length symbols → starts passes (drop i symbols) ≡ false) → met_from passes size at 0 false symbols ≡ ended ∷ []
 
 abbrev pub SearchLaw : Type 0
-SearchLaw = (passes : List Symbol → Bool) (size at : ℕ) (symbols : List Symbol) → 90 ≤ size → Searches passes size at symbols
+SearchLaw = (passes : List Symbol → Bool) (size at : ℕ) (symbols : List Symbol) → header_symbols ≤ size → Searches passes size at symbols
 
 -- ---- one stream of symbols, read in two ways
 

@@ -1,12 +1,14 @@
 //! The next frame of a reader's symbols.
 ghost use Rattle.std.specs.Prelude.{◌≡◌, ◌≢◌, ◌+◌, ◌-◌, ◌*◌, ◌^◌, ◌<◌, ◌≤◌, ◌∷◌, [], List, IfOk, IsErr, length};
+ghost use Rattle.s2_mode.specs.Limits.{header_symbols};
 ghost use Rattle.s2_mode.specs.declared.symbols.Symbol.{Symbol as SymbolValue};
+ghost use Rattle.s2_receive.specs.Limits.{most_symbols};
 ghost use Rattle.s2_receive.specs.Meeting.{met_in};
 ghost use Rattle.s2_receive.specs.Finding.{YieldsSymbols, Meets, met_of, met_after, place_after, IsFrameAfter};
 
 use crate::reading::read_symbols;
-use crate::search::{HEADER_SYMBOLS, Search, first_header};
-use s2_mode::{CountedRead, ReadFault, Symbol};
+use crate::search::{Search, first_header};
+use s2_mode::{CountedRead, HEADER_SYMBOLS, ReadFault, Symbol};
 
 /// What comes next in the stream; positions count symbols from 0.
 #[derive(Clone, Copy)]
@@ -34,10 +36,10 @@ pub(crate) fn find_frame<S: Search, R: CountedRead>(
     limit: u64,
 ) -> Result<Found, ReadFault>
     requires count { R.count reader.old < 2 ^ 64 - 1 }
-    requires size { (HEADER_SYMBOLS ≤ length frame.old) × (length frame.old ≤ 2 ^ 32) }
+    requires size { (header_symbols ≤ length frame.old) × (length frame.old ≤ 2 ^ 32) }
     requires bytes { length bytes.old ≡ 4 * length frame.old }
     requires start { start ≤ limit }
-    requires limit { limit ≤ 2 ^ 40 }
+    requires limit { limit ≤ most_symbols }
     ensures met { IfOk result (λ found. Meets (met_in (S.passes search.old) (length frame.old) start passed [] (R.remaining reader.old))
         (met_after (S.passes search.old) (length frame.old) found (R.remaining reader.new)) (met_of found frame.new ∷ [])) }
     ensures taken { IfOk result (λ found. (start ≤ place_after (length frame.old) found) × (place_after (length frame.old) found ≤ limit)

@@ -1,12 +1,14 @@
 //! The receiver between two steps.
 ghost use Rattle.std.specs.Prelude.{◌≡◌, ◌≢◌, ◌+◌, ◌-◌, ◌*◌, ◌^◌, ◌<◌, ◌≤◌, ◌⊎◌, Ok, Err, IfOk, IsErrOf, length};
+ghost use Rattle.s2_mode.specs.Limits.{header_symbols};
+ghost use Rattle.s2_receive.specs.Limits.{most_symbols};
 ghost use Rattle.s2_receive.specs.declared.report.Report.{Report as ReportValue};
 ghost use Rattle.s2_receive.specs.Receiving.{IsLive, StepAnswers, MetFrame, Reaches, StandsBehind, begun, rules_of, state_of};
 ghost use Rattle.s2_receive.specs.Stepping.{IsSound};
 
 use crate::parts::{Decide, Lines};
 use crate::report::{Fault, Phase, Step, Totals};
-use crate::search::{HEADER_SYMBOLS, Search};
+use crate::search::Search;
 use crate::stepping::{Place, take_step};
 use s2_bbframe::Joiner;
 use s2_mode::{CountedRead, CountedWrite, Symbol};
@@ -43,9 +45,9 @@ impl<S: Search, D: Decide, L: Lines> Receiver<S, D, L> {
         S: Drop,
         D: Drop,
         L: Drop,
-        requires size { (HEADER_SYMBOLS ≤ size) × (size ≤ 2 ^ 32) }
+        requires size { (header_symbols ≤ size) × (size ≤ 2 ^ 32) }
         requires takes { size ≡ D.size decider }
-        requires limit { limit ≤ MOST_SYMBOLS }
+        requires limit { limit ≤ most_symbols }
         ensures rules { IfOk result (λ r. rules_of (S.passes r.search) (length r.frame.items) (D.decide r.decider) (L.frame_line r.lines) (L.cut_line r.lines) (L.end_line r.lines) r.limit ≡ rules_of (S.passes search) size (D.decide decider) (L.frame_line lines) (L.cut_line lines) (L.end_line lines) limit) }
         ensures parts { IfOk result (λ r. (r.search ≡ search) × (r.decider ≡ decider) × (r.lines ≡ lines) × (length r.frame.items ≡ size) × (r.limit ≡ limit)) }
         ensures takes { IfOk result (λ r. length r.frame.items ≡ D.size r.decider) }
@@ -85,7 +87,7 @@ impl<S: Search, D: Decide, L: Lines> Receiver<S, D, L> {
 
     /// Takes at most so many symbols in all, of which it has not taken more yet.
     pub fn limit(&mut self, symbols: u64)
-        requires { (self.old.place.at ≤ symbols) × (symbols ≤ MOST_SYMBOLS) }
+        requires { (self.old.place.at ≤ symbols) × (symbols ≤ most_symbols) }
         ensures { self.new ≡ record self.old { limit = symbols } }
     {
         self.limit = symbols;

@@ -3,10 +3,7 @@ ghost use Rattle.std.specs.Prelude.{◌≡◌, Bool, List, [], ◌∷◌, ◌++�
 ghost use Rattle.s2_mode.specs.declared.symbols.Symbol.{Symbol as SymbolValue};
 ghost use Rattle.s2_receive.specs.Finding.{IsFirst, ends_in_header};
 
-use s2_mode::Symbol;
-
-/// The symbols of a header.
-pub(crate) const HEADER_SYMBOLS: usize = 90;
+use s2_mode::{HEADER_SYMBOLS, Symbol};
 
 /// Looks at each symbol as it comes, and knows where the last 90 pass as the header of a frame.
 pub trait Search {

@@ -3,6 +3,7 @@ ghost use Rattle.std.specs.Prelude.{◌≡◌, ◌≢◌, ◌+◌, ◌-◌, ◌*
 ghost use Rattle.std.specs.List.{flat_map};
 ghost use Rattle.std.specs.Io.KnownBytes.{Appends};
 ghost use Rattle.s2_mode.specs.Counts.{CountsFault};
+ghost use Rattle.s2_mode.specs.Limits.{header_symbols};
 ghost use Rattle.s2_mode.specs.Pieces.{AppendsPart};
 ghost use Rattle.s2_receive.specs.declared.report.Report.{Report as ReportValue};
 ghost use Rattle.s2_receive.specs.Receiving.{IsLive, StepAnswers, MetFrame, Reaches, StandsBehind, joined_after, totals_after, cut_totals, count_of, rules_of, state_of, report_for};
@@ -12,7 +13,7 @@ use crate::delivering::{Given, give_packets};
 use crate::finding::{Found, find_frame};
 use crate::parts::{Decide, Lines};
 use crate::report::{Fault, Phase, Report, Step, Totals};
-use crate::search::{HEADER_SYMBOLS, Search};
+use crate::search::Search;
 use s2_bbframe::Joiner;
 use s2_mode::{CountedRead, CountedWrite, Symbol, WriteFault};
 
@@ -102,7 +103,7 @@ pub(crate) fn take_step<
     requires reader { R.count reader.old < 2 ^ 64 - 1 }
     requires packets { P.count packets.old < 2 ^ 64 - 1 }
     requires report { W.count report.old < 2 ^ 64 - 1 }
-    requires size { (HEADER_SYMBOLS ≤ length frame.old) × (length frame.old ≤ 2 ^ 32) }
+    requires size { (header_symbols ≤ length frame.old) × (length frame.old ≤ 2 ^ 32) }
     requires bytes { length bytes.old ≡ 4 * length frame.old }
     requires takes { length frame.old ≡ D.size decider.old }
     requires fits { Fits limit place.old.at place.old.totals }
