@@ -10,8 +10,8 @@ use Rattle.s2_mode.specs.Shape.{Shape, IsShape, check_count}
 use Rattle.s2_rows.specs.Numbers.{natural_of}
 use Rattle.s2_rows.specs.Readings.{ok_cons}
 use Rattle.s2_rows.specs.Rows.{AreAddresses, IsRows, rows_value}
-use Rattle.s2_rows.specs.RowFiles.{address_of, with_address, with_word, row_from, row_in, rows_of, rows_of_text}
-use Rattle.s2_rows.specs.Text.{words_of, lines_of, is_passed_over}
+use Rattle.s2_rows.specs.RowFiles.{address_of, with_address, with_token, row_from, row_in, rows_of, rows_of_text}
+use Rattle.s2_rows.specs.Text.{tokens_of, lines_of, is_passed_over}
 use Rattle.s2_rows.specs.declared.row_file.RowFault.{RowFault}
 
 -- a test whose other answer is a fault
@@ -70,32 +70,32 @@ pub record IsPart (checks : ℕ) (row : List ℕ) : Type 0 where
   pub are : AreAddresses checks row
   pub short : length row ≤ 24
 
-word_added : (checks line : ℕ) (row word next : List ℕ) → with_word checks line row word ≡ Ok next → IsPart checks row → IsPart checks next × (length next ≡ length row + 1)
-word_added checks line row word next h part =
-    let p = other_fails _ (with_address line row (address_of checks line (natural_of word))) next _ h in
+token_added : (checks line : ℕ) (row token next : List ℕ) → with_token checks line row token ≡ Ok next → IsPart checks row → IsPart checks next × (length next ≡ length row + 1)
+token_added checks line row token next h part =
+    let p = other_fails _ (with_address line row (address_of checks line (natural_of token))) next _ h in
     let room : length row < 24 = ltb-true _ _ p.0 in
-    let a : IsAdded checks row next = added checks line row (natural_of word) _ next refl p.1 in
+    let a : IsAdded checks row next = added checks line row (natural_of token) _ next refl p.1 in
     let longer : length next ≡ length row + 1 = ap length a.is ∙ length-append row (a.x ∷ []) in
     let P : List ℕ → Type 0 = AreAddresses checks in
     (record { are = subst P (sym a.is) (still_addresses checks row a.x part.are a.below a.apart); short = omega arith }, longer)
 
-starts_well : (checks line : ℕ) (words : List (List ℕ)) (so_far : Result (List ℕ) RowFault) (last : List ℕ) → row_from checks line so_far words ≡ Ok last → (row : List ℕ) × (so_far ≡ Ok row)
+starts_well : (checks line : ℕ) (tokens : List (List ℕ)) (so_far : Result (List ℕ) RowFault) (last : List ℕ) → row_from checks line so_far tokens ≡ Ok last → (row : List ℕ) × (so_far ≡ Ok row)
 unfolding row_from
-starts_well checks line words (Err e) last h = absurd (cc)
-starts_well checks line words (Ok row) last h = (row, refl)
+starts_well checks line tokens (Err e) last h = absurd (cc)
+starts_well checks line tokens (Ok row) last h = (row, refl)
 
-row_grows : (checks line : ℕ) (words : List (List ℕ)) (so_far : Result (List ℕ) RowFault) (row last : List ℕ) → so_far ≡ Ok row → row_from checks line so_far words ≡ Ok last → IsPart checks row → IsPart checks last × (length last ≡ length row + length words)
+row_grows : (checks line : ℕ) (tokens : List (List ℕ)) (so_far : Result (List ℕ) RowFault) (row last : List ℕ) → so_far ≡ Ok row → row_from checks line so_far tokens ≡ Ok last → IsPart checks row → IsPart checks last × (length last ≡ length row + length tokens)
 unfolding row_from
-row_grows checks line words (Err e) row last same h part = absurd (cc)
+row_grows checks line tokens (Err e) row last same h part = absurd (cc)
 row_grows checks line [] (Ok r) row last same h part =
     let is : row ≡ last = cc in
     let P : List ℕ → Type 0 = IsPart checks in
     (subst P is part, ap length (sym is) ∙ omega arith)
-row_grows checks line (word ∷ words) (Ok r) row last same h part =
+row_grows checks line (token ∷ tokens) (Ok r) row last same h part =
     let here : r ≡ row = cc in
-    let (next, ok) = starts_well checks line words (with_word checks line r word) last h in
-    let (longer, one) = word_added checks line row word next (ap (λ r. with_word checks line r word) (sym here) ∙ ok) part in
-    let (whole, all) = row_grows checks line words (with_word checks line r word) next last ok h longer in
+    let (next, ok) = starts_well checks line tokens (with_token checks line r token) last h in
+    let (longer, one) = token_added checks line row token next (ap (λ r. with_token checks line r token) (sym here) ∙ ok) part in
+    let (whole, all) = row_grows checks line tokens (with_token checks line r token) next last ok h longer in
     (whole, omega arith)
 
 -- a row of a line that isn't passed over
@@ -107,14 +107,14 @@ pub record IsRow (checks : ℕ) (row : List ℕ) : Type 0 where
 empty : (checks : ℕ) → IsPart checks []
 empty checks = record { are = record { below = λ i d h. absurd (omega arith); apart = λ i j d lt h. absurd (omega arith) }; short = omega arith }
 
-some_words : (words : List (List ℕ)) → is_passed_over words ≡ false → 1 ≤ length words
-some_words [] h = absurd (cc)
-some_words (word ∷ words) h = omega arith
+some_tokens : (tokens : List (List ℕ)) → is_passed_over tokens ≡ false → 1 ≤ length tokens
+some_tokens [] h = absurd (cc)
+some_tokens (token ∷ tokens) h = omega arith
 
-line_is_row : (checks line : ℕ) (words : List (List ℕ)) (row : List ℕ) → is_passed_over words ≡ false → row_in checks line words ≡ Ok row → IsRow checks row
-line_is_row checks line words row spoken h =
-    let (part, long) = row_grows checks line words (Ok []) [] row refl h (empty checks) in
-    let some = some_words words spoken in
+line_is_row : (checks line : ℕ) (tokens : List (List ℕ)) (row : List ℕ) → is_passed_over tokens ≡ false → row_in checks line tokens ≡ Ok row → IsRow checks row
+line_is_row checks line tokens row spoken h =
+    let (part, long) = row_grows checks line tokens (Ok []) [] row refl h (empty checks) in
+    let some = some_tokens tokens spoken in
     record { are = part.are; some = omega arith; short = part.short }
 
 cons_ok : (first : Result (List ℕ) RowFault) (others : Result (List (List ℕ)) RowFault) (all : List (List ℕ)) → ok_cons first others ≡ Ok all → (row : List ℕ) × (rows : List (List ℕ)) × (first ≡ Ok row) × (others ≡ Ok rows) × (row ∷ rows ≡ all)
@@ -144,12 +144,12 @@ line_by_line checks [] left n rows h =
     let same : [] ≡ rows = cc in
     subst (AreRows checks left) same (no_rows checks left (eqb-true left 0 none))
 line_by_line checks (line ∷ lines) left n rows h =
-    let on_over : is_passed_over (words_of line) ≡ true → AreRows checks left rows = λ over. line_by_line checks lines left (n + 1) rows (sym (passes_over checks left n line lines (sym over)) ∙ h) in
-    let on_spoken : is_passed_over (words_of line) ≡ false → AreRows checks left rows = λ over.
-    let (some, read) = this_fails _ (ok_cons (row_in checks n (words_of line)) (rows_of checks (left - 1) (n + 1) lines)) rows (left == 0) (sym (cond-false _ _ _ over) ∙ h) in
-    let (row, others, first, rest, all) = cons_ok (row_in checks n (words_of line)) (rows_of checks (left - 1) (n + 1) lines) rows read in
-    subst (AreRows checks left) all (one_more_row checks left row others (above_zero left some) (line_is_row checks n (words_of line) row over first) (line_by_line checks lines (left - 1) (n + 1) others rest)) in
-    bool_cases (is_passed_over (words_of line)) on_over on_spoken
+    let on_over : is_passed_over (tokens_of line) ≡ true → AreRows checks left rows = λ over. line_by_line checks lines left (n + 1) rows (sym (passes_over checks left n line lines (sym over)) ∙ h) in
+    let on_spoken : is_passed_over (tokens_of line) ≡ false → AreRows checks left rows = λ over.
+    let (some, read) = this_fails _ (ok_cons (row_in checks n (tokens_of line)) (rows_of checks (left - 1) (n + 1) lines)) rows (left == 0) (sym (cond-false _ _ _ over) ∙ h) in
+    let (row, others, first, rest, all) = cons_ok (row_in checks n (tokens_of line)) (rows_of checks (left - 1) (n + 1) lines) rows read in
+    subst (AreRows checks left) all (one_more_row checks left row others (above_zero left some) (line_is_row checks n (tokens_of line) row over first) (line_by_line checks lines (left - 1) (n + 1) others rest)) in
+    bool_cases (is_passed_over (tokens_of line)) on_over on_spoken
 
 pub are_rows : (shape : Shape) (rows : List (List ℕ)) → IsShape shape → AreRows (check_count shape) shape.groups rows → IsRows (rows_value shape rows)
 are_rows shape rows shaped are = record { shaped = shaped; long = are.long; each = λ g below. (are.each g below).are; some = λ g below. (are.each g below).some; short = λ g below. (are.each g below).short }

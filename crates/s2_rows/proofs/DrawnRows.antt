@@ -8,7 +8,7 @@ use Rattle.s2_mode.specs.Shape.{Shape, IsShape, check_count}
 use Rattle.s2_rows.proofs.Accepted.{still_addresses, IsRow, AreRows, no_rows, one_more_row, are_rows}
 use Rattle.s2_rows.proofs.FreeAddresses.{free_from_is_free, free_from_below}
 use Rattle.rand_core.specs.Pcg32Seed.{pcg32_seed}
-use Rattle.s2_rows.specs.MadeRows.{free_from, drawn_address, drawn_row, drawn_rows, made_rows, is_weight, making, AreMadeRows, MadeRowsLaw}
+use Rattle.s2_rows.specs.MadeRows.{free_from, drawn_address, drawn_row, drawn_rows, made_rows, is_weight, making, MadeRowsLaw}
 use Rattle.s2_rows.specs.declared.make.MakeFault.TheVariants as faults
 use Rattle.s2_rows.specs.Rows.{AreAddresses, IsRows, rows_value}
 

@@ -4,71 +4,71 @@ use Rattle.std.proofs.lemmas.Bool.{cond-true}
 use Rattle.s2_mode.specs.Shape.{check_count}
 use Rattle.s2_rows.specs.Rows.{AreAddresses, row_of}
 use Rattle.s2_rows.specs.Readings.{ok_cons}
-use Rattle.s2_rows.specs.RowFiles.{row_from, row_in, rows_of}
+use Rattle.s2_rows.specs.RowFiles.{row_from, rows_of}
 use Rattle.s2_rows.specs.RowTexts.{AreSpaces, EndsAddress, IsLineOf, IsSilent, AreLinesOf, RowFileLaw}
-use Rattle.s2_rows.specs.Text.{is_space, is_word, in_front, pieces_of, words_of, lines_of, is_passed_over}
+use Rattle.s2_rows.specs.Text.{is_space, is_token, in_front, pieces_of, tokens_of, lines_of, is_passed_over}
 use Rattle.s2_rows.specs.ValueTexts.{digits_of}
 use Rattle.s2_rows.proofs.Accepted.{IsRow}
 use Rattle.s2_rows.proofs.Decimals.{natural_of_says, Lacks, no_space}
-use Rattle.s2_rows.proofs.Pieces.{word_first}
+use Rattle.s2_rows.proofs.Pieces.{token_first}
 use Rattle.s2_rows.proofs.RowLines.{passes_over, one_row}
 use Rattle.s2_rows.proofs.ValueTextLemmas.{zeros_say}
-use Rattle.s2_rows.proofs.WrittenRows.{piece_is_cut, one_word, begins_with_digit, Few, are_few, few_checks, adds_said}
+use Rattle.s2_rows.proofs.WrittenRows.{piece_is_cut, one_token, begins_with_digit, Few, are_few, few_checks, adds_said}
 
--- ---- the words of a line
+-- ---- the tokens of a line
 
-pub words_after_gap : (gap t : List ℕ) → AreSpaces gap → words_of (gap ++ t) ≡ words_of t
+pub tokens_after_gap : (gap t : List ℕ) → AreSpaces gap → tokens_of (gap ++ t) ≡ tokens_of t
 unfolding pieces_of
-words_after_gap [] t are = refl
-words_after_gap (b ∷ gap) t are = ap (filter is_word) (cond-true _ _ _ are.0) ∙ words_after_gap gap t are.1
+tokens_after_gap [] t are = refl
+tokens_after_gap (b ∷ gap) t are = ap (filter is_token) (cond-true _ _ _ are.0) ∙ tokens_after_gap gap t are.1
 
-pub no_words_alone : (gap : List ℕ) → AreSpaces gap → words_of gap ≡ []
+pub no_tokens_alone : (gap : List ℕ) → AreSpaces gap → tokens_of gap ≡ []
 unfolding pieces_of
-no_words_alone gap are = ap words_of (sym (append-nil gap)) ∙ words_after_gap gap [] are
+no_tokens_alone gap are = ap tokens_of (sym (append-nil gap)) ∙ tokens_after_gap gap [] are
 
-comment_passed : (comment : List ℕ) → is_passed_over (words_of (35 ∷ comment)) ≡ true
+comment_passed : (comment : List ℕ) → is_passed_over (tokens_of (35 ∷ comment)) ≡ true
 unfolding pieces_of
 comment_passed comment = first (pieces_of is_space comment)
   where
-    first : (pieces : List (List ℕ)) → is_passed_over (filter is_word (in_front 35 pieces)) ≡ true
+    first : (pieces : List (List ℕ)) → is_passed_over (filter is_token (in_front 35 pieces)) ≡ true
     first [] = refl
     first (piece ∷ pieces) = refl
 
-pub silent_passed : (line : List ℕ) → IsSilent line → is_passed_over (words_of line) ≡ true
-silent_passed line (inl are) = ap is_passed_over (no_words_alone line are)
+pub silent_passed : (line : List ℕ) → IsSilent line → is_passed_over (tokens_of line) ≡ true
+silent_passed line (inl are) = ap is_passed_over (no_tokens_alone line are)
 silent_passed line (inr (gap, comment, is, are)) =
-    ap (λ l. is_passed_over (words_of l)) is ∙ ap is_passed_over (words_after_gap gap (35 ∷ comment) are) ∙ comment_passed comment
+    ap (λ l. is_passed_over (tokens_of l)) is ∙ ap is_passed_over (tokens_after_gap gap (35 ∷ comment) are) ∙ comment_passed comment
 
-pub word_then : (word rest : List ℕ) → 0 < length word → Lacks is_space word → EndsAddress rest → words_of (word ++ rest) ≡ word ∷ words_of rest
+pub token_then : (token rest : List ℕ) → 0 < length token → Lacks is_space token → EndsAddress rest → tokens_of (token ++ rest) ≡ token ∷ tokens_of rest
 unfolding pieces_of
-word_then word [] some apart ends = ap words_of (append-nil word) ∙ one_word word some apart
-word_then word (b ∷ t) some apart ends =
-    word_first (word ++ b ∷ t) word t (piece_is_cut is_space word b t apart ends) some ∙ ap (λ words. word ∷ words) (sym (words_after_gap (b ∷ []) t (ends, tt)))
+token_then token [] some apart ends = ap tokens_of (append-nil token) ∙ one_token token some apart
+token_then token (b ∷ t) some apart ends =
+    token_first (token ++ b ∷ t) token t (piece_is_cut is_space token b t apart ends) some ∙ ap (λ tokens. token ∷ tokens) (sym (tokens_after_gap (b ∷ []) t (ends, tt)))
 
 -- ---- a row's line
 
-address_then : (line : List ℕ) (x : ℕ) (row : List ℕ) → Few (x ∷ row) → (is : IsLineOf line (x ∷ row)) → words_of line ≡ digits_of is.1 x ∷ words_of is.2
+address_then : (line : List ℕ) (x : ℕ) (row : List ℕ) → Few (x ∷ row) → (is : IsLineOf line (x ∷ row)) → tokens_of line ≡ digits_of is.1 x ∷ tokens_of is.2
 address_then line x row few (gap, zeros, rest, is, are, ends, more) =
     let s = zeros_say zeros x few.0 in
-    ap words_of is ∙ words_after_gap gap (digits_of zeros x ++ rest) are ∙ word_then (digits_of zeros x) rest s.some (no_space (digits_of zeros x) s.digits) ends
+    ap tokens_of is ∙ tokens_after_gap gap (digits_of zeros x ++ rest) are ∙ token_then (digits_of zeros x) rest s.some (no_space (digits_of zeros x) s.digits) ends
 
 line_adds : (checks n : ℕ) (row front line : List ℕ) → Few row → IsLineOf line row → AreAddresses checks (front ++ row) → length (front ++ row) ≤ 24
-    → row_from checks n (Ok front) (words_of line) ≡ Ok (front ++ row)
+    → row_from checks n (Ok front) (tokens_of line) ≡ Ok (front ++ row)
 unfolding row_from
-line_adds checks n [] front line few is are short = ap (row_from checks n (Ok front)) (no_words_alone line is) ∙ ap Ok (sym (append-nil front))
+line_adds checks n [] front line few is are short = ap (row_from checks n (Ok front)) (no_tokens_alone line is) ∙ ap Ok (sym (append-nil front))
 line_adds checks n (x ∷ row) front line few is are short =
     let s = zeros_say is.1 x few.0 in
     let same : (front ++ x ∷ []) ++ row ≡ front ++ x ∷ row = append_assoc front (x ∷ []) row in
     let P : List ℕ → Type 0 = AreAddresses checks in
     let Q : List ℕ → Type 0 = λ r. length r ≤ 24 in
     ap (row_from checks n (Ok front)) (address_then line x row few is)
-    ∙ ap (λ r. row_from checks n r (words_of is.2)) (adds_said checks n front x row (digits_of is.1 x) (natural_of_says (digits_of is.1 x) x s) are short)
+    ∙ ap (λ r. row_from checks n r (tokens_of is.2)) (adds_said checks n front x row (digits_of is.1 x) (natural_of_says (digits_of is.1 x) x s) are short)
     ∙ line_adds checks n row (front ++ x ∷ []) is.2 few.1 is.6 (subst P (sym same) are) (subst Q (sym same) short) ∙ ap Ok same
 
-line_spoken : (line row : List ℕ) → 1 ≤ length row → Few row → IsLineOf line row → is_passed_over (words_of line) ≡ false
+line_spoken : (line row : List ℕ) → 1 ≤ length row → Few row → IsLineOf line row → is_passed_over (tokens_of line) ≡ false
 line_spoken line [] some few is = absurd (omega arith)
 line_spoken line (x ∷ row) some few is =
-    ap is_passed_over (address_then line x row few is) ∙ begins_with_digit x (digits_of is.1 x) (words_of is.2) (zeros_say is.1 x few.0)
+    ap is_passed_over (address_then line x row few is) ∙ begins_with_digit x (digits_of is.1 x) (tokens_of is.2) (zeros_say is.1 x few.0)
 
 -- ---- all lines
 

@@ -9,13 +9,13 @@ use Rattle.s2_rows.proofs.Accepted.{IsRow}
 use Rattle.s2_mode.specs.Shape.{Shape, IsShape, check_count}
 use Rattle.s2_rows.proofs.Decimals.{Says, decimal_says, natural_of_decimal, Lacks, no_space, no_line_feed}
 use Rattle.s2_rows.proofs.RowLines.{one_row}
-use Rattle.s2_rows.proofs.Pieces.{word_first}
+use Rattle.s2_rows.proofs.Pieces.{token_first}
 use Rattle.s2_rows.specs.Numbers.{natural_of}
 use Rattle.s2_rows.specs.Readings.{ok_cons}
 use Rattle.s2_rows.specs.Rows.{AreAddresses, row_of}
-use Rattle.s2_rows.specs.RowFiles.{address_of, with_address, with_word, row_from, row_in, rows_of}
+use Rattle.s2_rows.specs.RowFiles.{address_of, with_address, with_token, row_from, row_in, rows_of}
 use Rattle.s2_rows.specs.RowTexts.{row_text, rows_text, ReadBackLaw}
-use Rattle.s2_rows.specs.Text.{is_space, is_line_feed, in_front, pieces_of, words_of, lines_of, is_passed_over}
+use Rattle.s2_rows.specs.Text.{is_space, is_line_feed, in_front, pieces_of, tokens_of, lines_of, is_passed_over}
 
 -- a piece ends at its separator
 pub piece_is_cut : (p : ℕ → Bool) (piece : List ℕ) (s : ℕ) (rest : List ℕ) → Lacks p piece → p s ≡ true → pieces_of p (piece ++ s ∷ rest) ≡ piece ∷ pieces_of p rest
@@ -62,26 +62,26 @@ unfolding pieces_of
 piece_is_last p b [] lacks = cond-false _ _ _ lacks.0
 piece_is_last p b (c ∷ piece) lacks = cond-false _ _ _ lacks.0 ∙ ap (in_front b) (piece_is_last p c piece lacks.1)
 
-pub one_word : (ds : List ℕ) → 0 < length ds → Lacks is_space ds → words_of ds ≡ ds ∷ []
+pub one_token : (ds : List ℕ) → 0 < length ds → Lacks is_space ds → tokens_of ds ≡ ds ∷ []
 unfolding pieces_of
-one_word [] h lacks = absurd (omega arith)
-one_word (d ∷ ds) h lacks = word_first (d ∷ ds) (d ∷ ds) [] (piece_is_last is_space d ds lacks) (omega arith)
+one_token [] h lacks = absurd (omega arith)
+one_token (d ∷ ds) h lacks = token_first (d ∷ ds) (d ∷ ds) [] (piece_is_last is_space d ds lacks) (omega arith)
 
-words_of_body : (row : List ℕ) → Few row → words_of (row_body row) ≡ map decimal row
+tokens_of_body : (row : List ℕ) → Few row → tokens_of (row_body row) ≡ map decimal row
 unfolding pieces_of
-words_of_body [] few = refl
-words_of_body (x ∷ []) few = let s = decimal_says x few.0 in one_word (decimal x) s.some (no_space (decimal x) s.digits)
-words_of_body (x ∷ y ∷ row) few =
+tokens_of_body [] few = refl
+tokens_of_body (x ∷ []) few = let s = decimal_says x few.0 in one_token (decimal x) s.some (no_space (decimal x) s.digits)
+tokens_of_body (x ∷ y ∷ row) few =
     let s = decimal_says x few.0 in
-    word_first (decimal x ++ 32 ∷ row_body (y ∷ row)) (decimal x) (row_body (y ∷ row)) (piece_is_cut is_space (decimal x) 32 (row_body (y ∷ row)) (no_space (decimal x) s.digits) refl) s.some ∙ ap (λ words. decimal x ∷ words) (words_of_body (y ∷ row) few.1)
+    token_first (decimal x ++ 32 ∷ row_body (y ∷ row)) (decimal x) (row_body (y ∷ row)) (piece_is_cut is_space (decimal x) 32 (row_body (y ∷ row)) (no_space (decimal x) s.digits) refl) s.some ∙ ap (λ tokens. decimal x ∷ tokens) (tokens_of_body (y ∷ row) few.1)
 
-pub begins_with_digit : (n : ℕ) (ds : List ℕ) (words : List (List ℕ)) → Says n ds → is_passed_over (ds ∷ words) ≡ false
-begins_with_digit n [] words s = absurd (omega (arith, s.some))
-begins_with_digit n (d ∷ ds) words s = ne_eqb d 35 (λ e. omega (arith, s.digits.0))
+pub begins_with_digit : (n : ℕ) (ds : List ℕ) (tokens : List (List ℕ)) → Says n ds → is_passed_over (ds ∷ tokens) ≡ false
+begins_with_digit n [] tokens s = absurd (omega (arith, s.some))
+begins_with_digit n (d ∷ ds) tokens s = ne_eqb d 35 (λ e. omega (arith, s.digits.0))
 
-is_spoken : (row : List ℕ) → 1 ≤ length row → Few row → is_passed_over (words_of (row_body row)) ≡ false
+is_spoken : (row : List ℕ) → 1 ≤ length row → Few row → is_passed_over (tokens_of (row_body row)) ≡ false
 is_spoken [] some few = absurd (omega arith)
-is_spoken (x ∷ row) some few = ap is_passed_over (words_of_body (x ∷ row) few) ∙ begins_with_digit x (decimal x) (map decimal row) (decimal_says x few.0)
+is_spoken (x ∷ row) some few = ap is_passed_over (tokens_of_body (x ∷ row) few) ∙ begins_with_digit x (decimal x) (map decimal row) (decimal_says x few.0)
 
 -- the last of some addresses is none of those before it
 not_before : (front : List ℕ) (x : ℕ) (row : List ℕ) → AllPairs (λ x y. x ≢ y) (front ++ x ∷ row) → list_any (λ y. y == x) front ≡ false
@@ -96,12 +96,12 @@ is_below checks front x row below =
     let P : ℕ → Type 0 = λ y. y < checks in
     subst P (get_or-append_seam front x row 0) (below (length front) 0 (omega arith))
 
-pub adds_said : (checks n : ℕ) (front : List ℕ) (x : ℕ) (row word : List ℕ) → natural_of word ≡ Some x → AreAddresses checks (front ++ x ∷ row) → length (front ++ x ∷ row) ≤ 24
-    → with_word checks n front word ≡ Ok (front ++ x ∷ [])
-adds_said checks n front x row word says are short =
+pub adds_said : (checks n : ℕ) (front : List ℕ) (x : ℕ) (row token : List ℕ) → natural_of token ≡ Some x → AreAddresses checks (front ++ x ∷ row) → length (front ++ x ∷ row) ≤ 24
+    → with_token checks n front token ≡ Ok (front ++ x ∷ [])
+adds_said checks n front x row token says are short =
     let longer : length (front ++ x ∷ row) ≡ length front + (length row + 1) = length-append front (x ∷ row) ∙ omega arith in
     let room : nat_lt (length front) 24 ≡ true = lt-ltb _ _ (omega arith) in
-    let below : address_of checks n (natural_of word) ≡ Ok x = ap (address_of checks n) says ∙ cond-true _ _ _ (lt-ltb _ _ (is_below checks front x row are.below)) in
+    let below : address_of checks n (natural_of token) ≡ Ok x = ap (address_of checks n) says ∙ cond-true _ _ _ (lt-ltb _ _ (is_below checks front x row are.below)) in
     cond-true _ _ _ room ∙ ap (with_address n front) below ∙ cond-false _ _ _ (not_before front x row are.apart)
 
 adds_all : (checks n : ℕ) (row front : List ℕ) → Few row → AreAddresses checks (front ++ row) → length (front ++ row) ≤ 24 → row_from checks n (Ok front) (map decimal row) ≡ Ok (front ++ row)
@@ -113,8 +113,8 @@ adds_all checks n (x ∷ row) front few are short =
     let Q : List ℕ → Type 0 = λ r. length r ≤ 24 in
     ap (λ r. row_from checks n r (map decimal row)) (adds_said checks n front x row (decimal x) (natural_of_decimal x few.0) are short) ∙ adds_all checks n row (front ++ x ∷ []) few.1 (subst P (sym same) are) (subst Q (sym same) short) ∙ ap Ok same
 
-pub row_is_read : (checks n : ℕ) (row : List ℕ) → Few row → AreAddresses checks row → length row ≤ 24 → row_in checks n (words_of (row_body row)) ≡ Ok row
-row_is_read checks n row few are short = ap (row_from checks n (Ok [])) (words_of_body row few) ∙ adds_all checks n row [] few are short
+pub row_is_read : (checks n : ℕ) (row : List ℕ) → Few row → AreAddresses checks row → length row ≤ 24 → row_in checks n (tokens_of (row_body row)) ≡ Ok row
+row_is_read checks n row few are short = ap (row_from checks n (Ok [])) (tokens_of_body row few) ∙ adds_all checks n row [] few are short
 
 pub are_few : (checks : ℕ) (row : List ℕ) → checks ≤ 64800 → All (λ y. y < checks) row → Few row
 are_few checks [] h below = tt

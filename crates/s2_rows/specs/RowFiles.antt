@@ -7,7 +7,7 @@ use Rattle.s2_rows.specs.declared.row_file.RowFault.{RowFault}
 use Rattle.s2_rows.specs.declared.row_file.RowFault.TheVariants as faults
 use Rattle.s2_rows.specs.Numbers.{natural_of}
 use Rattle.s2_rows.specs.Readings.{ok_cons}
-use Rattle.s2_rows.specs.Text.{lines_of, words_of, is_passed_over}
+use Rattle.s2_rows.specs.Text.{lines_of, tokens_of, is_passed_over}
 
 -- an address, unless it is none or too large
 abbrev pub address_of : ℕ → ℕ → Option ℕ → Result ℕ RowFault
@@ -19,28 +19,28 @@ abbrev pub with_address : ℕ → List ℕ → Result ℕ RowFault → Result (L
 with_address line row (Err e) = Err e
 with_address line row (Ok x) = if list_any (λ y. y == x) row then Err (faults.Repeated line) else Ok (row ++ x ∷ [])
 
--- a row with the address of one word more, unless it is full
-abbrev pub with_word : ℕ → ℕ → List ℕ → List ℕ → Result (List ℕ) RowFault
-with_word checks line row word =
-    if nat_lt (length row) most_addresses then with_address line row (address_of checks line (natural_of word)) else Err (faults.RowTooLong line)
+-- a row with the address of one token more, unless it is full
+abbrev pub with_token : ℕ → ℕ → List ℕ → List ℕ → Result (List ℕ) RowFault
+with_token checks line row token =
+    if nat_lt (length row) most_addresses then with_address line row (address_of checks line (natural_of token)) else Err (faults.RowTooLong line)
 
--- the row that goes on with these words
+-- the row that goes on with these tokens
 unfoldable pub row_from : ℕ → ℕ → Result (List ℕ) RowFault → List (List ℕ) → Result (List ℕ) RowFault
-row_from checks line (Err e) words = Err e
+row_from checks line (Err e) tokens = Err e
 row_from checks line (Ok row) [] = Ok row
-row_from checks line (Ok row) (word ∷ words) = row_from checks line (with_word checks line row word) words
+row_from checks line (Ok row) (token ∷ tokens) = row_from checks line (with_token checks line row token) tokens
 
 -- the row of a line
 abbrev pub row_in : ℕ → ℕ → List (List ℕ) → Result (List ℕ) RowFault
-row_in checks line words = row_from checks line (Ok []) words
+row_in checks line tokens = row_from checks line (Ok []) tokens
 
 -- so many rows more, from these lines
 unfoldable pub rows_of : ℕ → ℕ → ℕ → List (List ℕ) → Result (List (List ℕ)) RowFault
 rows_of checks left number [] = if left == 0 then Ok [] else Err faults.TooFewRows
 rows_of checks left number (line ∷ lines) =
-    if is_passed_over (words_of line) then rows_of checks left (number + 1) lines
+    if is_passed_over (tokens_of line) then rows_of checks left (number + 1) lines
     else (if left == 0 then Err faults.TooManyRows
-    else ok_cons (row_in checks number (words_of line)) (rows_of checks (left - 1) (number + 1) lines))
+    else ok_cons (row_in checks number (tokens_of line)) (rows_of checks (left - 1) (number + 1) lines))
 
 -- the rows of a text for a shape, or the first fault in reading order
 abbrev pub rows_of_text : List ℕ → Shape → Result (List (List ℕ)) RowFault

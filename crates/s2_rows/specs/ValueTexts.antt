@@ -22,15 +22,15 @@ abbrev pub digits_of : ℕ → ℕ → List ℕ
 digits_of zeros n = replicate zeros 48 ++ decimal n
 
 -- the digits of a number of at most 63, leading zeros allowed, and a minus before them allowed
-pub data IsWritten (word : List ℕ) (v : ℤ) : Type 0 where
-  plain : (zeros n : ℕ) → n ≤ most_soft → word ≡ digits_of zeros n → v ≡ pos n → IsWritten word v
-  minus : (zeros n : ℕ) → n ≤ most_soft → word ≡ 45 ∷ digits_of zeros n → v ≡ neg_ℤ (pos n) → IsWritten word v
+pub data IsWritten (token : List ℕ) (v : ℤ) : Type 0 where
+  plain : (zeros n : ℕ) → n ≤ most_soft → token ≡ digits_of zeros n → v ≡ pos n → IsWritten token v
+  minus : (zeros n : ℕ) → n ≤ most_soft → token ≡ 45 ∷ digits_of zeros n → v ≡ neg_ℤ (pos n) → IsWritten token v
 
 -- the values, each written, in their order
 abbrev pub IsTextOf : List ℕ → List ℤ → Type 0
 IsTextOf text [] = AreSeparators text
 IsTextOf text (v ∷ values) =
-    (gap : List ℕ) × (word : List ℕ) × (rest : List ℕ) × (text ≡ gap ++ (word ++ rest)) × AreSeparators gap × IsWritten word v × EndsNumber rest × IsTextOf rest values
+    (gap : List ℕ) × (token : List ℕ) × (rest : List ℕ) × (text ≡ gap ++ (token ++ rest)) × AreSeparators gap × IsWritten token v × EndsNumber rest × IsTextOf rest values
 
 -- such a text is read as its values
 abbrev pub ValueTextLaw : Type 0

@@ -57,14 +57,14 @@ fn free_from(row: &[u32], checks: u32, x: u32) -> u32
 }
 
 /// A row of so many addresses, each drawn in its turn.
-fn draw_row(words: &mut Pcg32, checks: u32, weight: usize) -> Row
+fn draw_row(generator: &mut Pcg32, checks: u32, weight: usize) -> Row
     requires few { weight ≤ most_addresses }
     requires free { weight ≤ checks }
-    ensures { (result.items, words.new) ≡ drawn_row checks weight [] words.old }
+    ensures { (result.items, generator.new) ≡ drawn_row checks weight [] generator.old }
 {
     let mut row = Row::new();
     for _drawn in 0..weight {
-        let address = free_from(row.as_slice(), checks, words.next_word() % checks);
+        let address = free_from(row.as_slice(), checks, generator.next_word() % checks);
         row.push(address);
     }
     row
@@ -85,9 +85,9 @@ pub fn draw_rows<A: Allocator>(
         return Err(MakeFault::BadWeight);
     }
     let mut rows = Vec::with_capacity(alloc, shape.groups()).map_err(|_| MakeFault::NoMemory)?;
-    let mut words = Pcg32::seed_from_u64(seed);
+    let mut generator = Pcg32::seed_from_u64(seed);
     for _made in 0..shape.groups() {
-        rows.push(draw_row(&mut words, checks as u32, weight))
+        rows.push(draw_row(&mut generator, checks as u32, weight))
             .unwrap();
     }
     Ok(rows)

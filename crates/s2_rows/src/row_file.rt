@@ -5,13 +5,13 @@ ghost use Rattle.s2_mode.specs.Limits.{most_bits};
 ghost use Rattle.s2_rows.specs.FaultTexts.{said, row_fault_text};
 ghost use Rattle.s2_rows.specs.Numbers.{natural_of};
 ghost use Rattle.s2_rows.specs.Readings.{after, GoesOn};
-ghost use Rattle.s2_rows.specs.RowFiles.{address_of, with_word, row_in, rows_of, rows_of_text, RowsAnswer};
-ghost use Rattle.s2_rows.specs.Text.{words_of};
+ghost use Rattle.s2_rows.specs.RowFiles.{address_of, with_token, row_in, rows_of, rows_of_text, RowsAnswer};
+ghost use Rattle.s2_rows.specs.Text.{tokens_of};
 
 use crate::fault_text::FaultText;
 use crate::numbers::natural;
 use crate::rows::{Row, Rows};
-use crate::text::{cut_line, cut_word, is_passed_over};
+use crate::text::{cut_line, cut_token, is_passed_over};
 use s2_mode::Shape;
 use std::alloc::{Allocator, Global};
 use thiserror::Error;
@@ -48,30 +48,30 @@ impl RowFault {
     }
 }
 
-/// The address that a word says.
-fn address(checks: usize, line: u64, word: &[u8]) -> Result<u32, RowFault>
+/// The address that a token says.
+fn address(checks: usize, line: u64, token: &[u8]) -> Result<u32, RowFault>
     requires { checks ≤ most_bits }
-    ensures { result ≡ address_of checks line (natural_of word.now) }
+    ensures { result ≡ address_of checks line (natural_of token.now) }
 {
-    match natural(word) {
+    match natural(token) {
         None => Err(RowFault::NotNumber { line }),
         Some(x) if x as usize >= checks => Err(RowFault::AddressTooLarge { line }),
         Some(x) => Ok(x),
     }
 }
 
-/// Adds the address that a word says to its row.
-fn add_word(row: &mut Row, checks: usize, line: u64, word: &[u8]) -> Result<(), RowFault>
+/// Adds the address that a token says to its row.
+fn add_token(row: &mut Row, checks: usize, line: u64, token: &[u8]) -> Result<(), RowFault>
     requires { checks ≤ most_bits }
     ensures read { MatchResult result
-        (λ _. with_word checks line row.old.items word.now ≡ Ok row.new.items)
-        (λ e. with_word checks line row.old.items word.now ≡ Err e) }
+        (λ _. with_token checks line row.old.items token.now ≡ Ok row.new.items)
+        (λ e. with_token checks line row.old.items token.now ≡ Err e) }
     ensures memory { result ≢ Err RowFault.NoMemory }
 {
     if row.is_full() {
         return Err(RowFault::RowTooLong { line });
     }
-    let address = address(checks, line, word)?;
+    let address = address(checks, line, token)?;
     if row.as_slice().contains(&address) {
         return Err(RowFault::Repeated { line });
     }
@@ -83,16 +83,16 @@ fn add_word(row: &mut Row, checks: usize, line: u64, word: &[u8]) -> Result<(), 
 fn read_row(checks: usize, number: u64, line: &[u8]) -> Result<Row, RowFault>
     requires { checks ≤ most_bits }
     ensures read { MatchResult result
-        (λ row. row_in checks number (words_of line.now) ≡ Ok row.items)
-        (λ e. row_in checks number (words_of line.now) ≡ Err e) }
+        (λ row. row_in checks number (tokens_of line.now) ≡ Ok row.items)
+        (λ e. row_in checks number (tokens_of line.now) ≡ Err e) }
     ensures memory { result ≢ Err RowFault.NoMemory }
 {
     let mut row = Row::new();
     let mut rest = line;
     while !rest.is_empty() {
-        let (word, after) = cut_word(rest);
-        if !word.is_empty() {
-            add_word(&mut row, checks, number, word)?;
+        let (token, after) = cut_token(rest);
+        if !token.is_empty() {
+            add_token(&mut row, checks, number, token)?;
         }
         rest = after;
     }
@@ -151,9 +151,9 @@ pub fn read_lines<A: Allocator>(
 }
 
 /// The rows that a text holds for a shape, or its first fault in reading order. A line that has no
-/// words, or whose first word begins with #, is passed over; each other line is the row of the next
-/// group of information bits. Its words, between spaces, tabs and CR, are decimal addresses: 1 to
-/// 24 of them, below n - k, each once. `NoMemory` comes before all other faults.
+/// tokens, or whose first token begins with #, is passed over; each other line is the row of the
+/// next group of information bits. Its tokens, between spaces, tabs and CR, are decimal addresses:
+/// 1 to 24 of them, below n - k, each once. `NoMemory` comes before all other faults.
 pub fn read_rows(alloc: Global, text: &[u8], shape: Shape) -> Result<Rows, RowFault>
     ensures rows { RowsAnswer (λ r. r.rows) result (rows_of_text text.now shape) }
     ensures shape { IfOk result (λ r. r.shape ≡ shape) }

@@ -10,9 +10,9 @@ pub loop-made-preserved : goal.loop-made-preserved
 loop-made-preserved g c =
     let pushed : c.push.new.self.items ≡ c.loop-made.rows.items ++ c.draw_row.result ∷ [] = search rules in
     let items = map_push (λ row. row.items) _ _ _ pushed in
-    let drawn : (c.draw_row.result.items, c.draw_row.new.words) ≡ drawn_row (check_count c.args.shape) c.args.weight [] c.loop-made.words = search rules in
+    let drawn : (c.draw_row.result.items, c.draw_row.new.generator) ≡ drawn_row (check_count c.args.shape) c.args.weight [] c.loop-made.generator = search rules in
     let below : c.loop-made._made < c.args.shape.groups = search rules in
-    (c.loop-made.invariant.0 ∙ draws_row _ _ _ _ _ _ _ _ below drawn ∙ ap (λ rows. rows ++ drawn_rows (check_count c.args.shape) c.args.weight (c.args.shape.groups - (c.loop-made._made + 1)) c.draw_row.new.words) (sym items), search rules, search rules)
+    (c.loop-made.invariant.0 ∙ draws_row _ _ _ _ _ _ _ _ below drawn ∙ ap (λ rows. rows ++ drawn_rows (check_count c.args.shape) c.args.weight (c.args.shape.groups - (c.loop-made._made + 1)) c.draw_row.new.generator) (sym items), search rules, search rules)
 
 pub returns-clause-made : goal.returns-clause-made
 returns-clause-made g c =
