@@ -28,7 +28,7 @@ use Rattle.s2_receive.specs.declared.report.Outcome.TheVariants.{Delivered}
 use Rattle.s2_receive.specs.declared.report.Outcome.{Outcome}
 use Rattle.s2_receive.proofs.Reception.{gives}
 use Rattle.s2_receive.proofs.RunLemmas.{after-append, packets-append, lines-append}
-use Rattle.s2_receive.proofs.SymbolLists.{symbols-append}
+use Rattle.s2_mode.proofs.SymbolLists.{symbols-append}
 use Rattle.s2_receive.proofs.FieldPlaces.{placed_fields}
 use Rattle.s2_modem.specs.Both.{AreBytes, IsCertifiedFrame, Hears, certified_lines, totals_of, LinkLaw, sent_symbols}
 use Rattle.s2_modem.proofs.SymbolsBack.{frame_read}

@@ -1,5 +1,6 @@
 //! The transmitter: packets in, symbols out.
 ghost use Rattle.std.specs.Prelude.{◌≡◌, ◌≢◌, ◌+◌, ◌-◌, ◌^◌, ◌<◌, ◌≤◌, ◌⊎◌, Err, IsErrOf};
+ghost use Rattle.s2_modem.specs.Limits.{most_packets};
 ghost use Rattle.s2_modem.specs.Link.{TransmitterAnswers};
 ghost use Rattle.s2_modem.specs.Sending.{TransmitterRuns};
 
@@ -73,7 +74,7 @@ impl<'a> Transmitter<'a> {
 
     /// Lets each run take at most so many packets, 1 to [`MOST_PACKETS`].
     pub fn limit(&mut self, packets: u64)
-        requires { (1 ≤ packets) × (packets ≤ MOST_PACKETS) }
+        requires { (1 ≤ packets) × (packets ≤ most_packets) }
         ensures { self.new ≡ record self.old { limit = packets } }
     {
         self.limit = packets;
