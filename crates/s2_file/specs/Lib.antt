@@ -4,3 +4,4 @@ pub mod File
 pub mod Format
 pub mod Answers
 pub mod Held
+pub mod FaultTexts

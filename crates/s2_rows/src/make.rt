@@ -2,9 +2,11 @@
 ghost use Rattle.std.specs.Prelude.{◌≡◌, ◌<◌, ◌≤◌, ◌==◌, [], map, false, length, IfOk};
 ghost use Rattle.std.specs.List.{list_any};
 ghost use Rattle.s2_mode.specs.Shape.{IsShape};
+ghost use Rattle.s2_rows.specs.FaultTexts.{said, make_fault_text};
 ghost use Rattle.s2_rows.specs.Limits.{most_addresses};
 ghost use Rattle.s2_rows.specs.MadeRows.{free_from, drawn_row, Makes};
 
+use crate::fault_text::FaultText;
 use crate::limits::MOST_ADDRESSES;
 use crate::rows::{Row, Rows};
 use rand_core::SeedableRng;
@@ -16,13 +18,24 @@ use thiserror::Error;
 
 /// Why no rows were made.
 #[derive(Clone, Copy, Debug, PartialEq, Eq, Error)]
+#[error("{}", self.text())]
 pub enum MakeFault {
     /// A row has one to 24 addresses, and at most n - k.
-    #[error("no such weight")]
     BadWeight,
     /// A growth was refused.
-    #[error("no memory")]
     NoMemory,
+}
+
+impl MakeFault {
+    /// What this fault says.
+    pub fn text(self) -> FaultText
+        ensures { said result ≡ make_fault_text self }
+    {
+        match self {
+            MakeFault::BadWeight => FaultText::of("no such weight"),
+            MakeFault::NoMemory => FaultText::of("no memory"),
+        }
+    }
 }
 
 /// The first of x, x + 1, .. (wrapping at n - k) that is not in the row.

@@ -2,11 +2,13 @@
 ghost use Rattle.std.specs.Prelude.{◌≡◌, ◌≢◌, ◌+◌, ◌-◌, ◌<◌, ◌≤◌, ◌∷◌, ℕ, List, Ok, Err, map, vec_len, vec_capacity, IfOk, MatchResult};
 ghost use Rattle.s2_mode.specs.Shape.{IsShape, check_count};
 ghost use Rattle.s2_mode.specs.Limits.{most_bits};
+ghost use Rattle.s2_rows.specs.FaultTexts.{said, row_fault_text};
 ghost use Rattle.s2_rows.specs.Numbers.{natural_of};
 ghost use Rattle.s2_rows.specs.Readings.{after, GoesOn};
 ghost use Rattle.s2_rows.specs.RowFiles.{address_of, with_word, row_in, rows_of, rows_of_text, RowsAnswer};
 ghost use Rattle.s2_rows.specs.Text.{words_of};
 
+use crate::fault_text::FaultText;
 use crate::numbers::natural;
 use crate::rows::{Row, Rows};
 use crate::text::{cut_line, cut_word, is_passed_over};
@@ -16,21 +18,34 @@ use thiserror::Error;
 
 /// Why a row file is refused. Lines count from 1.
 #[derive(Clone, Copy, Debug, PartialEq, Eq, Error)]
+#[error("{}", self.text())]
 pub enum RowFault {
-    #[error("not a number in line {line}")]
     NotNumber { line: u64 },
-    #[error("too few rows")]
     TooFewRows,
-    #[error("too many rows")]
     TooManyRows,
-    #[error("address too large in line {line}")]
     AddressTooLarge { line: u64 },
-    #[error("repeated address in line {line}")]
     Repeated { line: u64 },
-    #[error("row too long in line {line}")]
     RowTooLong { line: u64 },
-    #[error("no memory")]
     NoMemory,
+}
+
+impl RowFault {
+    /// What this fault says.
+    pub fn text(self) -> FaultText
+        ensures { said result ≡ row_fault_text self }
+    {
+        match self {
+            RowFault::NotNumber { line } => FaultText::in_line("not a number in line ", line),
+            RowFault::TooFewRows => FaultText::of("too few rows"),
+            RowFault::TooManyRows => FaultText::of("too many rows"),
+            RowFault::AddressTooLarge { line } => {
+                FaultText::in_line("address too large in line ", line)
+            }
+            RowFault::Repeated { line } => FaultText::in_line("repeated address in line ", line),
+            RowFault::RowTooLong { line } => FaultText::in_line("row too long in line ", line),
+            RowFault::NoMemory => FaultText::of("no memory"),
+        }
+    }
 }
 
 /// The address that a word says.
