@@ -2,12 +2,13 @@
 use Rattle.std.specs.Prelude.{◌≡◌, ℕ, zero, suc, ◌+◌, ◌-◌, ◌*◌, ◌/◌, ◌%◌, ◌<◌, ◌≤◌, Bool, true, false, List, [], ◌∷◌, ◌++◌, length, take, drop, slice_index, MatchBool}
 use Rattle.std.specs.List.{flat_map}
 use Rattle.s2_mode.specs.Mode.{Mode, kbch_of}
+use Rattle.s2_bbframe.specs.Limits.{packet_bytes, sync}
 use Rattle.s2_bbframe.specs.Crc.{crc8}
 use Rattle.s2_bbframe.specs.declared.header.Header.{Header}
 
--- a packet has 188 bytes, the first of them 47
+-- a packet has its 188 bytes, the first of them the sync byte
 abbrev pub IsPacket : List ℕ → Type 0
-IsPacket packet = (length packet ≡ 188) × (slice_index packet 0 ≡ 71)
+IsPacket packet = (length packet ≡ packet_bytes) × (slice_index packet 0 ≡ sync)
 
 -- a packet's body, and behind it the body's CRC-8 in the next packet's sync place
 abbrev pub closed_body : List ℕ → List ℕ
@@ -46,7 +47,7 @@ fields_of size stream = cuts size ((length stream + (size - 1)) / size) stream
 
 -- the distance in bytes from a stream byte to the next sync place
 abbrev pub to_place : ℕ → ℕ
-to_place at = (188 - at % 188) % 188
+to_place at = (packet_bytes - at % packet_bytes) % packet_bytes
 
 -- the header of the field at a stream byte
 abbrev pub header_at : ℕ → ℕ → List ℕ → Header
@@ -59,7 +60,7 @@ field_bytes m = (kbch_of m - 80) / 8
 -- The next byte stands here in its packet, and with it so many bytes are left: the last byte of a stream is a CRC-8, which
 -- stands in a sync place. Before the first packet there is none.
 abbrev pub EndsAtPlace : Bool → ℕ → ℕ → Type 0
-EndsAtPlace true phase left = (phase + left) % 188 ≡ 1
+EndsAtPlace true phase left = (phase + left) % packet_bytes ≡ 1
 EndsAtPlace false phase left = (phase ≡ 0) × (left ≡ 0)
 
 -- the slicer, as callers see it
@@ -82,7 +83,7 @@ starting size = record { size = size; begun = false; phase = 0; waiting = []; cl
 -- the packets that were accepted, and the fields that were taken
 pub record Sliced (packets fields : List (List ℕ)) (s : Slicing) : Type 0 where
   pub begun : s.begun ≡ is_begun packets
-  pub phase : s.phase ≡ length (flat_map (λ field. field) fields) % 188
+  pub phase : s.phase ≡ length (flat_map (λ field. field) fields) % packet_bytes
   pub whole : stream_of packets ≡ flat_map (λ field. field) fields ++ s.waiting
 
 -- the field that is taken next: a full one, or what remains
@@ -95,7 +96,7 @@ after_packet packet s = record { size = s.size; begun = true; phase = s.phase; w
 
 -- the slicer without its next field
 abbrev pub after_field : Slicing → Slicing
-after_field s = record { size = s.size; begun = s.begun; phase = (s.phase + length (next_field s)) % 188; waiting = drop s.size s.waiting; closed = s.closed }
+after_field s = record { size = s.size; begun = s.begun; phase = (s.phase + length (next_field s)) % packet_bytes; waiting = drop s.size s.waiting; closed = s.closed }
 
 -- a field can be taken: a full one, or after the last packet what remains
 abbrev pub IsReady : Slicing → Type 0

@@ -2,6 +2,7 @@
 use Rattle.std.specs.Prelude.{ℕ, ◌+◌, ◌-◌, ◌/◌, ◌%◌, ◌==◌, ◌&&◌, ◌||◌, nat_le, nat_lt, Bool, not, List, [], ◌∷◌, ◌++◌, take, slice_index, Result, Ok, Err, if◌then◌else◌}
 use Rattle.std.specs.Int.{w16, from_be_bytes, to_be_bytes}
 use Rattle.s2_mode.specs.Mode.{Mode, kbch_of}
+use Rattle.s2_bbframe.specs.Limits.{no_place, packet_bits, sync}
 use Rattle.s2_bbframe.specs.Crc.{crc8}
 use Rattle.s2_bbframe.specs.declared.header.Header.{Header}
 use Rattle.s2_bbframe.specs.declared.header.HeaderFault.{HeaderFault}
@@ -25,16 +26,16 @@ abbrev pub is_constant_transport : ℕ → Bool
 is_constant_transport matype =
     (matype / 64 == 3) && ((matype / 32 % 2 == 1) && ((matype / 16 % 2 == 1) && ((matype / 8 % 2 == 0) && (matype / 4 % 2 == 0))))
 
--- such a stream, of packets of 1504 bits that begin with 47 hexadecimal
+-- such a stream, whose UPL and SYNC are those of a transport stream's packets
 abbrev pub is_packet_stream : List ℕ → Bool
-is_packet_stream bytes = is_constant_transport (slice_index bytes 0) && ((two_bytes bytes 2 == 1504) && (slice_index bytes 6 == 71))
+is_packet_stream bytes = is_constant_transport (slice_index bytes 0) && ((two_bytes bytes 2 == packet_bits) && (slice_index bytes 6 == sync))
 
 -- DFL: whole bytes, which a frame holds. SYNCD: the first place lies in the field and is its own packet's, or there is none
 abbrev pub has_valid_lengths : Mode → Header → Bool
 has_valid_lengths m h =
     (h.dfl % 8 == 0)
     && (nat_le h.dfl (kbch_of m - 80)
-    && ((h.dfl == 0) || ((h.syncd == 65535) || ((h.syncd % 8 == 0) && (nat_lt h.syncd 1504 && nat_lt h.syncd h.dfl)))))
+    && ((h.dfl == 0) || ((h.syncd == no_place) || ((h.syncd % 8 == 0) && (nat_lt h.syncd packet_bits && nat_lt h.syncd h.dfl)))))
 
 -- what a header's bytes say, or the first fault
 unfoldable pub header_of_bytes : Mode → List ℕ → Result Header HeaderFault
@@ -47,9 +48,9 @@ header_of_bytes m bytes =
     then Err faults.BadLengths
     else Ok (header_of bytes)
 
--- the nine bytes before the CRC-8: MATYPE-1 is F0 and RO, MATYPE-2 is `second`, UPL 1504, SYNC 47
+-- the nine bytes before the CRC-8: MATYPE-1 is F0 and RO, MATYPE-2 is `second`, UPL and SYNC are a packet's
 abbrev pub signalling : Header → List ℕ
-signalling h = (240 + h.roll_off) ∷ h.second ∷ 5 ∷ 224 ∷ (to_be_bytes w16 h.dfl ++ (71 ∷ to_be_bytes w16 h.syncd))
+signalling h = (240 + h.roll_off) ∷ h.second ∷ (to_be_bytes w16 packet_bits ++ (to_be_bytes w16 h.dfl ++ (sync ∷ to_be_bytes w16 h.syncd)))
 
 abbrev pub header_bytes : Header → List ℕ
 header_bytes h = signalling h ++ (crc8 (signalling h) ∷ [])

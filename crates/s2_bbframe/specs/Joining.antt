@@ -1,6 +1,7 @@
 -- Packets out of delivered data fields: the data stream (EN 302 307-1, 5.1.4 and 5.1.5) read backwards.
 use Rattle.std.specs.Prelude.{◌≡◌, ℕ, ◌+◌, ◌-◌, ◌*◌, ◌/◌, ◌<◌, nat_eq, nat_lt, if◌then◌else◌, List, [], ◌∷◌, ◌++◌, All, length, drop, take, Option, Some, None, ⊤}
 use Rattle.std.specs.List.{flat_map}
+use Rattle.s2_bbframe.specs.Limits.{body_bytes, no_place, packet_bytes, sync}
 use Rattle.s2_bbframe.specs.DataStream.{IsPacket, stream_of, header_at, to_place}
 use Rattle.s2_bbframe.specs.Crc.{crc8}
 use Rattle.s2_bbframe.specs.declared.header.Header.{Header}
@@ -17,14 +18,14 @@ pub record Run : Type 0 where
 abbrev pub more : List (List ℕ) → ℕ → Run → Run
 more good bad r = record { body = r.body; good = good ++ r.good; bad = bad + r.bad }
 
--- a body and the place behind it: a packet, which begins with 47 hexadecimal, where the place holds the body's CRC-8
+-- a body and the place behind it: a packet, which begins with the sync byte, where the place holds the body's CRC-8
 abbrev pub closing : List ℕ → ℕ → Run → Run
-closing body place r = if nat_eq place (crc8 body) then more ((71 ∷ body) ∷ []) 0 r else more [] 1 r
+closing body place r = if nat_eq place (crc8 body) then more ((sync ∷ body) ∷ []) 0 r else more [] 1 r
 
--- the bytes of a run that go on after part of a body; a whole body has 187 bytes
+-- the bytes of a run that go on after part of a body
 abbrev pub run_of : List ℕ → List ℕ → Run
 run_of body [] = record { body = body; good = []; bad = 0 }
-run_of body (byte ∷ bytes) = if nat_eq (length body) 187 then closing body byte (run_of [] bytes) else run_of (body ++ byte ∷ []) bytes
+run_of body (byte ∷ bytes) = if nat_eq (length body) body_bytes then closing body byte (run_of [] bytes) else run_of (body ++ byte ∷ []) bytes
 
 -- ---- the joiner
 
@@ -41,13 +42,13 @@ still held = record { held = held; good = []; bad = 0 }
 abbrev pub inside : Run → Joined
 inside r = record { held = Some r.body; good = r.good; bad = r.bad }
 
--- the distance in bits to the run's next place, or 65535 where it lies past the field
+-- the distance in bits to the run's next place, or `no_place` where it lies past the field
 abbrev pub place_in : List ℕ → List ℕ → ℕ
-place_in body bytes = if nat_lt (187 - length body) (length bytes) then 8 * (187 - length body) else 65535
+place_in body bytes = if nat_lt (body_bytes - length body) (length bytes) then 8 * (body_bytes - length body) else no_place
 
 -- a field that comes while it is lost: a run begins behind the place that SYNCD names
 abbrev pub begins : ℕ → List ℕ → Joined
-begins syncd bytes = if nat_eq syncd 65535 then still None else inside (run_of [] (drop (syncd / 8 + 1) bytes))
+begins syncd bytes = if nat_eq syncd no_place then still None else inside (run_of [] (drop (syncd / 8 + 1) bytes))
 
 -- a field that comes inside a run: the run goes on where SYNCD names its next place, else it has ended
 abbrev pub goes_on : List ℕ → ℕ → List ℕ → Joined
@@ -93,7 +94,7 @@ Placed at (bytes ∷ fields) = (to_place at < length bytes) × Placed (at + leng
 
 -- how many packets' closing CRC-8s lie in so many bytes of a stream
 abbrev pub closed_in : ℕ → ℕ
-closed_in bytes = (bytes - 1) / 188
+closed_in bytes = (bytes - 1) / packet_bytes
 
 -- Whatever fields of a data stream come first: the packets whose closing CRC-8 lies in them are given, and none is bad.
 abbrev pub RoundTripLaw : Type 0

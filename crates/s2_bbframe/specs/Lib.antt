@@ -1,3 +1,4 @@
+pub mod Limits
 pub mod Crc
 pub mod Headers
 pub mod DataStream

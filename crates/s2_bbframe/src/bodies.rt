@@ -4,15 +4,12 @@ ghost use Rattle.std.specs.List.{flat_map};
 ghost use Rattle.std.specs.Io.KnownBytes.{Appends};
 ghost use Rattle.s2_mode.specs.Counts.{CountsFault};
 ghost use Rattle.s2_mode.specs.Pieces.{AppendsPart};
+ghost use Rattle.s2_bbframe.specs.Limits.{body_bytes, sync};
 ghost use Rattle.s2_bbframe.specs.Joining.{run_of};
 
 use crate::crc::crc8;
-use crate::header::SYNC;
-use crate::slicer::PACKET_BYTES;
+use crate::limits::{BODY_BYTES, PACKET_BYTES, SYNC};
 use s2_mode::{CountedWrite, WriteFault, write_full};
-
-/// The bytes of a packet behind its sync byte.
-pub(crate) const BODY_BYTES: usize = 187;
 
 /// What bytes of a run gave, and how much of a body is held after them.
 #[derive(Clone, Copy)]
@@ -24,8 +21,8 @@ pub(crate) struct Bodies {
 
 // the packet of this body
 fn packet_of(body: &[u8]) -> [u8; PACKET_BYTES]
-    requires { length body.now ≡ BODY_BYTES }
-    ensures { result ≡ 71 ∷ body.now }
+    requires { length body.now ≡ body_bytes }
+    ensures { result ≡ sync ∷ body.now }
 {
     let mut packet = [SYNC; PACKET_BYTES];
     packet[1..].copy_from_slice(body);
@@ -35,9 +32,9 @@ fn packet_of(body: &[u8]) -> [u8; PACKET_BYTES]
 // writes the packet of this body, in one piece
 fn write_packet<W: CountedWrite>(body: &[u8], out: &mut W) -> Result<(), WriteFault>
     requires count { W.count out.old < 2 ^ 64 - 1 }
-    requires body { length body.now ≡ BODY_BYTES }
-    ensures bytes { OnOk result (Appends (W.contents out.old) (W.contents out.new) (71 ∷ body.now)) }
-    ensures part { OnErr result (AppendsPart (71 ∷ body.now) (W.contents out.old) (W.contents out.new)) }
+    requires body { length body.now ≡ body_bytes }
+    ensures bytes { OnOk result (Appends (W.contents out.old) (W.contents out.new) (sync ∷ body.now)) }
+    ensures part { OnErr result (AppendsPart (sync ∷ body.now) (W.contents out.old) (W.contents out.new)) }
     ensures cause { CountsFault (W.count out.old) (W.count out.new) result }
 {
     write_full(out, &packet_of(body))
@@ -51,9 +48,9 @@ pub(crate) fn read_bodies<W: CountedWrite>(
     out: &mut W,
 ) -> Result<Bodies, WriteFault>
     requires count { W.count out.old < 2 ^ 64 - 1 }
-    requires body { length body.old ≡ BODY_BYTES }
-    requires start { start ≤ BODY_BYTES }
-    ensures held { IfOk result (λ r. (r.held ≤ BODY_BYTES) × (take r.held body.new ≡ (run_of (take start body.old) bytes.now).body)) }
+    requires body { length body.old ≡ body_bytes }
+    requires start { start ≤ body_bytes }
+    ensures held { IfOk result (λ r. (r.held ≤ body_bytes) × (take r.held body.new ≡ (run_of (take start body.old) bytes.now).body)) }
     ensures good { IfOk result (λ r. r.good ≡ length (run_of (take start body.old) bytes.now).good) }
     ensures bad { IfOk result (λ r. r.bad ≡ (run_of (take start body.old) bytes.now).bad) }
     ensures most { IfOk result (λ r. r.good + r.bad ≤ length bytes.now) }

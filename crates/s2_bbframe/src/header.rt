@@ -3,17 +3,9 @@ ghost use Rattle.std.specs.Prelude.{◌≡◌, ◌≤◌, true, Ok};
 ghost use Rattle.s2_bbframe.specs.Headers.{is_whole, is_constant_transport, is_packet_stream, header_of};
 
 use crate::crc::crc8;
+use crate::limits::{NO_PLACE, PACKET_BITS, SYNC};
 use s2_mode::Mode;
 use thiserror::Error;
-
-/// UPL, the bits of a packet.
-const PACKET_BITS: u16 = 1504;
-
-/// SYNC, the first byte of a packet.
-pub(crate) const SYNC: u8 = 0x47;
-
-/// SYNCD where no place for a CRC-8 lies in the field.
-pub const NO_PLACE: u16 = 65535;
 
 /// What a header says of its frame. The rest of it is the same in every frame of a transport stream
 /// with constant coding and modulation.
@@ -25,8 +17,8 @@ pub struct Header {
     pub second: u8,
     /// DFL, the length of the data field in bits.
     pub dfl: u16,
-    /// SYNCD, the distance in bits from the field's start to the first place for a CRC-8; 65535
-    /// where there is none.
+    /// SYNCD, the distance in bits from the field's start to the first place for a CRC-8;
+    /// [`NO_PLACE`] where there is none.
     pub syncd: u16,
 }
 

@@ -4,10 +4,12 @@ ghost use Rattle.std.specs.List.{flat_map};
 ghost use Rattle.std.specs.Io.KnownBytes.{Appends};
 ghost use Rattle.s2_mode.specs.Counts.{CountsFault};
 ghost use Rattle.s2_mode.specs.Pieces.{AppendsPart};
+ghost use Rattle.s2_bbframe.specs.Limits.{no_place};
 ghost use Rattle.s2_bbframe.specs.Joining.{fed};
 
-use crate::bodies::{BODY_BYTES, Bodies, read_bodies};
-use crate::header::{Header, NO_PLACE};
+use crate::bodies::{Bodies, read_bodies};
+use crate::header::Header;
+use crate::limits::{BODY_BYTES, NO_PLACE};
 use s2_mode::{CountedWrite, WriteFault};
 use std::marker::Model;
 use std::mem;
@@ -33,12 +35,13 @@ pub struct Joiner {
 
 impl Model for Joiner {
     ghost use Rattle.std.specs.Prelude.{ℕ, ◌≤◌, List, Option, Some, None, take, if◌then◌else◌};
+    ghost use Rattle.s2_bbframe.specs.Limits.{body_bytes};
 
     ghost Value = { Option (List ℕ) };
 
     ghost view = { λ j. if j.inside then Some (take j.held j.body) else None };
 
-    ghost invariant = { λ j. j.held ≤ 187 };
+    ghost invariant = { λ j. j.held ≤ body_bytes };
 }
 
 impl Joiner {
@@ -71,7 +74,7 @@ impl Joiner {
         out: &mut W,
     ) -> Result<Fed, WriteFault>
         requires count { W.count out.old < 2 ^ 64 - 1 }
-        requires syncd { (length field.now ≡ 0) ⊎ ((header.now.syncd ≡ NO_PLACE) ⊎ (header.now.syncd / 8 < length field.now)) }
+        requires syncd { (length field.now ≡ 0) ⊎ ((header.now.syncd ≡ no_place) ⊎ (header.now.syncd / 8 < length field.now)) }
         ensures held { OnOk result (self.new ≡ (fed self.old header.now.syncd field.now).held) }
         ensures good { IfOk result (λ r. r.good ≡ length (fed self.old header.now.syncd field.now).good) }
         ensures bad { IfOk result (λ r. r.bad ≡ (fed self.old header.now.syncd field.now).bad) }

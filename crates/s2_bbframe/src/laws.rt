@@ -1,6 +1,7 @@
 //! Laws of the definitions: each a call that does nothing, whose clause is the law.
 ghost use Rattle.s2_bbframe.specs.Crc.{RemainderLaw};
 ghost use Rattle.s2_bbframe.specs.Joining.{RoundTripLaw};
+ghost use Rattle.s2_bbframe.specs.Limits.{LimitsLaw};
 
 /// The CRC-8 of bytes is what the division of x^8 times their polynomial by
 /// x^8 + x^7 + x^6 + x^4 + x^2 + 1 leaves (EN 302 307-1, 5.1.4).
@@ -12,4 +13,11 @@ pub fn remainder()
 /// so all its fields give all its packets.
 pub fn round_trip()
     ensures { RoundTripLaw }
+{}
+
+/// The numbers of packets and headers that the code works with, [`crate::PACKET_BYTES`],
+/// [`crate::BODY_BYTES`], [`crate::SYNC`], [`crate::PACKET_BITS`] and [`crate::NO_PLACE`], are those of
+/// the definitions.
+pub fn limits()
+    ensures { LimitsLaw }
 {}

@@ -25,13 +25,15 @@ mod crc;
 mod header;
 mod joiner;
 pub mod laws;
+mod limits;
 mod slicer;
 mod table;
 
 pub use crc::crc8;
-pub use header::{Header, HeaderFault, NO_PLACE};
+pub use header::{Header, HeaderFault};
 pub use joiner::{Fed, Joiner};
-pub use slicer::{NoSync, PACKET_BYTES, Slicer};
+pub use limits::{BODY_BYTES, NO_PLACE, PACKET_BITS, PACKET_BYTES, SYNC};
+pub use slicer::{NoSync, Slicer};
 
 #[cfg(test)]
 mod memory_tests;

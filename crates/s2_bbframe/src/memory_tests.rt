@@ -2,7 +2,7 @@
 ghost use Rattle.std.specs.Prelude.{◌≡◌, IfOk};
 ghost use Rattle.s2_bbframe.specs.DataStream.{starting, field_bytes};
 
-use crate::{Header, Slicer};
+use crate::{Header, PACKET_BYTES, SYNC, Slicer};
 use s2_mode::Mode;
 use std::alloc::{AllocError, Global};
 use std::test::Fail;
@@ -21,8 +21,8 @@ fn asks_again_where_memory_is_refused(rt: HostRuntime) -> Result<(), Fail> {
     let mode = Mode::of(1, false, false).ok_or("no mode")?;
     let mut slicer = slicer(rt.alloc(), mode)?;
     assert!(rt; slicer.size() == 1991 && !slicer.ready());
-    let mut packet = [0; 188];
-    packet[0] = 0x47;
+    let mut packet = [0; PACKET_BYTES];
+    packet[0] = SYNC;
     slicer.put(&packet)?;
     assert!(rt; slicer.size() == 1991 && !slicer.ready());
     slicer.close();

@@ -2,26 +2,25 @@
 ghost use Rattle.std.specs.Prelude.{◌≡◌, ◌<◌, ◌≤◌, ◌+◌, ◌↔◌, ℕ, List, [], ◌∷◌, ◌++◌, false, true, length, take, drop, slice_index, IfOk, OnOk, OnErr, IsOk, IsSome, IfSome, IfNone, IsTrue, vec_capacity};
 ghost use Rattle.std.specs.List.{flat_map};
 ghost use Rattle.s2_mode.specs.Mode.{IsMode};
+ghost use Rattle.s2_bbframe.specs.Limits.{packet_bytes, sync};
 ghost use Rattle.s2_bbframe.specs.DataStream.{closed_body, header_at, next_field, after_packet, after_field, starting, field_bytes, IsReady, Sliced};
 
 use crate::crc::crc8;
-use crate::header::{Header, SYNC};
+use crate::header::Header;
+use crate::limits::{PACKET_BYTES, SYNC};
 use s2_mode::Mode;
 use std::alloc::{AllocError, Global};
 use std::marker::Model;
 use thiserror::Error;
 
-/// The bytes of a packet.
-pub const PACKET_BYTES: usize = 188;
-
-/// A packet does not begin with 47 hexadecimal.
+/// A packet does not begin with [`SYNC`].
 #[derive(Clone, Copy, Debug, PartialEq, Eq, Error)]
 #[error("no sync")]
 pub struct NoSync;
 
 /// Cuts the data stream of packets into fields. It holds less than a field and one packet.
 ///
-/// The stream is the byte 00, then each packet's 187 bytes behind its sync byte and their CRC-8, in
+/// The stream is the byte 00, then each packet's body and its CRC-8, in
 /// the next packet's sync place. While packets still come a full field can be taken as soon as all
 /// its bits are there; after [`Slicer::close`] so can what remains.
 #[derive(Drop)]
@@ -35,19 +34,20 @@ pub struct Slicer {
 
 impl Model for Slicer {
     ghost use Rattle.std.specs.Prelude.{◌<◌, ◌≤◌, ◌+◌, length, vec_capacity};
+    ghost use Rattle.s2_bbframe.specs.Limits.{packet_bytes};
     ghost use Rattle.s2_bbframe.specs.DataStream.{Slicing, EndsAtPlace};
 
     ghost Value = { Slicing };
 
     ghost view = { λ s. record { size = s.size; begun = s.begun; phase = s.phase; waiting = s.waiting.items; closed = s.closed } };
 
-    ghost invariant = { λ s. (s.size + 188 ≤ vec_capacity s.waiting) × (s.phase < 188) × (s.size < 8192) × (188 ≤ s.size)
+    ghost invariant = { λ s. (s.size + packet_bytes ≤ vec_capacity s.waiting) × (s.phase < packet_bytes) × (s.size < 8192) × (packet_bytes ≤ s.size)
         × EndsAtPlace s.begun s.phase (length s.waiting.items) };
 }
 
 // adds a packet's body and its CRC-8
-fn close_body(waiting: &mut Vec<u8>, packet: &[u8; 188])
-    requires { length waiting.old.items + 188 ≤ vec_capacity waiting.old }
+fn close_body(waiting: &mut Vec<u8>, packet: &[u8; PACKET_BYTES])
+    requires { length waiting.old.items + packet_bytes ≤ vec_capacity waiting.old }
     ensures bytes { waiting.new.items ≡ waiting.old.items ++ closed_body packet.now }
     ensures capacity { vec_capacity waiting.old ≤ vec_capacity waiting.new }
 {
@@ -95,10 +95,10 @@ impl Slicer {
     }
 
     /// Accepts a packet. A refused one changes nothing.
-    pub fn put(&mut self, packet: &[u8; 188]) -> Result<(), NoSync>
+    pub fn put(&mut self, packet: &[u8; PACKET_BYTES]) -> Result<(), NoSync>
         requires not_ready { length self.old.waiting < self.old.size }
         requires not_closed { self.old.closed ≡ false }
-        ensures accepts { IsOk result ↔ (slice_index packet.now 0 ≡ 71) }
+        ensures accepts { IsOk result ↔ (slice_index packet.now 0 ≡ sync) }
         ensures packet { OnOk result (self.new ≡ after_packet packet.now self.old) }
         ensures stream { OnOk result ((packets fields : List (List ℕ)) → Sliced packets fields self.old → Sliced (packets ++ packet.now ∷ []) fields self.new) }
         ensures refused { OnErr result (self.new ≡ self.old) }
@@ -157,12 +157,12 @@ impl Slicer {
             roll_off,
             second: 0,
             dfl: 8 * n as u16,
-            syncd: 8 * ((188 - self.phase % 188) % 188) as u16,
+            syncd: 8 * ((PACKET_BYTES - self.phase % PACKET_BYTES) % PACKET_BYTES) as u16,
         };
         let left = self.waiting.len() - n;
         self.waiting.copy_within(n.., 0);
         self.waiting.truncate(left);
-        self.phase = (self.phase + n) % 188;
+        self.phase = (self.phase + n) % PACKET_BYTES;
         Some(header)
     }
 }

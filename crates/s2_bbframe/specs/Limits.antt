@@ -1,0 +1,31 @@
+-- The numbers of packets and of their fields' headers.
+use Rattle.std.specs.Prelude.{◌≡◌, ℕ}
+use Rattle.s2_bbframe.specs.declared.limits.TheConstants.{BODY_BYTES, NO_PLACE, PACKET_BITS, PACKET_BYTES, SYNC}
+
+-- the bytes of a packet (ISO/IEC 13818-1, 2.4.3.2)
+abbrev pub packet_bytes : ℕ
+packet_bytes = 188
+
+-- the bytes of a packet's body, which is what stands behind its sync byte (EN 302 307-1, 5.1.4)
+abbrev pub body_bytes : ℕ
+body_bytes = 187
+
+-- the sync byte, with which a packet begins: 47 hexadecimal (ISO/IEC 13818-1, 2.4.3.3), SYNC of a header (EN 302 307-1, 5.1.6)
+abbrev pub sync : ℕ
+sync = 71
+
+-- the bits of a packet, UPL of a header (EN 302 307-1, 5.1.6)
+abbrev pub packet_bits : ℕ
+packet_bits = 1504
+
+-- SYNCD of a header in whose field no place for a CRC-8 lies (EN 302 307-1, 5.1.6)
+abbrev pub no_place : ℕ
+no_place = 65535
+
+-- the numbers that the code works with are these
+pub record LimitsLaw : Type 0 where
+  pub packet : PACKET_BYTES ≡ packet_bytes
+  pub body : BODY_BYTES ≡ body_bytes
+  pub first : SYNC ≡ sync
+  pub bits : PACKET_BITS ≡ packet_bits
+  pub none : NO_PLACE ≡ no_place
