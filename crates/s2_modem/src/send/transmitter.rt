@@ -26,7 +26,8 @@ pub struct Transmitter<'a> {
 }
 
 impl<'a> Model for Transmitter<'a> {
-    ghost use Rattle.std.specs.Prelude.{◌≡◌, ◌≤◌, length};
+    ghost use Rattle.std.specs.Prelude.{◌≡◌, ◌<◌, length};
+    ghost use Rattle.s2_bbframe.specs.Limits.{packet_bytes};
     ghost use Rattle.s2_bbframe.specs.DataStream.{field_bytes};
     ghost use Rattle.s2_modem.specs.Link.{Transmitter as TransmitterValue};
 
@@ -35,7 +36,7 @@ impl<'a> Model for Transmitter<'a> {
     ghost view = { λ t. record { link = t.framer; limit = t.limit } };
 
     ghost invariant = { λ t. (t.slicer.size ≡ field_bytes t.framer.setup.mode) × (length t.field.items ≡ field_bytes t.framer.setup.mode)
-        × (189 ≤ field_bytes t.framer.setup.mode) };
+        × (packet_bytes < field_bytes t.framer.setup.mode) };
 }
 
 impl<'a> Transmitter<'a> {
