@@ -42,7 +42,7 @@ use Rattle.s2_modem.specs.Both.{IsByte, AreBytes, sent_symbols, IsCertifiedFrame
 use Rattle.s2_modem.specs.Headline.{IsDelivered, IsSent, IsDeliveredCertified, HearsLaw, ArrivalLaw, LikelyFrameLaw}
 use Rattle.s2_check.specs.Cost.{IsMostLikely}
 use Rattle.s2_split.specs.Scattered.{IsScattered}
-use Rattle.s2_receive.specs.declared.receiver.TheConstants.{MOST_SYMBOLS}
+use Rattle.s2_receive.specs.Limits.{most_symbols}
 use Rattle.s2_plframe.specs.Payload.{received_payload}
 use Rattle.s2_modem.proofs.Arrival.{arrives}
 use Rattle.s2_modem.proofs.DecidingLemmas.{clean_lem, likely_lem}
@@ -287,7 +287,7 @@ module _ (m : Mode) (valid : IsMode m) (sizes : HasCodeSizes m) where
 
   pub arrival_law : ArrivalLaw m
   arrival_law link effort most count_old count_new source symbols counts totals source_left p p' w w' linked ro bytes runs got =
-      let a = arrives link (link_rules link effort MOST_SYMBOLS) most count_old count_new source symbols counts got.state source_left got.left p p' w w' (hears_law link effort MOST_SYMBOLS linked ro) bytes runs got.runs_out in
+      let a = arrives link (link_rules link effort most_symbols) most count_old count_new source symbols counts got.state source_left got.left p p' w w' (hears_law link effort most_symbols linked ro) bytes runs got.runs_out in
       record { packets = a.packets; totals_are = got.totals_are ∙ a.totals; fields = a.fields; frames = a.frames; lines = a.lines }
 
   pub likely_law : LikelyFrameLaw m

@@ -1,5 +1,6 @@
 -- A frame without noise, from the mapper to the soft values.
 use Rattle.std.specs.Prelude.{◌≡◌, ℕ, Bool, List, length, map, take}
+use Rattle.s2_mode.specs.Limits.{header_symbols}
 use Rattle.s2_mode.specs.Mode.{Mode, IsMode, n_of}
 use Rattle.s2_map.specs.Mapping.{payload_of}
 use Rattle.s2_plframe.specs.Frame.{frame_symbols}
@@ -10,9 +11,9 @@ use Rattle.s2_soft.specs.Soft.{soft_values}
 use Rattle.s2_soft.specs.Clean.{Says}
 
 -- its header is found, and the soft values of its payload say the codeword
-pub record IsCleanFrame (m : Mode) (number : ℕ) (word : List Bool) : Type 0 where
-  pub header : found m (map decision (take 90 (frame_symbols m number (payload_of m word)))) ≡ founds.Coded
-  pub soft : Says (soft_values m (received_payload m number (frame_symbols m number (payload_of m word)))) word
+pub record IsCleanFrame (m : Mode) (number : ℕ) (codeword : List Bool) : Type 0 where
+  pub header : found m (map decision (take header_symbols (frame_symbols m number (payload_of m codeword)))) ≡ founds.Coded
+  pub soft : Says (soft_values m (received_payload m number (frame_symbols m number (payload_of m codeword)))) codeword
 
 abbrev pub CleanFrameLaw : Type 0
-CleanFrameLaw = (m : Mode) (number : ℕ) (word : List Bool) → IsMode m → length word ≡ n_of m → IsCleanFrame m number word
+CleanFrameLaw = (m : Mode) (number : ℕ) (codeword : List Bool) → IsMode m → length codeword ≡ n_of m → IsCleanFrame m number codeword

@@ -13,7 +13,8 @@ use Rattle.s2_receive.specs.Receiving.{Decision}
 use Rattle.s2_receive.specs.declared.report.Totals.{Totals}
 use Rattle.s2_receive.specs.declared.report.Verdict.TheVariants.{MostLikely}
 use Rattle.s2_receive.specs.declared.report.Outcome.TheVariants.{Delivered}
-use Rattle.s2_receive.specs.declared.receiver.TheConstants.{MOST_SYMBOLS}
+use Rattle.s2_receive.specs.Limits.{most_symbols}
+use Rattle.s2_modem.specs.Limits.{most_roll_off}
 use Rattle.s2_modem.specs.Deciding.{Effort}
 use Rattle.s2_modem.specs.declared.send.outcome.Counts.{Counts}
 use Rattle.s2_modem.specs.Link.{Link}
@@ -39,7 +40,7 @@ pub record IsDelivered (d : Decision) (fixed : ℕ) (header : Header) (field : L
 -- the codeword that was sent for a data field of bytes, which begins at this byte of its stream and holds a sync place
 pub record IsSent (m : Mode) (link : Link) (at : ℕ) (field : List ℕ) (codeword : List Bool) : Type 0 where
   pub linked : IsLinkOf m link
-  pub roll_off : link.setup.roll_off ≤ 2
+  pub roll_off : link.setup.roll_off ≤ most_roll_off
   pub bytes : AreBytes field
   pub place : to_place at < length field
   pub fits : length field ≤ field_bytes link.setup.mode
@@ -68,7 +69,7 @@ ScatteredFrameLaw m =
 
 -- each frame of a link is received as it was sent
 abbrev pub HearsLaw : Mode → Type 0
-HearsLaw m = (link : Link) (effort : Effort) (limit : ℕ) → IsLinkOf m link → link.setup.roll_off ≤ 2 → Hears link (link_rules link effort limit)
+HearsLaw m = (link : Link) (effort : Effort) (limit : ℕ) → IsLinkOf m link → link.setup.roll_off ≤ most_roll_off → Hears link (link_rules link effort limit)
 
 -- all packets, a line for each frame, certified, and the end's
 pub record AllArrives (link : Link) (effort : Effort) (source : List ℕ) (counts : Counts) (totals : Totals) (packets_old packets_new report_old report_new : Option (List ℕ)) : Type 0 where
@@ -76,12 +77,12 @@ pub record AllArrives (link : Link) (effort : Effort) (source : List ℕ) (count
   pub totals_are : totals ≡ totals_of counts
   pub fields : List (List ℕ)
   pub frames : length fields ≡ counts.frames
-  pub lines : Appends report_old report_new (certified_lines (link_rules link effort MOST_SYMBOLS) 0 0 fields ++ end_line (totals_of counts))
+  pub lines : Appends report_old report_new (certified_lines (link_rules link effort most_symbols) 0 0 fields ++ end_line (totals_of counts))
 
 -- what a run of the transmitter writes, received whole
 abbrev pub ArrivalLaw : Mode → Type 0
 ArrivalLaw m =
     (link : Link) (effort : Effort) (most count_old count_new : ℕ) (source symbols : List ℕ) (counts : Counts) (totals : Totals) (source_left packets_old packets_new report_old report_new : Option (List ℕ))
-    → IsLinkOf m link → link.setup.roll_off ≤ 2 → AreBytes source → TransmitterRuns link most (ReadFails most count_old count_new) (Some source) source_left (Some []) (Some symbols) (Ok counts)
-    → Receives (link_rules link effort MOST_SYMBOLS) symbols packets_old packets_new report_old report_new totals
+    → IsLinkOf m link → link.setup.roll_off ≤ most_roll_off → AreBytes source → TransmitterRuns link most (ReadFails most count_old count_new) (Some source) source_left (Some []) (Some symbols) (Ok counts)
+    → Receives (link_rules link effort most_symbols) symbols packets_old packets_new report_old report_new totals
     → AllArrives link effort source counts totals packets_old packets_new report_old report_new

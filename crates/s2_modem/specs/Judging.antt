@@ -10,6 +10,7 @@ use Rattle.s2_receive.specs.declared.report.Verdict.{Verdict}
 use Rattle.s2_receive.specs.declared.report.Verdict.TheVariants.{MostLikely, Parity, Broken}
 use Rattle.s2_modem.specs.declared.receive.ground.Ground.{Ground}
 use Rattle.s2_modem.specs.declared.receive.ground.Ground.TheVariants.{HardDecision, Made, Settled, Checks, Nothing}
+use Rattle.s2_modem.specs.Limits.{most_rounds}
 use Rattle.s2_modem.specs.Deciding.{Decided, Effort}
 
 -- the rows of its matrix, how much it tries, the bits that were last decided, and their certificate
@@ -59,7 +60,7 @@ IsGround bits maker Nothing = Unit
 -- what holds of a judge
 pub record IsJudge (r : Rows) (rounds : ℕ) (soft : List ℤ) (repair bits : List Bool) (maker : Making) (settler : Settling) (decoder : Decoding) (ground : Ground) : Type 0 where
   pub some : 1 ≤ rounds
-  pub few : rounds ≤ 200
+  pub few : rounds ≤ most_rounds
   pub maker_rows : maker.rows ≡ r
   pub settler_rows : settler.rows ≡ r
   pub decoder_rows : decoder.rows ≡ r

@@ -2,7 +2,8 @@
 use Rattle.std.specs.Prelude.{◌≡◌, ◌≢◌, ℕ, ◌<◌, ◌≤◌, Result, Ok, Err}
 use Rattle.s2_mode.specs.Mode.{shape_in}
 use Rattle.s2_rows.specs.Rows.{Rows}
-use Rattle.s2_modem.specs.declared.send.sending.TheConstants.{MOST_PACKETS}
+use Rattle.s2_scramble.specs.Gold.{most_number}
+use Rattle.s2_modem.specs.Limits.{most_packets, most_roll_off}
 use Rattle.s2_modem.specs.declared.setup.Setup.{Setup}
 use Rattle.s2_modem.specs.declared.setup.SetupFault.{SetupFault}
 use Rattle.s2_modem.specs.declared.setup.SetupFault.TheVariants as faults
@@ -26,10 +27,10 @@ pub record Transmitter : Type 0 where
 
 -- the answer for a setup and rows: the first of three refusals, or else a transmitter on the link, unless there is no memory
 abbrev pub TransmitterAnswers : Setup → Rows → Result Transmitter SetupFault → Type 0
-TransmitterAnswers setup rows (Ok t) = HasShape setup rows × (setup.number ≤ 262141) × (setup.roll_off ≤ 2) × (t ≡ record { link = link_of setup rows; limit = MOST_PACKETS })
+TransmitterAnswers setup rows (Ok t) = HasShape setup rows × (setup.number ≤ most_number) × (setup.roll_off ≤ most_roll_off) × (t ≡ record { link = link_of setup rows; limit = most_packets })
 TransmitterAnswers setup rows (Err faults.OtherShape) = rows.shape ≢ shape_in setup.mode
-TransmitterAnswers setup rows (Err faults.BadNumber) = HasShape setup rows × (262141 < setup.number)
-TransmitterAnswers setup rows (Err faults.BadRollOff) = HasShape setup rows × (setup.number ≤ 262141) × (2 < setup.roll_off)
+TransmitterAnswers setup rows (Err faults.BadNumber) = HasShape setup rows × (most_number < setup.number)
+TransmitterAnswers setup rows (Err faults.BadRollOff) = HasShape setup rows × (setup.number ≤ most_number) × (most_roll_off < setup.roll_off)
 TransmitterAnswers setup rows (Err faults.BadRounds) = ⊥
 TransmitterAnswers setup rows (Err faults.BadPasses) = ⊥
-TransmitterAnswers setup rows (Err faults.NoMemory) = HasShape setup rows × (setup.number ≤ 262141) × (setup.roll_off ≤ 2)
+TransmitterAnswers setup rows (Err faults.NoMemory) = HasShape setup rows × (setup.number ≤ most_number) × (setup.roll_off ≤ most_roll_off)

@@ -20,15 +20,15 @@ use Rattle.s2_modem.specs.Reports.{message_of, header_in, outcome_by, delivered_
 
 -- what BCH decoding answers of some bits, and the bits that it leaves
 abbrev pub FindsWord : Mode → List Bool → List Bool → Option ℕ → Type 0
-FindsWord m received word (Some fixed) = (nearest m received ≡ Some word) × (fixed ≡ differences (k_of m) received word)
-FindsWord m received word None = (nearest m received ≡ None) × (word ≡ received)
+FindsWord m received bch_word (Some fixed) = (nearest m received ≡ Some bch_word) × (fixed ≡ differences (k_of m) received bch_word)
+FindsWord m received bch_word None = (nearest m received ≡ None) × (bch_word ≡ received)
 
 -- what comes of that
 abbrev pub Reads : Mode → List Bool → Option ℕ → Outcome → Option (Header × List ℕ) → Type 0
-Reads m word (Some fixed) outcome delivered =
-    (outcome ≡ outcome_by fixed (header_of_bytes m (header_in (scrambled (message_of m word)))))
-    × (delivered ≡ delivered_by (scrambled (message_of m word)) (header_of_bytes m (header_in (scrambled (message_of m word)))))
-Reads m word None outcome delivered = (outcome ≡ NoWord) × (delivered ≡ None)
+Reads m bch_word (Some fixed) outcome delivered =
+    (outcome ≡ outcome_by fixed (header_of_bytes m (header_in (scrambled (message_of m bch_word)))))
+    × (delivered ≡ delivered_by (scrambled (message_of m bch_word)) (header_of_bytes m (header_in (scrambled (message_of m bch_word)))))
+Reads m bch_word None outcome delivered = (outcome ≡ NoWord) × (delivered ≡ None)
 
 -- a decider of frames: its link, how much its judge tries, what it decided last, and the data field that came of that
 pub record Listening : Type 0 where
@@ -39,18 +39,18 @@ pub record Listening : Type 0 where
 
 -- what the buffers show
 abbrev pub decision_held : Mode → List ℤ → List Bool → List Bool → Decided → List ℕ → Decision
-decision_held m soft bits word d field =
-    record { soft = soft; bits = bits; verdict = d.verdict; message = message_of m word; outcome = d.outcome; delivered = delivered_of d.header field }
+decision_held m soft bits bch_word d field =
+    record { soft = soft; bits = bits; verdict = d.verdict; message = message_of m bch_word; outcome = d.outcome; delivered = delivered_of d.header field }
 
 -- the parts of a decider are of its mode
-pub record IsListening (setup : Setup) (rows : Rows) (gold : ℕ) (bch : Mode) (payload soft word frame field filled : ℕ) : Type 0 where
+pub record IsListening (setup : Setup) (rows : Rows) (gold : ℕ) (bch : Mode) (payload soft bch_word frame field filled : ℕ) : Type 0 where
   pub sizes : HasCodeSizes setup.mode
   pub number : gold ≡ setup.number
   pub shape : rows.shape ≡ shape_in setup.mode
   pub code : bch ≡ setup.mode
   pub payload_symbols : payload ≡ 90 * slots_of setup.mode
   pub soft_values : soft ≡ n_of setup.mode
-  pub word_bits : word ≡ k_of setup.mode
+  pub bch_bits : bch_word ≡ k_of setup.mode
   pub frame_bits : frame ≡ kbch_of setup.mode
   pub field_room : field ≡ field_bytes setup.mode
   pub filled_most : filled ≤ field

@@ -2,16 +2,18 @@
 use Rattle.std.specs.Prelude.{◌≡◌, ◌≢◌, ℕ, ◌<◌, ◌≤◌, ◌⊎◌, List, Option, Some, Result, Ok, Err}
 use Rattle.s2_mode.specs.Mode.{shape_in, symbols_in}
 use Rattle.s2_rows.specs.Rows.{Rows}
+use Rattle.s2_scramble.specs.Gold.{most_number}
 use Rattle.s2_receive.specs.Receiving.{Rules, State, Decision, begun, rules_of, RunsOut, BreaksAfter}
 use Rattle.s2_receive.specs.Stepping.{IsSound}
 use Rattle.s2_receive.specs.declared.report.Totals.{Totals}
-use Rattle.s2_receive.specs.declared.receiver.TheConstants.{MOST_SYMBOLS}
+use Rattle.s2_receive.specs.Limits.{most_symbols}
 use Rattle.s2_modem.specs.declared.setup.Setup.{Setup}
 use Rattle.s2_modem.specs.declared.setup.SetupFault.{SetupFault}
 use Rattle.s2_modem.specs.declared.setup.SetupFault.TheVariants as faults
 use Rattle.s2_modem.specs.declared.receive.whole.DemodFault.{DemodFault}
 use Rattle.s2_modem.specs.declared.receive.whole.DemodFault.TheVariants as demod_faults
 use Rattle.s2_modem.specs.Deciding.{Effort}
+use Rattle.s2_modem.specs.Limits.{most_roll_off, most_rounds, most_passes}
 use Rattle.s2_modem.specs.Link.{Link, link_of, HasShape}
 use Rattle.s2_modem.specs.Passing.{passes_as}
 use Rattle.s2_modem.specs.Reports.{frame_decision}
@@ -33,25 +35,25 @@ pub record Receiver : Type 0 where
 abbrev pub rules_for : Receiver → Rules
 rules_for r = link_rules r.link r.effort r.limit
 
--- 1 to 200 rounds of min-sum, and at most 1000 passes of settling
+-- at least one round of min-sum, and no more rounds and no more passes of settling than may be
 pub record HasEffort (effort : Effort) : Type 0 where
   pub some : 1 ≤ effort.rounds
-  pub most : effort.rounds ≤ 200
-  pub passes : effort.passes ≤ 1000
+  pub most : effort.rounds ≤ most_rounds
+  pub passes : effort.passes ≤ most_passes
 
 -- the matrix is of the mode's shape, and the scrambling number and the roll-off are some
 pub record IsSetUp (setup : Setup) (rows : Rows) : Type 0 where
   pub shape : HasShape setup rows
-  pub number : setup.number ≤ 262141
-  pub roll_off : setup.roll_off ≤ 2
+  pub number : setup.number ≤ most_number
+  pub roll_off : setup.roll_off ≤ most_roll_off
 
 -- when each refusal comes: the first of five; want of memory only where none of them does
 abbrev pub Refuses : Setup → Rows → Effort → SetupFault → Type 0
 Refuses setup rows effort faults.OtherShape = rows.shape ≢ shape_in setup.mode
-Refuses setup rows effort faults.BadNumber = HasShape setup rows × (262141 < setup.number)
-Refuses setup rows effort faults.BadRollOff = HasShape setup rows × (setup.number ≤ 262141) × (2 < setup.roll_off)
-Refuses setup rows effort faults.BadRounds = IsSetUp setup rows × ((effort.rounds ≡ 0) ⊎ (200 < effort.rounds))
-Refuses setup rows effort faults.BadPasses = IsSetUp setup rows × (1 ≤ effort.rounds) × (effort.rounds ≤ 200) × (1000 < effort.passes)
+Refuses setup rows effort faults.BadNumber = HasShape setup rows × (most_number < setup.number)
+Refuses setup rows effort faults.BadRollOff = HasShape setup rows × (setup.number ≤ most_number) × (most_roll_off < setup.roll_off)
+Refuses setup rows effort faults.BadRounds = IsSetUp setup rows × ((effort.rounds ≡ 0) ⊎ (most_rounds < effort.rounds))
+Refuses setup rows effort faults.BadPasses = IsSetUp setup rows × (1 ≤ effort.rounds) × (effort.rounds ≤ most_rounds) × (most_passes < effort.passes)
 Refuses setup rows effort faults.NoMemory = IsSetUp setup rows × HasEffort effort
 
 -- a new receiver of a setup, rows and an effort
@@ -60,7 +62,7 @@ pub record IsNew (setup : Setup) (rows : Rows) (effort : Effort) (r : Receiver) 
   pub has_effort : HasEffort effort
   pub link : r.link ≡ link_of setup rows
   pub effort_is : r.effort ≡ effort
-  pub limit : r.limit ≡ MOST_SYMBOLS
+  pub limit : r.limit ≡ most_symbols
   pub state : r.state ≡ begun
 
 -- the answer for a setup, rows and an effort
@@ -80,9 +82,9 @@ pub record Receives (rules : Rules) (bytes : List ℕ) (packets_old packets_new 
 -- the answer for bytes: all that they spell, or the beginning of it up to a write that failed, or a refusal that writes nothing
 abbrev pub Demodulates : Setup → Rows → Effort → List ℕ → (packets_old packets_new report_old report_new : Option (List ℕ)) → Result Totals DemodFault → Type 0
 Demodulates setup rows effort bytes p p' w w' (Ok totals) =
-    IsSetUp setup rows × HasEffort effort × Receives (link_rules (link_of setup rows) effort MOST_SYMBOLS) bytes p p' w w' totals
+    IsSetUp setup rows × HasEffort effort × Receives (link_rules (link_of setup rows) effort most_symbols) bytes p p' w w' totals
 Demodulates setup rows effort bytes p p' w w' (Err demod_faults.Write) =
-    IsSetUp setup rows × HasEffort effort × BreaksAfter (link_rules (link_of setup rows) effort MOST_SYMBOLS) begun (Some bytes) p p' w w'
+    IsSetUp setup rows × HasEffort effort × BreaksAfter (link_rules (link_of setup rows) effort most_symbols) begun (Some bytes) p p' w w'
 Demodulates setup rows effort bytes p p' w w' (Err (demod_faults.Setup fault)) = Refuses setup rows effort fault × (p' ≡ p) × (w' ≡ w)
 
 -- ---- what a receiver holds

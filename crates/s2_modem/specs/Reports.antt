@@ -26,7 +26,7 @@ received_word m bits = take (k_of m) bits
 
 -- the message of a BCH word: its first Kbch bits
 abbrev pub message_of : Mode → List Bool → List Bool
-message_of m word = take (kbch_of m) word
+message_of m bch_word = take (kbch_of m) bch_word
 
 -- the ten bytes of a baseband frame's header
 abbrev pub header_in : List Bool → List ℕ
@@ -45,15 +45,15 @@ abbrev pub delivered_by : List Bool → Result Header HeaderFault → Option (He
 delivered_by frame (Ok header) = Some (header, field_in header frame)
 delivered_by frame (Err fault) = None
 
--- the decision where BCH decoding takes a word for this one, or where it finds none
+-- the decision where BCH decoding finds a BCH word, or where it finds none
 abbrev pub decision_by : Mode → List ℤ → Decided → Option (List Bool) → Decision
-decision_by m soft d (Some word) = record {
+decision_by m soft d (Some bch_word) = record {
   soft = soft;
   bits = d.bits;
   verdict = d.verdict;
-  message = message_of m word;
-  outcome = outcome_by (differences (k_of m) (received_word m d.bits) word) (header_of_bytes m (header_in (scrambled (message_of m word))));
-  delivered = delivered_by (scrambled (message_of m word)) (header_of_bytes m (header_in (scrambled (message_of m word))));
+  message = message_of m bch_word;
+  outcome = outcome_by (differences (k_of m) (received_word m d.bits) bch_word) (header_of_bytes m (header_in (scrambled (message_of m bch_word))));
+  delivered = delivered_by (scrambled (message_of m bch_word)) (header_of_bytes m (header_in (scrambled (message_of m bch_word))));
 }
 decision_by m soft d None = record {
   soft = soft;

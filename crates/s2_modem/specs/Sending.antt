@@ -3,6 +3,7 @@ use Rattle.std.specs.Prelude.{◌≡◌, ◌≢◌, ℕ, ◌+◌, ◌<◌, ◌�
 use Rattle.std.specs.List.{flat_map}
 use Rattle.std.specs.Io.KnownBytes.{Consumes, Appends, IsAtEnd}
 use Rattle.s2_mode.specs.Pieces.{AppendsPart}
+use Rattle.s2_bbframe.specs.Limits.{packet_bytes, sync}
 use Rattle.s2_bbframe.specs.DataStream.{IsPacket, stream_of, full_fields, fields_of, header_at, field_bytes, Slicing, Sliced, IsReady, next_field, after_field}
 use Rattle.s2_modem.specs.Link.{Link}
 use Rattle.s2_modem.specs.Frames.{IsFrameOf}
@@ -24,7 +25,7 @@ AreFrames link at (field ∷ fields) (frame ∷ frames) =
 
 -- Where a run that cannot read stopped: within the next packet, or behind as many packets as it takes, where it reads no more.
 abbrev pub StopsReading : ℕ → ℕ → List ℕ → Type 0
-StopsReading most packets rest = ((packets < most) × (length rest < 188)) ⊎ ((packets ≡ most) × (rest ≡ []))
+StopsReading most packets rest = ((packets < most) × (length rest < packet_bytes)) ⊎ ((packets ≡ most) × (rest ≡ []))
 
 -- By the answer, where a run takes at most so many packets: how many were accepted, what was read behind them, and which data fields have their frames written
 -- whole. All of them only where the reader ends behind a whole packet, else those that were full.
@@ -33,9 +34,9 @@ Outcome most size MayFail packets rest fields (Ok counts) =
     (length packets < most) × (rest ≡ []) × (fields ≡ fields_of size (stream_of packets))
     × (counts.packets ≡ length packets) × (counts.frames ≡ length fields)
 Outcome most size MayFail packets rest fields (Err NotWholePacket) =
-    (length packets < most) × (0 < length rest) × (length rest < 188) × (fields ≡ full_fields size (stream_of packets))
+    (length packets < most) × (0 < length rest) × (length rest < packet_bytes) × (fields ≡ full_fields size (stream_of packets))
 Outcome most size MayFail packets rest fields (Err (NoSync packet)) =
-    (length packets < most) × (length rest ≡ 188) × (slice_index rest 0 ≢ 71) × (packet ≡ length packets + 1)
+    (length packets < most) × (length rest ≡ packet_bytes) × (slice_index rest 0 ≢ sync) × (packet ≡ length packets + 1)
     × (fields ≡ full_fields size (stream_of packets))
 Outcome most size MayFail packets rest fields (Err Read) =
     MayFail (length packets) × StopsReading most (length packets) rest × (fields ≡ full_fields size (stream_of packets))

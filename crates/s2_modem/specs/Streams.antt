@@ -1,6 +1,7 @@
 -- What holds of a stream of symbols: of its first frames, and where it is read in two ways.
 use Rattle.std.specs.Prelude.{◌≡◌, ℕ, ◌+◌, ◌≤◌, ◌⊎◌, Bool, true, List, [], ◌∷◌, ◌++◌, All, length, take, Option, Some, ⊤}
 use Rattle.std.specs.Io.KnownBytes.{Appends}
+use Rattle.s2_mode.specs.Limits.{header_symbols}
 use Rattle.s2_mode.specs.Mode.{Mode, symbols_in}
 use Rattle.s2_mode.specs.Symbols.{symbols_of}
 use Rattle.s2_mode.specs.declared.symbols.Symbol.{Symbol}
@@ -12,6 +13,7 @@ use Rattle.s2_receive.specs.Meeting.{Met}
 use Rattle.s2_receive.specs.Receiving.{State, Went, RunsTo, begun}
 use Rattle.s2_receive.specs.Laws.{joined}
 use Rattle.s2_modem.specs.Deciding.{Effort}
+use Rattle.s2_modem.specs.Limits.{most_roll_off}
 use Rattle.s2_modem.specs.Link.{Link}
 use Rattle.s2_modem.specs.Laws.{IsLinkOf}
 use Rattle.s2_modem.specs.Frames.{IsCodewordFor}
@@ -24,7 +26,7 @@ use Rattle.s2_modem.specs.Both.{AreBytes, sent_symbols, certified_lines}
 abbrev pub IsClear : Link → List Bool → List Symbol → Type 0
 IsClear link codeword symbols =
     (symbols ≡ sent_symbols link codeword)
-    ⊎ ((length symbols ≡ symbols_in link.setup.mode) × (passes_as link.setup.mode (take 90 symbols) ≡ true) × IsScattered (code_of link.rows) (frame_soft link symbols) codeword)
+    ⊎ ((length symbols ≡ symbols_in link.setup.mode) × (passes_as link.setup.mode (take header_symbols symbols) ≡ true) × IsScattered (code_of link.rows) (frame_soft link symbols) codeword)
 
 -- those of the frame that was sent for a data field, which begins at this byte of the stream
 abbrev pub IsHeard : Link → ℕ → List ℕ → List Symbol → Type 0
@@ -50,7 +52,7 @@ abbrev pub FirstFramesLaw : Mode → Type 0
 FirstFramesLaw m =
     (link : Link) (effort : Effort) (limit : ℕ) (packets fields later : List (List ℕ)) (frames : List (List Symbol)) (rest : List Symbol) (bytes : List ℕ)
     (mid : State) (left packets_old packets_new report_old report_new : Option (List ℕ)) (met : List Met)
-    → IsLinkOf m link → link.setup.roll_off ≤ 2 → All IsPacket packets → AreBytes (joined packets)
+    → IsLinkOf m link → link.setup.roll_off ≤ most_roll_off → All IsPacket packets → AreBytes (joined packets)
     → fields ++ later ≡ fields_of (field_bytes link.setup.mode) (stream_of packets) → AreHeard link 0 fields frames
     → symbols_of bytes ≡ joined frames ++ rest → length met ≡ length frames
     → Went (link_rules link effort limit) begun mid (Some bytes) left packets_old packets_new report_old report_new met

@@ -83,7 +83,8 @@ pub fn one_stream()
     ensures { OneStreamLaw }
 {}
 
-/// The limit that is tested, [`crate::MOST_PACKETS`], is 2^32 packets.
+/// The limits that are tested, [`crate::MOST_PACKETS`], [`crate::MOST_ROLL_OFF`], [`crate::MOST_ROUNDS`]
+/// and [`crate::MOST_PASSES`], are those of the definitions.
 pub fn limits()
     ensures { LimitsLaw }
 {}

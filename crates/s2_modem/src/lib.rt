@@ -17,6 +17,9 @@
 //! check, and no bits that do cost less ([`receive::deciding_laws`]). [`Receiver::run`] goes on so to
 //! the end of the symbols, and [`demodulate`] does it for a whole stream in memory.
 //!
+//! The decided bits of a frame, n of them, are called its word, whether they are a codeword or not. Their
+//! first Nbch bits are the received word, and what BCH decoding finds for that is a BCH word.
+//!
 //! ```text
 //! let setup = Setup { mode, number: 0, roll_off: 0 };
 //! let mut transmitter = Transmitter::new(alloc, setup, &matrix)?;

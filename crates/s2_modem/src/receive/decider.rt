@@ -9,6 +9,7 @@ ghost use Rattle.s2_scramble.specs.Baseband.{scrambled};
 ghost use Rattle.s2_plframe.specs.Payload.{received_payload};
 ghost use Rattle.s2_soft.specs.Soft.{soft_values};
 ghost use Rattle.s2_receive.specs.Parts.{delivered_of, HasPlace};
+ghost use Rattle.s2_modem.specs.Limits.{most_rounds};
 ghost use Rattle.s2_modem.specs.Deciding.{effort_of};
 ghost use Rattle.s2_modem.specs.Reports.{received_word, message_of, header_in, field_in, frame_decision};
 ghost use Rattle.s2_modem.specs.Listening.{FindsWord, Reads, IsListening, decision_held};
@@ -40,8 +41,8 @@ fn find_soft(mode: Mode, gold: &Gold, symbols: &[Symbol], payload: &mut [Symbol]
     soft_into(mode, payload, soft);
 }
 
-/// Takes the first bits of a decided word through BCH decoding, and says in how many places the word
-/// that is found differs, or that there is none.
+/// Takes the first bits of a word through BCH decoding, and says in how many places the BCH word that
+/// is found differs, or that there is none.
 fn find_word(mode: Mode, bch: &mut Bch, bits: &Bits, bch_word: &mut Bits) -> Option<u32>
     requires code { bch.old ≡ mode }
     requires bits { k_of mode ≤ length bits.now }
@@ -85,7 +86,7 @@ fn read_message(
     }
 }
 
-/// What comes of a word that BCH decoding left.
+/// What comes of the bits that BCH decoding left.
 fn read_found(
     mode: Mode,
     verdict: Verdict,
@@ -232,7 +233,7 @@ impl<'a> Decider<'a> {
     ) -> Result<Decider<'a>, AllocError>
         requires shape { matrix.now.shape ≡ shape_in setup.mode }
         requires number { gold ≡ setup.number }
-        requires rounds { (1 ≤ rounds) × (rounds ≤ 200) }
+        requires rounds { (1 ≤ rounds) × (rounds ≤ most_rounds) }
         ensures link { IfOk result (λ d. d.link ≡ record { setup = setup; rows = matrix.now }) }
         ensures effort { IfOk result (λ d. d.effort ≡ effort_of rounds passes) }
     {

@@ -54,28 +54,28 @@ pub(crate) fn find_ground(
     maker: &mut Maker<'_>,
     settler: &mut Settler<'_>,
     soft: &[i16],
-    word: &Bits,
+    codeword: &Bits,
     passes: u32,
 ) -> Ground
     requires settler { settler.old.rows ≡ maker.old.rows }
     requires soft { length soft.now ≡ (code_of maker.old.rows).bits }
     requires range { All IsSoft soft.now }
-    requires codeword { IsCodeword (code_of maker.old.rows) word.now }
+    requires codeword { IsCodeword (code_of maker.old.rows) codeword.now }
     ensures maker { maker.new.rows ≡ maker.old.rows }
     ensures settler { settler.new.rows ≡ settler.old.rows }
-    ensures ground { IsGround word.now maker.new result }
-    ensures shown { with_made word.now (view_for maker.old.rows passes soft.now word.now) ≡ shown_by maker.old.rows soft.now word.now maker.new settler.new result }
+    ensures ground { IsGround codeword.now maker.new result }
+    ensures shown { with_made codeword.now (view_for maker.old.rows passes soft.now codeword.now) ≡ shown_by maker.old.rows soft.now codeword.now maker.new settler.new result }
 {
     if passes == 0 {
-        if maker.certify_codeword(soft, word) {
+        if maker.certify_codeword(soft, codeword) {
             return Ground::Made;
         }
         return Ground::Checks;
     }
-    if maker.certify_greedily(soft, word) {
+    if maker.certify_greedily(soft, codeword) {
         return Ground::Made;
     }
-    if settler.certify(soft, word, passes) {
+    if settler.certify(soft, codeword, passes) {
         return Ground::Settled;
     }
     Ground::Checks

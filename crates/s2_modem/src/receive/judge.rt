@@ -5,6 +5,7 @@ ghost use Rattle.s2_check.specs.Cost.{IsMostLikely};
 ghost use Rattle.s2_check.specs.Hard.{hard_decision};
 ghost use Rattle.s2_check.specs.Views.{IsSoft};
 ghost use Rattle.s2_split.specs.Scattered.{repaired, IsScattered};
+ghost use Rattle.s2_modem.specs.Limits.{most_rounds};
 ghost use Rattle.s2_modem.specs.Deciding.{effort_of, decoded_bits, first_codeword, by_min_sum, decided, IsShown};
 ghost use Rattle.s2_modem.specs.Judging.{shown_by, IsGround};
 
@@ -177,7 +178,7 @@ impl<'a> Judge<'a> {
         passes: u32,
     ) -> Result<Judge<'a>, AllocError>
         requires some { 1 ≤ rounds }
-        requires few { rounds ≤ 200 }
+        requires few { rounds ≤ most_rounds }
         ensures rows { IfOk result (λ j. j.rows ≡ matrix.now) }
         ensures effort { IfOk result (λ j. j.effort ≡ effort_of rounds passes) }
         ensures bits { IfOk result (λ j. j.bits ≡ replicate (code_of matrix.now).bits false) }

@@ -7,6 +7,7 @@ ghost use Rattle.s2_receive.specs.declared.report.Step.TheVariants as steps;
 ghost use Rattle.s2_receive.specs.declared.report.Fault.TheVariants as faults;
 ghost use Rattle.s2_receive.specs.Receiving.{IsLive, StepAnswers, MetFrame, Reaches, RunsTo, StandsBehind, StopsAfter, BreaksAfter, begun, rules_of, state_of};
 ghost use Rattle.s2_receive.specs.Stepping.{IsSound};
+ghost use Rattle.s2_receive.specs.Limits.{most_symbols};
 ghost use Rattle.s2_modem.specs.Deciding.{effort_of};
 ghost use Rattle.s2_modem.specs.Link.{link_of};
 ghost use Rattle.s2_modem.specs.Passing.{passes_as};
@@ -47,9 +48,9 @@ pub(crate) fn tune<'a>(
     ensures set_up { IfOk result (λ _. IsSetUp setup matrix.now) }
     ensures effort { IfOk result (λ _. HasEffort (effort_of rounds passes)) }
     ensures rules { IfOk result (λ r. rules_of (passes_as r.search.search.mode) (length r.frame.items) (frame_decision r.decider.link r.decider.effort) frame_line cut_line end_line r.limit
-        ≡ link_rules (link_of setup matrix.now) (effort_of rounds passes) MOST_SYMBOLS) }
+        ≡ link_rules (link_of setup matrix.now) (effort_of rounds passes) most_symbols) }
     ensures takes { IfOk result (λ r. length r.frame.items ≡ symbols_in r.decider.link.setup.mode) }
-    ensures limit { IfOk result (λ r. r.limit ≡ MOST_SYMBOLS) }
+    ensures limit { IfOk result (λ r. r.limit ≡ most_symbols) }
     ensures begun { IfOk result (λ r. state_of r.place.phase r.place.at r.joiner r.place.totals ≡ begun) }
     ensures sound { IfOk result (λ r. IsSound (length r.frame.items) (length r.bytes.items) r.limit r.place.at r.place.totals) }
 {
@@ -188,7 +189,7 @@ impl<'a> Receiver<'a> {
     /// Lets the receiver take at most so many symbols in all, 1 to [`MOST_SYMBOLS`], before the first
     /// call of [`Receiver::next`].
     pub fn limit(&mut self, symbols: u64)
-        requires range { (1 ≤ symbols) × (symbols ≤ MOST_SYMBOLS) }
+        requires range { (1 ≤ symbols) × (symbols ≤ most_symbols) }
         requires first { self.old.state ≡ begun }
         ensures { self.new ≡ record self.old { limit = symbols } }
     {

@@ -5,6 +5,7 @@ ghost use Rattle.s2_mode.specs.Counts.{CountsFault};
 ghost use Rattle.s2_mode.specs.Pieces.{AppendsPart};
 ghost use Rattle.s2_mode.specs.Mode.{shape_in};
 ghost use Rattle.s2_bbframe.specs.DataStream.{field_bytes};
+ghost use Rattle.s2_modem.specs.Limits.{most_roll_off};
 ghost use Rattle.s2_modem.specs.Frames.{IsFrameOf};
 
 use crate::send::coder::Coder;
@@ -28,13 +29,14 @@ pub(crate) struct Framer<'a> {
 impl<'a> Model for Framer<'a> {
     ghost use Rattle.std.specs.Prelude.{◌≡◌, ◌≤◌};
     ghost use Rattle.s2_mode.specs.Mode.{shape_in};
+    ghost use Rattle.s2_modem.specs.Limits.{most_roll_off};
     ghost use Rattle.s2_modem.specs.Link.{Link};
 
     ghost Value = { Link };
 
     ghost view = { λ f. record { setup = f.setup; rows = f.coder.rows } };
 
-    ghost invariant = { λ f. (f.coder.mode ≡ f.setup.mode) × (f.modulator.mode ≡ f.setup.mode) × (f.modulator.number ≡ f.setup.number) × (f.setup.roll_off ≤ 2) };
+    ghost invariant = { λ f. (f.coder.mode ≡ f.setup.mode) × (f.modulator.mode ≡ f.setup.mode) × (f.modulator.number ≡ f.setup.number) × (f.setup.roll_off ≤ most_roll_off) };
 }
 
 impl<'a> Framer<'a> {
@@ -45,7 +47,7 @@ impl<'a> Framer<'a> {
         matrix: &'a Matrix,
     ) -> Result<Framer<'a>, SetupFault>
         requires shape { matrix.now.shape ≡ shape_in setup.mode }
-        requires roll_off { setup.roll_off ≤ 2 }
+        requires roll_off { setup.roll_off ≤ most_roll_off }
         ensures setup { IfOk result (λ f. f.setup ≡ setup) }
         ensures rows { IfOk result (λ f. f.rows ≡ matrix.now) }
     {
@@ -68,7 +70,7 @@ impl<'a> Framer<'a> {
     /// The roll-off that headers tell.
     pub(crate) fn roll_off(&self) -> u8
         ensures is { result ≡ self.now.setup.roll_off }
-        ensures most { result ≤ 2 }
+        ensures most { result ≤ most_roll_off }
     {
         self.setup.roll_off
     }

@@ -1,4 +1,9 @@
 //! What a run of the transmitter answers.
+ghost use Rattle.std.specs.Prelude.{◌≡◌};
+ghost use Rattle.s2_rows.specs.FaultTexts.{said};
+ghost use Rattle.s2_modem.specs.FaultTexts.{send_fault_text};
+
+use s2_rows::FaultText;
 use thiserror::Error;
 
 /// How many packets a run accepted, and how many frames it wrote.
@@ -10,17 +15,31 @@ pub struct Counts {
 
 /// Why a run ended early.
 #[derive(Clone, Copy, Debug, PartialEq, Eq, Error)]
+#[error("{}", self.text())]
 pub enum SendFault {
     /// 1 to 187 bytes were left behind the last packet.
-    #[error("not a whole packet")]
     NotWholePacket,
     /// This packet, counted from 1, does not begin with 47 hexadecimal.
-    #[error("no sync in packet {packet}")]
     NoSync { packet: u64 },
     /// A read failed, or as many packets were accepted as a run takes.
-    #[error("cannot read")]
     Read,
     /// A write failed.
-    #[error("cannot write")]
     Write,
+}
+
+impl SendFault {
+    /// What this fault says.
+    pub fn text(self) -> FaultText
+        ensures { said result ≡ send_fault_text self }
+    {
+        match self {
+            SendFault::NotWholePacket => FaultText::of("not a whole packet"),
+            SendFault::NoSync { packet } => FaultText {
+                words: "no sync in packet ",
+                number: Some(packet),
+            },
+            SendFault::Read => FaultText::of("cannot read"),
+            SendFault::Write => FaultText::of("cannot write"),
+        }
+    }
 }

@@ -1,12 +1,13 @@
 //! The loop that sends.
 ghost use Rattle.std.specs.Prelude.{◌≡◌, ◌≢◌, ◌+◌, ◌-◌, ◌^◌, ◌<◌, ◌≤◌, ◌⊎◌, Err, IsErrOf, IfOk, OnErr, length};
 ghost use Rattle.s2_mode.specs.Counts.{CountsFault};
+ghost use Rattle.s2_bbframe.specs.Limits.{packet_bytes};
 ghost use Rattle.s2_bbframe.specs.DataStream.{field_bytes};
 ghost use Rattle.s2_modem.specs.Sending.{TransmitterRuns, SendsNext, FailsToSend};
 
 use crate::send::framer::Framer;
 use crate::send::outcome::{Counts, SendFault};
-use s2_bbframe::Slicer;
+use s2_bbframe::{PACKET_BYTES, Slicer};
 use s2_mode::{CountedRead, CountedWrite, WriteFault, read_full};
 
 /// How many packets one run accepts at most, unless it is made to accept fewer.
@@ -50,7 +51,7 @@ pub(crate) fn send_all<R: CountedRead, W: CountedWrite>(
     requires writer { W.count writer.old < 2 ^ 64 - 1 }
     requires field { length field.old ≡ slicer.old.size }
     requires size { slicer.old.size ≡ field_bytes framer.old.setup.mode }
-    requires packet { 189 ≤ slicer.old.size }
+    requires packet { packet_bytes < slicer.old.size }
     ensures runs { TransmitterRuns framer.old limit
         (λ packets. (R.count reader.new ≡ R.count reader.old + 1) ⊎ ((R.count reader.new ≡ R.count reader.old) × (packets ≡ limit)))
         (R.remaining reader.old) (R.remaining reader.new) (W.contents writer.old) (W.contents writer.new) result }
@@ -63,7 +64,7 @@ pub(crate) fn send_all<R: CountedRead, W: CountedWrite>(
     slicer.restart();
     let mut packets: u64 = 0;
     let mut frames: u64 = 0;
-    let mut packet = [0u8; 188];
+    let mut packet = [0u8; PACKET_BYTES];
     'packets: for _accepted in 0..limit {
         let Ok(n) = read_full(reader, &mut packet) else {
             return Err(SendFault::Read);
@@ -76,7 +77,7 @@ pub(crate) fn send_all<R: CountedRead, W: CountedWrite>(
             frames += u64::from(last);
             return Ok(Counts { packets, frames });
         }
-        if n < 188 {
+        if n < PACKET_BYTES {
             return Err(SendFault::NotWholePacket);
         }
         let Ok(()) = slicer.put(&packet) else {

@@ -1,5 +1,6 @@
 //! The transmitter: packets in, symbols out.
 ghost use Rattle.std.specs.Prelude.{◌≡◌, ◌≢◌, ◌+◌, ◌-◌, ◌^◌, ◌<◌, ◌≤◌, ◌⊎◌, Err, IsErrOf};
+ghost use Rattle.s2_modem.specs.Limits.{most_packets};
 ghost use Rattle.s2_modem.specs.Link.{TransmitterAnswers};
 ghost use Rattle.s2_modem.specs.Sending.{TransmitterRuns};
 
@@ -25,7 +26,8 @@ pub struct Transmitter<'a> {
 }
 
 impl<'a> Model for Transmitter<'a> {
-    ghost use Rattle.std.specs.Prelude.{◌≡◌, ◌≤◌, length};
+    ghost use Rattle.std.specs.Prelude.{◌≡◌, ◌<◌, length};
+    ghost use Rattle.s2_bbframe.specs.Limits.{packet_bytes};
     ghost use Rattle.s2_bbframe.specs.DataStream.{field_bytes};
     ghost use Rattle.s2_modem.specs.Link.{Transmitter as TransmitterValue};
 
@@ -34,7 +36,7 @@ impl<'a> Model for Transmitter<'a> {
     ghost view = { λ t. record { link = t.framer; limit = t.limit } };
 
     ghost invariant = { λ t. (t.slicer.size ≡ field_bytes t.framer.setup.mode) × (length t.field.items ≡ field_bytes t.framer.setup.mode)
-        × (189 ≤ field_bytes t.framer.setup.mode) };
+        × (packet_bytes < field_bytes t.framer.setup.mode) };
 }
 
 impl<'a> Transmitter<'a> {
@@ -73,7 +75,7 @@ impl<'a> Transmitter<'a> {
 
     /// Lets each run take at most so many packets, 1 to [`MOST_PACKETS`].
     pub fn limit(&mut self, packets: u64)
-        requires { (1 ≤ packets) × (packets ≤ MOST_PACKETS) }
+        requires { (1 ≤ packets) × (packets ≤ most_packets) }
         ensures { self.new ≡ record self.old { limit = packets } }
     {
         self.limit = packets;

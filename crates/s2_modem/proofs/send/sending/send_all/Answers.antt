@@ -27,8 +27,8 @@ returns-then-n-eq0-clause-runs g c =
     rw c.from-frames.ensures (ends _ _ _ r r' (g.W.CountedWrite.contents c.packets.writer) (g.W.CountedWrite.contents c.send_ready.new.writer) c.packets.slicer c.close.new.self c.send_ready.new.slicer _ _ c.in-Ok-send_ready.last _ _
     c.packets.invariant.0 (subst (λ n. 189 ≤ n) c.requires.size c.requires.packet) (omega arith) none (c.in-Ok.ensures.end (omega arith)) c.close.ensures c.packets.framer c.packets.invariant.5 c.in-Ok-send_ready.ensures.sends)
 
-pub returns-then-n-lt188-clause-runs : goal.returns-then-n-lt188-clause-runs
-returns-then-n-lt188-clause-runs g c =
+pub returns-then-n-lt-PACKET_BYTES-clause-runs : goal.returns-then-n-lt-PACKET_BYTES-clause-runs
+returns-then-n-lt-PACKET_BYTES-clause-runs g c =
     let h = c.packets.invariant.0 in
     let k = h.packet_count in
     let n : ℕ = c.in-Ok.n in
