@@ -12,7 +12,7 @@ use Rattle.s2_tool.specs.declared.fault.Fault.TheVariants as faults
 use Rattle.s2_tool.specs.Certifying.{Writes, Wrote, CertifiesDecided, IsCertified}
 use Rattle.s2_tool.specs.Exits.{CommandAnswers}
 use Rattle.s2_tool.specs.Inputs.{IsOnly}
-use Rattle.s2_tool.specs.Judging.{judged, Says, SaysDecided, IsJudged, exit_on}
+use Rattle.s2_tool.specs.Judging.{default_rounds, judged, Says, SaysDecided, IsJudged, exit_on}
 
 pub in_ok : {V E : Type 0} → (made : Result V E) (P Q : V → Type 0) → ((v : V) → P v → Q v) → IfOk made P → IfOk made Q
 in_ok (Ok v) P Q f h = f v h
@@ -35,18 +35,18 @@ shown rows soft d v bits certificate p q r h =
     let C : Option View → Type 0 = λ x. IsShown rows soft (record { verdict = d.verdict; bits = d.bits; certificate = x }) in
     subst C r (subst B q (subst A p h))
 
--- what is decided by at most 50 rounds
-pub by_fifty : (rows : Rows) (passes : ℕ) (effort : Effort) (soft : List ℤ) → effort ≡ effort_of 50 passes → decided rows effort soft ≡ judged passes rows soft
-by_fifty rows passes effort soft fifty = ap (λ e. decided rows e soft) fifty
+-- what is decided by the rounds where none are named
+pub by_default : (rows : Rows) (passes : ℕ) (effort : Effort) (soft : List ℤ) → effort ≡ effort_of default_rounds passes → decided rows effort soft ≡ judged passes rows soft
+by_default rows passes effort soft same = ap (λ e. decided rows e soft) same
 
--- what a judge of 50 rounds decides is answered
+-- what such a judge decides is answered
 pub answered : (rows : Rows) (passes : ℕ) (soft : List ℤ) (d : Decided) (made : Result Printed Fault) → d ≡ judged passes rows soft
     → IfOk made (λ p. SaysDecided d rows soft p.exit p.text.items) → IfErr made (λ f. f ≡ faults.NoMemory) → CommandAnswers (IsJudged passes) (IsOnly (rows, soft)) made
 answered rows passes soft d (Ok p) is said memory = ((rows, soft), refl, subst (λ x. SaysDecided x rows soft p.exit p.text.items) is said)
 answered rows passes soft d (Err f) is said memory =
     subst (λ x. CommandAnswers (IsJudged passes) (IsOnly (rows, soft)) (Err x)) (sym memory) tt
 
--- a judge of 50 rounds answers
+-- such a judge answers
 pub answers : (rows : Rows) (passes : ℕ) (soft : List ℤ) (d : Decided) (made : Result Printed Fault) (old new : Option (List ℕ)) → d ≡ judged passes rows soft
     → CertifiesDecided d rows soft made old new → CommandAnswers (IsJudged passes) (IsOnly (rows, soft)) made
 answers rows passes soft d (Ok p) old new is (said, shown, exit, written) = ((rows, soft), refl, subst (λ x. SaysDecided x rows soft p.exit p.text.items) is said)

@@ -1,3 +1,4 @@
+pub mod AnswerLemmas
 pub mod CommandLemmas
 pub mod CountLemmas
 pub mod InputLemmas

@@ -10,9 +10,13 @@ use Rattle.s2_tool.specs.declared.exit.Exit.{Exit}
 use Rattle.s2_tool.specs.declared.exit.Exit.TheVariants as exits
 use Rattle.s2_tool.specs.Lines.{most_likely_line, parity_line, broken_line}
 
--- what a receiver decides on soft values, by at most 50 rounds of min-sum and so many passes of settling
+-- how many rounds of min-sum decide at most, where no number is named
+abbrev pub default_rounds : ℕ
+default_rounds = 50
+
+-- what a receiver decides on soft values, by at most so many rounds of min-sum and these passes of settling
 abbrev pub judged : ℕ → Rows → List ℤ → Decided
-judged passes rows soft = decided rows (effort_of 50 passes) soft
+judged passes rows soft = decided rows (effort_of default_rounds passes) soft
 
 -- the exit of a verdict
 abbrev pub exit_on : Verdict → Exit

@@ -1,11 +1,12 @@
 -- What `run` sends, spoils and receives in memory.
-use Rattle.std.specs.Prelude.{◌≡◌, ℕ, ◌^◌, ◌≤◌, List, [], length, Option, Some, Result, Ok, Err, ⊤}
+use Rattle.std.specs.Prelude.{◌≡◌, ℕ, ◌≤◌, List, [], length, Option, Some, Result, Ok, Err, ⊤}
 use Rattle.s2_mode.specs.Symbols.{symbols_of}
+use Rattle.s2_channel.specs.Limits as channel
 use Rattle.s2_channel.specs.Noise.{noisy}
 use Rattle.s2_channel.specs.Pcg.{pcg32_of_seed}
 use Rattle.s2_channel.specs.Pcg32Seed.{pcg32_seed}
 use Rattle.s2_receive.specs.Receiving.{Rules}
-use Rattle.s2_receive.specs.declared.receiver.TheConstants.{MOST_SYMBOLS}
+use Rattle.s2_receive.specs.Limits.{most_symbols}
 use Rattle.s2_modem.specs.Deciding.{Effort}
 use Rattle.s2_modem.specs.Link.{Transmitter}
 use Rattle.s2_modem.specs.Reception.{link_rules}
@@ -33,7 +34,7 @@ spoilt seed level symbols = noisy level (pcg32_of_seed (pcg32_seed 16 seed)) (sy
 -- what comes through the channel: the symbols, spoilt; or there are more than it takes; or there is no memory
 abbrev pub Spoilt : ℕ → ℕ → List ℕ → Result (List ℕ) Fault → Type 0
 Spoilt seed level symbols (Ok received) = received ≡ spoilt seed level symbols
-Spoilt seed level symbols (Err faults.Read) = 2 ^ 40 ≤ length (symbols_of symbols)
+Spoilt seed level symbols (Err faults.Read) = channel.most_symbols ≤ length (symbols_of symbols)
 Spoilt seed level symbols (Err faults.NoMemory) = ⊤
 Spoilt seed level symbols (Err f) = ⊥
 
@@ -61,11 +62,11 @@ LoopsBy t rules seed level old new ended = (received : Result (List ℕ) Fault) 
 
 -- the same on a link, by a transmitter that was made
 abbrev pub LoopsFrom : Transmitter → Effort → ℕ → ℕ → Deed
-LoopsFrom t effort seed level link old new ended = LoopsBy t (link_rules link effort MOST_SYMBOLS) seed level old new ended
+LoopsFrom t effort seed level link old new ended = LoopsBy t (link_rules link effort most_symbols) seed level old new ended
 
 -- `run` on a link
 abbrev pub Loops : Effort → ℕ → ℕ → Deed
-Loops effort seed level link old new ended = LoopsBy (transmitter_on link) (link_rules link effort MOST_SYMBOLS) seed level old new ended
+Loops effort seed level link old new ended = LoopsBy (transmitter_on link) (link_rules link effort most_symbols) seed level old new ended
 
 -- `run` on a setup, an effort, a seed, a level and a row file
 abbrev pub LoopsBack : Setup → Effort → ℕ → ℕ → Option (List ℕ) → Streams → Streams → Result Exit Fault → Type 0

@@ -1,7 +1,7 @@
 -- What `demod` receives, writes and reports.
 use Rattle.std.specs.Prelude.{◌≡◌, ◌≢◌, ℕ, ◌+◌, Bool, if◌then◌else◌, List, Option, Result, Ok, Err}
 use Rattle.s2_receive.specs.Receiving.{Rules, State, begun, RunsTo, StopsAfter, BreaksAfter, Reaches}
-use Rattle.s2_receive.specs.declared.receiver.TheConstants.{MOST_SYMBOLS}
+use Rattle.s2_receive.specs.Limits.{most_symbols}
 use Rattle.s2_modem.specs.Deciding.{Effort}
 use Rattle.s2_modem.specs.Reception.{link_rules}
 use Rattle.s2_modem.specs.declared.setup.Setup.{Setup}
@@ -30,7 +30,7 @@ Receives rules old new (Err f) = ⊥
 
 -- `demod` on a link: what a new receiver makes of the symbols
 abbrev pub Hears : Effort → Deed
-Hears effort link old new ended = Receives (link_rules link effort MOST_SYMBOLS) old new ended
+Hears effort link old new ended = Receives (link_rules link effort most_symbols) old new ended
 
 -- `demod` on a setup, an effort and a row file
 abbrev pub Demodulates : Setup → Effort → Option (List ℕ) → Streams → Streams → Result Exit Fault → Type 0

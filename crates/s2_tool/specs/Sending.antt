@@ -2,12 +2,12 @@
 use Rattle.std.specs.Prelude.{◌≡◌, ℕ, ◌+◌, List, ◌++◌, codes, decimal, Option, Result, Ok, Err, ◌⊎◌}
 use Rattle.std.specs.Io.KnownBytes.{Appends}
 use Rattle.s2_mode.specs.Pieces.{AppendsPart}
+use Rattle.s2_modem.specs.Limits.{most_packets}
 use Rattle.s2_modem.specs.Link.{Link, Transmitter}
 use Rattle.s2_modem.specs.Sending.{TransmitterRuns}
 use Rattle.s2_modem.specs.declared.send.outcome.Counts.{Counts}
 use Rattle.s2_modem.specs.declared.send.outcome.SendFault.{SendFault}
 use Rattle.s2_modem.specs.declared.send.outcome.SendFault.TheVariants as refusals
-use Rattle.s2_modem.specs.declared.send.sending.TheConstants.{MOST_PACKETS}
 use Rattle.s2_modem.specs.declared.setup.Setup.{Setup}
 use Rattle.s2_tool.specs.declared.exit.Exit.{Exit}
 use Rattle.s2_tool.specs.declared.exit.Exit.TheVariants as exits
@@ -47,7 +47,7 @@ SendsBy t old new ended =
 
 -- a new transmitter on a link
 abbrev pub transmitter_on : Link → Transmitter
-transmitter_on link = record { link = link; limit = MOST_PACKETS }
+transmitter_on link = record { link = link; limit = most_packets }
 
 -- `mod` on a link
 abbrev pub Sends : Deed

@@ -1,5 +1,9 @@
 -- What the program prints for a request.
 use Rattle.std.specs.Prelude.{◌≡◌, ◌≢◌, ℕ, List, Option, Some, Result, Ok, Err, IfOk, codes, ⊤, ◌⊎◌}
+use Rattle.clap.specs.Words.{kind_of}
+use Rattle.clap.specs.declared.error.Error.{Error}
+use Rattle.clap.specs.declared.error.kind.ErrorKind.{ErrorKind}
+use Rattle.clap.specs.declared.error.kind.ErrorKind.TheVariants as kinds
 use Rattle.s2_mode.specs.Shape.{IsShape, Shape, shape_of}
 use Rattle.s2_modem.specs.Deciding.{effort_of}
 use Rattle.s2_modem.specs.Link.{Link}
@@ -73,6 +77,23 @@ pub record Served (request : Request) (input : Option (List ℕ)) (exit : Exit) 
 abbrev pub Began : Request → Option (List ℕ) → Result Exit Fault → Screen → Screen → Type 0
 Began request input (Ok exit) old new = Served request input exit old new
 Began request input (Err f) old new = Serves request input (Err f) old.output old.output × (new ≡ old)
+
+-- how the program ends where the parser's own text was to be printed: well only behind help or the version
+abbrev pub IsExplained : ErrorKind → Exit → Type 0
+IsExplained kind exit = (exit ≡ exits.Fault) ⊎ ((exit ≡ exits.Fine) × ((kind ≡ kinds.DisplayHelp) ⊎ (kind ≡ kinds.DisplayVersion)))
+
+-- Without a request nothing is served. Where memory ran out its fault is told; else the parser's text says why, beside the
+-- console.
+abbrev pub Explains : ErrorKind → Exit → Screen → Screen → Type 0
+Explains kind exit old new =
+    ((kind ≡ kinds.OutOfMemory) × (exit ≡ exits.Fault) × (new.output ≡ old.output) × (new.output_failed ≡ old.output_failed)
+    × Complains (Err faults.NoMemory) old new)
+    ⊎ ((kind ≢ kinds.OutOfMemory) × IsExplained kind exit × (new ≡ old))
+
+-- what was asked for is served, or why nothing was is explained
+abbrev pub Answers : Result Request Error → Option (List ℕ) → Exit → Screen → Screen → Type 0
+Answers (Ok request) input exit old new = Served request input exit old new
+Answers (Err error) input exit old new = Explains (kind_of error) exit old new
 
 -- a request was served, or there was none and the output is as it was
 abbrev pub SomeServed : Option (List ℕ) → Exit → Screen → Screen → Type 0

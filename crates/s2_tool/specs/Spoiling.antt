@@ -1,6 +1,7 @@
 -- What `noise` writes.
-use Rattle.std.specs.Prelude.{◌≡◌, ℕ, ◌^◌, ◌≤◌, List, length, ⊤, Option, IfSome, Result, Ok, Err}
+use Rattle.std.specs.Prelude.{◌≡◌, ℕ, ◌≤◌, List, length, ⊤, Option, IfSome, Result, Ok, Err}
 use Rattle.std.specs.Io.KnownBytes.{Appends}
+use Rattle.s2_channel.specs.Limits.{most_symbols}
 use Rattle.s2_channel.specs.Pcg32Seed.{pcg32_seed}
 use Rattle.s2_channel.specs.Pcg.{pcg32_of_seed}
 use Rattle.s2_mode.specs.Symbols.{symbols_of}
@@ -22,4 +23,4 @@ Spoils seed level known (Err f) old new = ⊥
 
 -- a read failed, or as many symbols came as one run takes at most
 abbrev pub MayRead : Option (List ℕ) → ℕ → ℕ → Type 0
-MayRead known before after = after ≡ before → IfSome known (λ xs. 2 ^ 40 ≤ length (symbols_of xs))
+MayRead known before after = after ≡ before → IfSome known (λ xs. most_symbols ≤ length (symbols_of xs))

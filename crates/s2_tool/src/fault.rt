@@ -3,12 +3,14 @@ ghost use Rattle.std.specs.Prelude.{◌≡◌, ◌++◌, codes, OnOk};
 ghost use Rattle.std.specs.Io.KnownBytes.{Appends};
 ghost use Rattle.s2_mode.specs.Counts.{CountsFault};
 ghost use Rattle.s2_tool.specs.Counting.{CanCount};
-ghost use Rattle.s2_tool.specs.Faults.{row_fault_text, value_fault_text, certificate_fault_text, fault_text, fault_line, phrase_text};
+ghost use Rattle.s2_rows.specs.FaultTexts.{said};
+ghost use Rattle.s2_tool.specs.Faults.{fault_text, fault_line, phrase_text};
 
 use crate::writing::{write_number, write_text};
 use s2_check::CertFault;
 use s2_mode::{CountedWrite, WriteFault};
-use s2_rows::{RowFault, ValueFault};
+use s2_modem::SendFault;
+use s2_rows::{FaultText, MakeFault, RowFault, ValueFault};
 
 /// Why a request was not served.
 #[derive(Clone, Copy, Debug)]
@@ -34,7 +36,7 @@ pub enum Fault<'a> {
     NoSync { packet: u64 },
 }
 
-/// The text of a fault in its parts: what it is about, what is wrong, and for some the number of a
+/// The line of a fault in its parts: what it is about, what is wrong, and for some the number of a
 /// line or a packet.
 #[derive(Clone, Copy)]
 struct Phrase<'a> {
@@ -53,55 +55,14 @@ fn plain<'a>(about: &'a str, words: &'a str) -> Phrase<'a>
     }
 }
 
-fn numbered<'a>(about: &'a str, words: &'a str, number: u64) -> Phrase<'a>
-    ensures { result ≡ record { about = about.entry; words = words.entry; number = Some number } }
+/// What a fault of a file says, behind what it is about.
+fn said_of<'a>(about: &'a str, text: FaultText) -> Phrase<'a>
+    ensures { phrase_text result ≡ about.entry.now ++ said text }
 {
     Phrase {
         about,
-        words,
-        number: Some(number),
-    }
-}
-
-fn row_phrase(fault: RowFault) -> Phrase<'static>
-    ensures { phrase_text result ≡ codes "rows: " ++ row_fault_text fault }
-{
-    let about = "rows: ";
-    match fault {
-        RowFault::NotNumber { line } => numbered(about, "not a number in line ", line),
-        RowFault::TooFewRows => plain(about, "too few rows"),
-        RowFault::TooManyRows => plain(about, "too many rows"),
-        RowFault::AddressTooLarge { line } => numbered(about, "address too large in line ", line),
-        RowFault::Repeated { line } => numbered(about, "repeated address in line ", line),
-        RowFault::RowTooLong { line } => numbered(about, "row too long in line ", line),
-        RowFault::NoMemory => plain(about, "no memory"),
-    }
-}
-
-fn value_phrase(fault: ValueFault) -> Phrase<'static>
-    ensures { phrase_text result ≡ codes "values: " ++ value_fault_text fault }
-{
-    let about = "values: ";
-    match fault {
-        ValueFault::NotNumber { line } => numbered(about, "not a number in line ", line),
-        ValueFault::OutOfRange { line } => numbered(about, "out of range in line ", line),
-        ValueFault::TooFew => plain(about, "too few"),
-        ValueFault::TooMany => plain(about, "too many"),
-        ValueFault::NoMemory => plain(about, "no memory"),
-    }
-}
-
-fn certificate_phrase(fault: CertFault) -> Phrase<'static>
-    ensures { phrase_text result ≡ codes "certificate: " ++ certificate_fault_text fault }
-{
-    let about = "certificate: ";
-    match fault {
-        CertFault::Magic => plain(about, "magic"),
-        CertFault::Cut => plain(about, "cut"),
-        CertFault::Extra => plain(about, "extra"),
-        CertFault::Range => plain(about, "range"),
-        CertFault::Shape => plain(about, "shape"),
-        CertFault::NoMemory => plain(about, "no memory"),
+        words: text.words,
+        number: text.number,
     }
 }
 
@@ -111,17 +72,17 @@ fn phrase_of<'a>(fault: Fault<'a>) -> Phrase<'a>
     match fault {
         Fault::Mode => plain("", "no such mode"),
         Fault::Shape => plain("", "no such shape"),
-        Fault::Weight => plain("", "no such weight"),
+        Fault::Weight => said_of("", MakeFault::BadWeight.text()),
         Fault::Open(name) => plain("cannot open ", name),
         Fault::Read => plain("", "cannot read"),
         Fault::Write => plain("", "cannot write"),
         Fault::TooLong => plain("", "file too long"),
         Fault::NoMemory => plain("", "no memory"),
-        Fault::Rows(fault) => row_phrase(fault),
-        Fault::Values(fault) => value_phrase(fault),
-        Fault::Certificate(fault) => certificate_phrase(fault),
-        Fault::NotWholePacket => plain("packets: ", "not a whole packet"),
-        Fault::NoSync { packet } => numbered("packets: ", "no sync in packet ", packet),
+        Fault::Rows(fault) => said_of("rows: ", fault.text()),
+        Fault::Values(fault) => said_of("values: ", fault.text()),
+        Fault::Certificate(fault) => said_of("certificate: ", fault.text()),
+        Fault::NotWholePacket => said_of("packets: ", SendFault::NotWholePacket.text()),
+        Fault::NoSync { packet } => said_of("packets: ", SendFault::NoSync { packet }.text()),
     }
 }
 

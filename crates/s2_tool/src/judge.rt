@@ -30,6 +30,9 @@ pub const TOY_ROWS: &[u8] = b"0 4 8\n0 1 2\n";
 /// How many rounds of min-sum decide at most, where no number is named.
 pub const DEFAULT_ROUNDS: usize = 50;
 
+/// The same as a word of the command line.
+pub const DEFAULT_ROUNDS_WORD: &str = "50";
+
 /// The line and the exit of a verdict on decided bits.
 pub(crate) fn judgement(
     alloc: Global,

@@ -1,5 +1,7 @@
 //! The setup of a link, in the ranges of the standard.
 ghost use Rattle.std.specs.Prelude.{◌≡◌, ◌≤◌, ◌↔◌, IsSome, IfSome};
+ghost use Rattle.s2_modem.specs.Limits.{most_roll_off};
+ghost use Rattle.s2_scramble.specs.Gold.{most_number};
 ghost use Rattle.s2_tool.specs.Links.{roll_off_number, setup_of};
 
 use crate::scrambling::ScramblingNumber;
@@ -20,7 +22,7 @@ pub enum RollOff {
 impl RollOff {
     /// The roll-off that headers tell by this number.
     pub fn new(number: u8) -> Option<RollOff>
-        ensures found { IsSome result ↔ (number ≤ 2) }
+        ensures found { IsSome result ↔ (number ≤ most_roll_off) }
         ensures value { IfSome result (λ r. roll_off_number r ≡ number) }
     {
         match number {
@@ -54,8 +56,8 @@ impl LinkSetup {
     /// The same as both ends take it.
     pub(crate) fn setup(self) -> Setup
         ensures is { result ≡ setup_of self }
-        ensures number { result.number ≤ 262141 }
-        ensures roll_off { result.roll_off ≤ 2 }
+        ensures number { result.number ≤ most_number }
+        ensures roll_off { result.roll_off ≤ most_roll_off }
     {
         Setup {
             mode: self.mode,

@@ -2,6 +2,8 @@
 ghost use Rattle.std.specs.Prelude.{◌≡◌, ◌≢◌, ◌+◌, ◌≤◌, None, Result, Ok, Err, IfOk, IfErr, IsOk};
 ghost use Rattle.s2_mode.specs.Mode.{shape_in};
 ghost use Rattle.s2_receive.specs.Receiving.{begun};
+ghost use Rattle.s2_modem.specs.Limits.{most_roll_off};
+ghost use Rattle.s2_scramble.specs.Gold.{most_number};
 ghost use Rattle.s2_modem.specs.Deciding.{effort_of};
 ghost use Rattle.s2_modem.specs.Link.{link_of};
 ghost use Rattle.s2_modem.specs.Reception.{rules_for};
@@ -123,8 +125,8 @@ fn loop_from<P: CountedRead, W: CountedWrite, O: CountedWrite>(
     out: &mut O,
 ) -> Result<Exit, Fault<'static>>
     requires shape { matrix.now.shape ≡ shape_in setup.now.mode }
-    requires number { setup.now.number ≤ 262141 }
-    requires roll_off { setup.now.roll_off ≤ 2 }
+    requires number { setup.now.number ≤ most_number }
+    requires roll_off { setup.now.roll_off ≤ most_roll_off }
     requires packets { CanCount (P.count packets.old) }
     requires to { CanCount (W.count to.old) }
     requires out { CanCount (O.count out.old) }
@@ -163,8 +165,8 @@ fn loop_link<P: CountedRead, W: CountedWrite, O: CountedWrite>(
     out: &mut O,
 ) -> Result<Exit, Fault<'static>>
     requires shape { matrix.now.shape ≡ shape_in setup.now.mode }
-    requires number { setup.now.number ≤ 262141 }
-    requires roll_off { setup.now.roll_off ≤ 2 }
+    requires number { setup.now.number ≤ most_number }
+    requires roll_off { setup.now.roll_off ≤ most_roll_off }
     requires packets { CanCount (P.count packets.old) }
     requires to { CanCount (W.count to.old) }
     requires out { CanCount (O.count out.old) }

@@ -1,10 +1,11 @@
 //! The program.
 #![tactic(auto)]
 
-ghost use Rattle.std.specs.Prelude.{◌≡◌, ◌≢◌};
+ghost use Rattle.std.specs.Prelude.{◌≡◌, ◌≢◌, IsErr};
+ghost use Rattle.clap.specs.Words.{kind_of};
 ghost use Rattle.s2_tool.specs.Counting.{CanCount};
 ghost use Rattle.s2_tool.specs.Screens.{CanShow};
-ghost use Rattle.s2_tool.specs.Serving.{SomeServed};
+ghost use Rattle.s2_tool.specs.Serving.{Answers, IsExplained, SomeServed};
 
 mod certify;
 mod check;
@@ -33,6 +34,7 @@ use clap::error::ErrorKind;
 use console::Console;
 use exit::Exit;
 use fault::Fault;
+use request::Request;
 use s2_mode::{CountedRead, CountedWrite, Counting};
 use serve::serve;
 use std::env;
@@ -68,19 +70,36 @@ fn run<
     ensures whole { result ≢ Exit.Fault → console.new.output_failed ≡ console.old.output_failed }
     ensures served { SomeServed (S.remaining input.old) result console.old console.new }
 {
-    let Some(words) = words_given(rt) else {
-        return console.complain(Fault::NoMemory);
-    };
-    match read_words(rt.alloc(), words.as_slice()) {
-        Ok(Some(request)) => serve(rt, request, input, console),
-        Ok(None) => Exit::Fault,
+    match words_given(rt) {
+        Some(words) => answer(rt, read_words(rt.alloc(), words.as_slice()), input, console),
+        None => console.complain(Fault::NoMemory),
+    }
+}
+
+/// Serves what was asked for, and nothing else. Where nothing was asked for the console is as it was, but for
+/// the line of a fault where that is because memory ran out.
+fn answer<
+    R: Files + Print + Eprint + AllocGlobal,
+    S: CountedRead,
+    O: CountedWrite,
+    E: CountedWrite,
+>(rt: &R, asked: Result<Request<'_>, Error>, input: &mut S, console: &mut Console<O, E>) -> Exit
+    requires input { CanCount (S.count input.old) }
+    requires console { CanShow console.old }
+    ensures answers { Answers asked.entry (S.remaining input.old) result console.old console.new }
+    ensures untouched { IsErr asked.entry → input.new ≡ input.old }
+{
+    match asked {
+        Ok(request) => serve(rt, request, input, console),
         Err(error) if error.kind() == ErrorKind::OutOfMemory => console.complain(Fault::NoMemory),
         Err(error) => explain(rt, &error),
     }
 }
 
 /// Prints help on standard output, or a usage fault on standard error.
-fn explain<R: Print + Eprint>(rt: &R, error: &Error) -> Exit {
+fn explain<R: Print + Eprint>(rt: &R, error: &Error) -> Exit
+    ensures { IsExplained (kind_of error.now) result }
+{
     match error.print(rt) {
         Ok(()) if !error.use_stderr() => Exit::Fine,
         _ => Exit::Fault,

@@ -2,7 +2,9 @@
 ghost use Rattle.std.specs.Prelude.{◌≡◌, ◌≢◌, ◌+◌, ◌≤◌, Result, Err, IfOk, IsOk, IsOkUnless};
 ghost use Rattle.s2_mode.specs.Mode.{shape_in};
 ghost use Rattle.s2_receive.specs.Receiving.{begun};
-ghost use Rattle.s2_receive.specs.declared.receiver.TheConstants.{MOST_SYMBOLS};
+ghost use Rattle.s2_receive.specs.Limits.{most_symbols};
+ghost use Rattle.s2_modem.specs.Limits.{most_roll_off};
+ghost use Rattle.s2_scramble.specs.Gold.{most_number};
 ghost use Rattle.s2_modem.specs.Deciding.{effort_of};
 ghost use Rattle.s2_modem.specs.Link.{link_of};
 ghost use Rattle.s2_modem.specs.Reception.{rules_for, link_rules};
@@ -32,9 +34,9 @@ pub(crate) fn receiver_of<'a>(
     effort: Effort,
 ) -> Result<Receiver<'a>, Fault<'static>>
     requires shape { matrix.now.shape ≡ shape_in setup.mode }
-    requires number { setup.number ≤ 262141 }
-    requires roll_off { setup.roll_off ≤ 2 }
-    ensures rules { IfOk result (λ r. rules_for r ≡ link_rules (link_of setup matrix.now) (effort_of effort.rounds effort.passes) MOST_SYMBOLS) }
+    requires number { setup.number ≤ most_number }
+    requires roll_off { setup.roll_off ≤ most_roll_off }
+    ensures rules { IfOk result (λ r. rules_for r ≡ link_rules (link_of setup matrix.now) (effort_of effort.rounds effort.passes) most_symbols) }
     ensures begun { IfOk result (λ r. r.state ≡ begun) }
     ensures memory { IsOkUnless result Fault.NoMemory }
 {
@@ -91,8 +93,8 @@ fn receive_link<S: CountedRead, P: CountedWrite, O: CountedWrite>(
     out: &mut O,
 ) -> Result<Exit, Fault<'static>>
     requires shape { matrix.now.shape ≡ shape_in setup.mode }
-    requires number { setup.number ≤ 262141 }
-    requires roll_off { setup.roll_off ≤ 2 }
+    requires number { setup.number ≤ most_number }
+    requires roll_off { setup.roll_off ≤ most_roll_off }
     requires symbols { CanCount (S.count symbols.old) }
     requires packets { CanCount (P.count packets.old) }
     requires out { CanCount (O.count out.old) }

@@ -1,6 +1,8 @@
 //! Packets sent.
 ghost use Rattle.std.specs.Prelude.{◌≡◌, ◌≢◌, ◌+◌, ◌≤◌, ◌++◌, Result, Ok, Err, IfOk, IsOk, IsOkUnless, decimal, length};
 ghost use Rattle.s2_mode.specs.Mode.{shape_in};
+ghost use Rattle.s2_modem.specs.Limits.{most_roll_off};
+ghost use Rattle.s2_scramble.specs.Gold.{most_number};
 ghost use Rattle.s2_modem.specs.Link.{link_of};
 ghost use Rattle.s2_tool.specs.Counting.{CanCount};
 ghost use Rattle.s2_tool.specs.Screens.{CanShow};
@@ -80,8 +82,8 @@ pub(crate) fn transmitter_of<'a>(
     matrix: &'a Matrix,
 ) -> Result<Transmitter<'a>, Fault<'static>>
     requires shape { matrix.now.shape ≡ shape_in setup.mode }
-    requires number { setup.number ≤ 262141 }
-    requires roll_off { setup.roll_off ≤ 2 }
+    requires number { setup.number ≤ most_number }
+    requires roll_off { setup.roll_off ≤ most_roll_off }
     ensures is { IfOk result (λ t. t ≡ transmitter_on (link_of setup matrix.now)) }
     ensures memory { IsOkUnless result Fault.NoMemory }
 {
@@ -127,8 +129,8 @@ fn send_link<P: CountedRead, W: CountedWrite, O: CountedWrite>(
     out: &mut O,
 ) -> Result<Exit, Fault<'static>>
     requires shape { matrix.now.shape ≡ shape_in setup.mode }
-    requires number { setup.number ≤ 262141 }
-    requires roll_off { setup.roll_off ≤ 2 }
+    requires number { setup.number ≤ most_number }
+    requires roll_off { setup.roll_off ≤ most_roll_off }
     requires packets { CanCount (P.count packets.old) }
     requires symbols { CanCount (W.count symbols.old) }
     requires out { CanCount (O.count out.old) }

@@ -1,5 +1,6 @@
 //! The command line of the program.
 use crate::effort::Effort;
+use crate::judge::DEFAULT_ROUNDS_WORD;
 use crate::link::RollOff;
 use crate::request::{
     CheckWords, DemodWords, JudgeWords, LinkWords, ModWords, NoiseWords, Request, RowsWords,
@@ -7,7 +8,10 @@ use crate::request::{
 };
 use crate::scrambling::ScramblingNumber;
 use clap::builder::ValueParser;
+use clap::error::ErrorKind;
 use clap::{Arg, ArgAction, ArgMatches, Command, Error, value_parser};
+use s2_modem::{MOST_PASSES, MOST_ROUNDS};
+use s2_scramble::MOST_NUMBER;
 use std::alloc::{AllocError, Global};
 
 fn number<'a>(alloc: Global, name: &'a str, parser: ValueParser<'a>, value: &'a str) -> Arg<'a> {
@@ -55,7 +59,7 @@ fn with_mode<'a>(alloc: Global, command: Command<'a>) -> Result<Command<'a>, All
 }
 
 fn scrambling<'a>(alloc: Global) -> Arg<'a> {
-    let scrambling = value_parser!(u32).range(0..=262141);
+    let scrambling = value_parser!(u32).range(0..=i64::from(MOST_NUMBER));
     number(alloc, "number", scrambling, "N")
         .default_value("0")
         .help("Scrambling number, 0 to 262141")
@@ -75,14 +79,14 @@ fn with_link<'a>(alloc: Global, command: Command<'a>) -> Result<Command<'a>, All
 }
 
 fn with_passes<'a>(alloc: Global, command: Command<'a>) -> Result<Command<'a>, AllocError> {
-    let passes = value_parser!(u32).range(0..=1000);
+    let passes = value_parser!(u32).range(0..=i64::from(MOST_PASSES));
     let passes = number(alloc, "passes", passes, "P").default_value("0");
     command.arg(passes.help("Passes at most that look for a certificate, 0 to 1000"))
 }
 
 fn with_effort<'a>(alloc: Global, command: Command<'a>) -> Result<Command<'a>, AllocError> {
-    let rounds = value_parser!(u32).range(1..=200);
-    let rounds = number(alloc, "rounds", rounds, "K").default_value("50");
+    let rounds = value_parser!(u32).range(1..=i64::from(MOST_ROUNDS));
+    let rounds = number(alloc, "rounds", rounds, "K").default_value(DEFAULT_ROUNDS_WORD);
     let command = command.arg(rounds.help("Rounds of min-sum at most, 1 to 200"))?;
     with_passes(alloc, command)
 }
@@ -312,14 +316,21 @@ fn request_of<'a>(name: &str, m: &ArgMatches<'a>) -> Option<Request<'a>> {
     }
 }
 
-/// What the words ask for. `None` comes only where no request has these words.
-pub(crate) fn read_words<'a>(
-    alloc: Global,
-    words: &'a [String],
-) -> Result<Option<Request<'a>>, Error> {
+/// What the words ask for. The parser takes only words of which a request can be made; of others that got
+/// through it the user hears by a usage fault.
+pub(crate) fn read_words<'a>(alloc: Global, words: &'a [String]) -> Result<Request<'a>, Error> {
     let matches = command(alloc)?.try_get_matches_from(words)?;
     match matches.subcommand() {
-        None => Ok(Some(Request::Own)),
-        Some((name, inner)) => Ok(request_of(name, inner)),
+        None => Ok(Request::Own),
+        Some((name, inner)) => match request_of(name, inner) {
+            Some(request) => Ok(request),
+            None => Err(not_understood(alloc)?),
+        },
     }
+}
+
+/// The usage fault of words that ask for nothing.
+fn not_understood(alloc: Global) -> Result<Error, AllocError> {
+    let mut command = command(alloc)?;
+    command.error(ErrorKind::ValueValidation, "no request has these words")
 }

@@ -20,10 +20,7 @@ pub(super) fn served<R: Abort + Files + AllocGlobal>(
     passes: u64,
 ) -> Result<(Exit, Vec<u8>, Vec<u8>), Fail> {
     let words = words_of(rt, line)?;
-    let request = read_words(rt.alloc(), &words)
-        .ok()
-        .flatten()
-        .expect(rt, "a request");
+    let request = read_words(rt.alloc(), &words).ok().expect(rt, "a request");
     let mut input = InMemory::new(input);
     let out = Counting::new(FailAt::new(Vec::new(rt.alloc()), passes));
     let errors = Counting::new(Vec::new(rt.alloc()));
@@ -82,6 +79,14 @@ fn reads_and_writes_each_file_in_its_role(rt: HostRuntime) -> Result<(), Fail> {
             ),
             ("s2 check s2_roles/rows s2_roles/cert", "yes cost -45\n"),
             (
+                "s2 judge --group 4 --groups 2 --q 3 --passes 96 s2_roles/rows s2_roles/soft",
+                "most-likely cost -45\n",
+            ),
+            (
+                "s2 judge --group 4 --groups 2 --q 3 --passes 96 --cert s2_roles/cert s2_roles/rows s2_roles/soft",
+                "most-likely cost -45\n",
+            ),
+            (
                 "s2 mod --modcod 1 --short s2_roles/made s2_roles/packets s2_roles/symbols",
                 "packets 0 frames 0\n",
             ),
@@ -113,6 +118,7 @@ fn names_the_file_that_cannot_be_opened(rt: HostRuntime) -> Result<(), Fail> {
         ("R F N", "s2_missing/none"),
         ("R --cert . F F", "."),
         ("R --cert N/c F F", "s2_missing/none/c"),
+        ("R --cert N/c N F", "s2_missing/none/c"),
         ("R --cert s2_missing/c N F", "s2_missing/none"),
         ("s2 check N F", "s2_missing/none"),
         ("s2 check F N", "s2_missing/none"),

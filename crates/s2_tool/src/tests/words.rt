@@ -24,7 +24,7 @@ fn reads_the_words_of_a_command(rt: HostRuntime) -> Result<(), Fail> {
         q: 3,
     };
     let own = words_of(&rt, "s2")?;
-    assert_eq!(rt; read_words(rt.alloc(), &own).ok(), Some(Some(Request::Own)));
+    assert_eq!(rt; read_words(rt.alloc(), &own).ok(), Some(Request::Own));
     let judge = words_of(&rt, "s2 judge --group 4 --groups 2 --q 3 r s")?;
     let wanted = Request::Judge(JudgeWords {
         shape: toy,
@@ -33,13 +33,13 @@ fn reads_the_words_of_a_command(rt: HostRuntime) -> Result<(), Fail> {
         rows: "r",
         soft: "s",
     });
-    assert_eq!(rt; read_words(rt.alloc(), &judge).ok(), Some(Some(wanted)));
+    assert_eq!(rt; read_words(rt.alloc(), &judge).ok(), Some(wanted));
     let check = words_of(&rt, "s2 check r c")?;
     let wanted = Request::Check(CheckWords {
         rows: "r",
         certificate: "c",
     });
-    assert_eq!(rt; read_words(rt.alloc(), &check).ok(), Some(Some(wanted)));
+    assert_eq!(rt; read_words(rt.alloc(), &check).ok(), Some(wanted));
     let rows = words_of(
         &rt,
         "s2 rows --group 4 --groups 2 --q 3 --weight 24 --seed 18446744073709551615",
@@ -49,7 +49,7 @@ fn reads_the_words_of_a_command(rt: HostRuntime) -> Result<(), Fail> {
         weight: 24,
         seed: 18446744073709551615,
     });
-    assert_eq!(rt; read_words(rt.alloc(), &rows).ok(), Some(Some(wanted)));
+    assert_eq!(rt; read_words(rt.alloc(), &rows).ok(), Some(wanted));
     Ok(())
 }
 
@@ -68,7 +68,7 @@ fn reads_the_words_of_mod(rt: HostRuntime) -> Result<(), Fail> {
         packets: "p",
         symbols: "s",
     });
-    assert_eq!(rt; read_words(rt.alloc(), &plain).ok(), Some(Some(wanted)));
+    assert_eq!(rt; read_words(rt.alloc(), &plain).ok(), Some(wanted));
     let all = words_of(
         &rt,
         "s2 mod --modcod 17 --short --pilots --number 262141 --ro 2 r p s",
@@ -85,7 +85,7 @@ fn reads_the_words_of_mod(rt: HostRuntime) -> Result<(), Fail> {
         packets: "p",
         symbols: "s",
     });
-    assert_eq!(rt; read_words(rt.alloc(), &all).ok(), Some(Some(wanted)));
+    assert_eq!(rt; read_words(rt.alloc(), &all).ok(), Some(wanted));
     Ok(())
 }
 
@@ -101,7 +101,7 @@ fn reads_the_words_of_noise(rt: HostRuntime) -> Result<(), Fail> {
         from: "i",
         to: "o",
     });
-    assert_eq!(rt; read_words(rt.alloc(), &words).ok(), Some(Some(wanted)));
+    assert_eq!(rt; read_words(rt.alloc(), &words).ok(), Some(wanted));
     Ok(())
 }
 
@@ -132,7 +132,7 @@ fn reads_the_words_of_demod_and_run(rt: HostRuntime) -> Result<(), Fail> {
             symbols: "s",
             packets: "p",
         });
-        assert_eq!(rt; read_words(rt.alloc(), &words).ok(), Some(Some(wanted)));
+        assert_eq!(rt; read_words(rt.alloc(), &words).ok(), Some(wanted));
         let words = format!(in rt.alloc();
             "s2 run --modcod 2 --short --number 7 --ro 1 {effort}--seed 18446744073709551615 --level 65535 r p o"
         )?;
@@ -146,7 +146,7 @@ fn reads_the_words_of_demod_and_run(rt: HostRuntime) -> Result<(), Fail> {
             packets: "p",
             to: "o",
         });
-        assert_eq!(rt; read_words(rt.alloc(), &words).ok(), Some(Some(wanted)));
+        assert_eq!(rt; read_words(rt.alloc(), &words).ok(), Some(wanted));
     }
     Ok(())
 }
@@ -232,7 +232,7 @@ fn reads_the_word_of_a_certificate_file(rt: HostRuntime) -> Result<(), Fail> {
         rows: "r",
         soft: "s",
     });
-    assert_eq!(rt; read_words(rt.alloc(), &words).ok(), Some(Some(wanted)));
+    assert_eq!(rt; read_words(rt.alloc(), &words).ok(), Some(wanted));
     Ok(())
 }
 

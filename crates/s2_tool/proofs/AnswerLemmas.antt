@@ -1,0 +1,37 @@
+-- What follows of an answer, whatever was asked for.
+use Rattle.std.proofs.Common.{◌≡◌, ◌≢◌, ℕ, List, Option, Result, Ok, Err, ap, inl, inr}
+use Rattle.clap.specs.Words.{kind_of}
+use Rattle.clap.specs.declared.error.Error.{Error}
+use Rattle.clap.specs.declared.error.kind.ErrorKind.{ErrorKind}
+use Rattle.s2_tool.specs.declared.exit.Exit.{Exit}
+use Rattle.s2_tool.specs.declared.exit.Exit.TheVariants as exits
+use Rattle.s2_tool.specs.declared.request.Request.{Request}
+use Rattle.s2_tool.specs.Screens.{Screen}
+use Rattle.s2_tool.specs.Serving.{Answers, Explains, SomeServed}
+
+explained : (kind : ErrorKind) (exit : Exit) (old new : Screen) → Explains kind exit old new → new.output ≡ old.output
+explained kind exit old new (inl (out, fault, output, failed, told)) = output
+explained kind exit old new (inr (other, ends, same)) = ap (λ s. s.output) same
+
+-- some request was served, or the output is as it was
+pub some_served : (asked : Result Request Error) (input : Option (List ℕ)) (exit : Exit) (old new : Screen) → Answers asked input exit old new → SomeServed input exit old new
+some_served (Ok request) input exit old new h = inr (request, h)
+some_served (Err error) input exit old new h = inl (explained (kind_of error) exit old new h)
+
+explained_whole : (kind : ErrorKind) (exit : Exit) (old new : Screen) → Explains kind exit old new → exit ≢ exits.Fault → new.output_failed ≡ old.output_failed
+explained_whole kind exit old new (inl (out, fault, output, failed, told)) fine = failed
+explained_whole kind exit old new (inr (other, ends, same)) fine = ap (λ s. s.output_failed) same
+
+-- the output failed only where a fault is told
+pub is_whole : (asked : Result Request Error) (input : Option (List ℕ)) (exit : Exit) (old new : Screen) → Answers asked input exit old new → exit ≢ exits.Fault → new.output_failed ≡ old.output_failed
+is_whole (Ok request) input exit old new h fine = h.whole fine
+is_whole (Err error) input exit old new h fine = explained_whole (kind_of error) exit old new h fine
+
+explained_quiet : (kind : ErrorKind) (exit : Exit) (old new : Screen) → Explains kind exit old new → exit ≢ exits.Fault → new.errors_failed ≡ old.errors_failed
+explained_quiet kind exit old new (inl (out, fault, output, failed, told)) fine = absurd (fine fault)
+explained_quiet kind exit old new (inr (other, ends, same)) fine = ap (λ s. s.errors_failed) same
+
+-- nor did the errors
+pub is_quiet : (asked : Result Request Error) (input : Option (List ℕ)) (exit : Exit) (old new : Screen) → Answers asked input exit old new → exit ≢ exits.Fault → new.errors_failed ≡ old.errors_failed
+is_quiet (Ok request) input exit old new h fine = h.quiet fine
+is_quiet (Err error) input exit old new h fine = explained_quiet (kind_of error) exit old new h fine
