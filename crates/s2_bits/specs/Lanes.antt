@@ -1,6 +1,15 @@
--- Bits in the lanes of a vector.
-use Rattle.std.specs.Prelude.{ℕ, Bool, List, [], ◌∷◌}
+-- Lanes of a vector: numbers, and bits as numbers.
+use Rattle.std.specs.Prelude.{◌≡◌, ◌<◌, ℕ, Bool, List, [], ◌∷◌, length, slice_index_or}
 use Rattle.s2_bits.specs.Bits.{number}
+
+-- the number in lane k
+abbrev pub lane : List ℕ → ℕ → ℕ
+lane v k = slice_index_or v k 0
+
+-- v has n lanes, and lane k holds f k
+pub record HasLanes (n : ℕ) (f : ℕ → ℕ) (v : List ℕ) : Type 0 where
+  pub long : length v ≡ n
+  pub each : (k : ℕ) → k < n → lane v k ≡ f k
 
 -- eight bits as the lanes of a vector
 abbrev pub eight : (ℕ → Bool) → List ℕ

@@ -2,3 +2,5 @@ pub mod Bits
 pub mod Lending
 pub mod Turns
 pub mod Lanes
+pub mod Lanes16
+pub mod Lanes32

@@ -1,4 +1,5 @@
-//! Lists of bits: codewords, messages and hard decisions, one truth value for each bit.
+//! Lists of bits: codewords, messages and hard decisions, one truth value for each bit. And words in
+//! the lanes of vectors.
 //!
 //! To contracts a [`Bits`] is the list of its truth values, and each call is the operation on that
 //! list: the exact value at each place, and which places stay as they were. Only [`Bits::zeroed`]
@@ -7,8 +8,10 @@
 //! [`add_turned`] adds a row of bits, turned, to another: the step of all that goes by groups of
 //! bits, and [`eight_from`] lends the lanes of a vector eight of them. [`xor_first`] adds the first
 //! bits of one slice of truth values to those of another. Slices of bytes and of truth values go
-//! from one to the other by [`bits_into`], [`byte_at`] and [`bytes_from`]. What the other crates say
-//! of bits, of bytes and of the numbers that bits spell is defined here, once.
+//! from one to the other by [`bits_into`], [`byte_at`] and [`bytes_from`]. What crates do with lanes
+//! of words stands in [`lanes16`] and [`lanes32`]: sums and differences that wrap, the lesser word,
+//! a choice lane by lane. What the other crates say of bits, of bytes, of the numbers that bits spell
+//! and of words in lanes is defined here, once.
 //!
 //! ```
 //! let bits = Bits::from_bytes(alloc, &[0xa0], 4)?;
@@ -20,6 +23,8 @@
 mod bits;
 mod bools;
 mod lanes;
+pub mod lanes16;
+pub mod lanes32;
 mod spelling;
 mod turns;
 

@@ -1,5 +1,6 @@
 //! Bit lists by their worked values.
-use crate::{Bits, add_turned, bits_into, byte_at, bytes_from};
+use crate::{Bits, add_turned, bits_into, byte_at, bytes_from, lanes16, lanes32};
+use std::simd::prelude::*;
 use std::test::Fail;
 
 #[test]
@@ -77,4 +78,54 @@ fn spells_bytes_as_bits_and_back(rt: HostRuntime) {
     let mut bytes = [7; 3];
     bytes_from(&bits, 1, 2, &mut bytes);
     assert_eq!(rt; bytes, [0x01, 0x5a, 7]);
+}
+
+#[test]
+fn works_on_eight_words(rt: HostRuntime) {
+    let a = u16x8::from_array([0, 1, 63, 32767, 32768, 65473, 65535, 5]);
+    let b = u16x8::from_array([0, 2, 65535, 65535, 1, 32768, 65535, 5]);
+    assert_eq!(rt; lanes16::all(513).to_array(), [513; 8]);
+    assert_eq!(rt;
+        lanes16::least(a, b).to_array(),
+        [0, 1, 63, 32767, 1, 32768, 65535, 5]
+    );
+    assert_eq!(rt;
+        lanes16::minus(a, b).to_array(),
+        [0, 65535, 64, 32768, 32767, 32705, 0, 0]
+    );
+    assert_eq!(rt; lanes16::sign(a).to_array(), [0, 0, 0, 0, 1, 1, 1, 0]);
+    assert_eq!(rt;
+        lanes16::size(a).to_array(),
+        [0, 1, 63, 32767, 32768, 63, 1, 5]
+    );
+    let x = lanes16::all(7);
+    assert_eq!(rt;
+        lanes16::where_same(a, b, x, a).to_array(),
+        [7, 1, 63, 32767, 32768, 65473, 7, 7]
+    );
+}
+
+#[test]
+fn works_on_four_words(rt: HostRuntime) {
+    let a = u32x4::from_array([0, 70000, 4294967295, 2147483648]);
+    let b = u32x4::from_array([1, 70000, 4294967294, 2147483649]);
+    assert_eq!(rt; lanes32::all(70001).to_array(), [70001; 4]);
+    assert_eq!(rt;
+        lanes32::least(a, b).to_array(),
+        [0, 70000, 4294967294, 2147483648]
+    );
+    assert_eq!(rt;
+        lanes32::most(a, b).to_array(),
+        [1, 70000, 4294967295, 2147483649]
+    );
+    assert_eq!(rt;
+        lanes32::minus(a, b).to_array(),
+        [4294967295, 0, 1, 4294967295]
+    );
+    assert_eq!(rt; lanes32::plus(a, b).to_array(), [1, 140000, 4294967293, 1]);
+    let x = lanes32::all(9);
+    assert_eq!(rt;
+        lanes32::where_same(a, b, x, b).to_array(),
+        [1, 9, 4294967294, 2147483649]
+    );
 }

@@ -1,0 +1,23 @@
+-- Words of 16 bits in two's complement, as lanes hold them.
+use Rattle.std.specs.Prelude.{ℕ, ◌+◌, ◌-◌, ◌/◌, ◌%◌, min, ℤ}
+use Rattle.std.specs.Int.{cast_signed}
+use mir.Syntax.{w16}
+
+-- the number that a word stands for
+abbrev pub signed16 : ℕ → ℤ
+signed16 v = cast_signed w16 v
+
+-- the difference of words, and their sum
+abbrev pub minus16 : ℕ → ℕ → ℕ
+minus16 a b = (a + (65536 - b)) % 65536
+
+abbrev pub plus16 : ℕ → ℕ → ℕ
+plus16 a b = (a + b) % 65536
+
+-- how far a word's number is from 0
+abbrev pub size16 : ℕ → ℕ
+size16 v = min v (minus16 0 v)
+
+-- 1 where a word's number is negative, else 0
+abbrev pub sign16 : ℕ → ℕ
+sign16 v = v / 32768
