@@ -1,5 +1,5 @@
 //! One step of a receiver.
-ghost use Rattle.std.specs.Prelude.{◌≡◌, ◌≢◌, ◌+◌, ◌-◌, ◌*◌, ◌^◌, ◌<◌, ◌≤◌, ◌⊎◌, ◌∷◌, [], List, None, Ok, Err, IfOk, OnOk, OnErr, IsErrOf, IsErr, length};
+ghost use Rattle.std.specs.Prelude.{◌≡◌, ◌≢◌, ◌+◌, ◌-◌, ◌*◌, ◌^◌, ◌<◌, ◌≤◌, ◌⊎◌, ◌∷◌, [], List, None, Ok, Err, IfOk, IfErr, OnOk, OnErr, IsErrOf, IsErr, length};
 ghost use Rattle.std.specs.List.{flat_map};
 ghost use Rattle.std.specs.Io.KnownBytes.{Appends};
 ghost use Rattle.s2_mode.specs.Counts.{CountsFault};
@@ -79,6 +79,59 @@ fn deliver<D: Decide, L: Lines, P: CountedWrite, W: CountedWrite>(
     Ok(line)
 }
 
+/// Writes the line of a cut frame, behind which there is a gap. The place changes only where the line was written:
+/// just the last line is to come then.
+fn meet_cut<L: Lines, W: CountedWrite>(
+    lines: &L,
+    joiner: &mut Joiner,
+    place: &mut Place,
+    at: u64,
+    count: u64,
+    report: &mut W,
+) -> Result<Step, Fault>
+    requires report { W.count report.old < 2 ^ 64 - 1 }
+    requires room { at + count < 2 ^ 64 }
+    ensures step { IfOk result (λ step. step ≡ Step.Cut at count) }
+    ensures fault { IfErr result (λ fault. fault ≡ Fault.Write) }
+    ensures gap { joiner.new ≡ None }
+    ensures place { OnOk result (place.new ≡ record place.old { phase = Phase.Closing; at = at + count; totals = cut_totals place.old.totals }) }
+    ensures unchanged { OnErr result (place.new ≡ place.old) }
+    ensures line { OnOk result (Appends (W.contents report.old) (W.contents report.new) (L.cut_line lines.now at count)) }
+    ensures part { OnErr result (AppendsPart (L.cut_line lines.now at count) (W.contents report.old) (W.contents report.new)) }
+    ensures cause { CountsFault (W.count report.old) (W.count report.new) result }
+{
+    joiner.gap();
+    let Ok(()) = lines.write_cut(at, count, report) else {
+        return Err(Fault::Write);
+    };
+    place.at = at + count;
+    place.totals.cut = true;
+    place.phase = Phase::Closing;
+    Ok(Step::Cut { at, symbols: count })
+}
+
+/// Writes the last line. The place changes only where it was written: nothing is to come then.
+fn write_last<L: Lines, W: CountedWrite>(
+    lines: &L,
+    place: &mut Place,
+    report: &mut W,
+) -> Result<Step, Fault>
+    requires report { W.count report.old < 2 ^ 64 - 1 }
+    ensures step { IfOk result (λ step. step ≡ Step.End) }
+    ensures fault { IfErr result (λ fault. fault ≡ Fault.Write) }
+    ensures place { OnOk result (place.new ≡ record place.old { phase = Phase.Ended }) }
+    ensures unchanged { OnErr result (place.new ≡ place.old) }
+    ensures line { OnOk result (Appends (W.contents report.old) (W.contents report.new) (L.end_line lines.now place.old.totals)) }
+    ensures part { OnErr result (AppendsPart (L.end_line lines.now place.old.totals) (W.contents report.old) (W.contents report.new)) }
+    ensures cause { CountsFault (W.count report.old) (W.count report.new) result }
+{
+    let Ok(()) = lines.write_end(place.totals, report) else {
+        return Err(Fault::Write);
+    };
+    place.phase = Phase::Ended;
+    Ok(Step::End)
+}
+
 /// Takes a receiver's parts one step on. It counts as failed until all of the step is written.
 pub(crate) fn take_step<
     S: Search,
@@ -135,11 +188,7 @@ pub(crate) fn take_step<
         Phase::Ended => return Ok(Step::End),
         Phase::Closing => {
             place.phase = Phase::Failed;
-            let Ok(()) = lines.write_end(place.totals, report) else {
-                return Err(Fault::Write);
-            };
-            place.phase = Phase::Ended;
-            return Ok(Step::End);
+            return write_last(lines, place, report);
         }
         Phase::Searching => {}
     }
@@ -167,23 +216,10 @@ pub(crate) fn take_step<
             place.phase = Phase::Searching;
             Ok(Step::Frame(line))
         }
-        Found::Cut { at, count } => {
-            joiner.gap();
-            let Ok(()) = lines.write_cut(at, count, report) else {
-                return Err(Fault::Write);
-            };
-            place.at = at + count;
-            place.totals.cut = true;
-            place.phase = Phase::Closing;
-            Ok(Step::Cut { at, symbols: count })
-        }
+        Found::Cut { at, count } => meet_cut(lines, joiner, place, at, count, report),
         Found::End { at } => {
-            let Ok(()) = lines.write_end(place.totals, report) else {
-                return Err(Fault::Write);
-            };
             place.at = at;
-            place.phase = Phase::Ended;
-            Ok(Step::End)
+            write_last(lines, place, report)
         }
     }
 }
