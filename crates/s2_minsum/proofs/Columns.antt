@@ -15,7 +15,7 @@ use Rattle.s2_matrix.specs.Code.{Code, code_of, members}
 use Rattle.s2_matrix.proofs.Members.{members_rising, members_below, place_in_members, place_of_upto}
 use Rattle.s2_minsum.specs.Plain.{size_cap, State, input, others, reduced, with_sign, made}
 use Rattle.s2_minsum.specs.Nodes.{sent}
-use Rattle.s2_minsum.specs.Words.{is_lacking}
+use Rattle.s2_minsum.specs.Rows.{is_lacking}
 use Rattle.s2_minsum.specs.Layout.{row_of_bit, lane_of_bit, last_check, forth, back, entry_of, lacked_row}
 use Rattle.s2_minsum.proofs.Places
 use Rattle.s2_minsum.proofs.Turning

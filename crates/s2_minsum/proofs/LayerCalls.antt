@@ -12,7 +12,8 @@ use Rattle.s2_matrix.specs.Code.{code_of, members}
 use Rattle.s2_minsum.specs.declared.rows.Entry.{Entry}
 use Rattle.s2_minsum.specs.Plain.{layer as after_layer}
 use Rattle.s2_minsum.specs.Nodes.{first_of, second_of, signs_of}
-use Rattle.s2_minsum.specs.Words.{cell, no_entry, entry_at, AreIn, size16, sent16, received, change_of, changed}
+use Rattle.s2_bits.specs.Lanes16.{size16}
+use Rattle.s2_minsum.specs.Rows.{cell, no_entry, entry_at, AreIn, sent16, received, change_of, changed}
 use Rattle.s2_minsum.specs.Layout.{row_of_bit, last_check, entry_of, entry_count, first_row, kept_of, state_of, lacked_row}
 use Rattle.s2_minsum.specs.Decoding.{AreLayers, AreNumbers, AreMessages}
 use Rattle.s2_minsum.proofs.Parts.{row_before, put_mid_below, put_mid_at, put_mid_above, length-put_mid}

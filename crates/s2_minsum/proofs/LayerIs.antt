@@ -15,7 +15,8 @@ use Rattle.s2_minsum.specs.declared.rows.Entry.{Entry}
 use Rattle.s2_mode.specs.Limits.{most_soft}
 use Rattle.s2_minsum.specs.Plain.{size_cap, most_message, most_posterior, is_edge, input, posterior, others, made, layer as after_layer}
 use Rattle.s2_minsum.specs.Nodes.{first_of, second_of, signs_of, sent}
-use Rattle.s2_minsum.specs.Words.{signed16, cell, entry_at, plus16, minus16, size16, sent16, turned, turned_back, is_lacking, received, change_of, changed}
+use Rattle.s2_bits.specs.Lanes16.{signed16, plus16, minus16, size16}
+use Rattle.s2_minsum.specs.Rows.{cell, entry_at, sent16, turned, turned_back, is_lacking, received, change_of, changed}
 use Rattle.s2_minsum.specs.Layout.{row_of_bit, lane_of_bit, bit_of, last_check, forth, back, entry_of, entry_count, first_row, place_at, message_of, state_of, kept_of, lacked_row}
 use Rattle.s2_minsum.specs.Decoding.{AreLayers, AreNumbers, AreMessages}
 use Rattle.s2_minsum.proofs.Places

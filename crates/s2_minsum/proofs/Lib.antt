@@ -1,6 +1,5 @@
 pub mod Steps
 pub mod Turned
-pub mod Unsigned
 pub mod Parts
 pub mod RowLemmas
 pub mod Places

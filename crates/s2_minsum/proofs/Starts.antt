@@ -12,7 +12,8 @@ use Rattle.s2_matrix.proofs.Totals.{total-zero}
 use Rattle.s2_matrix.proofs.Members.{length-members}
 use Rattle.s2_mode.specs.Limits.{most_soft}
 use Rattle.s2_minsum.specs.Plain.{is_edge, posterior, start, decision}
-use Rattle.s2_minsum.specs.Words.{signed16, cell}
+use Rattle.s2_bits.specs.Lanes16.{signed16}
+use Rattle.s2_minsum.specs.Rows.{cell}
 use Rattle.s2_minsum.specs.Layout.{row_of_bit, lane_of_bit, bit_of, last_check, place_at, first_row, kept_of, state_of}
 use Rattle.s2_minsum.specs.Decoding.{AreNumbers, AreWithin, is_one}
 use Rattle.s2_minsum.proofs.Places

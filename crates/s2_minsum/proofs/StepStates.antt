@@ -12,7 +12,8 @@ use Rattle.s2_matrix.specs.Code.{Code, code_of, members, is_member}
 use Rattle.s2_matrix.proofs.Members.{members_rising, place_of}
 use Rattle.s2_matrix.proofs.Joins.{div_below}
 use Rattle.s2_minsum.specs.Plain.{is_edge, posterior}
-use Rattle.s2_minsum.specs.Words.{signed16, is_lacking}
+use Rattle.s2_bits.specs.Lanes16.{signed16}
+use Rattle.s2_minsum.specs.Rows.{is_lacking}
 use Rattle.s2_minsum.specs.Layout.{row_of_bit, lane_of_bit, bit_of, last_check, forth, back, entry_of, place_at, message_of, state_of, lacked_row}
 use Rattle.s2_minsum.proofs.Places
 use Rattle.s2_minsum.proofs.Columns.{found, member_below, member_has, lacks, present, place_in}

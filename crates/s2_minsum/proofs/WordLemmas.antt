@@ -1,21 +1,17 @@
 -- What words of 16 bits say of the numbers that they stand for.
-use Rattle.std.proofs.Common.{◌≡◌, ℕ, zero, suc, ◌+◌, ◌-◌, ◌%◌, ◌<◌, ◌≤◌, ◌==◌, min, max, nat_le, cond, Bool, true, false, ℤ, pos, neg_ℤ, ◌+ℤ◌, ◌-ℤ◌, int_lt, unsigned_abs, refl, ap, sym, ◌∙◌, inl, inr, arith, lt-ltb, le-ltb, bit_xor}
+use Rattle.std.proofs.Common.{◌≡◌, ℕ, zero, suc, ◌+◌, ◌-◌, ◌%◌, ◌<◌, ◌≤◌, ◌==◌, min, max, nat_le, cond, Bool, true, false, ℤ, pos, neg_ℤ, ◌+ℤ◌, ◌-ℤ◌, int_lt, unsigned_abs, refl, ap, sym, ◌∙◌, inl, inr, arith, le-ltb, bit_xor}
 use Rattle.std.proofs.lemmas.Int.{ints, int_wrap_fits, fits_signed_from_abs, wrapping_sub-bits, wrapping_add-bits}
-use Rattle.std.proofs.lemmas.Bool.{cases_lt, cases_eq}
+use Rattle.std.proofs.lemmas.Bool.{cases_lt}
 use Rattle.std.proofs.lemmas.Bool.Decides.{nat_tests}
 use Rattle.std.proofs.lemmas.Nat.Bits.{bit_at_xor}
 use Rattle.std.proofs.lemmas.Nat.{xor_of_16}
 use mir.Syntax.{w16}
 use Rattle.s2_minsum.specs.Plain.{with_sign, reduced}
-use Rattle.s2_minsum.specs.Words.{signed16, minus16, plus16, size16, sign16, sent16}
+use Rattle.s2_bits.proofs.Words16.{word_low, word_high, negative_word}
+use Rattle.s2_bits.specs.Lanes16.{signed16, minus16, plus16, size16, sign16}
+use Rattle.s2_minsum.specs.Rows.{sent16}
 use Rattle.s2_minsum.proofs.Nodes.{least_is, least_but_small, negatives_are}
 use Rattle.s2_minsum.specs.Nodes.{first_of, second_of, negatives_of, negatives_but, least_but, signs_of, sizes, sent}
-
-pub word_low : (v : ℕ) → v < 32768 → signed16 v ≡ pos v
-word_low v low = let test = lt-ltb v 32768 low in rw test refl
-
-pub word_high : (v : ℕ) → 32768 ≤ v → v < 65536 → signed16 v ≡ neg_ℤ (pos (65536 - v))
-word_high v high low = let test = le-ltb v 32768 high in rw test (omega (arith, ints))
 
 pub word_minus : (a b : ℕ) → a < 65536 → b < 65536 → unsigned_abs (signed16 a -ℤ signed16 b) < 32768 → signed16 (minus16 a b) ≡ signed16 a -ℤ signed16 b
 word_minus a b low low' small = wrapping_sub-bits w16 a b low low' ∙ int_wrap_fits w16 (signed16 a -ℤ signed16 b) (fits_signed_from_abs w16 (signed16 a -ℤ signed16 b) small)
@@ -70,13 +66,7 @@ even_out a b o is = omega arith
 
 signed : (negative : Bool) (m : ℕ) → m < 32768 → signed16 (cond negative (minus16 0 m) m) ≡ with_sign negative m
 signed false m small = word_low m small
-signed true m small = elim (cases_eq m 0) [
-  | inl none ↦ rw none refl
-  | inr some ↦ (
-      let is : minus16 0 m ≡ 65536 - m = omega arith in
-      ap signed16 is ∙ word_high (65536 - m) (omega arith) (omega arith) ∙ (let e : 65536 - (65536 - m) ≡ m = omega arith in ap (λ x. neg_ℤ (pos x)) e)
-      )
-]
+signed true m small = negative_word m small
 
 -- the message of a member, by words
 module _ (g : ℕ → ℕ) (f : ℕ → ℤ) (n : ℕ) (fits : (k : ℕ) → k < n → g k < 65536) (is : (k : ℕ) → k < n → signed16 (g k) ≡ f k) where

@@ -7,7 +7,8 @@ use Rattle.s2_matrix.specs.Code.{code_of, members, checks_of}
 use Rattle.s2_minsum.specs.declared.rows.Entry.{Entry}
 use Rattle.s2_mode.specs.Limits.{most_soft}
 use Rattle.s2_minsum.specs.Plain.{most_message, State, posterior}
-use Rattle.s2_minsum.specs.Words.{signed16, cell, entry_at}
+use Rattle.s2_bits.specs.Lanes16.{signed16}
+use Rattle.s2_minsum.specs.Rows.{cell, entry_at}
 use Rattle.s2_minsum.specs.Layout.{row_of_bit, lane_of_bit, bit_of, last_check, entry_of, entry_count, first_row, kept_of, state_of}
 
 -- what a decoder shows: its rows, the soft values, and the messages as it keeps them

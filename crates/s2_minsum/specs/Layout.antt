@@ -6,7 +6,8 @@ use Rattle.s2_rows.specs.Rows.{Rows}
 use Rattle.s2_matrix.specs.Code.{code_of, members}
 use Rattle.s2_minsum.specs.declared.rows.Entry.{Entry}
 use Rattle.s2_minsum.specs.Plain.{State, is_edge}
-use Rattle.s2_minsum.specs.Words.{signed16, cell}
+use Rattle.s2_bits.specs.Lanes16.{signed16}
+use Rattle.s2_minsum.specs.Rows.{cell}
 use Rattle.s2_matrix.specs.Total.{upto}
 
 -- the row of a bit: information bits by groups, parity bit r + q c in plane r

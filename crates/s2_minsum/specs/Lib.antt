@@ -1,7 +1,6 @@
 pub mod Plain
 pub mod Laws
-pub mod Words
-pub mod Lanes
+pub mod Rows
 pub mod Nodes
 pub mod Layout
 pub mod Decoding

@@ -1,7 +1,7 @@
 //! The one member that a layer's first check can lack.
 ghost use Rattle.std.specs.Prelude.{◌≡◌, ℕ, ◌≤◌, ◌<◌, ◌+◌, ◌*◌, ◌==◌, ◌&&◌, if◌then◌else◌, length, slice_index_or};
 ghost use Rattle.s2_mode.specs.Limits.{most_group};
-ghost use Rattle.s2_minsum.specs.Words.{entry_at, is_lacking};
+ghost use Rattle.s2_minsum.specs.Rows.{entry_at, is_lacking};
 
 use crate::rows::Entry;
 

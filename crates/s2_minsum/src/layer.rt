@@ -1,7 +1,8 @@
 //! The rule over the rows of one layer: all checks of the layer at once, one check a lane.
 ghost use Rattle.std.specs.Prelude.{◌≡◌, ℕ, ◌≤◌, ◌<◌, ◌+◌, ◌*◌, ◌==◌, ◌&&◌, if◌then◌else◌, length, slice_index, EachIndex};
 ghost use Rattle.s2_mode.specs.Limits.{most_bits, most_group};
-ghost use Rattle.s2_minsum.specs.Words.{turned, minus16, sent16, size16, cell, entry_at, AreIn, changed, is_lacking, received, change_of};
+ghost use Rattle.s2_bits.specs.Lanes16.{minus16, size16};
+ghost use Rattle.s2_minsum.specs.Rows.{turned, sent16, cell, entry_at, AreIn, changed, is_lacking, received, change_of};
 ghost use Rattle.s2_minsum.specs.Nodes.{first_of, second_of, signs_of};
 
 use crate::lacking::mask_lacking;

@@ -2,7 +2,8 @@
 ghost use Rattle.std.specs.Prelude.{◌≡◌, ℕ, ◌+◌, ◌*◌, ◌<◌, ◌≤◌, length, slice_index, get_or, pos, EachIndex};
 ghost use Rattle.s2_mode.specs.Limits.{most_bits, most_group};
 ghost use Rattle.s2_mode.specs.Shape.{code_bits};
-ghost use Rattle.s2_minsum.specs.Words.{signed16, cell};
+ghost use Rattle.s2_bits.specs.Lanes16.{signed16};
+ghost use Rattle.s2_minsum.specs.Rows.{cell};
 ghost use Rattle.s2_minsum.specs.Layout.{bit_of};
 
 use crate::layout::{first_bit, step_of};

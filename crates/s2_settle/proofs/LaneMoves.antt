@@ -7,7 +7,7 @@ use Rattle.std.proofs.lemmas.Int.{ints}
 use Rattle.s2_matrix.proofs.Members.{place_in_filter}
 use Rattle.s2_minsum.specs.Plain.{others}
 use Rattle.s2_minsum.proofs.Columns.{found}
-use Rattle.s2_settle.specs.Words.{gap}
+use Rattle.s2_settle.specs.Rests.{gap}
 use Rattle.s2_settle.specs.Nodes.{first_of, second_of, least_at}
 use Rattle.s2_settle.specs.Plain.{least_of, half_gap, amount_to}
 use Rattle.s2_settle.proofs.Least.{first_le, first_at, second_le, second_at}

@@ -11,7 +11,7 @@ use Rattle.s2_matrix.specs.Total.{total, upto}
 use Rattle.s2_matrix.specs.Code.{code_of, members, checks_of, is_member}
 use Rattle.s2_matrix.proofs.Totals.{total-same, total-zero, total-filter}
 use Rattle.s2_minsum.specs.Plain.{State, is_edge, posterior}
-use Rattle.s2_minsum.specs.Words.{is_lacking}
+use Rattle.s2_minsum.specs.Rows.{is_lacking}
 use Rattle.s2_minsum.specs.Layout.{row_of_bit, lane_of_bit, last_check, forth, back, entry_of, entry_count, place_at, lacked_row}
 use Rattle.s2_minsum.proofs.Places
 use Rattle.s2_minsum.proofs.Columns.{member_below, member_has, lacks, present, place_in}

@@ -12,12 +12,13 @@ use Rattle.s2_matrix.specs.Total.{upto}
 use Rattle.s2_matrix.proofs.Totals.{upto_more}
 use Rattle.s2_matrix.specs.Code.{code_of, members}
 use Rattle.s2_minsum.specs.declared.rows.Entry.{Entry}
-use Rattle.s2_minsum.specs.Words.{no_entry, entry_at, is_lacking}
+use Rattle.s2_minsum.specs.Rows.{no_entry, entry_at, is_lacking}
 use Rattle.s2_minsum.specs.Layout.{last_check, entry_of, entry_count, first_row, lacked_row}
 use Rattle.s2_minsum.specs.Decoding.{AreLayers}
 use Rattle.s2_minsum.proofs.LayerCalls.{entries_part, length-entries_part}
 use Rattle.s2_minsum.proofs.Parts.{row_before, put_mid_below, put_mid_at, put_mid_above, length-put_mid}
-use Rattle.s2_settle.specs.Words.{received, change, changed, gap, plus32}
+use Rattle.s2_bits.specs.Lanes32.{plus32}
+use Rattle.s2_settle.specs.Rests.{received, change, changed, gap}
 use Rattle.s2_settle.specs.Nodes.{first_of, second_of, least_at}
 use Rattle.s2_settle.specs.Layer.{Held, held, AreLong, entries_of, of_layer, with_layer, new_target, new_amount, change_in, layer}
 use Rattle.s2_minsum.proofs.Sames.{changed-same}

@@ -1,7 +1,7 @@
 -- The least number and the least of the others, and where the least stands.
 use Rattle.std.proofs.Common.{◌≡◌, ◌≢◌, ℕ, zero, suc, ◌<◌, ◌≤◌, min, cond, eq-eqb, ne_eqb, ap, sym, ◌∙◌, inl, inr, arith}
 use Rattle.std.proofs.lemmas.Bool.{cases_lt, cases_eq}
-use Rattle.s2_settle.specs.Words.{seen_at}
+use Rattle.s2_settle.specs.Rests.{seen_at}
 use Rattle.s2_settle.specs.Nodes.{first_of, second_of, least_at}
 
 stays : (at first x e : ℕ) → first ≤ x → seen_at at first x e ≡ at

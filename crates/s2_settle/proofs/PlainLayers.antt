@@ -11,12 +11,13 @@ use Rattle.s2_matrix.specs.Code.{code_of, members, checks_of}
 use Rattle.s2_matrix.proofs.Totals.{total-same, total-add}
 use Rattle.s2_minsum.specs.declared.rows.Entry.{Entry}
 use Rattle.s2_minsum.specs.Plain.{others}
-use Rattle.s2_minsum.specs.Words.{is_lacking}
+use Rattle.s2_minsum.specs.Rows.{is_lacking}
 use Rattle.s2_minsum.specs.Layout.{row_of_bit, lane_of_bit, forth, entry_of, entry_count, lacked_row}
 use Rattle.s2_minsum.proofs.Places
 use Rattle.s2_minsum.proofs.StepStates
 use Rattle.s2_minsum.proofs.StepStates.{of_lane, lane_small, stands}
-use Rattle.s2_settle.specs.Words.{plus32, change, changed}
+use Rattle.s2_bits.specs.Lanes32.{plus32}
+use Rattle.s2_settle.specs.Rests.{change, changed}
 use Rattle.s2_settle.specs.Plain.{State, raise, rest, input, least_of, amount_to, new_target as to_target, new_amount as to_amount, layer as layer_of_checks}
 use Rattle.s2_settle.specs.Layer.{Held, entries_of, with_layer, new_target, new_amount, change_in, layer as layer_of_rows}
 use Rattle.s2_settle.specs.Placing.{shown, place_of_check}

@@ -24,7 +24,7 @@ use Rattle.s2_mode.specs.Limits.{most_soft}
 use Rattle.s2_minsum.specs.Layout.{row_of_bit, lane_of_bit, bit_of}
 use Rattle.s2_minsum.proofs.Places
 use Rattle.s2_minsum.proofs.Orders.{Within, sum_within}
-use Rattle.s2_settle.specs.Words.{zero_rest}
+use Rattle.s2_settle.specs.Rests.{zero_rest}
 use Rattle.s2_settle.specs.Plain.{settling_scale, State, raise, rest, reserve_in, is_hopeless}
 use Rattle.s2_settle.specs.Plain as plain
 use Rattle.s2_settle.specs.Layer.{Held, layer}

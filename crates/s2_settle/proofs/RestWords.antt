@@ -1,7 +1,8 @@
 -- What words of 32 bits say of the rests that they stand for.
 use Rattle.std.proofs.Common.{◌≡◌, ℕ, ◌+◌, ◌-◌, ◌/◌, ◌%◌, ◌<◌, ◌≤◌, min, max, Bool, true, false, cond, ℤ, pos, neg_ℤ, ◌+ℤ◌, ◌-ℤ◌, ◌≤ℤ◌, ◌<ℤ◌, int_lt, unsigned_abs, ap, sym, ◌∙◌, arith}
 use Rattle.std.proofs.lemmas.Int.{ints, by_lt_z}
-use Rattle.s2_settle.specs.Words.{minus32, plus32, gap}
+use Rattle.s2_bits.specs.Lanes32.{minus32, plus32}
+use Rattle.s2_settle.specs.Rests.{gap}
 use Rattle.s2_settle.specs.Plain.{half_gap}
 
 pub less_is : (a b : ℤ) → a <ℤ b → int_lt a b ≡ true

@@ -7,7 +7,7 @@ use Rattle.s2_mode.specs.Shape.{Shape, IsShape, check_count}
 use Rattle.s2_matrix.proofs.Joins.{div_below}
 use Rattle.s2_matrix.specs.Code.{code_of, members}
 use Rattle.s2_minsum.specs.declared.rows.Entry.{Entry}
-use Rattle.s2_minsum.specs.Words.{no_entry, entry_at, turned}
+use Rattle.s2_minsum.specs.Rows.{no_entry, entry_at, turned}
 use Rattle.s2_minsum.specs.Layout.{last_check, entry_of, entry_count, first_row, bit_of}
 use Rattle.s2_minsum.specs.Decoding.{AreLayers}
 use Rattle.s2_minsum.proofs.Places

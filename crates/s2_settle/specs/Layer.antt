@@ -5,9 +5,9 @@ use Rattle.s2_rows.specs.Rows.{Rows}
 use Rattle.s2_matrix.specs.Total.{upto}
 use Rattle.s2_matrix.specs.Code.{code_of, members}
 use Rattle.s2_minsum.specs.declared.rows.Entry.{Entry}
-use Rattle.s2_minsum.specs.Words.{entry_at, is_lacking}
+use Rattle.s2_minsum.specs.Rows.{entry_at, is_lacking}
 use Rattle.s2_minsum.specs.Layout.{entry_of, last_check, lacked_row}
-use Rattle.s2_settle.specs.Words.{change, changed, gap, received}
+use Rattle.s2_settle.specs.Rests.{change, changed, gap, received}
 use Rattle.s2_settle.specs.Nodes.{first_of, second_of, least_at}
 
 -- the rest of each place, and of each check, layer by layer, the entry of its target and its amount

@@ -1,6 +1,6 @@
 pub mod Plain
 pub mod Settled
-pub mod Words
+pub mod Rests
 pub mod Nodes
 pub mod Layer
 pub mod Passes

@@ -1,7 +1,7 @@
 -- One check by places: its least number, the least of the others, and where the least stands.
 use Rattle.std.specs.Prelude.{ℕ, zero, suc}
 use Rattle.s2_minsum.specs.Nodes.{least_from, next_from}
-use Rattle.s2_settle.specs.Words.{no_rest, seen_at}
+use Rattle.s2_settle.specs.Rests.{no_rest, seen_at}
 
 abbrev pub first_of : (ℕ → ℕ) → ℕ → ℕ
 first_of = least_from no_rest

@@ -3,7 +3,7 @@ use Rattle.std.specs.Prelude.{◌≡◌, ℕ, zero, suc, ◌+◌, ◌%◌, ◌==
 use Rattle.s2_rows.specs.Rows.{Rows}
 use Rattle.s2_matrix.specs.Total.{upto}
 pub use Rattle.s2_settle.specs.Plain.{reserve_in, passes_between, is_hopeless}
-use Rattle.s2_settle.specs.Words.{zero_rest}
+use Rattle.s2_settle.specs.Rests.{zero_rest}
 use Rattle.s2_settle.specs.Layer.{Held, layer}
 
 -- layers 0 to q - 1 in order

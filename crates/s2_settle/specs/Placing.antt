@@ -6,7 +6,7 @@ use Rattle.s2_matrix.specs.Total.{upto}
 use Rattle.s2_matrix.specs.Code.{code_of, members}
 use Rattle.s2_check.specs.Views.{View}
 use Rattle.s2_check.specs.declared.step.Move.{Move}
-use Rattle.s2_minsum.specs.Words.{turned, entry_at}
+use Rattle.s2_minsum.specs.Rows.{turned, entry_at}
 use Rattle.s2_minsum.specs.Layout.{bit_of}
 use Rattle.s2_settle.specs.Plain.{most_moved}
 use Rattle.s2_settle.specs.Layer.{Held, entries_of}

@@ -5,9 +5,9 @@ use Rattle.s2_rows.specs.Limits.{most_addresses}
 use Rattle.s2_rows.specs.Rows.{Rows}
 use Rattle.s2_matrix.specs.Code.{code_of, checks_of}
 use Rattle.s2_mode.specs.Limits.{most_soft}
-use Rattle.s2_minsum.specs.Words.{cell}
+use Rattle.s2_minsum.specs.Rows.{cell}
 use Rattle.s2_minsum.specs.Layout.{row_of_bit, lane_of_bit, entry_count}
-use Rattle.s2_settle.specs.Words.{zero_rest}
+use Rattle.s2_settle.specs.Rests.{zero_rest}
 use Rattle.s2_settle.specs.Plain.{settling_scale, most_moved, State, rest}
 use Rattle.s2_settle.specs.Layer.{Held, AreLong}
 use Rattle.s2_settle.specs.Placing.{shown, place_of_check}

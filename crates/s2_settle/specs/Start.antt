@@ -7,7 +7,7 @@ use Rattle.s2_matrix.specs.Total.{upto}
 use Rattle.s2_check.specs.Cost.{value_at}
 use Rattle.s2_minsum.specs.Layout.{bit_of}
 pub use Rattle.s2_settle.specs.Plain.{settling_scale}
-use Rattle.s2_settle.specs.Words.{zero_rest}
+use Rattle.s2_settle.specs.Rests.{zero_rest}
 use Rattle.s2_settle.specs.Layer.{Held}
 
 -- whether the hard decision differs from the word

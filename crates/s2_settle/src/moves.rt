@@ -3,7 +3,7 @@ ghost use Rattle.std.specs.Prelude.{◌≡◌, ℕ, ◌≤◌, ◌<◌, ◌+◌,
 ghost use Rattle.s2_mode.specs.Limits.{most_bits};
 ghost use Rattle.s2_mode.specs.Shape.{code_bits};
 ghost use Rattle.s2_matrix.specs.Code.{code_of};
-ghost use Rattle.s2_minsum.specs.Words.{turned};
+ghost use Rattle.s2_minsum.specs.Rows.{turned};
 ghost use Rattle.s2_minsum.specs.Layout.{bit_of};
 ghost use Rattle.s2_minsum.specs.Decoding.{AreLayers};
 ghost use Rattle.s2_settle.specs.Settled.{move_to};

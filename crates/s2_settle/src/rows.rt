@@ -1,24 +1,26 @@
 //! One row of a layer: a word in each lane.
 ghost use Rattle.std.specs.Prelude.{◌≡◌, ◌≤◌, ◌<◌, ◌+◌, ◌-◌, ◌*◌, ◌/◌, ◌==◌, if◌then◌else◌, min, max, length, slice_index, EachIndex};
 ghost use Rattle.s2_mode.specs.Limits.{most_group};
-ghost use Rattle.s2_minsum.specs.Lanes.{DoneTo};
-ghost use Rattle.s2_minsum.specs.Words.{turned, turned_back};
-ghost use Rattle.s2_settle.specs.Words.{minus32, plus32, given, gap, change, seen_at};
+ghost use Rattle.s2_bits.specs.Bits.{Rewritten};
+ghost use Rattle.s2_bits.specs.Lanes32.{minus32, plus32};
+ghost use Rattle.s2_minsum.specs.Rows.{turned, turned_back};
+ghost use Rattle.s2_settle.specs.Rests.{given, gap, change, seen_at};
 
 use crate::lanes;
 use crate::lanes::load;
 use crate::limits::MOST_MOVED;
+use s2_bits::lanes32;
 use std::simd::prelude::*;
 
 /// Adds the whole vectors of a row to those of a row.
 fn sum_blocks_into(to: &mut [u32], from: &[u32])
     requires { length from.now ≡ length to.old }
-    ensures { DoneTo 0 (length to.old / 4 * 4) (λ k. plus32 (slice_index to.old k) (slice_index from.now k)) to.old to.new }
+    ensures { Rewritten 0 (length to.old / 4 * 4) (λ k. plus32 (slice_index to.old k) (slice_index from.now k)) to.old to.new }
 {
     let n = to.len();
     for block in 0..n / 4 {
         let at = 4 * block;
-        lanes::plus(load(to, at), load(from, at)).copy_to_slice(&mut to[at..]);
+        lanes32::plus(load(to, at), load(from, at)).copy_to_slice(&mut to[at..]);
     }
 }
 
@@ -52,10 +54,10 @@ fn give_blocks(to: &mut [u32], rests: &[u32], targets: &[u32], amounts: &[u32], 
     requires same_rests { length rests.now ≡ length to.old }
     requires same_targets { length targets.now ≡ length to.old }
     requires same_amounts { length amounts.now ≡ length to.old }
-    ensures { DoneTo 0 (length to.old / 4 * 4) (λ k. given (slice_index rests.now k) (slice_index targets.now k) (slice_index amounts.now k) e) to.old to.new }
+    ensures { Rewritten 0 (length to.old / 4 * 4) (λ k. given (slice_index rests.now k) (slice_index targets.now k) (slice_index amounts.now k) e) to.old to.new }
 {
     let n = to.len();
-    let es = lanes::all(e);
+    let es = lanes32::all(e);
     for block in 0..n / 4 {
         let at = 4 * block;
         lanes::given(load(rests, at), load(targets, at), load(amounts, at), es).copy_to_slice(
@@ -111,19 +113,19 @@ fn track_blocks(first: &mut [u32], second: &mut [u32], places: &mut [u32], input
     requires same_first { length first.old ≡ length input.now }
     requires same_second { length second.old ≡ length input.now }
     requires same_places { length places.old ≡ length input.now }
-    ensures first { DoneTo 0 (length input.now / 4 * 4) (λ k. min (slice_index first.old k) (slice_index input.now k)) first.old first.new }
-    ensures second { DoneTo 0 (length input.now / 4 * 4) (λ k. min (slice_index second.old k) (max (slice_index first.old k) (slice_index input.now k))) second.old second.new }
-    ensures places { DoneTo 0 (length input.now / 4 * 4) (λ k. seen_at (slice_index places.old k) (slice_index first.old k) (slice_index input.now k) e) places.old places.new }
+    ensures first { Rewritten 0 (length input.now / 4 * 4) (λ k. min (slice_index first.old k) (slice_index input.now k)) first.old first.new }
+    ensures second { Rewritten 0 (length input.now / 4 * 4) (λ k. min (slice_index second.old k) (max (slice_index first.old k) (slice_index input.now k))) second.old second.new }
+    ensures places { Rewritten 0 (length input.now / 4 * 4) (λ k. seen_at (slice_index places.old k) (slice_index first.old k) (slice_index input.now k) e) places.old places.new }
 {
     let n = input.len();
-    let es = lanes::all(e);
+    let es = lanes32::all(e);
     for block in 0..n / 4 {
         let at = 4 * block;
         let v = load(input, at);
         let before = load(first, at);
-        let next = lanes::least(load(second, at), lanes::most(before, v));
-        let lower = lanes::least(before, v);
-        let place = lanes::where_same(lower, before, load(places, at), es);
+        let next = lanes32::least(load(second, at), lanes32::most(before, v));
+        let lower = lanes32::least(before, v);
+        let place = lanes32::where_same(lower, before, load(places, at), es);
         next.copy_to_slice(&mut second[at..]);
         lower.copy_to_slice(&mut first[at..]);
         place.copy_to_slice(&mut places[at..]);
@@ -161,10 +163,10 @@ pub(crate) fn track(
 /// Writes the whole vectors of what is moved in place of the least of the others.
 fn take_gap_blocks(first: &[u32], second: &mut [u32], reserve: u32)
     requires { length first.now ≡ length second.old }
-    ensures { DoneTo 0 (length second.old / 4 * 4) (λ k. gap reserve (slice_index first.now k) (slice_index second.old k)) second.old second.new }
+    ensures { Rewritten 0 (length second.old / 4 * 4) (λ k. gap reserve (slice_index first.now k) (slice_index second.old k)) second.old second.new }
 {
     let n = second.len();
-    let held = lanes::all(reserve);
+    let held = lanes32::all(reserve);
     for block in 0..n / 4 {
         let at = 4 * block;
         lanes::gap(held, load(first, at), load(second, at)).copy_to_slice(&mut second[at..]);
@@ -208,10 +210,10 @@ fn give_change_blocks(
     requires same_old_amounts { length old_amounts.now ≡ length changes.old }
     requires same_targets { length targets.now ≡ length changes.old }
     requires same_amounts { length amounts.now ≡ length changes.old }
-    ensures { DoneTo 0 (length changes.old / 4 * 4) (λ k. change (slice_index old_targets.now k) (slice_index old_amounts.now k) (slice_index targets.now k) (slice_index amounts.now k) e) changes.old changes.new }
+    ensures { Rewritten 0 (length changes.old / 4 * 4) (λ k. change (slice_index old_targets.now k) (slice_index old_amounts.now k) (slice_index targets.now k) (slice_index amounts.now k) e) changes.old changes.new }
 {
     let n = changes.len();
-    let es = lanes::all(e);
+    let es = lanes32::all(e);
     for block in 0..n / 4 {
         let at = 4 * block;
         lanes::change(

@@ -1,10 +1,12 @@
 -- Components of symbols one after another.
 use Rattle.std.proofs.Common.{◌≡◌, ℕ, ◌+◌, ◌*◌, ◌/◌, ◌%◌, ◌<◌, suc, zero, List, [], ◌∷◌, get_or, ℤ, pos, refl, ap, sym, ◌∙◌, arith, w16}
-use Rattle.std.specs.Int.{cast_signed, cast_unsigned}
+use Rattle.std.specs.Int.{cast_unsigned}
 use Rattle.std.proofs.lemmas.Int.{to_z-of_z}
 use Rattle.s2_mode.specs.declared.symbols.Symbol.{Symbol}
 use Rattle.s2_mode.specs.Symbols.{symbol_at}
-use Rattle.s2_soft.specs.Lanes.{lane, signed, component_at}
+use Rattle.s2_bits.specs.Lanes.{lane}
+use Rattle.s2_bits.specs.Lanes16.{signed16}
+use Rattle.s2_soft.specs.Lanes.{component_at}
 use mir.Val.{SFits}
 
 even : (payload : List Symbol) (b : ℕ) → b % 2 ≡ 0 → component_at payload b ≡ (symbol_at payload (b / 2)).i
@@ -37,14 +39,14 @@ by_eight P a b c d e f g h (suc (suc (suc (suc (suc (suc zero)))))) lt = g
 by_eight P a b c d e f g h (suc (suc (suc (suc (suc (suc (suc zero))))))) lt = h
 by_eight P a b c d e f g h (suc (suc (suc (suc (suc (suc (suc (suc k)))))))) lt = absurd (omega (arith, lt))
 
-pub eight_words : (f : ℕ → ℤ) (a b c d e g h i : ℕ) → signed a ≡ f 0 → signed b ≡ f 1 → signed c ≡ f 2 → signed d ≡ f 3 → signed e ≡ f 4 → signed g ≡ f 5 → signed h ≡ f 6 → signed i ≡ f 7
-    → (k : ℕ) → k < 8 → signed (lane (a ∷ b ∷ c ∷ d ∷ e ∷ g ∷ h ∷ i ∷ []) k) ≡ f k
-eight_words f a b c d e g h i = by_eight (λ k. signed (lane (a ∷ b ∷ c ∷ d ∷ e ∷ g ∷ h ∷ i ∷ []) k) ≡ f k)
+pub eight_words : (f : ℕ → ℤ) (a b c d e g h i : ℕ) → signed16 a ≡ f 0 → signed16 b ≡ f 1 → signed16 c ≡ f 2 → signed16 d ≡ f 3 → signed16 e ≡ f 4 → signed16 g ≡ f 5 → signed16 h ≡ f 6 → signed16 i ≡ f 7
+    → (k : ℕ) → k < 8 → signed16 (lane (a ∷ b ∷ c ∷ d ∷ e ∷ g ∷ h ∷ i ∷ []) k) ≡ f k
+eight_words f a b c d e g h i = by_eight (λ k. signed16 (lane (a ∷ b ∷ c ∷ d ∷ e ∷ g ∷ h ∷ i ∷ []) k) ≡ f k)
 
 pub eight_values : (f : ℕ → ℤ) (a b c d e g h i : ℤ) → a ≡ f 0 → b ≡ f 1 → c ≡ f 2 → d ≡ f 3 → e ≡ f 4 → g ≡ f 5 → h ≡ f 6 → i ≡ f 7
     → (k : ℕ) → k < 8 → get_or (a ∷ b ∷ c ∷ d ∷ e ∷ g ∷ h ∷ i ∷ []) k (pos 0) ≡ f k
 eight_values f a b c d e g h i = by_eight (λ k. get_or (a ∷ b ∷ c ∷ d ∷ e ∷ g ∷ h ∷ i ∷ []) k (pos 0) ≡ f k)
 
 -- the word of a component
-pub word_of : (z y : ℤ) → SFits w16 z → y ≡ z → signed (cast_unsigned w16 z) ≡ y
+pub word_of : (z y : ℤ) → SFits w16 z → y ≡ z → signed16 (cast_unsigned w16 z) ≡ y
 word_of z y fits same = to_z-of_z w16 z fits ∙ sym same

@@ -3,13 +3,15 @@ use Rattle.std.proofs.Common.{◌≡◌, ◌≢◌, ℕ, ◌+◌, ◌-◌, ◌/�
 use Rattle.std.specs.Int.{int_max}
 use Rattle.std.proofs.lemmas.Bool.{cases_lt, eq-eqb, ne_eqb}
 use Rattle.std.proofs.lemmas.Int.{ints, clamps}
+use Rattle.s2_bits.specs.Lanes16.{signed16, minus16}
+use Rattle.s2_bits.specs.Lanes32.{plus32, minus32}
+use Rattle.s2_bits.proofs.Words16.{word_low, negative_word}
 use Rattle.s2_mode.specs.Limits.{most_soft}
 use Rattle.s2_soft.specs.Constants.{divisor}
 use Rattle.s2_soft.specs.Soft.{quantized}
-use Rattle.s2_soft.specs.Lanes.{signed, minus16, number, plus32, minus32, times32, size32}
+use Rattle.s2_soft.specs.Lanes.{number, times32, size32}
 use Rattle.s2_soft.specs.Closed.{along, across, axis, nearest, IsInner, IsNearest, first_difference, second_difference, third_difference}
 use Rattle.s2_soft.proofs.Sizes.{along_inner, across_inner, axis_inner, neg_inner, nearest_is}
-use Rattle.s2_soft.proofs.Words.{word_low, negative_word}
 use mir.Val.{SFits}
 
 number_low : (v : ℕ) → v < 2147483648 → number v ≡ pos v
@@ -216,15 +218,15 @@ positive_soft d = omega (arith, ints, clamps)
 negative_soft : (d : ℕ) → neg_ℤ (pos (min (d / divisor) most_soft)) ≡ quantized (neg_ℤ (pos d))
 negative_soft d = omega (arith, ints, clamps)
 
-pub soft_word_is : (d : ℕ) → d < 4294967296 → signed (soft_word d) ≡ quantized (number d)
+pub soft_word_is : (d : ℕ) → d < 4294967296 → signed16 (soft_word d) ≡ quantized (number d)
 soft_word_is d fits = elim (cases_lt d 2147483648) [
   | inl lt ↦ (
       let plain : d / 2147483648 ≢ 1 = omega arith in
       let test : eqb (d / 2147483648) 1 ≡ false = ne_eqb (d / 2147483648) 1 plain in
       let size : size32 d ≡ d = omega arith in
       let small : soft_size d % 65536 ≡ soft_size d = omega arith in
-      ap (λ b. signed (cond b (minus32 65536 (soft_size d)) (soft_size d) % 65536)) test
-      ∙ ap signed small
+      ap (λ b. signed16 (cond b (minus32 65536 (soft_size d)) (soft_size d) % 65536)) test
+      ∙ ap signed16 small
       ∙ word_low (soft_size d) (omega arith)
       ∙ ap (λ s. pos (min (s / divisor) most_soft)) size
       ∙ positive_soft d
@@ -235,8 +237,8 @@ soft_word_is d fits = elim (cases_lt d 2147483648) [
       let test : eqb (d / 2147483648) 1 ≡ true = eq-eqb (d / 2147483648) 1 one in
       let size : size32 d ≡ 4294967296 - d = omega arith in
       let word : minus32 65536 (soft_size d) % 65536 ≡ minus16 0 (soft_size d) = omega arith in
-      ap (λ b. signed (cond b (minus32 65536 (soft_size d)) (soft_size d) % 65536)) test
-      ∙ ap signed word
+      ap (λ b. signed16 (cond b (minus32 65536 (soft_size d)) (soft_size d) % 65536)) test
+      ∙ ap signed16 word
       ∙ negative_word (soft_size d) (omega arith)
       ∙ ap (λ s. neg_ℤ (pos (min (s / divisor) most_soft))) size
       ∙ negative_soft (4294967296 - d)

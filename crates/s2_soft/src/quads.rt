@@ -1,12 +1,15 @@
 //! Soft values of 8PSK, four symbols at a time. Lanes hold words of 32 bits in two's complement.
-ghost use Rattle.std.specs.Prelude.{◌≡◌, ℕ, ◌+◌, ◌*◌, ◌/◌, ◌%◌, ◌<◌, ◌≤◌, ◌==◌, min, max, length, if◌then◌else◌};
+ghost use Rattle.std.specs.Prelude.{◌≡◌, ℕ, ◌+◌, ◌*◌, ◌/◌, ◌%◌, ◌<◌, ◌≤◌, length};
+ghost use Rattle.s2_bits.specs.Lanes.{HasLanes, lane};
+ghost use Rattle.s2_bits.specs.Lanes16.{signed16};
 ghost use Rattle.s2_mode.specs.Symbols.{symbol_at};
 ghost use Rattle.s2_soft.specs.Soft.{quantized, value_at};
 ghost use Rattle.s2_soft.specs.Closed.{first_difference, second_difference, third_difference};
-ghost use Rattle.s2_soft.specs.Lanes.{HasFour, AreComponents, lane, signed, number, plus32, minus32, times32, size32};
+ghost use Rattle.s2_soft.specs.Lanes.{AreComponents, number, times32, size32};
 
 use crate::constants::DIVISOR;
 use crate::values::{BETWEEN, LONGER, ON_AXIS};
+use s2_bits::lanes32::{all, least, minus, most, plus, where_same};
 use s2_mode::{MOST_SOFT, Symbol};
 use std::simd::prelude::*;
 
@@ -14,43 +17,8 @@ use std::simd::prelude::*;
 const RAISED: u32 = 1 << 27;
 
 #[inline(always)]
-fn all(x: u32) -> u32x4
-    ensures { HasFour (λ k. x) result }
-{
-    u32x4::splat(x)
-}
-
-#[inline(always)]
-fn least(a: u32x4, b: u32x4) -> u32x4
-    ensures { HasFour (λ k. min (lane a k) (lane b k)) result }
-{
-    a.simd_min(b)
-}
-
-#[inline(always)]
-fn most(a: u32x4, b: u32x4) -> u32x4
-    ensures { HasFour (λ k. max (lane a k) (lane b k)) result }
-{
-    a.simd_max(b)
-}
-
-#[inline(always)]
-fn plus(a: u32x4, b: u32x4) -> u32x4
-    ensures { HasFour (λ k. plus32 (lane a k) (lane b k)) result }
-{
-    a + b
-}
-
-#[inline(always)]
-fn minus(a: u32x4, b: u32x4) -> u32x4
-    ensures { HasFour (λ k. minus32 (lane a k) (lane b k)) result }
-{
-    a - b
-}
-
-#[inline(always)]
 fn times(a: u32x4, b: u32x4) -> u32x4
-    ensures { HasFour (λ k. times32 (lane a k) (lane b k)) result }
+    ensures { HasLanes 4 (λ k. times32 (lane a k) (lane b k)) result }
 {
     a * b
 }
@@ -59,7 +27,7 @@ fn times(a: u32x4, b: u32x4) -> u32x4
 #[inline(always)]
 fn quotient(a: u32x4, by: u32) -> u32x4
     requires { 0 < by }
-    ensures { HasFour (λ k. lane a k / by) result }
+    ensures { HasLanes 4 (λ k. lane a k / by) result }
 {
     a / u32x4::splat(by)
 }
@@ -67,23 +35,15 @@ fn quotient(a: u32x4, by: u32) -> u32x4
 /// The lower halves of words.
 #[inline(always)]
 fn lower(a: u32x4) -> u32x4
-    ensures { HasFour (λ k. lane a k % 65536) result }
+    ensures { HasLanes 4 (λ k. lane a k % 65536) result }
 {
     a % u32x4::splat(65536)
-}
-
-/// x where a is b, else y.
-#[inline(always)]
-fn where_same(a: u32x4, b: u32x4, x: u32x4, y: u32x4) -> u32x4
-    ensures { HasFour (λ k. if lane a k == lane b k then lane x k else lane y k) result }
-{
-    a.simd_eq(b).select(x, y)
 }
 
 /// How far words are from 0.
 #[inline(always)]
 fn size(v: u32x4) -> u32x4
-    ensures { HasFour (λ k. size32 (lane v k)) result }
+    ensures { HasLanes 4 (λ k. size32 (lane v k)) result }
 {
     least(v, minus(all(0), v))
 }
@@ -91,8 +51,8 @@ fn size(v: u32x4) -> u32x4
 /// The components of a symbol in one word, I in its lower half.
 #[inline(always)]
 fn pair(symbol: Symbol) -> u32
-    ensures i { signed (result % 65536) ≡ symbol.i }
-    ensures q { signed (result / 65536 % 65536) ≡ symbol.q }
+    ensures i { signed16 (result % 65536) ≡ symbol.i }
+    ensures q { signed16 (result / 65536 % 65536) ≡ symbol.q }
 {
     u32::from(symbol.q.cast_unsigned()) * 65536 + u32::from(symbol.i.cast_unsigned())
 }
@@ -101,8 +61,8 @@ fn pair(symbol: Symbol) -> u32
 #[inline(always)]
 pub(crate) fn pairs(payload: &[Symbol], at: usize) -> u32x4
     requires { at + 4 ≤ length payload.now }
-    ensures i { (k : ℕ) → k < 4 → signed (lane result k % 65536) ≡ (symbol_at payload.now (at + k)).i }
-    ensures q { (k : ℕ) → k < 4 → signed (lane result k / 65536 % 65536) ≡ (symbol_at payload.now (at + k)).q }
+    ensures i { (k : ℕ) → k < 4 → signed16 (lane result k % 65536) ≡ (symbol_at payload.now (at + k)).i }
+    ensures q { (k : ℕ) → k < 4 → signed16 (lane result k / 65536 % 65536) ≡ (symbol_at payload.now (at + k)).q }
 {
     u32x4::from_array([
         pair(payload[at]),
@@ -115,7 +75,7 @@ pub(crate) fn pairs(payload: &[Symbol], at: usize) -> u32x4
 /// What the lower halves stand for.
 #[inline(always)]
 pub(crate) fn numbers(v: u32x4) -> u32x4
-    ensures is { (k : ℕ) → k < 4 → number (lane result k) ≡ signed (lane v k % 65536) }
+    ensures is { (k : ℕ) → k < 4 → number (lane result k) ≡ signed16 (lane v k % 65536) }
     ensures small { AreComponents result }
 {
     minus(lower(plus(v, all(32768))), all(32768))
@@ -124,7 +84,7 @@ pub(crate) fn numbers(v: u32x4) -> u32x4
 /// What the upper halves stand for.
 #[inline(always)]
 pub(crate) fn upper_numbers(v: u32x4) -> u32x4
-    ensures is { (k : ℕ) → k < 4 → number (lane result k) ≡ signed (lane v k / 65536 % 65536) }
+    ensures is { (k : ℕ) → k < 4 → number (lane result k) ≡ signed16 (lane v k / 65536 % 65536) }
     ensures small { AreComponents result }
 {
     numbers(quotient(v, 65536))
@@ -194,7 +154,7 @@ pub(crate) fn third_differences(i: u32x4, q: u32x4) -> u32x4
 /// Differences of squared distances as soft values.
 #[inline(always)]
 pub(crate) fn quantized(differences: u32x4) -> u16x4
-    ensures { (k : ℕ) → k < 4 → signed (lane result k) ≡ quantized (number (lane differences k)) }
+    ensures { (k : ℕ) → k < 4 → signed16 (lane result k) ≡ quantized (number (lane differences k)) }
 {
     let sizes = least(
         quotient(size(differences), DIVISOR as u32),
@@ -209,7 +169,7 @@ pub(crate) fn quantized(differences: u32x4) -> u16x4
 #[inline(always)]
 pub(crate) fn store(values: u16x4, soft: &mut [i16], at: usize)
     requires { at + 4 ≤ length soft.old }
-    ensures here { (k : ℕ) → k < 4 → value_at soft.new (at + k) ≡ signed (lane values k) }
+    ensures here { (k : ℕ) → k < 4 → value_at soft.new (at + k) ≡ signed16 (lane values k) }
     ensures before { (b : ℕ) → b < at → value_at soft.new b ≡ value_at soft.old b }
 {
     let [a, b, c, d] = values.to_array();

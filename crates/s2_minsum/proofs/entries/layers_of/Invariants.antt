@@ -1,6 +1,6 @@
 use Rattle.std.proofs.Common.{◌≡◌, ℕ, ◌+◌, ◌<◌, length, get_or}
 use Rattle.s2_matrix.specs.Code.{code_of, members}
-use Rattle.s2_minsum.specs.Words.{entry_at}
+use Rattle.s2_minsum.specs.Rows.{entry_at}
 use Rattle.s2_minsum.specs.Layout.{entry_of, entry_count, first_row, last_check}
 use Rattle.s2_minsum.proofs.entries.layers_of.Given as goal
 

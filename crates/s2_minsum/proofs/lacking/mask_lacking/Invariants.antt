@@ -1,5 +1,5 @@
 use Rattle.std.proofs.Common.{◌≡◌, ℕ, ◌+◌, ◌*◌, ◌<◌, ◌≤◌, ◌==◌, ◌&&◌, if◌then◌else◌, get_or}
-use Rattle.s2_minsum.specs.Words.{entry_at}
+use Rattle.s2_minsum.specs.Rows.{entry_at}
 use Rattle.s2_minsum.proofs.lacking.mask_lacking.Given as goal
 
 abbrev pub invariant-loop-e : goal.invariant-loop-e

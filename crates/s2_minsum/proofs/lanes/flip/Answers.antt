@@ -1,5 +1,5 @@
 use Rattle.std.proofs.Common.{bit_xor}
-use Rattle.s2_minsum.proofs.Unsigned.{operator}
+use Rattle.s2_bits.proofs.Unsigned.{operator}
 use Rattle.s2_minsum.proofs.lanes.flip.Goals as goal
 
 pub returns : goal.returns

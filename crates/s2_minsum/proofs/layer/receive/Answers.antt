@@ -1,5 +1,5 @@
 use Rattle.std.proofs.Common.{cond, ap, ◌∙◌}
-use Rattle.s2_minsum.specs.Words.{entry_at, is_lacking}
+use Rattle.s2_minsum.specs.Rows.{entry_at, is_lacking}
 use Rattle.s2_minsum.proofs.RowLemmas.{masked}
 use Rattle.s2_minsum.proofs.layer.receive.Goals as goal
 

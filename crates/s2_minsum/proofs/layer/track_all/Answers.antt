@@ -1,6 +1,7 @@
 use Rattle.std.proofs.Common.{◌≡◌, ℕ, suc, ◌+◌, ◌-◌, ◌*◌, ◌<◌, min, max, bit_xor, get_or, take, drop, ap, ◌∙◌, arith}
 use Rattle.std.proofs.Math.Nat.{mul-le-mul_right}
-use Rattle.s2_minsum.specs.Words.{cell, size16}
+use Rattle.s2_bits.specs.Lanes16.{size16}
+use Rattle.s2_minsum.specs.Rows.{cell}
 use Rattle.s2_minsum.specs.Nodes.{first_of, second_of, signs_of}
 use Rattle.s2_minsum.proofs.RowLemmas.{part_at}
 use Rattle.s2_minsum.proofs.layer.track_all.Goals as goal

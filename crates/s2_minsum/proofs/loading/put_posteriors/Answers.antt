@@ -2,7 +2,8 @@ use Rattle.std.proofs.Common.{◌≡◌, ◌+◌, ◌-◌, ◌*◌, ◌<◌, ◌
 use Rattle.std.proofs.lemmas.Bool.{cases_eq}
 use borrow.Rule.Slice.PartMut.{put_mid}
 use Rattle.s2_mode.specs.Shape.{Shape}
-use Rattle.s2_minsum.specs.Words.{signed16, cell}
+use Rattle.s2_bits.specs.Lanes16.{signed16}
+use Rattle.s2_minsum.specs.Rows.{cell}
 use Rattle.s2_minsum.specs.Layout.{bit_of, step_of_row}
 use Rattle.s2_minsum.proofs.Places
 use Rattle.s2_minsum.proofs.RowLemmas.{length-part, put_row_same, put_row_other}

@@ -1,5 +1,6 @@
 use Rattle.std.proofs.Common.{◌≡◌, ℕ, ◌<◌, get_or, pos}
-use Rattle.s2_minsum.specs.Words.{signed16, cell}
+use Rattle.s2_bits.specs.Lanes16.{signed16}
+use Rattle.s2_minsum.specs.Rows.{cell}
 use Rattle.s2_minsum.specs.Layout.{bit_of}
 use Rattle.s2_minsum.proofs.loading.put_posteriors.Given as goal
 

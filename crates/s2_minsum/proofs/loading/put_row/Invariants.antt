@@ -1,5 +1,5 @@
 use Rattle.std.proofs.Common.{◌≡◌, ℕ, ◌+◌, ◌*◌, ◌<◌, get_or, pos}
-use Rattle.s2_minsum.specs.Words.{signed16}
+use Rattle.s2_bits.specs.Lanes16.{signed16}
 use Rattle.s2_minsum.proofs.loading.put_row.Given as goal
 
 abbrev pub invariant-loop-lane : goal.invariant-loop-lane

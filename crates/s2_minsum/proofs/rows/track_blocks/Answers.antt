@@ -1,6 +1,6 @@
 use Rattle.std.proofs.Common.{◌≡◌, ℕ, ◌+◌, ◌*◌, ◌<◌, min, max, bit_xor, get_or, ◌∙◌, arith}
-use Rattle.s2_minsum.specs.Words.{size16}
-use Rattle.s2_minsum.proofs.Steps.{DoneTo-store, HasLanes-same}
+use Rattle.s2_bits.specs.Lanes16.{size16}
+use Rattle.s2_minsum.proofs.Steps.{Rewritten-store, HasLanes-same}
 use Rattle.s2_minsum.proofs.rows.track_blocks.Goals as goal
 
 pub loop-block-preserved : goal.loop-block-preserved
@@ -12,10 +12,10 @@ loop-block-preserved c =
     let second : (k : ℕ) → k < 8 → get_or c.load-next.result k 0 ≡ get_or c.args.second.now (i + k) 0 = λ k lt. c.load-next.ensures.each k lt ∙ kept.second.left (i + k) (omega arith) in
     let signs : (k : ℕ) → k < 8 → get_or c.load-product.result k 0 ≡ get_or c.args.signs.now (i + k) 0 = λ k lt. c.load-product.ensures.each k lt ∙ kept.signs.left (i + k) (omega arith) in
     record {
-      first = DoneTo-store 0 i 8 _ _ c.args.first.now c.loop-block.first c.take.new.first kept.first
-          (HasLanes-same 0 8 _ _ c.take.new.first c.take.ensures.first (λ k lt j. min (first k lt j) (size16 (v k lt j)))) (omega arith) (omega arith);
-      second = DoneTo-store 0 i 8 _ _ c.args.second.now c.loop-block.second c.take.new.second kept.second
-          (HasLanes-same 0 8 _ _ c.take.new.second c.take.ensures.second (λ k lt j. min (second k lt j) (max (first k lt j) (size16 (v k lt j))))) (omega arith) (omega arith);
-      signs = DoneTo-store 0 i 8 _ _ c.args.signs.now c.loop-block.signs c.take.new.signs kept.signs
-          (HasLanes-same 0 8 _ _ c.take.new.signs c.take.ensures.signs (λ k lt j. bit_xor (signs k lt j) (v k lt j))) (omega arith) (omega arith);
+      first = Rewritten-store i 8 _ _ c.args.first.now c.loop-block.first c.take.new.first kept.first
+          (HasLanes-same 8 _ _ c.take.new.first c.take.ensures.first (λ k lt j. min (first k lt j) (size16 (v k lt j)))) (omega arith) (omega arith);
+      second = Rewritten-store i 8 _ _ c.args.second.now c.loop-block.second c.take.new.second kept.second
+          (HasLanes-same 8 _ _ c.take.new.second c.take.ensures.second (λ k lt j. min (second k lt j) (max (first k lt j) (size16 (v k lt j))))) (omega arith) (omega arith);
+      signs = Rewritten-store i 8 _ _ c.args.signs.now c.loop-block.signs c.take.new.signs kept.signs
+          (HasLanes-same 8 _ _ c.take.new.signs c.take.ensures.signs (λ k lt j. bit_xor (signs k lt j) (v k lt j))) (omega arith) (omega arith);
     }

@@ -1,7 +1,7 @@
 use Rattle.std.proofs.Common.{cond, ap, ◌∙◌}
-use Rattle.s2_minsum.specs.Words.{entry_at, is_lacking}
+use Rattle.s2_minsum.specs.Rows.{entry_at, is_lacking}
 use Rattle.s2_minsum.proofs.RowLemmas.{masked}
-use Rattle.s2_settle.specs.Words.{no_rest}
+use Rattle.s2_settle.specs.Rests.{no_rest}
 use Rattle.s2_settle.proofs.layer.receive.Goals as goal
 
 pub returns : goal.returns

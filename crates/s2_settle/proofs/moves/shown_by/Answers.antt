@@ -1,5 +1,5 @@
 use Rattle.std.proofs.Common.{◌+◌, ◌-◌, ◌*◌, ◌%◌, ◌<◌, ap, sym, ◌∙◌, arith}
-use Rattle.s2_minsum.specs.Words.{turned}
+use Rattle.s2_minsum.specs.Rows.{turned}
 use Rattle.s2_minsum.proofs.Places
 use Rattle.s2_settle.proofs.moves.shown_by.Goals as goal
 

@@ -1,7 +1,7 @@
 use Rattle.std.proofs.Common.{◌+◌, ◌<◌, ap, sym, ◌∙◌, arith}
 use Rattle.s2_mode.specs.Shape.{Shape}
 use Rattle.s2_minsum.specs.declared.rows.Entry.{Entry}
-use Rattle.s2_minsum.specs.Words.{turned, entry_at}
+use Rattle.s2_minsum.specs.Rows.{turned, entry_at}
 use Rattle.s2_minsum.specs.Layout.{bit_of, entry_count}
 use Rattle.s2_settle.proofs.Shown.{entry_is, row_low, shift_low, shown_some, shown_none}
 use Rattle.s2_settle.proofs.moves.target_of.Goals as goal

@@ -3,7 +3,7 @@ use Rattle.std.proofs.lemmas.Bool.{cases_eq}
 use borrow.Rule.Slice.PartMut.{put_mid}
 use Rattle.s2_mode.specs.Shape.{Shape, code_bits}
 use Rattle.s2_matrix.proofs.Joins.{div_below}
-use Rattle.s2_minsum.specs.Words.{cell}
+use Rattle.s2_minsum.specs.Rows.{cell}
 use Rattle.s2_minsum.specs.Layout.{bit_of, step_of_row}
 use Rattle.s2_minsum.proofs.Places
 use Rattle.s2_minsum.proofs.RowLemmas.{length-part, length-put_row, put_row_same, put_row_other}

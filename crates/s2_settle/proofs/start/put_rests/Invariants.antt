@@ -1,5 +1,5 @@
 use Rattle.std.proofs.Common.{◌≡◌, ℕ, ◌<◌, length}
-use Rattle.s2_minsum.specs.Words.{cell}
+use Rattle.s2_minsum.specs.Rows.{cell}
 use Rattle.s2_minsum.specs.Layout.{bit_of}
 use Rattle.s2_settle.specs.Start.{started}
 use Rattle.s2_settle.proofs.start.put_rests.Given as goal

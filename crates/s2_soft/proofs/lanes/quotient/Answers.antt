@@ -1,6 +1,7 @@
 use Rattle.std.proofs.Common.{ℕ, replicate, arith}
 use Rattle.std.proofs.lemmas.Simd.{get_or-replicate, Each1-from_get_or}
-use Rattle.s2_soft.proofs.Unsigned.{asks, products, product_lanes, quotients, quotient_lanes, same_lanes, word_fits}
+use Rattle.s2_bits.proofs.Unsigned.{asks}
+use Rattle.s2_soft.proofs.Quotients.{products, product_lanes, quotients, quotient_lanes, same_lanes, word_fits}
 use Rattle.s2_soft.proofs.lanes.quotient.Goals as goal
 use mir.Syntax.{w16}
 use mir.Val.{Fits}

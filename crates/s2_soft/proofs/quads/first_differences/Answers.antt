@@ -1,5 +1,7 @@
 use Rattle.std.proofs.Common.{max, ap, ◌∙◌}
-use Rattle.s2_soft.specs.Lanes.{lane, number, plus32, minus32, times32, size32}
+use Rattle.s2_bits.specs.Lanes.{lane}
+use Rattle.s2_bits.specs.Lanes32.{plus32, minus32}
+use Rattle.s2_soft.specs.Lanes.{number, times32, size32}
 use Rattle.s2_soft.proofs.FourWords.{word_fits}
 use Rattle.s2_soft.proofs.Differences.{IsComponent, first_is}
 use Rattle.s2_soft.proofs.quads.first_differences.Goals as goal

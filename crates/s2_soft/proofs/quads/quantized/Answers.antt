@@ -1,7 +1,9 @@
 use Rattle.std.proofs.Common.{◌≡◌, ◌/◌, ◌%◌, min, cond, eqb, ap, ◌∙◌, arith}
 use Rattle.std.proofs.lemmas.List.{get_or-map}
 use Rattle.s2_soft.specs.Constants.{divisor}
-use Rattle.s2_soft.specs.Lanes.{lane, signed, minus32}
+use Rattle.s2_bits.specs.Lanes.{lane}
+use Rattle.s2_bits.specs.Lanes16.{signed16}
+use Rattle.s2_bits.specs.Lanes32.{minus32}
 use Rattle.s2_soft.proofs.FourWords.{word_fits}
 use Rattle.s2_soft.proofs.Differences.{soft_size, soft_word, soft_word_is}
 use Rattle.s2_soft.proofs.quads.quantized.Goals as goal
@@ -16,4 +18,4 @@ returns c = λ k lt.
     let long = c.lower.ensures.long in
     let cast = get_or-map (λ x. x) c.lower.result k 0 0 (omega (arith, long)) in
     let low : lane c.lower.result k ≡ soft_word d = c.lower.ensures.each k lt ∙ (λ t. words t % 65536) in
-    ap signed (cast ∙ low) ∙ soft_word_is d (word_fits c.args.differences c.fits-differences.0 c.fits-differences.1 k lt)
+    ap signed16 (cast ∙ low) ∙ soft_word_is d (word_fits c.args.differences c.fits-differences.0 c.fits-differences.1 k lt)

@@ -2,7 +2,8 @@ use Rattle.std.proofs.Common.{◌≡◌, ℕ, ◌+◌, ◌*◌, ◌<◌, ◌∙�
 use Rattle.s2_mode.specs.Symbols.{symbol_at}
 use Rattle.s2_soft.specs.Soft.{quantized}
 use Rattle.s2_soft.specs.Closed.{first_difference, second_difference, third_difference}
-use Rattle.s2_soft.specs.Lanes.{lane, number}
+use Rattle.s2_bits.specs.Lanes.{lane}
+use Rattle.s2_soft.specs.Lanes.{number}
 use Rattle.s2_soft.proofs.Writes.{set_block}
 use Rattle.s2_soft.proofs.soft.columns_by_fours.Goals as goal
 

@@ -6,7 +6,7 @@ use Rattle.s2_mode.specs.Shape.{code_bits}
 use Rattle.s2_matrix.specs.Total.{upto}
 use Rattle.s2_matrix.specs.Code.{code_of, members, is_member}
 use Rattle.s2_matrix.proofs.Members.{members_below}
-use Rattle.s2_minsum.specs.Words.{signed16}
+use Rattle.s2_bits.specs.Lanes16.{signed16}
 use Rattle.s2_minsum.specs.Layout.{first_row, place_at, kept_of, message_of}
 use Rattle.s2_minsum.specs.Decoding.{Decoding}
 use Rattle.s2_minsum.proofs.StepStates.{is_edge-true}

@@ -3,7 +3,7 @@ use Rattle.std.proofs.Math.Nat.{mul-le-mul_right}
 use Rattle.std.proofs.lemmas.List.{get_or_default}
 use Rattle.s2_mode.specs.Shape.{Shape}
 use Rattle.s2_minsum.specs.Plain.{start}
-use Rattle.s2_minsum.specs.Words.{signed16}
+use Rattle.s2_bits.specs.Lanes16.{signed16}
 use Rattle.s2_minsum.specs.Layout.{bit_of, first_row}
 use Rattle.s2_minsum.proofs.Starts.{start_is, started, zeros, zeros_ℤ}
 use Rattle.s2_minsum.proofs.decoder.Decoder.new.Goals as goal

@@ -4,7 +4,7 @@ use Rattle.std.proofs.lemmas.List.{get_or_default}
 use Rattle.s2_mode.specs.Shape.{Shape, code_bits}
 use Rattle.s2_matrix.specs.Code.{code_of}
 use Rattle.s2_minsum.specs.Plain.{posterior}
-use Rattle.s2_minsum.specs.Words.{signed16}
+use Rattle.s2_bits.specs.Lanes16.{signed16}
 use Rattle.s2_minsum.specs.Layout.{row_of_bit, lane_of_bit, kept_of, state_of}
 use Rattle.s2_minsum.specs.Decoding.{Decoding, decoded}
 use Rattle.s2_minsum.proofs.Places

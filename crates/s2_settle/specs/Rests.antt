@@ -1,8 +1,9 @@
--- Words of 32 bits: rests, each 2^31 higher than it is, and how a check's moves change them.
-use Rattle.std.specs.Prelude.{ℕ, ◌+◌, ◌-◌, ◌/◌, ◌%◌, ◌==◌, min, max, if◌then◌else◌, List, get_or}
+-- Rests as words of 32 bits, each 2^31 higher than it is, and how a check's moves change them.
+use Rattle.std.specs.Prelude.{ℕ, ◌/◌, ◌==◌, min, max, if◌then◌else◌, List, get_or}
+use Rattle.s2_bits.specs.Lanes32.{minus32, plus32}
 use Rattle.s2_minsum.specs.declared.rows.Entry.{Entry}
 pub use Rattle.s2_settle.specs.Plain.{most_moved}
-use Rattle.s2_minsum.specs.Words.{turned, cell, entry_at, is_lacking, changed_by}
+use Rattle.s2_minsum.specs.Rows.{turned, cell, entry_at, is_lacking, changed_by}
 
 -- the word of a rest of 0
 abbrev pub zero_rest : ℕ
@@ -11,12 +12,6 @@ zero_rest = 2147483648
 -- the word of no rest: more than any
 abbrev pub no_rest : ℕ
 no_rest = 4294967295
-
-abbrev pub minus32 : ℕ → ℕ → ℕ
-minus32 a b = (a + (4294967296 - b)) % 4294967296
-
-abbrev pub plus32 : ℕ → ℕ → ℕ
-plus32 a b = (a + b) % 4294967296
 
 -- what member e of a check gives: its rest once the check has taken its move back
 abbrev pub given : ℕ → ℕ → ℕ → ℕ → ℕ

@@ -1,28 +1,10 @@
--- Words of 16 bits in two's complement, and rows of them.
-use Rattle.std.specs.Prelude.{ℕ, zero, suc, ◌+◌, ◌-◌, ◌*◌, ◌/◌, ◌%◌, ◌==◌, ◌&&◌, ◌<◌, ◌≤◌, min, Bool, if◌then◌else◌, List, length, get_or, ℤ, bit_xor}
-use Rattle.std.specs.Int.{cast_signed}
+-- Rows of words of 16 bits, one word for each lane, and the entries that turn them.
+use Rattle.std.specs.Prelude.{ℕ, zero, suc, ◌+◌, ◌-◌, ◌*◌, ◌/◌, ◌%◌, ◌==◌, ◌&&◌, ◌<◌, ◌≤◌, Bool, if◌then◌else◌, List, length, get_or, bit_xor}
 use Rattle.s2_minsum.specs.Plain.{size_cap}
-use mir.Syntax.{w16}
 use Rattle.s2_mode.specs.Limits.{most_group}
+use Rattle.s2_bits.specs.Lanes16.{minus16, plus16, size16, sign16}
 pub use Rattle.s2_bits.specs.Turns.{turned}
 use Rattle.s2_minsum.specs.declared.rows.Entry.{Entry}
-
-abbrev pub signed16 : ℕ → ℤ
-signed16 v = cast_signed w16 v
-
-abbrev pub minus16 : ℕ → ℕ → ℕ
-minus16 a b = (a + (65536 - b)) % 65536
-
-abbrev pub plus16 : ℕ → ℕ → ℕ
-plus16 a b = (a + b) % 65536
-
--- how far the signed16 is from 0
-abbrev pub size16 : ℕ → ℕ
-size16 v = min v (minus16 0 v)
-
--- 1 where the signed16 is negative
-abbrev pub sign16 : ℕ → ℕ
-sign16 v = v / 32768
 
 -- the message to a member with input v of a check with these two least sizes, and a word that is negative where an odd number of its inputs are
 abbrev pub sent16 : ℕ → ℕ → ℕ → ℕ → ℕ

@@ -1,9 +1,0 @@
-use Rattle.std.proofs.Common.{ltb, get_or, min}
-use Rattle.s2_soft.proofs.Unsigned.{choice, min_by}
-use Rattle.s2_soft.proofs.lanes.least.Goals as goal
-
-pub returns : goal.returns
-returns c =
-    let a = c.args.a in
-    let b = c.args.b in
-    choice ltb (λ k. min (get_or a k 0) (get_or b k 0)) a b a b c.fits-a.0 c.fits-b.0 c.fits-a.0 c.fits-b.0 (λ k lt. min_by (get_or a k 0) (get_or b k 0))
