@@ -29,6 +29,14 @@ pub total-same : {X : Type 0} (f g : X → ℤ) (xs : List X) → ((x : X) → f
 total-same f g [] e = refl
 total-same f g (x ∷ xs) e = omega (arith, ints, e x, total-same f g xs e)
 
+-- terms that are the same at each number of a range
+pub total-within : (f g : ℕ → ℤ) (a n : ℕ) → ((i : ℕ) → a ≤ i → i < a + n → f i ≡ g i) → total f (range_with_len a n) ≡ total g (range_with_len a n)
+total-within f g a zero h = refl
+total-within f g a (suc n) h =
+    let first : f a ≡ g a = h a (omega arith) (omega arith) in
+    let rest = total-within f g (a + 1) n (λ i low high. h i (omega arith) (omega arith)) in
+    λ x. first x +ℤ rest x
+
 -- a double sum, in either order
 pub total-swap : {X Y : Type 0} (f : X → Y → ℤ) (xs : List X) (ys : List Y) → total (λ x. total (f x) ys) xs ≡ total (λ y. total (λ x. f x y) xs) ys
 total-swap f [] ys = sym (total-zero ys)

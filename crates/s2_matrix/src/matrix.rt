@@ -112,6 +112,26 @@ impl Matrix {
         self.members.first(check)
     }
 
+    /// The check of an edge, by halving. Checks and edges count from 0.
+    pub fn check_of_edge(&self, edge: usize) -> usize
+        requires { edge < first_edge (code_of self.now) (code_of self.now).checks }
+        ensures below { result < (code_of self.now).checks }
+        ensures from { first_edge (code_of self.now) result ≤ edge }
+        ensures before { edge < first_edge (code_of self.now) (result + 1) }
+    {
+        let mut low = 0usize;
+        let mut high = self.check_count();
+        while high - low > 1 {
+            let middle = low + (high - low) / 2;
+            if self.first_edge(middle) <= edge {
+                low = middle;
+            } else {
+                high = middle;
+            }
+        }
+        low
+    }
+
     /// The members of a check: the positions in a codeword, from 0 to n - 1, of the bits that it adds
     /// up, rising. Checks count from 0 to n - k - 1.
     pub fn members_at(&self, check: usize) -> &[u32]

@@ -29,7 +29,7 @@ fn small<R: Abort + AllocGlobal>(rt: &R) -> Result<Matrix, Fail> {
     Ok(Matrix::build(rt.alloc(), &rows)?)
 }
 
-/// Asserts the members of a check, and the number of its first edge.
+/// Asserts the members of a check, and the numbers of its edges.
 fn assert_check<R: Abort>(rt: &R, matrix: &Matrix, j: usize, check: &[u32], edge: usize) {
     assert!(rt; j < matrix.check_count());
     assert_eq!(rt; matrix.members_at(j), check);
@@ -37,6 +37,9 @@ fn assert_check<R: Abort>(rt: &R, matrix: &Matrix, j: usize, check: &[u32], edge
     assert_eq!(rt; matrix.first_edge(j), edge);
     for at in 0..matrix.degree(j) {
         assert_eq!(rt; Some(matrix.members(j, at) as u32), check.get(at).copied());
+        let own = edge.wrapping_add(at);
+        assert!(rt; own < matrix.edges());
+        assert_eq!(rt; matrix.check_of_edge(own), j);
     }
 }
 
