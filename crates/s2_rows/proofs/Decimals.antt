@@ -1,7 +1,8 @@
 -- The digits of a number say it, and hold no separator.
-use Rattle.std.proofs.Common.{◌≡◌, ℕ, ◌+◌, ◌-◌, ◌*◌, ◌/◌, ◌%◌, ◌^◌, ◌<◌, ◌≤◌, ◌==◌, Bool, true, false, List, [], ◌∷◌, ◌++◌, length, Some, None, refl, sym, ap, ◌∙◌, arith, decimal, inl, inr, length-append}
+use Rattle.std.proofs.Common.{◌≡◌, ℕ, zero, suc, ◌+◌, ◌-◌, ◌*◌, ◌/◌, ◌%◌, ◌^◌, ◌<◌, ◌≤◌, ◌==◌, Bool, true, false, List, [], ◌∷◌, ◌++◌, length, Some, None, refl, sym, ap, ◌∙◌, arith, decimal, inl, inr, length-append}
 use Rattle.std.proofs.lemmas.Bool.{cond-true, cond-false, le-leb, and_from, ne_eqb, or_from, cases_Bool}
 use Rattle.std.proofs.lemmas.Fmt.{decimal_by_steps}
+use Rattle.s2_rows.specs.Layouts.{digits_of}
 use Rattle.s2_rows.specs.Numbers.{is_digit, digits_from, natural_of}
 use Rattle.s2_rows.specs.Text.{is_space, is_line_feed}
 
@@ -51,6 +52,13 @@ digit_more n ds h s = record {
 
 pub decimal_says : (n : ℕ) → n < 2 ^ 64 → Says n (decimal n)
 decimal_says n h = decimal_by_steps Says one_digit digit_more n h
+
+pub zeros_say : (zeros n : ℕ) → n < 2 ^ 64 → Says n (digits_of zeros n)
+unfolding digits_from
+zeros_say zero n few = decimal_says n few
+zeros_say (suc zeros) n few =
+    let s = zeros_say zeros n few in
+    record { value = s.value; digits = (omega arith, omega arith, s.digits); some = omega arith }
 
 pub natural_of_says : (ds : List ℕ) (n : ℕ) → Says n ds → natural_of ds ≡ Some n
 natural_of_says [] n s = absurd (omega (arith, s.some))

@@ -1,12 +1,12 @@
 -- The definitions on the texts of a small code: group 4, two groups, q 3, rows 0 4 8 and 0 1 2.
-use Rattle.std.proofs.Common.{◌≡◌, ℕ, List, [], ◌∷◌, Ok, Err, pos, negsuc, codes, refl, arith}
+use Rattle.std.proofs.Common.{◌≡◌, ℕ, List, [], ◌∷◌, Ok, Err, inl, inr, pos, negsuc, codes, refl, arith}
 use Rattle.std.specs.Fmt.{digits}
 use Rattle.s2_mode.specs.Shape.{Shape, shape_of}
 use Rattle.s2_rows.specs.RowFiles.{rows_of, row_from, rows_of_text}
 use Rattle.s2_rows.specs.Values.{values_of, values_of_text}
-use Rattle.s2_rows.specs.ValueTexts.{plain, minus, IsTextOf}
+use Rattle.s2_rows.specs.ValueTexts.{plain, minus, IsLineWith, AreLinesWith}
 use Rattle.s2_rows.specs.Numbers.{digits_from}
-use Rattle.s2_rows.specs.Text.{pieces_of}
+use Rattle.s2_rows.specs.Text.{pieces_of, lines_of}
 use Rattle.s2_rows.specs.RowTexts.{row_text, rows_text}
 use Rattle.s2_rows.specs.MadeRows.{free_from}
 use Rattle.s2_rows.specs.declared.row_file.RowFault.TheVariants as faults
@@ -71,10 +71,16 @@ values_read_laid_out : values_of_text (codes "# x\n1 -63\t007\r\n\n63") 4 ≡ Ok
 unfolding values_of digits_from pieces_of
 values_read_laid_out = refl
 
--- two numbers, each as it may be written
-is_text_of : IsTextOf (codes "-5 07\n") (negsuc 4 ∷ pos 7 ∷ [])
-unfolding digits
-is_text_of = ([], codes "-5", codes " 07\n", refl, tt, minus 0 5 (omega arith) refl refl, refl, (codes " ", codes "07", codes "\n", refl, (refl, tt), plain 1 7 (omega arith) refl refl, refl, (refl, tt)))
+-- a comment, two numbers, an empty line and one more number
+laid_out_values : AreLinesWith (lines_of (codes "# x\n-5 07\n\n 8")) (negsuc 4 ∷ pos 7 ∷ pos 8 ∷ [])
+unfolding digits pieces_of
+laid_out_values = inl (inr ([], codes " x", refl, tt), inr (negsuc 4 ∷ pos 7 ∷ [], pos 8 ∷ [], refl, two, inl (inl tt, inr (pos 8 ∷ [], [], refl, one, refl))))
+  where
+    two : IsLineWith (codes "-5 07") (negsuc 4 ∷ pos 7 ∷ [])
+    two = ([], codes "-5", codes " 07", refl, tt, minus 0 5 (omega arith) refl refl, refl, (codes " ", codes "07", [], refl, (refl, tt), plain 1 7 (omega arith) refl refl, tt, tt))
+
+    one : IsLineWith (codes " 8") (pos 8 ∷ [])
+    one = (codes " ", codes "8", [], refl, (refl, tt), plain 0 8 (omega arith) refl refl, tt, tt)
 
 values_refused_large : values_of_text (codes "1\n512") 2 ≡ Err (value_faults.OutOfRange 2)
 unfolding values_of digits_from pieces_of

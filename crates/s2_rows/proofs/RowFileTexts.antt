@@ -1,49 +1,17 @@
 -- A row file is read as its rows, however it is laid out.
-use Rattle.std.proofs.Common.{◌≡◌, ℕ, suc, ◌+◌, ◌-◌, ◌<◌, ◌≤◌, true, false, List, [], ◌∷◌, ◌++◌, filter, length, get_or, Ok, inl, inr, refl, sym, ap, ◌∙◌, subst, arith, append_assoc, append-nil}
-use Rattle.std.proofs.lemmas.Bool.{cond-true}
+use Rattle.std.proofs.Common.{◌≡◌, ℕ, suc, ◌+◌, ◌-◌, ◌<◌, ◌≤◌, false, List, [], ◌∷◌, ◌++◌, length, get_or, Ok, inl, inr, refl, sym, ap, ◌∙◌, subst, arith, append_assoc, append-nil}
 use Rattle.s2_mode.specs.Shape.{check_count}
 use Rattle.s2_rows.specs.Rows.{AreAddresses, row_of}
 use Rattle.s2_rows.specs.Readings.{ok_cons}
 use Rattle.s2_rows.specs.RowFiles.{row_from, rows_of}
-use Rattle.s2_rows.specs.RowTexts.{AreSpaces, EndsAddress, IsLineOf, IsSilent, AreLinesOf, RowFileLaw}
-use Rattle.s2_rows.specs.Text.{is_space, is_token, in_front, pieces_of, tokens_of, lines_of, is_passed_over}
-use Rattle.s2_rows.specs.ValueTexts.{digits_of}
+use Rattle.s2_rows.specs.Layouts.{digits_of}
+use Rattle.s2_rows.specs.RowTexts.{IsLineOf, AreLinesOf, RowFileLaw}
+use Rattle.s2_rows.specs.Text.{tokens_of, lines_of, is_passed_over}
 use Rattle.s2_rows.proofs.Accepted.{IsRow}
-use Rattle.s2_rows.proofs.Decimals.{natural_of_says, Lacks, no_space}
-use Rattle.s2_rows.proofs.Pieces.{token_first}
+use Rattle.s2_rows.proofs.Decimals.{natural_of_says, zeros_say, no_space}
+use Rattle.s2_rows.proofs.LineTokens.{tokens_after_gap, no_tokens_alone, silent_passed, token_then}
 use Rattle.s2_rows.proofs.RowLines.{passes_over, one_row}
-use Rattle.s2_rows.proofs.ValueTextLemmas.{zeros_say}
-use Rattle.s2_rows.proofs.WrittenRows.{piece_is_cut, one_token, begins_with_digit, Few, are_few, few_checks, adds_said}
-
--- ---- the tokens of a line
-
-pub tokens_after_gap : (gap t : List ℕ) → AreSpaces gap → tokens_of (gap ++ t) ≡ tokens_of t
-unfolding pieces_of
-tokens_after_gap [] t are = refl
-tokens_after_gap (b ∷ gap) t are = ap (filter is_token) (cond-true _ _ _ are.0) ∙ tokens_after_gap gap t are.1
-
-pub no_tokens_alone : (gap : List ℕ) → AreSpaces gap → tokens_of gap ≡ []
-unfolding pieces_of
-no_tokens_alone gap are = ap tokens_of (sym (append-nil gap)) ∙ tokens_after_gap gap [] are
-
-comment_passed : (comment : List ℕ) → is_passed_over (tokens_of (35 ∷ comment)) ≡ true
-unfolding pieces_of
-comment_passed comment = first (pieces_of is_space comment)
-  where
-    first : (pieces : List (List ℕ)) → is_passed_over (filter is_token (in_front 35 pieces)) ≡ true
-    first [] = refl
-    first (piece ∷ pieces) = refl
-
-pub silent_passed : (line : List ℕ) → IsSilent line → is_passed_over (tokens_of line) ≡ true
-silent_passed line (inl are) = ap is_passed_over (no_tokens_alone line are)
-silent_passed line (inr (gap, comment, is, are)) =
-    ap (λ l. is_passed_over (tokens_of l)) is ∙ ap is_passed_over (tokens_after_gap gap (35 ∷ comment) are) ∙ comment_passed comment
-
-pub token_then : (token rest : List ℕ) → 0 < length token → Lacks is_space token → EndsAddress rest → tokens_of (token ++ rest) ≡ token ∷ tokens_of rest
-unfolding pieces_of
-token_then token [] some apart ends = ap tokens_of (append-nil token) ∙ one_token token some apart
-token_then token (b ∷ t) some apart ends =
-    token_first (token ++ b ∷ t) token t (piece_is_cut is_space token b t apart ends) some ∙ ap (λ tokens. token ∷ tokens) (sym (tokens_after_gap (b ∷ []) t (ends, tt)))
+use Rattle.s2_rows.proofs.WrittenRows.{begins_with_digit, Few, are_few, few_checks, adds_said}
 
 -- ---- a row's line
 

@@ -1,10 +1,10 @@
 -- The text of rows, as it is written and as it may be laid out.
-use Rattle.std.specs.Prelude.{◌≡◌, ℕ, ◌⊎◌, IsTrue, List, [], ◌∷◌, ◌++◌, Ok, codes, decimal, ⊤}
+use Rattle.std.specs.Prelude.{◌≡◌, ℕ, ◌⊎◌, List, [], ◌∷◌, ◌++◌, Ok, codes, decimal, ⊤}
 use Rattle.std.specs.List.{flat_map}
 use Rattle.s2_rows.specs.Rows.{Rows, IsRows}
 use Rattle.s2_rows.specs.RowFiles.{rows_of_text}
-use Rattle.s2_rows.specs.Text.{is_space, lines_of}
-use Rattle.s2_rows.specs.ValueTexts.{digits_of}
+use Rattle.s2_rows.specs.Layouts.{AreSpaces, EndsToken, IsSilent, digits_of}
+use Rattle.s2_rows.specs.Text.{lines_of}
 
 -- after an address a space where another follows, else LF
 abbrev pub after_address : List ℕ → List ℕ
@@ -26,25 +26,11 @@ ReadBackLaw = (r : Rows) → IsRows r → rows_of_text (rows_text r.rows) r.shap
 
 -- ---- row files however they are laid out
 
--- spaces, tabs and CRs
-abbrev pub AreSpaces : List ℕ → Type 0
-AreSpaces [] = ⊤
-AreSpaces (b ∷ bytes) = IsTrue (is_space b) × AreSpaces bytes
-
--- an address ends at one of these or at the end of its line
-abbrev pub EndsAddress : List ℕ → Type 0
-EndsAddress [] = ⊤
-EndsAddress (b ∷ bytes) = IsTrue (is_space b)
-
 -- the addresses of a row in their order, in decimal, some zeros before them and some separators between them
 abbrev pub IsLineOf : List ℕ → List ℕ → Type 0
 IsLineOf line [] = AreSpaces line
 IsLineOf line (x ∷ row) =
-    (gap : List ℕ) × (zeros : ℕ) × (rest : List ℕ) × (line ≡ gap ++ (digits_of zeros x ++ rest)) × AreSpaces gap × EndsAddress rest × IsLineOf rest row
-
--- a line that says nothing: separators alone, or a comment behind them, which begins with #
-abbrev pub IsSilent : List ℕ → Type 0
-IsSilent line = AreSpaces line ⊎ ((gap : List ℕ) × (comment : List ℕ) × (line ≡ gap ++ 35 ∷ comment) × AreSpaces gap)
+    (gap : List ℕ) × (zeros : ℕ) × (rest : List ℕ) × (line ≡ gap ++ (digits_of zeros x ++ rest)) × AreSpaces gap × EndsToken rest × IsLineOf rest row
 
 -- the rows in their order, each on its line, and between them lines that say nothing
 abbrev pub AreLinesOf : List (List ℕ) → List (List ℕ) → Type 0

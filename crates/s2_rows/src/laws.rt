@@ -15,8 +15,9 @@ pub fn row_files()
     ensures { RowFileLaw }
 {}
 
-/// A text of numbers from -63 to 63, with leading zeros or without, between spaces, tabs and line
-/// ends, is read as these numbers.
+/// A text of numbers from -63 to 63 is read as these numbers however it is laid out: with any number of
+/// them on a line, spaces, tabs and CRs between and around them, leading zeros, empty lines, and
+/// comments on lines of their own.
 pub fn value_texts()
     ensures { ValueTextLaw }
 {}
