@@ -2,9 +2,8 @@
 use Rattle.std.proofs.Common.{◌≡◌, ℕ, zero, suc, ◌+◌, ◌-◌, ◌*◌, ◌/◌, ◌%◌, ◌^◌, ◌≤◌, ◌<◌, ◌==◌, Bool, true, false, List, length, get_or, refl, ap, ◌∙◌, arith}
 use Rattle.std.proofs.lemmas.List.{get_or-map}
 use Rattle.std.proofs.lemmas.List.FromFn.{length-range_with_len, get_or-range_with_len}
-use Rattle.s2_bits.specs.Bits.{bit_at, bit_of_bytes, byte_of, number}
-use Rattle.s2_file.specs.Field.{places}
-use Rattle.s2_file.specs.Field.{byte_at, bytes_of_bits}
+use Rattle.s2_bits.specs.Bits.{bit_at, bit_of_bytes, byte_of, byte_at, number}
+use Rattle.s2_file.specs.Field.{places, bytes_of_bits}
 
 small : (b : Bool) → number b ≤ 1
 small true = omega arith
@@ -41,7 +40,7 @@ bit_back word k h =
     let within : k / 8 < m = omega arith in
     let listed : k / 8 < length (places m) = omega (arith, length-range_with_len 0 m) in
     let place : get_or (places m) (k / 8) 0 ≡ k / 8 = omega (arith, get_or-range_with_len 0 m (k / 8) 0 within) in
-    let byte : get_or (bytes_of_bits word) (k / 8) 0 ≡ byte_at word (k / 8) = get_or-map (byte_at word) (places m) (k / 8) 0 0 listed ∙ ap (byte_at word) place in
+    let byte : get_or (bytes_of_bits word) (k / 8) 0 ≡ byte_at word (8 * (k / 8)) = get_or-map (λ i. byte_at word (8 * i)) (places m) (k / 8) 0 0 listed ∙ ap (λ i. byte_at word (8 * i)) place in
     let low : k % 8 < 8 = omega arith in
     let whole : 8 * (k / 8) + k % 8 ≡ k = omega arith in
     ap (λ n. n / 2 ^ (7 - k % 8) % 2 == 1) byte ∙ bit_of_byte (λ i. bit_at word (8 * (k / 8) + i)) (k % 8) low ∙ ap (bit_at word) whole

@@ -3,7 +3,7 @@ use Rattle.std.proofs.Common.{◌≡◌, ℕ, ◌+◌, ◌*◌, ◌≤◌, ◌<�
 use Rattle.std.specs.List.{list_all}
 use Rattle.std.proofs.lemmas.Bool.{cases_Bool, cases_lt}
 use Rattle.std.proofs.lemmas.List.{length-drop, drop-drop}
-use Rattle.std.proofs.lemmas.List.FromFn.{length-range_with_len, get_or-range_with_len, length-map-range_with_len, map-range_with_len_more}
+use Rattle.std.proofs.lemmas.List.FromFn.{length-range_with_len, get_or-range_with_len, length-map-range_with_len, get_or-map-range_with_len, map-range_with_len_more}
 use Rattle.std.proofs.lemmas.List.Sums.{AllPass-from_list_all, list_all-from_AllPass}
 use Rattle.s2_file.specs.Field.{places}
 use Rattle.s2_file.specs.Field.{many, entry}
@@ -68,3 +68,6 @@ length-listed f n = length-map-range_with_len f 0 n
 -- a test that nothing fails
 pub listed_pass : (n : ℕ) (bytes : List ℕ) → (many n share).test bytes ≡ true
 listed_pass n bytes = all_pass (λ k. share.test (entry share.size bytes k)) n (λ k low. refl)
+
+pub listed_at : (f : ℕ → ℕ) (n k : ℕ) → k < n → get_or (map f (places n)) k 0 ≡ f k
+listed_at f n k low = get_or-map-range_with_len f 0 n k k 0 low (omega arith)

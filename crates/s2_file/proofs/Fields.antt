@@ -1,19 +1,17 @@
 -- What is written of a field is as long as the field, passes its test and is read back.
-use Rattle.std.proofs.Common.{◌≡◌, ℕ, zero, suc, ◌+◌, ◌*◌, ◌/◌, ◌^◌, ◌<◌, not, ltb, eqb, Bool, true, false, List, [], ◌∷◌, ◌++◌, length, get_or, take, drop, All, FitsSigned, w8, w16, w32, ℤ, pos, neg_ℤ, int_lt, inl, inr, refl, sym, ap, ap₂, ◌∙◌, arith, length-append, lt-ltb, eq-eqb, ◌||◌}
+use Rattle.std.proofs.Common.{◌≡◌, ℕ, zero, suc, ◌+◌, ◌*◌, ◌/◌, ◌^◌, ◌<◌, not, Bool, true, false, List, [], ◌∷◌, ◌++◌, length, get_or, take, drop, All, FitsSigned, w8, w16, w32, ℤ, pos, neg_ℤ, int_lt, inl, inr, refl, sym, ap, ap₂, ◌∙◌, arith, length-append}
 use Rattle.std.specs.List.{flat_map, AllByRecursion}
 use Rattle.std.specs.Int.{Width, byte_len, cast_signed, cast_unsigned, to_be_bytes, from_be_bytes}
 use Rattle.std.proofs.lemmas.Nat.{from_be_bytes-to_be_bytes_2, from_be_bytes-to_be_bytes_4}
 use Rattle.std.proofs.lemmas.Int.{ints, to_z-of_z, fits_signed_from_abs}
-use Rattle.std.proofs.lemmas.Bool.{cases_Bool, cases_eq, and_from, or_right, or_left}
+use Rattle.std.proofs.lemmas.Bool.{cases_Bool, and_from}
 use Rattle.std.proofs.lemmas.List.{same_lists, get_or-map, get_or_past, take_at, drop_at, drop-drop}
 use Rattle.std.proofs.lemmas.List.Concat.{flat_map-cons}
 use Rattle.std.proofs.lemmas.List.Elements.{recursion_from_All}
 use Rattle.std.proofs.lemmas.List.FromFn.{length-range_with_len, get_or-range_with_len}
-use Rattle.s2_bits.specs.Bits.{bit_of_bytes}
-use Rattle.s2_file.specs.Field.{places}
+use Rattle.s2_bits.specs.Bits.{bit_of_bytes, byte_at}
 use Rattle.s2_rows.specs.Values.{is_value}
 use Rattle.s2_mode.specs.Limits.{most_soft}
-use Rattle.s2_file.specs.Field.{byte_at, bytes_of_bits}
 use Rattle.s2_file.proofs.Padding.{padded_yes}
 use Rattle.s2_file.proofs.ByteBits.{bit_back}
 use Rattle.s2_file.specs.declared.version.Version.{Version}
@@ -21,7 +19,7 @@ use Rattle.s2_file.specs.declared.version.Version.TheVariants as versions
 use Rattle.s2_file.specs.declared.header.Header.{Header}
 use Rattle.s2_mode.specs.Shape.{code_bits}
 use Rattle.s2_file.specs.File.{IsSoft, Split, Listed}
-use Rattle.s2_file.specs.Field.{Field, IsField, both, many, bit_list, entry}
+use Rattle.s2_file.specs.Field.{Field, IsField, places, both, many, bytes_of_bits, bit_list, entry}
 use Rattle.s2_file.specs.Format.{soft_width, soft, share, split, split_bytes, body}
 use Rattle.s2_file.proofs.EntryLemmas.{all_pass, length-listed}
 use Rattle.s2_file.proofs.Bodies.{listed}
@@ -88,8 +86,8 @@ many_are n f P p = record {
 
 pub bit_list_is : (n : ℕ) → IsField (bit_list n) (λ b. length b ≡ n)
 bit_list_is n = record {
-  long = λ b h. length-listed (byte_at b) ((length b + 7) / 8) ∙ ap (λ m. (m + 7) / 8) h;
-  passes = λ b h. padded_yes (bytes_of_bits b) n (λ k low high. bit_back b k (omega (arith, length-listed (byte_at b) ((length b + 7) / 8))) ∙ get_or_past b k false (omega (arith, h)));
+  long = λ b h. length-listed (λ i. byte_at b (8 * i)) ((length b + 7) / 8) ∙ ap (λ m. (m + 7) / 8) h;
+  passes = λ b h. padded_yes (bytes_of_bits b) n (λ k low high. bit_back b k (omega (arith, length-listed (λ i. byte_at b (8 * i)) ((length b + 7) / 8))) ∙ get_or_past b k false (omega (arith, h)));
   back = λ b h. sym (listed (bit_of_bytes (bytes_of_bits b)) n b h (λ k low. sym (bit_back b k (omega (arith, h)))));
 }
 

@@ -1,7 +1,7 @@
 -- What the tests of the entries say.
-use Rattle.std.proofs.Common.{◌≡◌, ◌<◌, true, false, ltb, ℤ, pos, neg_ℤ, int_lt, inl, inr, arith}
+use Rattle.std.proofs.Common.{◌≡◌, true, false, ℤ, pos, neg_ℤ, int_lt, inl, inr, arith}
 use Rattle.std.proofs.lemmas.Int.{ints}
-use Rattle.std.proofs.lemmas.Bool.{cases_Bool, and_parts, ltb-true, eqb-true}
+use Rattle.std.proofs.lemmas.Bool.{cases_Bool}
 use Rattle.s2_rows.specs.Values.{is_value}
 use Rattle.s2_mode.specs.Limits.{most_soft}
 use Rattle.s2_file.specs.File.{IsSoft}

@@ -2,7 +2,7 @@
 use Rattle.std.specs.Prelude.{◌≡◌, ℕ, ◌+◌, ◌-◌, ◌*◌, ◌/◌, ◌&&◌, not, Bool, true, List, ◌++◌, length, map, take, drop, ℤ}
 use Rattle.std.specs.Int.{Width, byte_len, from_be_bytes, to_be_bytes, cast_signed, cast_unsigned}
 use Rattle.std.specs.List.{list_all, flat_map, range_with_len}
-use Rattle.s2_bits.specs.Bits.{bit_at, bit_of_bytes, byte_of}
+use Rattle.s2_bits.specs.Bits.{bit_of_bytes, byte_at}
 
 pub record Field (A : Type 0) : Type 0 where
   pub size : ℕ
@@ -62,11 +62,8 @@ abbrev pub is_padded : List ℕ → ℕ → Bool
 is_padded bytes n = list_all (λ i. not (bit_of_bytes bytes i)) (range_with_len n (8 * length bytes - n))
 
 -- eight bits to a byte, the first the highest, and zeros past the end
-abbrev pub byte_at : List Bool → ℕ → ℕ
-byte_at bits k = byte_of (λ i. bit_at bits (8 * k + i))
-
 abbrev pub bytes_of_bits : List Bool → List ℕ
-bytes_of_bits bits = map (byte_at bits) (places ((length bits + 7) / 8))
+bytes_of_bits bits = map (λ k. byte_at bits (8 * k)) (places ((length bits + 7) / 8))
 
 -- so many bits, each byte's highest first, padded with zeros to a byte
 abbrev pub bit_list : ℕ → Field (List Bool)

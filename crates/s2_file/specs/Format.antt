@@ -11,7 +11,7 @@ use Rattle.s2_file.specs.declared.header.Header.{Header}
 use Rattle.s2_file.specs.declared.version.Version.{Version}
 use Rattle.s2_file.specs.declared.version.Version.TheVariants as versions
 use Rattle.s2_file.specs.Limits.{most_scale, most_shares}
-use Rattle.s2_file.specs.Field.{Field, number, signed, tested, both, many, bit_list}
+use Rattle.s2_file.specs.Field.{Field, signed, tested, both, many, bit_list}
 use Rattle.s2_file.specs.File.{File, IsFile, Split, Listed}
 
 -- a reading, and what is read after it

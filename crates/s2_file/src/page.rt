@@ -1,8 +1,9 @@
-//! A page of bytes on their way to a writer.
-ghost use Rattle.std.specs.Prelude.{◌≡◌, ◌-◌, ◌^◌, ◌<◌, OnOk, [], ◌∷◌};
+//! A page of bytes on their way to a writer. After a failed write the writer has gained a first part of
+//! what waited in the page and of the bytes behind it, and not all.
+ghost use Rattle.std.specs.Prelude.{◌-◌, ◌^◌, ◌<◌, OnOk, [], ◌∷◌};
 ghost use Rattle.arrayvec.specs.ArrayVec.{array_vec_len};
-ghost use Rattle.std.specs.Io.KnownBytes.{Appends, append_known};
 ghost use Rattle.s2_mode.specs.Counts.{CountsFault};
+ghost use Rattle.s2_file.specs.Pages.{PutsThrough};
 
 use arrayvec::ArrayVec;
 use s2_mode::{CountedWrite, WriteFault, write_full};
@@ -14,7 +15,7 @@ pub type Page = ArrayVec<u8, 4096>;
 fn make_room<W: CountedWrite>(out: &mut W, page: &mut Page) -> Result<(), WriteFault>
     requires { W.count out.old < 2 ^ 64 - 1 }
     ensures room { OnOk result (array_vec_len page.new < 4096) }
-    ensures bytes { OnOk result (Appends (append_known (W.contents out.old) page.old.items) (append_known (W.contents out.new) page.new.items) []) }
+    ensures bytes { PutsThrough [] (W.contents out.old) (W.contents out.new) page.old.items page.new.items result }
     ensures cause { CountsFault (W.count out.old) (W.count out.new) result }
 {
     if !page.is_full() {
@@ -28,7 +29,7 @@ fn make_room<W: CountedWrite>(out: &mut W, page: &mut Page) -> Result<(), WriteF
 /// Puts a byte into the page, and writes the page first where it is full.
 pub(crate) fn put<W: CountedWrite>(out: &mut W, page: &mut Page, byte: u8) -> Result<(), WriteFault>
     requires { W.count out.old < 2 ^ 64 - 1 }
-    ensures bytes { OnOk result (Appends (append_known (W.contents out.old) page.old.items) (append_known (W.contents out.new) page.new.items) (byte ∷ [])) }
+    ensures bytes { PutsThrough (byte ∷ []) (W.contents out.old) (W.contents out.new) page.old.items page.new.items result }
     ensures cause { CountsFault (W.count out.old) (W.count out.new) result }
 {
     make_room(out, page)?;
@@ -43,7 +44,7 @@ pub(crate) fn put_all<W: CountedWrite>(
     bytes: &[u8],
 ) -> Result<(), WriteFault>
     requires { W.count out.old < 2 ^ 64 - 1 }
-    ensures bytes { OnOk result (Appends (append_known (W.contents out.old) page.old.items) (append_known (W.contents out.new) page.new.items) bytes.now) }
+    ensures bytes { PutsThrough bytes.now (W.contents out.old) (W.contents out.new) page.old.items page.new.items result }
     ensures cause { CountsFault (W.count out.old) (W.count out.new) result }
 {
     for byte in bytes {

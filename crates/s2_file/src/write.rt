@@ -1,10 +1,12 @@
-//! The parts of a certificate file, each appended to what was written before.
-ghost use Rattle.std.specs.Prelude.{◌≡◌, ◌-◌, ◌^◌, ◌<◌, ◌≤◌, OnOk, All, length};
+//! The parts of a certificate file, each put behind what was put before into a page, which is written
+//! whenever it is full. After a failed write the writer has gained a first part of what waited in the
+//! page and of the bytes behind it, and not all.
+ghost use Rattle.std.specs.Prelude.{◌≡◌, ◌-◌, ◌^◌, ◌<◌, ◌≤◌, All, length};
 ghost use Rattle.std.specs.List.{flat_map};
-ghost use Rattle.std.specs.Io.KnownBytes.{Appends, append_known};
 ghost use Rattle.s2_mode.specs.Limits.{most_bits};
 ghost use Rattle.s2_mode.specs.Counts.{CountsFault};
 ghost use Rattle.s2_file.specs.Limits.{most_shares};
+ghost use Rattle.s2_file.specs.Pages.{PutsThrough};
 ghost use Rattle.s2_file.specs.Field.{bytes_of_bits};
 ghost use Rattle.s2_file.specs.File.{IsSoft};
 ghost use Rattle.s2_file.specs.Format.{header_bytes, soft, share, version_byte, count_bytes, front_bytes};
@@ -31,7 +33,7 @@ fn write_front<W: CountedWrite>(
     header: &Header,
 ) -> Result<(), WriteFault>
     requires { W.count out.old < 2 ^ 64 - 1 }
-    ensures bytes { OnOk result (Appends (append_known (W.contents out.old) page.old.items) (append_known (W.contents out.new) page.new.items) (front_bytes header.now)) }
+    ensures bytes { PutsThrough (front_bytes header.now) (W.contents out.old) (W.contents out.new) page.old.items page.new.items result }
     ensures cause { CountsFault (W.count out.old) (W.count out.new) result }
 {
     let version = byte_of(header.version);
@@ -56,7 +58,7 @@ fn write_count<W: CountedWrite>(
     count: u32,
 ) -> Result<(), WriteFault>
     requires { W.count out.old < 2 ^ 64 - 1 }
-    ensures bytes { OnOk result (Appends (append_known (W.contents out.old) page.old.items) (append_known (W.contents out.new) page.new.items) (count_bytes version count)) }
+    ensures bytes { PutsThrough (count_bytes version count) (W.contents out.old) (W.contents out.new) page.old.items page.new.items result }
     ensures cause { CountsFault (W.count out.old) (W.count out.new) result }
 {
     match version {
@@ -72,19 +74,18 @@ pub fn write_header<W: CountedWrite>(
 ) -> Result<(), WriteFault>
     requires count { W.count out.old < 2 ^ 64 - 1 }
     requires few { header.now.count ≤ most_shares }
-    ensures bytes { OnOk result (Appends (append_known (W.contents out.old) page.old.items) (append_known (W.contents out.new) page.new.items) (header_bytes header.now)) }
+    ensures bytes { PutsThrough (header_bytes header.now) (W.contents out.old) (W.contents out.new) page.old.items page.new.items result }
     ensures cause { CountsFault (W.count out.old) (W.count out.new) result }
 {
     write_front(out, page, header)?;
-    write_count(out, page, header.version, header.count as u32)?;
-    Ok(())
+    write_count(out, page, header.version, header.count as u32)
 }
 
 /// Writes a soft value.
 fn put_soft<W: CountedWrite>(out: &mut W, page: &mut Page, value: i16) -> Result<(), WriteFault>
     requires count { W.count out.old < 2 ^ 64 - 1 }
     requires range { IsSoft value }
-    ensures bytes { OnOk result (Appends (append_known (W.contents out.old) page.old.items) (append_known (W.contents out.new) page.new.items) (soft.bytes value)) }
+    ensures bytes { PutsThrough (soft.bytes value) (W.contents out.old) (W.contents out.new) page.old.items page.new.items result }
     ensures cause { CountsFault (W.count out.old) (W.count out.new) result }
 {
     put_all(out, page, &[(value as i8).cast_unsigned()])
@@ -98,7 +99,7 @@ pub fn write_soft<W: CountedWrite>(
 ) -> Result<(), WriteFault>
     requires count { W.count out.old < 2 ^ 64 - 1 }
     requires range { All IsSoft values.now }
-    ensures bytes { OnOk result (Appends (append_known (W.contents out.old) page.old.items) (append_known (W.contents out.new) page.new.items) (flat_map soft.bytes values.now)) }
+    ensures bytes { PutsThrough (flat_map soft.bytes values.now) (W.contents out.old) (W.contents out.new) page.old.items page.new.items result }
     ensures cause { CountsFault (W.count out.old) (W.count out.new) result }
 {
     for value in values {
@@ -115,7 +116,7 @@ pub fn write_word<W: CountedWrite>(
 ) -> Result<(), WriteFault>
     requires count { W.count out.old < 2 ^ 64 - 1 }
     requires few { length word.now ≤ most_bits }
-    ensures bytes { OnOk result (Appends (append_known (W.contents out.old) page.old.items) (append_known (W.contents out.new) page.new.items) (bytes_of_bits word.now)) }
+    ensures bytes { PutsThrough (bytes_of_bits word.now) (W.contents out.old) (W.contents out.new) page.old.items page.new.items result }
     ensures cause { CountsFault (W.count out.old) (W.count out.new) result }
 {
     for k in 0..word.len().div_ceil(8) {
@@ -131,7 +132,7 @@ pub fn write_share<W: CountedWrite>(
     value: i32,
 ) -> Result<(), WriteFault>
     requires { W.count out.old < 2 ^ 64 - 1 }
-    ensures bytes { OnOk result (Appends (append_known (W.contents out.old) page.old.items) (append_known (W.contents out.new) page.new.items) (share.bytes value)) }
+    ensures bytes { PutsThrough (share.bytes value) (W.contents out.old) (W.contents out.new) page.old.items page.new.items result }
     ensures cause { CountsFault (W.count out.old) (W.count out.new) result }
 {
     put_all(out, page, &value.cast_unsigned().to_be_bytes())

@@ -1,4 +1,4 @@
-use Rattle.std.proofs.Common.{◌≡◌, ◌+◌, ◌*◌, ◌/◌, length, sym, ◌∙◌, arith}
+use Rattle.std.proofs.Common.{◌≡◌, length, sym, ◌∙◌, arith}
 use Rattle.s2_file.specs.Format.{body}
 use Rattle.s2_file.proofs.Bodies.{body_accepted, body_passes}
 use Rattle.s2_file.proofs.contents.accept.Goals as goal
