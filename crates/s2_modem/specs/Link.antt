@@ -25,12 +25,15 @@ pub record Transmitter : Type 0 where
   pub link : Link
   pub limit : ℕ
 
--- the answer for a setup and rows: the first of three refusals, or else a transmitter on the link, unless there is no memory
+-- when a setup and rows are refused, at both ends of a link: the first of three
+abbrev pub RefusesLink : Setup → Rows → SetupFault → Type 0
+RefusesLink setup rows faults.OtherShape = rows.shape ≢ shape_in setup.mode
+RefusesLink setup rows faults.BadNumber = HasShape setup rows × (most_number < setup.number)
+RefusesLink setup rows faults.BadRollOff = HasShape setup rows × (setup.number ≤ most_number) × (most_roll_off < setup.roll_off)
+RefusesLink setup rows fault = ⊥
+
+-- the answer for a setup and rows: a refusal, or else a transmitter on the link, unless there is no memory
 abbrev pub TransmitterAnswers : Setup → Rows → Result Transmitter SetupFault → Type 0
 TransmitterAnswers setup rows (Ok t) = HasShape setup rows × (setup.number ≤ most_number) × (setup.roll_off ≤ most_roll_off) × (t ≡ record { link = link_of setup rows; limit = most_packets })
-TransmitterAnswers setup rows (Err faults.OtherShape) = rows.shape ≢ shape_in setup.mode
-TransmitterAnswers setup rows (Err faults.BadNumber) = HasShape setup rows × (most_number < setup.number)
-TransmitterAnswers setup rows (Err faults.BadRollOff) = HasShape setup rows × (setup.number ≤ most_number) × (most_roll_off < setup.roll_off)
-TransmitterAnswers setup rows (Err faults.BadRounds) = ⊥
-TransmitterAnswers setup rows (Err faults.BadPasses) = ⊥
 TransmitterAnswers setup rows (Err faults.NoMemory) = HasShape setup rows × (setup.number ≤ most_number) × (setup.roll_off ≤ most_roll_off)
+TransmitterAnswers setup rows (Err fault) = RefusesLink setup rows fault

@@ -1,6 +1,6 @@
 -- What a receiver of a link reads, reports and writes, and which setups it refuses.
-use Rattle.std.specs.Prelude.{◌≡◌, ◌≢◌, ℕ, ◌<◌, ◌≤◌, ◌⊎◌, List, Option, Some, Result, Ok, Err}
-use Rattle.s2_mode.specs.Mode.{shape_in, symbols_in}
+use Rattle.std.specs.Prelude.{◌≡◌, ℕ, ◌<◌, ◌≤◌, ◌⊎◌, List, Option, Some, Result, Ok, Err}
+use Rattle.s2_mode.specs.Mode.{symbols_in}
 use Rattle.s2_rows.specs.Rows.{Rows}
 use Rattle.s2_scramble.specs.Gold.{most_number}
 use Rattle.s2_receive.specs.Receiving.{Rules, State, Decision, begun, rules_of, RunsOut, BreaksAfter}
@@ -14,7 +14,7 @@ use Rattle.s2_modem.specs.declared.receive.whole.DemodFault.{DemodFault}
 use Rattle.s2_modem.specs.declared.receive.whole.DemodFault.TheVariants as demod_faults
 use Rattle.s2_modem.specs.Deciding.{Effort}
 use Rattle.s2_modem.specs.Limits.{most_roll_off, most_rounds, most_passes}
-use Rattle.s2_modem.specs.Link.{Link, link_of, HasShape}
+use Rattle.s2_modem.specs.Link.{Link, link_of, HasShape, RefusesLink}
 use Rattle.s2_modem.specs.Passing.{passes_as}
 use Rattle.s2_modem.specs.Reports.{frame_decision}
 use Rattle.s2_modem.specs.ReportLines.{frame_line, cut_line, end_line}
@@ -49,12 +49,10 @@ pub record IsSetUp (setup : Setup) (rows : Rows) : Type 0 where
 
 -- when each refusal comes: the first of five; want of memory only where none of them does
 abbrev pub Refuses : Setup → Rows → Effort → SetupFault → Type 0
-Refuses setup rows effort faults.OtherShape = rows.shape ≢ shape_in setup.mode
-Refuses setup rows effort faults.BadNumber = HasShape setup rows × (most_number < setup.number)
-Refuses setup rows effort faults.BadRollOff = HasShape setup rows × (setup.number ≤ most_number) × (most_roll_off < setup.roll_off)
 Refuses setup rows effort faults.BadRounds = IsSetUp setup rows × ((effort.rounds ≡ 0) ⊎ (most_rounds < effort.rounds))
 Refuses setup rows effort faults.BadPasses = IsSetUp setup rows × (1 ≤ effort.rounds) × (effort.rounds ≤ most_rounds) × (most_passes < effort.passes)
 Refuses setup rows effort faults.NoMemory = IsSetUp setup rows × HasEffort effort
+Refuses setup rows effort fault = RefusesLink setup rows fault
 
 -- a new receiver of a setup, rows and an effort
 pub record IsNew (setup : Setup) (rows : Rows) (effort : Effort) (r : Receiver) : Type 0 where

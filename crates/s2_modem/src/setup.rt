@@ -1,5 +1,11 @@
 //! What both ends of a link agree on.
+ghost use Rattle.std.specs.Prelude.{IfOk, IfErr};
+ghost use Rattle.s2_modem.specs.Link.{RefusesLink};
+ghost use Rattle.s2_modem.specs.Reception.{IsSetUp};
+
+use s2_matrix::Matrix;
 use s2_mode::Mode;
+use s2_scramble::MOST_NUMBER;
 use thiserror::Error;
 
 /// The highest number of a roll-off (EN 302 307-1, 5.1.6): 0 is 0.35, 1 is 0.25 and 2 is 0.20.
@@ -35,4 +41,22 @@ pub enum SetupFault {
     BadPasses,
     #[error("no memory")]
     NoMemory,
+}
+
+/// Refuses what makes neither end of a link: a matrix that is not of the mode's shape, a scrambling number over
+/// 262141, a roll-off over 2. The first of these is answered.
+pub(crate) fn check_setup(setup: &Setup, matrix: &Matrix) -> Result<(), SetupFault>
+    ensures set_up { IfOk result (λ _. IsSetUp setup.now matrix.now) }
+    ensures refuses { IfErr result (RefusesLink setup.now matrix.now) }
+{
+    if matrix.shape() != setup.mode.shape() {
+        return Err(SetupFault::OtherShape);
+    }
+    if setup.number > MOST_NUMBER {
+        return Err(SetupFault::BadNumber);
+    }
+    if setup.roll_off > MOST_ROLL_OFF {
+        return Err(SetupFault::BadRollOff);
+    }
+    Ok(())
 }

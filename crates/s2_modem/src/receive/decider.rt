@@ -17,7 +17,7 @@ ghost use Rattle.s2_modem.specs.Link.{link_of};
 
 use crate::receive::judge::Judge;
 use crate::setup::Setup;
-use s2_bbframe::{Header, HeaderFault};
+use s2_bbframe::{Header, HeaderFault, field_bytes};
 use s2_bch::Bch;
 use s2_bits::{Bits, bytes_from};
 use s2_matrix::Matrix;
@@ -184,7 +184,7 @@ impl Buffers {
             soft: vec![in alloc; 0i16; mode.n()]?,
             bch_word: Bits::zeroed(alloc, mode.k())?,
             frame: Bits::zeroed(alloc, mode.kbch())?,
-            field: vec![in alloc; 0u8; (mode.kbch() - 80) / 8]?,
+            field: vec![in alloc; 0u8; field_bytes(mode)]?,
         })
     }
 }

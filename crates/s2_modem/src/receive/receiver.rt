@@ -18,12 +18,12 @@ ghost use Rattle.s2_modem.specs.Reception.{link_rules, rules_for, IsSetUp, HasEf
 use crate::receive::decider::Decider;
 use crate::receive::lines::ReportLines;
 use crate::receive::search::HeaderSearch;
-use crate::setup::{MOST_ROLL_OFF, Setup, SetupFault};
+use crate::setup::{Setup, SetupFault, check_setup};
 use s2_bits::Bits;
 use s2_matrix::Matrix;
 use s2_mode::{CountedRead, CountedWrite};
 use s2_receive::{Fault, MOST_SYMBOLS, Received, Step, receive_all};
-use s2_scramble::{Gold, MOST_NUMBER};
+use s2_scramble::Gold;
 use std::alloc::Global;
 use std::marker::Model;
 
@@ -54,15 +54,7 @@ pub(crate) fn tune<'a>(
     ensures begun { IfOk result (λ r. state_of r.place.phase r.place.at r.joiner r.place.totals ≡ begun) }
     ensures sound { IfOk result (λ r. IsSound (length r.frame.items) (length r.bytes.items) r.limit r.place.at r.place.totals) }
 {
-    if matrix.shape() != setup.mode.shape() {
-        return Err(SetupFault::OtherShape);
-    }
-    if setup.number > MOST_NUMBER {
-        return Err(SetupFault::BadNumber);
-    }
-    if setup.roll_off > MOST_ROLL_OFF {
-        return Err(SetupFault::BadRollOff);
-    }
+    check_setup(&setup, matrix)?;
     if rounds < 1 || rounds > MOST_ROUNDS {
         return Err(SetupFault::BadRounds);
     }

@@ -7,11 +7,10 @@ ghost use Rattle.s2_modem.specs.Sending.{TransmitterRuns};
 use crate::send::framer::Framer;
 use crate::send::outcome::{Counts, SendFault};
 use crate::send::sending::{MOST_PACKETS, send_all};
-use crate::setup::{MOST_ROLL_OFF, Setup, SetupFault};
-use s2_bbframe::Slicer;
+use crate::setup::{Setup, SetupFault, check_setup};
+use s2_bbframe::{Slicer, field_bytes};
 use s2_matrix::Matrix;
 use s2_mode::{CountedRead, CountedWrite};
-use s2_scramble::MOST_NUMBER;
 use std::alloc::Global;
 use std::marker::Model;
 
@@ -51,19 +50,9 @@ impl<'a> Transmitter<'a> {
     ) -> Result<Transmitter<'a>, SetupFault>
         ensures { TransmitterAnswers setup matrix.now result }
     {
-        if matrix.shape() != setup.mode.shape() {
-            return Err(SetupFault::OtherShape);
-        }
-        if setup.number > MOST_NUMBER {
-            return Err(SetupFault::BadNumber);
-        }
-        if setup.roll_off > MOST_ROLL_OFF {
-            return Err(SetupFault::BadRollOff);
-        }
+        check_setup(&setup, matrix)?;
         let slicer = Slicer::new(alloc, setup.mode).map_err(|_| SetupFault::NoMemory)?;
-        let field = vec![in alloc; 0u8; (setup.mode.kbch() - 80) / 8].map_err(
-            |_| SetupFault::NoMemory,
-        )?;
+        let field = vec![in alloc; 0u8; field_bytes(setup.mode)].map_err(|_| SetupFault::NoMemory)?;
         let framer = Framer::new(alloc, setup, matrix).map_err(|_| SetupFault::NoMemory)?;
         Ok(Transmitter {
             framer,
