@@ -1,5 +1,5 @@
 -- The check and the member of an edge by its number.
-use Rattle.std.proofs.Common.{◌≡◌, ℕ, ◌+◌, ◌-◌, ◌<◌, ◌≤◌, ◌==◌, true, length, get_or, ℤ, refl, ap, sym, ◌∙◌, inl, inr, arith}
+use Rattle.std.proofs.Common.{◌≡◌, ℕ, ◌+◌, ◌-◌, ◌<◌, ◌≤◌, ◌==◌, true, length, get_or, ℤ, ap, sym, ◌∙◌, inl, inr, arith}
 use Rattle.std.specs.List.{position_or_len}
 use Rattle.std.proofs.lemmas.Bool.{cases_lt}
 use Rattle.s2_matrix.specs.Code.{Code, members, first_edge, edge_of}
@@ -7,16 +7,6 @@ use Rattle.s2_matrix.proofs.Members.{first_edge_more, first_edge-le, place_in_me
 use Rattle.s2_minsum.specs.Plain.{State, is_edge}
 use Rattle.s2_minsum.proofs.Columns.{found}
 use Rattle.s2_minsum.proofs.StepStates.{edge_parts}
-
-pub some_checks : (code : Code) (edge : ℕ) → edge < first_edge code code.checks → 0 < code.checks
-some_checks code edge h = elim (cases_lt 0 code.checks) [
-  | inl lt ↦ lt
-  | inr le ↦ (
-      let none : code.checks ≡ 0 = omega arith in
-      let first : first_edge code 0 ≡ 0 = refl in
-      absurd (omega (arith, h, ap (first_edge code) none, first))
-      )
-]
 
 -- the edges of a check end where those of a later one begin, or before
 first_edge_before : (code : Code) (j k : ℕ) → j < k → first_edge code (j + 1) ≤ first_edge code k

@@ -1,20 +1,13 @@
 -- Posteriors: their bound, and how one changed message changes one of them.
-use Rattle.std.proofs.Common.{◌≡◌, ◌≢◌, ℕ, zero, suc, ◌+◌, ◌*◌, ◌<◌, ◌≤◌, Bool, true, cond, List, [], ◌∷◌, length, get_or, filter, ℤ, pos, ◌+ℤ◌, ◌-ℤ◌, unsigned_abs, refl, ap, inl, inr, arith}
+use Rattle.std.proofs.Common.{◌≡◌, ◌≢◌, ℕ, zero, suc, ◌+◌, ◌*◌, ◌<◌, ◌≤◌, Bool, true, cond, List, [], ◌∷◌, length, get_or, filter, ℤ, pos, ◌+ℤ◌, ◌-ℤ◌, unsigned_abs, ap, inl, inr, arith}
 use Rattle.std.specs.List.{range_with_len}
 use Rattle.std.proofs.lemmas.Bool.{cases_eq}
 use Rattle.std.proofs.lemmas.Int.{ints}
 use Rattle.s2_matrix.specs.Total.{total, upto}
 use Rattle.s2_matrix.specs.Code.{Code, checks_of}
-use Rattle.s2_matrix.proofs.Totals.{total-filter}
+use Rattle.s2_matrix.proofs.Totals.{total-filter, total-within}
 use Rattle.s2_mode.specs.Limits.{most_soft}
 use Rattle.s2_minsum.specs.Plain.{most_message, most_posterior, State, posterior}
-
-pub total-within : (f g : ℕ → ℤ) (a n : ℕ) → ((i : ℕ) → a ≤ i → i < a + n → f i ≡ g i) → total f (range_with_len a n) ≡ total g (range_with_len a n)
-total-within f g a zero h = refl
-total-within f g a (suc n) h =
-    let first : f a ≡ g a = h a (omega arith) (omega arith) in
-    let rest = total-within f g (a + 1) n (λ i low high. h i (omega arith) (omega arith)) in
-    λ x. first x +ℤ rest x
 
 pub total_small : (f : ℕ → ℤ) (m : ℕ) (xs : List ℕ) → ((k : ℕ) → unsigned_abs (f k) ≤ m) → unsigned_abs (total f xs) ≤ m * length xs
 total_small f m [] small = omega arith

@@ -6,7 +6,7 @@ ghost use Rattle.s2_mode.specs.Limits.{most_soft};
 ghost use Rattle.s2_minsum.specs.Plain.{posterior as posterior_of, layer as after_layer, round as after_round, start, decision, is_edge};
 ghost use Rattle.s2_minsum.specs.Decoding.{AreWithin, Decoding, decoded};
 
-use crate::edge::{check_of, message_place};
+use crate::edge::message_place;
 use crate::entries::{layers_of, scratch_len};
 use crate::hard::decide;
 use crate::layout::place_of;
@@ -130,7 +130,7 @@ impl<'a> Decoder<'a> {
         requires { edge < first_edge (code_of self.now.rows) (code_of self.now.rows).checks }
         ensures { (j i : ℕ) → is_edge (code_of self.now.rows) j i ≡ true → edge_of (code_of self.now.rows) j i ≡ edge → result ≡ (decoded self.now).message j i }
     {
-        let check = check_of(self.matrix, edge);
+        let check = self.matrix.check_of_edge(edge);
         let at = edge - self.matrix.first_edge(check);
         self.message_at(check, at)
     }

@@ -1,6 +1,6 @@
-//! Where the message on an edge stands.
-ghost use Rattle.std.specs.Prelude.{◌≡◌, ◌≤◌, ◌<◌, ◌+◌, ◌*◌, ◌/◌, ◌%◌, length, get_or};
-ghost use Rattle.s2_matrix.specs.Code.{code_of, members, first_edge};
+//! Where the message of a check to a member stands.
+ghost use Rattle.std.specs.Prelude.{◌≡◌, ◌<◌, ◌+◌, ◌*◌, ◌/◌, ◌%◌, length, get_or};
+ghost use Rattle.s2_matrix.specs.Code.{code_of, members};
 ghost use Rattle.s2_minsum.specs.Layout.{place_at, first_row};
 ghost use Rattle.s2_minsum.specs.Decoding.{AreLayers};
 
@@ -8,26 +8,6 @@ use crate::entries::find_span;
 use crate::layout::{back_to, place_among};
 use crate::rows::Entry;
 use s2_matrix::Matrix;
-
-/// The check of an edge, by halving.
-pub(crate) fn check_of(matrix: &Matrix, edge: usize) -> usize
-    requires { edge < first_edge (code_of matrix.now) (code_of matrix.now).checks }
-    ensures below { result < (code_of matrix.now).checks }
-    ensures from { first_edge (code_of matrix.now) result ≤ edge }
-    ensures before { edge < first_edge (code_of matrix.now) (result + 1) }
-{
-    let mut low = 0;
-    let mut high = matrix.check_count();
-    'halve: while high - low > 1 {
-        let middle = low + (high - low) / 2;
-        if matrix.first_edge(middle) <= edge {
-            low = middle;
-        } else {
-            high = middle;
-        }
-    }
-    low
-}
 
 /// Where the message of a check to its member at a place stands.
 pub(crate) fn message_place(

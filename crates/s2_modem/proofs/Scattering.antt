@@ -7,8 +7,8 @@ use Rattle.s2_bits.specs.Bits.{bit_at}
 use Rattle.s2_matrix.specs.Code.{Code, code_of, members, checks_of, IsCodeword}
 use Rattle.s2_matrix.proofs.Members.{place_in_members}
 use Rattle.s2_check.specs.Cost.{value_at}
-use Rattle.s2_check.specs.Hard.{hard_decision}
-use Rattle.s2_split.specs.Scattered.{IsScattered, differs, repaired}
+use Rattle.s2_check.specs.Hard.{hard_decision, differs}
+use Rattle.s2_split.specs.Scattered.{IsScattered, repaired}
 use Rattle.s2_check.proofs.BoundListed.{check_at}
 use Rattle.s2_split.proofs.RepairLemmas.{odd_is, hard_at, count_some, repair_lem}
 use Rattle.s2_receive.specs.declared.report.Verdict.TheVariants.{MostLikely}

@@ -9,13 +9,13 @@ use Rattle.s2_mode.specs.Shape.{IsShape, code_bits, check_count}
 use Rattle.s2_rows.specs.Rows.{Rows}
 use Rattle.s2_matrix.specs.Total.{total, upto}
 use Rattle.s2_matrix.specs.Code.{code_of, members, checks_of, is_member}
-use Rattle.s2_matrix.proofs.Totals.{total-same, total-zero, total-filter}
+use Rattle.s2_matrix.proofs.Totals.{total-same, total-zero, total-filter, total-within}
 use Rattle.s2_minsum.specs.Plain.{State, is_edge, posterior}
 use Rattle.s2_minsum.specs.Rows.{is_lacking}
 use Rattle.s2_minsum.specs.Layout.{row_of_bit, lane_of_bit, last_check, forth, back, entry_of, entry_count, place_at, lacked_row}
 use Rattle.s2_minsum.proofs.Places
 use Rattle.s2_minsum.proofs.Columns.{member_below, member_has, lacks, present, place_in}
-use Rattle.s2_minsum.proofs.Posteriors.{posterior_same, posterior_change, total-within, total_small}
+use Rattle.s2_minsum.proofs.Posteriors.{posterior_same, posterior_change, total_small}
 use Rattle.s2_minsum.proofs.StepStates.{edge_parts, is_edge-true, of_lane, layer_of, lane_small, hit, stands}
 
 module _ (rows : Rows) (shaped : IsShape rows.shape) (r : ℕ) (layer : r < rows.shape.q) (d : ℕ → ℕ → ℤ) where

@@ -1,18 +1,14 @@
 -- The rests before any move: scaled soft values in favour of the word.
-use Rattle.std.specs.Prelude.{ℕ, ◌+◌, ◌-◌, ◌*◌, ◌/◌, ◌%◌, Bool, not, if◌then◌else◌, List, map, replicate, ℤ, pos, int_lt, unsigned_abs}
+use Rattle.std.specs.Prelude.{ℕ, ◌+◌, ◌-◌, ◌*◌, ◌/◌, ◌%◌, Bool, if◌then◌else◌, List, map, replicate, ℤ, unsigned_abs}
 use Rattle.s2_mode.specs.Shape.{code_bits}
 use Rattle.s2_rows.specs.Rows.{Rows}
-use Rattle.s2_bits.specs.Bits.{bit_at}
 use Rattle.s2_matrix.specs.Total.{upto}
 use Rattle.s2_check.specs.Cost.{value_at}
+use Rattle.s2_check.specs.Hard.{differs}
 use Rattle.s2_minsum.specs.Layout.{bit_of}
 pub use Rattle.s2_settle.specs.Plain.{settling_scale}
 use Rattle.s2_settle.specs.Rests.{zero_rest}
 use Rattle.s2_settle.specs.Layer.{Held}
-
--- whether the hard decision differs from the word
-abbrev pub differs : List ℤ → List Bool → ℕ → Bool
-differs soft word i = if int_lt (value_at soft i) (pos 0) then not (bit_at word i) else bit_at word i
 
 -- the scaled soft value, in favour of the word
 abbrev pub started : List ℤ → List Bool → ℕ → ℕ

@@ -9,7 +9,8 @@ use Rattle.s2_matrix.specs.Code.{Code, members, checks_of}
 use Rattle.s2_check.specs.Moves.{no_move}
 use Rattle.s2_check.specs.declared.step.Move.{Move}
 use Rattle.s2_check.proofs.BoundListed.{check_at}
-use Rattle.s2_split.specs.Scattered.{differs, least_of}
+use Rattle.s2_check.specs.Hard.{differs}
+use Rattle.s2_split.specs.Scattered.{least_of}
 use Rattle.s2_split.specs.Greedy.{Moved, none_moved, free_for, move_to, serve}
 use Rattle.s2_split.specs.Kept.{served, is_among, taken_at, IsHeld, AreKept, HaveOneSign, NoneIsNegative}
 use Rattle.s2_split.proofs.Passes.{fold_passed, fold_left_out}

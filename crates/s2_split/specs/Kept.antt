@@ -11,7 +11,7 @@ use Rattle.s2_check.specs.declared.step.Move.{Move}
 use Rattle.s2_mode.specs.Limits.{most_soft}
 use Rattle.s2_rows.specs.Limits.{most_addresses}
 use Rattle.s2_split.specs.Greedy.{Moved, rest_at, none_moved, serve}
-use Rattle.s2_split.specs.Scattered.{differs}
+use Rattle.s2_check.specs.Hard.{differs}
 use Rattle.s2_split.specs.Spreading.{most_moved, spread_scale}
 
 -- a bit's scaled value in favour of the word

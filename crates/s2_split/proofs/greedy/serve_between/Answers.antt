@@ -1,7 +1,7 @@
 use Rattle.std.proofs.Common.{rules, ◌≡◌, ◌≢◌, ◌+◌, ℕ, ℤ, true, false, List, get_or, pos, w32, sym, subst, ◌∙◌, arith}
 use Rattle.std.proofs.lemmas.Int.{to_z-of_z}
 use Rattle.s2_matrix.specs.Code.{code_of}
-use Rattle.s2_split.specs.Scattered.{differs}
+use Rattle.s2_check.specs.Hard.{differs}
 use Rattle.s2_split.specs.Greedy.{Moved, none_moved, serve}
 use Rattle.s2_split.specs.Kept.{served, AreLow, AreKept, HaveOneSign}
 use Rattle.s2_check.specs.declared.step.Move.{Move}
