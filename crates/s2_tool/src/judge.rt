@@ -52,24 +52,20 @@ pub(crate) fn judgement(
     // at most 64800, so that the cost fits
     let _ = matrix.bits();
     let cost = cost(soft, word);
-    match verdict {
-        Verdict::MostLikely => Ok(Printed {
+    // a word is broken just where a check is odd
+    match (matrix.odd_check(word), verdict) {
+        (Some(check), _) => Ok(Printed {
+            exit: Exit::No,
+            text: broken_line(alloc, cost, check)?,
+        }),
+        (None, Verdict::MostLikely) => Ok(Printed {
             exit: Exit::Fine,
             text: most_likely_line(alloc, cost)?,
         }),
-        Verdict::Parity => Ok(Printed {
+        (None, _) => Ok(Printed {
             exit: Exit::No,
             text: parity_line(alloc, cost)?,
         }),
-        Verdict::Broken => {
-            let Some(check) = matrix.odd_check(word) else {
-                unreachable!();
-            };
-            Ok(Printed {
-                exit: Exit::No,
-                text: broken_line(alloc, cost, check)?,
-            })
-        }
     }
 }
 
@@ -201,6 +197,7 @@ pub fn self_command<S: CountedRead, O: CountedWrite, E: CountedWrite>(
         × CommandCounts ended (S.count soft.old) (S.count soft.new) console.old.output_failed console.new.output_failed
         × Complains ended console.old console.new }
 {
+    // groups of 4 bits, 2 of information and 3 of checks, are a shape
     let Some(shape) = Shape::new(4, 2, 3) else {
         unreachable!();
     };

@@ -43,7 +43,14 @@ pub(crate) fn receiver_of<'a>(
     match Receiver::new(alloc, setup, matrix, effort.rounds(), effort.passes()) {
         Ok(receiver) => Ok(receiver),
         Err(SetupFault::NoMemory) => Err(Fault::NoMemory),
-        Err(_) => unreachable!(),
+        // the matrix was read in the mode's shape, and no number of a `LinkSetup` or an `Effort` is refused
+        Err(
+            SetupFault::OtherShape
+            | SetupFault::BadNumber
+            | SetupFault::BadRollOff
+            | SetupFault::BadRounds
+            | SetupFault::BadPasses,
+        ) => unreachable!(),
     }
 }
 
@@ -78,6 +85,7 @@ pub(crate) fn receive_frames<S: CountedRead, P: CountedWrite, O: CountedWrite>(
         Ok(received) => Ok(exit_by(received.well)),
         Err(ReceiverFault::Read) => Err(Fault::Read),
         Err(ReceiverFault::Write) => Err(Fault::Write),
+        // a receiver that begins had no fault before
         Err(ReceiverFault::Failed) => unreachable!(),
     }
 }

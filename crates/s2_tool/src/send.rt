@@ -90,6 +90,7 @@ pub(crate) fn transmitter_of<'a>(
     match Transmitter::new(alloc, setup, matrix) {
         Ok(transmitter) => Ok(transmitter),
         Err(SetupFault::NoMemory) => Err(Fault::NoMemory),
+        // the matrix was read in the mode's shape, no number of a `LinkSetup` is refused, and it takes no effort
         Err(_) => unreachable!(),
     }
 }
