@@ -9,7 +9,7 @@ use Rattle.s2_tool.specs.declared.console.Printed.{Printed}
 use Rattle.s2_tool.specs.declared.exit.Exit.{Exit}
 use Rattle.s2_tool.specs.declared.fault.Fault.{Fault}
 use Rattle.s2_tool.specs.declared.fault.Fault.TheVariants as faults
-use Rattle.s2_tool.specs.Certifying.{Writes, Wrote, CertifiesDecided, IsCertified}
+use Rattle.s2_tool.specs.Certifying.{Writes, WritesPart, Wrote, WrotePart, CertifiesDecided, IsCertified}
 use Rattle.s2_tool.specs.Exits.{CommandAnswers}
 use Rattle.s2_tool.specs.Inputs.{IsOnly}
 use Rattle.s2_tool.specs.Judging.{default_rounds, judged, Says, SaysDecided, IsJudged, exit_on}
@@ -69,11 +69,14 @@ wrote : (rows : Rows) (passes : ℕ) (soft : List ℤ) (d : Decided) (exit : Exi
 wrote rows passes soft d exit old new is shown e w =
     record { shown = subst (λ x. IsShown rows soft x) is shown; exit_is = e ∙ ap (λ x. exit_on x.verdict) is; written = subst (λ x. Writes x.certificate old new) is w }
 
+wrote_part : (rows : Rows) (passes : ℕ) (soft : List ℤ) (d : Decided) (old new : Option (List ℕ)) → d ≡ judged passes rows soft → IsShown rows soft d → WritesPart d.certificate old new → WrotePart passes (rows, soft) old new
+wrote_part rows passes soft d old new is shown w = record { shown = subst (λ x. IsShown rows soft x) is shown; written = subst (λ x. WritesPart x.certificate old new) is w }
+
 -- and certifies
 pub certified : (rows : Rows) (passes : ℕ) (soft : List ℤ) (d : Decided) (made : Result Printed Fault) (old new : Option (List ℕ)) → d ≡ judged passes rows soft
     → CertifiesDecided d rows soft made old new → IsCertified passes (IsOnly (rows, soft)) made old new
 certified rows passes soft d (Ok p) old new is (said, shown, exit, written) = ((rows, soft), refl, wrote rows passes soft d p.exit old new is shown exit written)
-certified rows passes soft d (Err faults.Write) old new is h = tt
+certified rows passes soft d (Err faults.Write) old new is (shown, written) = ((rows, soft), refl, wrote_part rows passes soft d old new is shown written)
 certified rows passes soft d (Err faults.NoMemory) old new is h = h
 certified rows passes soft d (Err faults.Read) old new is h = absurd h
 certified rows passes soft d (Err faults.Mode) old new is h = absurd h

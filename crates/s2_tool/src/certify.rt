@@ -1,5 +1,5 @@
 //! Soft values judged, with a certificate.
-ghost use Rattle.std.specs.Prelude.{◌≡◌, ◌≢◌, ◌+◌, All, IsOk, OnOk, Result, Err, length};
+ghost use Rattle.std.specs.Prelude.{◌≡◌, ◌≢◌, ◌+◌, All, IsOk, OnOk, OnErr, Result, Err, length};
 ghost use Rattle.s2_mode.specs.Counts.{CountsFault};
 ghost use Rattle.s2_matrix.specs.Code.{code_of};
 ghost use Rattle.s2_check.specs.Views.{IsSoft};
@@ -9,7 +9,7 @@ ghost use Rattle.s2_tool.specs.Screens.{CanShow};
 ghost use Rattle.s2_tool.specs.Exits.{exit_of, CommandAnswers, CommandRuns, CommandCounts, Complains};
 ghost use Rattle.s2_tool.specs.Inputs.{AreInputs, IsOnly};
 ghost use Rattle.s2_tool.specs.Judging.{IsJudged};
-ghost use Rattle.s2_tool.specs.Certifying.{Writes, CertifiesDecided, Certifies, IsCertified};
+ghost use Rattle.s2_tool.specs.Certifying.{Writes, WritesPart, CertifiesDecided, Certifies, IsCertified};
 
 use crate::console::{Console, Printed};
 use crate::exit::Exit;
@@ -21,13 +21,14 @@ use s2_mode::{CountedRead, CountedWrite, Shape, WriteFault};
 use s2_modem::Judge;
 use std::alloc::Global;
 
-/// Writes a certificate, if there is one.
+/// Writes a certificate, if there is one. After a failed write a part of it is written.
 fn write_certificate<C: CountedWrite>(
     view: Option<CertView<'_>>,
     certificate: &mut C,
 ) -> Result<(), WriteFault>
     requires { CanCount (C.count certificate.old) }
     ensures bytes { OnOk result (Writes view.entry (C.contents certificate.old) (C.contents certificate.new)) }
+    ensures part { OnErr result (WritesPart view.entry (C.contents certificate.old) (C.contents certificate.new)) }
     ensures cause { CountsFault (C.count certificate.old) (C.count certificate.new) result }
 {
     match view {
@@ -132,7 +133,7 @@ fn print_certified<R: CountedRead, S: CountedRead, C: CountedWrite, O: CountedWr
 }
 
 /// `judge --cert`: `judge`, and the certificate of the decided bits where they are most likely. It is
-/// written before the verdict is printed.
+/// written before the verdict is printed; where its writer fails, a part of it is written.
 pub fn certify_command<
     R: CountedRead,
     S: CountedRead,

@@ -1,4 +1,4 @@
-use Rattle.std.proofs.Common.{ℤ, List, Result}
+use Rattle.std.proofs.Common.{rules, ℤ, List, Result}
 use Rattle.std.proofs.lemmas.Result.{err_from_is_err_and}
 use Rattle.s2_rows.specs.Rows.{Rows}
 use Rattle.s2_tool.specs.declared.fault.Fault.{Fault}
@@ -19,7 +19,7 @@ pub returns-in_err-judged-clause-certified : goal.returns-in_err-judged-clause-c
 returns-in_err-judged-clause-certified g c =
     let Is : Result (Rows × List ℤ) Fault → Type 0 = AreInputs c.args.shape (g.R.CountedRead.remaining c.args.rows.now) (g.S.CountedRead.remaining c.args.soft.now) in
     let p = err_from_is_err_and c.from_residual.result c.from_residual.ensures.1 in
-    rw (p.1, p.2) (uncertified c.args.passes Is c.in_err-judged.field-0.0 (g.C.CountedWrite.contents c.args.certificate.now))
+    rw (p.1, p.2) (uncertified c.args.passes Is c.in_err-judged.field-0.0 (g.C.CountedWrite.contents c.args.certificate.now) (search rules))
 
 pub returns-clause-answers : goal.returns-clause-answers
 returns-clause-answers g c =
