@@ -1,23 +1,13 @@
 -- Bytes of which a part was written.
-use Rattle.std.proofs.Common.{◌≡◌, ℕ, ◌+◌, ◌<◌, ◌≤◌, List, [], ◌∷◌, ◌++◌, Option, length, take, drop, get_or, sym, ap, ◌∙◌, subst, length-append, arith}
-use Rattle.std.proofs.Math.Seq.{take-append-add}
-use Rattle.std.proofs.KnownBytes.{Appends-trans}
-use Rattle.std.specs.Io.KnownBytes.{Appends}
+use Rattle.std.proofs.Common.{◌≡◌, ℕ, ◌+◌, ◌<◌, ◌≤◌, List, [], ◌∷◌, ◌++◌, Option, length, take, drop, get_or, sym, ap, ◌∙◌, subst, arith}
 use Rattle.std.specs.List.{flat_map}
-use Rattle.std.proofs.lemmas.List.{drop_more, take_all, take-append-le}
+use Rattle.std.proofs.lemmas.List.{drop_more, take_all}
 use Rattle.std.proofs.lemmas.List.Concat.{flat_map-append}
 use Rattle.s2_mode.specs.Pieces.{AppendsPart}
+use Rattle.s2_mode.proofs.Parts.{part_first, part_second}
 use Rattle.s2_bbframe.specs.Crc.{crc8}
 use Rattle.s2_bbframe.specs.Joining.{Run, run_of, more}
 use Rattle.s2_bbframe.proofs.BodySteps.{HasRead, run-good}
-
-pub part_first : (a b : Option (List ℕ)) (xs ys : List ℕ) → AppendsPart xs a b → AppendsPart (xs ++ ys) a b
-part_first a b xs ys p =
-    (p.0, omega (arith, p.1, length-append xs ys), subst (Appends a b) (sym (take-append-le p.0 xs ys (omega (arith, p.1)))) p.2)
-
-pub part_second : (a b c : Option (List ℕ)) (xs ys : List ℕ) → Appends a b xs → AppendsPart ys b c → AppendsPart (xs ++ ys) a c
-part_second a b c xs ys h p =
-    (length xs + p.0, omega (arith, p.1, length-append xs ys), subst (Appends a c) (sym (take-append-add xs ys p.0)) (Appends-trans a b c xs (take p.0 ys) h p.2))
 
 -- a packet could not be written
 pub breaks : (all : Run) (held : ℕ) (body bytes : List ℕ) (i good bad : ℕ) (w0 w w' : Option (List ℕ)) → i < length bytes → length body ≡ 187
