@@ -43,11 +43,11 @@ impl Shape {
         if group * (groups + q) > MOST_BITS {
             return None;
         }
-        Some(Shape { group, groups, q })
+        Some(Shape::of(group, groups, q))
     }
 
-    /// The shape of numbers that are known to be one's.
-    pub(crate) fn of(group: usize, groups: usize, q: usize) -> Shape
+    /// The shape of numbers that are known to be within these limits.
+    pub fn of(group: usize, groups: usize, q: usize) -> Shape
         requires { IsShape (shape_of group groups q) }
         ensures { result ≡ shape_of group groups q }
     {
