@@ -6,6 +6,7 @@ use Rattle.std.proofs.lemmas.List.Folds.{list_any_at}
 use Rattle.s2_check.specs.declared.step.Move.{Move}
 use Rattle.s2_split.specs.Spreading.{most_moved}
 use Rattle.s2_split.specs.Kept.{most_rest, most_between, is_among, taken_at, evenly_at, given_back}
+use Rattle.s2_split.proofs.Lesser.{IsWrittenAt}
 
 -- the member at a place is among them
 pub among_there : (ms : List ℕ) (i : ℕ) → i < length ms → is_among ms (get_or ms i 0) ≡ true
@@ -42,6 +43,49 @@ given_within rests ms held k few within =
     either true false = (omega (arith, ints, within.0), omega (arith, ints, within.1))
     either false c = (omega (arith, ints, within.0), omega (arith, ints, within.1))
 
+-- what a move adds to the member at a place
+abbrev pub gain : Move → ℕ → ℤ
+gain own i = cond (i == own.place) (pos own.amount) (neg_ℤ (pos own.amount))
+
+pub gain_within : (own : Move) (i : ℕ) → own.amount ≤ most_moved → (neg_ℤ (pos most_moved) ≤ℤ gain own i) × (gain own i ≤ℤ pos most_moved)
+gain_within own i few = either (i == own.place)
+  where
+    either : (b : Bool) → (neg_ℤ (pos most_moved) ≤ℤ cond b (pos own.amount) (neg_ℤ (pos own.amount))) × (cond b (pos own.amount) (neg_ℤ (pos own.amount)) ≤ℤ pos most_moved)
+    either true = (omega (arith, ints, few), omega (arith, ints, few))
+    either false = (omega (arith, ints, few), omega (arith, ints, few))
+
+-- the rest of a place once the held move is given back and another is made
+abbrev pub anew_at : List ℤ → List ℕ → Move → Move → ℕ → ℤ
+anew_at rests ms held own k =
+    given_back rests ms held k -ℤ taken_at ms (get_or ms own.place 0) (pos own.amount) k
+
+-- that of a member
+pub anew_member : (rests : List ℤ) (ms : List ℕ) (held own : Move) (i : ℕ) → AllPairs (λ a b. a < b) ms → held.place < length ms → own.place < length ms → i < length ms → anew_at rests ms held own (get_or ms i 0) ≡ get_or rests (get_or ms i 0) (pos 0) -ℤ gain held i +ℤ gain own i
+anew_member rests ms held own i rising held_low own_low h =
+    let x = get_or ms i 0 in
+    let d = own.amount in
+    let back = given_member rests ms held i rising held_low h in
+    let among = ap (λ b. cond b (cond (x == get_or ms own.place 0) (neg_ℤ (pos d)) (pos d)) (pos 0)) (among_there ms i h) in
+    let place = ap (λ b. cond b (neg_ℤ (pos d)) (pos d)) (same_place ms i own.place rising h own_low) in
+    ap₂ ◌-ℤ◌ back (among ∙ place) ∙ either (i == held.place) (i == own.place)
+  where
+    either : (b c : Bool) → get_or rests (get_or ms i 0) (pos 0) +ℤ cond b (neg_ℤ (pos held.amount)) (pos held.amount) -ℤ cond c (neg_ℤ (pos own.amount)) (pos own.amount) ≡ get_or rests (get_or ms i 0) (pos 0) -ℤ cond b (pos held.amount) (neg_ℤ (pos held.amount)) +ℤ cond c (pos own.amount) (neg_ℤ (pos own.amount))
+    either true true = omega (arith, ints)
+    either true false = omega (arith, ints)
+    either false true = omega (arith, ints)
+    either false false = omega (arith, ints)
+
+-- once each member's rest is written, all are so
+pub anew_written : (rests new : List ℤ) (ms : List ℕ) (held own : Move) → IsWrittenAt (pos 0) (anew_at rests ms held own) ms rests new → (k : ℕ) → get_or new k (pos 0) ≡ anew_at rests ms held own k
+anew_written rests new ms held own written k =
+    written k ∙ either (is_among ms k) (k == get_or ms held.place 0) (k == get_or ms own.place 0)
+  where
+    either : (b c e : Bool) → cond b (get_or rests k (pos 0) -ℤ cond b (cond c (neg_ℤ (neg_ℤ (pos held.amount))) (neg_ℤ (pos held.amount))) (pos 0) -ℤ cond b (cond e (neg_ℤ (pos own.amount)) (pos own.amount)) (pos 0)) (get_or rests k (pos 0)) ≡ get_or rests k (pos 0) -ℤ cond b (cond c (neg_ℤ (neg_ℤ (pos held.amount))) (neg_ℤ (pos held.amount))) (pos 0) -ℤ cond b (cond e (neg_ℤ (pos own.amount)) (pos own.amount)) (pos 0)
+    either true c e = refl
+    either false c e = omega (arith, ints)
+
+-- ---- the same by what is taken evenly, and what the two targets get
+
 -- a number of a list is changed
 pub changed : (xs : List ℤ) (i : ℕ) (v d : ℤ) (k : ℕ) → i < length xs → v ≡ get_or xs i (pos 0) +ℤ d → get_or (set xs i v) k (pos 0) ≡ get_or xs k (pos 0) +ℤ cond (k == i) d (pos 0)
 changed xs i v d k h is =
@@ -59,7 +103,6 @@ changed xs i v d k h is =
           )
     ]
 
--- what is taken evenly, and what the two targets get
 both_moves : (b f t : Bool) (a d : ℕ) (old : ℤ) → (f ≡ true → b ≡ true) → (t ≡ true → b ≡ true) → old -ℤ cond b (pos d -ℤ pos a) (pos 0) +ℤ cond f (neg_ℤ (pos (2 * a))) (pos 0) +ℤ cond t (pos (2 * d)) (pos 0) ≡ old -ℤ cond b (cond f (neg_ℤ (neg_ℤ (pos a))) (neg_ℤ (pos a))) (pos 0) -ℤ cond b (cond t (neg_ℤ (pos d)) (pos d)) (pos 0)
 both_moves true true true a d old from to = omega (arith, ints)
 both_moves true true false a d old from to = omega (arith, ints)

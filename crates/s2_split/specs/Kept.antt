@@ -1,5 +1,5 @@
 -- What the maker's lists hold while it works: for each bit its rest, for each check its move.
-use Rattle.std.specs.Prelude.{◌≡◌, ◌≢◌, ℕ, ◌+◌, ◌*◌, ◌<◌, ◌≤◌, ◌==◌, ◌↔◌, Bool, true, false, if◌then◌else◌, Option, None, Some, List, length, get_or, All, filter, fold, ℤ, pos, neg_ℤ, ◌*ℤ◌, ◌-ℤ◌, ◌≤ℤ◌}
+use Rattle.std.specs.Prelude.{◌≡◌, ◌≢◌, ℕ, ◌+◌, ◌*◌, ◌<◌, ◌≤◌, ◌==◌, ◌↔◌, Bool, true, false, if◌then◌else◌, Option, None, Some, List, length, get_or, All, filter, fold, count_by, ℤ, pos, neg_ℤ, ◌*ℤ◌, ◌-ℤ◌, ◌≤ℤ◌, int_lt}
 use Rattle.std.specs.List.{list_any}
 use Rattle.s2_matrix.specs.Total.{upto}
 use Rattle.s2_matrix.specs.Code.{Code, members, checks_of}
@@ -66,6 +66,15 @@ HaveOneSign a b = (pos 0 ≤ℤ a) ↔ (pos 0 ≤ℤ b)
 abbrev pub NoneIsNegative : ℕ → ℕ → List ℤ → Type 0
 NoneIsNegative from to rests =
     (k : ℕ) → from ≤ k → k < to → pos 0 ≤ℤ get_or rests k (pos 0)
+
+-- how many members of a check have a negative rest
+abbrev pub negatives_in : Code → List ℤ → ℕ → ℕ
+negatives_in code rests j = count_by (λ i. int_lt (get_or rests i (pos 0)) (pos 0)) (members code j)
+
+-- a count for each check
+pub record AreCounted (code : Code) (rests : List ℤ) (counts : List ℕ) : Type 0 where
+  pub long : length counts ≡ code.checks
+  pub each : (j : ℕ) → j < code.checks → get_or counts j 0 ≡ negatives_in code rests j
 
 -- each bit is in few checks
 abbrev pub AreFew : Code → Type 0

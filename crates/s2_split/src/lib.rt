@@ -3,9 +3,9 @@
 //! not it is one.
 //!
 //! A [`Maker`] stands above the parity checks and the checker of certificates, and below the
-//! receiver's decision. It takes all its memory when it is made: one rest for each bit and one
-//! move for each check. [`Maker::repair_into`] flips each bit that is in at least two
-//! checks, all of them odd. [`Maker::make`] first lets each wrong bit take what it lacks from its
+//! receiver's decision. It takes all its memory when it is made: one rest for each bit, one move and
+//! one count for each check. [`Maker::repair_into`] flips each bit that is in at least two checks,
+//! all of them odd. [`Maker::make`] first lets each wrong bit take what it lacks from its
 //! checks (greedy amounts), and where that leaves a rest below zero it spreads: check by check, the
 //! least rest gains half of what lies between it and the next. What it answers depends on its
 //! arguments alone; each split that it makes is accepted, so its word is most likely; and where the
@@ -25,6 +25,7 @@ pub mod laws;
 mod limits;
 mod make;
 mod maker;
+mod negatives;
 mod repair;
 mod rests;
 mod spread;

@@ -88,6 +88,7 @@ pub(crate) fn make_moves(
     word: &[bool],
     ways: Ways,
     rests: &mut [i32],
+    negatives: &mut [u32],
     moves: &mut [Move],
 ) -> u16
     requires soft { length soft.now ≡ (code_of matrix.now).bits }
@@ -95,12 +96,14 @@ pub(crate) fn make_moves(
     requires word { length word.now ≡ (code_of matrix.now).bits }
     requires few { AreFew (code_of matrix.now) }
     requires rests { length rests.old ≡ (code_of matrix.now).bits }
+    requires negatives { length negatives.old ≡ (code_of matrix.now).checks }
     requires moves { length moves.old ≡ (code_of matrix.now).checks }
     ensures made { made_of matrix.now word.now result moves.new ≡ shared (code_of matrix.now) (split_in_ways ways (code_of matrix.now) soft.now word.now) }
     ensures moves { ArePlaced (code_of matrix.now) word.now moves.new }
     ensures rests { result ≢ 0 → AreLeft (code_of matrix.now) soft.now word.now (placed_of (code_of matrix.now) word.now result moves.new) rests.new }
     ensures scaled { result ≤ spread_scale }
     ensures long { length rests.new ≡ length rests.old }
+    ensures negatives { length negatives.new ≡ length negatives.old }
 {
     if try_greedily(matrix, soft, word, rests, moves) {
         return 1;
@@ -109,7 +112,7 @@ pub(crate) fn make_moves(
         Ways::Greedy => 0,
         Ways::GreedyThenSpreading => {
             begin(matrix, soft, word, SPREAD_SCALE, rests, moves);
-            if spread(matrix, soft, word, rests, moves) {
+            if spread(matrix, soft, word, rests, negatives, moves) {
                 SPREAD_SCALE
             } else {
                 0

@@ -20,6 +20,7 @@ use std::marker::Model;
 pub struct Maker<'a> {
     matrix: &'a Matrix,
     rests: Vec<i32>,
+    negatives: Vec<u32>,
     moves: Vec<Move>,
     odd: Vec<bool>,
     word: Bits,
@@ -33,7 +34,7 @@ impl<'a> Model for Maker<'a> {
 
     ghost view = { λ m. record { rows = m.matrix.now; word = m.word; made = made_of m.matrix.now m.word m.scale m.moves.items; rests = m.rests.items } };
 
-    ghost invariant = { λ m. IsMaker m.matrix.now m.word m.scale m.rests.items m.moves.items m.odd.items };
+    ghost invariant = { λ m. IsMaker m.matrix.now m.word m.scale m.rests.items m.negatives.items m.moves.items m.odd.items };
 }
 
 impl<'a> Maker<'a> {
@@ -46,6 +47,7 @@ impl<'a> Maker<'a> {
         let bits = matrix.bits();
         let checks = matrix.check_count();
         let rests = vec![in alloc; 0i32; bits]?;
+        let negatives = vec![in alloc; 0u32; checks]?;
         let none = Move {
             place: 0,
             amount: 0,
@@ -56,6 +58,7 @@ impl<'a> Maker<'a> {
         Ok(Maker {
             matrix,
             rests,
+            negatives,
             moves,
             odd,
             word,
@@ -162,6 +165,7 @@ impl<'a> Maker<'a> {
             word.truths(),
             ways,
             &mut self.rests,
+            &mut self.negatives,
             &mut self.moves,
         );
         self.scale > 0

@@ -9,8 +9,8 @@ use Rattle.s2_split.proofs.Passes.{lists_as}
 use Rattle.s2_split.proofs.Ends.{passed, passed_more, test_is, spread_now, spread_later, spread_never, spread_stuck, ends_some, ends_none}
 use Rattle.s2_split.proofs.spread.spread.Goals as goal
 
-pub spread_pass-requires-clause-start : goal.spread_pass-requires-clause-start
-spread_pass-requires-clause-start c = record {
+pub next_pass-changed-requires-clause-start : goal.next_pass-changed-requires-clause-start
+next_pass-changed-requires-clause-start c = record {
   soft = c.args.soft.now;
   word = c.args.word.now;
   m = passed (code_of c.args.matrix.now) c.args.soft.now c.args.word.now c.passes.pass;
@@ -31,28 +31,30 @@ passes-preserved c =
           let before = c.passes.invariant.left (suc k) (omega arith) in
           before ∙ spread_later code soft word k m test ∙ ap (spread code soft word k) (sym (passed_more code soft word p))
           );
-      kept = subst (λ (n : Moved). AreKept code soft word spread_scale n c.spread_pass.new.rests c.spread_pass.new.moves) (sym (passed_more code soft word p)) (c.spread_pass.ensures.kept soft word m c.passes.invariant.kept);
+      counts_long = c.next_pass-changed.ensures.counts_long ∙ c.bring_counts.ensures.counts_long ∙ c.passes.invariant.counts_long;
+      counted = c.next_pass-changed.ensures.counted;
+      kept = subst (λ (n : Moved). AreKept code soft word spread_scale n c.next_pass-changed.new.rests c.next_pass-changed.new.moves) (sym (passed_more code soft word p)) (c.next_pass-changed.ensures.kept soft word m c.passes.invariant.kept);
     }
 
-pub returns-then-spread_pass-clause-moves : goal.returns-then-spread_pass-clause-moves
-returns-then-spread_pass-clause-moves c =
+pub returns-then-changed-eq0-clause-moves : goal.returns-then-changed-eq0-clause-moves
+returns-then-changed-eq0-clause-moves c =
     let code = code_of c.args.matrix.now in
     let soft = c.args.soft.now in
     let word = c.args.word.now in
-    kept_placed code soft word spread_scale _ c.spread_pass.new.rests c.spread_pass.new.moves c.requires.word (c.spread_pass.ensures.kept soft word (passed code soft word c.passes.pass) c.passes.invariant.kept)
+    kept_placed code soft word spread_scale _ c.next_pass-changed.new.rests c.next_pass-changed.new.moves c.requires.word (c.next_pass-changed.ensures.kept soft word (passed code soft word c.passes.pass) c.passes.invariant.kept)
 
-pub returns-then-spread_pass-clause-ends : goal.returns-then-spread_pass-clause-ends
-returns-then-spread_pass-clause-ends c =
+pub returns-then-changed-eq0-clause-ends : goal.returns-then-changed-eq0-clause-ends
+returns-then-changed-eq0-clause-ends c =
     let code = code_of c.args.matrix.now in
     let soft = c.args.soft.now in
     let word = c.args.word.now in
     let k = most_passes - c.passes.pass in
     let m = passed code soft word c.passes.pass in
-    let new = c.spread_pass.new in
+    let new = c.next_pass-changed.new in
     let rests = c.passes.rests in
     let moves = c.passes.moves in
-    let same = c.spread_pass.ensures.same c.if-spread_pass.true in
-    let again = λ (n : Moved) (kept : AreKept code soft word spread_scale n rests moves). lists_as (λ r ms. AreKept code soft word spread_scale (spread_pass code soft word n) r ms) new.rests rests new.moves moves (sym same.0) (sym same.1) (c.spread_pass.ensures.kept soft word n kept) in
+    let same = c.next_pass-changed.ensures.same c.if-changed-eq0.true in
+    let again = λ (n : Moved) (kept : AreKept code soft word spread_scale n rests moves). lists_as (λ r ms. AreKept code soft word spread_scale (spread_pass code soft word n) r ms) new.rests rests new.moves moves (sym same.0) (sym same.1) (c.next_pass-changed.ensures.kept soft word n kept) in
     let never = c.passes.invariant.left k (omega arith) ∙ spread_stuck code soft word rests moves again c.none_negative.result c.none_negative.ensures c.if-none_negative.false k m c.passes.invariant.kept in
     ends_none code soft word (spread code soft word most_passes none_moved) new.rests new.moves never
 

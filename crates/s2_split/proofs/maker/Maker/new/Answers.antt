@@ -14,6 +14,7 @@ invariant_of-result c =
       few = λ i low. c.bits-bits.ensures.few_checks i;
       scaled = omega arith;
       rests_long = omega (arith, c.in_ok-rests.ensures.len, c.bits-bits.ensures.is);
+      negatives_long = omega (arith, c.in_ok-negatives.ensures.len, c.check_count-checks.ensures.is);
       odd_long = omega (arith, c.in_ok-odd.ensures.len, c.check_count-checks.ensures.is);
       moves = none_placed c.args.matrix.now c.in_ok-word.word c.in_ok-moves.moves.items (ap length c.in_ok-word.ensures ∙ length-replicate n _ ∙ c.bits-bits.ensures.is) (long ∙ c.check_count-checks.ensures.is) (λ j low. ap (λ xs. get_or xs j no_move) moves ∙ get_or-replicate checks j no_move no_move (omega (arith, long)));
       left = λ some. absurd (some refl);
