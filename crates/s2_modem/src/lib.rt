@@ -3,12 +3,13 @@
 //! the crates below.
 //!
 //! [`Transmitter::new`] and [`Receiver::new`] take all the memory that will be needed, or answer the
-//! first of their refusals. [`Transmitter::run`] reads packets to the reader's end. `Ok` means that
-//! the writer has gained exactly the frames of the codewords of the BCH words of the scrambled
-//! baseband frames of the data stream's fields, in order. A refusal comes exactly where the packets
-//! give cause for it, or a read or a write failed; it leaves exactly the frames of the full fields of
-//! the packets accepted before, and only a failed write may leave fewer of them, and a part of the
-//! next one. [`Transmitter::limit`] and [`Receiver::limit`] lower how much is taken at most.
+//! first of their refusals; [`Transmitter::on_link`] and [`Receiver::on_link`] do the same where the
+//! caller has seen that there is none. [`Transmitter::run`] reads packets to the reader's end. `Ok`
+//! means that the writer has gained exactly the frames of the codewords of the BCH words of the
+//! scrambled baseband frames of the data stream's fields, in order. A refusal comes exactly where the
+//! packets give cause for it, or a read or a write failed; it leaves exactly the frames of the full
+//! fields of the packets accepted before, and only a failed write may leave fewer of them, and a part
+//! of the next one. [`Transmitter::limit`] and [`Receiver::limit`] lower how much is taken at most.
 //!
 //! [`Receiver::next`] takes just the symbols of the next frame, at the first header that is not before
 //! the last frame's end. What it reports and writes is exactly what the definitions say of these

@@ -9,7 +9,7 @@ use crate::streams::{Link, Sample, fits, packet_of_zeros, setup_of, transmitter_
 use crate::{Counts, DemodFault, Judge, Receiver, SendFault, SetupFault, Transmitter, demodulate};
 use s2_matrix::Matrix;
 use s2_mode::{Counted, Counting, InMemory, Shape};
-use s2_receive::{Fault, Received, Totals, Verdict};
+use s2_receive::{Received, StreamFault, Totals, Verdict};
 use s2_rows::{MakeFault, RowFault, Rows, make_rows, read_rows};
 use std::alloc::{AllocError, Global};
 use std::process::Abort;
@@ -166,17 +166,21 @@ fn receive_into(
     symbols: &[u8],
     packets: &mut Writer,
     report: &mut Writer,
-) -> Result<Received, Fault>
+) -> Result<Received, StreamFault>
     requires { receiver.old.state ≡ begun }
 {
     if packets.count() == u64::MAX || report.count() == u64::MAX {
-        return Err(Fault::Write);
+        return Err(StreamFault::Write);
     }
     receiver.run(&mut InMemory::new(symbols), packets, report)
 }
 
 /// What a receiver writes of symbols, in this room.
-fn receive(receiver: &mut Receiver<'_>, symbols: &[u8], room: Written) -> Result<Written, Fault>
+fn receive(
+    receiver: &mut Receiver<'_>,
+    symbols: &[u8],
+    room: Written,
+) -> Result<Written, StreamFault>
     requires { receiver.old.state ≡ begun }
 {
     let mut packets = Counting::new(room.packets);

@@ -18,7 +18,7 @@ use s2_bbframe::Header;
 use s2_bits::Bits;
 use s2_matrix::Matrix;
 use s2_mode::{ByOne, Counted, Counting, Endless, FailAt, Mode, Shape, WriteFault};
-use s2_receive::{Fault, MOST_SYMBOLS, Received, Step, Totals};
+use s2_receive::{Fault, MOST_SYMBOLS, Received, Step, StreamFault, Totals};
 use s2_rows::make_rows;
 use s2_scramble::Gold;
 use std::alloc::{AllocError, Global};
@@ -510,18 +510,22 @@ fn run_receiver(
     reader: &mut Reader<'_>,
     packets: &mut Writer,
     report: &mut Writer,
-) -> Result<Received, Fault>
+) -> Result<Received, StreamFault>
     requires { IsLive receiver.old.state.phase }
 {
     let failed = [reader.count(), packets.count(), report.count()];
     if failed[0] == u64::MAX || failed[1] == u64::MAX || failed[2] == u64::MAX {
-        return Err(Fault::Failed);
+        return Err(StreamFault::Read);
     }
     receiver.run(reader, packets, report)
 }
 
 /// Receives symbols in memory to their end by a single call.
-fn run_to_end(alloc: Global, receiver: &mut Receiver<'_>, symbols: &[u8]) -> Result<Received, Fault>
+fn run_to_end(
+    alloc: Global,
+    receiver: &mut Receiver<'_>,
+    symbols: &[u8],
+) -> Result<Received, StreamFault>
     requires { IsLive receiver.old.state.phase }
 {
     let mut reader = reader_of(Source::Slice(symbols), ALL);

@@ -1,6 +1,7 @@
 pub mod Limits
 pub mod Meeting
 pub mod Finding
+pub mod Faults
 pub mod Receiving
 pub mod Parts
 pub mod Stepping

@@ -206,7 +206,7 @@ StepAnswers rules old new r r' p p' w w' (Err faults.Write) = (new.phase ≡ pha
 StepAnswers rules old new r r' p p' w w' (Err faults.Failed) = ⊥
 
 -- how many symbols were taken after a step: up to the frame's end, or to the end of what there is of a cut one
-abbrev pub StandsBehind : ℕ → ℕ → Result Step Fault → Type 0
+abbrev pub StandsBehind : {E : Type 0} → ℕ → ℕ → Result Step E → Type 0
 StandsBehind size at (Ok (steps.Frame report)) = at ≡ report.at + size
 StandsBehind size at (Ok (steps.Cut place count)) = at ≡ place + count
 StandsBehind size at result = ⊤

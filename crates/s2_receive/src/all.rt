@@ -5,7 +5,7 @@ ghost use Rattle.s2_receive.specs.Stepping.{IsSound};
 
 use crate::parts::{Decide, Lines};
 use crate::receiver::Receiver;
-use crate::report::{Fault, Outcome, Received, Step, Totals, Verdict};
+use crate::report::{Outcome, Received, Step, StreamFault, Totals, Verdict};
 use crate::search::Search;
 use s2_mode::{CountedRead, CountedWrite, InMemory, WriteFault};
 
@@ -25,7 +25,7 @@ fn is_well(step: Step) -> bool
 
 /// Takes all steps that are left, up to the end line, and answers the totals and whether all was well. After
 /// a fault what was met before it is written whole: `Write` where a packet or a line could not be written,
-/// which then has a part, `Read` where a read failed or the limit was reached; `Failed` never.
+/// which then has a part, `Read` where a read failed or the limit was reached.
 pub fn receive_all<
     S: Search,
     D: Decide,
@@ -38,7 +38,7 @@ pub fn receive_all<
     reader: &mut R,
     packets: &mut P,
     report: &mut W,
-) -> Result<Received, Fault>
+) -> Result<Received, StreamFault>
     requires reader { R.count reader.old < 2 ^ 64 - 1 }
     requires packets { P.count packets.old < 2 ^ 64 - 1 }
     requires report { W.count report.old < 2 ^ 64 - 1 }
@@ -49,26 +49,25 @@ pub fn receive_all<
         (state_of receiver.old.place.phase receiver.old.place.at receiver.old.joiner receiver.old.place.totals) (state_of receiver.new.place.phase receiver.new.place.at receiver.new.joiner receiver.new.place.totals)
         (R.remaining reader.old) (R.remaining reader.new) (P.contents packets.old) (P.contents packets.new) (W.contents report.old) (W.contents report.new) received.well) }
     ensures totals { IfOk result (λ received. received.totals ≡ receiver.new.place.totals) }
-    ensures stops { IsErrOf result Fault.Read → StopsAfter (rules_of (S.passes receiver.old.search) (length receiver.old.frame.items) (D.decide receiver.old.decider) (L.frame_line receiver.old.lines) (L.cut_line receiver.old.lines) (L.end_line receiver.old.lines) receiver.old.limit)
+    ensures stops { IsErrOf result StreamFault.Read → StopsAfter (rules_of (S.passes receiver.old.search) (length receiver.old.frame.items) (D.decide receiver.old.decider) (L.frame_line receiver.old.lines) (L.cut_line receiver.old.lines) (L.end_line receiver.old.lines) receiver.old.limit)
         (state_of receiver.old.place.phase receiver.old.place.at receiver.old.joiner receiver.old.place.totals)
         (R.remaining reader.old) (P.contents packets.old) (P.contents packets.new) (W.contents report.old) (W.contents report.new) }
-    ensures breaks { IsErrOf result Fault.Write → BreaksAfter (rules_of (S.passes receiver.old.search) (length receiver.old.frame.items) (D.decide receiver.old.decider) (L.frame_line receiver.old.lines) (L.cut_line receiver.old.lines) (L.end_line receiver.old.lines) receiver.old.limit)
+    ensures breaks { IsErrOf result StreamFault.Write → BreaksAfter (rules_of (S.passes receiver.old.search) (length receiver.old.frame.items) (D.decide receiver.old.decider) (L.frame_line receiver.old.lines) (L.cut_line receiver.old.lines) (L.end_line receiver.old.lines) receiver.old.limit)
         (state_of receiver.old.place.phase receiver.old.place.at receiver.old.joiner receiver.old.place.totals)
         (R.remaining reader.old) (P.contents packets.old) (P.contents packets.new) (W.contents report.old) (W.contents report.new) }
-    ensures read { IsErrOf result Fault.Read → R.count reader.new ≢ R.count reader.old + 1 → (R.count reader.new ≡ R.count reader.old) × Reaches receiver.old.limit receiver.old.place.at (R.remaining reader.old) (R.remaining reader.new) }
-    ensures no_read { result ≢ Err Fault.Read → R.count reader.new ≡ R.count reader.old }
-    ensures write { IsErrOf result Fault.Write → ((P.count packets.new ≡ P.count packets.old + 1) × (W.count report.new ≡ W.count report.old))
+    ensures read { IsErrOf result StreamFault.Read → R.count reader.new ≢ R.count reader.old + 1 → (R.count reader.new ≡ R.count reader.old) × Reaches receiver.old.limit receiver.old.place.at (R.remaining reader.old) (R.remaining reader.new) }
+    ensures no_read { result ≢ Err StreamFault.Read → R.count reader.new ≡ R.count reader.old }
+    ensures write { IsErrOf result StreamFault.Write → ((P.count packets.new ≡ P.count packets.old + 1) × (W.count report.new ≡ W.count report.old))
         ⊎ ((P.count packets.new ≡ P.count packets.old) × (W.count report.new ≡ W.count report.old + 1)) }
-    ensures no_write { result ≢ Err Fault.Write → (P.count packets.new ≡ P.count packets.old) × (W.count report.new ≡ W.count report.old) }
-    ensures no_other { result ≢ Err Fault.Failed }
+    ensures no_write { result ≢ Err StreamFault.Write → (P.count packets.new ≡ P.count packets.old) × (W.count report.new ≡ W.count report.old) }
     ensures sound { IsSound (length receiver.new.frame.items) (length receiver.new.bytes.items) receiver.new.limit receiver.new.place.at receiver.new.place.totals }
     ensures takes { length receiver.new.frame.items ≡ D.size receiver.new.decider }
     ensures rules { rules_of (S.passes receiver.new.search) (length receiver.new.frame.items) (D.decide receiver.new.decider) (L.frame_line receiver.new.lines) (L.cut_line receiver.new.lines) (L.end_line receiver.new.lines) receiver.new.limit
         ≡ rules_of (S.passes receiver.old.search) (length receiver.old.frame.items) (D.decide receiver.old.decider) (L.frame_line receiver.old.lines) (L.cut_line receiver.old.lines) (L.end_line receiver.old.lines) receiver.old.limit }
 {
     let mut well = true;
-    'steps: for _step in 0..u64::MAX {
-        match receiver.next(reader, packets, report) {
+    'steps: loop {
+        match receiver.advance(reader, packets, report) {
             Ok(step) => {
                 if step == Step::End {
                     let totals = receiver.totals();
@@ -79,7 +78,6 @@ pub fn receive_all<
             Err(fault) => return Err(fault),
         }
     }
-    Err(Fault::Read)
 }
 
 /// Receives a whole stream that is in memory and shorter than the limit, from its first symbol to the end

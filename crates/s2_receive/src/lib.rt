@@ -32,7 +32,7 @@ mod stepping;
 pub use all::{receive_all, receive_bytes};
 pub use parts::{Decide, Decided, Lines};
 pub use receiver::{MOST_SYMBOLS, Receiver};
-pub use report::{Fault, Outcome, Phase, Received, Report, Step, Totals, Verdict};
+pub use report::{Fault, Outcome, Phase, Received, Report, Step, StreamFault, Totals, Verdict};
 pub use search::Search;
 
 #[cfg(test)]

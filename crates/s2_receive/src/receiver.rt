@@ -3,11 +3,12 @@ ghost use Rattle.std.specs.Prelude.{◌≡◌, ◌≢◌, ◌+◌, ◌-◌, ◌*
 ghost use Rattle.s2_mode.specs.Limits.{header_symbols};
 ghost use Rattle.s2_receive.specs.Limits.{most_symbols};
 ghost use Rattle.s2_receive.specs.declared.report.Report.{Report as ReportValue};
+ghost use Rattle.s2_receive.specs.Faults.{answer_of};
 ghost use Rattle.s2_receive.specs.Receiving.{IsLive, StepAnswers, MetFrame, Reaches, StandsBehind, begun, rules_of, state_of};
 ghost use Rattle.s2_receive.specs.Stepping.{IsSound};
 
 use crate::parts::{Decide, Lines};
-use crate::report::{Fault, Phase, Step, Totals};
+use crate::report::{Fault, Phase, Step, StreamFault, Totals};
 use crate::search::Search;
 use crate::stepping::{Place, take_step};
 use s2_bbframe::Joiner;
@@ -142,6 +143,48 @@ impl<S: Search, D: Decide, L: Lines> Receiver<S, D, L> {
         ensures write { IsErrOf result Fault.Write → ((P.count packets.new ≡ P.count packets.old + 1) × (W.count report.new ≡ W.count report.old))
             ⊎ ((P.count packets.new ≡ P.count packets.old) × (W.count report.new ≡ W.count report.old + 1)) }
         ensures no_write { result ≢ Err Fault.Write → (P.count packets.new ≡ P.count packets.old) × (W.count report.new ≡ W.count report.old) }
+    {
+        match self.place.phase {
+            Phase::Failed => Err(Fault::Failed),
+            Phase::Ended => Ok(Step::End),
+            Phase::Searching | Phase::Closing => Ok(self.advance(reader, packets, report)?),
+        }
+    }
+
+    /// Takes one step of a receiver that had no fault and is not at the end, as [`Receiver::next`] does.
+    pub(crate) fn advance<R: CountedRead, P: CountedWrite, W: CountedWrite>(
+        &mut self,
+        reader: &mut R,
+        packets: &mut P,
+        report: &mut W,
+    ) -> Result<Step, StreamFault>
+        requires reader { R.count reader.old < 2 ^ 64 - 1 }
+        requires packets { P.count packets.old < 2 ^ 64 - 1 }
+        requires report { W.count report.old < 2 ^ 64 - 1 }
+        requires sound { IsSound (length self.old.frame.items) (length self.old.bytes.items) self.old.limit self.old.place.at self.old.place.totals }
+        requires takes { length self.old.frame.items ≡ D.size self.old.decider }
+        requires live { IsLive self.old.place.phase }
+        ensures sound { IsSound (length self.new.frame.items) (length self.new.bytes.items) self.new.limit self.new.place.at self.new.place.totals }
+        ensures takes { length self.new.frame.items ≡ D.size self.new.decider }
+        ensures rules { rules_of (S.passes self.new.search) (length self.new.frame.items) (D.decide self.new.decider) (L.frame_line self.new.lines) (L.cut_line self.new.lines) (L.end_line self.new.lines) self.new.limit
+            ≡ rules_of (S.passes self.old.search) (length self.old.frame.items) (D.decide self.old.decider) (L.frame_line self.old.lines) (L.cut_line self.old.lines) (L.end_line self.old.lines) self.old.limit }
+        ensures step { StepAnswers
+            (rules_of (S.passes self.old.search) (length self.old.frame.items) (D.decide self.old.decider) (L.frame_line self.old.lines) (L.cut_line self.old.lines) (L.end_line self.old.lines) self.old.limit)
+            (state_of self.old.place.phase self.old.place.at self.old.joiner self.old.place.totals) (state_of self.new.place.phase self.new.place.at self.new.joiner self.new.place.totals)
+            (R.remaining reader.old) (R.remaining reader.new)
+            (P.contents packets.old) (P.contents packets.new) (W.contents report.old) (W.contents report.new) (answer_of result) }
+        ensures frame { (r : ReportValue) → result ≡ Ok (Step.Frame r) → MetFrame
+            (rules_of (S.passes self.old.search) (length self.old.frame.items) (D.decide self.old.decider) (L.frame_line self.old.lines) (L.cut_line self.old.lines) (L.end_line self.old.lines) self.old.limit)
+            (state_of self.old.place.phase self.old.place.at self.old.joiner self.old.place.totals) (state_of self.new.place.phase self.new.place.at self.new.joiner self.new.place.totals)
+            (R.remaining reader.old) (R.remaining reader.new)
+            (P.contents packets.old) (P.contents packets.new) (W.contents report.old) (W.contents report.new) r (D.last self.new.decider) }
+        ensures taken { StandsBehind (length self.old.frame.items) self.new.place.at result }
+        ensures read { IsErrOf result StreamFault.Read → (packets.new ≡ packets.old) × (report.new ≡ report.old)
+            × (R.count reader.new ≢ R.count reader.old + 1 → (R.count reader.new ≡ R.count reader.old) × Reaches self.old.limit self.old.place.at (R.remaining reader.old) (R.remaining reader.new)) }
+        ensures no_read { result ≢ Err StreamFault.Read → R.count reader.new ≡ R.count reader.old }
+        ensures write { IsErrOf result StreamFault.Write → ((P.count packets.new ≡ P.count packets.old + 1) × (W.count report.new ≡ W.count report.old))
+            ⊎ ((P.count packets.new ≡ P.count packets.old) × (W.count report.new ≡ W.count report.old + 1)) }
+        ensures no_write { result ≢ Err StreamFault.Write → (P.count packets.new ≡ P.count packets.old) × (W.count report.new ≡ W.count report.old) }
     {
         take_step(
             &mut self.search,

@@ -1,4 +1,7 @@
 //! What a receiver answers and counts.
+ghost use Rattle.std.specs.Prelude.{◌≡◌};
+ghost use Rattle.s2_receive.specs.Faults.{fault_of};
+
 use s2_bbframe::HeaderFault;
 use thiserror::Error;
 
@@ -70,6 +73,28 @@ pub enum Fault {
     /// An earlier call had a fault.
     #[error("stopped by an earlier fault")]
     Failed,
+}
+
+/// Why a stream was not received to its end.
+#[derive(Clone, Copy, Debug, PartialEq, Eq, Error)]
+pub enum StreamFault {
+    /// A read failed, or so many symbols were taken as are allowed.
+    #[error("cannot read")]
+    Read,
+    /// A packet or a line of the report could not be written.
+    #[error("cannot write")]
+    Write,
+}
+
+impl From<StreamFault> for Fault {
+    ghost from_gives = { λ fault answered. answered ≡ fault_of fault };
+
+    fn from(fault: StreamFault) -> Fault {
+        match fault {
+            StreamFault::Read => Fault::Read,
+            StreamFault::Write => Fault::Write,
+        }
+    }
 }
 
 /// What a receiver will do next.

@@ -6,13 +6,14 @@ ghost use Rattle.s2_mode.specs.Counts.{CountsFault};
 ghost use Rattle.s2_mode.specs.Limits.{header_symbols};
 ghost use Rattle.s2_mode.specs.Pieces.{AppendsPart};
 ghost use Rattle.s2_receive.specs.declared.report.Report.{Report as ReportValue};
+ghost use Rattle.s2_receive.specs.Faults.{answer_of};
 ghost use Rattle.s2_receive.specs.Receiving.{IsLive, StepAnswers, MetFrame, Reaches, StandsBehind, joined_after, totals_after, cut_totals, count_of, rules_of, state_of, report_for};
 ghost use Rattle.s2_receive.specs.Stepping.{Fits, HasRoom, FailsIn};
 
 use crate::delivering::{Given, give_packets};
 use crate::finding::{Found, find_frame};
 use crate::parts::{Decide, Lines};
-use crate::report::{Fault, Phase, Report, Step, Totals};
+use crate::report::{Phase, Report, Step, StreamFault, Totals};
 use crate::search::Search;
 use s2_bbframe::Joiner;
 use s2_mode::{CountedRead, CountedWrite, Symbol, WriteFault};
@@ -88,11 +89,11 @@ fn meet_cut<L: Lines, W: CountedWrite>(
     at: u64,
     count: u64,
     report: &mut W,
-) -> Result<Step, Fault>
+) -> Result<Step, StreamFault>
     requires report { W.count report.old < 2 ^ 64 - 1 }
     requires room { at + count < 2 ^ 64 }
     ensures step { IfOk result (λ step. step ≡ Step.Cut at count) }
-    ensures fault { IfErr result (λ fault. fault ≡ Fault.Write) }
+    ensures fault { IfErr result (λ fault. fault ≡ StreamFault.Write) }
     ensures gap { joiner.new ≡ None }
     ensures place { OnOk result (place.new ≡ record place.old { phase = Phase.Closing; at = at + count; totals = cut_totals place.old.totals }) }
     ensures unchanged { OnErr result (place.new ≡ place.old) }
@@ -102,7 +103,7 @@ fn meet_cut<L: Lines, W: CountedWrite>(
 {
     joiner.gap();
     let Ok(()) = lines.write_cut(at, count, report) else {
-        return Err(Fault::Write);
+        return Err(StreamFault::Write);
     };
     place.at = at + count;
     place.totals.cut = true;
@@ -115,10 +116,10 @@ fn write_last<L: Lines, W: CountedWrite>(
     lines: &L,
     place: &mut Place,
     report: &mut W,
-) -> Result<Step, Fault>
+) -> Result<Step, StreamFault>
     requires report { W.count report.old < 2 ^ 64 - 1 }
     ensures step { IfOk result (λ step. step ≡ Step.End) }
-    ensures fault { IfErr result (λ fault. fault ≡ Fault.Write) }
+    ensures fault { IfErr result (λ fault. fault ≡ StreamFault.Write) }
     ensures place { OnOk result (place.new ≡ record place.old { phase = Phase.Ended }) }
     ensures unchanged { OnErr result (place.new ≡ place.old) }
     ensures line { OnOk result (Appends (W.contents report.old) (W.contents report.new) (L.end_line lines.now place.old.totals)) }
@@ -126,13 +127,13 @@ fn write_last<L: Lines, W: CountedWrite>(
     ensures cause { CountsFault (W.count report.old) (W.count report.new) result }
 {
     let Ok(()) = lines.write_end(place.totals, report) else {
-        return Err(Fault::Write);
+        return Err(StreamFault::Write);
     };
     place.phase = Phase::Ended;
     Ok(Step::End)
 }
 
-/// Takes a receiver's parts one step on. It counts as failed until all of the step is written.
+/// Takes the parts of a live receiver one step on. It counts as failed until all of the step is written.
 pub(crate) fn take_step<
     S: Search,
     D: Decide,
@@ -152,7 +153,7 @@ pub(crate) fn take_step<
     reader: &mut R,
     packets: &mut P,
     report: &mut W,
-) -> Result<Step, Fault>
+) -> Result<Step, StreamFault>
     requires reader { R.count reader.old < 2 ^ 64 - 1 }
     requires packets { P.count packets.old < 2 ^ 64 - 1 }
     requires report { W.count report.old < 2 ^ 64 - 1 }
@@ -160,42 +161,35 @@ pub(crate) fn take_step<
     requires bytes { length bytes.old ≡ 4 * length frame.old }
     requires takes { length frame.old ≡ D.size decider.old }
     requires fits { Fits limit place.old.at place.old.totals }
-    ensures live { IsLive place.old.phase → StepAnswers
+    requires live { IsLive place.old.phase }
+    ensures step { StepAnswers
         (rules_of (S.passes search.old) (length frame.old) (D.decide decider.old) (L.frame_line lines.now) (L.cut_line lines.now) (L.end_line lines.now) limit)
         (state_of place.old.phase place.old.at joiner.old place.old.totals) (state_of place.new.phase place.new.at joiner.new place.new.totals)
-        (R.remaining reader.old) (R.remaining reader.new) (P.contents packets.old) (P.contents packets.new) (W.contents report.old) (W.contents report.new) result }
+        (R.remaining reader.old) (R.remaining reader.new) (P.contents packets.old) (P.contents packets.new) (W.contents report.old) (W.contents report.new) (answer_of result) }
     ensures frame { (r : ReportValue) → result ≡ Ok (Step.Frame r) → MetFrame
         (rules_of (S.passes search.old) (length frame.old) (D.decide decider.old) (L.frame_line lines.now) (L.cut_line lines.now) (L.end_line lines.now) limit)
         (state_of place.old.phase place.old.at joiner.old place.old.totals) (state_of place.new.phase place.new.at joiner.new place.new.totals)
         (R.remaining reader.old) (R.remaining reader.new) (P.contents packets.old) (P.contents packets.new) (W.contents report.old) (W.contents report.new) r (D.last decider.new) }
     ensures taken { StandsBehind (length frame.old) place.new.at result }
-    ensures ended { place.old.phase ≡ Phase.Ended → result ≡ Ok Step.End }
-    ensures failed { place.old.phase ≡ Phase.Failed → result ≡ Err Fault.Failed }
-    ensures nothing { (IsLive place.old.phase → ⊥) → (place.new ≡ place.old) × (joiner.new ≡ joiner.old) × (reader.new ≡ reader.old) × (packets.new ≡ packets.old) × (report.new ≡ report.old) }
-    ensures read { IsErrOf result Fault.Read → (packets.new ≡ packets.old) × (report.new ≡ report.old)
+    ensures read { IsErrOf result StreamFault.Read → (packets.new ≡ packets.old) × (report.new ≡ report.old)
         × (R.count reader.new ≢ R.count reader.old + 1 → (R.count reader.new ≡ R.count reader.old) × Reaches limit place.old.at (R.remaining reader.old) (R.remaining reader.new)) }
-    ensures no_read { result ≢ Err Fault.Read → R.count reader.new ≡ R.count reader.old }
-    ensures write { IsErrOf result Fault.Write → ((P.count packets.new ≡ P.count packets.old + 1) × (W.count report.new ≡ W.count report.old))
+    ensures no_read { result ≢ Err StreamFault.Read → R.count reader.new ≡ R.count reader.old }
+    ensures write { IsErrOf result StreamFault.Write → ((P.count packets.new ≡ P.count packets.old + 1) × (W.count report.new ≡ W.count report.old))
         ⊎ ((P.count packets.new ≡ P.count packets.old) × (W.count report.new ≡ W.count report.old + 1)) }
-    ensures no_write { result ≢ Err Fault.Write → (P.count packets.new ≡ P.count packets.old) × (W.count report.new ≡ W.count report.old) }
+    ensures no_write { result ≢ Err StreamFault.Write → (P.count packets.new ≡ P.count packets.old) × (W.count report.new ≡ W.count report.old) }
     ensures fits { Fits limit place.new.at place.new.totals }
     ensures passes { S.passes search.new ≡ S.passes search.old }
     ensures decide { D.decide decider.new ≡ D.decide decider.old }
     ensures takes { D.size decider.new ≡ D.size decider.old }
 {
-    match place.phase {
-        Phase::Failed => return Err(Fault::Failed),
-        Phase::Ended => return Ok(Step::End),
-        Phase::Closing => {
-            place.phase = Phase::Failed;
-            return write_last(lines, place, report);
-        }
-        Phase::Searching => {}
-    }
+    let closing = place.phase == Phase::Closing;
     place.phase = Phase::Failed;
+    if closing {
+        return write_last(lines, place, report);
+    }
     let size = frame.len() as u64;
     let Ok(found) = find_frame(search, reader, bytes, frame, place.at, false, limit) else {
-        return Err(Fault::Read);
+        return Err(StreamFault::Read);
     };
     match found {
         Found::Frame { at, over } => {
@@ -210,7 +204,7 @@ pub(crate) fn take_step<
                 packets,
                 report,
             ) else {
-                return Err(Fault::Write);
+                return Err(StreamFault::Write);
             };
             place.at = at + size;
             place.phase = Phase::Searching;

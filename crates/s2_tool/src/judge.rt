@@ -197,10 +197,7 @@ pub fn self_command<S: CountedRead, O: CountedWrite, E: CountedWrite>(
         × CommandCounts ended (S.count soft.old) (S.count soft.new) console.old.output_failed console.new.output_failed
         × Complains ended console.old console.new }
 {
-    // groups of 4 bits, 2 of information and 3 of checks, are a shape
-    let Some(shape) = Shape::new(4, 2, 3) else {
-        unreachable!();
-    };
+    let shape = Shape::of(4, 2, 3);
     let mut rows = InMemory::new(TOY_ROWS);
     judge_command(alloc, shape, 0, &mut rows, soft, console)
 }

@@ -22,8 +22,8 @@ use crate::files::read_matrix;
 use crate::link::LinkSetup;
 use s2_matrix::Matrix;
 use s2_mode::{CountedRead, CountedWrite};
-use s2_modem::{Receiver, Setup, SetupFault};
-use s2_receive::Fault as ReceiverFault;
+use s2_modem::{Receiver, Setup};
+use s2_receive::StreamFault;
 use std::alloc::Global;
 
 /// The receiver of a link.
@@ -40,18 +40,9 @@ pub(crate) fn receiver_of<'a>(
     ensures begun { IfOk result (λ r. r.state ≡ begun) }
     ensures memory { IsOkUnless result Fault.NoMemory }
 {
-    match Receiver::new(alloc, setup, matrix, effort.rounds(), effort.passes()) {
-        Ok(receiver) => Ok(receiver),
-        Err(SetupFault::NoMemory) => Err(Fault::NoMemory),
-        // the matrix was read in the mode's shape, and no number of a `LinkSetup` or an `Effort` is refused
-        Err(
-            SetupFault::OtherShape
-            | SetupFault::BadNumber
-            | SetupFault::BadRollOff
-            | SetupFault::BadRounds
-            | SetupFault::BadPasses,
-        ) => unreachable!(),
-    }
+    Receiver::on_link(alloc, setup, matrix, effort.rounds(), effort.passes()).map_err(
+        |_| Fault::NoMemory,
+    )
 }
 
 /// The exit of a stream that was received to its end.
@@ -83,10 +74,8 @@ pub(crate) fn receive_frames<S: CountedRead, P: CountedWrite, O: CountedWrite>(
 {
     match receiver.run(symbols, packets, out) {
         Ok(received) => Ok(exit_by(received.well)),
-        Err(ReceiverFault::Read) => Err(Fault::Read),
-        Err(ReceiverFault::Write) => Err(Fault::Write),
-        // a receiver that begins had no fault before
-        Err(ReceiverFault::Failed) => unreachable!(),
+        Err(StreamFault::Read) => Err(Fault::Read),
+        Err(StreamFault::Write) => Err(Fault::Write),
     }
 }
 

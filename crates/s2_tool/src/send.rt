@@ -19,7 +19,7 @@ use arrayvec::ArrayString;
 use itoa::Buffer;
 use s2_matrix::Matrix;
 use s2_mode::{CountedRead, CountedWrite, write_full};
-use s2_modem::{Counts, SendFault, Setup, SetupFault, Transmitter};
+use s2_modem::{Counts, SendFault, Setup, Transmitter};
 use std::alloc::Global;
 
 /// Room for the line of a run's counts: 17 bytes of words, and two numbers of at most 40 digits.
@@ -87,12 +87,7 @@ pub(crate) fn transmitter_of<'a>(
     ensures is { IfOk result (λ t. t ≡ transmitter_on (link_of setup matrix.now)) }
     ensures memory { IsOkUnless result Fault.NoMemory }
 {
-    match Transmitter::new(alloc, setup, matrix) {
-        Ok(transmitter) => Ok(transmitter),
-        Err(SetupFault::NoMemory) => Err(Fault::NoMemory),
-        // the matrix was read in the mode's shape, no number of a `LinkSetup` is refused, and it takes no effort
-        Err(_) => unreachable!(),
-    }
+    Transmitter::on_link(alloc, setup, matrix).map_err(|_| Fault::NoMemory)
 }
 
 /// Sends packets, and prints the counts.

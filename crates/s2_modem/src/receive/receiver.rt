@@ -5,6 +5,7 @@ ghost use Rattle.s2_receive.specs.declared.report.Report.{Report as ReportValue}
 ghost use Rattle.s2_receive.specs.declared.report.Phase.TheVariants as phases;
 ghost use Rattle.s2_receive.specs.declared.report.Step.TheVariants as steps;
 ghost use Rattle.s2_receive.specs.declared.report.Fault.TheVariants as faults;
+ghost use Rattle.s2_receive.specs.declared.report.StreamFault.TheVariants as stream_faults;
 ghost use Rattle.s2_receive.specs.Receiving.{IsLive, StepAnswers, MetFrame, Reaches, RunsTo, StandsBehind, StopsAfter, BreaksAfter, begun, rules_of, state_of};
 ghost use Rattle.s2_receive.specs.Stepping.{IsSound};
 ghost use Rattle.s2_receive.specs.Limits.{most_symbols};
@@ -13,7 +14,7 @@ ghost use Rattle.s2_modem.specs.Link.{link_of};
 ghost use Rattle.s2_modem.specs.Passing.{passes_as};
 ghost use Rattle.s2_modem.specs.Reports.{frame_decision};
 ghost use Rattle.s2_modem.specs.ReportLines.{frame_line, cut_line, end_line};
-ghost use Rattle.s2_modem.specs.Reception.{link_rules, rules_for, IsSetUp, HasEffort, Refuses, Makes, IsTuned};
+ghost use Rattle.s2_modem.specs.Reception.{link_rules, rules_for, IsSetUp, HasEffort, Refuses, IsNew, Makes, IsTuned};
 
 use crate::receive::decider::Decider;
 use crate::receive::lines::ReportLines;
@@ -22,9 +23,9 @@ use crate::setup::{Setup, SetupFault, check_setup};
 use s2_bits::Bits;
 use s2_matrix::Matrix;
 use s2_mode::{CountedRead, CountedWrite};
-use s2_receive::{Fault, MOST_SYMBOLS, Received, Step, receive_all};
+use s2_receive::{Fault, MOST_SYMBOLS, Received, Step, StreamFault, receive_all};
 use s2_scramble::Gold;
-use std::alloc::Global;
+use std::alloc::{AllocError, Global};
 use std::marker::Model;
 
 /// How many rounds of min-sum a receiver runs at most.
@@ -36,17 +37,38 @@ pub const MOST_PASSES: u32 = 1000;
 /// A receiver over the parts of a link.
 pub(crate) type Inner<'a> = s2_receive::Receiver<HeaderSearch, Decider<'a>, ReportLines>;
 
-/// Makes the parts of a receiver, or answers the first refusal.
+/// Refuses what makes no receiver: what makes neither end of a link, rounds that are not 1 to 200, passes over 1000.
+/// The first of these is answered.
+pub(crate) fn check_receiver(
+    setup: &Setup,
+    matrix: &Matrix,
+    rounds: u32,
+    passes: u32,
+) -> Result<(), SetupFault>
+    ensures set_up { IfOk result (λ _. IsSetUp setup.now matrix.now) }
+    ensures effort { IfOk result (λ _. HasEffort (effort_of rounds passes)) }
+    ensures refuses { IfErr result (Refuses setup.now matrix.now (effort_of rounds passes)) }
+{
+    check_setup(setup, matrix)?;
+    if rounds < 1 || rounds > MOST_ROUNDS {
+        return Err(SetupFault::BadRounds);
+    }
+    if passes > MOST_PASSES {
+        return Err(SetupFault::BadPasses);
+    }
+    Ok(())
+}
+
+/// Makes the parts of a receiver.
 pub(crate) fn tune<'a>(
     alloc: Global,
     setup: Setup,
     matrix: &'a Matrix,
     rounds: u32,
     passes: u32,
-) -> Result<Inner<'a>, SetupFault>
-    ensures refuses { IfErr result (Refuses setup matrix.now (effort_of rounds passes)) }
-    ensures set_up { IfOk result (λ _. IsSetUp setup matrix.now) }
-    ensures effort { IfOk result (λ _. HasEffort (effort_of rounds passes)) }
+) -> Result<Inner<'a>, AllocError>
+    requires set_up { IsSetUp setup matrix.now }
+    requires effort { HasEffort (effort_of rounds passes) }
     ensures rules { IfOk result (λ r. rules_of (passes_as r.search.search.mode) (length r.frame.items) (frame_decision r.decider.link r.decider.effort) frame_line cut_line end_line r.limit
         ≡ link_rules (link_of setup matrix.now) (effort_of rounds passes) most_symbols) }
     ensures takes { IfOk result (λ r. length r.frame.items ≡ symbols_in r.decider.link.setup.mode) }
@@ -54,34 +76,13 @@ pub(crate) fn tune<'a>(
     ensures begun { IfOk result (λ r. state_of r.place.phase r.place.at r.joiner r.place.totals ≡ begun) }
     ensures sound { IfOk result (λ r. IsSound (length r.frame.items) (length r.bytes.items) r.limit r.place.at r.place.totals) }
 {
-    check_setup(&setup, matrix)?;
-    if rounds < 1 || rounds > MOST_ROUNDS {
-        return Err(SetupFault::BadRounds);
-    }
-    if passes > MOST_PASSES {
-        return Err(SetupFault::BadPasses);
-    }
-    let Ok(gold) = Gold::new(alloc, setup.number) else {
-        return Err(SetupFault::NoMemory);
-    };
-    let Ok(decider) = Decider::new(alloc, setup, gold, matrix, rounds, passes) else {
-        return Err(SetupFault::NoMemory);
-    };
+    let gold = Gold::new(alloc, setup.number).map_err(|_| AllocError)?;
+    let decider = Decider::new(alloc, setup, gold, matrix, rounds, passes)?;
     let search = HeaderSearch {
         search: s2_plframe::Search::new(setup.mode),
     };
     let size = setup.mode.symbols();
-    let Ok(inner) = s2_receive::Receiver::new(
-        alloc,
-        search,
-        decider,
-        ReportLines {},
-        size,
-        MOST_SYMBOLS,
-    ) else {
-        return Err(SetupFault::NoMemory);
-    };
-    Ok(inner)
+    s2_receive::Receiver::new(alloc, search, decider, ReportLines {}, size, MOST_SYMBOLS)
 }
 
 /// Receives the frames of one link, and writes the packets that they carry.
@@ -136,6 +137,24 @@ impl<'a> Receiver<'a> {
     ) -> Result<Receiver<'a>, SetupFault>
         ensures { Makes setup matrix.now (effort_of rounds passes) result }
     {
+        check_receiver(&setup, matrix, rounds, passes)?;
+        Receiver::on_link(alloc, setup, matrix, rounds, passes).map_err(|_| SetupFault::NoMemory)
+    }
+
+    /// A receiver with all the memory that it needs, of a setup, a matrix, rounds and passes that
+    /// [`Receiver::new`] does not refuse: that is the caller's to see to. `AllocError` only where memory does
+    /// not suffice.
+    pub fn on_link(
+        alloc: Global,
+        setup: Setup,
+        matrix: &'a Matrix,
+        rounds: u32,
+        passes: u32,
+    ) -> Result<Receiver<'a>, AllocError>
+        requires set_up { IsSetUp setup matrix.now }
+        requires effort { HasEffort (effort_of rounds passes) }
+        ensures { IfOk result (IsNew setup matrix.now (effort_of rounds passes)) }
+    {
         let Setup {
             mode,
             number,
@@ -146,10 +165,8 @@ impl<'a> Receiver<'a> {
             number,
             roll_off,
         };
-        match tune(alloc, setup, matrix, rounds, passes) {
-            Ok(inner) => Ok(Receiver::of_parts(kept, matrix, rounds, passes, inner)),
-            Err(fault) => Err(fault),
-        }
+        let inner = tune(alloc, setup, matrix, rounds, passes)?;
+        Ok(Receiver::of_parts(kept, matrix, rounds, passes, inner))
     }
 
     /// The receiver that has these parts.
@@ -229,13 +246,12 @@ impl<'a> Receiver<'a> {
     ///
     /// After a fault what was met before it is written whole: after `Read`, which comes as in
     /// [`Receiver::next`], nothing else is, after `Write` a part of the next packets or line is.
-    /// `Failed` is never answered.
     pub fn run<R: CountedRead, P: CountedWrite, W: CountedWrite>(
         &mut self,
         reader: &mut R,
         packets: &mut P,
         report: &mut W,
-    ) -> Result<Received, Fault>
+    ) -> Result<Received, StreamFault>
         requires reader { R.count reader.old < 2 ^ 64 - 1 }
         requires packets { P.count packets.old < 2 ^ 64 - 1 }
         requires report { W.count report.old < 2 ^ 64 - 1 }
@@ -243,16 +259,15 @@ impl<'a> Receiver<'a> {
         ensures all { IfOk result (λ received. RunsTo (rules_for self.old) self.old.state self.new.state (R.remaining reader.old) (R.remaining reader.new)
             (P.contents packets.old) (P.contents packets.new) (W.contents report.old) (W.contents report.new) received.well) }
         ensures totals { IfOk result (λ received. received.totals ≡ self.new.state.standing.totals) }
-        ensures stops { IsErrOf result faults.Read → StopsAfter (rules_for self.old) self.old.state (R.remaining reader.old)
+        ensures stops { IsErrOf result stream_faults.Read → StopsAfter (rules_for self.old) self.old.state (R.remaining reader.old)
             (P.contents packets.old) (P.contents packets.new) (W.contents report.old) (W.contents report.new) }
-        ensures breaks { IsErrOf result faults.Write → BreaksAfter (rules_for self.old) self.old.state (R.remaining reader.old)
+        ensures breaks { IsErrOf result stream_faults.Write → BreaksAfter (rules_for self.old) self.old.state (R.remaining reader.old)
             (P.contents packets.old) (P.contents packets.new) (W.contents report.old) (W.contents report.new) }
-        ensures read { IsErrOf result faults.Read → R.count reader.new ≢ R.count reader.old + 1 → (R.count reader.new ≡ R.count reader.old) × Reaches self.old.limit self.old.state.at (R.remaining reader.old) (R.remaining reader.new) }
-        ensures no_read { result ≢ Err faults.Read → R.count reader.new ≡ R.count reader.old }
-        ensures write { IsErrOf result faults.Write → ((P.count packets.new ≡ P.count packets.old + 1) × (W.count report.new ≡ W.count report.old))
+        ensures read { IsErrOf result stream_faults.Read → R.count reader.new ≢ R.count reader.old + 1 → (R.count reader.new ≡ R.count reader.old) × Reaches self.old.limit self.old.state.at (R.remaining reader.old) (R.remaining reader.new) }
+        ensures no_read { result ≢ Err stream_faults.Read → R.count reader.new ≡ R.count reader.old }
+        ensures write { IsErrOf result stream_faults.Write → ((P.count packets.new ≡ P.count packets.old + 1) × (W.count report.new ≡ W.count report.old))
             ⊎ ((P.count packets.new ≡ P.count packets.old) × (W.count report.new ≡ W.count report.old + 1)) }
-        ensures no_write { result ≢ Err faults.Write → (P.count packets.new ≡ P.count packets.old) × (W.count report.new ≡ W.count report.old) }
-        ensures no_other { result ≢ Err faults.Failed }
+        ensures no_write { result ≢ Err stream_faults.Write → (P.count packets.new ≡ P.count packets.old) × (W.count report.new ≡ W.count report.old) }
         ensures same { (self.new.link ≡ self.old.link) × (self.new.effort ≡ self.old.effort) × (self.new.limit ≡ self.old.limit) }
     {
         receive_all(&mut self.inner, reader, packets, report)

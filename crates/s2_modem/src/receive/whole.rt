@@ -3,7 +3,7 @@ ghost use Rattle.std.specs.Prelude.{◌≡◌, ◌≢◌, ◌+◌, ◌-◌, ◌*
 ghost use Rattle.s2_modem.specs.Deciding.{effort_of};
 ghost use Rattle.s2_modem.specs.Reception.{Demodulates};
 
-use crate::receive::receiver::tune;
+use crate::receive::receiver::{check_receiver, tune};
 use crate::setup::{Setup, SetupFault};
 use s2_matrix::Matrix;
 use s2_mode::CountedWrite;
@@ -43,9 +43,11 @@ pub fn demodulate<P: CountedWrite, W: CountedWrite>(
         ⊎ ((P.count packets.new ≡ P.count packets.old) × (W.count report.new ≡ W.count report.old + 1)) }
     ensures no_write { result ≢ Err DemodFault.Write → (P.count packets.new ≡ P.count packets.old) × (W.count report.new ≡ W.count report.old) }
 {
-    let mut receiver = match tune(alloc, setup, matrix, rounds, passes) {
-        Ok(receiver) => receiver,
-        Err(fault) => return Err(DemodFault::Setup(fault)),
+    if let Err(fault) = check_receiver(&setup, matrix, rounds, passes) {
+        return Err(DemodFault::Setup(fault));
+    }
+    let Ok(mut receiver) = tune(alloc, setup, matrix, rounds, passes) else {
+        return Err(DemodFault::Setup(SetupFault::NoMemory));
     };
     match receive_bytes(&mut receiver, bytes, packets, report) {
         Ok(totals) => Ok(totals),

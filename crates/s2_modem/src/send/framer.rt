@@ -10,12 +10,12 @@ ghost use Rattle.s2_modem.specs.Frames.{IsFrameOf};
 
 use crate::send::coder::Coder;
 use crate::send::modulator::Modulator;
-use crate::setup::{Setup, SetupFault};
+use crate::setup::Setup;
 use s2_bbframe::Header;
 use s2_matrix::Matrix;
 use s2_mode::{CountedWrite, WriteFault, write_full};
 use s2_scramble::Gold;
-use std::alloc::Global;
+use std::alloc::{AllocError, Global};
 use std::marker::Model;
 
 /// Makes the frames of one link.
@@ -40,26 +40,20 @@ impl<'a> Model for Framer<'a> {
 }
 
 impl<'a> Framer<'a> {
-    /// The maker of a link's frames. The only fault is that there is no memory.
+    /// The maker of a link's frames.
     pub(crate) fn new(
         alloc: Global,
         setup: Setup,
         matrix: &'a Matrix,
-    ) -> Result<Framer<'a>, SetupFault>
+    ) -> Result<Framer<'a>, AllocError>
         requires shape { matrix.now.shape ≡ shape_in setup.mode }
         requires roll_off { setup.roll_off ≤ most_roll_off }
         ensures setup { IfOk result (λ f. f.setup ≡ setup) }
         ensures rows { IfOk result (λ f. f.rows ≡ matrix.now) }
     {
-        let Ok(gold) = Gold::new(alloc, setup.number) else {
-            return Err(SetupFault::NoMemory);
-        };
-        let Ok(modulator) = Modulator::new(alloc, setup.mode, gold) else {
-            return Err(SetupFault::NoMemory);
-        };
-        let Ok(coder) = Coder::new(alloc, setup.mode, matrix) else {
-            return Err(SetupFault::NoMemory);
-        };
+        let gold = Gold::new(alloc, setup.number).map_err(|_| AllocError)?;
+        let modulator = Modulator::new(alloc, setup.mode, gold)?;
+        let coder = Coder::new(alloc, setup.mode, matrix)?;
         Ok(Framer {
             setup,
             coder,

@@ -1,7 +1,8 @@
 //! The transmitter: packets in, symbols out.
-ghost use Rattle.std.specs.Prelude.{◌≡◌, ◌≢◌, ◌+◌, ◌-◌, ◌^◌, ◌<◌, ◌≤◌, ◌⊎◌, Err, IsErrOf};
+ghost use Rattle.std.specs.Prelude.{◌≡◌, ◌≢◌, ◌+◌, ◌-◌, ◌^◌, ◌<◌, ◌≤◌, ◌⊎◌, Err, IfOk, IsErrOf};
 ghost use Rattle.s2_modem.specs.Limits.{most_packets};
-ghost use Rattle.s2_modem.specs.Link.{TransmitterAnswers};
+ghost use Rattle.s2_modem.specs.Link.{TransmitterAnswers, link_of};
+ghost use Rattle.s2_modem.specs.Reception.{IsSetUp};
 ghost use Rattle.s2_modem.specs.Sending.{TransmitterRuns};
 
 use crate::send::framer::Framer;
@@ -11,7 +12,7 @@ use crate::setup::{Setup, SetupFault, check_setup};
 use s2_bbframe::{Slicer, field_bytes};
 use s2_matrix::Matrix;
 use s2_mode::{CountedRead, CountedWrite};
-use std::alloc::Global;
+use std::alloc::{AllocError, Global};
 use std::marker::Model;
 
 /// Sends packets as frames of symbols. To contracts it is the link that it sends on, and how many packets a
@@ -51,9 +52,22 @@ impl<'a> Transmitter<'a> {
         ensures { TransmitterAnswers setup matrix.now result }
     {
         check_setup(&setup, matrix)?;
-        let slicer = Slicer::new(alloc, setup.mode).map_err(|_| SetupFault::NoMemory)?;
-        let field = vec![in alloc; 0u8; field_bytes(setup.mode)].map_err(|_| SetupFault::NoMemory)?;
-        let framer = Framer::new(alloc, setup, matrix).map_err(|_| SetupFault::NoMemory)?;
+        Transmitter::on_link(alloc, setup, matrix).map_err(|_| SetupFault::NoMemory)
+    }
+
+    /// A transmitter with all the memory that it needs, of a setup and a matrix that [`Transmitter::new`] does
+    /// not refuse: that is the caller's to see to. `AllocError` only where memory does not suffice.
+    pub fn on_link(
+        alloc: Global,
+        setup: Setup,
+        matrix: &'a Matrix,
+    ) -> Result<Transmitter<'a>, AllocError>
+        requires set_up { IsSetUp setup matrix.now }
+        ensures is { IfOk result (λ t. t ≡ record { link = link_of setup matrix.now; limit = most_packets }) }
+    {
+        let slicer = Slicer::new(alloc, setup.mode)?;
+        let field = vec![in alloc; 0u8; field_bytes(setup.mode)]?;
+        let framer = Framer::new(alloc, setup, matrix)?;
         Ok(Transmitter {
             framer,
             slicer,

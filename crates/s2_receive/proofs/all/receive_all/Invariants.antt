@@ -1,4 +1,5 @@
-use Rattle.std.proofs.Common.{◌≡◌, ◌+◌, ◌≤◌, List, length}
+use Rattle.std.proofs.Common.{◌≡◌, ◌+◌, ◌-◌, List, length}
+use Rattle.s2_receive.specs.Limits.{most_symbols}
 use Rattle.s2_receive.specs.Meeting.{Met}
 use Rattle.s2_receive.specs.Receiving.{Went, IsLive, rank, all_well, rules_of, state_of}
 use Rattle.s2_receive.specs.Stepping.{IsSound}
@@ -20,8 +21,11 @@ invariant-steps g l =
     ≡ rules_of (g.S.Search.passes l.fn.receiver.search) (length l.fn.receiver.frame.items) (g.D.Decide.decide l.fn.receiver.decider) (g.L.Lines.frame_line l.fn.receiver.lines) (g.L.Lines.cut_line l.fn.receiver.lines) (g.L.Lines.end_line l.fn.receiver.lines) l.fn.receiver.limit)
     × IsSound (length l.receiver.frame.items) (length l.receiver.bytes.items) l.receiver.limit l.receiver.place.at l.receiver.place.totals
     × IsLive l.receiver.place.phase
-    × (l._step ≤ l.receiver.place.totals.frames + rank l.receiver.place.phase)
     × (g.R.Counted.count l.reader ≡ g.R.Counted.count l.fn.reader)
     × (g.P.Counted.count l.packets ≡ g.P.Counted.count l.fn.packets)
     × (g.W.Counted.count l.report ≡ g.W.Counted.count l.fn.report)
     × (length l.receiver.frame.items ≡ g.D.Decide.size l.receiver.decider)
+
+-- how many frames, and the end, may still be met at most
+abbrev pub decreases-steps : goal.decreases-steps
+decreases-steps g l = most_symbols + 3 - (l.receiver.place.totals.frames + rank l.receiver.place.phase)

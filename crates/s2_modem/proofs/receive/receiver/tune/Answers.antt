@@ -1,4 +1,5 @@
 use Rattle.std.proofs.Common.{◌≡◌, ℕ, ap, ◌∙◌}
+use Rattle.std.proofs.lemmas.Result.{IfOk-weaker}
 use Rattle.s2_mode.specs.Mode.{Mode}
 use Rattle.s2_receive.specs.Receiving.{Rules, rules_of}
 use Rattle.s2_modem.specs.Deciding.{Effort}
@@ -16,6 +17,5 @@ same m m' n n' l l' r r' limit em en el er = ap (λ x. made x n l r limit) em �
 
 pub returns-clause-rules : goal.returns-clause-rules
 returns-clause-rules c =
-    let e = c.in-Ok-new-2.ensures in
-    let d = c.in-Ok-new in
-    e.rules ∙ same _ _ _ _ _ _ _ _ _ (ap (λ s. s.mode) c.new-3.ensures) c.symbols-size.ensures.is d.ensures.link d.ensures.effort
+    let d = c.in_ok-decider in
+    IfOk-weaker c.new-3.result _ _ (λ r e. e ∙ same _ _ _ _ _ _ _ _ _ (ap (λ s. s.mode) c.new-2.ensures) c.symbols-size.ensures.is d.ensures.link d.ensures.effort) c.new-3.ensures.rules
