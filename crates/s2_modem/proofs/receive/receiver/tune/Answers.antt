@@ -18,4 +18,4 @@ same m m' n n' l l' r r' limit em en el er = ap (λ x. made x n l r limit) em �
 pub returns-clause-rules : goal.returns-clause-rules
 returns-clause-rules c =
     let d = c.in_ok-decider in
-    IfOk-weaker c.new-3.result _ _ (λ r e. e ∙ same _ _ _ _ _ _ _ _ _ (ap (λ s. s.mode) c.new-2.ensures) c.symbols-size.ensures.is d.ensures.link d.ensures.effort) c.new-3.ensures.rules
+    IfOk-weaker c.new-4.result _ _ (λ r e. e ∙ same _ _ _ _ _ _ _ _ _ (ap (λ s. s.mode) c.new-3.ensures) c.symbols-size.ensures.is d.ensures.link d.ensures.effort) c.new-4.ensures.rules
