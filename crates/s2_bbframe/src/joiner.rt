@@ -1,11 +1,11 @@
 //! Packets out of delivered data fields.
-ghost use Rattle.std.specs.Prelude.{◌≡◌, ◌+◌, ◌-◌, ◌*◌, ◌/◌, ◌%◌, ◌^◌, ◌<◌, ◌≤◌, ◌⊎◌, None, IfOk, OnOk, OnErr, length};
+ghost use Rattle.std.specs.Prelude.{◌≡◌, ◌+◌, ◌-◌, ◌*◌, ◌/◌, ◌%◌, ◌^◌, ◌<◌, ◌≤◌, ◌⊎◌, None, Some, IfOk, IfSome, OnOk, OnErr, drop, length, take, if◌then◌else◌};
 ghost use Rattle.std.specs.List.{flat_map};
 ghost use Rattle.std.specs.Io.KnownBytes.{Appends};
 ghost use Rattle.s2_mode.specs.Counts.{CountsFault};
 ghost use Rattle.s2_mode.specs.Pieces.{AppendsPart};
-ghost use Rattle.s2_bbframe.specs.Limits.{no_place};
-ghost use Rattle.s2_bbframe.specs.Joining.{fed};
+ghost use Rattle.s2_bbframe.specs.Limits.{body_bytes, no_place};
+ghost use Rattle.s2_bbframe.specs.Joining.{fed, still, inside, run_of};
 
 use crate::bodies::{Bodies, read_bodies};
 use crate::header::Header;
@@ -42,6 +42,45 @@ impl Model for Joiner {
     ghost view = { λ j. if j.inside then Some (take j.held j.body) else None };
 
     ghost invariant = { λ j. j.held ≤ body_bytes };
+}
+
+/// Where a run goes on in a field: behind so many held bytes, from so many of the field's on.
+#[derive(Clone, Copy)]
+struct Join {
+    start: usize,
+    from: usize,
+}
+
+// where the run goes on: with the body that is held where `SYNCD` names its next place, else behind the place that it names
+fn resumed(was_inside: bool, body: &[u8], held: usize, syncd: u16, field: &[u8]) -> Option<Join>
+    requires held { held ≤ body_bytes }
+    requires body { length body.now ≡ body_bytes }
+    requires some { 0 < length field.now }
+    requires syncd { (syncd ≡ no_place) ⊎ (syncd / 8 < length field.now) }
+    ensures lost { result ≡ None → fed (if was_inside then Some (take held body.now) else None) syncd field.now ≡ still None }
+    ensures start { IfSome result (λ r. r.start ≤ body_bytes) }
+    ensures from { IfSome result (λ r. r.from ≤ length field.now) }
+    ensures run { IfSome result (λ r. fed (if was_inside then Some (take held body.now) else None) syncd field.now ≡ inside (run_of (take r.start body.now) (drop r.from field.now))) }
+{
+    let to_place = BODY_BYTES - held;
+    let expected = if to_place < field.len() {
+        8 * to_place
+    } else {
+        usize::from(NO_PLACE)
+    };
+    if was_inside && usize::from(syncd) == expected {
+        return Some(Join {
+            start: held,
+            from: 0,
+        });
+    }
+    if syncd == NO_PLACE {
+        return None;
+    }
+    Some(Join {
+        start: 0,
+        from: usize::from(syncd / 8) + 1,
+    })
 }
 
 impl Joiner {
@@ -87,22 +126,17 @@ impl Joiner {
         if field.is_empty() {
             return Ok(Fed { good: 0, bad: 0 });
         }
-        let to_place = BODY_BYTES - self.held;
-        let expected = if to_place < field.len() {
-            8 * to_place
-        } else {
-            usize::from(NO_PLACE)
-        };
-        let goes_on = mem::take(&mut self.inside) && usize::from(header.syncd) == expected;
-        if !goes_on && header.syncd == NO_PLACE {
+        let was_inside = mem::take(&mut self.inside);
+        let Some(Join { start, from }) = resumed(
+            was_inside,
+            &self.body,
+            self.held,
+            header.syncd,
+            field,
+        ) else {
             return Ok(Fed { good: 0, bad: 0 });
-        }
-        let (start, bytes) = if goes_on {
-            (self.held, field)
-        } else {
-            (0, &field[usize::from(header.syncd / 8) + 1..])
         };
-        let Bodies { held, good, bad } = read_bodies(&mut self.body, start, bytes, out)?;
+        let Bodies { held, good, bad } = read_bodies(&mut self.body, start, &field[from..], out)?;
         self.held = held;
         self.inside = true;
         Ok(Fed { good, bad })

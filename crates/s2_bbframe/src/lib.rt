@@ -34,8 +34,3 @@ pub use header::{Header, HeaderFault};
 pub use joiner::{Fed, Joiner};
 pub use limits::{BODY_BYTES, NO_PLACE, PACKET_BITS, PACKET_BYTES, SYNC};
 pub use slicer::{NoSync, Slicer, field_bytes};
-
-#[cfg(test)]
-mod memory_tests;
-#[cfg(test)]
-mod tests;

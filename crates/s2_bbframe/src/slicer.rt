@@ -23,13 +23,24 @@ pub struct NoSync;
 /// The stream is the byte 00, then each packet's body and its CRC-8, in
 /// the next packet's sync place. While packets still come a full field can be taken as soon as all
 /// its bits are there; after [`Slicer::close`] so can what remains.
-#[derive(Drop)]
 pub struct Slicer {
     waiting: Vec<u8>,
     size: usize,
     phase: usize,
     begun: bool,
     closed: bool,
+}
+
+impl Drop for Slicer {
+    fn drop(self) {
+        let Slicer {
+            waiting: _,
+            size: _,
+            phase: _,
+            begun: _,
+            closed: _,
+        } = self;
+    }
 }
 
 impl Model for Slicer {

@@ -25,13 +25,24 @@ pub(crate) enum Workspace {
 }
 
 /// The BCH code of a mode (EN 302 307-1, 5.3.1), with tables and room to encode and decode.
-#[derive(Drop)]
 pub struct Bch {
     mode: Mode,
     table: Vec<Register>,
     rest: Vec<bool>,
     candidate: Vec<bool>,
     workspace: Workspace,
+}
+
+impl Drop for Bch {
+    fn drop(self) {
+        let Bch {
+            mode: _,
+            table: _,
+            rest: _,
+            candidate: _,
+            workspace: _,
+        } = self;
+    }
 }
 
 impl Model for Bch {

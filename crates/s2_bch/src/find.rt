@@ -15,7 +15,6 @@ use std::marker::Model;
 
 /// A workspace to find up to t wrong places over the field of the code's roots: the syndromes, the
 /// locator polynomial, the auxiliary polynomial beside it, and what their products are put in.
-#[derive(Drop)]
 pub(crate) struct FieldWorkspace<F: Field> {
     t: usize,
     syndromes: Vec<F>,
@@ -24,6 +23,20 @@ pub(crate) struct FieldWorkspace<F: Field> {
     next: Vec<F>,
     terms: Vec<F>,
     values: Vec<F>,
+}
+
+impl<F: Field> Drop for FieldWorkspace<F> {
+    fn drop(self) {
+        let FieldWorkspace {
+            t: _,
+            syndromes: _,
+            locator: _,
+            auxiliary: _,
+            next: _,
+            terms: _,
+            values: _,
+        } = self;
+    }
 }
 
 impl<F: Field> Model for FieldWorkspace<F> {

@@ -29,8 +29,3 @@ mod register;
 mod search;
 
 pub use bch::Bch;
-
-#[cfg(test)]
-mod memory_tests;
-#[cfg(test)]
-mod tests;

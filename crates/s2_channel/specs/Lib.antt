@@ -1,4 +1,3 @@
-pub mod Limits
 pub mod Noise
 pub mod Laws
 pub use Rattle.rand_core.specs.Pcg32Seed

@@ -1,5 +1,4 @@
 //! Laws of the definitions: each a call that does nothing, whose clause is the law.
-ghost use Rattle.s2_channel.specs.Limits.{LimitsLaw};
 ghost use Rattle.s2_channel.specs.Laws.{SilentLaw, SilentStreamLaw};
 
 /// At level 0 each symbol stays as it is, and a stream of bytes stays as it is but for what is left over
@@ -7,9 +6,4 @@ ghost use Rattle.s2_channel.specs.Laws.{SilentLaw, SilentStreamLaw};
 pub fn silent()
     ensures symbol { SilentLaw }
     ensures stream { SilentStreamLaw }
-{}
-
-/// The limit that is tested, [`crate::MOST_SYMBOLS`], is 2^40 symbols.
-pub fn limits()
-    ensures { LimitsLaw }
 {}

@@ -19,7 +19,7 @@ mod noise;
 mod whole;
 
 pub use noise::Noise;
-pub use whole::{MOST_SYMBOLS, StreamFault, add_to_all};
+pub use whole::add_to_all;
 
 #[cfg(test)]
 mod tests;

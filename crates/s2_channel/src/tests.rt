@@ -1,6 +1,6 @@
 //! Noise against the numbers of another program, which draws the generator's words by its description.
-use crate::{Noise, StreamFault, add_to_all};
-use s2_mode::{Counting, FailAt, InMemory, Symbol};
+use crate::{Noise, add_to_all};
+use s2_mode::{Counting, FailAt, InMemory, StreamFault, Symbol};
 use std::test::Fail;
 
 fn symbol(components: [i16; 2]) -> Symbol {
@@ -82,15 +82,5 @@ fn says_which_call_failed(rt: HostRuntime) -> Result<(), Fail> {
         let outcome = add_to_all(&mut Noise::new(1, 0), &mut reader, &mut writer);
         assert_eq!(rt; outcome, Err(StreamFault::Write), "{passes}");
     }
-    Ok(())
-}
-
-#[test]
-fn prints_faults(rt: HostRuntime) -> Result<(), Fail> {
-    let alloc = rt.alloc();
-    let fault = StreamFault::Read;
-    assert_eq!(rt; format!(in alloc; "{fault}")?.as_str(), "cannot read");
-    let fault = StreamFault::Write;
-    assert_eq!(rt; format!(in alloc; "{fault}")?.as_str(), "cannot write");
     Ok(())
 }

@@ -1,26 +1,12 @@
 //! Noise on a whole stream of symbols.
 ghost use Rattle.std.specs.Prelude.{◌≡◌, ◌≢◌, ◌+◌, ◌-◌, ◌^◌, ◌<◌, ◌≤◌, OnOk, IfSome, Err, IsErrOf, Some, length};
 ghost use Rattle.std.specs.Io.KnownBytes.{Appends};
+ghost use Rattle.s2_mode.specs.Limits.{most_symbols};
 ghost use Rattle.s2_mode.specs.Symbols.{symbols_of};
 ghost use Rattle.s2_channel.specs.Noise.{noisy, AppendsFront};
 
 use crate::noise::Noise;
-use s2_mode::{CountedRead, CountedWrite, read_symbol, write_symbol};
-use thiserror::Error;
-
-/// Why a stream was not passed on whole.
-#[derive(Clone, Copy, Debug, PartialEq, Eq, Error)]
-pub enum StreamFault {
-    /// A read failed, or there are more symbols than one call takes.
-    #[error("cannot read")]
-    Read,
-    /// A write failed.
-    #[error("cannot write")]
-    Write,
-}
-
-/// One call takes fewer symbols than this.
-pub const MOST_SYMBOLS: u64 = 1 << 40;
+use s2_mode::{CountedRead, CountedWrite, MOST_SYMBOLS, StreamFault, read_symbol, write_symbol};
 
 /// Writes each symbol of a stream with its noise, up to the reader's end, where one to three bytes that
 /// are left over are dropped. `Read` where a read failed, or where [`MOST_SYMBOLS`] symbols came: then the
@@ -37,7 +23,7 @@ pub fn add_to_all<R: CountedRead, W: CountedWrite>(
     ensures write { IsErrOf result StreamFault.Write → W.count writer.new ≡ W.count writer.old + 1 }
     ensures wrote { result ≢ Err StreamFault.Write → W.count writer.new ≡ W.count writer.old }
     ensures read { IsErrOf result StreamFault.Read → R.count reader.new ≡ R.count reader.old →
-        IfSome (R.remaining reader.old) (λ xs. MOST_SYMBOLS ≤ length (symbols_of xs)) }
+        IfSome (R.remaining reader.old) (λ xs. most_symbols ≤ length (symbols_of xs)) }
     ensures no_read { result ≢ Err StreamFault.Read → R.count reader.new ≡ R.count reader.old }
     ensures front { IsErrOf result StreamFault.Read → IfSome (R.remaining reader.old) (λ xs.
         AppendsFront noise.old.level noise.old.generator (symbols_of xs) (W.contents writer.old) (W.contents writer.new)) }

@@ -1,9 +1,12 @@
 pub mod Cost
 pub mod Split
 pub mod Moves
+pub mod Taken
+pub mod Listed
 pub mod Hard
 pub mod Views
 pub mod Held
 pub mod CertificateFiles
 pub mod CertificateBytes
 pub mod Checking
+pub mod Verdicts

@@ -22,14 +22,21 @@
 mod certificate;
 mod checker;
 mod hard;
+mod lanes;
 pub mod laws;
+mod listed_rests;
 mod local;
 mod moved;
 mod moved_bound;
 mod moved_sums;
+mod row_rests;
 mod shares;
 mod step;
 mod sums;
+mod taken;
+mod tally;
+mod turned;
+mod verdict;
 mod view;
 mod write;
 
@@ -37,10 +44,6 @@ pub use certificate::Certificate;
 pub use checker::{Answer, Refusal, check};
 pub use hard::{cost, hard_into, judge_unsplit};
 pub use s2_file::{CertFault, MOST_SCALE, MOST_SHARES};
-pub use step::Move;
+pub use step::{MOST_MOVED, Move};
+pub use verdict::Verdict;
 pub use view::CertView;
-
-#[cfg(test)]
-mod memory_tests;
-#[cfg(test)]
-mod tests;

@@ -23,6 +23,3 @@ pub use field::{Field, pow};
 pub use gf14::Gf14;
 pub use gf16::Gf16;
 pub use polynomial::{degree, eval};
-
-#[cfg(test)]
-mod tests;

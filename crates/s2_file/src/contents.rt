@@ -17,13 +17,24 @@ use std::marker::Model;
 
 /// What a certificate file says: a shape, a scale, a soft value and a bit for each place of a
 /// codeword, and a split.
-#[derive(Drop)]
 pub struct Contents {
     shape: Shape,
     scale: u16,
     soft: Vec<i16>,
     word: Bits,
     held: Held,
+}
+
+impl Drop for Contents {
+    fn drop(self) {
+        let Contents {
+            shape: _,
+            scale: _,
+            soft: _,
+            word: _,
+            held: _,
+        } = self;
+    }
 }
 
 impl Model for Contents {

@@ -34,6 +34,3 @@ pub use limits::{MOST_SCALE, MOST_SHARES};
 pub use page::Page;
 pub use version::Version;
 pub use write::{write_header, write_share, write_soft, write_word};
-
-#[cfg(test)]
-mod tests;

@@ -1,6 +1,5 @@
 //! Places and points on known values.
-use crate::{map_into, place, point};
-use s2_bits::Bits;
+use crate::{place, point};
 use s2_mode::{Mode, Symbol};
 use std::test::Fail;
 
@@ -41,20 +40,5 @@ fn points_by_label(rt: HostRuntime) -> Result<(), Fail> {
     assert_eq!(rt; psk.width(), 3);
     assert_eq!(rt; point(psk, 1), Symbol { i: 990, q: 0 });
     assert_eq!(rt; point(psk, 7), Symbol { i: 0, q: -990 });
-    Ok(())
-}
-
-#[test]
-fn maps_a_codeword(rt: HostRuntime) -> Result<(), Fail> {
-    let mode = Mode::of(12, true, false).ok_or("no mode")?;
-    let mut codeword = Bits::zeroed(rt.alloc(), mode.n())?;
-    assert_eq!(rt; codeword.len(), 16200);
-    codeword.set(5400, true);
-    assert_eq!(rt; codeword.len(), mode.n());
-    let mut payload = vec![in rt.alloc(); Symbol { i: 0, q: 0 }; 90 * mode.slots()]?;
-    map_into(mode, &codeword, &mut payload);
-    assert_eq!(rt; payload.len(), 5400);
-    assert_eq!(rt; payload[0], Symbol { i: -990, q: 0 });
-    assert_eq!(rt; payload[1], Symbol { i: 700, q: 700 });
     Ok(())
 }

@@ -33,10 +33,3 @@ mod views;
 
 pub use matrix::Matrix;
 pub use views::{GroupEntry, LayerEntry};
-
-#[cfg(test)]
-mod agreement;
-#[cfg(test)]
-mod memory_tests;
-#[cfg(test)]
-mod tests;

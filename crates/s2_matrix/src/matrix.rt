@@ -16,7 +16,6 @@ use std::marker::Model;
 
 /// The parity checks that accepted rows give (EN 302 307-1, 5.3.2), in flat lists. To contracts it
 /// is the rows.
-#[derive(Drop)]
 pub struct Matrix {
     shape: Shape,
     rows: Vec<Row>,
@@ -24,6 +23,19 @@ pub struct Matrix {
     edges: Table,
     checks: Table,
     pub(crate) layers: Table,
+}
+
+impl Drop for Matrix {
+    fn drop(self) {
+        let Matrix {
+            shape: _,
+            rows: _,
+            members: _,
+            edges: _,
+            checks: _,
+            layers: _,
+        } = self;
+    }
 }
 
 impl Model for Matrix {

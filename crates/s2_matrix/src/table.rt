@@ -6,10 +6,15 @@ ghost use Rattle.s2_matrix.specs.Joined.{joined};
 use std::marker::Model;
 
 /// Lists of numbers, one after another in one piece.
-#[derive(Drop)]
 pub(crate) struct Table {
     pub(crate) first: Vec<u32>,
     pub(crate) items: Vec<u32>,
+}
+
+impl Drop for Table {
+    fn drop(self) {
+        let Table { first: _, items: _ } = self;
+    }
 }
 
 impl Model for Table {

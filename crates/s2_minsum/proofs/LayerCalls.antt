@@ -2,7 +2,7 @@
 use Rattle.std.proofs.Common.{◌≡◌, ◌≢◌, ℕ, suc, ◌+◌, ◌-◌, ◌*◌, ◌<◌, ◌≤◌, List, length, get_or, take, drop, ℤ, ap, sym, subst, ◌∙◌, inl, inr, arith}
 use Rattle.std.proofs.Math.Nat.{mul-le-mul_right}
 use Rattle.std.proofs.lemmas.Bool.{cases_lt}
-use Rattle.std.proofs.lemmas.List.{get_or-take, get_or-drop, length-take-le, length-drop, get_or_default, get_or_past}
+use Rattle.std.proofs.lemmas.List.{get_or-map, length-map, get_or-take, get_or-drop, length-take-le, length-drop, get_or_default, get_or_past}
 use borrow.Rule.Slice.PartMut.{put_mid}
 use Rattle.s2_mode.specs.Shape.{code_bits}
 use Rattle.s2_rows.specs.Rows.{Rows}
@@ -14,14 +14,11 @@ use Rattle.s2_minsum.specs.Plain.{layer as after_layer}
 use Rattle.s2_minsum.specs.Nodes.{first_of, second_of, signs_of}
 use Rattle.s2_bits.specs.Lanes16.{size16}
 use Rattle.s2_minsum.specs.Rows.{cell, no_entry, entry_at, AreIn, sent16, received, change_of, changed}
-use Rattle.s2_minsum.specs.Layout.{row_of_bit, last_check, entry_of, entry_count, first_row, kept_of, state_of, lacked_row}
-use Rattle.s2_minsum.specs.Decoding.{AreLayers, AreNumbers, AreMessages}
+use Rattle.s2_minsum.specs.Layout.{row_of_bit, last_check, entry_of, entries_of, entry_count, first_row, kept_of, state_of, lacked_row}
+use Rattle.s2_minsum.specs.Decoding.{AreFit, AreNumbers, AreMessages}
 use Rattle.s2_minsum.proofs.Parts.{row_before, put_mid_below, put_mid_at, put_mid_above, length-put_mid}
 use Rattle.s2_minsum.proofs.FirstRows.{first_row_before}
 use Rattle.s2_minsum.proofs.LayerIs.{ys_small, state_is, numbers}
-
-abbrev pub entries_part : List Entry → ℕ → ℕ → List Entry
-entries_part entries start count = take (start + count - start) (drop start entries)
 
 abbrev pub rows_part : List ℕ → ℕ → ℕ → ℕ → List ℕ
 rows_part messages n start count = take (start * n + count * n - start * n) (drop (start * n) messages)
@@ -29,21 +26,28 @@ rows_part messages n start count = take (start * n + count * n - start * n) (dro
 abbrev pub rows_put : List ℕ → List ℕ → ℕ → ℕ → ℕ → List ℕ
 rows_put messages ys n start count = put_mid (start * n) (start * n + count * n - start * n) messages ys
 
+-- the entries of a layer, one by one
+pub entries_are : (rows : Rows) (r e : ℕ) → e < entry_count rows r → entry_at (entries_of rows r) e ≡ entry_of rows.shape (get_or (members (code_of rows) (last_check rows.shape r)) e 0)
+entries_are rows r e lt = get_or-map (entry_of rows.shape) (members (code_of rows) (last_check rows.shape r)) e 0 no_entry lt
+
+pub length-entries : (rows : Rows) (r : ℕ) → length (entries_of rows r) ≡ entry_count rows r
+length-entries rows r = length-map (members (code_of rows) (last_check rows.shape r)) (entry_of rows.shape)
+
 -- what the rows' layer ensures
-pub record Ran (entries : List Entry) (messages posteriors ys posteriors' : List ℕ) (n start count last m : ℕ) : Type 0 where
+pub record Ran (es : List Entry) (messages posteriors ys posteriors' : List ℕ) (n start count last m : ℕ) : Type 0 where
   pub long : length ys ≡ length (rows_part messages n start count)
   pub posteriors_long : length posteriors' ≡ length posteriors
   pub fits : (k : ℕ) → get_or (rows_put messages ys n start count) k 0 < 65536
   pub posteriors_fit : (k : ℕ) → get_or posteriors' k 0 < 65536
-  pub sends : (e c : ℕ) → e < m → c < n → cell ys n e c ≡ sent16 (received n (entries_part entries start count) last posteriors (rows_part messages n start count) e c) (first_of (λ k. size16 (received n (entries_part entries start count) last posteriors (rows_part messages n start count) k c)) m) (second_of (λ k. size16 (received n (entries_part entries start count) last posteriors (rows_part messages n start count) k c)) m) (signs_of (λ k. received n (entries_part entries start count) last posteriors (rows_part messages n start count) k c) m)
-  pub changes : (p : ℕ) → p < length posteriors → get_or posteriors' p 0 ≡ changed n (entries_part entries start count) posteriors (change_of n (entries_part entries start count) last (rows_part messages n start count) ys) m p
+  pub sends : (e c : ℕ) → e < m → c < n → cell ys n e c ≡ sent16 (received n es last posteriors (rows_part messages n start count) e c) (first_of (λ k. size16 (received n es last posteriors (rows_part messages n start count) k c)) m) (second_of (λ k. size16 (received n es last posteriors (rows_part messages n start count) k c)) m) (signs_of (λ k. received n es last posteriors (rows_part messages n start count) k c) m)
+  pub changes : (p : ℕ) → p < length posteriors → get_or posteriors' p 0 ≡ changed n es posteriors (change_of n es last (rows_part messages n start count) ys) m p
 
 pub record Gives (rows : Rows) (soft : List ℤ) (messages ys posteriors' : List ℕ) (r n start count : ℕ) : Type 0 where
   pub numbers : AreNumbers rows soft (rows_put messages ys n start count) posteriors'
   pub state : state_of rows soft (kept_of rows (rows_put messages ys n start count)) ≡ after_layer (code_of rows) rows.shape.q r (state_of rows soft (kept_of rows messages))
 
-module _ (rows : Rows) (soft : List ℤ) (entries : List Entry) (firsts messages posteriors : List ℕ) (l : AreLayers rows entries firsts) (d : AreNumbers rows soft messages posteriors) (r : ℕ) (layer : r < rows.shape.q) (ys posteriors' : List ℕ) where
-  ran_gives : Ran entries messages posteriors ys posteriors' rows.shape.group (first_row rows r) (entry_count rows r) (lacked_row rows.shape r) (entry_count rows r) → Gives rows soft messages ys posteriors' r rows.shape.group (first_row rows r) (entry_count rows r)
+module _ (rows : Rows) (soft : List ℤ) (messages posteriors : List ℕ) (l : AreFit rows) (d : AreNumbers rows soft messages posteriors) (r : ℕ) (layer : r < rows.shape.q) (ys posteriors' : List ℕ) where
+  ran_gives : Ran (entries_of rows r) messages posteriors ys posteriors' rows.shape.group (first_row rows r) (entry_count rows r) (lacked_row rows.shape r) (entry_count rows r) → Gives rows soft messages ys posteriors' r rows.shape.group (first_row rows r) (entry_count rows r)
   ran_gives ran =
       let n = rows.shape.group in
       let start = first_row rows r in
@@ -51,7 +55,7 @@ module _ (rows : Rows) (soft : List ℤ) (entries : List Entry) (firsts messages
       let at = start * n in
       let w = at + count * n - at in
       let width : w ≡ count * n = omega arith in
-      let es = entries_part entries start count in
+      let es = entries_of rows r in
       let ms = rows_part messages n start count in
       let messages' = rows_put messages ys n start count in
       let end' = first_row_before rows r rows.shape.q layer in
@@ -59,7 +63,7 @@ module _ (rows : Rows) (soft : List ℤ) (entries : List Entry) (firsts messages
       let room : at + w ≤ length messages = omega (arith, room0, d.messages_long, width) in
       let mlen : length ms ≡ w = length-take-le w (drop at messages) (omega (arith, length-drop at messages)) in
       let ylen : length ys ≡ w = ran.long ∙ mlen in
-      let es_are : (e : ℕ) → e < count → entry_at es e ≡ entry_of rows.shape (get_or (members (code_of rows) (last_check rows.shape r)) e 0) = λ e lt. get_or-take (start + count - start) (drop start entries) e no_entry (omega arith) ∙ get_or-drop start entries e no_entry ∙ l.entries_are r e layer lt in
+      let es_are : (e : ℕ) → e < count → entry_at es e ≡ entry_of rows.shape (get_or (members (code_of rows) (last_check rows.shape r)) e 0) = λ e lt. entries_are rows r e lt in
       let inside : (e c : ℕ) → e < count → c < n → e * n + c < count * n = λ e c lt low. row_before n count e c lt low in
       let place : (e c : ℕ) → (start + e) * n + c ≡ at + (e * n + c) = λ e c. omega arith in
       let ms_are : (e c : ℕ) → e < count → c < n → cell ms n e c ≡ kept_of rows messages r e c = λ e c lt low. get_or-take w (drop at messages) (e * n + c) 0 (omega (arith, inside e c lt low, width)) ∙ get_or-drop at messages (e * n + c) 0 ∙ ap (λ k. get_or messages k 0) (sym (place e c)) in
@@ -86,7 +90,7 @@ module _ (rows : Rows) (soft : List ℤ) (entries : List Entry) (firsts messages
         | inr le ↦ (let none = get_or_past ys k 0 le in omega (arith, none))
       ]
       in
-      let small_part = ys_small rows soft entries firsts messages posteriors l d d.fits d.posteriors_fit r layer es ms ys messages' fit_new es_are ms_are new_are others_are ran.sends (omega (arith, ylen, width)) in
+      let small_part = ys_small rows soft messages posteriors l d d.fits d.posteriors_fit r layer es ms ys messages' fit_new es_are ms_are new_are others_are ran.sends (omega (arith, ylen, width)) in
       let long' = length-put_mid 0 at w messages ys room ylen in
       let small' : AreMessages messages' = λ k e h. elim (cases_lt k at) [
         | inl before ↦ rw (get_or_default messages' k e 0 h) (rw (put_mid_below 0 at w messages ys room ylen k before) (d.messages_small k 0 (omega arith)))
@@ -102,52 +106,35 @@ module _ (rows : Rows) (soft : List ℤ) (entries : List Entry) (firsts messages
       ]
       in
       record {
-        numbers = numbers rows soft entries firsts messages posteriors l d d.fits d.posteriors_fit r layer es ms ys messages' fit_new es_are ms_are new_are others_are ran.sends small' long' ran.fits posteriors' ran.posteriors_fit ran.posteriors_long ran.changes;
-        state = state_is rows soft entries firsts messages posteriors l d d.fits d.posteriors_fit r layer es ms ys messages' fit_new es_are ms_are new_are others_are ran.sends;
+        numbers = numbers rows soft messages posteriors l d d.fits d.posteriors_fit r layer es ms ys messages' fit_new es_are ms_are new_are others_are ran.sends small' long' ran.fits posteriors' ran.posteriors_fit ran.posteriors_long ran.changes;
+        state = state_is rows soft messages posteriors l d d.fits d.posteriors_fit r layer es ms ys messages' fit_new es_are ms_are new_are others_are ran.sends;
       }
 
-  pub gives : (n start count last m : ℕ) → rows.shape.group ≡ n → first_row rows r ≡ start → entry_count rows r ≡ count → lacked_row rows.shape r ≡ last → entry_count rows r ≡ m → Ran entries messages posteriors ys posteriors' n start count last m → Gives rows soft messages ys posteriors' r n start count
-  gives n start count last m n_is start_is count_is last_is m_is =
-      subst (λ n'. Ran entries messages posteriors ys posteriors' n' start count last m → Gives rows soft messages ys posteriors' r n' start count) n_is
-      (subst (λ s'. Ran entries messages posteriors ys posteriors' rows.shape.group s' count last m → Gives rows soft messages ys posteriors' r rows.shape.group s' count) start_is
-      (subst (λ c'. Ran entries messages posteriors ys posteriors' rows.shape.group (first_row rows r) c' last m → Gives rows soft messages ys posteriors' r rows.shape.group (first_row rows r) c') count_is
-      (subst (λ l'. Ran entries messages posteriors ys posteriors' rows.shape.group (first_row rows r) (entry_count rows r) l' m → Gives rows soft messages ys posteriors' r rows.shape.group (first_row rows r) (entry_count rows r)) last_is
-      (subst (λ m'. Ran entries messages posteriors ys posteriors' rows.shape.group (first_row rows r) (entry_count rows r) (lacked_row rows.shape r) m' → Gives rows soft messages ys posteriors' r rows.shape.group (first_row rows r) (entry_count rows r)) m_is ran_gives))))
+  pub gives : (es : List Entry) (n start count last : ℕ) → entries_of rows r ≡ es → rows.shape.group ≡ n → first_row rows r ≡ start → entry_count rows r ≡ count → lacked_row rows.shape r ≡ last → Ran es messages posteriors ys posteriors' n start count last (length es) → Gives rows soft messages ys posteriors' r n start count
+  gives es n start count last es_is n_is start_is count_is last_is =
+      let long = length-entries rows r in
+      subst (λ e'. Ran e' messages posteriors ys posteriors' n start count last (length e') → Gives rows soft messages ys posteriors' r n start count) es_is
+      (subst (λ n'. Ran (entries_of rows r) messages posteriors ys posteriors' n' start count last (length (entries_of rows r)) → Gives rows soft messages ys posteriors' r n' start count) n_is
+      (subst (λ s'. Ran (entries_of rows r) messages posteriors ys posteriors' rows.shape.group s' count last (length (entries_of rows r)) → Gives rows soft messages ys posteriors' r rows.shape.group s' count) start_is
+      (subst (λ c'. Ran (entries_of rows r) messages posteriors ys posteriors' rows.shape.group (first_row rows r) c' last (length (entries_of rows r)) → Gives rows soft messages ys posteriors' r rows.shape.group (first_row rows r) c') count_is
+      (subst (λ l'. Ran (entries_of rows r) messages posteriors ys posteriors' rows.shape.group (first_row rows r) (entry_count rows r) l' (length (entries_of rows r)) → Gives rows soft messages ys posteriors' r rows.shape.group (first_row rows r) (entry_count rows r)) last_is
+      (subst (λ m'. Ran (entries_of rows r) messages posteriors ys posteriors' rows.shape.group (first_row rows r) (entry_count rows r) (lacked_row rows.shape r) m' → Gives rows soft messages ys posteriors' r rows.shape.group (first_row rows r) (entry_count rows r)) (sym long) ran_gives)))))
 
 -- the entries of a layer are rows of the posteriors
-module _ (rows : Rows) (entries : List Entry) (firsts : List ℕ) (l : AreLayers rows entries firsts) (r : ℕ) (layer : r < rows.shape.q) (places : ℕ) (all : places ≡ code_bits rows.shape) where
-  entry_in : (e : ℕ) → e < entry_count rows r → entry_at (entries_part entries (first_row rows r) (entry_count rows r)) e ≡ entry_of rows.shape (get_or (members (code_of rows) (last_check rows.shape r)) e 0)
-  entry_in e lt =
-      let start = first_row rows r in
-      get_or-take (start + entry_count rows r - start) (drop start entries) e no_entry (omega arith) ∙ get_or-drop start entries e no_entry ∙ l.entries_are r e layer lt
-
-  part_long : length (entries_part entries (first_row rows r) (entry_count rows r)) ≡ entry_count rows r
-  part_long =
-      let start = first_row rows r in
-      let room = first_row_before rows r rows.shape.q layer in
-      length-take-le (start + entry_count rows r - start) (drop start entries) (omega (arith, length-drop start entries, l.entries_long, room)) ∙ omega arith
-
-  in_places : AreIn rows.shape.group (entries_part entries (first_row rows r) (entry_count rows r)) places
-  in_places = record {
-    some = l.shaped.group_some;
-    few = l.shaped.group_most;
-    rows = λ e lt'.
-        let lt : e < entry_count rows r = omega (arith, part_long) in
-        let b = get_or (members (code_of rows) (last_check rows.shape r)) e 0 in
-        let row = Places.row_below rows.shape l.shaped b (member_below rows l.shaped r layer e lt) in
-        let more : suc (row_of_bit rows.shape b) * rows.shape.group ≤ (rows.shape.groups + rows.shape.q) * rows.shape.group = mul-le-mul_right rows.shape.group row in
-        rw (entry_in e lt) (omega (arith, more, all));
-    turns = λ e lt'.
-        let lt : e < entry_count rows r = omega (arith, part_long) in
-        rw (entry_in e lt) (omega arith);
-  }
-
-  pub are_in : (n start count : ℕ) → rows.shape.group ≡ n → first_row rows r ≡ start → entry_count rows r ≡ count → AreIn n (entries_part entries start count) places
-  are_in n start count n_is start_is count_is =
-      subst (λ n'. AreIn n' (entries_part entries start count) places) n_is
-      (subst (λ s'. AreIn rows.shape.group (entries_part entries s' count) places) start_is
-      (subst (λ c'. AreIn rows.shape.group (entries_part entries (first_row rows r) c') places) count_is in_places))
-
-  pub length-entries_part : (start count : ℕ) → first_row rows r ≡ start → entry_count rows r ≡ count → length (entries_part entries start count) ≡ count
-  length-entries_part start count start_is count_is =
-      subst (λ s'. length (entries_part entries s' count) ≡ count) start_is (subst (λ c'. length (entries_part entries (first_row rows r) c') ≡ c') count_is part_long)
+pub are_in : (rows : Rows) → AreFit rows → (r : ℕ) → r < rows.shape.q → (places : ℕ) → places ≡ code_bits rows.shape → (es : List Entry) (n : ℕ) → entries_of rows r ≡ es → rows.shape.group ≡ n → AreIn n es places
+are_in rows l r layer places all es n es_is n_is =
+    let in_places : AreIn rows.shape.group (entries_of rows r) places = record {
+      some = l.shaped.group_some;
+      few = l.shaped.group_most;
+      rows = λ e lt'.
+          let lt : e < entry_count rows r = omega (arith, length-entries rows r) in
+          let b = get_or (members (code_of rows) (last_check rows.shape r)) e 0 in
+          let row = Places.row_below rows.shape l.shaped b (member_below rows l.shaped r layer e lt) in
+          let more : suc (row_of_bit rows.shape b) * rows.shape.group ≤ (rows.shape.groups + rows.shape.q) * rows.shape.group = mul-le-mul_right rows.shape.group row in
+          rw (entries_are rows r e lt) (omega (arith, more, all));
+      turns = λ e lt'.
+          let lt : e < entry_count rows r = omega (arith, length-entries rows r) in
+          rw (entries_are rows r e lt) (omega arith);
+    }
+    in
+    subst (λ n'. AreIn n' es places) n_is (subst (λ e'. AreIn rows.shape.group e' places) es_is in_places)

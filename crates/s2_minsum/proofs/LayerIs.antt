@@ -18,7 +18,7 @@ use Rattle.s2_minsum.specs.Nodes.{first_of, second_of, signs_of, sent}
 use Rattle.s2_bits.specs.Lanes16.{signed16, plus16, minus16, size16}
 use Rattle.s2_minsum.specs.Rows.{cell, entry_at, sent16, turned, turned_back, is_lacking, received, change_of, changed}
 use Rattle.s2_minsum.specs.Layout.{row_of_bit, lane_of_bit, bit_of, last_check, forth, back, entry_of, entry_count, first_row, place_at, message_of, state_of, kept_of, lacked_row}
-use Rattle.s2_minsum.specs.Decoding.{AreLayers, AreNumbers, AreMessages}
+use Rattle.s2_minsum.specs.Decoding.{AreFit, AreNumbers, AreMessages}
 use Rattle.s2_minsum.proofs.Places
 use Rattle.s2_minsum.proofs.Columns.{lane_sent, member_below, member_has, present, place_in}
 use Rattle.s2_minsum.proofs.Nodes.{sent_small}
@@ -65,7 +65,7 @@ either_word : (b : Bool) (v : ℕ) (z : ℤ) → signed16 v ≡ z → signed16 (
 either_word true v z e = refl
 either_word false v z e = e
 
-module _ (rows : Rows) (soft : List ℤ) (entries : List Entry) (firsts messages posteriors : List ℕ) (l : AreLayers rows entries firsts) (d : AreNumbers rows soft messages posteriors) (fit : (k : ℕ) → get_or messages k 0 < 65536) (fit_posteriors : (k : ℕ) → get_or posteriors k 0 < 65536)
+module _ (rows : Rows) (soft : List ℤ) (messages posteriors : List ℕ) (l : AreFit rows) (d : AreNumbers rows soft messages posteriors) (fit : (k : ℕ) → get_or messages k 0 < 65536) (fit_posteriors : (k : ℕ) → get_or posteriors k 0 < 65536)
     (r : ℕ) (layer : r < rows.shape.q) (es : List Entry) (ms ys messages' : List ℕ) (fit_new : (k : ℕ) → get_or ys k 0 < 65536)
     (es_are : (e : ℕ) → e < entry_count rows r → entry_at es e ≡ entry_of rows.shape (get_or (members (code_of rows) (last_check rows.shape r)) e 0))
     (ms_are : (e c : ℕ) → e < entry_count rows r → c < rows.shape.group → cell ms rows.shape.group e c ≡ kept_of rows messages r e c)

@@ -27,10 +27,14 @@ AreWithin n vs = All (λ v. unsigned_abs v ≤ n) vs
 abbrev pub AreMessages : List ℕ → Type 0
 AreMessages vs = All (λ v. unsigned_abs (signed16 v) ≤ most_message) vs
 
--- what holds of the rows and of the entries of all layers
-pub record AreLayers (rows : Rows) (entries : List Entry) (firsts : List ℕ) : Type 0 where
+-- the rows of a code as the standard's are: of a valid shape, and no bit in more checks than a row has addresses at most
+pub record AreFit (rows : Rows) : Type 0 where
   pub shaped : IsShape rows.shape
   pub few : (i : ℕ) → i < code_bits rows.shape → length (checks_of (code_of rows) i) ≤ most_addresses
+
+-- what holds of the entries of all layers, and of where those of each begin
+pub record AreLayers (rows : Rows) (entries : List Entry) (firsts : List ℕ) : Type 0 where
+  pub fit : AreFit rows
   pub entries_long : length entries ≡ first_row rows rows.shape.q
   pub entries_are : (r e : ℕ) → r < rows.shape.q → e < entry_count rows r → entry_at entries (first_row rows r + e) ≡ entry_of rows.shape (get_or (members (code_of rows) (last_check rows.shape r)) e 0)
   pub firsts_long : length firsts ≡ rows.shape.q + 1
@@ -53,8 +57,9 @@ HasRoom rows words =
     (r : ℕ) → r < rows.shape.q → (entry_count rows r + 3) * rows.shape.group ≤ words
 
 -- what holds of a decoder
-pub record IsDecoder (rows : Rows) (soft : List ℤ) (entries : List Entry) (firsts messages posteriors : List ℕ) (scratch : ℕ) : Type 0 where
-  pub layers : AreLayers rows entries firsts
+pub record IsDecoder (rows layered : Rows) (soft : List ℤ) (messages posteriors : List ℕ) (scratch : ℕ) : Type 0 where
+  pub layers : layered ≡ rows
+  pub fit : AreFit rows
   pub numbers : AreNumbers rows soft messages posteriors
   pub room : HasRoom rows scratch
 

@@ -1,5 +1,5 @@
 -- Bits in rows of a group, and the messages of a layer by the members of its last check.
-use Rattle.std.specs.Prelude.{ℕ, ◌+◌, ◌-◌, ◌*◌, ◌/◌, ◌%◌, ◌==◌, nat_lt, if◌then◌else◌, List, length, sum_by, ℤ, pos}
+use Rattle.std.specs.Prelude.{ℕ, ◌+◌, ◌-◌, ◌*◌, ◌/◌, ◌%◌, ◌==◌, nat_lt, if◌then◌else◌, List, map, length, sum_by, ℤ, pos}
 use Rattle.std.specs.List.{position_or_len}
 use Rattle.s2_mode.specs.Shape.{Shape, information_bits}
 use Rattle.s2_rows.specs.Rows.{Rows}
@@ -44,6 +44,10 @@ back s c i = bit_of s (row_of_bit s i) ((lane_of_bit s i + s.group - 1 - c) % s.
 -- the row and the turn that show such a member to all checks of the layer
 abbrev pub entry_of : Shape → ℕ → Entry
 entry_of s b = record { row = row_of_bit s b; shift = s.group - 1 - lane_of_bit s b }
+
+-- the entries of a layer
+abbrev pub entries_of : Rows → ℕ → List Entry
+entries_of rows r = map (entry_of rows.shape) (members (code_of rows) (last_check rows.shape r))
 
 -- the place of a bit among the entries of its check's layer
 abbrev pub place_at : Rows → ℕ → ℕ → ℕ

@@ -7,12 +7,12 @@ ghost use Rattle.s2_minsum.specs.Plain.{posterior as posterior_of, layer as afte
 ghost use Rattle.s2_minsum.specs.Decoding.{AreWithin, Decoding, decoded};
 
 use crate::edge::message_place;
-use crate::entries::{layers_of, scratch_len};
+use crate::entries::scratch_len;
 use crate::hard::decide;
+use crate::layers::Layers;
 use crate::layout::place_of;
 use crate::loading::put_posteriors;
 use crate::one_layer::run_layer;
-use crate::rows::Entry;
 use s2_bits::Bits;
 use s2_matrix::Matrix;
 use std::alloc::{AllocError, Global};
@@ -20,15 +20,26 @@ use std::marker::Model;
 
 /// A decoder of layered min-sum. To contracts it is the address rows, the soft values, and the messages;
 /// `decoded` is the state that they are.
-#[derive(Drop)]
 pub struct Decoder<'a> {
     matrix: &'a Matrix,
+    layers: Layers<'a>,
     soft: Vec<i16>,
-    entries: Vec<Entry>,
-    firsts: Vec<usize>,
     messages: Vec<u16>,
     posteriors: Vec<u16>,
     scratch: Vec<u16>,
+}
+
+impl<'a> Drop for Decoder<'a> {
+    fn drop(self) {
+        let Decoder {
+            matrix: _,
+            layers: _,
+            soft: _,
+            messages: _,
+            posteriors: _,
+            scratch: _,
+        } = self;
+    }
 }
 
 impl<'a> Model for Decoder<'a> {
@@ -39,7 +50,7 @@ impl<'a> Model for Decoder<'a> {
 
     ghost view = { λ d. record { rows = d.matrix.now; soft = d.soft.items; messages = d.messages.items } };
 
-    ghost invariant = { λ d. IsDecoder d.matrix.now d.soft.items d.entries.items d.firsts.items d.messages.items d.posteriors.items (length d.scratch.items) };
+    ghost invariant = { λ d. IsDecoder d.matrix.now d.layers d.soft.items d.messages.items d.posteriors.items (length d.scratch.items) };
 }
 
 impl<'a> Decoder<'a> {
@@ -49,18 +60,17 @@ impl<'a> Decoder<'a> {
         ensures rows { IfOk result (λ d. d.rows ≡ matrix.now) }
         ensures state { IfOk result (λ d. decoded d ≡ start (replicate (code_bits matrix.now.shape) (pos 0))) }
     {
-        let layers = layers_of(alloc, matrix)?;
+        let layers = Layers::of(alloc, matrix)?;
         let group = matrix.shape().group();
-        let rows = layers.entries.len();
+        let rows = layers.first(matrix.shape().q());
         let soft = vec![in alloc; 0i16; matrix.bits()]?;
         let messages = vec![in alloc; 0u16; rows * group]?;
         let posteriors = vec![in alloc; 0u16; matrix.bits()]?;
         let scratch = vec![in alloc; 0u16; scratch_len(matrix)]?;
         Ok(Decoder {
             matrix,
+            layers,
             soft,
-            entries: layers.entries,
-            firsts: layers.firsts,
             messages,
             posteriors,
             scratch,
@@ -88,8 +98,7 @@ impl<'a> Decoder<'a> {
         run_layer(
             self.matrix,
             &self.soft,
-            &self.entries,
-            &self.firsts,
+            &self.layers,
             &mut self.messages,
             &mut self.posteriors,
             &mut self.scratch,
@@ -143,12 +152,10 @@ impl<'a> Decoder<'a> {
     {
         self.messages[message_place(
             self.matrix,
-            &self.entries,
-            &self.firsts,
+            &self.layers,
             &self.messages,
             check,
             at,
-        )]
-            .cast_signed()
+        )].cast_signed()
     }
 }

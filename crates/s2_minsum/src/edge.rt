@@ -2,23 +2,22 @@
 ghost use Rattle.std.specs.Prelude.{◌≡◌, ◌<◌, ◌+◌, ◌*◌, ◌/◌, ◌%◌, length, get_or};
 ghost use Rattle.s2_matrix.specs.Code.{code_of, members};
 ghost use Rattle.s2_minsum.specs.Layout.{place_at, first_row};
-ghost use Rattle.s2_minsum.specs.Decoding.{AreLayers};
+ghost use Rattle.s2_minsum.specs.Decoding.{AreFit};
 
-use crate::entries::find_span;
+use crate::layers::Layers;
 use crate::layout::{back_to, place_among};
-use crate::rows::Entry;
 use s2_matrix::Matrix;
 
 /// Where the message of a check to its member at a place stands.
 pub(crate) fn message_place(
     matrix: &Matrix,
-    entries: &[Entry],
-    firsts: &[usize],
+    layers: &Layers<'_>,
     messages: &[u16],
     check: usize,
     at: usize,
 ) -> usize
-    requires layers { AreLayers matrix.now entries.now firsts.now }
+    requires layers { layers.now ≡ matrix.now }
+    requires fit { AreFit matrix.now }
     requires long { length messages.now ≡ first_row matrix.now matrix.now.shape.q * matrix.now.shape.group }
     requires check { check < (code_of matrix.now).checks }
     requires at { at < length (members (code_of matrix.now) check) }
@@ -28,8 +27,8 @@ pub(crate) fn message_place(
     let shape = matrix.shape();
     let r = check % shape.q();
     let lane = check / shape.q();
-    let span = find_span(matrix, entries, firsts, r);
+    let start = layers.first(r);
     let last = matrix.members_at(r + (shape.group() - 1) * shape.q());
     let place = place_among(last, back_to(shape, lane, matrix.members(check, at)) as u32);
-    (span.start + place) * shape.group() + lane
+    (start + place) * shape.group() + lane
 }

@@ -1,9 +1,8 @@
 //! The entries of each layer: which rows its checks read, and how far turned.
-ghost use Rattle.std.specs.Prelude.{◌≡◌, ◌++◌, ℕ, ◌+◌, ◌*◌, ◌<◌, ◌≤◌, IfOk, OnOk, map, length};
+ghost use Rattle.std.specs.Prelude.{◌≡◌, ◌++◌, ℕ, ◌<◌, ◌≤◌, OnOk};
 ghost use Rattle.s2_mode.specs.Limits.{most_bits};
-ghost use Rattle.s2_matrix.specs.Code.{code_of, members};
-ghost use Rattle.s2_minsum.specs.Layout.{entry_of, entry_count, first_row, last_check};
-ghost use Rattle.s2_minsum.specs.Decoding.{AreLayers, HasRoom};
+ghost use Rattle.s2_minsum.specs.Layout.{entries_of, entry_count};
+ghost use Rattle.s2_minsum.specs.Decoding.{HasRoom};
 
 use crate::layout::entry_of;
 use crate::rows::Entry;
@@ -11,9 +10,13 @@ use s2_matrix::Matrix;
 use std::alloc::{AllocError, Global};
 
 /// Adds the entries of a layer: one for each member of its last check, in their order.
-fn add_entries(matrix: &Matrix, r: usize, entries: &mut Vec<Entry>) -> Result<(), AllocError>
+pub(crate) fn add_entries(
+    matrix: &Matrix,
+    r: usize,
+    entries: &mut Vec<Entry>,
+) -> Result<(), AllocError>
     requires { r < matrix.now.shape.q }
-    ensures { OnOk result (entries.new.items ≡ entries.old.items ++ map (entry_of matrix.now.shape) (members (code_of matrix.now) (last_check matrix.now.shape r))) }
+    ensures { OnOk result (entries.new.items ≡ entries.old.items ++ entries_of matrix.now r) }
 {
     let shape = matrix.shape();
     let members = matrix.members_at(r + (shape.group() - 1) * shape.q());
@@ -21,31 +24,6 @@ fn add_entries(matrix: &Matrix, r: usize, entries: &mut Vec<Entry>) -> Result<()
         entries.push(entry_of(shape, *bit as usize))?;
     }
     Ok(())
-}
-
-/// The entries of all layers, and where those of each layer begin; the last place is where all end.
-#[derive(Drop)]
-pub struct Layers {
-    pub entries: Vec<Entry>,
-    pub firsts: Vec<usize>,
-}
-
-/// The entries of all layers of a matrix. `AllocError` only where memory is refused.
-pub fn layers_of(alloc: Global, matrix: &Matrix) -> Result<Layers, AllocError>
-    ensures are { IfOk result (λ t. AreLayers matrix.now t.entries.items t.firsts.items) }
-    ensures few { IfOk result (λ t. length t.entries.items ≤ most_bits * most_bits) }
-{
-    // What it promises of the bits is a part of what is promised here.
-    let _bits = matrix.bits();
-    let shape = matrix.shape();
-    let mut entries = Vec::new(alloc);
-    let mut firsts = Vec::new(alloc);
-    for r in 0..shape.q() {
-        firsts.push(entries.len())?;
-        add_entries(matrix, r, &mut entries)?;
-    }
-    firsts.push(entries.len())?;
-    Ok(Layers { entries, firsts })
 }
 
 /// How many entries the largest layer has.
@@ -72,28 +50,4 @@ pub fn scratch_len(matrix: &Matrix) -> usize
     ensures least { (words : ℕ) → HasRoom matrix.now words → result ≤ words }
 {
     (most_entries(matrix) + 3) * matrix.shape().group()
-}
-
-/// Where the entries of a layer begin among those of all layers, and how many they are.
-#[derive(Clone, Copy, Drop)]
-pub struct Span {
-    pub start: usize,
-    pub count: usize,
-}
-
-/// Where the entries of a layer stand.
-pub fn find_span(matrix: &Matrix, entries: &[Entry], firsts: &[usize], r: usize) -> Span
-    requires layers { AreLayers matrix.now entries.now firsts.now }
-    requires layer { r < matrix.now.shape.q }
-    ensures start { result.start ≡ first_row matrix.now r }
-    ensures count { result.count ≡ entry_count matrix.now r }
-    ensures entries { result.start + result.count ≤ length entries.now }
-    ensures few { result.count ≤ most_bits }
-{
-    let (_matrix, _entries) = (matrix, entries);
-    let start = firsts[r];
-    Span {
-        start,
-        count: firsts[r + 1] - start,
-    }
 }

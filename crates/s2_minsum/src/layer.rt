@@ -155,22 +155,20 @@ pub(crate) fn run(
     last: usize,
     posteriors: &mut [u16],
     messages: &mut [u16],
-    inputs: &mut [u16],
-    first: &mut [u16],
-    second: &mut [u16],
-    signs: &mut [u16],
+    scratch: &mut [u16],
 )
     requires entries { AreIn n entries.now (length posteriors.old) }
     requires few { length posteriors.old ≤ most_bits }
     requires long { length messages.old ≡ length entries.now * n }
-    requires same { length inputs.old ≡ length entries.now * n }
-    requires first { length first.old ≡ n }
-    requires second { length second.old ≡ n }
-    requires signs { length signs.old ≡ n }
+    requires room { (length entries.now + 3) * n ≤ length scratch.old }
     ensures messages { (e c : ℕ) → e < length entries.now → c < n → cell messages.new n e c ≡ sent16 (received n entries.now last posteriors.old messages.old e c) (first_of (λ k. size16 (received n entries.now last posteriors.old messages.old k c)) (length entries.now)) (second_of (λ k. size16 (received n entries.now last posteriors.old messages.old k c)) (length entries.now)) (signs_of (λ k. received n entries.now last posteriors.old messages.old k c) (length entries.now)) }
     ensures posteriors { (p : ℕ) → p < length posteriors.old → slice_index posteriors.new p ≡ changed n entries.now posteriors.old (change_of n entries.now last messages.old messages.new) (length entries.now) p }
 {
     let count = entries.len();
+    let (first, rest) = scratch.split_at_mut(n);
+    let (second, rest) = rest.split_at_mut(n);
+    let (signs, rest) = rest.split_at_mut(n);
+    let inputs = &mut rest[..count * n];
     receive(entries, n, last, posteriors, messages, inputs);
     track_all(inputs, n, count, first, second, signs);
     send_all(inputs, messages, n, count, first, second, signs);

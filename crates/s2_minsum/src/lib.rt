@@ -12,8 +12,8 @@
 //!
 //! The decoder keeps posteriors in rows of a group, and the messages of a layer in rows of as many lanes, one
 //! check a lane, so that all checks of a layer go at once. None of it shows in a clause of [`Decoder`]. Who keeps
-//! other numbers in such rows takes the layout from here: the entries of each layer ([`layers_of`],
-//! [`find_span`]), the member that its first check can lack ([`last_row`], [`mask_lacking`]), the bits of a row
+//! other numbers in such rows takes the layout from here: the entries of each layer ([`Layers`]), the member that
+//! its first check can lack ([`last_row`], [`mask_lacking`]), the bits of a row
 //! ([`first_bit`], [`step_of`]), and how much room a layer works in ([`scratch_len`]).
 //!
 //! ```
@@ -33,6 +33,7 @@ mod lacking;
 mod lanes;
 pub mod laws;
 mod layer;
+mod layers;
 mod layout;
 mod limits;
 mod loading;
@@ -40,15 +41,9 @@ mod one_layer;
 mod rows;
 
 pub use decoder::Decoder;
-pub use entries::{Layers, Span, find_span, layers_of, scratch_len};
+pub use entries::scratch_len;
 pub use lacking::mask_lacking;
+pub use layers::Layers;
 pub use layout::{first_bit, last_row, place_among, step_of};
 pub use limits::{MOST_MESSAGE, SIZE_CAP};
 pub use rows::Entry;
-
-#[cfg(test)]
-mod agreement;
-#[cfg(test)]
-mod memory_tests;
-#[cfg(test)]
-mod tests;

@@ -3,26 +3,24 @@ ghost use Rattle.std.specs.Prelude.{◌≡◌, ℕ, ◌≤◌, ◌<◌, ◌+◌,
 ghost use Rattle.s2_matrix.specs.Code.{code_of};
 ghost use Rattle.s2_minsum.specs.Plain.{layer as after_layer};
 ghost use Rattle.s2_minsum.specs.Layout.{kept_of, state_of};
-ghost use Rattle.s2_minsum.specs.Decoding.{AreLayers, AreNumbers, HasRoom};
+ghost use Rattle.s2_minsum.specs.Decoding.{AreNumbers, HasRoom};
 
-use crate::entries::find_span;
 use crate::layer::run;
+use crate::layers::Layers;
 use crate::layout::last_row;
-use crate::rows::Entry;
 use s2_matrix::Matrix;
 
 /// Runs one layer over a decoder's lists.
 pub(crate) fn run_layer(
     matrix: &Matrix,
     soft: &[i16],
-    entries: &[Entry],
-    firsts: &[usize],
+    layers: &Layers<'_>,
     messages: &mut [u16],
     posteriors: &mut [u16],
     scratch: &mut [u16],
     r: usize,
 )
-    requires layers { AreLayers matrix.now entries.now firsts.now }
+    requires layers { layers.now ≡ matrix.now }
     requires numbers { AreNumbers matrix.now soft.now messages.old posteriors.old }
     requires room { HasRoom matrix.now (length scratch.old) }
     requires layer { r < matrix.now.shape.q }
@@ -32,21 +30,15 @@ pub(crate) fn run_layer(
     let shape = matrix.shape();
     let n = shape.group();
     let last = last_row(shape, r);
-    let span = find_span(matrix, entries, firsts, r);
-    let at = span.start * n;
-    let width = span.count * n;
-    let (first, rest) = scratch.split_at_mut(n);
-    let (second, rest) = rest.split_at_mut(n);
-    let (signs, inputs) = rest.split_at_mut(n);
+    let entries = layers.entries(r);
+    let at = layers.first(r) * n;
+    let width = entries.len() * n;
     run(
-        &entries[span.start..span.start + span.count],
+        entries,
         n,
         last,
         posteriors,
         &mut messages[at..at + width],
-        &mut inputs[..width],
-        first,
-        second,
-        signs,
+        scratch,
     );
 }

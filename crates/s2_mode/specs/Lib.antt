@@ -6,3 +6,5 @@ pub mod Lanes
 pub mod Limits
 pub mod Shape
 pub mod Mode
+pub mod FaultTexts
+pub mod Streams

@@ -1,6 +1,6 @@
--- What bounds codes, soft values and headers.
-use Rattle.std.specs.Prelude.{◌≡◌, ℕ}
-use Rattle.s2_mode.specs.declared.limits.TheConstants.{HEADER_SYMBOLS, MOST_BITS, MOST_GROUP, MOST_SOFT}
+-- What bounds codes, soft values, headers and streams.
+use Rattle.std.specs.Prelude.{◌≡◌, ◌^◌, ℕ}
+use Rattle.s2_mode.specs.declared.limits.TheConstants.{HEADER_SYMBOLS, MOST_BITS, MOST_GROUP, MOST_MODCOD, MOST_SOFT, MOST_SYMBOLS}
 
 -- the most bits of a codeword: those of a normal frame (EN 302 307-1, table 5a)
 abbrev pub most_bits : ℕ
@@ -10,6 +10,10 @@ most_bits = 64800
 abbrev pub most_group : ℕ
 most_group = 360
 
+-- the largest MODCOD: 8PSK 9/10 (EN 302 307-1, table 12)
+abbrev pub most_modcod : ℕ
+most_modcod = 17
+
 -- the largest soft value; the least is its negative
 abbrev pub most_soft : ℕ
 most_soft = 63
@@ -18,9 +22,15 @@ most_soft = 63
 abbrev pub header_symbols : ℕ
 header_symbols = 90
 
+-- the most symbols of a stream that one call, one command or one receiver takes
+abbrev pub most_symbols : ℕ
+most_symbols = 2 ^ 40
+
 -- the limits that the code tests are these
 pub record LimitsLaw : Type 0 where
   pub bits : MOST_BITS ≡ most_bits
   pub group : MOST_GROUP ≡ most_group
+  pub modcod : MOST_MODCOD ≡ most_modcod
   pub soft : MOST_SOFT ≡ most_soft
   pub header : HEADER_SYMBOLS ≡ header_symbols
+  pub symbols : MOST_SYMBOLS ≡ most_symbols

@@ -7,8 +7,8 @@ pub fn symbols_back()
     ensures { SymbolsBackLaw }
 {}
 
-/// The limits that are tested, [`crate::MOST_BITS`], [`crate::MOST_GROUP`] and [`crate::MOST_SOFT`], are
-/// those of the definitions.
+/// The limits that are tested, [`crate::MOST_BITS`], [`crate::MOST_GROUP`], [`crate::MOST_MODCOD`], [`crate::MOST_SOFT`],
+/// [`crate::HEADER_SYMBOLS`] and [`crate::MOST_SYMBOLS`], are those of the definitions.
 pub fn limits()
     ensures { LimitsLaw }
 {}

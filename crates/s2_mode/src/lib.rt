@@ -9,6 +9,7 @@
 //! [`Counting`] counts for any reader or writer of std, [`InMemory`] reads a slice. A [`Symbol`] has four
 //! bytes in a file, and what is written is read back ([`laws::symbols_back`]); [`bytes_into`] writes those of
 //! many into a slice, and [`symbols_into`] reads them. Four symbols fill a vector's lanes ([`words_from`], [`symbols_from`], [`put_four`]).
+//! What a fault of any crate says is a [`FaultText`]; a stream that was not passed on to its end ends by a [`StreamFault`].
 //!
 //! ```
 //! let mode = Mode::of(4, true, false)?;
@@ -19,6 +20,7 @@
 
 mod counts;
 mod fakes;
+mod fault_text;
 mod lanes;
 pub mod laws;
 mod limits;
@@ -26,6 +28,7 @@ mod memory;
 mod mode;
 mod rates;
 mod shape;
+mod stream_fault;
 mod symbols;
 mod whole;
 mod wrapped;
@@ -34,14 +37,13 @@ pub use counts::{
     Counted, CountedRead, CountedWrite, ReadFault, WriteFault, read_full, write_full,
 };
 pub use fakes::{ByOne, Endless, FailAt};
+pub use fault_text::FaultText;
 pub use lanes::{put_four, symbols_from, words_from};
-pub use limits::{HEADER_SYMBOLS, MOST_BITS, MOST_GROUP, MOST_SOFT};
+pub use limits::{HEADER_SYMBOLS, MOST_BITS, MOST_GROUP, MOST_MODCOD, MOST_SOFT, MOST_SYMBOLS};
 pub use memory::InMemory;
 pub use mode::Mode;
 pub use shape::Shape;
+pub use stream_fault::StreamFault;
 pub use symbols::{Symbol, bytes_into, read_symbol, symbols_into, write_symbol};
 pub use whole::{FileFault, read_all};
 pub use wrapped::Counting;
-
-#[cfg(test)]
-mod tests;

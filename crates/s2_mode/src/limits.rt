@@ -1,4 +1,4 @@
-//! The numbers that bound codes, soft values and headers, each here alone.
+//! The numbers that bound codes, soft values, headers and streams, each here alone.
 
 /// The most bits of a codeword.
 pub const MOST_BITS: usize = 64800;
@@ -6,8 +6,14 @@ pub const MOST_BITS: usize = 64800;
 /// The most bits of a group.
 pub const MOST_GROUP: usize = 360;
 
+/// The largest MODCOD of the modes here (EN 302 307-1, table 12).
+pub const MOST_MODCOD: u8 = 17;
+
 /// The largest soft value. The least is its negative.
 pub const MOST_SOFT: u16 = 63;
 
 /// The symbols of a physical layer header (PLHEADER, EN 302 307-1, 5.5.2), and as many bits.
 pub const HEADER_SYMBOLS: usize = 90;
+
+/// The most symbols of a stream that one call, one command or one receiver takes.
+pub const MOST_SYMBOLS: u64 = 1 << 40;

@@ -2,7 +2,7 @@
 ghost use Rattle.std.specs.Prelude.{◌≡◌, ◌<◌, ◌↔◌, IsSome, IfSome};
 ghost use Rattle.s2_mode.specs.Mode.{mode_of, IsMode, is_qpsk, rate_index, kbch_of, k_of, n_of, t_of, q_of, rate_of, width_of, slots_of, pilot_blocks_of, symbols_in, shape_in, HasCodeSizes, HasFrameSizes};
 
-use crate::limits::HEADER_SYMBOLS;
+use crate::limits::{HEADER_SYMBOLS, MOST_MODCOD};
 use crate::rates::{RATES, Rate};
 use crate::shape::Shape;
 use std::marker::Model;
@@ -34,7 +34,7 @@ impl Mode {
         ensures found { IsSome result ↔ IsMode (mode_of modcod short pilots) }
         ensures value { IfSome result (λ m. m ≡ mode_of modcod short pilots) }
     {
-        if modcod < 1 || modcod > 17 {
+        if modcod < 1 || modcod > MOST_MODCOD {
             return None;
         }
         if short && (modcod == 11 || modcod == 17) {

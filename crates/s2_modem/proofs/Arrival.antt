@@ -10,10 +10,10 @@ use Rattle.s2_mode.specs.declared.symbols.Symbol.{Symbol}
 use Rattle.s2_bbframe.specs.DataStream.{header_at, field_bytes, stream_of, cuts, fields_of}
 use Rattle.s2_map.specs.Mapping.{payload_of}
 use Rattle.s2_plframe.specs.Frame.{frame_symbol}
-use Rattle.s2_modem.specs.Link.{Link}
-use Rattle.s2_modem.specs.Frames.{frame_bytes}
-use Rattle.s2_modem.specs.Sending.{AreFrames, joined as bytes_joined}
-use Rattle.s2_modem.specs.declared.send.outcome.Counts.{Counts}
+use Rattle.s2_link.specs.Link.{Link}
+use Rattle.s2_send.specs.Frames.{frame_bytes}
+use Rattle.s2_send.specs.Sending.{AreFrames, joined as bytes_joined}
+use Rattle.s2_send.specs.declared.outcome.Counts.{Counts}
 use Rattle.s2_bbframe.specs.Joining.{Placed}
 use Rattle.s2_receive.specs.Meeting.{Met, frame, ended, met_from}
 use Rattle.s2_receive.specs.Finding.{Meets}
@@ -22,8 +22,8 @@ use Rattle.s2_receive.specs.Laws.{joined, IsReceived, AreReceived, frames_at}
 use Rattle.s2_receive.specs.declared.report.Phase.TheVariants as phases
 use Rattle.s2_receive.specs.declared.report.Report.{Report}
 use Rattle.s2_receive.specs.declared.report.Totals.{Totals}
-use Rattle.s2_receive.specs.declared.report.Verdict.{Verdict}
-use Rattle.s2_receive.specs.declared.report.Verdict.TheVariants.{MostLikely}
+use Rattle.s2_check.specs.declared.verdict.Verdict.{Verdict}
+use Rattle.s2_check.specs.declared.verdict.Verdict.TheVariants.{MostLikely}
 use Rattle.s2_receive.specs.declared.report.Outcome.TheVariants.{Delivered}
 use Rattle.s2_receive.specs.declared.report.Outcome.{Outcome}
 use Rattle.s2_receive.proofs.Reception.{gives}

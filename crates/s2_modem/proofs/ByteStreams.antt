@@ -6,7 +6,7 @@ use Rattle.std.specs.List.{flat_map}
 use Rattle.s2_bbframe.specs.Crc.{crc8}
 use Rattle.s2_bbframe.specs.DataStream.{closed_body, stream_of, cuts}
 use Rattle.s2_bbframe.proofs.Division.{divided}
-use Rattle.s2_modem.specs.Sending.{joined}
+use Rattle.s2_send.specs.Sending.{joined}
 use Rattle.s2_modem.specs.Both.{IsByte, AreBytes}
 
 crc_is_byte : (bytes : List ℕ) → IsByte (crc8 bytes)

@@ -32,25 +32,26 @@ use Rattle.s2_plframe.specs.Frame.{frame_symbol}
 use Rattle.s2_plframe.specs.Search.{decision, found}
 use Rattle.s2_soft.specs.Soft.{soft_bit}
 use Rattle.s2_receive.specs.Laws.{IsReceived}
-use Rattle.s2_modem.specs.Link.{Link, HasShape}
-use Rattle.s2_modem.specs.Frames.{padded_bits, baseband_frame, IsCodewordFor}
-use Rattle.s2_modem.specs.Passing.{passes_as}
-use Rattle.s2_modem.specs.Deciding.{Decided, decided, Effort}
+use Rattle.s2_link.specs.Link.{Link, HasShape}
+use Rattle.s2_send.specs.Frames.{padded_bits, baseband_frame, IsCodewordFor}
+use Rattle.s2_receive.specs.Passing.{is_coded, passes_as}
+use Rattle.s2_judge.specs.Deciding.{Decided, decided}
+use Rattle.s2_link.specs.Tuning.{Tuning}
 use Rattle.s2_modem.specs.Reports.{frame_soft, received_word, message_of, header_in, field_in, outcome_by, delivered_by, decision_by, decision_on, frame_decision}
 use Rattle.s2_modem.specs.Reception.{link_rules}
 use Rattle.s2_modem.specs.Both.{IsByte, AreBytes, sent_symbols, IsCertifiedFrame, Hears}
 use Rattle.s2_modem.specs.Headline.{IsDelivered, IsSent, IsDeliveredCertified, HearsLaw, ArrivalLaw, LikelyFrameLaw}
 use Rattle.s2_check.specs.Cost.{IsMostLikely}
 use Rattle.s2_split.specs.Scattered.{IsScattered}
-use Rattle.s2_receive.specs.Limits.{most_symbols}
+use Rattle.s2_mode.specs.Limits.{most_symbols}
 use Rattle.s2_plframe.specs.Payload.{received_payload}
 use Rattle.s2_modem.proofs.Arrival.{arrives}
-use Rattle.s2_modem.proofs.DecidingLemmas.{clean_lem, likely_lem}
-use Rattle.s2_modem.proofs.Scattering.{scattered_lem}
-use Rattle.s2_modem.proofs.DecidedLengths.{decided_long}
+use Rattle.s2_judge.proofs.DecidingLemmas.{clean_lem, likely_lem}
+use Rattle.s2_judge.proofs.Scattering.{scattered_lem}
+use Rattle.s2_judge.proofs.DecidedLengths.{decided_long}
 use Rattle.s2_modem.proofs.DecisionLemmas.{code_is}
-use Rattle.s2_modem.proofs.OnlyFrames.{length-baseband_frame, length-bch_word}
-use Rattle.s2_modem.proofs.HeaderWindows.{is_coded, coded_window}
+use Rattle.s2_send.proofs.OnlyFrames.{length-baseband_frame, length-bch_word}
+use Rattle.s2_receive.proofs.HeaderWindows.{coded_window}
 use Rattle.s2_modem.proofs.Points.{received}
 
 -- ---- bytes out of their bits
@@ -177,14 +178,14 @@ decision_bits : (m : Mode) (soft : List ℤ) (d : Decided) (o : Option (List Boo
 decision_bits m soft d (Some word) = refl
 decision_bits m soft d None = refl
 
-module _ (link : Link) (effort : Effort) (symbols : List Symbol) where
-  pub frame_verdict : (frame_decision link effort symbols).verdict ≡ (decided link.rows effort (frame_soft link symbols)).verdict
+module _ (link : Link) (tuning : Tuning) (symbols : List Symbol) where
+  pub frame_verdict : (frame_decision link tuning symbols).verdict ≡ (decided link.rows tuning (frame_soft link symbols)).verdict
   unfolding frame_decision
-  frame_verdict = decision_verdict link.setup.mode (frame_soft link symbols) (decided link.rows effort (frame_soft link symbols)) _
+  frame_verdict = decision_verdict link.setup.mode (frame_soft link symbols) (decided link.rows tuning (frame_soft link symbols)) _
 
-  pub frame_bits : (frame_decision link effort symbols).bits ≡ (decided link.rows effort (frame_soft link symbols)).bits
+  pub frame_bits : (frame_decision link tuning symbols).bits ≡ (decided link.rows tuning (frame_soft link symbols)).bits
   unfolding frame_decision
-  frame_bits = decision_bits link.setup.mode (frame_soft link symbols) (decided link.rows effort (frame_soft link symbols)) _
+  frame_bits = decision_bits link.setup.mode (frame_soft link symbols) (decided link.rows tuning (frame_soft link symbols)) _
 
 module _ (link : Link) (valid : IsMode link.setup.mode) (sizes : HasCodeSizes link.setup.mode) (shape : HasShape link.setup link.rows) where
   abbrev m : Mode
@@ -193,7 +194,7 @@ module _ (link : Link) (valid : IsMode link.setup.mode) (sizes : HasCodeSizes li
   pub length_soft : (symbols : List Symbol) → length (frame_soft link symbols) ≡ (code_of link.rows).bits
   length_soft symbols = length-map-range_with_len (soft_bit m (received_payload m link.setup.number symbols)) 0 (n_of m) ∙ sym (code_is m link.rows sizes shape)
 
-  module _ (effort : Effort) (at : ℕ) (symbols : List Symbol) (field : List ℕ) (codeword : List Bool) (ro : link.setup.roll_off ≤ 2) (bytes : AreBytes field) (place : to_place at < length field) (fits : length field ≤ field_bytes m)
+  module _ (tuning : Tuning) (at : ℕ) (symbols : List Symbol) (field : List ℕ) (codeword : List Bool) (ro : link.setup.roll_off ≤ 2) (bytes : AreBytes field) (place : to_place at < length field) (fits : length field ≤ field_bytes m)
       (c : IsCodewordFor m link.rows (header_at link.setup.roll_off at field) field codeword) where
     abbrev header : Header
     header = header_at link.setup.roll_off at field
@@ -207,37 +208,37 @@ module _ (link : Link) (valid : IsMode link.setup.mode) (sizes : HasCodeSizes li
         ∙ header_of_bytes-header_bytes m header (omega arith) (omega (arith, sizes.field_most)) (omega arith) (valid_header m link.setup.roll_off at field sizes place fits)
 
     -- where the sent word is the nearest one
-    near_delivers : nearest m (received_word m (decided link.rows effort (frame_soft link symbols)).bits) ≡ Some c.bch_word
-        → IsDelivered (frame_decision link effort symbols) (differences (k_of m) (received_word m (decided link.rows effort (frame_soft link symbols)).bits) c.bch_word) header field
+    near_delivers : nearest m (received_word m (decided link.rows tuning (frame_soft link symbols)).bits) ≡ Some c.bch_word
+        → IsDelivered (frame_decision link tuning symbols) (differences (k_of m) (received_word m (decided link.rows tuning (frame_soft link symbols)).bits) c.bch_word) header field
     unfolding frame_decision
     near_delivers near =
-        let d = decision_of_word m (frame_soft link symbols) (decided link.rows effort (frame_soft link symbols)) c.bch_word header near read_back in
+        let d = decision_of_word m (frame_soft link symbols) (decided link.rows tuning (frame_soft link symbols)) c.bch_word header near read_back in
         record { outcome = d.outcome; delivered = d.delivered ∙ ap (λ f. Some (header, f)) (says_field m valid sizes header field fits all_bytes refl c.bch_word c.is_bch_word) }
 
-    pub both_codes : differences (k_of m) (received_word m (frame_decision link effort symbols).bits) c.bch_word ≤ t_of m
-        → IsDelivered (frame_decision link effort symbols) (differences (k_of m) (received_word m (frame_decision link effort symbols).bits) c.bch_word) header field
+    pub both_codes : differences (k_of m) (received_word m (frame_decision link tuning symbols).bits) c.bch_word ≤ t_of m
+        → IsDelivered (frame_decision link tuning symbols) (differences (k_of m) (received_word m (frame_decision link tuning symbols).bits) c.bch_word) header field
     both_codes few =
-        let bits = (decided link.rows effort (frame_soft link symbols)).bits in
-        let e : received_word m (frame_decision link effort symbols).bits ≡ received_word m bits = ap (received_word m) (frame_bits link effort symbols) in
+        let bits = (decided link.rows tuning (frame_soft link symbols)).bits in
+        let e : received_word m (frame_decision link tuning symbols).bits ≡ received_word m bits = ap (received_word m) (frame_bits link tuning symbols) in
         let word = length-bch_word m sizes (baseband_frame m header field) c.bch_word (length-baseband_frame m header field sizes fits) c.is_bch_word in
-        let whole : length bits ≡ n_of m = decided_long link.rows effort (frame_soft link symbols) (length_soft symbols) ∙ code_is m link.rows sizes shape in
+        let whole : length bits ≡ n_of m = decided_long link.rows tuning (frame_soft link symbols) (length_soft symbols) ∙ code_is m link.rows sizes shape in
         let long : length (received_word m bits) ≡ k_of m = omega (arith, length-take (k_of m) bits, whole, sizes.checks) in
         let near : differences (length (received_word m bits)) (received_word m bits) c.bch_word ≤ t_of m =
         subst (λ n. differences n (received_word m bits) c.bch_word ≤ t_of m) (sym long) (subst (λ r. differences (k_of m) r c.bch_word ≤ t_of m) e few) in
-        subst (λ r. IsDelivered (frame_decision link effort symbols) (differences (k_of m) r c.bch_word) header field) (sym e)
+        subst (λ r. IsDelivered (frame_decision link tuning symbols) (differences (k_of m) r c.bch_word) header field) (sym e)
         (near_delivers (within_is_nearest m valid sizes (received_word m bits) long c.bch_word (record { word = record { size = word; multiple = c.is_bch_word.multiple }; near = near })))
 
     -- where the codeword that was sent was decided
-    pub codeword_delivers : (decided link.rows effort (frame_soft link symbols)).bits ≡ codeword → IsDelivered (frame_decision link effort symbols) 0 header field
+    pub codeword_delivers : (decided link.rows tuning (frame_soft link symbols)).bits ≡ codeword → IsDelivered (frame_decision link tuning symbols) 0 header field
     codeword_delivers bits =
         let whole : length codeword ≡ n_of m = c.is_codeword.in_code.long ∙ code_is m link.rows sizes shape in
         let enough : k_of m ≤ length codeword = omega (arith, whole, sizes.checks) in
-        let e : received_word m (decided link.rows effort (frame_soft link symbols)).bits ≡ c.bch_word = ap (received_word m) bits ∙ first_bits m link.rows header field codeword c sizes fits enough in
-        let none : differences (k_of m) (received_word m (decided link.rows effort (frame_soft link symbols)).bits) c.bch_word ≡ 0 = ap (λ r. differences (k_of m) r c.bch_word) e ∙ differences_none (k_of m) c.bch_word in
-        subst (λ n. IsDelivered (frame_decision link effort symbols) n header field) none
+        let e : received_word m (decided link.rows tuning (frame_soft link symbols)).bits ≡ c.bch_word = ap (received_word m) bits ∙ first_bits m link.rows header field codeword c sizes fits enough in
+        let none : differences (k_of m) (received_word m (decided link.rows tuning (frame_soft link symbols)).bits) c.bch_word ≡ 0 = ap (λ r. differences (k_of m) r c.bch_word) e ∙ differences_none (k_of m) c.bch_word in
+        subst (λ n. IsDelivered (frame_decision link tuning symbols) n header field) none
         (near_delivers (ap (nearest m) e ∙ nearest_itself m valid sizes header field fits all_bytes refl c.bch_word c.is_bch_word))
 
-  module _ (ro : link.setup.roll_off ≤ 2) (effort : Effort) (limit : ℕ) where
+  module _ (ro : link.setup.roll_off ≤ 2) (tuning : Tuning) (limit : ℕ) where
     length_sent : (codeword : List Bool) → length (sent_symbols link codeword) ≡ symbols_in m
     length_sent codeword = length-map-range_with_len (frame_symbol m link.setup.number (payload_of m codeword)) 0 (symbols_in m)
 
@@ -256,8 +257,8 @@ module _ (link : Link) (valid : IsMode link.setup.mode) (sizes : HasCodeSizes li
 
     hears_frame : (at : ℕ) (field : List ℕ) (codeword : List Bool) → AreBytes field → to_place at < length field → length field ≤ field_bytes m
         → IsCodewordFor m link.rows (header_at link.setup.roll_off at field) field codeword
-        → IsReceived (link_rules link effort limit) (header_at link.setup.roll_off at field) field (sent_symbols link codeword)
-        × IsCertifiedFrame (link_rules link effort limit) (sent_symbols link codeword)
+        → IsReceived (link_rules link tuning limit) (header_at link.setup.roll_off at field) field (sent_symbols link codeword)
+        × IsCertifiedFrame (link_rules link tuning limit) (sent_symbols link codeword)
     hears_frame at field codeword bytes place fits c =
         let symbols = sent_symbols link codeword in
         let soft = frame_soft link symbols in
@@ -265,13 +266,13 @@ module _ (link : Link) (valid : IsMode link.setup.mode) (sizes : HasCodeSizes li
         let heard = received m link.setup.number codeword valid long in
         let hard : hard_decision soft ≡ codeword = heard.soft.decided in
         let is : IsCodeword (code_of link.rows) (hard_decision soft) = subst (IsCodeword (code_of link.rows)) (sym hard) c.is_codeword.in_code in
-        let sure = clean_lem link.rows effort soft is in
-        let given = codeword_delivers effort at symbols field codeword ro bytes place fits c (ap (λ d. d.bits) sure ∙ hard) in (
+        let sure = clean_lem link.rows tuning soft is in
+        let given = codeword_delivers tuning at symbols field codeword ro bytes place fits c (ap (λ d. d.bits) sure ∙ hard) in (
           (length_sent codeword, passes_sent codeword heard.header, given.delivered),
-          record { verdict = frame_verdict link effort symbols ∙ ap (λ d. d.verdict) sure; outcome = given.outcome },
+          record { verdict = frame_verdict link tuning symbols ∙ ap (λ d. d.verdict) sure; outcome = given.outcome },
         )
 
-    pub hears : Hears link (link_rules link effort limit)
+    pub hears : Hears link (link_rules link tuning limit)
     hears = record {
       size = refl;
       least = least_symbols;
@@ -283,31 +284,31 @@ module _ (link : Link) (valid : IsMode link.setup.mode) (sizes : HasCodeSizes li
 
 module _ (m : Mode) (valid : IsMode m) (sizes : HasCodeSizes m) where
   pub hears_law : HearsLaw m
-  hears_law link effort limit linked ro = hears link (subst IsMode (sym linked.0) valid) (subst HasCodeSizes (sym linked.0) sizes) linked.1 ro effort limit
+  hears_law link tuning limit linked ro = hears link (subst IsMode (sym linked.0) valid) (subst HasCodeSizes (sym linked.0) sizes) linked.1 ro tuning limit
 
   pub arrival_law : ArrivalLaw m
-  arrival_law link effort most count_old count_new source symbols counts totals source_left p p' w w' linked ro bytes runs got =
-      let a = arrives link (link_rules link effort most_symbols) most count_old count_new source symbols counts got.state source_left got.left p p' w w' (hears_law link effort most_symbols linked ro) bytes runs got.runs_out in
+  arrival_law link tuning most count_old count_new source symbols counts totals source_left p p' w w' linked ro bytes runs got =
+      let a = arrives link (link_rules link tuning most_symbols) most count_old count_new source symbols counts got.state source_left got.left p p' w w' (hears_law link tuning most_symbols linked ro) bytes runs got.runs_out in
       record { packets = a.packets; totals_are = got.totals_are ∙ a.totals; fields = a.fields; frames = a.frames; lines = a.lines }
 
   pub likely_law : LikelyFrameLaw m
-  likely_law link effort symbols linked verdict =
+  likely_law link tuning symbols linked verdict =
       let soft = frame_soft link symbols in
       let long = length_soft link (subst IsMode (sym linked.0) valid) (subst HasCodeSizes (sym linked.0) sizes) linked.1 symbols in
-      subst (IsMostLikely (code_of link.rows) soft) (sym (frame_bits link effort symbols)) (likely_lem link.rows effort soft long (sym (frame_verdict link effort symbols) ∙ verdict))
+      subst (IsMostLikely (code_of link.rows) soft) (sym (frame_bits link tuning symbols)) (likely_lem link.rows tuning soft long (sym (frame_verdict link tuning symbols) ∙ verdict))
 
-  module _ (link : Link) (effort : Effort) (at : ℕ) (symbols : List Symbol) (field : List ℕ) (codeword : List Bool) (sent : IsSent m link at field codeword) where
-    pub scattered_law : IsScattered (code_of link.rows) (frame_soft link symbols) codeword → IsDeliveredCertified (frame_decision link effort symbols) codeword (header_at link.setup.roll_off at field) field
+  module _ (link : Link) (tuning : Tuning) (at : ℕ) (symbols : List Symbol) (field : List ℕ) (codeword : List Bool) (sent : IsSent m link at field codeword) where
+    pub scattered_law : IsScattered (code_of link.rows) (frame_soft link symbols) codeword → IsDeliveredCertified (frame_decision link tuning symbols) codeword (header_at link.setup.roll_off at field) field
     scattered_law scattered =
         let same = sent.linked.0 in
-        let sure = scattered_lem link.rows effort (frame_soft link symbols) codeword scattered in
+        let sure = scattered_lem link.rows tuning (frame_soft link symbols) codeword scattered in
         record {
-          verdict = frame_verdict link effort symbols ∙ sure.0;
-          bits = frame_bits link effort symbols ∙ sure.1;
-          delivered = codeword_delivers link (subst IsMode (sym same) valid) (subst HasCodeSizes (sym same) sizes) sent.linked.1 effort at symbols field codeword sent.roll_off sent.bytes sent.place sent.fits sent.codeword_is sure.1;
+          verdict = frame_verdict link tuning symbols ∙ sure.0;
+          bits = frame_bits link tuning symbols ∙ sure.1;
+          delivered = codeword_delivers link (subst IsMode (sym same) valid) (subst HasCodeSizes (sym same) sizes) sent.linked.1 tuning at symbols field codeword sent.roll_off sent.bytes sent.place sent.fits sent.codeword_is sure.1;
         }
 
-    pub both_codes_law : differences (k_of link.setup.mode) (received_word link.setup.mode (frame_decision link effort symbols).bits) sent.codeword_is.bch_word ≤ t_of link.setup.mode
-        → IsDelivered (frame_decision link effort symbols) (differences (k_of link.setup.mode) (received_word link.setup.mode (frame_decision link effort symbols).bits) sent.codeword_is.bch_word) (header_at link.setup.roll_off at field) field
+    pub both_codes_law : differences (k_of link.setup.mode) (received_word link.setup.mode (frame_decision link tuning symbols).bits) sent.codeword_is.bch_word ≤ t_of link.setup.mode
+        → IsDelivered (frame_decision link tuning symbols) (differences (k_of link.setup.mode) (received_word link.setup.mode (frame_decision link tuning symbols).bits) sent.codeword_is.bch_word) (header_at link.setup.roll_off at field) field
     both_codes_law few =
-        both_codes link (subst IsMode (sym sent.linked.0) valid) (subst HasCodeSizes (sym sent.linked.0) sizes) sent.linked.1 effort at symbols field codeword sent.roll_off sent.bytes sent.place sent.fits sent.codeword_is few
+        both_codes link (subst IsMode (sym sent.linked.0) valid) (subst HasCodeSizes (sym sent.linked.0) sizes) sent.linked.1 tuning at symbols field codeword sent.roll_off sent.bytes sent.place sent.fits sent.codeword_is few

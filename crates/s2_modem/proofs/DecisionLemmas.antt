@@ -9,8 +9,8 @@ use Rattle.s2_mode.specs.Shape.{code_bits}
 use Rattle.s2_mode.specs.declared.symbols.Symbol.{Symbol}
 use Rattle.s2_rows.specs.Rows.{Rows}
 use Rattle.s2_matrix.specs.Code.{code_of}
-use Rattle.s2_receive.specs.declared.report.Verdict.{Verdict}
-use Rattle.s2_modem.specs.Link.{Link}
+use Rattle.s2_check.specs.declared.verdict.Verdict.{Verdict}
+use Rattle.s2_link.specs.Link.{Link}
 use Rattle.s2_bits.specs.Bits.{bit_at, bytes_from, differences, Rewritten}
 use Rattle.s2_bbframe.specs.declared.header.Header.{Header}
 use Rattle.s2_bbframe.specs.declared.header.HeaderFault.{HeaderFault}
@@ -22,7 +22,8 @@ use Rattle.s2_bch.specs.Decoding.{nearest}
 use Rattle.s2_receive.specs.Parts.{HasPlace}
 use Rattle.s2_receive.specs.Receiving.{Decision}
 use Rattle.s2_receive.specs.declared.report.Outcome.{Outcome}
-use Rattle.s2_modem.specs.Deciding.{Decided, decided, Effort}
+use Rattle.s2_judge.specs.Deciding.{Decided, decided}
+use Rattle.s2_link.specs.Tuning.{Tuning}
 use Rattle.s2_modem.specs.Reports.{frame_soft, frame_decision, received_word, message_of, header_in, outcome_by, delivered_by, decision_on, decision_by}
 use Rattle.s2_scramble.specs.Baseband.{scrambled}
 use Rattle.s2_receive.specs.declared.report.Outcome.TheVariants.{NoWord}
@@ -138,18 +139,18 @@ decision_is m soft d word None outcome delivered finds reads =
     ∙ ap (decision_by m soft d) (sym finds.0)
 
 -- the parts that a decider finds are what is decided of a frame
-pub frame_decided : (link : Link) (effort : Effort) (symbols : List Symbol) (soft : List ℤ) (bits : List Bool) (verdict : Verdict) (word : List Bool) (found : Option ℕ) (outcome : Outcome) (delivered : Option (Header × List ℕ))
-    → soft ≡ frame_soft link symbols → verdict ≡ (decided link.rows effort soft).verdict → bits ≡ (decided link.rows effort soft).bits
+pub frame_decided : (link : Link) (tuning : Tuning) (symbols : List Symbol) (soft : List ℤ) (bits : List Bool) (verdict : Verdict) (word : List Bool) (found : Option ℕ) (outcome : Outcome) (delivered : Option (Header × List ℕ))
+    → soft ≡ frame_soft link symbols → verdict ≡ (decided link.rows tuning soft).verdict → bits ≡ (decided link.rows tuning soft).bits
     → FindsWord link.setup.mode (received_word link.setup.mode bits) word found → Reads link.setup.mode word found outcome delivered
-    → shown link.setup.mode soft bits verdict word outcome delivered ≡ frame_decision link effort symbols
+    → shown link.setup.mode soft bits verdict word outcome delivered ≡ frame_decision link tuning symbols
 unfolding frame_decision
-frame_decided link effort symbols soft bits verdict word found outcome delivered soft_is verdict_is bits_are finds reads =
+frame_decided link tuning symbols soft bits verdict word found outcome delivered soft_is verdict_is bits_are finds reads =
     let m = link.setup.mode in
-    let d : Decided = decided link.rows effort soft in
+    let d : Decided = decided link.rows tuning soft in
     ap (λ v. shown m soft bits v word outcome delivered) verdict_is
     ∙ ap (λ b. shown m soft b d.verdict word outcome delivered) bits_are
     ∙ decision_is m soft d word found outcome delivered (subst (λ b. FindsWord m (received_word m b) word found) bits_are finds) reads
-    ∙ ap (λ s. decision_on m s (decided link.rows effort s)) soft_is
+    ∙ ap (λ s. decision_on m s (decided link.rows tuning s)) soft_is
 
 -- the baseband frame that is read
 pub frame_read : (m : Mode) (word old copied frame : List Bool) (n : ℕ) → n ≡ kbch_of m → HasCodeSizes m → length word ≡ k_of m → length old ≡ kbch_of m

@@ -12,9 +12,9 @@ use Rattle.s2_receive.specs.Laws.{IsReceived, AreReceived}
 use Rattle.s2_receive.proofs.Reception.{gives, front}
 use Rattle.s2_receive.proofs.FieldPlaces.{placed_fields, placed_front}
 use Rattle.s2_receive.proofs.SameSymbols.{same_met}
-use Rattle.s2_modem.specs.Deciding.{Effort}
-use Rattle.s2_modem.specs.Link.{Link}
-use Rattle.s2_modem.specs.Laws.{IsLinkOf}
+use Rattle.s2_link.specs.Tuning.{Tuning}
+use Rattle.s2_link.specs.Link.{Link}
+use Rattle.s2_send.specs.Laws.{IsLinkOf}
 use Rattle.s2_modem.specs.Reception.{link_rules}
 use Rattle.s2_modem.specs.Both.{AreBytes, IsCertifiedFrame}
 use Rattle.s2_modem.specs.Headline.{IsSent}
@@ -27,18 +27,18 @@ use Rattle.s2_modem.proofs.CleanFrames.{hears_law, scattered_law}
 all_front : {X : Type 0} → (P : X → Type 0) (xs ys : List X) → All P (xs ++ ys) → All P xs
 all_front P xs ys h = subst (All P) (take_at xs ys (length xs) refl) (All-take P (length xs) (xs ++ ys) h)
 
-module _ (m : Mode) (valid : IsMode m) (sizes : HasCodeSizes m) (link : Link) (effort : Effort) (limit : ℕ) (linked : IsLinkOf m link) (ro : link.setup.roll_off ≤ 2) where
+module _ (m : Mode) (valid : IsMode m) (sizes : HasCodeSizes m) (link : Link) (tuning : Tuning) (limit : ℕ) (linked : IsLinkOf m link) (ro : link.setup.roll_off ≤ 2) where
   abbrev rules : Rules
-  rules = link_rules link effort limit
+  rules = link_rules link tuning limit
 
   heard_one : (at : ℕ) (field : List ℕ) (symbols : List Symbol) → AreBytes field → to_place at < length field → length field ≤ field_bytes link.setup.mode → IsHeard link at field symbols
       → IsReceived rules (header_at link.setup.roll_off at field) field symbols × IsCertifiedFrame rules symbols
   heard_one at field symbols bytes place fits (codeword, is, inl clean) =
-      let h = (hears_law m valid sizes link effort limit linked ro).frames at field codeword bytes place fits is in
+      let h = (hears_law m valid sizes link tuning limit linked ro).frames at field codeword bytes place fits is in
       (subst (IsReceived rules (header_at link.setup.roll_off at field) field) (sym clean) h.0, subst (IsCertifiedFrame rules) (sym clean) h.1)
   heard_one at field symbols bytes place fits (codeword, is, inr (long, passes, scattered)) =
       let sent : IsSent m link at field codeword = record { linked = linked; roll_off = ro; bytes = bytes; place = place; fits = fits; codeword_is = is } in
-      let d = scattered_law m valid sizes link effort at symbols field codeword sent scattered in
+      let d = scattered_law m valid sizes link tuning at symbols field codeword sent scattered in
       ((long, passes, d.delivered.delivered), record { verdict = d.verdict; outcome = d.delivered.outcome })
 
   heard_all : (at : ℕ) (fields : List (List ℕ)) (frames : List (List Symbol)) → All AreBytes fields → Placed at fields → All (λ field. length field ≤ field_bytes link.setup.mode) fields → AreHeard link at fields frames
@@ -52,15 +52,15 @@ module _ (m : Mode) (valid : IsMode m) (sizes : HasCodeSizes m) (link : Link) (e
       ((one.0, more.0), All-cons (IsCertifiedFrame rules) s ss one.1 more.1)
 
 pub first_frames_law : (m : Mode) → IsMode m → HasCodeSizes m → FirstFramesLaw m
-first_frames_law m valid sizes = λ link effort limit packets fields later frames rest bytes mid left p p' w w' met linked ro each are_bytes cut_so heard spelt count went.
+first_frames_law m valid sizes = λ link tuning limit packets fields later frames rest bytes mid left p p' w w' met linked ro each are_bytes cut_so heard spelt count went.
     let size = field_bytes link.setup.mode in
-    let rules = link_rules link effort limit in
-    let hears = hears_law m valid sizes link effort limit linked ro in
+    let rules = link_rules link tuning limit in
+    let hears = hears_law m valid sizes link tuning limit linked ro in
     let within : List ℕ → Type 0 = λ field. length field ≤ field_bytes link.setup.mode in
     let whole : All AreBytes (fields ++ later) = subst (All AreBytes) (sym cut_so) (cut_bytes size _ (stream_of packets) (stream_bytes packets are_bytes)) in
     let short : All within (fields ++ later) = subst (All within) (sym cut_so) (short_cuts size _ (stream_of packets)) in
     let placed : Placed 0 fields = placed_front fields later 0 (subst (Placed 0) (sym cut_so) (placed_fields size hears.field_least packets each)) in
-    let h = heard_all m valid sizes link effort limit linked ro 0 fields frames (all_front AreBytes fields later whole) placed (all_front within fields later short) heard in
+    let h = heard_all m valid sizes link tuning limit linked ro 0 fields frames (all_front AreBytes fields later whole) placed (all_front within fields later short) heard in
     let f = front rules link.setup.roll_off size packets fields later frames rest bytes mid left p p' w w' met hears.least hears.field_least each cut_so h.0 spelt count went in
     let g = gives rules link.setup.roll_off size packets fields later frames rest hears.least hears.field_least each cut_so h.0 in
     record {
@@ -70,8 +70,8 @@ first_frames_law m valid sizes = λ link effort limit packets fields later frame
     }
 
 pub one_stream_law : OneStreamLaw
-one_stream_law link effort limit old first second bytes other left other_left p p' q q' w w' v v' well other_well e a b =
-    let rules = link_rules link effort limit in
+one_stream_law link tuning limit old first second bytes other left other_left p p' q q' w w' v v' well other_well e a b =
+    let rules = link_rules link tuning limit in
     let one = a.runs_out.1.1 in
     let two = b.runs_out.1.1 in
     let same : b.runs_out.1.0 ≡ a.runs_out.1.0 = same_met rules old first second bytes other left other_left a.runs_out.1.0 b.runs_out.1.0 e a.runs_out.0 b.runs_out.0 one.left two.left in

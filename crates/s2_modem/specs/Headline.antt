@@ -11,26 +11,26 @@ use Rattle.s2_bbframe.specs.declared.header.Header.{Header}
 use Rattle.s2_bbframe.specs.DataStream.{header_at, to_place, field_bytes}
 use Rattle.s2_receive.specs.Receiving.{Decision}
 use Rattle.s2_receive.specs.declared.report.Totals.{Totals}
-use Rattle.s2_receive.specs.declared.report.Verdict.TheVariants.{MostLikely}
+use Rattle.s2_check.specs.declared.verdict.Verdict.TheVariants.{MostLikely}
 use Rattle.s2_receive.specs.declared.report.Outcome.TheVariants.{Delivered}
-use Rattle.s2_receive.specs.Limits.{most_symbols}
-use Rattle.s2_modem.specs.Limits.{most_roll_off}
-use Rattle.s2_modem.specs.Deciding.{Effort}
-use Rattle.s2_modem.specs.declared.send.outcome.Counts.{Counts}
-use Rattle.s2_modem.specs.Link.{Link}
-use Rattle.s2_modem.specs.Laws.{IsLinkOf, ReadFails}
-use Rattle.s2_modem.specs.Sending.{TransmitterRuns}
-use Rattle.s2_modem.specs.Frames.{IsCodewordFor}
+use Rattle.s2_mode.specs.Limits.{most_symbols}
+use Rattle.s2_link.specs.Limits.{most_roll_off}
+use Rattle.s2_link.specs.Tuning.{Tuning}
+use Rattle.s2_send.specs.declared.outcome.Counts.{Counts}
+use Rattle.s2_link.specs.Link.{Link}
+use Rattle.s2_send.specs.Laws.{IsLinkOf, ReadFails}
+use Rattle.s2_send.specs.Sending.{TransmitterRuns}
+use Rattle.s2_send.specs.Frames.{IsCodewordFor}
 use Rattle.s2_modem.specs.Reports.{frame_soft, received_word, frame_decision}
-use Rattle.s2_modem.specs.ReportLines.{end_line}
+use Rattle.s2_receive.specs.ReportLines.{end_line}
 use Rattle.s2_modem.specs.Reception.{link_rules, Receives}
 use Rattle.s2_modem.specs.Both.{AreBytes, Hears, certified_lines, totals_of}
 
 -- a frame that is called most likely: no codeword costs less under its soft values than its bits
 abbrev pub LikelyFrameLaw : Mode → Type 0
 LikelyFrameLaw m =
-    (link : Link) (effort : Effort) (symbols : List Symbol) → IsLinkOf m link → (frame_decision link effort symbols).verdict ≡ MostLikely
-    → IsMostLikely (code_of link.rows) (frame_soft link symbols) (frame_decision link effort symbols).bits
+    (link : Link) (tuning : Tuning) (symbols : List Symbol) → IsLinkOf m link → (frame_decision link tuning symbols).verdict ≡ MostLikely
+    → IsMostLikely (code_of link.rows) (frame_soft link symbols) (frame_decision link tuning symbols).bits
 
 -- a frame that delivers this data field with this header, after so many changes by BCH decoding
 pub record IsDelivered (d : Decision) (fixed : ℕ) (header : Header) (field : List ℕ) : Type 0 where
@@ -50,9 +50,9 @@ pub record IsSent (m : Mode) (link : Link) (at : ℕ) (field : List ℕ) (codewo
 -- sent is delivered, and the report tells in how many.
 abbrev pub BothCodesLaw : Mode → Type 0
 BothCodesLaw m =
-    (link : Link) (effort : Effort) (at : ℕ) (symbols : List Symbol) (field : List ℕ) (codeword : List Bool) (sent : IsSent m link at field codeword)
-    → differences (k_of link.setup.mode) (received_word link.setup.mode (frame_decision link effort symbols).bits) sent.codeword_is.bch_word ≤ t_of link.setup.mode
-    → IsDelivered (frame_decision link effort symbols) (differences (k_of link.setup.mode) (received_word link.setup.mode (frame_decision link effort symbols).bits) sent.codeword_is.bch_word) (header_at link.setup.roll_off at field) field
+    (link : Link) (tuning : Tuning) (at : ℕ) (symbols : List Symbol) (field : List ℕ) (codeword : List Bool) (sent : IsSent m link at field codeword)
+    → differences (k_of link.setup.mode) (received_word link.setup.mode (frame_decision link tuning symbols).bits) sent.codeword_is.bch_word ≤ t_of link.setup.mode
+    → IsDelivered (frame_decision link tuning symbols) (differences (k_of link.setup.mode) (received_word link.setup.mode (frame_decision link tuning symbols).bits) sent.codeword_is.bch_word) (header_at link.setup.roll_off at field) field
 
 -- a frame that is certified, with no bit changed
 pub record IsDeliveredCertified (d : Decision) (codeword : List Bool) (header : Header) (field : List ℕ) : Type 0 where
@@ -63,26 +63,26 @@ pub record IsDeliveredCertified (d : Decision) (codeword : List Bool) (header : 
 -- a frame whose soft values are scattered about the codeword that was sent
 abbrev pub ScatteredFrameLaw : Mode → Type 0
 ScatteredFrameLaw m =
-    (link : Link) (effort : Effort) (at : ℕ) (symbols : List Symbol) (field : List ℕ) (codeword : List Bool) → IsSent m link at field codeword
+    (link : Link) (tuning : Tuning) (at : ℕ) (symbols : List Symbol) (field : List ℕ) (codeword : List Bool) → IsSent m link at field codeword
     → IsScattered (code_of link.rows) (frame_soft link symbols) codeword
-    → IsDeliveredCertified (frame_decision link effort symbols) codeword (header_at link.setup.roll_off at field) field
+    → IsDeliveredCertified (frame_decision link tuning symbols) codeword (header_at link.setup.roll_off at field) field
 
 -- each frame of a link is received as it was sent
 abbrev pub HearsLaw : Mode → Type 0
-HearsLaw m = (link : Link) (effort : Effort) (limit : ℕ) → IsLinkOf m link → link.setup.roll_off ≤ most_roll_off → Hears link (link_rules link effort limit)
+HearsLaw m = (link : Link) (tuning : Tuning) (limit : ℕ) → IsLinkOf m link → link.setup.roll_off ≤ most_roll_off → Hears link (link_rules link tuning limit)
 
 -- all packets, a line for each frame, certified, and the end's
-pub record AllArrives (link : Link) (effort : Effort) (source : List ℕ) (counts : Counts) (totals : Totals) (packets_old packets_new report_old report_new : Option (List ℕ)) : Type 0 where
+pub record AllArrives (link : Link) (tuning : Tuning) (source : List ℕ) (counts : Counts) (totals : Totals) (packets_old packets_new report_old report_new : Option (List ℕ)) : Type 0 where
   pub packets : Appends packets_old packets_new source
   pub totals_are : totals ≡ totals_of counts
   pub fields : List (List ℕ)
   pub frames : length fields ≡ counts.frames
-  pub lines : Appends report_old report_new (certified_lines (link_rules link effort most_symbols) 0 0 fields ++ end_line (totals_of counts))
+  pub lines : Appends report_old report_new (certified_lines (link_rules link tuning most_symbols) 0 0 fields ++ end_line (totals_of counts))
 
 -- what a run of the transmitter writes, received whole
 abbrev pub ArrivalLaw : Mode → Type 0
 ArrivalLaw m =
-    (link : Link) (effort : Effort) (most count_old count_new : ℕ) (source symbols : List ℕ) (counts : Counts) (totals : Totals) (source_left packets_old packets_new report_old report_new : Option (List ℕ))
+    (link : Link) (tuning : Tuning) (most count_old count_new : ℕ) (source symbols : List ℕ) (counts : Counts) (totals : Totals) (source_left packets_old packets_new report_old report_new : Option (List ℕ))
     → IsLinkOf m link → link.setup.roll_off ≤ most_roll_off → AreBytes source → TransmitterRuns link most (ReadFails most count_old count_new) (Some source) source_left (Some []) (Some symbols) (Ok counts)
-    → Receives (link_rules link effort most_symbols) symbols packets_old packets_new report_old report_new totals
-    → AllArrives link effort source counts totals packets_old packets_new report_old report_new
+    → Receives (link_rules link tuning most_symbols) symbols packets_old packets_new report_old report_new totals
+    → AllArrives link tuning source counts totals packets_old packets_new report_old report_new

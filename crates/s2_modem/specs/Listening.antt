@@ -1,10 +1,9 @@
 -- What the parts of a receiver hold.
-use Rattle.std.specs.Prelude.{◌≡◌, ℕ, ◌*◌, ◌≤◌, Bool, List, Option, Some, None, ℤ}
-use Rattle.s2_mode.specs.Mode.{Mode, kbch_of, k_of, n_of, slots_of, shape_in, HasCodeSizes}
+use Rattle.std.specs.Prelude.{◌≡◌, ℕ, Bool, List, Option, Some, None, ℤ}
+use Rattle.s2_mode.specs.Mode.{Mode, k_of, shape_in, HasCodeSizes}
 use Rattle.s2_rows.specs.Rows.{Rows}
 use Rattle.s2_bits.specs.Bits.{differences}
 use Rattle.s2_bbframe.specs.declared.header.Header.{Header}
-use Rattle.s2_bbframe.specs.DataStream.{field_bytes}
 use Rattle.s2_bbframe.specs.Headers.{header_of_bytes}
 use Rattle.s2_scramble.specs.Baseband.{scrambled}
 use Rattle.s2_receive.specs.Parts.{delivered_of}
@@ -12,9 +11,8 @@ use Rattle.s2_receive.specs.Receiving.{Decision}
 use Rattle.s2_receive.specs.declared.parts.Decided.{Decided}
 use Rattle.s2_receive.specs.declared.report.Outcome.{Outcome}
 use Rattle.s2_receive.specs.declared.report.Outcome.TheVariants.{NoWord}
-use Rattle.s2_modem.specs.Deciding.{Effort}
-use Rattle.s2_modem.specs.declared.setup.Setup.{Setup}
-use Rattle.s2_modem.specs.Link.{Link}
+use Rattle.s2_link.specs.Link.{Link}
+use Rattle.s2_link.specs.Tuning.{Tuning}
 use Rattle.s2_bch.specs.Decoding.{nearest}
 use Rattle.s2_modem.specs.Reports.{message_of, header_in, outcome_by, delivered_by}
 
@@ -33,24 +31,34 @@ Reads m bch_word None outcome delivered = (outcome ≡ NoWord) × (delivered ≡
 -- a decider of frames: its link, how much its judge tries, what it decided last, and the data field that came of that
 pub record Listening : Type 0 where
   pub link : Link
-  pub effort : Effort
+  pub tuning : Tuning
   pub last : Decision
   pub field : List ℕ
 
--- what the buffers show
+-- what its stages hold: a mode and a scrambling number
+pub record Demodulating : Type 0 where
+  pub mode : Mode
+  pub number : ℕ
+
+-- a mode, and the word that BCH decoding left last
+pub record Correcting : Type 0 where
+  pub mode : Mode
+  pub word : List Bool
+
+-- a mode, and the data field that was taken out of a message last
+pub record Reading : Type 0 where
+  pub mode : Mode
+  pub field : List ℕ
+
+-- what the stages show
 abbrev pub decision_held : Mode → List ℤ → List Bool → List Bool → Decided → List ℕ → Decision
 decision_held m soft bits bch_word d field =
     record { soft = soft; bits = bits; verdict = d.verdict; message = message_of m bch_word; outcome = d.outcome; delivered = delivered_of d.header field }
 
--- the parts of a decider are of its mode
-pub record IsListening (setup : Setup) (rows : Rows) (gold : ℕ) (bch : Mode) (payload soft bch_word frame field filled : ℕ) : Type 0 where
-  pub sizes : HasCodeSizes setup.mode
-  pub number : gold ≡ setup.number
-  pub shape : rows.shape ≡ shape_in setup.mode
-  pub code : bch ≡ setup.mode
-  pub payload_symbols : payload ≡ 90 * slots_of setup.mode
-  pub soft_values : soft ≡ n_of setup.mode
-  pub bch_bits : bch_word ≡ k_of setup.mode
-  pub frame_bits : frame ≡ kbch_of setup.mode
-  pub field_room : field ≡ field_bytes setup.mode
-  pub filled_most : filled ≤ field
+-- the stages of a decider are of its mode
+pub record IsListening (mode : Mode) (rows : Rows) (demodulates corrects reads : Mode) : Type 0 where
+  pub sizes : HasCodeSizes mode
+  pub shape : rows.shape ≡ shape_in mode
+  pub demodulator : demodulates ≡ mode
+  pub corrector : corrects ≡ mode
+  pub reader : reads ≡ mode

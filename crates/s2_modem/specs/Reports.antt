@@ -12,8 +12,9 @@ use Rattle.s2_soft.specs.Soft.{soft_values}
 use Rattle.s2_receive.specs.Receiving.{Decision}
 use Rattle.s2_receive.specs.declared.report.Outcome.{Outcome}
 use Rattle.s2_receive.specs.declared.report.Outcome.TheVariants.{Delivered, NoWord, BadHeader}
-use Rattle.s2_modem.specs.Link.{Link}
-use Rattle.s2_modem.specs.Deciding.{Decided, decided, Effort}
+use Rattle.s2_link.specs.Link.{Link}
+use Rattle.s2_judge.specs.Deciding.{Decided, decided}
+use Rattle.s2_link.specs.Tuning.{Tuning}
 use Rattle.s2_bch.specs.Decoding.{nearest}
 
 -- the soft values of a frame's codeword
@@ -69,6 +70,6 @@ abbrev pub decision_on : Mode → List ℤ → Decided → Decision
 decision_on m soft d = decision_by m soft d (nearest m (received_word m d.bits))
 
 -- what is decided of a frame's symbols
-unfoldable pub frame_decision : Link → Effort → List Symbol → Decision
-frame_decision link effort symbols =
-    decision_on link.setup.mode (frame_soft link symbols) (decided link.rows effort (frame_soft link symbols))
+unfoldable pub frame_decision : Link → Tuning → List Symbol → Decision
+frame_decision link tuning symbols =
+    decision_on link.setup.mode (frame_soft link symbols) (decided link.rows tuning (frame_soft link symbols))

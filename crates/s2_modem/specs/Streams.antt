@@ -12,12 +12,12 @@ use Rattle.s2_bbframe.specs.Joining.{closed_in}
 use Rattle.s2_receive.specs.Meeting.{Met}
 use Rattle.s2_receive.specs.Receiving.{State, Went, RunsTo, begun}
 use Rattle.s2_receive.specs.Laws.{joined}
-use Rattle.s2_modem.specs.Deciding.{Effort}
-use Rattle.s2_modem.specs.Limits.{most_roll_off}
-use Rattle.s2_modem.specs.Link.{Link}
-use Rattle.s2_modem.specs.Laws.{IsLinkOf}
-use Rattle.s2_modem.specs.Frames.{IsCodewordFor}
-use Rattle.s2_modem.specs.Passing.{passes_as}
+use Rattle.s2_link.specs.Tuning.{Tuning}
+use Rattle.s2_link.specs.Limits.{most_roll_off}
+use Rattle.s2_link.specs.Link.{Link}
+use Rattle.s2_send.specs.Laws.{IsLinkOf}
+use Rattle.s2_send.specs.Frames.{IsCodewordFor}
+use Rattle.s2_receive.specs.Passing.{passes_as}
 use Rattle.s2_modem.specs.Reports.{frame_soft}
 use Rattle.s2_modem.specs.Reception.{link_rules}
 use Rattle.s2_modem.specs.Both.{AreBytes, sent_symbols, certified_lines}
@@ -42,21 +42,21 @@ AreHeard link at (field ∷ fields) (symbols ∷ frames) = IsHeard link at field
 
 -- Each of the first frames is reported as certified, and just those packets are written whose closing CRC-8 lies in their data
 -- fields; all packets, where these are all fields.
-pub record FrontArrives (link : Link) (effort : Effort) (limit : ℕ) (packets fields later : List (List ℕ)) (packets_old packets_new report_old report_new : Option (List ℕ)) : Type 0 where
+pub record FrontArrives (link : Link) (tuning : Tuning) (limit : ℕ) (packets fields later : List (List ℕ)) (packets_old packets_new report_old report_new : Option (List ℕ)) : Type 0 where
   pub written : Appends packets_old packets_new (joined (take (closed_in (length (joined fields))) packets))
-  pub lines : Appends report_old report_new (certified_lines (link_rules link effort limit) 0 0 fields)
+  pub lines : Appends report_old report_new (certified_lines (link_rules link tuning limit) 0 0 fields)
   pub all : later ≡ [] → take (closed_in (length (joined fields))) packets ≡ packets
 
 -- What a receiver has written after so many steps as first frames of a stream of packets came clear, whatever comes behind them.
 abbrev pub FirstFramesLaw : Mode → Type 0
 FirstFramesLaw m =
-    (link : Link) (effort : Effort) (limit : ℕ) (packets fields later : List (List ℕ)) (frames : List (List Symbol)) (rest : List Symbol) (bytes : List ℕ)
+    (link : Link) (tuning : Tuning) (limit : ℕ) (packets fields later : List (List ℕ)) (frames : List (List Symbol)) (rest : List Symbol) (bytes : List ℕ)
     (mid : State) (left packets_old packets_new report_old report_new : Option (List ℕ)) (met : List Met)
     → IsLinkOf m link → link.setup.roll_off ≤ most_roll_off → All IsPacket packets → AreBytes (joined packets)
     → fields ++ later ≡ fields_of (field_bytes link.setup.mode) (stream_of packets) → AreHeard link 0 fields frames
     → symbols_of bytes ≡ joined frames ++ rest → length met ≡ length frames
-    → Went (link_rules link effort limit) begun mid (Some bytes) left packets_old packets_new report_old report_new met
-    → FrontArrives link effort limit packets fields later packets_old packets_new report_old report_new
+    → Went (link_rules link tuning limit) begun mid (Some bytes) left packets_old packets_new report_old report_new met
+    → FrontArrives link tuning limit packets fields later packets_old packets_new report_old report_new
 
 -- two runs came to the same totals and the same answer, and wrote the same
 pub record GiveTheSame (first second : State) (well other_well : Bool) (p p' q q' w w' v v' : Option (List ℕ)) : Type 0 where
@@ -69,7 +69,7 @@ pub record GiveTheSame (first second : State) (well other_well : Bool) (p p' q q
 -- them and whatever bytes are left over, give the same.
 abbrev pub OneStreamLaw : Type 0
 OneStreamLaw =
-    (link : Link) (effort : Effort) (limit : ℕ) (old first second : State) (bytes other : List ℕ) (left other_left p p' q q' w w' v v' : Option (List ℕ)) (well other_well : Bool)
+    (link : Link) (tuning : Tuning) (limit : ℕ) (old first second : State) (bytes other : List ℕ) (left other_left p p' q q' w w' v v' : Option (List ℕ)) (well other_well : Bool)
     → symbols_of bytes ≡ symbols_of other
-    → RunsTo (link_rules link effort limit) old first (Some bytes) left p p' w w' well → RunsTo (link_rules link effort limit) old second (Some other) other_left q q' v v' other_well
+    → RunsTo (link_rules link tuning limit) old first (Some bytes) left p p' w w' well → RunsTo (link_rules link tuning limit) old second (Some other) other_left q q' v v' other_well
     → GiveTheSame first second well other_well p p' q q' w w' v v'

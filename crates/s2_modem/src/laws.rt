@@ -1,27 +1,10 @@
 //! What the definitions determine: each a call that does nothing, whose clause is the law.
-ghost use Rattle.s2_modem.specs.Limits.{LimitsLaw};
 ghost use Rattle.s2_modem.specs.Front.{CleanFrameLaw};
-ghost use Rattle.s2_modem.specs.Laws.{FrameLaw, RunLaw};
 ghost use Rattle.s2_modem.specs.Headline.{LikelyFrameLaw, BothCodesLaw, ScatteredFrameLaw, HearsLaw, ArrivalLaw};
 ghost use Rattle.s2_modem.specs.Streams.{FirstFramesLaw, OneStreamLaw};
 
 use s2_mode::Mode;
-
-/// A header and its data field have one frame.
-pub fn one_frame(mode: Mode)
-    ensures { FrameLaw mode }
-{
-    s2_ldpc::laws::unique();
-    let _ = mode.k();
-}
-
-/// Packets, setup and rows determine what a run answers and writes: two runs over the same bytes, in
-/// which neither a read nor a write failed, answer the same and write the same.
-pub fn one_run(mode: Mode)
-    ensures { RunLaw mode }
-{
-    one_frame(mode);
-}
+pub use s2_send::laws::{one_frame, one_run};
 
 /// The bits of a frame that is called most likely satisfy every check, and no bits that do cost less
 /// under its soft values.
@@ -81,10 +64,4 @@ pub fn first_frames(mode: Mode)
 /// and come to the same totals and the same answer, however their readers cut the bytes.
 pub fn one_stream()
     ensures { OneStreamLaw }
-{}
-
-/// The limits that are tested, [`crate::MOST_PACKETS`], [`crate::MOST_ROLL_OFF`], [`crate::MOST_ROUNDS`]
-/// and [`crate::MOST_PASSES`], are those of the definitions.
-pub fn limits()
-    ensures { LimitsLaw }
 {}

@@ -3,8 +3,8 @@
 //! the crates below.
 //!
 //! [`Transmitter::new`] and [`Receiver::new`] take all the memory that will be needed, or answer the
-//! first of their refusals; [`Transmitter::on_link`] and [`Receiver::on_link`] do the same where the
-//! caller has seen that there is none. [`Transmitter::run`] reads packets to the reader's end. `Ok`
+//! first of their refusals; [`Transmitter::on_link`] and [`Receiver::on_link`] do the same on a [`Link`], which
+//! none refuses. [`Transmitter::run`] reads packets to the reader's end. `Ok`
 //! means that the writer has gained exactly the frames of the codewords of the BCH words of the
 //! scrambled baseband frames of the data stream's fields, in order. A refusal comes exactly where the
 //! packets give cause for it, or a read or a write failed; it leaves exactly the frames of the full
@@ -15,7 +15,7 @@
 //! the last frame's end. What it reports and writes is exactly what the definitions say of these
 //! symbols: soft values, decided bits with a verdict, the nearest BCH word, its message's header, and
 //! the packets that the joiner makes of its data field. Bits that are called most likely satisfy every
-//! check, and no bits that do cost less ([`receive::deciding_laws`]). [`Receiver::run`] goes on so to
+//! check, and no bits that do cost less ([`s2_judge::laws`]). [`Receiver::run`] goes on so to
 //! the end of the symbols, and [`demodulate`] does it for a whole stream in memory.
 //!
 //! The decided bits of a frame, n of them, are called its word, whether they are a codeword or not. Their
@@ -30,18 +30,18 @@
 //! ```
 #![tactic(auto)]
 
+mod corrector;
+mod decider;
+mod demodulator;
 pub mod laws;
-pub mod receive;
-mod send;
-mod setup;
+mod message;
+mod receiver;
+mod whole;
 
-pub use receive::{DemodFault, Judge, MOST_PASSES, MOST_ROUNDS, Receiver, demodulate};
-pub use send::{Counts, MOST_PACKETS, SendFault, Transmitter};
-pub use setup::{MOST_ROLL_OFF, Setup, SetupFault};
-
-#[cfg(test)]
-mod memory_tests;
-#[cfg(test)]
-mod streams;
-#[cfg(test)]
-mod tests;
+pub use receiver::Receiver;
+pub use s2_judge::Judge;
+pub use s2_link::{
+    Link, MOST_PASSES, MOST_ROLL_OFF, MOST_ROUNDS, RollOff, Setup, SetupFault, Tuning,
+};
+pub use s2_send::{Counts, MOST_PACKETS, SendFault, Transmitter};
+pub use whole::{DemodFault, demodulate};

@@ -24,6 +24,3 @@ mod send;
 
 pub use receive::{Found, Search, header_matches, payload_of};
 pub use send::frame_into;
-
-#[cfg(test)]
-mod tests;

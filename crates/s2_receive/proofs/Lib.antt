@@ -9,3 +9,4 @@ pub mod FieldPlaces
 pub mod Reception
 pub mod SearchWords
 pub mod SameSymbols
+pub mod HeaderWindows

@@ -2,8 +2,8 @@
 use Rattle.std.specs.Prelude.{Result, Ok, Err}
 use Rattle.s2_receive.specs.declared.report.Fault.{Fault}
 use Rattle.s2_receive.specs.declared.report.Fault.TheVariants as faults
-use Rattle.s2_receive.specs.declared.report.StreamFault.{StreamFault}
-use Rattle.s2_receive.specs.declared.report.StreamFault.TheVariants as stream_faults
+use Rattle.s2_mode.specs.declared.stream_fault.StreamFault.{StreamFault}
+use Rattle.s2_mode.specs.declared.stream_fault.StreamFault.TheVariants as stream_faults
 
 abbrev pub fault_of : StreamFault → Fault
 fault_of stream_faults.Read = faults.Read

@@ -1,4 +1,3 @@
-pub mod Limits
 pub mod Meeting
 pub mod Finding
 pub mod Faults
@@ -6,6 +5,7 @@ pub mod Receiving
 pub mod Parts
 pub mod Stepping
 pub mod Laws
+pub mod Passing
+pub mod ReportLines
 pub use Rattle.s2_mode.specs.Symbols
 pub use Rattle.s2_bbframe.specs.Joining
-pub mod Toy

@@ -8,8 +8,9 @@ use Rattle.s2_bbframe.specs.Joining.{Event, field, gap, Joined, step}
 use Rattle.s2_receive.specs.Meeting.{Met, frame, cut, ended, met_in}
 use Rattle.s2_receive.specs.Finding.{YieldsSymbols, Meets}
 use Rattle.s2_receive.specs.Stepping.{FailsIn}
-use Rattle.s2_receive.specs.declared.report.Verdict.{Verdict}
-use Rattle.s2_receive.specs.declared.report.Verdict.TheVariants as verdicts
+use Rattle.s2_check.specs.declared.verdict.Verdict.{Verdict}
+use Rattle.s2_check.specs.declared.verdict.Verdict.TheVariants as verdicts
+use Rattle.s2_mode.specs.declared.counts.WriteFault.{WriteFault}
 use Rattle.s2_receive.specs.declared.report.Outcome.{Outcome}
 use Rattle.s2_receive.specs.declared.report.Outcome.TheVariants as outcomes
 use Rattle.s2_receive.specs.declared.report.Report.{Report}
@@ -138,8 +139,14 @@ pub record State : Type 0 where
   pub at : ℕ
   pub standing : Standing
 
-pub record Receiving : Type 0 where
-  pub rules : Rules
+-- a receiver: what it is made of, the symbols of the frame that it found last, how many symbols it takes at most, and where it
+-- stands
+pub record Receiver (S D L : Type 0) : Type 0 where
+  pub search : S
+  pub decider : D
+  pub lines : L
+  pub frame : List Symbol
+  pub limit : ℕ
   pub state : State
 
 abbrev pub begun : State
@@ -170,6 +177,27 @@ met_left rules phases.Searching at bytes = met_in rules.passes rules.size at fal
 met_left rules phases.Closing at bytes = Some (ended ∷ [])
 met_left rules phases.Ended at bytes = Some []
 met_left rules phases.Failed at bytes = Some []
+
+-- where a receiver stands when this was told, up to a place of the stream
+abbrev pub state_after : Rules → State → Met → ℕ → State
+state_after rules old met to = record { phase = phase_after met; at = to; standing = after rules old.standing met }
+
+-- What was found was told: its packets and its line were written, and it stands so.
+pub record Told (rules : Rules) (old new : State) (met : Met) (to : ℕ) (packets_old packets_new report_old report_new : Option (List ℕ)) (step : Step) : Type 0 where
+  pub step_is : step ≡ step_of rules old.standing met
+  pub state : new ≡ state_after rules old met to
+  pub packets : Appends packets_old packets_new (packets_of rules old.standing met)
+  pub line : Appends report_old report_new (line_of rules old.standing met)
+
+-- or a write failed on the way
+abbrev pub Tells : Rules → State → State → Met → ℕ → (packets_old packets_new report_old report_new : Option (List ℕ)) → Result Step WriteFault → Type 0
+Tells rules old new met to p p' w w' (Ok step) = Told rules old new met to p p' w w' step
+Tells rules old new met to p p' w w' (Err fault) = (new.phase ≡ old.phase) × FailsIn (packets_of rules old.standing met) (line_of rules old.standing met) p p' w w'
+
+-- where it was a frame, what is decided of its symbols was decided last
+abbrev pub IsDecided : Rules → Met → Decision → Type 0
+IsDecided rules (frame at over symbols) last = last ≡ rules.decide symbols
+IsDecided rules met last = ⊤
 
 -- From one state to another this was met: it is what known bytes spell next, its symbols and no others were read, its packets
 -- and its lines were written and nothing else.
@@ -211,13 +239,14 @@ StandsBehind size at (Ok (steps.Frame report)) = at ≡ report.at + size
 StandsBehind size at (Ok (steps.Cut place count)) = at ≡ place + count
 StandsBehind size at result = ⊤
 
--- so many symbols were read as a receiver takes
-abbrev pub Reaches : ℕ → ℕ → Option (List ℕ) → Option (List ℕ) → Type 0
-Reaches limit at reader_old reader_new = (front : List Symbol) × YieldsSymbols reader_old reader_new front × (at + length front ≡ limit)
-
 abbrev pub rules_of : (List Symbol → Bool) → ℕ → (List Symbol → Decision) → (Report → List ℕ) → (ℕ → ℕ → List ℕ) → (Totals → List ℕ) → ℕ → Rules
 rules_of passes size decide frame_line cut_line end_line limit =
     record { passes = passes; size = size; decide = decide; frame_line = frame_line; cut_line = cut_line; end_line = end_line; limit = limit }
+
+-- by what its search, its decider and its lines do
+abbrev pub rules_in : {S D L : Type 0} → (S → List Symbol → Bool) → (D → List Symbol → Decision) → (L → Report → List ℕ) → (L → ℕ → ℕ → List ℕ) → (L → Totals → List ℕ) → Receiver S D L → Rules
+rules_in passes decide frame_line cut_line end_line r =
+    rules_of (passes r.search) (length r.frame) (decide r.decider) (frame_line r.lines) (cut_line r.lines) (end_line r.lines) r.limit
 
 abbrev pub state_of : Phase → ℕ → Option (List ℕ) → Totals → State
 state_of phase at held totals = record { phase = phase; at = at; standing = record { held = held; totals = totals } }

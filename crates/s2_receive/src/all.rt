@@ -1,13 +1,14 @@
 //! A receiver's way to the end of its stream.
 ghost use Rattle.std.specs.Prelude.{◌≡◌, ◌≢◌, ◌+◌, ◌-◌, ◌*◌, ◌^◌, ◌<◌, ◌≤◌, ◌⊎◌, ℕ, List, Option, Some, Ok, Err, IfOk, OnOk, OnErr, IsErrOf, length};
-ghost use Rattle.s2_receive.specs.Receiving.{IsLive, Reaches, RunsOut, RunsTo, StopsAfter, begun, BreaksAfter, is_well, rules_of, state_of};
-ghost use Rattle.s2_receive.specs.Stepping.{IsSound};
+ghost use Rattle.s2_receive.specs.Finding.{Reaches};
+ghost use Rattle.s2_receive.specs.Receiving.{IsLive, RunsOut, RunsTo, StopsAfter, begun, BreaksAfter, is_well, rules_in};
 
 use crate::parts::{Decide, Lines};
 use crate::receiver::Receiver;
-use crate::report::{Outcome, Received, Step, StreamFault, Totals, Verdict};
+use crate::report::{Outcome, Received, Step, Totals};
 use crate::search::Search;
-use s2_mode::{CountedRead, CountedWrite, InMemory, WriteFault};
+use s2_check::Verdict;
+use s2_mode::{CountedRead, CountedWrite, InMemory, StreamFault, WriteFault};
 
 /// Whether a step is a frame that was delivered with bits that are most likely, or the end.
 fn is_well(step: Step) -> bool
@@ -42,28 +43,24 @@ pub fn receive_all<
     requires reader { R.count reader.old < 2 ^ 64 - 1 }
     requires packets { P.count packets.old < 2 ^ 64 - 1 }
     requires report { W.count report.old < 2 ^ 64 - 1 }
-    requires sound { IsSound (length receiver.old.frame.items) (length receiver.old.bytes.items) receiver.old.limit receiver.old.place.at receiver.old.place.totals }
-    requires takes { length receiver.old.frame.items ≡ D.size receiver.old.decider }
-    requires live { IsLive receiver.old.place.phase }
-    ensures all { IfOk result (λ received. RunsTo (rules_of (S.passes receiver.old.search) (length receiver.old.frame.items) (D.decide receiver.old.decider) (L.frame_line receiver.old.lines) (L.cut_line receiver.old.lines) (L.end_line receiver.old.lines) receiver.old.limit)
-        (state_of receiver.old.place.phase receiver.old.place.at receiver.old.joiner receiver.old.place.totals) (state_of receiver.new.place.phase receiver.new.place.at receiver.new.joiner receiver.new.place.totals)
+    requires live { IsLive receiver.old.state.phase }
+    ensures all { IfOk result (λ received. RunsTo (rules_in S.passes D.decide L.frame_line L.cut_line L.end_line receiver.old)
+        receiver.old.state receiver.new.state
         (R.remaining reader.old) (R.remaining reader.new) (P.contents packets.old) (P.contents packets.new) (W.contents report.old) (W.contents report.new) received.well) }
-    ensures totals { IfOk result (λ received. received.totals ≡ receiver.new.place.totals) }
-    ensures stops { IsErrOf result StreamFault.Read → StopsAfter (rules_of (S.passes receiver.old.search) (length receiver.old.frame.items) (D.decide receiver.old.decider) (L.frame_line receiver.old.lines) (L.cut_line receiver.old.lines) (L.end_line receiver.old.lines) receiver.old.limit)
-        (state_of receiver.old.place.phase receiver.old.place.at receiver.old.joiner receiver.old.place.totals)
+    ensures totals { IfOk result (λ received. received.totals ≡ receiver.new.state.standing.totals) }
+    ensures stops { IsErrOf result StreamFault.Read → StopsAfter (rules_in S.passes D.decide L.frame_line L.cut_line L.end_line receiver.old)
+        receiver.old.state
         (R.remaining reader.old) (P.contents packets.old) (P.contents packets.new) (W.contents report.old) (W.contents report.new) }
-    ensures breaks { IsErrOf result StreamFault.Write → BreaksAfter (rules_of (S.passes receiver.old.search) (length receiver.old.frame.items) (D.decide receiver.old.decider) (L.frame_line receiver.old.lines) (L.cut_line receiver.old.lines) (L.end_line receiver.old.lines) receiver.old.limit)
-        (state_of receiver.old.place.phase receiver.old.place.at receiver.old.joiner receiver.old.place.totals)
+    ensures breaks { IsErrOf result StreamFault.Write → BreaksAfter (rules_in S.passes D.decide L.frame_line L.cut_line L.end_line receiver.old)
+        receiver.old.state
         (R.remaining reader.old) (P.contents packets.old) (P.contents packets.new) (W.contents report.old) (W.contents report.new) }
-    ensures read { IsErrOf result StreamFault.Read → R.count reader.new ≢ R.count reader.old + 1 → (R.count reader.new ≡ R.count reader.old) × Reaches receiver.old.limit receiver.old.place.at (R.remaining reader.old) (R.remaining reader.new) }
+    ensures read { IsErrOf result StreamFault.Read → R.count reader.new ≢ R.count reader.old + 1 → (R.count reader.new ≡ R.count reader.old) × Reaches receiver.old.limit receiver.old.state.at (R.remaining reader.old) (R.remaining reader.new) }
     ensures no_read { result ≢ Err StreamFault.Read → R.count reader.new ≡ R.count reader.old }
     ensures write { IsErrOf result StreamFault.Write → ((P.count packets.new ≡ P.count packets.old + 1) × (W.count report.new ≡ W.count report.old))
         ⊎ ((P.count packets.new ≡ P.count packets.old) × (W.count report.new ≡ W.count report.old + 1)) }
     ensures no_write { result ≢ Err StreamFault.Write → (P.count packets.new ≡ P.count packets.old) × (W.count report.new ≡ W.count report.old) }
-    ensures sound { IsSound (length receiver.new.frame.items) (length receiver.new.bytes.items) receiver.new.limit receiver.new.place.at receiver.new.place.totals }
-    ensures takes { length receiver.new.frame.items ≡ D.size receiver.new.decider }
-    ensures rules { rules_of (S.passes receiver.new.search) (length receiver.new.frame.items) (D.decide receiver.new.decider) (L.frame_line receiver.new.lines) (L.cut_line receiver.new.lines) (L.end_line receiver.new.lines) receiver.new.limit
-        ≡ rules_of (S.passes receiver.old.search) (length receiver.old.frame.items) (D.decide receiver.old.decider) (L.frame_line receiver.old.lines) (L.cut_line receiver.old.lines) (L.end_line receiver.old.lines) receiver.old.limit }
+    ensures rules { rules_in S.passes D.decide L.frame_line L.cut_line L.end_line receiver.new
+        ≡ rules_in S.passes D.decide L.frame_line L.cut_line L.end_line receiver.old }
 {
     let mut well = true;
     'steps: loop {
@@ -90,15 +87,13 @@ pub fn receive_bytes<S: Search, D: Decide, L: Lines, P: CountedWrite, W: Counted
 ) -> Result<Totals, WriteFault>
     requires packets { P.count packets.old < 2 ^ 64 - 1 }
     requires report { W.count report.old < 2 ^ 64 - 1 }
-    requires sound { IsSound (length receiver.old.frame.items) (length receiver.old.bytes.items) receiver.old.limit receiver.old.place.at receiver.old.place.totals }
-    requires takes { length receiver.old.frame.items ≡ D.size receiver.old.decider }
-    requires begun { state_of receiver.old.place.phase receiver.old.place.at receiver.old.joiner receiver.old.place.totals ≡ begun }
+    requires begun { receiver.old.state ≡ begun }
     requires limit { length bytes.now < 4 * receiver.old.limit }
-    ensures all { OnOk result ((left : Option (List ℕ)) × RunsOut (rules_of (S.passes receiver.old.search) (length receiver.old.frame.items) (D.decide receiver.old.decider) (L.frame_line receiver.old.lines) (L.cut_line receiver.old.lines) (L.end_line receiver.old.lines) receiver.old.limit)
-        begun (state_of receiver.new.place.phase receiver.new.place.at receiver.new.joiner receiver.new.place.totals)
+    ensures all { OnOk result ((left : Option (List ℕ)) × RunsOut (rules_in S.passes D.decide L.frame_line L.cut_line L.end_line receiver.old)
+        begun receiver.new.state
         (Some bytes.now) left (P.contents packets.old) (P.contents packets.new) (W.contents report.old) (W.contents report.new)) }
-    ensures totals { IfOk result (λ totals. totals ≡ receiver.new.place.totals) }
-    ensures breaks { OnErr result (BreaksAfter (rules_of (S.passes receiver.old.search) (length receiver.old.frame.items) (D.decide receiver.old.decider) (L.frame_line receiver.old.lines) (L.cut_line receiver.old.lines) (L.end_line receiver.old.lines) receiver.old.limit)
+    ensures totals { IfOk result (λ totals. totals ≡ receiver.new.state.standing.totals) }
+    ensures breaks { OnErr result (BreaksAfter (rules_in S.passes D.decide L.frame_line L.cut_line L.end_line receiver.old)
         begun (Some bytes.now) (P.contents packets.old) (P.contents packets.new) (W.contents report.old) (W.contents report.new)) }
     ensures write { OnErr result (((P.count packets.new ≡ P.count packets.old + 1) × (W.count report.new ≡ W.count report.old))
         ⊎ ((P.count packets.new ≡ P.count packets.old) × (W.count report.new ≡ W.count report.old + 1))) }

@@ -7,8 +7,9 @@ ghost use Rattle.s2_mode.specs.Pieces.{AppendsPart};
 ghost use Rattle.s2_receive.specs.Receiving.{joined_after, count_of};
 
 use crate::parts::{Decide, Decided};
-use crate::report::{Outcome, Verdict};
+use crate::report::Outcome;
 use s2_bbframe::Joiner;
+use s2_check::Verdict;
 use s2_mode::{CountedWrite, Symbol, WriteFault};
 
 /// What a frame gave: 1 or 0 delivered messages, packets, and bodies with a wrong CRC-8.

@@ -1,10 +1,10 @@
 //! The next frame of a reader's symbols.
-ghost use Rattle.std.specs.Prelude.{◌≡◌, ◌≢◌, ◌+◌, ◌-◌, ◌*◌, ◌^◌, ◌<◌, ◌≤◌, ◌∷◌, [], List, IfOk, IsErr, length};
-ghost use Rattle.s2_mode.specs.Limits.{header_symbols};
-ghost use Rattle.s2_mode.specs.declared.symbols.Symbol.{Symbol as SymbolValue};
-ghost use Rattle.s2_receive.specs.Limits.{most_symbols};
-ghost use Rattle.s2_receive.specs.Meeting.{met_in};
-ghost use Rattle.s2_receive.specs.Finding.{YieldsSymbols, Meets, met_of, met_after, place_after, IsFrameAfter};
+ghost use Rattle.std.specs.Prelude.{◌≡◌, ◌≢◌, ◌+◌, ◌-◌, ◌*◌, ◌^◌, ◌<◌, ◌≤◌, ◌∷◌, [], ℕ, Bool, List, Option, IfOk, IsErr, length, true, false};
+ghost use Rattle.std.specs.Io.KnownBytes.{IsAtEnd};
+ghost use Rattle.s2_mode.specs.Counts.{CountsFault};
+ghost use Rattle.s2_mode.specs.Limits.{header_symbols, most_symbols};
+ghost use Rattle.s2_receive.specs.Meeting.{met_in, frame as met_frame};
+ghost use Rattle.s2_receive.specs.Finding.{Reaches, Meets, Looks, LiesWithin, IsFrameAfter, met_with, place_with, met_of, met_after, place_after};
 
 use crate::reading::read_symbols;
 use crate::search::{Search, first_header};
@@ -21,6 +21,129 @@ pub(crate) enum Found {
     End { at: u64 },
 }
 
+/// What is held of the stream at the front of a frame's buffer.
+#[derive(Clone, Copy)]
+struct Held {
+    /// The place of its first symbol, at which a frame may still begin.
+    at: u64,
+    /// Whether symbols were passed over before it.
+    over: bool,
+    count: usize,
+}
+
+/// Reads so many symbols behind those that are held. Whether they came: if not the stream ended, where up to
+/// three bytes are dropped.
+fn fill<R: CountedRead>(
+    reader: &mut R,
+    bytes: &mut [u8],
+    frame: &mut [Symbol],
+    held: &mut Held,
+    wanted: usize,
+) -> Result<bool, ReadFault>
+    requires count { R.count reader.old < 2 ^ 64 - 1 }
+    requires bytes { length bytes.old ≡ 4 * length frame.old }
+    requires room { held.old.count + wanted ≤ length frame.old }
+    ensures met { IfOk result (λ _. (passes : List Symbol → Bool) → Meets (met_with passes held.old frame.old (R.remaining reader.old)) (met_with passes held.new frame.new (R.remaining reader.new)) []) }
+    ensures taken { IfOk result (λ _. Reaches (place_with held.new) (place_with held.old) (R.remaining reader.old) (R.remaining reader.new)) }
+    ensures held { IfOk result (λ _. (held.new.at ≡ held.old.at) × (held.new.over ≡ held.old.over)) }
+    ensures full { IfOk result (λ full. full ≡ true → held.new.count ≡ held.old.count + wanted) }
+    ensures end { IfOk result (λ full. full ≡ false → (held.new.count < held.old.count + wanted) × IsAtEnd (R.remaining reader.new)) }
+    ensures cause { CountsFault (R.count reader.old) (R.count reader.new) result }
+{
+    let behind = held.count;
+    let count = read_symbols(reader, bytes, &mut frame[behind..behind + wanted])?;
+    held.count = behind + count;
+    Ok(count == wanted)
+}
+
+/// What is met at the stream's end, where fewer symbols are held than a frame has.
+fn meet_last<S: Search>(search: &mut S, frame: &[Symbol], held: Held) -> Found
+    requires few { held.count < length frame.now }
+    requires place { place_with held < 2 ^ 64 }
+    ensures met { (bytes : Option (List ℕ)) → IsAtEnd bytes → Meets (met_with (S.passes search.old) held frame.now bytes) (met_after (S.passes search.old) (length frame.now) result bytes) (met_of result frame.now ∷ []) }
+    ensures place { place_after (length frame.now) result ≡ place_with held }
+    ensures frame { IsFrameAfter held.at result }
+    ensures same { S.passes search.new ≡ S.passes search.old }
+{
+    match first_header(search, &frame[..held.count]) {
+        Some(before) => Found::Cut {
+            at: held.at + before as u64,
+            count: (held.count - before) as u64,
+        },
+        None => Found::End {
+            at: held.at + held.count as u64,
+        },
+    }
+}
+
+/// Moves to the front of a full buffer what may begin a frame: what begins at its first header, or else its last
+/// 89 symbols. Whether symbols were passed over so: if not the buffer is a frame.
+fn pass_over<S: Search>(search: &mut S, frame: &mut [Symbol], held: &mut Held) -> bool
+    requires size { header_symbols ≤ length frame.old }
+    requires full { held.old.count ≡ length frame.old }
+    requires place { place_with held.old < 2 ^ 64 }
+    ensures stands { result ≡ false → (bytes : Option (List ℕ)) → Meets (met_with (S.passes search.old) held.old frame.old bytes)
+        (met_in (S.passes search.old) (length frame.old) (place_with held.old) false [] bytes) (met_frame held.new.at held.new.over frame.new ∷ []) }
+    ensures held { result ≡ false → held.new ≡ held.old }
+    ensures passed { result ≡ true → (bytes : Option (List ℕ)) → Meets (met_with (S.passes search.old) held.old frame.old bytes) (met_with (S.passes search.old) held.new frame.new bytes) [] }
+    ensures further { result ≡ true → (held.old.at < held.new.at) × (place_with held.new ≡ place_with held.old) }
+    ensures same { S.passes search.new ≡ S.passes search.old }
+{
+    let size = frame.len();
+    let before = match first_header(search, frame) {
+        Some(before) => before,
+        None => size - (HEADER_SYMBOLS - 1),
+    };
+    if before == 0 {
+        return false;
+    }
+    frame.copy_within(before.., 0);
+    *held = Held {
+        at: held.at + before as u64,
+        over: true,
+        count: size - before,
+    };
+    true
+}
+
+/// Fills the buffer and looks for a frame in it: what is found, or nothing where symbols are only passed over. It
+/// fails where a read does, and where as many symbols were taken as may be.
+fn look<S: Search, R: CountedRead>(
+    search: &mut S,
+    reader: &mut R,
+    bytes: &mut [u8],
+    frame: &mut [Symbol],
+    held: &mut Held,
+    limit: u64,
+) -> Result<Option<Found>, ReadFault>
+    requires count { R.count reader.old < 2 ^ 64 - 1 }
+    requires size { (header_symbols ≤ length frame.old) × (length frame.old ≤ 2 ^ 32) }
+    requires bytes { length bytes.old ≡ 4 * length frame.old }
+    requires held { held.old.count < length frame.old }
+    requires place { place_with held.old ≤ limit }
+    requires limit { limit ≤ most_symbols }
+    ensures looks { IfOk result (Looks (S.passes search.old) limit held.old held.new frame.old frame.new (R.remaining reader.old) (R.remaining reader.new)) }
+    ensures count { IfOk result (λ _. R.count reader.new ≡ R.count reader.old) }
+    ensures cause { IsErr result → R.count reader.new ≢ R.count reader.old + 1 → (R.count reader.new ≡ R.count reader.old) × Reaches limit (place_with held.old) (R.remaining reader.old) (R.remaining reader.new) }
+    ensures same { S.passes search.new ≡ S.passes search.old }
+{
+    let size = frame.len();
+    let left = limit - held.at - held.count as u64;
+    let wanted = left.min((size - held.count) as u64) as usize;
+    let full = fill(reader, bytes, frame, held, wanted)?;
+    if !full {
+        return Ok(Some(meet_last(search, frame, *held)));
+    }
+    if held.count < size {
+        return Err(ReadFault);
+    }
+    if pass_over(search, frame, held) {
+        return Ok(None);
+    }
+    let Held { at, over, count: _ } = *held;
+    Ok(Some(Found::Frame { at, over }))
+}
+
 /// Takes the symbols up to the end of the next frame, and leaves the frame's in `frame`.
 ///
 /// The buffer's first symbol is the first at which a frame may still begin. A whole frame's room is read at
@@ -32,7 +155,6 @@ pub(crate) fn find_frame<S: Search, R: CountedRead>(
     bytes: &mut [u8],
     frame: &mut [Symbol],
     start: u64,
-    passed: bool,
     limit: u64,
 ) -> Result<Found, ReadFault>
     requires count { R.count reader.old < 2 ^ 64 - 1 }
@@ -40,51 +162,23 @@ pub(crate) fn find_frame<S: Search, R: CountedRead>(
     requires bytes { length bytes.old ≡ 4 * length frame.old }
     requires start { start ≤ limit }
     requires limit { limit ≤ most_symbols }
-    ensures met { IfOk result (λ found. Meets (met_in (S.passes search.old) (length frame.old) start passed [] (R.remaining reader.old))
+    ensures met { IfOk result (λ found. Meets (met_in (S.passes search.old) (length frame.old) start false [] (R.remaining reader.old))
         (met_after (S.passes search.old) (length frame.old) found (R.remaining reader.new)) (met_of found frame.new ∷ [])) }
-    ensures taken { IfOk result (λ found. (start ≤ place_after (length frame.old) found) × (place_after (length frame.old) found ≤ limit)
-        × ((front : List SymbolValue) × YieldsSymbols (R.remaining reader.old) (R.remaining reader.new) front × (start + length front ≡ place_after (length frame.old) found))) }
-    ensures frame { IfOk result (IsFrameAfter start) }
+    ensures taken { IfOk result (λ found. Reaches (place_after (length frame.old) found) start (R.remaining reader.old) (R.remaining reader.new)) }
+    ensures within { IfOk result (LiesWithin (length frame.old) start limit) }
     ensures count { IfOk result (λ _. R.count reader.new ≡ R.count reader.old) }
-    ensures cause { IsErr result → R.count reader.new ≢ R.count reader.old + 1 → (R.count reader.new ≡ R.count reader.old) × ((front : List SymbolValue)
-        × YieldsSymbols (R.remaining reader.old) (R.remaining reader.new) front × (start + length front ≡ limit)) }
+    ensures cause { IsErr result → R.count reader.new ≢ R.count reader.old + 1 → (R.count reader.new ≡ R.count reader.old) × Reaches limit start (R.remaining reader.old) (R.remaining reader.new) }
     ensures same { S.passes search.new ≡ S.passes search.old }
 {
-    let size = frame.len();
-    let mut at = start;
-    let mut over = passed;
-    let mut held = 0;
-    'fill: while at + (held as u64) < limit {
-        let left = limit - at - held as u64;
-        let wanted = left.min((size - held) as u64) as usize;
-        let end = held + wanted;
-        let n = read_symbols(reader, bytes, &mut frame[held..end])?;
-        if n < wanted {
-            let symbols = &frame[..held + n];
-            return Ok(match first_header(search, symbols) {
-                Some(before) => Found::Cut {
-                    at: at + before as u64,
-                    count: (symbols.len() - before) as u64,
-                },
-                None => Found::End {
-                    at: at + symbols.len() as u64,
-                },
-            });
+    let mut held = Held {
+        at: start,
+        over: false,
+        count: 0,
+    };
+    'looking: loop {
+        match look(search, reader, bytes, frame, &mut held, limit)? {
+            Some(found) => return Ok(found),
+            None => {}
         }
-        if end < size {
-            return Err(ReadFault);
-        }
-        let before = match first_header(search, frame) {
-            Some(before) => before,
-            None => size - (HEADER_SYMBOLS - 1),
-        };
-        if before == 0 {
-            return Ok(Found::Frame { at, over });
-        }
-        frame.copy_within(before.., 0);
-        held = size - before;
-        at += before as u64;
-        over = true;
     }
-    Err(ReadFault)
 }

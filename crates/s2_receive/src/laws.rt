@@ -1,5 +1,4 @@
 //! What follows from the definitions alone: each a call that does nothing, whose clause is the law.
-ghost use Rattle.s2_receive.specs.Limits.{LimitsLaw};
 ghost use Rattle.s2_receive.specs.Laws.{JoiningLaw, ReceptionLaw, FrontLaw, SearchLaw, SameRunLaw, SameStepLaw};
 
 /// The packets that are written are those of all fields and gaps that came to the joiner, one after
@@ -31,9 +30,4 @@ pub fn searching()
 pub fn same_bytes()
     ensures runs { SameRunLaw }
     ensures steps { SameStepLaw }
-{}
-
-/// The limit that is tested, [`crate::MOST_SYMBOLS`], is 2^40 symbols.
-pub fn limits()
-    ensures { LimitsLaw }
 {}

@@ -2,7 +2,8 @@
 //! decided, joins the packets of delivered data fields (5.1), and reports line by line.
 //!
 //! It stands below the modem's receiver and knows neither codes nor soft values: a [`Search`] says where a
-//! header ends, a [`Decide`] what a frame's symbols bring, [`Lines`] how the report is spelled.
+//! header ends, a [`Decide`] what a frame's symbols bring, [`Lines`] how the report is spelled. Of a mode's
+//! frames the search is [`HeaderSearch`], and [`ReportLines`] are the lines that the program prints.
 //! [`Receiver::next`] takes one step: the reader gives the symbols up to that step's end and no others, the
 //! answer is the first frame at or after the end of the last one, a frame that lacks symbols, or the end, and
 //! just its packets and its line are written. [`receive_all`] and [`receive_bytes`] take all steps. What is
@@ -21,19 +22,20 @@
 mod all;
 mod delivering;
 mod finding;
+mod header;
 pub mod laws;
+mod lines;
 mod parts;
 mod reading;
 mod receiver;
 mod report;
 mod search;
-mod stepping;
+mod telling;
 
 pub use all::{receive_all, receive_bytes};
+pub use header::HeaderSearch;
+pub use lines::ReportLines;
 pub use parts::{Decide, Decided, Lines};
-pub use receiver::{MOST_SYMBOLS, Receiver};
-pub use report::{Fault, Outcome, Phase, Received, Report, Step, StreamFault, Totals, Verdict};
+pub use receiver::Receiver;
+pub use report::{Fault, Outcome, Phase, Received, Report, Step, Totals};
 pub use search::Search;
-
-#[cfg(test)]
-mod tests;

@@ -8,8 +8,9 @@ ghost use Rattle.s2_receive.specs.declared.report.Report.{Report as ReportValue}
 ghost use Rattle.s2_receive.specs.declared.report.Totals.{Totals as TotalsValue};
 ghost use Rattle.s2_receive.specs.Receiving.{Decision};
 
-use crate::report::{Outcome, Report, Totals, Verdict};
+use crate::report::{Outcome, Report, Totals};
 use s2_bbframe::Header;
+use s2_check::Verdict;
 use s2_mode::{CountedWrite, Symbol, WriteFault};
 
 /// What was decided of a frame: the answer of a decider.

@@ -1,34 +1,76 @@
 //! The receiver between two steps.
-ghost use Rattle.std.specs.Prelude.{◌≡◌, ◌≢◌, ◌+◌, ◌-◌, ◌*◌, ◌^◌, ◌<◌, ◌≤◌, ◌⊎◌, Ok, Err, IfOk, IsErrOf, length};
-ghost use Rattle.s2_mode.specs.Limits.{header_symbols};
-ghost use Rattle.s2_receive.specs.Limits.{most_symbols};
+ghost use Rattle.std.specs.Prelude.{◌≡◌, ◌≢◌, ◌+◌, ◌-◌, ◌*◌, ◌^◌, ◌<◌, ◌≤◌, ◌⊎◌, ◌∷◌, [], Ok, Err, IfOk, IsErr, IsErrOf, length};
+ghost use Rattle.s2_mode.specs.Limits.{header_symbols, most_symbols};
 ghost use Rattle.s2_receive.specs.declared.report.Report.{Report as ReportValue};
 ghost use Rattle.s2_receive.specs.Faults.{answer_of};
-ghost use Rattle.s2_receive.specs.Receiving.{IsLive, StepAnswers, MetFrame, Reaches, StandsBehind, begun, rules_of, state_of};
-ghost use Rattle.s2_receive.specs.Stepping.{IsSound};
+ghost use Rattle.s2_receive.specs.declared.report.Phase.TheVariants as phases;
+ghost use Rattle.s2_receive.specs.Finding.{Reaches, Meets, LiesWithin, met_of, met_after, place_after};
+ghost use Rattle.s2_receive.specs.Receiving.{IsLive, StepAnswers, MetFrame, StandsBehind, begun, met_left, rules_in};
 
+use crate::finding::{Found, find_frame};
 use crate::parts::{Decide, Lines};
-use crate::report::{Fault, Phase, Step, StreamFault, Totals};
+use crate::report::{Fault, Phase, Step, Totals};
 use crate::search::Search;
-use crate::stepping::{Place, take_step};
 use s2_bbframe::Joiner;
-use s2_mode::{CountedRead, CountedWrite, Symbol};
+use s2_mode::{CountedRead, CountedWrite, ReadFault, StreamFault, Symbol};
 use std::alloc::{AllocError, Global};
+use std::marker::Model;
 
-/// How many symbols a receiver takes at most: 2^40.
-pub const MOST_SYMBOLS: u64 = 1 << 40;
+/// Where a receiver stands: how many symbols it took, and what came so far.
+#[derive(Clone, Copy)]
+pub(crate) struct Place {
+    pub(crate) phase: Phase,
+    pub(crate) at: u64,
+    pub(crate) totals: Totals,
+}
 
 /// Takes a stream of symbols frame by frame (EN 302 307-1, 5.5.2).
-#[derive(Drop)]
+///
+/// To contracts a receiver is what it was made of, the symbols of the frame that it found last, how many symbols it
+/// takes at most, and where it stands.
 pub struct Receiver<S: Search, D: Decide, L: Lines> {
-    search: S,
-    decider: D,
-    lines: L,
-    joiner: Joiner,
-    frame: Vec<Symbol>,
+    pub(crate) search: S,
+    pub(crate) decider: D,
+    pub(crate) lines: L,
+    pub(crate) joiner: Joiner,
+    pub(crate) frame: Vec<Symbol>,
     bytes: Vec<u8>,
-    place: Place,
-    limit: u64,
+    pub(crate) place: Place,
+    pub(crate) limit: u64,
+}
+
+impl<S: Search + Drop, D: Decide + Drop, L: Lines + Drop> Drop for Receiver<S, D, L> {
+    fn drop(self) {
+        let Receiver {
+            search: _,
+            decider: _,
+            lines: _,
+            joiner: _,
+            frame: _,
+            bytes: _,
+            place: _,
+            limit: _,
+        } = self;
+    }
+}
+
+impl<S: Search, D: Decide, L: Lines> Model for Receiver<S, D, L> {
+    ghost use Rattle.std.specs.Prelude.{length};
+    ghost use Rattle.s2_receive.specs.Receiving.{Receiver as ReceiverValue, state_of};
+    ghost use Rattle.s2_receive.specs.Stepping.{IsSound};
+
+    ghost Value = { ReceiverValue S D L };
+
+    ghost view = { λ r. record {
+      search = r.search;
+      decider = r.decider;
+      lines = r.lines;
+      frame = r.frame.items;
+      limit = r.limit;
+      state = state_of r.place.phase r.place.at r.joiner r.place.totals;
+    } };
+
+    ghost invariant = { λ r. IsSound (length r.frame.items) (D.size r.decider) (length r.bytes.items) r.limit r.place.at r.place.totals };
 }
 
 impl<S: Search, D: Decide, L: Lines> Receiver<S, D, L> {
@@ -49,11 +91,8 @@ impl<S: Search, D: Decide, L: Lines> Receiver<S, D, L> {
         requires size { (header_symbols ≤ size) × (size ≤ 2 ^ 32) }
         requires takes { size ≡ D.size decider }
         requires limit { limit ≤ most_symbols }
-        ensures rules { IfOk result (λ r. rules_of (S.passes r.search) (length r.frame.items) (D.decide r.decider) (L.frame_line r.lines) (L.cut_line r.lines) (L.end_line r.lines) r.limit ≡ rules_of (S.passes search) size (D.decide decider) (L.frame_line lines) (L.cut_line lines) (L.end_line lines) limit) }
-        ensures parts { IfOk result (λ r. (r.search ≡ search) × (r.decider ≡ decider) × (r.lines ≡ lines) × (length r.frame.items ≡ size) × (r.limit ≡ limit)) }
-        ensures takes { IfOk result (λ r. length r.frame.items ≡ D.size r.decider) }
-        ensures begun { IfOk result (λ r. state_of r.place.phase r.place.at r.joiner r.place.totals ≡ begun) }
-        ensures sound { IfOk result (λ r. IsSound (length r.frame.items) (length r.bytes.items) r.limit r.place.at r.place.totals) }
+        ensures parts { IfOk result (λ r. (r.search ≡ search) × (r.decider ≡ decider) × (r.lines ≡ lines) × (length r.frame ≡ size) × (r.limit ≡ limit)) }
+        ensures begun { IfOk result (λ r. r.state ≡ begun) }
     {
         let frame = vec![in alloc; Symbol { i: 0, q: 0 }; size]?;
         let bytes = vec![in alloc; 0u8; 4 * size]?;
@@ -81,14 +120,14 @@ impl<S: Search, D: Decide, L: Lines> Receiver<S, D, L> {
 
     /// What came so far, the frames that were not delivered among them; a cut one is no frame.
     pub fn totals(&self) -> Totals
-        ensures { result ≡ self.now.place.totals }
+        ensures { result ≡ self.now.state.standing.totals }
     {
         self.place.totals
     }
 
     /// Takes at most so many symbols in all, of which it has not taken more yet.
     pub fn limit(&mut self, symbols: u64)
-        requires { (self.old.place.at ≤ symbols) × (symbols ≤ most_symbols) }
+        requires { (self.old.state.at ≤ symbols) × (symbols ≤ most_symbols) }
         ensures { self.new ≡ record self.old { limit = symbols } }
     {
         self.limit = symbols;
@@ -117,28 +156,22 @@ impl<S: Search, D: Decide, L: Lines> Receiver<S, D, L> {
         requires reader { R.count reader.old < 2 ^ 64 - 1 }
         requires packets { P.count packets.old < 2 ^ 64 - 1 }
         requires report { W.count report.old < 2 ^ 64 - 1 }
-        requires sound { IsSound (length self.old.frame.items) (length self.old.bytes.items) self.old.limit self.old.place.at self.old.place.totals }
-        requires takes { length self.old.frame.items ≡ D.size self.old.decider }
-        ensures sound { IsSound (length self.new.frame.items) (length self.new.bytes.items) self.new.limit self.new.place.at self.new.place.totals }
-        ensures takes { length self.new.frame.items ≡ D.size self.new.decider }
-        ensures rules { rules_of (S.passes self.new.search) (length self.new.frame.items) (D.decide self.new.decider) (L.frame_line self.new.lines) (L.cut_line self.new.lines) (L.end_line self.new.lines) self.new.limit
-            ≡ rules_of (S.passes self.old.search) (length self.old.frame.items) (D.decide self.old.decider) (L.frame_line self.old.lines) (L.cut_line self.old.lines) (L.end_line self.old.lines) self.old.limit }
-        ensures live { IsLive self.old.place.phase → StepAnswers
-            (rules_of (S.passes self.old.search) (length self.old.frame.items) (D.decide self.old.decider) (L.frame_line self.old.lines) (L.cut_line self.old.lines) (L.end_line self.old.lines) self.old.limit)
-            (state_of self.old.place.phase self.old.place.at self.old.joiner self.old.place.totals) (state_of self.new.place.phase self.new.place.at self.new.joiner self.new.place.totals)
+        ensures rules { rules_in S.passes D.decide L.frame_line L.cut_line L.end_line self.new
+            ≡ rules_in S.passes D.decide L.frame_line L.cut_line L.end_line self.old }
+        ensures live { IsLive self.old.state.phase → StepAnswers
+            (rules_in S.passes D.decide L.frame_line L.cut_line L.end_line self.old) self.old.state self.new.state
             (R.remaining reader.old) (R.remaining reader.new)
             (P.contents packets.old) (P.contents packets.new) (W.contents report.old) (W.contents report.new) result }
         ensures frame { (r : ReportValue) → result ≡ Ok (Step.Frame r) → MetFrame
-            (rules_of (S.passes self.old.search) (length self.old.frame.items) (D.decide self.old.decider) (L.frame_line self.old.lines) (L.cut_line self.old.lines) (L.end_line self.old.lines) self.old.limit)
-            (state_of self.old.place.phase self.old.place.at self.old.joiner self.old.place.totals) (state_of self.new.place.phase self.new.place.at self.new.joiner self.new.place.totals)
+            (rules_in S.passes D.decide L.frame_line L.cut_line L.end_line self.old) self.old.state self.new.state
             (R.remaining reader.old) (R.remaining reader.new)
             (P.contents packets.old) (P.contents packets.new) (W.contents report.old) (W.contents report.new) r (D.last self.new.decider) }
-        ensures taken { StandsBehind (length self.old.frame.items) self.new.place.at result }
-        ensures ended { self.old.place.phase ≡ Phase.Ended → result ≡ Ok Step.End }
-        ensures failed { self.old.place.phase ≡ Phase.Failed → result ≡ Err Fault.Failed }
-        ensures nothing { (IsLive self.old.place.phase → ⊥) → (state_of self.new.place.phase self.new.place.at self.new.joiner self.new.place.totals ≡ state_of self.old.place.phase self.old.place.at self.old.joiner self.old.place.totals) × (reader.new ≡ reader.old) × (packets.new ≡ packets.old) × (report.new ≡ report.old) }
+        ensures taken { StandsBehind (length self.old.frame) self.new.state.at result }
+        ensures ended { self.old.state.phase ≡ Phase.Ended → result ≡ Ok Step.End }
+        ensures failed { self.old.state.phase ≡ Phase.Failed → result ≡ Err Fault.Failed }
+        ensures nothing { (IsLive self.old.state.phase → ⊥) → (self.new.state ≡ self.old.state) × (reader.new ≡ reader.old) × (packets.new ≡ packets.old) × (report.new ≡ report.old) }
         ensures read { IsErrOf result Fault.Read → (packets.new ≡ packets.old) × (report.new ≡ report.old)
-            × (R.count reader.new ≢ R.count reader.old + 1 → (R.count reader.new ≡ R.count reader.old) × Reaches self.old.limit self.old.place.at (R.remaining reader.old) (R.remaining reader.new)) }
+            × (R.count reader.new ≢ R.count reader.old + 1 → (R.count reader.new ≡ R.count reader.old) × Reaches self.old.limit self.old.state.at (R.remaining reader.old) (R.remaining reader.new)) }
         ensures no_read { result ≢ Err Fault.Read → R.count reader.new ≡ R.count reader.old }
         ensures write { IsErrOf result Fault.Write → ((P.count packets.new ≡ P.count packets.old + 1) × (W.count report.new ≡ W.count report.old))
             ⊎ ((P.count packets.new ≡ P.count packets.old) × (W.count report.new ≡ W.count report.old + 1)) }
@@ -161,43 +194,66 @@ impl<S: Search, D: Decide, L: Lines> Receiver<S, D, L> {
         requires reader { R.count reader.old < 2 ^ 64 - 1 }
         requires packets { P.count packets.old < 2 ^ 64 - 1 }
         requires report { W.count report.old < 2 ^ 64 - 1 }
-        requires sound { IsSound (length self.old.frame.items) (length self.old.bytes.items) self.old.limit self.old.place.at self.old.place.totals }
-        requires takes { length self.old.frame.items ≡ D.size self.old.decider }
-        requires live { IsLive self.old.place.phase }
-        ensures sound { IsSound (length self.new.frame.items) (length self.new.bytes.items) self.new.limit self.new.place.at self.new.place.totals }
-        ensures takes { length self.new.frame.items ≡ D.size self.new.decider }
-        ensures rules { rules_of (S.passes self.new.search) (length self.new.frame.items) (D.decide self.new.decider) (L.frame_line self.new.lines) (L.cut_line self.new.lines) (L.end_line self.new.lines) self.new.limit
-            ≡ rules_of (S.passes self.old.search) (length self.old.frame.items) (D.decide self.old.decider) (L.frame_line self.old.lines) (L.cut_line self.old.lines) (L.end_line self.old.lines) self.old.limit }
+        requires live { IsLive self.old.state.phase }
+        ensures rules { rules_in S.passes D.decide L.frame_line L.cut_line L.end_line self.new
+            ≡ rules_in S.passes D.decide L.frame_line L.cut_line L.end_line self.old }
+        ensures few { self.old.state.standing.totals.frames ≤ most_symbols }
         ensures step { StepAnswers
-            (rules_of (S.passes self.old.search) (length self.old.frame.items) (D.decide self.old.decider) (L.frame_line self.old.lines) (L.cut_line self.old.lines) (L.end_line self.old.lines) self.old.limit)
-            (state_of self.old.place.phase self.old.place.at self.old.joiner self.old.place.totals) (state_of self.new.place.phase self.new.place.at self.new.joiner self.new.place.totals)
+            (rules_in S.passes D.decide L.frame_line L.cut_line L.end_line self.old) self.old.state self.new.state
             (R.remaining reader.old) (R.remaining reader.new)
             (P.contents packets.old) (P.contents packets.new) (W.contents report.old) (W.contents report.new) (answer_of result) }
         ensures frame { (r : ReportValue) → result ≡ Ok (Step.Frame r) → MetFrame
-            (rules_of (S.passes self.old.search) (length self.old.frame.items) (D.decide self.old.decider) (L.frame_line self.old.lines) (L.cut_line self.old.lines) (L.end_line self.old.lines) self.old.limit)
-            (state_of self.old.place.phase self.old.place.at self.old.joiner self.old.place.totals) (state_of self.new.place.phase self.new.place.at self.new.joiner self.new.place.totals)
+            (rules_in S.passes D.decide L.frame_line L.cut_line L.end_line self.old) self.old.state self.new.state
             (R.remaining reader.old) (R.remaining reader.new)
             (P.contents packets.old) (P.contents packets.new) (W.contents report.old) (W.contents report.new) r (D.last self.new.decider) }
-        ensures taken { StandsBehind (length self.old.frame.items) self.new.place.at result }
+        ensures taken { StandsBehind (length self.old.frame) self.new.state.at result }
         ensures read { IsErrOf result StreamFault.Read → (packets.new ≡ packets.old) × (report.new ≡ report.old)
-            × (R.count reader.new ≢ R.count reader.old + 1 → (R.count reader.new ≡ R.count reader.old) × Reaches self.old.limit self.old.place.at (R.remaining reader.old) (R.remaining reader.new)) }
+            × (R.count reader.new ≢ R.count reader.old + 1 → (R.count reader.new ≡ R.count reader.old) × Reaches self.old.limit self.old.state.at (R.remaining reader.old) (R.remaining reader.new)) }
         ensures no_read { result ≢ Err StreamFault.Read → R.count reader.new ≡ R.count reader.old }
         ensures write { IsErrOf result StreamFault.Write → ((P.count packets.new ≡ P.count packets.old + 1) × (W.count report.new ≡ W.count report.old))
             ⊎ ((P.count packets.new ≡ P.count packets.old) × (W.count report.new ≡ W.count report.old + 1)) }
         ensures no_write { result ≢ Err StreamFault.Write → (P.count packets.new ≡ P.count packets.old) × (W.count report.new ≡ W.count report.old) }
     {
-        take_step(
+        let Ok(found) = self.find(reader) else {
+            return Err(StreamFault::Read);
+        };
+        let Ok(step) = self.tell(found, packets, report) else {
+            return Err(StreamFault::Write);
+        };
+        Ok(step)
+    }
+
+    /// What comes next in the stream. From here on the receiver counts as failed, until what was found is told.
+    fn find<R: CountedRead>(&mut self, reader: &mut R) -> Result<Found, ReadFault>
+        requires reader { R.count reader.old < 2 ^ 64 - 1 }
+        requires live { IsLive self.old.state.phase }
+        ensures rules { rules_in S.passes D.decide L.frame_line L.cut_line L.end_line self.new ≡ rules_in S.passes D.decide L.frame_line L.cut_line L.end_line self.old }
+        ensures few { self.old.state.standing.totals.frames ≤ most_symbols }
+        ensures state { self.new.state ≡ record self.old.state { phase = phases.Failed } }
+        ensures decider { self.new.decider ≡ self.old.decider }
+        ensures met { IfOk result (λ found. Meets (met_left (rules_in S.passes D.decide L.frame_line L.cut_line L.end_line self.old) self.old.state.phase self.old.state.at (R.remaining reader.old))
+            (met_after (S.passes self.old.search) (length self.old.frame) found (R.remaining reader.new)) (met_of found self.new.frame ∷ [])) }
+        ensures taken { IfOk result (λ found. Reaches (place_after (length self.old.frame) found) self.old.state.at (R.remaining reader.old) (R.remaining reader.new)) }
+        ensures within { IfOk result (LiesWithin (length self.old.frame) self.old.state.at self.old.limit) }
+        ensures count { IfOk result (λ _. R.count reader.new ≡ R.count reader.old) }
+        ensures cause { IsErr result → R.count reader.new ≢ R.count reader.old + 1 → (R.count reader.new ≡ R.count reader.old) × Reaches self.old.limit self.old.state.at (R.remaining reader.old) (R.remaining reader.new) }
+    {
+        let Place {
+            phase,
+            at,
+            totals: _,
+        } = self.place;
+        self.place.phase = Phase::Failed;
+        if phase == Phase::Closing {
+            return Ok(Found::End { at });
+        }
+        find_frame(
             &mut self.search,
-            &mut self.decider,
-            &self.lines,
-            &mut self.joiner,
-            &mut self.frame,
-            &mut self.bytes,
-            &mut self.place,
-            self.limit,
             reader,
-            packets,
-            report,
+            &mut self.bytes,
+            &mut self.frame,
+            at,
+            self.limit,
         )
     }
 }

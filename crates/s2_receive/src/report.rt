@@ -3,16 +3,9 @@ ghost use Rattle.std.specs.Prelude.{◌≡◌};
 ghost use Rattle.s2_receive.specs.Faults.{fault_of};
 
 use s2_bbframe::HeaderFault;
+use s2_check::Verdict;
+use s2_mode::StreamFault;
 use thiserror::Error;
-
-/// What is known of a frame's decided bits: that no codeword costs less under its soft values, that they are
-/// a codeword, or that they are none.
-#[derive(Clone, Copy, Debug, PartialEq, Eq)]
-pub enum Verdict {
-    MostLikely,
-    Parity,
-    Broken,
-}
 
 /// What came of the decided bits: a message whose header is accepted, with so many places changed by BCH
 /// decoding; no word of the BCH code near enough; or a message whose header is refused.
@@ -73,17 +66,6 @@ pub enum Fault {
     /// An earlier call had a fault.
     #[error("stopped by an earlier fault")]
     Failed,
-}
-
-/// Why a stream was not received to its end.
-#[derive(Clone, Copy, Debug, PartialEq, Eq, Error)]
-pub enum StreamFault {
-    /// A read failed, or so many symbols were taken as are allowed.
-    #[error("cannot read")]
-    Read,
-    /// A packet or a line of the report could not be written.
-    #[error("cannot write")]
-    Write,
 }
 
 impl From<StreamFault> for Fault {

@@ -1,21 +1,11 @@
 -- What the faults of this crate say.
-use Rattle.std.specs.Prelude.{ℕ, List, ◌++◌, codes, decimal, Option, Some, None}
-use Rattle.s2_rows.specs.declared.fault_text.FaultText.{FaultText}
+use Rattle.std.specs.Prelude.{ℕ, List, ◌++◌, codes, decimal}
 use Rattle.s2_rows.specs.declared.row_file.RowFault.{RowFault}
 use Rattle.s2_rows.specs.declared.row_file.RowFault.TheVariants as row_faults
 use Rattle.s2_rows.specs.declared.values.ValueFault.{ValueFault}
 use Rattle.s2_rows.specs.declared.values.ValueFault.TheVariants as value_faults
 use Rattle.s2_rows.specs.declared.make.MakeFault.{MakeFault}
 use Rattle.s2_rows.specs.declared.make.MakeFault.TheVariants as make_faults
-
--- a number behind words, where there is one
-abbrev pub with_number : List ℕ → Option ℕ → List ℕ
-with_number words None = words
-with_number words (Some number) = words ++ decimal number
-
--- what a text says
-abbrev pub said : FaultText → List ℕ
-said text = with_number text.words.now text.number
 
 abbrev pub row_fault_text : RowFault → List ℕ
 row_fault_text (row_faults.NotNumber line) = codes "not a number in line " ++ decimal line

@@ -14,7 +14,6 @@
 //! ```
 #![tactic(auto)]
 
-mod fault_text;
 pub mod laws;
 mod limits;
 mod make;
@@ -25,7 +24,6 @@ mod text;
 mod values;
 mod write;
 
-pub use fault_text::FaultText;
 pub use limits::MOST_ADDRESSES;
 pub use make::{MakeFault, make_rows};
 pub use row_file::{RowFault, read_rows};

@@ -2,17 +2,17 @@
 ghost use Rattle.std.specs.Prelude.{◌≡◌, ◌<◌, ◌≤◌, ◌==◌, [], map, false, length, IfOk};
 ghost use Rattle.std.specs.List.{list_any};
 ghost use Rattle.s2_mode.specs.Shape.{IsShape};
-ghost use Rattle.s2_rows.specs.FaultTexts.{said, make_fault_text};
+ghost use Rattle.s2_mode.specs.FaultTexts.{said};
+ghost use Rattle.s2_rows.specs.FaultTexts.{make_fault_text};
 ghost use Rattle.s2_rows.specs.Limits.{most_addresses};
 ghost use Rattle.s2_rows.specs.MadeRows.{free_from, drawn_row, Makes};
 
-use crate::fault_text::FaultText;
 use crate::limits::MOST_ADDRESSES;
 use crate::rows::{Row, Rows};
 use rand_core::SeedableRng;
 use rand_core::utils::NextWord;
 use rand_pcg::Pcg32;
-use s2_mode::Shape;
+use s2_mode::{FaultText, Shape};
 use std::alloc::{Allocator, Global};
 use thiserror::Error;
 

@@ -2,17 +2,17 @@
 ghost use Rattle.std.specs.Prelude.{◌≡◌, ◌≢◌, ◌+◌, ◌-◌, ◌<◌, ◌≤◌, ◌∷◌, ℕ, List, Ok, Err, map, vec_len, vec_capacity, IfOk, MatchResult};
 ghost use Rattle.s2_mode.specs.Shape.{IsShape, check_count};
 ghost use Rattle.s2_mode.specs.Limits.{most_bits};
-ghost use Rattle.s2_rows.specs.FaultTexts.{said, row_fault_text};
+ghost use Rattle.s2_mode.specs.FaultTexts.{said};
+ghost use Rattle.s2_rows.specs.FaultTexts.{row_fault_text};
 ghost use Rattle.s2_rows.specs.Numbers.{natural_of};
 ghost use Rattle.s2_rows.specs.Readings.{after, GoesOn};
 ghost use Rattle.s2_rows.specs.RowFiles.{address_of, with_token, row_in, rows_of, rows_of_text, RowsAnswer};
 ghost use Rattle.s2_rows.specs.Text.{tokens_of};
 
-use crate::fault_text::FaultText;
 use crate::numbers::natural;
 use crate::rows::{Row, Rows};
 use crate::text::{cut_line, cut_token, is_passed_over};
-use s2_mode::Shape;
+use s2_mode::{FaultText, Shape};
 use std::alloc::{Allocator, Global};
 use thiserror::Error;
 

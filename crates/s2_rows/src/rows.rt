@@ -14,10 +14,15 @@ pub type Row = ArrayVec<u32, MOST_ADDRESSES>;
 
 /// A shape, and for each of its groups of information bits the addresses of the group's first bit
 /// (EN 302 307-1, 5.3.2): one to 24, each once, all of them below n - k.
-#[derive(Drop)]
 pub struct Rows {
     shape: Shape,
     rows: Vec<Row>,
+}
+
+impl Drop for Rows {
+    fn drop(self) {
+        let Rows { shape: _, rows: _ } = self;
+    }
 }
 
 impl Model for Rows {

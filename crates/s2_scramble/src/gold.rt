@@ -5,10 +5,11 @@ ghost use Rattle.s2_scramble.specs.Gold.{most_number, most_symbols, quarter_turn
 ghost use Rattle.s2_mode.specs.Symbols.{symbol_at};
 ghost use Rattle.s2_scramble.specs.Turns.{turned, turned_back, CanTurnBack};
 
+use crate::number::ScramblingNumber;
 use crate::tables::quarter_turns;
 use crate::turn::{turn_each, turn_each_back, turned, turned_back};
 use s2_mode::Symbol;
-use std::alloc::Global;
+use std::alloc::{AllocError, Global};
 use std::marker::Model;
 use thiserror::Error;
 
@@ -31,10 +32,18 @@ pub enum GoldFault {
 
 /// The scrambler of the physical layer for one scrambling number (EN 302 307-1, 5.5.4), which turns
 /// each symbol after a frame's header by quarters. Its value is that number.
-#[derive(Drop)]
 pub struct Gold {
     number: u32,
     quarters: Vec<u16>,
+}
+
+impl Drop for Gold {
+    fn drop(self) {
+        let Gold {
+            number: _,
+            quarters: _,
+        } = self;
+    }
 }
 
 impl Model for Gold {
@@ -56,13 +65,19 @@ impl Gold {
         ensures number { IfOk result (λ g. g ≡ number) }
         ensures bad_number { IsErrOf result GoldFault.BadNumber ↔ (most_number < number) }
     {
-        if number > MOST_NUMBER {
+        let Some(number) = ScramblingNumber::new(number) else {
             return Err(GoldFault::BadNumber);
-        }
-        match quarter_turns(alloc, number) {
-            Ok(quarters) => Ok(Gold { number, quarters }),
-            Err(_) => Err(GoldFault::NoMemory),
-        }
+        };
+        Gold::of(alloc, number).map_err(|_| GoldFault::NoMemory)
+    }
+
+    /// The scrambler of a scrambling number. `AllocError` only where memory is refused, and then nothing is kept.
+    pub fn of(alloc: Global, number: ScramblingNumber) -> Result<Gold, AllocError>
+        ensures { IfOk result (λ g. g ≡ number) }
+    {
+        let number = number.get();
+        let quarters = quarter_turns(alloc, number)?;
+        Ok(Gold { number, quarters })
     }
 
     /// The scrambling number.

@@ -22,9 +22,3 @@ fn asks_again_where_memory_is_refused(rt: HostRuntime) -> Result<(), Fail> {
     assert_eq!(rt; gold.turn(5, sent), Symbol { i: 700, q: -700 });
     Ok(())
 }
-
-#[test]
-fn refuses_a_number_before_it_asks_for_memory(rt: HostRuntime) {
-    let refused = gold(rt.alloc(), 262142).err();
-    assert_eq!(rt; refused, Some(GoldFault::BadNumber));
-}

@@ -1,26 +1,22 @@
 -- A layer over the parts of a maker's lists.
-use Rattle.std.proofs.Common.{◌≡◌, ◌≢◌, ℕ, suc, ◌+◌, ◌-◌, ◌*◌, ◌/◌, ◌%◌, ◌<◌, ◌≤◌, true, false, cond, eqb, ne_eqb, eq-eqb, List, map, length, get_or, take, drop, fold, [], ◌∷◌, set, get_or-set_other, get_or-set_same, refl, ap, sym, subst, ◌∙◌, inl, inr, arith}
+use Rattle.std.proofs.Common.{◌≡◌, ◌≢◌, ℕ, suc, ◌+◌, ◌*◌, ◌/◌, ◌%◌, ◌<◌, ◌≤◌, true, false, cond, eqb, ne_eqb, eq-eqb, List, map, length, get_or, take, drop, fold, [], ◌∷◌, set, get_or-set_other, get_or-set_same, ap, sym, subst, ◌∙◌, inl, inr, arith}
 use Rattle.std.proofs.Math.Nat.{mul-le-mul_right}
 use Rattle.std.proofs.lemmas.Bool.{cases_lt, cases_eq}
 use Rattle.std.proofs.lemmas.List.{ext_get_or, get_or-map, length-map, get_or-take, get_or-drop, length-take-le, length-drop}
 use Rattle.std.proofs.lemmas.List.FromFn.{length-range_with_len, get_or-range_with_len}
 use Rattle.std.proofs.lemmas.List.Sums.{fold-append}
 use borrow.Rule.Slice.PartMut.{put_mid}
-use Rattle.s2_mode.specs.Shape.{code_bits}
 use Rattle.s2_rows.specs.Rows.{Rows}
 use Rattle.s2_matrix.specs.Total.{upto}
 use Rattle.s2_matrix.proofs.Totals.{upto_more}
-use Rattle.s2_matrix.specs.Code.{code_of, members}
 use Rattle.s2_minsum.specs.declared.rows.Entry.{Entry}
-use Rattle.s2_minsum.specs.Rows.{no_entry, entry_at, is_lacking}
-use Rattle.s2_minsum.specs.Layout.{last_check, entry_of, entry_count, first_row, lacked_row}
-use Rattle.s2_minsum.specs.Decoding.{AreLayers}
-use Rattle.s2_minsum.proofs.LayerCalls.{entries_part, length-entries_part}
+use Rattle.s2_minsum.specs.Rows.{entry_at, is_lacking}
+use Rattle.s2_minsum.specs.Layout.{lacked_row, entries_of}
 use Rattle.s2_minsum.proofs.Parts.{row_before, put_mid_below, put_mid_at, put_mid_above, length-put_mid}
 use Rattle.s2_bits.specs.Lanes32.{plus32}
 use Rattle.s2_settle.specs.Rests.{received, change, changed, gap}
 use Rattle.s2_settle.specs.Nodes.{first_of, second_of, least_at}
-use Rattle.s2_settle.specs.Layer.{Held, held, AreLong, entries_of, of_layer, with_layer, new_target, new_amount, change_in, layer}
+use Rattle.s2_settle.specs.Layer.{Held, held, AreLong, of_layer, with_layer, new_target, new_amount, change_in, layer}
 use Rattle.s2_minsum.proofs.Sames.{changed-same}
 
 -- a list by its places
@@ -43,18 +39,6 @@ set_more d f i xs x room before is j lt = elim (cases_lt j i) [
   | inl less ↦ (let ne : j ≢ i = omega arith in rw get_or-set_other (before j less))
   | inr le ↦ (let e : i ≡ j = omega arith in subst (λ k. get_or (set xs i x) k d ≡ f k) e (rw get_or-set_same is))
 ]
-
--- the layer's part of the entries
-pub part_is : (rows : Rows) (entries : List Entry) (firsts : List ℕ) → AreLayers rows entries firsts → (r : ℕ) → r < rows.shape.q → (start count : ℕ) → first_row rows r ≡ start → entry_count rows r ≡ count → entries_part entries start count ≡ entries_of rows r
-part_is rows entries firsts l r layer start count start_is count_is =
-    let ms = members (code_of rows) (last_check rows.shape r) in
-    let long = length-entries_part rows entries firsts l r layer (code_bits rows.shape) refl start count start_is count_is in
-    let f = entry_of rows.shape in
-    ext_get_or no_entry (entries_part entries start count) (entries_of rows r) (long ∙ sym count_is ∙ sym (length-map ms f)) (λ e lt. (
-    let low : e < entry_count rows r = omega (arith, long) in
-    let room : e < start + count - start = omega arith in
-    get_or-take (start + count - start) (drop start entries) e no_entry room ∙ get_or-drop start entries e no_entry ∙ ap (λ s. entry_at entries (s + e)) (sym start_is) ∙ l.entries_are r e layer low ∙ sym (get_or-map f ms e 0 no_entry low)
-    ))
 
 -- the layer's part of a list
 pub layer_part : (n r w q : ℕ) (xs : List ℕ) → r < q → length xs ≡ q * n → w ≡ n → take w (drop (r * n) xs) ≡ of_layer n r xs
@@ -99,7 +83,7 @@ pub record Ran (es : List Entry) (rests ts as' rests' ts' as'' : List ℕ) (n la
   pub amounts : (c : ℕ) → c < n → get_or as'' c 0 ≡ gap reserve (first_of (λ e. received n es last rests ts as' e c) m) (second_of (λ e. received n es last rests ts as' e c) m)
   pub changes : (p : ℕ) → p < length rests → get_or rests' p 0 ≡ changed n es rests (λ e c. cond (is_lacking last (entry_at es e) c) 0 (change (get_or ts c 0) (get_or as' c 0) (get_or ts' c 0) (get_or as'' c 0) e)) m p
 
-pub layer_is : (rows : Rows) (rests targets amounts rests' ts' as'' : List ℕ) (reserve r w : ℕ) → 1 ≤ rows.shape.group → AreLong rows rests targets amounts → r < rows.shape.q → w ≡ rows.shape.group
+pub layer_is : (rows : Rows) (rests targets amounts rests' ts' as'' : List ℕ) (reserve r w : ℕ) → 1 ≤ rows.shape.group → AreLong rows (held rests targets amounts) → r < rows.shape.q → w ≡ rows.shape.group
     → Ran (entries_of rows r) rests (of_layer rows.shape.group r targets) (of_layer rows.shape.group r amounts) rests' ts' as'' rows.shape.group (lacked_row rows.shape r) reserve (length (entries_of rows r))
     → held rests' (put_mid (r * rows.shape.group) w targets ts') (put_mid (r * rows.shape.group) w amounts as'') ≡ layer rows reserve (held rests targets amounts) r
 layer_is rows rests targets amounts rests' ts' as'' reserve r w some long lt width ran =
@@ -115,7 +99,7 @@ layer_is rows rests targets amounts rests' ts' as'' reserve r w some long lt wid
     let a = layer_put n r w rows.shape.q amounts as'' (new_amount rows reserve r h) some lt long.amounts_long width ran.amounts_long ran.amounts in
     λ i. held (p i) (t i) (a i)
 
-pub gives : (rows : Rows) (rests targets amounts rests' ts' as'' : List ℕ) (reserve r n w last : ℕ) (es : List Entry) (ts as' : List ℕ) → 1 ≤ rows.shape.group → AreLong rows rests targets amounts → r < rows.shape.q
+pub gives : (rows : Rows) (rests targets amounts rests' ts' as'' : List ℕ) (reserve r n w last : ℕ) (es : List Entry) (ts as' : List ℕ) → 1 ≤ rows.shape.group → AreLong rows (held rests targets amounts) → r < rows.shape.q
     → rows.shape.group ≡ n → w ≡ n → lacked_row rows.shape r ≡ last → entries_of rows r ≡ es → of_layer n r targets ≡ ts → of_layer n r amounts ≡ as'
     → Ran es rests ts as' rests' ts' as'' n last reserve (length es)
     → held rests' (put_mid (r * n) w targets ts') (put_mid (r * n) w amounts as'') ≡ layer rows reserve (held rests targets amounts) r

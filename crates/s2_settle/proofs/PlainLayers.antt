@@ -12,16 +12,17 @@ use Rattle.s2_matrix.proofs.Totals.{total-same, total-add}
 use Rattle.s2_minsum.specs.declared.rows.Entry.{Entry}
 use Rattle.s2_minsum.specs.Plain.{others}
 use Rattle.s2_minsum.specs.Rows.{is_lacking}
-use Rattle.s2_minsum.specs.Layout.{row_of_bit, lane_of_bit, forth, entry_of, entry_count, lacked_row}
+use Rattle.s2_minsum.specs.Layout.{row_of_bit, lane_of_bit, forth, entry_of, entry_count, lacked_row, entries_of}
 use Rattle.s2_minsum.proofs.Places
 use Rattle.s2_minsum.proofs.StepStates
 use Rattle.s2_minsum.proofs.StepStates.{of_lane, lane_small, stands}
 use Rattle.s2_bits.specs.Lanes32.{plus32}
 use Rattle.s2_settle.specs.Rests.{change, changed}
 use Rattle.s2_settle.specs.Plain.{State, raise, rest, input, least_of, amount_to, new_target as to_target, new_amount as to_amount, layer as layer_of_checks}
-use Rattle.s2_settle.specs.Layer.{Held, entries_of, with_layer, new_target, new_amount, change_in, layer as layer_of_rows}
+use Rattle.s2_settle.specs.Layer.{Held, with_layer, new_target, new_amount, change_in, layer as layer_of_rows}
 use Rattle.s2_settle.specs.Placing.{shown, place_of_check}
-use Rattle.s2_settle.specs.Shows.{ShowsMoves, Shows, AreFit, IsWithin}
+use Rattle.s2_minsum.specs.Decoding.{AreFit}
+use Rattle.s2_settle.specs.Shows.{ShowsMoves, Shows, IsWithin}
 use Rattle.s2_settle.proofs.Layers.{upto_at, length-upto_map}
 use Rattle.s2_settle.proofs.RestWords.{signed, change_adds}
 use Rattle.s2_settle.proofs.LayerSums

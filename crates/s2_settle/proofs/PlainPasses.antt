@@ -31,7 +31,8 @@ use Rattle.s2_settle.specs.Layer.{Held, layer}
 use Rattle.s2_settle.specs.Start.{started, start}
 use Rattle.s2_settle.specs.Passes.{pass, negatives, spread}
 use Rattle.s2_settle.specs.Placing.{place_of_check}
-use Rattle.s2_settle.specs.Shows.{Shows, ShowsEnd, AreFit, IsWithin}
+use Rattle.s2_minsum.specs.Decoding.{AreFit}
+use Rattle.s2_settle.specs.Shows.{Shows, ShowsEnd, IsWithin}
 use Rattle.s2_settle.proofs.Layers.{upto_at, length-upto_map, by_places, pass_more}
 use Rattle.s2_settle.proofs.Spreads.{spread_now, spread_never, spread_hopeless, spread_later}
 use Rattle.s2_settle.proofs.PlainLayers.{layer_within, layer_shown}

@@ -12,7 +12,7 @@ use Rattle.s2_settle.specs.Start.{start}
 use Rattle.s2_settle.specs.Passes.{spread}
 use Rattle.s2_settle.specs.Settled.{move_to, moved_view, if_reached, settled, move_in, moves_in, view_in}
 use Rattle.s2_settle.specs.Placing.{shown, place_of_check, move_of, moves_of, held_view}
-use Rattle.s2_settle.specs.Shows.{AreFit}
+use Rattle.s2_minsum.specs.Decoding.{AreFit}
 use Rattle.s2_settle.proofs.Layers.{upto_at, length-upto_map, by_places}
 use Rattle.s2_settle.proofs.PlainPasses.{Both, BothEnd, spread_both, start_shown, start_within}
 

@@ -1,29 +1,24 @@
 -- The entries of a layer, and what they show.
-use Rattle.std.proofs.Common.{◌≡◌, ℕ, suc, ◌+◌, ◌*◌, ◌/◌, ◌%◌, ◌<◌, ◌≤◌, cond, List, length, get_or, ap, sym, ◌∙◌, arith, lt-ltb, le-ltb}
+use Rattle.std.proofs.Common.{◌≡◌, ℕ, suc, ◌+◌, ◌*◌, ◌/◌, ◌%◌, ◌<◌, ◌≤◌, cond, length, get_or, ap, arith, lt-ltb, le-ltb}
 use Rattle.std.proofs.lemmas.List.{get_or-map, length-map}
 use Rattle.s2_rows.specs.Rows.{Rows}
 use Rattle.std.proofs.Math.Nat.{mul-le-mul_right}
 use Rattle.s2_mode.specs.Shape.{Shape, IsShape, check_count}
 use Rattle.s2_matrix.proofs.Joins.{div_below}
 use Rattle.s2_matrix.specs.Code.{code_of, members}
-use Rattle.s2_minsum.specs.declared.rows.Entry.{Entry}
 use Rattle.s2_minsum.specs.Rows.{no_entry, entry_at, turned}
-use Rattle.s2_minsum.specs.Layout.{last_check, entry_of, entry_count, first_row, bit_of}
-use Rattle.s2_minsum.specs.Decoding.{AreLayers}
+use Rattle.s2_minsum.specs.Layout.{last_check, entry_of, entry_count, bit_of, entries_of}
+use Rattle.s2_minsum.specs.Decoding.{AreFit}
 use Rattle.s2_minsum.proofs.Places
 use Rattle.s2_minsum.proofs.Columns.{member_below}
-use Rattle.s2_settle.specs.Layer.{entries_of}
 use Rattle.s2_settle.specs.Placing.{shown, place_of_check}
 
-module _ (rows : Rows) (entries : List Entry) (firsts : List ℕ) (l : AreLayers rows entries firsts) (r : ℕ) (layer : r < rows.shape.q) where
+module _ (rows : Rows) (l : AreFit rows) (r : ℕ) (layer : r < rows.shape.q) where
   abbrev bit : ℕ → ℕ
   bit e = get_or (members (code_of rows) (last_check rows.shape r)) e 0
 
   own : (e : ℕ) → e < entry_count rows r → entry_at (entries_of rows r) e ≡ entry_of rows.shape (bit e)
   own e lt = get_or-map (entry_of rows.shape) (members (code_of rows) (last_check rows.shape r)) e 0 no_entry lt
-
-  pub entry_is : (e k : ℕ) → e < entry_count rows r → k ≡ first_row rows r + e → entry_at entries k ≡ entry_at (entries_of rows r) e
-  entry_is e k lt at = ap (entry_at entries) at ∙ l.entries_are r e layer lt ∙ sym (own e lt)
 
   pub row_low : (e : ℕ) → e < entry_count rows r → (entry_at (entries_of rows r) e).row < rows.shape.groups + rows.shape.q
   row_low e lt = rw (own e lt) (Places.row_below rows.shape l.shaped (bit e) (member_below rows l.shaped r layer e lt))

@@ -14,17 +14,19 @@ use Rattle.s2_matrix.proofs.Members.{members_rising, members_below, place_of, pl
 use Rattle.s2_minsum.specs.declared.rows.Entry.{Entry}
 use Rattle.s2_mode.specs.Limits.{most_soft}
 use Rattle.s2_minsum.specs.Rows.{no_entry, entry_at, cell, turned, is_lacking}
-use Rattle.s2_minsum.specs.Layout.{row_of_bit, lane_of_bit, bit_of, last_check, forth, back, entry_of, entry_count, lacked_row}
+use Rattle.s2_minsum.specs.Layout.{row_of_bit, lane_of_bit, bit_of, last_check, forth, back, entry_of, entry_count, lacked_row, entries_of}
 use Rattle.s2_minsum.proofs.Places
 use Rattle.s2_minsum.proofs.Turning.{same_tests}
 use Rattle.s2_minsum.proofs.Columns.{found, member_below, member_has, lacks, present, place_in}
 use Rattle.s2_minsum.proofs.Posteriors.{total_small}
 use Rattle.s2_minsum.proofs.StepStates.{lane_of, layer_of}
 use Rattle.s2_settle.specs.Rests.{given}
-use Rattle.s2_settle.specs.Plain.{settling_scale, most_moved, State, raise, rest, input, new_target as to_target, new_amount as to_amount}
-use Rattle.s2_settle.specs.Layer.{Held, entries_of, of_layer, gifts, new_target, new_amount}
+use Rattle.s2_check.specs.Moves.{most_moved}
+use Rattle.s2_settle.specs.Plain.{settling_scale, State, raise, rest, input, new_target as to_target, new_amount as to_amount}
+use Rattle.s2_settle.specs.Layer.{Held, of_layer, gifts, new_target, new_amount}
 use Rattle.s2_settle.specs.Placing.{shown, place_of_check}
-use Rattle.s2_settle.specs.Shows.{ShowsMoves, Shows, AreFit, IsWithin}
+use Rattle.s2_minsum.specs.Decoding.{AreFit}
+use Rattle.s2_settle.specs.Shows.{ShowsMoves, Shows, IsWithin}
 use Rattle.s2_settle.proofs.Layers.{upto_at}
 use Rattle.s2_check.proofs.Places.{some_member}
 use Rattle.s2_settle.proofs.RestWords.{signed, given_is}

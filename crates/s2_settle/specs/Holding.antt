@@ -5,9 +5,8 @@ use Rattle.s2_matrix.specs.Code.{Code, code_of}
 use Rattle.s2_check.specs.Moves.{no_move, AreTargets}
 use Rattle.s2_check.specs.Views.{View}
 use Rattle.s2_check.specs.declared.step.Move.{Move}
-use Rattle.s2_minsum.specs.declared.rows.Entry.{Entry}
-use Rattle.s2_minsum.specs.Decoding.{AreLayers, HasRoom}
-use Rattle.s2_settle.specs.Layer.{AreLong}
+use Rattle.s2_minsum.specs.Decoding.{AreFit, HasRoom}
+use Rattle.s2_settle.specs.Layer.{Held, AreLong}
 use Rattle.s2_settle.specs.Settled.{moved_view}
 
 -- the rows of a settler's matrix, and the moves that it made last, check by check
@@ -27,8 +26,9 @@ pub record AreMoves (code : Code) (ms : List Move) : Type 0 where
   pub unmoved : (j : ℕ) → (get_or ms j no_move).amount ≡ 0 → (get_or ms j no_move).place ≡ 0
 
 -- what holds of a settler's lists
-pub record IsSettler (rows : Rows) (entries : List Entry) (firsts rests targets amounts : List ℕ) (ms : List Move) (scratch : ℕ) : Type 0 where
-  pub layers : AreLayers rows entries firsts
-  pub long : AreLong rows rests targets amounts
+pub record IsSettler (rows layered : Rows) (h : Held) (ms : List Move) (scratch : ℕ) : Type 0 where
+  pub layers : layered ≡ rows
+  pub fit : AreFit rows
+  pub long : AreLong rows h
   pub room : HasRoom rows scratch
   pub moves : AreMoves (code_of rows) ms

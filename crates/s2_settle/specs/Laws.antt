@@ -11,7 +11,8 @@ use Rattle.s2_settle.specs.Passes.{spread}
 use Rattle.s2_settle.specs.Start.{start}
 use Rattle.s2_settle.specs.Settled.{settled}
 use Rattle.s2_settle.specs.Placing.{held_view}
-use Rattle.s2_settle.specs.Shows.{Shows, ShowsEnd, AreFit, IsWithin}
+use Rattle.s2_minsum.specs.Decoding.{AreFit}
+use Rattle.s2_settle.specs.Shows.{Shows, ShowsEnd, IsWithin}
 
 -- it is accepted, and of these values and this word
 abbrev pub SettledLaw : Type 0

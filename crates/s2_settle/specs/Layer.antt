@@ -3,10 +3,8 @@ use Rattle.std.specs.Prelude.{◌≡◌, ℕ, ◌+◌, ◌*◌, ◌/◌, ◌%◌
 use Rattle.s2_mode.specs.Shape.{code_bits}
 use Rattle.s2_rows.specs.Rows.{Rows}
 use Rattle.s2_matrix.specs.Total.{upto}
-use Rattle.s2_matrix.specs.Code.{code_of, members}
-use Rattle.s2_minsum.specs.declared.rows.Entry.{Entry}
 use Rattle.s2_minsum.specs.Rows.{entry_at, is_lacking}
-use Rattle.s2_minsum.specs.Layout.{entry_of, last_check, lacked_row}
+use Rattle.s2_minsum.specs.Layout.{entries_of, lacked_row}
 use Rattle.s2_settle.specs.Rests.{change, changed, gap, received}
 use Rattle.s2_settle.specs.Nodes.{first_of, second_of, least_at}
 
@@ -19,10 +17,6 @@ pub record Held : Type 0 where
 abbrev pub held : List ℕ → List ℕ → List ℕ → Held
 held rests targets amounts =
     record { rests = rests; targets = targets; amounts = amounts }
-
--- the entries of a layer
-abbrev pub entries_of : Rows → ℕ → List Entry
-entries_of rows r = map (entry_of rows.shape) (members (code_of rows) (last_check rows.shape r))
 
 -- layer r of a list
 abbrev pub of_layer : ℕ → ℕ → List ℕ → List ℕ
@@ -60,7 +54,7 @@ layer rows reserve h r = record {
 }
 
 -- the sizes of the lists
-pub record AreLong (rows : Rows) (rests targets amounts : List ℕ) : Type 0 where
-  pub rests_long : length rests ≡ code_bits rows.shape
-  pub targets_long : length targets ≡ rows.shape.q * rows.shape.group
-  pub amounts_long : length amounts ≡ rows.shape.q * rows.shape.group
+pub record AreLong (rows : Rows) (h : Held) : Type 0 where
+  pub rests_long : length h.rests ≡ code_bits rows.shape
+  pub targets_long : length h.targets ≡ rows.shape.q * rows.shape.group
+  pub amounts_long : length h.amounts ≡ rows.shape.q * rows.shape.group

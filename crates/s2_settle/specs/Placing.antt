@@ -7,9 +7,9 @@ use Rattle.s2_matrix.specs.Code.{code_of, members}
 use Rattle.s2_check.specs.Views.{View}
 use Rattle.s2_check.specs.declared.step.Move.{Move}
 use Rattle.s2_minsum.specs.Rows.{turned, entry_at}
-use Rattle.s2_minsum.specs.Layout.{bit_of}
-use Rattle.s2_settle.specs.Plain.{most_moved}
-use Rattle.s2_settle.specs.Layer.{Held, entries_of}
+use Rattle.s2_minsum.specs.Layout.{bit_of, entries_of}
+use Rattle.s2_check.specs.Moves.{most_moved}
+use Rattle.s2_settle.specs.Layer.{Held}
 use Rattle.s2_settle.specs.Settled.{move_to, moved_view, if_reached}
 
 -- the bit that an entry of layer r shows to the check in lane c; 0 where there is no such entry

@@ -4,7 +4,7 @@ use Rattle.std.specs.Prelude.{ℕ, zero, suc, ◌+◌, ◌-◌, ◌*◌, ◌/◌
 use Rattle.s2_matrix.specs.Total.{total, upto}
 use Rattle.s2_matrix.specs.Code.{Code, members, checks_of}
 use Rattle.s2_check.specs.Cost.{value_at}
-use Rattle.s2_check.specs.Moves.{in_favour}
+use Rattle.s2_check.specs.Moves.{most_moved, in_favour}
 use Rattle.s2_minsum.specs.Plain.{others}
 
 -- ---- the numbers
@@ -12,10 +12,6 @@ use Rattle.s2_minsum.specs.Plain.{others}
 -- what a soft value is multiplied by
 abbrev pub settling_scale : ℕ
 settling_scale = 256
-
--- the most that a check moves
-abbrev pub most_moved : ℕ
-most_moved = 1048576
 
 -- what is held in reserve in the first pass, and by how much less from pass to pass, down to nothing
 abbrev pub first_reserve : ℕ

@@ -2,7 +2,7 @@
 use Rattle.std.specs.Prelude.{ℕ, ◌/◌, ◌==◌, min, max, if◌then◌else◌, List, get_or}
 use Rattle.s2_bits.specs.Lanes32.{minus32, plus32}
 use Rattle.s2_minsum.specs.declared.rows.Entry.{Entry}
-pub use Rattle.s2_settle.specs.Plain.{most_moved}
+use Rattle.s2_check.specs.Moves.{most_moved}
 use Rattle.s2_minsum.specs.Rows.{turned, cell, entry_at, is_lacking, changed_by}
 
 -- the word of a rest of 0

@@ -1,14 +1,14 @@
 -- What it means that rows and lanes show a state of checks and members.
-use Rattle.std.specs.Prelude.{◌≡◌, ℕ, ◌*◌, ◌/◌, ◌%◌, ◌<◌, ◌≤◌, List, length, get_or, pos, ◌+ℤ◌, unsigned_abs, Option, None, Some}
-use Rattle.s2_mode.specs.Shape.{IsShape, code_bits}
-use Rattle.s2_rows.specs.Limits.{most_addresses}
+use Rattle.std.specs.Prelude.{◌≡◌, ℕ, ◌*◌, ◌/◌, ◌%◌, ◌<◌, ◌≤◌, List, get_or, pos, ◌+ℤ◌, unsigned_abs, Option, None, Some}
+use Rattle.s2_mode.specs.Shape.{code_bits}
 use Rattle.s2_rows.specs.Rows.{Rows}
-use Rattle.s2_matrix.specs.Code.{code_of, checks_of}
+use Rattle.s2_matrix.specs.Code.{code_of}
 use Rattle.s2_mode.specs.Limits.{most_soft}
 use Rattle.s2_minsum.specs.Rows.{cell}
 use Rattle.s2_minsum.specs.Layout.{row_of_bit, lane_of_bit, entry_count}
 use Rattle.s2_settle.specs.Rests.{zero_rest}
-use Rattle.s2_settle.specs.Plain.{settling_scale, most_moved, State, rest}
+use Rattle.s2_check.specs.Moves.{most_moved}
+use Rattle.s2_settle.specs.Plain.{settling_scale, State, rest}
 use Rattle.s2_settle.specs.Layer.{Held, AreLong}
 use Rattle.s2_settle.specs.Placing.{shown, place_of_check}
 
@@ -20,14 +20,9 @@ pub record ShowsMoves (rows : Rows) (targets amounts : List ℕ) (s : State) : T
 
 -- at the row and lane of each bit its rest
 pub record Shows (rows : Rows) (h : Held) (s : State) : Type 0 where
-  pub long : AreLong rows h.rests h.targets h.amounts
+  pub long : AreLong rows h
   pub rests : (i : ℕ) → i < code_bits rows.shape → pos (cell h.rests rows.shape.group (row_of_bit rows.shape i) (lane_of_bit rows.shape i)) ≡ pos zero_rest +ℤ rest (code_of rows) s i
   pub moves : ShowsMoves rows h.targets h.amounts s
-
--- the rows of a code as the standard's are: of a valid shape, and no bit in more checks than a row has addresses at most
-pub record AreFit (rows : Rows) : Type 0 where
-  pub shaped : IsShape rows.shape
-  pub few : (i : ℕ) → i < code_bits rows.shape → length (checks_of (code_of rows) i) ≤ most_addresses
 
 -- values of soft values within their limits, and no amount above the most that a check moves
 pub record IsWithin (rows : Rows) (s : State) : Type 0 where

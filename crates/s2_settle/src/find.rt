@@ -3,52 +3,45 @@ ghost use Rattle.std.specs.Prelude.{◌≡◌, ℕ, ◌≤◌, ◌<◌, ◌+◌,
 ghost use Rattle.s2_mode.specs.Shape.{code_bits};
 ghost use Rattle.s2_matrix.specs.Code.{code_of};
 ghost use Rattle.s2_check.specs.Views.{IsSoft};
-ghost use Rattle.s2_minsum.specs.Decoding.{AreLayers, HasRoom};
+ghost use Rattle.s2_minsum.specs.Decoding.{HasRoom};
 ghost use Rattle.s2_settle.specs.Layer.{AreLong};
 ghost use Rattle.s2_settle.specs.Passes.{spread as after_spread};
 ghost use Rattle.s2_settle.specs.Start.{start};
 ghost use Rattle.s2_settle.specs.Placing.{Finds};
 ghost use Rattle.s2_settle.specs.Holding.{AreMoves};
 
-use crate::moves::put_moves;
+use crate::held::Held;
 use crate::passes::spread;
-use crate::start::put_rests;
 use s2_check::Move;
 use s2_matrix::Matrix;
-use s2_minsum::Entry;
+use s2_minsum::Layers;
 
 /// Finds moves in at most so many passes, and writes them check by check: whether there are.
 pub(crate) fn find_moves(
     matrix: &Matrix,
-    entries: &[Entry],
-    firsts: &[usize],
+    layers: &Layers<'_>,
     soft: &[i16],
     word: &[bool],
     passes: u32,
-    rests: &mut [u32],
-    targets: &mut [u32],
-    amounts: &mut [u32],
+    held: &mut Held,
     scratch: &mut [u32],
     moves: &mut [Move],
 ) -> bool
-    requires layers { AreLayers matrix.now entries.now firsts.now }
+    requires layers { layers.now ≡ matrix.now }
     requires range { All IsSoft soft.now }
     requires soft { length soft.now ≡ code_bits matrix.now.shape }
     requires word { length word.now ≡ code_bits matrix.now.shape }
-    requires long { AreLong matrix.now rests.old targets.old amounts.old }
+    requires long { AreLong matrix.now held.old }
     requires room { HasRoom matrix.now (length scratch.old) }
     requires moves { AreMoves (code_of matrix.now) moves.old }
     ensures found { Finds matrix.now (after_spread matrix.now passes 0 0 (start matrix.now soft.now word.now)) result moves.new }
     ensures moves { AreMoves (code_of matrix.now) moves.new }
+    ensures long { AreLong matrix.now held.new }
 {
-    put_rests(matrix, soft, word, rests);
-    targets.fill(0);
-    amounts.fill(0);
-    if !spread(
-        matrix, entries, firsts, passes, rests, targets, amounts, scratch,
-    ) {
+    held.start(matrix, soft, word);
+    if !spread(matrix, layers, passes, held, scratch) {
         return false;
     }
-    put_moves(matrix, entries, firsts, targets, amounts, moves);
+    held.put_moves(matrix, layers, moves);
     true
 }

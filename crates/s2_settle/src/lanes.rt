@@ -4,8 +4,8 @@ ghost use Rattle.s2_bits.specs.Lanes.{HasLanes, lane};
 ghost use Rattle.s2_bits.specs.Lanes32.{minus32};
 ghost use Rattle.s2_settle.specs.Rests.{given, gap, change};
 
-use crate::limits::MOST_MOVED;
 use s2_bits::lanes32::{all, least, minus, most, plus, where_same};
+use s2_check::MOST_MOVED;
 use std::simd::prelude::*;
 
 #[inline(always)]

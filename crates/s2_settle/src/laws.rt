@@ -1,11 +1,10 @@
 //! Laws of the definitions: each a call that does nothing, whose clause is the law.
 ghost use Rattle.std.specs.Prelude.{◌≡◌};
 ghost use Rattle.s2_settle.specs.Laws.{SettledLaw, StartLaw, LayerLaw, PassesLaw, RuleLaw};
-ghost use Rattle.s2_settle.specs.Plain.{settling_scale, most_moved, first_reserve, reserve_step, first_end, passes_between, bits_a_negative, growth_part};
+ghost use Rattle.s2_settle.specs.Plain.{settling_scale, first_reserve, reserve_step, first_end, passes_between, bits_a_negative, growth_part};
 
 use crate::limits::{
-    BITS_A_NEGATIVE, FIRST_END, FIRST_RESERVE, GROWTH_PART, MOST_MOVED, PASSES_BETWEEN,
-    RESERVE_STEP, SCALE,
+    BITS_A_NEGATIVE, FIRST_END, FIRST_RESERVE, GROWTH_PART, PASSES_BETWEEN, RESERVE_STEP, SCALE,
 };
 
 /// What is settled for a codeword is an accepted certificate of these values and this word.
@@ -37,7 +36,6 @@ pub fn rule()
 /// The program's numbers are those of the rule.
 pub fn limits()
     ensures scale { SCALE ≡ settling_scale }
-    ensures moved { MOST_MOVED ≡ most_moved }
     ensures reserve { FIRST_RESERVE ≡ first_reserve }
     ensures step { RESERVE_STEP ≡ reserve_step }
     ensures end { FIRST_END ≡ first_end }

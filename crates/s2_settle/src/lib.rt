@@ -7,9 +7,9 @@
 //! and its neighbours are not dragged to exactly zero. The rule is this project's own and stands in
 //! `specs/Plain.antt`, by checks and their members.
 //!
-//! [`Settler::settle`] answers exactly what the definition `settled` says of its arguments and the matrix, and
-//! only what the checker of certificates accepts; a refusal of the checker is a `None`. That passes lead to a
-//! certificate is not promised. Only [`Settler::new`] takes memory.
+//! [`Settler::certify`] finds exactly what the definition `settled` says of its arguments and the matrix, and
+//! only what the checker of certificates accepts; a refusal of the checker is a `false`. That passes lead to a
+//! certificate is not promised. [`Settler::held`] shows what was found. Only [`Settler::new`] takes memory.
 //!
 //! The settler keeps rests in rows of a group, and a layer's targets and amounts in rows of as many lanes, one
 //! check a lane, so that all checks of a layer go at once. That the rows and lanes are the checks and members is
@@ -18,26 +18,25 @@
 //!
 //! ```text
 //! let mut settler = Settler::new(alloc, &matrix)?;
-//! if let Some(view) = settler.settle(&soft, &word, 96) {
-//!     view.write(&mut file)?;
+//! if settler.certify(&soft, &word, 96) {
+//!     settler.held(&soft, &word).write(&mut file)?;
 //! }
 //! ```
 #![tactic(auto)]
 
 mod find;
+mod held;
 mod lanes;
 pub mod laws;
 mod layer;
 mod limits;
 mod moves;
+mod negatives;
 mod one_layer;
 mod passes;
 mod rows;
 mod settler;
 mod start;
 
-pub use limits::{FIRST_RESERVE, MOST_MOVED, RESERVE_STEP, SCALE};
+pub use limits::{FIRST_RESERVE, RESERVE_STEP, SCALE};
 pub use settler::Settler;
-
-#[cfg(test)]
-mod tests;

@@ -3,9 +3,6 @@
 /// What a soft value is multiplied by: rests stay within 32 bits while soft values reach 63.
 pub const SCALE: u16 = 256;
 
-/// The most that a check moves.
-pub const MOST_MOVED: u32 = 1 << 20;
-
 /// What is held in reserve in the first pass.
 pub const FIRST_RESERVE: u32 = 256;
 

@@ -5,15 +5,13 @@ ghost use Rattle.s2_mode.specs.Shape.{code_bits};
 ghost use Rattle.s2_matrix.specs.Code.{code_of};
 ghost use Rattle.s2_minsum.specs.Rows.{turned};
 ghost use Rattle.s2_minsum.specs.Layout.{bit_of};
-ghost use Rattle.s2_minsum.specs.Decoding.{AreLayers};
 ghost use Rattle.s2_settle.specs.Settled.{move_to};
 ghost use Rattle.s2_settle.specs.Placing.{shown, moves_of};
 ghost use Rattle.s2_settle.specs.Holding.{AreMoves};
 
-use crate::limits::MOST_MOVED;
-use s2_check::Move;
+use s2_check::{MOST_MOVED, Move};
 use s2_matrix::Matrix;
-use s2_minsum::{Entry, find_span, first_bit, place_among, step_of};
+use s2_minsum::{Entry, Layers, first_bit, place_among, step_of};
 use s2_mode::Shape;
 
 /// The bit that an entry shows to the check in a lane.
@@ -31,23 +29,16 @@ fn shown_by(shape: Shape, entry: Entry, lane: usize) -> usize
 }
 
 /// The bit that an entry of a layer shows to the check in a lane; 0 where there is no such entry.
-fn target_of(
-    matrix: &Matrix,
-    entries: &[Entry],
-    firsts: &[usize],
-    r: usize,
-    lane: usize,
-    e: usize,
-) -> usize
-    requires layers { AreLayers matrix.now entries.now firsts.now }
+fn target_of(matrix: &Matrix, layers: &Layers<'_>, r: usize, lane: usize, e: usize) -> usize
+    requires layers { layers.now ≡ matrix.now }
     requires layer { r < matrix.now.shape.q }
     requires lane { lane < matrix.now.shape.group }
     ensures is { result ≡ shown matrix.now r lane e }
     ensures few { result ≤ most_bits }
 {
-    let span = find_span(matrix, entries, firsts, r);
-    if e < span.count {
-        shown_by(matrix.shape(), entries[span.start + e], lane)
+    let entries = layers.entries(r);
+    if e < entries.len() {
+        shown_by(matrix.shape(), entries[e], lane)
     } else {
         0
     }
@@ -74,13 +65,12 @@ fn move_to(members: &[u32], bit: u32, amount: u32) -> Move
 /// Writes the moves check by check.
 pub(crate) fn put_moves(
     matrix: &Matrix,
-    entries: &[Entry],
-    firsts: &[usize],
+    layers: &Layers<'_>,
     targets: &[u32],
     amounts: &[u32],
     moves: &mut [Move],
 )
-    requires layers { AreLayers matrix.now entries.now firsts.now }
+    requires layers { layers.now ≡ matrix.now }
     requires targets { length targets.now ≡ matrix.now.shape.q * matrix.now.shape.group }
     requires amounts { length amounts.now ≡ matrix.now.shape.q * matrix.now.shape.group }
     requires moves { length moves.old ≡ (code_of matrix.now).checks }
@@ -94,7 +84,7 @@ pub(crate) fn put_moves(
         let r = check % q;
         let lane = check / q;
         let e = targets[r * n + lane] as usize;
-        let bit = target_of(matrix, entries, firsts, r, lane, e);
+        let bit = target_of(matrix, layers, r, lane, e);
         let amount = amounts[r * n + lane].min(MOST_MOVED);
         moves[check] = move_to(matrix.members_at(check), bit as u32, amount);
     }

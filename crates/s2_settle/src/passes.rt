@@ -1,51 +1,35 @@
 //! Passes over all layers, as long as a rest is negative.
 ghost use Rattle.std.specs.Prelude.{◌≡◌, ℕ, ◌≤◌, ◌<◌, ◌+◌, ◌*◌, length};
 ghost use Rattle.s2_mode.specs.Limits.{most_bits};
-ghost use Rattle.s2_minsum.specs.Decoding.{AreLayers, HasRoom};
-ghost use Rattle.s2_settle.specs.Layer.{held, AreLong};
-ghost use Rattle.s2_settle.specs.Passes.{pass as after_pass, reserve_in, negatives, is_hopeless, spread as after_spread, Ends};
+ghost use Rattle.s2_minsum.specs.Decoding.{HasRoom};
+ghost use Rattle.s2_settle.specs.Layer.{AreLong};
+ghost use Rattle.s2_settle.specs.Passes.{pass as after_pass, reserve_in, is_hopeless, spread as after_spread, Ends};
 
+use crate::held::Held;
 use crate::limits::{
-    BITS_A_NEGATIVE, FIRST_END, FIRST_RESERVE, GROWTH_PART, PASSES_BETWEEN, RESERVE_STEP, ZERO_REST,
+    BITS_A_NEGATIVE, FIRST_END, FIRST_RESERVE, GROWTH_PART, PASSES_BETWEEN, RESERVE_STEP,
 };
-use crate::one_layer::run_layer;
 use s2_matrix::Matrix;
-use s2_minsum::Entry;
+use s2_minsum::Layers;
 
 /// Runs all layers, in order.
 fn run_pass(
     matrix: &Matrix,
-    entries: &[Entry],
-    firsts: &[usize],
+    layers: &Layers<'_>,
     reserve: u32,
-    rests: &mut [u32],
-    targets: &mut [u32],
-    amounts: &mut [u32],
+    held: &mut Held,
     scratch: &mut [u32],
 )
-    requires layers { AreLayers matrix.now entries.now firsts.now }
-    requires long { AreLong matrix.now rests.old targets.old amounts.old }
+    requires layers { layers.now ≡ matrix.now }
+    requires long { AreLong matrix.now held.old }
     requires room { HasRoom matrix.now (length scratch.old) }
-    ensures { held rests.new targets.new amounts.new ≡ after_pass matrix.now reserve (held rests.old targets.old amounts.old) }
+    ensures is { held.new ≡ after_pass matrix.now reserve held.old }
+    ensures long { AreLong matrix.now held.new }
 {
     let q = matrix.shape().q();
     for r in 0..q {
-        run_layer(
-            matrix, entries, firsts, reserve, rests, targets, amounts, scratch, r,
-        );
+        held.layer(matrix, layers, reserve, scratch, r);
     }
-}
-
-/// How many rests are negative.
-fn count_negative(rests: &[u32]) -> usize
-    ensures is { result ≡ negatives rests.now }
-    ensures few { result ≤ length rests.now }
-{
-    let mut count = 0usize;
-    for i in 0..rests.len() {
-        count += usize::from(rests[i] < ZERO_REST);
-    }
-    count
 }
 
 /// What is held in reserve in a pass.
@@ -69,23 +53,21 @@ fn is_hopeless(bits: usize, pass: u32, before: usize, count: usize) -> bool
 /// At most so many passes, until no rest is negative: whether none is then.
 pub(crate) fn spread(
     matrix: &Matrix,
-    entries: &[Entry],
-    firsts: &[usize],
+    layers: &Layers<'_>,
     passes: u32,
-    rests: &mut [u32],
-    targets: &mut [u32],
-    amounts: &mut [u32],
+    held: &mut Held,
     scratch: &mut [u32],
 ) -> bool
-    requires layers { AreLayers matrix.now entries.now firsts.now }
-    requires long { AreLong matrix.now rests.old targets.old amounts.old }
+    requires layers { layers.now ≡ matrix.now }
+    requires long { AreLong matrix.now held.old }
     requires room { HasRoom matrix.now (length scratch.old) }
-    ensures { Ends (after_spread matrix.now passes 0 0 (held rests.old targets.old amounts.old)) result (held rests.new targets.new amounts.new) }
+    ensures is { Ends (after_spread matrix.now passes 0 0 held.old) result held.new }
+    ensures long { AreLong matrix.now held.new }
 {
-    let bits = rests.len();
+    let bits = matrix.bits();
     let mut before = 0usize;
     for pass in 0..passes {
-        let count = count_negative(rests);
+        let count = held.negatives();
         if count == 0 {
             return true;
         }
@@ -95,16 +77,7 @@ pub(crate) fn spread(
         if pass % PASSES_BETWEEN == 0 {
             before = count;
         }
-        run_pass(
-            matrix,
-            entries,
-            firsts,
-            reserve_in(pass),
-            rests,
-            targets,
-            amounts,
-            scratch,
-        );
+        run_pass(matrix, layers, reserve_in(pass), held, scratch);
     }
-    count_negative(rests) == 0
+    held.negatives() == 0
 }

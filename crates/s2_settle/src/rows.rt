@@ -8,8 +8,8 @@ ghost use Rattle.s2_settle.specs.Rests.{given, gap, change, seen_at};
 
 use crate::lanes;
 use crate::lanes::load;
-use crate::limits::MOST_MOVED;
 use s2_bits::lanes32;
+use s2_check::MOST_MOVED;
 use std::simd::prelude::*;
 
 /// Adds the whole vectors of a row to those of a row.

@@ -1,5 +1,5 @@
 //! The settler.
-ghost use Rattle.std.specs.Prelude.{◌≡◌, IsTrue, IfOk, IfSome, All, Some, None, if◌then◌else◌, length};
+ghost use Rattle.std.specs.Prelude.{◌≡◌, IsTrue, IfOk, All, Some, None, if◌then◌else◌, length};
 ghost use Rattle.s2_matrix.specs.Code.{code_of, IsCodeword};
 ghost use Rattle.s2_check.specs.Checking.{IsCertificate};
 ghost use Rattle.s2_check.specs.Views.{IsSoft};
@@ -7,26 +7,35 @@ ghost use Rattle.s2_settle.specs.Settled.{settled};
 ghost use Rattle.s2_settle.specs.Holding.{view_by};
 
 use crate::find::find_moves;
+use crate::held::Held;
 use crate::limits::SCALE;
 use s2_bits::Bits;
 use s2_check::{Answer, CertView, Move, check};
 use s2_matrix::Matrix;
-use s2_minsum::{Entry, layers_of, scratch_len};
+use s2_minsum::{Layers, scratch_len};
 use std::alloc::{AllocError, Global};
 use std::marker::Model;
 
 /// A maker of certificates by passes over all layers. To contracts it is the address rows and the moves that
 /// it made last.
-#[derive(Drop)]
 pub struct Settler<'a> {
     matrix: &'a Matrix,
-    entries: Vec<Entry>,
-    firsts: Vec<usize>,
-    rests: Vec<u32>,
-    targets: Vec<u32>,
-    amounts: Vec<u32>,
+    layers: Layers<'a>,
+    held: Held,
     scratch: Vec<u32>,
     moves: Vec<Move>,
+}
+
+impl<'a> Drop for Settler<'a> {
+    fn drop(self) {
+        let Settler {
+            matrix: _,
+            layers: _,
+            held: _,
+            scratch: _,
+            moves: _,
+        } = self;
+    }
 }
 
 impl<'a> Model for Settler<'a> {
@@ -37,7 +46,7 @@ impl<'a> Model for Settler<'a> {
 
     ghost view = { λ s. record { rows = s.matrix.now; moves = s.moves.items } };
 
-    ghost invariant = { λ s. IsSettler s.matrix.now s.entries.items s.firsts.items s.rests.items s.targets.items s.amounts.items s.moves.items (length s.scratch.items) };
+    ghost invariant = { λ s. IsSettler s.matrix.now s.layers s.held s.moves.items (length s.scratch.items) };
 }
 
 impl<'a> Settler<'a> {
@@ -46,25 +55,18 @@ impl<'a> Settler<'a> {
     pub fn new(alloc: Global, matrix: &'a Matrix) -> Result<Settler<'a>, AllocError>
         ensures { IfOk result (λ s. s.rows ≡ matrix.now) }
     {
-        let layers = layers_of(alloc, matrix)?;
-        let group = matrix.shape().group();
-        let places = matrix.shape().q() * group;
+        let layers = Layers::of(alloc, matrix)?;
         let none = Move {
             place: 0,
             amount: 0,
         };
-        let rests = vec![in alloc; 0u32; matrix.bits()]?;
-        let targets = vec![in alloc; 0u32; places]?;
-        let amounts = vec![in alloc; 0u32; places]?;
+        let held = Held::of(alloc, matrix)?;
         let scratch = vec![in alloc; 0u32; scratch_len(matrix)]?;
         let moves = vec![in alloc; none; matrix.check_count()]?;
         Ok(Settler {
             matrix,
-            entries: layers.entries,
-            firsts: layers.firsts,
-            rests,
-            targets,
-            amounts,
+            layers,
+            held,
             scratch,
             moves,
         })
@@ -82,14 +84,11 @@ impl<'a> Settler<'a> {
     {
         if !find_moves(
             self.matrix,
-            &self.entries,
-            &self.firsts,
+            &self.layers,
             soft,
             word.truths(),
             passes,
-            &mut self.rests,
-            &mut self.targets,
-            &mut self.amounts,
+            &mut self.held,
             &mut self.scratch,
             &mut self.moves,
         ) {
@@ -109,28 +108,5 @@ impl<'a> Settler<'a> {
         ensures { result ≡ view_by self.now soft.now word.now }
     {
         CertView::placed(self.matrix, SCALE, soft, word, &self.moves)
-    }
-
-    /// The certificate of a word by at most so many passes, or `None` where none is found or the word has
-    /// an odd check.
-    pub fn settle<'s>(
-        &'s mut self,
-        soft: &'s [i16],
-        word: &'s Bits,
-        passes: u32,
-    ) -> Option<CertView<'s>>
-        requires soft { length soft.now ≡ (code_of self.old.rows).bits }
-        requires range { All IsSoft soft.now }
-        requires word { length word.now ≡ (code_of self.old.rows).bits }
-        ensures is { IsCodeword (code_of self.old.rows) word.now → result ≡ settled self.old.rows soft.now word.now passes }
-        ensures odd { (IsCodeword (code_of self.old.rows) word.now → ⊥) → result ≡ None }
-        ensures accepted { IfSome result (λ v. IsCertificate self.old.rows v) }
-        ensures values { IfSome result (λ v. (v.soft ≡ soft.now) × (v.bits ≡ word.now)) }
-    {
-        if self.matrix.satisfied(word) && self.certify(soft, word, passes) {
-            Some(self.held(soft, word))
-        } else {
-            None
-        }
     }
 }

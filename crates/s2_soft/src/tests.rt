@@ -4,8 +4,6 @@ ghost use Rattle.std.specs.Prelude.{◌≡◌, ◌*◌, ◌<◌, length};
 use crate::constants::DIVISOR;
 use crate::soft::{columns_into, pairs_into};
 use crate::soft_into;
-use s2_bits::Bits;
-use s2_map::map_into;
 use s2_mode::{MOST_SOFT, Mode, Symbol};
 use std::test::Fail;
 
@@ -192,64 +190,6 @@ static EDGES: [Symbol; 13] = [
     },
 ];
 
-#[test]
-fn qpsk_worked_by_hand(rt: HostRuntime) {
-    for (i, q, first, second) in [
-        (700, 700, 29, 29),
-        (700, -700, 29, -29),
-        (-700, 700, -29, 29),
-        (-700, -700, -29, -29),
-        (16, -16, 0, 0),
-        (23, 24, 0, 1),
-        (-23, -24, 0, -1),
-        (46, 47, 1, 2),
-        (-46, -47, -1, -2),
-        (1474, 1475, 62, 63),
-        (-1474, -1475, -62, -63),
-        (1498, -1498, 63, -63),
-        (32767, 0, 63, 0),
-        (0, -32768, 0, -63),
-    ] {
-        let mut soft = [1i16; 10];
-        pairs_into(&[Symbol { i, q }; 5], &mut soft);
-        let values = [
-            first, second, first, second, first, second, first, second, first, second,
-        ];
-        assert_eq!(rt; soft, values);
-    }
-}
-
-#[test]
-fn psk_worked_by_hand(rt: HostRuntime) {
-    for (i, q, values) in [
-        (700, 700, [8, 29, 8]),
-        (990, 0, [8, 29, -8]),
-        (-990, 0, [8, -29, 8]),
-        (-700, -700, [8, -29, -8]),
-        (0, 990, [-8, 8, 29]),
-        (700, -700, [-8, 8, -29]),
-        (-700, 700, [-8, -8, 29]),
-        (0, -990, [-8, -8, -29]),
-        (0, 0, [0, 0, 0]),
-        (60, 0, [0, 1, 0]),
-        (100, 50, [1, 4, 0]),
-        (-100, -50, [1, -4, 0]),
-        (1500, 300, [19, 54, -6]),
-        (-1500, 300, [6, -36, 19]),
-        (300, -1500, [-19, -6, -54]),
-        (32767, 32767, [63, 63, 63]),
-        (-32768, -32768, [63, -63, -63]),
-        (32767, -32768, [-63, 63, -63]),
-    ] {
-        let mut first = [1i16; 5];
-        let mut second = [1i16; 5];
-        let mut third = [1i16; 5];
-        columns_into(&[Symbol { i, q }; 5], &mut first, &mut second, &mut third);
-        let [one, two, three] = values;
-        assert_eq!(rt; (first, second, third), ([one; 5], [two; 5], [three; 5]));
-    }
-}
-
 /// The soft values of a payload whose symbols are all the same.
 fn of_one_symbol(rt: &HostRuntime, mode: Mode, i: i16, q: i16) -> Result<Vec<i16>, Fail> {
     let payload = vec![in rt.alloc(); Symbol { i, q }; 90 * mode.slots()]?;
@@ -325,102 +265,4 @@ fn psk_of_each_length(rt: HostRuntime) {
         );
         assert!(rt; are_of_psk(&EDGES[..n], &first[..n], &second[..n], &third[..n]));
     }
-}
-
-/// Symbols that have each component on both axes.
-fn fill(symbols: &mut [Symbol]) {
-    let mut component = 0u16;
-    for s in 0..symbols.len() {
-        symbols[s] = Symbol {
-            i: component.cast_signed(),
-            q: component.wrapping_mul(40503).cast_signed(),
-        };
-        component = component.wrapping_add(1);
-    }
-}
-
-#[test]
-fn qpsk_of_each_component(rt: HostRuntime) -> Result<(), Fail> {
-    let mut symbols = vec![in rt.alloc(); Symbol { i: 0, q: 0 }; 65539]?;
-    let mut soft = vec![in rt.alloc(); 1i16; 131078]?;
-    fill(&mut symbols);
-    pairs_into(&symbols, &mut soft);
-    assert!(rt; are_of_qpsk(&symbols, &soft));
-    Ok(())
-}
-
-#[test]
-fn psk_of_each_component(rt: HostRuntime) -> Result<(), Fail> {
-    let mut symbols = vec![in rt.alloc(); Symbol { i: 0, q: 0 }; 65539]?;
-    let mut first = vec![in rt.alloc(); 1i16; 65539]?;
-    let mut second = vec![in rt.alloc(); 1i16; 65539]?;
-    let mut third = vec![in rt.alloc(); 1i16; 65539]?;
-    fill(&mut symbols);
-    columns_into(&symbols, &mut first, &mut second, &mut third);
-    assert!(rt; are_of_psk(&symbols, &first, &second, &third));
-    Ok(())
-}
-
-/// The soft values of a frame of 8PSK whose last symbols are on an axis and whose others are 0.
-fn are_in_columns(rt: &HostRuntime, modcod: u8) -> Result<bool, Fail> {
-    let mode = Mode::of(modcod, true, false).ok_or("no mode")?;
-    let mut payload = vec![in rt.alloc(); Symbol { i: 0, q: 0 }; 90 * mode.slots()]?;
-    let mut soft = vec![in rt.alloc(); 1i16; mode.n()]?;
-    for s in 5395..payload.len() {
-        payload[s] = Symbol { i: 990, q: 0 };
-    }
-    soft_into(mode, &payload, &mut soft);
-    if payload.len() != 5400 || soft.len() != 16200 {
-        return Ok(false);
-    }
-    let (first, rest) = soft.split_at(5400);
-    let (second, third) = rest.split_at(5400);
-    Ok(if modcod == 12 {
-        are_of_psk(&payload, third, second, first)
-    } else {
-        are_of_psk(&payload, first, second, third)
-    })
-}
-
-#[test]
-fn reads_columns_in_order(rt: HostRuntime) -> Result<(), Fail> {
-    assert!(rt; are_in_columns(&rt, 12)?);
-    assert!(rt; are_in_columns(&rt, 13)?);
-    Ok(())
-}
-
-/// Whether the soft values of a mode's clean payload say each bit that was sent.
-fn are_told(rt: &HostRuntime, mode: Mode) -> Result<bool, Fail> {
-    let mut codeword = Bits::zeroed(rt.alloc(), mode.n())?;
-    let mut state = 1u32;
-    for k in 0..64800usize {
-        if k < codeword.len() {
-            state = state.wrapping_mul(1664525).wrapping_add(1013904223);
-            codeword.set(k, state >> 31 == 1);
-        }
-    }
-    if codeword.len() != mode.n() {
-        return Ok(false);
-    }
-    let mut payload = vec![in rt.alloc(); Symbol { i: 0, q: 0 }; 90 * mode.slots()]?;
-    map_into(mode, &codeword, &mut payload);
-    let mut soft = vec![in rt.alloc(); 0i16; mode.n()]?;
-    soft_into(mode, &payload, &mut soft);
-    let mut told = true;
-    for (k, value) in soft.iter().enumerate() {
-        told = told && *value != 0 && (*value < 0) == (k < codeword.len() && codeword.get(k));
-    }
-    Ok(told)
-}
-
-#[test]
-fn says_each_clean_codeword(rt: HostRuntime) -> Result<(), Fail> {
-    for modcod in 1..18u8 {
-        for short in [false, true] {
-            if let Some(mode) = Mode::of(modcod, short, false) {
-                assert!(rt; are_told(&rt, mode)?);
-            }
-        }
-    }
-    Ok(())
 }

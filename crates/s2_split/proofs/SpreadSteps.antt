@@ -11,11 +11,11 @@ use Rattle.s2_matrix.specs.Code.{Code, members}
 use Rattle.s2_matrix.proofs.Members.{members_below}
 use Rattle.std.proofs.lemmas.List.Folds.{list_any_none}
 use Rattle.s2_matrix.specs.Total.{upto}
-use Rattle.s2_check.specs.Moves.{no_move}
+use Rattle.s2_check.specs.Moves.{no_move, most_moved}
 use Rattle.s2_check.specs.declared.step.Move.{Move}
 use Rattle.s2_split.specs.Scattered.{least_of}
 use Rattle.s2_split.specs.Greedy.{Moved, rest_at, put}
-use Rattle.s2_split.specs.Spreading.{most_moved, least_member, spread_amount, amount_to, give_back, spread_check, spread_scale}
+use Rattle.s2_split.specs.Spreading.{least_member, spread_amount, amount_to, give_back, spread_check, spread_scale}
 use Rattle.s2_split.specs.Kept.{most_between, taken_at, given_back, AreRests, IsHeld, AreKept}
 use Rattle.s2_split.proofs.FittingLemmas.{none_given'}
 use Rattle.s2_split.proofs.GreedyLemmas.{put_same, put_other}

@@ -31,10 +31,5 @@ mod rests;
 mod spread;
 mod start;
 
-pub use limits::{MOST_MOVED, MOST_PASSES, SPREAD_SCALE};
+pub use limits::{MOST_PASSES, SPREAD_SCALE};
 pub use maker::Maker;
-
-#[cfg(test)]
-mod memory_tests;
-#[cfg(test)]
-mod tests;

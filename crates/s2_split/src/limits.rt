@@ -3,8 +3,5 @@
 /// What a soft value is multiplied by, so that halves can be moved.
 pub const SPREAD_SCALE: u16 = 16;
 
-/// The most that a check moves.
-pub const MOST_MOVED: u32 = 1 << 20;
-
 /// How often the checks are gone through at most.
 pub const MOST_PASSES: u32 = 64;

@@ -16,7 +16,6 @@ use std::alloc::{AllocError, Global};
 use std::marker::Model;
 
 /// A maker of certificates, by one move for each check.
-#[derive(Drop)]
 pub struct Maker<'a> {
     matrix: &'a Matrix,
     rests: Vec<i32>,
@@ -25,6 +24,20 @@ pub struct Maker<'a> {
     odd: Vec<bool>,
     word: Bits,
     scale: u16,
+}
+
+impl<'a> Drop for Maker<'a> {
+    fn drop(self) {
+        let Maker {
+            matrix: _,
+            rests: _,
+            negatives: _,
+            moves: _,
+            odd: _,
+            word: _,
+            scale: _,
+        } = self;
+    }
 }
 
 impl<'a> Model for Maker<'a> {

@@ -4,7 +4,7 @@ ghost use Rattle.std.specs.List.{AllPairs};
 ghost use Rattle.s2_mode.specs.Limits.{most_bits};
 ghost use Rattle.s2_matrix.specs.Code.{code_of};
 ghost use Rattle.s2_split.specs.Kept.{most_rest, taken_at, given_back, AreWithin, AreCounted};
-ghost use Rattle.s2_split.specs.Spreading.{most_moved};
+ghost use Rattle.s2_check.specs.Moves.{most_moved};
 
 use s2_check::Move;
 use s2_matrix::Matrix;

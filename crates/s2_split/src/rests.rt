@@ -5,10 +5,10 @@ ghost use Rattle.std.specs.Int.{int_min};
 ghost use Rattle.s2_mode.specs.Limits.{most_soft};
 ghost use Rattle.s2_split.specs.Greedy.{free_for};
 ghost use Rattle.s2_split.specs.Kept.{most_rest, most_between, is_among, taken_at, evenly_at, given_back, AreWithin, AreLow};
-ghost use Rattle.s2_split.specs.Spreading.{most_moved, least_member, spread_amount, amount_to};
+ghost use Rattle.s2_check.specs.Moves.{most_moved};
+ghost use Rattle.s2_split.specs.Spreading.{least_member, spread_amount, amount_to};
 
-use crate::limits::MOST_MOVED;
-use s2_check::Move;
+use s2_check::{MOST_MOVED, Move};
 
 /// Adds a signed amount to the rest of the target, and takes it from the rest of every other
 /// member.

@@ -3,10 +3,10 @@
 ghost use Rattle.std.specs.List.{AllPairs};
 ghost use Rattle.std.specs.Prelude.{◌≡◌, ℕ, ◌<◌, ◌≤◌, IsTrue, Bool, List, All, length, get_or, ℤ, pos, ◌≤ℤ◌, ◌-ℤ◌};
 ghost use Rattle.s2_matrix.specs.Code.{code_of, members};
-ghost use Rattle.s2_check.specs.Moves.{no_move, ArePlaced};
+ghost use Rattle.s2_check.specs.Moves.{no_move, ArePlaced, most_moved};
 ghost use Rattle.s2_check.specs.Views.{IsSoft};
 ghost use Rattle.s2_split.specs.Greedy.{Moved, none_moved};
-ghost use Rattle.s2_split.specs.Spreading.{most_moved, spread_check, spread_pass, spread, spread_scale, most_passes};
+ghost use Rattle.s2_split.specs.Spreading.{spread_check, spread_pass, spread, spread_scale, most_passes};
 ghost use Rattle.s2_split.specs.Kept.{most_rest, taken_at, given_back, AreWithin, AreFew, AreKept, AreOfValues, AreCounted, Ends};
 
 use crate::limits::MOST_PASSES;

@@ -3,10 +3,10 @@ use Rattle.std.proofs.Common.{◌≡◌, ◌≢◌, ℕ, List, Option, Result, O
 use Rattle.clap.specs.Words.{kind_of}
 use Rattle.clap.specs.declared.error.Error.{Error}
 use Rattle.clap.specs.declared.error.kind.ErrorKind.{ErrorKind}
-use Rattle.s2_tool.specs.declared.exit.Exit.{Exit}
-use Rattle.s2_tool.specs.declared.exit.Exit.TheVariants as exits
-use Rattle.s2_tool.specs.declared.request.Request.{Request}
-use Rattle.s2_tool.specs.Screens.{Screen}
+use Rattle.s2_console.specs.declared.exit.Exit.{Exit}
+use Rattle.s2_console.specs.declared.exit.Exit.TheVariants as exits
+use Rattle.s2_words.specs.declared.request.Request.{Request}
+use Rattle.s2_console.specs.Screens.{Screen}
 use Rattle.s2_tool.specs.Serving.{Answers, Explains, SomeServed}
 
 explained : (kind : ErrorKind) (exit : Exit) (old new : Screen) → Explains kind exit old new → new.output ≡ old.output

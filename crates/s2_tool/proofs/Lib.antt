@@ -1,9 +1,6 @@
 pub mod AnswerLemmas
-pub mod CommandLemmas
-pub mod CountLemmas
-pub mod InputLemmas
-pub mod CertifyLemmas
-pub mod JudgeLemmas
 pub mod LinkLemmas
+pub mod SendLemmas
 pub mod ReceiveLemmas
-pub mod ValueRange
+pub mod LoopLemmas
+pub mod ServeLemmas

@@ -1,13 +1,5 @@
-pub mod Counting
-pub mod Screens
-pub mod Faults
-pub mod Exits
-pub mod Lines
-pub mod Inputs
-pub mod Judging
-pub mod Checking
-pub mod Certifying
 pub mod Links
+pub mod Making
 pub mod Sending
 pub mod Spoiling
 pub mod Receptions

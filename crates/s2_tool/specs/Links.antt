@@ -1,49 +1,62 @@
--- The link that a command works on: its setup, and the rows of its row file.
+-- The link that a command works on, and its files.
 use Rattle.std.specs.Prelude.{◌≡◌, ◌≢◌, ◌⊎◌, ℕ, ◌+◌, List, Option, IfSome, Result, Ok, Err, IfOk}
-use Rattle.s2_mode.specs.Mode.{shape_in, mode_of}
+use Rattle.s2_mode.specs.Counts.{CanCount}
+use Rattle.s2_mode.specs.Mode.{shape_in}
+use Rattle.s2_mode.specs.Streams.{Streams}
 use Rattle.s2_rows.specs.Rows.{Rows}
-use Rattle.s2_modem.specs.Link.{Link}
-use Rattle.s2_modem.specs.declared.setup.Setup.{Setup}
-use Rattle.s2_tool.specs.declared.exit.Exit.{Exit}
-use Rattle.s2_tool.specs.declared.fault.Fault.{Fault}
-use Rattle.s2_tool.specs.declared.fault.Fault.TheVariants as faults
-use Rattle.s2_tool.specs.declared.link.LinkSetup.{LinkSetup}
-use Rattle.s2_tool.specs.declared.link.RollOff.{RollOff}
-use Rattle.s2_tool.specs.declared.link.RollOff.TheVariants as roll_offs
-use Rattle.s2_tool.specs.declared.request.LinkWords.{LinkWords}
-use Rattle.s2_tool.specs.Exits.{Follows}
-use Rattle.s2_tool.specs.Inputs.{rows_in}
+use Rattle.s2_link.specs.Link.{Link, link_of}
+use Rattle.s2_link.specs.declared.setup.Setup.{Setup}
+use Rattle.s2_console.specs.declared.exit.Exit.{Exit}
+use Rattle.s2_console.specs.declared.fault.Fault.{Fault}
+use Rattle.s2_console.specs.declared.fault.Fault.TheVariants as faults
+use Rattle.s2_console.specs.Exits.{Follows}
+use Rattle.s2_console.specs.Screens.{Screen}
+use Rattle.s2_evidence.specs.Inputs.{rows_in}
 
--- the two bits of a header that tell a roll-off (EN 302 307-1, 5.1.6)
-abbrev pub roll_off_number : RollOff → ℕ
-roll_off_number roll_offs.Wide = 0
-roll_off_number roll_offs.Middle = 1
-roll_off_number roll_offs.Narrow = 2
+-- ---- the files
 
-abbrev pub setup_of : LinkSetup → Setup
-setup_of link = record { mode = link.mode; number = link.number.number; roll_off = roll_off_number link.roll_off }
+-- What the files of a command on a link hold: what is still to be read of its row file and of the one that it reads behind that,
+-- what stands in the one that it writes, where that is known, and how many calls of each have failed.
+pub record Ends : Type 0 where
+  pub rows : Option (List ℕ)
+  pub taken : Option (List ℕ)
+  pub given : Option (List ℕ)
+  pub rows_failed : ℕ
+  pub taken_failed : ℕ
+  pub given_failed : ℕ
 
--- the setup that words ask for
-abbrev pub asked_setup : LinkWords → Setup
-asked_setup words = record { mode = mode_of words.modcod words.short words.pilots; number = words.number.number; roll_off = roll_off_number words.roll_off }
+-- no call has failed so far
+abbrev pub NoneFailed : Ends → Type 0
+NoneFailed ends = (ends.rows_failed ≡ 0) × (ends.taken_failed ≡ 0) × (ends.given_failed ≡ 0)
+
+-- one more failed call of each can be counted
+abbrev pub CanFail : Ends → Type 0
+CanFail ends = CanCount ends.rows_failed × CanCount ends.taken_failed × CanCount ends.given_failed
+
+-- these files, and an output in which this stands and of which so many calls have failed
+abbrev pub streams_with : Ends → Option (List ℕ) → ℕ → Streams
+streams_with ends out failed =
+    record { taken = ends.taken; given = ends.given; out = out; reads = ends.rows_failed + ends.taken_failed; writes = ends.given_failed + failed }
+
+abbrev pub streams_of : Ends → Screen → Streams
+streams_of ends screen = streams_with ends screen.output screen.output_failed
+
+-- The causes of a failed device: where a read is told no write failed, where a write is told the count of failed writes rose, and
+-- where neither is told neither count rose.
+abbrev pub Causes : Streams → Streams → Result Exit Fault → Type 0
+Causes old new ended =
+    (ended ≢ Err faults.Read → new.reads ≡ old.reads) × (ended ≡ Err faults.Write → new.writes ≡ old.writes + 1) × (ended ≢ Err faults.Write → new.writes ≡ old.writes)
+
+-- ---- the link
 
 -- a link on these rows, or why there are none
 abbrev pub link_on : Setup → Result Rows Fault → Result Link Fault
 link_on setup (Err f) = Err f
-link_on setup (Ok rows) = Ok (record { setup = setup; rows = rows })
+link_on setup (Ok rows) = Ok (link_of setup rows)
 
 -- the link on the rows of a row file, which is read by the mode's shape
 abbrev pub link_in : Setup → List ℕ → Result Link Fault
 link_in setup text = link_on setup (rows_in (shape_in setup.mode) text)
-
--- What the file that a command reads behind the rows still gives, what stands in the file that it writes and in its output,
--- and how many reads and writes have failed.
-pub record Streams : Type 0 where
-  pub taken : Option (List ℕ)
-  pub given : Option (List ℕ)
-  pub out : Option (List ℕ)
-  pub reads : ℕ
-  pub writes : ℕ
 
 -- what a command does on a link
 abbrev pub Deed : Type 1
@@ -66,7 +79,4 @@ pub record OnLink (Does : Deed) (setup : Setup) (rows : Option (List ℕ)) (old 
   pub linked : IfSome rows (λ text. Follows (λ l. l) link (link_in setup text))
   pub setup_kept : IfOk link (λ l. l.setup ≡ setup)
   pub does : DoesOn Does link old new ended
-  -- the causes of a failed device
-  pub no_read : ended ≢ Err faults.Read → new.reads ≡ old.reads
-  pub write : ended ≡ Err faults.Write → new.writes ≡ old.writes + 1
-  pub no_write : ended ≢ Err faults.Write → new.writes ≡ old.writes
+  pub causes : Causes old new ended

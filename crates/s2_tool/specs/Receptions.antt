@@ -1,15 +1,16 @@
 -- What `demod` receives, writes and reports.
 use Rattle.std.specs.Prelude.{◌≡◌, ◌≢◌, ℕ, ◌+◌, Bool, if◌then◌else◌, List, Option, Result, Ok, Err}
+use Rattle.s2_mode.specs.Limits.{most_symbols}
+use Rattle.s2_mode.specs.Streams.{Streams}
+use Rattle.s2_link.specs.Tuning.{Tuning}
+use Rattle.s2_link.specs.declared.setup.Setup.{Setup}
 use Rattle.s2_receive.specs.Receiving.{Rules, State, begun, RunsTo, StopsAfter, BreaksAfter, Reaches}
-use Rattle.s2_receive.specs.Limits.{most_symbols}
-use Rattle.s2_modem.specs.Deciding.{Effort}
 use Rattle.s2_modem.specs.Reception.{link_rules}
-use Rattle.s2_modem.specs.declared.setup.Setup.{Setup}
-use Rattle.s2_tool.specs.declared.exit.Exit.{Exit}
-use Rattle.s2_tool.specs.declared.exit.Exit.TheVariants as exits
-use Rattle.s2_tool.specs.declared.fault.Fault.{Fault}
-use Rattle.s2_tool.specs.declared.fault.Fault.TheVariants as faults
-use Rattle.s2_tool.specs.Links.{Streams, Deed, OnLink}
+use Rattle.s2_console.specs.declared.exit.Exit.{Exit}
+use Rattle.s2_console.specs.declared.exit.Exit.TheVariants as exits
+use Rattle.s2_console.specs.declared.fault.Fault.{Fault}
+use Rattle.s2_console.specs.declared.fault.Fault.TheVariants as faults
+use Rattle.s2_tool.specs.Links.{Deed, OnLink}
 
 -- the exit of a stream that was received to its end, by whether all was well
 abbrev pub exit_by : Bool → Exit
@@ -29,9 +30,9 @@ Receives rules old new (Err faults.Write) = BreaksAfter rules begun old.taken ol
 Receives rules old new (Err f) = ⊥
 
 -- `demod` on a link: what a new receiver makes of the symbols
-abbrev pub Hears : Effort → Deed
-Hears effort link old new ended = Receives (link_rules link effort most_symbols) old new ended
+abbrev pub Hears : Tuning → Deed
+Hears tuning link old new ended = Receives (link_rules link tuning most_symbols) old new ended
 
--- `demod` on a setup, an effort and a row file
-abbrev pub Demodulates : Setup → Effort → Option (List ℕ) → Streams → Streams → Result Exit Fault → Type 0
-Demodulates setup effort rows old new ended = OnLink (Hears effort) setup rows old new ended
+-- `demod` on a setup, a tuning and a row file
+abbrev pub Demodulates : Setup → Tuning → Option (List ℕ) → Streams → Streams → Result Exit Fault → Type 0
+Demodulates setup tuning rows old new ended = OnLink (Hears tuning) setup rows old new ended

@@ -1,19 +1,21 @@
 -- What `mod` reads, sends and prints.
 use Rattle.std.specs.Prelude.{◌≡◌, ℕ, ◌+◌, List, ◌++◌, codes, decimal, Option, Result, Ok, Err, ◌⊎◌}
-use Rattle.std.specs.Io.KnownBytes.{Appends}
-use Rattle.s2_mode.specs.Pieces.{AppendsPart}
-use Rattle.s2_modem.specs.Limits.{most_packets}
-use Rattle.s2_modem.specs.Link.{Link, Transmitter}
-use Rattle.s2_modem.specs.Sending.{TransmitterRuns}
-use Rattle.s2_modem.specs.declared.send.outcome.Counts.{Counts}
-use Rattle.s2_modem.specs.declared.send.outcome.SendFault.{SendFault}
-use Rattle.s2_modem.specs.declared.send.outcome.SendFault.TheVariants as refusals
-use Rattle.s2_modem.specs.declared.setup.Setup.{Setup}
-use Rattle.s2_tool.specs.declared.exit.Exit.{Exit}
-use Rattle.s2_tool.specs.declared.exit.Exit.TheVariants as exits
-use Rattle.s2_tool.specs.declared.fault.Fault.{Fault}
-use Rattle.s2_tool.specs.declared.fault.Fault.TheVariants as faults
-use Rattle.s2_tool.specs.Links.{Streams, Deed, OnLink}
+use Rattle.s2_mode.specs.Streams.{Streams}
+use Rattle.s2_link.specs.Link.{Link}
+use Rattle.s2_link.specs.declared.setup.Setup.{Setup}
+use Rattle.s2_send.specs.FaultTexts.{send_fault_text}
+use Rattle.s2_send.specs.Limits.{most_packets}
+use Rattle.s2_send.specs.Sending.{TransmitterRuns}
+use Rattle.s2_send.specs.Transmitter.{Transmitter}
+use Rattle.s2_send.specs.declared.outcome.Counts.{Counts}
+use Rattle.s2_send.specs.declared.outcome.SendFault.{SendFault}
+use Rattle.s2_send.specs.declared.outcome.SendFault.TheVariants as refusals
+use Rattle.s2_console.specs.declared.exit.Exit.{Exit}
+use Rattle.s2_console.specs.declared.exit.Exit.TheVariants as exits
+use Rattle.s2_console.specs.declared.fault.Fault.{Fault}
+use Rattle.s2_console.specs.declared.fault.Fault.TheVariants as faults
+use Rattle.s2_console.specs.Exits.{Prints}
+use Rattle.s2_tool.specs.Links.{Deed, OnLink}
 
 abbrev pub sent_line : Counts → List ℕ
 sent_line counts = codes "packets " ++ decimal counts.packets ++ codes " frames " ++ decimal counts.frames ++ codes "\n"
@@ -21,29 +23,24 @@ sent_line counts = codes "packets " ++ decimal counts.packets ++ codes " frames 
 abbrev pub refusal_fault : SendFault → Fault
 refusal_fault refusals.Read = faults.Read
 refusal_fault refusals.Write = faults.Write
-refusal_fault refusals.NotWholePacket = faults.NotWholePacket
-refusal_fault (refusals.NoSync packet) = faults.NoSync packet
+refusal_fault refusal = faults.Told (codes "packets: " ++ send_fault_text refusal)
 
--- a whole run's line
-abbrev pub IsSent : Counts → Exit → List ℕ → Type 0
-IsSent counts exit text = (exit ≡ exits.Fine) × (text ≡ sent_line counts)
-
--- Of a whole run the line of its counts, all of it, or where the output failed a part. Of a refusal its fault, and nothing on
--- the output.
+-- Of a whole run the line of its counts is printed. Of a refusal its fault is told, and nothing is printed.
 abbrev pub Tells : Result Counts SendFault → Result Exit Fault → Option (List ℕ) → Option (List ℕ) → Type 0
-Tells (Ok counts) (Ok exit) old new = (exit ≡ exits.Fine) × Appends old new (sent_line counts)
-Tells (Ok counts) (Err faults.Write) old new = AppendsPart (sent_line counts) old new
-Tells (Ok counts) (Err f) old new = ⊥
+Tells (Ok counts) ended old new = Prints exits.Fine (sent_line counts) ended old new
 Tells (Err refusal) ended old new = (ended ≡ Err (refusal_fault refusal)) × (new ≡ old)
 
 -- a read failed, or as many packets were taken as a run takes at most
 abbrev pub MayFail : ℕ → Streams → Streams → ℕ → Type 0
 MayFail most old new packets = (new.reads ≡ old.reads + 1) ⊎ ((new.reads ≡ old.reads) × (packets ≡ most))
 
+-- a transmitter runs, and answers this
+abbrev pub Runs : Transmitter → Streams → Streams → Result Counts SendFault → Type 0
+Runs t old new answer = TransmitterRuns t.link t.limit (MayFail t.limit old new) old.taken new.taken old.given new.given answer
+
 -- a transmitter runs, and its answer is told
 abbrev pub SendsBy : Transmitter → Streams → Streams → Result Exit Fault → Type 0
-SendsBy t old new ended =
-    (answer : Result Counts SendFault) × TransmitterRuns t.link t.limit (MayFail t.limit old new) old.taken new.taken old.given new.given answer × Tells answer ended old.out new.out
+SendsBy t old new ended = (answer : Result Counts SendFault) × Runs t old new answer × Tells answer ended old.out new.out
 
 -- a new transmitter on a link
 abbrev pub transmitter_on : Link → Transmitter

@@ -4,27 +4,43 @@ use Rattle.clap.specs.Words.{kind_of}
 use Rattle.clap.specs.declared.error.Error.{Error}
 use Rattle.clap.specs.declared.error.kind.ErrorKind.{ErrorKind}
 use Rattle.clap.specs.declared.error.kind.ErrorKind.TheVariants as kinds
+use Rattle.s2_mode.specs.Mode.{mode_of}
 use Rattle.s2_mode.specs.Shape.{IsShape, Shape, shape_of}
-use Rattle.s2_modem.specs.Deciding.{effort_of}
-use Rattle.s2_modem.specs.Link.{Link}
-use Rattle.s2_modem.specs.declared.setup.Setup.{Setup}
-use Rattle.s2_tool.specs.declared.exit.Exit.{Exit}
-use Rattle.s2_tool.specs.declared.exit.Exit.TheVariants as exits
-use Rattle.s2_tool.specs.declared.fault.Fault.{Fault}
-use Rattle.s2_tool.specs.declared.fault.Fault.TheVariants as faults
-use Rattle.s2_tool.specs.declared.request.Request.{Request}
-use Rattle.s2_tool.specs.declared.request.Request.TheVariants as requests
-use Rattle.s2_tool.specs.declared.request.RowsWords.{RowsWords}
-use Rattle.s2_tool.specs.declared.request.ShapeWords.{ShapeWords}
-use Rattle.s2_tool.specs.Exits.{exit_of, CommandRuns, Complains}
-use Rattle.s2_tool.specs.Screens.{Screen}
-use Rattle.s2_tool.specs.Inputs.{AreInputs, IsRowFile, rows_made}
-use Rattle.s2_tool.specs.Judging.{IsJudged}
-use Rattle.s2_tool.specs.Checking.{IsAnswered}
-use Rattle.s2_tool.specs.Links.{asked_setup, Streams, Deed, DoesOn}
-use Rattle.s2_tool.specs.Sending.{IsSent}
+use Rattle.s2_mode.specs.Streams.{Streams}
+use Rattle.s2_link.specs.Limits.{default_rounds}
+use Rattle.s2_link.specs.Link.{Link}
+use Rattle.s2_link.specs.Tuning.{tuning_of}
+use Rattle.s2_link.specs.declared.setup.Setup.{Setup}
+use Rattle.s2_console.specs.declared.exit.Exit.{Exit}
+use Rattle.s2_console.specs.declared.exit.Exit.TheVariants as exits
+use Rattle.s2_console.specs.declared.fault.Fault.{Fault}
+use Rattle.s2_console.specs.declared.fault.Fault.TheVariants as faults
+use Rattle.s2_console.specs.Exits.{exit_of, CommandRuns, Complains}
+use Rattle.s2_console.specs.Screens.{Screen}
+use Rattle.s2_words.specs.declared.request.Request.{Request}
+use Rattle.s2_words.specs.declared.request.Request.TheVariants as requests
+use Rattle.s2_words.specs.declared.request.LinkWords.{LinkWords}
+use Rattle.s2_words.specs.declared.request.RowsWords.{RowsWords}
+use Rattle.s2_words.specs.declared.request.ShapeWords.{ShapeWords}
+use Rattle.s2_evidence.specs.Inputs.{AreInputs}
+use Rattle.s2_evidence.specs.Judging.{IsJudged}
+use Rattle.s2_evidence.specs.Checking.{IsAnswered}
+use Rattle.s2_tool.specs.Links.{Deed, DoesOn}
+use Rattle.s2_tool.specs.Making.{IsRowFile, rows_made}
+use Rattle.s2_tool.specs.Sending.{Sends}
 use Rattle.s2_tool.specs.Receptions.{Hears}
 use Rattle.s2_tool.specs.Looping.{Loops}
+
+-- the faults of words that no shape and no mode has
+abbrev pub no_shape : Fault
+no_shape = faults.Told (codes "no such shape")
+
+abbrev pub no_mode : Fault
+no_mode = faults.Told (codes "no such mode")
+
+-- the setup that words ask for
+abbrev pub asked_setup : LinkWords → Setup
+asked_setup words = record { mode = mode_of words.modcod words.short words.pilots; number = words.number; roll_off = words.roll_off }
 
 abbrev pub asked_shape : ShapeWords → Shape
 asked_shape words = shape_of words.group words.groups words.q
@@ -33,13 +49,13 @@ asked_shape words = shape_of words.group words.groups words.q
 abbrev pub AreAskedRows : RowsWords → Result (List (List ℕ)) Fault → Type 0
 AreAskedRows words said =
     (IsShape (asked_shape words.shape) × (rows_made (asked_shape words.shape) words.weight words.seed ≡ said))
-    ⊎ ((IsShape (asked_shape words.shape) → ⊥) × (said ≡ Err faults.Shape))
+    ⊎ ((IsShape (asked_shape words.shape) → ⊥) × (said ≡ Err no_shape))
 
 -- what stands in files that a request names: anything, since no contract can say what a file gives
 abbrev pub Anything : {I : Type 0} → Result I Fault → Type 0
 Anything said = ⊤
 
--- The output of a command that reports as it goes, on some link of this setup, for some of what its files hold. Where it could
+-- The output of a command on some link of this setup, for some of what its files hold. Where it could
 -- not be begun nothing is printed.
 pub record Reports (Does : Deed) (setup : Setup) (ended : Result Exit Fault) (old new : Option (List ℕ)) : Type 0 where
   pub link : Result Link Fault
@@ -54,14 +70,14 @@ pub record Reports (Does : Deed) (setup : Setup) (ended : Result Exit Fault) (ol
 -- One that names files prints what their command says of some rows, soft values, certificate, packets or symbols; where a file
 -- cannot be opened, nothing.
 abbrev pub Serves : Request → Option (List ℕ) → Result Exit Fault → Option (List ℕ) → Option (List ℕ) → Type 0
-Serves requests.Own input ended old new = CommandRuns (IsJudged 0) (AreInputs (shape_of 4 2 3) (Some (codes "0 4 8\n0 1 2\n")) input) ended old new
+Serves requests.Own input ended old new = CommandRuns (IsJudged (tuning_of default_rounds 0)) (AreInputs (shape_of 4 2 3) (Some (codes "0 4 8\n0 1 2\n")) input) ended old new
 Serves (requests.Rows words) input ended old new = CommandRuns IsRowFile (AreAskedRows words) ended old new
-Serves (requests.Judge words) input ended old new = CommandRuns (IsJudged words.passes) Anything ended old new
+Serves (requests.Judge words) input ended old new = CommandRuns (IsJudged words.tuning) Anything ended old new
 Serves (requests.Check words) input ended old new = CommandRuns IsAnswered Anything ended old new
-Serves (requests.Mod words) input ended old new = CommandRuns IsSent Anything ended old new
+Serves (requests.Mod words) input ended old new = Reports Sends (asked_setup words.link) ended old new
 Serves (requests.Noise words) input ended old new = new ≡ old
-Serves (requests.Demod words) input ended old new = Reports (Hears (effort_of words.effort.rounds words.effort.passes)) (asked_setup words.link) ended old new
-Serves (requests.Run words) input ended old new = Reports (Loops (effort_of words.effort.rounds words.effort.passes) words.seed words.level) (asked_setup words.link) ended old new
+Serves (requests.Demod words) input ended old new = Reports (Hears words.tuning) (asked_setup words.link) ended old new
+Serves (requests.Run words) input ended old new = Reports (Loops words.tuning words.channel) (asked_setup words.link) ended old new
 
 -- a request was served with this exit: how it ended decides the exit, the output and the errors
 pub record Served (request : Request) (input : Option (List ℕ)) (exit : Exit) (old new : Screen) : Type 0 where

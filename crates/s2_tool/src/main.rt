@@ -3,49 +3,33 @@
 
 ghost use Rattle.std.specs.Prelude.{◌≡◌, ◌≢◌, IsErr};
 ghost use Rattle.clap.specs.Words.{kind_of};
-ghost use Rattle.s2_tool.specs.Counting.{CanCount};
-ghost use Rattle.s2_tool.specs.Screens.{CanShow};
+ghost use Rattle.s2_mode.specs.Counts.{CanCount};
+ghost use Rattle.s2_console.specs.Screens.{CanShow};
 ghost use Rattle.s2_tool.specs.Serving.{Answers, IsExplained, SomeServed};
 
-mod certify;
-mod check;
-mod console;
-mod effort;
-mod exit;
-mod fault;
-mod files;
-mod judge;
-mod lines;
-mod link;
-mod loopback;
+mod demod;
+mod link_files;
+mod modulate;
 mod noise;
 mod opening;
-mod receive;
-mod request;
 mod rows;
-mod scrambling;
-mod send;
+mod run;
 mod serve;
-mod words;
-mod writing;
 
 use clap::Error;
 use clap::error::ErrorKind;
-use console::Console;
-use exit::Exit;
-use fault::Fault;
-use request::Request;
+use s2_console::{Console, Exit, Fault};
 use s2_mode::{CountedRead, CountedWrite, Counting};
+use s2_words::{Request, read_words};
 use serve::serve;
 use std::env;
 use std::process::ExitCode;
 use std::rt::{Env, Files};
-use words::read_words;
 
 fn main(rt: HostRuntime) -> ExitCode {
     let output = Counting::new(rt.stdout());
     let errors = Counting::new(rt.stderr());
-    run(
+    serve_words(
         &rt,
         &mut Counting::new(rt.stdin()),
         &mut Console::new(output, errors),
@@ -58,7 +42,7 @@ fn words_given<R: Env + AllocGlobal>(rt: &R) -> Option<Vec<String>> {
 }
 
 /// Reads the words and serves what they ask for. Help and usage faults are printed by themselves.
-fn run<
+fn serve_words<
     R: Env + Files + Print + Eprint + AllocGlobal,
     S: CountedRead,
     O: CountedWrite,
@@ -105,6 +89,3 @@ fn explain<R: Print + Eprint>(rt: &R, error: &Error) -> Exit
         _ => Exit::Fault,
     }
 }
-
-#[cfg(test)]
-mod tests;

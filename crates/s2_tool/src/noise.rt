@@ -1,31 +1,27 @@
-//! Symbols spoilt.
-ghost use Rattle.std.specs.Prelude.{◌≡◌, ◌≢◌, ◌+◌, Result, Err};
-ghost use Rattle.s2_tool.specs.Counting.{CanCount};
-ghost use Rattle.s2_tool.specs.Exits.{exit_of, Complains};
-ghost use Rattle.s2_tool.specs.Spoiling.{Spoils, MayRead};
+//! `noise`: symbols spoilt.
+ghost use Rattle.std.specs.Prelude.{◌≡◌, ◌≢◌, Result};
+ghost use Rattle.s2_mode.specs.Counts.{CanCount};
+ghost use Rattle.s2_console.specs.Exits.{exit_of, Complains};
+ghost use Rattle.s2_tool.specs.Spoiling.{piped, Spoils};
 
-use crate::console::Console;
-use crate::exit::Exit;
-use crate::fault::Fault;
-use s2_channel::{Noise, StreamFault, add_to_all};
-use s2_mode::{CountedRead, CountedWrite};
+use s2_channel::{Noise, add_to_all};
+use s2_console::{Console, Exit, Fault};
+use s2_mode::{CountedRead, CountedWrite, StreamFault};
+use s2_words::ChannelWords;
 
 /// Writes the symbols of a reader with noise.
 pub(crate) fn spoil<R: CountedRead, W: CountedWrite>(
-    seed: u64,
-    level: u16,
+    channel: ChannelWords,
     from: &mut R,
     to: &mut W,
 ) -> Result<Exit, Fault<'static>>
     requires from { CanCount (R.count from.old) }
     requires to { CanCount (W.count to.old) }
-    ensures spoils { Spoils seed level (R.remaining from.old) result (W.contents to.old) (W.contents to.new) }
-    ensures read { result ≡ Err Fault.Read → MayRead (R.remaining from.old) (R.count from.old) (R.count from.new) }
-    ensures no_read { result ≢ Err Fault.Read → R.count from.new ≡ R.count from.old }
-    ensures write { result ≡ Err Fault.Write → W.count to.new ≡ W.count to.old + 1 }
-    ensures no_write { result ≢ Err Fault.Write → W.count to.new ≡ W.count to.old }
+    ensures { Spoils channel (piped (R.remaining from.old) (W.contents to.old) (R.count from.old) (W.count to.old))
+        (piped (R.remaining from.new) (W.contents to.new) (R.count from.new) (W.count to.new))
+        result }
 {
-    let mut noise = Noise::new(seed, level);
+    let mut noise = Noise::new(channel.seed, channel.level);
     match add_to_all(&mut noise, from, to) {
         Ok(()) => Ok(Exit::Fine),
         Err(StreamFault::Read) => Err(Fault::Read),
@@ -36,8 +32,7 @@ pub(crate) fn spoil<R: CountedRead, W: CountedWrite>(
 /// `noise`: writes the symbols of a reader with the noise that a seed and a level determine. It prints
 /// nothing. One to three bytes that are left over at the end are dropped.
 pub fn noise_command<R: CountedRead, W: CountedWrite, O: CountedWrite, E: CountedWrite>(
-    seed: u64,
-    level: u16,
+    channel: ChannelWords,
     from: &mut R,
     to: &mut W,
     console: &mut Console<O, E>,
@@ -49,13 +44,11 @@ pub fn noise_command<R: CountedRead, W: CountedWrite, O: CountedWrite, E: Counte
     ensures output { console.new.output ≡ console.old.output }
     ensures whole { console.new.output_failed ≡ console.old.output_failed }
     ensures run { (ended : Result Exit Fault) × (result ≡ exit_of ended)
-        × Spoils seed level (R.remaining from.old) ended (W.contents to.old) (W.contents to.new)
-        × (ended ≡ Err Fault.Read → MayRead (R.remaining from.old) (R.count from.old) (R.count from.new))
-        × (ended ≢ Err Fault.Read → R.count from.new ≡ R.count from.old)
-        × (ended ≡ Err Fault.Write → W.count to.new ≡ W.count to.old + 1)
-        × (ended ≢ Err Fault.Write → W.count to.new ≡ W.count to.old)
+        × Spoils channel (piped (R.remaining from.old) (W.contents to.old) (R.count from.old) (W.count to.old))
+        (piped (R.remaining from.new) (W.contents to.new) (R.count from.new) (W.count to.new))
+        ended
         × Complains ended console.old console.new }
 {
-    let ended = spoil(seed, level, from, to);
+    let ended = spoil(channel, from, to);
     console.conclude(ended)
 }

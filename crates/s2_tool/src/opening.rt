@@ -1,17 +1,22 @@
 //! Files opened.
-ghost use Rattle.std.specs.Prelude.{◌≡◌, ◌⊎◌, IfOk, IfErr};
+ghost use Rattle.std.specs.Prelude.{◌≡◌, ◌⊎◌, IfOk, IfErr, IfSome, Some};
+ghost use Rattle.s2_tool.specs.Links.{NoneFailed};
 
-use crate::fault::Fault;
+use crate::link_files::LinkFiles;
+use s2_console::Fault;
 use s2_mode::Counting;
 use std::fs;
 use std::io::{BufReader, BufWriter};
 use std::rt::Files;
 
-/// Opens a file that is read, behind a buffer and with its failed calls counted.
+/// A file that is read, behind a buffer and with its failed calls counted.
+type Reader<F> = Counting<BufReader<F>>;
+
+/// Opens a file that is read.
 pub(crate) fn open<'a, R: Files + AllocGlobal>(
     rt: &R,
     name: &'a str,
-) -> Result<Counting<BufReader<R::File>>, Fault<'a>>
+) -> Result<Reader<R::File>, Fault<'a>>
     ensures fresh { IfOk result (λ file. file.failed ≡ 0) }
     ensures fault { IfErr result (λ fault. (fault ≡ Fault.Open name.entry) ⊎ (fault ≡ Fault.NoMemory)) }
 {
@@ -23,9 +28,6 @@ pub(crate) fn open<'a, R: Files + AllocGlobal>(
     };
     Ok(Counting::new(buffered))
 }
-
-/// A file that is read, behind a buffer and with its failed calls counted.
-type Reader<F> = Counting<BufReader<F>>;
 
 /// Opens two files that are read, the first one first.
 pub(crate) fn open_both<'a, R: Files + AllocGlobal>(
@@ -41,28 +43,28 @@ pub(crate) fn open_both<'a, R: Files + AllocGlobal>(
     Ok((first, open(rt, second)?))
 }
 
-/// The same without a buffer, for who reads many bytes at a time.
-pub(crate) fn open_unbuffered<'a, R: Files>(
-    rt: &R,
-    name: &'a str,
-) -> Result<Counting<R::File>, Fault<'a>>
-    ensures fresh { IfOk result (λ file. file.failed ≡ 0) }
-    ensures fault { IfErr result (λ fault. fault ≡ Fault.Open name.entry) }
-{
-    match fs::open(rt, name) {
-        Ok(file) => Ok(Counting::new(file)),
-        Err(_) => Err(Fault::Open(name)),
-    }
-}
-
 /// Makes a file that is written, or empties it, with its failed calls counted.
-pub(crate) fn create<'a, R: Files>(rt: &R, name: &'a str) -> Result<Counting<R::File>, Fault<'a>>
+fn create<'a, R: Files>(rt: &R, name: &'a str) -> Result<Counting<R::File>, Fault<'a>>
     ensures fresh { IfOk result (λ file. file.failed ≡ 0) }
     ensures fault { IfErr result (λ fault. fault ≡ Fault.Open name.entry) }
 {
     match fs::create(rt, name) {
         Ok(file) => Ok(Counting::new(file)),
         Err(_) => Err(Fault::Open(name)),
+    }
+}
+
+/// The same where a name is given.
+pub(crate) fn create_named<'a, R: Files>(
+    rt: &R,
+    name: Option<&'a str>,
+) -> Result<Option<Counting<R::File>>, Fault<'a>>
+    ensures fresh { IfOk result (λ made. IfSome made (λ file. file.failed ≡ 0)) }
+    ensures fault { IfErr result (λ fault. IfSome name.entry (λ given. fault ≡ Fault.Open given)) }
+{
+    match name {
+        Some(name) => Ok(Some(create(rt, name)?)),
+        None => Ok(None),
     }
 }
 
@@ -81,4 +83,43 @@ pub(crate) fn create_buffered<'a, R: Files + AllocGlobal>(
         return Err(Fault::NoMemory);
     };
     Ok(Counting::new(buffered))
+}
+
+/// Opens the files of a command on a link: the row file, then the one that is read behind it. The one that is
+/// written is made once both are open.
+pub(crate) fn open_link<'a, R: Files + AllocGlobal>(
+    rt: &R,
+    rows: &'a str,
+    from: &'a str,
+    to: &'a str,
+) -> Result<LinkFiles<Reader<R::File>, Reader<R::File>, Counting<R::File>>, Fault<'a>>
+    ensures fresh { IfOk result NoneFailed }
+    ensures fault { IfErr result (λ fault. (fault ≡ Fault.Open rows.entry) ⊎ ((fault ≡ Fault.Open from.entry) ⊎ ((fault ≡ Fault.Open to.entry) ⊎ (fault ≡ Fault.NoMemory)))) }
+{
+    let rows = open(rt, rows)?;
+    let from = open(rt, from)?;
+    let to = create(rt, to)?;
+    Ok(LinkFiles { rows, from, to })
+}
+
+/// The same for who reads many bytes of the second file at a time, which has no buffer.
+pub(crate) fn open_whole<'a, R: Files + AllocGlobal>(
+    rt: &R,
+    rows: &'a str,
+    from: &'a str,
+    to: &'a str,
+) -> Result<LinkFiles<Reader<R::File>, Counting<R::File>, Counting<R::File>>, Fault<'a>>
+    ensures fresh { IfOk result NoneFailed }
+    ensures fault { IfErr result (λ fault. (fault ≡ Fault.Open rows.entry) ⊎ ((fault ≡ Fault.Open from.entry) ⊎ ((fault ≡ Fault.Open to.entry) ⊎ (fault ≡ Fault.NoMemory)))) }
+{
+    let rows = open(rt, rows)?;
+    let Ok(file) = fs::open(rt, from) else {
+        return Err(Fault::Open(from));
+    };
+    let to = create(rt, to)?;
+    Ok(LinkFiles {
+        rows,
+        from: Counting::new(file),
+        to,
+    })
 }

@@ -1,44 +1,47 @@
-//! Rows made.
-ghost use Rattle.std.specs.Prelude.{◌≡◌, ◌≢◌, IsOk, Result, Err};
-ghost use Rattle.s2_tool.specs.Counting.{CanCount};
-ghost use Rattle.s2_tool.specs.Screens.{CanShow};
-ghost use Rattle.s2_tool.specs.Exits.{exit_of, CommandAnswers, CommandRuns, CommandCounts, Complains};
-ghost use Rattle.s2_tool.specs.Inputs.{IsRowFile, AreMadeRows};
+//! `rows`: rows made.
+ghost use Rattle.std.specs.Prelude.{◌≡◌, ◌≢◌, Result, Err, IfOk, IsOk, IsOkUnless};
+ghost use Rattle.s2_mode.specs.Counts.{CanCount};
+ghost use Rattle.s2_rows.specs.RowTexts.{rows_text};
+ghost use Rattle.s2_console.specs.Exits.{exit_of, Complains, Follows, CommandRuns, CommandCounts};
+ghost use Rattle.s2_console.specs.Screens.{CanShow};
+ghost use Rattle.s2_tool.specs.Making.{rows_made, AreMadeRows, IsRowFile};
 
-use crate::console::{Console, Printed};
-use crate::exit::Exit;
-use crate::fault::Fault;
+use s2_console::{Console, Exit, Fault, print};
 use s2_mode::{CountedWrite, Counting, Shape};
-use s2_rows::{MakeFault, make_rows, write_rows};
+use s2_rows::{MakeFault, Rows, make_rows, write_rows};
 use std::alloc::Global;
 
-/// Makes rows, and their row file.
-fn row_file(
+/// The row file of made rows.
+fn row_file(alloc: Global, rows: &Rows) -> Result<Vec<u8>, Fault<'static>>
+    ensures text { IfOk result (λ text. text.items ≡ rows_text rows.now.rows) }
+    ensures memory { IsOkUnless result Fault.NoMemory }
+{
+    let mut text = Counting::new(Vec::new(alloc));
+    match write_rows(rows, &mut text) {
+        Ok(()) => Ok(text.into_inner()),
+        Err(_) => Err(Fault::NoMemory),
+    }
+}
+
+/// Makes rows.
+fn made_rows(
     alloc: Global,
     shape: Shape,
     weight: usize,
     seed: u64,
-) -> Result<Printed, Fault<'static>>
-    ensures answers { CommandAnswers IsRowFile (AreMadeRows shape weight seed) result }
+) -> Result<Rows, Fault<'static>>
+    ensures made { Follows (λ rows. rows.rows) result (rows_made shape weight seed) }
     ensures read { result ≢ Err Fault.Read }
     ensures write { result ≢ Err Fault.Write }
 {
-    let rows = match make_rows(alloc, shape, weight, seed) {
-        Ok(rows) => rows,
-        Err(MakeFault::BadWeight) => return Err(Fault::Weight),
-        Err(MakeFault::NoMemory) => return Err(Fault::NoMemory),
-    };
-    let mut text = Counting::new(Vec::new(alloc));
-    let Ok(()) = write_rows(&rows, &mut text) else {
-        return Err(Fault::NoMemory);
-    };
-    Ok(Printed {
-        exit: Exit::Fine,
-        text: text.into_inner(),
-    })
+    match make_rows(alloc, shape, weight, seed) {
+        Ok(rows) => Ok(rows),
+        Err(MakeFault::NoMemory) => Err(Fault::NoMemory),
+        Err(fault) => Err(Fault::told(fault.text())),
+    }
 }
 
-/// Makes rows, and prints their row file.
+/// Makes rows, and prints their row file, whole and at once.
 fn print_rows<O: CountedWrite>(
     alloc: Global,
     shape: Shape,
@@ -51,7 +54,9 @@ fn print_rows<O: CountedWrite>(
     ensures run { CommandRuns IsRowFile (AreMadeRows shape weight seed) result (O.contents out.old) (O.contents out.new) }
     ensures causes { CommandCounts result 0 0 (O.count out.old) (O.count out.new) }
 {
-    row_file(alloc, shape, weight, seed)?.print(out)
+    let rows = made_rows(alloc, shape, weight, seed)?;
+    let text = row_file(alloc, &rows)?;
+    print(out, Exit::Fine, &text)
 }
 
 /// `rows`: prints the row file that a shape, a weight and a seed determine.

@@ -1,31 +1,29 @@
 //! The commands on the files and streams that their words name.
 ghost use Rattle.std.specs.Prelude.{◌≡◌, ◌↔◌, None, IsSome, IfSome};
+ghost use Rattle.s2_mode.specs.Counts.{CanCount};
 ghost use Rattle.s2_mode.specs.Mode.{IsMode, mode_of};
 ghost use Rattle.s2_mode.specs.Shape.{IsShape};
 ghost use Rattle.s2_mode.specs.Shape as shapes;
-ghost use Rattle.s2_tool.specs.Counting.{CanCount};
-ghost use Rattle.s2_tool.specs.Screens.{CanShow};
-ghost use Rattle.s2_tool.specs.Links as links;
-ghost use Rattle.s2_tool.specs.Serving.{Served, Began};
+ghost use Rattle.s2_link.specs.Link as links;
+ghost use Rattle.s2_console.specs.Screens.{CanShow};
+ghost use Rattle.s2_tool.specs.Serving.{asked_setup, no_mode, no_shape, Served, Began};
 
-use crate::certify::certify_command;
-use crate::check::check_command;
-use crate::console::Console;
-use crate::exit::Exit;
-use crate::fault::Fault;
-use crate::judge::{judge_command, self_command};
-use crate::link::LinkSetup;
-use crate::loopback::run_command;
+use crate::demod::demod_command;
+use crate::modulate::mod_command;
 use crate::noise::noise_command;
-use crate::opening::{create, create_buffered, open, open_both, open_unbuffered};
-use crate::receive::demod_command;
-use crate::request::{
+use crate::opening::{
+    create_buffered, create_named, open, open_both, open_link, open_whole,
+};
+use crate::rows::rows_command;
+use crate::run::run_command;
+use s2_console::{Console, Exit, Fault};
+use s2_evidence::{CheckFiles, JudgeFiles, check_command, judge_command, self_command};
+use s2_link::LinkSetup;
+use s2_mode::{CountedRead, CountedWrite, FaultText, Mode, Shape};
+use s2_words::{
     CheckWords, DemodWords, JudgeWords, LinkWords, ModWords, NoiseWords, Request, RowsWords,
     RunWords, ShapeWords,
 };
-use crate::rows::rows_command;
-use crate::send::mod_command;
-use s2_mode::{CountedRead, CountedWrite, Mode, Shape};
 use std::io::Write;
 use std::rt::Files;
 
@@ -45,7 +43,7 @@ fn shape_of(words: ShapeWords) -> Option<Shape>
 fn setup_of(words: LinkWords) -> Option<LinkSetup>
     ensures found { IsSome result ↔ IsMode (mode_of words.modcod words.short words.pilots) }
     ensures value { IfSome result (λ s. s ≡ record { mode = mode_of words.modcod words.short words.pilots; number = words.number; roll_off = words.roll_off }) }
-    ensures setup { IfSome result (λ s. links.setup_of s ≡ links.asked_setup words) }
+    ensures setup { IfSome result (λ s. links.setup_of s ≡ asked_setup words) }
 {
     Some(LinkSetup {
         mode: Mode::of(words.modcod, words.short, words.pilots)?,
@@ -81,6 +79,20 @@ pub fn serve<R: Files + AllocGlobal, S: CountedRead, O: CountedWrite, E: Counted
     }
 }
 
+/// The fault of a shape that there is not.
+fn no_shape() -> Fault<'static>
+    ensures { result ≡ no_shape }
+{
+    Fault::told(FaultText::of("no such shape"))
+}
+
+/// The fault of a mode that there is not.
+fn no_mode() -> Fault<'static>
+    ensures { result ≡ no_mode }
+{
+    Fault::told(FaultText::of("no such mode"))
+}
+
 /// Prints made rows.
 fn serve_rows<R: AllocGlobal, O: CountedWrite, E: CountedWrite>(
     rt: &R,
@@ -91,7 +103,7 @@ fn serve_rows<R: AllocGlobal, O: CountedWrite, E: CountedWrite>(
     ensures { Began (Request.Rows words) None result console.old console.new }
 {
     let Some(shape) = shape_of(words.shape) else {
-        return Err(Fault::Shape);
+        return Err(no_shape());
     };
     let weight = usize::from(words.weight);
     Ok(rows_command(rt.alloc(), shape, weight, words.seed, console))
@@ -107,55 +119,17 @@ fn serve_judge<'a, R: Files + AllocGlobal, O: CountedWrite, E: CountedWrite>(
     ensures { Began (Request.Judge words.entry) None result console.old console.new }
 {
     let Some(shape) = shape_of(words.shape) else {
-        return Err(Fault::Shape);
+        return Err(no_shape());
     };
-    match words.certificate {
-        Some(name) => serve_certify(rt, shape, name, words, console),
-        None => serve_verdict(rt, shape, words, console),
-    }
-}
-
-fn serve_verdict<'a, R: Files + AllocGlobal, O: CountedWrite, E: CountedWrite>(
-    rt: &R,
-    shape: Shape,
-    words: JudgeWords<'a>,
-    console: &mut Console<O, E>,
-) -> Result<Exit, Fault<'a>>
-    requires { CanShow console.old }
-    ensures { Began (Request.Judge words.entry) None result console.old console.new }
-{
-    let (mut rows, mut soft) = open_both(rt, words.rows, words.soft)?;
-    Ok(judge_command(
-        rt.alloc(),
-        shape,
-        words.passes,
-        &mut rows,
-        &mut soft,
-        console,
-    ))
-}
-
-fn serve_certify<'a, R: Files + AllocGlobal, O: CountedWrite, E: CountedWrite>(
-    rt: &R,
-    shape: Shape,
-    certificate: &'a str,
-    words: JudgeWords<'a>,
-    console: &mut Console<O, E>,
-) -> Result<Exit, Fault<'a>>
-    requires { CanShow console.old }
-    ensures { Began (Request.Judge words.entry) None result console.old console.new }
-{
-    let mut certificate = create(rt, certificate)?;
-    let (mut rows, mut soft) = open_both(rt, words.rows, words.soft)?;
-    Ok(certify_command(
-        rt.alloc(),
-        shape,
-        words.passes,
-        &mut rows,
-        &mut soft,
-        &mut certificate,
-        console,
-    ))
+    let certificate = create_named(rt, words.certificate)?;
+    let (rows, soft) = open_both(rt, words.rows, words.soft)?;
+    let mut files = JudgeFiles {
+        rows,
+        soft,
+        certificate,
+    };
+    let tuning = words.tuning;
+    Ok(judge_command(rt.alloc(), shape, tuning, &mut files, console))
 }
 
 /// Checks a certificate.
@@ -167,8 +141,9 @@ fn serve_check<'a, R: Files + AllocGlobal, O: CountedWrite, E: CountedWrite>(
     requires { CanShow console.old }
     ensures { Began (Request.Check words.entry) None result console.old console.new }
 {
-    let (mut rows, mut certificate) = open_both(rt, words.rows, words.certificate)?;
-    Ok(check_command(rt.alloc(), &mut rows, &mut certificate, console))
+    let (rows, certificate) = open_both(rt, words.rows, words.certificate)?;
+    let mut files = CheckFiles { rows, certificate };
+    Ok(check_command(rt.alloc(), &mut files, console))
 }
 
 /// Sends packets. The symbol file is made once the others are open.
@@ -180,19 +155,11 @@ fn serve_mod<'a, R: Files + AllocGlobal, O: CountedWrite, E: CountedWrite>(
     requires { CanShow console.old }
     ensures { Began (Request.Mod words.entry) None result console.old console.new }
 {
-    let Some(link) = setup_of(words.link) else {
-        return Err(Fault::Mode);
+    let Some(setup) = setup_of(words.link) else {
+        return Err(no_mode());
     };
-    let (mut rows, mut packets) = open_both(rt, words.rows, words.packets)?;
-    let mut symbols = create(rt, words.symbols)?;
-    Ok(mod_command(
-        rt.alloc(),
-        link,
-        &mut rows,
-        &mut packets,
-        &mut symbols,
-        console,
-    ))
+    let mut files = open_link(rt, words.rows, words.packets, words.symbols)?;
+    Ok(mod_command(rt.alloc(), setup, &mut files, console))
 }
 
 /// Adds noise to symbols. What its buffer still holds at the end is written before the command has
@@ -207,7 +174,7 @@ fn serve_noise<'a, R: Files + AllocGlobal, O: CountedWrite, E: CountedWrite>(
 {
     let mut from = open(rt, words.from)?;
     let mut to = create_buffered(rt, words.to)?;
-    let exit = noise_command(words.seed, words.level, &mut from, &mut to, console);
+    let exit = noise_command(words.channel, &mut from, &mut to, console);
     if exit == Exit::Fine && to.into_inner().flush().is_err() {
         return Err(Fault::Write);
     }
@@ -223,21 +190,12 @@ fn serve_demod<'a, R: Files + AllocGlobal, O: CountedWrite, E: CountedWrite>(
     requires { CanShow console.old }
     ensures { Began (Request.Demod words.entry) None result console.old console.new }
 {
-    let Some(link) = setup_of(words.link) else {
-        return Err(Fault::Mode);
+    let Some(setup) = setup_of(words.link) else {
+        return Err(no_mode());
     };
-    let mut rows = open(rt, words.rows)?;
-    let mut symbols = open_unbuffered(rt, words.symbols)?;
-    let mut packets = create(rt, words.packets)?;
-    Ok(demod_command(
-        rt.alloc(),
-        link,
-        words.effort,
-        &mut rows,
-        &mut symbols,
-        &mut packets,
-        console,
-    ))
+    let mut files = open_whole(rt, words.rows, words.symbols, words.packets)?;
+    let tuning = words.tuning;
+    Ok(demod_command(rt.alloc(), setup, tuning, &mut files, console))
 }
 
 /// Sends, spoils and receives packets. The file of what is received is made once the others are open.
@@ -249,20 +207,16 @@ fn serve_run<'a, R: Files + AllocGlobal, O: CountedWrite, E: CountedWrite>(
     requires { CanShow console.old }
     ensures { Began (Request.Run words.entry) None result console.old console.new }
 {
-    let Some(link) = setup_of(words.link) else {
-        return Err(Fault::Mode);
+    let Some(setup) = setup_of(words.link) else {
+        return Err(no_mode());
     };
-    let (mut rows, mut packets) = open_both(rt, words.rows, words.packets)?;
-    let mut to = create(rt, words.to)?;
+    let mut files = open_link(rt, words.rows, words.packets, words.to)?;
     Ok(run_command(
         rt.alloc(),
-        link,
-        words.effort,
-        words.seed,
-        words.level,
-        &mut rows,
-        &mut packets,
-        &mut to,
+        setup,
+        words.tuning,
+        words.channel,
+        &mut files,
         console,
     ))
 }

@@ -1,65 +1,70 @@
-use Rattle.std.proofs.Common.{◌≡◌, ◌*◌, length, ap, sym, ◌∙◌, arith}
-use Rattle.std.proofs.lemmas.List.{length-take-le}
+use Rattle.std.proofs.Common.{◌≡◌, ◌+◌, ◌*◌, ◌≤◌, List, length, ap, sym, subst, ◌∙◌, arith}
+use Rattle.std.proofs.Math.Nat.{mul-le-mul_right}
 use Rattle.s2_mode.specs.Shape.{Shape}
-use Rattle.s2_minsum.specs.Layout.{entry_count, first_row, lacked_row}
+use Rattle.s2_rows.specs.Rows.{Rows}
+use Rattle.s2_minsum.specs.declared.rows.Entry.{Entry}
+use Rattle.s2_minsum.specs.Layout.{entries_of, entry_count, first_row, lacked_row}
+use Rattle.s2_minsum.specs.Decoding.{AreFit}
 use Rattle.s2_minsum.proofs.FirstRows.{lanes_before}
-use Rattle.s2_minsum.proofs.LayerCalls.{entries_part, gives, are_in, length-entries_part}
+use Rattle.s2_minsum.proofs.Starts.{rows_few}
+use Rattle.s2_minsum.proofs.LayerCalls.{gives, are_in, length-entries}
 use Rattle.s2_minsum.proofs.one_layer.run_layer.Goals as goal
 
-pub slice_bounds-run-end-2 : goal.slice_bounds-run-end-2
-slice_bounds-run-end-2 c =
+pub overflow_add-at : goal.overflow_add-at
+overflow_add-at c =
     let rows = c.args.matrix.now in
     let n = c.group-n.result in
     let all = first_row rows rows.shape.q in
     let g = c.group-n.ensures.is ∙ ap (λ (s : Shape). s.group) c.shape-shape.ensures.is in
-    let lanes = lanes_before rows c.args.r n c.find_span-span.result.start c.find_span-span.result.count c.requires.layer c.find_span-span.ensures.start c.find_span-span.ensures.count in
+    let fit = subst AreFit c.requires.layers c.entries-entries.ensures.fit in
+    let start = c.first.ensures.is ∙ ap (λ (x : Rows). first_row x c.args.r) c.requires.layers in
+    let es_is = c.entries-entries.ensures.are ∙ ap (λ (x : Rows). entries_of x c.args.r) c.requires.layers in
+    let count = ap (λ (es : List Entry). length es) es_is ∙ length-entries rows c.args.r in
+    let lanes = lanes_before rows c.args.r n c.first.result (length c.entries-entries.result.now) c.requires.layer start count in
+    let few : all * n ≤ 4199040000 * n = mul-le-mul_right n (rows_few rows fit.shaped) in
+    record { fits = omega (arith, lanes, few, g, fit.shaped.group_most) }
+
+pub slice_bounds-run-end : goal.slice_bounds-run-end
+slice_bounds-run-end c =
+    let rows = c.args.matrix.now in
+    let n = c.group-n.result in
+    let all = first_row rows rows.shape.q in
+    let g = c.group-n.ensures.is ∙ ap (λ (s : Shape). s.group) c.shape-shape.ensures.is in
+    let start = c.first.ensures.is ∙ ap (λ (x : Rows). first_row x c.args.r) c.requires.layers in
+    let es_is = c.entries-entries.ensures.are ∙ ap (λ (x : Rows). entries_of x c.args.r) c.requires.layers in
+    let count = ap (λ (es : List Entry). length es) es_is ∙ length-entries rows c.args.r in
+    let lanes = lanes_before rows c.args.r n c.first.result (length c.entries-entries.result.now) c.requires.layer start count in
     let product : all * n ≡ all * rows.shape.group = ap (λ x. all * x) g in
     omega (arith, lanes, product, c.requires.numbers.messages_long)
 
-pub slice_bounds-run-end-3 : goal.slice_bounds-run-end-3
-slice_bounds-run-end-3 c =
+pub run-requires-clause-room : goal.run-requires-clause-room
+run-requires-clause-room c =
     let rows = c.args.matrix.now in
     let g = c.group-n.ensures.is ∙ ap (λ (s : Shape). s.group) c.shape-shape.ensures.is in
-    let count = c.find_span-span.ensures.count in
-    let product : c.find_span-span.result.count * c.group-n.result ≡ entry_count rows c.args.r * rows.shape.group = λ i. count i * g i in
-    omega (arith, product, c.requires.room c.args.r c.requires.layer, g, c.split_at_mut-first.ensures.back_len, c.split_at_mut-second.ensures.back_len, c.split_at_mut-signs.ensures.back_len)
-
-pub slice_bounds-run-end-4 : goal.slice_bounds-run-end-4
-slice_bounds-run-end-4 c =
-    let rows = c.args.matrix.now in
-    let g = c.group-n.ensures.is ∙ ap (λ (s : Shape). s.group) c.shape-shape.ensures.is in
-    let count = c.find_span-span.ensures.count in
-    let product : c.find_span-span.result.count * c.group-n.result ≡ entry_count rows c.args.r * rows.shape.group = λ i. count i * g i in
-    sym (length-take-le _ _ (omega (arith, product, c.requires.room c.args.r c.requires.layer, g, c.split_at_mut-first.ensures.back_len, c.split_at_mut-second.ensures.back_len, c.split_at_mut-signs.ensures.back_len)))
-
-pub run-requires-clause-same : goal.run-requires-clause-same
-run-requires-clause-same c =
-    let rows = c.args.matrix.now in
-    let g = c.group-n.ensures.is ∙ ap (λ (s : Shape). s.group) c.shape-shape.ensures.is in
-    let count = c.find_span-span.ensures.count in
-    let product : c.find_span-span.result.count * c.group-n.result ≡ entry_count rows c.args.r * rows.shape.group = λ i. count i * g i in
-    let long = length-entries_part rows c.args.entries.now c.args.firsts.now c.requires.layers c.args.r c.requires.layer (length c.args.posteriors.now) c.requires.numbers.posteriors_long c.find_span-span.result.start c.find_span-span.result.count (sym c.find_span-span.ensures.start) (sym count) in
-    length-take-le _ _ (omega (arith, product, c.requires.room c.args.r c.requires.layer, g, c.split_at_mut-first.ensures.back_len, c.split_at_mut-second.ensures.back_len, c.split_at_mut-signs.ensures.back_len))
-    ∙ ap (λ x. x * c.group-n.result) (sym long)
+    let es_is = c.entries-entries.ensures.are ∙ ap (λ (x : Rows). entries_of x c.args.r) c.requires.layers in
+    let count = ap (λ (es : List Entry). length es) es_is ∙ length-entries rows c.args.r in
+    let product : (length c.entries-entries.result.now + 3) * c.group-n.result ≡ (entry_count rows c.args.r + 3) * rows.shape.group = λ i. (count i + 3) * g i in
+    omega (arith, product, c.requires.room c.args.r c.requires.layer)
 
 pub run-requires-clause-entries : goal.run-requires-clause-entries
 run-requires-clause-entries c =
     let rows = c.args.matrix.now in
     let g = sym (c.group-n.ensures.is ∙ ap (λ (s : Shape). s.group) c.shape-shape.ensures.is) in
-    are_in rows c.args.entries.now c.args.firsts.now c.requires.layers c.args.r c.requires.layer (length c.args.posteriors.now) c.requires.numbers.posteriors_long c.group-n.result c.find_span-span.result.start c.find_span-span.result.count g (sym c.find_span-span.ensures.start) (sym c.find_span-span.ensures.count)
+    let fit = subst AreFit c.requires.layers c.entries-entries.ensures.fit in
+    let es_is = c.entries-entries.ensures.are ∙ ap (λ (x : Rows). entries_of x c.args.r) c.requires.layers in
+    are_in rows fit c.args.r c.requires.layer (length c.args.posteriors.now) c.requires.numbers.posteriors_long c.entries-entries.result.now c.group-n.result (sym es_is) g
 
 pub returns-clause-numbers : goal.returns-clause-numbers
 returns-clause-numbers c =
     let rows = c.args.matrix.now in
-    let entries = c.args.entries.now in
     let g = c.group-n.ensures.is ∙ ap (λ (s : Shape). s.group) c.shape-shape.ensures.is in
-    let start = c.find_span-span.result.start in
-    let count = c.find_span-span.result.count in
-    let es = entries_part entries start count in
-    let long = length-entries_part rows entries c.args.firsts.now c.requires.layers c.args.r c.requires.layer (length c.args.posteriors.now) c.requires.numbers.posteriors_long start count (sym c.find_span-span.ensures.start) (sym c.find_span-span.ensures.count) in
+    let fit = subst AreFit c.requires.layers c.entries-entries.ensures.fit in
+    let es_is = c.entries-entries.ensures.are ∙ ap (λ (x : Rows). entries_of x c.args.r) c.requires.layers in
+    let start = c.first.ensures.is ∙ ap (λ (x : Rows). first_row x c.args.r) c.requires.layers in
+    let count = ap (λ (es : List Entry). length es) es_is ∙ length-entries rows c.args.r in
     let last = c.last_row-last.ensures ∙ ap (λ (s : Shape). lacked_row s c.args.r) c.shape-shape.ensures.is in
-    (gives rows c.args.soft.now entries c.args.firsts.now c.args.messages.now c.args.posteriors.now c.requires.layers c.requires.numbers c.args.r c.requires.layer c.run.new.messages c.run.new.posteriors
-    c.group-n.result start count c.last_row-last.result (length es) (sym g) (sym c.find_span-span.ensures.start) (sym c.find_span-span.ensures.count) (sym last) (sym c.find_span-span.ensures.count ∙ sym long)
+    (gives rows c.args.soft.now c.args.messages.now c.args.posteriors.now fit c.requires.numbers c.args.r c.requires.layer c.run.new.messages c.run.new.posteriors
+    c.entries-entries.result.now c.group-n.result c.first.result (length c.entries-entries.result.now) c.last_row-last.result (sym es_is) (sym g) (sym start) (sym count) (sym last)
     (record {
       long = c.run.auto.messages;
       posteriors_long = c.run.auto.posteriors;
@@ -72,15 +77,14 @@ returns-clause-numbers c =
 pub returns-clause-state : goal.returns-clause-state
 returns-clause-state c =
     let rows = c.args.matrix.now in
-    let entries = c.args.entries.now in
     let g = c.group-n.ensures.is ∙ ap (λ (s : Shape). s.group) c.shape-shape.ensures.is in
-    let start = c.find_span-span.result.start in
-    let count = c.find_span-span.result.count in
-    let es = entries_part entries start count in
-    let long = length-entries_part rows entries c.args.firsts.now c.requires.layers c.args.r c.requires.layer (length c.args.posteriors.now) c.requires.numbers.posteriors_long start count (sym c.find_span-span.ensures.start) (sym c.find_span-span.ensures.count) in
+    let fit = subst AreFit c.requires.layers c.entries-entries.ensures.fit in
+    let es_is = c.entries-entries.ensures.are ∙ ap (λ (x : Rows). entries_of x c.args.r) c.requires.layers in
+    let start = c.first.ensures.is ∙ ap (λ (x : Rows). first_row x c.args.r) c.requires.layers in
+    let count = ap (λ (es : List Entry). length es) es_is ∙ length-entries rows c.args.r in
     let last = c.last_row-last.ensures ∙ ap (λ (s : Shape). lacked_row s c.args.r) c.shape-shape.ensures.is in
-    (gives rows c.args.soft.now entries c.args.firsts.now c.args.messages.now c.args.posteriors.now c.requires.layers c.requires.numbers c.args.r c.requires.layer c.run.new.messages c.run.new.posteriors
-    c.group-n.result start count c.last_row-last.result (length es) (sym g) (sym c.find_span-span.ensures.start) (sym c.find_span-span.ensures.count) (sym last) (sym c.find_span-span.ensures.count ∙ sym long)
+    (gives rows c.args.soft.now c.args.messages.now c.args.posteriors.now fit c.requires.numbers c.args.r c.requires.layer c.run.new.messages c.run.new.posteriors
+    c.entries-entries.result.now c.group-n.result c.first.result (length c.entries-entries.result.now) c.last_row-last.result (sym es_is) (sym g) (sym start) (sym count) (sym last)
     (record {
       long = c.run.auto.messages;
       posteriors_long = c.run.auto.posteriors;

@@ -17,7 +17,7 @@ bounds-targets-r c =
     let q = c.q-q.ensures.is ∙ ap (λ (x : Shape). x.q) c.shape-shape.ensures.is in
     let n = c.group-n.ensures.is ∙ ap (λ (x : Shape). x.group) c.shape-shape.ensures.is in
     let at : j % c.q-q.result * c.group-n.result + j / c.q-q.result ≡ place_of_check s j = λ i. j % q i * n i + j / q i in
-    let low = place_low s c.requires.layers.shaped j (omega (arith, c.check_count-check-end.ensures.is)) in
+    let low = place_low s c.shape-shape.ensures.valid j (omega (arith, c.check_count-check-end.ensures.is)) in
     omega (arith, at, low, c.requires.targets)
 
 pub bounds-amounts-r : goal.bounds-amounts-r
@@ -27,7 +27,7 @@ bounds-amounts-r c =
     let q = c.q-q.ensures.is ∙ ap (λ (x : Shape). x.q) c.shape-shape.ensures.is in
     let n = c.group-n.ensures.is ∙ ap (λ (x : Shape). x.group) c.shape-shape.ensures.is in
     let at : j % c.q-q.result * c.group-n.result + j / c.q-q.result ≡ place_of_check s j = λ i. j % q i * n i + j / q i in
-    let low = place_low s c.requires.layers.shaped j (omega (arith, c.check_count-check-end.ensures.is)) in
+    let low = place_low s c.shape-shape.ensures.valid j (omega (arith, c.check_count-check-end.ensures.is)) in
     omega (arith, at, low, c.requires.amounts)
 
 pub loop-check-preserved : goal.loop-check-preserved

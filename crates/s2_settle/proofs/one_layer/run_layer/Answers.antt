@@ -1,46 +1,49 @@
-use Rattle.std.proofs.Common.{◌≡◌, suc, ◌+◌, ◌-◌, ◌*◌, ◌≤◌, length, take, drop, ap, sym, ◌∙◌, arith}
+use Rattle.std.proofs.Common.{◌≡◌, suc, ◌+◌, ◌-◌, ◌*◌, ◌≤◌, List, length, take, drop, ap, sym, subst, ◌∙◌, arith}
 use Rattle.std.proofs.Math.Nat.{mul-le-mul_right}
 use Rattle.std.proofs.lemmas.List.{length-take-le, length-drop}
 use Rattle.s2_mode.specs.Shape.{Shape}
-use Rattle.s2_minsum.specs.Layout.{entry_count, lacked_row}
-use Rattle.s2_minsum.proofs.LayerCalls.{entries_part, are_in, length-entries_part}
-use Rattle.s2_settle.proofs.Layers.{gives, part_is, layer_part}
+use Rattle.s2_rows.specs.Rows.{Rows}
+use Rattle.s2_minsum.specs.declared.rows.Entry.{Entry}
+use Rattle.s2_minsum.specs.Layout.{entries_of, entry_count, lacked_row}
+use Rattle.s2_minsum.specs.Decoding.{AreFit}
+use Rattle.s2_minsum.proofs.FirstRows.{few_entries}
+use Rattle.s2_minsum.proofs.LayerCalls.{are_in, length-entries}
+use Rattle.s2_settle.proofs.Layers.{gives, layer_part}
 use Rattle.s2_settle.proofs.one_layer.run_layer.Goals as goal
 
 pub run-requires-clause-entries : goal.run-requires-clause-entries
 run-requires-clause-entries c =
     let rows = c.args.matrix.now in
     let g = sym (c.group-n.ensures.is ∙ ap (λ (s : Shape). s.group) c.shape-shape.ensures.is) in
-    are_in rows c.args.entries.now c.args.firsts.now c.requires.layers c.args.r c.requires.layer (length c.args.rests.now) c.requires.long.rests_long c.group-n.result c.find_span-span.result.start c.find_span-span.result.count g (sym c.find_span-span.ensures.start) (sym c.find_span-span.ensures.count)
+    let fit = subst AreFit c.requires.layers c.entries-entries.ensures.fit in
+    let es_is = c.entries-entries.ensures.are ∙ ap (λ (x : Rows). entries_of x c.args.r) c.requires.layers in
+    are_in rows fit c.args.r c.requires.layer (length c.args.rests.now) c.requires.long.rests_long c.entries-entries.result.now c.group-n.result (sym es_is) g
 
-pub slice_bounds-run-end-5 : goal.slice_bounds-run-end-5
-slice_bounds-run-end-5 c =
+pub run-requires-clause-many : goal.run-requires-clause-many
+run-requires-clause-many c =
+    let rows = c.args.matrix.now in
+    let fit = subst AreFit c.requires.layers c.entries-entries.ensures.fit in
+    let es_is = c.entries-entries.ensures.are ∙ ap (λ (x : Rows). entries_of x c.args.r) c.requires.layers in
+    omega (arith, ap (λ (es : List Entry). length es) es_is, length-entries rows c.args.r, few_entries rows fit.shaped c.args.r)
+
+pub run-requires-clause-room : goal.run-requires-clause-room
+run-requires-clause-room c =
     let rows = c.args.matrix.now in
     let g = c.group-n.ensures.is ∙ ap (λ (s : Shape). s.group) c.shape-shape.ensures.is in
-    let count = c.find_span-span.ensures.count in
-    let product : c.find_span-span.result.count * c.group-n.result ≡ entry_count rows c.args.r * rows.shape.group = λ i. count i * g i in
-    sym (length-take-le _ _ (omega (arith, product, c.requires.room c.args.r c.requires.layer, g, c.split_at_mut-first.ensures.back_len, c.split_at_mut-second.ensures.back_len, c.split_at_mut-places.ensures.back_len)))
-
-pub run-requires-clause-same : goal.run-requires-clause-same
-run-requires-clause-same c =
-    let rows = c.args.matrix.now in
-    let g = c.group-n.ensures.is ∙ ap (λ (s : Shape). s.group) c.shape-shape.ensures.is in
-    let count = c.find_span-span.ensures.count in
-    let product : c.find_span-span.result.count * c.group-n.result ≡ entry_count rows c.args.r * rows.shape.group = λ i. count i * g i in
-    let long = length-entries_part rows c.args.entries.now c.args.firsts.now c.requires.layers c.args.r c.requires.layer (length c.args.rests.now) c.requires.long.rests_long c.find_span-span.result.start c.find_span-span.result.count (sym c.find_span-span.ensures.start) (sym count) in
-    length-take-le _ _ (omega (arith, product, c.requires.room c.args.r c.requires.layer, g, c.split_at_mut-first.ensures.back_len, c.split_at_mut-second.ensures.back_len, c.split_at_mut-places.ensures.back_len))
-    ∙ ap (λ x. x * c.group-n.result) (sym long)
+    let es_is = c.entries-entries.ensures.are ∙ ap (λ (x : Rows). entries_of x c.args.r) c.requires.layers in
+    let count = ap (λ (es : List Entry). length es) es_is ∙ length-entries rows c.args.r in
+    let product : (length c.entries-entries.result.now + 3) * c.group-n.result ≡ (entry_count rows c.args.r + 3) * rows.shape.group = λ i. (count i + 3) * g i in
+    omega (arith, product, c.requires.room c.args.r c.requires.layer)
 
 pub returns : goal.returns
 returns c =
     let rows = c.args.matrix.now in
-    let entries = c.args.entries.now in
     let n = c.group-n.result in
     let r = c.args.r in
     let g = c.group-n.ensures.is ∙ ap (λ (s : Shape). s.group) c.shape-shape.ensures.is in
-    let start = c.find_span-span.result.start in
-    let count = c.find_span-span.result.count in
-    let es = entries_part entries start count in
+    let fit = subst AreFit c.requires.layers c.entries-entries.ensures.fit in
+    let es = c.entries-entries.result.now in
+    let es_is = c.entries-entries.ensures.are ∙ ap (λ (x : Rows). entries_of x r) c.requires.layers in
     let w = r * n + n - r * n in
     let width : w ≡ n = omega arith in
     let q = rows.shape.q in
@@ -52,11 +55,10 @@ returns c =
     let t_part = layer_part n r w q targets c.requires.layer t_long width in
     let a_part = layer_part n r w q amounts c.requires.layer a_long width in
     let last = c.last_row-last.ensures ∙ ap (λ (s : Shape). lacked_row s r) c.shape-shape.ensures.is in
-    let es_is = part_is rows entries c.args.firsts.now c.requires.layers r c.requires.layer start count (sym c.find_span-span.ensures.start) (sym c.find_span-span.ensures.count) in
     let whole : suc r * n ≤ q * n = mul-le-mul_right n c.requires.layer in
     let t_in : length (take w (drop (r * n) targets)) ≡ n = length-take-le w (drop (r * n) targets) (omega (arith, length-drop (r * n) targets)) ∙ width in
     let a_in : length (take w (drop (r * n) amounts)) ≡ n = length-take-le w (drop (r * n) amounts) (omega (arith, length-drop (r * n) amounts)) ∙ width in
-    gives rows c.args.rests.now targets amounts c.run.new.rests c.run.new.targets c.run.new.amounts c.args.reserve r n w c.last_row-last.result es (take w (drop (r * n) targets)) (take w (drop (r * n) amounts)) c.requires.layers.shaped.group_some c.requires.long c.requires.layer
+    gives rows c.args.rests.now targets amounts c.run.new.rests c.run.new.targets c.run.new.amounts c.args.reserve r n w c.last_row-last.result es (take w (drop (r * n) targets)) (take w (drop (r * n) amounts)) fit.shaped.group_some c.requires.long c.requires.layer
     (sym g) width (sym last) (sym es_is) (sym t_part) (sym a_part)
     (record {
       rests_long = c.run.auto.rests;

@@ -1,6 +1,6 @@
 use Rattle.std.proofs.Common.{◌≡◌, ℕ, ◌*◌, ◌<◌, ◌==◌, length, length-set, get_or, set, pos, neg_ℤ, ◌+ℤ◌, ◌-ℤ◌, ◌*ℤ◌, ap, ◌∙◌, to_z, of_z, w32, arith}
 use Rattle.std.proofs.lemmas.Int.{ints}
-use Rattle.s2_split.specs.Spreading.{most_moved}
+use Rattle.s2_check.specs.Moves.{most_moved}
 use Rattle.s2_split.specs.Kept.{is_among, evenly_at}
 use Rattle.s2_split.proofs.Anew.{changed, either_within, difference, moved_anew}
 use Rattle.s2_split.proofs.rests.move_anew.Goals as goal

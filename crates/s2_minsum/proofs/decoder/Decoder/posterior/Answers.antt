@@ -17,13 +17,13 @@ index-requires c =
     let bit = c.args.bit in
     let low : bit < code_bits s = omega (arith, c.requires, ap (λ (v : Decoding). code_bits v.rows.shape) c.self.view_is) in
     let at : c.place_of.result ≡ row_of_bit s bit * s.group + lane_of_bit s bit = c.place_of.ensures ∙ ap (λ (x : Shape). row_of_bit x bit * x.group + lane_of_bit x bit) c.shape.ensures.is in
-    omega (arith, at, Places.place_below s c.self.invariant.layers.shaped bit low, c.self.invariant.numbers.posteriors_long)
+    omega (arith, at, Places.place_below s c.self.invariant.fit.shaped bit low, c.self.invariant.numbers.posteriors_long)
 
 pub returns : goal.returns
 returns c =
     let d = c.self.inside in
     let s = d.matrix.now.shape in
-    let shaped = c.self.invariant.layers.shaped in
+    let shaped = c.self.invariant.fit.shaped in
     let bit = c.args.bit in
     let low : bit < code_bits s = omega (arith, c.requires, ap (λ (v : Decoding). code_bits v.rows.shape) c.self.view_is) in
     let at : c.place_of.result ≡ row_of_bit s bit * s.group + lane_of_bit s bit = c.place_of.ensures ∙ ap (λ (x : Shape). row_of_bit x bit * x.group + lane_of_bit x bit) c.shape.ensures.is in

@@ -9,7 +9,6 @@ use Rattle.s2_settle.specs.Passes.{spread}
 use Rattle.s2_settle.specs.Start.{start}
 use Rattle.s2_settle.specs.Settled.{settled, moved_view}
 use Rattle.s2_settle.specs.Placing.{Finds}
-use Rattle.s2_settle.specs.Shows.{AreFit}
 use Rattle.s2_settle.specs.Holding.{Settling}
 use Rattle.s2_settle.proofs.PlainSettled.{found_settled}
 use Rattle.s2_check.proofs.Lists.{refilled}
@@ -22,7 +21,7 @@ returns-then-not-find_moves-clause-is c =
     let soft = c.args.soft.now in
     let word = c.args.word.now in
     let find = c.find_moves in
-    let fit : AreFit m = record { shaped = c.self.invariant.layers.shaped; few = c.self.invariant.layers.few } in
+    let fit = c.self.invariant.fit in
     let rows = ap (λ (v : Settling). v.rows) c.self.view_is in
     let finds = subst (λ (w : List Bool). Finds m (spread m c.args.passes 0 0 (start m soft w)) find.result find.new.moves) c.truths.ensures find.ensures.found in
     ap (λ (r : Rows). settled r soft word c.args.passes) (sym rows) ∙ sym (found_settled m soft word c.args.passes fit c.requires.range) ∙ none_settled m soft word c.args.passes find.result find.new.moves c.if-not-find_moves.true finds
@@ -34,11 +33,11 @@ returns-in-Yes-clause-is c =
     let soft = c.args.soft.now in
     let word = c.args.word.now in
     let find = c.find_moves in
-    let fit : AreFit m = record { shaped = c.self.invariant.layers.shaped; few = c.self.invariant.layers.few } in
+    let fit = c.self.invariant.fit in
     let rows = ap (λ (v : Settling). v.rows) c.self.view_is in
     let finds = subst (λ (w : List Bool). Finds m (spread m c.args.passes 0 0 (start m soft w)) find.result find.new.moves) c.truths.ensures find.ensures.found in
     let is = held_settled m soft word c.args.passes find.result find.new.moves c.if-not-find_moves.false finds in
-    let moves = refilled d.moves.len find.new.moves d.moves.items (sym c.deref_mut-5.ensures.len ∙ ap length c.deref_mut-5.ensures.value) (find.auto.moves ∙ ap length c.deref_mut-5.ensures.value) in
+    let moves = refilled d.moves.len find.new.moves d.moves.items (sym c.deref_mut-2.ensures.len ∙ ap length c.deref_mut-2.ensures.value) (find.auto.moves ∙ ap length c.deref_mut-2.ensures.value) in
     let view = c.held.ensures ∙ ap (λ (ms : List Move). moved_view m soft word ms) moves in
     let cert = subst (λ (v : View). IsCertificate m v) view (c.check.ensures.yes.0 c.in-Yes.is) in
     ap (λ (r : Rows). settled r soft word c.args.passes) (sym rows) ∙ sym (found_settled m soft word c.args.passes fit c.requires.range) ∙ is ∙ reached m (moved_view m soft word find.new.moves) cert ∙ ap (λ (ms : List Move). Some (moved_view m soft word ms)) (sym moves)
@@ -50,11 +49,11 @@ returns-in-No-clause-is c =
     let soft = c.args.soft.now in
     let word = c.args.word.now in
     let find = c.find_moves in
-    let fit : AreFit m = record { shaped = c.self.invariant.layers.shaped; few = c.self.invariant.layers.few } in
+    let fit = c.self.invariant.fit in
     let rows = ap (λ (v : Settling). v.rows) c.self.view_is in
     let finds = subst (λ (w : List Bool). Finds m (spread m c.args.passes 0 0 (start m soft w)) find.result find.new.moves) c.truths.ensures find.ensures.found in
     let is = held_settled m soft word c.args.passes find.result find.new.moves c.if-not-find_moves.false finds in
-    let moves = refilled d.moves.len find.new.moves d.moves.items (sym c.deref_mut-5.ensures.len ∙ ap length c.deref_mut-5.ensures.value) (find.auto.moves ∙ ap length c.deref_mut-5.ensures.value) in
+    let moves = refilled d.moves.len find.new.moves d.moves.items (sym c.deref_mut-2.ensures.len ∙ ap length c.deref_mut-2.ensures.value) (find.auto.moves ∙ ap length c.deref_mut-2.ensures.value) in
     let view = c.held.ensures ∙ ap (λ (ms : List Move). moved_view m soft word ms) moves in
     let codeword = subst (λ (r : Rows). IsCodeword (code_of r) word) (sym rows) c.requires.codeword in
     let refuses = subst (λ (a : Answer). Checks m c.held.result a) c.in-No.is c.check.ensures.exact in

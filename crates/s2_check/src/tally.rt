@@ -1,0 +1,59 @@
+//! What the shares of a check add up to.
+ghost use Rattle.std.specs.Prelude.{◌≡◌, ℕ, ◌+◌, ◌*◌, ◌%◌, ◌==◌, ◌≤◌, ◌≤ℤ◌, ◌+ℤ◌, min, pos, neg_ℤ, int_lt, unsigned_abs, if◌then◌else◌};
+ghost use Rattle.std.specs.Int.{int_min};
+ghost use Rattle.s2_mode.specs.Limits.{most_bits};
+
+/// Of the shares of a check that were taken in so far: the sum of the negative ones, how many these are, and the
+/// least size of all.
+#[derive(Clone, Copy)]
+pub(crate) struct Tally {
+    negative_sum: i64,
+    negative_count: usize,
+    least_size: u32,
+}
+
+impl Tally {
+    /// The tally of no share.
+    pub(crate) fn new() -> Tally
+        ensures sum { result.negative_sum ≡ pos 0 }
+        ensures count { result.negative_count ≡ 0 }
+        ensures size { result.least_size ≡ 4294967295 }
+    {
+        Tally {
+            negative_sum: 0,
+            negative_count: 0,
+            least_size: u32::MAX,
+        }
+    }
+
+    /// The tally with one share more.
+    pub(crate) fn with(self, share: i32) -> Tally
+        requires few { self.negative_count ≤ most_bits }
+        requires low { neg_ℤ (pos (2147483648 * most_bits)) ≤ℤ self.negative_sum }
+        requires high { self.negative_sum ≤ℤ pos 0 }
+        ensures sum { result.negative_sum ≡ self.negative_sum +ℤ int_min (pos 0) share }
+        ensures count { result.negative_count ≡ self.negative_count + (if int_lt share (pos 0) then 1 else 0) }
+        ensures size { result.least_size ≡ min self.least_size (unsigned_abs share) }
+    {
+        let negative = share < 0;
+        Tally {
+            negative_sum: self.negative_sum + i64::from(share.min(0)),
+            negative_count: self.negative_count + usize::from(negative),
+            least_size: self.least_size.min(share.unsigned_abs()),
+        }
+    }
+
+    /// The least sum of an even number of the shares: of the negative ones, less the cheapest change of one where
+    /// these are odd in number.
+    pub(crate) fn least_even_sum(self) -> i64
+        requires low { neg_ℤ (pos (2147483648 * most_bits)) ≤ℤ self.negative_sum }
+        requires high { self.negative_sum ≤ℤ pos 0 }
+        ensures { result ≡ (if self.negative_count % 2 == 0 then self.negative_sum else self.negative_sum +ℤ pos self.least_size) }
+    {
+        if self.negative_count % 2 == 0 {
+            self.negative_sum
+        } else {
+            self.negative_sum + i64::from(self.least_size)
+        }
+    }
+}

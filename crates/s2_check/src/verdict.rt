@@ -1,0 +1,36 @@
+//! What is known of decided bits.
+ghost use Rattle.std.specs.Prelude.{◌≡◌, ◌≤◌, length};
+ghost use Rattle.s2_check.specs.Verdicts.{verdict_word, is_certified};
+
+/// What is known of a frame's decided bits: that no codeword costs less under its soft values, that they are
+/// a codeword, or that they are none.
+#[derive(Clone, Copy, Debug, PartialEq, Eq)]
+pub enum Verdict {
+    MostLikely,
+    Parity,
+    Broken,
+}
+
+impl Verdict {
+    /// The word by which reports name it.
+    pub fn word(self) -> &'static str
+        ensures is { result.now ≡ verdict_word self }
+        ensures short { length result.now ≤ 11 }
+    {
+        match self {
+            Verdict::MostLikely => "most-likely",
+            Verdict::Parity => "parity",
+            Verdict::Broken => "broken",
+        }
+    }
+
+    /// Whether there is a certificate.
+    pub fn is_certified(self) -> bool
+        ensures { result ≡ is_certified self }
+    {
+        match self {
+            Verdict::MostLikely => true,
+            Verdict::Parity | Verdict::Broken => false,
+        }
+    }
+}

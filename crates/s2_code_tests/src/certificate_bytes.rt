@@ -1,0 +1,45 @@
+//! The bytes of certificate files of the toy code.
+
+/// What each of them begins with: format, shape, scale 1, and 47 shares.
+pub(crate) const HEAD: [u8; 17] = [
+    0x53, 0x32, 0x4D, 0x4C, 1, 0, 4, 0, 2, 0, 3, 0, 1, 0, 0, 0, 0x2F,
+];
+
+/// The soft value of bit 0 is -4, all others are 10, and check 0 moves 4 to bit 0.
+pub(crate) fn wrong_bit() -> [u8; 228] {
+    let mut file = [0; 228];
+    file[..17].copy_from_slice(&HEAD);
+    for place in 17..37usize {
+        file[place] = 10;
+    }
+    file[17] = 0xFC;
+    let shares = [0xFF, 0xFF, 0xFF, 0xFC, 0, 0, 0, 4, 0, 0, 0, 4];
+    file[40..52].copy_from_slice(&shares);
+    file
+}
+
+/// That file with another byte at a place.
+pub(crate) fn with_byte(at: usize, byte: u8) -> [u8; 228] {
+    let mut file = wrong_bit();
+    if at < 228 {
+        file[at] = byte;
+    }
+    file
+}
+
+/// The values of the codeword that begins with a one, and only there: -5 at its ones, 7 elsewhere.
+pub(crate) const CODEWORD: [i16; 20] = [
+    -5, 7, 7, 7, 7, 7, 7, 7, -5, -5, -5, -5, 7, 7, 7, 7, -5, -5, -5, -5,
+];
+
+/// The file of their certificate, which moves nothing.
+pub(crate) fn codeword_file() -> [u8; 228] {
+    let mut file = [0; 228];
+    file[..17].copy_from_slice(&HEAD);
+    let soft = [
+        0xFB, 7, 7, 7, 7, 7, 7, 7, 0xFB, 0xFB, 0xFB, 0xFB, 7, 7, 7, 7, 0xFB, 0xFB, 0xFB, 0xFB,
+    ];
+    file[17..37].copy_from_slice(&soft);
+    file[37..40].copy_from_slice(&[0x80, 0xF0, 0xF0]);
+    file
+}

@@ -1,0 +1,318 @@
+//! Certificates of the toy code.
+use super::certificate_bytes::{CODEWORD, codeword_file, with_byte, wrong_bit};
+use super::codes::{TOY, matrix_of};
+use super::values::{WEAK, are_soft};
+use s2_bits::Bits;
+use s2_check::{
+    Answer, CertFault, CertView, Certificate, Move, Refusal, check, cost, judge_unsplit,
+};
+use s2_matrix::Matrix;
+use s2_mode::Counting;
+use std::alloc::{AllocError, Global};
+use std::process::Abort;
+use std::test::Fail;
+
+/// A word of zeros.
+pub(crate) fn zeros(alloc: Global, bits: usize) -> Result<Bits, AllocError> {
+    Bits::zeroed(alloc, bits)
+}
+
+/// The certificate of a file, or why the file is refused.
+fn read(alloc: Global, bytes: &[u8]) -> Result<Certificate, CertFault> {
+    Certificate::read(alloc, bytes)
+}
+
+/// What the checker answers on a view.
+pub(crate) fn checked(matrix: &Matrix, view: &CertView<'_>) -> Answer {
+    check(matrix, view)
+}
+
+/// What the checker answers on a file, or why the file is refused.
+fn answer(alloc: Global, matrix: &Matrix, bytes: &[u8]) -> Result<Answer, CertFault> {
+    let certificate = read(alloc, bytes)?;
+    Ok(checked(matrix, &certificate.view()))
+}
+
+/// Asserts what the checker answers on a file.
+fn assert_answer<R: Abort>(rt: &R, alloc: Global, matrix: &Matrix, bytes: &[u8], want: Answer) {
+    assert_eq!(rt; answer(alloc, matrix, bytes), Ok(want));
+}
+
+fn assert_answers<R: Abort>(rt: &R, alloc: Global, toy: &Matrix) {
+    assert_answer(rt, alloc, toy, &wrong_bit(), Answer::Yes);
+    for (at, byte, refusal) in [
+        (43usize, 0xFB, Refusal::BoundBelow),
+        (37, 0x80, Refusal::OddCheck { check: 0 }),
+    ] {
+        assert_answer(rt, alloc, toy, &with_byte(at, byte), Answer::No(refusal));
+    }
+}
+
+/// Asserts that the checks of another shape are none of the certificate's.
+fn assert_other_shape<R: Abort>(rt: &R, alloc: Global) -> Result<(), Fail> {
+    let other = matrix_of(alloc, ([4, 2, 4], TOY.1))?;
+    let refused = Answer::No(Refusal::OtherShape);
+    assert_answer(rt, alloc, &other, &wrong_bit(), refused);
+    Ok(())
+}
+
+#[test]
+fn checks_the_certificate_of_a_wrong_bit(rt: HostRuntime) -> Result<(), Fail> {
+    assert_other_shape(&rt, rt.alloc())?;
+    let toy = matrix_of(rt.alloc(), TOY)?;
+    assert_answers(&rt, rt.alloc(), &toy);
+    Ok(())
+}
+
+fn assert_altered_refused<R: Abort>(rt: &R, alloc: Global, toy: &Matrix) {
+    let file = wrong_bit();
+    for at in 0..228usize {
+        let want = match at {
+            0..=4 => Err(CertFault::Magic),
+            5 | 7 | 9 => Err(CertFault::Shape),
+            6 | 8 | 10 | 15 | 16 => Err(CertFault::Cut),
+            11 | 13 | 14 | 17..=36 => Err(CertFault::Range),
+            37 | 38 => Ok(Answer::No(Refusal::OddCheck { check: 0 })),
+            39 => Ok(Answer::No(Refusal::OddCheck { check: 8 })),
+            _ => Ok(Answer::No(Refusal::BoundBelow)),
+        };
+        assert_eq!(rt;
+            answer(alloc, toy, &with_byte(at, file[at] ^ 0x80)),
+            want,
+            "at {at}"
+        );
+    }
+}
+
+#[test]
+fn answers_on_each_altered_byte(rt: HostRuntime) -> Result<(), Fail> {
+    let toy = matrix_of(rt.alloc(), TOY)?;
+    assert_altered_refused(&rt, rt.alloc(), &toy);
+    Ok(())
+}
+
+fn assert_cut_refused<R: Abort>(rt: &R, alloc: Global, toy: &Matrix) {
+    let file = wrong_bit();
+    for len in 0..file.len() {
+        let cut = answer(alloc, toy, &file[..len]);
+        assert_eq!(rt; cut, Err(CertFault::Cut), "{len}");
+    }
+}
+
+#[test]
+fn refuses_a_cut_certificate(rt: HostRuntime) -> Result<(), Fail> {
+    let toy = matrix_of(rt.alloc(), TOY)?;
+    assert_cut_refused(&rt, rt.alloc(), &toy);
+    Ok(())
+}
+
+/// Asserts whether the hard decision of some values is a codeword, and writes it to a word.
+fn assert_judged<R: Abort>(rt: &R, matrix: &Matrix, soft: &[i16], word: &mut Bits, want: bool) {
+    assert!(rt; soft.len() == matrix.bits());
+    assert!(rt; word.len() == matrix.bits());
+    assert!(rt; judge_unsplit(matrix, soft, word) == want);
+}
+
+/// Asserts the cost of a word.
+fn assert_cost<R: Abort>(rt: &R, soft: &[i16; 20], word: &Bits, want: i64) {
+    assert!(rt; word.len() == 20);
+    assert_eq!(rt; cost(soft, word), want);
+}
+
+/// The view without a split.
+fn unsplit<'a, R: Abort>(rt: &R, matrix: &Matrix, soft: &'a [i16], word: &'a Bits) -> CertView<'a> {
+    assert!(rt; soft.len() == matrix.bits());
+    assert!(rt; are_soft(soft));
+    assert!(rt; word.len() == matrix.bits());
+    CertView::unsplit(matrix, soft, word)
+}
+
+/// The bytes of a view's file.
+fn file_of(alloc: Global, view: &CertView<'_>) -> Result<Vec<u8>, Fail> {
+    let mut out = Counting::new(Vec::new(alloc));
+    view.write(&mut out)?;
+    Ok(out.into_inner())
+}
+
+/// Asserts what a view's file is.
+fn assert_file<R: Abort>(
+    rt: &R,
+    alloc: Global,
+    view: &CertView<'_>,
+    want: &[u8],
+) -> Result<(), Fail> {
+    let written = file_of(alloc, view)?;
+    assert_eq!(rt; written.as_slice(), want);
+    Ok(())
+}
+
+fn assert_unsplit_written<R: Abort>(rt: &R, alloc: Global, toy: &Matrix) -> Result<(), Fail> {
+    let mut word = zeros(alloc, 20)?;
+    assert!(rt; toy.bits() == 20);
+    assert_judged(rt, toy, &CODEWORD, &mut word, true);
+    assert_cost(rt, &CODEWORD, &word, -45);
+    let view = unsplit(rt, toy, &CODEWORD, &word);
+    assert_eq!(rt; checked(toy, &view), Answer::Yes);
+    assert_eq!(rt; (view.scale(), view.share_count()), (1, 47));
+    assert_file(rt, alloc, &view, &codeword_file())
+}
+
+#[test]
+fn writes_an_unsplit_certificate(rt: HostRuntime) -> Result<(), Fail> {
+    let toy = matrix_of(rt.alloc(), TOY)?;
+    assert_unsplit_written(&rt, rt.alloc(), &toy)
+}
+
+/// The view of moves, each to a member of its check.
+pub(crate) fn placed<'a, R: Abort>(
+    rt: &R,
+    matrix: &'a Matrix,
+    soft: &'a [i16],
+    word: &'a Bits,
+    moves: &'a [Move],
+) -> CertView<'a> {
+    assert!(rt; soft.len() == matrix.bits());
+    assert!(rt; are_soft(soft));
+    assert!(rt; word.len() == matrix.bits());
+    assert!(rt; moves.len() == matrix.check_count());
+    for check in 0..moves.len() {
+        assert!(rt; usize::from(moves[check].place) < matrix.degree(check));
+        assert!(rt; moves[check].amount < 1 << 31);
+        assert!(rt; moves[check].amount > 0 || moves[check].place == 0);
+    }
+    CertView::placed(matrix, 16, soft, word, moves)
+}
+
+/// The shares that a view shows.
+fn shares_of(alloc: Global, view: &CertView<'_>) -> Result<Vec<i32>, Fail> {
+    let mut shares = Vec::new(alloc);
+    for edge in 0..view.share_count() {
+        shares.push(view.share(edge))?;
+    }
+    Ok(shares)
+}
+
+/// No move.
+const NONE: Move = Move {
+    place: 0,
+    amount: 0,
+};
+
+/// Moves of 40, 24, 20, 4 and 4, each to the member that lacks most.
+const SPREAD: [Move; 12] = [
+    Move {
+        place: 0,
+        amount: 40,
+    },
+    Move {
+        place: 1,
+        amount: 24,
+    },
+    NONE,
+    NONE,
+    Move {
+        place: 0,
+        amount: 20,
+    },
+    Move {
+        place: 1,
+        amount: 4,
+    },
+    NONE,
+    NONE,
+    Move {
+        place: 0,
+        amount: 4,
+    },
+    NONE,
+    NONE,
+    NONE,
+];
+
+/// Moves of 40, 24, 20, 4 and this amount.
+fn spread(amount: u32) -> [Move; 12] {
+    let mut moves = SPREAD;
+    moves[8].amount = amount;
+    moves
+}
+
+/// Asserts that two views answer alike: so on this matrix, and whatever it is on another.
+fn assert_alike<R: Abort>(
+    rt: &R,
+    matrices: [&Matrix; 2],
+    view: &CertView<'_>,
+    list: &CertView<'_>,
+    want: Answer,
+) {
+    let [matrix, other] = matrices;
+    assert_eq!(rt; checked(matrix, view), want);
+    assert_eq!(rt; checked(matrix, list), want);
+    assert_eq!(rt; checked(other, view), checked(other, list));
+}
+
+/// Asserts that two views show the same shares.
+fn assert_same_shares<R: Abort>(
+    rt: &R,
+    alloc: Global,
+    view: &CertView<'_>,
+    list: &CertView<'_>,
+) -> Result<(), Fail> {
+    let shown = shares_of(alloc, view)?;
+    let listed = shares_of(alloc, list)?;
+    assert_eq!(rt; shown.as_slice(), listed.as_slice());
+    Ok(())
+}
+
+/// Asserts that a view answers as the list of its shares, read from the file that it writes.
+pub(crate) fn assert_listed<R: Abort>(
+    rt: &R,
+    alloc: Global,
+    matrices: [&Matrix; 2],
+    view: &CertView<'_>,
+    want: Answer,
+) -> Result<(), Fail> {
+    let file = file_of(alloc, view)?;
+    let certificate = read(alloc, &file)?;
+    let list = certificate.view();
+    assert_alike(rt, matrices, view, &list, want);
+    assert_same_shares(rt, alloc, view, &list)
+}
+
+/// Asserts that moves of 40, 24, 20, 4 and this amount answer as the list of their shares, read from
+/// the file that they write.
+fn assert_as_listed<R: Abort>(
+    rt: &R,
+    alloc: Global,
+    matrices: [&Matrix; 2],
+    amount: u32,
+    want: Answer,
+) -> Result<(), Fail> {
+    let word = zeros(alloc, 20)?;
+    let moves = spread(amount);
+    let view = placed(rt, matrices[0], &WEAK, &word, &moves);
+    assert_listed(rt, alloc, matrices, &view, want)
+}
+
+fn assert_moves_listed<R: Abort>(
+    rt: &R,
+    alloc: Global,
+    matrices: [&Matrix; 2],
+) -> Result<(), Fail> {
+    let no = Answer::No(Refusal::BoundBelow);
+    for (amount, want) in [(3, no), (4, Answer::Yes), (16, Answer::Yes), (17, no)] {
+        assert_as_listed(rt, alloc, matrices, amount, want)?;
+    }
+    Ok(())
+}
+
+/// Asserts the same beside a matrix of other rows.
+fn assert_moves_listed_beside<R: Abort>(rt: &R, alloc: Global, toy: &Matrix) -> Result<(), Fail> {
+    let other = matrix_of(alloc, (TOY.0, b"0 4 9\n0 1 2\n"))?;
+    assert_moves_listed(rt, alloc, [toy, &other])
+}
+
+#[test]
+fn checks_moves_as_their_shares(rt: HostRuntime) -> Result<(), Fail> {
+    let toy = matrix_of(rt.alloc(), TOY)?;
+    assert_moves_listed_beside(&rt, rt.alloc(), &toy)
+}

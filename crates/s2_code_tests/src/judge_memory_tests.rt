@@ -1,0 +1,61 @@
+//! Judges where memory is refused: each call that takes some is made again.
+ghost use Rattle.std.specs.Prelude.{◌≡◌, All, IfOk, length};
+ghost use Rattle.s2_matrix.specs.Code.{code_of};
+ghost use Rattle.s2_check.specs.Views.{IsSoft};
+
+use super::again::matrix_of;
+use super::codes::TOY;
+use super::judge_tests::fits;
+use s2_check::Verdict;
+use s2_judge::Judge;
+use s2_link::Tuning;
+use s2_matrix::Matrix;
+use std::alloc::{AllocError, Global};
+use std::process::Abort;
+use std::test::Fail;
+
+fn judge_of<'a>(alloc: Global, matrix: &'a Matrix, tuning: Tuning) -> Result<Judge<'a>, AllocError>
+    ensures { IfOk result (λ j. j.rows ≡ matrix.now) }
+{
+    match Judge::new(alloc, matrix, tuning) {
+        Err(AllocError) => Judge::new(alloc, matrix, tuning),
+        made => made,
+    }
+}
+
+/// The verdict on these values and how many ones were decided.
+fn judged_by(judge: &mut Judge<'_>, soft: &[i16]) -> (Verdict, usize)
+    requires long { length soft.now ≡ (code_of judge.old.rows).bits }
+    requires range { All IsSoft soft.now }
+{
+    (judge.judge(soft), judge.word().count_ones())
+}
+
+/// The same by a new judge.
+fn judged(alloc: Global, matrix: &Matrix, soft: &[i16]) -> Result<(Verdict, usize), Fail> {
+    if !fits(matrix, soft) {
+        return Err(Fail::from("other values"));
+    }
+    let tuning = Tuning::new(50, 0)?;
+    let mut judge = judge_of(alloc, matrix, tuning)?;
+    Ok(judged_by(&mut judge, soft))
+}
+
+/// Asserts that these values are decided as most likely zeros.
+fn assert_judged<A: Abort>(
+    rt: &A,
+    alloc: Global,
+    matrix: &Matrix,
+    soft: &[i16],
+) -> Result<(), Fail> {
+    let found = judged(alloc, matrix, soft)?;
+    assert_eq!(rt; found, (Verdict::MostLikely, 0));
+    Ok(())
+}
+
+#[test]
+fn asks_again_where_memory_is_refused(rt: HostRuntime) -> Result<(), Fail> {
+    let toy = matrix_of(rt.alloc(), TOY)?;
+    assert_judged(&rt, rt.alloc(), &toy, &[10; 20])?;
+    assert_judged(&rt, rt.alloc(), &toy, &[0; 20])
+}

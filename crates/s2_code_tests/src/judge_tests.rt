@@ -1,0 +1,285 @@
+//! Decisions on small codes. The verdicts and bits are those of a program that decides by the plain
+//! rules, one check after the other.
+ghost use Rattle.std.specs.Prelude.{◌≡◌, All, IfOk, IsTrue, length};
+ghost use Rattle.s2_matrix.specs.Code.{code_of};
+ghost use Rattle.s2_check.specs.Views.{IsSoft};
+
+use super::codes::{Code, TOY, made_matrix, matrix_of};
+use super::values::{are_soft, next_number};
+use s2_check::{Answer, Certificate, Verdict, check};
+use s2_judge::Judge;
+use s2_link::Tuning;
+use s2_matrix::Matrix;
+use s2_mode::{Counting, Mode};
+use std::alloc::{AllocError, Global};
+use std::process::Abort;
+use std::test::Fail;
+
+/// Two bits that are to be the same.
+const PAIR: Code<'static> = ([1, 1, 1], b"0\n");
+
+/// A bit in three checks, one after another.
+const CHAIN: Code<'static> = ([1, 1, 3], b"0 1 2\n");
+
+/// Whether a judge of these checks takes these values.
+pub(crate) fn fits(matrix: &Matrix, soft: &[i16]) -> bool
+    ensures long { IsTrue result → length soft.now ≡ (code_of matrix.now).bits }
+    ensures range { IsTrue result → All IsSoft soft.now }
+{
+    soft.len() == matrix.bits() && are_soft(soft)
+}
+
+/// The judge of a matrix, by at most 50 rounds and so many passes of settling.
+fn judge_of<'a>(alloc: Global, matrix: &'a Matrix, passes: u32) -> Result<Judge<'a>, Fail>
+    ensures { IfOk result (λ j. j.rows ≡ matrix.now) }
+{
+    let tuning = Tuning::new(50, passes)?;
+    Ok(Judge::new(alloc, matrix, tuning)?)
+}
+
+/// A judge's verdict.
+fn verdict_by(judge: &mut Judge<'_>, soft: &[i16]) -> Verdict
+    requires long { length soft.now ≡ (code_of judge.old.rows).bits }
+    requires range { All IsSoft soft.now }
+{
+    judge.judge(soft)
+}
+
+/// What the checker says of a judge's certificate, where there is one.
+fn answer_on(matrix: &Matrix, judge: &Judge<'_>) -> Option<Answer> {
+    match judge.certificate() {
+        Some(view) => Some(check(matrix, &view)),
+        None => None,
+    }
+}
+
+/// Whether a judge decided on these bits.
+fn has_word(judge: &Judge<'_>, bits: &[bool]) -> bool {
+    judge.word().truths() == bits
+}
+
+/// What is decided of some values: the verdict, whether the bits are these, and what the checker says of
+/// their certificate, where there is one.
+type Decided = (Verdict, bool, Option<Answer>);
+
+/// Bits that are right and have a certificate.
+const LIKELY: Decided = (Verdict::MostLikely, true, Some(Answer::Yes));
+
+/// What a judge decides.
+fn decided_by(matrix: &Matrix, judge: &mut Judge<'_>, soft: &[i16], bits: &[bool]) -> Decided
+    requires long { length soft.now ≡ (code_of judge.old.rows).bits }
+    requires range { All IsSoft soft.now }
+{
+    let verdict = verdict_by(judge, soft);
+    (verdict, has_word(judge, bits), answer_on(matrix, judge))
+}
+
+/// What is decided without passes of settling.
+fn decided(alloc: Global, matrix: &Matrix, soft: &[i16], bits: &[bool]) -> Result<Decided, Fail> {
+    if !fits(matrix, soft) {
+        return Err(Fail::from("other values"));
+    }
+    let mut judge = judge_of(alloc, matrix, 0)?;
+    Ok(decided_by(matrix, &mut judge, soft, bits))
+}
+
+/// Asserts what is decided of some values.
+fn assert_decided<A: Abort>(
+    rt: &A,
+    alloc: Global,
+    matrix: &Matrix,
+    soft: &[i16],
+    bits: &[bool],
+    want: Decided,
+) -> Result<(), Fail> {
+    let found = decided(alloc, matrix, soft, bits)?;
+    assert_eq!(rt; found, want, "{soft:?}");
+    Ok(())
+}
+
+/// Zeros of which one is wrong, and whether its neighbours are weak.
+fn wrong_bit(weak: bool) -> [i16; 20] {
+    let mut soft = [10; 20];
+    soft[0] = -4;
+    if weak {
+        soft[4..7].fill(1);
+    }
+    soft
+}
+
+/// Asserts that zeros are decided with one of them wrong or none.
+fn assert_repairs<A: Abort>(rt: &A, alloc: Global, toy: &Matrix) -> Result<(), Fail> {
+    for soft in [[10; 20], [0; 20], wrong_bit(false), wrong_bit(true)] {
+        assert_decided(rt, alloc, toy, &soft, &[false; 20], LIKELY)?;
+    }
+    Ok(())
+}
+
+#[test]
+fn repairs_a_wrong_bit(rt: HostRuntime) -> Result<(), Fail> {
+    let toy = matrix_of(rt.alloc(), TOY)?;
+    assert_repairs(&rt, rt.alloc(), &toy)
+}
+
+/// Asserts what is decided on two bits that are to be the same.
+fn assert_pair_decided<A: Abort>(rt: &A, alloc: Global, pair: &Matrix) -> Result<(), Fail> {
+    let broken = (Verdict::Broken, true, None);
+    for (soft, bits, want) in [
+        ([-5, 3], [true, true], LIKELY),
+        ([-5, 5], [true, false], broken),
+    ] {
+        assert_decided(rt, alloc, pair, &soft, &bits, want)?;
+    }
+    Ok(())
+}
+
+#[test]
+fn decodes_where_the_repair_has_an_odd_check(rt: HostRuntime) -> Result<(), Fail> {
+    let pair = matrix_of(rt.alloc(), PAIR)?;
+    assert_pair_decided(&rt, rt.alloc(), &pair)
+}
+
+/// Asserts that zeros are found on a chain of checks, without a certificate.
+fn assert_chain_decided<A: Abort>(rt: &A, alloc: Global, chain: &Matrix) -> Result<(), Fail> {
+    let parity = (Verdict::Parity, true, None);
+    for soft in [[0, -1, -1, 0], [1, 0, -3, 0]] {
+        assert_decided(rt, alloc, chain, &soft, &[false; 4], parity)?;
+    }
+    Ok(())
+}
+
+#[test]
+fn finds_codewords_without_a_certificate(rt: HostRuntime) -> Result<(), Fail> {
+    let chain = matrix_of(rt.alloc(), CHAIN)?;
+    assert_chain_decided(&rt, rt.alloc(), &chain)
+}
+
+/// What is decided of a clean frame of zeros.
+fn decided_on_zeros(alloc: Global, matrix: &Matrix) -> Result<Decided, Fail> {
+    let soft = vec![in alloc; 10i16; matrix.bits()]?;
+    let zeros = vec![in alloc; false; matrix.bits()]?;
+    decided(alloc, matrix, &soft, &zeros)
+}
+
+/// The same in a mode, by rows of weight 3 that seed 1 makes.
+fn decided_in(alloc: Global, mode: Mode) -> Result<Decided, Fail> {
+    let matrix = made_matrix(alloc, mode.shape(), 3)?;
+    decided_on_zeros(alloc, &matrix)
+}
+
+/// Judges a clean frame in each mode.
+#[test]
+fn has_room_for_every_mode(rt: HostRuntime) -> Result<(), Fail> {
+    for modcod in 1..18u8 {
+        for short in [false, true] {
+            if let Some(mode) = Mode::of(modcod, short, false) {
+                assert_eq!(rt; decided_in(rt.alloc(), mode)?, LIKELY, "MODCOD {modcod}");
+            }
+        }
+    }
+    Ok(())
+}
+
+/// Soft values of zeros in noise: each is 16 and what twelve numbers from -4 to 4 add up to.
+fn noisy_zeros(alloc: Global, count: usize) -> Result<Vec<i16>, AllocError> {
+    let mut values = Vec::new(alloc);
+    let mut state = 1u32;
+    for _value in 0..count {
+        let mut value = 16i16;
+        for _part in 0..12u32 {
+            state = next_number(state);
+            value = value.wrapping_add((state / 65536 % 9) as i16 - 4);
+        }
+        values.push(value.clamp(-63, 63))?;
+    }
+    Ok(values)
+}
+
+/// The file of a judge's certificate, empty where there is none.
+fn file_of(alloc: Global, judge: &Judge<'_>) -> Result<Vec<u8>, Fail> {
+    let mut file = Counting::new(Vec::new(alloc));
+    if let Some(view) = judge.certificate() {
+        view.write(&mut file)?;
+    }
+    Ok(file.into_inner())
+}
+
+/// A judge's verdict, and its certificate's file.
+fn certified_by(
+    alloc: Global,
+    judge: &mut Judge<'_>,
+    soft: &[i16],
+) -> Result<(Verdict, Vec<u8>), Fail>
+    requires long { length soft.now ≡ (code_of judge.old.rows).bits }
+    requires range { All IsSoft soft.now }
+{
+    let verdict = verdict_by(judge, soft);
+    Ok((verdict, file_of(alloc, judge)?))
+}
+
+/// The same by so many passes of settling.
+fn certified(
+    alloc: Global,
+    matrix: &Matrix,
+    soft: &[i16],
+    passes: u32,
+) -> Result<(Verdict, Vec<u8>), Fail> {
+    if !fits(matrix, soft) {
+        return Err(Fail::from("other values"));
+    }
+    let mut judge = judge_of(alloc, matrix, passes)?;
+    certified_by(alloc, &mut judge, soft)
+}
+
+/// What the checker says of a certificate's file.
+fn answer_on_file(alloc: Global, matrix: &Matrix, file: &[u8]) -> Result<Answer, Fail> {
+    let certificate = Certificate::read(alloc, file)?;
+    Ok(check(matrix, &certificate.view()))
+}
+
+/// Asserts that so many passes find no certificate.
+fn assert_uncertified<A: Abort>(
+    rt: &A,
+    alloc: Global,
+    matrix: &Matrix,
+    soft: &[i16],
+    passes: u32,
+) -> Result<(), Fail> {
+    let (verdict, file) = certified(alloc, matrix, soft, passes)?;
+    assert_eq!(rt; (verdict, file.len()), (Verdict::Parity, 0));
+    Ok(())
+}
+
+/// Asserts that so many passes find a certificate.
+fn assert_certified<A: Abort>(
+    rt: &A,
+    alloc: Global,
+    matrix: &Matrix,
+    soft: &[i16],
+    passes: u32,
+) -> Result<(), Fail> {
+    let (verdict, file) = certified(alloc, matrix, soft, passes)?;
+    assert_eq!(rt; verdict, Verdict::MostLikely);
+    assert_eq!(rt; answer_on_file(alloc, matrix, &file)?, Answer::Yes);
+    Ok(())
+}
+
+/// The checks of QPSK 1/2 in short frames.
+fn half_rate(alloc: Global) -> Result<Matrix, Fail> {
+    let mode = Mode::of(4, true, false).ok_or("no mode")?;
+    made_matrix(alloc, mode.shape(), 3)
+}
+
+/// Asserts that passes find the certificate of noisy zeros, and spreading does not.
+fn assert_settles<A: Abort>(rt: &A, alloc: Global, matrix: &Matrix) -> Result<(), Fail> {
+    let soft = noisy_zeros(alloc, matrix.bits())?;
+    assert_uncertified(rt, alloc, matrix, &soft, 0)?;
+    assert_certified(rt, alloc, matrix, &soft, 96)
+}
+
+/// A noisy frame of QPSK 1/2 short.
+#[test]
+fn finds_certificates_in_noise(rt: HostRuntime) -> Result<(), Fail> {
+    let matrix = half_rate(rt.alloc())?;
+    assert_settles(&rt, rt.alloc(), &matrix)
+}

@@ -1,0 +1,54 @@
+//! Tests of the codes, their decoders and their certificates, over public calls alone, with the numbers of
+//! the standard, of the format, or of another program.
+//!
+//! Each crate's tests stand in a module of its name. What several need stands in `codes` (matrices), `values`
+//! (soft values), `certificate_bytes` (a file), and `again` (calls that are made again where memory was refused).
+#![tactic(auto)]
+
+#[cfg(test)]
+mod again;
+#[cfg(test)]
+mod bch_memory_tests;
+#[cfg(test)]
+mod bch_tests;
+#[cfg(test)]
+mod certificate_bytes;
+#[cfg(test)]
+mod check_agreement;
+#[cfg(test)]
+mod check_memory_tests;
+#[cfg(test)]
+mod check_tests;
+#[cfg(test)]
+mod codes;
+#[cfg(test)]
+mod field_tests;
+#[cfg(test)]
+mod file_tests;
+#[cfg(test)]
+mod judge_memory_tests;
+#[cfg(test)]
+mod judge_tests;
+#[cfg(test)]
+mod matrix_agreement;
+#[cfg(test)]
+mod matrix_memory_tests;
+#[cfg(test)]
+mod matrix_tests;
+#[cfg(test)]
+mod minsum_agreement;
+#[cfg(test)]
+mod minsum_memory_tests;
+#[cfg(test)]
+mod minsum_tests;
+#[cfg(test)]
+mod mode_tests;
+#[cfg(test)]
+mod room_tests;
+#[cfg(test)]
+mod settle_tests;
+#[cfg(test)]
+mod split_memory_tests;
+#[cfg(test)]
+mod split_tests;
+pub mod values;

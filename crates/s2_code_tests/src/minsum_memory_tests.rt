@@ -1,0 +1,61 @@
+//! A decoder, where memory may be refused once: then it says so, and the same call again answers.
+ghost use Rattle.std.specs.Prelude.{◌≡◌, IfOk, length};
+ghost use Rattle.s2_mode.specs.Limits.{most_soft};
+ghost use Rattle.s2_minsum.specs.Decoding.{AreWithin};
+
+use super::again::matrix_of;
+use super::codes::TOY;
+use super::minsum_tests::WRONG_AFTER;
+use super::values::{WRONG, soft_values};
+use s2_matrix::Matrix;
+use s2_minsum::Decoder;
+use std::alloc::{AllocError, Global};
+use std::process::Abort;
+use std::test::Fail;
+
+fn decoder<'a>(alloc: Global, matrix: &'a Matrix) -> Result<Decoder<'a>, AllocError>
+    ensures { IfOk result (λ d. d.rows ≡ matrix.now) }
+{
+    match Decoder::new(alloc, matrix) {
+        Err(AllocError) => Decoder::new(alloc, matrix),
+        made => made,
+    }
+}
+
+fn soft(alloc: Global, values: &[i16]) -> Result<Vec<i16>, AllocError>
+    ensures long { IfOk result (λ v. length v.items ≡ length values.now) }
+    ensures small { IfOk result (λ v. AreWithin most_soft v.items) }
+{
+    match soft_values(alloc, values) {
+        Err(AllocError) => soft_values(alloc, values),
+        made => made,
+    }
+}
+
+/// Asserts the posteriors after layer 0.
+fn assert_after_layer<R: Abort>(rt: &R, matrix: &Matrix, decoder: &mut Decoder<'_>, soft: &[i16])
+    requires rows { decoder.old.rows ≡ matrix.now }
+    requires small { AreWithin most_soft soft.now }
+{
+    assert!(rt; matrix.bits() == 20 && matrix.shape().q() == 3);
+    assert_eq!(rt; soft.len(), matrix.bits());
+    decoder.load(soft);
+    decoder.layer(0);
+    for bit in 0..20usize {
+        assert_eq!(rt; decoder.posterior(bit), WRONG_AFTER[bit]);
+    }
+}
+
+/// Asserts what a new decoder does.
+fn assert_decodes<R: Abort + AllocGlobal>(rt: &R, matrix: &Matrix) -> Result<(), Fail> {
+    let soft = soft(rt.alloc(), &WRONG)?;
+    let mut decoder = decoder(rt.alloc(), matrix)?;
+    assert_after_layer(rt, matrix, &mut decoder, &soft);
+    Ok(())
+}
+
+#[test]
+fn asks_again_where_memory_is_refused(rt: HostRuntime) -> Result<(), Fail> {
+    let matrix = matrix_of(rt.alloc(), TOY)?;
+    assert_decodes(&rt, &matrix)
+}

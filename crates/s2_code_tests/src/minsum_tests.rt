@@ -1,0 +1,177 @@
+//! Small codes against a small program in another language (bench/minsum/values.py).
+ghost use Rattle.std.specs.Prelude.{◌≡◌, ◌<◌, IfOk, length};
+ghost use Rattle.s2_mode.specs.Shape.{code_bits};
+ghost use Rattle.s2_matrix.specs.Code.{code_of};
+ghost use Rattle.s2_mode.specs.Limits.{most_soft};
+ghost use Rattle.s2_minsum.specs.Decoding.{AreWithin};
+
+use super::codes::{TOY, matrix_of};
+use super::values::{WRONG, soft_values};
+use s2_matrix::Matrix;
+use s2_minsum::Decoder;
+use std::alloc::{AllocError, Global};
+use std::process::Abort;
+use std::test::Fail;
+
+// The toy code with a wrong bit; posteriors after layer 0.
+pub(crate) const WRONG_AFTER: [i16; 20] = [
+    4, 18, 18, 18, 7, 18, 18, 18, 7, 10, 18, 18, 10, 18, 18, 10, 18, 18, 10, 10,
+];
+// The messages of checks 0 to 3: check 0 is b0 b4 p0, check 3 has edges 11 to 14.
+const WRONG_SENT: [i16; 16] = [8, -3, -3, 0, 0, 0, 0, 0, 0, 0, 0, 8, 8, 8, 8, 0];
+
+// Group 4, one group, q 3, row 0 3: each information bit is twice in layer 0.
+const TWICE_AFTER: [i16; 16] = [20, 20, 20, 20, 14, 8, 14, 14, 8, 14, 14, 8, 14, 14, 8, 8];
+
+pub(crate) fn loaded<'a, R: Abort + AllocGlobal>(
+    rt: &R,
+    matrix: &'a Matrix,
+    values: &[i16],
+) -> Result<Decoder<'a>, Fail>
+    ensures { IfOk result (λ d. d.rows ≡ matrix.now) }
+{
+    let soft = soft_values(rt.alloc(), values)?;
+    assert_eq!(rt; soft.len(), matrix.bits());
+    let mut decoder = Decoder::new(rt.alloc(), matrix)?;
+    decoder.load(&soft);
+    Ok(decoder)
+}
+
+fn posteriors(alloc: Global, decoder: &Decoder, matrix: &Matrix) -> Result<Vec<i16>, AllocError>
+    requires { decoder.now.rows ≡ matrix.now }
+{
+    let mut posteriors = Vec::new(alloc);
+    for bit in 0..matrix.bits() {
+        posteriors.push(decoder.posterior(bit))?;
+    }
+    Ok(posteriors)
+}
+
+fn messages(alloc: Global, decoder: &Decoder, matrix: &Matrix) -> Result<Vec<i16>, AllocError>
+    requires { decoder.now.rows ≡ matrix.now }
+{
+    let mut messages = Vec::new(alloc);
+    for edge in 0..matrix.edges() {
+        messages.push(decoder.message(edge))?;
+    }
+    Ok(messages)
+}
+
+/// Asserts all posteriors.
+fn assert_posteriors<R: Abort + AllocGlobal>(
+    rt: &R,
+    decoder: &Decoder,
+    matrix: &Matrix,
+    want: &[i16],
+) -> Result<(), Fail>
+    requires { decoder.now.rows ≡ matrix.now }
+{
+    let found = posteriors(rt.alloc(), decoder, matrix)?;
+    assert_eq!(rt; found.as_slice(), want);
+    Ok(())
+}
+
+/// Asserts the first messages.
+fn assert_messages<R: Abort + AllocGlobal>(
+    rt: &R,
+    decoder: &Decoder,
+    matrix: &Matrix,
+    want: &[i16],
+) -> Result<(), Fail>
+    requires { decoder.now.rows ≡ matrix.now }
+{
+    let sent = messages(rt.alloc(), decoder, matrix)?;
+    assert_eq!(rt; sent.get(..want.len()), Some(want));
+    Ok(())
+}
+
+/// A decoder after layer 0.
+fn after_layer<'a, R: Abort + AllocGlobal>(
+    rt: &R,
+    matrix: &'a Matrix,
+    values: &[i16],
+) -> Result<Decoder<'a>, Fail>
+    ensures { IfOk result (λ d. d.rows ≡ matrix.now) }
+{
+    let mut decoder = loaded(rt, matrix, values)?;
+    assert!(rt; matrix.shape().q() > 0);
+    decoder.layer(0);
+    Ok(decoder)
+}
+
+/// Posteriors after so many rounds.
+fn after_rounds<R: Abort + AllocGlobal>(
+    rt: &R,
+    matrix: &Matrix,
+    values: &[i16],
+    rounds: u32,
+) -> Result<Vec<i16>, Fail> {
+    let mut decoder = loaded(rt, matrix, values)?;
+    for _rounds in 0..rounds {
+        decoder.round();
+    }
+    Ok(posteriors(rt.alloc(), &decoder, matrix)?)
+}
+
+/// Asserts the posteriors after so many rounds.
+fn assert_after_rounds<R: Abort + AllocGlobal>(
+    rt: &R,
+    matrix: &Matrix,
+    values: &[i16],
+    rounds: u32,
+    want: &[i16],
+) -> Result<(), Fail> {
+    let after = after_rounds(rt, matrix, values, rounds)?;
+    assert_eq!(rt; after.as_slice(), want);
+    Ok(())
+}
+
+/// Asserts the posteriors after layer 0.
+fn assert_posteriors_after_layer<R: Abort + AllocGlobal>(
+    rt: &R,
+    matrix: &Matrix,
+    values: &[i16],
+    want: &[i16],
+) -> Result<(), Fail> {
+    let decoder = after_layer(rt, matrix, values)?;
+    assert_posteriors(rt, &decoder, matrix, want)
+}
+
+/// Asserts the first messages after layer 0.
+fn assert_messages_after_layer<R: Abort + AllocGlobal>(
+    rt: &R,
+    matrix: &Matrix,
+    values: &[i16],
+    want: &[i16],
+) -> Result<(), Fail> {
+    let decoder = after_layer(rt, matrix, values)?;
+    assert_messages(rt, &decoder, matrix, want)
+}
+
+fn assert_sent<R: Abort + AllocGlobal>(rt: &R, toy: &Matrix) -> Result<(), Fail> {
+    assert_posteriors_after_layer(rt, toy, &WRONG, &WRONG_AFTER)?;
+    assert_messages_after_layer(rt, toy, &WRONG, &WRONG_SENT)
+}
+
+#[test]
+fn sends_the_messages_of_a_layer(rt: HostRuntime) -> Result<(), Fail> {
+    let toy = matrix_of(rt.alloc(), TOY)?;
+    assert_sent(&rt, &toy)
+}
+
+#[test]
+fn adds_both_changes_where_a_bit_is_twice_in_a_layer(rt: HostRuntime) -> Result<(), Fail> {
+    let twice = matrix_of(rt.alloc(), ([4, 1, 3], b"0 3\n"))?;
+    assert_posteriors_after_layer(&rt, &twice, &[8; 16], &TWICE_AFTER)
+}
+
+fn assert_repeated<R: Abort + AllocGlobal>(rt: &R, pair: &Matrix) -> Result<(), Fail> {
+    assert_after_rounds(rt, pair, &[-5, 3], 1, &[-2, -1])?;
+    assert_after_rounds(rt, pair, &[-5, 5], 3, &[-1, 1])
+}
+
+#[test]
+fn repeats_a_pair_of_bits(rt: HostRuntime) -> Result<(), Fail> {
+    let pair = matrix_of(rt.alloc(), ([1, 1, 1], b"0\n"))?;
+    assert_repeated(&rt, &pair)
+}

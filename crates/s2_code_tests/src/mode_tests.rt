@@ -1,0 +1,239 @@
+//! Modes and shapes of the standard, and readers and writers at concrete types.
+use s2_mode::{
+    ByOne, Counted, CountedRead, Counting, Endless, FailAt, FileFault, InMemory, Mode, ReadFault,
+    Shape, StreamFault, Symbol, WriteFault, read_all, read_full, read_symbol, write_full,
+    write_symbol,
+};
+use std::io::Read;
+use std::test::Fail;
+
+// Kbch, k, t and q of normal frames, and Kbch, k and q of short ones (tables 5a and 5b).
+const TABLE: [([usize; 4], [usize; 3]); 11] = [
+    ([16008, 16200, 12, 135], [3072, 3240, 36]),
+    ([21408, 21600, 12, 120], [5232, 5400, 30]),
+    ([25728, 25920, 12, 108], [6312, 6480, 27]),
+    ([32208, 32400, 12, 90], [7032, 7200, 25]),
+    ([38688, 38880, 12, 72], [9552, 9720, 18]),
+    ([43040, 43200, 10, 60], [10632, 10800, 15]),
+    ([48408, 48600, 12, 45], [11712, 11880, 12]),
+    ([51648, 51840, 12, 36], [12432, 12600, 10]),
+    ([53840, 54000, 10, 30], [13152, 13320, 8]),
+    ([57472, 57600, 8, 20], [14232, 14400, 5]),
+    ([58192, 58320, 8, 18], [0, 0, 0]),
+];
+
+// The line of the table of each MODCOD from 1 on: QPSK 1/4 to 9/10, then 8PSK 3/5, 2/3, 3/4, 5/6, 8/9, 9/10.
+const LINES: [usize; 17] = [0, 1, 2, 3, 4, 5, 6, 7, 8, 9, 10, 4, 5, 6, 8, 9, 10];
+
+#[test]
+fn has_the_numbers_of_the_table(rt: HostRuntime) {
+    for (at, line) in LINES.iter().enumerate() {
+        let modcod = at as u8 + 1;
+        let (normal, short) = TABLE[*line];
+        let mode = Mode::of(modcod, false, true);
+        let numbers = mode.map(|m| [m.kbch(), m.k(), m.t(), m.q()]);
+        assert_eq!(rt; numbers, Some(normal), "at {modcod}");
+        let mode = Mode::of(modcod, true, true);
+        let numbers = mode.map(|m| [m.kbch(), m.k(), m.q()]);
+        let want = if *line == 10 { None } else { Some(short) };
+        assert_eq!(rt; numbers, want, "at {modcod}");
+    }
+}
+
+#[test]
+fn has_the_modes_of_the_standard(rt: HostRuntime) -> Result<(), Fail> {
+    let mode = Mode::of(4, true, false).ok_or("none")?;
+    assert_eq!(rt;
+        [mode.kbch(), mode.k(), mode.n(), mode.t(), mode.q()],
+        [7032, 7200, 16200, 12, 25]
+    );
+    assert_eq!(rt; [mode.slots(), mode.symbols(), mode.width()], [90, 8190, 2]);
+    assert_eq!(rt; mode.shape(), Shape::new(360, 20, 25).ok_or("none")?);
+    assert!(rt; mode.is_qpsk() && mode.is_short() && !mode.has_pilots());
+    assert_eq!(rt; mode.modcod(), 4);
+    for (modcod, short) in [
+        (11, true),
+        (17, true),
+        (0, false),
+        (18, false),
+        (0, true),
+        (255, false),
+    ] {
+        assert_eq!(rt; Mode::of(modcod, short, false), None, "at {modcod}");
+    }
+    Ok(())
+}
+
+#[test]
+fn has_the_symbols_of_a_frame(rt: HostRuntime) {
+    // Slots, pilot blocks, and symbols without and with pilots.
+    let cases = [
+        (1, false, [360, 22, 32490, 33282]),
+        (1, true, [90, 5, 8190, 8370]),
+        (12, false, [240, 14, 21690, 22194]),
+        (12, true, [60, 3, 5490, 5598]),
+    ];
+    for (modcod, short, want) in cases {
+        let plain = Mode::of(modcod, short, false).map(|m| [
+            m.slots(),
+            m.pilot_blocks(),
+            m.symbols(),
+        ]);
+        assert_eq!(rt; plain, Some([want[0], 0, want[2]]), "at {modcod}");
+        let pilots = Mode::of(modcod, short, true).map(|m| [
+            m.slots(),
+            m.pilot_blocks(),
+            m.symbols(),
+        ]);
+        assert_eq!(rt; pilots, Some([want[0], want[1], want[3]]), "at {modcod}");
+    }
+}
+
+#[test]
+fn has_shapes_up_to_the_limits(rt: HostRuntime) -> Result<(), Fail> {
+    let toy = Shape::new(4, 2, 3).ok_or("none")?;
+    assert_eq!(rt; [toy.group(), toy.groups(), toy.q()], [4, 2, 3]);
+    assert_eq!(rt; [toy.k(), toy.checks(), toy.n()], [8, 12, 20]);
+    assert_eq!(rt; Shape::new(360, 45, 135).map(|s| s.n()), Some(64800));
+    for (group, groups, q) in [
+        (361, 1, 1),
+        (0, 1, 1),
+        (4, 0, 1),
+        (4, 1, 0),
+        (360, 90, 91),
+        (1, usize::MAX, 2),
+    ] {
+        assert_eq!(rt; Shape::new(group, groups, q), None);
+    }
+    Ok(())
+}
+
+#[test]
+fn reads_symbols_one_byte_at_a_time(rt: HostRuntime) -> Result<(), Fail> {
+    let bytes = [0x02, 0xbc, 0xfd, 0x44, 1];
+    let mut reader = Counting::new(ByOne::new(&bytes));
+    let first = read_symbol(&mut reader)?;
+    assert_eq!(rt; first, Some(Symbol { i: 700, q: -700 }));
+    assert!(rt; reader.count() < 1);
+    assert_eq!(rt; read_symbol(&mut reader)?, None);
+    Ok(())
+}
+
+#[test]
+fn reads_a_byte_at_a_time(rt: HostRuntime) -> Result<(), Fail> {
+    let mut buf = [0; 3];
+    assert_eq!(rt; ByOne::new(b"ab").read(&mut buf)?, 1);
+    let mut reader = Counting::new(ByOne::new(b"ab"));
+    assert_eq!(rt; read_full(&mut reader, &mut buf), Ok(2));
+    assert_eq!(rt; buf, *b"ab\0");
+    Ok(())
+}
+
+#[test]
+fn writes_what_is_read(rt: HostRuntime) -> Result<(), Fail> {
+    let mut writer = Counting::new(Vec::new(rt.alloc()));
+    write_symbol(&mut writer, Symbol { i: -32768, q: 255 })?;
+    let written = writer.into_inner();
+    assert_eq!(rt; written.as_slice(), [0x80, 0, 0, 255].as_slice());
+    let mut reader = InMemory::new(&written);
+    assert_eq!(rt; reader.count(), 0);
+    assert_eq!(rt;
+        read_symbol(&mut reader),
+        Ok(Some(Symbol { i: -32768, q: 255 }))
+    );
+    Ok(())
+}
+
+#[test]
+fn counts_a_failed_read(rt: HostRuntime) {
+    let mut reader = Counting::new(FailAt::new(ByOne::new(b"abcde"), 4));
+    let mut buf = [0; 3];
+    assert_eq!(rt; read_full(&mut reader, &mut buf), Ok(3));
+    assert_eq!(rt; reader.count(), 0);
+    assert_eq!(rt; read_symbol(&mut reader), Err(ReadFault));
+    assert_eq!(rt; reader.count(), 1);
+    assert_eq!(rt; reader.read(&mut buf), Err(ReadFault));
+    assert_eq!(rt; reader.count(), 2);
+    assert_eq!(rt;
+        read_all(rt.alloc(), &mut reader, 9).err(),
+        Some(FileFault::Read)
+    );
+    assert_eq!(rt; reader.count(), 3);
+}
+
+#[test]
+fn keeps_what_came_before_a_failed_read(rt: HostRuntime) {
+    let mut reader = Counting::new(FailAt::new(ByOne::new(b"abc"), 2));
+    let mut buf = [0; 3];
+    assert_eq!(rt; read_full(&mut reader, &mut buf), Err(ReadFault));
+    assert_eq!(rt; buf, *b"ab\0");
+}
+
+#[test]
+fn counts_a_write_that_takes_nothing(rt: HostRuntime) {
+    let mut room = [0; 2];
+    let mut writer = Counting::new(room.as_mut_slice());
+    assert_eq!(rt; write_full(&mut writer, b"abc"), Err(WriteFault));
+    assert_eq!(rt; writer.count(), 1);
+    assert_eq!(rt; room, *b"ab");
+}
+
+#[test]
+fn says_what_failed(rt: HostRuntime) -> Result<(), Fail> {
+    let texts = [
+        (format!(in rt.alloc(); "{}", ReadFault)?, "cannot read"),
+        (format!(in rt.alloc(); "{}", WriteFault)?, "cannot write"),
+        (
+            format!(in rt.alloc(); "{}", StreamFault::Read)?,
+            "cannot read",
+        ),
+        (
+            format!(in rt.alloc(); "{}", StreamFault::Write)?,
+            "cannot write",
+        ),
+        (
+            format!(in rt.alloc(); "{}", FileFault::Read)?,
+            "cannot read",
+        ),
+        (
+            format!(in rt.alloc(); "{}", FileFault::TooLong)?,
+            "file too long",
+        ),
+        (
+            format!(in rt.alloc(); "{}", FileFault::NoMemory)?,
+            "no memory",
+        ),
+    ];
+    for (text, want) in texts {
+        assert_eq!(rt; text.as_str(), want);
+    }
+    Ok(())
+}
+
+#[test]
+fn reads_from_memory(rt: HostRuntime) -> Result<(), Fail> {
+    let mut reader = InMemory::new(b"abc");
+    let all = read_all(rt.alloc(), &mut reader, 4)?;
+    assert_eq!(rt; all.as_slice(), b"abc".as_slice());
+    Ok(())
+}
+
+#[test]
+fn gives_up_on_an_endless_reader(rt: HostRuntime) {
+    let mut reader = Counting::new(Endless::new(b"abc"));
+    let all = read_all(rt.alloc(), &mut reader, 100);
+    assert_eq!(rt; all.err(), Some(FileFault::TooLong));
+}
+
+#[test]
+fn counts_a_failed_write(rt: HostRuntime) -> Result<(), Fail> {
+    let mut writer = Counting::new(FailAt::new(Vec::new(rt.alloc()), 1));
+    write_full(&mut writer, b"ab")?;
+    assert_eq!(rt; writer.count(), 0);
+    assert!(rt; writer.count() < 1);
+    assert_eq!(rt; write_full(&mut writer, b"cd"), Err(WriteFault));
+    assert_eq!(rt; writer.count(), 1);
+    let written = writer.into_inner().into_inner();
+    assert_eq!(rt; written.as_slice(), b"ab".as_slice());
+    Ok(())
+}

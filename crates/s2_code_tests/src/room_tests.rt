@@ -1,0 +1,90 @@
+//! That memory is enough for each mode: nothing is refused where it is there. Pilots change no code, so that the
+//! modes without them have every shape.
+ghost use Rattle.std.specs.Prelude.{◌≡◌, length};
+ghost use Rattle.s2_matrix.specs.Code.{code_of};
+
+use super::codes::made_matrix;
+use super::values::are_soft;
+use s2_bits::Bits;
+use s2_matrix::Matrix;
+use s2_minsum::Decoder;
+use s2_mode::Mode;
+use s2_settle::Settler;
+use s2_split::Maker;
+use std::alloc::{AllocError, Global};
+use std::process::Abort;
+use std::test::Fail;
+
+/// Asserts that what is repaired is the word of zeros, and that it has a split.
+fn assert_repaired<R: Abort>(rt: &R, maker: &mut Maker<'_>, soft: &[i16], word: &mut Bits)
+    requires soft { length soft.now ≡ (code_of maker.old.rows).bits }
+    requires word { length word.old ≡ (code_of maker.old.rows).bits }
+{
+    maker.repair_into(soft, word);
+    assert_eq!(rt; word.count_ones(), 0);
+    assert!(rt; are_soft(soft));
+    assert!(rt; maker.make(soft, word).is_some());
+}
+
+/// Asserts that a wrong bit is repaired.
+fn assert_wrong_bit_repaired<R: Abort>(
+    rt: &R,
+    alloc: Global,
+    matrix: &Matrix,
+    maker: &mut Maker<'_>,
+) -> Result<(), Fail>
+    requires { maker.old.rows ≡ matrix.now }
+{
+    assert!(rt; matrix.bits() > 0);
+    let mut soft = vec![in alloc; 10i16; matrix.bits()]?;
+    soft[0] = -4;
+    let mut word = Bits::zeroed(alloc, matrix.bits())?;
+    assert_repaired(rt, maker, &soft, &mut word);
+    Ok(())
+}
+
+/// Asserts that a new maker has room for a code.
+fn assert_maker_has_room<R: Abort>(rt: &R, alloc: Global, matrix: &Matrix) -> Result<(), Fail> {
+    let mut maker = Maker::new(alloc, matrix)?;
+    assert_wrong_bit_repaired(rt, alloc, matrix, &mut maker)
+}
+
+/// Makes a decoder.
+fn decoder_has_room(alloc: Global, matrix: &Matrix) -> Result<(), AllocError> {
+    let _decoder = Decoder::new(alloc, matrix)?;
+    Ok(())
+}
+
+/// Makes a settler.
+fn settler_has_room(alloc: Global, matrix: &Matrix) -> Result<(), AllocError> {
+    let _settler = Settler::new(alloc, matrix)?;
+    Ok(())
+}
+
+/// Asserts that all three have room for a code.
+fn assert_have_room<R: Abort>(rt: &R, alloc: Global, matrix: &Matrix) -> Result<(), Fail> {
+    decoder_has_room(alloc, matrix)?;
+    settler_has_room(alloc, matrix)?;
+    assert_maker_has_room(rt, alloc, matrix)
+}
+
+/// Asserts that all three have room for a mode.
+fn assert_have_room_in<R: Abort>(rt: &R, alloc: Global, mode: Mode) -> Result<(), Fail> {
+    let matrix = made_matrix(alloc, mode.shape(), 3)?;
+    assert_have_room(rt, alloc, &matrix)
+}
+
+#[test]
+fn have_room_for_every_mode(rt: HostRuntime) -> Result<(), Fail> {
+    let mut modes = 0u8;
+    for modcod in 1..18u8 {
+        for short in [false, true] {
+            if let Some(mode) = Mode::of(modcod, short, false) {
+                modes = modes.wrapping_add(1);
+                assert_have_room_in(&rt, rt.alloc(), mode)?;
+            }
+        }
+    }
+    assert_eq!(rt; modes, 32);
+    Ok(())
+}

@@ -1,0 +1,169 @@
+//! Splits on small codes. The numbers are those of a program that makes splits by the plain rules.
+ghost use Rattle.std.specs.Prelude.{◌≡◌, ◌≢◌, All, IsTrue, None, length};
+ghost use Rattle.s2_matrix.specs.Code.{code_of};
+ghost use Rattle.s2_check.specs.Views.{IsSoft};
+
+use super::codes::{Code, TOY, matrix_of};
+use super::values::{WEAK, WRONG, are_soft};
+use s2_bits::Bits;
+use s2_check::{Answer, CertView, check};
+use s2_matrix::Matrix;
+use s2_split::Maker;
+use std::alloc::Global;
+use std::process::Abort;
+use std::test::Fail;
+
+/// What is made for a word of zeros under these values: a scale, 0 for none, and the first shares.
+#[derive(Clone, Copy)]
+struct Made<'a> {
+    soft: &'a [i16],
+    scale: u16,
+    shares: &'a [i32],
+}
+
+/// Asserts that a view has this scale and these first shares, and that the checker accepts it.
+fn assert_view<R: Abort>(rt: &R, matrix: &Matrix, view: &CertView<'_>, made: &Made<'_>) {
+    assert_eq!(rt; view.scale(), made.scale);
+    assert!(rt; made.shares.len() <= view.share_count());
+    for edge in 0..made.shares.len() {
+        assert_eq!(rt; view.share(edge), made.shares[edge]);
+    }
+    assert_eq!(rt; check(matrix, view), Answer::Yes);
+}
+
+/// Whether a split is made for a word.
+fn is_certified(maker: &mut Maker<'_>, soft: &[i16], word: &Bits) -> bool
+    requires soft { length soft.now ≡ (code_of maker.old.rows).bits }
+    requires range { All IsSoft soft.now }
+    requires word { length word.now ≡ (code_of maker.old.rows).bits }
+    ensures rows { maker.new.rows ≡ maker.old.rows }
+    ensures word { maker.new.word ≡ word.now }
+    ensures found { IsTrue result → maker.new.made ≢ None }
+{
+    maker.certify(soft, word)
+}
+
+/// Asserts what is made.
+fn assert_made<R: Abort>(
+    rt: &R,
+    alloc: Global,
+    matrix: &Matrix,
+    maker: &mut Maker<'_>,
+    made: &Made<'_>,
+) -> Result<(), Fail>
+    requires { maker.old.rows ≡ matrix.now }
+    ensures { maker.new.rows ≡ matrix.now }
+{
+    let word = Bits::zeroed(alloc, matrix.bits())?;
+    assert_eq!(rt; made.soft.len(), matrix.bits());
+    assert!(rt; are_soft(made.soft));
+    if is_certified(maker, made.soft, &word) {
+        assert_view(rt, matrix, &maker.held(made.soft, &word), made);
+    } else {
+        assert_eq!(rt; made.scale, 0);
+    }
+    Ok(())
+}
+
+/// Asserts what a maker makes of frame after frame.
+fn assert_frames<R: Abort>(
+    rt: &R,
+    alloc: Global,
+    matrix: &Matrix,
+    maker: &mut Maker<'_>,
+    frames: &[Made<'_>],
+) -> Result<(), Fail>
+    requires { maker.old.rows ≡ matrix.now }
+{
+    for frame in frames {
+        assert_made(rt, alloc, matrix, maker, frame)?;
+    }
+    Ok(())
+}
+
+/// Asserts what a new maker makes of frame after frame.
+fn assert_made_anew<R: Abort>(
+    rt: &R,
+    alloc: Global,
+    matrix: &Matrix,
+    frames: &[Made<'_>],
+) -> Result<(), Fail> {
+    let mut maker = Maker::new(alloc, matrix)?;
+    assert_frames(rt, alloc, matrix, &mut maker, frames)
+}
+
+/// Asserts what a new maker makes of frame after frame, in the code of a row file.
+fn assert_all_made<R: Abort + AllocGlobal>(
+    rt: &R,
+    code: Code<'_>,
+    frames: &[Made<'_>],
+) -> Result<(), Fail> {
+    let matrix = matrix_of(rt.alloc(), code)?;
+    assert_made_anew(rt, rt.alloc(), &matrix, frames)
+}
+
+/// A wrong bit, then one whose neighbours are weak, then the first again: what was made of one
+/// frame doesn't matter to the next.
+#[test]
+fn makes_greedy_and_spread_splits(rt: HostRuntime) -> Result<(), Fail> {
+    let greedy = Made {
+        soft: &WRONG,
+        scale: 1,
+        shares: &[-4, 4, 4, 0, 0, 0, 0],
+    };
+    let spread = Made {
+        soft: &WEAK,
+        scale: 16,
+        shares: &[-40, 40, 40, 24, -24, 24, 24],
+    };
+    assert_all_made(&rt, TOY, &[greedy, spread, greedy])
+}
+
+#[test]
+fn finds_no_split_of_a_word_that_costs_more(rt: HostRuntime) -> Result<(), Fail> {
+    let none = Made {
+        soft: &[-5, 3],
+        scale: 0,
+        shares: &[],
+    };
+    assert_all_made(&rt, ([1, 1, 1], b"0\n"), &[none])
+}
+
+const FOUND_BY_63: [i16; 12] = [21, 15, -12, 24, -23, -3, -1, 0, -47, 61, -7, 34];
+
+const AFTER_63: [i32; 23] = [
+    0, 240, -240, 48, 48, -48, 432, -432, 64, -64, 16, -16, 0, 0, 0, 0, 0, -752, 752, 112, -112, 0,
+    0,
+];
+
+const FOUND_BY_64: [i16; 12] = [21, 15, -12, 24, -23, -3, -1, 0, -49, 60, -7, 34];
+
+const AFTER_64: [i32; 23] = [
+    0, 240, -240, 48, 48, -48, 432, -432, 64, -64, 16, -16, 0, 0, 0, 0, 0, -784, 784, 112, -112, 0,
+    0,
+];
+
+const NOT_FOUND: [i16; 12] = [21, 15, -12, 24, -23, -3, -1, 0, -50, 63, -7, 34];
+
+/// A split that is found after 63 passes, one after all 64, and one that would take another pass.
+#[test]
+fn makes_64_passes(rt: HostRuntime) -> Result<(), Fail> {
+    let frames = [
+        Made {
+            soft: &FOUND_BY_63,
+            scale: 16,
+            shares: &AFTER_63,
+        },
+        Made {
+            soft: &FOUND_BY_64,
+            scale: 16,
+            shares: &AFTER_64,
+        },
+        Made {
+            soft: &NOT_FOUND,
+            scale: 0,
+            shares: &[],
+        },
+    ];
+    assert_all_made(&rt, ([1, 1, 11], b"2 7\n"), &frames)
+}

@@ -1,0 +1,46 @@
+//! Soft values, and numbers of no order.
+ghost use Rattle.std.specs.Prelude.{◌≡◌, All, IfOk, IsTrue, length};
+ghost use Rattle.s2_mode.specs.Limits.{most_soft};
+ghost use Rattle.s2_check.specs.Views.{IsSoft};
+ghost use Rattle.s2_minsum.specs.Decoding.{AreWithin};
+
+use std::alloc::{AllocError, Global};
+
+/// A wrong bit: of 20 values all are 10 but the first.
+pub const WRONG: [i16; 20] = [
+    -4, 10, 10, 10, 10, 10, 10, 10, 10, 10, 10, 10, 10, 10, 10, 10, 10, 10, 10, 10,
+];
+
+/// A wrong bit whose neighbours are weak.
+pub const WEAK: [i16; 20] = [
+    -4, 10, 10, 10, 1, 1, 1, 10, 10, 10, 10, 10, 10, 10, 10, 10, 10, 10, 10, 10,
+];
+
+/// Whether all values lie within the limits of a soft value.
+pub fn are_soft(values: &[i16]) -> bool
+    ensures { IsTrue result → All IsSoft values.now }
+{
+    for value in values {
+        if *value < -63 || *value > 63 {
+            return false;
+        }
+    }
+    true
+}
+
+/// These values, none of a size over 63.
+pub fn soft_values(alloc: Global, values: &[i16]) -> Result<Vec<i16>, AllocError>
+    ensures long { IfOk result (λ v. length v.items ≡ length values.now) }
+    ensures small { IfOk result (λ v. AreWithin most_soft v.items) }
+{
+    let mut soft = Vec::new(alloc);
+    for value in values {
+        soft.push((*value).clamp(-63, 63))?;
+    }
+    Ok(soft)
+}
+
+/// The next number of no order.
+pub fn next_number(number: u32) -> u32 {
+    number.wrapping_mul(1664525).wrapping_add(1013904223)
+}

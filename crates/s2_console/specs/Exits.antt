@@ -1,0 +1,66 @@
+-- How a run of the program ends.
+use Rattle.std.specs.Prelude.{◌≡◌, ◌⊎◌, ℕ, ◌+◌, List, ⊤, Option, Result, Ok, Err}
+use Rattle.std.specs.Io.KnownBytes.{Appends}
+use Rattle.s2_mode.specs.Pieces.{AppendsPart}
+use Rattle.s2_console.specs.declared.printed.Printed.{Printed}
+use Rattle.s2_console.specs.declared.exit.Exit.{Exit}
+use Rattle.s2_console.specs.declared.exit.Exit.TheVariants as exits
+use Rattle.s2_console.specs.declared.fault.Fault.{Fault}
+use Rattle.s2_console.specs.declared.fault.Fault.TheVariants as faults
+use Rattle.s2_console.specs.Faults.{fault_line}
+use Rattle.s2_console.specs.Screens.{Screen}
+
+-- What was answered is what its input says, unless memory ran out or a device failed.
+abbrev pub Follows : {V T : Type 0} → (V → T) → Result V Fault → Result T Fault → Type 0
+Follows view (Ok v) planned = planned ≡ Ok (view v)
+Follows view (Err faults.Read) planned = ⊤
+Follows view (Err faults.Write) planned = ⊤
+Follows view (Err faults.NoMemory) planned = ⊤
+Follows view (Err f) planned = planned ≡ Err f
+
+-- What a command has to print says what it is to say of an input, or the input is refused. `IsInput` says of an answer that it
+-- is what the command's files say. Nothing is said where memory ran out or a device failed.
+abbrev pub CommandAnswers : {I : Type 0} → (I → Exit → List ℕ → Type 0) → (Result I Fault → Type 0) → Result Printed Fault → Type 0
+CommandAnswers {I} Says IsInput (Ok printed) = (input : I) × IsInput (Ok input) × Says input printed.exit printed.text
+CommandAnswers Says IsInput (Err faults.Read) = ⊤
+CommandAnswers Says IsInput (Err faults.Write) = ⊤
+CommandAnswers Says IsInput (Err faults.NoMemory) = ⊤
+CommandAnswers Says IsInput (Err f) = IsInput (Err f)
+
+-- What stands in the output after a text was printed with this exit: all of it, or where the writer failed a part.
+abbrev pub Prints : Exit → List ℕ → Result Exit Fault → Option (List ℕ) → Option (List ℕ) → Type 0
+Prints exit text (Ok ended) old new = (ended ≡ exit) × Appends old new text
+Prints exit text (Err faults.Write) old new = AppendsPart text old new
+Prints exit text (Err f) old new = ⊥
+
+-- A command that holds its output back, on an input: it printed what it says of the input, all of it, or where a writer failed
+-- a part from the first byte on. Or the input is refused and nothing is printed. Where memory ran out or a reader failed nothing
+-- is printed either.
+abbrev pub CommandRuns : {I : Type 0} → (I → Exit → List ℕ → Type 0) → (Result I Fault → Type 0) → Result Exit Fault → Option (List ℕ) → Option (List ℕ) → Type 0
+CommandRuns {I} Says IsInput (Ok exit) old new = (input : I) × IsInput (Ok input) × ((text : List ℕ) × Says input exit text × Appends old new text)
+CommandRuns {I} Says IsInput (Err faults.Write) old new = (new ≡ old) ⊎ ((input : I) × IsInput (Ok input) × ((exit : Exit) × ((text : List ℕ) × Says input exit text × AppendsPart text old new)))
+CommandRuns Says IsInput (Err faults.Read) old new = new ≡ old
+CommandRuns Says IsInput (Err faults.NoMemory) old new = new ≡ old
+CommandRuns Says IsInput (Err f) old new = IsInput (Err f) × (new ≡ old)
+
+-- The causes of a failed device: the count of failed reads rose, or that of failed writes.
+abbrev pub CommandCounts : Result Exit Fault → ℕ → ℕ → ℕ → ℕ → Type 0
+CommandCounts (Err faults.Read) reads reads_after writes writes_after = (reads_after ≡ reads + 1) × (writes_after ≡ writes)
+CommandCounts (Err faults.Write) reads reads_after writes writes_after = (reads_after ≡ reads) × (writes_after ≡ writes + 1)
+CommandCounts ended reads reads_after writes writes_after = (reads_after ≡ reads) × (writes_after ≡ writes)
+
+abbrev pub exit_of : Result Exit Fault → Exit
+exit_of (Ok exit) = exit
+exit_of (Err f) = exits.Fault
+
+-- What a command wrote to its errors: the line of a fault, and nothing where there was none. The line may be lost only where
+-- its writer failed.
+abbrev pub Complains : Result Exit Fault → Screen → Screen → Type 0
+Complains (Ok exit) old new = (new.errors_failed ≡ old.errors_failed) × (new.errors ≡ old.errors)
+Complains (Err f) old new = new.errors_failed ≡ old.errors_failed → Appends old.errors new.errors (fault_line f)
+
+-- the number that the program ends with
+abbrev pub status_of : Exit → ℕ
+status_of exits.Fine = 0
+status_of exits.Fault = 1
+status_of exits.No = 2

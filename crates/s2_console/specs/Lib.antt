@@ -1,0 +1,4 @@
+pub mod Exits
+pub mod Faults
+pub mod Lines
+pub mod Screens

@@ -1,0 +1,11 @@
+-- Lines in the making.
+use Rattle.std.specs.Prelude.{◌≡◌, ℕ}
+use Rattle.s2_console.specs.declared.line.TheConstants.{LINE_ROOM}
+
+-- the most bytes of a line
+abbrev pub line_room : ℕ
+line_room = 256
+
+-- the room that the code has is this
+abbrev pub LimitsLaw : Type 0
+LimitsLaw = LINE_ROOM ≡ line_room

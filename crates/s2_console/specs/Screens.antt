@@ -1,0 +1,18 @@
+-- What a command prints and complains, as it is seen.
+use Rattle.std.specs.Prelude.{ℕ, List, Option}
+use Rattle.s2_mode.specs.Counts.{CanCount}
+
+-- what stands in a console's output and in its errors, where that is known, and how many calls of each have failed
+pub record Screen : Type 0 where
+  pub output : Option (List ℕ)
+  pub output_failed : ℕ
+  pub errors : Option (List ℕ)
+  pub errors_failed : ℕ
+
+abbrev pub screen_of : Option (List ℕ) → ℕ → Option (List ℕ) → ℕ → Screen
+screen_of output output_failed errors errors_failed =
+    record { output = output; output_failed = output_failed; errors = errors; errors_failed = errors_failed }
+
+-- one more failed call of each can be counted
+abbrev pub CanShow : Screen → Type 0
+CanShow screen = CanCount screen.output_failed × CanCount screen.errors_failed

@@ -1,0 +1,30 @@
+//! How a command ends.
+ghost use Rattle.std.specs.Prelude.{◌≡◌};
+ghost use Rattle.std.specs.Process.{exit_status};
+ghost use Rattle.s2_console.specs.Exits.{status_of};
+
+use std::process::ExitCode;
+
+/// How a command ends.
+#[derive(Clone, Copy, Debug, PartialEq, Eq)]
+pub enum Exit {
+    /// All went well.
+    Fine,
+    /// A usage fault, or a fault whose line is on standard error.
+    Fault,
+    /// The answer is no, or a word is not known to be most likely.
+    No,
+}
+
+impl Exit {
+    /// The code that the program answers: 0, 1 or 2.
+    pub fn code(self) -> ExitCode
+        ensures { exit_status result ≡ status_of self }
+    {
+        match self {
+            Exit::Fine => ExitCode::SUCCESS,
+            Exit::Fault => ExitCode::FAILURE,
+            Exit::No => ExitCode::from(2),
+        }
+    }
+}

@@ -1,0 +1,115 @@
+//! Faults, and their lines on the errors.
+ghost use Rattle.std.specs.Prelude.{◌≡◌, ◌++◌, codes, OnOk};
+ghost use Rattle.std.specs.Io.KnownBytes.{Appends};
+ghost use Rattle.s2_mode.specs.Counts.{CanCount, CountsFault};
+ghost use Rattle.s2_mode.specs.FaultTexts.{said};
+ghost use Rattle.s2_console.specs.Faults.{fault_text, fault_line, phrase_text, end_text};
+
+use crate::line::Line;
+use crate::told::Told;
+use s2_mode::{CountedWrite, FaultText, WriteFault, write_full};
+
+/// Why a command ended without an answer.
+#[derive(Drop)]
+pub enum Fault<'a> {
+    /// The file of this name cannot be opened or made.
+    Open(&'a str),
+    Read,
+    Write,
+    TooLong,
+    NoMemory,
+    /// What was asked for, or what a file holds, is refused: what the refusal says.
+    Told(Told),
+}
+
+impl<'a> Fault<'a> {
+    /// The fault that says this.
+    pub fn told(text: FaultText) -> Fault<'a>
+        ensures { result ≡ Fault.Told (said text) }
+    {
+        Fault::Told(Told::new("", text))
+    }
+
+    /// The fault that says this of a subject.
+    pub fn about(subject: &'static str, text: FaultText) -> Fault<'a>
+        ensures { result ≡ Fault.Told (subject.entry.now ++ said text) }
+    {
+        Fault::Told(Told::new(subject, text))
+    }
+}
+
+/// The line of a fault in its parts: what it is about, what is wrong, and for some the number of a
+/// line or a packet.
+#[derive(Clone, Copy)]
+struct Phrase<'a> {
+    about: &'a str,
+    words: &'a str,
+    number: Option<u64>,
+}
+
+fn plain<'a>(about: &'a str, words: &'a str) -> Phrase<'a>
+    ensures { phrase_text result ≡ about.entry.now ++ words.entry.now }
+{
+    Phrase {
+        about,
+        words,
+        number: None,
+    }
+}
+
+/// The parts of what another crate's fault says.
+fn parts_of<'a>(told: Told) -> Phrase<'a>
+    ensures { phrase_text result ≡ told }
+{
+    let (about, text) = told.parts();
+    Phrase {
+        about,
+        words: text.words,
+        number: text.number,
+    }
+}
+
+fn phrase_of<'a>(fault: Fault<'a>) -> Phrase<'a>
+    ensures { phrase_text result ≡ fault_text fault.entry }
+{
+    match fault {
+        Fault::Open(name) => plain("cannot open ", name),
+        Fault::Read => plain("", "cannot read"),
+        Fault::Write => plain("", "cannot write"),
+        Fault::TooLong => plain("", "file too long"),
+        Fault::NoMemory => plain("", "no memory"),
+        Fault::Told(told) => parts_of(told),
+    }
+}
+
+/// The end of a fault's line: its number, where it has one.
+fn end_of(number: Option<u64>) -> Line
+    ensures { result ≡ end_text number }
+{
+    let mut line = Line::new();
+    if let Some(number) = number {
+        line.push_number("", number);
+    }
+    line.push("\n");
+    line
+}
+
+fn write_phrase<W: CountedWrite>(out: &mut W, phrase: Phrase<'_>) -> Result<(), WriteFault>
+    requires { CanCount (W.count out.old) }
+    ensures bytes { OnOk result (Appends (W.contents out.old) (W.contents out.new) (phrase_text phrase.entry ++ codes "\n")) }
+    ensures cause { CountsFault (W.count out.old) (W.count out.new) result }
+{
+    write_full(out, phrase.about.as_bytes())?;
+    write_full(out, phrase.words.as_bytes())?;
+    write_full(out, end_of(phrase.number).as_bytes())
+}
+
+/// Writes the line of a fault.
+pub(crate) fn write_fault<W: CountedWrite>(out: &mut W, fault: Fault<'_>) -> Result<(), WriteFault>
+    requires { CanCount (W.count out.old) }
+    ensures line { OnOk result (Appends (W.contents out.old) (W.contents out.new) (fault_line fault.entry)) }
+    ensures cause { CountsFault (W.count out.old) (W.count out.new) result }
+{
+    write_full(out, "s2: ".as_bytes())?;
+    write_phrase(out, phrase_of(fault))
+}

@@ -1,0 +1,109 @@
+-- What files say, put together.
+use Rattle.std.proofs.Common.{◌≡◌, ℕ, ℤ, List, Option, Some, None, Result, Ok, Err, ap, ◌∙◌, subst, sym}
+use Rattle.std.specs.Prelude.{IfSome}
+use Rattle.s2_mode.specs.Shape.{Shape}
+use Rattle.s2_rows.specs.Rows.{Rows}
+use Rattle.s2_rows.specs.RowFiles as row_files
+use Rattle.s2_check.specs.Views.{View}
+use Rattle.s2_check.specs.CertificateFiles as certificate_files
+use Rattle.s2_console.specs.declared.printed.Printed.{Printed}
+use Rattle.s2_console.specs.declared.exit.Exit.{Exit}
+use Rattle.s2_console.specs.declared.fault.Fault.{Fault}
+use Rattle.s2_console.specs.declared.fault.Fault.TheVariants as faults
+use Rattle.s2_console.specs.Exits.{Follows, CommandAnswers}
+use Rattle.s2_evidence.specs.Inputs.{taken, rows_said, rows_in, values_in, then_values, inputs, AreInputs, IsOnly}
+use Rattle.s2_evidence.specs.Checking.{certificate_said, with_rows, beside, then_parts, parts_in, AreRowsBeside, ArePartsIn, AreCheckInputs, IsAnswered}
+use Rattle.s2_console.proofs.CommandLemmas.{answers_moved, told}
+
+-- ---- rows and soft values
+
+both : (a : Result Rows Fault) (b : Result (List ℤ) Fault) (rows : Rows) (soft : List ℤ) → a ≡ Ok rows → b ≡ Ok soft → then_values a b ≡ Ok (rows, soft)
+both a b rows soft p q = ap (λ x. then_values x b) p ∙ ap (then_values (Ok rows)) q
+
+-- the files say these rows and soft values
+pub are_inputs : (shape : Shape) (known_rows known_soft : Option (List ℕ)) (rows : Rows) (soft : List ℤ)
+    → IfSome known_rows (λ xs. rows_in shape xs ≡ Ok rows) → IfSome known_soft (λ ys. values_in shape ys ≡ Ok soft) → AreInputs shape known_rows known_soft (Ok (rows, soft))
+are_inputs shape None known_soft rows soft p q = tt
+are_inputs shape (Some xs) None rows soft p q = tt
+are_inputs shape (Some xs) (Some ys) rows soft p q = both (rows_in shape xs) (values_in shape ys) rows soft p q
+
+-- refused rows
+pub rows_refused : {W : Type 0} → (view : W → Rows × List ℤ) (shape : Shape) (known_rows known_soft : Option (List ℕ)) (f : Fault)
+    → IfSome known_rows (λ xs. Follows {V = Rows} (λ r. r) (Err f) (rows_in shape xs)) → IfSome known_rows (λ xs. IfSome known_soft (λ ys. Follows view (Err f) (inputs shape xs ys)))
+rows_refused view shape None known_soft f h = tt
+rows_refused view shape (Some xs) None f h = tt
+rows_refused view shape (Some xs) (Some ys) f h = told {V = Rows} (λ r. r) view f (rows_in shape xs) (inputs shape xs ys) (ap (λ r. then_values r (values_in shape ys))) h
+
+-- refused soft values
+pub values_refused : {V W : Type 0} → (read : Result V Fault) (values : V → List ℤ) (view : W → Rows × List ℤ) (shape : Shape) (known_rows known_soft : Option (List ℕ)) (rows : Rows) (f : Fault)
+    → IfSome known_rows (λ xs. rows_in shape xs ≡ Ok rows) → IfSome known_soft (λ ys. Follows values (Err f) (values_in shape ys))
+    → IfSome known_rows (λ xs. IfSome known_soft (λ ys. Follows view (Err f) (inputs shape xs ys)))
+values_refused read values view shape None known_soft rows f p h = tt
+values_refused read values view shape (Some xs) None rows f p h = tt
+values_refused read values view shape (Some xs) (Some ys) rows f p h =
+    told values view f (values_in shape ys) (inputs shape xs ys) (λ e. ap (λ r. then_values r (values_in shape ys)) p ∙ ap (then_values (Ok rows)) e) h
+
+-- a command on files that are refused
+pub refused_inputs : {W : Type 0} → (Says : Rows × List ℤ → Exit → List ℕ → Type 0) (view : W → Rows × List ℤ) (shape : Shape) (known_rows known_soft : Option (List ℕ)) (f : Fault)
+    → IfSome known_rows (λ xs. IfSome known_soft (λ ys. Follows view (Err f) (inputs shape xs ys))) → CommandAnswers Says (AreInputs shape known_rows known_soft) (Err f)
+refused_inputs Says view shape known_rows known_soft faults.Read h = tt
+refused_inputs Says view shape known_rows known_soft faults.Write h = tt
+refused_inputs Says view shape known_rows known_soft faults.NoMemory h = tt
+refused_inputs Says view shape known_rows known_soft (faults.Open name) h = h
+refused_inputs Says view shape known_rows known_soft faults.TooLong h = h
+refused_inputs Says view shape known_rows known_soft (faults.Told words) h = h
+
+-- a command on files that were read
+pub on_inputs : (Says : Rows × List ℤ → Exit → List ℕ → Type 0) (shape : Shape) (known_rows known_soft : Option (List ℕ)) (rows : Rows) (soft : List ℤ) (made : Result Printed Fault)
+    → AreInputs shape known_rows known_soft (Ok (rows, soft)) → CommandAnswers Says (IsOnly (rows, soft)) made → CommandAnswers Says (AreInputs shape known_rows known_soft) made
+on_inputs Says shape known_rows known_soft rows soft made is h =
+    answers_moved Says (IsOnly (rows, soft)) (AreInputs shape known_rows known_soft) made (λ said e. subst (AreInputs shape known_rows known_soft) (sym e) is) h
+
+-- ---- rows and a certificate
+
+-- a certificate beside which the rows are refused
+pub rows_beside_refused : (text : List ℕ) (view : View) (f : Fault) → Follows {V = Rows} (λ r. r) (Err f) (rows_said view.shape (row_files.rows_of_text text view.shape))
+    → CommandAnswers IsAnswered (AreRowsBeside text view) (Err f)
+rows_beside_refused text view faults.Read h = tt
+rows_beside_refused text view faults.Write h = tt
+rows_beside_refused text view faults.NoMemory h = tt
+rows_beside_refused text view (faults.Open name) h = ap (beside view) h
+rows_beside_refused text view faults.TooLong h = ap (beside view) h
+rows_beside_refused text view (faults.Told words) h = ap (beside view) h
+
+-- a certificate beside which the rows are read
+pub on_rows : (text : List ℕ) (view : View) (rows : Rows) (made : Result Printed Fault) → rows_said view.shape (row_files.rows_of_text text view.shape) ≡ Ok rows
+    → CommandAnswers IsAnswered (IsOnly (rows, view)) made → CommandAnswers IsAnswered (AreRowsBeside text view) made
+on_rows text view rows made p h = answers_moved IsAnswered (IsOnly (rows, view)) (AreRowsBeside text view) made (λ said e. ap (beside view) p ∙ sym e) h
+
+-- a certificate that is refused
+pub certificate_refused : (text certificate : List ℕ) (f : Fault) → Follows {V = View} (λ c. c) (Err f) (certificate_said (certificate_files.certificate_of_bytes certificate))
+    → CommandAnswers IsAnswered (ArePartsIn text certificate) (Err f)
+certificate_refused text certificate faults.Read h = tt
+certificate_refused text certificate faults.Write h = tt
+certificate_refused text certificate faults.NoMemory h = tt
+certificate_refused text certificate (faults.Open name) h = ap (with_rows text) h
+certificate_refused text certificate faults.TooLong h = ap (with_rows text) h
+certificate_refused text certificate (faults.Told words) h = ap (with_rows text) h
+
+-- the rows beside the certificate that the other file says
+pub on_parts : (text certificate : List ℕ) (view : View) (made : Result Printed Fault) → certificate_said (certificate_files.certificate_of_bytes certificate) ≡ Ok view
+    → CommandAnswers IsAnswered (AreRowsBeside text view) made → CommandAnswers IsAnswered (ArePartsIn text certificate) made
+on_parts text certificate view made p h = answers_moved IsAnswered (AreRowsBeside text view) (ArePartsIn text certificate) made (λ said e. ap (with_rows text) p ∙ e) h
+
+both_taken : (a b : Result (List ℕ) Fault) (rows certificate : List ℕ) → a ≡ Ok rows → b ≡ Ok certificate → then_parts a b ≡ parts_in rows certificate
+both_taken a b rows certificate p q = ap (λ x. then_parts x b) p ∙ ap (then_parts (Ok rows)) q
+
+said_of_files : (known_rows known_certificate : Option (List ℕ)) (rows certificate : List ℕ) (said : Result (Rows × View) Fault)
+    → IfSome known_rows (λ xs. taken xs ≡ Ok rows) → IfSome known_certificate (λ ys. taken ys ≡ Ok certificate) → ArePartsIn rows certificate said → AreCheckInputs known_rows known_certificate said
+said_of_files None known_certificate rows certificate said p q h = tt
+said_of_files (Some xs) None rows certificate said p q h = tt
+said_of_files (Some xs) (Some ys) rows certificate said p q h = both_taken (taken xs) (taken ys) rows certificate p q ∙ h
+
+-- the answer on two files that were read
+pub answers_on_files : (known_rows known_certificate : Option (List ℕ)) (rows certificate : List ℕ) (made : Result Printed Fault)
+    → IfSome known_rows (λ xs. taken xs ≡ Ok rows) → IfSome known_certificate (λ ys. taken ys ≡ Ok certificate)
+    → CommandAnswers IsAnswered (ArePartsIn rows certificate) made → CommandAnswers IsAnswered (AreCheckInputs known_rows known_certificate) made
+answers_on_files known_rows known_certificate rows certificate made p q h =
+    answers_moved IsAnswered (ArePartsIn rows certificate) (AreCheckInputs known_rows known_certificate) made
+    (λ said. said_of_files known_rows known_certificate rows certificate said p q) h

@@ -1,0 +1,52 @@
+-- What the files of a command say, or the fault that is told.
+use Rattle.std.specs.Prelude.{◌≡◌, ℕ, ℤ, nat_le, Option, IfSome, List, ◌++◌, codes, length, Result, Ok, Err, if◌then◌else◌}
+use Rattle.s2_mode.specs.Shape.{Shape, code_bits}
+use Rattle.s2_rows.specs.Rows.{Rows, rows_value}
+use Rattle.s2_rows.specs.RowFiles as row_files
+use Rattle.s2_rows.specs.Values as values
+use Rattle.s2_rows.specs.FaultTexts.{row_fault_text, value_fault_text}
+use Rattle.s2_rows.specs.declared.row_file.RowFault.{RowFault}
+use Rattle.s2_rows.specs.declared.values.ValueFault.{ValueFault}
+use Rattle.s2_console.specs.declared.fault.Fault.{Fault}
+use Rattle.s2_console.specs.declared.fault.Fault.TheVariants as faults
+
+abbrev pub rows_said : Shape → Result (List (List ℕ)) RowFault → Result Rows Fault
+rows_said shape (Ok rows) = Ok (rows_value shape rows)
+rows_said shape (Err e) = Err (faults.Told (codes "rows: " ++ row_fault_text e))
+
+-- the most bytes of a file that is read into memory
+abbrev pub most_bytes : ℕ
+most_bytes = 16777216
+
+-- the bytes of a file, at most 16,777,216
+abbrev pub taken : List ℕ → Result (List ℕ) Fault
+taken bytes = if nat_le (length bytes) most_bytes then Ok bytes else Err faults.TooLong
+
+-- the rows of a row file, at most 16,777,216 bytes
+abbrev pub rows_in : Shape → List ℕ → Result Rows Fault
+rows_in shape bytes = if nat_le (length bytes) most_bytes then rows_said shape (row_files.rows_of_text bytes shape) else Err faults.TooLong
+
+abbrev pub values_said : Result (List ℤ) ValueFault → Result (List ℤ) Fault
+values_said (Ok vs) = Ok vs
+values_said (Err e) = Err (faults.Told (codes "values: " ++ value_fault_text e))
+
+-- the values of a value file, at most 16,777,216 bytes
+abbrev pub values_in : Shape → List ℕ → Result (List ℤ) Fault
+values_in shape bytes = if nat_le (length bytes) most_bytes then values_said (values.values_of_text bytes (code_bits shape)) else Err faults.TooLong
+
+-- the rows, then the values
+abbrev pub then_values : Result Rows Fault → Result (List ℤ) Fault → Result (Rows × List ℤ) Fault
+then_values (Err f) values = Err f
+then_values (Ok rows) (Err f) = Err f
+then_values (Ok rows) (Ok vs) = Ok (rows, vs)
+
+abbrev pub inputs : Shape → List ℕ → List ℕ → Result (Rows × List ℤ) Fault
+inputs shape rows soft = then_values (rows_in shape rows) (values_in shape soft)
+
+-- what is answered is what a row file and a value file say, where their bytes are known
+abbrev pub AreInputs : Shape → Option (List ℕ) → Option (List ℕ) → Result (Rows × List ℤ) Fault → Type 0
+AreInputs shape rows soft said = IfSome rows (λ xs. IfSome soft (λ ys. inputs shape xs ys ≡ said))
+
+-- what is answered is this input
+abbrev pub IsOnly : {I : Type 0} → I → Result I Fault → Type 0
+IsOnly input said = said ≡ Ok input

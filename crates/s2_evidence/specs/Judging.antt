@@ -1,0 +1,51 @@
+-- What `judge` prints of soft values.
+use Rattle.std.specs.Prelude.{◌≡◌, ℕ, ℤ, List, Bool}
+use Rattle.s2_matrix.specs.Code.{IsOddCheck, IsCodeword, code_of}
+use Rattle.s2_rows.specs.Rows.{Rows}
+use Rattle.s2_check.specs.Cost.{cost, IsMostLikely}
+use Rattle.s2_check.specs.declared.verdict.Verdict.{Verdict}
+use Rattle.s2_check.specs.declared.verdict.Verdict.TheVariants as verdicts
+use Rattle.s2_link.specs.Tuning.{Tuning}
+use Rattle.s2_judge.specs.Deciding.{Decided, decided}
+use Rattle.s2_console.specs.declared.exit.Exit.{Exit}
+use Rattle.s2_console.specs.declared.exit.Exit.TheVariants as exits
+use Rattle.s2_evidence.specs.Lines.{most_likely_line, parity_line, broken_line}
+
+-- the exit of a verdict
+abbrev pub exit_on : Verdict → Exit
+exit_on verdicts.MostLikely = exits.Fine
+exit_on verdicts.Parity = exits.No
+exit_on verdicts.Broken = exits.No
+
+-- the bits are most likely
+pub record SaysMostLikely (rows : Rows) (soft : List ℤ) (bits : List Bool) (exit : Exit) (text : List ℕ) : Type 0 where
+  pub likely : IsMostLikely (code_of rows) soft bits
+  pub line : text ≡ most_likely_line (cost soft bits)
+  pub fine : exit ≡ exits.Fine
+
+-- the bits satisfy every check
+pub record SaysParity (rows : Rows) (soft : List ℤ) (bits : List Bool) (exit : Exit) (text : List ℕ) : Type 0 where
+  pub codeword : IsCodeword (code_of rows) bits
+  pub line : text ≡ parity_line (cost soft bits)
+  pub answer_is_no : exit ≡ exits.No
+
+-- the bits do not, and this is their first odd check
+pub record SaysBroken (rows : Rows) (soft : List ℤ) (bits : List Bool) (exit : Exit) (text : List ℕ) : Type 0 where
+  pub check : ℕ
+  pub odd : IsOddCheck (code_of rows) bits check
+  pub line : text ≡ broken_line (cost soft bits) check
+  pub answer_is_no : exit ≡ exits.No
+
+-- by the verdict on the bits
+abbrev pub Says : Verdict → Rows → List ℤ → List Bool → Exit → List ℕ → Type 0
+Says verdicts.MostLikely rows soft bits exit text = SaysMostLikely rows soft bits exit text
+Says verdicts.Parity rows soft bits exit text = SaysParity rows soft bits exit text
+Says verdicts.Broken rows soft bits exit text = SaysBroken rows soft bits exit text
+
+-- the exit and the text tell what was decided
+abbrev pub SaysDecided : Decided → Rows → List ℤ → Exit → List ℕ → Type 0
+SaysDecided d rows soft exit text = Says d.verdict rows soft d.bits exit text
+
+-- they tell what a receiver that tries so much decides on soft values
+abbrev pub IsJudged : Tuning → Rows × List ℤ → Exit → List ℕ → Type 0
+IsJudged tuning input exit text = SaysDecided (decided input.0 tuning input.1) input.0 input.1 exit text

@@ -1,0 +1,34 @@
+-- The lines of verdicts and of answers.
+use Rattle.std.specs.Prelude.{ℕ, ℤ, List, ◌++◌, codes, decimal}
+use Rattle.std.specs.Fmt.{signed_decimal}
+use Rattle.s2_check.specs.Verdicts.{verdict_word}
+use Rattle.s2_check.specs.declared.verdict.Verdict.{Verdict}
+use Rattle.s2_check.specs.declared.verdict.Verdict.TheVariants as verdicts
+use Rattle.s2_check.specs.declared.checker.Answer.{Answer}
+use Rattle.s2_check.specs.declared.checker.Answer.TheVariants as answers
+use Rattle.s2_check.specs.declared.checker.Refusal.TheVariants as refusals
+
+-- what is known of bits, and their cost
+abbrev pub cost_text : Verdict → ℤ → List ℕ
+cost_text verdict cost = verdict_word verdict ++ (codes " cost " ++ signed_decimal cost)
+
+abbrev pub most_likely_line : ℤ → List ℕ
+most_likely_line cost = cost_text verdicts.MostLikely cost ++ codes "\n"
+
+-- of a codeword that is not known to be most likely
+abbrev pub parity_line : ℤ → List ℕ
+parity_line cost = cost_text verdicts.Parity cost ++ codes "\n"
+
+-- of a word that is no codeword: its cost, and its first odd check
+abbrev pub broken_line : ℤ → ℕ → List ℕ
+broken_line cost check = cost_text verdicts.Broken cost ++ (codes " check " ++ decimal check) ++ codes "\n"
+
+-- what a checker answers, with the cost of the word that was asked about
+abbrev pub answer_text : ℤ → Answer → List ℕ
+answer_text cost answers.Yes = codes "yes cost " ++ signed_decimal cost
+answer_text cost (answers.No refusals.OtherShape) = codes "no shape"
+answer_text cost (answers.No (refusals.OddCheck check)) = codes "no check " ++ decimal check
+answer_text cost (answers.No refusals.BoundBelow) = codes "no bound"
+
+abbrev pub answer_line : ℤ → Answer → List ℕ
+answer_line cost answer = answer_text cost answer ++ codes "\n"

@@ -1,0 +1,125 @@
+//! `check`: certificates checked.
+ghost use Rattle.std.specs.Prelude.{◌≡◌, ◌≢◌, ◌+◌, Result, Err, IsOk};
+ghost use Rattle.s2_mode.specs.Counts.{CanCount};
+ghost use Rattle.s2_check.specs.CertificateFiles.{certificate_of_bytes};
+ghost use Rattle.s2_console.specs.Screens.{CanShow};
+ghost use Rattle.s2_console.specs.Exits.{exit_of, Follows, CommandAnswers, CommandRuns, CommandCounts, Complains};
+ghost use Rattle.s2_evidence.specs.Files.{CanCheck};
+ghost use Rattle.s2_evidence.specs.Checking.{certificate_said, AreRowsBeside, ArePartsIn, AreCheckInputs, answer_exit, IsAnswered};
+
+use crate::files::CheckFiles;
+use crate::lines::answer_line;
+use crate::reading::{matrix_of, read_bytes};
+use s2_check::{Answer, CertFault, CertView, Certificate, check};
+use s2_console::{Console, Exit, Fault, Printed};
+use s2_matrix::Matrix;
+use s2_mode::{CountedRead, CountedWrite};
+use std::alloc::Global;
+
+/// The exit of an answer.
+fn exit_of_answer(answer: Answer) -> Exit
+    ensures { result ≡ answer_exit answer }
+{
+    match answer {
+        Answer::Yes => Exit::Fine,
+        Answer::No(_) => Exit::No,
+    }
+}
+
+/// Checks a certificate.
+fn answered(matrix: &Matrix, view: &CertView<'_>) -> Printed
+    ensures { IsAnswered (matrix.now, view.now) result.exit result.text }
+{
+    let answer = check(matrix, view);
+    Printed {
+        exit: exit_of_answer(answer),
+        text: answer_line(view.cost(), answer),
+    }
+}
+
+/// The certificate of a file in memory.
+fn certificate_of(alloc: Global, bytes: &[u8]) -> Result<Certificate, Fault<'static>>
+    ensures says { Follows (λ c. c) result (certificate_said (certificate_of_bytes bytes.now)) }
+    ensures read { result ≢ Err Fault.Read }
+    ensures write { result ≢ Err Fault.Write }
+{
+    match Certificate::read(alloc, bytes) {
+        Ok(certificate) => Ok(certificate),
+        Err(CertFault::NoMemory) => Err(Fault::NoMemory),
+        Err(fault) => Err(Fault::about("certificate: ", fault.text())),
+    }
+}
+
+/// Checks a certificate by a row file in memory.
+fn check_by(alloc: Global, rows: &[u8], view: &CertView<'_>) -> Result<Printed, Fault<'static>>
+    ensures answers { CommandAnswers IsAnswered (AreRowsBeside rows.now view.now) result }
+    ensures read { result ≢ Err Fault.Read }
+    ensures write { result ≢ Err Fault.Write }
+{
+    let matrix = matrix_of(alloc, rows, view.shape())?;
+    Ok(answered(&matrix, view))
+}
+
+/// Takes two files in memory apart, and checks.
+fn check_parts(alloc: Global, rows: &[u8], certificate: &[u8]) -> Result<Printed, Fault<'static>>
+    ensures answers { CommandAnswers IsAnswered (ArePartsIn rows.now certificate.now) result }
+    ensures read { result ≢ Err Fault.Read }
+    ensures write { result ≢ Err Fault.Write }
+{
+    let certificate = certificate_of(alloc, certificate)?;
+    check_by(alloc, rows, &certificate.view())
+}
+
+/// Reads rows and a certificate into memory, and checks.
+fn check_read<R: CountedRead, S: CountedRead>(
+    alloc: Global,
+    rows: &mut R,
+    certificate: &mut S,
+) -> Result<Printed, Fault<'static>>
+    requires rows { CanCount (R.count rows.old) }
+    requires certificate { CanCount (S.count certificate.old) }
+    ensures answers { CommandAnswers IsAnswered (AreCheckInputs (R.remaining rows.old) (S.remaining certificate.old)) result }
+    ensures read { result ≡ Err Fault.Read → R.count rows.new + S.count certificate.new ≡ R.count rows.old + S.count certificate.old + 1 }
+    ensures no_read { result ≢ Err Fault.Read → R.count rows.new + S.count certificate.new ≡ R.count rows.old + S.count certificate.old }
+    ensures write { result ≢ Err Fault.Write }
+{
+    let rows = read_bytes(alloc, rows)?;
+    let certificate = read_bytes(alloc, certificate)?;
+    check_parts(alloc, &rows, &certificate)
+}
+
+/// Reads rows and a certificate, checks, and prints the answer.
+fn print_check<R: CountedRead, S: CountedRead, O: CountedWrite>(
+    alloc: Global,
+    files: &mut CheckFiles<R, S>,
+    out: &mut O,
+) -> Result<Exit, Fault<'static>>
+    requires files { CanCheck files.old }
+    requires out { CanCount (O.count out.old) }
+    ensures whole { IsOk result → O.count out.new ≡ O.count out.old }
+    ensures run { CommandRuns IsAnswered (AreCheckInputs files.old.rows files.old.certificate) result (O.contents out.old) (O.contents out.new) }
+    ensures causes { CommandCounts result (files.old.rows_failed + files.old.certificate_failed) (files.new.rows_failed + files.new.certificate_failed)
+        (O.count out.old) (O.count out.new) }
+{
+    check_read(alloc, &mut files.rows, &mut files.certificate)?.print(out)
+}
+
+/// `check`: whether a certificate shows its word to be most likely under the code of a row file.
+pub fn check_command<R: CountedRead, S: CountedRead, O: CountedWrite, E: CountedWrite>(
+    alloc: Global,
+    files: &mut CheckFiles<R, S>,
+    console: &mut Console<O, E>,
+) -> Exit
+    requires files { CanCheck files.old }
+    requires console { CanShow console.old }
+    ensures quiet { result ≢ Exit.Fault → console.new.errors_failed ≡ console.old.errors_failed }
+    ensures whole { result ≢ Exit.Fault → console.new.output_failed ≡ console.old.output_failed }
+    ensures run { (ended : Result Exit Fault) × (result ≡ exit_of ended)
+        × CommandRuns IsAnswered (AreCheckInputs files.old.rows files.old.certificate) ended console.old.output console.new.output
+        × CommandCounts ended (files.old.rows_failed + files.old.certificate_failed) (files.new.rows_failed + files.new.certificate_failed)
+        console.old.output_failed console.new.output_failed
+        × Complains ended console.old console.new }
+{
+    let ended = print_check(alloc, files, &mut console.output);
+    console.conclude(ended)
+}

@@ -1,0 +1,100 @@
+//! What is decided on soft values: its line, its exit and its certificate.
+ghost use Rattle.std.specs.Prelude.{◌≡◌, ◌≢◌, All, OnOk, OnErr, length};
+ghost use Rattle.s2_mode.specs.Counts.{CanCount, CountsFault};
+ghost use Rattle.s2_matrix.specs.Code.{code_of, IsCodeword};
+ghost use Rattle.s2_check.specs.Cost.{IsMostLikely};
+ghost use Rattle.s2_check.specs.Views.{IsSoft};
+ghost use Rattle.s2_judge.specs.Deciding.{decided, IsShown};
+ghost use Rattle.s2_evidence.specs.Files.{written, contents_in, failed_in, SameAsked};
+ghost use Rattle.s2_evidence.specs.Judging.{Says, SaysDecided, exit_on};
+ghost use Rattle.s2_evidence.specs.Certifying.{Writes, WritesPart, CertifiesDecided};
+
+use crate::lines::{broken_line, most_likely_line, parity_line};
+use crate::reading::Judged;
+use s2_bits::Bits;
+use s2_check::{CertView, Verdict, cost};
+use s2_console::{Exit, Printed};
+use s2_judge::Judge;
+use s2_matrix::Matrix;
+use s2_mode::{CountedWrite, WriteFault};
+
+/// The line and the exit of a verdict on decided bits.
+fn judgement(matrix: &Matrix, soft: &[i16], word: &Bits, verdict: Verdict) -> Printed
+    requires soft { length soft.now ≡ (code_of matrix.now).bits }
+    requires word { length word.now ≡ (code_of matrix.now).bits }
+    requires likely { verdict ≡ Verdict.MostLikely → IsMostLikely (code_of matrix.now) soft.now word.now }
+    requires codeword { verdict ≢ Verdict.Broken → IsCodeword (code_of matrix.now) word.now }
+    requires broken { verdict ≡ Verdict.Broken → IsCodeword (code_of matrix.now) word.now → ⊥ }
+    ensures says { Says verdict matrix.now soft.now word.now result.exit result.text }
+    ensures exit { result.exit ≡ exit_on verdict }
+{
+    // at most 64800, so that the cost fits
+    let _ = matrix.bits();
+    let cost = cost(soft, word);
+    // a word is broken just where a check is odd
+    match (matrix.odd_check(word), verdict) {
+        (Some(check), _) => Printed {
+            exit: Exit::No,
+            text: broken_line(cost, check),
+        },
+        (None, Verdict::MostLikely) => Printed {
+            exit: Exit::Fine,
+            text: most_likely_line(cost),
+        },
+        (None, _) => Printed {
+            exit: Exit::No,
+            text: parity_line(cost),
+        },
+    }
+}
+
+/// What a judge decides on soft values: its line and its exit.
+fn decision(matrix: &Matrix, judge: &mut Judge<'_>, soft: &[i16]) -> Printed
+    requires rows { judge.old.rows ≡ matrix.now }
+    requires long { length soft.now ≡ (code_of matrix.now).bits }
+    requires range { All IsSoft soft.now }
+    ensures says { SaysDecided (decided matrix.now judge.old.tuning soft.now) matrix.now soft.now result.exit result.text }
+    ensures exit { result.exit ≡ exit_on (decided matrix.now judge.old.tuning soft.now).verdict }
+    ensures certificate { judge.new.certificate ≡ (decided matrix.now judge.old.tuning soft.now).certificate }
+    ensures shown { IsShown matrix.now soft.now (decided matrix.now judge.old.tuning soft.now) }
+{
+    let verdict = judge.judge(soft);
+    judgement(matrix, soft, judge.word(), verdict)
+}
+
+/// Writes a certificate, if there is one and a file for it. After a failed write a part of it is written.
+fn write_certificate<C: CountedWrite>(
+    view: Option<CertView<'_>>,
+    certificate: &mut Option<C>,
+) -> Result<(), WriteFault>
+    requires { CanCount (failed_in (written (λ c. C.contents c) (λ c. C.count c) certificate.old)) }
+    ensures bytes { OnOk result (Writes view.entry (contents_in (written (λ c. C.contents c) (λ c. C.count c) certificate.old)) (contents_in (written (λ c. C.contents c) (λ c. C.count c) certificate.new))) }
+    ensures part { OnErr result (WritesPart view.entry (contents_in (written (λ c. C.contents c) (λ c. C.count c) certificate.old)) (contents_in (written (λ c. C.contents c) (λ c. C.count c) certificate.new))) }
+    ensures cause { CountsFault (failed_in (written (λ c. C.contents c) (λ c. C.count c) certificate.old)) (failed_in (written (λ c. C.contents c) (λ c. C.count c) certificate.new)) result }
+    ensures asked { SameAsked (written (λ c. C.contents c) (λ c. C.count c) certificate.old) (written (λ c. C.contents c) (λ c. C.count c) certificate.new) }
+{
+    match (view, certificate) {
+        (Some(view), Some(certificate)) => view.write(certificate),
+        _ => Ok(()),
+    }
+}
+
+/// Decides by a judge, and writes the certificate of what is decided, where there is one and a file for it.
+pub(crate) fn decide_by<C: CountedWrite>(
+    judged: &Judged,
+    judge: &mut Judge<'_>,
+    certificate: &mut Option<C>,
+) -> Result<Printed, WriteFault>
+    requires rows { judge.old.rows ≡ judged.now.matrix }
+    requires long { length judged.now.soft.items ≡ (code_of judged.now.matrix).bits }
+    requires range { All IsSoft judged.now.soft.items }
+    requires certificate { CanCount (failed_in (written (λ c. C.contents c) (λ c. C.count c) certificate.old)) }
+    ensures certified { CertifiesDecided (decided judged.now.matrix judge.old.tuning judged.now.soft.items) judged.now.matrix judged.now.soft.items result
+        (contents_in (written (λ c. C.contents c) (λ c. C.count c) certificate.old)) (contents_in (written (λ c. C.contents c) (λ c. C.count c) certificate.new)) }
+    ensures cause { CountsFault (failed_in (written (λ c. C.contents c) (λ c. C.count c) certificate.old)) (failed_in (written (λ c. C.contents c) (λ c. C.count c) certificate.new)) result }
+    ensures asked { SameAsked (written (λ c. C.contents c) (λ c. C.count c) certificate.old) (written (λ c. C.contents c) (λ c. C.count c) certificate.new) }
+{
+    let printed = decision(&judged.matrix, judge, &judged.soft);
+    write_certificate(judge.certificate(), certificate)?;
+    Ok(printed)
+}

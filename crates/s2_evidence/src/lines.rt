@@ -1,0 +1,69 @@
+//! The lines of verdicts and of answers. They take no memory.
+ghost use Rattle.std.specs.Prelude.{◌≡◌, ◌≤◌, length};
+ghost use Rattle.s2_evidence.specs.Lines.{cost_text, most_likely_line, parity_line, broken_line, answer_text, answer_line};
+
+use s2_check::{Answer, Refusal, Verdict};
+use s2_console::Line;
+
+/// What is known of bits, and their cost.
+fn with_cost(verdict: Verdict, cost: i64) -> Line
+    ensures text { result ≡ cost_text verdict cost }
+    ensures short { length result ≤ 57 }
+{
+    let mut line = Line::new();
+    line.push(verdict.word());
+    line.push_number(" cost ", cost);
+    line
+}
+
+/// The line of a word that is most likely.
+pub(crate) fn most_likely_line(cost: i64) -> Line
+    ensures { result ≡ most_likely_line cost }
+{
+    let mut line = with_cost(Verdict::MostLikely, cost);
+    line.push("\n");
+    line
+}
+
+/// The line of a codeword that is not known to be most likely.
+pub(crate) fn parity_line(cost: i64) -> Line
+    ensures { result ≡ parity_line cost }
+{
+    let mut line = with_cost(Verdict::Parity, cost);
+    line.push("\n");
+    line
+}
+
+/// The line of a word that is no codeword, with its first odd check.
+pub(crate) fn broken_line(cost: i64, check: usize) -> Line
+    ensures { result ≡ broken_line cost check }
+{
+    let mut line = with_cost(Verdict::Broken, cost);
+    line.push_number(" check ", check);
+    line.push("\n");
+    line
+}
+
+/// What a checker answers.
+fn answer_text(cost: i64, answer: Answer) -> Line
+    ensures text { result ≡ answer_text cost answer }
+    ensures short { length result ≤ 49 }
+{
+    let mut line = Line::new();
+    match answer {
+        Answer::Yes => line.push_number("yes cost ", cost),
+        Answer::No(Refusal::OtherShape) => line.push("no shape"),
+        Answer::No(Refusal::OddCheck { check }) => line.push_number("no check ", check),
+        Answer::No(Refusal::BoundBelow) => line.push("no bound"),
+    }
+    line
+}
+
+/// The line of an answer, with the cost of the word that was asked about.
+pub(crate) fn answer_line(cost: i64, answer: Answer) -> Line
+    ensures { result ≡ answer_line cost answer }
+{
+    let mut line = answer_text(cost, answer);
+    line.push("\n");
+    line
+}

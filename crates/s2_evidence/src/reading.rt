@@ -1,0 +1,137 @@
+//! Row files, their matrices, value files, and what is judged.
+ghost use Rattle.std.specs.Prelude.{◌≡◌, ◌≢◌, ◌+◌, All, Err, IfOk, IfSome, length};
+ghost use Rattle.s2_check.specs.Views.{IsSoft};
+ghost use Rattle.s2_mode.specs.Counts.{CanCount};
+ghost use Rattle.s2_mode.specs.Shape.{code_bits};
+ghost use Rattle.s2_rows.specs.RowFiles as row_files;
+ghost use Rattle.s2_matrix.specs.Code.{code_of};
+ghost use Rattle.s2_console.specs.Exits.{Follows};
+ghost use Rattle.s2_evidence.specs.Inputs.{taken, rows_said, rows_in, values_in, inputs};
+
+use s2_console::Fault;
+use s2_matrix::Matrix;
+use s2_mode::{CountedRead, FileFault, Shape, read_all};
+use s2_rows::{RowFault, Rows, ValueFault, read_rows, read_values};
+use std::alloc::Global;
+
+/// The most bytes of a file that is read into memory.
+pub const MOST_BYTES: usize = 16_777_216;
+
+/// The bytes of a file.
+pub(crate) fn read_bytes<R: CountedRead>(
+    alloc: Global,
+    reader: &mut R,
+) -> Result<Vec<u8>, Fault<'static>>
+    requires { CanCount (R.count reader.old) }
+    ensures bytes { IfSome (R.remaining reader.old) (λ xs. Follows (λ v. v.items) result (taken xs)) }
+    ensures read { result ≡ Err Fault.Read → R.count reader.new ≡ R.count reader.old + 1 }
+    ensures no_other { result ≢ Err Fault.Read → R.count reader.new ≡ R.count reader.old }
+    ensures write { result ≢ Err Fault.Write }
+{
+    match read_all(alloc, reader, MOST_BYTES) {
+        Ok(bytes) => Ok(bytes),
+        Err(FileFault::Read) => Err(Fault::Read),
+        Err(FileFault::TooLong) => Err(Fault::TooLong),
+        Err(FileFault::NoMemory) => Err(Fault::NoMemory),
+    }
+}
+
+/// The rows of a row file in memory.
+fn rows_of(alloc: Global, text: &[u8], shape: Shape) -> Result<Rows, Fault<'static>>
+    ensures says { Follows (λ r. r) result (rows_said shape (row_files.rows_of_text text.now shape)) }
+    ensures shape { IfOk result (λ r. r.shape ≡ shape) }
+    ensures read { result ≢ Err Fault.Read }
+    ensures write { result ≢ Err Fault.Write }
+{
+    match read_rows(alloc, text, shape) {
+        Ok(rows) => Ok(rows),
+        Err(RowFault::NoMemory) => Err(Fault::NoMemory),
+        Err(fault) => Err(Fault::about("rows: ", fault.text())),
+    }
+}
+
+/// The matrix of the rows of a row file in memory.
+pub(crate) fn matrix_of(alloc: Global, text: &[u8], shape: Shape) -> Result<Matrix, Fault<'static>>
+    ensures says { Follows (λ m. m) result (rows_said shape (row_files.rows_of_text text.now shape)) }
+    ensures shape { IfOk result (λ m. m.shape ≡ shape) }
+    ensures read { result ≢ Err Fault.Read }
+    ensures write { result ≢ Err Fault.Write }
+{
+    let rows = rows_of(alloc, text, shape)?;
+    match Matrix::build(alloc, &rows) {
+        Ok(matrix) => Ok(matrix),
+        Err(_) => Err(Fault::NoMemory),
+    }
+}
+
+/// The matrix of the rows of a row file, which is read to its end. Where it is refused, the fault says why.
+pub fn read_matrix<R: CountedRead>(
+    alloc: Global,
+    reader: &mut R,
+    shape: Shape,
+) -> Result<Matrix, Fault<'static>>
+    requires { CanCount (R.count reader.old) }
+    ensures rows { IfSome (R.remaining reader.old) (λ xs. Follows (λ m. m) result (rows_in shape xs)) }
+    ensures shape { IfOk result (λ m. m.shape ≡ shape) }
+    ensures read { result ≡ Err Fault.Read → R.count reader.new ≡ R.count reader.old + 1 }
+    ensures no_other { result ≢ Err Fault.Read → R.count reader.new ≡ R.count reader.old }
+    ensures write { result ≢ Err Fault.Write }
+{
+    let text = read_bytes(alloc, reader)?;
+    matrix_of(alloc, &text, shape)
+}
+
+/// The values of a value file, as many as a codeword has bits.
+fn read_value_file<R: CountedRead>(
+    alloc: Global,
+    reader: &mut R,
+    shape: Shape,
+) -> Result<Vec<i16>, Fault<'static>>
+    requires { CanCount (R.count reader.old) }
+    ensures values { IfSome (R.remaining reader.old) (λ xs. Follows (λ v. v.items) result (values_in shape xs)) }
+    ensures long { IfOk result (λ v. length v.items ≡ code_bits shape) }
+    ensures range { IfOk result (λ v. All IsSoft v.items) }
+    ensures read { result ≡ Err Fault.Read → R.count reader.new ≡ R.count reader.old + 1 }
+    ensures no_other { result ≢ Err Fault.Read → R.count reader.new ≡ R.count reader.old }
+    ensures write { result ≢ Err Fault.Write }
+{
+    let text = read_bytes(alloc, reader)?;
+    match read_values(alloc, &text, shape.n()) {
+        Ok(values) => Ok(values),
+        Err(ValueFault::NoMemory) => Err(Fault::NoMemory),
+        Err(fault) => Err(Fault::about("values: ", fault.text())),
+    }
+}
+
+/// What is judged: the matrix of rows, and a soft value for each of its bits.
+pub(crate) struct Judged {
+    pub(crate) matrix: Matrix,
+    pub(crate) soft: Vec<i16>,
+}
+
+impl Drop for Judged {
+    fn drop(self) {
+        let Judged { matrix: _, soft: _ } = self;
+    }
+}
+
+/// The rows of a row file and the values of a value file.
+pub(crate) fn read_judged<R: CountedRead, S: CountedRead>(
+    alloc: Global,
+    rows: &mut R,
+    soft: &mut S,
+    shape: Shape,
+) -> Result<Judged, Fault<'static>>
+    requires rows { CanCount (R.count rows.old) }
+    requires soft { CanCount (S.count soft.old) }
+    ensures says { IfSome (R.remaining rows.old) (λ xs. IfSome (S.remaining soft.old) (λ ys. Follows (λ j. (j.matrix, j.soft.items)) result (inputs shape xs ys))) }
+    ensures long { IfOk result (λ j. length j.soft.items ≡ (code_of j.matrix).bits) }
+    ensures range { IfOk result (λ j. All IsSoft j.soft.items) }
+    ensures read { result ≡ Err Fault.Read → R.count rows.new + S.count soft.new ≡ R.count rows.old + S.count soft.old + 1 }
+    ensures no_read { result ≢ Err Fault.Read → R.count rows.new + S.count soft.new ≡ R.count rows.old + S.count soft.old }
+    ensures write { result ≢ Err Fault.Write }
+{
+    let matrix = read_matrix(alloc, rows, shape)?;
+    let soft = read_value_file(alloc, soft, shape)?;
+    Ok(Judged { matrix, soft })
+}

@@ -1,0 +1,96 @@
+-- What holds of what is decided.
+use Rattle.std.proofs.Common.{◌≡◌, ◌≢◌, Bool, true, false, cond, List, length, ℤ, pos, Option, None, Some, IfSome, refl, subst, ◌∙◌}
+use Rattle.std.proofs.lemmas.List.{length-map, length-replicate}
+use Rattle.s2_rows.specs.Rows.{Rows}
+use Rattle.s2_matrix.specs.Code.{code_of, first_edge, IsCodeword}
+use Rattle.s2_check.specs.Cost.{IsMostLikely}
+use Rattle.s2_check.specs.Hard.{hard_decision}
+use Rattle.s2_check.specs.Views.{View, unsplit_view}
+use Rattle.s2_check.specs.Checking.{split_in}
+use Rattle.s2_check.proofs.Duality.{weak_duality_lem}
+use Rattle.s2_check.proofs.UnsplitSplits.{unsplit_accepted_lem}
+use Rattle.s2_split.specs.Scattered.{repaired}
+use Rattle.s2_judge.specs.Deciding.{Decided, certified, uncertified, satisfies, decoded_bits, first_codeword, with_made, view_for, decided, CleanLaw, LikelyLaw, IsCertificateOf, IsShown, CertifiedLaw, BrokenLaw}
+use Rattle.s2_check.specs.declared.verdict.Verdict.{Verdict}
+use Rattle.s2_check.specs.declared.verdict.Verdict.TheVariants.{MostLikely, Parity, Broken}
+use Rattle.s2_judge.proofs.Certificates.{found_shown}
+use Rattle.s2_split.proofs.Repairs.{length-repaired}
+use Rattle.s2_judge.proofs.Decisions.{satisfied_codeword, codeword_satisfied, not_codeword, found_codeword, last_odd, by_hard, by_ways}
+
+pub clean_lem : CleanLaw
+clean_lem r tuning soft codeword =
+    by_hard r tuning soft (codeword_satisfied (code_of r) (hard_decision soft) codeword)
+
+-- ---- certificates
+
+-- the unsplit view of a hard decision that is a codeword
+unsplit_shown : (r : Rows) (soft : List ℤ) → IsCodeword (code_of r) (hard_decision soft) → IsCertificateOf r soft (hard_decision soft) (unsplit_view r soft (hard_decision soft))
+unsplit_shown r soft codeword = record {
+  accepted = record {
+    shaped = record { shape = refl; shares = length-replicate (first_edge (code_of r) (code_of r).checks) (pos 0) };
+    accepted = unsplit_accepted_lem (code_of r) soft (first_edge (code_of r) (code_of r).checks) codeword;
+  };
+  values = refl;
+  word = refl;
+}
+
+by_certificate : (r : Rows) (soft : List ℤ) (bits : List Bool) (view : View) → IsCertificateOf r soft bits view → IsShown r soft (certified bits view)
+by_certificate r soft bits view c = record { some = λ e none. cc; only = λ some. refl; certified = c }
+
+without : (r : Rows) (soft : List ℤ) (verdict : Verdict) (bits : List Bool) → verdict ≢ MostLikely → IsShown r soft (uncertified verdict bits)
+without r soft verdict bits other = record { some = λ e. absurd (other e); only = λ some. absurd (some refl); certified = tt }
+
+hard_codeword : (r : Rows) (soft : List ℤ) → length soft ≡ (code_of r).bits → satisfies (code_of r) (hard_decision soft) ≡ true → IsCodeword (code_of r) (hard_decision soft)
+hard_codeword r soft long even =
+    satisfied_codeword (code_of r) (hard_decision soft) (length-map soft _ ∙ long) even
+
+repaired_codeword : (r : Rows) (soft : List ℤ) → satisfies (code_of r) (repaired (code_of r) soft) ≡ true → IsCodeword (code_of r) (repaired (code_of r) soft)
+repaired_codeword r soft even =
+    satisfied_codeword (code_of r) (repaired (code_of r) soft) (length-repaired (code_of r) soft) even
+
+pub certified_lem : CertifiedLaw
+certified_lem r tuning soft long =
+    by_ways r tuning soft (IsShown r soft) (λ even. by_certificate r soft (hard_decision soft) _ (unsplit_shown r soft (hard_codeword r soft long even))) (λ view even is. by_certificate r soft (repaired (code_of r) soft) view (found_shown r tuning.passes soft (repaired (code_of r) soft) view (repaired_codeword r soft even) is)) (λ bits none is. with_view bits (found_codeword r tuning.rounds soft bits is) (view_for r tuning.passes soft bits) refl) (λ none is. either (satisfies (code_of r) (repaired (code_of r) soft)))
+  where
+    with_view : (bits : List Bool) → IsCodeword (code_of r) bits → (o : Option View) → view_for r tuning.passes soft bits ≡ o → IsShown r soft (with_made bits o)
+    with_view bits codeword (Some view) e = by_certificate r soft bits view (found_shown r tuning.passes soft bits view codeword e)
+    with_view bits codeword None e = without r soft Parity bits (λ e. cc)
+
+    either : (b : Bool) → IsShown r soft (cond b (uncertified Parity (repaired (code_of r) soft)) (uncertified Broken (decoded_bits r soft tuning.rounds)))
+    either true = without r soft Parity (repaired (code_of r) soft) (λ e. cc)
+    either false = without r soft Broken (decoded_bits r soft tuning.rounds) (λ e. cc)
+
+pub likely_lem : LikelyLaw
+likely_lem r tuning soft long e =
+    let shown = certified_lem r tuning soft long in
+    go (decided r tuning soft).certificate (shown.some e) shown.certified
+  where
+    go : (o : Option View) → o ≢ None → IfSome o (IsCertificateOf r soft (decided r tuning soft).bits) → IsMostLikely (code_of r) soft (decided r tuning soft).bits
+    go None some c = absurd (some refl)
+    go (Some view) some c =
+        subst (λ (bits : List Bool). IsMostLikely (code_of r) soft bits) c.word (subst (λ (values : List ℤ). IsMostLikely (code_of r) values view.bits) c.values (weak_duality_lem (code_of r) view.soft (split_in r view) view.bits c.accepted.accepted))
+
+-- ---- codewords
+
+Says : Rows → Decided → Type 0
+Says r d =
+    (d.verdict ≢ Broken → IsCodeword (code_of r) d.bits) × (d.verdict ≡ Broken → IsCodeword (code_of r) d.bits → ⊥)
+
+says_yes : (r : Rows) (verdict : Verdict) (bits : List Bool) (view : Option View) → verdict ≢ Broken → IsCodeword (code_of r) bits → Says r (record { verdict = verdict; bits = bits; certificate = view })
+unfolding Says
+says_yes r verdict bits view other codeword = (λ _. codeword, λ e. absurd (other e))
+
+pub broken_lem : BrokenLaw
+unfolding Says
+broken_lem r tuning soft long some =
+    by_ways r tuning soft (Says r) (λ even. says_yes r MostLikely (hard_decision soft) (Some (unsplit_view r soft (hard_decision soft))) (λ e. cc) (hard_codeword r soft long even)) (λ view even is. says_yes r MostLikely (repaired (code_of r) soft) (Some view) (λ e. cc) (repaired_codeword r soft even)) (λ bits none is. with_view bits (found_codeword r tuning.rounds soft bits is) (view_for r tuning.passes soft bits)) (λ none is. either (satisfies (code_of r) (repaired (code_of r) soft)) refl is)
+  where
+    with_view : (bits : List Bool) → IsCodeword (code_of r) bits → (o : Option View) → Says r (with_made bits o)
+    with_view bits codeword (Some view) = says_yes r MostLikely bits (Some view) (λ e. cc) codeword
+    with_view bits codeword None = says_yes r Parity bits None (λ e. cc) codeword
+
+    either : (b : Bool) → satisfies (code_of r) (repaired (code_of r) soft) ≡ b → first_codeword r tuning.rounds soft ≡ None → Says r (cond b (uncertified Parity (repaired (code_of r) soft)) (uncertified Broken (decoded_bits r soft tuning.rounds)))
+    either true even is = says_yes r Parity (repaired (code_of r) soft) None (λ e. cc) (repaired_codeword r soft even)
+    either false odd is = (λ other. absurd (other refl), λ e. not_codeword (code_of r) (decoded_bits r soft tuning.rounds) (last_odd r tuning.rounds soft some is))
+
+-- ---- scattered values: see Scattering

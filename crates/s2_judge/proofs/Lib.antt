@@ -1,0 +1,6 @@
+pub mod Decisions
+pub mod Certificates
+pub mod DecidingLemmas
+pub mod Scattering
+pub mod DecidedLengths
+mod Grounds

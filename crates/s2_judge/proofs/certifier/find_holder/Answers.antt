@@ -1,0 +1,53 @@
+use Rattle.std.proofs.Common.{Some, None, cond, ne_eqb, eq-eqb, sym, ap, ◌∙◌}
+use Rattle.s2_rows.specs.Rows.{Rows}
+use Rattle.s2_split.specs.Making.{shared_views}
+use Rattle.s2_settle.specs.Settled.{settled}
+use Rattle.s2_settle.specs.Holding.{view_by as view_settled}
+use Rattle.s2_judge.proofs.Certificates.{without_passes, found_nothing, by_greedy, by_settler, by_nobody}
+use Rattle.s2_judge.proofs.certifier.find_holder.Goals as goal
+
+pub returns-then-certify_codeword-clause-view : goal.returns-then-certify_codeword-clause-view
+returns-then-certify_codeword-clause-view c =
+    let r = c.args.maker.now.rows in
+    let soft = c.args.soft.now in
+    let word = c.args.codeword.now in
+    without_passes r c.args.passes soft word (eq-eqb c.args.passes 0 c.if-passes-eq0.true) ∙ ap (shared_views r soft word) (sym c.certify_codeword.ensures.made)
+
+pub returns-then-passes-eq0-clause-view : goal.returns-then-passes-eq0-clause-view
+returns-then-passes-eq0-clause-view c =
+    let r = c.args.maker.now.rows in
+    let soft = c.args.soft.now in
+    let word = c.args.codeword.now in
+    let maker = c.certify_codeword in
+    let none = found_nothing maker.result maker.new.self.made maker.ensures.found c.if-certify_codeword.false in
+    without_passes r c.args.passes soft word (eq-eqb c.args.passes 0 c.if-passes-eq0.true) ∙ ap (shared_views r soft word) (sym maker.ensures.made ∙ none)
+
+pub returns-then-certify_greedily-clause-view : goal.returns-then-certify_greedily-clause-view
+returns-then-certify_greedily-clause-view c =
+    let maker = c.certify_greedily in
+    by_greedy c.args.maker.now.rows c.args.passes c.args.soft.now c.args.codeword.now maker.new.self.made (ne_eqb c.args.passes 0 c.if-passes-eq0.false) maker.ensures.made (maker.ensures.found.0 c.if-certify_greedily.true)
+
+pub returns-then-certify-clause-view : goal.returns-then-certify-clause-view
+returns-then-certify-clause-view c =
+    let r = c.args.maker.now.rows in
+    let soft = c.args.soft.now in
+    let word = c.args.codeword.now in
+    let passes = c.args.passes in
+    let greedy = c.certify_greedily in
+    let settler = c.certify.new.self in
+    let none = found_nothing greedy.result greedy.new.self.made greedy.ensures.found c.if-certify_greedily.false in
+    let view = view_settled settler soft word in
+    let is = ap (λ (q : Rows). settled q soft word passes) (sym c.requires.settler) ∙ c.certify.ensures.is ∙ ap (λ b. cond b (Some view) None) c.if-certify.true in
+    by_settler r passes soft word greedy.new.self.word greedy.new.self.made settler (ne_eqb passes 0 c.if-passes-eq0.false) greedy.ensures.made none (c.certify.ensures.rows ∙ c.requires.settler) greedy.ensures.word is
+
+pub returns-clause-view : goal.returns-clause-view
+returns-clause-view c =
+    let r = c.args.maker.now.rows in
+    let soft = c.args.soft.now in
+    let word = c.args.codeword.now in
+    let passes = c.args.passes in
+    let greedy = c.certify_greedily in
+    let none = found_nothing greedy.result greedy.new.self.made greedy.ensures.found c.if-certify_greedily.false in
+    let view = view_settled c.certify.new.self soft word in
+    let is = ap (λ (q : Rows). settled q soft word passes) (sym c.requires.settler) ∙ c.certify.ensures.is ∙ ap (λ b. cond b (Some view) None) c.if-certify.false in
+    by_nobody r passes soft word greedy.new.self.made (ne_eqb passes 0 c.if-passes-eq0.false) greedy.ensures.made none is

@@ -1,0 +1,46 @@
+use Rattle.std.proofs.Common.{◌≡◌, ◌≢◌, ◌≤◌, length, sym, ap, subst, ◌∙◌}
+use Rattle.s2_rows.specs.Rows.{Rows}
+use Rattle.s2_matrix.specs.Code.{code_of, IsCodeword}
+use Rattle.s2_check.specs.Cost.{IsMostLikely}
+use Rattle.s2_check.specs.declared.verdict.Verdict.TheVariants.{MostLikely, Broken}
+use Rattle.s2_link.specs.Tuning.{Tuning, tuning_of}
+use Rattle.s2_judge.specs.Deciding.{Decided, IsShown}
+use Rattle.s2_judge.specs.Judging.{Judging}
+use Rattle.s2_judge.proofs.DecidingLemmas.{clean_lem, likely_lem, certified_lem, broken_lem}
+use Rattle.s2_judge.proofs.Scattering.{scattered_lem}
+use Rattle.s2_judge.proofs.Grounds.{as_shown}
+use Rattle.s2_judge.proofs.judge.Judge.decide.Goals as goal
+
+pub returns : goal.returns
+returns c =
+    let r = c.args.self.now.rows in
+    let n = c.args.self.now.tuning in
+    let soft = c.args.self.now.soft in
+    let inside = c.self.inside in
+    let decide = c.decide-self-inside in
+    let was = inside.certifier in
+    let now = decide.new.certifier in
+    let rows = ap (λ (v : Judging). v.rows) c.self.view_is in
+    let tuning = ap (λ (v : Judging). v.tuning) c.self.view_is in
+    let values = ap (λ (v : Judging). v.soft) c.self.view_is in
+    let is = as_shown r was.rows now.rows n (tuning_of inside.rounds was.passes) soft inside.soft.items c.deref.result.now decide.new.bits now.found decide.result c.verdict.result rows decide.ensures.certifier tuning values c.deref.ensures.value c.verdict.ensures decide.ensures.decided in
+    let long = ap length (sym values) ∙ c.self.invariant.soft_long ∙ ap (λ (q : Rows). (code_of q).bits) rows in
+    let some : 1 ≤ n.rounds = subst (λ (t : Tuning). 1 ≤ t.rounds) tuning c.self.invariant.some in
+    let checks = subst (λ (d : Decided). ((d.verdict ≢ Broken → IsCodeword (code_of r) d.bits) × (d.verdict ≡ Broken → IsCodeword (code_of r) d.bits → ⊥))) is (broken_lem r n soft long some) in
+    record {
+      rows = decide.ensures.certifier ∙ rows;
+      tuning = ap (tuning_of inside.rounds) decide.ensures.passes ∙ tuning;
+      soft = values;
+      verdict = sym (ap (λ (d : Decided). d.verdict) is);
+      bits = sym (ap (λ (d : Decided). d.bits) is);
+      certificate = sym (ap (λ (d : Decided). d.certificate) is);
+      likely = subst (λ (d : Decided). d.verdict ≡ MostLikely → IsMostLikely (code_of r) soft d.bits) is (likely_lem r n soft long);
+      certified = subst (IsShown r soft) is (certified_lem r n soft long);
+      codeword = checks.0;
+      broken = checks.1;
+      scattered = λ sent s. subst (λ (d : Decided). (d.verdict ≡ MostLikely) × (d.bits ≡ sent)) is (scattered_lem r n soft sent s);
+      clean = λ codeword. (
+          let hard = sym is ∙ clean_lem r n soft codeword in
+          (ap (λ (d : Decided). d.verdict) hard, ap (λ (d : Decided). d.bits) hard)
+          );
+    }

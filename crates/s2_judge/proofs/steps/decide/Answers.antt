@@ -1,0 +1,67 @@
+use Rattle.std.proofs.Common.{None, cond, length, sym, ap, ◌∙◌, arith}
+use Rattle.std.proofs.lemmas.List.{length-map}
+use Rattle.s2_matrix.specs.Code.{code_of}
+use Rattle.s2_check.specs.Hard.{hard_decision}
+use Rattle.s2_split.specs.Making.{shared_views}
+use Rattle.s2_split.proofs.Held.{copied}
+use Rattle.s2_split.proofs.Repairs.{length-repaired}
+use Rattle.s2_link.specs.Tuning.{tuning_of}
+use Rattle.s2_judge.proofs.Decisions.{test_in}
+use Rattle.s2_judge.proofs.Grounds.{step_one, step_two, past_two, by_same}
+use Rattle.s2_judge.proofs.steps.decide.Goals as goal
+
+pub returns-then-judge_unsplit-clause-decided : goal.returns-then-judge_unsplit-clause-decided
+returns-then-judge_unsplit-clause-decided c =
+    let r = c.args.certifier.now.rows in
+    let soft = c.args.soft.now in
+    let even = test_in r c.matrix.result.now (hard_decision soft) c.judge_unsplit.result c.matrix.ensures (length-map soft _ ∙ c.requires.soft) c.judge_unsplit.ensures.codeword ∙ c.if-judge_unsplit.true in
+    step_one r (tuning_of c.args.rounds c.args.certifier.now.passes) soft c.judge_unsplit.new.word c.args.certifier.now.found c.judge_unsplit.ensures.word even
+
+pub copy_prefix-requires-clause-mine : goal.copy_prefix-requires-clause-mine
+copy_prefix-requires-clause-mine c =
+    let long = ap length c.judge_unsplit.ensures.word ∙ length-map c.args.soft.now _ ∙ c.requires.soft in
+    let whole = ap length c.try_repair.ensures.repair ∙ length-repaired (code_of c.args.certifier.now.rows) c.args.soft.now in
+    omega (arith, c.len.ensures, long, whole)
+
+pub returns-then-try_repair-clause-repair : goal.returns-then-try_repair-clause-repair
+returns-then-try_repair-clause-repair c =
+    ap length c.try_repair.ensures.repair ∙ length-repaired (code_of c.args.certifier.now.rows) c.args.soft.now
+
+pub returns-clause-repair : goal.returns-clause-repair
+returns-clause-repair c =
+    ap length c.try_repair.ensures.repair ∙ length-repaired (code_of c.args.certifier.now.rows) c.args.soft.now
+
+pub returns-then-try_repair-clause-ground : goal.returns-then-try_repair-clause-ground
+returns-then-try_repair-clause-ground c =
+    let r = c.args.certifier.now.rows in
+    let soft = c.args.soft.now in
+    let word = c.try_repair.new.repair in
+    let long = ap length c.judge_unsplit.ensures.word ∙ length-map soft _ ∙ c.requires.soft in
+    let whole = ap length c.try_repair.ensures.repair ∙ length-repaired (code_of r) soft in
+    let same = copied word c.judge_unsplit.new.word c.copy_prefix.new.self c.len.result c.len.ensures (long ∙ sym whole) c.copy_prefix.ensures in
+    (c.requires.range, c.try_repair.ensures.word c.if-try_repair.true ∙ sym same)
+
+pub returns-then-try_repair-clause-decided : goal.returns-then-try_repair-clause-decided
+returns-then-try_repair-clause-decided c =
+    let r = c.args.certifier.now.rows in
+    let soft = c.args.soft.now in
+    let try = c.try_repair in
+    let word = try.new.repair in
+    let found = try.new.certifier.found in
+    let long = ap length c.judge_unsplit.ensures.word ∙ length-map soft _ ∙ c.requires.soft in
+    let whole = ap length try.ensures.repair ∙ length-repaired (code_of r) soft in
+    let same = copied word c.judge_unsplit.new.word c.copy_prefix.new.self c.len.result c.len.ensures (long ∙ sym whole) c.copy_prefix.ensures in
+    let odd = test_in r c.matrix.result.now (hard_decision soft) c.judge_unsplit.result c.matrix.ensures (length-map soft _ ∙ c.requires.soft) c.judge_unsplit.ensures.codeword ∙ c.if-judge_unsplit.false in
+    let view = try.ensures.view ∙ ap (λ b. cond b (shared_views r soft word found) None) c.if-try_repair.true in
+    step_two r (tuning_of c.args.rounds c.args.certifier.now.passes) soft c.copy_prefix.new.self word found odd try.ensures.repair same (try.ensures.found c.if-try_repair.true) view
+
+pub returns-clause-decided : goal.returns-clause-decided
+returns-clause-decided c =
+    let r = c.args.certifier.now.rows in
+    let soft = c.args.soft.now in
+    let try = c.try_repair in
+    let by = c.decide_by_min_sum in
+    let odd = test_in r c.matrix.result.now (hard_decision soft) c.judge_unsplit.result c.matrix.ensures (length-map soft _ ∙ c.requires.soft) c.judge_unsplit.ensures.codeword ∙ c.if-judge_unsplit.false in
+    let none = try.ensures.view ∙ ap (λ b. cond b (shared_views r soft try.new.repair try.new.certifier.found) None) c.if-try_repair.false in
+    past_two r (tuning_of c.args.rounds c.args.certifier.now.passes) soft odd none
+    ∙ by_same r try.new.certifier.rows c.args.rounds c.args.certifier.now.passes try.new.certifier.passes soft by.new.bits by.new.certifier.found by.result try.ensures.rows try.ensures.passes by.ensures.decided

@@ -1,0 +1,39 @@
+use Rattle.std.proofs.Common.{length, sym, ap, ◌∙◌}
+use Rattle.s2_rows.specs.Rows.{Rows}
+use Rattle.s2_matrix.specs.Code.{code_of}
+use Rattle.s2_split.proofs.Repairs.{length-repaired}
+use Rattle.s2_link.specs.Tuning.{tuning_of}
+use Rattle.s2_judge.specs.Deciding.{satisfies}
+use Rattle.s2_judge.specs.Certifying.{Certifying}
+use Rattle.s2_judge.proofs.Certificates.{found_or_none, view_by_certifier}
+use Rattle.s2_judge.proofs.Decisions.{repair_made, repair_odd, test_in}
+use Rattle.s2_judge.proofs.steps.try_repair.Goals as goal
+
+pub satisfied-requires : goal.satisfied-requires
+satisfied-requires c =
+    let rows = c.matrix.ensures ∙ ap (λ (m : Certifying). m.rows) c.repair_into.ensures.same in
+    ap length c.repair_into.ensures.word ∙ length-repaired (code_of c.args.certifier.now.rows) c.args.soft.now ∙ sym (ap (λ (q : Rows). (code_of q).bits) rows)
+
+pub returns-then-satisfied-clause-view : goal.returns-then-satisfied-clause-view
+returns-then-satisfied-clause-view c =
+    let r = c.args.certifier.now.rows in
+    let soft = c.args.soft.now in
+    let passes = c.args.certifier.now.passes in
+    let word = c.repair_into.new.word in
+    let same = c.repair_into.ensures.same in
+    let rep = c.repair_into.ensures.word in
+    let rows = c.matrix.ensures ∙ ap (λ (m : Certifying). m.rows) same in
+    let even = ap (satisfies (code_of r)) (sym rep) ∙ test_in r c.matrix.result.now word c.satisfied.result rows (ap length rep ∙ length-repaired (code_of r) soft) c.satisfied.ensures ∙ c.if-satisfied.true in
+    repair_made r (tuning_of 0 passes) soft even
+    ∙ view_by_certifier soft word c.repair_into.new.self c.args.certifier.now c.certify.new.self.found rep same c.certify.ensures.view
+    ∙ found_or_none r soft word c.certify.new.self.found c.certify.result c.certify.ensures.found
+
+pub returns-else-satisfied-clause-view : goal.returns-else-satisfied-clause-view
+returns-else-satisfied-clause-view c =
+    let r = c.args.certifier.now.rows in
+    let soft = c.args.soft.now in
+    let word = c.repair_into.new.word in
+    let rep = c.repair_into.ensures.word in
+    let rows = c.matrix.ensures ∙ ap (λ (m : Certifying). m.rows) c.repair_into.ensures.same in
+    let odd = ap (satisfies (code_of r)) (sym rep) ∙ test_in r c.matrix.result.now word c.satisfied.result rows (ap length rep ∙ length-repaired (code_of r) soft) c.satisfied.ensures ∙ c.if-satisfied.false in
+    repair_odd r (tuning_of 0 c.args.certifier.now.passes) soft odd

@@ -1,0 +1,57 @@
+-- What a judge shows, and what holds of its parts.
+use Rattle.std.specs.Prelude.{◌≡◌, ℕ, ◌≤◌, Bool, List, All, length, ℤ, Option, None, Some}
+use Rattle.s2_rows.specs.Rows.{Rows}
+use Rattle.s2_matrix.specs.Code.{code_of}
+use Rattle.s2_check.specs.Views.{View, IsSoft, unsplit_view}
+use Rattle.s2_check.specs.declared.verdict.Verdict.{Verdict}
+use Rattle.s2_check.specs.declared.verdict.Verdict.TheVariants.{MostLikely, Parity, Broken}
+use Rattle.s2_split.specs.Making.{Shared, shared_views}
+use Rattle.s2_minsum.specs.Decoding.{Decoding}
+use Rattle.s2_link.specs.Tuning.{Tuning}
+use Rattle.s2_judge.specs.declared.ground.Ground.{Ground}
+use Rattle.s2_judge.specs.declared.ground.Ground.TheVariants.{HardDecision, Found, Checks, Nothing}
+use Rattle.s2_judge.specs.Deciding.{Decided}
+use Rattle.s2_judge.specs.Certifying.{Certifying}
+
+-- the rows of its matrix, how much it tries, its soft values, the bits that were last decided, and their certificate
+pub record Judging : Type 0 where
+  pub rows : Rows
+  pub tuning : Tuning
+  pub soft : List ℤ
+  pub bits : List Bool
+  pub certificate : Option View
+
+-- the verdict on a ground
+abbrev pub verdict_of : Ground → Verdict
+verdict_of HardDecision = MostLikely
+verdict_of Found = MostLikely
+verdict_of Checks = Parity
+verdict_of Nothing = Broken
+
+-- the certificate on a ground: without shares, or with those that were found
+abbrev pub view_by : Rows → List ℤ → List Bool → Option Shared → Ground → Option View
+view_by r soft bits found HardDecision = Some (unsplit_view r soft bits)
+view_by r soft bits found Found = shared_views r soft bits found
+view_by r soft bits found Checks = None
+view_by r soft bits found Nothing = None
+
+-- what is decided on a ground
+abbrev pub shown_by : Rows → List ℤ → List Bool → Option Shared → Ground → Decided
+shown_by r soft bits found ground =
+    record { verdict = verdict_of ground; bits = bits; certificate = view_by r soft bits found ground }
+
+-- on a ground with a certificate the values are soft values, and what was found is of these bits
+abbrev pub IsGround : List ℤ → List Bool → Certifying → Ground → Type 0
+IsGround soft bits certifier HardDecision = All IsSoft soft
+IsGround soft bits certifier Found = All IsSoft soft × (certifier.word ≡ bits)
+IsGround soft bits certifier Checks = Unit
+IsGround soft bits certifier Nothing = Unit
+
+-- what holds of a judge
+pub record IsJudge (rounds : ℕ) (certifier : Certifying) (decoder : Decoding) (soft : List ℤ) (repair bits : List Bool) (ground : Ground) : Type 0 where
+  pub some : 1 ≤ rounds
+  pub decoder_rows : decoder.rows ≡ certifier.rows
+  pub soft_long : length soft ≡ (code_of certifier.rows).bits
+  pub repair_long : length repair ≡ (code_of certifier.rows).bits
+  pub bits_long : length bits ≡ (code_of certifier.rows).bits
+  pub by : IsGround soft bits certifier ground

@@ -1,0 +1,4 @@
+pub mod Deciding
+pub mod Certifying
+pub mod Judging
+pub mod Lending

@@ -1,0 +1,181 @@
+//! Certificates of codewords.
+ghost use Rattle.std.specs.Prelude.{◌≡◌, ◌≢◌, ◌↔◌, All, IfOk, IsTrue, None, length};
+ghost use Rattle.s2_matrix.specs.Code.{code_of, IsCodeword};
+ghost use Rattle.s2_check.specs.Views.{IsSoft};
+ghost use Rattle.s2_split.specs.Making.{shared_views};
+ghost use Rattle.s2_split.specs.Scattered.{repaired};
+ghost use Rattle.s2_judge.specs.Deciding.{view_for};
+ghost use Rattle.s2_judge.specs.Certifying.{found_by, IsHolder};
+
+use s2_bits::Bits;
+use s2_check::CertView;
+use s2_matrix::Matrix;
+use s2_settle::Settler;
+use s2_split::Maker;
+use std::alloc::{AllocError, Global};
+use std::marker::Model;
+
+/// Who holds the certificate that was found last.
+#[derive(Clone, Copy)]
+pub(crate) enum Holder {
+    Nobody,
+    Maker,
+    Settler,
+}
+
+impl Holder {
+    /// Whether there is a certificate.
+    fn is_some(self) -> bool
+        ensures { IsTrue result ↔ (self ≢ Holder.Nobody) }
+    {
+        match self {
+            Holder::Nobody => false,
+            Holder::Maker | Holder::Settler => true,
+        }
+    }
+}
+
+/// Looks for a certificate of a codeword, by so many passes of settling if any: who then holds it.
+fn find_holder(
+    maker: &mut Maker<'_>,
+    settler: &mut Settler<'_>,
+    soft: &[i16],
+    codeword: &Bits,
+    passes: u32,
+) -> Holder
+    requires settler { settler.old.rows ≡ maker.old.rows }
+    requires soft { length soft.now ≡ (code_of maker.old.rows).bits }
+    requires range { All IsSoft soft.now }
+    requires codeword { IsCodeword (code_of maker.old.rows) codeword.now }
+    ensures maker { maker.new.rows ≡ maker.old.rows }
+    ensures settler { settler.new.rows ≡ settler.old.rows }
+    ensures word { maker.new.word ≡ codeword.now }
+    ensures holder { IsHolder maker.new result }
+    ensures view { view_for maker.old.rows passes soft.now codeword.now ≡ shared_views maker.old.rows soft.now codeword.now (found_by maker.new settler.new result) }
+{
+    if passes == 0 {
+        if maker.certify_codeword(soft, codeword) {
+            return Holder::Maker;
+        }
+        return Holder::Nobody;
+    }
+    if maker.certify_greedily(soft, codeword) {
+        return Holder::Maker;
+    }
+    if settler.certify(soft, codeword, passes) {
+        return Holder::Settler;
+    }
+    Holder::Nobody
+}
+
+/// Finds certificates of codewords: by the maker's greedy amounts, else, with no passes, by its spreading, and
+/// with passes by so many at most of the settler.
+///
+/// To contracts it is the rows of its matrix, how many passes it runs, the codeword that it was last given, and
+/// what it found for it.
+pub(crate) struct Certifier<'a> {
+    matrix: &'a Matrix,
+    passes: u32,
+    maker: Maker<'a>,
+    settler: Settler<'a>,
+    holder: Holder,
+}
+
+impl<'a> Drop for Certifier<'a> {
+    fn drop(self) {
+        let Certifier {
+            matrix: _,
+            passes: _,
+            maker: _,
+            settler: _,
+            holder: _,
+        } = self;
+    }
+}
+
+impl<'a> Model for Certifier<'a> {
+    ghost use Rattle.s2_judge.specs.Certifying.{Certifying, IsCertifier, found_by};
+
+    ghost Value = { Certifying };
+
+    ghost view = { λ c. record { rows = c.matrix.now; passes = c.passes; word = c.maker.word; found = found_by c.maker c.settler c.holder } };
+
+    ghost invariant = { λ c. IsCertifier c.matrix.now c.maker c.settler c.holder };
+}
+
+impl<'a> Certifier<'a> {
+    /// A certifier for the codewords of this matrix, of so many passes or of none, which has found nothing yet.
+    /// It takes all its memory here: `AllocError` only where memory is refused.
+    pub(crate) fn new(
+        alloc: Global,
+        matrix: &'a Matrix,
+        passes: u32,
+    ) -> Result<Certifier<'a>, AllocError>
+        ensures rows { IfOk result (λ c. c.rows ≡ matrix.now) }
+        ensures passes { IfOk result (λ c. c.passes ≡ passes) }
+    {
+        let maker = Maker::new(alloc, matrix)?;
+        let settler = Settler::new(alloc, matrix)?;
+        Ok(Certifier {
+            matrix,
+            passes,
+            maker,
+            settler,
+            holder: Holder::Nobody,
+        })
+    }
+
+    /// The matrix of the codewords.
+    pub(crate) fn matrix(&self) -> &'a Matrix
+        ensures { result.now ≡ self.now.rows }
+    {
+        self.matrix
+    }
+
+    /// Writes the repaired hard decision: each bit that is in at least two checks, all of them odd under the hard
+    /// decision, is flipped. What was found stays.
+    pub(crate) fn repair_into(&mut self, soft: &[i16], word: &mut Bits)
+        requires soft { length soft.now ≡ (code_of self.old.rows).bits }
+        requires word { length word.old ≡ (code_of self.old.rows).bits }
+        ensures same { self.new ≡ self.old }
+        ensures word { word.new ≡ repaired (code_of self.old.rows) soft.now }
+    {
+        self.maker.repair_into(soft, word);
+    }
+
+    /// Looks for a certificate of a codeword: whether there is one.
+    pub(crate) fn certify(&mut self, soft: &[i16], codeword: &Bits) -> bool
+        requires soft { length soft.now ≡ (code_of self.old.rows).bits }
+        requires range { All IsSoft soft.now }
+        requires codeword { IsCodeword (code_of self.old.rows) codeword.now }
+        ensures rows { self.new.rows ≡ self.old.rows }
+        ensures passes { self.new.passes ≡ self.old.passes }
+        ensures word { self.new.word ≡ codeword.now }
+        ensures found { IsTrue result ↔ (self.new.found ≢ None) }
+        ensures view { view_for self.old.rows self.old.passes soft.now codeword.now ≡ shared_views self.old.rows soft.now codeword.now self.new.found }
+    {
+        self.holder = find_holder(
+            &mut self.maker,
+            &mut self.settler,
+            soft,
+            codeword,
+            self.passes,
+        );
+        self.holder.is_some()
+    }
+
+    /// The certificate of these values and this word by what was found.
+    pub(crate) fn held<'s>(&'s self, soft: &'s [i16], word: &'s Bits) -> Option<CertView<'s>>
+        requires soft { length soft.now ≡ (code_of self.now.rows).bits }
+        requires range { All IsSoft soft.now }
+        requires long { length word.now ≡ (code_of self.now.rows).bits }
+        requires word { word.now ≡ self.now.word }
+        ensures { result ≡ shared_views self.now.rows soft.now word.now self.now.found }
+    {
+        match self.holder {
+            Holder::Nobody => None,
+            Holder::Maker => Some(self.maker.held(soft, word)),
+            Holder::Settler => Some(self.settler.held(soft, word)),
+        }
+    }
+}

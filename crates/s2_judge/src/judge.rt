@@ -1,0 +1,192 @@
+//! The receiver's decision on the soft values of one frame.
+ghost use Rattle.std.specs.Prelude.{◌≡◌, ◌≢◌, IfOk, All, Bool, List, None, length, replicate, false, pos};
+ghost use Rattle.std.specs.Borrow.{sem};
+ghost use Rattle.s2_matrix.specs.Code.{code_of, IsCodeword};
+ghost use Rattle.s2_check.specs.Cost.{IsMostLikely};
+ghost use Rattle.s2_check.specs.Hard.{hard_decision};
+ghost use Rattle.s2_check.specs.Views.{IsSoft};
+ghost use Rattle.s2_split.specs.Scattered.{IsScattered};
+ghost use Rattle.s2_judge.specs.Deciding.{decided, IsShown};
+ghost use Rattle.s2_judge.specs.Lending.{LendsSoft};
+
+use crate::certifier::Certifier;
+use crate::ground::Ground;
+use crate::steps::decide;
+use s2_bits::Bits;
+use s2_check::{CertView, Verdict};
+use s2_link::Tuning;
+use s2_matrix::Matrix;
+use s2_minsum::Decoder;
+use std::alloc::{AllocError, Global};
+use std::marker::Model;
+
+/// The receiver's decision on the soft values of one frame, with all the memory that it takes.
+///
+/// The first of four steps that succeeds decides:
+/// 1. the hard decision satisfies every check: it is most likely, by its unsplit certificate;
+/// 2. its repair does (each bit flipped that is in at least two checks, all of them odd), and a
+///    certificate is found for it: it is most likely;
+/// 3. the hard decision after one of the rounds of min-sum does, and no further round is run: it is
+///    most likely if a certificate is found for it, else it is said to satisfy the checks;
+/// 4. the repair where it satisfies every check; if not, min-sum's last hard decision, broken.
+///
+/// A certificate is found by greedy amounts, else, with no passes, by spreading, and with passes by so
+/// many at most of settling.
+///
+/// To contracts a judge is its matrix's rows, how much it tries, its soft values, the bits that were
+/// last decided, and their certificate.
+pub struct Judge<'a> {
+    rounds: u32,
+    certifier: Certifier<'a>,
+    decoder: Decoder<'a>,
+    soft: Vec<i16>,
+    repair: Bits,
+    bits: Bits,
+    ground: Ground,
+}
+
+impl<'a> Drop for Judge<'a> {
+    fn drop(self) {
+        let Judge {
+            rounds: _,
+            certifier: _,
+            decoder: _,
+            soft: _,
+            repair: _,
+            bits: _,
+            ground: _,
+        } = self;
+    }
+}
+
+impl<'a> Model for Judge<'a> {
+    ghost use Rattle.s2_link.specs.Tuning.{tuning_of};
+    ghost use Rattle.s2_judge.specs.Judging.{Judging, IsJudge, view_by};
+
+    ghost Value = { Judging };
+
+    ghost view = { λ j. record { rows = j.certifier.rows; tuning = tuning_of j.rounds j.certifier.passes; soft = j.soft.items; bits = j.bits; certificate = view_by j.certifier.rows j.soft.items j.bits j.certifier.found j.ground } };
+
+    ghost invariant = { λ j. IsJudge j.rounds j.certifier j.decoder j.soft.items j.repair j.bits j.ground };
+}
+
+impl<'a> Judge<'a> {
+    /// A judge for this matrix that tries so much. `AllocError` only where memory is refused.
+    pub fn new(alloc: Global, matrix: &'a Matrix, tuning: Tuning) -> Result<Judge<'a>, AllocError>
+        ensures rows { IfOk result (λ j. j.rows ≡ matrix.now) }
+        ensures tuning { IfOk result (λ j. j.tuning ≡ tuning) }
+        ensures soft { IfOk result (λ j. j.soft ≡ replicate (code_of matrix.now).bits (pos 0)) }
+        ensures bits { IfOk result (λ j. j.bits ≡ replicate (code_of matrix.now).bits false) }
+        ensures none { IfOk result (λ j. j.certificate ≡ None) }
+    {
+        let rounds = tuning.rounds();
+        let n = matrix.bits();
+        let certifier = Certifier::new(alloc, matrix, tuning.passes())?;
+        let decoder = Decoder::new(alloc, matrix)?;
+        let soft = vec![in alloc; 0i16; n]?;
+        let repair = Bits::zeroed(alloc, n)?;
+        let bits = Bits::zeroed(alloc, n)?;
+        Ok(Judge {
+            rounds,
+            certifier,
+            decoder,
+            soft,
+            repair,
+            bits,
+            ground: Ground::Nothing,
+        })
+    }
+
+    /// The soft values, zeros at first.
+    pub fn soft(&self) -> &[i16]
+        ensures is { result.now ≡ self.now.soft }
+        ensures long { length result.now ≡ (code_of self.now.rows).bits }
+    {
+        &self.soft
+    }
+
+    /// The soft values to be written anew, n of them, n the codeword's length. The decided bits stay until the
+    /// next decision, without their certificate.
+    pub fn soft_mut(&mut self) -> &mut [i16]
+        ensures* writes_back { sem 𝓛 (LendsSoft self.entry result) }
+        ensures is { result.now ≡ self.old.soft }
+        ensures long { length result.now ≡ (code_of self.old.rows).bits }
+    {
+        self.ground = Ground::Nothing;
+        &mut self.soft
+    }
+
+    /// Decides on the soft values that were written, each from -63 to 63. It takes no memory, and depends on
+    /// these values alone.
+    pub fn decide(&mut self) -> Verdict
+        requires range { All IsSoft self.old.soft }
+        ensures rows { self.new.rows ≡ self.old.rows }
+        ensures tuning { self.new.tuning ≡ self.old.tuning }
+        ensures soft { self.new.soft ≡ self.old.soft }
+        ensures verdict { result ≡ (decided self.old.rows self.old.tuning self.old.soft).verdict }
+        ensures bits { self.new.bits ≡ (decided self.old.rows self.old.tuning self.old.soft).bits }
+        ensures certificate { self.new.certificate ≡ (decided self.old.rows self.old.tuning self.old.soft).certificate }
+        ensures likely { result ≡ Verdict.MostLikely → IsMostLikely (code_of self.old.rows) self.old.soft self.new.bits }
+        ensures certified { IsShown self.old.rows self.old.soft (record { verdict = result; bits = self.new.bits; certificate = self.new.certificate }) }
+        ensures codeword { result ≢ Verdict.Broken → IsCodeword (code_of self.old.rows) self.new.bits }
+        ensures broken { result ≡ Verdict.Broken → IsCodeword (code_of self.old.rows) self.new.bits → ⊥ }
+        ensures scattered { (sent : List Bool) → IsScattered (code_of self.old.rows) self.old.soft sent → (result ≡ Verdict.MostLikely) × (self.new.bits ≡ sent) }
+        ensures clean { IsCodeword (code_of self.old.rows) (hard_decision self.old.soft) → (result ≡ Verdict.MostLikely) × (self.new.bits ≡ hard_decision self.old.soft) }
+    {
+        self.ground = decide(
+            &mut self.certifier,
+            &mut self.decoder,
+            &self.soft,
+            self.rounds,
+            &mut self.repair,
+            &mut self.bits,
+        );
+        self.ground.verdict()
+    }
+
+    /// Decides on n soft values from -63 to 63, n the codeword's length, which it copies. It takes no memory, and
+    /// depends on these values alone.
+    pub fn judge(&mut self, soft: &[i16]) -> Verdict
+        requires long { length soft.now ≡ (code_of self.old.rows).bits }
+        requires range { All IsSoft soft.now }
+        ensures rows { self.new.rows ≡ self.old.rows }
+        ensures tuning { self.new.tuning ≡ self.old.tuning }
+        ensures soft { self.new.soft ≡ soft.now }
+        ensures verdict { result ≡ (decided self.old.rows self.old.tuning soft.now).verdict }
+        ensures bits { self.new.bits ≡ (decided self.old.rows self.old.tuning soft.now).bits }
+        ensures certificate { self.new.certificate ≡ (decided self.old.rows self.old.tuning soft.now).certificate }
+        ensures likely { result ≡ Verdict.MostLikely → IsMostLikely (code_of self.old.rows) soft.now self.new.bits }
+        ensures certified { IsShown self.old.rows soft.now (record { verdict = result; bits = self.new.bits; certificate = self.new.certificate }) }
+        ensures codeword { result ≢ Verdict.Broken → IsCodeword (code_of self.old.rows) self.new.bits }
+        ensures broken { result ≡ Verdict.Broken → IsCodeword (code_of self.old.rows) self.new.bits → ⊥ }
+        ensures scattered { (sent : List Bool) → IsScattered (code_of self.old.rows) soft.now sent → (result ≡ Verdict.MostLikely) × (self.new.bits ≡ sent) }
+        ensures clean { IsCodeword (code_of self.old.rows) (hard_decision soft.now) → (result ≡ Verdict.MostLikely) × (self.new.bits ≡ hard_decision soft.now) }
+    {
+        self.soft_mut().copy_from_slice(soft);
+        self.decide()
+    }
+
+    /// The bits that were last decided: zeros before the first decision.
+    pub fn word(&self) -> &Bits
+        ensures is { result.now ≡ self.now.bits }
+        ensures long { length result.now ≡ (code_of self.now.rows).bits }
+    {
+        &self.bits
+    }
+
+    /// The certificate of the bits that were last decided: `Some` exactly where the verdict was
+    /// most likely, and no soft values were asked for since to be written.
+    pub fn certificate(&self) -> Option<CertView<'_>>
+        ensures { result ≡ self.now.certificate }
+    {
+        match self.ground {
+            Ground::HardDecision => Some(CertView::unsplit(
+                self.certifier.matrix(),
+                &self.soft,
+                &self.bits,
+            )),
+            Ground::Found => self.certifier.held(&self.soft, &self.bits),
+            Ground::Checks | Ground::Nothing => None,
+        }
+    }
+}

@@ -1,0 +1,134 @@
+//! The four steps of a decision.
+ghost use Rattle.std.specs.Prelude.{◌≡◌, ◌≢◌, ◌≤◌, All, IsTrue, Some, None, if◌then◌else◌, false, length};
+ghost use Rattle.s2_matrix.specs.Code.{code_of};
+ghost use Rattle.s2_check.specs.Views.{IsSoft};
+ghost use Rattle.s2_split.specs.Making.{shared_views};
+ghost use Rattle.s2_split.specs.Scattered.{repaired};
+ghost use Rattle.s2_link.specs.Tuning.{tuning_of};
+ghost use Rattle.s2_judge.specs.Deciding.{decoded_bits, first_codeword, repair_view, by_min_sum, decided};
+ghost use Rattle.s2_judge.specs.Judging.{shown_by, IsGround};
+
+use crate::certifier::Certifier;
+use crate::ground::Ground;
+use s2_bits::Bits;
+use s2_check::judge_unsplit;
+use s2_matrix::Matrix;
+use s2_minsum::Decoder;
+
+/// Writes the repair and, if it satisfies every check, looks for its certificate: whether there is one.
+fn try_repair(certifier: &mut Certifier<'_>, soft: &[i16], repair: &mut Bits) -> bool
+    requires soft { length soft.now ≡ (code_of certifier.old.rows).bits }
+    requires range { All IsSoft soft.now }
+    requires repair { length repair.old ≡ (code_of certifier.old.rows).bits }
+    ensures rows { certifier.new.rows ≡ certifier.old.rows }
+    ensures passes { certifier.new.passes ≡ certifier.old.passes }
+    ensures repair { repair.new ≡ repaired (code_of certifier.old.rows) soft.now }
+    ensures word { IsTrue result → certifier.new.word ≡ repair.new }
+    ensures found { IsTrue result → certifier.new.found ≢ None }
+    ensures view { repair_view certifier.old.rows certifier.old.passes soft.now ≡ (if result then shared_views certifier.old.rows soft.now repair.new certifier.new.found else None) }
+{
+    certifier.repair_into(soft, repair);
+    if certifier.matrix().satisfied(repair) {
+        certifier.certify(soft, repair)
+    } else {
+        false
+    }
+}
+
+/// Runs min-sum, at most so many rounds, until its hard decision satisfies every check: whether it
+/// does. The bits are its last hard decision.
+fn decode(
+    matrix: &Matrix,
+    decoder: &mut Decoder<'_>,
+    soft: &[i16],
+    rounds: u32,
+    bits: &mut Bits,
+) -> bool
+    requires decoder { decoder.old.rows ≡ matrix.now }
+    requires soft { length soft.now ≡ (code_of matrix.now).bits }
+    requires range { All IsSoft soft.now }
+    requires rounds { 1 ≤ rounds }
+    requires bits { length bits.old ≡ (code_of matrix.now).bits }
+    ensures rows { decoder.new.rows ≡ matrix.now }
+    ensures first { first_codeword matrix.now rounds soft.now ≡ (if result then Some bits.new else None) }
+    ensures last { result ≡ false → bits.new ≡ decoded_bits matrix.now soft.now rounds }
+    ensures long { length bits.new ≡ (code_of matrix.now).bits }
+{
+    decoder.load(soft);
+    'decoding: for round in 0..rounds {
+        decoder.round();
+        decoder.hard_into(bits);
+        if matrix.satisfied(bits) {
+            return true;
+        }
+    }
+    false
+}
+
+/// Steps 3 and 4, where there is no certificate for the repair.
+fn decide_by_min_sum(
+    certifier: &mut Certifier<'_>,
+    decoder: &mut Decoder<'_>,
+    soft: &[i16],
+    rounds: u32,
+    repair: &Bits,
+    bits: &mut Bits,
+) -> Ground
+    requires decoder { decoder.old.rows ≡ certifier.old.rows }
+    requires soft { length soft.now ≡ (code_of certifier.old.rows).bits }
+    requires range { All IsSoft soft.now }
+    requires rounds { 1 ≤ rounds }
+    requires repair { repair.now ≡ repaired (code_of certifier.old.rows) soft.now }
+    requires bits { length bits.old ≡ (code_of certifier.old.rows).bits }
+    ensures certifier { certifier.new.rows ≡ certifier.old.rows }
+    ensures passes { certifier.new.passes ≡ certifier.old.passes }
+    ensures decoder { decoder.new.rows ≡ certifier.old.rows }
+    ensures long { length bits.new ≡ (code_of certifier.old.rows).bits }
+    ensures ground { IsGround soft.now bits.new certifier.new result }
+    ensures decided { by_min_sum certifier.old.rows (tuning_of rounds certifier.old.passes) soft.now (first_codeword certifier.old.rows rounds soft.now) ≡ shown_by certifier.old.rows soft.now bits.new certifier.new.found result }
+{
+    if decode(certifier.matrix(), decoder, soft, rounds, bits) {
+        if certifier.certify(soft, bits) {
+            return Ground::Found;
+        }
+        return Ground::Checks;
+    }
+    if certifier.matrix().satisfied(repair) {
+        bits.copy_prefix(repair, repair.len());
+        return Ground::Checks;
+    }
+    Ground::Nothing
+}
+
+/// The four steps, the first two here.
+pub(crate) fn decide(
+    certifier: &mut Certifier<'_>,
+    decoder: &mut Decoder<'_>,
+    soft: &[i16],
+    rounds: u32,
+    repair: &mut Bits,
+    bits: &mut Bits,
+) -> Ground
+    requires decoder { decoder.old.rows ≡ certifier.old.rows }
+    requires soft { length soft.now ≡ (code_of certifier.old.rows).bits }
+    requires range { All IsSoft soft.now }
+    requires rounds { 1 ≤ rounds }
+    requires repair { length repair.old ≡ (code_of certifier.old.rows).bits }
+    requires bits { length bits.old ≡ (code_of certifier.old.rows).bits }
+    ensures certifier { certifier.new.rows ≡ certifier.old.rows }
+    ensures passes { certifier.new.passes ≡ certifier.old.passes }
+    ensures decoder { decoder.new.rows ≡ certifier.old.rows }
+    ensures repair { length repair.new ≡ (code_of certifier.old.rows).bits }
+    ensures long { length bits.new ≡ (code_of certifier.old.rows).bits }
+    ensures ground { IsGround soft.now bits.new certifier.new result }
+    ensures decided { decided certifier.old.rows (tuning_of rounds certifier.old.passes) soft.now ≡ shown_by certifier.old.rows soft.now bits.new certifier.new.found result }
+{
+    if judge_unsplit(certifier.matrix(), soft, bits) {
+        return Ground::HardDecision;
+    }
+    if try_repair(certifier, soft, repair) {
+        bits.copy_prefix(repair, repair.len());
+        return Ground::Found;
+    }
+    decide_by_min_sum(certifier, decoder, soft, rounds, repair, bits)
+}

@@ -1,0 +1,26 @@
+-- How much a receiver tries, and which numbers are refused.
+use Rattle.std.specs.Prelude.{◌≡◌, ℕ, ◌<◌, ◌≤◌, ◌⊎◌}
+use Rattle.s2_link.specs.declared.fault.SetupFault.{SetupFault}
+use Rattle.s2_link.specs.declared.fault.SetupFault.TheVariants as faults
+use Rattle.s2_link.specs.Limits.{most_rounds, most_passes}
+
+-- so many rounds of min-sum, and so many passes of settling; with no passes a certificate is made by greedy amounts and
+-- spreading
+pub record Tuning : Type 0 where
+  pub rounds : ℕ
+  pub passes : ℕ
+
+abbrev pub tuning_of : ℕ → ℕ → Tuning
+tuning_of rounds passes = record { rounds = rounds; passes = passes }
+
+-- at least one round of min-sum, and no more rounds and no more passes of settling than may be
+pub record IsTuning (tuning : Tuning) : Type 0 where
+  pub some : 1 ≤ tuning.rounds
+  pub most : tuning.rounds ≤ most_rounds
+  pub passes : tuning.passes ≤ most_passes
+
+-- when rounds and passes are refused: the first of two
+abbrev pub RefusesTuning : Tuning → SetupFault → Type 0
+RefusesTuning tuning faults.BadRounds = (tuning.rounds ≡ 0) ⊎ (most_rounds < tuning.rounds)
+RefusesTuning tuning faults.BadPasses = (1 ≤ tuning.rounds) × (tuning.rounds ≤ most_rounds) × (most_passes < tuning.passes)
+RefusesTuning tuning fault = ⊥

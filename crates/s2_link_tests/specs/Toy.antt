@@ -1,0 +1,22 @@
+-- A made-up link of the tests: frames of 100 symbols, whose header ends in a symbol with a negative I. The first symbol's Q tells
+-- what a frame brings: below 0 nothing, below 2 the first part of a packet, else the rest of it.
+use Rattle.std.specs.Prelude.{ℕ, ℤ, pos, int_lt, Bool, if◌then◌else◌, List, [], Option, Some, None}
+use Rattle.s2_mode.specs.Symbols.{symbol_at}
+use Rattle.s2_mode.specs.declared.symbols.Symbol.{Symbol}
+use Rattle.s2_receive.specs.Receiving.{Decision}
+use Rattle.s2_check.specs.declared.verdict.Verdict.TheVariants.{MostLikely, Broken}
+use Rattle.s2_receive.specs.declared.report.Outcome.TheVariants.{Delivered, NoWord}
+
+-- the last of 90 symbols has a negative I
+abbrev pub is_low : List Symbol → Bool
+is_low symbols = int_lt (symbol_at symbols 89).i (pos 0)
+
+-- which place the header names, in a frame that brings a field
+abbrev pub place_for : ℤ → Option ℕ
+place_for q = if int_lt q (pos 0) then None else (if int_lt q (pos 2) then Some 0 else Some 704)
+
+-- what is decided then: the field is the same each time
+abbrev pub decision_for : List ℕ → Option ℕ → Decision
+decision_for bytes (Some place) =
+    record { soft = []; bits = []; verdict = MostLikely; message = []; outcome = Delivered 0; delivered = Some (record { roll_off = 0; second = 0; dfl = 800; syncd = place }, bytes) }
+decision_for bytes None = record { soft = []; bits = []; verdict = Broken; message = []; outcome = NoWord; delivered = None }

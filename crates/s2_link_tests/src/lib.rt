@@ -1,0 +1,29 @@
+//! Tests of a link and of its parts, from baseband frames to both ends, over public calls alone, with the
+//! numbers of the standard.
+//!
+//! Each crate's tests stand in a module of its name. What several need stands in `streams`: small links, and what is
+//! sent and received on them.
+#![tactic(auto)]
+
+#[cfg(test)]
+mod bbframe_memory_tests;
+#[cfg(test)]
+mod bbframe_tests;
+#[cfg(test)]
+mod hostile_tests;
+#[cfg(test)]
+mod modem_memory_tests;
+#[cfg(test)]
+mod modem_tests;
+#[cfg(test)]
+mod plframe_tests;
+#[cfg(test)]
+mod receive_tests;
+#[cfg(test)]
+mod scattered_tests;
+#[cfg(test)]
+mod send_tests;
+#[cfg(test)]
+mod streams;
+#[cfg(test)]
+mod threshold_tests;

@@ -1,0 +1,130 @@
+//! Headers, frames and the search on known values.
+use s2_mode::{Mode, Symbol};
+use s2_plframe::{Found, Search, frame_into, header_matches, payload_of};
+use s2_scramble::Gold;
+use std::test::Fail;
+
+const PILOT: Symbol = Symbol { i: 700, q: 700 };
+
+/// The 64 bits after the start of frame, decided from the symbols of a header.
+fn code_of(frame: &[Symbol]) -> u64 {
+    let mut code = 0u64;
+    for (k, symbol) in frame.iter().enumerate() {
+        if k >= 26 && k < 90 {
+            let i = i32::from(symbol.i);
+            let q = i32::from(symbol.q);
+            let bit = if k % 2 == 0 { i + q < 0 } else { q - i < 0 };
+            code = (code << 1) | u64::from(bit);
+        }
+    }
+    code
+}
+
+#[test]
+fn writes_a_header(rt: HostRuntime) -> Result<(), Fail> {
+    let mode = Mode::of(4, false, false).ok_or("no mode")?;
+    let gold = Gold::new(rt.alloc(), 0)?;
+    let payload = vec![in rt.alloc(); PILOT; 90 * mode.slots()]?;
+    let mut frame = vec![in rt.alloc(); PILOT; mode.symbols()]?;
+    frame_into(mode, &gold, &payload, &mut frame);
+    assert_eq!(rt; code_of(&frame), 0x7162833653BD2D05);
+    assert_eq!(rt; frame.len(), 32490);
+    let first = [
+        Symbol { i: 700, q: 700 },
+        Symbol { i: 700, q: -700 },
+        Symbol { i: -700, q: -700 },
+        Symbol { i: -700, q: 700 },
+    ];
+    assert_eq!(rt; &frame[..4], first.as_slice());
+    Ok(())
+}
+
+/// A frame whose first symbols are negated, as many as said.
+fn negated(rt: &HostRuntime, mode: Mode, count: usize) -> Result<Vec<Symbol>, Fail> {
+    let gold = Gold::new(rt.alloc(), 0)?;
+    let payload = vec![in rt.alloc(); PILOT; 90 * mode.slots()]?;
+    let mut frame = vec![in rt.alloc(); PILOT; mode.symbols()]?;
+    frame_into(mode, &gold, &payload, &mut frame);
+    for k in 0..count.min(frame.len()) {
+        let Symbol { i, q } = frame[k];
+        frame[k] = Symbol {
+            i: i.saturating_neg(),
+            q: q.saturating_neg(),
+        };
+    }
+    Ok(frame)
+}
+
+/// What a search says of symbols: the first answer that is not nothing, and after how many.
+fn first_found(mode: Mode, symbols: &[Symbol]) -> (Found, usize) {
+    let mut search = Search::new(mode);
+    let mut fed = 0usize;
+    for symbol in symbols {
+        fed = fed.saturating_add(1);
+        let found = search.feed(*symbol);
+        if found != Found::Nothing {
+            return (found, fed);
+        }
+    }
+    (Found::Nothing, fed)
+}
+
+/// Whether a header is found with 12 of its symbols negated, and not with 13.
+fn is_found(rt: &HostRuntime, mode: Mode) -> Result<bool, Fail> {
+    let mut right = true;
+    for (wrong, found) in [
+        (0, (Found::Coded, 90)),
+        (12, (Found::Coded, 90)),
+        (13, (Found::Nothing, mode.symbols())),
+    ] {
+        let frame = negated(rt, mode, wrong)?;
+        let mut header = [PILOT; 90];
+        for (to, symbol) in header.iter_mut().zip(frame.iter()) {
+            *to = *symbol;
+        }
+        right = right && first_found(mode, &frame) == found;
+        right = right && header_matches(mode, &header) == (wrong < 13);
+    }
+    Ok(right)
+}
+
+#[test]
+fn finds_a_header(rt: HostRuntime) -> Result<(), Fail> {
+    let short = Mode::of(4, true, true).ok_or("no mode")?;
+    assert_eq!(rt; short.symbols(), 8370);
+    assert!(rt; is_found(&rt, short)?);
+    let normal = Mode::of(4, false, false).ok_or("no mode")?;
+    assert_eq!(rt; normal.symbols(), 32490);
+    assert!(rt; is_found(&rt, normal)?);
+    Ok(())
+}
+
+/// The header that begins with the mark and goes on with these bits, as symbols.
+fn header_of(code: u64) -> [Symbol; 90] {
+    let bits = (0x018D_2E82u128 << 64) | u128::from(code);
+    let mut symbols = [PILOT; 90];
+    for k in 0..90usize {
+        let level = if (bits >> (89 - k)) % 2 == 1 {
+            -700
+        } else {
+            700
+        };
+        symbols[k] = Symbol {
+            i: if k % 2 == 0 { level } else { -level },
+            q: level,
+        };
+    }
+    symbols
+}
+
+#[test]
+fn knows_a_dummy_frame(rt: HostRuntime) -> Result<(), Fail> {
+    let mode = Mode::of(4, false, false).ok_or("no mode")?;
+    let dummy = header_of(0x719D_83C9_5342_2DFA);
+    assert_eq!(rt; first_found(mode, &dummy), (Found::Dummy, 90));
+    let coded = header_of(0x7162_8336_53BD_2D05);
+    assert_eq!(rt; first_found(mode, &coded), (Found::Coded, 90));
+    let other = Mode::of(4, false, true).ok_or("no mode")?;
+    assert_eq!(rt; first_found(other, &coded), (Found::Nothing, 90));
+    Ok(())
+}

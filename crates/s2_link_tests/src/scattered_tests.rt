@@ -1,0 +1,120 @@
+//! A frame whose wrong decisions are scattered.
+use super::streams::{Sides, assert_reported, matrix_of, packet_of_zeros, setup_of, symbols_of};
+use s2_matrix::Matrix;
+use std::alloc::{AllocError, Global};
+use std::process::Abort;
+use std::test::Fail;
+
+/// How many checks of a bit have a wrong member.
+fn touching(matrix: &Matrix, touched: &[bool], bit: usize) -> usize {
+    let mut count = 0usize;
+    if bit < matrix.bits() {
+        for check in matrix.checks_at(bit) {
+            if touched.get(*check as usize) == Some(&true) {
+                count = count.saturating_add(1);
+            }
+        }
+    }
+    count
+}
+
+/// Marks the checks of a wrong bit. Whether there are two at least, and none had a wrong member.
+fn touch(matrix: &Matrix, touched: &mut [bool], bit: usize) -> bool {
+    if bit >= matrix.bits() {
+        return false;
+    }
+    let checks = matrix.checks_at(bit);
+    let mut alone = checks.len() >= 2;
+    for check in checks {
+        match touched.get_mut(*check as usize) {
+            Some(place) => {
+                alone = alone && !*place;
+                *place = true;
+            }
+            None => alone = false,
+        }
+    }
+    alone
+}
+
+/// Whether no check has two of these wrong bits, each is in two checks at least, and no other bit is in two
+/// checks that have one. Where all values are of one size, a wrong bit's checks then have enough to give.
+fn are_scattered(alloc: Global, matrix: &Matrix, wrong: &[usize]) -> Result<bool, AllocError> {
+    let mut touched = vec![in alloc; false; matrix.check_count()]?;
+    let mut scattered = true;
+    for bit in wrong {
+        scattered = touch(matrix, &mut touched, *bit) && scattered;
+    }
+    for bit in 0..matrix.bits() {
+        let is_wrong = wrong.contains(&bit);
+        scattered = scattered && (is_wrong || touching(matrix, &touched, bit) <= 1);
+    }
+    Ok(scattered)
+}
+
+/// The first three payload symbols of QPSK whose bits may all be wrong.
+fn three_symbols(alloc: Global, matrix: &Matrix) -> Result<[u8; 3], Fail> {
+    let (mut symbols, mut wrong, mut found) = ([0u8; 3], [0usize; 6], 0usize);
+    for symbol in 0..100u8 {
+        if found < 3 {
+            symbols[found] = symbol;
+            wrong[2 * found] = 2 * usize::from(symbol);
+            wrong[2 * found + 1] = 2 * usize::from(symbol) + 1;
+            if are_scattered(alloc, matrix, &wrong[..2 * found + 2])? {
+                found += 1;
+            }
+        }
+    }
+    if found < 3 {
+        return Err(Fail::from("no three symbols"));
+    }
+    Ok(symbols)
+}
+
+/// Turns a component of two bytes to its negative.
+fn negate(component: &mut [u8]) {
+    if let [high, low] = component {
+        let value = i16::from_be_bytes([*high, *low]).wrapping_neg();
+        [*high, *low] = value.to_be_bytes();
+    }
+}
+
+/// Negates a payload symbol of a frame.
+fn negate_symbol(symbols: &mut [u8], symbol: u8) {
+    let at = 4 * (90 + usize::from(symbol));
+    if at + 4 <= symbols.len() {
+        negate(&mut symbols[at..at + 2]);
+        negate(&mut symbols[at + 2..at + 4]);
+    }
+}
+
+/// The link of QPSK 1/2 in short frames, by rows of weight 6 that seed 1 makes.
+fn link(alloc: Global) -> Result<Sides, Fail> {
+    let setup = setup_of(4, true)?;
+    let matrix = matrix_of(alloc, setup.mode.shape(), 6)?;
+    Ok(Sides { setup, matrix })
+}
+
+/// The symbols of a packet of zeros, of which three are negated.
+fn three_negated(alloc: Global, link: &Sides) -> Result<Vec<u8>, Fail> {
+    let wrong = three_symbols(alloc, &link.matrix)?;
+    let mut symbols = symbols_of(alloc, link, &packet_of_zeros())?;
+    for symbol in wrong {
+        negate_symbol(&mut symbols, symbol);
+    }
+    Ok(symbols)
+}
+
+/// Asserts that the packet arrives.
+fn assert_repaired<A: Abort>(rt: &A, alloc: Global, link: &Sides) -> Result<(), Fail> {
+    let symbols = three_negated(alloc, link)?;
+    let report = "frame 1 at 0 most-likely fixed 0\nend frames 1 delivered 1 packets 1 bad 0\n";
+    assert_reported(rt, alloc, link, &symbols, report, &packet_of_zeros());
+    Ok(())
+}
+
+#[test]
+fn three_negated_symbols_are_repaired(rt: HostRuntime) -> Result<(), Fail> {
+    let link = link(rt.alloc())?;
+    assert_repaired(&rt, rt.alloc(), &link)
+}

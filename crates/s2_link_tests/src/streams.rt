@@ -1,0 +1,738 @@
+//! Small links and their streams, for tests. What has a large contract is called here and nowhere else
+//! in the tests, each such call by a function that has none, so that a test's own proof stays small.
+ghost use Rattle.std.specs.Prelude.{◌≡◌, ◌≤◌, IfOk, IsTrue, length};
+ghost use Rattle.s2_mode.specs.Mode.{n_of};
+ghost use Rattle.s2_bbframe.specs.DataStream.{field_bytes};
+ghost use Rattle.s2_receive.specs.Receiving.{IsLive, begun};
+
+use s2_bbframe::Header;
+use s2_bits::Bits;
+use s2_link::Link;
+use s2_matrix::Matrix;
+use s2_mode::{
+    ByOne, Counted, Counting, Endless, FailAt, MOST_SYMBOLS, Mode, Shape, StreamFault, WriteFault,
+};
+use s2_modem::{
+    Counts, DemodFault, Receiver, SendFault, Setup, SetupFault, Transmitter, demodulate,
+};
+use s2_receive::{Fault, Received, Step, Totals};
+use s2_rows::make_rows;
+use s2_scramble::Gold;
+use s2_send::{Coder, Framer, Modulator};
+use std::alloc::{AllocError, Global};
+use std::io;
+use std::io::Read;
+use std::process::Abort;
+use std::test::Fail;
+
+/// The rounds of a receiver here.
+pub(crate) const ROUNDS: u32 = 50;
+
+/// Where no write fails.
+pub(crate) const ALL: u64 = u64::MAX;
+
+/// A setup, and the matrix of made rows.
+pub(crate) struct Sides {
+    pub(crate) setup: Setup,
+    pub(crate) matrix: Matrix,
+}
+
+impl Drop for Sides {
+    fn drop(self) {
+        let Sides {
+            setup: _,
+            matrix: _,
+        } = self;
+    }
+}
+
+/// The checks of a code, by rows of this weight that seed 1 makes.
+pub(crate) fn matrix_of(alloc: Global, shape: Shape, weight: usize) -> Result<Matrix, Fail> {
+    let rows = make_rows(alloc, shape, weight, 1)?;
+    Ok(Matrix::build(alloc, &rows)?)
+}
+
+/// The sides of a setup, by rows of weight 3.
+pub(crate) fn link_in(alloc: Global, setup: Setup) -> Result<Sides, Fail> {
+    let matrix = matrix_of(alloc, setup.mode.shape(), 3)?;
+    Ok(Sides { setup, matrix })
+}
+
+/// The setup of a mode without pilots, of number 0 and roll-off 0.
+pub(crate) fn setup_of(modcod: u8, short: bool) -> Result<Setup, Fail> {
+    let mode = Mode::of(modcod, short, false).ok_or("no mode")?;
+    Ok(Setup {
+        mode,
+        number: 0,
+        roll_off: 0,
+    })
+}
+
+/// The link of a mode without pilots, of number 0 and roll-off 0, by rows of weight 3.
+pub(crate) fn link_of(alloc: Global, modcod: u8, short: bool) -> Result<Sides, Fail> {
+    link_in(alloc, setup_of(modcod, short)?)
+}
+
+/// The link of QPSK 1/4 in short frames with this number and roll-off, or one whose checks are of another shape.
+pub(crate) fn other_link(
+    alloc: Global,
+    number: u32,
+    roll_off: u8,
+    other_shape: bool,
+) -> Result<Sides, Fail> {
+    let mut setup = setup_of(1, true)?;
+    setup.number = number;
+    setup.roll_off = roll_off;
+    if !other_shape {
+        return link_in(alloc, setup);
+    }
+    let toy = Shape::new(4, 2, 3).ok_or("no shape")?;
+    let matrix = matrix_of(alloc, toy, 3)?;
+    Ok(Sides { setup, matrix })
+}
+
+/// A packet of zeros.
+pub(crate) fn packet_of_zeros() -> [u8; 188] {
+    let mut packet = [0; 188];
+    packet[0] = 0x47;
+    packet
+}
+
+/// The packet of a number, whose bytes count in steps of 7 from there on.
+pub(crate) fn packet_of(number: u8) -> [u8; 188] {
+    let mut packet = [0x47u8; 188];
+    for i in 0..187usize {
+        packet[i + 1] = ((7 * i + usize::from(number) + 1) % 256) as u8;
+    }
+    packet
+}
+
+/// The packets of the numbers 0 and 1.
+pub(crate) fn two_packets() -> [[u8; 188]; 2] {
+    [packet_of(0), packet_of(1)]
+}
+
+/// What is read: a slice, all at once or byte by byte, or one that repeats for ever.
+#[derive(Clone, Copy)]
+pub(crate) enum Source<'a> {
+    Slice(&'a [u8]),
+    Bytes(ByOne<'a>),
+    Repeated(Endless<'a>),
+}
+
+impl Read for Source<'_> {
+    fn read(&mut self, buf: &mut [u8]) -> io::Result<usize> {
+        match self {
+            Source::Slice(bytes) => bytes.read(buf),
+            Source::Bytes(bytes) => bytes.read(buf),
+            Source::Repeated(bytes) => bytes.read(buf),
+        }
+    }
+}
+
+/// A reader of which so many reads pass.
+type Reader<'a> = Counting<FailAt<Source<'a>>>;
+
+/// A writer of which so many writes pass.
+type Writer = Counting<FailAt<Vec<u8>>>;
+
+fn reader_of(source: Source<'_>, passes: u64) -> Reader<'_> {
+    Counting::new(FailAt::new(source, passes))
+}
+
+fn writer_of(alloc: Global, passes: u64) -> Writer {
+    Counting::new(FailAt::new(Vec::new(alloc), passes))
+}
+
+/// What a writer has taken.
+fn taken(writer: Writer) -> Vec<u8> {
+    writer.into_inner().into_inner()
+}
+
+/// What a run of a transmitter came to.
+#[derive(Drop)]
+pub(crate) struct Sent {
+    pub(crate) answer: Result<Counts, SendFault>,
+    /// How many reads, and how many writes failed.
+    pub(crate) failed: [u64; 2],
+    pub(crate) symbols: Vec<u8>,
+}
+
+pub(crate) fn transmitter_of<'a>(
+    alloc: Global,
+    link: &'a Sides,
+) -> Result<Transmitter<'a>, SetupFault> {
+    Transmitter::new(alloc, link.setup, &link.matrix)
+}
+
+/// Runs a transmitter.
+fn run(
+    transmitter: &mut Transmitter<'_>,
+    reader: &mut Reader<'_>,
+    writer: &mut Writer,
+) -> Result<Counts, SendFault> {
+    if reader.count() == u64::MAX || writer.count() == u64::MAX {
+        return Err(SendFault::Read);
+    }
+    transmitter.run(reader, writer)
+}
+
+/// What a transmitter sends of what is read, where so many reads and so many writes pass.
+pub(crate) fn sent_by(
+    alloc: Global,
+    transmitter: &mut Transmitter<'_>,
+    source: Source<'_>,
+    passes: [u64; 2],
+) -> Sent {
+    let mut reader = reader_of(source, passes[0]);
+    let mut writer = writer_of(alloc, passes[1]);
+    let answer = run(transmitter, &mut reader, &mut writer);
+    Sent {
+        answer,
+        failed: [reader.count(), writer.count()],
+        symbols: taken(writer),
+    }
+}
+
+/// Lets a transmitter take at most so many packets.
+fn limit(transmitter: &mut Transmitter<'_>, packets: u32) {
+    transmitter.limit(u64::from(packets.max(1)));
+}
+
+/// What is sent on a link of what is read, at most so many packets, where so many reads and so many
+/// writes pass.
+pub(crate) fn send(
+    alloc: Global,
+    link: &Sides,
+    packets: u32,
+    source: Source<'_>,
+    passes: [u64; 2],
+) -> Result<Sent, SetupFault> {
+    match transmitter_of(alloc, link) {
+        Ok(mut transmitter) => {
+            limit(&mut transmitter, packets);
+            Ok(sent_by(alloc, &mut transmitter, source, passes))
+        }
+        Err(fault) => Err(fault),
+    }
+}
+
+/// What is sent of packets on a link.
+pub(crate) fn send_packets(
+    alloc: Global,
+    link: &Sides,
+    packets: &[u8],
+) -> Result<Sent, SetupFault> {
+    send(alloc, link, u32::MAX, Source::Slice(packets), [ALL, ALL])
+}
+
+/// The symbols of packets on a link.
+pub(crate) fn symbols_of(alloc: Global, link: &Sides, packets: &[u8]) -> Result<Vec<u8>, Fail> {
+    let sent = send_packets(alloc, link, packets)?;
+    match sent.answer {
+        Ok(_) => Ok(sent.symbols),
+        Err(fault) => Err(Fail::from(fault)),
+    }
+}
+
+/// A link and symbols on it.
+pub(crate) struct Sample {
+    pub(crate) link: Sides,
+    pub(crate) symbols: Vec<u8>,
+}
+
+impl Drop for Sample {
+    fn drop(self) {
+        let Sample {
+            link: _,
+            symbols: _,
+        } = self;
+    }
+}
+
+/// The link of a mode, and the symbols of packets on it.
+pub(crate) fn sample_of(
+    alloc: Global,
+    modcod: u8,
+    short: bool,
+    packets: &[u8],
+) -> Result<Sample, Fail> {
+    let link = link_of(alloc, modcod, short)?;
+    let symbols = symbols_of(alloc, &link, packets)?;
+    Ok(Sample { link, symbols })
+}
+
+/// The link of QPSK 1/4 in short frames, and the symbols of two packets on it.
+pub(crate) fn two_frames(alloc: Global) -> Result<Sample, Fail> {
+    sample_of(alloc, 1, true, two_packets().as_flattened())
+}
+
+/// The link of QPSK 1/4 in normal frames, and the symbols of a packet of zeros on it.
+pub(crate) fn one_frame(alloc: Global) -> Result<Sample, Fail> {
+    sample_of(alloc, 1, false, &packet_of_zeros())
+}
+
+/// Writes a frame.
+fn write_frame(
+    framer: &mut Framer<'_>,
+    header: &Header,
+    field: &[u8],
+    writer: &mut Writer,
+) -> Result<(), WriteFault>
+    requires roll_off { header.now.roll_off ≤ 3 }
+    requires field { length field.now ≤ field_bytes framer.old.setup.mode }
+{
+    if writer.count() == u64::MAX {
+        return Err(WriteFault);
+    }
+    framer.write_frame(header, field, writer)
+}
+
+/// The bytes of a frame.
+fn framed_by(
+    alloc: Global,
+    framer: &mut Framer<'_>,
+    header: &Header,
+    field: &[u8],
+) -> Result<Vec<u8>, WriteFault>
+    requires roll_off { header.now.roll_off ≤ 3 }
+    requires field { length field.now ≤ field_bytes framer.old.setup.mode }
+{
+    let mut writer = writer_of(alloc, ALL);
+    match write_frame(framer, header, field, &mut writer) {
+        Ok(()) => Ok(taken(writer)),
+        Err(fault) => Err(fault),
+    }
+}
+
+/// The same by a framer of a link.
+fn framed_on(alloc: Global, link: &Link<'_>, header: &Header, field: &[u8]) -> Result<Vec<u8>, Fail>
+    requires roll_off { header.now.roll_off ≤ 3 }
+    requires field { length field.now ≤ field_bytes link.now.setup.mode }
+{
+    match Framer::new(alloc, link) {
+        Ok(mut framer) => Ok(framed_by(alloc, &mut framer, header, field)?),
+        Err(fault) => Err(Fail::from(fault)),
+    }
+}
+
+/// Whether a header and these bytes are of some frame of a mode.
+fn is_frame_of(mode: Mode, header: &Header, field: &[u8]) -> bool
+    ensures roll_off { IsTrue result → header.now.roll_off ≤ 3 }
+    ensures field { IsTrue result → length field.now ≤ field_bytes mode }
+{
+    header.roll_off <= 3 && field.len() <= s2_bbframe::field_bytes(mode)
+}
+
+/// The symbols of the frame of a header, whatever it says, and of the bytes behind it.
+pub(crate) fn frame_of(
+    alloc: Global,
+    link: &Sides,
+    header: &Header,
+    field: &[u8],
+) -> Result<Vec<u8>, Fail> {
+    if !is_frame_of(link.setup.mode, header, field) {
+        return Err(Fail::from("no frame of the link"));
+    }
+    framed_on(alloc, &Link::new(link.setup, &link.matrix)?, header, field)
+}
+
+/// A coder's BCH word of a header and its data field.
+fn bch_word_by(
+    alloc: Global,
+    coder: &mut Coder<'_>,
+    size: usize,
+    header: &Header,
+    field: &[u8],
+) -> Result<Bits, AllocError>
+    requires roll_off { header.now.roll_off ≤ 3 }
+    requires field { length field.now ≤ field_bytes coder.old.mode }
+    requires size { size ≤ n_of coder.old.mode }
+{
+    coder.encode(header, field);
+    front_of(alloc, coder.codeword(), size)
+}
+
+/// The first bits of some.
+fn front_of(alloc: Global, bits: &Bits, size: usize) -> Result<Bits, AllocError>
+    requires { size ≤ length bits.now }
+{
+    let mut front = Bits::zeroed(alloc, size)?;
+    front.copy_prefix(bits, size);
+    Ok(front)
+}
+
+/// The same by a coder of a link.
+fn bch_word_on(alloc: Global, link: &Link<'_>, header: &Header, field: &[u8]) -> Result<Bits, Fail>
+    requires roll_off { header.now.roll_off ≤ 3 }
+    requires field { length field.now ≤ field_bytes link.now.setup.mode }
+{
+    match Coder::new(alloc, link) {
+        Ok(mut coder) => Ok(bch_word_by(alloc, &mut coder, link.mode().k(), header, field)?),
+        Err(fault) => Err(Fail::from(fault)),
+    }
+}
+
+/// The BCH word of a header and its data field.
+pub(crate) fn bch_word_of(
+    alloc: Global,
+    link: &Sides,
+    header: &Header,
+    field: &[u8],
+) -> Result<Bits, Fail> {
+    if !is_frame_of(link.setup.mode, header, field) {
+        return Err(Fail::from("no frame of the link"));
+    }
+    bch_word_on(alloc, &Link::new(link.setup, &link.matrix)?, header, field)
+}
+
+/// A modulator's symbols of a codeword.
+fn modulated_by(
+    alloc: Global,
+    modulator: &mut Modulator,
+    codeword: &Bits,
+) -> Result<Vec<u8>, AllocError>
+    requires { length codeword.now ≡ n_of modulator.old.mode }
+{
+    modulator.modulate(codeword);
+    let mut symbols = Vec::new(alloc);
+    symbols.extend_from_slice(modulator.bytes())?;
+    Ok(symbols)
+}
+
+/// The modulator of a mode under the scrambling number 0.
+fn modulator_of(alloc: Global, mode: Mode) -> Result<Modulator, Fail>
+    ensures { IfOk result (λ m. m.mode ≡ mode) }
+{
+    Ok(Modulator::new(alloc, mode, Gold::new(alloc, 0)?)?)
+}
+
+/// The symbols of the frame of a codeword.
+fn modulated(alloc: Global, mode: Mode, codeword: &Bits) -> Result<Vec<u8>, Fail>
+    requires { length codeword.now ≡ n_of mode }
+{
+    match modulator_of(alloc, mode) {
+        Ok(mut modulator) => Ok(modulated_by(alloc, &mut modulator, codeword)?),
+        Err(fault) => Err(fault),
+    }
+}
+
+/// The symbols of the frame of the codeword that begins with this BCH word.
+pub(crate) fn frame_of_word(alloc: Global, link: &Sides, bch_word: &Bits) -> Result<Vec<u8>, Fail> {
+    let mode = link.setup.mode;
+    if link.matrix.shape() != mode.shape() || bch_word.len() != mode.k() {
+        return Err(Fail::from("another link"));
+    }
+    let mut codeword = Bits::zeroed(alloc, mode.n())?;
+    s2_ldpc::encode_into(&link.matrix, bch_word, &mut codeword);
+    modulated(alloc, mode, &codeword)
+}
+
+/// What is received of symbols in memory.
+pub(crate) struct Demodulated {
+    pub(crate) answer: Result<Totals, DemodFault>,
+    pub(crate) packets: Vec<u8>,
+    pub(crate) report: Vec<u8>,
+}
+
+impl Drop for Demodulated {
+    fn drop(self) {
+        let Demodulated {
+            answer: _,
+            packets: _,
+            report: _,
+        } = self;
+    }
+}
+
+/// Receives symbols in memory, and writes packets and lines to these.
+fn receive_into(
+    alloc: Global,
+    link: &Sides,
+    symbols: &[u8],
+    packets: &mut Writer,
+    report: &mut Writer,
+) -> Result<Totals, DemodFault> {
+    if packets.count() == u64::MAX || report.count() == u64::MAX {
+        return Err(DemodFault::Write);
+    }
+    let symbols = &symbols[..symbols.len().min(1 << 30)];
+    demodulate(
+        alloc,
+        link.setup,
+        &link.matrix,
+        ROUNDS,
+        0,
+        symbols,
+        packets,
+        report,
+    )
+}
+
+/// Receives symbols in memory, where so many writes of packets and so many of lines pass.
+pub(crate) fn receive(
+    alloc: Global,
+    link: &Sides,
+    symbols: &[u8],
+    writes: [u64; 2],
+) -> Demodulated {
+    let mut packets = writer_of(alloc, writes[0]);
+    let mut report = writer_of(alloc, writes[1]);
+    let answer = receive_into(alloc, link, symbols, &mut packets, &mut report);
+    Demodulated {
+        answer,
+        packets: taken(packets),
+        report: taken(report),
+    }
+}
+
+/// Receives symbols in memory.
+pub(crate) fn received(alloc: Global, link: &Sides, symbols: &[u8]) -> Demodulated {
+    receive(alloc, link, symbols, [ALL, ALL])
+}
+
+/// Asserts what was reported, and the packets.
+pub(crate) fn assert_received<A: Abort>(
+    rt: &A,
+    received: &Demodulated,
+    report: &str,
+    packets: &[u8],
+) {
+    assert_eq!(rt; received.report.as_slice(), report.as_bytes());
+    assert_eq!(rt; received.packets.as_slice(), packets);
+}
+
+/// Asserts what is reported of symbols in memory, and the packets.
+pub(crate) fn assert_reported<A: Abort>(
+    rt: &A,
+    alloc: Global,
+    link: &Sides,
+    symbols: &[u8],
+    report: &str,
+    packets: &[u8],
+) {
+    assert_received(rt, &received(alloc, link, symbols), report, packets);
+}
+
+/// Asserts what is reported of a sample, and the packets.
+pub(crate) fn assert_sample<A: Abort>(
+    rt: &A,
+    alloc: Global,
+    sample: &Sample,
+    report: &str,
+    packets: &[u8],
+) {
+    assert_reported(rt, alloc, &sample.link, &sample.symbols, report, packets);
+}
+
+/// Lets a receiver run to the end of what is read.
+fn run_receiver(
+    receiver: &mut Receiver<'_>,
+    reader: &mut Reader<'_>,
+    packets: &mut Writer,
+    report: &mut Writer,
+) -> Result<Received, StreamFault>
+    requires { IsLive receiver.old.state.phase }
+{
+    let failed = [reader.count(), packets.count(), report.count()];
+    if failed[0] == u64::MAX || failed[1] == u64::MAX || failed[2] == u64::MAX {
+        return Err(StreamFault::Read);
+    }
+    receiver.run(reader, packets, report)
+}
+
+/// Receives symbols in memory to their end by a single call.
+fn run_to_end(
+    alloc: Global,
+    receiver: &mut Receiver<'_>,
+    symbols: &[u8],
+) -> Result<Received, StreamFault>
+    requires { IsLive receiver.old.state.phase }
+{
+    let mut reader = reader_of(Source::Slice(symbols), ALL);
+    let mut packets = writer_of(alloc, ALL);
+    let mut report = writer_of(alloc, ALL);
+    run_receiver(receiver, &mut reader, &mut packets, &mut report)
+}
+
+/// What a receiver of a link, with so many passes, takes of symbols by a single call.
+pub(crate) fn received_whole(
+    alloc: Global,
+    link: &Sides,
+    symbols: &[u8],
+    passes: u32,
+) -> Result<Received, Fail> {
+    match receiver_of(alloc, link, ROUNDS, passes) {
+        Ok(mut receiver) => Ok(run_to_end(alloc, &mut receiver, symbols)?),
+        Err(fault) => Err(Fail::from(fault)),
+    }
+}
+
+/// The receiver of a link, of so many rounds and passes.
+pub(crate) fn receiver_of<'a>(
+    alloc: Global,
+    link: &'a Sides,
+    rounds: u32,
+    passes: u32,
+) -> Result<Receiver<'a>, SetupFault>
+    ensures { IfOk result (λ r. r.state ≡ begun) }
+{
+    Receiver::new(alloc, link.setup, &link.matrix, rounds, passes)
+}
+
+/// Lets a receiver take at most so many symbols.
+fn limit_receiver(receiver: &mut Receiver<'_>, symbols: u64)
+    requires { receiver.old.state ≡ begun }
+{
+    receiver.limit(symbols.clamp(1, MOST_SYMBOLS));
+}
+
+/// Calls a receiver once.
+fn step(
+    receiver: &mut Receiver<'_>,
+    reader: &mut Reader<'_>,
+    packets: &mut Writer,
+    report: &mut Writer,
+) -> Result<Step, Fault> {
+    let failed = [reader.count(), packets.count(), report.count()];
+    if failed[0] == u64::MAX || failed[1] == u64::MAX || failed[2] == u64::MAX {
+        return Err(Fault::Failed);
+    }
+    receiver.next(reader, packets, report)
+}
+
+/// What five calls of a receiver answer.
+pub(crate) type Steps = [Result<Step, Fault>; 5];
+
+fn five_steps(
+    receiver: &mut Receiver<'_>,
+    reader: &mut Reader<'_>,
+    packets: &mut Writer,
+    report: &mut Writer,
+) -> Steps {
+    let mut steps = [Err(Fault::Failed); 5];
+    for answer in steps.iter_mut() {
+        *answer = step(receiver, reader, packets, report);
+    }
+    steps
+}
+
+/// What five calls of a receiver answered and wrote.
+pub(crate) struct Heard {
+    pub(crate) steps: Steps,
+    pub(crate) packets: Vec<u8>,
+    pub(crate) report: Vec<u8>,
+}
+
+impl Drop for Heard {
+    fn drop(self) {
+        let Heard {
+            steps: _,
+            packets: _,
+            report: _,
+        } = self;
+    }
+}
+
+fn heard_by(
+    alloc: Global,
+    receiver: &mut Receiver<'_>,
+    source: Source<'_>,
+    passes: [u64; 3],
+) -> Heard {
+    let mut reader = reader_of(source, passes[0]);
+    let mut packets = writer_of(alloc, passes[1]);
+    let mut report = writer_of(alloc, passes[2]);
+    let steps = five_steps(receiver, &mut reader, &mut packets, &mut report);
+    Heard {
+        steps,
+        packets: taken(packets),
+        report: taken(report),
+    }
+}
+
+/// The same of a receiver that takes at most so many symbols.
+fn heard_within(
+    alloc: Global,
+    receiver: &mut Receiver<'_>,
+    symbols: u64,
+    source: Source<'_>,
+    passes: [u64; 3],
+) -> Heard
+    requires { receiver.old.state ≡ begun }
+{
+    limit_receiver(receiver, symbols);
+    heard_by(alloc, receiver, source, passes)
+}
+
+/// Calls a new receiver five times, which takes at most so many symbols, and where so many reads, writes
+/// of packets and writes of lines pass.
+pub(crate) fn hear(
+    alloc: Global,
+    link: &Sides,
+    symbols: u64,
+    source: Source<'_>,
+    passes: [u64; 3],
+) -> Result<Heard, SetupFault> {
+    match receiver_of(alloc, link, ROUNDS, 0) {
+        Ok(mut receiver) => Ok(heard_within(alloc, &mut receiver, symbols, source, passes)),
+        Err(fault) => Err(fault),
+    }
+}
+
+/// The first 32 bits of a word.
+pub(crate) fn first_bytes(word: &Bits) -> [u8; 4] {
+    [word.byte(0), word.byte(1), word.byte(2), word.byte(3)]
+}
+
+/// What a receiver shows of a frame.
+pub(crate) struct Shown {
+    pub(crate) soft: Vec<i16>,
+    /// The word's first 32 bits.
+    pub(crate) word: [u8; 4],
+    pub(crate) message: Vec<bool>,
+}
+
+impl Drop for Shown {
+    fn drop(self) {
+        let Shown {
+            soft: _,
+            word: _,
+            message: _,
+        } = self;
+    }
+}
+
+fn shown_by(alloc: Global, receiver: &Receiver<'_>) -> Result<Shown, AllocError> {
+    let mut soft = Vec::new(alloc);
+    soft.extend_from_slice(receiver.soft())?;
+    let mut message = Vec::new(alloc);
+    message.extend_from_slice(receiver.message())?;
+    Ok(Shown {
+        soft,
+        word: first_bytes(receiver.word()),
+        message,
+    })
+}
+
+/// Calls a receiver once, on symbols in memory.
+fn step_over(alloc: Global, receiver: &mut Receiver<'_>, symbols: &[u8]) -> Result<Step, Fault> {
+    let mut reader = reader_of(Source::Slice(symbols), ALL);
+    let mut packets = writer_of(alloc, ALL);
+    let mut report = writer_of(alloc, ALL);
+    step(receiver, &mut reader, &mut packets, &mut report)
+}
+
+/// The same after one more call.
+fn shown_after(alloc: Global, receiver: &mut Receiver<'_>, symbols: &[u8]) -> Result<Shown, Fail> {
+    let _step = step_over(alloc, receiver, symbols)?;
+    Ok(shown_by(alloc, receiver)?)
+}
+
+/// What a receiver shows after its first call.
+pub(crate) fn show(alloc: Global, link: &Sides, symbols: &[u8]) -> Result<Shown, Fail> {
+    match receiver_of(alloc, link, ROUNDS, 0) {
+        Ok(mut receiver) => shown_after(alloc, &mut receiver, symbols),
+        Err(fault) => Err(Fail::from(fault)),
+    }
+}

@@ -1,0 +1,12 @@
+-- What a fault says.
+use Rattle.std.specs.Prelude.{ℕ, List, ◌++◌, decimal, Option, Some, None}
+use Rattle.s2_mode.specs.declared.fault_text.FaultText.{FaultText}
+
+-- a number behind words, where there is one
+abbrev pub with_number : List ℕ → Option ℕ → List ℕ
+with_number words None = words
+with_number words (Some number) = words ++ decimal number
+
+-- what a text says
+abbrev pub said : FaultText → List ℕ
+said text = with_number text.words.now text.number

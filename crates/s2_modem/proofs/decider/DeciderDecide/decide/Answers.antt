@@ -1,0 +1,50 @@
+use Rattle.std.proofs.Common.{◌≡◌, ℤ, List, length, refl, sym, ap, subst, ◌∙◌, arith}
+use Rattle.s2_mode.specs.Mode.{n_of}
+use Rattle.s2_matrix.specs.Code.{code_of}
+use Rattle.s2_check.proofs.Lists.{refilled}
+use Rattle.s2_link.specs.Link.{Link}
+use Rattle.s2_plframe.specs.Payload.{received_payload}
+use Rattle.s2_soft.specs.Soft.{soft_values}
+use Rattle.s2_receive.specs.Parts.{delivered_of}
+use Rattle.s2_receive.specs.Receiving.{Decision}
+use Rattle.s2_judge.specs.Deciding.{decided}
+use Rattle.s2_modem.specs.Reports.{frame_soft, frame_decision, received_word}
+use Rattle.s2_modem.specs.Listening.{FindsWord, Reads, Listening}
+use Rattle.s2_modem.proofs.DecisionLemmas.{code_is, frame_decided}
+use Rattle.s2_modem.proofs.decider.DeciderDecide.decide.Goals as goal
+
+pub returns-clause-last : goal.returns-clause-last
+returns-clause-last c =
+    let d = c.self.inside in
+    let m = d.mode in
+    let rows = d.judge.rows in
+    let link : Link = record { setup = record { mode = m; number = d.demodulator.number; roll_off = d.roll_off }; rows = rows } in
+    let before = d.judge.soft in
+    let written : List ℤ = c.find_soft.new.soft in
+    let values = refilled (length before) written before refl (c.find_soft.auto.soft ∙ ap length c.soft_mut.ensures.is) in
+    let soft_is : written ≡ frame_soft link c.args.symbols.now =
+    c.find_soft.ensures.is ∙ ap (λ x. soft_values x (received_payload x d.demodulator.number c.args.symbols.now)) c.self.invariant.demodulator in
+    let was = c.decide-verdict.ensures in
+    let held : List ℤ = c.decide-verdict.new.self.soft in
+    let soft_held : held ≡ frame_soft link c.args.symbols.now = was.soft ∙ values ∙ soft_is in
+    let found = c.correct-found in
+    let finds : FindsWord m (received_word m c.decide-verdict.new.self.bits) found.new.self.word found.result =
+    subst (λ b. FindsWord m (received_word m b) found.new.self.word found.result) c.word.ensures.is
+    (subst (λ x. FindsWord x (received_word x c.word.result.now) found.new.self.word found.result) c.self.invariant.corrector found.ensures.nearest) in
+    let r = c.decide-self-inside in
+    let reads : Reads m found.new.self.word found.result r.result.outcome (delivered_of r.result.header r.new.self.field) =
+    subst (λ w. Reads m w found.result r.result.outcome (delivered_of r.result.header r.new.self.field)) c.word-2.ensures.is
+    (subst (λ x. Reads x c.word-2.result.now found.result r.result.outcome (delivered_of r.result.header r.new.self.field)) c.self.invariant.reader r.ensures.reads) in
+    frame_decided link d.judge.tuning c.args.symbols.now held c.decide-verdict.new.self.bits r.result.verdict found.new.self.word found.result r.result.outcome (delivered_of r.result.header r.new.self.field)
+    soft_held (r.ensures.verdict ∙ was.verdict ∙ ap (λ xs. (decided rows d.judge.tuning xs).verdict) (sym was.soft))
+    (was.bits ∙ ap (λ xs. (decided rows d.judge.tuning xs).bits) (sym was.soft)) finds reads
+    ∙ ap (λ (l : Listening). frame_decision l.link l.tuning c.args.symbols.now) c.self.view_is
+
+pub returns-clause-verdict : goal.returns-clause-verdict
+returns-clause-verdict c = ap (λ (x : Decision). x.verdict) (returns-clause-last c)
+
+pub returns-clause-outcome : goal.returns-clause-outcome
+returns-clause-outcome c = ap (λ (x : Decision). x.outcome) (returns-clause-last c)
+
+pub returns-clause-delivered : goal.returns-clause-delivered
+returns-clause-delivered c = ap (λ (x : Decision). x.delivered) (returns-clause-last c)

@@ -1,0 +1,22 @@
+use Rattle.std.proofs.Common.{◌≡◌, ℕ, ap, ◌∙◌}
+use Rattle.std.proofs.lemmas.Result.{IfOk-weaker}
+use Rattle.s2_mode.specs.Mode.{Mode, symbols_in}
+use Rattle.s2_link.specs.Tuning.{Tuning}
+use Rattle.s2_link.specs.Link.{Link}
+use Rattle.s2_receive.specs.Receiving.{Rules, rules_of}
+use Rattle.s2_receive.specs.Passing.{passes_as}
+use Rattle.s2_receive.specs.ReportLines.{frame_line, cut_line, end_line}
+use Rattle.s2_modem.specs.Reports.{frame_decision}
+use Rattle.s2_modem.proofs.receiver.tune.Goals as goal
+
+abbrev made : Mode → ℕ → Link → Tuning → ℕ → Rules
+made m n link tuning limit = rules_of (passes_as m) n (frame_decision link tuning) frame_line cut_line end_line limit
+
+same : (m m' : Mode) (n n' : ℕ) (l l' : Link) (r r' : Tuning) (k k' : ℕ) → m ≡ m' → n ≡ n' → l ≡ l' → r ≡ r' → k ≡ k' → made m n l r k ≡ made m' n' l' r' k'
+same m m' n n' l l' r r' k k' em en el er ek =
+    ap (λ x. made x n l r k) em ∙ (ap (λ x. made m' x l r k) en ∙ (ap (λ x. made m' n' x r k) el ∙ (ap (λ x. made m' n' l' x k) er ∙ ap (λ x. made m' n' l' r' x) ek)))
+
+pub returns-clause-rules : goal.returns-clause-rules
+returns-clause-rules c =
+    let d = c.in_ok-decider in
+    IfOk-weaker c.new-2.result _ _ (λ r e. same _ _ _ _ _ _ _ _ _ _ (ap (λ s. s.mode) e.0 ∙ (c.new-search.ensures ∙ c.mode-mode.ensures.is)) (e.3 ∙ (c.symbols.ensures.is ∙ ap symbols_in c.mode-mode.ensures.is)) (ap (λ x. x.link) e.1 ∙ d.ensures.link) (ap (λ x. x.tuning) e.1 ∙ d.ensures.tuning) e.4) c.new-2.ensures.parts

@@ -1,0 +1,132 @@
+//! From a frame's symbols to the message that it carries.
+ghost use Rattle.std.specs.Prelude.{◌≡◌, IfOk, true};
+ghost use Rattle.s2_mode.specs.Mode.{symbols_in};
+
+use crate::corrector::Corrector;
+use crate::demodulator::Demodulator;
+use crate::message::MessageReader;
+use s2_bits::Bits;
+use s2_check::Verdict;
+use s2_judge::Judge;
+use s2_link::{Link, RollOff, Tuning};
+use s2_mode::{Mode, Symbol};
+use s2_receive::{Decide, Decided, Outcome};
+use std::alloc::{AllocError, Global};
+use std::marker::Model;
+
+/// Decides the frames of a link, in buffers of its own.
+pub(crate) struct Decider<'a> {
+    mode: Mode,
+    roll_off: RollOff,
+    demodulator: Demodulator,
+    judge: Judge<'a>,
+    corrector: Corrector,
+    reader: MessageReader,
+    last: Decided,
+}
+
+impl<'a> Drop for Decider<'a> {
+    fn drop(self) {
+        let Decider {
+            mode: _,
+            roll_off: _,
+            demodulator: _,
+            judge: _,
+            corrector: _,
+            reader: _,
+            last: _,
+        } = self;
+    }
+}
+
+impl<'a> Model for Decider<'a> {
+    ghost use Rattle.s2_modem.specs.Listening.{Listening, IsListening, decision_held};
+
+    ghost Value = { Listening };
+
+    ghost view = { λ d. record {
+      link = record { setup = record { mode = d.mode; number = d.demodulator.number; roll_off = d.roll_off }; rows = d.judge.rows };
+      tuning = d.judge.tuning;
+      last = decision_held d.mode d.judge.soft d.judge.bits d.corrector.word d.last d.reader.field;
+      field = d.reader.field;
+    } };
+
+    ghost invariant = { λ d. IsListening d.mode d.judge.rows d.demodulator.mode d.corrector.mode d.reader.mode };
+}
+
+impl<'a> Decider<'a> {
+    /// A decider with all the memory that it needs.
+    pub(crate) fn new(
+        alloc: Global,
+        link: &Link<'a>,
+        tuning: Tuning,
+    ) -> Result<Decider<'a>, AllocError>
+        ensures link { IfOk result (λ d. d.link ≡ link.now) }
+        ensures tuning { IfOk result (λ d. d.tuning ≡ tuning) }
+    {
+        let mode = link.mode();
+        let last = Decided {
+            verdict: Verdict::Broken,
+            outcome: Outcome::NoWord,
+            header: None,
+        };
+        let demodulator = Demodulator::new(alloc, link)?;
+        let corrector = Corrector::new(alloc, mode)?;
+        let reader = MessageReader::new(alloc, mode)?;
+        Ok(Decider {
+            mode,
+            roll_off: link.roll_off(),
+            demodulator,
+            judge: Judge::new(alloc, link.matrix(), tuning)?,
+            corrector,
+            reader,
+            last,
+        })
+    }
+
+    /// The soft values of the last frame.
+    pub(crate) fn soft(&self) -> &[i16]
+        ensures { result.now ≡ self.now.last.soft }
+    {
+        self.judge.soft()
+    }
+
+    /// The decided bits of the last frame.
+    pub(crate) fn word(&self) -> &Bits
+        ensures { result.now ≡ self.now.last.bits }
+    {
+        self.judge.word()
+    }
+
+    /// The message that BCH decoding left of the last frame, before it was descrambled.
+    pub(crate) fn message(&self) -> &[bool]
+        ensures { result.now ≡ self.now.last.message }
+    {
+        &self.corrector.word().truths()[..self.mode.kbch()]
+    }
+}
+
+impl<'a> Decide for Decider<'a> {
+    ghost use Rattle.s2_mode.specs.Mode.{symbols_in};
+    ghost use Rattle.s2_modem.specs.Reports.{frame_decision};
+
+    ghost size = { λ d. symbols_in d.link.setup.mode };
+
+    ghost decide = { λ d. frame_decision d.link d.tuning };
+
+    ghost field = { λ d. d.field };
+
+    ghost last = { λ d. d.last };
+
+    fn decide(&mut self, symbols: &[Symbol]) -> Decided {
+        self.demodulator.find_soft(symbols, self.judge.soft_mut());
+        let verdict = self.judge.decide();
+        let found = self.corrector.correct(self.judge.word());
+        self.last = self.reader.decide(verdict, found, self.corrector.word());
+        self.last
+    }
+
+    fn field(&self) -> &[u8] {
+        self.reader.field()
+    }
+}

@@ -1,0 +1,82 @@
+//! From a frame's symbols to the soft values of its codeword (EN 302 307-1, 5.4 and 5.5, turned back).
+ghost use Rattle.std.specs.Prelude.{◌≡◌, ◌*◌, All, length, IfOk};
+ghost use Rattle.s2_mode.specs.Mode.{n_of, slots_of, symbols_in};
+ghost use Rattle.s2_check.specs.Views.{IsSoft};
+ghost use Rattle.s2_plframe.specs.Payload.{received_payload};
+ghost use Rattle.s2_soft.specs.Soft.{soft_values};
+
+use s2_link::Link;
+use s2_mode::{Mode, Symbol};
+use s2_plframe::payload_of;
+use s2_scramble::Gold;
+use s2_soft::soft_into;
+use std::alloc::{AllocError, Global};
+use std::marker::Model;
+
+/// Writes the soft values of a frame's codeword.
+fn find_soft(mode: Mode, gold: &Gold, symbols: &[Symbol], payload: &mut [Symbol], soft: &mut [i16])
+    requires frame { length symbols.now ≡ symbols_in mode }
+    requires payload { length payload.old ≡ 90 * slots_of mode }
+    requires soft { length soft.old ≡ n_of mode }
+    ensures is { soft.new ≡ soft_values mode (received_payload mode gold.now symbols.now) }
+    ensures range { All IsSoft soft.new }
+{
+    payload_of(mode, gold, symbols, payload);
+    soft_into(mode, payload, soft);
+}
+
+/// The demodulating half of a receiver, with its buffer. To contracts it is its mode and its scrambling number.
+pub(crate) struct Demodulator {
+    mode: Mode,
+    gold: Gold,
+    payload: Vec<Symbol>,
+}
+
+impl Drop for Demodulator {
+    fn drop(self) {
+        let Demodulator {
+            mode: _,
+            gold: _,
+            payload: _,
+        } = self;
+    }
+}
+
+impl Model for Demodulator {
+    ghost use Rattle.std.specs.Prelude.{◌≡◌, ◌*◌, length};
+    ghost use Rattle.s2_mode.specs.Mode.{slots_of};
+    ghost use Rattle.s2_modem.specs.Listening.{Demodulating};
+
+    ghost Value = { Demodulating };
+
+    ghost view = { λ d. record { mode = d.mode; number = d.gold } };
+
+    ghost invariant = { λ d. length d.payload.items ≡ 90 * slots_of d.mode };
+}
+
+impl Demodulator {
+    /// The demodulator of a link.
+    pub(crate) fn new(alloc: Global, link: &Link<'_>) -> Result<Demodulator, AllocError>
+        ensures mode { IfOk result (λ d. d.mode ≡ link.now.setup.mode) }
+        ensures number { IfOk result (λ d. d.number ≡ link.now.setup.number) }
+    {
+        let mode = link.mode();
+        let origin = Symbol { i: 0, q: 0 };
+        Ok(Demodulator {
+            mode,
+            gold: Gold::of(alloc, link.number())?,
+            payload: vec![in alloc; origin; 90 * mode.slots()]?,
+        })
+    }
+
+    /// Writes the soft values of a frame's codeword.
+    pub(crate) fn find_soft(&mut self, symbols: &[Symbol], soft: &mut [i16])
+        requires frame { length symbols.now ≡ symbols_in self.old.mode }
+        requires soft { length soft.old ≡ n_of self.old.mode }
+        ensures is { soft.new ≡ soft_values self.old.mode (received_payload self.old.mode self.old.number symbols.now) }
+        ensures range { All IsSoft soft.new }
+        ensures same { self.new ≡ self.old }
+    {
+        find_soft(self.mode, &self.gold, symbols, &mut self.payload, soft);
+    }
+}

@@ -1,0 +1,81 @@
+//! A whole stream of symbols in memory.
+ghost use Rattle.std.specs.Prelude.{◌≡◌, ◌≢◌, ◌+◌, ◌-◌, ◌*◌, ◌^◌, ◌<◌, ◌⊎◌, Err, IsErrOf, length};
+ghost use Rattle.s2_link.specs.Tuning.{tuning_of};
+ghost use Rattle.s2_modem.specs.Reception.{Demodulates, DemodulatesOn};
+
+use crate::receiver::tune;
+use s2_link::{Link, Setup, SetupFault, Tuning};
+use s2_matrix::Matrix;
+use s2_mode::CountedWrite;
+use s2_receive::{Totals, receive_bytes};
+use std::alloc::Global;
+use thiserror::Error;
+
+/// Why a stream was not received to its end.
+#[derive(Clone, Copy, Debug, PartialEq, Eq, Error)]
+pub enum DemodFault {
+    /// There is no such receiver.
+    #[error("{0}")]
+    Setup(SetupFault),
+    /// A write failed.
+    #[error("cannot write")]
+    Write,
+}
+
+/// Receives a whole stream of symbols on a link.
+fn demodulate_link<P: CountedWrite, W: CountedWrite>(
+    alloc: Global,
+    link: &Link<'_>,
+    tuning: Tuning,
+    bytes: &[u8],
+    packets: &mut P,
+    report: &mut W,
+) -> Result<Totals, DemodFault>
+    requires packets { P.count packets.old < 2 ^ 64 - 1 }
+    requires report { W.count report.old < 2 ^ 64 - 1 }
+    requires few { length bytes.now < 2 ^ 42 }
+    ensures demodulates { DemodulatesOn link.now tuning bytes.now (P.contents packets.old) (P.contents packets.new) (W.contents report.old) (W.contents report.new) result }
+    ensures write { IsErrOf result DemodFault.Write → ((P.count packets.new ≡ P.count packets.old + 1) × (W.count report.new ≡ W.count report.old))
+        ⊎ ((P.count packets.new ≡ P.count packets.old) × (W.count report.new ≡ W.count report.old + 1)) }
+    ensures no_write { result ≢ Err DemodFault.Write → (P.count packets.new ≡ P.count packets.old) × (W.count report.new ≡ W.count report.old) }
+{
+    let Ok(mut receiver) = tune(alloc, link, tuning) else {
+        return Err(DemodFault::Setup(SetupFault::NoMemory));
+    };
+    match receive_bytes(&mut receiver, bytes, packets, report) {
+        Ok(totals) => Ok(totals),
+        Err(_) => Err(DemodFault::Write),
+    }
+}
+
+/// Receives a whole stream of symbols, fewer than 2^42 bytes, and writes the packets that its frames
+/// carry and a line for each frame, for a cut one, and for the end. 1 to 3 bytes behind the last
+/// symbol are dropped. A setup is refused as by [`crate::Receiver::new`], and then nothing is written.
+pub fn demodulate<P: CountedWrite, W: CountedWrite>(
+    alloc: Global,
+    setup: Setup,
+    matrix: &Matrix,
+    rounds: u32,
+    passes: u32,
+    bytes: &[u8],
+    packets: &mut P,
+    report: &mut W,
+) -> Result<Totals, DemodFault>
+    requires packets { P.count packets.old < 2 ^ 64 - 1 }
+    requires report { W.count report.old < 2 ^ 64 - 1 }
+    requires few { length bytes.now < 2 ^ 42 }
+    ensures demodulates { Demodulates setup matrix.now (tuning_of rounds passes) bytes.now (P.contents packets.old) (P.contents packets.new) (W.contents report.old) (W.contents report.new) result }
+    ensures write { IsErrOf result DemodFault.Write → ((P.count packets.new ≡ P.count packets.old + 1) × (W.count report.new ≡ W.count report.old))
+        ⊎ ((P.count packets.new ≡ P.count packets.old) × (W.count report.new ≡ W.count report.old + 1)) }
+    ensures no_write { result ≢ Err DemodFault.Write → (P.count packets.new ≡ P.count packets.old) × (W.count report.new ≡ W.count report.old) }
+{
+    let link = match Link::new(setup, matrix) {
+        Ok(link) => link,
+        Err(fault) => return Err(DemodFault::Setup(fault)),
+    };
+    let tuning = match Tuning::new(rounds, passes) {
+        Ok(tuning) => tuning,
+        Err(fault) => return Err(DemodFault::Setup(fault)),
+    };
+    demodulate_link(alloc, &link, tuning, bytes, packets, report)
+}

@@ -1,0 +1,78 @@
+-- Cuts of a stream that is put together from its fields.
+use Rattle.std.proofs.Common.{◌≡◌, ℕ, suc, ◌+◌, ◌-◌, ◌*◌, ◌/◌, ◌<◌, ◌≤◌, List, [], ◌∷◌, ◌++◌, All, length, drop, refl, sym, ap, subst, ◌∙◌, append_assoc, append-nil, length-append, arith}
+use Rattle.std.proofs.lemmas.List.{take_at, drop_at, take_all}
+use Rattle.std.proofs.lemmas.List.Concat.{flat_map-append}
+use Rattle.std.proofs.lemmas.List.Elements.{All-head, All-tail}
+use Rattle.std.proofs.lemmas.Nat.{div-mul-add}
+use Rattle.s2_link.specs.Link.{Link}
+use Rattle.s2_send.specs.Frames.{IsFrameOf}
+use Rattle.s2_bbframe.specs.DataStream.{cuts, full_fields, fields_of, header_at}
+use Rattle.s2_send.specs.Sending.{joined, AreFrames}
+
+pub joined-push : (ls : List (List ℕ)) (l : List ℕ) → joined (ls ++ l ∷ []) ≡ joined ls ++ l
+joined-push ls l = flat_map-append (λ x. x) ls (l ∷ []) ∙ ap (λ k. joined ls ++ k) (append-nil l)
+
+-- the frames so far, and one more
+pub AreFrames-push : (link : Link) (at : ℕ) (fields frames : List (List ℕ)) (field frame : List ℕ) → AreFrames link at fields frames
+    → IsFrameOf link (header_at link.setup.roll_off (at + length (joined fields)) field) field frame → AreFrames link at (fields ++ field ∷ []) (frames ++ frame ∷ [])
+AreFrames-push link at [] [] field frame h k =
+    let e : at + 0 ≡ at = omega arith in
+    (subst (λ n. IsFrameOf link (header_at link.setup.roll_off n field) field frame) e k, tt)
+AreFrames-push link at [] (g ∷ gs) field frame h k = absurd h
+AreFrames-push link at (f ∷ fs) [] field frame h k = absurd h
+AreFrames-push link at (f ∷ fs) (g ∷ gs) field frame h k =
+    let e : at + length (f ++ joined fs) ≡ (at + length f) + length (joined fs) = omega (arith, length-append f (joined fs)) in
+    (h.0, AreFrames-push link (at + length f) fs gs field frame h.1 (subst (λ n. IsFrameOf link (header_at link.setup.roll_off n field) field frame) e k))
+
+module _ (size : ℕ) where
+  abbrev pub IsFull : List ℕ → Type 0
+  IsFull f = length f ≡ size
+
+  pub length_joined : (fs : List (List ℕ)) → All IsFull fs → length (joined fs) ≡ length fs * size
+  length_joined [] h = sym (omega arith)
+  length_joined (f ∷ fs) h =
+      let one : length f ≡ size = All-head IsFull f fs h in
+      let more = length_joined fs (All-tail IsFull f fs h) in
+      let e : length (f ++ joined fs) ≡ length f + length (joined fs) = length-append f (joined fs) in
+      grind (arith, e, one, more)
+
+  cuts-one : (n : ℕ) (f w : List ℕ) → IsFull f → cuts size (suc n) (f ++ w) ≡ f ∷ cuts size n w
+  cuts-one n f w h = ap (λ x. x ∷ cuts size n (drop size (f ++ w))) (take_at f w size h) ∙ ap (λ x. f ∷ cuts size n x) (drop_at f w size h)
+
+  pub cuts_full : (fs : List (List ℕ)) (w : List ℕ) → All IsFull fs → cuts size (length fs) (joined fs ++ w) ≡ fs
+  cuts_full [] w h = refl
+  cuts_full (f ∷ fs) w h =
+      ap (λ l. cuts size (suc (length fs)) l) (append_assoc f (joined fs) w)
+      ∙ cuts-one (length fs) f (joined fs ++ w) (All-head IsFull f fs h)
+      ∙ ap (λ l. f ∷ l) (cuts_full fs w (All-tail IsFull f fs h))
+
+  pub cuts_last : (fs : List (List ℕ)) (w : List ℕ) → All IsFull fs → length w ≤ size → cuts size (suc (length fs)) (joined fs ++ w) ≡ fs ++ w ∷ []
+  cuts_last [] w h k = ap (λ l. l ∷ []) (take_all size w k)
+  cuts_last (f ∷ fs) w h k =
+      ap (λ l. cuts size (suc (suc (length fs))) l) (append_assoc f (joined fs) w)
+      ∙ cuts-one (suc (length fs)) f (joined fs ++ w) (All-head IsFull f fs h)
+      ∙ ap (λ l. f ∷ l) (cuts_last fs w (All-tail IsFull f fs h) k)
+
+  length_stream : (fs : List (List ℕ)) (w : List ℕ) → All IsFull fs → length (joined fs ++ w) ≡ length fs * size + length w
+  length_stream fs w h = length-append (joined fs) w ∙ ap (λ n. n + length w) (length_joined fs h)
+
+  -- while packets come, the full fields are those that were taken
+  pub full_are : (fs : List (List ℕ)) (w stream : List ℕ) → stream ≡ joined fs ++ w → All IsFull fs → length w < size → fs ≡ full_fields size stream
+  full_are fs w stream e h k =
+      let n : length stream / size ≡ length fs = ap (λ l. length l / size) e ∙ ap (λ l. l / size) (length_stream fs w h) ∙ div-mul-add (length fs) size (length w) k in
+      sym (ap (λ m. cuts size m stream) n ∙ ap (λ l. cuts size (length fs) l) e ∙ cuts_full fs w h)
+
+  -- at the end nothing was left
+  pub fields_are : (fs : List (List ℕ)) (w stream : List ℕ) → stream ≡ joined fs ++ w → All IsFull fs → length w ≡ 0 → 0 < size → fs ≡ fields_of size stream
+  fields_are fs w stream e h k positive =
+      let long : length stream + (size - 1) ≡ length fs * size + (size - 1) = ap (λ l. length l + (size - 1)) e ∙ ap (λ l. l + (size - 1)) (length_stream fs w h) ∙ omega (arith, k) in
+      let n : (length stream + (size - 1)) / size ≡ length fs = ap (λ l. l / size) long ∙ div-mul-add (length fs) size (size - 1) (omega arith) in
+      sym (ap (λ m. cuts size m stream) n ∙ ap (λ l. cuts size (length fs) l) e ∙ cuts_full fs w h)
+
+  -- or the last field
+  pub fields_are_and : (fs : List (List ℕ)) (w stream : List ℕ) → stream ≡ joined fs ++ w → All IsFull fs → 0 < length w → length w < size → fs ++ w ∷ [] ≡ fields_of size stream
+  fields_are_and fs w stream e h some k =
+      let c : suc (length fs) * size ≡ length fs * size + size = omega arith in
+      let long : length stream + (size - 1) ≡ suc (length fs) * size + (length w - 1) = ap (λ l. length l + (size - 1)) e ∙ ap (λ l. l + (size - 1)) (length_stream fs w h) ∙ omega (arith, c) in
+      let n : (length stream + (size - 1)) / size ≡ suc (length fs) = ap (λ l. l / size) long ∙ div-mul-add (suc (length fs)) size (length w - 1) (omega arith) in
+      sym (ap (λ m. cuts size m stream) n ∙ ap (λ l. cuts size (suc (length fs)) l) e ∙ cuts_last fs w h (omega arith))

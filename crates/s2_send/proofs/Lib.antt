@@ -1,0 +1,6 @@
+pub mod FieldLemmas
+pub mod Waiting
+pub mod Steps
+pub mod OnlyFrames
+pub mod PacketsRead
+pub mod OnlyRuns

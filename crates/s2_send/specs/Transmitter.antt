@@ -1,0 +1,21 @@
+-- A transmitter, and the answer to who asks for one.
+use Rattle.std.specs.Prelude.{◌≡◌, ℕ, ◌≤◌, Result, Ok, Err}
+use Rattle.s2_rows.specs.Rows.{Rows}
+use Rattle.s2_scramble.specs.Gold.{most_number}
+use Rattle.s2_link.specs.Limits.{most_roll_off}
+use Rattle.s2_link.specs.Link.{Link, link_of, HasShape, RefusesLink}
+use Rattle.s2_link.specs.declared.setup.Setup.{Setup}
+use Rattle.s2_link.specs.declared.fault.SetupFault.{SetupFault}
+use Rattle.s2_link.specs.declared.fault.SetupFault.TheVariants as faults
+use Rattle.s2_send.specs.Limits.{most_packets}
+
+-- a transmitter: its link, and how many packets a run takes at most
+pub record Transmitter : Type 0 where
+  pub link : Link
+  pub limit : ℕ
+
+-- the answer for a setup and rows: a refusal, or else a transmitter on the link, unless there is no memory
+abbrev pub TransmitterAnswers : Setup → Rows → Result Transmitter SetupFault → Type 0
+TransmitterAnswers setup rows (Ok t) = HasShape setup rows × (setup.number ≤ most_number) × (setup.roll_off ≤ most_roll_off) × (t ≡ record { link = link_of setup rows; limit = most_packets })
+TransmitterAnswers setup rows (Err faults.NoMemory) = HasShape setup rows × (setup.number ≤ most_number) × (setup.roll_off ≤ most_roll_off)
+TransmitterAnswers setup rows (Err fault) = RefusesLink setup rows fault

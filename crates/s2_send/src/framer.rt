@@ -1,0 +1,91 @@
+//! Makes frames of data fields.
+ghost use Rattle.std.specs.Prelude.{◌≡◌, ◌-◌, ◌^◌, ◌<◌, ◌≤◌, ℕ, List, IfOk, OnOk, OnErr, length};
+ghost use Rattle.std.specs.Io.KnownBytes.{Appends};
+ghost use Rattle.s2_mode.specs.Counts.{CountsFault};
+ghost use Rattle.s2_mode.specs.Pieces.{AppendsPart};
+ghost use Rattle.s2_bbframe.specs.DataStream.{field_bytes};
+ghost use Rattle.s2_link.specs.Limits.{most_roll_off};
+ghost use Rattle.s2_send.specs.Frames.{IsFrameOf};
+
+use crate::coder::Coder;
+use crate::modulator::Modulator;
+use s2_bbframe::Header;
+use s2_link::{Link, RollOff};
+use s2_mode::{CountedWrite, WriteFault, write_full};
+use s2_scramble::Gold;
+use std::alloc::{AllocError, Global};
+use std::marker::Model;
+
+/// Makes the frames of one link, which is its value.
+pub struct Framer<'a> {
+    roll_off: RollOff,
+    coder: Coder<'a>,
+    modulator: Modulator,
+}
+
+impl<'a> Drop for Framer<'a> {
+    fn drop(self) {
+        let Framer {
+            roll_off: _,
+            coder: _,
+            modulator: _,
+        } = self;
+    }
+}
+
+impl<'a> Model for Framer<'a> {
+    ghost use Rattle.std.specs.Prelude.{◌≡◌, ◌≤◌};
+    ghost use Rattle.s2_link.specs.Limits.{most_roll_off};
+    ghost use Rattle.s2_link.specs.Link.{Link as LinkValue};
+
+    ghost Value = { LinkValue };
+
+    ghost view = { λ f. record { setup = record { mode = f.modulator.mode; number = f.modulator.number; roll_off = f.roll_off }; rows = f.coder.rows } };
+
+    ghost invariant = { λ f. (f.coder.mode ≡ f.modulator.mode) × (f.roll_off ≤ most_roll_off) };
+}
+
+impl<'a> Framer<'a> {
+    /// The maker of a link's frames. `AllocError` only where memory does not suffice.
+    pub fn new(alloc: Global, link: &Link<'a>) -> Result<Framer<'a>, AllocError>
+        ensures { IfOk result (λ f. f ≡ link.now) }
+    {
+        let gold = Gold::of(alloc, link.number())?;
+        let modulator = Modulator::new(alloc, link.mode(), gold)?;
+        let coder = Coder::new(alloc, link)?;
+        Ok(Framer {
+            roll_off: link.roll_off(),
+            coder,
+            modulator,
+        })
+    }
+
+    /// The roll-off that headers tell.
+    pub fn roll_off(&self) -> RollOff
+        ensures is { result ≡ self.now.setup.roll_off }
+        ensures most { result ≤ most_roll_off }
+    {
+        self.roll_off
+    }
+
+    /// Writes the frame of a header and its data field, or where a write fails a part of it. It takes no memory.
+    pub fn write_frame<W: CountedWrite>(
+        &mut self,
+        header: &Header,
+        field: &[u8],
+        writer: &mut W,
+    ) -> Result<(), WriteFault>
+        requires count { W.count writer.old < 2 ^ 64 - 1 }
+        requires roll_off { header.now.roll_off ≤ 3 }
+        requires size { length field.now ≤ field_bytes self.old.setup.mode }
+        ensures frame { (frame : List ℕ) × IsFrameOf self.old header.now field.now frame
+            × OnOk result (Appends (W.contents writer.old) (W.contents writer.new) frame)
+            × OnErr result (AppendsPart frame (W.contents writer.old) (W.contents writer.new)) }
+        ensures cause { CountsFault (W.count writer.old) (W.count writer.new) result }
+        ensures same { self.new ≡ self.old }
+    {
+        self.coder.encode(header, field);
+        self.modulator.modulate(self.coder.codeword());
+        write_full(writer, self.modulator.bytes())
+    }
+}

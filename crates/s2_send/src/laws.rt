@@ -1,0 +1,26 @@
+//! What the definitions determine: each a call that does nothing, whose clause is the law.
+ghost use Rattle.s2_send.specs.Limits.{LimitsLaw};
+ghost use Rattle.s2_send.specs.Laws.{FrameLaw, RunLaw};
+
+use s2_mode::Mode;
+
+/// A header and its data field have one frame.
+pub fn one_frame(mode: Mode)
+    ensures { FrameLaw mode }
+{
+    s2_ldpc::laws::unique();
+    let _ = mode.k();
+}
+
+/// Packets, setup and rows determine what a run answers and writes: two runs over the same bytes, in
+/// which neither a read nor a write failed, answer the same and write the same.
+pub fn one_run(mode: Mode)
+    ensures { RunLaw mode }
+{
+    one_frame(mode);
+}
+
+/// The limit that is tested, [`crate::MOST_PACKETS`], is that of the definitions.
+pub fn limits()
+    ensures { LimitsLaw }
+{}

@@ -1,0 +1,115 @@
+//! The loop that sends.
+ghost use Rattle.std.specs.Prelude.{◌≡◌, ◌≢◌, ◌+◌, ◌-◌, ◌^◌, ◌<◌, ◌≤◌, ◌⊎◌, Err, IsErrOf, IfOk, OnErr, false, length};
+ghost use Rattle.s2_mode.specs.Counts.{CountsFault};
+ghost use Rattle.s2_bbframe.specs.Limits.{packet_bytes};
+ghost use Rattle.s2_bbframe.specs.DataStream.{field_bytes};
+ghost use Rattle.s2_send.specs.Sending.{TransmitterRuns, AcceptsNext, SendsNext, FailsToSend};
+
+use crate::framer::Framer;
+use crate::outcome::{Counts, SendFault};
+use s2_bbframe::{PACKET_BYTES, Slicer};
+use s2_mode::{CountedRead, CountedWrite, WriteFault, read_full};
+
+/// How many packets one run accepts at most, unless it is made to accept fewer.
+pub const MOST_PACKETS: u64 = 1 << 32;
+
+/// Reads the next packet, the first behind so many, and gives it to the slicer; at the reader's end it closes that.
+/// It says whether a packet was there.
+fn accept_next<R: CountedRead>(
+    slicer: &mut Slicer,
+    packets: u64,
+    reader: &mut R,
+) -> Result<bool, SendFault>
+    requires reader { R.count reader.old < 2 ^ 64 - 1 }
+    requires number { packets < 2 ^ 64 - 1 }
+    requires not_ready { length slicer.old.waiting < slicer.old.size }
+    requires not_closed { slicer.old.closed ≡ false }
+    ensures accepts { AcceptsNext packets slicer.old slicer.new (R.remaining reader.old) (R.remaining reader.new) result }
+    ensures read { IsErrOf result SendFault.Read → R.count reader.new ≡ R.count reader.old + 1 }
+    ensures no_read { result ≢ Err SendFault.Read → R.count reader.new ≡ R.count reader.old }
+    ensures no_write { result ≢ Err SendFault.Write }
+    ensures size { slicer.new.size ≡ slicer.old.size }
+{
+    let mut packet = [0u8; PACKET_BYTES];
+    let Ok(n) = read_full(reader, &mut packet) else {
+        return Err(SendFault::Read);
+    };
+    if n == 0 {
+        slicer.close();
+        return Ok(false);
+    }
+    if n < PACKET_BYTES {
+        return Err(SendFault::NotWholePacket);
+    }
+    let Ok(()) = slicer.put(&packet) else {
+        return Err(SendFault::NoSync {
+            packet: packets + 1,
+        });
+    };
+    Ok(true)
+}
+
+/// Writes the next data field's frame where a field can be taken, and says whether it did. Where a
+/// write fails, a part of the frame is written.
+fn send_ready<W: CountedWrite>(
+    framer: &mut Framer<'_>,
+    slicer: &mut Slicer,
+    field: &mut [u8],
+    writer: &mut W,
+) -> Result<bool, WriteFault>
+    requires count { W.count writer.old < 2 ^ 64 - 1 }
+    requires field { length field.old ≡ slicer.old.size }
+    requires size { slicer.old.size ≡ field_bytes framer.old.setup.mode }
+    ensures sends { IfOk result (SendsNext framer.old slicer.old slicer.new (W.contents writer.old) (W.contents writer.new)) }
+    ensures fails { OnErr result (FailsToSend framer.old slicer.old (W.contents writer.old) (W.contents writer.new)) }
+    ensures cause { CountsFault (W.count writer.old) (W.count writer.new) result }
+    ensures same { framer.new ≡ framer.old }
+    ensures size { slicer.new.size ≡ slicer.old.size }
+{
+    let Some(header) = slicer.take(framer.roll_off().get(), field) else {
+        return Ok(false);
+    };
+    let bytes = usize::from(header.dfl / 8);
+    framer.write_frame(&header, &field[..bytes], writer)?;
+    Ok(true)
+}
+
+/// Sends the packets of a reader to its end, at most `limit` of them, as frames of a new stream.
+pub(crate) fn send_all<R: CountedRead, W: CountedWrite>(
+    framer: &mut Framer<'_>,
+    slicer: &mut Slicer,
+    field: &mut [u8],
+    limit: u64,
+    reader: &mut R,
+    writer: &mut W,
+) -> Result<Counts, SendFault>
+    requires reader { R.count reader.old < 2 ^ 64 - 1 }
+    requires writer { W.count writer.old < 2 ^ 64 - 1 }
+    requires field { length field.old ≡ slicer.old.size }
+    requires size { slicer.old.size ≡ field_bytes framer.old.setup.mode }
+    requires packet { packet_bytes < slicer.old.size }
+    ensures runs { TransmitterRuns framer.old limit
+        (λ packets. (R.count reader.new ≡ R.count reader.old + 1) ⊎ ((R.count reader.new ≡ R.count reader.old) × (packets ≡ limit)))
+        (R.remaining reader.old) (R.remaining reader.new) (W.contents writer.old) (W.contents writer.new) result }
+    ensures no_read { result ≢ Err SendFault.Read → R.count reader.new ≡ R.count reader.old }
+    ensures write { IsErrOf result SendFault.Write → W.count writer.new ≡ W.count writer.old + 1 }
+    ensures no_write { result ≢ Err SendFault.Write → W.count writer.new ≡ W.count writer.old }
+    ensures same { framer.new ≡ framer.old }
+    ensures size { slicer.new.size ≡ slicer.old.size }
+{
+    slicer.restart();
+    let mut packets: u64 = 0;
+    let mut frames: u64 = 0;
+    'packets: for _accepted in 0..limit {
+        let more = accept_next(slicer, packets, reader)?;
+        let Ok(sent) = send_ready(framer, slicer, field, writer) else {
+            return Err(SendFault::Write);
+        };
+        frames += u64::from(sent);
+        if !more {
+            return Ok(Counts { packets, frames });
+        }
+        packets += 1;
+    }
+    Err(SendFault::Read)
+}

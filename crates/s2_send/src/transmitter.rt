@@ -1,0 +1,126 @@
+//! The transmitter: packets in, symbols out.
+ghost use Rattle.std.specs.Prelude.{◌≡◌, ◌≢◌, ◌+◌, ◌-◌, ◌^◌, ◌<◌, ◌≤◌, ◌⊎◌, Err, IfOk, IsErrOf};
+ghost use Rattle.s2_send.specs.Limits.{most_packets};
+ghost use Rattle.s2_send.specs.Transmitter.{TransmitterAnswers};
+ghost use Rattle.s2_send.specs.Sending.{TransmitterRuns};
+
+use crate::framer::Framer;
+use crate::outcome::{Counts, SendFault};
+use crate::sending::{MOST_PACKETS, send_all};
+use s2_bbframe::{Slicer, field_bytes};
+use s2_link::{Link, Setup, SetupFault};
+use s2_matrix::Matrix;
+use s2_mode::{CountedRead, CountedWrite};
+use std::alloc::{AllocError, Global};
+use std::marker::Model;
+
+/// Sends packets as frames of symbols. To contracts it is the link that it sends on, and how many packets a
+/// run takes at most.
+pub struct Transmitter<'a> {
+    framer: Framer<'a>,
+    slicer: Slicer,
+    field: Vec<u8>,
+    limit: u64,
+}
+
+impl<'a> Drop for Transmitter<'a> {
+    fn drop(self) {
+        let Transmitter {
+            framer: _,
+            slicer: _,
+            field: _,
+            limit: _,
+        } = self;
+    }
+}
+
+impl<'a> Model for Transmitter<'a> {
+    ghost use Rattle.std.specs.Prelude.{◌≡◌, ◌<◌, length};
+    ghost use Rattle.s2_bbframe.specs.Limits.{packet_bytes};
+    ghost use Rattle.s2_bbframe.specs.DataStream.{field_bytes};
+    ghost use Rattle.s2_send.specs.Transmitter.{Transmitter as TransmitterValue};
+
+    ghost Value = { TransmitterValue };
+
+    ghost view = { λ t. record { link = t.framer; limit = t.limit } };
+
+    ghost invariant = { λ t. (t.slicer.size ≡ field_bytes t.framer.setup.mode) × (length t.field.items ≡ field_bytes t.framer.setup.mode)
+        × (packet_bytes < field_bytes t.framer.setup.mode) };
+}
+
+impl<'a> Transmitter<'a> {
+    /// A transmitter with all the memory that it needs. Of several refusals the first is answered:
+    /// `OtherShape` where the matrix is not of the shape of the mode's code, `BadNumber` where the
+    /// scrambling number is over 262141, `BadRollOff` where the roll-off is over 2, and then
+    /// `NoMemory` where memory does not suffice. `BadRounds` and `BadPasses` are never answered here.
+    pub fn new(
+        alloc: Global,
+        setup: Setup,
+        matrix: &'a Matrix,
+    ) -> Result<Transmitter<'a>, SetupFault>
+        ensures { TransmitterAnswers setup matrix.now result }
+    {
+        let link = Link::new(setup, matrix)?;
+        Transmitter::on_link(alloc, &link).map_err(|_| SetupFault::NoMemory)
+    }
+
+    /// A transmitter on a link, with all the memory that it needs. `AllocError` only where memory does not suffice.
+    pub fn on_link(alloc: Global, link: &Link<'a>) -> Result<Transmitter<'a>, AllocError>
+        ensures is { IfOk result (λ t. t ≡ record { link = link.now; limit = most_packets }) }
+    {
+        let slicer = Slicer::new(alloc, link.mode())?;
+        let field = vec![in alloc; 0u8; field_bytes(link.mode())]?;
+        let framer = Framer::new(alloc, link)?;
+        Ok(Transmitter {
+            framer,
+            slicer,
+            field,
+            limit: MOST_PACKETS,
+        })
+    }
+
+    /// Lets each run take at most so many packets, 1 to [`MOST_PACKETS`].
+    pub fn limit(&mut self, packets: u64)
+        requires { (1 ≤ packets) × (packets ≤ most_packets) }
+        ensures { self.new ≡ record self.old { limit = packets } }
+    {
+        self.limit = packets;
+    }
+
+    /// Reads packets of 188 bytes to the reader's end, and writes the frames of their data stream,
+    /// which begins anew with each run. It takes no memory, and reads and writes piece by piece: a
+    /// packet, and a frame. A packet is accepted where it is whole and begins with 47 hexadecimal, at
+    /// most [`MOST_PACKETS`] of them, or as many as [`Transmitter::limit`] said.
+    ///
+    /// After `Ok` the reader is at its end, and the writer has gained exactly the frames of all data
+    /// fields. `NotWholePacket` and `NoSync` tell what the packets lack, and `Read` that a read failed
+    /// or that as many packets were accepted as may be, where nothing more is read: then the writer
+    /// has gained exactly the frames of the full data fields of the packets accepted before. After `Write` it has gained the frames
+    /// of the fields before the one whose frame failed, each whole, and of that frame a beginning.
+    /// In each case the reader has given the packets that were accepted, then the bytes that were
+    /// refused or that came before a failed read, at most 188, and no more.
+    pub fn run<R: CountedRead, W: CountedWrite>(
+        &mut self,
+        reader: &mut R,
+        writer: &mut W,
+    ) -> Result<Counts, SendFault>
+        requires reader { R.count reader.old < 2 ^ 64 - 1 }
+        requires writer { W.count writer.old < 2 ^ 64 - 1 }
+        ensures runs { TransmitterRuns self.old.link self.old.limit
+            (λ packets. (R.count reader.new ≡ R.count reader.old + 1) ⊎ ((R.count reader.new ≡ R.count reader.old) × (packets ≡ self.old.limit)))
+            (R.remaining reader.old) (R.remaining reader.new) (W.contents writer.old) (W.contents writer.new) result }
+        ensures no_read { result ≢ Err SendFault.Read → R.count reader.new ≡ R.count reader.old }
+        ensures write { IsErrOf result SendFault.Write → W.count writer.new ≡ W.count writer.old + 1 }
+        ensures no_write { result ≢ Err SendFault.Write → W.count writer.new ≡ W.count writer.old }
+        ensures same { self.new ≡ self.old }
+    {
+        send_all(
+            &mut self.framer,
+            &mut self.slicer,
+            &mut self.field,
+            self.limit,
+            reader,
+            writer,
+        )
+    }
+}

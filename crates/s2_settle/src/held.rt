@@ -1,0 +1,125 @@
+//! What a settler holds while it settles.
+ghost use Rattle.std.specs.Prelude.{◌≡◌, ◌*◌, ◌<◌, ◌≤◌, All, IfOk, length};
+ghost use Rattle.s2_mode.specs.Shape.{code_bits};
+ghost use Rattle.s2_matrix.specs.Code.{code_of};
+ghost use Rattle.s2_check.specs.Views.{IsSoft};
+ghost use Rattle.s2_minsum.specs.Decoding.{HasRoom};
+ghost use Rattle.s2_settle.specs.Layer.{AreLong, layer as after_layer};
+ghost use Rattle.s2_settle.specs.Passes.{negatives};
+ghost use Rattle.s2_settle.specs.Start.{start as started};
+ghost use Rattle.s2_settle.specs.Placing.{moves_of};
+ghost use Rattle.s2_settle.specs.Holding.{AreMoves};
+
+use crate::moves::put_moves;
+use crate::negatives::count_negative;
+use crate::one_layer::run_layer;
+use crate::start::put_rests;
+use s2_check::Move;
+use s2_matrix::Matrix;
+use s2_minsum::Layers;
+use std::alloc::{AllocError, Global};
+use std::marker::Model;
+
+/// The rest of each place, and of each check, layer by layer, the entry of its target and its amount. To contracts it
+/// is these three lists.
+pub(crate) struct Held {
+    rests: Vec<u32>,
+    targets: Vec<u32>,
+    amounts: Vec<u32>,
+}
+
+impl Drop for Held {
+    fn drop(self) {
+        let Held {
+            rests: _,
+            targets: _,
+            amounts: _,
+        } = self;
+    }
+}
+
+impl Model for Held {
+    ghost use Rattle.s2_settle.specs.Layer.{Held as HeldValue};
+
+    ghost Value = { HeldValue };
+
+    ghost view = { λ h. record { rests = h.rests.items; targets = h.targets.items; amounts = h.amounts.items } };
+}
+
+impl Held {
+    /// Room for the rests and moves of a matrix.
+    pub(crate) fn of(alloc: Global, matrix: &Matrix) -> Result<Held, AllocError>
+        ensures { IfOk result (λ h. AreLong matrix.now h) }
+    {
+        let places = matrix.shape().q() * matrix.shape().group();
+        let rests = vec![in alloc; 0u32; matrix.bits()]?;
+        let targets = vec![in alloc; 0u32; places]?;
+        let amounts = vec![in alloc; 0u32; places]?;
+        Ok(Held {
+            rests,
+            targets,
+            amounts,
+        })
+    }
+
+    /// Begins with these values in favour of a word, and without a move.
+    pub(crate) fn start(&mut self, matrix: &Matrix, soft: &[i16], word: &[bool])
+        requires range { All IsSoft soft.now }
+        requires soft { length soft.now ≡ code_bits matrix.now.shape }
+        requires word { length word.now ≡ code_bits matrix.now.shape }
+        requires long { AreLong matrix.now self.old }
+        ensures is { self.new ≡ started matrix.now soft.now word.now }
+        ensures long { AreLong matrix.now self.new }
+    {
+        put_rests(matrix, soft, word, &mut self.rests);
+        self.targets.fill(0);
+        self.amounts.fill(0);
+    }
+
+    /// Each check of layer r takes its move back and moves anew.
+    pub(crate) fn layer(
+        &mut self,
+        matrix: &Matrix,
+        layers: &Layers<'_>,
+        reserve: u32,
+        scratch: &mut [u32],
+        r: usize,
+    )
+        requires layers { layers.now ≡ matrix.now }
+        requires long { AreLong matrix.now self.old }
+        requires room { HasRoom matrix.now (length scratch.old) }
+        requires layer { r < matrix.now.shape.q }
+        ensures is { self.new ≡ after_layer matrix.now reserve self.old r }
+        ensures long { AreLong matrix.now self.new }
+    {
+        run_layer(
+            matrix,
+            layers,
+            reserve,
+            &mut self.rests,
+            &mut self.targets,
+            &mut self.amounts,
+            scratch,
+            r,
+        );
+    }
+
+    /// How many rests are negative.
+    pub(crate) fn negatives(&self) -> usize
+        ensures is { result ≡ negatives self.now.rests }
+        ensures few { result ≤ length self.now.rests }
+    {
+        count_negative(&self.rests)
+    }
+
+    /// Writes the moves check by check.
+    pub(crate) fn put_moves(&self, matrix: &Matrix, layers: &Layers<'_>, moves: &mut [Move])
+        requires layers { layers.now ≡ matrix.now }
+        requires long { AreLong matrix.now self.now }
+        requires moves { length moves.old ≡ (code_of matrix.now).checks }
+        ensures are { moves.new ≡ moves_of matrix.now self.now.targets self.now.amounts }
+        ensures moves { AreMoves (code_of matrix.now) moves.new }
+    {
+        put_moves(matrix, layers, &self.targets, &self.amounts, moves);
+    }
+}

@@ -1,0 +1,23 @@
+-- What `rows` prints.
+use Rattle.std.specs.Prelude.{◌≡◌, ℕ, List, Result, Ok, Err, if◌then◌else◌}
+use Rattle.s2_mode.specs.Shape.{Shape}
+use Rattle.s2_rows.specs.FaultTexts.{make_fault_text}
+use Rattle.s2_rows.specs.declared.make.MakeFault.TheVariants as making
+use Rattle.s2_rows.specs.MadeRows.{is_weight, made_rows}
+use Rattle.s2_rows.specs.RowTexts.{rows_text}
+use Rattle.s2_console.specs.declared.exit.Exit.{Exit}
+use Rattle.s2_console.specs.declared.exit.Exit.TheVariants as exits
+use Rattle.s2_console.specs.declared.fault.Fault.{Fault}
+use Rattle.s2_console.specs.declared.fault.Fault.TheVariants as faults
+
+-- the rows that a shape, a weight and a seed determine
+abbrev pub rows_made : Shape → ℕ → ℕ → Result (List (List ℕ)) Fault
+rows_made shape weight seed = if is_weight shape weight then Ok (made_rows shape weight seed) else Err (faults.Told (make_fault_text making.BadWeight))
+
+-- what is answered are the rows that a shape, a weight and a seed determine
+abbrev pub AreMadeRows : Shape → ℕ → ℕ → Result (List (List ℕ)) Fault → Type 0
+AreMadeRows shape weight seed said = rows_made shape weight seed ≡ said
+
+-- `rows` prints their row file
+abbrev pub IsRowFile : List (List ℕ) → Exit → List ℕ → Type 0
+IsRowFile rows exit text = (exit ≡ exits.Fine) × (text ≡ rows_text rows)

@@ -1,0 +1,38 @@
+//! The files of a command on a link.
+use s2_mode::{CountedRead, CountedWrite};
+use std::marker::Model;
+
+/// The files of a command on a link: its row file, the file that it reads behind that one, and the file that
+/// it writes. To contracts they are what is still to be read of the first two, what stands in the third, and
+/// how many calls of each have failed.
+pub struct LinkFiles<R: CountedRead, S: CountedRead, W: CountedWrite> {
+    pub rows: R,
+    pub from: S,
+    pub to: W,
+}
+
+impl<R: CountedRead + Drop, S: CountedRead + Drop, W: CountedWrite + Drop> Drop
+    for LinkFiles<R, S, W> {
+    fn drop(self) {
+        let LinkFiles {
+            rows: _,
+            from: _,
+            to: _,
+        } = self;
+    }
+}
+
+impl<R: CountedRead, S: CountedRead, W: CountedWrite> Model for LinkFiles<R, S, W> {
+    ghost use Rattle.s2_tool.specs.Links.{Ends};
+
+    ghost Value = { Ends };
+
+    ghost view = { λ f. record {
+      rows = R.remaining f.rows;
+      taken = S.remaining f.from;
+      given = W.contents f.to;
+      rows_failed = R.count f.rows;
+      taken_failed = S.count f.from;
+      given_failed = W.count f.to;
+    } };
+}

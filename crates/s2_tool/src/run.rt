@@ -1,0 +1,171 @@
+//! `run`: packets sent, spoilt and received, with the symbols in memory.
+ghost use Rattle.std.specs.Prelude.{◌≡◌, ◌≢◌, ◌+◌, None, Result, IsOk};
+ghost use Rattle.s2_mode.specs.Counts.{CanCount};
+ghost use Rattle.s2_link.specs.Link.{setup_of};
+ghost use Rattle.s2_receive.specs.Receiving.{begun};
+ghost use Rattle.s2_modem.specs.Reception.{rules_for};
+ghost use Rattle.s2_console.specs.Exits.{exit_of, Complains};
+ghost use Rattle.s2_console.specs.Screens.{CanShow};
+ghost use Rattle.s2_tool.specs.Links.{CanFail, Causes, Tries, streams_of, streams_with};
+ghost use Rattle.s2_tool.specs.Looping.{kept_fault, Passes, LoopsBy, Loops, LoopsBack};
+
+use crate::demod::receive_frames;
+use crate::link_files::LinkFiles;
+use crate::modulate::fault_of;
+use crate::noise::spoil;
+use s2_console::{Console, Exit, Fault};
+use s2_evidence::read_matrix;
+use s2_link::{Link, LinkSetup, Tuning};
+use s2_mode::{CountedRead, CountedWrite, Counting, InMemory};
+use s2_modem::Receiver;
+use s2_send::Transmitter;
+use s2_words::ChannelWords;
+use std::alloc::Global;
+
+/// The fault where what is written is kept in memory.
+fn kept_fault(fault: Fault<'static>) -> Fault<'static>
+    ensures { result ≡ kept_fault fault.entry }
+{
+    match fault {
+        Fault::Write => Fault::NoMemory,
+        other => other,
+    }
+}
+
+/// Spoils symbols, and receives what comes.
+fn receive_spoilt<P: CountedWrite, O: CountedWrite>(
+    alloc: Global,
+    receiver: &mut Receiver<'_>,
+    channel: ChannelWords,
+    symbols: &[u8],
+    packets: &mut P,
+    out: &mut O,
+) -> Result<Exit, Fault<'static>>
+    requires packets { CanCount (P.count packets.old) }
+    requires out { CanCount (O.count out.old) }
+    requires begun { receiver.old.state ≡ begun }
+    ensures whole { IsOk result → O.count out.new ≡ O.count out.old }
+    ensures passes { Passes (rules_for receiver.old) channel symbols.now
+        (record { taken = None; given = P.contents packets.old; out = O.contents out.old; reads = 0; writes = P.count packets.old + O.count out.old })
+        (record { taken = None; given = P.contents packets.new; out = O.contents out.new; reads = 0; writes = P.count packets.new + O.count out.new })
+        result }
+    ensures causes { Causes
+        (record { taken = None; given = P.contents packets.old; out = O.contents out.old; reads = 0; writes = P.count packets.old + O.count out.old })
+        (record { taken = None; given = P.contents packets.new; out = O.contents out.new; reads = 0; writes = P.count packets.new + O.count out.new })
+        result }
+{
+    let mut heard = Counting::new(Vec::new(alloc));
+    match spoil(channel, &mut InMemory::new(symbols), &mut heard) {
+        Ok(_) => receive_frames(
+            receiver,
+            &mut InMemory::new(&heard.into_inner()),
+            packets,
+            out,
+        ),
+        Err(fault) => Err(kept_fault(fault)),
+    }
+}
+
+/// Sends packets, and receives what comes.
+fn loop_packets<R: CountedRead, S: CountedRead, W: CountedWrite, O: CountedWrite>(
+    alloc: Global,
+    transmitter: &mut Transmitter<'_>,
+    receiver: &mut Receiver<'_>,
+    channel: ChannelWords,
+    files: &mut LinkFiles<R, S, W>,
+    out: &mut O,
+) -> Result<Exit, Fault<'static>>
+    requires files { CanFail files.old }
+    requires out { CanCount (O.count out.old) }
+    requires begun { receiver.old.state ≡ begun }
+    ensures whole { IsOk result → O.count out.new ≡ O.count out.old }
+    ensures loops { LoopsBy transmitter.old (rules_for receiver.old) channel (streams_with files.old (O.contents out.old) (O.count out.old)) (streams_with files.new (O.contents out.new) (O.count out.new)) result }
+    ensures causes { Causes (streams_with files.old (O.contents out.old) (O.count out.old)) (streams_with files.new (O.contents out.new) (O.count out.new)) result }
+{
+    let mut symbols = Counting::new(Vec::new(alloc));
+    match transmitter.run(&mut files.from, &mut symbols) {
+        Ok(_) => {
+            let symbols = symbols.into_inner();
+            receive_spoilt(alloc, receiver, channel, &symbols, &mut files.to, out)
+        }
+        Err(refusal) => Err(kept_fault(fault_of(refusal))),
+    }
+}
+
+/// Sends packets on a link, and receives what comes.
+fn loop_link<R: CountedRead, S: CountedRead, W: CountedWrite, O: CountedWrite>(
+    alloc: Global,
+    link: &Link<'_>,
+    tuning: Tuning,
+    channel: ChannelWords,
+    files: &mut LinkFiles<R, S, W>,
+    out: &mut O,
+) -> Result<Exit, Fault<'static>>
+    requires files { CanFail files.old }
+    requires out { CanCount (O.count out.old) }
+    ensures whole { IsOk result → O.count out.new ≡ O.count out.old }
+    ensures loops { Tries (Loops tuning channel) link.now (streams_with files.old (O.contents out.old) (O.count out.old)) (streams_with files.new (O.contents out.new) (O.count out.new)) result }
+    ensures causes { Causes (streams_with files.old (O.contents out.old) (O.count out.old)) (streams_with files.new (O.contents out.new) (O.count out.new)) result }
+{
+    let Ok(mut transmitter) = Transmitter::on_link(alloc, link) else {
+        return Err(Fault::NoMemory);
+    };
+    match Receiver::on_link(alloc, link, tuning) {
+        Ok(mut receiver) => loop_packets(
+            alloc,
+            &mut transmitter,
+            &mut receiver,
+            channel,
+            files,
+            out,
+        ),
+        Err(_) => Err(Fault::NoMemory),
+    }
+}
+
+/// Reads rows, sends packets, and receives what comes.
+fn loop_files<R: CountedRead, S: CountedRead, W: CountedWrite, O: CountedWrite>(
+    alloc: Global,
+    setup: LinkSetup,
+    tuning: Tuning,
+    channel: ChannelWords,
+    files: &mut LinkFiles<R, S, W>,
+    out: &mut O,
+) -> Result<Exit, Fault<'static>>
+    requires files { CanFail files.old }
+    requires out { CanCount (O.count out.old) }
+    ensures whole { IsOk result → O.count out.new ≡ O.count out.old }
+    ensures run { LoopsBack (setup_of setup) tuning channel files.old.rows (streams_with files.old (O.contents out.old) (O.count out.old)) (streams_with files.new (O.contents out.new) (O.count out.new)) result }
+{
+    let matrix = read_matrix(alloc, &mut files.rows, setup.mode.shape())?;
+    loop_link(alloc, &Link::of(setup, &matrix), tuning, channel, files, out)
+}
+
+/// `run`: sends the packets of a stream on the link of a setup and a row file, adds the noise of a seed and
+/// a level to their symbols, and receives these: it prints the report of `demod`, and writes the packets
+/// that come out. The symbols are kept in memory. Where a packet is refused nothing is printed or written.
+pub fn run_command<
+    R: CountedRead,
+    S: CountedRead,
+    W: CountedWrite,
+    O: CountedWrite,
+    E: CountedWrite,
+>(
+    alloc: Global,
+    setup: LinkSetup,
+    tuning: Tuning,
+    channel: ChannelWords,
+    files: &mut LinkFiles<R, S, W>,
+    console: &mut Console<O, E>,
+) -> Exit
+    requires files { CanFail files.old }
+    requires console { CanShow console.old }
+    ensures quiet { result ≢ Exit.Fault → console.new.errors_failed ≡ console.old.errors_failed }
+    ensures whole { result ≢ Exit.Fault → console.new.output_failed ≡ console.old.output_failed }
+    ensures run { (ended : Result Exit Fault) × (result ≡ exit_of ended)
+        × LoopsBack (setup_of setup) tuning channel files.old.rows (streams_of files.old console.old) (streams_of files.new console.new) ended
+        × Complains ended console.old console.new }
+{
+    let ended = loop_files(alloc, setup, tuning, channel, files, &mut console.output);
+    console.conclude(ended)
+}

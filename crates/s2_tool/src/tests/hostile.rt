@@ -1,4 +1,0 @@
-//! Refused memory, files without an end, and reads and writes that fail.
-mod endless;
-mod failing;
-mod memory;

@@ -1,0 +1,7 @@
+//! What the definitions determine: each a call that does nothing, whose clause is the law.
+ghost use Rattle.s2_words.specs.Defaults.{DefaultsLaw};
+
+/// Help tells the rounds where none are named, [`s2_link::DEFAULT_ROUNDS`], by their decimal digits.
+pub fn defaults()
+    ensures { DefaultsLaw }
+{}

@@ -1,0 +1,135 @@
+//! What words ask for.
+use crate::parser::program;
+use crate::request::{
+    ChannelWords, CheckWords, DemodWords, JudgeWords, LinkWords, ModWords, NoiseWords, Request,
+    RowsWords, RunWords, ShapeWords,
+};
+use clap::error::ErrorKind;
+use clap::{ArgMatches, Error};
+use s2_link::{DEFAULT_ROUNDS, RollOff, Tuning};
+use s2_scramble::ScramblingNumber;
+use std::alloc::{AllocError, Global};
+
+fn shape_of(m: &ArgMatches<'_>) -> Option<ShapeWords> {
+    Some(ShapeWords {
+        group: m.get_one::<u16>("group")?,
+        groups: m.get_one::<u16>("groups")?,
+        q: m.get_one::<u16>("q")?,
+    })
+}
+
+fn link_of(m: &ArgMatches<'_>) -> Option<LinkWords> {
+    Some(LinkWords {
+        modcod: m.get_one::<u8>("modcod")?,
+        short: m.get_flag("short"),
+        pilots: m.get_flag("pilots"),
+        number: ScramblingNumber::new(m.get_one::<u32>("number")?)?,
+        roll_off: RollOff::new(m.get_one::<u8>("ro")?)?,
+    })
+}
+
+fn tuning_of(m: &ArgMatches<'_>) -> Option<Tuning> {
+    Tuning::new(m.get_one::<u32>("rounds")?, m.get_one::<u32>("passes")?).ok()
+}
+
+fn channel_of(m: &ArgMatches<'_>) -> Option<ChannelWords> {
+    Some(ChannelWords {
+        seed: m.get_one::<u64>("seed")?,
+        level: m.get_one::<u16>("level")?,
+    })
+}
+
+fn rows_of<'a>(m: &ArgMatches<'a>) -> Option<Request<'a>> {
+    Some(Request::Rows(RowsWords {
+        shape: shape_of(m)?,
+        weight: m.get_one::<u8>("weight")?,
+        seed: m.get_one::<u64>("seed")?,
+    }))
+}
+
+fn judge_of<'a>(m: &ArgMatches<'a>) -> Option<Request<'a>> {
+    Some(Request::Judge(JudgeWords {
+        shape: shape_of(m)?,
+        tuning: Tuning::new(DEFAULT_ROUNDS, m.get_one::<u32>("passes")?).ok()?,
+        certificate: m.get_str("cert"),
+        rows: m.get_str("ROWS")?,
+        soft: m.get_str("SOFT")?,
+    }))
+}
+
+fn check_of<'a>(m: &ArgMatches<'a>) -> Option<Request<'a>> {
+    Some(Request::Check(CheckWords {
+        rows: m.get_str("ROWS")?,
+        certificate: m.get_str("CERT")?,
+    }))
+}
+
+fn mod_of<'a>(m: &ArgMatches<'a>) -> Option<Request<'a>> {
+    Some(Request::Mod(ModWords {
+        link: link_of(m)?,
+        rows: m.get_str("ROWS")?,
+        packets: m.get_str("PACKETS")?,
+        symbols: m.get_str("SYMBOLS")?,
+    }))
+}
+
+fn noise_of<'a>(m: &ArgMatches<'a>) -> Option<Request<'a>> {
+    Some(Request::Noise(NoiseWords {
+        channel: channel_of(m)?,
+        from: m.get_str("IN")?,
+        to: m.get_str("OUT")?,
+    }))
+}
+
+fn demod_of<'a>(m: &ArgMatches<'a>) -> Option<Request<'a>> {
+    Some(Request::Demod(DemodWords {
+        link: link_of(m)?,
+        tuning: tuning_of(m)?,
+        rows: m.get_str("ROWS")?,
+        symbols: m.get_str("SYMBOLS")?,
+        packets: m.get_str("PACKETS")?,
+    }))
+}
+
+fn run_of<'a>(m: &ArgMatches<'a>) -> Option<Request<'a>> {
+    Some(Request::Run(RunWords {
+        link: link_of(m)?,
+        tuning: tuning_of(m)?,
+        channel: channel_of(m)?,
+        rows: m.get_str("ROWS")?,
+        packets: m.get_str("PACKETS")?,
+        to: m.get_str("OUT")?,
+    }))
+}
+
+fn request_of<'a>(name: &str, m: &ArgMatches<'a>) -> Option<Request<'a>> {
+    match name {
+        "rows" => rows_of(m),
+        "judge" => judge_of(m),
+        "check" => check_of(m),
+        "mod" => mod_of(m),
+        "noise" => noise_of(m),
+        "demod" => demod_of(m),
+        "run" => run_of(m),
+        _ => None,
+    }
+}
+
+/// What the words ask for. The parser takes only words of which a request can be made; of others that got
+/// through it the user hears by a usage fault.
+pub fn read_words<'a>(alloc: Global, words: &'a [String]) -> Result<Request<'a>, Error> {
+    let matches = program(alloc)?.try_get_matches_from(words)?;
+    match matches.subcommand() {
+        None => Ok(Request::Own),
+        Some((name, inner)) => match request_of(name, inner) {
+            Some(request) => Ok(request),
+            None => Err(not_understood(alloc)?),
+        },
+    }
+}
+
+/// The usage fault of words that ask for nothing.
+fn not_understood(alloc: Global) -> Result<Error, AllocError> {
+    let mut program = program(alloc)?;
+    program.error(ErrorKind::ValueValidation, "no request has these words")
+}

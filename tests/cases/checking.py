@@ -1,0 +1,71 @@
+"""`check`."""
+from cases.common import NO, STORED_CERTIFICATE, WRONG_CERTIFICATE, Case, fault
+
+
+def with_byte(at, byte):
+    return WRONG_CERTIFICATE[:at] + bytes([byte]) + WRONG_CERTIFICATE[at + 1 :]
+
+
+# Certificates under the toy rows, and what comes of them.
+ANSWERS = [
+    (WRONG_CERTIFICATE, 0, "yes cost 0\n"),
+    (STORED_CERTIFICATE, 0, "yes cost -45\n"),
+    (with_byte(16, 0x2E)[:224], NO, "no shape\n"),
+    (with_byte(37, 0x80), NO, "no check 0\n"),
+    (with_byte(47, 3), NO, "no bound\n"),
+    # soft value 0, of a bit that is 1, speaks for 0, so that the word costs more than the shares prove
+    (STORED_CERTIFICATE[:17] + b"\x05" + STORED_CERTIFICATE[18:], NO, "no bound\n"),
+]
+FAULTS = [
+    (with_byte(0, 0x54), "magic"),
+    (b"S2ML\x02", "magic"),
+    (b"", "cut"),
+    (b"S2ML\x01", "cut"),
+    (WRONG_CERTIFICATE[:227], "cut"),
+    (with_byte(16, 0x2E), "extra"),
+    (WRONG_CERTIFICATE + b"\x00", "extra"),
+    (with_byte(12, 0), "range"),
+    (with_byte(17, 0x40), "range"),
+    (with_byte(39, 1), "range"),
+    (with_byte(10, 0), "shape"),
+    (with_byte(6, 0), "shape"),
+]
+# Bytes of the wrong bit's certificate whose highest bit is turned, and what comes of that.
+ALTERED = [
+    ([0, 1, 2, 3, 4], "magic"),
+    ([5, 7, 9], "shape"),
+    ([6, 8, 10], "cut"),
+    ([11, 13, 14], "range"),
+    ([15, 16], "cut"),
+    (range(17, 37), "range"),
+]
+DENIED = [([12], "no bound\n"), ([37, 38], "no check 0\n"), ([39], "no check 8\n"), (range(40, 228, 17), "no bound\n")]
+# With q 4 in the place of 3 the rows have 55 edges, not 47.
+OTHER_Q = with_byte(10, 4)[:17] + bytes(24 + 3 + 188)
+
+
+def checked(certificate, code, line):
+    return Case("check toy out", code, line, reads={"out": certificate})
+
+
+def refused(certificate, text, rows="toy"):
+    return fault(f"check {rows} out", f"certificate: {text}", reads={"out": certificate})
+
+
+CASES = [
+    *(checked(*answer) for answer in ANSWERS),
+    *(refused(*answer) for answer in FAULTS),
+    *(refused(with_byte(at, WRONG_CERTIFICATE[at] ^ 0x80), text) for places, text in ALTERED for at in places),
+    *(checked(with_byte(at, WRONG_CERTIFICATE[at] ^ 0x80), NO, line) for places, line in DENIED for at in places),
+    checked(OTHER_Q, NO, "no shape\n"),
+    Case("check short_rows out", NO, "no shape\n", reads={"short_rows": b"0 4 8\n0 1\n", "out": WRONG_CERTIFICATE}),
+    Case("check normal normal_certificate", out="yes cost 0\n"),
+    # the certificate is taken apart before the rows
+    refused(with_byte(0, 0x54), "magic", "odd"),
+    fault("check letter out", "rows: not a number in line 1", reads={"letter": b"x", "out": WRONG_CERTIFICATE}),
+    fault("check . .", "cannot read"),
+    fault("check toy .", "cannot read"),
+    # the rows are read first
+    fault("check /dev/zero .", "file too long"),
+    fault("check toy out", "cannot write", reads={"out": WRONG_CERTIFICATE}, to="/dev/full"),
+]

@@ -1,0 +1,85 @@
+"""What a case is, what it may be compared with, and what many commands read."""
+from dataclasses import dataclass, field
+
+FINE, FAULT, NO = 0, 1, 2
+
+LINK = "--modcod 1 --short"
+TOY = "--group 4 --groups 2 --q 3"
+PAIR = "--group 1 --groups 1 --q 1"
+CHAIN = "--group 1 --groups 1 --q 3"
+LONG_ROWS = "rows --group 1 --groups 600 --q 64000 --weight 24 --seed 4294967297"
+
+STORED = b"-5 7 7 7 7 7 7 7 -5 -5 -5 -5 7 7 7 7 -5 -5 -5 -5"
+# Of one wrong bit, which check 0 corrects.
+WRONG = b"-4 " + 19 * b"10 "
+# The certificates of both, under the toy code.
+HEAD = bytes.fromhex("53324D4C 01 0004 0002 0003 0001 0000002F")
+STORED_CERTIFICATE = HEAD + bytes(int(word) % 256 for word in STORED.split()) + bytes.fromhex("80F0F0") + bytes(188)
+WRONG_CERTIFICATE = HEAD + bytes([0xFC] + 19 * [10]) + bytes(3) + bytes.fromhex("FFFFFFFC 00000004 00000004") + bytes(176)
+
+PACKET = b"\x47" + bytes(187)
+ONE = "frame 1 at 0 most-likely fixed 0\n"
+TWO = ONE + "frame 2 at 8190 most-likely fixed 0\nend frames 2 delivered 2 packets 2 bad 0\n"
+
+
+@dataclass(frozen=True)
+class Case:
+    """The words of a command, its exit, and what it prints on standard output and on standard error.
+
+    It is run in a folder of its own, where stand those of the files that are common to all, or are told by `reads`, that its words
+    name. `writes` tells what it leaves in files that it makes or changes; each other file has to stay as it was. `given` is its
+    standard input, or the path of it. Where `to` is told, its standard output is that path, or a pipe that is `closed`."""
+
+    words: str
+    code: int = FINE
+    out: object = ""
+    errors: object = ""
+    reads: dict = field(default_factory=dict)
+    writes: dict = field(default_factory=dict)
+    given: object = STORED
+    to: str = ""
+
+
+class Rule:
+    """Equal to what it holds of, where what is wanted is not told byte by byte."""
+
+    def __init__(self, what, holds):
+        self.what, self.holds = what, holds
+
+    def __eq__(self, got):
+        return got is not None and self.holds(got)
+
+    def __repr__(self):
+        return self.what
+
+
+ANY = Rule("any", lambda got: True)
+
+
+def size(count):
+    return Rule(f"{count} bytes", lambda got: len(got) == count)
+
+
+def ending(text):
+    return Rule(f"..{text!r}", lambda got: got.endswith(text.encode()))
+
+
+def first_line(text):
+    return Rule(f"{text!r}..", lambda got: got.decode().split("\n")[0] == text)
+
+
+def digest(number):
+    """Holds of the bytes that have this FNV-1a digest, of 64 bits."""
+
+    def digested(got):
+        state = 0xCBF29CE484222325
+        for byte in got:
+            state = (state ^ byte) * 0x100000001B3 % 2**64
+        return state == number
+
+    return Rule(f"bytes of the digest {number:#x}", digested)
+
+
+def fault(words, text, **more):
+    """A case that ends with the line of a fault, and prints nothing else."""
+    return Case(words, FAULT, errors=f"s2: {text}\n", **more)

@@ -1,0 +1,52 @@
+"""Reads and writes that fail in turn."""
+from cases.common import LINK, LONG_ROWS, PAIR, TOY
+
+READ, WRITE = "cannot read", "cannot write"
+MOD, DEMOD = f"mod {LINK} made packets out", f"demod {LINK} made two out"
+NOISE, RUN = "noise --seed 1 --level 256 two out", f"run {LINK} --seed 1 --level 0 made packets out"
+NOTHING, FRAMES = [(0, 0)], [(188, 0), (376, 33), (376, 69)]
+
+
+def is_whole_symbols(moved, size, printed):
+    """Where a read fails, the symbols that came before stand."""
+    return (size, printed) == (moved // 4 * 4, 0)
+
+
+def is_no_less(moved, size, printed):
+    """Where a write fails, what was written before stands. What the buffer holds is written once more as it goes."""
+    return size >= moved and printed == 0
+
+
+# Of each command and one file that it reads or writes: what it says where a call on that file fails, and how many bytes stand in
+# `out` and are printed by then, for the first call and those after it, where that changes; of `noise`, what is to hold of that and
+# of how many bytes of the file were moved. A frame of `mod` stands once its packets are in, and its line once all frames stand;
+# packets and lines of `demod` and `run` stand frame by frame. Rows are printed at once. Standard input is `given`, and standard
+# output `printed`.
+FAILING = [
+    ("", "given", READ, NOTHING),
+    ("", "printed", WRITE, NOTHING),
+    (f"rows {PAIR} --weight 1 --seed 1", "printed", WRITE, NOTHING),
+    (LONG_ROWS, "printed", WRITE, NOTHING),
+    (f"judge {TOY} toy stored", "toy", READ, NOTHING),
+    (f"judge {TOY} toy stored", "stored", READ, NOTHING),
+    (f"judge {TOY} toy stored", "printed", WRITE, NOTHING),
+    (f"judge {TOY} --cert out toy stored", "stored", READ, NOTHING),
+    (f"judge {TOY} --cert out toy stored", "printed", WRITE, [(228, 0)]),
+    ("check toy certificate", "toy", READ, NOTHING),
+    ("check toy certificate", "certificate", READ, NOTHING),
+    ("check toy certificate", "printed", WRITE, NOTHING),
+    (MOD, "made", READ, NOTHING),
+    (MOD, "packets", READ, [(0, 0), (32_760, 0)]),
+    (MOD, "out", WRITE, [(0, 0), (32_760, 0)]),
+    (MOD, "printed", WRITE, [(65_520, 0)]),
+    (NOISE, "two", READ, is_whole_symbols),
+    (NOISE, "out", WRITE, is_no_less),
+    (DEMOD, "made", READ, NOTHING),
+    (DEMOD, "two", READ, [(0, 0), (188, 33), (376, 69)]),
+    (DEMOD, "out", WRITE, [(0, 0), (188, 33)]),
+    (DEMOD, "printed", WRITE, FRAMES),
+    (RUN, "made", READ, NOTHING),
+    (RUN, "packets", READ, NOTHING),
+    (RUN, "out", WRITE, [(0, 0), (188, 33)]),
+    (RUN, "printed", WRITE, FRAMES),
+]

@@ -1,0 +1,80 @@
+"""`judge`, and the program without a command."""
+from cases.common import CHAIN, FAULT, NO, PAIR, STORED, STORED_CERTIFICATE, TOY, WRONG, WRONG_CERTIFICATE, Case, fault, size
+
+LIKELY = "most-likely cost -45\n"
+# Value files under the toy code, and what they cost.
+WELL = [
+    (STORED, -45),
+    (20 * b"10 ", 0),
+    (20 * b"0 ", 0),
+    (WRONG, 0),
+    (b"-4 10 10 10 1 1 1 " + 13 * b"10 ", 0),
+    (b"# all\n" + 10 * b"0 " + b"\r\n" + 10 * b"0 ", 0),
+    (b"\t-05 007" + STORED[4:], -45),
+]
+BAD_VALUES = [
+    (19 * b"0 ", "too few"),
+    (21 * b"0 ", "too many"),
+    (b"0 0\n64 " + 17 * b"0 ", "out of range in line 2"),
+    (b"-64 " + 19 * b"0 ", "out of range in line 1"),
+    (b"x " + 18 * b"0 ", "not a number in line 1"),
+]
+BAD_ROWS = [
+    (b"", "too few rows"),
+    (b"# 0 4 8\n\n# 0 1 2\n", "too few rows"),
+    (b"0\n1\n2\n", "too many rows"),
+    (b"0 4 12\n0 1 2\n", "address too large in line 1"),
+    (b"0 0\n0 1 2\n", "repeated address in line 1"),
+    (b"0 4\n0 0\n", "repeated address in line 2"),
+    (b"0 x\n", "not a number in line 1"),
+    (b"0 1 2 3 4 5 6 7 8 9 10 11 0", "repeated address in line 1"),
+]
+LONG_ROW = " ".join(map(str, range(25))).encode()
+# Of codes of one information bit: shape, rows, values, exit and line.
+VERDICTS = [
+    (PAIR, "pair", b"-5 3", 0, "most-likely cost -2\n"),
+    (PAIR, "pair", b"-5 5", NO, "broken cost -5 check 0\n"),
+    (CHAIN, "chain", b"0 -1 -1 0", NO, "parity cost 0\n"),
+    (CHAIN, "chain", b"1 0 -3 0", NO, "parity cost 0\n"),
+]
+# A normal frame of zeros, of whose decisions each thousandth is wrong. Its certificate has a header, 64800 values, the word, and
+# the shares of three edges of each information bit and of two of each parity bit but the last.
+NORMAL = "--group 360 --groups 90 --q 90"
+ZEROS = b"".join(b"-4 " if at % 1000 == 0 else b"10 " for at in range(64_800))
+NORMAL_SIZE = 17 + 64_800 + 8100 + 4 * (97_200 + 64_799)
+
+CASES = [
+    *(Case("", out=f"most-likely cost {cost}\n", given=values) for values, cost in WELL),
+    *(Case(f"judge {TOY} toy values", out=f"most-likely cost {cost}\n", reads={"values": values}) for values, cost in WELL),
+    *(fault("", f"values: {text}", given=values) for values, text in BAD_VALUES),
+    *(fault(f"judge {TOY} toy values", f"values: {text}", reads={"values": values}) for values, text in BAD_VALUES),
+    *(fault(f"judge {TOY} rows odd", f"rows: {text}", reads={"rows": rows}) for rows, text in BAD_ROWS),
+    fault("judge --group 1 --groups 1 --q 30 rows odd", "rows: row too long in line 1", reads={"rows": LONG_ROW}),
+    *(Case(f"judge {shape} {rows} values", code, line, reads={"values": values}) for shape, rows, values, code, line in VERDICTS),
+    # the rows are taken apart before the values are read
+    fault(f"judge {TOY} rows .", "rows: not a number in line 1", reads={"rows": b"0 x\n"}),
+    fault(f"judge {TOY} toy .", "cannot read"),
+    fault(f"judge {TOY} . values", "cannot read", reads={"values": STORED}),
+    # certificates
+    Case(f"judge {TOY} --cert out toy stored", out=LIKELY, writes={"out": STORED_CERTIFICATE}),
+    Case(f"judge {TOY} --passes 96 toy stored", out=LIKELY),
+    Case(f"judge {TOY} --passes 96 --cert old toy stored", out=LIKELY, writes={"old": STORED_CERTIFICATE}),
+    Case(f"judge {TOY} --cert out toy wrong", out="most-likely cost 0\n", writes={"out": WRONG_CERTIFICATE}),
+    Case(
+        f"judge {NORMAL} --cert out normal values",
+        out="most-likely cost 0\n",
+        reads={"values": ZEROS},
+        writes={"out": size(NORMAL_SIZE)},
+    ),
+    *(
+        Case(f"judge {shape} --cert old {rows} values", NO, line, reads={"values": values}, writes={"old": b""})
+        for shape, rows, values, code, line in VERDICTS[1:3]
+    ),
+    fault(f"judge {TOY} --cert out toy odd", "values: too few", writes={"out": b""}),
+    # no verdict without its certificate
+    fault(f"judge {TOY} --cert /dev/full toy stored", "cannot write"),
+    # input and output that fail
+    fault("", "cannot read", given="."),
+    *(fault(words, "cannot write", to="/dev/full") for words in ("", f"judge {TOY} toy stored")),
+    fault(f"judge {TOY} --cert out toy stored", "cannot write", to="/dev/full", writes={"out": STORED_CERTIFICATE}),
+]

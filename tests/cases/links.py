@@ -1,0 +1,159 @@
+"""`rows`, `mod`, `noise`, `demod` and `run`."""
+from cases.common import ANY, LINK, LONG_ROWS, NO, ONE, PACKET, PAIR, TOY, TWO, Case, digest, ending, fault, size
+from cases.drawn import made_rows, spoilt
+
+MOST_SEED = 2**64 - 1
+NONE = "end frames 0 delivered 0 packets 0 bad 0\n"
+SINGLE = ONE + "end frames 1 delivered 1 packets 1 bad 0\n"
+PARITY = "frame 1 at 0 parity fixed 0\nframe 2 at 8190 parity fixed 0\nend frames 2 delivered 2 packets 2 bad 0\n"
+NOT_WHOLE, NO_SYNC = "packets: not a whole packet", "packets: no sync in packet"
+# (700, -700) twice and three bytes more, and what another program makes of them with seed 1 at level 256.
+SAMPLES = bytes([2, 188, 253, 68, 2, 188, 253, 68, 1, 2, 3])
+SPOILT = bytes([3, 165, 253, 119, 3, 62, 253, 69])
+
+ROWS = [
+    Case(f"rows {PAIR} --weight 1 --seed 1", out="0\n"),
+    Case(f"rows {TOY} --weight 12 --seed {MOST_SEED}", out=made_rows(4, 2, 3, 12, MOST_SEED).decode()),
+    Case("rows --group 360 --groups 9 --q 36 --weight 3 --seed 1", out=made_rows(360, 9, 36, 3, 1).decode()),
+    Case(LONG_ROWS, out=digest(0x7991B772DB342E83)),
+    fault(f"rows {PAIR} --weight 2 --seed 1", "no such weight"),
+    fault(f"rows {TOY} --weight 24 --seed {MOST_SEED}", "no such weight"),
+    fault("rows --group 360 --groups 90 --q 91 --weight 8 --seed 1", "no such shape"),
+    *(fault(words, "cannot write", to="/dev/full") for words in (f"rows {PAIR} --weight 1 --seed 1", LONG_ROWS)),
+]
+
+
+def sent(packets, line, symbols, words="--modcod 1 normal4"):
+    return Case(f"mod {words} in out", out=line, reads={"in": packets}, writes={"out": symbols})
+
+
+MOD = [
+    sent(PACKET, "packets 1 frames 1\n", size(129_960)),
+    sent(b"", "packets 0 frames 0\n", b""),
+    sent(2 * PACKET, "packets 2 frames 2\n", size(65_520), f"{LINK} made"),
+    Case(f"mod {LINK} made empty old", out="packets 0 frames 0\n", reads={"empty": b""}, writes={"old": b""}),
+    *(
+        fault("mod --modcod 1 normal4 in out", text, reads={"in": packets}, writes={"out": b""})
+        for packets, text in [
+            (187 * b"\x47", NOT_WHOLE),
+            (PACKET + b"\x47", NOT_WHOLE),
+            (187 * b"\x48", NOT_WHOLE),
+            (188 * b"\x48", f"{NO_SYNC} 1"),
+            (PACKET + b"\x48" + bytes(187), f"{NO_SYNC} 2"),
+        ]
+    ),
+    # the frame that was full stands
+    fault(f"mod {LINK} made in out", f"{NO_SYNC} 3", reads={"in": 2 * PACKET + b"\x48" + bytes(187)}, writes={"out": size(32_760)}),
+    fault(f"mod {LINK} toy packets out", "rows: too few rows", writes={"out": b""}),
+    fault(f"mod {LINK} made . out", "cannot read", writes={"out": b""}),
+    fault(f"mod {LINK} . packets out", "cannot read", writes={"out": b""}),
+    fault(f"mod {LINK} made packets /dev/full", "cannot write"),
+    fault(f"mod {LINK} made packets out", "cannot write", to="/dev/full", writes={"out": size(65_520)}),
+]
+
+NOISE = [
+    Case("noise --seed 1 --level 256 in out", reads={"in": SAMPLES}, writes={"out": SPOILT}),
+    Case("noise --seed 1 --level 0 in out", reads={"in": SAMPLES}, writes={"out": SAMPLES[:8]}),
+    Case("noise --seed 1 --level 0 in old", reads={"in": b"123"}, writes={"old": b""}),
+    *(
+        Case(f"noise --seed {seed} --level {level} in out", reads={"in": SAMPLES}, writes={"out": spoilt(SAMPLES, seed, level)})
+        for seed, level in [(1, 65535), (MOST_SEED, 700), (MOST_SEED, 65535)]
+    ),
+    fault("noise --seed 1 --level 1 . out", "cannot read", writes={"out": b""}),
+    fault("noise --seed 1 --level 1 /dev/zero /dev/full", "cannot write"),
+    fault("noise --seed 1 --level 1 in /dev/full", "cannot write", reads={"in": SAMPLES}),
+]
+
+
+def received(symbols, code, report, packets, words=f"{LINK} made"):
+    return Case(f"demod {words} in out", code, report, reads={"in": symbols}, writes={"out": packets})
+
+
+def cut(frames, count):
+    """The exit and the report of whole short frames and so many symbols of one more."""
+    code, line = (NO, f"cut at {8190 * frames} symbols {count}\n") if count else (0, "")
+    return code, f"{frames * ONE}{line}end frames {frames} delivered {frames} packets {frames} bad 0\n"
+
+
+def demod(two, single):
+    """The cases over the symbols of the two packets in short frames, and of the single one in a normal frame."""
+    cut_two = [(65_519, 8189), (65_516, 8189), (33_120, 90), (33_119, 0), (32_760, 0)]
+    lost = "frame 1 at 0 most-likely lost\nend frames 1 delivered 0 packets 0 bad 0\n"
+    return [
+        received(two, 0, TWO, 2 * PACKET),
+        received(two + b"123", 0, TWO, 2 * PACKET),
+        received(single, 0, SINGLE, PACKET, "--modcod 1 normal4"),
+        *(received(two[:size], *cut(1, count), PACKET) for size, count in cut_two),
+        *(
+            received(single[: 4 * count], *cut(0, count if count >= 90 else 0), b"", "--modcod 1 normal4")
+            for count in (0, 89, 90, 32_489)
+        ),
+        *(received(symbols, 0, NONE, b"") for symbols in (b"", b"1", b"12", b"123", bytes(359))),
+        # behind its header the frame has lost its symbols: the word of zeros is decided, whose message is no header
+        received(two[:360] + bytes(32_400), NO, lost, b""),
+        fault(f"demod {LINK} toy in out", "rows: too few rows", reads={"in": two}, writes={"out": b""}),
+        fault(f"demod {LINK} . in out", "cannot read", reads={"in": two}, writes={"out": b""}),
+        fault(f"demod {LINK} made . out", "cannot read", writes={"out": b""}),
+        fault(f"demod {LINK} made in /dev/full", "cannot write", reads={"in": two}),
+        # a frame's packets are written before its line
+        fault(f"demod {LINK} made in out", "cannot write", reads={"in": two}, to="/dev/full", writes={"out": PACKET}),
+    ]
+
+
+def run(words, code, report, packets, taken=2 * PACKET):
+    return Case(f"run {words} in out", code, report, reads={"in": taken}, writes={"out": packets})
+
+
+RUN = [
+    run("--modcod 1 --seed 1 --level 0 normal4", 0, SINGLE, PACKET, PACKET),
+    run(f"{LINK} --seed 1 --level 0 made", 0, TWO, 2 * PACKET),
+    run(f"{LINK} --pilots --number 7 --seed 1 --level 0 made", 0, TWO.replace("8190", "8370"), 2 * PACKET),
+    run(f"{LINK} --passes 0 --seed 1 --level 500 made", NO, PARITY, 2 * PACKET),
+    run(f"{LINK} --passes 96 --seed 1 --level 500 made", 0, TWO, 2 * PACKET),
+    run(f"{LINK} --rounds 200 --seed 1 --level 0 made", 0, TWO, 2 * PACKET),
+    run(f"{LINK} --seed 1 --level 0 made", 0, NONE, b"", b""),
+    *(
+        fault(f"run {LINK} --seed 1 --level 0 made in out", text, reads={"in": packets}, writes={"out": b""})
+        for packets, text in [
+            (187 * b"\x47", NOT_WHOLE),
+            (188 * b"\x48", f"{NO_SYNC} 1"),
+            (2 * PACKET + bytes(188), f"{NO_SYNC} 3"),
+        ]
+    ),
+    fault(f"run {LINK} --seed 1 --level 0 toy packets out", "rows: too few rows", writes={"out": b""}),
+    fault(f"run {LINK} --seed 1 --level 0 made . out", "cannot read", writes={"out": b""}),
+    fault(f"run {LINK} --seed 1 --level 0 . packets out", "cannot read", writes={"out": b""}),
+    fault(f"run {LINK} --seed 1 --level 0 made packets /dev/full", "cannot write"),
+    fault(f"run {LINK} --seed 1 --level 0 made packets out", "cannot write", to="/dev/full", writes={"out": PACKET}),
+]
+
+
+def heard(words, symbols, code, end, packets):
+    return Case(f"demod {words} made in out", code, ending(end), reads={"in": symbols}, writes={"out": packets})
+
+
+def worded(two):
+    """Symbols with pilots and another scrambling number, received with other words too."""
+    words, end = f"{LINK} --pilots", "end frames 2 delivered {0} packets {0} bad 0\n"
+    return [
+        heard(f"{words} --number 7", two, 0, end.format(2), 2 * PACKET),
+        heard(words, two, NO, end.format(0), b""),
+        heard(f"{LINK} --number 7", two, 0, NONE, b""),
+    ]
+
+
+def alike(two):
+    """What ends in the same way, `demod` behind noise and `run`. With one round at level 700 no packet comes through."""
+    return [
+        (
+            heard(f"{LINK} {words}", spoilt(two, seed, level), code, "", packets),
+            Case(f"run {LINK} {words} --seed {seed} --level {level} made packets out", code, ANY, writes={"out": packets}),
+        )
+        for seed, level, words, code, packets in [
+            (1, 700, "", ANY, 2 * PACKET),
+            (1, 700, "--rounds 1", NO, b""),
+            (1, 500, "--passes 0", NO, 2 * PACKET),
+            (1, 500, "--passes 96", 0, 2 * PACKET),
+            (MOST_SEED, 700, "", ANY, ANY),
+        ]
+    ]
