@@ -21,5 +21,5 @@ dummy_symbol number i =
     else turned (quarter_turns number (i - header_symbols)) carrier
 
 -- all symbols of the frame
-abbrev pub dummy_frame : ℕ → List Symbol
+unfoldable pub dummy_frame : ℕ → List Symbol
 dummy_frame number = map (dummy_symbol number) (range_with_len 0 dummy_symbols)

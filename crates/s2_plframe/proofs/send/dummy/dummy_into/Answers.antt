@@ -7,7 +7,7 @@ use Rattle.s2_mode.specs.Symbols.{symbol, symbol_at}
 use Rattle.s2_scramble.specs.Gold.{quarter_turns}
 use Rattle.s2_scramble.specs.Turns.{turned}
 use Rattle.s2_plframe.specs.Header.{header_symbol, dummy_mode}
-use Rattle.s2_plframe.specs.Dummy.{carrier, dummy_symbol}
+use Rattle.s2_plframe.specs.Dummy.{carrier, dummy_symbol, dummy_frame}
 use Rattle.s2_plframe.proofs.send.dummy.dummy_into.Goals as goal
 
 -- a header and the slots behind it
@@ -23,6 +23,7 @@ joined_dummy number header slots long front back i lt =
     ]
 
 pub returns : goal.returns
+unfolding dummy_frame
 returns c =
     let header = c.write_header.new.out in
     let slots = c.write_carrier.new.out in
