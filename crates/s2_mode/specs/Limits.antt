@@ -1,6 +1,6 @@
 -- What bounds codes, soft values, headers and streams.
-use Rattle.std.specs.Prelude.{◌≡◌, ◌^◌, ℕ}
-use Rattle.s2_mode.specs.declared.limits.TheConstants.{HEADER_SYMBOLS, MOST_BITS, MOST_GROUP, MOST_MODCOD, MOST_SOFT, MOST_SYMBOLS}
+use Rattle.std.specs.Prelude.{◌≡◌, ◌+◌, ◌*◌, ◌^◌, ℕ}
+use Rattle.s2_mode.specs.declared.limits.TheConstants.{DUMMY_SYMBOLS, HEADER_SYMBOLS, MOST_BITS, MOST_GROUP, MOST_MODCOD, MOST_SOFT, MOST_SYMBOLS}
 
 -- the most bits of a codeword: those of a normal frame (EN 302 307-1, table 5a)
 abbrev pub most_bits : ℕ
@@ -22,6 +22,10 @@ most_soft = 63
 abbrev pub header_symbols : ℕ
 header_symbols = 90
 
+-- the symbols of a dummy frame: a header and 36 slots of 90 (EN 302 307-1, 5.5.1)
+abbrev pub dummy_symbols : ℕ
+dummy_symbols = header_symbols + 90 * 36
+
 -- the most symbols of a stream that one call, one command or one receiver takes
 abbrev pub most_symbols : ℕ
 most_symbols = 2 ^ 40
@@ -33,4 +37,5 @@ pub record LimitsLaw : Type 0 where
   pub modcod : MOST_MODCOD ≡ most_modcod
   pub soft : MOST_SOFT ≡ most_soft
   pub header : HEADER_SYMBOLS ≡ header_symbols
+  pub dummy : DUMMY_SYMBOLS ≡ dummy_symbols
   pub symbols : MOST_SYMBOLS ≡ most_symbols

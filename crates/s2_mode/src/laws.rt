@@ -8,7 +8,7 @@ pub fn symbols_back()
 {}
 
 /// The limits that are tested, [`crate::MOST_BITS`], [`crate::MOST_GROUP`], [`crate::MOST_MODCOD`], [`crate::MOST_SOFT`],
-/// [`crate::HEADER_SYMBOLS`] and [`crate::MOST_SYMBOLS`], are those of the definitions.
+/// [`crate::HEADER_SYMBOLS`], [`crate::DUMMY_SYMBOLS`] and [`crate::MOST_SYMBOLS`], are those of the definitions.
 pub fn limits()
     ensures { LimitsLaw }
 {}

@@ -39,7 +39,9 @@ pub use counts::{
 pub use fakes::{ByOne, Endless, FailAt};
 pub use fault_text::FaultText;
 pub use lanes::{put_four, symbols_from, words_from};
-pub use limits::{HEADER_SYMBOLS, MOST_BITS, MOST_GROUP, MOST_MODCOD, MOST_SOFT, MOST_SYMBOLS};
+pub use limits::{
+    DUMMY_SYMBOLS, HEADER_SYMBOLS, MOST_BITS, MOST_GROUP, MOST_MODCOD, MOST_SOFT, MOST_SYMBOLS,
+};
 pub use memory::InMemory;
 pub use mode::Mode;
 pub use shape::Shape;

@@ -15,5 +15,8 @@ pub const MOST_SOFT: u16 = 63;
 /// The symbols of a physical layer header (PLHEADER, EN 302 307-1, 5.5.2), and as many bits.
 pub const HEADER_SYMBOLS: usize = 90;
 
+/// The symbols of a dummy frame (dummy PLFRAME, EN 302 307-1, 5.5.1): a header and 36 slots of 90.
+pub const DUMMY_SYMBOLS: usize = 3330;
+
 /// The most symbols of a stream that one call, one command or one receiver takes.
 pub const MOST_SYMBOLS: u64 = 1 << 40;

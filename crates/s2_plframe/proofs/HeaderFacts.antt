@@ -14,7 +14,7 @@ use Rattle.s2_bits.proofs.Sums.{xor_same}
 use Rattle.s2_plframe.specs.Header.{header_bit, header_point, header_symbol, header_of, dummy_mode, sum_of_rows}
 use Rattle.s2_plframe.specs.Frame.{frame_symbol, frame_symbols}
 use Rattle.s2_plframe.specs.Search.{Decision, decision, decided, mismatches, passes, passes_dummy, found, recent}
-use Rattle.s2_plframe.specs.HeaderLaws.{seen_of, HoldsFrame}
+use Rattle.s2_plframe.specs.HeaderLaws.{seen_of, differences, HoldsFrame}
 use Rattle.s2_plframe.specs.declared.receive.found.Found.TheVariants as founds
 use Rattle.s2_plframe.specs.Payload.{AllTurnBack}
 use Rattle.s2_plframe.proofs.Payloads.{payload_again}
@@ -66,11 +66,6 @@ clean_passes m n payload is =
 
 -- ---- two headers
 
--- how many of the first n bits of two headers differ
-differ : (ℕ → Bool) → (ℕ → Bool) → ℕ → ℕ
-differ a b zero = 0
-differ a b (suc n) = differ a b n + number (xor (a n) (b n))
-
 xor_triangle : (w a b : Bool) → number (xor a b) ≤ number (xor w a) + number (xor w b)
 xor_triangle true true true = omega arith
 xor_triangle true true false = omega arith
@@ -81,8 +76,8 @@ xor_triangle false true false = omega arith
 xor_triangle false false true = omega arith
 xor_triangle false false false = omega arith
 
-triangle : (a b : ℕ → Bool) (window : List Decision) (n : ℕ) → differ a b n ≤ mismatches a window n + mismatches b window n
-unfolding differ mismatches
+triangle : (a b : ℕ → Bool) (window : List Decision) (n : ℕ) → differences a b n ≤ mismatches a window n + mismatches b window n
+unfolding differences mismatches
 triangle a b window zero = omega arith
 triangle a b window (suc n) =
     let before = triangle a b window n in
@@ -90,19 +85,22 @@ triangle a b window (suc n) =
     omega arith
 
 far : Bool → Bool → Mode → Bool
-far short pilots m = nat_le 32 (differ (header_bit m) (header_bit (dummy_mode short pilots)) 90)
+far short pilots m = nat_le 32 (differences (header_bit m) (header_bit (dummy_mode short pilots)) 90)
 
 all_far : (short pilots : Bool) (m : Mode) → IsMode m → far short pilots m ≡ true
-unfolding far differ sum_of_rows
+unfolding far differences sum_of_rows
 all_far false false m is = at_each (far false false) m refl is
 all_far false true m is = at_each (far false true) m refl is
 all_far true false m is = at_each (far true false) m refl is
 all_far true true m is = at_each (far true true) m refl is
 
-one_fails : (short pilots : Bool) (m : Mode) (window : List Decision) → IsMode m → passes (header_bit m) window ≡ true → passes (header_bit (dummy_mode short pilots)) window ≡ false
+pub dummies_apart_is : (m : Mode) (short pilots : Bool) → IsMode m → 32 ≤ differences (header_bit m) (header_bit (dummy_mode short pilots)) 90
 unfolding far
+dummies_apart_is m short pilots is = leb-true 32 (differences (header_bit m) (header_bit (dummy_mode short pilots)) 90) (all_far short pilots m is)
+
+one_fails : (short pilots : Bool) (m : Mode) (window : List Decision) → IsMode m → passes (header_bit m) window ≡ true → passes (header_bit (dummy_mode short pilots)) window ≡ false
 one_fails short pilots m window is passed =
-    let least : 32 ≤ differ (header_bit m) (header_bit (dummy_mode short pilots)) 90 = leb-true 32 (differ (header_bit m) (header_bit (dummy_mode short pilots)) 90) (all_far short pilots m is) in
+    let least : 32 ≤ differences (header_bit m) (header_bit (dummy_mode short pilots)) 90 = dummies_apart_is m short pilots is in
     let most : mismatches (header_bit m) window 90 ≤ 12 = leb-true (mismatches (header_bit m) window 90) 12 passed in
     let both = triangle (header_bit m) (header_bit (dummy_mode short pilots)) window 90 in
     let over : 12 < mismatches (header_bit (dummy_mode short pilots)) window 90 = omega arith in

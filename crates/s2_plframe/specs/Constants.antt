@@ -16,3 +16,11 @@ pilot_block = 36
 -- both together
 abbrev pub spaced_slots : ℕ
 spaced_slots = 1476
+
+-- the symbols of a slot
+abbrev pub slot : ℕ
+slot = 90
+
+-- the slots of a dummy frame
+abbrev pub dummy_slots : ℕ
+dummy_slots = 36

@@ -1,8 +1,9 @@
 -- Laws of frames, of the header test and of the search.
-use Rattle.std.specs.Prelude.{drop, length, Bool, ◌-◌, ◌*◌, ◌≡◌, ℕ, true, false, List, [], ◌∷◌, ◌++◌, map, take}
+use Rattle.std.specs.Prelude.{drop, length, Bool, ◌+◌, ◌-◌, ◌*◌, ◌≡◌, ◌≤◌, ℕ, zero, suc, true, false, List, [], ◌∷◌, ◌++◌, map, take}
 use Rattle.s2_mode.specs.declared.symbols.Symbol.{Symbol}
 use Rattle.s2_mode.specs.Limits.{header_symbols}
 use Rattle.s2_mode.specs.Mode.{Mode, IsMode, slots_of}
+use Rattle.s2_bits.specs.Bits.{xor, number}
 use Rattle.s2_plframe.specs.Header.{header_bit, header_of, dummy_mode}
 use Rattle.s2_plframe.specs.Frame.{frame_symbols}
 use Rattle.s2_plframe.specs.Payload.{received_payload, AllTurnBack}
@@ -37,6 +38,15 @@ CleanHeaderLaw = (m : Mode) (number : ℕ) (payload : List Symbol) → IsMode m 
 -- that of a dummy frame is found as such, with each TYPE
 abbrev pub DummyHeaderLaw : Type 0
 DummyHeaderLaw = (m : Mode) (short pilots : Bool) → IsMode m → found m (map decision (header_of (dummy_mode short pilots))) ≡ founds.Dummy
+
+-- how many of the first n bits of two headers differ
+unfoldable pub differences : (ℕ → Bool) → (ℕ → Bool) → ℕ → ℕ
+differences a b zero = 0
+differences a b (suc n) = differences a b n + number (xor (a n) (b n))
+
+-- the header of a mode differs from that of a dummy frame, with each TYPE, in at least 32 bits
+abbrev pub DummiesApartLaw : Type 0
+DummiesApartLaw = (m : Mode) (short pilots : Bool) → IsMode m → 32 ≤ differences (header_bit m) (header_bit (dummy_mode short pilots)) header_symbols
 
 -- no window passes as a header of a mode and as one of a dummy frame
 abbrev pub ApartLaw : Type 0

@@ -11,3 +11,9 @@ pub(crate) const PILOT_BLOCK: usize = 36;
 
 /// Both together.
 pub(crate) const SPACED_SLOTS: usize = 1476;
+
+/// The symbols of a slot.
+pub(crate) const SLOT: usize = 90;
+
+/// The slots of a dummy frame.
+pub(crate) const DUMMY_SLOTS: usize = 36;

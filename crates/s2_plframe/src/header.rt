@@ -2,7 +2,7 @@
 ghost use Rattle.std.specs.Prelude.{◌≡◌, ◌<◌};
 ghost use Rattle.s2_mode.specs.Limits.{header_symbols};
 ghost use Rattle.s2_mode.specs.Mode.{mode_of};
-ghost use Rattle.s2_plframe.specs.Header.{chosen, sum_of_rows, code_bit, header_bit};
+ghost use Rattle.s2_plframe.specs.Header.{chosen, sum_of_rows, code_bit, dummy_mode, header_bit};
 
 use s2_mode::Mode;
 
@@ -39,6 +39,17 @@ pub(crate) fn pls_code(mode: Mode) -> PlsCode
         modcod: mode.modcod(),
         short: mode.is_short(),
         pilots: mode.has_pilots(),
+    }
+}
+
+/// What the header of a dummy frame says.
+pub(crate) fn dummy_code(short: bool, pilots: bool) -> PlsCode
+    ensures { mode_of result.modcod result.short result.pilots ≡ dummy_mode short pilots }
+{
+    PlsCode {
+        modcod: 0,
+        short,
+        pilots,
     }
 }
 

@@ -1,5 +1,5 @@
 //! Laws of frames, of the header test and of the search.
-ghost use Rattle.s2_plframe.specs.HeaderLaws.{TakenOutLaw, SeenLaw, LastLaw, CleanHeaderLaw, DummyHeaderLaw, ApartLaw};
+ghost use Rattle.s2_plframe.specs.HeaderLaws.{TakenOutLaw, SeenLaw, LastLaw, CleanHeaderLaw, DummyHeaderLaw, DummiesApartLaw, ApartLaw};
 
 /// A frame is its mode's header, and a payload that can be taken out again.
 pub fn taken_out()
@@ -25,6 +25,11 @@ pub fn clean_header()
 /// The header of a dummy frame without noise is found as one, whatever the mode and its TYPE.
 pub fn dummy_header()
     ensures { DummyHeaderLaw }
+{}
+
+/// The header of each mode differs from each of the four headers of dummy frames in at least 32 of its 90 bits.
+pub fn dummies_apart()
+    ensures { DummiesApartLaw }
 {}
 
 /// No window passes as a header of a mode and as one of dummy frames.

@@ -2,7 +2,7 @@
 //!
 //! [`frame_into`] writes exactly the frame of a payload: the header of its mode, the slots with
 //! their pilot blocks, and everything after the header turned by the scrambler of the physical
-//! layer. [`Search`] finds the headers in a stream of symbols, of which at most 12 bits may be wrong,
+//! layer; [`dummy_into`] writes a dummy frame, which carries nothing. [`Search`] finds the headers in a stream of symbols, of which at most 12 bits may be wrong,
 //! and knows dummy frames; [`payload_of`] takes the payload out again, exactly, whatever symbols came.
 //! [`laws`] join the two ends. No call takes memory.
 //!
@@ -23,4 +23,4 @@ mod receive;
 mod send;
 
 pub use receive::{Found, Search, header_matches, payload_of};
-pub use send::frame_into;
+pub use send::{dummy_into, frame_into};

@@ -1,5 +1,7 @@
-//! The sending end: the frame of a payload.
+//! The sending end: the frame of a payload, and dummy frames.
+mod dummy;
 mod frame;
 mod header;
 
+pub use dummy::dummy_into;
 pub use frame::frame_into;

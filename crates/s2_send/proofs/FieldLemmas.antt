@@ -4,25 +4,35 @@ use Rattle.std.proofs.lemmas.List.{take_at, drop_at, take_all}
 use Rattle.std.proofs.lemmas.List.Concat.{flat_map-append}
 use Rattle.std.proofs.lemmas.List.Elements.{All-head, All-tail}
 use Rattle.std.proofs.lemmas.Nat.{div-mul-add}
-use Rattle.s2_link.specs.Link.{Link}
-use Rattle.s2_send.specs.Frames.{IsFrameOf}
+use Rattle.s2_send.specs.Frames.{IsUnitOf}
+use Rattle.s2_send.specs.Transmitter.{Transmitter}
 use Rattle.s2_bbframe.specs.DataStream.{cuts, full_fields, fields_of, header_at}
-use Rattle.s2_send.specs.Sending.{joined, AreFrames}
+use Rattle.s2_send.specs.Sending.{joined, is_due, AreUnits}
 
 pub joined-push : (ls : List (List ℕ)) (l : List ℕ) → joined (ls ++ l ∷ []) ≡ joined ls ++ l
 joined-push ls l = flat_map-append (λ x. x) ls (l ∷ []) ∙ ap (λ k. joined ls ++ k) (append-nil l)
 
--- the frames so far, and one more
-pub AreFrames-push : (link : Link) (at : ℕ) (fields frames : List (List ℕ)) (field frame : List ℕ) → AreFrames link at fields frames
-    → IsFrameOf link (header_at link.setup.roll_off (at + length (joined fields)) field) field frame → AreFrames link at (fields ++ field ∷ []) (frames ++ frame ∷ [])
-AreFrames-push link at [] [] field frame h k =
+-- the units so far, and one more
+pub AreUnits-push : (t : Transmitter) (number at : ℕ) (fields units : List (List ℕ)) (field unit : List ℕ) → AreUnits t number at fields units
+    → IsUnitOf t.link (is_due t.dummy_every (number + length fields)) (header_at t.link.setup.roll_off (at + length (joined fields)) field) field unit
+    → AreUnits t number at (fields ++ field ∷ []) (units ++ unit ∷ [])
+AreUnits-push t number at [] [] field unit h k =
     let e : at + 0 ≡ at = omega arith in
-    (subst (λ n. IsFrameOf link (header_at link.setup.roll_off n field) field frame) e k, tt)
-AreFrames-push link at [] (g ∷ gs) field frame h k = absurd h
-AreFrames-push link at (f ∷ fs) [] field frame h k = absurd h
-AreFrames-push link at (f ∷ fs) (g ∷ gs) field frame h k =
+    let f : number + 0 ≡ number = omega arith in (
+      subst (λ n. IsUnitOf t.link (is_due t.dummy_every number) (header_at t.link.setup.roll_off n field) field unit) e
+          (subst (λ n. IsUnitOf t.link (is_due t.dummy_every n) (header_at t.link.setup.roll_off (at + 0) field) field unit) f k),
+      tt,
+    )
+AreUnits-push t number at [] (g ∷ gs) field unit h k = absurd h
+AreUnits-push t number at (f ∷ fs) [] field unit h k = absurd h
+AreUnits-push t number at (f ∷ fs) (g ∷ gs) field unit h k =
     let e : at + length (f ++ joined fs) ≡ (at + length f) + length (joined fs) = omega (arith, length-append f (joined fs)) in
-    (h.0, AreFrames-push link (at + length f) fs gs field frame h.1 (subst (λ n. IsFrameOf link (header_at link.setup.roll_off n field) field frame) e k))
+    let n : number + suc (length fs) ≡ (number + 1) + length fs = omega arith in (
+      h.0,
+      AreUnits-push t (number + 1) (at + length f) fs gs field unit h.1
+          (subst (λ m. IsUnitOf t.link (is_due t.dummy_every ((number + 1) + length fs)) (header_at t.link.setup.roll_off m field) field unit) e
+          (subst (λ m. IsUnitOf t.link (is_due t.dummy_every m) (header_at t.link.setup.roll_off (at + length (f ++ joined fs)) field) field unit) n k)),
+    )
 
 module _ (size : ℕ) where
   abbrev pub IsFull : List ℕ → Type 0

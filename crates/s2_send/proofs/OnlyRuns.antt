@@ -1,5 +1,5 @@
 -- Two runs over the same bytes, in which neither a read nor a write failed, answer the same and write the same.
-use Rattle.std.proofs.Common.{◌≡◌, ◌≢◌, ℕ, zero, suc, ◌+◌, ◌-◌, ◌/◌, ◌≤◌, List, [], ◌∷◌, ◌++◌, Option, Some, None, Result, Ok, Err, length, take, drop, refl, sym, ap, subst, ◌∙◌, arith, append-nil, length-take}
+use Rattle.std.proofs.Common.{◌≡◌, ◌≢◌, ℕ, Bool, zero, suc, ◌+◌, ◌-◌, ◌/◌, ◌≤◌, List, [], ◌∷◌, ◌++◌, Option, Some, None, Result, Ok, Err, length, take, drop, refl, sym, ap, subst, ◌∙◌, arith, append-nil, length-take}
 use Rattle.std.specs.Prelude.{◌==◌, nat_lt, if◌then◌else◌}
 use Rattle.std.proofs.lemmas.Bool.{eq-eqb, ne_eqb, lt-ltb, le-ltb}
 use Rattle.std.specs.Io.KnownBytes.{Appends}
@@ -8,8 +8,10 @@ use Rattle.s2_bbframe.specs.DataStream.{stream_of, cuts, fields_of, field_bytes,
 use Rattle.s2_send.specs.declared.outcome.Counts.{Counts}
 use Rattle.s2_send.specs.declared.outcome.SendFault.{SendFault}
 use Rattle.s2_send.specs.declared.outcome.SendFault.TheVariants.{NotWholePacket, NoSync, Read, Write}
-use Rattle.s2_link.specs.Link.{Link}
-use Rattle.s2_send.specs.Sending.{joined, AreFrames}
+use Rattle.s2_bbframe.specs.declared.header.Header.{Header}
+use Rattle.s2_send.specs.Frames.{IsUnitOf, sent_behind}
+use Rattle.s2_send.specs.Transmitter.{Transmitter}
+use Rattle.s2_send.specs.Sending.{joined, is_due, AreUnits}
 use Rattle.s2_send.specs.Laws.{IsLinkOf, FrameLaw, ReadFails, RunLaw}
 use Rattle.s2_send.proofs.PacketsRead.{same_packets, Leaves, leaves_stop, fields_by, Reading, reading, none_begun}
 
@@ -44,53 +46,57 @@ frame_count : (size : ℕ) (bytes : List ℕ) (packets fields : List (List ℕ))
     → (c : Counts) → result ≡ Ok c → c.frames ≡ length (fields_of size (stream_of packets))
 frame_count size bytes packets fields result r c e = r.frame_count c e ∙ ap length (r.fields_are ∙ ap (fields_by size (stream_of packets)) e)
 
--- ---- the frames
+-- ---- the units
 
-module _ (m : Mode) (law : FrameLaw m) (link : Link) (linked : IsLinkOf m link) where
+module _ (m : Mode) (law : FrameLaw m) (t : Transmitter) (linked : IsLinkOf m t.link) where
   abbrev size : ℕ
-  size = field_bytes link.setup.mode
+  size = field_bytes t.link.setup.mode
 
-  same_cuts : (n at : ℕ) (stream : List ℕ) (gs hs : List (List ℕ)) → AreFrames link at (cuts size n stream) gs → AreFrames link at (cuts size n stream) hs → gs ≡ hs
-  same_cuts zero at stream [] [] A B = refl
-  same_cuts zero at stream [] (h ∷ hs) A B = absurd B
-  same_cuts zero at stream (g ∷ gs) hs A B = absurd A
-  same_cuts (suc n) at stream [] hs A B = absurd A
-  same_cuts (suc n) at stream (g ∷ gs) [] A B = absurd B
-  same_cuts (suc n) at stream (g ∷ gs) (h ∷ hs) A B =
+  same_unit : (due : Bool) (header : Header) (field a b : List ℕ) → length field ≤ field_bytes m → IsUnitOf t.link due header field a → IsUnitOf t.link due header field b → a ≡ b
+  same_unit due header field a b fits A B =
+      A.spelt ∙ (ap (λ f. f ++ sent_behind t.link due) (law t.link header field A.frame B.frame linked fits A.is_frame B.is_frame) ∙ sym B.spelt)
+
+  same_cuts : (n number at : ℕ) (stream : List ℕ) (us vs : List (List ℕ)) → AreUnits t number at (cuts size n stream) us → AreUnits t number at (cuts size n stream) vs → us ≡ vs
+  same_cuts zero number at stream [] [] A B = refl
+  same_cuts zero number at stream [] (v ∷ vs) A B = absurd B
+  same_cuts zero number at stream (u ∷ us) vs A B = absurd A
+  same_cuts (suc n) number at stream [] vs A B = absurd A
+  same_cuts (suc n) number at stream (u ∷ us) [] A B = absurd B
+  same_cuts (suc n) number at stream (u ∷ us) (v ∷ vs) A B =
       let field = take size stream in
       let fits : length field ≤ field_bytes m = omega (arith, length-take size stream, ap field_bytes linked.0) in
-      let front : g ≡ h = law link (header_at link.setup.roll_off at field) field g h linked fits A.0 B.0 in
-      let others = same_cuts n (at + length field) (drop size stream) gs hs A.1 B.1 in
-      λ t. front t ∷ others t
+      let front : u ≡ v = same_unit (is_due t.dummy_every number) (header_at t.link.setup.roll_off at field) field u v fits A.0 B.0 in
+      let others = same_cuts n (number + 1) (at + length field) (drop size stream) us vs A.1 B.1 in
+      λ i. front i ∷ others i
 
-  same_frames : (stream : List ℕ) (result : Result Counts SendFault) (gs hs : List (List ℕ))
-      → AreFrames link 0 (fields_by size stream result) gs → AreFrames link 0 (fields_by size stream result) hs → gs ≡ hs
-  same_frames stream (Ok counts) gs hs A B = same_cuts ((length stream + (size - 1)) / size) 0 stream gs hs A B
-  same_frames stream (Err fault) gs hs A B = same_cuts (length stream / size) 0 stream gs hs A B
+  same_units : (stream : List ℕ) (result : Result Counts SendFault) (us vs : List (List ℕ))
+      → AreUnits t 1 0 (fields_by size stream result) us → AreUnits t 1 0 (fields_by size stream result) vs → us ≡ vs
+  same_units stream (Ok counts) us vs A B = same_cuts ((length stream + (size - 1)) / size) 1 0 stream us vs A B
+  same_units stream (Err fault) us vs A B = same_cuts (length stream / size) 1 0 stream us vs A B
 
 -- what a writer holds then
-written : (held begun : List ℕ) (writer : Option (List ℕ)) (frames : List (List ℕ)) → begun ≡ [] → Appends (Some held) writer (joined frames ++ begun) → writer ≡ Some (held ++ joined frames)
-written held begun None frames none h = absurd h
-written held begun (Some now) frames none h = ap (λ l. Some l) (h ∙ ap (λ l. held ++ l) (ap (λ l. joined frames ++ l) none ∙ append-nil (joined frames)))
+written : (held begun : List ℕ) (writer : Option (List ℕ)) (units : List (List ℕ)) → begun ≡ [] → Appends (Some held) writer (joined units ++ begun) → writer ≡ Some (held ++ joined units)
+written held begun None units none h = absurd h
+written held begun (Some now) units none h = ap (λ l. Some l) (h ∙ ap (λ l. held ++ l) (ap (λ l. joined units ++ l) none ∙ append-nil (joined units)))
 
 pub one_run_law : (m : Mode) → FrameLaw m → RunLaw m
-one_run_law m law = λ link most bytes held count_a count_b new_a new_b reader_a reader_b writer_a writer_b a b linked none_a none_b A B.
-    let n = field_bytes link.setup.mode in
-    let ra = reading most n (ReadFails most count_a new_a) bytes reader_a A.packets A.rest A.fields a none_a A.read A.ends A.outcome in
-    let rb = reading most n (ReadFails most count_b new_b) bytes reader_b B.packets B.rest B.fields b none_b B.read B.ends B.outcome in
+one_run_law m law = λ t bytes held count_a count_b new_a new_b reader_a reader_b writer_a writer_b a b linked none_a none_b A B.
+    let n = field_bytes t.link.setup.mode in
+    let ra = reading t.limit n (ReadFails t.limit count_a new_a) bytes reader_a A.packets A.rest A.fields a none_a A.read A.ends A.outcome in
+    let rb = reading t.limit n (ReadFails t.limit count_b new_b) bytes reader_b B.packets B.rest B.fields b none_b B.read B.ends B.outcome in
     let same = same_packets A.packets B.packets ra.left rb.left A.each_is_packet B.each_is_packet
     (leaves_stop _ ra.left a ra.leaves) (leaves_stop _ rb.left b rb.leaves) (sym ra.bytes_are ∙ rb.bytes_are) in
     let answer : a ≡ b =
     answered (length A.packets) (length (fields_of n (stream_of A.packets))) ra.left a ra.leaves (frame_count n bytes A.packets A.fields a ra)
-    ∙ ((λ t. answer_to (length (same.0 t)) (length (fields_of n (stream_of (same.0 t)))) (length (same.1 t)))
+    ∙ ((λ i. answer_to (length (same.0 i)) (length (fields_of n (stream_of (same.0 i)))) (length (same.1 i)))
     ∙ sym (answered (length B.packets) (length (fields_of n (stream_of B.packets))) rb.left b rb.leaves (frame_count n bytes B.packets B.fields b rb))) in
     let fields : B.fields ≡ fields_by n (stream_of A.packets) a =
-    rb.fields_are ∙ sym (λ t. fields_by n (stream_of (same.0 t)) (answer t)) in
-    let frames : A.frames ≡ B.frames =
-    same_frames m law link linked (stream_of A.packets) a A.frames B.frames
-    (subst (λ l. AreFrames link 0 l A.frames) ra.fields_are A.are_frames) (subst (λ l. AreFrames link 0 l B.frames) fields B.are_frames) in (
+    rb.fields_are ∙ sym (λ i. fields_by n (stream_of (same.0 i)) (answer i)) in
+    let units : A.units ≡ B.units =
+    same_units m law t linked (stream_of A.packets) a A.units B.units
+    (subst (λ l. AreUnits t 1 0 l A.units) ra.fields_are A.are_units) (subst (λ l. AreUnits t 1 0 l B.units) fields B.are_units) in (
       answer,
-      written held A.begun writer_a A.frames (none_begun link reader_a A.packets A.fields A.begun a none_a A.begins) A.written
-          ∙ ((λ t. Some (held ++ joined (frames t)))
-          ∙ sym (written held B.begun writer_b B.frames (none_begun link reader_b B.packets B.fields B.begun b none_b B.begins) B.written)),
+      written held A.begun writer_a A.units (none_begun t reader_a A.packets A.fields A.begun a none_a A.begins) A.written
+          ∙ ((λ i. Some (held ++ joined (units i)))
+          ∙ sym (written held B.begun writer_b B.units (none_begun t reader_b B.packets B.fields B.begun b none_b B.begins) B.written)),
     )

@@ -8,7 +8,7 @@ use Rattle.s2_bbframe.specs.DataStream.{IsPacket, stream_of, full_fields, fields
 use Rattle.s2_send.specs.declared.outcome.Counts.{Counts}
 use Rattle.s2_send.specs.declared.outcome.SendFault.{SendFault}
 use Rattle.s2_send.specs.declared.outcome.SendFault.TheVariants.{NotWholePacket, NoSync, Read, Write}
-use Rattle.s2_link.specs.Link.{Link}
+use Rattle.s2_send.specs.Transmitter.{Transmitter}
 use Rattle.s2_send.specs.Sending.{joined, Outcome, EndsThere, Begins}
 use Rattle.s2_send.specs.Laws.{NoneFailed}
 
@@ -60,7 +60,7 @@ leaves_stop packets left (Err (NoSync packet)) h = inr h.1
 leaves_stop packets left (Err Read) h = absurd h
 leaves_stop packets left (Err Write) h = absurd h
 
--- the fields whose frames are written, by the answer
+-- the fields whose units are written, by the answer
 abbrev pub fields_by : ℕ → List ℕ → Result Counts SendFault → List (List ℕ)
 fields_by size stream (Ok counts) = fields_of size stream
 fields_by size stream (Err fault) = full_fields size stream
@@ -104,11 +104,11 @@ reading most size MayFail bytes (Some beyond) packets rest fields (Err (NoSync p
 reading most size MayFail bytes (Some beyond) packets rest fields (Err Read) none read ends outcome = absurd (none.0 refl)
 reading most size MayFail bytes (Some beyond) packets rest fields (Err Write) none read ends outcome = absurd (none.1 refl)
 
--- no frame is broken off
-pub none_begun : (link : Link) (reader_new : Option (List ℕ)) (packets fields : List (List ℕ)) (begun : List ℕ) (result : Result Counts SendFault)
-    → NoneFailed result → Begins link reader_new packets fields begun result → begun ≡ []
-none_begun link reader_new packets fields begun (Ok counts) none h = h
-none_begun link reader_new packets fields begun (Err NotWholePacket) none h = h
-none_begun link reader_new packets fields begun (Err (NoSync packet)) none h = h
-none_begun link reader_new packets fields begun (Err Read) none h = h
-none_begun link reader_new packets fields begun (Err Write) none h = absurd (none.1 refl)
+-- no unit is broken off
+pub none_begun : (t : Transmitter) (reader_new : Option (List ℕ)) (packets fields : List (List ℕ)) (begun : List ℕ) (result : Result Counts SendFault)
+    → NoneFailed result → Begins t reader_new packets fields begun result → begun ≡ []
+none_begun t reader_new packets fields begun (Ok counts) none h = h
+none_begun t reader_new packets fields begun (Err NotWholePacket) none h = h
+none_begun t reader_new packets fields begun (Err (NoSync packet)) none h = h
+none_begun t reader_new packets fields begun (Err Read) none h = h
+none_begun t reader_new packets fields begun (Err Write) none h = absurd (none.1 refl)

@@ -9,24 +9,25 @@ use Rattle.std.proofs.lemmas.List.Elements.{All-push}
 use Rattle.std.proofs.lemmas.List.{length_push}
 use Rattle.s2_mode.specs.Pieces.{AppendsPart}
 use Rattle.s2_link.specs.Link.{Link}
-use Rattle.s2_send.specs.Frames.{IsFrameOf}
+use Rattle.s2_send.specs.Frames.{IsUnitOf}
+use Rattle.s2_send.specs.Transmitter.{Transmitter}
 use Rattle.s2_bbframe.specs.DataStream.{IsPacket, Slicing, Sliced, IsReady, next_field, after_packet, gained, header_at, stream_of, full_fields, fields_of, field_bytes}
 use Rattle.s2_send.specs.declared.outcome.Counts.{Counts}
 use Rattle.s2_send.specs.declared.outcome.SendFault.{SendFault}
 use Rattle.s2_send.specs.declared.outcome.SendFault.TheVariants.{NotWholePacket, NoSync, Read, Write}
-use Rattle.s2_send.specs.Sending.{joined, AreFrames, AcceptsNext, SendsNext, FailsToSend, TransmitterRuns, Outcome, EndsThere, Begins}
+use Rattle.s2_send.specs.Sending.{joined, is_due, AreUnits, AcceptsNext, SendsNext, FailsToSend, TransmitterRuns, Outcome, EndsThere, Begins}
 use Rattle.s2_send.proofs.Waiting.{length_gained, ready_full, full_ready}
-use Rattle.s2_send.proofs.FieldLemmas.{joined-push, AreFrames-push, IsFull, full_are, fields_are, fields_are_and}
+use Rattle.s2_send.proofs.FieldLemmas.{joined-push, AreUnits-push, IsFull, full_are, fields_are, fields_are_and}
 
-pub record Sending (link : Link) (size : ℕ) (r0 r w0 w : Option (List ℕ)) (s : Slicing) (packets frames : ℕ) : Type 0 where
+pub record Sending (t : Transmitter) (size : ℕ) (r0 r w0 w : Option (List ℕ)) (s : Slicing) (packets frames : ℕ) : Type 0 where
   pub ps : List (List ℕ)
   pub fs : List (List ℕ)
   pub each : All IsPacket ps
   pub full : All (IsFull size) fs
   pub consumed : Consumes r0 r (joined ps)
-  pub gs : List (List ℕ)
-  pub are_frames : AreFrames link 0 fs gs
-  pub written : Appends w0 w (joined gs)
+  pub us : List (List ℕ)
+  pub are_units : AreUnits t 1 0 fs us
+  pub written : Appends w0 w (joined us)
   pub sliced : Sliced ps fs s
   pub packet_count : packets ≡ length ps
   pub frame_count : frames ≡ length fs
@@ -34,28 +35,41 @@ pub record Sending (link : Link) (size : ℕ) (r0 r w0 w : Option (List ℕ)) (s
   pub goes_on : s.closed ≡ false
   pub room : length s.waiting < size
 
-module _ (link : Link) (r0 w0 : Option (List ℕ)) where
+module _ (t : Transmitter) (r0 w0 : Option (List ℕ)) where
   abbrev size : ℕ
-  size = field_bytes link.setup.mode
+  size = field_bytes t.link.setup.mode
 
-  -- a frame more is written
-  more_frames : (w w' : Option (List ℕ)) (gs : List (List ℕ)) (g : List ℕ) → Appends w0 w (joined gs) → Appends w w' g → Appends w0 w' (joined (gs ++ g ∷ []))
-  more_frames w w' gs g h k = subst (Appends w0 w') (sym (joined-push gs g)) (Appends-trans w0 w w' (joined gs) g h k)
+  -- a unit more is written
+  more_units : (w w' : Option (List ℕ)) (us : List (List ℕ)) (u : List ℕ) → Appends w0 w (joined us) → Appends w w' u → Appends w0 w' (joined (us ++ u ∷ []))
+  more_units w w' us u h k = subst (Appends w0 w') (sym (joined-push us u)) (Appends-trans w0 w w' (joined us) u h k)
 
-  are_more : (fs gs : List (List ℕ)) (f g : List ℕ) → AreFrames link 0 fs gs → IsFrameOf link (header_at link.setup.roll_off (length (joined fs)) f) f g → AreFrames link 0 (fs ++ f ∷ []) (gs ++ g ∷ [])
-  are_more fs gs f g h k =
+  -- the unit of the field behind these
+  abbrev IsNext : List (List ℕ) → List ℕ → List ℕ → Type 0
+  IsNext fs f u = IsUnitOf t.link (is_due t.dummy_every (length fs + 1)) (header_at t.link.setup.roll_off (length (joined fs)) f) f u
+
+  -- by the frames that were counted
+  numbered : (count : ℕ) (due : Bool) (fs : List (List ℕ)) (f u : List ℕ) → due ≡ is_due t.dummy_every (count + 1) → count ≡ length fs
+      → IsUnitOf t.link due (header_at t.link.setup.roll_off (length (joined fs)) f) f u → IsNext fs f u
+  numbered count due fs f u is counted k =
+      subst (λ b. IsUnitOf t.link b (header_at t.link.setup.roll_off (length (joined fs)) f) f u) (is ∙ ap (λ n. is_due t.dummy_every (n + 1)) counted) k
+
+  are_more : (fs us : List (List ℕ)) (f u : List ℕ) → AreUnits t 1 0 fs us → IsNext fs f u → AreUnits t 1 0 (fs ++ f ∷ []) (us ++ u ∷ [])
+  are_more fs us f u h k =
       let e : length (joined fs) ≡ 0 + length (joined fs) = omega arith in
-      AreFrames-push link 0 fs gs f g h (subst (λ n. IsFrameOf link (header_at link.setup.roll_off n f) f g) e k)
+      let n : length fs + 1 ≡ 1 + length fs = omega arith in
+      AreUnits-push t 1 0 fs us f u h
+      (subst (λ m. IsUnitOf t.link (is_due t.dummy_every (1 + length fs)) (header_at t.link.setup.roll_off m f) f u) e
+      (subst (λ m. IsUnitOf t.link (is_due t.dummy_every m) (header_at t.link.setup.roll_off (length (joined fs)) f) f u) n k))
 
   more_packets : (r r' : Option (List ℕ)) (ps : List (List ℕ)) (p : List ℕ) → Consumes r0 r (joined ps) → Consumes r r' p → Consumes r0 r' (joined (ps ++ p ∷ []))
   more_packets r r' ps p h k = subst (Consumes r0 r') (sym (joined-push ps p)) (Consumes-trans r0 r r' (joined ps) p h k)
 
   pub one_more : (r r' w w' : Option (List ℕ)) (s s1 s2 : Slicing) (p f : ℕ) (buf : List ℕ) (b : Bool)
-      → Sending link size r0 r w0 w s p f → 189 ≤ size → Consumes r r' buf → IsPacket buf
+      → Sending t size r0 r w0 w s p f → 189 ≤ size → Consumes r r' buf → IsPacket buf
       → s1 ≡ after_packet buf s → ((ps fs : List (List ℕ)) → Sliced ps fs s → Sliced (ps ++ buf ∷ []) fs s1)
-      → (link' : Link) → link' ≡ link → SendsNext link' s1 s2 w w' b → Sending link size r0 r' w0 w' s2 (p + 1) (f + bool_byte b)
-  one_more r r' w w' s s1 s2 p f buf true h large consumes packet is more link' same_link sent =
-      let sends = subst (λ x. SendsNext x s1 s2 w w' true) same_link sent in
+      → (due : Bool) → due ≡ is_due t.dummy_every (f + 1) → (link : Link) → link ≡ t.link → SendsNext link due s1 s2 w w' b → Sending t size r0 r' w0 w' s2 (p + 1) (f + bool_byte b)
+  one_more r r' w w' s s1 s2 p f buf true h large consumes packet is more due is_now link same_link sent =
+      let sends = subst (λ x. SendsNext x due s1 s2 w w' true) same_link sent in
       let closed : s1.closed ≡ false = ap (λ x. x.closed) is ∙ h.goes_on in
       let size1 : s1.size ≡ size = ap (λ x. x.size) is ∙ h.size_is in
       let length1 : length s1.waiting ≡ length (s.waiting ++ gained s.begun buf) = ap (λ x. length x.waiting) is in
@@ -74,9 +88,9 @@ module _ (link : Link) (r0 w0 : Option (List ℕ)) where
         each = All-push IsPacket h.ps buf h.each packet;
         full = All-push (IsFull size) h.fs (next_field s1) h.full taken;
         consumed = more_packets r r' h.ps buf h.consumed consumes;
-        gs = h.gs ++ next.1.0 ∷ [];
-        are_frames = are_more h.fs h.gs (next_field s1) next.1.0 h.are_frames next.1.1;
-        written = more_frames w w' h.gs next.1.0 h.written next.1.2;
+        us = h.us ++ next.1.0 ∷ [];
+        are_units = are_more h.fs h.us (next_field s1) next.1.0 h.are_units (numbered f due h.fs (next_field s1) next.1.0 is_now h.frame_count next.1.1);
+        written = more_units w w' h.us next.1.0 h.written next.1.2;
         sliced = next.0;
         packet_count = omega (arith, length_push h.ps buf);
         frame_count = omega (arith, length_push h.fs (next_field s1));
@@ -84,8 +98,8 @@ module _ (link : Link) (r0 w0 : Option (List ℕ)) where
         goes_on = ap (λ x. x.closed) sends.1 ∙ closed;
         room = omega arith;
       }
-  one_more r r' w w' s s1 s2 p f buf false h large consumes packet is more link' same_link sent =
-      let sends = subst (λ x. SendsNext x s1 s2 w w' false) same_link sent in
+  one_more r r' w w' s s1 s2 p f buf false h large consumes packet is more due is_now link same_link sent =
+      let sends = subst (λ x. SendsNext x due s1 s2 w w' false) same_link sent in
       let closed : s1.closed ≡ false = ap (λ x. x.closed) is ∙ h.goes_on in
       let size1 : s1.size ≡ size = ap (λ x. x.size) is ∙ h.size_is in
       let same : s2 ≡ s1 = sends.1 in
@@ -99,9 +113,9 @@ module _ (link : Link) (r0 w0 : Option (List ℕ)) where
         each = All-push IsPacket h.ps buf h.each packet;
         full = h.full;
         consumed = more_packets r r' h.ps buf h.consumed consumes;
-        gs = h.gs;
-        are_frames = h.are_frames;
-        written = subst (λ x. Appends w0 x (joined h.gs)) (sym sends.2) h.written;
+        us = h.us;
+        are_units = h.are_units;
+        written = subst (λ x. Appends w0 x (joined h.us)) (sym sends.2) h.written;
         sliced = subst (Sliced (h.ps ++ buf ∷ []) h.fs) (sym same) (more h.ps h.fs h.sliced);
         packet_count = omega (arith, length_push h.ps buf);
         frame_count = omega arith;
@@ -111,17 +125,17 @@ module _ (link : Link) (r0 w0 : Option (List ℕ)) where
       }
 
   -- the fields so far are the full fields of the packets so far
-  pub full_here : (r w : Option (List ℕ)) (s : Slicing) (p f : ℕ) → (h : Sending link size r0 r w0 w s p f) → h.fs ≡ full_fields size (stream_of h.ps)
+  pub full_here : (r w : Option (List ℕ)) (s : Slicing) (p f : ℕ) → (h : Sending t size r0 r w0 w s p f) → h.fs ≡ full_fields size (stream_of h.ps)
   full_here r w s p f h = full_are size h.fs s.waiting (stream_of h.ps) h.sliced.whole h.full h.room
 
-  none_behind : (w : Option (List ℕ)) (gs : List (List ℕ)) → Appends w0 w (joined gs) → Appends w0 w (joined gs ++ [])
-  none_behind w gs h = subst (Appends w0 w) (sym (append-nil (joined gs))) h
+  none_behind : (w : Option (List ℕ)) (us : List (List ℕ)) → Appends w0 w (joined us) → Appends w0 w (joined us ++ [])
+  none_behind w us h = subst (Appends w0 w) (sym (append-nil (joined us))) h
 
   -- a run that stops keeps what it has done
-  pub stops : (r r' w : Option (List ℕ)) (s : Slicing) (p f : ℕ) (most : ℕ) (MayFail : ℕ → Type 0) (rest : List ℕ) (result : Result Counts SendFault)
-      → (h : Sending link size r0 r w0 w s p f) → Consumes r r' rest → EndsThere result r' → Outcome most size MayFail h.ps rest h.fs result
-      → Begins link r' h.ps h.fs [] result → TransmitterRuns link most MayFail r0 r' w0 w result
-  stops r r' w s p f most MayFail rest result h more end outcome none = record {
+  pub stops : (r r' w : Option (List ℕ)) (s : Slicing) (p f : ℕ) (MayFail : ℕ → Type 0) (rest : List ℕ) (result : Result Counts SendFault)
+      → (h : Sending t size r0 r w0 w s p f) → Consumes r r' rest → EndsThere result r' → Outcome t.limit size MayFail h.ps rest h.fs result
+      → Begins t r' h.ps h.fs [] result → TransmitterRuns t MayFail r0 r' w0 w result
+  stops r r' w s p f MayFail rest result h more end outcome none = record {
     packets = h.ps;
     rest = rest;
     fields = h.fs;
@@ -130,34 +144,34 @@ module _ (link : Link) (r0 w0 : Option (List ℕ)) where
     read = Consumes-trans r0 r r' (joined h.ps) rest h.consumed more;
     ends = end;
     outcome = outcome;
-    frames = h.gs;
-    are_frames = h.are_frames;
+    units = h.us;
+    are_units = h.are_units;
     begins = none;
-    written = none_behind w h.gs h.written;
+    written = none_behind w h.us h.written;
   }
 
   -- a run that its next packet, or a read, ends
-  ended : (r r' w : Option (List ℕ)) (s s1 : Slicing) (p f : ℕ) (most : ℕ) (MayFail : ℕ → Type 0) (fault : SendFault)
-      → Sending link size r0 r w0 w s p f → p < most → (fault ≡ Read → MayFail p) → AcceptsNext p s s1 r r' (Err fault) → TransmitterRuns link most MayFail r0 r' w0 w (Err fault)
-  ended r r' w s s1 p f most MayFail NotWholePacket h few may a =
-      stops r r' w s p f most MayFail a.0 (Err NotWholePacket) h a.3 a.4 (subst (λ n. n < most) h.packet_count few, a.1, a.2, full_here r w s p f h) refl
-  ended r r' w s s1 p f most MayFail (NoSync packet) h few may a =
-      stops r r' w s p f most MayFail a.0 (Err (NoSync packet)) h a.3 tt (subst (λ n. n < most) h.packet_count few, a.1, a.2, a.4 ∙ ap (λ n. n + 1) h.packet_count, full_here r w s p f h) refl
-  ended r r' w s s1 p f most MayFail Read h few may a =
-      stops r r' w s p f most MayFail a.0 (Err Read) h a.2 tt (subst MayFail h.packet_count (may refl), inl (subst (λ n. n < most) h.packet_count few, a.1), full_here r w s p f h) refl
-  ended r r' w s s1 p f most MayFail Write h few may a = absurd a
+  ended : (r r' w : Option (List ℕ)) (s s1 : Slicing) (p f : ℕ) (MayFail : ℕ → Type 0) (fault : SendFault)
+      → Sending t size r0 r w0 w s p f → p < t.limit → (fault ≡ Read → MayFail p) → AcceptsNext p s s1 r r' (Err fault) → TransmitterRuns t MayFail r0 r' w0 w (Err fault)
+  ended r r' w s s1 p f MayFail NotWholePacket h few may a =
+      stops r r' w s p f MayFail a.0 (Err NotWholePacket) h a.3 a.4 (subst (λ n. n < t.limit) h.packet_count few, a.1, a.2, full_here r w s p f h) refl
+  ended r r' w s s1 p f MayFail (NoSync packet) h few may a =
+      stops r r' w s p f MayFail a.0 (Err (NoSync packet)) h a.3 tt (subst (λ n. n < t.limit) h.packet_count few, a.1, a.2, a.4 ∙ ap (λ n. n + 1) h.packet_count, full_here r w s p f h) refl
+  ended r r' w s s1 p f MayFail Read h few may a =
+      stops r r' w s p f MayFail a.0 (Err Read) h a.2 tt (subst MayFail h.packet_count (may refl), inl (subst (λ n. n < t.limit) h.packet_count few, a.1), full_here r w s p f h) refl
+  ended r r' w s s1 p f MayFail Write h few may a = absurd a
 
-  pub faulted : (r r' w : Option (List ℕ)) (s s1 : Slicing) (p f : ℕ) (most : ℕ) (MayFail : ℕ → Type 0) (fault : SendFault) (result : Result Counts SendFault)
-      → Sending link size r0 r w0 w s p f → p < most → (fault ≡ Read → MayFail p) → AcceptsNext p s s1 r r' (Err fault) → result ≡ Err fault → TransmitterRuns link most MayFail r0 r' w0 w result
-  faulted r r' w s s1 p f most MayFail fault result h few may a is =
-      subst (TransmitterRuns link most MayFail r0 r' w0 w) (sym is) (ended r r' w s s1 p f most MayFail fault h few may a)
+  pub faulted : (r r' w : Option (List ℕ)) (s s1 : Slicing) (p f : ℕ) (MayFail : ℕ → Type 0) (fault : SendFault) (result : Result Counts SendFault)
+      → Sending t size r0 r w0 w s p f → p < t.limit → (fault ≡ Read → MayFail p) → AcceptsNext p s s1 r r' (Err fault) → result ≡ Err fault → TransmitterRuns t MayFail r0 r' w0 w result
+  faulted r r' w s s1 p f MayFail fault result h few may a is =
+      subst (TransmitterRuns t MayFail r0 r' w0 w) (sym is) (ended r r' w s s1 p f MayFail fault h few may a)
 
   -- no packet comes any more
-  closed_sliced : (r w : Option (List ℕ)) (s s1 : Slicing) (p f : ℕ) → (h : Sending link size r0 r w0 w s p f) → s1 ≡ record s { closed = true } → Sliced h.ps h.fs s1
+  closed_sliced : (r w : Option (List ℕ)) (s s1 : Slicing) (p f : ℕ) → (h : Sending t size r0 r w0 w s p f) → s1 ≡ record s { closed = true } → Sliced h.ps h.fs s1
   closed_sliced r w s s1 p f h is = subst (Sliced h.ps h.fs) (sym is) (record { begun = h.sliced.begun; phase = h.sliced.phase; whole = h.sliced.whole })
 
   -- the last field is what remains
-  last_is : (r w : Option (List ℕ)) (s s1 : Slicing) (p f : ℕ) → (h : Sending link size r0 r w0 w s p f) → s1 ≡ record s { closed = true } → IsReady s1
+  last_is : (r w : Option (List ℕ)) (s s1 : Slicing) (p f : ℕ) → (h : Sending t size r0 r w0 w s p f) → s1 ≡ record s { closed = true } → IsReady s1
       → h.fs ++ next_field s1 ∷ [] ≡ fields_of size (stream_of h.ps)
   last_is r w s s1 p f h is ready =
       let size1 : s1.size ≡ size = ap (λ x. x.size) is ∙ h.size_is in
@@ -170,11 +184,11 @@ module _ (link : Link) (r0 w0 : Option (List ℕ)) where
       ap (λ x. h.fs ++ x ∷ []) whole ∙ fields_are_and size h.fs s1.waiting (stream_of h.ps) old.whole h.full some1 room0
 
   -- the end, with the last field
-  pub ends : (r r' w w' : Option (List ℕ)) (s s1 s2 : Slicing) (p f : ℕ) (b : Bool) (most : ℕ) (MayFail : ℕ → Type 0)
-      → Sending link size r0 r w0 w s p f → 189 ≤ size → p < most → Consumes r r' [] → IsAtEnd r' → s1 ≡ record s { closed = true }
-      → (link' : Link) → link' ≡ link → SendsNext link' s1 s2 w w' b → TransmitterRuns link most MayFail r0 r' w0 w' (Ok (record { packets = p; frames = f + bool_byte b }))
-  ends r r' w w' s s1 s2 p f true most MayFail h large few none end is link' same_link sent =
-      let sends = subst (λ x. SendsNext x s1 s2 w w' true) same_link sent in
+  pub ends : (r r' w w' : Option (List ℕ)) (s s1 s2 : Slicing) (p f : ℕ) (b : Bool) (MayFail : ℕ → Type 0)
+      → Sending t size r0 r w0 w s p f → 189 ≤ size → p < t.limit → Consumes r r' [] → IsAtEnd r' → s1 ≡ record s { closed = true }
+      → (due : Bool) → due ≡ is_due t.dummy_every (f + 1) → (link : Link) → link ≡ t.link → SendsNext link due s1 s2 w w' b → TransmitterRuns t MayFail r0 r' w0 w' (Ok (record { packets = p; frames = f + bool_byte b }))
+  ends r r' w w' s s1 s2 p f true MayFail h large few none end is due is_now link same_link sent =
+      let sends = subst (λ x. SendsNext x due s1 s2 w w' true) same_link sent in
       let next = sends.2 h.ps h.fs (closed_sliced r w s s1 p f h is) in
       let p0 : p ≡ length h.ps = h.packet_count in
       let f0 : f ≡ length h.fs = h.frame_count in
@@ -187,13 +201,13 @@ module _ (link : Link) (r0 w0 : Option (List ℕ)) where
         read = Consumes-trans r0 r r' (joined h.ps) [] h.consumed none;
         ends = end;
         outcome = (omega arith, refl, last_is r w s s1 p f h is sends.0, h.packet_count, omega (arith, length_push h.fs (next_field s1)));
-        frames = h.gs ++ next.1.0 ∷ [];
-        are_frames = are_more h.fs h.gs (next_field s1) next.1.0 h.are_frames next.1.1;
+        units = h.us ++ next.1.0 ∷ [];
+        are_units = are_more h.fs h.us (next_field s1) next.1.0 h.are_units (numbered f due h.fs (next_field s1) next.1.0 is_now h.frame_count next.1.1);
         begins = refl;
-        written = none_behind w' (h.gs ++ next.1.0 ∷ []) (more_frames w w' h.gs next.1.0 h.written next.1.2);
+        written = none_behind w' (h.us ++ next.1.0 ∷ []) (more_units w w' h.us next.1.0 h.written next.1.2);
       }
-  ends r r' w w' s s1 s2 p f false most MayFail h large less none end is link' same_link sent =
-      let sends = subst (λ x. SendsNext x s1 s2 w w' false) same_link sent in
+  ends r r' w w' s s1 s2 p f false MayFail h large less none end is due is_now link same_link sent =
+      let sends = subst (λ x. SendsNext x due s1 s2 w w' false) same_link sent in
       let closed : s1.closed ≡ true = ap (λ x. x.closed) is in
       let same : s1.waiting ≡ s.waiting = ap (λ x. x.waiting) is in
       let few : (0 < length s1.waiting) → ⊥ = λ k. sends.0 (subst (λ b. MatchBool b (0 < length s1.waiting) (s1.size ≤ length s1.waiting)) (sym closed) k) in
@@ -209,43 +223,42 @@ module _ (link : Link) (r0 w0 : Option (List ℕ)) where
         read = Consumes-trans r0 r r' (joined h.ps) [] h.consumed none;
         ends = end;
         outcome = (omega arith, refl, fields_are size h.fs s.waiting (stream_of h.ps) h.sliced.whole h.full few0 (omega arith), h.packet_count, omega arith);
-        frames = h.gs;
-        are_frames = h.are_frames;
+        units = h.us;
+        are_units = h.are_units;
         begins = refl;
-        written = none_behind w' h.gs (subst (λ x. Appends w0 x (joined h.gs)) (sym sends.2) h.written);
+        written = none_behind w' h.us (subst (λ x. Appends w0 x (joined h.us)) (sym sends.2) h.written);
       }
 
-  -- ---- a frame that could not be written
+  -- ---- a unit that could not be written
 
-  broken : (r' w w' : Option (List ℕ)) (most : ℕ) (MayFail : ℕ → Type 0) (ps fs gs : List (List ℕ)) (field : List ℕ)
-      → All IsPacket ps → Consumes r0 r' (joined ps) → length ps ≤ most → AreFrames link 0 fs gs → Appends w0 w (joined gs)
+  broken : (r' w w' : Option (List ℕ)) (MayFail : ℕ → Type 0) (ps fs us : List (List ℕ)) (field : List ℕ)
+      → All IsPacket ps → Consumes r0 r' (joined ps) → length ps ≤ t.limit → AreUnits t 1 0 fs us → Appends w0 w (joined us)
       → (fs ++ field ∷ [] ≡ full_fields size (stream_of ps)) ⊎ ((fs ++ field ∷ [] ≡ fields_of size (stream_of ps)) × IsAtEnd r')
-      → ((frame : List ℕ) × IsFrameOf link (header_at link.setup.roll_off (length (joined fs)) field) field frame × AppendsPart frame w w')
-      → TransmitterRuns link most MayFail r0 r' w0 w' (Err Write)
-  broken r' w w' most MayFail ps fs gs field each consumed within are written last next =
-      let k = next.2.0 in
+      → (unit : List ℕ) → IsNext fs field unit → AppendsPart unit w w' → TransmitterRuns t MayFail r0 r' w0 w' (Err Write)
+  broken r' w w' MayFail ps fs us field each consumed within are written last unit next part =
+      let k = part.0 in
       record {
         packets = ps;
         rest = [];
         fields = fs;
-        begun = take k next.0;
+        begun = take k unit;
         each_is_packet = each;
         read = Consumes-trans r0 r' r' (joined ps) [] consumed (Consumes-nil r');
         ends = tt;
         outcome = (within, refl);
-        frames = gs;
-        are_frames = are;
-        begins = record { field = field; frame = next.0; is_last = last; is_frame = next.1; is_part = (k, next.2.1, refl) };
-        written = Appends-trans w0 w w' (joined gs) (take k next.0) written next.2.2;
+        units = us;
+        are_units = are;
+        begins = record { field = field; unit = unit; is_last = last; is_unit = next; is_part = (k, part.1, refl) };
+        written = Appends-trans w0 w w' (joined us) (take k unit) written part.2;
       }
 
   -- that of a field which a packet filled
-  pub breaks : (r r' w w' : Option (List ℕ)) (s s1 : Slicing) (p f : ℕ) (buf : List ℕ) (most : ℕ) (MayFail : ℕ → Type 0)
-      → Sending link size r0 r w0 w s p f → 189 ≤ size → p < most → Consumes r r' buf → IsPacket buf
+  pub breaks : (r r' w w' : Option (List ℕ)) (s s1 : Slicing) (p f : ℕ) (buf : List ℕ) (MayFail : ℕ → Type 0)
+      → Sending t size r0 r w0 w s p f → 189 ≤ size → p < t.limit → Consumes r r' buf → IsPacket buf
       → s1 ≡ after_packet buf s → ((ps fs : List (List ℕ)) → Sliced ps fs s → Sliced (ps ++ buf ∷ []) fs s1)
-      → (link' : Link) → link' ≡ link → FailsToSend link' s1 w w' → TransmitterRuns link most MayFail r0 r' w0 w' (Err Write)
-  breaks r r' w w' s s1 p f buf most MayFail h large less consumes packet is more link' same_link failed =
-      let fails = subst (λ x. FailsToSend x s1 w w') same_link failed in
+      → (due : Bool) → due ≡ is_due t.dummy_every (f + 1) → (link : Link) → link ≡ t.link → FailsToSend link due s1 w w' → TransmitterRuns t MayFail r0 r' w0 w' (Err Write)
+  breaks r r' w w' s s1 p f buf MayFail h large less consumes packet is more due is_now link same_link failed =
+      let fails = subst (λ x. FailsToSend x due s1 w w') same_link failed in
       let sliced1 = more h.ps h.fs h.sliced in
       let field = next_field s1 in
       let left = drop s1.size s1.waiting in
@@ -258,30 +271,33 @@ module _ (link : Link) (r0 w0 : Option (List ℕ)) where
       let taken : length field ≡ size = length-take-le s1.size s1.waiting (ready_full s1 closed fails.0) ∙ size1 in
       let length3 : length left ≡ length s1.waiting - s1.size = length-drop s1.size s1.waiting in
       let p0 : p ≡ length h.ps = h.packet_count in
+      let next = fails.1 (h.ps ++ buf ∷ []) h.fs sliced1 in
       let cut : joined h.fs ++ s1.waiting ≡ joined (h.fs ++ field ∷ []) ++ left =
       ap (λ l. joined h.fs ++ l) (sym (take-append-drop s1.size s1.waiting))
       ∙ (sym (append_assoc (joined h.fs) field left) ∙ ap (λ l. l ++ left) (sym (joined-push h.fs field))) in
-      broken r' w w' most MayFail (h.ps ++ buf ∷ []) h.fs h.gs field (All-push IsPacket h.ps buf h.each packet) (more_packets r r' h.ps buf h.consumed consumes)
-      (omega (arith, length_push h.ps buf)) h.are_frames h.written
+      broken r' w w' MayFail (h.ps ++ buf ∷ []) h.fs h.us field (All-push IsPacket h.ps buf h.each packet) (more_packets r r' h.ps buf h.consumed consumes)
+      (omega (arith, length_push h.ps buf)) h.are_units h.written
       (inl (full_are size (h.fs ++ field ∷ []) left (stream_of (h.ps ++ buf ∷ [])) (sliced1.whole ∙ cut) (All-push (IsFull size) h.fs field h.full taken) (omega arith)))
-      (fails.1 (h.ps ++ buf ∷ []) h.fs sliced1)
+      next.0 (numbered f due h.fs field next.0 is_now h.frame_count next.1) next.2
 
   -- that of the last field
-  pub breaks_at_end : (r r' w w' : Option (List ℕ)) (s s1 : Slicing) (p f : ℕ) (most : ℕ) (MayFail : ℕ → Type 0)
-      → Sending link size r0 r w0 w s p f → p < most → Consumes r r' [] → IsAtEnd r' → s1 ≡ record s { closed = true }
-      → (link' : Link) → link' ≡ link → FailsToSend link' s1 w w' → TransmitterRuns link most MayFail r0 r' w0 w' (Err Write)
-  breaks_at_end r r' w w' s s1 p f most MayFail h less none end is link' same_link failed =
-      let fails = subst (λ x. FailsToSend x s1 w w') same_link failed in
+  pub breaks_at_end : (r r' w w' : Option (List ℕ)) (s s1 : Slicing) (p f : ℕ) (MayFail : ℕ → Type 0)
+      → Sending t size r0 r w0 w s p f → p < t.limit → Consumes r r' [] → IsAtEnd r' → s1 ≡ record s { closed = true }
+      → (due : Bool) → due ≡ is_due t.dummy_every (f + 1) → (link : Link) → link ≡ t.link → FailsToSend link due s1 w w' → TransmitterRuns t MayFail r0 r' w0 w' (Err Write)
+  breaks_at_end r r' w w' s s1 p f MayFail h less none end is due is_now link same_link failed =
+      let fails = subst (λ x. FailsToSend x due s1 w w') same_link failed in
       let p0 : p ≡ length h.ps = h.packet_count in
+      let next = fails.1 h.ps h.fs (closed_sliced r w s s1 p f h is) in
       let consumed : Consumes r0 r' (joined h.ps) = subst (Consumes r0 r') (append-nil (joined h.ps)) (Consumes-trans r0 r r' (joined h.ps) [] h.consumed none) in
-      broken r' w w' most MayFail h.ps h.fs h.gs (next_field s1) h.each consumed (omega arith) h.are_frames h.written
-      (inr (last_is r w s s1 p f h is fails.0, end)) (fails.1 h.ps h.fs (closed_sliced r w s s1 p f h is))
+      broken r' w w' MayFail h.ps h.fs h.us (next_field s1) h.each consumed (omega arith) h.are_units h.written
+      (inr (last_is r w s s1 p f h is fails.0, end))
+      next.0 (numbered f due h.fs (next_field s1) next.0 is_now h.frame_count next.1) next.2
 
   -- that of either
-  pub unwritten : (r r' w w' : Option (List ℕ)) (s s1 : Slicing) (p f : ℕ) (more : Bool) (most : ℕ) (MayFail : ℕ → Type 0)
-      → Sending link size r0 r w0 w s p f → 189 ≤ size → p < most → AcceptsNext p s s1 r r' (Ok more)
-      → (link' : Link) → link' ≡ link → FailsToSend link' s1 w w' → TransmitterRuns link most MayFail r0 r' w0 w' (Err Write)
-  unwritten r r' w w' s s1 p f true most MayFail h large few a link' same_link failed =
-      breaks r r' w w' s s1 p f a.0 most MayFail h large few a.2 a.1 a.3 a.4 link' same_link failed
-  unwritten r r' w w' s s1 p f false most MayFail h large few a link' same_link failed =
-      breaks_at_end r r' w w' s s1 p f most MayFail h few a.0 a.1 a.2 link' same_link failed
+  pub unwritten : (r r' w w' : Option (List ℕ)) (s s1 : Slicing) (p f : ℕ) (more : Bool) (MayFail : ℕ → Type 0)
+      → Sending t size r0 r w0 w s p f → 189 ≤ size → p < t.limit → AcceptsNext p s s1 r r' (Ok more)
+      → (due : Bool) → due ≡ is_due t.dummy_every (f + 1) → (link : Link) → link ≡ t.link → FailsToSend link due s1 w w' → TransmitterRuns t MayFail r0 r' w0 w' (Err Write)
+  unwritten r r' w w' s s1 p f true MayFail h large few a due is_now link same_link failed =
+      breaks r r' w w' s s1 p f a.0 MayFail h large few a.2 a.1 a.3 a.4 due is_now link same_link failed
+  unwritten r r' w w' s s1 p f false MayFail h large few a due is_now link same_link failed =
+      breaks_at_end r r' w w' s s1 p f MayFail h few a.0 a.1 a.2 due is_now link same_link failed

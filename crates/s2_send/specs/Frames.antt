@@ -1,5 +1,5 @@
--- The frame of a header and its data field (EN 302 307-1, 5.2 to 5.5).
-use Rattle.std.specs.Prelude.{◌≡◌, ℕ, ◌-◌, ◌*◌, Bool, false, List, ◌++◌, length, replicate}
+-- The frame of a header and its data field (EN 302 307-1, 5.2 to 5.5), and dummy frames behind it.
+use Rattle.std.specs.Prelude.{◌≡◌, ℕ, ◌-◌, ◌*◌, Bool, false, List, [], ◌++◌, length, replicate, if◌then◌else◌}
 use Rattle.s2_mode.specs.Mode.{Mode, kbch_of, k_of, n_of, shape_in, HasCodeSizes}
 use Rattle.s2_mode.specs.Symbols.{bytes_of_symbols}
 use Rattle.s2_bits.specs.Bits.{bits_of_bytes}
@@ -12,6 +12,7 @@ use Rattle.s2_bch.specs.Codes.{IsBchWordOf}
 use Rattle.s2_ldpc.specs.Encoding.{IsCodewordOf}
 use Rattle.s2_map.specs.Mapping.{payload_of}
 use Rattle.s2_plframe.specs.Frame.{frame_symbols}
+use Rattle.s2_plframe.specs.Dummy.{dummy_frame}
 use Rattle.s2_link.specs.Link.{Link}
 
 -- the bits of a header and of its data field, and zeros to a length
@@ -37,6 +38,20 @@ pub record IsFrameOf (link : Link) (header : Header) (field bytes : List ℕ) : 
   pub codeword : List Bool
   pub is_codeword : IsCodewordFor link.setup.mode link.rows header field codeword
   pub spelt : bytes ≡ frame_bytes link.setup.mode link.setup.number codeword
+
+-- the bytes of the symbols of a dummy frame (5.5.1)
+abbrev pub dummy_bytes : ℕ → List ℕ
+dummy_bytes number = bytes_of_symbols (dummy_frame number)
+
+-- what is sent behind a frame: a dummy frame where one is due
+abbrev pub sent_behind : Link → Bool → List ℕ
+sent_behind link due = if due then dummy_bytes link.setup.number else []
+
+-- what is sent for a header and its data field, the unit of a run: their frame, and a dummy frame behind it where one is due
+pub record IsUnitOf (link : Link) (due : Bool) (header : Header) (field bytes : List ℕ) : Type 0 where
+  pub frame : List ℕ
+  pub is_frame : IsFrameOf link header field frame
+  pub spelt : bytes ≡ frame ++ sent_behind link due
 
 -- ---- what the stages hold
 

@@ -1,5 +1,5 @@
 -- What the packets, the setup and the address rows determine.
-use Rattle.std.specs.Prelude.{◌≡◌, ◌≢◌, ℕ, ◌+◌, ◌≤◌, ◌⊎◌, length, List, Option, Some, Result, Err}
+use Rattle.std.specs.Prelude.{◌≡◌, ◌≢◌, ℕ, ◌+◌, ◌≤◌, ◌⊎◌, ◌↔◌, length, List, Option, Some, Result, Err}
 use Rattle.s2_mode.specs.Mode.{Mode}
 use Rattle.s2_bbframe.specs.DataStream.{field_bytes}
 use Rattle.s2_bbframe.specs.declared.header.Header.{Header}
@@ -7,8 +7,9 @@ use Rattle.s2_send.specs.declared.outcome.Counts.{Counts}
 use Rattle.s2_send.specs.declared.outcome.SendFault.{SendFault}
 use Rattle.s2_send.specs.declared.outcome.SendFault.TheVariants.{Read, Write}
 use Rattle.s2_link.specs.Link.{Link, HasShape}
-use Rattle.s2_send.specs.Frames.{IsFrameOf}
-use Rattle.s2_send.specs.Sending.{TransmitterRuns}
+use Rattle.s2_send.specs.Frames.{IsFrameOf, IsUnitOf}
+use Rattle.s2_send.specs.Transmitter.{Transmitter}
+use Rattle.s2_send.specs.Sending.{is_due, TransmitterRuns}
 
 -- the links of a mode, with rows of its shape
 abbrev pub IsLinkOf : Mode → Link → Type 0
@@ -19,6 +20,11 @@ abbrev pub FrameLaw : Mode → Type 0
 FrameLaw m =
     (link : Link) (header : Header) (field a b : List ℕ) → IsLinkOf m link → length field ≤ field_bytes m
     → IsFrameOf link header field a → IsFrameOf link header field b → a ≡ b
+
+-- where a transmitter sends no dummy frames the unit of a header and its data field is their frame
+abbrev pub NoDummiesLaw : Type 0
+NoDummiesLaw =
+    (link : Link) (number : ℕ) (header : Header) (field bytes : List ℕ) → IsUnitOf link (is_due 0 number) header field bytes ↔ IsFrameOf link header field bytes
 
 -- a count of failed reads rose, or as many packets were read as a run takes
 abbrev pub ReadFails : ℕ → ℕ → ℕ → ℕ → Type 0
@@ -31,8 +37,8 @@ NoneFailed result = (result ≢ Err Read) × (result ≢ Err Write)
 -- two runs over the same bytes, in which neither a read nor a write failed, answer the same, and writers that held the same hold the same again
 abbrev pub RunLaw : Mode → Type 0
 RunLaw m =
-    (link : Link) (most : ℕ) (bytes held : List ℕ) (count_a count_b new_a new_b : ℕ) (reader_a reader_b writer_a writer_b : Option (List ℕ)) (a b : Result Counts SendFault)
-    → IsLinkOf m link → NoneFailed a → NoneFailed b
-    → TransmitterRuns link most (ReadFails most count_a new_a) (Some bytes) reader_a (Some held) writer_a a
-    → TransmitterRuns link most (ReadFails most count_b new_b) (Some bytes) reader_b (Some held) writer_b b
+    (t : Transmitter) (bytes held : List ℕ) (count_a count_b new_a new_b : ℕ) (reader_a reader_b writer_a writer_b : Option (List ℕ)) (a b : Result Counts SendFault)
+    → IsLinkOf m t.link → NoneFailed a → NoneFailed b
+    → TransmitterRuns t (ReadFails t.limit count_a new_a) (Some bytes) reader_a (Some held) writer_a a
+    → TransmitterRuns t (ReadFails t.limit count_b new_b) (Some bytes) reader_b (Some held) writer_b b
     → (a ≡ b) × (writer_a ≡ writer_b)

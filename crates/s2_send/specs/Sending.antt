@@ -1,12 +1,13 @@
--- What a run of the transmitter reads and writes (EN 302 307-1, 5.1): the frames of the data fields of the packets' stream.
-use Rattle.std.specs.Prelude.{◌≡◌, ◌≢◌, ℕ, ◌+◌, ◌<◌, ◌≤◌, ◌⊎◌, Bool, true, false, List, [], ◌∷◌, ◌++◌, length, take, All, slice_index, Option, Result, Ok, Err, ⊤}
+-- What a run of the transmitter reads and writes (EN 302 307-1, 5.1): the frames of the data fields of the packets' stream, and dummy frames among them.
+use Rattle.std.specs.Prelude.{◌≡◌, ◌≢◌, ℕ, ◌+◌, ◌<◌, ◌≤◌, ◌⊎◌, ◌%◌, ◌==◌, Bool, true, false, if◌then◌else◌, List, [], ◌∷◌, ◌++◌, length, take, All, slice_index, Option, Result, Ok, Err, ⊤}
 use Rattle.std.specs.List.{flat_map}
 use Rattle.std.specs.Io.KnownBytes.{Consumes, Appends, IsAtEnd}
 use Rattle.s2_mode.specs.Pieces.{AppendsPart}
 use Rattle.s2_bbframe.specs.Limits.{packet_bytes, sync}
 use Rattle.s2_bbframe.specs.DataStream.{IsPacket, stream_of, full_fields, fields_of, header_at, field_bytes, Slicing, Sliced, IsReady, next_field, after_field, after_packet}
 use Rattle.s2_link.specs.Link.{Link}
-use Rattle.s2_send.specs.Frames.{IsFrameOf}
+use Rattle.s2_send.specs.Frames.{IsUnitOf}
+use Rattle.s2_send.specs.Transmitter.{Transmitter}
 use Rattle.s2_send.specs.declared.outcome.Counts.{Counts}
 use Rattle.s2_send.specs.declared.outcome.SendFault.{SendFault}
 use Rattle.s2_send.specs.declared.outcome.SendFault.TheVariants.{NotWholePacket, NoSync, Read, Write}
@@ -15,19 +16,24 @@ use Rattle.s2_send.specs.declared.outcome.SendFault.TheVariants.{NotWholePacket,
 abbrev pub joined : List (List ℕ) → List ℕ
 joined lists = flat_map (λ list. list) lists
 
--- the frames of consecutive data fields, the first of which begins at this byte of the stream
-abbrev pub AreFrames : Link → ℕ → List (List ℕ) → List (List ℕ) → Type 0
-AreFrames link at [] [] = ⊤
-AreFrames link at [] (frame ∷ frames) = ⊥
-AreFrames link at (field ∷ fields) [] = ⊥
-AreFrames link at (field ∷ fields) (frame ∷ frames) =
-    IsFrameOf link (header_at link.setup.roll_off at field) field frame × AreFrames link (at + length field) fields frames
+-- whether a dummy frame is due behind a run's frame of this number, counted from 1: behind every so many, or behind none where that is 0
+abbrev pub is_due : ℕ → ℕ → Bool
+is_due every number = if every == 0 then false else number % every == 0
+
+-- the units of consecutive data fields, the first of which has this number in the run and begins at this byte of the stream
+abbrev pub AreUnits : Transmitter → ℕ → ℕ → List (List ℕ) → List (List ℕ) → Type 0
+AreUnits t number at [] [] = ⊤
+AreUnits t number at [] (unit ∷ units) = ⊥
+AreUnits t number at (field ∷ fields) [] = ⊥
+AreUnits t number at (field ∷ fields) (unit ∷ units) =
+    IsUnitOf t.link (is_due t.dummy_every number) (header_at t.link.setup.roll_off at field) field unit
+    × AreUnits t (number + 1) (at + length field) fields units
 
 -- Where a run that cannot read stopped: within the next packet, or behind as many packets as it takes, where it reads no more.
 abbrev pub StopsReading : ℕ → ℕ → List ℕ → Type 0
 StopsReading most packets rest = ((packets < most) × (length rest < packet_bytes)) ⊎ ((packets ≡ most) × (rest ≡ []))
 
--- By the answer, where a run takes at most so many packets: how many were accepted, what was read behind them, and which data fields have their frames written
+-- By the answer, where a run takes at most so many packets: how many were accepted, what was read behind them, and which data fields have their units written
 -- whole. All of them only where the reader ends behind a whole packet, else those that were full.
 abbrev pub Outcome : ℕ → ℕ → (ℕ → Type 0) → List (List ℕ) → List ℕ → List (List ℕ) → Result Counts SendFault → Type 0
 Outcome most size MayFail packets rest fields (Ok counts) =
@@ -48,39 +54,38 @@ EndsThere (Ok counts) reader_new = IsAtEnd reader_new
 EndsThere (Err NotWholePacket) reader_new = IsAtEnd reader_new
 EndsThere (Err fault) reader_new = ⊤
 
--- The frame of the field behind these could not be written. It is the last full field of the packets' stream, or where the
--- reader has ended the last one of all. Of its frame a part was written, from the first byte on, and not all.
-pub record BreaksOff (link : Link) (reader_new : Option (List ℕ)) (packets fields : List (List ℕ)) (begun : List ℕ) : Type 0 where
+-- The unit of the field behind these could not be written. It is the last full field of the packets' stream, or where the
+-- reader has ended the last one of all. Of its unit a part was written, from the first byte on, and not all.
+pub record BreaksOff (t : Transmitter) (reader_new : Option (List ℕ)) (packets fields : List (List ℕ)) (begun : List ℕ) : Type 0 where
   pub field : List ℕ
-  pub frame : List ℕ
+  pub unit : List ℕ
   pub is_last :
-      (fields ++ field ∷ [] ≡ full_fields (field_bytes link.setup.mode) (stream_of packets))
-      ⊎ ((fields ++ field ∷ [] ≡ fields_of (field_bytes link.setup.mode) (stream_of packets)) × IsAtEnd reader_new)
-  pub is_frame : IsFrameOf link (header_at link.setup.roll_off (length (joined fields)) field) field frame
-  pub is_part : (k : ℕ) × (k < length frame) × (begun ≡ take k frame)
+      (fields ++ field ∷ [] ≡ full_fields (field_bytes t.link.setup.mode) (stream_of packets))
+      ⊎ ((fields ++ field ∷ [] ≡ fields_of (field_bytes t.link.setup.mode) (stream_of packets)) × IsAtEnd reader_new)
+  pub is_unit : IsUnitOf t.link (is_due t.dummy_every (length fields + 1)) (header_at t.link.setup.roll_off (length (joined fields)) field) field unit
+  pub is_part : (k : ℕ) × (k < length unit) × (begun ≡ take k unit)
 
--- Behind the whole frames nothing is written, or where a write failed the beginning of the next one.
-abbrev pub Begins : Link → Option (List ℕ) → List (List ℕ) → List (List ℕ) → List ℕ → Result Counts SendFault → Type 0
-Begins link reader_new packets fields begun (Err Write) = BreaksOff link reader_new packets fields begun
-Begins link reader_new packets fields begun result = begun ≡ []
+-- Behind the whole units nothing is written, or where a write failed the beginning of the next one.
+abbrev pub Begins : Transmitter → Option (List ℕ) → List (List ℕ) → List (List ℕ) → List ℕ → Result Counts SendFault → Type 0
+Begins t reader_new packets fields begun (Err Write) = BreaksOff t reader_new packets fields begun
+Begins t reader_new packets fields begun result = begun ≡ []
 
--- A run accepted these packets, read the rest behind them and no more, and wrote the frames of these data fields, and behind
--- them nothing but the beginning of a frame that failed. It takes at most so many packets, and `MayFail` says of a number of
--- packets that a read may fail behind them.
-pub record TransmitterRuns (link : Link) (most : ℕ) (MayFail : ℕ → Type 0) (reader_old reader_new writer_old writer_new : Option (List ℕ)) (result : Result Counts SendFault) : Type 0 where
+-- A run of a transmitter accepted these packets, read the rest behind them and no more, and wrote the units of these data fields, and
+-- behind them nothing but the beginning of a unit that failed. `MayFail` says of a number of packets that a read may fail behind them.
+pub record TransmitterRuns (t : Transmitter) (MayFail : ℕ → Type 0) (reader_old reader_new writer_old writer_new : Option (List ℕ)) (result : Result Counts SendFault) : Type 0 where
   pub packets : List (List ℕ)
   pub rest : List ℕ
   pub fields : List (List ℕ)
-  pub frames : List (List ℕ)
-  -- what was written behind the frames
+  pub units : List (List ℕ)
+  -- what was written behind the units
   pub begun : List ℕ
   pub each_is_packet : All IsPacket packets
   pub read : Consumes reader_old reader_new (joined packets ++ rest)
   pub ends : EndsThere result reader_new
-  pub outcome : Outcome most (field_bytes link.setup.mode) MayFail packets rest fields result
-  pub are_frames : AreFrames link 0 fields frames
-  pub begins : Begins link reader_new packets fields begun result
-  pub written : Appends writer_old writer_new (joined frames ++ begun)
+  pub outcome : Outcome t.limit (field_bytes t.link.setup.mode) MayFail packets rest fields result
+  pub are_units : AreUnits t 1 0 fields units
+  pub begins : Begins t reader_new packets fields begun result
+  pub written : Appends writer_old writer_new (joined units ++ begun)
 
 -- The next packet was read, the first behind so many, and the slicer has it; or at the reader's end the slicer is closed, and no packet
 -- was there. Where the packet is refused, or a read failed, its bytes were read.
@@ -96,20 +101,20 @@ AcceptsNext behind old new reader_old reader_new (Err (NoSync packet)) =
 AcceptsNext behind old new reader_old reader_new (Err Read) = (rest : List ℕ) × (length rest < packet_bytes) × Consumes reader_old reader_new rest
 AcceptsNext behind old new reader_old reader_new (Err Write) = ⊥
 
--- the frame of the next data field, behind these fields
-abbrev pub IsNextFrame : Link → List (List ℕ) → Slicing → List ℕ → Type 0
-IsNextFrame link fields s frame = IsFrameOf link (header_at link.setup.roll_off (length (joined fields)) (next_field s)) (next_field s) frame
+-- the unit of the next data field, behind these fields
+abbrev pub IsNextUnit : Link → Bool → List (List ℕ) → Slicing → List ℕ → Type 0
+IsNextUnit link due fields s unit = IsUnitOf link due (header_at link.setup.roll_off (length (joined fields)) (next_field s)) (next_field s) unit
 
--- The next data field's frame is written exactly where a field can be taken.
-abbrev pub SendsNext : Link → Slicing → Slicing → Option (List ℕ) → Option (List ℕ) → Bool → Type 0
-SendsNext link old new writer_old writer_new true =
+-- The next data field's unit is written exactly where a field can be taken.
+abbrev pub SendsNext : Link → Bool → Slicing → Slicing → Option (List ℕ) → Option (List ℕ) → Bool → Type 0
+SendsNext link due old new writer_old writer_new true =
     IsReady old × (new ≡ after_field old)
     × ((packets fields : List (List ℕ)) → Sliced packets fields old → Sliced packets (fields ++ next_field old ∷ []) new
-    × ((frame : List ℕ) × IsNextFrame link fields old frame × Appends writer_old writer_new frame))
-SendsNext link old new writer_old writer_new false = (IsReady old → ⊥) × (new ≡ old) × (writer_new ≡ writer_old)
+    × ((unit : List ℕ) × IsNextUnit link due fields old unit × Appends writer_old writer_new unit))
+SendsNext link due old new writer_old writer_new false = (IsReady old → ⊥) × (new ≡ old) × (writer_new ≡ writer_old)
 
--- Where that fails, a field could be taken, and a part of its frame is written.
-abbrev pub FailsToSend : Link → Slicing → Option (List ℕ) → Option (List ℕ) → Type 0
-FailsToSend link old writer_old writer_new =
+-- Where that fails, a field could be taken, and a part of its unit is written.
+abbrev pub FailsToSend : Link → Bool → Slicing → Option (List ℕ) → Option (List ℕ) → Type 0
+FailsToSend link due old writer_old writer_new =
     IsReady old
-    × ((packets fields : List (List ℕ)) → Sliced packets fields old → ((frame : List ℕ) × IsNextFrame link fields old frame × AppendsPart frame writer_old writer_new))
+    × ((packets fields : List (List ℕ)) → Sliced packets fields old → ((unit : List ℕ) × IsNextUnit link due fields old unit × AppendsPart unit writer_old writer_new))

@@ -9,13 +9,18 @@ use Rattle.s2_link.specs.declared.fault.SetupFault.{SetupFault}
 use Rattle.s2_link.specs.declared.fault.SetupFault.TheVariants as faults
 use Rattle.s2_send.specs.Limits.{most_packets}
 
--- a transmitter: its link, and how many packets a run takes at most
+-- a transmitter: its link, how many packets a run takes at most, and behind every how many frames a run sends a dummy frame: 0 for none
 pub record Transmitter : Type 0 where
   pub link : Link
   pub limit : ℕ
+  pub dummy_every : ℕ
+
+-- a new transmitter on a link
+abbrev pub new_transmitter : Link → Transmitter
+new_transmitter link = record { link = link; limit = most_packets; dummy_every = 0 }
 
 -- the answer for a setup and rows: a refusal, or else a transmitter on the link, unless there is no memory
 abbrev pub TransmitterAnswers : Setup → Rows → Result Transmitter SetupFault → Type 0
-TransmitterAnswers setup rows (Ok t) = HasShape setup rows × (setup.number ≤ most_number) × (setup.roll_off ≤ most_roll_off) × (t ≡ record { link = link_of setup rows; limit = most_packets })
+TransmitterAnswers setup rows (Ok t) = HasShape setup rows × (setup.number ≤ most_number) × (setup.roll_off ≤ most_roll_off) × (t ≡ new_transmitter (link_of setup rows))
 TransmitterAnswers setup rows (Err faults.NoMemory) = HasShape setup rows × (setup.number ≤ most_number) × (setup.roll_off ≤ most_roll_off)
 TransmitterAnswers setup rows (Err fault) = RefusesLink setup rows fault

@@ -5,7 +5,7 @@ ghost use Rattle.s2_mode.specs.Counts.{CountsFault};
 ghost use Rattle.s2_mode.specs.Pieces.{AppendsPart};
 ghost use Rattle.s2_bbframe.specs.DataStream.{field_bytes};
 ghost use Rattle.s2_link.specs.Limits.{most_roll_off};
-ghost use Rattle.s2_send.specs.Frames.{IsFrameOf};
+ghost use Rattle.s2_send.specs.Frames.{IsFrameOf, IsUnitOf, dummy_bytes};
 
 use crate::coder::Coder;
 use crate::modulator::Modulator;
@@ -87,5 +87,40 @@ impl<'a> Framer<'a> {
         self.coder.encode(header, field);
         self.modulator.modulate(self.coder.codeword());
         write_full(writer, self.modulator.bytes())
+    }
+
+    /// Writes a dummy frame, or where a write fails a part of it. It takes no memory.
+    pub fn write_dummy<W: CountedWrite>(&self, writer: &mut W) -> Result<(), WriteFault>
+        requires count { W.count writer.old < 2 ^ 64 - 1 }
+        ensures bytes { OnOk result (Appends (W.contents writer.old) (W.contents writer.new) (dummy_bytes self.now.setup.number)) }
+        ensures part { OnErr result (AppendsPart (dummy_bytes self.now.setup.number) (W.contents writer.old) (W.contents writer.new)) }
+        ensures cause { CountsFault (W.count writer.old) (W.count writer.new) result }
+    {
+        write_full(writer, self.modulator.dummy())
+    }
+
+    /// Writes the unit of a header and its data field: their frame, and a dummy frame behind it where one is due; or
+    /// where a write fails a part of it. It takes no memory.
+    pub fn write_unit<W: CountedWrite>(
+        &mut self,
+        header: &Header,
+        field: &[u8],
+        due: bool,
+        writer: &mut W,
+    ) -> Result<(), WriteFault>
+        requires count { W.count writer.old < 2 ^ 64 - 1 }
+        requires roll_off { header.now.roll_off ≤ 3 }
+        requires size { length field.now ≤ field_bytes self.old.setup.mode }
+        ensures unit { (unit : List ℕ) × IsUnitOf self.old due header.now field.now unit
+            × OnOk result (Appends (W.contents writer.old) (W.contents writer.new) unit)
+            × OnErr result (AppendsPart unit (W.contents writer.old) (W.contents writer.new)) }
+        ensures cause { CountsFault (W.count writer.old) (W.count writer.new) result }
+        ensures same { self.new ≡ self.old }
+    {
+        self.write_frame(header, field, writer)?;
+        if due {
+            self.write_dummy(writer)?;
+        }
+        Ok(())
     }
 }

@@ -1,6 +1,6 @@
 //! What the definitions determine: each a call that does nothing, whose clause is the law.
 ghost use Rattle.s2_send.specs.Limits.{LimitsLaw};
-ghost use Rattle.s2_send.specs.Laws.{FrameLaw, RunLaw};
+ghost use Rattle.s2_send.specs.Laws.{FrameLaw, NoDummiesLaw, RunLaw};
 
 use s2_mode::Mode;
 
@@ -12,7 +12,12 @@ pub fn one_frame(mode: Mode)
     let _ = mode.k();
 }
 
-/// Packets, setup and rows determine what a run answers and writes: two runs over the same bytes, in
+/// Where a transmitter sends no dummy frames, what it sends for a header and its data field is their frame.
+pub fn no_dummies()
+    ensures { NoDummiesLaw }
+{}
+
+/// Packets, setup, rows and the number of frames from dummy to dummy determine what a run answers and writes: two runs over the same bytes, in
 /// which neither a read nor a write failed, answer the same and write the same.
 pub fn one_run(mode: Mode)
     ensures { RunLaw mode }

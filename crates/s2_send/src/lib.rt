@@ -7,7 +7,8 @@
 //! frames of the codewords of the BCH words of the scrambled baseband frames of the data stream's fields, in
 //! order. A refusal comes exactly where the packets give cause for it, or a read or a write failed; it leaves
 //! exactly the frames of the full fields of the packets accepted before, and only a failed write may leave fewer
-//! of them, and a part of the next one. [`Transmitter::limit`] lowers how many packets are taken at most.
+//! of them, and a part of the next one. [`Transmitter::limit`] lowers how many packets are taken at most, and with
+//! [`Transmitter::dummy_every`] a dummy frame stands behind every so many frames.
 //!
 //! Its stages can be used by themselves: [`frame_bits_into`] spells a header and its data field as bits,
 //! [`Coder`] makes their codeword, [`Modulator`] the bytes of a codeword's symbols, and [`Framer`] writes the

@@ -6,7 +6,7 @@ ghost use Rattle.s2_send.specs.FaultTexts.{send_fault_text};
 use s2_mode::FaultText;
 use thiserror::Error;
 
-/// How many packets a run accepted, and how many frames it wrote.
+/// How many packets a run accepted, and how many frames it wrote, dummy frames not counted.
 #[derive(Clone, Copy, Debug, PartialEq, Eq)]
 pub struct Counts {
     pub packets: u64,

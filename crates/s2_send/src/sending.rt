@@ -3,7 +3,7 @@ ghost use Rattle.std.specs.Prelude.{◌≡◌, ◌≢◌, ◌+◌, ◌-◌, ◌^
 ghost use Rattle.s2_mode.specs.Counts.{CountsFault};
 ghost use Rattle.s2_bbframe.specs.Limits.{packet_bytes};
 ghost use Rattle.s2_bbframe.specs.DataStream.{field_bytes};
-ghost use Rattle.s2_send.specs.Sending.{TransmitterRuns, AcceptsNext, SendsNext, FailsToSend};
+ghost use Rattle.s2_send.specs.Sending.{TransmitterRuns, AcceptsNext, SendsNext, FailsToSend, is_due};
 
 use crate::framer::Framer;
 use crate::outcome::{Counts, SendFault};
@@ -12,6 +12,21 @@ use s2_mode::{CountedRead, CountedWrite, WriteFault, read_full};
 
 /// How many packets one run accepts at most, unless it is made to accept fewer.
 pub const MOST_PACKETS: u64 = 1 << 32;
+
+/// How a run goes: how many packets it takes at most, and behind every how many frames it writes a dummy frame, 0
+/// for none.
+#[derive(Clone, Copy)]
+pub(crate) struct Plan {
+    pub limit: u64,
+    pub dummy_every: u16,
+}
+
+/// Whether a dummy frame is due behind a run's frame of this number, counted from 1.
+fn is_due(dummy_every: u16, number: u64) -> bool
+    ensures { result ≡ is_due dummy_every number }
+{
+    dummy_every != 0 && number % u64::from(dummy_every) == 0
+}
 
 /// Reads the next packet, the first behind so many, and gives it to the slicer; at the reader's end it closes that.
 /// It says whether a packet was there.
@@ -49,19 +64,20 @@ fn accept_next<R: CountedRead>(
     Ok(true)
 }
 
-/// Writes the next data field's frame where a field can be taken, and says whether it did. Where a
-/// write fails, a part of the frame is written.
+/// Writes the next data field's unit where a field can be taken, its frame and a dummy frame where one is due behind
+/// it, and says whether it did. Where a write fails, a part of the unit is written.
 fn send_ready<W: CountedWrite>(
     framer: &mut Framer<'_>,
     slicer: &mut Slicer,
     field: &mut [u8],
+    due: bool,
     writer: &mut W,
 ) -> Result<bool, WriteFault>
     requires count { W.count writer.old < 2 ^ 64 - 1 }
     requires field { length field.old ≡ slicer.old.size }
     requires size { slicer.old.size ≡ field_bytes framer.old.setup.mode }
-    ensures sends { IfOk result (SendsNext framer.old slicer.old slicer.new (W.contents writer.old) (W.contents writer.new)) }
-    ensures fails { OnErr result (FailsToSend framer.old slicer.old (W.contents writer.old) (W.contents writer.new)) }
+    ensures sends { IfOk result (SendsNext framer.old due slicer.old slicer.new (W.contents writer.old) (W.contents writer.new)) }
+    ensures fails { OnErr result (FailsToSend framer.old due slicer.old (W.contents writer.old) (W.contents writer.new)) }
     ensures cause { CountsFault (W.count writer.old) (W.count writer.new) result }
     ensures same { framer.new ≡ framer.old }
     ensures size { slicer.new.size ≡ slicer.old.size }
@@ -70,16 +86,16 @@ fn send_ready<W: CountedWrite>(
         return Ok(false);
     };
     let bytes = usize::from(header.dfl / 8);
-    framer.write_frame(&header, &field[..bytes], writer)?;
+    framer.write_unit(&header, &field[..bytes], due, writer)?;
     Ok(true)
 }
 
-/// Sends the packets of a reader to its end, at most `limit` of them, as frames of a new stream.
+/// Sends the packets of a reader to its end, as frames of a new stream, by a plan.
 pub(crate) fn send_all<R: CountedRead, W: CountedWrite>(
     framer: &mut Framer<'_>,
     slicer: &mut Slicer,
     field: &mut [u8],
-    limit: u64,
+    plan: Plan,
     reader: &mut R,
     writer: &mut W,
 ) -> Result<Counts, SendFault>
@@ -88,8 +104,8 @@ pub(crate) fn send_all<R: CountedRead, W: CountedWrite>(
     requires field { length field.old ≡ slicer.old.size }
     requires size { slicer.old.size ≡ field_bytes framer.old.setup.mode }
     requires packet { packet_bytes < slicer.old.size }
-    ensures runs { TransmitterRuns framer.old limit
-        (λ packets. (R.count reader.new ≡ R.count reader.old + 1) ⊎ ((R.count reader.new ≡ R.count reader.old) × (packets ≡ limit)))
+    ensures runs { TransmitterRuns (record { link = framer.old; limit = plan.limit; dummy_every = plan.dummy_every })
+        (λ packets. (R.count reader.new ≡ R.count reader.old + 1) ⊎ ((R.count reader.new ≡ R.count reader.old) × (packets ≡ plan.limit)))
         (R.remaining reader.old) (R.remaining reader.new) (W.contents writer.old) (W.contents writer.new) result }
     ensures no_read { result ≢ Err SendFault.Read → R.count reader.new ≡ R.count reader.old }
     ensures write { IsErrOf result SendFault.Write → W.count writer.new ≡ W.count writer.old + 1 }
@@ -100,9 +116,10 @@ pub(crate) fn send_all<R: CountedRead, W: CountedWrite>(
     slicer.restart();
     let mut packets: u64 = 0;
     let mut frames: u64 = 0;
-    'packets: for _accepted in 0..limit {
+    'packets: for _accepted in 0..plan.limit {
         let more = accept_next(slicer, packets, reader)?;
-        let Ok(sent) = send_ready(framer, slicer, field, writer) else {
+        let due = is_due(plan.dummy_every, frames + 1);
+        let Ok(sent) = send_ready(framer, slicer, field, due, writer) else {
             return Err(SendFault::Write);
         };
         frames += u64::from(sent);

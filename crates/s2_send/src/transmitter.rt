@@ -1,12 +1,12 @@
 //! The transmitter: packets in, symbols out.
 ghost use Rattle.std.specs.Prelude.{◌≡◌, ◌≢◌, ◌+◌, ◌-◌, ◌^◌, ◌<◌, ◌≤◌, ◌⊎◌, Err, IfOk, IsErrOf};
 ghost use Rattle.s2_send.specs.Limits.{most_packets};
-ghost use Rattle.s2_send.specs.Transmitter.{TransmitterAnswers};
+ghost use Rattle.s2_send.specs.Transmitter.{TransmitterAnswers, new_transmitter};
 ghost use Rattle.s2_send.specs.Sending.{TransmitterRuns};
 
 use crate::framer::Framer;
 use crate::outcome::{Counts, SendFault};
-use crate::sending::{MOST_PACKETS, send_all};
+use crate::sending::{MOST_PACKETS, Plan, send_all};
 use s2_bbframe::{Slicer, field_bytes};
 use s2_link::{Link, Setup, SetupFault};
 use s2_matrix::Matrix;
@@ -14,13 +14,13 @@ use s2_mode::{CountedRead, CountedWrite};
 use std::alloc::{AllocError, Global};
 use std::marker::Model;
 
-/// Sends packets as frames of symbols. To contracts it is the link that it sends on, and how many packets a
-/// run takes at most.
+/// Sends packets as frames of symbols. To contracts it is the link that it sends on, how many packets a run takes
+/// at most, and behind every how many frames a run sends a dummy frame.
 pub struct Transmitter<'a> {
     framer: Framer<'a>,
     slicer: Slicer,
     field: Vec<u8>,
-    limit: u64,
+    plan: Plan,
 }
 
 impl<'a> Drop for Transmitter<'a> {
@@ -29,7 +29,7 @@ impl<'a> Drop for Transmitter<'a> {
             framer: _,
             slicer: _,
             field: _,
-            limit: _,
+            plan: _,
         } = self;
     }
 }
@@ -42,7 +42,7 @@ impl<'a> Model for Transmitter<'a> {
 
     ghost Value = { TransmitterValue };
 
-    ghost view = { λ t. record { link = t.framer; limit = t.limit } };
+    ghost view = { λ t. record { link = t.framer; limit = t.plan.limit; dummy_every = t.plan.dummy_every } };
 
     ghost invariant = { λ t. (t.slicer.size ≡ field_bytes t.framer.setup.mode) × (length t.field.items ≡ field_bytes t.framer.setup.mode)
         × (packet_bytes < field_bytes t.framer.setup.mode) };
@@ -66,7 +66,7 @@ impl<'a> Transmitter<'a> {
 
     /// A transmitter on a link, with all the memory that it needs. `AllocError` only where memory does not suffice.
     pub fn on_link(alloc: Global, link: &Link<'a>) -> Result<Transmitter<'a>, AllocError>
-        ensures is { IfOk result (λ t. t ≡ record { link = link.now; limit = most_packets }) }
+        ensures is { IfOk result (λ t. t ≡ new_transmitter link.now) }
     {
         let slicer = Slicer::new(alloc, link.mode())?;
         let field = vec![in alloc; 0u8; field_bytes(link.mode())]?;
@@ -75,7 +75,10 @@ impl<'a> Transmitter<'a> {
             framer,
             slicer,
             field,
-            limit: MOST_PACKETS,
+            plan: Plan {
+                limit: MOST_PACKETS,
+                dummy_every: 0,
+            },
         })
     }
 
@@ -84,19 +87,29 @@ impl<'a> Transmitter<'a> {
         requires { (1 ≤ packets) × (packets ≤ most_packets) }
         ensures { self.new ≡ record self.old { limit = packets } }
     {
-        self.limit = packets;
+        self.plan.limit = packets;
+    }
+
+    /// Lets each run write a dummy frame behind every so many frames, the last of the run among them; 0, as in a new
+    /// transmitter, lets it write none. It takes no memory.
+    pub fn dummy_every(&mut self, frames: u16)
+        ensures { self.new ≡ record self.old { dummy_every = frames } }
+    {
+        self.plan.dummy_every = frames;
     }
 
     /// Reads packets of 188 bytes to the reader's end, and writes the frames of their data stream,
     /// which begins anew with each run. It takes no memory, and reads and writes piece by piece: a
     /// packet, and a frame. A packet is accepted where it is whole and begins with 47 hexadecimal, at
-    /// most [`MOST_PACKETS`] of them, or as many as [`Transmitter::limit`] said.
+    /// most [`MOST_PACKETS`] of them, or as many as [`Transmitter::limit`] said. Behind a frame stands a dummy frame
+    /// where [`Transmitter::dummy_every`] said so; `Counts` does not count these.
     ///
     /// After `Ok` the reader is at its end, and the writer has gained exactly the frames of all data
-    /// fields. `NotWholePacket` and `NoSync` tell what the packets lack, and `Read` that a read failed
+    /// fields, with their dummy frames. `NotWholePacket` and `NoSync` tell what the packets lack, and `Read` that a read failed
     /// or that as many packets were accepted as may be, where nothing more is read: then the writer
-    /// has gained exactly the frames of the full data fields of the packets accepted before. After `Write` it has gained the frames
-    /// of the fields before the one whose frame failed, each whole, and of that frame a beginning.
+    /// has gained exactly the frames of the full data fields of the packets accepted before, with their dummy frames.
+    /// After `Write` it has gained the same of the fields before the one whose frame failed, or whose dummy frame, each
+    /// whole, and of that frame and its dummy frame a beginning.
     /// In each case the reader has given the packets that were accepted, then the bytes that were
     /// refused or that came before a failed read, at most 188, and no more.
     pub fn run<R: CountedRead, W: CountedWrite>(
@@ -106,7 +119,7 @@ impl<'a> Transmitter<'a> {
     ) -> Result<Counts, SendFault>
         requires reader { R.count reader.old < 2 ^ 64 - 1 }
         requires writer { W.count writer.old < 2 ^ 64 - 1 }
-        ensures runs { TransmitterRuns self.old.link self.old.limit
+        ensures runs { TransmitterRuns self.old
             (λ packets. (R.count reader.new ≡ R.count reader.old + 1) ⊎ ((R.count reader.new ≡ R.count reader.old) × (packets ≡ self.old.limit)))
             (R.remaining reader.old) (R.remaining reader.new) (W.contents writer.old) (W.contents writer.new) result }
         ensures no_read { result ≢ Err SendFault.Read → R.count reader.new ≡ R.count reader.old }
@@ -118,7 +131,7 @@ impl<'a> Transmitter<'a> {
             &mut self.framer,
             &mut self.slicer,
             &mut self.field,
-            self.limit,
+            self.plan,
             reader,
             writer,
         )

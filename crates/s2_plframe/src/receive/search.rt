@@ -1,13 +1,12 @@
 //! The search for frames.
 ghost use Rattle.std.specs.Prelude.{◌≡◌, ℕ, ◌<◌, ◌%◌, ◌==◌, if◌then◌else◌, [], ◌∷◌, ◌++◌, List, length, map};
 ghost use Rattle.s2_mode.specs.declared.symbols.Symbol.{Symbol};
-ghost use Rattle.s2_mode.specs.Mode.{mode_of};
-ghost use Rattle.s2_plframe.specs.Header.{header_bit, dummy_mode};
+ghost use Rattle.s2_plframe.specs.Header.{header_bit};
 ghost use Rattle.s2_plframe.specs.Search.{decision, found, passes};
 ghost use Rattle.s2_plframe.specs.Inside.{AreHeaders, is_dummy, found_by};
 
 use crate::constants::MOST_WRONG;
-use crate::header::{PlsCode, header_bit, pls_code};
+use crate::header::{dummy_code, header_bit, pls_code};
 use crate::receive::found::Found;
 use crate::receive::registers::{header_number, is_near, mixed, pushed};
 use s2_mode::{HEADER_SYMBOLS, Mode, Symbol};
@@ -63,27 +62,16 @@ struct Headers {
     dummy_both: u128,
 }
 
-/// What the header of a dummy frame says.
-fn dummy(short: bool, pilots: bool) -> PlsCode
-    ensures { mode_of result.modcod result.short result.pilots ≡ dummy_mode short pilots }
-{
-    PlsCode {
-        modcod: 0,
-        short,
-        pilots,
-    }
-}
-
 /// The headers that a search of this mode looks for.
 fn headers_of(mode: Mode) -> Headers
     ensures { AreHeaders mode result.coded result.dummy result.dummy_pilots result.dummy_short result.dummy_both }
 {
     Headers {
         coded: header_number(pls_code(mode)),
-        dummy: header_number(dummy(false, false)),
-        dummy_pilots: header_number(dummy(false, true)),
-        dummy_short: header_number(dummy(true, false)),
-        dummy_both: header_number(dummy(true, true)),
+        dummy: header_number(dummy_code(false, false)),
+        dummy_pilots: header_number(dummy_code(false, true)),
+        dummy_short: header_number(dummy_code(true, false)),
+        dummy_both: header_number(dummy_code(true, true)),
     }
 }
 
