@@ -1,6 +1,7 @@
 //! Headers, frames and the search on known values.
-use s2_mode::{Mode, Symbol};
-use s2_plframe::{Found, Search, frame_into, header_matches, payload_of};
+use super::streams::{dummy_of, sum_of};
+use s2_mode::{DUMMY_SYMBOLS, Mode, Symbol};
+use s2_plframe::{Found, Search, dummy_into, frame_into, header_matches, payload_of};
 use s2_scramble::Gold;
 use std::test::Fail;
 
@@ -115,6 +116,36 @@ fn header_of(code: u64) -> [Symbol; 90] {
         };
     }
     symbols
+}
+
+/// By sums that `bench/gnuradio/dummy.py` gives.
+#[test]
+fn writes_dummy_frames(rt: HostRuntime) -> Result<(), Fail> {
+    let cases = [
+        (0, 12495779038649373961),
+        (5, 4267229403820981437),
+        (262141, 16624717442161119156),
+    ];
+    for (number, sum) in cases {
+        let dummy = dummy_of(rt.alloc(), number)?;
+        assert_eq!(rt; sum_of(&dummy), sum, "number {number}");
+    }
+    Ok(())
+}
+
+/// What a search says of a dummy frame as it is written.
+fn found_of_dummy(rt: &HostRuntime, mode: Mode) -> Result<(Found, usize), Fail> {
+    let gold = Gold::new(rt.alloc(), 0)?;
+    let mut dummy = vec![in rt.alloc(); PILOT; DUMMY_SYMBOLS]?;
+    dummy_into(&gold, &mut dummy);
+    Ok(first_found(mode, &dummy))
+}
+
+#[test]
+fn finds_a_written_dummy_frame(rt: HostRuntime) -> Result<(), Fail> {
+    let mode = Mode::of(4, false, false).ok_or("no mode")?;
+    assert_eq!(rt; found_of_dummy(&rt, mode)?, (Found::Dummy, 90));
+    Ok(())
 }
 
 #[test]

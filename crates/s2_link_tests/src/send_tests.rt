@@ -1,11 +1,12 @@
 //! The transmitter on known streams. The symbols are those of the modulator in plain C.
 use super::streams::{
-    ALL, Sample, Sent, Sides, Source, first_bytes, link_in, link_of, other_link, packet_of_zeros,
-    send, send_packets, sent_by, transmitter_of, two_frames, two_packets,
+    ALL, Sample, Sent, Sides, Source, dummy_of, first_bytes, link_in, link_of, other_link,
+    packet_of, packet_of_zeros, sample_of, send, send_packets, send_with_dummies, sent_by, sum_of,
+    transmitter_of, two_frames, two_packets,
 };
 use s2_bbframe::Header;
 use s2_bits::Bits;
-use s2_mode::{ByOne, Endless, Mode};
+use s2_mode::{ByOne, DUMMY_SYMBOLS, Endless, Mode};
 use s2_modem::{Counts, SendFault, Setup, SetupFault, Transmitter};
 use s2_scramble::bb_xor_in_place;
 use s2_send::frame_bits_into;
@@ -16,14 +17,8 @@ use std::test::Fail;
 /// The bytes of a short frame of QPSK.
 const FRAME: usize = 4 * 8190;
 
-/// A sum of bytes in which each place counts.
-fn sum_of(bytes: &[u8]) -> u64 {
-    let mut sum = 0u64;
-    for byte in bytes {
-        sum = sum.wrapping_mul(31).wrapping_add(u64::from(*byte));
-    }
-    sum
-}
+/// The bytes of a dummy frame.
+const DUMMY: usize = 4 * DUMMY_SYMBOLS;
 
 fn counts(packets: u64, frames: u64) -> Counts {
     Counts { packets, frames }
@@ -183,6 +178,102 @@ fn assert_writes_fail<A: Abort>(rt: &A, alloc: Global, sample: &Sample) -> Resul
 fn each_write_fails_in_turn(rt: HostRuntime) -> Result<(), Fail> {
     let sample = two_frames(rt.alloc())?;
     assert_writes_fail(&rt, rt.alloc(), &sample)
+}
+
+/// Eight packets, which fill four frames, and a fifth in part.
+fn eight_packets() -> [[u8; 188]; 8] {
+    [0, 1, 2, 3, 4, 5, 6, 7].map(packet_of)
+}
+
+/// Frames with a dummy frame behind every so many.
+fn with_dummies(
+    alloc: Global,
+    frames: &[u8],
+    dummy: &[u8],
+    every: u64,
+) -> Result<Vec<u8>, AllocError> {
+    let mut symbols = Vec::new(alloc);
+    let mut number = 0u64;
+    for frame in frames.chunks(FRAME) {
+        symbols.extend_from_slice(frame)?;
+        number = number.saturating_add(1);
+        if every > 0 && number % every == 0 {
+            symbols.extend_from_slice(dummy)?;
+        }
+    }
+    Ok(symbols)
+}
+
+/// Asserts where dummy frames stand among the five frames, and that they are not counted.
+fn assert_dummies<A: Abort>(rt: &A, alloc: Global, sample: &Sample) -> Result<(), Fail> {
+    let packets = eight_packets();
+    let source = Source::Slice(packets.as_flattened());
+    let dummy = dummy_of(alloc, 0)?;
+    assert_eq!(rt; sample.symbols.len(), 5 * FRAME);
+    for (every, dummies) in [
+        (0u16, 0),
+        (1, 5),
+        (2, 2),
+        (3, 1),
+        (5, 1),
+        (6, 0),
+        (65535, 0),
+    ] {
+        let want = with_dummies(alloc, &sample.symbols, &dummy, u64::from(every))?;
+        assert_eq!(rt; want.len(), 5 * FRAME + dummies * DUMMY);
+        let sent = send_with_dummies(alloc, &sample.link, every, source, [ALL, ALL])?;
+        assert_eq!(rt;
+            (sent.answer, sent.failed),
+            (Ok(counts(8, 5)), [0, 0]),
+            "every {every}"
+        );
+        assert!(rt; sent.symbols.as_slice() == want.as_slice(), "every {every}");
+    }
+    Ok(())
+}
+
+#[test]
+fn sends_dummy_frames(rt: HostRuntime) -> Result<(), Fail> {
+    let packets = eight_packets();
+    let sample = sample_of(rt.alloc(), 1, true, packets.as_flattened())?;
+    assert_dummies(&rt, rt.alloc(), &sample)
+}
+
+/// Asserts what comes of the two packets with a dummy frame behind each frame, where so many writes pass, and of these
+/// packets and a part of a third.
+fn assert_dummies_fail<A: Abort>(
+    rt: &A,
+    alloc: Global,
+    sample: &Sample,
+    symbols: &[u8],
+) -> Result<(), Fail> {
+    let packets = two_packets();
+    let source = Source::Slice(packets.as_flattened());
+    let cases = [
+        (0, (Err(SendFault::Write), [0, 1], 0)),
+        (1, (Err(SendFault::Write), [0, 1], FRAME)),
+        (2, (Err(SendFault::Write), [0, 1], FRAME + DUMMY)),
+        (3, (Err(SendFault::Write), [0, 1], 2 * FRAME + DUMMY)),
+        (4, (Ok(counts(2, 2)), [0, 0], 2 * FRAME + 2 * DUMMY)),
+    ];
+    for (at, want) in cases {
+        let sent = send_with_dummies(alloc, &sample.link, 1, source, [ALL, at])?;
+        assert_sent(rt, &sent, symbols, want, at);
+    }
+    let packets = [packet_of(0), packet_of(1), packet_of(2)];
+    let source = Source::Slice(&packets.as_flattened()[..400]);
+    let sent = send_with_dummies(alloc, &sample.link, 1, source, [ALL, ALL])?;
+    let want = (Err(SendFault::NotWholePacket), [0, 0], FRAME + DUMMY);
+    assert_sent(rt, &sent, symbols, want, ALL);
+    Ok(())
+}
+
+#[test]
+fn each_write_fails_in_turn_with_dummy_frames(rt: HostRuntime) -> Result<(), Fail> {
+    let sample = two_frames(rt.alloc())?;
+    let dummy = dummy_of(rt.alloc(), 0)?;
+    let symbols = with_dummies(rt.alloc(), &sample.symbols, &dummy, 1)?;
+    assert_dummies_fail(&rt, rt.alloc(), &sample, &symbols)
 }
 
 /// Asserts that a transmitter stops at a limit of three packets.

@@ -10,11 +10,13 @@ use s2_bits::Bits;
 use s2_link::Link;
 use s2_matrix::Matrix;
 use s2_mode::{
-    ByOne, Counted, Counting, Endless, FailAt, MOST_SYMBOLS, Mode, Shape, StreamFault, WriteFault,
+    ByOne, Counted, Counting, DUMMY_SYMBOLS, Endless, FailAt, MOST_SYMBOLS, Mode, Shape,
+    StreamFault, Symbol, WriteFault, bytes_into,
 };
 use s2_modem::{
     Counts, DemodFault, Receiver, SendFault, Setup, SetupFault, Transmitter, demodulate,
 };
+use s2_plframe::dummy_into;
 use s2_receive::{Fault, Received, Step, Totals};
 use s2_rows::make_rows;
 use s2_scramble::Gold;
@@ -215,6 +217,48 @@ pub(crate) fn send(
         }
         Err(fault) => Err(fault),
     }
+}
+
+/// Lets a transmitter send a dummy frame behind every so many frames.
+fn dummy_every(transmitter: &mut Transmitter<'_>, frames: u16) {
+    transmitter.dummy_every(frames);
+}
+
+/// What is sent on a link of what is read, with a dummy frame behind every so many frames, where so many reads and so
+/// many writes pass.
+pub(crate) fn send_with_dummies(
+    alloc: Global,
+    link: &Sides,
+    frames: u16,
+    source: Source<'_>,
+    passes: [u64; 2],
+) -> Result<Sent, SetupFault> {
+    match transmitter_of(alloc, link) {
+        Ok(mut transmitter) => {
+            dummy_every(&mut transmitter, frames);
+            Ok(sent_by(alloc, &mut transmitter, source, passes))
+        }
+        Err(fault) => Err(fault),
+    }
+}
+
+/// The bytes of a dummy frame under a scrambling number.
+pub(crate) fn dummy_of(alloc: Global, number: u32) -> Result<Vec<u8>, Fail> {
+    let gold = Gold::new(alloc, number)?;
+    let mut symbols = vec![in alloc; Symbol { i: 0, q: 0 }; DUMMY_SYMBOLS]?;
+    dummy_into(&gold, &mut symbols);
+    let mut bytes = vec![in alloc; 0u8; 4 * DUMMY_SYMBOLS]?;
+    bytes_into(&symbols, &mut bytes);
+    Ok(bytes)
+}
+
+/// A sum of bytes in which each place counts.
+pub(crate) fn sum_of(bytes: &[u8]) -> u64 {
+    let mut sum = 0u64;
+    for byte in bytes {
+        sum = sum.wrapping_mul(31).wrapping_add(u64::from(*byte));
+    }
+    sum
 }
 
 /// What is sent of packets on a link.

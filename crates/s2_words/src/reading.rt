@@ -67,6 +67,7 @@ fn check_of<'a>(m: &ArgMatches<'a>) -> Option<Request<'a>> {
 fn mod_of<'a>(m: &ArgMatches<'a>) -> Option<Request<'a>> {
     Some(Request::Mod(ModWords {
         link: link_of(m)?,
+        dummy: m.get_one::<u16>("dummy")?,
         rows: m.get_str("ROWS")?,
         packets: m.get_str("PACKETS")?,
         symbols: m.get_str("SYMBOLS")?,
@@ -94,6 +95,7 @@ fn demod_of<'a>(m: &ArgMatches<'a>) -> Option<Request<'a>> {
 fn run_of<'a>(m: &ArgMatches<'a>) -> Option<Request<'a>> {
     Some(Request::Run(RunWords {
         link: link_of(m)?,
+        dummy: m.get_one::<u16>("dummy")?,
         tuning: tuning_of(m)?,
         channel: channel_of(m)?,
         rows: m.get_str("ROWS")?,

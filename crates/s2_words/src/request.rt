@@ -52,10 +52,11 @@ pub struct CheckWords<'a> {
     pub certificate: &'a str,
 }
 
-/// `mod`: a link, and the files.
+/// `mod`: a link, behind every how many frames a dummy frame stands (0 for none), and the files.
 #[derive(Clone, Copy, PartialEq, Eq)]
 pub struct ModWords<'a> {
     pub link: LinkWords,
+    pub dummy: u16,
     pub rows: &'a str,
     pub packets: &'a str,
     pub symbols: &'a str,
@@ -79,10 +80,12 @@ pub struct DemodWords<'a> {
     pub packets: &'a str,
 }
 
-/// `run`: a link, how much is tried, a channel, and the files.
+/// `run`: a link, behind every how many frames a dummy frame stands (0 for none), how much is tried, a channel, and
+/// the files.
 #[derive(Clone, Copy, PartialEq, Eq)]
 pub struct RunWords<'a> {
     pub link: LinkWords,
+    pub dummy: u16,
     pub tuning: Tuning,
     pub channel: ChannelWords,
     pub rows: &'a str,

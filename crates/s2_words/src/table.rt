@@ -131,6 +131,16 @@ const ROLL_OFF: Word = Word {
     help: "Roll-off that headers tell: 0 is 0.35, 1 is 0.25, 2 is 0.20",
 };
 
+const DUMMY: Word = Word {
+    name: "dummy",
+    form: Form::Number {
+        value: "D",
+        range: ValueParser::Signed(0, u16::MAX as i64),
+        default: Some("0"),
+    },
+    help: "A dummy frame behind every D-th frame, 0 to 65535: 0 for none",
+};
+
 const ROUNDS: Word = Word {
     name: "rounds",
     form: Form::Number {
@@ -230,6 +240,7 @@ pub(crate) static COMMANDS: [Entry; 7] = [
             PILOTS,
             NUMBER,
             ROLL_OFF,
+            DUMMY,
             ROWS,
             PACKETS,
             file!("SYMBOLS", "File for the symbols, four bytes each"),
@@ -273,6 +284,7 @@ pub(crate) static COMMANDS: [Entry; 7] = [
             PILOTS,
             NUMBER,
             ROLL_OFF,
+            DUMMY,
             ROUNDS,
             PASSES,
             SEED,
