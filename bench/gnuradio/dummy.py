@@ -55,16 +55,21 @@ def quarter_turns(number, count):
     return [2 * z[(place + 131072) % period] + z[place] for place in range(count)]
 
 
-def dummy_frame(number):
-    """5.5.1: the header with MODCOD 0, here with TYPE 0, and 36 slots of the carrier."""
+def dummy_frame(number, frame_type=0):
+    """5.5.1: the header with MODCOD 0, and 36 slots of the carrier."""
     carrier = 36 * 90 * [complex(1, 1)]
     turns = quarter_turns(number, len(carrier))
-    return bpsk(header(0, 0)) + [symbol * 1j**turn for symbol, turn in zip(carrier, turns)]
+    return bpsk(header(0, frame_type)) + [symbol * 1j**turn for symbol, turn in zip(carrier, turns)]
+
+
+def in_file(frame):
+    """The bytes of symbols in a symbol file, amplitude 700."""
+    return b"".join(struct.pack(">hh", 700 * round(symbol.real), 700 * round(symbol.imag)) for symbol in frame)
 
 
 def main(number, path=None):
-    symbols = [(700 * round(symbol.real), 700 * round(symbol.imag)) for symbol in dummy_frame(int(number))]
-    data = b"".join(struct.pack(">hh", *symbol) for symbol in symbols)
+    data = in_file(dummy_frame(int(number)))
+    symbols = list(struct.iter_unpack(">hh", data))
     total = 0
     for byte in data:
         total = (31 * total + byte) % 2**64
@@ -77,4 +82,5 @@ def main(number, path=None):
             file.write(data)
 
 
-main(*sys.argv[1:])
+if __name__ == "__main__":
+    main(*sys.argv[1:])

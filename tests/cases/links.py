@@ -128,6 +128,29 @@ RUN = [
 ]
 
 
+def among(two, dummies):
+    """The cases of dummy frames among the two packets' frames, by another program's dummy frames, one of each TYPE."""
+    one, other, dummy = two[:32_760], two[32_760:], dummies[0]
+    line, end = "frame {} at {} most-likely fixed 0\n", "end frames 2 delivered 2 packets {} bad 0\n"
+    later = TWO.replace("8190", "11520")
+    behind_all = line.format(1, 4 * 3330) + line.format(2, 8 * 3330 + 8190) + end.format(2)
+    sent_so = [(1, one + dummy + other + dummy), (2, two + dummy), (3, two), (65_535, two)]
+    return [
+        *(sent(2 * PACKET, "packets 2 frames 2\n", symbols, f"{LINK} --dummy {every} made") for every, symbols in sent_so),
+        fault(f"mod {LINK} --dummy 1 made in out", f"{NO_SYNC} 3", reads={"in": 2 * PACKET + bytes(188)}, writes={"out": one + dummy}),
+        *(received(one + each + other + each, 0, later, 2 * PACKET) for each in dummies),
+        # the last one lacks symbols
+        *(received(one + each + other + each[:400], 0, later, 2 * PACKET) for each in dummies),
+        received(b"".join(dummies) + one + b"".join(dummies) + other, 0, behind_all, 2 * PACKET),
+        # a symbol before a dummy frame is passed over, so that the packet that the next frame ends is lost
+        received(one + bytes(4) + dummy + other, 0, ONE + line.format(2, 11_521) + end.format(1), PACKET),
+        *(received(symbols, 0, NONE, b"") for symbols in (dummy, 100 * dummy, dummy[:400], b"".join(dummies))),
+        run(f"{LINK} --dummy 1 --seed 1 --level 0 made", 0, later, 2 * PACKET),
+        run(f"{LINK} --dummy 2 --seed 1 --level 0 made", 0, TWO, 2 * PACKET),
+        run(f"{LINK} --dummy 3 --seed 1 --level 100 made", 0, ending("end frames 4 delivered 4 packets 6 bad 0\n"), 6 * PACKET, 6 * PACKET),
+    ]
+
+
 def heard(words, symbols, code, end, packets):
     return Case(f"demod {words} made in out", code, ending(end), reads={"in": symbols}, writes={"out": packets})
 

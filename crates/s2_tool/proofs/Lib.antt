@@ -1,6 +1,5 @@
 pub mod AnswerLemmas
 pub mod LinkLemmas
 pub mod SendLemmas
-pub mod ReceiveLemmas
 pub mod LoopLemmas
 pub mod ServeLemmas

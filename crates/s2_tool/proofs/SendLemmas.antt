@@ -17,19 +17,19 @@ outcome most F G size packets rest fields (Err refusals.Read) f (may, stops, ful
 outcome most F G size packets rest fields (Err refusals.Write) f h = h
 
 runs_still : (t : Transmitter) (F G : ℕ → Type 0) (a b c d : Option (List ℕ)) (answer : Result Counts SendFault)
-    → ((n : ℕ) → F n → G n) → TransmitterRuns t.link t.limit F a b c d answer → TransmitterRuns t.link t.limit G a b c d answer
+    → ((n : ℕ) → F n → G n) → TransmitterRuns t F a b c d answer → TransmitterRuns t G a b c d answer
 runs_still t F G a b c d answer f r =
     record {
       packets = r.packets;
       rest = r.rest;
       fields = r.fields;
-      frames = r.frames;
+      units = r.units;
       begun = r.begun;
       each_is_packet = r.each_is_packet;
       read = r.read;
       ends = r.ends;
       outcome = outcome t.limit F G _ r.packets r.rest r.fields answer f r.outcome;
-      are_frames = r.are_frames;
+      are_units = r.are_units;
       begins = r.begins;
       written = r.written;
     }
@@ -41,7 +41,7 @@ fails most rows before after old new n p q (inr (kept, all)) = inr (omega arith,
 
 -- it is the same where failed reads of rows were counted before
 pub runs : (t : Transmitter) (rows before after old new : ℕ) (a b c d : Option (List ℕ)) (answer : Result Counts SendFault) → old ≡ rows + before → new ≡ rows + after
-    → TransmitterRuns t.link t.limit (λ packets. (after ≡ before + 1) ⊎ ((after ≡ before) × (packets ≡ t.limit))) a b c d answer
-    → TransmitterRuns t.link t.limit (λ packets. (new ≡ old + 1) ⊎ ((new ≡ old) × (packets ≡ t.limit))) a b c d answer
+    → TransmitterRuns t (λ packets. (after ≡ before + 1) ⊎ ((after ≡ before) × (packets ≡ t.limit))) a b c d answer
+    → TransmitterRuns t (λ packets. (new ≡ old + 1) ⊎ ((new ≡ old) × (packets ≡ t.limit))) a b c d answer
 runs t rows before after old new a b c d answer p q h =
     runs_still t _ _ _ _ _ _ answer (λ n may. fails t.limit rows before after old new n p q may) h

@@ -1,7 +1,5 @@
 -- What is reported of a request.
 use Rattle.std.proofs.Common.{◌≡◌, ℕ, List, Option, None, Result, Ok, Err, ◌∙◌, sym, subst, refl}
-use Rattle.std.specs.Prelude.{IfOk}
-use Rattle.s2_mode.specs.Streams.{Streams}
 use Rattle.s2_link.specs.declared.setup.Setup.{Setup}
 use Rattle.s2_console.specs.declared.exit.Exit.{Exit}
 use Rattle.s2_console.specs.declared.fault.Fault.{Fault}
@@ -9,24 +7,10 @@ use Rattle.s2_console.specs.Screens.{Screen}
 use Rattle.s2_words.specs.declared.request.Request.{Request}
 use Rattle.s2_words.specs.declared.request.Request.TheVariants as requests
 use Rattle.s2_words.specs.declared.request.RunWords.{RunWords}
-use Rattle.s2_tool.specs.Links.{Deed, OnLink}
+use Rattle.s2_tool.specs.Links.{Deed}
 use Rattle.s2_tool.specs.Serving.{Reports, Began, Served}
 
--- by a command on a setup
-pub reports : (Does : Deed) (setup setup' : Setup) (known : Option (List ℕ)) (old new : Streams) (ended : Result Exit Fault) → setup ≡ setup' → OnLink Does setup known old new ended → Reports Does setup' ended old.out new.out
-reports Does setup setup' known old new ended same h =
-    let P : Setup → Type 0 = λ s. IfOk h.link (λ l. l.setup ≡ s) in
-    record {
-      link = h.link;
-      before = old;
-      behind = new;
-      setup_kept = subst P same h.setup_kept;
-      does = h.does;
-      out = refl;
-      out_new = refl;
-    }
-
--- by one that could not be begun
+-- of a command that could not be begun
 pub unbegun : (Does : Deed) (setup : Setup) (f : Fault) (out : Option (List ℕ)) → Reports Does setup (Err f) out out
 unbegun Does setup f out =
     record {

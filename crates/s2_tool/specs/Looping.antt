@@ -2,7 +2,6 @@
 use Rattle.std.specs.Prelude.{◌≡◌, ℕ, List, [], Option, Some, Result, Ok, Err}
 use Rattle.s2_mode.specs.Limits.{most_symbols}
 use Rattle.s2_mode.specs.Streams.{Streams}
-use Rattle.s2_link.specs.Tuning.{Tuning}
 use Rattle.s2_link.specs.declared.setup.Setup.{Setup}
 use Rattle.s2_send.specs.Transmitter.{Transmitter}
 use Rattle.s2_send.specs.declared.outcome.Counts.{Counts}
@@ -13,6 +12,7 @@ use Rattle.s2_console.specs.declared.exit.Exit.{Exit}
 use Rattle.s2_console.specs.declared.fault.Fault.{Fault}
 use Rattle.s2_console.specs.declared.fault.Fault.TheVariants as faults
 use Rattle.s2_words.specs.declared.request.ChannelWords.{ChannelWords}
+use Rattle.s2_words.specs.declared.request.RunWords.{RunWords}
 use Rattle.s2_tool.specs.Links.{Deed, OnLink}
 use Rattle.s2_tool.specs.Sending.{Runs, transmitter_on, refusal_fault}
 use Rattle.s2_tool.specs.Spoiling.{piped, Spoils}
@@ -54,10 +54,10 @@ LoopsBy t rules channel old new ended =
     (answer : Result Counts SendFault) × (symbols : List ℕ)
     × Runs t (record old { given = Some [] }) (record new { given = Some symbols }) answer × PassesAll rules channel symbols answer old new ended
 
--- `run` on a link
-abbrev pub Loops : Tuning → ChannelWords → Deed
-Loops tuning channel link old new ended = LoopsBy (transmitter_on link) (link_rules link tuning most_symbols) channel old new ended
+-- `run` on a link, with the dummy frames, the tuning and the channel of its words
+abbrev pub Loops : RunWords → Deed
+Loops words link old new ended = LoopsBy (transmitter_on link words.dummy) (link_rules link words.tuning most_symbols) words.channel old new ended
 
--- `run` on a setup, a tuning, a channel and a row file
-abbrev pub LoopsBack : Setup → Tuning → ChannelWords → Option (List ℕ) → Streams → Streams → Result Exit Fault → Type 0
-LoopsBack setup tuning channel rows old new ended = OnLink (Loops tuning channel) setup rows old new ended
+-- `run` on a setup, these words and a row file
+abbrev pub LoopsBack : Setup → RunWords → Option (List ℕ) → Streams → Streams → Result Exit Fault → Type 0
+LoopsBack setup words rows old new ended = OnLink (Loops words) setup rows old new ended

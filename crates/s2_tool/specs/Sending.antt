@@ -4,9 +4,8 @@ use Rattle.s2_mode.specs.Streams.{Streams}
 use Rattle.s2_link.specs.Link.{Link}
 use Rattle.s2_link.specs.declared.setup.Setup.{Setup}
 use Rattle.s2_send.specs.FaultTexts.{send_fault_text}
-use Rattle.s2_send.specs.Limits.{most_packets}
 use Rattle.s2_send.specs.Sending.{TransmitterRuns}
-use Rattle.s2_send.specs.Transmitter.{Transmitter}
+use Rattle.s2_send.specs.Transmitter.{Transmitter, new_transmitter}
 use Rattle.s2_send.specs.declared.outcome.Counts.{Counts}
 use Rattle.s2_send.specs.declared.outcome.SendFault.{SendFault}
 use Rattle.s2_send.specs.declared.outcome.SendFault.TheVariants as refusals
@@ -36,20 +35,20 @@ MayFail most old new packets = (new.reads ≡ old.reads + 1) ⊎ ((new.reads ≡
 
 -- a transmitter runs, and answers this
 abbrev pub Runs : Transmitter → Streams → Streams → Result Counts SendFault → Type 0
-Runs t old new answer = TransmitterRuns t.link t.limit (MayFail t.limit old new) old.taken new.taken old.given new.given answer
+Runs t old new answer = TransmitterRuns t (MayFail t.limit old new) old.taken new.taken old.given new.given answer
 
 -- a transmitter runs, and its answer is told
 abbrev pub SendsBy : Transmitter → Streams → Streams → Result Exit Fault → Type 0
 SendsBy t old new ended = (answer : Result Counts SendFault) × Runs t old new answer × Tells answer ended old.out new.out
 
--- a new transmitter on a link
-abbrev pub transmitter_on : Link → Transmitter
-transmitter_on link = record { link = link; limit = most_packets }
+-- a new transmitter on a link, which sends a dummy frame behind every so many frames
+abbrev pub transmitter_on : Link → ℕ → Transmitter
+transmitter_on link dummy = record (new_transmitter link) { dummy_every = dummy }
 
--- `mod` on a link
-abbrev pub Sends : Deed
-Sends link old new ended = SendsBy (transmitter_on link) old new ended
+-- `mod` on a link, with dummy frames
+abbrev pub Sends : ℕ → Deed
+Sends dummy link old new ended = SendsBy (transmitter_on link dummy) old new ended
 
--- `mod` on a setup and a row file
-abbrev pub Modulates : Setup → Option (List ℕ) → Streams → Streams → Result Exit Fault → Type 0
-Modulates setup rows old new ended = OnLink Sends setup rows old new ended
+-- `mod` on a setup, with dummy frames, and a row file
+abbrev pub Modulates : Setup → ℕ → Option (List ℕ) → Streams → Streams → Result Exit Fault → Type 0
+Modulates setup dummy rows old new ended = OnLink (Sends dummy) setup rows old new ended

@@ -74,10 +74,10 @@ Serves requests.Own input ended old new = CommandRuns (IsJudged (tuning_of defau
 Serves (requests.Rows words) input ended old new = CommandRuns IsRowFile (AreAskedRows words) ended old new
 Serves (requests.Judge words) input ended old new = CommandRuns (IsJudged words.tuning) Anything ended old new
 Serves (requests.Check words) input ended old new = CommandRuns IsAnswered Anything ended old new
-Serves (requests.Mod words) input ended old new = Reports Sends (asked_setup words.link) ended old new
+Serves (requests.Mod words) input ended old new = Reports (Sends words.dummy) (asked_setup words.link) ended old new
 Serves (requests.Noise words) input ended old new = new ≡ old
 Serves (requests.Demod words) input ended old new = Reports (Hears words.tuning) (asked_setup words.link) ended old new
-Serves (requests.Run words) input ended old new = Reports (Loops words.tuning words.channel) (asked_setup words.link) ended old new
+Serves (requests.Run words) input ended old new = Reports (Loops words) (asked_setup words.link) ended old new
 
 -- a request was served with this exit: how it ended decides the exit, the output and the errors
 pub record Served (request : Request) (input : Option (List ℕ)) (exit : Exit) (old new : Screen) : Type 0 where

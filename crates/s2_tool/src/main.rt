@@ -74,7 +74,7 @@ fn answer<
     ensures untouched { IsErr asked.entry → input.new ≡ input.old }
 {
     match asked {
-        Ok(request) => serve(rt, request, input, console),
+        Ok(request) => serve(rt, &request, input, console),
         Err(error) if error.kind() == ErrorKind::OutOfMemory => console.complain(Fault::NoMemory),
         Err(error) => explain(rt, &error),
     }

@@ -57,21 +57,25 @@ fn send_packets<R: CountedRead, S: CountedRead, W: CountedWrite, O: CountedWrite
     }
 }
 
-/// Sends packets on a link.
+/// Sends packets on a link, with a dummy frame behind every so many frames.
 fn send_link<R: CountedRead, S: CountedRead, W: CountedWrite, O: CountedWrite>(
     alloc: Global,
     link: &Link<'_>,
+    dummy: u16,
     files: &mut LinkFiles<R, S, W>,
     out: &mut O,
 ) -> Result<Exit, Fault<'static>>
     requires files { CanFail files.old }
     requires out { CanCount (O.count out.old) }
     ensures whole { IsOk result → O.count out.new ≡ O.count out.old }
-    ensures sends { Tries Sends link.now (streams_with files.old (O.contents out.old) (O.count out.old)) (streams_with files.new (O.contents out.new) (O.count out.new)) result }
+    ensures sends { Tries (Sends dummy) link.now (streams_with files.old (O.contents out.old) (O.count out.old)) (streams_with files.new (O.contents out.new) (O.count out.new)) result }
     ensures causes { Causes (streams_with files.old (O.contents out.old) (O.count out.old)) (streams_with files.new (O.contents out.new) (O.count out.new)) result }
 {
     match Transmitter::on_link(alloc, link) {
-        Ok(mut transmitter) => send_packets(&mut transmitter, files, out),
+        Ok(mut transmitter) => {
+            transmitter.dummy_every(dummy);
+            send_packets(&mut transmitter, files, out)
+        }
         Err(_) => Err(Fault::NoMemory),
     }
 }
@@ -80,20 +84,22 @@ fn send_link<R: CountedRead, S: CountedRead, W: CountedWrite, O: CountedWrite>(
 fn send_files<R: CountedRead, S: CountedRead, W: CountedWrite, O: CountedWrite>(
     alloc: Global,
     setup: LinkSetup,
+    dummy: u16,
     files: &mut LinkFiles<R, S, W>,
     out: &mut O,
 ) -> Result<Exit, Fault<'static>>
     requires files { CanFail files.old }
     requires out { CanCount (O.count out.old) }
     ensures whole { IsOk result → O.count out.new ≡ O.count out.old }
-    ensures run { Modulates (setup_of setup) files.old.rows (streams_with files.old (O.contents out.old) (O.count out.old)) (streams_with files.new (O.contents out.new) (O.count out.new)) result }
+    ensures run { Modulates (setup_of setup) dummy files.old.rows (streams_with files.old (O.contents out.old) (O.count out.old)) (streams_with files.new (O.contents out.new) (O.count out.new)) result }
 {
     let matrix = read_matrix(alloc, &mut files.rows, setup.mode.shape())?;
-    send_link(alloc, &Link::of(setup, &matrix), files, out)
+    send_link(alloc, &Link::of(setup, &matrix), dummy, files, out)
 }
 
-/// `mod`: sends the packets of a stream on the link of a setup and a row file, and prints how many
-/// packets were taken and how many frames written.
+/// `mod`: sends the packets of a stream on the link of a setup and a row file, with a dummy frame behind every
+/// `dummy` frames (0: none), and prints how many packets were taken and how many frames written, dummy frames
+/// not counted.
 pub fn mod_command<
     R: CountedRead,
     S: CountedRead,
@@ -103,6 +109,7 @@ pub fn mod_command<
 >(
     alloc: Global,
     setup: LinkSetup,
+    dummy: u16,
     files: &mut LinkFiles<R, S, W>,
     console: &mut Console<O, E>,
 ) -> Exit
@@ -111,9 +118,9 @@ pub fn mod_command<
     ensures quiet { result ≢ Exit.Fault → console.new.errors_failed ≡ console.old.errors_failed }
     ensures whole { result ≢ Exit.Fault → console.new.output_failed ≡ console.old.output_failed }
     ensures run { (ended : Result Exit Fault) × (result ≡ exit_of ended)
-        × Modulates (setup_of setup) files.old.rows (streams_of files.old console.old) (streams_of files.new console.new) ended
+        × Modulates (setup_of setup) dummy files.old.rows (streams_of files.old console.old) (streams_of files.new console.new) ended
         × Complains ended console.old console.new }
 {
-    let ended = send_files(alloc, setup, files, &mut console.output);
+    let ended = send_files(alloc, setup, dummy, files, &mut console.output);
     console.conclude(ended)
 }

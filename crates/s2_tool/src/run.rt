@@ -15,11 +15,11 @@ use crate::modulate::fault_of;
 use crate::noise::spoil;
 use s2_console::{Console, Exit, Fault};
 use s2_evidence::read_matrix;
-use s2_link::{Link, LinkSetup, Tuning};
+use s2_link::{Link, LinkSetup};
 use s2_mode::{CountedRead, CountedWrite, Counting, InMemory};
 use s2_modem::Receiver;
 use s2_send::Transmitter;
-use s2_words::ChannelWords;
+use s2_words::{ChannelWords, RunWords};
 use std::alloc::Global;
 
 /// The fault where what is written is kept in memory.
@@ -92,30 +92,30 @@ fn loop_packets<R: CountedRead, S: CountedRead, W: CountedWrite, O: CountedWrite
     }
 }
 
-/// Sends packets on a link, and receives what comes.
+/// Sends packets on a link as words say, and receives what comes.
 fn loop_link<R: CountedRead, S: CountedRead, W: CountedWrite, O: CountedWrite>(
     alloc: Global,
     link: &Link<'_>,
-    tuning: Tuning,
-    channel: ChannelWords,
+    words: &RunWords<'_>,
     files: &mut LinkFiles<R, S, W>,
     out: &mut O,
 ) -> Result<Exit, Fault<'static>>
     requires files { CanFail files.old }
     requires out { CanCount (O.count out.old) }
     ensures whole { IsOk result → O.count out.new ≡ O.count out.old }
-    ensures loops { Tries (Loops tuning channel) link.now (streams_with files.old (O.contents out.old) (O.count out.old)) (streams_with files.new (O.contents out.new) (O.count out.new)) result }
+    ensures loops { Tries (Loops words.now) link.now (streams_with files.old (O.contents out.old) (O.count out.old)) (streams_with files.new (O.contents out.new) (O.count out.new)) result }
     ensures causes { Causes (streams_with files.old (O.contents out.old) (O.count out.old)) (streams_with files.new (O.contents out.new) (O.count out.new)) result }
 {
     let Ok(mut transmitter) = Transmitter::on_link(alloc, link) else {
         return Err(Fault::NoMemory);
     };
-    match Receiver::on_link(alloc, link, tuning) {
+    transmitter.dummy_every(words.dummy);
+    match Receiver::on_link(alloc, link, words.tuning) {
         Ok(mut receiver) => loop_packets(
             alloc,
             &mut transmitter,
             &mut receiver,
-            channel,
+            words.channel,
             files,
             out,
         ),
@@ -127,22 +127,21 @@ fn loop_link<R: CountedRead, S: CountedRead, W: CountedWrite, O: CountedWrite>(
 fn loop_files<R: CountedRead, S: CountedRead, W: CountedWrite, O: CountedWrite>(
     alloc: Global,
     setup: LinkSetup,
-    tuning: Tuning,
-    channel: ChannelWords,
+    words: &RunWords<'_>,
     files: &mut LinkFiles<R, S, W>,
     out: &mut O,
 ) -> Result<Exit, Fault<'static>>
     requires files { CanFail files.old }
     requires out { CanCount (O.count out.old) }
     ensures whole { IsOk result → O.count out.new ≡ O.count out.old }
-    ensures run { LoopsBack (setup_of setup) tuning channel files.old.rows (streams_with files.old (O.contents out.old) (O.count out.old)) (streams_with files.new (O.contents out.new) (O.count out.new)) result }
+    ensures run { LoopsBack (setup_of setup) words.now files.old.rows (streams_with files.old (O.contents out.old) (O.count out.old)) (streams_with files.new (O.contents out.new) (O.count out.new)) result }
 {
     let matrix = read_matrix(alloc, &mut files.rows, setup.mode.shape())?;
-    loop_link(alloc, &Link::of(setup, &matrix), tuning, channel, files, out)
+    loop_link(alloc, &Link::of(setup, &matrix), words, files, out)
 }
 
-/// `run`: sends the packets of a stream on the link of a setup and a row file, adds the noise of a seed and
-/// a level to their symbols, and receives these: it prints the report of `demod`, and writes the packets
+/// `run`: sends the packets of a stream on the link of a setup and a row file, with the dummy frames that its words
+/// ask for, adds the noise of a seed and a level to their symbols, and receives these: it prints the report of `demod`, and writes the packets
 /// that come out. The symbols are kept in memory. Where a packet is refused nothing is printed or written.
 pub fn run_command<
     R: CountedRead,
@@ -153,8 +152,7 @@ pub fn run_command<
 >(
     alloc: Global,
     setup: LinkSetup,
-    tuning: Tuning,
-    channel: ChannelWords,
+    words: &RunWords<'_>,
     files: &mut LinkFiles<R, S, W>,
     console: &mut Console<O, E>,
 ) -> Exit
@@ -163,9 +161,9 @@ pub fn run_command<
     ensures quiet { result ≢ Exit.Fault → console.new.errors_failed ≡ console.old.errors_failed }
     ensures whole { result ≢ Exit.Fault → console.new.output_failed ≡ console.old.output_failed }
     ensures run { (ended : Result Exit Fault) × (result ≡ exit_of ended)
-        × LoopsBack (setup_of setup) tuning channel files.old.rows (streams_of files.old console.old) (streams_of files.new console.new) ended
+        × LoopsBack (setup_of setup) words.now files.old.rows (streams_of files.old console.old) (streams_of files.new console.new) ended
         × Complains ended console.old console.new }
 {
-    let ended = loop_files(alloc, setup, tuning, channel, files, &mut console.output);
+    let ended = loop_files(alloc, setup, words, files, &mut console.output);
     console.conclude(ended)
 }

@@ -40,10 +40,10 @@ fn shape_of(words: ShapeWords) -> Option<Shape>
 }
 
 /// The setup of a link's words.
-fn setup_of(words: LinkWords) -> Option<LinkSetup>
-    ensures found { IsSome result ↔ IsMode (mode_of words.modcod words.short words.pilots) }
-    ensures value { IfSome result (λ s. s ≡ record { mode = mode_of words.modcod words.short words.pilots; number = words.number; roll_off = words.roll_off }) }
-    ensures setup { IfSome result (λ s. links.setup_of s ≡ asked_setup words) }
+fn setup_of(words: &LinkWords) -> Option<LinkSetup>
+    ensures found { IsSome result ↔ IsMode (mode_of words.now.modcod words.now.short words.now.pilots) }
+    ensures value { IfSome result (λ s. s ≡ record { mode = mode_of words.now.modcod words.now.short words.now.pilots; number = words.now.number; roll_off = words.now.roll_off }) }
+    ensures setup { IfSome result (λ s. links.setup_of s ≡ asked_setup words.now) }
 {
     Some(LinkSetup {
         mode: Mode::of(words.modcod, words.short, words.pilots)?,
@@ -55,13 +55,13 @@ fn setup_of(words: LinkWords) -> Option<LinkSetup>
 /// Serves a request.
 pub fn serve<R: Files + AllocGlobal, S: CountedRead, O: CountedWrite, E: CountedWrite>(
     rt: &R,
-    request: Request<'_>,
+    request: &Request<'_>,
     input: &mut S,
     console: &mut Console<O, E>,
 ) -> Exit
     requires input { CanCount (S.count input.old) }
     requires console { CanShow console.old }
-    ensures served { Served request.entry (S.remaining input.old) result console.old console.new }
+    ensures served { Served request.now (S.remaining input.old) result console.old console.new }
 {
     let begun = match request {
         Request::Own => Ok(self_command(rt.alloc(), input, console)),
@@ -96,11 +96,11 @@ fn no_mode() -> Fault<'static>
 /// Prints made rows.
 fn serve_rows<R: AllocGlobal, O: CountedWrite, E: CountedWrite>(
     rt: &R,
-    words: RowsWords,
+    words: &RowsWords,
     console: &mut Console<O, E>,
 ) -> Result<Exit, Fault<'static>>
     requires { CanShow console.old }
-    ensures { Began (Request.Rows words) None result console.old console.new }
+    ensures { Began (Request.Rows words.now) None result console.old console.new }
 {
     let Some(shape) = shape_of(words.shape) else {
         return Err(no_shape());
@@ -112,11 +112,11 @@ fn serve_rows<R: AllocGlobal, O: CountedWrite, E: CountedWrite>(
 /// Judges soft values. The certificate's file is made before the others are opened.
 fn serve_judge<'a, R: Files + AllocGlobal, O: CountedWrite, E: CountedWrite>(
     rt: &R,
-    words: JudgeWords<'a>,
+    words: &JudgeWords<'a>,
     console: &mut Console<O, E>,
 ) -> Result<Exit, Fault<'a>>
     requires { CanShow console.old }
-    ensures { Began (Request.Judge words.entry) None result console.old console.new }
+    ensures { Began (Request.Judge words.now) None result console.old console.new }
 {
     let Some(shape) = shape_of(words.shape) else {
         return Err(no_shape());
@@ -135,11 +135,11 @@ fn serve_judge<'a, R: Files + AllocGlobal, O: CountedWrite, E: CountedWrite>(
 /// Checks a certificate.
 fn serve_check<'a, R: Files + AllocGlobal, O: CountedWrite, E: CountedWrite>(
     rt: &R,
-    words: CheckWords<'a>,
+    words: &CheckWords<'a>,
     console: &mut Console<O, E>,
 ) -> Result<Exit, Fault<'a>>
     requires { CanShow console.old }
-    ensures { Began (Request.Check words.entry) None result console.old console.new }
+    ensures { Began (Request.Check words.now) None result console.old console.new }
 {
     let (rows, certificate) = open_both(rt, words.rows, words.certificate)?;
     let mut files = CheckFiles { rows, certificate };
@@ -149,28 +149,34 @@ fn serve_check<'a, R: Files + AllocGlobal, O: CountedWrite, E: CountedWrite>(
 /// Sends packets. The symbol file is made once the others are open.
 fn serve_mod<'a, R: Files + AllocGlobal, O: CountedWrite, E: CountedWrite>(
     rt: &R,
-    words: ModWords<'a>,
+    words: &ModWords<'a>,
     console: &mut Console<O, E>,
 ) -> Result<Exit, Fault<'a>>
     requires { CanShow console.old }
-    ensures { Began (Request.Mod words.entry) None result console.old console.new }
+    ensures { Began (Request.Mod words.now) None result console.old console.new }
 {
-    let Some(setup) = setup_of(words.link) else {
+    let Some(setup) = setup_of(&words.link) else {
         return Err(no_mode());
     };
     let mut files = open_link(rt, words.rows, words.packets, words.symbols)?;
-    Ok(mod_command(rt.alloc(), setup, &mut files, console))
+    Ok(mod_command(
+        rt.alloc(),
+        setup,
+        words.dummy,
+        &mut files,
+        console,
+    ))
 }
 
 /// Adds noise to symbols. What its buffer still holds at the end is written before the command has
 /// ended well.
 fn serve_noise<'a, R: Files + AllocGlobal, O: CountedWrite, E: CountedWrite>(
     rt: &R,
-    words: NoiseWords<'a>,
+    words: &NoiseWords<'a>,
     console: &mut Console<O, E>,
 ) -> Result<Exit, Fault<'a>>
     requires { CanShow console.old }
-    ensures { Began (Request.Noise words.entry) None result console.old console.new }
+    ensures { Began (Request.Noise words.now) None result console.old console.new }
 {
     let mut from = open(rt, words.from)?;
     let mut to = create_buffered(rt, words.to)?;
@@ -184,13 +190,13 @@ fn serve_noise<'a, R: Files + AllocGlobal, O: CountedWrite, E: CountedWrite>(
 /// Receives symbols. The packet file is made once the others are open.
 fn serve_demod<'a, R: Files + AllocGlobal, O: CountedWrite, E: CountedWrite>(
     rt: &R,
-    words: DemodWords<'a>,
+    words: &DemodWords<'a>,
     console: &mut Console<O, E>,
 ) -> Result<Exit, Fault<'a>>
     requires { CanShow console.old }
-    ensures { Began (Request.Demod words.entry) None result console.old console.new }
+    ensures { Began (Request.Demod words.now) None result console.old console.new }
 {
-    let Some(setup) = setup_of(words.link) else {
+    let Some(setup) = setup_of(&words.link) else {
         return Err(no_mode());
     };
     let mut files = open_whole(rt, words.rows, words.symbols, words.packets)?;
@@ -201,22 +207,15 @@ fn serve_demod<'a, R: Files + AllocGlobal, O: CountedWrite, E: CountedWrite>(
 /// Sends, spoils and receives packets. The file of what is received is made once the others are open.
 fn serve_run<'a, R: Files + AllocGlobal, O: CountedWrite, E: CountedWrite>(
     rt: &R,
-    words: RunWords<'a>,
+    words: &RunWords<'a>,
     console: &mut Console<O, E>,
 ) -> Result<Exit, Fault<'a>>
     requires { CanShow console.old }
-    ensures { Began (Request.Run words.entry) None result console.old console.new }
+    ensures { Began (Request.Run words.now) None result console.old console.new }
 {
-    let Some(setup) = setup_of(words.link) else {
+    let Some(setup) = setup_of(&words.link) else {
         return Err(no_mode());
     };
     let mut files = open_link(rt, words.rows, words.packets, words.to)?;
-    Ok(run_command(
-        rt.alloc(),
-        setup,
-        words.tuning,
-        words.channel,
-        &mut files,
-        console,
-    ))
+    Ok(run_command(rt.alloc(), setup, words, &mut files, console))
 }
