@@ -101,15 +101,16 @@ impl<'a> Transmitter<'a> {
     /// Reads packets of 188 bytes to the reader's end, and writes the frames of their data stream,
     /// which begins anew with each run. It takes no memory, and reads and writes piece by piece: a
     /// packet, and a frame. A packet is accepted where it is whole and begins with 47 hexadecimal, at
-    /// most [`MOST_PACKETS`] of them, or as many as [`Transmitter::limit`] said. Behind a frame stands a dummy frame
-    /// where [`Transmitter::dummy_every`] said so; `Counts` does not count these.
+    /// most [`MOST_PACKETS`] of them, or as many as [`Transmitter::limit`] said. Where
+    /// [`Transmitter::dummy_every`] said so a dummy frame stands behind a frame; it belongs to that
+    /// frame in what follows, and is not counted.
     ///
     /// After `Ok` the reader is at its end, and the writer has gained exactly the frames of all data
-    /// fields, with their dummy frames. `NotWholePacket` and `NoSync` tell what the packets lack, and `Read` that a read failed
+    /// fields. `NotWholePacket` and `NoSync` tell what the packets lack, and `Read` that a read failed
     /// or that as many packets were accepted as may be, where nothing more is read: then the writer
-    /// has gained exactly the frames of the full data fields of the packets accepted before, with their dummy frames.
-    /// After `Write` it has gained the same of the fields before the one whose frame failed, or whose dummy frame, each
-    /// whole, and of that frame and its dummy frame a beginning.
+    /// has gained exactly the frames of the full data fields of the packets accepted before. After
+    /// `Write` it has gained the frames of the fields before the one whose frame failed, each whole,
+    /// and of that frame a beginning.
     /// In each case the reader has given the packets that were accepted, then the bytes that were
     /// refused or that came before a failed read, at most 188, and no more.
     pub fn run<R: CountedRead, W: CountedWrite>(
