@@ -1,5 +1,5 @@
 -- Frames that are received as they were sent.
-use Rattle.std.proofs.Common.{◌≡◌, ℕ, suc, ◌+◌, ◌*◌, ◌≤◌, false, List, [], ◌∷◌, ◌++◌, All, Option, Some, None, length, take, refl, sym, ap, ◌∙◌, subst, append_assoc, append-nil, arith}
+use Rattle.std.proofs.Common.{◌≡◌, ℕ, suc, ◌+◌, ◌≤◌, false, List, [], ◌∷◌, ◌++◌, All, Option, Some, None, length, take, refl, sym, ap, ◌∙◌, subst, append_assoc, append-nil, length-append, arith}
 use Rattle.std.proofs.lemmas.List.{take_at}
 use Rattle.std.proofs.lemmas.List.Concat.{flat_map-append}
 use Rattle.s2_mode.specs.declared.symbols.Symbol.{Symbol}
@@ -8,12 +8,12 @@ use Rattle.s2_bbframe.specs.Joining.{field, joining, events_from, Placed}
 use Rattle.s2_bbframe.proofs.RoundTrips.{round_trip}
 use Rattle.s2_receive.specs.Meeting.{Met, frame, met_from}
 use Rattle.s2_receive.specs.Receiving.{Rules, Standing, at_start, after_all, all_packets, delivery, count_of}
-use Rattle.s2_receive.specs.Laws.{joined, events_of, AreReceived, frames_at, Gives, FrontLaw}
+use Rattle.s2_receive.specs.Laws.{Piece, coded, dummy, joined, stream_symbols, events_of, AreReceived, frames_at, Gives, FrontLaw}
 use Rattle.s2_bbframe.specs.Joining.{closed_in}
 use Rattle.s2_receive.specs.Finding.{Meets}
 use Rattle.s2_mode.specs.Symbols.{symbols_of}
 use Rattle.std.specs.Io.KnownBytes.{Appends}
-use Rattle.s2_receive.proofs.MetLemmas.{whole_frame}
+use Rattle.s2_receive.proofs.MetLemmas.{whole_frame, whole_dummy}
 use Rattle.s2_receive.proofs.JoinLemmas.{all_joined}
 use Rattle.s2_receive.proofs.FieldPlaces.{placed_fields, placed_front, joined_fields, all_closed}
 
@@ -22,56 +22,75 @@ module _ (rules : Rules) (roll_off : ℕ) (large : 90 ≤ rules.size) where
   size = rules.size
 
   -- they are met as just these frames
-  pub met_frames : (at k : ℕ) (fields : List (List ℕ)) (frames : List (List Symbol)) (rest : List Symbol) → AreReceived rules roll_off k fields frames
-      → met_from rules.passes rules.size at 0 false (joined frames ++ rest) ≡ frames_at rules.size at frames ++ met_from rules.passes rules.size (at + rules.size * length frames) 0 false rest
-  met_frames at k [] [] rest h = ap (λ n. met_from rules.passes rules.size n 0 false rest) (omega arith)
-  met_frames at k [] (s ∷ ss) rest h = absurd h
-  met_frames at k (f ∷ fs) [] rest h = absurd h
-  met_frames at k (f ∷ fs) (s ∷ ss) rest h =
-      let ih = met_frames (at + rules.size) (k + length f) fs ss rest h.1 in
-      let more : rules.size * suc (length ss) ≡ rules.size + rules.size * length ss = omega arith in
-      ap (met_from rules.passes rules.size at 0 false) (append_assoc s (joined ss) rest)
-      ∙ whole_frame rules.passes rules.size s (joined ss ++ rest) at false h.0.0 large h.0.1
+  pub met_frames : (at k : ℕ) (pieces : List Piece) (fields : List (List ℕ)) (rest : List Symbol) → AreReceived rules roll_off k pieces fields
+      → met_from rules.finds rules.size at 0 false (stream_symbols pieces ++ rest) ≡ frames_at rules.size at pieces ++ met_from rules.finds rules.size (at + length (stream_symbols pieces)) 0 false rest
+  met_frames at k [] [] rest h = ap (λ n. met_from rules.finds rules.size n 0 false rest) (omega arith)
+  met_frames at k [] (f ∷ fs) rest h = absurd h
+  met_frames at k (coded s ∷ ps) [] rest h = absurd h
+  met_frames at k (coded s ∷ ps) (f ∷ fs) rest h =
+      let ih = met_frames (at + rules.size) (k + length f) ps fs rest h.1 in
+      let long = length-append s (stream_symbols ps) in
+      let here = h.0.0 in
+      ap (met_from rules.finds rules.size at 0 false) (append_assoc s (stream_symbols ps) rest)
+      ∙ whole_frame rules.finds rules.size s (stream_symbols ps ++ rest) at false here large h.0.1
       ∙ ap (λ l. frame at false s ∷ l) ih
-      ∙ ap (λ n. frame at false s ∷ (frames_at rules.size (at + rules.size) ss ++ met_from rules.passes rules.size n 0 false rest)) (omega (arith, more))
+      ∙ ap (λ n. frame at false s ∷ (frames_at rules.size (at + rules.size) ps ++ met_from rules.finds rules.size n 0 false rest)) (omega (arith, long, here))
+  met_frames at k (dummy s ∷ ps) fs rest h =
+      let ih = met_frames (at + 3330) k ps fs rest h.1 in
+      let long = length-append s (stream_symbols ps) in
+      let here = h.0.0 in
+      ap (met_from rules.finds rules.size at 0 false) (append_assoc s (stream_symbols ps) rest)
+      ∙ whole_dummy rules.finds rules.size s (stream_symbols ps ++ rest) at false here h.0.1
+      ∙ ih
+      ∙ ap (λ n. frames_at rules.size (at + 3330) ps ++ met_from rules.finds rules.size n 0 false rest) (omega (arith, long, here))
 
   -- the joiner gets just the fields
-  pub events_frames : (at k : ℕ) (fields : List (List ℕ)) (frames : List (List Symbol)) → AreReceived rules roll_off k fields frames
-      → events_of rules.decide (frames_at rules.size at frames) ≡ events_from roll_off k fields
+  pub events_frames : (at k : ℕ) (pieces : List Piece) (fields : List (List ℕ)) → AreReceived rules roll_off k pieces fields
+      → events_of rules.decide (frames_at rules.size at pieces) ≡ events_from roll_off k fields
   events_frames at k [] [] h = refl
-  events_frames at k [] (s ∷ ss) h = absurd h
-  events_frames at k (f ∷ fs) [] h = absurd h
-  events_frames at k (f ∷ fs) (s ∷ ss) h =
+  events_frames at k [] (f ∷ fs) h = absurd h
+  events_frames at k (coded s ∷ ps) [] h = absurd h
+  events_frames at k (coded s ∷ ps) (f ∷ fs) h =
       let here : delivery (rules.decide s).delivered ≡ field (header_at roll_off k f) f = ap delivery h.0.2 in
-      ap (λ e. e ∷ events_of rules.decide (frames_at rules.size (at + rules.size) ss)) here
-      ∙ ap (λ l. field (header_at roll_off k f) f ∷ l) (events_frames (at + rules.size) (k + length f) fs ss h.1)
+      ap (λ e. e ∷ events_of rules.decide (frames_at rules.size (at + rules.size) ps)) here
+      ∙ ap (λ l. field (header_at roll_off k f) f ∷ l) (events_frames (at + rules.size) (k + length f) ps fs h.1)
+  events_frames at k (dummy s ∷ ps) fs h = events_frames (at + 3330) k ps fs h.1
 
-  pub count_frames : (at k : ℕ) (fields : List (List ℕ)) (frames : List (List Symbol)) (s : Standing) → AreReceived rules roll_off k fields frames
-      → ((after_all rules s (frames_at rules.size at frames)).totals.frames ≡ s.totals.frames + length fields)
-      × ((after_all rules s (frames_at rules.size at frames)).totals.delivered ≡ s.totals.delivered + length fields)
-      × ((after_all rules s (frames_at rules.size at frames)).totals.cut ≡ s.totals.cut)
+  pub count_frames : (at k : ℕ) (pieces : List Piece) (fields : List (List ℕ)) (s : Standing) → AreReceived rules roll_off k pieces fields
+      → ((after_all rules s (frames_at rules.size at pieces)).totals.frames ≡ s.totals.frames + length fields)
+      × ((after_all rules s (frames_at rules.size at pieces)).totals.delivered ≡ s.totals.delivered + length fields)
+      × ((after_all rules s (frames_at rules.size at pieces)).totals.cut ≡ s.totals.cut)
   count_frames at k [] [] t h = (omega arith, omega arith, refl)
-  count_frames at k [] (s ∷ ss) t h = absurd h
-  count_frames at k (f ∷ fs) [] t h = absurd h
-  count_frames at k (f ∷ fs) (s ∷ ss) t h =
+  count_frames at k [] (f ∷ fs) t h = absurd h
+  count_frames at k (coded s ∷ ps) [] t h = absurd h
+  count_frames at k (coded s ∷ ps) (f ∷ fs) t h =
       let one : count_of (rules.decide s).delivered ≡ 1 = ap count_of h.0.2 in
-      let ih = count_frames (at + rules.size) (k + length f) fs ss _ h.1 in
+      let ih = count_frames (at + rules.size) (k + length f) ps fs _ h.1 in
       (ih.0 ∙ omega arith, ih.1 ∙ omega (arith, one), ih.2)
+  count_frames at k (dummy s ∷ ps) fs t h = count_frames (at + 3330) k ps fs t h.1
 
-pub gives : (rules : Rules) (roll_off size : ℕ) (packets fields later : List (List ℕ)) (frames : List (List Symbol)) (rest : List Symbol)
-    → 90 ≤ rules.size → 188 ≤ size → All IsPacket packets → fields ++ later ≡ fields_of size (stream_of packets) → AreReceived rules roll_off 0 fields frames
-    → Gives rules packets fields later frames rest
-gives rules roll_off size packets fields later frames rest large room each cut_so received =
-    let met = frames_at rules.size 0 frames in
+  -- one for each field
+  pub length_frames : (at k : ℕ) (pieces : List Piece) (fields : List (List ℕ)) → AreReceived rules roll_off k pieces fields → length (frames_at rules.size at pieces) ≡ length fields
+  length_frames at k [] [] h = refl
+  length_frames at k [] (f ∷ fs) h = absurd h
+  length_frames at k (coded s ∷ ps) [] h = absurd h
+  length_frames at k (coded s ∷ ps) (f ∷ fs) h = ap suc (length_frames (at + rules.size) (k + length f) ps fs h.1)
+  length_frames at k (dummy s ∷ ps) fs h = length_frames (at + 3330) k ps fs h.1
+
+pub gives : (rules : Rules) (roll_off size : ℕ) (packets fields later : List (List ℕ)) (pieces : List Piece) (rest : List Symbol)
+    → 90 ≤ rules.size → 188 ≤ size → All IsPacket packets → fields ++ later ≡ fields_of size (stream_of packets) → AreReceived rules roll_off 0 pieces fields
+    → Gives rules packets fields later pieces rest
+gives rules roll_off size packets fields later pieces rest large room each cut_so received =
+    let met = frames_at rules.size 0 pieces in
     let join = all_joined rules at_start met in
     let whole : stream_of packets ≡ joined fields ++ joined later = sym (joined_fields size room packets) ∙ ap joined (sym cut_so) ∙ flat_map-append (λ l. l) fields later in
     let placed : Placed 0 fields = placed_front fields later 0 (subst (Placed 0) (sym cut_so) (placed_fields size room packets each)) in
     let trip = round_trip roll_off packets fields (joined later) each whole placed in
-    let events = ap (joining None) (events_frames rules roll_off large 0 0 fields frames received) in
-    let counts = count_frames rules roll_off large 0 0 fields frames at_start received in
+    let events = ap (joining None) (events_frames rules roll_off large 0 0 pieces fields received) in
+    let counts = count_frames rules roll_off large 0 0 pieces fields at_start received in
     let good = ap (λ j. j.good) events ∙ trip.0 in
     record {
-      met = met_frames rules roll_off large 0 0 fields frames rest received ∙ ap (λ n. met ++ met_from rules.passes rules.size n 0 false rest) (omega arith);
+      met = met_frames rules roll_off large 0 0 pieces fields rest received ∙ ap (λ n. met ++ met_from rules.finds rules.size n 0 false rest) (omega arith);
       written = join.packets ∙ ap joined good;
       frames_count = counts.0 ∙ omega arith;
       delivered = counts.1 ∙ omega arith;
@@ -81,10 +100,6 @@ gives rules roll_off size packets fields later frames rest large room each cut_s
       all = λ none. ap (λ n. take (closed_in n) packets) (ap length (sym (append-nil (joined fields)) ∙ ap (λ l. joined fields ++ joined l) (sym none) ∙ sym whole)) ∙ all_closed packets each;
     }
 
-length_frames : (size at : ℕ) (frames : List (List Symbol)) → length (frames_at size at frames) ≡ length frames
-length_frames size at [] = refl
-length_frames size at (s ∷ ss) = ap suc (length_frames size (at + size) ss)
-
 same_front : (xs ys l m : List Met) → length xs ≡ length ys → xs ++ l ≡ ys ++ m → xs ≡ ys
 same_front xs ys l m e h = sym (take_at xs l (length ys) e) ∙ ap (take (length ys)) h ∙ take_at ys m (length ys) refl
 
@@ -93,9 +108,10 @@ front_of all None met ys l h e k = absurd h
 front_of all (Some later) met ys l h e k = same_front met ys later l k (sym h ∙ e)
 
 pub front : FrontLaw
-front rules roll_off size packets fields later frames rest bytes mid left p p' w w' met large room each cut_so received spelt count went =
-    let g = gives rules roll_off size packets fields later frames rest large room each cut_so received in
-    let just = frames_at rules.size 0 frames in
-    let whole = ap (met_from rules.passes rules.size 0 0 false) spelt ∙ g.met in
-    let same : met ≡ just = front_of (met_from rules.passes rules.size 0 0 false (symbols_of bytes)) _ met just _ went.left whole (count ∙ sym (length_frames rules.size 0 frames)) in
+front rules roll_off size packets fields later pieces rest bytes mid left p p' w w' met large room each cut_so received spelt count went =
+    let g = gives rules roll_off size packets fields later pieces rest large room each cut_so received in
+    let just = frames_at rules.size 0 pieces in
+    let whole = ap (met_from rules.finds rules.size 0 0 false) spelt ∙ g.met in
+    let many : length met ≡ length just = count ∙ sym (length_frames rules roll_off large 0 0 pieces fields received) in
+    let same : met ≡ just = front_of (met_from rules.finds rules.size 0 0 false (symbols_of bytes)) _ met just _ went.left whole many in
     (same, subst (Appends p p') (ap (all_packets rules at_start) same ∙ g.written) went.packets)

@@ -1,13 +1,15 @@
 -- What follows from the definitions alone.
-use Rattle.std.specs.Prelude.{◌≡◌, ℕ, ◌+◌, ◌-◌, ◌*◌, ◌<◌, ◌≤◌, Bool, true, false, if◌then◌else◌, nat_lt, List, [], ◌∷◌, ◌++◌, length, take, drop, All, Option, Some, Ok, ⊤}
+use Rattle.std.specs.Prelude.{◌≡◌, ℕ, ◌+◌, ◌-◌, ◌<◌, ◌≤◌, Bool, false, if◌then◌else◌, List, [], ◌∷◌, ◌++◌, length, take, drop, All, Option, Some, Ok, ⊤}
 use Rattle.std.specs.List.{flat_map}
 use Rattle.s2_mode.specs.declared.symbols.Symbol.{Symbol}
 use Rattle.s2_bbframe.specs.declared.header.Header.{Header}
-use Rattle.s2_mode.specs.Limits.{header_symbols}
+use Rattle.s2_mode.specs.Limits.{header_symbols, dummy_symbols}
+use Rattle.s2_plframe.specs.declared.receive.found.Found.{Found}
+use Rattle.s2_plframe.specs.declared.receive.found.Found.TheVariants as founds
 use Rattle.s2_bbframe.specs.Limits.{packet_bytes}
 use Rattle.s2_bbframe.specs.DataStream.{IsPacket, stream_of, fields_of, header_at}
 use Rattle.s2_bbframe.specs.Joining.{Event, gap, joining, closed_in}
-use Rattle.s2_receive.specs.Meeting.{Met, frame, cut, ended, starts, met_from}
+use Rattle.s2_receive.specs.Meeting.{Met, frame, cut, ended, begins, met_from, passed}
 use Rattle.s2_receive.specs.Receiving.{Rules, Decision, Standing, State, Went, StepAnswers, RunsOut, begun, delivery, at_start, after_all, all_packets, all_lines}
 use Rattle.s2_receive.specs.declared.report.Step.{Step}
 use Rattle.s2_mode.specs.Symbols.{symbols_of}
@@ -41,64 +43,92 @@ JoiningLaw = (rules : Rules) (s : Standing) (met : List Met) → IsJoined rules 
 
 -- ---- frames that are received as they were sent
 
--- symbols of a frame's size, whose header passes, and of which this header and this data field are delivered
+-- a frame in a stream, coded or dummy, and its symbols
+pub data Piece : Type 0 where
+  coded : List Symbol → Piece
+  dummy : List Symbol → Piece
+
+abbrev pub piece_symbols : Piece → List Symbol
+piece_symbols (coded symbols) = symbols
+piece_symbols (dummy symbols) = symbols
+
+-- the symbols of one after another
+abbrev pub stream_symbols : List Piece → List Symbol
+stream_symbols pieces = flat_map piece_symbols pieces
+
+-- symbols of a frame's size, whose header is found, and of which this header and this data field are delivered
 abbrev pub IsReceived : Rules → Header → List ℕ → List Symbol → Type 0
 IsReceived rules header field symbols =
-    (length symbols ≡ rules.size) × (rules.passes (take header_symbols symbols) ≡ true) × ((rules.decide symbols).delivered ≡ Some (header, field))
+    (length symbols ≡ rules.size) × (rules.finds (take header_symbols symbols) ≡ founds.Coded) × ((rules.decide symbols).delivered ≡ Some (header, field))
 
--- the frames of consecutive data fields, the first of which begins at this byte of the stream
-abbrev pub AreReceived : Rules → ℕ → ℕ → List (List ℕ) → List (List Symbol) → Type 0
+-- those of a dummy frame, whose header is found
+abbrev pub IsDummy : (List Symbol → Found) → List Symbol → Type 0
+IsDummy finds symbols = (length symbols ≡ dummy_symbols) × (finds (take header_symbols symbols) ≡ founds.Dummy)
+
+-- the coded frames of consecutive data fields, the first of which begins at this byte of the stream, and dummy frames among them
+abbrev pub AreReceived : Rules → ℕ → ℕ → List Piece → List (List ℕ) → Type 0
 AreReceived rules roll_off at [] [] = ⊤
-AreReceived rules roll_off at [] (symbols ∷ frames) = ⊥
-AreReceived rules roll_off at (field ∷ fields) [] = ⊥
-AreReceived rules roll_off at (field ∷ fields) (symbols ∷ frames) =
-    IsReceived rules (header_at roll_off at field) field symbols × AreReceived rules roll_off (at + length field) fields frames
+AreReceived rules roll_off at [] (field ∷ fields) = ⊥
+AreReceived rules roll_off at (coded symbols ∷ pieces) [] = ⊥
+AreReceived rules roll_off at (coded symbols ∷ pieces) (field ∷ fields) =
+    IsReceived rules (header_at roll_off at field) field symbols × AreReceived rules roll_off (at + length field) pieces fields
+AreReceived rules roll_off at (dummy symbols ∷ pieces) fields = IsDummy rules.finds symbols × AreReceived rules roll_off at pieces fields
 
--- just these frames, one after another from a position on, with none passed over
-abbrev pub frames_at : ℕ → ℕ → List (List Symbol) → List Met
+-- just these coded frames, one after another from a position on, with none passed over
+abbrev pub frames_at : ℕ → ℕ → List Piece → List Met
 frames_at size at [] = []
-frames_at size at (symbols ∷ frames) = frame at false symbols ∷ frames_at size (at + size) frames
+frames_at size at (coded symbols ∷ pieces) = frame at false symbols ∷ frames_at size (at + size) pieces
+frames_at size at (dummy symbols ∷ pieces) = frames_at size (at + dummy_symbols) pieces
 
--- Frames that were received as sent, the first ones of a stream, are met as just these. The packets written then are those
+-- Coded frames that were received as sent, the first ones of a stream, are met as just these. The packets written then are those
 -- whose closing CRC-8 lies in the fields of these frames; all of them where these are all fields.
-pub record Gives (rules : Rules) (packets fields later : List (List ℕ)) (frames : List (List Symbol)) (rest : List Symbol) : Type 0 where
-  pub met : met_from rules.passes rules.size 0 0 false (joined frames ++ rest) ≡ frames_at rules.size 0 frames ++ met_from rules.passes rules.size (rules.size * length frames) 0 false rest
-  pub written : all_packets rules at_start (frames_at rules.size 0 frames) ≡ joined (take (closed_in (length (joined fields))) packets)
-  pub frames_count : (after_all rules at_start (frames_at rules.size 0 frames)).totals.frames ≡ length fields
-  pub delivered : (after_all rules at_start (frames_at rules.size 0 frames)).totals.delivered ≡ length fields
-  pub packets_count : (after_all rules at_start (frames_at rules.size 0 frames)).totals.packets ≡ length (take (closed_in (length (joined fields))) packets)
-  pub bad : (after_all rules at_start (frames_at rules.size 0 frames)).totals.bad ≡ 0
-  pub cut : (after_all rules at_start (frames_at rules.size 0 frames)).totals.cut ≡ false
+pub record Gives (rules : Rules) (packets fields later : List (List ℕ)) (pieces : List Piece) (rest : List Symbol) : Type 0 where
+  pub met : met_from rules.finds rules.size 0 0 false (stream_symbols pieces ++ rest) ≡ frames_at rules.size 0 pieces ++ met_from rules.finds rules.size (length (stream_symbols pieces)) 0 false rest
+  pub written : all_packets rules at_start (frames_at rules.size 0 pieces) ≡ joined (take (closed_in (length (joined fields))) packets)
+  pub frames_count : (after_all rules at_start (frames_at rules.size 0 pieces)).totals.frames ≡ length fields
+  pub delivered : (after_all rules at_start (frames_at rules.size 0 pieces)).totals.delivered ≡ length fields
+  pub packets_count : (after_all rules at_start (frames_at rules.size 0 pieces)).totals.packets ≡ length (take (closed_in (length (joined fields))) packets)
+  pub bad : (after_all rules at_start (frames_at rules.size 0 pieces)).totals.bad ≡ 0
+  pub cut : (after_all rules at_start (frames_at rules.size 0 pieces)).totals.cut ≡ false
   pub all : later ≡ [] → take (closed_in (length (joined fields))) packets ≡ packets
 
 abbrev pub ReceptionLaw : Type 0
 ReceptionLaw =
-    (rules : Rules) (roll_off size : ℕ) (packets fields later : List (List ℕ)) (frames : List (List Symbol)) (rest : List Symbol)
-    → header_symbols ≤ rules.size → packet_bytes ≤ size → All IsPacket packets → fields ++ later ≡ fields_of size (stream_of packets) → AreReceived rules roll_off 0 fields frames
-    → Gives rules packets fields later frames rest
+    (rules : Rules) (roll_off size : ℕ) (packets fields later : List (List ℕ)) (pieces : List Piece) (rest : List Symbol)
+    → header_symbols ≤ rules.size → packet_bytes ≤ size → All IsPacket packets → fields ++ later ≡ fields_of size (stream_of packets) → AreReceived rules roll_off 0 pieces fields
+    → Gives rules packets fields later pieces rest
 
--- What a receiver wrote when it had met as many things as so many frames that were received as sent, the first ones of a stream
--- that is known: the packets whose closing CRC-8 lies in the fields of these frames, and nothing else.
+-- What a receiver wrote when it had met as many things as so many coded frames that were received as sent, the first ones of a
+-- stream that is known: the packets whose closing CRC-8 lies in the fields of these frames, and nothing else.
 abbrev pub FrontLaw : Type 0
 FrontLaw =
-    (rules : Rules) (roll_off size : ℕ) (packets fields later : List (List ℕ)) (frames : List (List Symbol)) (rest : List Symbol) (bytes : List ℕ)
+    (rules : Rules) (roll_off size : ℕ) (packets fields later : List (List ℕ)) (pieces : List Piece) (rest : List Symbol) (bytes : List ℕ)
     (mid : State) (left packets_old packets_new report_old report_new : Option (List ℕ)) (met : List Met)
-    → header_symbols ≤ rules.size → packet_bytes ≤ size → All IsPacket packets → fields ++ later ≡ fields_of size (stream_of packets) → AreReceived rules roll_off 0 fields frames
-    → symbols_of bytes ≡ joined frames ++ rest → length met ≡ length frames
+    → header_symbols ≤ rules.size → packet_bytes ≤ size → All IsPacket packets → fields ++ later ≡ fields_of size (stream_of packets) → AreReceived rules roll_off 0 pieces fields
+    → symbols_of bytes ≡ stream_symbols pieces ++ rest → length met ≡ length fields
     → Went rules begun mid (Some bytes) left packets_old packets_new report_old report_new met
-    → (met ≡ frames_at rules.size 0 frames) × Appends packets_old packets_new (joined (take (closed_in (length (joined fields))) packets))
+    → (met ≡ frames_at rules.size 0 pieces) × Appends packets_old packets_new (joined (take (closed_in (length (joined fields))) packets))
 
--- The search in its own words: where no header begins at the first n symbols and one begins at the next, that is where the next
--- frame stands; it has its symbols and the search goes on behind them, or it is cut. Where none begins anywhere the end comes.
-pub record Searches (passes : List Symbol → Bool) (size at : ℕ) (symbols : List Symbol) : Type 0 where
-  pub found : (n : ℕ) → n + size ≤ length symbols → ((i : ℕ) → i < n → starts passes (drop i symbols) ≡ false) → starts passes (drop n symbols) ≡ true
-      → met_from passes size at 0 false symbols ≡ frame (at + n) (nat_lt 0 n) (take size (drop n symbols)) ∷ met_from passes size (at + n + size) 0 false (drop (n + size) symbols)
-  pub lacks : (n : ℕ) → n < length symbols → length symbols < n + size → ((i : ℕ) → i < n → starts passes (drop i symbols) ≡ false) → starts passes (drop n symbols) ≡ true
-      → met_from passes size at 0 false symbols ≡ cut (at + n) (length symbols - n) ∷ (ended ∷ [])
-  pub none : ((i : ℕ) → i < length symbols → starts passes (drop i symbols) ≡ false) → met_from passes size at 0 false symbols ≡ ended ∷ []
+-- no header begins at the first n symbols
+abbrev pub NoneBegins : (List Symbol → Found) → ℕ → List Symbol → Type 0
+NoneBegins finds n symbols = (i : ℕ) → i < n → begins finds (drop i symbols) ≡ founds.Nothing
+
+-- The search in its own words: where no header begins at the first n symbols and a coded frame's begins at the next, that is where
+-- the next frame stands; it has its symbols and the search goes on behind them, or it is cut. Where a dummy frame's begins there,
+-- the search goes on behind its symbols, or the end comes where it lacks some. Where none begins anywhere the end comes.
+pub record Searches (finds : List Symbol → Found) (size at : ℕ) (over : Bool) (symbols : List Symbol) : Type 0 where
+  pub found : (n : ℕ) → n + size ≤ length symbols → NoneBegins finds n symbols → begins finds (drop n symbols) ≡ founds.Coded
+      → met_from finds size at 0 over symbols ≡ frame (at + n) (passed over n) (take size (drop n symbols)) ∷ met_from finds size (at + n + size) 0 false (drop (n + size) symbols)
+  pub lacks : (n : ℕ) → n < length symbols → length symbols < n + size → NoneBegins finds n symbols → begins finds (drop n symbols) ≡ founds.Coded
+      → met_from finds size at 0 over symbols ≡ cut (at + n) (length symbols - n) ∷ (ended ∷ [])
+  pub goes_on : (n : ℕ) → n + dummy_symbols ≤ length symbols → NoneBegins finds n symbols → begins finds (drop n symbols) ≡ founds.Dummy
+      → met_from finds size at 0 over symbols ≡ met_from finds size (at + n + dummy_symbols) 0 (passed over n) (drop (n + dummy_symbols) symbols)
+  pub breaks_off : (n : ℕ) → n < length symbols → length symbols < n + dummy_symbols → NoneBegins finds n symbols → begins finds (drop n symbols) ≡ founds.Dummy
+      → met_from finds size at 0 over symbols ≡ ended ∷ []
+  pub none : NoneBegins finds (length symbols) symbols → met_from finds size at 0 over symbols ≡ ended ∷ []
 
 abbrev pub SearchLaw : Type 0
-SearchLaw = (passes : List Symbol → Bool) (size at : ℕ) (symbols : List Symbol) → header_symbols ≤ size → Searches passes size at symbols
+SearchLaw = (finds : List Symbol → Found) (size at : ℕ) (over : Bool) (symbols : List Symbol) → header_symbols ≤ size → Searches finds size at over symbols
 
 -- ---- one stream of symbols, read in two ways
 

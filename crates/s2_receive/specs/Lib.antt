@@ -5,7 +5,7 @@ pub mod Receiving
 pub mod Parts
 pub mod Stepping
 pub mod Laws
-pub mod Passing
+pub mod Windows
 pub mod ReportLines
 pub use Rattle.s2_mode.specs.Symbols
 pub use Rattle.s2_bbframe.specs.Joining

@@ -3,6 +3,7 @@ use Rattle.std.specs.Prelude.{◌≡◌, ℕ, ℤ, ◌+◌, Bool, true, false, �
 use Rattle.std.specs.List.{flat_map}
 use Rattle.std.specs.Io.KnownBytes.{Appends}
 use Rattle.s2_mode.specs.declared.symbols.Symbol.{Symbol}
+use Rattle.s2_plframe.specs.declared.receive.found.Found.{Found}
 use Rattle.s2_bbframe.specs.declared.header.Header.{Header}
 use Rattle.s2_bbframe.specs.Joining.{Event, field, gap, Joined, step}
 use Rattle.s2_receive.specs.Meeting.{Met, frame, cut, ended, met_in}
@@ -39,7 +40,7 @@ delivery None = gap
 
 -- what a receiver was made with
 pub record Rules : Type 0 where
-  pub passes : List Symbol → Bool
+  pub finds : List Symbol → Found
   pub size : ℕ
   pub decide : List Symbol → Decision
   pub frame_line : Report → List ℕ
@@ -173,7 +174,7 @@ rank phases.Failed = 2
 
 -- what is still to be met in known bytes
 abbrev pub met_left : Rules → Phase → ℕ → Option (List ℕ) → Option (List Met)
-met_left rules phases.Searching at bytes = met_in rules.passes rules.size at false [] bytes
+met_left rules phases.Searching at bytes = met_in rules.finds rules.size at 0 false [] bytes
 met_left rules phases.Closing at bytes = Some (ended ∷ [])
 met_left rules phases.Ended at bytes = Some []
 met_left rules phases.Failed at bytes = Some []
@@ -239,14 +240,14 @@ StandsBehind size at (Ok (steps.Frame report)) = at ≡ report.at + size
 StandsBehind size at (Ok (steps.Cut place count)) = at ≡ place + count
 StandsBehind size at result = ⊤
 
-abbrev pub rules_of : (List Symbol → Bool) → ℕ → (List Symbol → Decision) → (Report → List ℕ) → (ℕ → ℕ → List ℕ) → (Totals → List ℕ) → ℕ → Rules
-rules_of passes size decide frame_line cut_line end_line limit =
-    record { passes = passes; size = size; decide = decide; frame_line = frame_line; cut_line = cut_line; end_line = end_line; limit = limit }
+abbrev pub rules_of : (List Symbol → Found) → ℕ → (List Symbol → Decision) → (Report → List ℕ) → (ℕ → ℕ → List ℕ) → (Totals → List ℕ) → ℕ → Rules
+rules_of finds size decide frame_line cut_line end_line limit =
+    record { finds = finds; size = size; decide = decide; frame_line = frame_line; cut_line = cut_line; end_line = end_line; limit = limit }
 
 -- by what its search, its decider and its lines do
-abbrev pub rules_in : {S D L : Type 0} → (S → List Symbol → Bool) → (D → List Symbol → Decision) → (L → Report → List ℕ) → (L → ℕ → ℕ → List ℕ) → (L → Totals → List ℕ) → Receiver S D L → Rules
-rules_in passes decide frame_line cut_line end_line r =
-    rules_of (passes r.search) (length r.frame) (decide r.decider) (frame_line r.lines) (cut_line r.lines) (end_line r.lines) r.limit
+abbrev pub rules_in : {S D L : Type 0} → (S → List Symbol → Found) → (D → List Symbol → Decision) → (L → Report → List ℕ) → (L → ℕ → ℕ → List ℕ) → (L → Totals → List ℕ) → Receiver S D L → Rules
+rules_in finds decide frame_line cut_line end_line r =
+    rules_of (finds r.search) (length r.frame) (decide r.decider) (frame_line r.lines) (cut_line r.lines) (end_line r.lines) r.limit
 
 abbrev pub state_of : Phase → ℕ → Option (List ℕ) → Totals → State
 state_of phase at held totals = record { phase = phase; at = at; standing = record { held = held; totals = totals } }

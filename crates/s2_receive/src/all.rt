@@ -44,14 +44,14 @@ pub fn receive_all<
     requires packets { P.count packets.old < 2 ^ 64 - 1 }
     requires report { W.count report.old < 2 ^ 64 - 1 }
     requires live { IsLive receiver.old.state.phase }
-    ensures all { IfOk result (λ received. RunsTo (rules_in S.passes D.decide L.frame_line L.cut_line L.end_line receiver.old)
+    ensures all { IfOk result (λ received. RunsTo (rules_in S.finds D.decide L.frame_line L.cut_line L.end_line receiver.old)
         receiver.old.state receiver.new.state
         (R.remaining reader.old) (R.remaining reader.new) (P.contents packets.old) (P.contents packets.new) (W.contents report.old) (W.contents report.new) received.well) }
     ensures totals { IfOk result (λ received. received.totals ≡ receiver.new.state.standing.totals) }
-    ensures stops { IsErrOf result StreamFault.Read → StopsAfter (rules_in S.passes D.decide L.frame_line L.cut_line L.end_line receiver.old)
+    ensures stops { IsErrOf result StreamFault.Read → StopsAfter (rules_in S.finds D.decide L.frame_line L.cut_line L.end_line receiver.old)
         receiver.old.state
         (R.remaining reader.old) (P.contents packets.old) (P.contents packets.new) (W.contents report.old) (W.contents report.new) }
-    ensures breaks { IsErrOf result StreamFault.Write → BreaksAfter (rules_in S.passes D.decide L.frame_line L.cut_line L.end_line receiver.old)
+    ensures breaks { IsErrOf result StreamFault.Write → BreaksAfter (rules_in S.finds D.decide L.frame_line L.cut_line L.end_line receiver.old)
         receiver.old.state
         (R.remaining reader.old) (P.contents packets.old) (P.contents packets.new) (W.contents report.old) (W.contents report.new) }
     ensures read { IsErrOf result StreamFault.Read → R.count reader.new ≢ R.count reader.old + 1 → (R.count reader.new ≡ R.count reader.old) × Reaches receiver.old.limit receiver.old.state.at (R.remaining reader.old) (R.remaining reader.new) }
@@ -59,8 +59,8 @@ pub fn receive_all<
     ensures write { IsErrOf result StreamFault.Write → ((P.count packets.new ≡ P.count packets.old + 1) × (W.count report.new ≡ W.count report.old))
         ⊎ ((P.count packets.new ≡ P.count packets.old) × (W.count report.new ≡ W.count report.old + 1)) }
     ensures no_write { result ≢ Err StreamFault.Write → (P.count packets.new ≡ P.count packets.old) × (W.count report.new ≡ W.count report.old) }
-    ensures rules { rules_in S.passes D.decide L.frame_line L.cut_line L.end_line receiver.new
-        ≡ rules_in S.passes D.decide L.frame_line L.cut_line L.end_line receiver.old }
+    ensures rules { rules_in S.finds D.decide L.frame_line L.cut_line L.end_line receiver.new
+        ≡ rules_in S.finds D.decide L.frame_line L.cut_line L.end_line receiver.old }
 {
     let mut well = true;
     'steps: loop {
@@ -89,11 +89,11 @@ pub fn receive_bytes<S: Search, D: Decide, L: Lines, P: CountedWrite, W: Counted
     requires report { W.count report.old < 2 ^ 64 - 1 }
     requires begun { receiver.old.state ≡ begun }
     requires limit { length bytes.now < 4 * receiver.old.limit }
-    ensures all { OnOk result ((left : Option (List ℕ)) × RunsOut (rules_in S.passes D.decide L.frame_line L.cut_line L.end_line receiver.old)
+    ensures all { OnOk result ((left : Option (List ℕ)) × RunsOut (rules_in S.finds D.decide L.frame_line L.cut_line L.end_line receiver.old)
         begun receiver.new.state
         (Some bytes.now) left (P.contents packets.old) (P.contents packets.new) (W.contents report.old) (W.contents report.new)) }
     ensures totals { IfOk result (λ totals. totals ≡ receiver.new.state.standing.totals) }
-    ensures breaks { OnErr result (BreaksAfter (rules_in S.passes D.decide L.frame_line L.cut_line L.end_line receiver.old)
+    ensures breaks { OnErr result (BreaksAfter (rules_in S.finds D.decide L.frame_line L.cut_line L.end_line receiver.old)
         begun (Some bytes.now) (P.contents packets.old) (P.contents packets.new) (W.contents report.old) (W.contents report.new)) }
     ensures write { OnErr result (((P.count packets.new ≡ P.count packets.old + 1) × (W.count report.new ≡ W.count report.old))
         ⊎ ((P.count packets.new ≡ P.count packets.old) × (W.count report.new ≡ W.count report.old + 1))) }

@@ -1,19 +1,21 @@
 //! The next frame of a reader's symbols.
-ghost use Rattle.std.specs.Prelude.{◌≡◌, ◌≢◌, ◌+◌, ◌-◌, ◌*◌, ◌^◌, ◌<◌, ◌≤◌, ◌∷◌, [], ℕ, Bool, List, Option, IfOk, IsErr, length, true, false};
+ghost use Rattle.std.specs.Prelude.{◌≡◌, ◌≢◌, ◌+◌, ◌-◌, ◌*◌, ◌^◌, ◌<◌, ◌≤◌, ◌∷◌, [], ℕ, List, Option, IfOk, IsErr, length, true, false};
 ghost use Rattle.std.specs.Io.KnownBytes.{IsAtEnd};
 ghost use Rattle.s2_mode.specs.Counts.{CountsFault};
 ghost use Rattle.s2_mode.specs.Limits.{header_symbols, most_symbols};
+ghost use Rattle.s2_plframe.specs.declared.receive.found.Found.{Found};
 ghost use Rattle.s2_receive.specs.Meeting.{met_in, frame as met_frame};
 ghost use Rattle.s2_receive.specs.Finding.{Reaches, Meets, Looks, LiesWithin, IsFrameAfter, met_with, place_with, met_of, met_after, place_after};
 
 use crate::reading::read_symbols;
-use crate::search::{Search, first_header};
-use s2_mode::{CountedRead, HEADER_SYMBOLS, ReadFault, Symbol};
+use crate::scanning::look_through;
+use crate::search::Search;
+use s2_mode::{CountedRead, ReadFault, Symbol};
 
 /// What comes next in the stream; positions count symbols from 0.
 #[derive(Clone, Copy)]
-pub(crate) enum Found {
-    /// A frame that has all its symbols, and whether symbols were passed over before it.
+pub(crate) enum Next {
+    /// A coded frame that has all its symbols, and whether symbols were passed over before it.
     Frame { at: u64, over: bool },
     /// A frame that has so many symbols and lacks the others.
     Cut { at: u64, count: u64 },
@@ -24,11 +26,13 @@ pub(crate) enum Found {
 /// What is held of the stream at the front of a frame's buffer.
 #[derive(Clone, Copy)]
 struct Held {
-    /// The place of its first symbol, at which a frame may still begin.
+    /// The place of its first symbol.
     at: u64,
     /// Whether symbols were passed over before it.
     over: bool,
     count: usize,
+    /// How many symbols from the first on still belong to a dummy frame. Behind them a frame may begin.
+    inside: usize,
 }
 
 /// Reads so many symbols behind those that are held. Whether they came: if not the stream ended, where up to
@@ -43,9 +47,9 @@ fn fill<R: CountedRead>(
     requires count { R.count reader.old < 2 ^ 64 - 1 }
     requires bytes { length bytes.old ≡ 4 * length frame.old }
     requires room { held.old.count + wanted ≤ length frame.old }
-    ensures met { IfOk result (λ _. (passes : List Symbol → Bool) → Meets (met_with passes held.old frame.old (R.remaining reader.old)) (met_with passes held.new frame.new (R.remaining reader.new)) []) }
+    ensures met { IfOk result (λ _. (finds : List Symbol → Found) → Meets (met_with finds held.old frame.old (R.remaining reader.old)) (met_with finds held.new frame.new (R.remaining reader.new)) []) }
     ensures taken { IfOk result (λ _. Reaches (place_with held.new) (place_with held.old) (R.remaining reader.old) (R.remaining reader.new)) }
-    ensures held { IfOk result (λ _. (held.new.at ≡ held.old.at) × (held.new.over ≡ held.old.over)) }
+    ensures held { IfOk result (λ _. (held.new.at ≡ held.old.at) × (held.new.over ≡ held.old.over) × (held.new.inside ≡ held.old.inside)) }
     ensures full { IfOk result (λ full. full ≡ true → held.new.count ≡ held.old.count + wanted) }
     ensures end { IfOk result (λ full. full ≡ false → (held.new.count < held.old.count + wanted) × IsAtEnd (R.remaining reader.new)) }
     ensures cause { CountsFault (R.count reader.old) (R.count reader.new) result }
@@ -57,56 +61,60 @@ fn fill<R: CountedRead>(
 }
 
 /// What is met at the stream's end, where fewer symbols are held than a frame has.
-fn meet_last<S: Search>(search: &mut S, frame: &[Symbol], held: Held) -> Found
+fn meet_last<S: Search>(search: &mut S, frame: &[Symbol], held: Held) -> Next
     requires few { held.count < length frame.now }
+    requires size { length frame.now ≤ 2 ^ 32 }
     requires place { place_with held < 2 ^ 64 }
-    ensures met { (bytes : Option (List ℕ)) → IsAtEnd bytes → Meets (met_with (S.passes search.old) held frame.now bytes) (met_after (S.passes search.old) (length frame.now) result bytes) (met_of result frame.now ∷ []) }
+    ensures met { (bytes : Option (List ℕ)) → IsAtEnd bytes → Meets (met_with (S.finds search.old) held frame.now bytes) (met_after (S.finds search.old) (length frame.now) result bytes) (met_of result frame.now ∷ []) }
     ensures place { place_after (length frame.now) result ≡ place_with held }
     ensures frame { IsFrameAfter held.at result }
-    ensures same { S.passes search.new ≡ S.passes search.old }
+    ensures same { S.finds search.new ≡ S.finds search.old }
 {
-    match first_header(search, &frame[..held.count]) {
-        Some(before) => Found::Cut {
-            at: held.at + before as u64,
-            count: (held.count - before) as u64,
-        },
-        None => Found::End {
+    let scan = look_through(search, &frame[..held.count], held.inside, held.over);
+    if scan.coded {
+        Next::Cut {
+            at: held.at + scan.place as u64,
+            count: (held.count - scan.place) as u64,
+        }
+    } else {
+        Next::End {
             at: held.at + held.count as u64,
-        },
+        }
     }
 }
 
-/// Moves to the front of a full buffer what may begin a frame: what begins at its first header, or else its last
-/// 89 symbols. Whether symbols were passed over so: if not the buffer is a frame.
+/// Moves to the front of a full buffer what may begin a frame: what begins at the first coded frame's header, or else
+/// what lies behind the last dummy frame, at most 89 symbols. Whether symbols left the buffer so: if not it is a
+/// frame.
 fn pass_over<S: Search>(search: &mut S, frame: &mut [Symbol], held: &mut Held) -> bool
-    requires size { header_symbols ≤ length frame.old }
+    requires size { (header_symbols ≤ length frame.old) × (length frame.old ≤ 2 ^ 32) }
     requires full { held.old.count ≡ length frame.old }
     requires place { place_with held.old < 2 ^ 64 }
-    ensures stands { result ≡ false → (bytes : Option (List ℕ)) → Meets (met_with (S.passes search.old) held.old frame.old bytes)
-        (met_in (S.passes search.old) (length frame.old) (place_with held.old) false [] bytes) (met_frame held.new.at held.new.over frame.new ∷ []) }
-    ensures held { result ≡ false → held.new ≡ held.old }
-    ensures passed { result ≡ true → (bytes : Option (List ℕ)) → Meets (met_with (S.passes search.old) held.old frame.old bytes) (met_with (S.passes search.old) held.new frame.new bytes) [] }
+    ensures stands { result ≡ false → (bytes : Option (List ℕ)) → Meets (met_with (S.finds search.old) held.old frame.old bytes)
+        (met_in (S.finds search.old) (length frame.old) (place_with held.old) 0 false [] bytes) (met_frame held.new.at held.new.over frame.new ∷ []) }
+    ensures held { result ≡ false → held.new.at ≡ held.old.at }
+    ensures passed { result ≡ true → (bytes : Option (List ℕ)) → Meets (met_with (S.finds search.old) held.old frame.old bytes) (met_with (S.finds search.old) held.new frame.new bytes) [] }
     ensures further { result ≡ true → (held.old.at < held.new.at) × (place_with held.new ≡ place_with held.old) }
-    ensures same { S.passes search.new ≡ S.passes search.old }
+    ensures same { S.finds search.new ≡ S.finds search.old }
 {
     let size = frame.len();
-    let before = match first_header(search, frame) {
-        Some(before) => before,
-        None => size - (HEADER_SYMBOLS - 1),
-    };
-    if before == 0 {
+    let scan = look_through(search, frame, held.inside, held.over);
+    if scan.place == 0 {
+        held.over = scan.over;
         return false;
     }
-    frame.copy_within(before.., 0);
+    let gone = scan.place.min(size);
+    frame.copy_within(gone.., 0);
     *held = Held {
-        at: held.at + before as u64,
-        over: true,
-        count: size - before,
+        at: held.at + gone as u64,
+        over: scan.over,
+        count: size - gone,
+        inside: scan.place - gone,
     };
     true
 }
 
-/// Fills the buffer and looks for a frame in it: what is found, or nothing where symbols are only passed over. It
+/// Fills the buffer and looks for a frame in it: what is found, or nothing where symbols only left it. It
 /// fails where a read does, and where as many symbols were taken as may be.
 fn look<S: Search, R: CountedRead>(
     search: &mut S,
@@ -115,17 +123,17 @@ fn look<S: Search, R: CountedRead>(
     frame: &mut [Symbol],
     held: &mut Held,
     limit: u64,
-) -> Result<Option<Found>, ReadFault>
+) -> Result<Option<Next>, ReadFault>
     requires count { R.count reader.old < 2 ^ 64 - 1 }
     requires size { (header_symbols ≤ length frame.old) × (length frame.old ≤ 2 ^ 32) }
     requires bytes { length bytes.old ≡ 4 * length frame.old }
     requires held { held.old.count < length frame.old }
     requires place { place_with held.old ≤ limit }
     requires limit { limit ≤ most_symbols }
-    ensures looks { IfOk result (Looks (S.passes search.old) limit held.old held.new frame.old frame.new (R.remaining reader.old) (R.remaining reader.new)) }
+    ensures looks { IfOk result (Looks (S.finds search.old) limit held.old held.new frame.old frame.new (R.remaining reader.old) (R.remaining reader.new)) }
     ensures count { IfOk result (λ _. R.count reader.new ≡ R.count reader.old) }
     ensures cause { IsErr result → R.count reader.new ≢ R.count reader.old + 1 → (R.count reader.new ≡ R.count reader.old) × Reaches limit (place_with held.old) (R.remaining reader.old) (R.remaining reader.new) }
-    ensures same { S.passes search.new ≡ S.passes search.old }
+    ensures same { S.finds search.new ≡ S.finds search.old }
 {
     let size = frame.len();
     let left = limit - held.at - held.count as u64;
@@ -140,15 +148,17 @@ fn look<S: Search, R: CountedRead>(
     if pass_over(search, frame, held) {
         return Ok(None);
     }
-    let Held { at, over, count: _ } = *held;
-    Ok(Some(Found::Frame { at, over }))
+    Ok(Some(Next::Frame {
+        at: held.at,
+        over: held.over,
+    }))
 }
 
 /// Takes the symbols up to the end of the next frame, and leaves the frame's in `frame`.
 ///
-/// The buffer's first symbol is the first at which a frame may still begin. A whole frame's room is read at
-/// once and searched there; then what begins at the header, or the last 89 symbols, moves to the front. So
-/// nothing behind the frame is read, and no symbol is kept between two calls.
+/// No frame begins before the buffer's first symbol. A whole frame's room is read at once and searched there;
+/// then what begins at the header, or the last 89 symbols, moves to the front, and nothing where a dummy frame
+/// reaches past them. So nothing behind the frame is read, and no symbol is kept between two calls.
 pub(crate) fn find_frame<S: Search, R: CountedRead>(
     search: &mut S,
     reader: &mut R,
@@ -156,24 +166,25 @@ pub(crate) fn find_frame<S: Search, R: CountedRead>(
     frame: &mut [Symbol],
     start: u64,
     limit: u64,
-) -> Result<Found, ReadFault>
+) -> Result<Next, ReadFault>
     requires count { R.count reader.old < 2 ^ 64 - 1 }
     requires size { (header_symbols ≤ length frame.old) × (length frame.old ≤ 2 ^ 32) }
     requires bytes { length bytes.old ≡ 4 * length frame.old }
     requires start { start ≤ limit }
     requires limit { limit ≤ most_symbols }
-    ensures met { IfOk result (λ found. Meets (met_in (S.passes search.old) (length frame.old) start false [] (R.remaining reader.old))
-        (met_after (S.passes search.old) (length frame.old) found (R.remaining reader.new)) (met_of found frame.new ∷ [])) }
+    ensures met { IfOk result (λ found. Meets (met_in (S.finds search.old) (length frame.old) start 0 false [] (R.remaining reader.old))
+        (met_after (S.finds search.old) (length frame.old) found (R.remaining reader.new)) (met_of found frame.new ∷ [])) }
     ensures taken { IfOk result (λ found. Reaches (place_after (length frame.old) found) start (R.remaining reader.old) (R.remaining reader.new)) }
     ensures within { IfOk result (LiesWithin (length frame.old) start limit) }
     ensures count { IfOk result (λ _. R.count reader.new ≡ R.count reader.old) }
     ensures cause { IsErr result → R.count reader.new ≢ R.count reader.old + 1 → (R.count reader.new ≡ R.count reader.old) × Reaches limit start (R.remaining reader.old) (R.remaining reader.new) }
-    ensures same { S.passes search.new ≡ S.passes search.old }
+    ensures same { S.finds search.new ≡ S.finds search.old }
 {
     let mut held = Held {
         at: start,
         over: false,
         count: 0,
+        inside: 0,
     };
     'looking: loop {
         match look(search, reader, bytes, frame, &mut held, limit)? {

@@ -1,6 +1,6 @@
 //! The search for the frames of one mode.
 ghost use Rattle.std.specs.Prelude.{◌≡◌};
-ghost use Rattle.s2_receive.specs.Passing.{is_coded, passes_as};
+ghost use Rattle.s2_receive.specs.Windows.{found_as};
 ghost use Rattle.s2_plframe.specs.HeaderLaws.{seen_of};
 
 use crate::search::Search;
@@ -8,18 +8,8 @@ use s2_mode::{Mode, Symbol};
 use s2_plframe::Found;
 use std::marker::Model;
 
-/// Whether a search found the header of a coded frame.
-fn is_coded(found: Found) -> bool
-    ensures { result ≡ is_coded found }
-{
-    match found {
-        Found::Coded => true,
-        Found::Nothing | Found::Dummy => false,
-    }
-}
-
-/// Looks for the header of one mode's frames. The headers of dummy frames are passed over like any
-/// other symbols. To contracts it is what the search of `s2_plframe` is.
+/// Looks for the header of one mode's frames, and for those of dummy frames. To contracts it is what the
+/// search of `s2_plframe` is.
 #[derive(Drop)]
 pub struct HeaderSearch {
     search: s2_plframe::Search,
@@ -45,12 +35,12 @@ impl HeaderSearch {
 }
 
 impl Search for HeaderSearch {
-    ghost passes = { λ s. passes_as s.mode };
+    ghost finds = { λ s. found_as s.mode };
 
     ghost saw = { λ s seen. s.seen ≡ seen_of seen };
 
-    fn feed(&mut self, symbol: Symbol) -> bool {
-        is_coded(self.search.feed(symbol))
+    fn feed(&mut self, symbol: Symbol) -> Found {
+        self.search.feed(symbol)
     }
 
     fn restart(&mut self) {

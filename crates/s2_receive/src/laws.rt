@@ -8,7 +8,8 @@ pub fn joining()
 {}
 
 /// Frames that are received as they were sent, the first ones of a data stream, are met as just these,
-/// and give just the packets whose closing CRC-8 lies in their fields.
+/// and give just the packets whose closing CRC-8 lies in their fields, whatever dummy frames stand among
+/// them.
 pub fn reception()
     ensures { ReceptionLaw }
 {}
@@ -19,8 +20,9 @@ pub fn front()
     ensures { FrontLaw }
 {}
 
-/// The next frame stands at the first position that passes and has all its symbols from there, or is cut;
-/// where none passes the end comes.
+/// The next frame stands where the first header begins, if it is a coded frame's, and has all its symbols from
+/// there, or is cut; behind a dummy frame the search goes on as if its symbols were not there; where no header begins
+/// the end comes.
 pub fn searching()
     ensures { SearchLaw }
 {}

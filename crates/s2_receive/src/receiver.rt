@@ -7,7 +7,7 @@ ghost use Rattle.s2_receive.specs.declared.report.Phase.TheVariants as phases;
 ghost use Rattle.s2_receive.specs.Finding.{Reaches, Meets, LiesWithin, met_of, met_after, place_after};
 ghost use Rattle.s2_receive.specs.Receiving.{IsLive, StepAnswers, MetFrame, StandsBehind, begun, met_left, rules_in};
 
-use crate::finding::{Found, find_frame};
+use crate::finding::{Next, find_frame};
 use crate::parts::{Decide, Lines};
 use crate::report::{Fault, Phase, Step, Totals};
 use crate::search::Search;
@@ -142,8 +142,9 @@ impl<S: Search, D: Decide, L: Lines> Receiver<S, D, L> {
 
     /// Takes one step: the next frame, one that lacks symbols, or the end, with its packets and its line.
     ///
-    /// A frame stands at the first position, not before the last frame's end, that passes. The joiner has a
-    /// gap where symbols were passed over, where a frame isn't delivered, and after a cut. After `Cut` comes
+    /// A frame stands where the first coded frame's header begins, not before the last frame's end and in no
+    /// dummy frame: of these the symbols are passed, and nothing is told. The joiner has a gap where other
+    /// symbols were passed over, where a frame isn't delivered, and after a cut. After `Cut` comes
     /// `End`, after `End` comes `End` and nothing is written. `Read` comes where a read failed or where the
     /// limit was reached, `Write` where one of the two writers failed, which then has a part of the step's
     /// packets or of its line; from a fault on every call answers `Failed` and reads and writes nothing.
@@ -156,14 +157,14 @@ impl<S: Search, D: Decide, L: Lines> Receiver<S, D, L> {
         requires reader { R.count reader.old < 2 ^ 64 - 1 }
         requires packets { P.count packets.old < 2 ^ 64 - 1 }
         requires report { W.count report.old < 2 ^ 64 - 1 }
-        ensures rules { rules_in S.passes D.decide L.frame_line L.cut_line L.end_line self.new
-            ≡ rules_in S.passes D.decide L.frame_line L.cut_line L.end_line self.old }
+        ensures rules { rules_in S.finds D.decide L.frame_line L.cut_line L.end_line self.new
+            ≡ rules_in S.finds D.decide L.frame_line L.cut_line L.end_line self.old }
         ensures live { IsLive self.old.state.phase → StepAnswers
-            (rules_in S.passes D.decide L.frame_line L.cut_line L.end_line self.old) self.old.state self.new.state
+            (rules_in S.finds D.decide L.frame_line L.cut_line L.end_line self.old) self.old.state self.new.state
             (R.remaining reader.old) (R.remaining reader.new)
             (P.contents packets.old) (P.contents packets.new) (W.contents report.old) (W.contents report.new) result }
         ensures frame { (r : ReportValue) → result ≡ Ok (Step.Frame r) → MetFrame
-            (rules_in S.passes D.decide L.frame_line L.cut_line L.end_line self.old) self.old.state self.new.state
+            (rules_in S.finds D.decide L.frame_line L.cut_line L.end_line self.old) self.old.state self.new.state
             (R.remaining reader.old) (R.remaining reader.new)
             (P.contents packets.old) (P.contents packets.new) (W.contents report.old) (W.contents report.new) r (D.last self.new.decider) }
         ensures taken { StandsBehind (length self.old.frame) self.new.state.at result }
@@ -195,15 +196,15 @@ impl<S: Search, D: Decide, L: Lines> Receiver<S, D, L> {
         requires packets { P.count packets.old < 2 ^ 64 - 1 }
         requires report { W.count report.old < 2 ^ 64 - 1 }
         requires live { IsLive self.old.state.phase }
-        ensures rules { rules_in S.passes D.decide L.frame_line L.cut_line L.end_line self.new
-            ≡ rules_in S.passes D.decide L.frame_line L.cut_line L.end_line self.old }
+        ensures rules { rules_in S.finds D.decide L.frame_line L.cut_line L.end_line self.new
+            ≡ rules_in S.finds D.decide L.frame_line L.cut_line L.end_line self.old }
         ensures few { self.old.state.standing.totals.frames ≤ most_symbols }
         ensures step { StepAnswers
-            (rules_in S.passes D.decide L.frame_line L.cut_line L.end_line self.old) self.old.state self.new.state
+            (rules_in S.finds D.decide L.frame_line L.cut_line L.end_line self.old) self.old.state self.new.state
             (R.remaining reader.old) (R.remaining reader.new)
             (P.contents packets.old) (P.contents packets.new) (W.contents report.old) (W.contents report.new) (answer_of result) }
         ensures frame { (r : ReportValue) → result ≡ Ok (Step.Frame r) → MetFrame
-            (rules_in S.passes D.decide L.frame_line L.cut_line L.end_line self.old) self.old.state self.new.state
+            (rules_in S.finds D.decide L.frame_line L.cut_line L.end_line self.old) self.old.state self.new.state
             (R.remaining reader.old) (R.remaining reader.new)
             (P.contents packets.old) (P.contents packets.new) (W.contents report.old) (W.contents report.new) r (D.last self.new.decider) }
         ensures taken { StandsBehind (length self.old.frame) self.new.state.at result }
@@ -224,15 +225,15 @@ impl<S: Search, D: Decide, L: Lines> Receiver<S, D, L> {
     }
 
     /// What comes next in the stream. From here on the receiver counts as failed, until what was found is told.
-    fn find<R: CountedRead>(&mut self, reader: &mut R) -> Result<Found, ReadFault>
+    fn find<R: CountedRead>(&mut self, reader: &mut R) -> Result<Next, ReadFault>
         requires reader { R.count reader.old < 2 ^ 64 - 1 }
         requires live { IsLive self.old.state.phase }
-        ensures rules { rules_in S.passes D.decide L.frame_line L.cut_line L.end_line self.new ≡ rules_in S.passes D.decide L.frame_line L.cut_line L.end_line self.old }
+        ensures rules { rules_in S.finds D.decide L.frame_line L.cut_line L.end_line self.new ≡ rules_in S.finds D.decide L.frame_line L.cut_line L.end_line self.old }
         ensures few { self.old.state.standing.totals.frames ≤ most_symbols }
         ensures state { self.new.state ≡ record self.old.state { phase = phases.Failed } }
         ensures decider { self.new.decider ≡ self.old.decider }
-        ensures met { IfOk result (λ found. Meets (met_left (rules_in S.passes D.decide L.frame_line L.cut_line L.end_line self.old) self.old.state.phase self.old.state.at (R.remaining reader.old))
-            (met_after (S.passes self.old.search) (length self.old.frame) found (R.remaining reader.new)) (met_of found self.new.frame ∷ [])) }
+        ensures met { IfOk result (λ found. Meets (met_left (rules_in S.finds D.decide L.frame_line L.cut_line L.end_line self.old) self.old.state.phase self.old.state.at (R.remaining reader.old))
+            (met_after (S.finds self.old.search) (length self.old.frame) found (R.remaining reader.new)) (met_of found self.new.frame ∷ [])) }
         ensures taken { IfOk result (λ found. Reaches (place_after (length self.old.frame) found) self.old.state.at (R.remaining reader.old) (R.remaining reader.new)) }
         ensures within { IfOk result (LiesWithin (length self.old.frame) self.old.state.at self.old.limit) }
         ensures count { IfOk result (λ _. R.count reader.new ≡ R.count reader.old) }
@@ -245,7 +246,7 @@ impl<S: Search, D: Decide, L: Lines> Receiver<S, D, L> {
         } = self.place;
         self.place.phase = Phase::Failed;
         if phase == Phase::Closing {
-            return Ok(Found::End { at });
+            return Ok(Next::End { at });
         }
         find_frame(
             &mut self.search,

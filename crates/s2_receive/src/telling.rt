@@ -7,7 +7,7 @@ ghost use Rattle.s2_receive.specs.Receiving.{Tells, IsDecided, rules_in};
 ghost use Rattle.s2_receive.specs.Stepping.{CountWrites};
 
 use crate::delivering::give_packets;
-use crate::finding::Found;
+use crate::finding::Next;
 use crate::parts::{Decide, Lines};
 use crate::receiver::{Place, Receiver};
 use crate::report::{Phase, Report, Step, Totals};
@@ -28,8 +28,8 @@ impl<S: Search, D: Decide, L: Lines> Receiver<S, D, L> {
         requires report { W.count report.old < 2 ^ 64 - 1 }
         requires start { self.old.state.at ≤ at }
         requires room { at + length self.old.frame ≤ self.old.limit }
-        ensures rules { rules_in S.passes D.decide L.frame_line L.cut_line L.end_line self.new ≡ rules_in S.passes D.decide L.frame_line L.cut_line L.end_line self.old }
-        ensures tells { Tells (rules_in S.passes D.decide L.frame_line L.cut_line L.end_line self.old) self.old.state self.new.state (frame at over self.old.frame) (at + length self.old.frame)
+        ensures rules { rules_in S.finds D.decide L.frame_line L.cut_line L.end_line self.new ≡ rules_in S.finds D.decide L.frame_line L.cut_line L.end_line self.old }
+        ensures tells { Tells (rules_in S.finds D.decide L.frame_line L.cut_line L.end_line self.old) self.old.state self.new.state (frame at over self.old.frame) (at + length self.old.frame)
             (P.contents packets.old) (P.contents packets.new) (W.contents report.old) (W.contents report.new) result }
         ensures counts { CountWrites (P.count packets.old) (P.count packets.new) (W.count report.old) (W.count report.new) result }
         ensures last { D.last self.new.decider ≡ D.decide self.old.decider self.old.frame }
@@ -74,8 +74,8 @@ impl<S: Search, D: Decide, L: Lines> Receiver<S, D, L> {
         requires report { W.count report.old < 2 ^ 64 - 1 }
         requires start { self.old.state.at ≤ at + count }
         requires room { at + count ≤ self.old.limit }
-        ensures rules { rules_in S.passes D.decide L.frame_line L.cut_line L.end_line self.new ≡ rules_in S.passes D.decide L.frame_line L.cut_line L.end_line self.old }
-        ensures tells { (packets : Option (List ℕ)) → Tells (rules_in S.passes D.decide L.frame_line L.cut_line L.end_line self.old) self.old.state self.new.state (cut at count) (at + count) packets packets (W.contents report.old) (W.contents report.new) result }
+        ensures rules { rules_in S.finds D.decide L.frame_line L.cut_line L.end_line self.new ≡ rules_in S.finds D.decide L.frame_line L.cut_line L.end_line self.old }
+        ensures tells { (packets : Option (List ℕ)) → Tells (rules_in S.finds D.decide L.frame_line L.cut_line L.end_line self.old) self.old.state self.new.state (cut at count) (at + count) packets packets (W.contents report.old) (W.contents report.new) result }
         ensures cause { CountsFault (W.count report.old) (W.count report.new) result }
     {
         self.joiner.gap();
@@ -91,8 +91,8 @@ impl<S: Search, D: Decide, L: Lines> Receiver<S, D, L> {
         requires report { W.count report.old < 2 ^ 64 - 1 }
         requires start { self.old.state.at ≤ at }
         requires room { at ≤ self.old.limit }
-        ensures rules { rules_in S.passes D.decide L.frame_line L.cut_line L.end_line self.new ≡ rules_in S.passes D.decide L.frame_line L.cut_line L.end_line self.old }
-        ensures tells { (packets : Option (List ℕ)) → Tells (rules_in S.passes D.decide L.frame_line L.cut_line L.end_line self.old) self.old.state self.new.state ended at packets packets (W.contents report.old) (W.contents report.new) result }
+        ensures rules { rules_in S.finds D.decide L.frame_line L.cut_line L.end_line self.new ≡ rules_in S.finds D.decide L.frame_line L.cut_line L.end_line self.old }
+        ensures tells { (packets : Option (List ℕ)) → Tells (rules_in S.finds D.decide L.frame_line L.cut_line L.end_line self.old) self.old.state self.new.state ended at packets packets (W.contents report.old) (W.contents report.new) result }
         ensures cause { CountsFault (W.count report.old) (W.count report.new) result }
     {
         self.lines.write_end(self.place.totals, report)?;
@@ -105,23 +105,23 @@ impl<S: Search, D: Decide, L: Lines> Receiver<S, D, L> {
     /// the receiver stands changes only where all of it was written.
     pub(crate) fn tell<P: CountedWrite, W: CountedWrite>(
         &mut self,
-        found: Found,
+        found: Next,
         packets: &mut P,
         report: &mut W,
     ) -> Result<Step, WriteFault>
         requires packets { P.count packets.old < 2 ^ 64 - 1 }
         requires report { W.count report.old < 2 ^ 64 - 1 }
         requires within { LiesWithin (length self.old.frame) self.old.state.at self.old.limit found }
-        ensures rules { rules_in S.passes D.decide L.frame_line L.cut_line L.end_line self.new ≡ rules_in S.passes D.decide L.frame_line L.cut_line L.end_line self.old }
-        ensures tells { Tells (rules_in S.passes D.decide L.frame_line L.cut_line L.end_line self.old) self.old.state self.new.state (met_of found self.old.frame) (place_after (length self.old.frame) found)
+        ensures rules { rules_in S.finds D.decide L.frame_line L.cut_line L.end_line self.new ≡ rules_in S.finds D.decide L.frame_line L.cut_line L.end_line self.old }
+        ensures tells { Tells (rules_in S.finds D.decide L.frame_line L.cut_line L.end_line self.old) self.old.state self.new.state (met_of found self.old.frame) (place_after (length self.old.frame) found)
             (P.contents packets.old) (P.contents packets.new) (W.contents report.old) (W.contents report.new) result }
         ensures counts { CountWrites (P.count packets.old) (P.count packets.new) (W.count report.old) (W.count report.new) result }
-        ensures decided { IsDecided (rules_in S.passes D.decide L.frame_line L.cut_line L.end_line self.old) (met_of found self.old.frame) (D.last self.new.decider) }
+        ensures decided { IsDecided (rules_in S.finds D.decide L.frame_line L.cut_line L.end_line self.old) (met_of found self.old.frame) (D.last self.new.decider) }
     {
         match found {
-            Found::Frame { at, over } => self.deliver(at, over, packets, report),
-            Found::Cut { at, count } => self.meet_cut(at, count, report),
-            Found::End { at } => self.meet_end(at, report),
+            Next::Frame { at, over } => self.deliver(at, over, packets, report),
+            Next::Cut { at, count } => self.meet_cut(at, count, report),
+            Next::End { at } => self.meet_end(at, report),
         }
     }
 }

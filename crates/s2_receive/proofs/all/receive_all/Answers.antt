@@ -7,12 +7,12 @@ use Rattle.s2_receive.proofs.all.receive_all.Goals as goal
 
 pub steps-init : goal.steps-init
 steps-init g c =
-    (([], went_none (rules_in g.S.Search.passes g.D.Decide.decide g.L.Lines.frame_line g.L.Lines.cut_line g.L.Lines.end_line c.args.receiver.now) c.args.receiver.now.state _ _ _, refl), refl, c.requires.live, refl, refl, refl)
+    (([], went_none (rules_in g.S.Search.finds g.D.Decide.decide g.L.Lines.frame_line g.L.Lines.cut_line g.L.Lines.end_line c.args.receiver.now) c.args.receiver.now.state _ _ _, refl), refl, c.requires.live, refl, refl, refl)
 
 pub returns-then-eq-clause-all : goal.returns-then-eq-clause-all
 returns-then-eq-clause-all g c =
-    let rules : Rules = rules_in g.S.Search.passes g.D.Decide.decide g.L.Lines.frame_line g.L.Lines.cut_line g.L.Lines.end_line c.args.receiver.now in
-    let now : Rules = rules_in g.S.Search.passes g.D.Decide.decide g.L.Lines.frame_line g.L.Lines.cut_line g.L.Lines.end_line c.steps.receiver in
+    let rules : Rules = rules_in g.S.Search.finds g.D.Decide.decide g.L.Lines.frame_line g.L.Lines.cut_line g.L.Lines.end_line c.args.receiver.now in
+    let now : Rules = rules_in g.S.Search.finds g.D.Decide.decide g.L.Lines.frame_line g.L.Lines.cut_line g.L.Lines.end_line c.steps.receiver in
     let s : State = c.args.receiver.now.state in
     let t : State = c.steps.receiver.state in
     let r = g.R.CountedRead.remaining c.args.reader.now in
@@ -36,8 +36,8 @@ as_fault {S} {T} {e} {f} h = ap (λ x. Err x) (ap (fault_of f) h)
 
 pub returns-in-Err-clause-read : goal.returns-in-Err-clause-read
 returns-in-Err-clause-read g c = λ is other.
-    let rules : Rules = rules_in g.S.Search.passes g.D.Decide.decide g.L.Lines.frame_line g.L.Lines.cut_line g.L.Lines.end_line c.args.receiver.now in
-    let now : Rules = rules_in g.S.Search.passes g.D.Decide.decide g.L.Lines.frame_line g.L.Lines.cut_line g.L.Lines.end_line c.steps.receiver in
+    let rules : Rules = rules_in g.S.Search.finds g.D.Decide.decide g.L.Lines.frame_line g.L.Lines.cut_line g.L.Lines.end_line c.args.receiver.now in
+    let now : Rules = rules_in g.S.Search.finds g.D.Decide.decide g.L.Lines.frame_line g.L.Lines.cut_line g.L.Lines.end_line c.steps.receiver in
     let s : State = c.args.receiver.now.state in
     let t : State = c.steps.receiver.state in
     let r = g.R.CountedRead.remaining c.args.reader.now in
@@ -59,8 +59,8 @@ returns-in-Err-clause-read g c = λ is other.
 
 pub steps-preserved : goal.steps-preserved
 steps-preserved g c =
-    let rules : Rules = rules_in g.S.Search.passes g.D.Decide.decide g.L.Lines.frame_line g.L.Lines.cut_line g.L.Lines.end_line c.args.receiver.now in
-    let now : Rules = rules_in g.S.Search.passes g.D.Decide.decide g.L.Lines.frame_line g.L.Lines.cut_line g.L.Lines.end_line c.steps.receiver in
+    let rules : Rules = rules_in g.S.Search.finds g.D.Decide.decide g.L.Lines.frame_line g.L.Lines.cut_line g.L.Lines.end_line c.args.receiver.now in
+    let now : Rules = rules_in g.S.Search.finds g.D.Decide.decide g.L.Lines.frame_line g.L.Lines.cut_line g.L.Lines.end_line c.steps.receiver in
     let s : State = c.args.receiver.now.state in
     let t : State = c.steps.receiver.state in
     let r = g.R.CountedRead.remaining c.args.reader.now in
@@ -78,8 +78,8 @@ steps-preserved g c =
 
 pub steps-smaller : goal.steps-smaller
 steps-smaller g c =
-    let rules : Rules = rules_in g.S.Search.passes g.D.Decide.decide g.L.Lines.frame_line g.L.Lines.cut_line g.L.Lines.end_line c.args.receiver.now in
-    let now : Rules = rules_in g.S.Search.passes g.D.Decide.decide g.L.Lines.frame_line g.L.Lines.cut_line g.L.Lines.end_line c.steps.receiver in
+    let rules : Rules = rules_in g.S.Search.finds g.D.Decide.decide g.L.Lines.frame_line g.L.Lines.cut_line g.L.Lines.end_line c.args.receiver.now in
+    let now : Rules = rules_in g.S.Search.finds g.D.Decide.decide g.L.Lines.frame_line g.L.Lines.cut_line g.L.Lines.end_line c.steps.receiver in
     let s : State = c.args.receiver.now.state in
     let t : State = c.steps.receiver.state in
     let r = g.R.CountedRead.remaining c.args.reader.now in
@@ -98,7 +98,7 @@ steps-smaller g c =
 
 pub returns-in-Err-clause-stops : goal.returns-in-Err-clause-stops
 returns-in-Err-clause-stops g c = λ is.
-    let rules : Rules = rules_in g.S.Search.passes g.D.Decide.decide g.L.Lines.frame_line g.L.Lines.cut_line g.L.Lines.end_line c.args.receiver.now in
+    let rules : Rules = rules_in g.S.Search.finds g.D.Decide.decide g.L.Lines.frame_line g.L.Lines.cut_line g.L.Lines.end_line c.args.receiver.now in
     let s : State = c.args.receiver.now.state in
     let t : State = c.steps.receiver.state in
     let p = g.P.CountedWrite.contents c.args.packets.now in

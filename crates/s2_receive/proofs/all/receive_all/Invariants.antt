@@ -8,16 +8,16 @@ use Rattle.s2_receive.proofs.all.receive_all.Given as goal
 abbrev pub invariant-steps : goal.invariant-steps
 invariant-steps g l =
     ((met : List Met) × Went
-    (rules_in g.S.Search.passes g.D.Decide.decide g.L.Lines.frame_line g.L.Lines.cut_line g.L.Lines.end_line l.fn.receiver)
+    (rules_in g.S.Search.finds g.D.Decide.decide g.L.Lines.frame_line g.L.Lines.cut_line g.L.Lines.end_line l.fn.receiver)
     l.fn.receiver.state
     l.receiver.state
     (g.R.CountedRead.remaining l.fn.reader) (g.R.CountedRead.remaining l.reader) (g.P.CountedWrite.contents l.fn.packets) (g.P.CountedWrite.contents l.packets)
     (g.W.CountedWrite.contents l.fn.report) (g.W.CountedWrite.contents l.report) met
     × (l.well ≡ all_well
-    (rules_in g.S.Search.passes g.D.Decide.decide g.L.Lines.frame_line g.L.Lines.cut_line g.L.Lines.end_line l.fn.receiver)
+    (rules_in g.S.Search.finds g.D.Decide.decide g.L.Lines.frame_line g.L.Lines.cut_line g.L.Lines.end_line l.fn.receiver)
     l.fn.receiver.state.standing met))
-    × (rules_in g.S.Search.passes g.D.Decide.decide g.L.Lines.frame_line g.L.Lines.cut_line g.L.Lines.end_line l.receiver
-    ≡ rules_in g.S.Search.passes g.D.Decide.decide g.L.Lines.frame_line g.L.Lines.cut_line g.L.Lines.end_line l.fn.receiver)
+    × (rules_in g.S.Search.finds g.D.Decide.decide g.L.Lines.frame_line g.L.Lines.cut_line g.L.Lines.end_line l.receiver
+    ≡ rules_in g.S.Search.finds g.D.Decide.decide g.L.Lines.frame_line g.L.Lines.cut_line g.L.Lines.end_line l.fn.receiver)
     × IsLive l.receiver.state.phase
     × (g.R.Counted.count l.reader ≡ g.R.Counted.count l.fn.reader)
     × (g.P.Counted.count l.packets ≡ g.P.Counted.count l.fn.packets)

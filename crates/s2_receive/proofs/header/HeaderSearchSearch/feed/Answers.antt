@@ -1,6 +1,5 @@
 use Rattle.std.proofs.Common.{◌∷◌, ◌++◌, [], ap, ◌∙◌}
 use Rattle.s2_plframe.specs.Search.{decision, found, recent}
-use Rattle.s2_receive.specs.Passing.{is_coded}
 use Rattle.s2_receive.proofs.HeaderWindows.{fed}
 use Rattle.s2_receive.proofs.header.HeaderSearchSearch.feed.Goals as goal
 
@@ -10,5 +9,5 @@ returns-clause-header c = λ seen saw.
     let same = c.self.view_is in
     let next = decision c.args.symbol in (
       ap (λ s. s.seen) c.feed.ensures.seen ∙ (ap (λ s. recent (s.seen ++ next ∷ [])) same ∙ told.0),
-      c.is_coded.ensures ∙ (ap is_coded (c.feed.ensures.found ∙ ap (λ s. found s.mode (recent (s.seen ++ next ∷ []))) same) ∙ told.1),
+      c.feed.ensures.found ∙ ap (λ s. found s.mode (recent (s.seen ++ next ∷ []))) same ∙ told.1,
     )

@@ -13,7 +13,7 @@ step_in result other = other
 
 pub returns-in_default-tell-clause-step : goal.returns-in_default-tell-clause-step
 returns-in_default-tell-clause-step g c =
-    let rules : Rules = rules_in g.S.Search.passes g.D.Decide.decide g.L.Lines.frame_line g.L.Lines.cut_line g.L.Lines.end_line c.args.self.now in
+    let rules : Rules = rules_in g.S.Search.finds g.D.Decide.decide g.L.Lines.frame_line g.L.Lines.cut_line g.L.Lines.end_line c.args.self.now in
     let mid : State = c.find.new.self.state in
     let found = c.in-Ok.found in
     let symbols = c.find.new.self.frame in
@@ -29,7 +29,7 @@ returns-in_default-tell-clause-step g c =
 
 pub returns-clause-step : goal.returns-clause-step
 returns-clause-step g c =
-    let rules : Rules = rules_in g.S.Search.passes g.D.Decide.decide g.L.Lines.frame_line g.L.Lines.cut_line g.L.Lines.end_line c.args.self.now in
+    let rules : Rules = rules_in g.S.Search.finds g.D.Decide.decide g.L.Lines.frame_line g.L.Lines.cut_line g.L.Lines.end_line c.args.self.now in
     let mid : State = c.find.new.self.state in
     let new : State = c.tell.new.self.state in
     let found = c.in-Ok.found in
@@ -44,7 +44,7 @@ returns-clause-step g c =
 
 pub returns-clause-frame : goal.returns-clause-frame
 returns-clause-frame g c = λ report is.
-    let rules : Rules = rules_in g.S.Search.passes g.D.Decide.decide g.L.Lines.frame_line g.L.Lines.cut_line g.L.Lines.end_line c.args.self.now in
+    let rules : Rules = rules_in g.S.Search.finds g.D.Decide.decide g.L.Lines.frame_line g.L.Lines.cut_line g.L.Lines.end_line c.args.self.now in
     let old : State = c.args.self.now.state in
     let mid : State = c.find.new.self.state in
     let new : State = c.tell.new.self.state in

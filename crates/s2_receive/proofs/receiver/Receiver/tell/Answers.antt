@@ -5,7 +5,7 @@ use Rattle.s2_receive.proofs.receiver.Receiver.tell.Goals as goal
 
 pub returns-in-Cut-clause-tells : goal.returns-in-Cut-clause-tells
 returns-in-Cut-clause-tells g c =
-    let rules : Rules = rules_in g.S.Search.passes g.D.Decide.decide g.L.Lines.frame_line g.L.Lines.cut_line g.L.Lines.end_line c.args.self.now in
+    let rules : Rules = rules_in g.S.Search.finds g.D.Decide.decide g.L.Lines.frame_line g.L.Lines.cut_line g.L.Lines.end_line c.args.self.now in
     let frame = c.args.self.now.frame in
     let p = g.P.CountedWrite.contents c.args.packets.now in
     subst (λ found. Tells rules c.args.self.now.state c.meet_cut.new.self.state (met_of found frame) (place_after (length frame) found) p p (g.W.CountedWrite.contents c.args.report.now) (g.W.CountedWrite.contents c.meet_cut.new.report) c.meet_cut.result)
@@ -13,7 +13,7 @@ returns-in-Cut-clause-tells g c =
 
 pub returns-in-End-clause-tells : goal.returns-in-End-clause-tells
 returns-in-End-clause-tells g c =
-    let rules : Rules = rules_in g.S.Search.passes g.D.Decide.decide g.L.Lines.frame_line g.L.Lines.cut_line g.L.Lines.end_line c.args.self.now in
+    let rules : Rules = rules_in g.S.Search.finds g.D.Decide.decide g.L.Lines.frame_line g.L.Lines.cut_line g.L.Lines.end_line c.args.self.now in
     let frame = c.args.self.now.frame in
     let p = g.P.CountedWrite.contents c.args.packets.now in
     subst (λ found. Tells rules c.args.self.now.state c.meet_end.new.self.state (met_of found frame) (place_after (length frame) found) p p (g.W.CountedWrite.contents c.args.report.now) (g.W.CountedWrite.contents c.meet_end.new.report) c.meet_end.result)
