@@ -1,9 +1,9 @@
 -- A frame without noise is delivered, certified, with nothing changed.
-use Rattle.std.proofs.Common.{◌≡◌, ℕ, zero, suc, ◌+◌, ◌-◌, ◌*◌, ◌/◌, ◌%◌, ◌<◌, ◌≤◌, ◌==◌, Bool, true, false, List, [], ◌∷◌, ◌++◌, length, take, drop, map, get_or, Option, Some, None, Ok, refl, sym, ap, subst, ◌∙◌, arith, append_assoc, length-append, length-take, length-drop, ℤ}
+use Rattle.std.proofs.Common.{◌≡◌, ℕ, zero, suc, ◌+◌, ◌-◌, ◌*◌, ◌/◌, ◌%◌, ◌<◌, ◌≤◌, Bool, true, false, List, [], ◌∷◌, ◌++◌, length, take, drop, map, get_or, Option, Some, None, Ok, refl, sym, ap, subst, ◌∙◌, arith, append_assoc, length-append, length-take, length-drop, ℤ}
 use Rattle.std.specs.Prelude.{◌||◌}
 use Rattle.std.specs.Int.{w16, to_be_bytes}
-use Rattle.std.proofs.lemmas.Bool.{eqb-true, le-leb, eq-eqb}
-use Rattle.std.proofs.lemmas.List.{ext_get_or, get_or-take, get_or-drop, get_or-append_right, take_at, drop_at, take_all, length-map}
+use Rattle.std.proofs.lemmas.Bool.{le-leb, eq-eqb}
+use Rattle.std.proofs.lemmas.List.{ext_get_or, get_or-take, get_or-drop, get_or-append_right, take_at, drop_at, take_all}
 use Rattle.std.proofs.lemmas.List.FromFn.{fill_by_all, length-map-range_with_len}
 use Rattle.std.proofs.lemmas.List.Elements.{All-nil, All-cons, All-head, All-tail, All-append}
 use Rattle.s2_mode.specs.Mode.{Mode, IsMode, HasCodeSizes, k_of, kbch_of, n_of, t_of, symbols_in}
@@ -19,7 +19,6 @@ use Rattle.s2_bbframe.specs.Crc.{crc8}
 use Rattle.s2_bbframe.specs.declared.header.Header.{Header}
 use Rattle.s2_bbframe.specs.Headers.{header_bytes, has_valid_lengths, header_of_bytes, signalling}
 use Rattle.s2_bbframe.specs.DataStream.{header_at, to_place, field_bytes}
-use Rattle.s2_bbframe.proofs.Finite.{at_number}
 use Rattle.s2_bbframe.proofs.Headers.{header_of_bytes-header_bytes}
 use Rattle.s2_bbframe.proofs.Division.{divided}
 use Rattle.s2_scramble.specs.Baseband.{scrambled}
@@ -34,7 +33,7 @@ use Rattle.s2_soft.specs.Soft.{soft_bit}
 use Rattle.s2_receive.specs.Laws.{IsReceived}
 use Rattle.s2_link.specs.Link.{Link, HasShape}
 use Rattle.s2_send.specs.Frames.{padded_bits, baseband_frame, IsCodewordFor}
-use Rattle.s2_receive.specs.Passing.{is_coded, passes_as}
+use Rattle.s2_receive.specs.Windows.{found_as}
 use Rattle.s2_judge.specs.Deciding.{Decided, decided}
 use Rattle.s2_link.specs.Tuning.{Tuning}
 use Rattle.s2_modem.specs.Reports.{frame_soft, received_word, message_of, header_in, field_in, outcome_by, delivered_by, decision_by, decision_on, frame_decision}
@@ -51,7 +50,7 @@ use Rattle.s2_judge.proofs.Scattering.{scattered_lem}
 use Rattle.s2_judge.proofs.DecidedLengths.{decided_long}
 use Rattle.s2_modem.proofs.DecisionLemmas.{code_is}
 use Rattle.s2_send.proofs.OnlyFrames.{length-baseband_frame, length-bch_word}
-use Rattle.s2_receive.proofs.HeaderWindows.{coded_window}
+use Rattle.s2_modem.proofs.Dummies.{dummy_is}
 use Rattle.s2_modem.proofs.Points.{received}
 
 -- ---- bytes out of their bits
@@ -245,15 +244,9 @@ module _ (link : Link) (valid : IsMode link.setup.mode) (sizes : HasCodeSizes li
     least_symbols : 90 ≤ symbols_in m
     least_symbols = omega (arith, (frame_sizes m valid).symbols)
 
-    passes_sent : (codeword : List Bool) → found m (map decision (take 90 (sent_symbols link codeword))) ≡ founds.Coded → passes_as m (take 90 (sent_symbols link codeword)) ≡ true
-    unfolding passes_as
-    passes_sent codeword coded =
-        let window = map decision (take 90 (sent_symbols link codeword)) in
-        let long : length window ≡ length (take 90 (sent_symbols link codeword)) = length-map (take 90 (sent_symbols link codeword)) decision in
-        let part = length-take 90 (sent_symbols link codeword) in
-        let all = length_sent codeword in
-        let least = least_symbols in
-        sym (coded_window m 90 window (λ lt. absurd (omega (arith, lt))) (λ le. omega (arith, long, part, all, least))) ∙ ap is_coded coded
+    found_sent : (codeword : List Bool) → found m (map decision (take 90 (sent_symbols link codeword))) ≡ founds.Coded → found_as m (take 90 (sent_symbols link codeword)) ≡ founds.Coded
+    unfolding found_as
+    found_sent codeword coded = coded
 
     hears_frame : (at : ℕ) (field : List ℕ) (codeword : List Bool) → AreBytes field → to_place at < length field → length field ≤ field_bytes m
         → IsCodewordFor m link.rows (header_at link.setup.roll_off at field) field codeword
@@ -268,7 +261,7 @@ module _ (link : Link) (valid : IsMode link.setup.mode) (sizes : HasCodeSizes li
         let is : IsCodeword (code_of link.rows) (hard_decision soft) = subst (IsCodeword (code_of link.rows)) (sym hard) c.is_codeword.in_code in
         let sure = clean_lem link.rows tuning soft is in
         let given = codeword_delivers tuning at symbols field codeword ro bytes place fits c (ap (λ d. d.bits) sure ∙ hard) in (
-          (length_sent codeword, passes_sent codeword heard.header, given.delivered),
+          (length_sent codeword, found_sent codeword heard.header, given.delivered),
           record { verdict = frame_verdict link tuning symbols ∙ ap (λ d. d.verdict) sure; outcome = given.outcome },
         )
 
@@ -277,6 +270,7 @@ module _ (link : Link) (valid : IsMode link.setup.mode) (sizes : HasCodeSizes li
       size = refl;
       least = least_symbols;
       field_least = omega (arith, sizes.field_least);
+      dummies = dummy_is m link.setup.number valid;
       frames = hears_frame;
     }
 
@@ -287,9 +281,9 @@ module _ (m : Mode) (valid : IsMode m) (sizes : HasCodeSizes m) where
   hears_law link tuning limit linked ro = hears link (subst IsMode (sym linked.0) valid) (subst HasCodeSizes (sym linked.0) sizes) linked.1 ro tuning limit
 
   pub arrival_law : ArrivalLaw m
-  arrival_law link tuning most count_old count_new source symbols counts totals source_left p p' w w' linked ro bytes runs got =
-      let a = arrives link (link_rules link tuning most_symbols) most count_old count_new source symbols counts got.state source_left got.left p p' w w' (hears_law link tuning most_symbols linked ro) bytes runs got.runs_out in
-      record { packets = a.packets; totals_are = got.totals_are ∙ a.totals; fields = a.fields; frames = a.frames; lines = a.lines }
+  arrival_law t tuning count_old count_new source symbols counts totals source_left p p' w w' linked ro bytes runs got =
+      let a = arrives t (link_rules t.link tuning most_symbols) count_old count_new source symbols counts got.state source_left got.left p p' w w' (hears_law t.link tuning most_symbols linked ro) bytes runs got.runs_out in
+      record { packets = a.packets; totals_are = got.totals_are ∙ a.totals; lines = a.lines }
 
   pub likely_law : LikelyFrameLaw m
   likely_law link tuning symbols linked verdict =

@@ -1,14 +1,14 @@
 -- The first frames of a stream arrive, and one stream gives the same however it is read.
 use Rattle.std.proofs.Common.{◌≡◌, ℕ, ◌+◌, ◌<◌, ◌≤◌, inl, inr, List, [], ◌∷◌, ◌++◌, All, length, refl, sym, ap, ◌∙◌, subst}
 use Rattle.std.proofs.lemmas.List.{take_at}
-use Rattle.std.proofs.lemmas.List.Elements.{All-nil, All-cons, All-head, All-tail, All-take}
+use Rattle.std.proofs.lemmas.List.Elements.{All-head, All-tail, All-take}
 use Rattle.std.specs.Io.KnownBytes.{Appends}
 use Rattle.s2_mode.specs.Mode.{Mode, IsMode, HasCodeSizes}
 use Rattle.s2_mode.specs.declared.symbols.Symbol.{Symbol}
 use Rattle.s2_bbframe.specs.DataStream.{stream_of, header_at, to_place, field_bytes}
 use Rattle.s2_bbframe.specs.Joining.{Placed}
 use Rattle.s2_receive.specs.Receiving.{Rules, at_start, after_all, all_packets, all_lines, all_well}
-use Rattle.s2_receive.specs.Laws.{IsReceived, AreReceived}
+use Rattle.s2_receive.specs.Laws.{Piece, coded, dummy, IsReceived, AreReceived}
 use Rattle.s2_receive.proofs.Reception.{gives, front}
 use Rattle.s2_receive.proofs.FieldPlaces.{placed_fields, placed_front}
 use Rattle.s2_receive.proofs.SameSymbols.{same_met}
@@ -20,7 +20,7 @@ use Rattle.s2_modem.specs.Both.{AreBytes, IsCertifiedFrame}
 use Rattle.s2_modem.specs.Headline.{IsSent}
 use Rattle.s2_modem.specs.Streams.{IsHeard, AreHeard, FirstFramesLaw, OneStreamLaw}
 use Rattle.s2_modem.proofs.ByteStreams.{stream_bytes, cut_bytes}
-use Rattle.s2_modem.proofs.Arrival.{short_cuts, lines_frames}
+use Rattle.s2_modem.proofs.Arrival.{AreCertified, short_cuts, lines_frames}
 use Rattle.s2_modem.proofs.CleanFrames.{hears_law, scattered_law}
 
 -- what holds of a whole list holds of its front
@@ -36,23 +36,26 @@ module _ (m : Mode) (valid : IsMode m) (sizes : HasCodeSizes m) (link : Link) (t
   heard_one at field symbols bytes place fits (codeword, is, inl clean) =
       let h = (hears_law m valid sizes link tuning limit linked ro).frames at field codeword bytes place fits is in
       (subst (IsReceived rules (header_at link.setup.roll_off at field) field) (sym clean) h.0, subst (IsCertifiedFrame rules) (sym clean) h.1)
-  heard_one at field symbols bytes place fits (codeword, is, inr (long, passes, scattered)) =
+  heard_one at field symbols bytes place fits (codeword, is, inr (long, header, scattered)) =
       let sent : IsSent m link at field codeword = record { linked = linked; roll_off = ro; bytes = bytes; place = place; fits = fits; codeword_is = is } in
       let d = scattered_law m valid sizes link tuning at symbols field codeword sent scattered in
-      ((long, passes, d.delivered.delivered), record { verdict = d.verdict; outcome = d.delivered.outcome })
+      ((long, header, d.delivered.delivered), record { verdict = d.verdict; outcome = d.delivered.outcome })
 
-  heard_all : (at : ℕ) (fields : List (List ℕ)) (frames : List (List Symbol)) → All AreBytes fields → Placed at fields → All (λ field. length field ≤ field_bytes link.setup.mode) fields → AreHeard link at fields frames
-      → AreReceived rules link.setup.roll_off at fields frames × All (IsCertifiedFrame rules) frames
-  heard_all at [] [] bytes placed short h = (tt, All-nil (IsCertifiedFrame rules))
-  heard_all at [] (s ∷ ss) bytes placed short h = absurd h
-  heard_all at (f ∷ fs) [] bytes placed short h = absurd h
-  heard_all at (f ∷ fs) (s ∷ ss) bytes placed short h =
+  heard_all : (at : ℕ) (pieces : List Piece) (fields : List (List ℕ)) → All AreBytes fields → Placed at fields → All (λ field. length field ≤ field_bytes link.setup.mode) fields → AreHeard link at pieces fields
+      → AreReceived rules link.setup.roll_off at pieces fields × AreCertified rules pieces
+  heard_all at [] [] bytes placed short h = (tt, tt)
+  heard_all at [] (f ∷ fs) bytes placed short h = absurd h
+  heard_all at (coded s ∷ ps) [] bytes placed short h = absurd h
+  heard_all at (coded s ∷ ps) (f ∷ fs) bytes placed short h =
       let one = heard_one at f s (All-head AreBytes f fs bytes) placed.0 (All-head (λ field. length field ≤ field_bytes link.setup.mode) f fs short) h.0 in
-      let more = heard_all (at + length f) fs ss (All-tail AreBytes f fs bytes) placed.1 (All-tail (λ field. length field ≤ field_bytes link.setup.mode) f fs short) h.1 in
-      ((one.0, more.0), All-cons (IsCertifiedFrame rules) s ss one.1 more.1)
+      let more = heard_all (at + length f) ps fs (All-tail AreBytes f fs bytes) placed.1 (All-tail (λ field. length field ≤ field_bytes link.setup.mode) f fs short) h.1 in
+      ((one.0, more.0), (one.1, more.1))
+  heard_all at (dummy s ∷ ps) fs bytes placed short h =
+      let more = heard_all at ps fs bytes placed short h.1 in
+      ((h.0, more.0), more.1)
 
 pub first_frames_law : (m : Mode) → IsMode m → HasCodeSizes m → FirstFramesLaw m
-first_frames_law m valid sizes = λ link tuning limit packets fields later frames rest bytes mid left p p' w w' met linked ro each are_bytes cut_so heard spelt count went.
+first_frames_law m valid sizes = λ link tuning limit packets fields later pieces rest bytes mid left p p' w w' met linked ro each are_bytes cut_so heard spelt count went.
     let size = field_bytes link.setup.mode in
     let rules = link_rules link tuning limit in
     let hears = hears_law m valid sizes link tuning limit linked ro in
@@ -60,12 +63,12 @@ first_frames_law m valid sizes = λ link tuning limit packets fields later frame
     let whole : All AreBytes (fields ++ later) = subst (All AreBytes) (sym cut_so) (cut_bytes size _ (stream_of packets) (stream_bytes packets are_bytes)) in
     let short : All within (fields ++ later) = subst (All within) (sym cut_so) (short_cuts size _ (stream_of packets)) in
     let placed : Placed 0 fields = placed_front fields later 0 (subst (Placed 0) (sym cut_so) (placed_fields size hears.field_least packets each)) in
-    let h = heard_all m valid sizes link tuning limit linked ro 0 fields frames (all_front AreBytes fields later whole) placed (all_front within fields later short) heard in
-    let f = front rules link.setup.roll_off size packets fields later frames rest bytes mid left p p' w w' met hears.least hears.field_least each cut_so h.0 spelt count went in
-    let g = gives rules link.setup.roll_off size packets fields later frames rest hears.least hears.field_least each cut_so h.0 in
+    let h = heard_all m valid sizes link tuning limit linked ro 0 pieces fields (all_front AreBytes fields later whole) placed (all_front within fields later short) heard in
+    let f = front rules link.setup.roll_off size packets fields later pieces rest bytes mid left p p' w w' met hears.least hears.field_least each cut_so h.0 spelt count went in
+    let g = gives rules link.setup.roll_off size packets fields later pieces rest hears.least hears.field_least each cut_so h.0 in
     record {
       written = f.1;
-      lines = subst (Appends w w') (ap (all_lines rules at_start) f.0 ∙ lines_frames rules link.setup.roll_off 0 0 fields frames at_start h.0 h.1) went.lines;
+      lines = subst (Appends w w') (ap (all_lines rules at_start) f.0 ∙ lines_frames rules link.setup.roll_off 0 0 pieces fields at_start h.0 h.1) went.lines;
       all = g.all;
     }
 

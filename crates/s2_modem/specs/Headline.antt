@@ -1,7 +1,7 @@
 -- What holds of a whole link: of each frame, and from packets to packets.
 use Rattle.std.specs.Prelude.{◌≡◌, ℕ, ◌<◌, ◌≤◌, Bool, List, [], ◌++◌, length, Option, Some, Ok}
 use Rattle.std.specs.Io.KnownBytes.{Appends}
-use Rattle.s2_mode.specs.Mode.{Mode, k_of, t_of}
+use Rattle.s2_mode.specs.Mode.{Mode, k_of, t_of, symbols_in}
 use Rattle.s2_mode.specs.declared.symbols.Symbol.{Symbol}
 use Rattle.s2_bits.specs.Bits.{differences}
 use Rattle.s2_matrix.specs.Code.{code_of}
@@ -19,12 +19,13 @@ use Rattle.s2_link.specs.Tuning.{Tuning}
 use Rattle.s2_send.specs.declared.outcome.Counts.{Counts}
 use Rattle.s2_link.specs.Link.{Link}
 use Rattle.s2_send.specs.Laws.{IsLinkOf, ReadFails}
+use Rattle.s2_send.specs.Transmitter.{Transmitter}
 use Rattle.s2_send.specs.Sending.{TransmitterRuns}
 use Rattle.s2_send.specs.Frames.{IsCodewordFor}
 use Rattle.s2_modem.specs.Reports.{frame_soft, received_word, frame_decision}
 use Rattle.s2_receive.specs.ReportLines.{end_line}
 use Rattle.s2_modem.specs.Reception.{link_rules, Receives}
-use Rattle.s2_modem.specs.Both.{AreBytes, Hears, certified_lines, totals_of}
+use Rattle.s2_modem.specs.Both.{AreBytes, Hears, certified_lines, run_places, totals_of}
 
 -- a frame that is called most likely: no codeword costs less under its soft values than its bits
 abbrev pub LikelyFrameLaw : Mode → Type 0
@@ -72,17 +73,15 @@ abbrev pub HearsLaw : Mode → Type 0
 HearsLaw m = (link : Link) (tuning : Tuning) (limit : ℕ) → IsLinkOf m link → link.setup.roll_off ≤ most_roll_off → Hears link (link_rules link tuning limit)
 
 -- all packets, a line for each frame, certified, and the end's
-pub record AllArrives (link : Link) (tuning : Tuning) (source : List ℕ) (counts : Counts) (totals : Totals) (packets_old packets_new report_old report_new : Option (List ℕ)) : Type 0 where
+pub record AllArrives (t : Transmitter) (tuning : Tuning) (source : List ℕ) (counts : Counts) (totals : Totals) (packets_old packets_new report_old report_new : Option (List ℕ)) : Type 0 where
   pub packets : Appends packets_old packets_new source
   pub totals_are : totals ≡ totals_of counts
-  pub fields : List (List ℕ)
-  pub frames : length fields ≡ counts.frames
-  pub lines : Appends report_old report_new (certified_lines (link_rules link tuning most_symbols) 0 0 fields ++ end_line (totals_of counts))
+  pub lines : Appends report_old report_new (certified_lines (link_rules t.link tuning most_symbols) 0 (run_places (symbols_in t.link.setup.mode) t.dummy_every 1 0 counts.frames) ++ end_line (totals_of counts))
 
--- what a run of the transmitter writes, received whole
+-- what a run of the transmitter writes, the frames and the dummy frames among them, received whole
 abbrev pub ArrivalLaw : Mode → Type 0
 ArrivalLaw m =
-    (link : Link) (tuning : Tuning) (most count_old count_new : ℕ) (source symbols : List ℕ) (counts : Counts) (totals : Totals) (source_left packets_old packets_new report_old report_new : Option (List ℕ))
-    → IsLinkOf m link → link.setup.roll_off ≤ most_roll_off → AreBytes source → TransmitterRuns link most (ReadFails most count_old count_new) (Some source) source_left (Some []) (Some symbols) (Ok counts)
-    → Receives (link_rules link tuning most_symbols) symbols packets_old packets_new report_old report_new totals
-    → AllArrives link tuning source counts totals packets_old packets_new report_old report_new
+    (t : Transmitter) (tuning : Tuning) (count_old count_new : ℕ) (source symbols : List ℕ) (counts : Counts) (totals : Totals) (source_left packets_old packets_new report_old report_new : Option (List ℕ))
+    → IsLinkOf m t.link → t.link.setup.roll_off ≤ most_roll_off → AreBytes source → TransmitterRuns t (ReadFails t.limit count_old count_new) (Some source) source_left (Some []) (Some symbols) (Ok counts)
+    → Receives (link_rules t.link tuning most_symbols) symbols packets_old packets_new report_old report_new totals
+    → AllArrives t tuning source counts totals packets_old packets_new report_old report_new

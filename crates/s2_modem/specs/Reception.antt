@@ -12,14 +12,14 @@ use Rattle.s2_modem.specs.declared.whole.DemodFault.{DemodFault}
 use Rattle.s2_modem.specs.declared.whole.DemodFault.TheVariants as demod_faults
 use Rattle.s2_link.specs.Tuning.{Tuning, IsTuning, RefusesTuning}
 use Rattle.s2_link.specs.Link.{Link, link_of, IsSetUp, RefusesLink}
-use Rattle.s2_receive.specs.Passing.{passes_as}
+use Rattle.s2_receive.specs.Windows.{found_as}
 use Rattle.s2_modem.specs.Reports.{frame_decision}
 use Rattle.s2_receive.specs.ReportLines.{frame_line, cut_line, end_line}
 
 -- a link's rules: its header, its frames, what is decided of them, the lines of the report, and how many symbols are taken
 abbrev pub link_rules : Link → Tuning → ℕ → Rules
 link_rules link tuning limit =
-    rules_of (passes_as link.setup.mode) (symbols_in link.setup.mode) (frame_decision link tuning) frame_line cut_line end_line limit
+    rules_of (found_as link.setup.mode) (symbols_in link.setup.mode) (frame_decision link tuning) frame_line cut_line end_line limit
 
 -- a receiver: its link, how much is tried, how many symbols it takes at most, where it stands, and what it decided last
 pub record Receiver : Type 0 where

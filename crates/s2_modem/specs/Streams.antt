@@ -1,62 +1,71 @@
 -- What holds of a stream of symbols: of its first frames, and where it is read in two ways.
-use Rattle.std.specs.Prelude.{◌≡◌, ℕ, ◌+◌, ◌≤◌, ◌⊎◌, Bool, true, List, [], ◌∷◌, ◌++◌, All, length, take, Option, Some, ⊤}
+use Rattle.std.specs.Prelude.{◌≡◌, ℕ, ◌+◌, ◌≤◌, ◌⊎◌, Bool, List, [], ◌∷◌, ◌++◌, All, length, take, Option, Some, ⊤}
 use Rattle.std.specs.Io.KnownBytes.{Appends}
-use Rattle.s2_mode.specs.Limits.{header_symbols}
+use Rattle.s2_mode.specs.Limits.{header_symbols, dummy_symbols}
 use Rattle.s2_mode.specs.Mode.{Mode, symbols_in}
 use Rattle.s2_mode.specs.Symbols.{symbols_of}
 use Rattle.s2_mode.specs.declared.symbols.Symbol.{Symbol}
+use Rattle.s2_plframe.specs.declared.receive.found.Found.TheVariants as founds
 use Rattle.s2_matrix.specs.Code.{code_of}
 use Rattle.s2_split.specs.Scattered.{IsScattered}
 use Rattle.s2_bbframe.specs.DataStream.{IsPacket, stream_of, fields_of, field_bytes, header_at}
 use Rattle.s2_bbframe.specs.Joining.{closed_in}
 use Rattle.s2_receive.specs.Meeting.{Met}
 use Rattle.s2_receive.specs.Receiving.{State, Went, RunsTo, begun}
-use Rattle.s2_receive.specs.Laws.{joined}
+use Rattle.s2_receive.specs.Laws.{Piece, coded, dummy, IsDummy, joined, stream_symbols}
 use Rattle.s2_link.specs.Tuning.{Tuning}
 use Rattle.s2_link.specs.Limits.{most_roll_off}
 use Rattle.s2_link.specs.Link.{Link}
 use Rattle.s2_send.specs.Laws.{IsLinkOf}
 use Rattle.s2_send.specs.Frames.{IsCodewordFor}
-use Rattle.s2_receive.specs.Passing.{passes_as}
+use Rattle.s2_receive.specs.Windows.{found_as}
 use Rattle.s2_modem.specs.Reports.{frame_soft}
 use Rattle.s2_modem.specs.Reception.{link_rules}
 use Rattle.s2_modem.specs.Both.{AreBytes, sent_symbols, certified_lines}
 
--- a frame's symbols as they were sent; or some behind a header that passes, whose soft values are scattered about the codeword
+-- a frame's symbols as they were sent; or some behind a header that is found, whose soft values are scattered about the codeword
 abbrev pub IsClear : Link → List Bool → List Symbol → Type 0
 IsClear link codeword symbols =
     (symbols ≡ sent_symbols link codeword)
-    ⊎ ((length symbols ≡ symbols_in link.setup.mode) × (passes_as link.setup.mode (take header_symbols symbols) ≡ true) × IsScattered (code_of link.rows) (frame_soft link symbols) codeword)
+    ⊎ ((length symbols ≡ symbols_in link.setup.mode) × (found_as link.setup.mode (take header_symbols symbols) ≡ founds.Coded) × IsScattered (code_of link.rows) (frame_soft link symbols) codeword)
 
 -- those of the frame that was sent for a data field, which begins at this byte of the stream
 abbrev pub IsHeard : Link → ℕ → List ℕ → List Symbol → Type 0
 IsHeard link at field symbols =
     (codeword : List Bool) × IsCodewordFor link.setup.mode link.rows (header_at link.setup.roll_off at field) field codeword × IsClear link codeword symbols
 
--- those of consecutive data fields
-abbrev pub AreHeard : Link → ℕ → List (List ℕ) → List (List Symbol) → Type 0
+-- those of consecutive data fields, and dummy frames among them, each whole and behind a header that is found
+abbrev pub AreHeard : Link → ℕ → List Piece → List (List ℕ) → Type 0
 AreHeard link at [] [] = ⊤
-AreHeard link at [] (symbols ∷ frames) = ⊥
-AreHeard link at (field ∷ fields) [] = ⊥
-AreHeard link at (field ∷ fields) (symbols ∷ frames) = IsHeard link at field symbols × AreHeard link (at + length field) fields frames
+AreHeard link at [] (field ∷ fields) = ⊥
+AreHeard link at (coded symbols ∷ pieces) [] = ⊥
+AreHeard link at (coded symbols ∷ pieces) (field ∷ fields) = IsHeard link at field symbols × AreHeard link (at + length field) pieces fields
+AreHeard link at (dummy symbols ∷ pieces) fields = IsDummy (found_as link.setup.mode) symbols × AreHeard link at pieces fields
 
--- Each of the first frames is reported as certified, and just those packets are written whose closing CRC-8 lies in their data
+-- where the coded ones begin, from a position on
+abbrev pub places_in : ℕ → ℕ → List Piece → List ℕ
+places_in size at [] = []
+places_in size at (coded symbols ∷ pieces) = at ∷ places_in size (at + size) pieces
+places_in size at (dummy symbols ∷ pieces) = places_in size (at + dummy_symbols) pieces
+
+-- Each of the first coded frames is reported as certified, and just those packets are written whose closing CRC-8 lies in their data
 -- fields; all packets, where these are all fields.
-pub record FrontArrives (link : Link) (tuning : Tuning) (limit : ℕ) (packets fields later : List (List ℕ)) (packets_old packets_new report_old report_new : Option (List ℕ)) : Type 0 where
+pub record FrontArrives (link : Link) (tuning : Tuning) (limit : ℕ) (packets fields later : List (List ℕ)) (pieces : List Piece) (packets_old packets_new report_old report_new : Option (List ℕ)) : Type 0 where
   pub written : Appends packets_old packets_new (joined (take (closed_in (length (joined fields))) packets))
-  pub lines : Appends report_old report_new (certified_lines (link_rules link tuning limit) 0 0 fields)
+  pub lines : Appends report_old report_new (certified_lines (link_rules link tuning limit) 0 (places_in (symbols_in link.setup.mode) 0 pieces))
   pub all : later ≡ [] → take (closed_in (length (joined fields))) packets ≡ packets
 
--- What a receiver has written after so many steps as first frames of a stream of packets came clear, whatever comes behind them.
+-- What a receiver has written after so many steps as first coded frames of a stream of packets came clear, whatever comes behind
+-- them, and whatever dummy frames stand among them.
 abbrev pub FirstFramesLaw : Mode → Type 0
 FirstFramesLaw m =
-    (link : Link) (tuning : Tuning) (limit : ℕ) (packets fields later : List (List ℕ)) (frames : List (List Symbol)) (rest : List Symbol) (bytes : List ℕ)
+    (link : Link) (tuning : Tuning) (limit : ℕ) (packets fields later : List (List ℕ)) (pieces : List Piece) (rest : List Symbol) (bytes : List ℕ)
     (mid : State) (left packets_old packets_new report_old report_new : Option (List ℕ)) (met : List Met)
     → IsLinkOf m link → link.setup.roll_off ≤ most_roll_off → All IsPacket packets → AreBytes (joined packets)
-    → fields ++ later ≡ fields_of (field_bytes link.setup.mode) (stream_of packets) → AreHeard link 0 fields frames
-    → symbols_of bytes ≡ joined frames ++ rest → length met ≡ length frames
+    → fields ++ later ≡ fields_of (field_bytes link.setup.mode) (stream_of packets) → AreHeard link 0 pieces fields
+    → symbols_of bytes ≡ stream_symbols pieces ++ rest → length met ≡ length fields
     → Went (link_rules link tuning limit) begun mid (Some bytes) left packets_old packets_new report_old report_new met
-    → FrontArrives link tuning limit packets fields later packets_old packets_new report_old report_new
+    → FrontArrives link tuning limit packets fields later pieces packets_old packets_new report_old report_new
 
 -- two runs came to the same totals and the same answer, and wrote the same
 pub record GiveTheSame (first second : State) (well other_well : Bool) (p p' q q' w w' v v' : Option (List ℕ)) : Type 0 where

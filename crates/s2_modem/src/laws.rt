@@ -4,7 +4,7 @@ ghost use Rattle.s2_modem.specs.Headline.{LikelyFrameLaw, BothCodesLaw, Scattere
 ghost use Rattle.s2_modem.specs.Streams.{FirstFramesLaw, OneStreamLaw};
 
 use s2_mode::Mode;
-pub use s2_send::laws::{one_frame, one_run};
+pub use s2_send::laws::{no_dummies, one_frame, one_run};
 
 /// The bits of a frame that is called most likely satisfy every check, and no bits that do cost less
 /// under its soft values.
@@ -36,15 +36,16 @@ pub fn clean_frame()
     ensures { CleanFrameLaw }
 {}
 
-/// A frame without noise is found where it begins, and delivered, certified, with no bit changed.
+/// A frame without noise is found where it begins, and delivered, certified, with no bit changed; a dummy frame
+/// without noise is found as one.
 pub fn hears(mode: Mode)
     ensures { HearsLaw mode }
 {
     let _ = mode.k();
 }
 
-/// All packets that a transmitter reads are written by a receiver of the symbols that it writes, and
-/// each frame is reported as certified, with no bit changed.
+/// All packets that a transmitter reads are written by a receiver of the symbols that it writes, and each frame is
+/// reported as certified, with no bit changed, at its place, whether the transmitter sends dummy frames or not.
 pub fn arrival(mode: Mode)
     ensures { ArrivalLaw mode }
 {
@@ -52,8 +53,8 @@ pub fn arrival(mode: Mode)
 }
 
 /// Of the first frames of a stream, each without noise or scattered about what was sent, behind a header
-/// that passes, just the packets are written whose closing CRC-8 lies in their data fields, and each is
-/// reported as certified, whatever symbols follow.
+/// that is found, and with or without dummy frames among them, just the packets are written whose closing CRC-8 lies
+/// in their data fields, and each is reported as certified, whatever symbols follow.
 pub fn first_frames(mode: Mode)
     ensures { FirstFramesLaw mode }
 {

@@ -6,13 +6,15 @@
 //! first of their refusals; [`Transmitter::on_link`] and [`Receiver::on_link`] do the same on a [`Link`], which
 //! none refuses. [`Transmitter::run`] reads packets to the reader's end. `Ok`
 //! means that the writer has gained exactly the frames of the codewords of the BCH words of the
-//! scrambled baseband frames of the data stream's fields, in order. A refusal comes exactly where the
-//! packets give cause for it, or a read or a write failed; it leaves exactly the frames of the full
-//! fields of the packets accepted before, and only a failed write may leave fewer of them, and a part
-//! of the next one. [`Transmitter::limit`] and [`Receiver::limit`] lower how much is taken at most.
+//! scrambled baseband frames of the data stream's fields, in order, and a dummy frame behind each where
+//! [`Transmitter::dummy_every`] wants one. A refusal comes exactly where the packets give cause for it, or a
+//! read or a write failed; it leaves exactly what stands for the full fields of the packets accepted before,
+//! and only a failed write may leave less of that, and a part of the next frame or dummy frame.
+//! [`Transmitter::limit`] and [`Receiver::limit`] lower how much is taken at most.
 //!
-//! [`Receiver::next`] takes just the symbols of the next frame, at the first header that is not before
-//! the last frame's end. What it reports and writes is exactly what the definitions say of these
+//! [`Receiver::next`] takes just the symbols up to the end of the next frame, which stands at the first header
+//! that is not before the last frame's end and in no dummy frame; the dummy frames of any modulator are passed, and
+//! packets are joined across them. What it reports and writes is exactly what the definitions say of these
 //! symbols: soft values, decided bits with a verdict, the nearest BCH word, its message's header, and
 //! the packets that the joiner makes of its data field. Bits that are called most likely satisfy every
 //! check, and no bits that do cost less ([`s2_judge::laws`]). [`Receiver::run`] goes on so to

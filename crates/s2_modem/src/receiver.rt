@@ -8,7 +8,7 @@ ghost use Rattle.s2_receive.specs.declared.report.Phase.TheVariants as phases;
 ghost use Rattle.s2_receive.specs.declared.report.Step.TheVariants as steps;
 ghost use Rattle.s2_receive.specs.declared.report.Fault.TheVariants as faults;
 ghost use Rattle.s2_receive.specs.Finding.{Reaches};
-ghost use Rattle.s2_receive.specs.Passing.{passes_as};
+ghost use Rattle.s2_receive.specs.Windows.{found_as};
 ghost use Rattle.s2_receive.specs.ReportLines.{frame_line, cut_line, end_line};
 ghost use Rattle.s2_receive.specs.Receiving.{IsLive, StepAnswers, MetFrame, RunsTo, StandsBehind, StopsAfter, BreaksAfter, begun, rules_of};
 ghost use Rattle.s2_link.specs.Tuning.{tuning_of};
@@ -34,7 +34,7 @@ pub(crate) fn tune<'a>(
     link: &Link<'a>,
     tuning: Tuning,
 ) -> Result<Inner<'a>, AllocError>
-    ensures rules { IfOk result (λ r. rules_of (passes_as r.search.mode) (length r.frame) (frame_decision r.decider.link r.decider.tuning) frame_line cut_line end_line r.limit
+    ensures rules { IfOk result (λ r. rules_of (found_as r.search.mode) (length r.frame) (frame_decision r.decider.link r.decider.tuning) frame_line cut_line end_line r.limit
         ≡ link_rules link.now tuning most_symbols) }
     ensures limit { IfOk result (λ r. r.limit ≡ most_symbols) }
     ensures begun { IfOk result (λ r. r.state ≡ begun) }
@@ -74,7 +74,7 @@ impl<'a> Drop for Receiver<'a> {
 impl<'a> Model for Receiver<'a> {
     ghost use Rattle.std.specs.Prelude.{◌≡◌, length};
     ghost use Rattle.s2_receive.specs.Receiving.{rules_of};
-    ghost use Rattle.s2_receive.specs.Passing.{passes_as};
+    ghost use Rattle.s2_receive.specs.Windows.{found_as};
     ghost use Rattle.s2_receive.specs.ReportLines.{frame_line, cut_line, end_line};
     ghost use Rattle.s2_link.specs.Link.{link_of, setup_of};
     ghost use Rattle.s2_modem.specs.Reports.{frame_decision};
@@ -90,7 +90,7 @@ impl<'a> Model for Receiver<'a> {
       last = r.inner.decider.last;
     } };
 
-    ghost invariant = { λ r. rules_of (passes_as r.inner.search.mode) (length r.inner.frame) (frame_decision r.inner.decider.link r.inner.decider.tuning) frame_line cut_line end_line r.inner.limit
+    ghost invariant = { λ r. rules_of (found_as r.inner.search.mode) (length r.inner.frame) (frame_decision r.inner.decider.link r.inner.decider.tuning) frame_line cut_line end_line r.inner.limit
         ≡ link_rules (link_of (setup_of r.setup) r.matrix.now) r.tuning r.inner.limit };
 }
 
@@ -143,7 +143,8 @@ impl<'a> Receiver<'a> {
     }
 
     /// The next frame, a cut one, or the end. Just the symbols up to the end of what is answered are
-    /// read. A frame's packets are written, and then its line of the report; the end has its line
+    /// read. Dummy frames before it, known by a header of any TYPE, are passed, and so is what there is of a last one that
+    /// lacks symbols: of them nothing is told, and they are no gap. A frame's packets are written, and then its line of the report; the end has its line
     /// once. It takes no memory.
     ///
     /// `Read` tells that a read failed, or that as many symbols were taken as the receiver takes and

@@ -4,13 +4,13 @@ use Rattle.s2_mode.specs.Mode.{Mode, symbols_in}
 use Rattle.s2_link.specs.Tuning.{Tuning}
 use Rattle.s2_link.specs.Link.{Link}
 use Rattle.s2_receive.specs.Receiving.{Rules, rules_of}
-use Rattle.s2_receive.specs.Passing.{passes_as}
+use Rattle.s2_receive.specs.Windows.{found_as}
 use Rattle.s2_receive.specs.ReportLines.{frame_line, cut_line, end_line}
 use Rattle.s2_modem.specs.Reports.{frame_decision}
 use Rattle.s2_modem.proofs.receiver.tune.Goals as goal
 
 abbrev made : Mode → ℕ → Link → Tuning → ℕ → Rules
-made m n link tuning limit = rules_of (passes_as m) n (frame_decision link tuning) frame_line cut_line end_line limit
+made m n link tuning limit = rules_of (found_as m) n (frame_decision link tuning) frame_line cut_line end_line limit
 
 same : (m m' : Mode) (n n' : ℕ) (l l' : Link) (r r' : Tuning) (k k' : ℕ) → m ≡ m' → n ≡ n' → l ≡ l' → r ≡ r' → k ≡ k' → made m n l r k ≡ made m' n' l' r' k'
 same m m' n n' l l' r r' k k' em en el er ek =

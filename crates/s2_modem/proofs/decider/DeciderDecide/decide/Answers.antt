@@ -1,6 +1,4 @@
-use Rattle.std.proofs.Common.{◌≡◌, ℤ, List, length, refl, sym, ap, subst, ◌∙◌, arith}
-use Rattle.s2_mode.specs.Mode.{n_of}
-use Rattle.s2_matrix.specs.Code.{code_of}
+use Rattle.std.proofs.Common.{◌≡◌, ℤ, List, length, refl, sym, ap, subst, ◌∙◌}
 use Rattle.s2_check.proofs.Lists.{refilled}
 use Rattle.s2_link.specs.Link.{Link}
 use Rattle.s2_plframe.specs.Payload.{received_payload}
@@ -10,7 +8,7 @@ use Rattle.s2_receive.specs.Receiving.{Decision}
 use Rattle.s2_judge.specs.Deciding.{decided}
 use Rattle.s2_modem.specs.Reports.{frame_soft, frame_decision, received_word}
 use Rattle.s2_modem.specs.Listening.{FindsWord, Reads, Listening}
-use Rattle.s2_modem.proofs.DecisionLemmas.{code_is, frame_decided}
+use Rattle.s2_modem.proofs.DecisionLemmas.{frame_decided}
 use Rattle.s2_modem.proofs.decider.DeciderDecide.decide.Goals as goal
 
 pub returns-clause-last : goal.returns-clause-last
