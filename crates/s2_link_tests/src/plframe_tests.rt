@@ -101,7 +101,7 @@ fn finds_a_header(rt: HostRuntime) -> Result<(), Fail> {
 }
 
 /// The header that begins with the mark and goes on with these bits, as symbols.
-fn header_of(code: u64) -> [Symbol; 90] {
+pub(crate) fn header_of(code: u64) -> [Symbol; 90] {
     let bits = (0x018D_2E82u128 << 64) | u128::from(code);
     let mut symbols = [PILOT; 90];
     for k in 0..90usize {

@@ -2,7 +2,7 @@
 ghost use Rattle.std.specs.Prelude.{◌≡◌, ◌≤◌, ◌∷◌, [], min, length, IfOk};
 ghost use Rattle.s2_mode.specs.Symbols.{symbol_at};
 ghost use Rattle.s2_receive.specs.Receiving.{begun};
-ghost use Rattle.s2_link_tests.specs.Toy.{is_low, place_for, decision_for};
+ghost use Rattle.s2_link_tests.specs.Toy.{ends_at, last_tells, place_for, decision_for};
 
 use s2_bbframe::Header;
 use s2_check::Verdict;
@@ -10,6 +10,7 @@ use s2_mode::{
     ByOne, CountedWrite, Counting, FailAt, InMemory, MOST_SYMBOLS, StreamFault, Symbol, WriteFault,
     write_full,
 };
+use s2_plframe::Found;
 use s2_receive::{
     Decide, Decided, Fault, Lines, Outcome, Received, Receiver, Report, Search, Step, Totals, laws,
     receive_all, receive_bytes,
@@ -17,22 +18,38 @@ use s2_receive::{
 use std::alloc::{AllocError, Global};
 use std::test::Fail;
 
-/// A header ends in a symbol with a negative I.
+/// A header ends in a symbol with a negative I, that of a dummy frame in one with an I above 1.
 #[derive(Drop)]
-struct LowSearch {
+struct LastSearch {
     count: u64,
 }
 
-impl Search for LowSearch {
-    ghost passes = { λ _. is_low };
+/// What ends in a symbol.
+fn ends_at(symbol: Symbol) -> Found
+    ensures { result ≡ ends_at symbol }
+{
+    if symbol.i < 0 {
+        Found::Coded
+    } else if symbol.i > 1 {
+        Found::Dummy
+    } else {
+        Found::Nothing
+    }
+}
+
+impl Search for LastSearch {
+    ghost finds = { λ _. last_tells };
 
     ghost saw = { λ s seen. s.count ≡ min (length seen) 90 };
 
-    fn feed(&mut self, symbol: Symbol) -> bool {
+    fn feed(&mut self, symbol: Symbol) -> Found {
         if self.count < 90 {
             self.count += 1;
         }
-        self.count == 90 && symbol.i < 0
+        if self.count < 90 {
+            return Found::Nothing;
+        }
+        ends_at(symbol)
     }
 
     fn restart(&mut self) {
@@ -114,7 +131,7 @@ impl Lines for Letters {
     }
 }
 
-type Toy = Receiver<LowSearch, HalfPackets, Letters>;
+type Toy = Receiver<LastSearch, HalfPackets, Letters>;
 
 fn toy(alloc: Global, limit: u64) -> Result<Toy, AllocError>
     requires { limit ≤ MOST_SYMBOLS }
@@ -127,7 +144,7 @@ fn toy(alloc: Global, limit: u64) -> Result<Toy, AllocError>
     };
     Receiver::new(
         alloc,
-        LowSearch { count: 0 },
+        LastSearch { count: 0 },
         decider,
         Letters {},
         100,
@@ -153,6 +170,13 @@ fn put_frame(bytes: &mut Vec<u8>, first: i16) -> Result<(), AllocError> {
     put_symbols(bytes, 88)?;
     put_symbol(bytes, -1, 1)?;
     put_symbols(bytes, 10)
+}
+
+/// A dummy frame, or the first symbols of one.
+fn put_dummy(bytes: &mut Vec<u8>, symbols: u32) -> Result<(), AllocError> {
+    put_symbols(bytes, 89)?;
+    put_symbol(bytes, 2, 1)?;
+    put_symbols(bytes, symbols.saturating_sub(90))
 }
 
 fn frame(number: u64, at: u64) -> Step {
@@ -299,5 +323,116 @@ fn tells_a_failed_write(rt: HostRuntime) -> Result<(), Fail> {
     assert_eq!(rt; fault, Err(WriteFault));
     assert!(rt; packets.into_inner().into_inner().is_empty());
     assert_eq!(rt; report.into_inner().as_slice(), b"F".as_slice());
+    Ok(())
+}
+
+/// The two parts of a packet, with dummy frames before, between and behind them.
+fn put_parts(bytes: &mut Vec<u8>, last: u32) -> Result<(), AllocError> {
+    put_dummy(bytes, 3330)?;
+    put_frame(bytes, 1)?;
+    put_dummy(bytes, 3330)?;
+    put_dummy(bytes, 3330)?;
+    put_frame(bytes, 2)?;
+    put_dummy(bytes, last)
+}
+
+#[test]
+fn joins_across_dummy_frames_byte_by_byte(rt: HostRuntime) -> Result<(), Fail> {
+    for last in [3330, 3329, 100, 90] {
+        let mut bytes = Vec::new(rt.alloc());
+        put_parts(&mut bytes, last)?;
+        let mut receiver = toy(rt.alloc(), MOST_SYMBOLS)?;
+        let mut reader = Counting::new(ByOne::new(&bytes));
+        let mut packets = Counting::new(Vec::new(rt.alloc()));
+        let mut report = Counting::new(Vec::new(rt.alloc()));
+        let step = receiver.next(&mut reader, &mut packets, &mut report)?;
+        assert_eq!(rt; step, frame(1, 3330));
+        let step = receiver.next(&mut reader, &mut packets, &mut report)?;
+        assert_eq!(rt; step, frame(2, 10090));
+        let step = receiver.next(&mut reader, &mut packets, &mut report)?;
+        assert_eq!(rt; step, Step::End);
+        assert_eq!(rt; report.into_inner().as_slice(), b"FFE".as_slice());
+        assert_eq!(rt; receiver.totals(), totals(2, 2, 1));
+    }
+    Ok(())
+}
+
+/// What comes of these bytes.
+fn received_of(rt: &HostRuntime, bytes: &[u8]) -> Result<Received, Fail> {
+    let mut receiver = toy(rt.alloc(), MOST_SYMBOLS)?;
+    let mut reader = InMemory::new(bytes);
+    let mut packets = Counting::new(Vec::new(rt.alloc()));
+    let mut report = Counting::new(Vec::new(rt.alloc()));
+    Ok(receive_all(&mut receiver, &mut reader, &mut packets, &mut report)?)
+}
+
+#[test]
+fn keeps_a_gap_across_a_dummy_frame(rt: HostRuntime) -> Result<(), Fail> {
+    for (before, behind) in [(1, 0), (0, 1), (89, 0)] {
+        let mut bytes = Vec::new(rt.alloc());
+        put_frame(&mut bytes, 1)?;
+        put_symbols(&mut bytes, before)?;
+        put_dummy(&mut bytes, 3330)?;
+        put_symbols(&mut bytes, behind)?;
+        put_frame(&mut bytes, 2)?;
+        assert_eq!(rt; received_of(&rt, &bytes)?.totals, totals(2, 2, 0));
+    }
+    Ok(())
+}
+
+#[test]
+fn finds_a_frame_behind_a_false_dummy_header(rt: HostRuntime) -> Result<(), Fail> {
+    let mut bytes = Vec::new(rt.alloc());
+    put_symbols(&mut bytes, 20)?;
+    put_dummy(&mut bytes, 1000)?;
+    put_frame(&mut bytes, 1)?;
+    put_symbols(&mut bytes, 2300)?;
+    put_frame(&mut bytes, 1)?;
+    put_frame(&mut bytes, 2)?;
+    let mut receiver = toy(rt.alloc(), MOST_SYMBOLS)?;
+    let mut reader = InMemory::new(&bytes);
+    let mut packets = Counting::new(Vec::new(rt.alloc()));
+    let mut report = Counting::new(Vec::new(rt.alloc()));
+    let step = receiver.next(&mut reader, &mut packets, &mut report)?;
+    assert_eq!(rt; step, frame(1, 3420));
+    let step = receiver.next(&mut reader, &mut packets, &mut report)?;
+    assert_eq!(rt; step, frame(2, 3520));
+    assert_eq!(rt; receiver.totals(), totals(2, 2, 1));
+    Ok(())
+}
+
+#[test]
+fn ends_behind_dummy_frames_alone(rt: HostRuntime) -> Result<(), Fail> {
+    let mut bytes = Vec::new(rt.alloc());
+    for _ in 0..30u32 {
+        put_dummy(&mut bytes, 3330)?;
+    }
+    let received = received_of(&rt, &bytes)?;
+    assert_eq!(rt; received.totals, totals(0, 0, 0));
+    assert!(rt; received.well);
+    Ok(())
+}
+
+#[test]
+fn stops_at_its_limit_inside_a_dummy_frame(rt: HostRuntime) -> Result<(), Fail> {
+    let mut bytes = Vec::new(rt.alloc());
+    put_parts(&mut bytes, 3330)?;
+    for (limit, lines) in [
+        (3329, b"".as_slice()),
+        (3430, b"F".as_slice()),
+        (3431, b"F".as_slice()),
+        (5000, b"F".as_slice()),
+        (10189, b"F".as_slice()),
+        (10190, b"FF".as_slice()),
+        (13519, b"FF".as_slice()),
+    ] {
+        let mut receiver = toy(rt.alloc(), limit)?;
+        let mut reader = InMemory::new(&bytes);
+        let mut packets = Counting::new(Vec::new(rt.alloc()));
+        let mut report = Counting::new(Vec::new(rt.alloc()));
+        let answer = receive_all(&mut receiver, &mut reader, &mut packets, &mut report);
+        assert_eq!(rt; answer, Err(StreamFault::Read));
+        assert_eq!(rt; report.into_inner().as_slice(), lines);
+    }
     Ok(())
 }
