@@ -24,12 +24,7 @@ fn row_file(alloc: Global, rows: &Rows) -> Result<Vec<u8>, Fault<'static>>
 }
 
 /// Makes rows.
-fn made_rows(
-    alloc: Global,
-    shape: Shape,
-    weight: usize,
-    seed: u64,
-) -> Result<Rows, Fault<'static>>
+fn made_rows(alloc: Global, shape: Shape, weight: usize, seed: u64) -> Result<Rows, Fault<'static>>
     ensures made { Follows (λ rows. rows.rows) result (rows_made shape weight seed) }
     ensures read { result ≢ Err Fault.Read }
     ensures write { result ≢ Err Fault.Write }

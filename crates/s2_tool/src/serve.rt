@@ -11,9 +11,7 @@ ghost use Rattle.s2_tool.specs.Serving.{asked_setup, no_mode, no_shape, Served, 
 use crate::demod::demod_command;
 use crate::modulate::mod_command;
 use crate::noise::noise_command;
-use crate::opening::{
-    create_buffered, create_named, open, open_both, open_link, open_whole,
-};
+use crate::opening::{create_buffered, create_named, open, open_both, open_link, open_whole};
 use crate::rows::rows_command;
 use crate::run::run_command;
 use s2_console::{Console, Exit, Fault};
@@ -159,13 +157,7 @@ fn serve_mod<'a, R: Files + AllocGlobal, O: CountedWrite, E: CountedWrite>(
         return Err(no_mode());
     };
     let mut files = open_link(rt, words.rows, words.packets, words.symbols)?;
-    Ok(mod_command(
-        rt.alloc(),
-        setup,
-        words.dummy,
-        &mut files,
-        console,
-    ))
+    Ok(mod_command(rt.alloc(), setup, words.dummy, &mut files, console))
 }
 
 /// Adds noise to symbols. What its buffer still holds at the end is written before the command has
