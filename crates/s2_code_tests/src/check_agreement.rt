@@ -68,7 +68,10 @@ fn assert_each_least<R: Abort>(
     for bit in 0..soft.len() {
         let value = soft[bit];
         soft[bit] = value.saturating_sub(1);
-        assert_eq!(rt; checked(matrix, &placed(rt, matrix, soft, word, moves)), no);
+        assert_eq!(rt;
+            checked(matrix, &placed(rt, matrix, 16, soft, word, moves)),
+            no
+        );
         soft[bit] = value;
     }
 }
@@ -82,8 +85,8 @@ fn assert_least<R: Abort>(
     moves: &[Move],
 ) -> Result<(), Fail> {
     let none = vec![in alloc; 0i16; matrix.bits()]?;
-    let mut soft = least_values(alloc, matrix, &placed(rt, matrix, &none, word, moves))?;
-    let view = placed(rt, matrix, &soft, word, moves);
+    let mut soft = least_values(alloc, matrix, &placed(rt, matrix, 16, &none, word, moves))?;
+    let view = placed(rt, matrix, 16, &soft, word, moves);
     assert_listed(rt, alloc, [matrix, matrix], &view, Answer::Yes)?;
     assert_each_least(rt, matrix, &mut soft, word, moves);
     Ok(())

@@ -167,10 +167,12 @@ fn writes_an_unsplit_certificate(rt: HostRuntime) -> Result<(), Fail> {
 pub(crate) fn placed<'a, R: Abort>(
     rt: &R,
     matrix: &'a Matrix,
+    scale: u16,
     soft: &'a [i16],
     word: &'a Bits,
     moves: &'a [Move],
 ) -> CertView<'a> {
+    assert!(rt; scale >= 1 && scale <= 4096);
     assert!(rt; soft.len() == matrix.bits());
     assert!(rt; are_soft(soft));
     assert!(rt; word.len() == matrix.bits());
@@ -180,7 +182,7 @@ pub(crate) fn placed<'a, R: Abort>(
         assert!(rt; moves[check].amount < 1 << 31);
         assert!(rt; moves[check].amount > 0 || moves[check].place == 0);
     }
-    CertView::placed(matrix, 16, soft, word, moves)
+    CertView::placed(matrix, scale, soft, word, moves)
 }
 
 /// The shares that a view shows.
@@ -193,7 +195,7 @@ fn shares_of(alloc: Global, view: &CertView<'_>) -> Result<Vec<i32>, Fail> {
 }
 
 /// No move.
-const NONE: Move = Move {
+pub(crate) const NONE: Move = Move {
     place: 0,
     amount: 0,
 };
@@ -289,7 +291,7 @@ fn assert_as_listed<R: Abort>(
 ) -> Result<(), Fail> {
     let word = zeros(alloc, 20)?;
     let moves = spread(amount);
-    let view = placed(rt, matrices[0], &WEAK, &word, &moves);
+    let view = placed(rt, matrices[0], 16, &WEAK, &word, &moves);
     assert_listed(rt, alloc, matrices, &view, want)
 }
 

@@ -16,6 +16,8 @@ mod certificate_bytes;
 #[cfg(test)]
 mod check_agreement;
 #[cfg(test)]
+mod check_extremes;
+#[cfg(test)]
 mod check_memory_tests;
 #[cfg(test)]
 mod check_tests;
