@@ -3,6 +3,7 @@ from cases.common import LINK, LONG_ROWS, PAIR, TOY
 
 READ, WRITE = "cannot read", "cannot write"
 MOD, DEMOD = f"mod {LINK} made packets out", f"demod {LINK} made two out"
+DUMMY, ACROSS = f"mod {LINK} --dummy 1 made packets out", f"demod {LINK} made among out"
 NOISE, RUN = "noise --seed 1 --level 256 two out", f"run {LINK} --seed 1 --level 0 made packets out"
 NOTHING, FRAMES = [(0, 0)], [(188, 0), (376, 33), (376, 69)]
 
@@ -45,6 +46,13 @@ FAILING = [
     (DEMOD, "two", READ, [(0, 0), (188, 33), (376, 69)]),
     (DEMOD, "out", WRITE, [(0, 0), (188, 33)]),
     (DEMOD, "printed", WRITE, FRAMES),
+    # each frame stands with the dummy frame behind it
+    (DUMMY, "packets", READ, [(0, 0), (46_080, 0)]),
+    (DUMMY, "out", WRITE, [(0, 0), (32_760, 0), (46_080, 0), (78_840, 0)]),
+    (DUMMY, "printed", WRITE, [(92_160, 0)]),
+    (ACROSS, "among", READ, [(0, 0), (188, 33), (376, 70)]),
+    (ACROSS, "out", WRITE, [(0, 0), (188, 33)]),
+    (ACROSS, "printed", WRITE, [(188, 0), (376, 33), (376, 70)]),
     (RUN, "made", READ, NOTHING),
     (RUN, "packets", READ, NOTHING),
     (RUN, "out", WRITE, [(0, 0), (188, 33)]),
