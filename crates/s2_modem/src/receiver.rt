@@ -143,9 +143,9 @@ impl<'a> Receiver<'a> {
     }
 
     /// The next frame, a cut one, or the end. Just the symbols up to the end of what is answered are
-    /// read. Dummy frames before it, known by a header of any TYPE, are passed, and so is what there is of a last one that
-    /// lacks symbols: of them nothing is told, and they are no gap. A frame's packets are written, and then its line of the report; the end has its line
-    /// once. It takes no memory.
+    /// read. Dummy frames before it, known by a header of any TYPE, are passed, and so is what there is of
+    /// a last one that lacks symbols: of them nothing is told, and they are no gap. A frame's packets are
+    /// written, and then its line of the report; the end has its line once. It takes no memory.
     ///
     /// `Read` tells that a read failed, or that as many symbols were taken as the receiver takes and
     /// more are wanted; `Write` that a write failed. After either each further call answers `Failed`,

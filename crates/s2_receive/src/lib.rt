@@ -2,16 +2,16 @@
 //! decided, joins the packets of delivered data fields (5.1), and reports line by line.
 //!
 //! It stands below the modem's receiver and knows neither codes nor soft values: a [`Search`] says where the header of
-//! a coded or of a dummy frame ends, a [`Decide`] what a frame's symbols bring, [`Lines`] how the report is spelled. Of a mode's
-//! frames the search is [`HeaderSearch`], and [`ReportLines`] are the lines that the program prints.
+//! a coded or of a dummy frame ends, a [`Decide`] what a frame's symbols bring, [`Lines`] how the report is spelled. Of
+//! a mode's frames the search is [`HeaderSearch`], and [`ReportLines`] are the lines that the program prints.
 //! [`Receiver::next`] takes one step: the reader gives the symbols up to that step's end and no others, the
 //! answer is the first coded frame at or after the end of the last one, a frame that lacks symbols, or the end, and
 //! just its packets and its line are written. Dummy frames are passed: they are in no report, and packets are joined
-//! across them. [`receive_all`] and [`receive_bytes`] take all steps. What is
-//! met is a function of the symbols (`specs/Meeting.antt`), and what stands, is written and is answered then a
-//! function of what is met (`specs/Receiving.antt`). [`laws`] has what follows: the search in its own words,
-//! that packets are joined without a gap alone, that frames received as they were sent give what was sent,
-//! and that it doesn't matter how a reader cuts the bytes. Only [`Receiver::new`] takes memory.
+//! across them. [`receive_all`] and [`receive_bytes`] take all steps. What is met is a function of the symbols
+//! (`specs/Meeting.antt`), and what stands, is written and is answered then a function of what is met
+//! (`specs/Receiving.antt`). [`laws`] has what follows: the search in its own words, that packets are joined without a
+//! gap alone, that frames received as they were sent give what was sent, and that it doesn't matter how a reader cuts
+//! the bytes. Only [`Receiver::new`] takes memory.
 //!
 //! ```
 //! let mut receiver = Receiver::new(alloc, search, decider, lines, size, MOST_SYMBOLS)?;
