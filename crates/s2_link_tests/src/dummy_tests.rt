@@ -2,7 +2,8 @@
 use super::modem_tests::frame;
 use super::plframe_tests::header_of;
 use super::streams::{
-    ALL, Heard, Sample, Source, Steps, assert_reported, hear, two_frames, two_packets,
+    ALL, Heard, Sample, Source, Steps, assert_reported, hear, send_with_dummies, two_frames,
+    two_packets,
 };
 use s2_mode::{ByOne, Endless, MOST_SYMBOLS, Symbol};
 use s2_receive::{Fault, Step};
@@ -91,6 +92,46 @@ fn passes_dummy_frames_of_each_type(rt: HostRuntime) -> Result<(), Fail> {
     for code in CODES {
         assert_passed(&rt, rt.alloc(), &sample, code, DUMMY)?;
         assert_passed(&rt, rt.alloc(), &sample, code, 400)?;
+    }
+    Ok(())
+}
+
+/// Asserts what is told of two packets that were sent with a dummy frame behind every so many frames.
+fn assert_across<A: Abort>(
+    rt: &A,
+    alloc: Global,
+    sample: &Sample,
+    every: u16,
+    report: &str,
+) -> Result<(), Fail> {
+    let packets = two_packets();
+    let source = Source::Slice(packets.as_flattened());
+    let sent = send_with_dummies(alloc, &sample.link, every, source, [ALL, ALL])?;
+    assert_reported(
+        rt,
+        alloc,
+        &sample.link,
+        &sent.symbols,
+        report,
+        packets.as_flattened(),
+    );
+    Ok(())
+}
+
+#[test]
+fn receives_what_was_sent_with_dummy_frames(rt: HostRuntime) -> Result<(), Fail> {
+    let sample = two_frames(rt.alloc())?;
+    for (every, report) in [
+        (
+            1,
+            "frame 1 at 0 most-likely fixed 0\nframe 2 at 11520 most-likely fixed 0\nend frames 2 delivered 2 packets 2 bad 0\n",
+        ),
+        (
+            2,
+            "frame 1 at 0 most-likely fixed 0\nframe 2 at 8190 most-likely fixed 0\nend frames 2 delivered 2 packets 2 bad 0\n",
+        ),
+    ] {
+        assert_across(&rt, rt.alloc(), &sample, every, report)?;
     }
     Ok(())
 }
