@@ -137,7 +137,10 @@ def among(two, dummies):
     sent_so = [(1, one + dummy + other + dummy), (2, two + dummy), (3, two), (65_535, two)]
     return [
         *(sent(2 * PACKET, "packets 2 frames 2\n", symbols, f"{LINK} --dummy {every} made") for every, symbols in sent_so),
-        fault(f"mod {LINK} --dummy 1 made in out", f"{NO_SYNC} 3", reads={"in": 2 * PACKET + bytes(188)}, writes={"out": one + dummy}),
+        *(
+            fault(f"mod {LINK} --dummy 1 made in out", text, reads={"in": 2 * PACKET + rest}, writes={"out": one + dummy})
+            for rest, text in [(bytes(188), f"{NO_SYNC} 3"), (b"\x47", NOT_WHOLE)]
+        ),
         *(received(one + each + other + each, 0, later, 2 * PACKET) for each in dummies),
         # the last one lacks symbols
         *(received(one + each + other + each[:400], 0, later, 2 * PACKET) for each in dummies),
