@@ -239,8 +239,7 @@ fn sends_dummy_frames(rt: HostRuntime) -> Result<(), Fail> {
     assert_dummies(&rt, rt.alloc(), &sample)
 }
 
-/// Asserts what comes of the two packets with a dummy frame behind each frame, where so many writes pass, and of these
-/// packets and a part of a third.
+/// Asserts what comes of the two packets with a dummy frame behind each frame, where so many writes pass.
 fn assert_dummies_fail<A: Abort>(
     rt: &A,
     alloc: Global,
@@ -260,11 +259,6 @@ fn assert_dummies_fail<A: Abort>(
         let sent = send_with_dummies(alloc, &sample.link, 1, source, [ALL, at])?;
         assert_sent(rt, &sent, symbols, want, at);
     }
-    let packets = [packet_of(0), packet_of(1), packet_of(2)];
-    let source = Source::Slice(&packets.as_flattened()[..400]);
-    let sent = send_with_dummies(alloc, &sample.link, 1, source, [ALL, ALL])?;
-    let want = (Err(SendFault::NotWholePacket), [0, 0], FRAME + DUMMY);
-    assert_sent(rt, &sent, symbols, want, ALL);
     Ok(())
 }
 
