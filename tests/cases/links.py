@@ -154,6 +154,18 @@ def among(two, dummies):
     ]
 
 
+def among_pilots(two, dummies):
+    """The same with pilots in the two frames, and another scrambling number."""
+    one, other = two[:33_480], two[33_480:]
+    words = f"{LINK} --pilots --number 7"
+    report = TWO.replace("8190", "11700")
+    return [
+        sent(2 * PACKET, "packets 2 frames 2\n", one + dummies[0] + other + dummies[0], f"{words} --dummy 1 made"),
+        *(received(one + each + other + each, 0, report, 2 * PACKET, f"{words} made") for each in dummies),
+        run(f"{words} --dummy 1 --seed 1 --level 0 made", 0, report, 2 * PACKET),
+    ]
+
+
 def heard(words, symbols, code, end, packets):
     return Case(f"demod {words} made in out", code, ending(end), reads={"in": symbols}, writes={"out": packets})
 

@@ -65,6 +65,8 @@ MISUSES = [
     ("mod --modcod 1 --number 262142 made packets out", beyond(262142, "number <N>", 0, 262141)),
     ("mod --modcod 1 --ro 3 made packets out", beyond(3, "ro <R>", 0, 2)),
     ("mod --modcod 1 --dummy 65536 made packets out", beyond(65536, "dummy <D>", 0, 65535)),
+    ("mod --modcod 1 --dummy -1 made packets out", "error: unexpected argument '-1' found"),
+    ("mod --modcod 1 --dummy x made packets out", invalid("x", "dummy <D>", "invalid digit found in string")),
     ("mod --modcod 1 --rounds 1 made packets out", "error: unexpected argument '--rounds' found"),
     ("noise --seed 1 packets out", LACKS),
     ("noise --level 1 packets out", LACKS),
