@@ -1,5 +1,5 @@
 -- What is written of a field is as long as the field, passes its test and is read back.
-use Rattle.std.proofs.Common.{◌≡◌, ℕ, zero, suc, ◌+◌, ◌*◌, ◌/◌, ◌^◌, ◌<◌, not, Bool, true, false, List, [], ◌∷◌, ◌++◌, length, get_or, take, drop, All, FitsSigned, w8, w16, w32, ℤ, pos, neg_ℤ, int_lt, inl, inr, refl, sym, ap, ap₂, ◌∙◌, arith, length-append}
+use Rattle.std.proofs.Common.{◌≡◌, ℕ, zero, suc, ◌+◌, ◌*◌, ◌/◌, ◌^◌, ◌<◌, not, Bool, true, false, List, [], ◌∷◌, ◌++◌, length, get_or, take, drop, All, FitsSigned, w16, w32, ℤ, pos, neg_ℤ, int_lt, inl, inr, refl, sym, ap, ap₂, ◌∙◌, arith, length-append}
 use Rattle.std.specs.List.{flat_map, AllByRecursion}
 use Rattle.std.specs.Int.{Width, byte_len, cast_signed, cast_unsigned, to_be_bytes, from_be_bytes}
 use Rattle.std.proofs.lemmas.Nat.{from_be_bytes-to_be_bytes_2, from_be_bytes-to_be_bytes_4}
@@ -103,14 +103,11 @@ soft_passes v h =
 record IsWidth (w : Width) : Type 0 where
   again : (n : ℕ) → n < 2 ^ (8 * byte_len w) → from_be_bytes w (to_be_bytes w n) ≡ n
 
-width8 : IsWidth w8
-width8 = record { again = λ n h. grind (arith, h) }
-
 width16 : IsWidth w16
 width16 = record { again = λ n h. from_be_bytes-to_be_bytes_2 n h }
 
 soft_width_is : IsWidth soft_width
-soft_width_is = width8
+soft_width_is = width16
 
 soft_back : (z : ℤ) → IsSoft z → soft.value (soft.bytes z) ≡ z
 soft_back z h =

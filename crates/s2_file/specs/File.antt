@@ -17,7 +17,7 @@ pub record File : Type 0 where
   pub bits : List Bool
   pub split : Split
 
--- from -63 to 63
+-- from -511 to 511
 pub record IsSoft (v : ℤ) : Type 0 where
   pub low : neg_ℤ (pos most_soft) ≤ℤ v
   pub high : v ≤ℤ pos most_soft

@@ -1,6 +1,6 @@
 -- Certificate files: what is accepted, and the first refusal of what is not. Read from top to bottom; big endian, two's complement.
 use Rattle.std.specs.Prelude.{◌≡◌, ◌↔◌, IsTrue, ℕ, ◌≤◌, nat_le, nat_lt, ◌==◌, ◌&&◌, Bool, if◌then◌else◌, List, [], ◌∷◌, ◌++◌, length, take, drop, Result, Ok, Err, ℤ}
-use Rattle.std.specs.Int.{Width, w8, w16, w32, byte_len, from_be_bytes, to_be_bytes}
+use Rattle.std.specs.Int.{Width, w16, w32, byte_len, from_be_bytes, to_be_bytes}
 use Rattle.std.specs.List.{flat_map}
 use Rattle.s2_mode.specs.Shape.{Shape, IsShape, shape_of, code_bits}
 use Rattle.s2_mode.specs.Limits.{most_bits, most_group}
@@ -87,7 +87,7 @@ header_at version bytes = do
 
 -- how wide a soft value is
 abbrev pub soft_width : Width
-soft_width = w8
+soft_width = w16
 
 abbrev pub soft : Field ℤ
 soft = tested (signed soft_width) is_value

@@ -162,7 +162,7 @@ impl Contents {
         self.scale
     }
 
-    /// The soft values, each from -63 to 63.
+    /// The soft values, each from -511 to 511.
     pub fn soft(&self) -> &[i16]
         ensures { result.now ≡ self.now.soft }
     {

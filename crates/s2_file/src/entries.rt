@@ -10,7 +10,7 @@ pub(crate) fn soft_of(bytes: &[u8]) -> i16
     requires { length bytes.now ≡ SOFT_BYTES }
     ensures { result ≡ soft.value bytes.now }
 {
-    i16::from(bytes[0].cast_signed())
+    i16::from_be_bytes([bytes[0], bytes[1]])
 }
 
 /// Whether a soft value is in range.

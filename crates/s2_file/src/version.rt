@@ -8,7 +8,7 @@ pub enum Version {
 }
 
 /// How many bytes a soft value has.
-pub(crate) const SOFT_BYTES: usize = 1;
+pub(crate) const SOFT_BYTES: usize = 2;
 
 /// How many bytes a share has.
 pub(crate) const SHARE_BYTES: usize = 4;

@@ -88,7 +88,7 @@ fn put_soft<W: CountedWrite>(out: &mut W, page: &mut Page, value: i16) -> Result
     ensures bytes { PutsThrough (soft.bytes value) (W.contents out.old) (W.contents out.new) page.old.items page.new.items result }
     ensures cause { CountsFault (W.count out.old) (W.count out.new) result }
 {
-    put_all(out, page, &[(value as i8).cast_unsigned()])
+    put_all(out, page, &value.to_be_bytes())
 }
 
 /// Writes the soft values.

@@ -16,7 +16,7 @@ most_modcod = 17
 
 -- the largest soft value; the least is its negative
 abbrev pub most_soft : ℕ
-most_soft = 63
+most_soft = 511
 
 -- the symbols of a physical layer header, and as many bits (EN 302 307-1, 5.5.2)
 abbrev pub header_symbols : ℕ

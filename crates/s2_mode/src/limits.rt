@@ -10,7 +10,7 @@ pub const MOST_GROUP: usize = 360;
 pub const MOST_MODCOD: u8 = 17;
 
 /// The largest soft value. The least is its negative.
-pub const MOST_SOFT: u16 = 63;
+pub const MOST_SOFT: u16 = 511;
 
 /// The symbols of a physical layer header (PLHEADER, EN 302 307-1, 5.5.2), and as many bits.
 pub const HEADER_SYMBOLS: usize = 90;

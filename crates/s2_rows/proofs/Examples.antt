@@ -67,7 +67,7 @@ values_read : values_of_text (codes "-5 7 7 7 7 7 7 7\n-5 -5 -5 -5 7 7 7 7 -5 -5
 unfolding values_of digits_from pieces_of
 values_read = refl
 
-values_read_laid_out : values_of_text (codes "# x\n1 -63\t007\r\n\n63") 4 ≡ Ok (pos 1 ∷ negsuc 62 ∷ pos 7 ∷ pos 63 ∷ [])
+values_read_laid_out : values_of_text (codes "# x\n64 -511\t007\r\n\n511") 4 ≡ Ok (pos 64 ∷ negsuc 510 ∷ pos 7 ∷ pos 511 ∷ [])
 unfolding values_of digits_from pieces_of
 values_read_laid_out = refl
 

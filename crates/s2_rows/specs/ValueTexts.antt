@@ -5,7 +5,7 @@ use Rattle.s2_rows.specs.Layouts.{AreSpaces, EndsToken, IsSilent, digits_of}
 use Rattle.s2_rows.specs.Text.{lines_of}
 use Rattle.s2_rows.specs.Values.{values_of_text}
 
--- the digits of a number of at most 63, leading zeros allowed, and a minus before them allowed
+-- the digits of a number of at most 511, leading zeros allowed, and a minus before them allowed
 pub data IsWritten (token : List ℕ) (v : ℤ) : Type 0 where
   plain : (zeros n : ℕ) → n ≤ most_soft → token ≡ digits_of zeros n → v ≡ pos n → IsWritten token v
   minus : (zeros n : ℕ) → n ≤ most_soft → token ≡ 45 ∷ digits_of zeros n → v ≡ neg_ℤ (pos n) → IsWritten token v

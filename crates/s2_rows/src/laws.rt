@@ -15,7 +15,7 @@ pub fn row_files()
     ensures { RowFileLaw }
 {}
 
-/// A text of numbers from -63 to 63 is read as these numbers however it is laid out: with any number of
+/// A text of numbers from -511 to 511 is read as these numbers however it is laid out: with any number of
 /// them on a line, spaces, tabs and CRs between and around them, leading zeros, empty lines, and
 /// comments on lines of their own.
 pub fn value_texts()

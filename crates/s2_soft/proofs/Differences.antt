@@ -7,10 +7,11 @@ use Rattle.s2_bits.specs.Lanes16.{signed16, minus16}
 use Rattle.s2_bits.specs.Lanes32.{plus32, minus32}
 use Rattle.s2_bits.proofs.Words16.{word_low, negative_word}
 use Rattle.s2_mode.specs.Limits.{most_soft}
-use Rattle.s2_soft.specs.Constants.{divisor}
+use Rattle.s2_soft.specs.Divisors.{IsDivisor}
 use Rattle.s2_soft.specs.Soft.{quantized}
 use Rattle.s2_soft.specs.Lanes.{number, times32, size32}
 use Rattle.s2_soft.specs.Closed.{along, across, axis, nearest, IsInner, IsNearest, first_difference, second_difference, third_difference}
+use Rattle.s2_soft.proofs.DivisorLemmas.{by_divisors}
 use Rattle.s2_soft.proofs.Sizes.{along_inner, across_inner, axis_inner, neg_inner, nearest_is}
 use mir.Val.{SFits}
 
@@ -206,42 +207,54 @@ third_is a b ca cb =
     raised_difference _ _ _ _ zero_is one_is (nearest_is _ _ _ _ sa (neg_inner _ sd) (neg_inner _ x.inner) y.inner) (nearest_is _ _ _ _ (neg_inner _ sa) sd x.inner (neg_inner _ y.inner))
 
 -- the word of 16 bits of the soft value of a difference
-abbrev pub soft_size : ℕ → ℕ
-soft_size d = min (size32 d / divisor) most_soft
+abbrev pub soft_size : ℕ → ℕ → ℕ
+soft_size d x = min (size32 x / d) most_soft
 
-abbrev pub soft_word : ℕ → ℕ
-soft_word d = cond (eqb (d / 2147483648) 1) (minus32 65536 (soft_size d)) (soft_size d) % 65536
+abbrev pub soft_word : ℕ → ℕ → ℕ
+soft_word d x = cond (eqb (x / 2147483648) 1) (minus32 65536 (soft_size d x)) (soft_size d x) % 65536
 
-positive_soft : (d : ℕ) → pos (min (d / divisor) most_soft) ≡ quantized (pos d)
-positive_soft d = omega (arith, ints, clamps)
+positive_soft : (d : ℕ) → IsDivisor d → (x : ℕ) → pos (min (x / d) most_soft) ≡ quantized d (pos x)
+positive_soft d known x =
+    by_divisors (λ d. pos (min (x / d) most_soft) ≡ quantized d (pos x)) (omega (arith, ints, clamps)) (omega (arith, ints, clamps)) (omega (arith, ints, clamps)) (omega (arith, ints, clamps)) (omega (arith, ints, clamps)) d known
 
-negative_soft : (d : ℕ) → neg_ℤ (pos (min (d / divisor) most_soft)) ≡ quantized (neg_ℤ (pos d))
-negative_soft d = omega (arith, ints, clamps)
+negative_soft : (d : ℕ) → IsDivisor d → (x : ℕ) → neg_ℤ (pos (min (x / d) most_soft)) ≡ quantized d (neg_ℤ (pos x))
+negative_soft d known x =
+    by_divisors (λ d. neg_ℤ (pos (min (x / d) most_soft)) ≡ quantized d (neg_ℤ (pos x))) (omega (arith, ints, clamps)) (omega (arith, ints, clamps)) (omega (arith, ints, clamps)) (omega (arith, ints, clamps)) (omega (arith, ints, clamps)) d known
 
-pub soft_word_is : (d : ℕ) → d < 4294967296 → signed16 (soft_word d) ≡ quantized (number d)
-soft_word_is d fits = elim (cases_lt d 2147483648) [
-  | inl lt ↦ (
-      let plain : d / 2147483648 ≢ 1 = omega arith in
-      let test : eqb (d / 2147483648) 1 ≡ false = ne_eqb (d / 2147483648) 1 plain in
-      let size : size32 d ≡ d = omega arith in
-      let small : soft_size d % 65536 ≡ soft_size d = omega arith in
-      ap (λ b. signed16 (cond b (minus32 65536 (soft_size d)) (soft_size d) % 65536)) test
-      ∙ ap signed16 small
-      ∙ word_low (soft_size d) (omega arith)
-      ∙ ap (λ s. pos (min (s / divisor) most_soft)) size
-      ∙ positive_soft d
-      ∙ ap quantized (sym (number_low d lt))
-      )
-  | inr le ↦ (
-      let one : d / 2147483648 ≡ 1 = omega arith in
-      let test : eqb (d / 2147483648) 1 ≡ true = eq-eqb (d / 2147483648) 1 one in
-      let size : size32 d ≡ 4294967296 - d = omega arith in
-      let word : minus32 65536 (soft_size d) % 65536 ≡ minus16 0 (soft_size d) = omega arith in
-      ap (λ b. signed16 (cond b (minus32 65536 (soft_size d)) (soft_size d) % 65536)) test
-      ∙ ap signed16 word
-      ∙ negative_word (soft_size d) (omega arith)
-      ∙ ap (λ s. neg_ℤ (pos (min (s / divisor) most_soft))) size
-      ∙ negative_soft (4294967296 - d)
-      ∙ ap quantized (sym (number_high d le fits))
-      )
-]
+-- a size that is held within the range
+small : (q : ℕ) → min q most_soft < 32768
+small q = omega arith
+
+whole : (q : ℕ) → min q most_soft % 65536 ≡ min q most_soft
+whole q = omega arith
+
+opposite : (q : ℕ) → minus32 65536 (min q most_soft) % 65536 ≡ minus16 0 (min q most_soft)
+opposite q = omega arith
+
+pub soft_word_is : (d : ℕ) → IsDivisor d → (x : ℕ) → x < 4294967296 → signed16 (soft_word d x) ≡ quantized d (number x)
+soft_word_is d known x fits =
+    let q = size32 x / d in
+    elim (cases_lt x 2147483648) [
+      | inl lt ↦ (
+          let plain : x / 2147483648 ≢ 1 = omega arith in
+          let test : eqb (x / 2147483648) 1 ≡ false = ne_eqb (x / 2147483648) 1 plain in
+          let size : size32 x ≡ x = omega arith in
+          ap (λ b. signed16 (cond b (minus32 65536 (soft_size d x)) (soft_size d x) % 65536)) test
+          ∙ ap signed16 (whole q)
+          ∙ word_low (soft_size d x) (small q)
+          ∙ ap (λ s. pos (min (s / d) most_soft)) size
+          ∙ positive_soft d known x
+          ∙ ap (quantized d) (sym (number_low x lt))
+          )
+      | inr le ↦ (
+          let one : x / 2147483648 ≡ 1 = omega arith in
+          let test : eqb (x / 2147483648) 1 ≡ true = eq-eqb (x / 2147483648) 1 one in
+          let size : size32 x ≡ 4294967296 - x = omega arith in
+          ap (λ b. signed16 (cond b (minus32 65536 (soft_size d x)) (soft_size d x) % 65536)) test
+          ∙ ap signed16 (opposite q)
+          ∙ negative_word (soft_size d x) (small q)
+          ∙ ap (λ s. neg_ℤ (pos (min (s / d) most_soft))) size
+          ∙ negative_soft d known (4294967296 - x)
+          ∙ ap (quantized d) (sym (number_high x le fits))
+          )
+    ]

@@ -4,46 +4,54 @@ use Rattle.std.proofs.lemmas.Bool.{cases_lt, eq-eqb, ne_eqb}
 use Rattle.std.proofs.lemmas.Int.{ints, clamps}
 use Rattle.s2_bits.specs.Lanes16.{signed16, minus16, size16}
 use Rattle.s2_bits.proofs.Words16.{word_low, word_high, negative_word}
-use Rattle.s2_map.specs.Constants.{diagonal}
 use Rattle.s2_mode.specs.Limits.{most_soft}
-use Rattle.s2_soft.specs.Constants.{divisor}
+use Rattle.s2_soft.specs.Divisors.{IsDivisor, factor_of}
 use Rattle.s2_soft.specs.Soft.{quantized}
 use Rattle.s2_soft.specs.Closed.{component_difference}
+use Rattle.s2_soft.proofs.DivisorLemmas.{by_divisors}
 
--- the size of the soft value of a component of this size
-abbrev pub value_size : ℕ → ℕ
-value_size s = min (s * (4 * diagonal * (65536 / divisor)) / 65536) most_soft
+-- the size of the soft value of a component of this size, by the factor of the divisor
+abbrev pub value_size : ℕ → ℕ → ℕ
+value_size f s = min (s * f / 65536) most_soft
 
-above : (s : ℕ) → pos (value_size s) ≡ quantized (component_difference (pos s))
-above s = omega (arith, ints, clamps)
+small : (q : ℕ) → min q most_soft < 32768
+small q = omega arith
 
-below : (s : ℕ) → neg_ℤ (pos (value_size s)) ≡ quantized (component_difference (neg_ℤ (pos s)))
-below s = omega (arith, ints, clamps)
+above : (d : ℕ) → IsDivisor d → (s : ℕ) → pos (value_size (factor_of d) s) ≡ quantized d (component_difference (pos s))
+above d known s =
+    by_divisors (λ d. pos (value_size (factor_of d) s) ≡ quantized d (component_difference (pos s))) (omega (arith, ints, clamps)) (omega (arith, ints, clamps)) (omega (arith, ints, clamps)) (omega (arith, ints, clamps)) (omega (arith, ints, clamps)) d known
+
+below : (d : ℕ) → IsDivisor d → (s : ℕ) → neg_ℤ (pos (value_size (factor_of d) s)) ≡ quantized d (component_difference (neg_ℤ (pos s)))
+below d known s =
+    by_divisors (λ d. neg_ℤ (pos (value_size (factor_of d) s)) ≡ quantized d (component_difference (neg_ℤ (pos s)))) (omega (arith, ints, clamps)) (omega (arith, ints, clamps)) (omega (arith, ints, clamps)) (omega (arith, ints, clamps)) (omega (arith, ints, clamps)) d known
 
 -- the word of a soft value
-abbrev pub value_word : ℕ → ℕ
-value_word v = cond (eqb (v / 32768) 1) (minus16 0 (value_size (size16 v))) (value_size (size16 v))
+abbrev pub value_word : ℕ → ℕ → ℕ
+value_word f v =
+    cond (eqb (v / 32768) 1) (minus16 0 (value_size f (size16 v))) (value_size f (size16 v))
 
-pub value_word_is : (v : ℕ) → v < 65536 → signed16 (value_word v) ≡ quantized (component_difference (signed16 v))
-value_word_is v low = elim (cases_lt v 32768) [
-  | inl lt ↦ (
-      let plain : v / 32768 ≢ 1 = omega arith in
-      let test : eqb (v / 32768) 1 ≡ false = ne_eqb (v / 32768) 1 plain in
-      let size : size16 v ≡ v = omega arith in
-      ap (λ b. signed16 (cond b (minus16 0 (value_size (size16 v))) (value_size (size16 v)))) test
-      ∙ word_low (value_size (size16 v)) (omega arith)
-      ∙ ap (λ s. pos (value_size s)) size
-      ∙ above v
-      ∙ ap (λ z. quantized (component_difference z)) (sym (word_low v lt))
-      )
-  | inr le ↦ (
-      let one : v / 32768 ≡ 1 = omega arith in
-      let test : eqb (v / 32768) 1 ≡ true = eq-eqb (v / 32768) 1 one in
-      let size : size16 v ≡ 65536 - v = omega arith in
-      ap (λ b. signed16 (cond b (minus16 0 (value_size (size16 v))) (value_size (size16 v)))) test
-      ∙ negative_word (value_size (size16 v)) (omega arith)
-      ∙ ap (λ s. neg_ℤ (pos (value_size s))) size
-      ∙ below (65536 - v)
-      ∙ ap (λ z. quantized (component_difference z)) (sym (word_high v le low))
-      )
-]
+pub value_word_is : (d : ℕ) → IsDivisor d → (v : ℕ) → v < 65536 → signed16 (value_word (factor_of d) v) ≡ quantized d (component_difference (signed16 v))
+value_word_is d known v low =
+    let f = factor_of d in
+    elim (cases_lt v 32768) [
+      | inl lt ↦ (
+          let plain : v / 32768 ≢ 1 = omega arith in
+          let test : eqb (v / 32768) 1 ≡ false = ne_eqb (v / 32768) 1 plain in
+          let size : size16 v ≡ v = omega arith in
+          ap (λ b. signed16 (cond b (minus16 0 (value_size f (size16 v))) (value_size f (size16 v)))) test
+          ∙ word_low (value_size f (size16 v)) (small (size16 v * f / 65536))
+          ∙ ap (λ s. pos (value_size f s)) size
+          ∙ above d known v
+          ∙ ap (λ z. quantized d (component_difference z)) (sym (word_low v lt))
+          )
+      | inr le ↦ (
+          let one : v / 32768 ≡ 1 = omega arith in
+          let test : eqb (v / 32768) 1 ≡ true = eq-eqb (v / 32768) 1 one in
+          let size : size16 v ≡ 65536 - v = omega arith in
+          ap (λ b. signed16 (cond b (minus16 0 (value_size f (size16 v))) (value_size f (size16 v)))) test
+          ∙ negative_word (value_size f (size16 v)) (small (size16 v * f / 65536))
+          ∙ ap (λ s. neg_ℤ (pos (value_size f s))) size
+          ∙ below d known (65536 - v)
+          ∙ ap (λ z. quantized d (component_difference z)) (sym (word_high v le low))
+          )
+    ]

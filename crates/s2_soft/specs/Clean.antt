@@ -2,6 +2,7 @@
 use Rattle.std.specs.Prelude.{◌≡◌, ◌≢◌, ℕ, ◌<◌, Bool, List, length, ℤ, pos, map, int_lt}
 use Rattle.s2_mode.specs.Mode.{Mode, IsMode, n_of}
 use Rattle.s2_map.specs.Mapping.{payload_of}
+use Rattle.s2_soft.specs.Divisors.{IsDivisor}
 use Rattle.s2_soft.specs.Soft.{soft_values, value_at}
 
 -- soft values that say each bit of a codeword, and none of which is undecided
@@ -9,6 +10,7 @@ pub record Says (values : List ℤ) (codeword : List Bool) : Type 0 where
   pub decided : map (λ v. int_lt v (pos 0)) values ≡ codeword
   pub some : (k : ℕ) → k < length codeword → value_at values k ≢ pos 0
 
--- the soft values of a codeword's payload say the codeword
+-- the soft values of a codeword's payload say the codeword, by each divisor
 abbrev pub CleanLaw : Type 0
-CleanLaw = (m : Mode) (codeword : List Bool) → IsMode m → length codeword ≡ n_of m → Says (soft_values m (payload_of m codeword)) codeword
+CleanLaw =
+    (divisor : ℕ) (m : Mode) (codeword : List Bool) → IsDivisor divisor → IsMode m → length codeword ≡ n_of m → Says (soft_values divisor m (payload_of m codeword)) codeword

@@ -9,7 +9,6 @@ use Rattle.s2_mode.specs.Mode.{Mode, n_of, width_of}
 use Rattle.s2_bits.specs.Bits.{bit_of_number}
 use Rattle.s2_map.specs.Mapping.{point_of, sent_as}
 use Rattle.s2_mode.specs.Limits.{most_soft}
-use Rattle.s2_soft.specs.Constants.{divisor}
 
 abbrev pub squared_distance : Symbol → Symbol → ℤ
 squared_distance s p = (s.i -ℤ p.i) *ℤ (s.i -ℤ p.i) +ℤ (s.q -ℤ p.q) *ℤ (s.q -ℤ p.q)
@@ -31,21 +30,21 @@ abbrev pub least_distance : Mode → Symbol → ℕ → Bool → ℤ
 least_distance m s j b =
     least (map (λ l. squared_distance s (point_of m l)) (with_bit (width_of m) j b (range_with_len 0 (2 ^ width_of m))))
 
--- divided toward zero and clamped
-abbrev pub quantized : ℤ → ℤ
-quantized d = int_max (neg_ℤ (pos most_soft)) (int_min (pos most_soft) (int_div d (pos divisor)))
+-- divided toward zero by a divisor, and clamped
+abbrev pub quantized : ℕ → ℤ → ℤ
+quantized divisor d = int_max (neg_ℤ (pos most_soft)) (int_min (pos most_soft) (int_div d (pos divisor)))
 
 -- how much nearer a symbol is to the points with 0 at place j of their labels than to those with 1
-abbrev pub soft_value : Mode → Symbol → ℕ → ℤ
-soft_value m s j = quantized (least_distance m s j true -ℤ least_distance m s j false)
+abbrev pub soft_value : ℕ → Mode → Symbol → ℕ → ℤ
+soft_value divisor m s j = quantized divisor (least_distance m s j true -ℤ least_distance m s j false)
 
 -- the soft value of codeword bit b
-abbrev pub soft_bit : Mode → List Symbol → ℕ → ℤ
-soft_bit m payload b = soft_value m (symbol_at payload (sent_as m b / width_of m)) (sent_as m b % width_of m)
+abbrev pub soft_bit : ℕ → Mode → List Symbol → ℕ → ℤ
+soft_bit divisor m payload b = soft_value divisor m (symbol_at payload (sent_as m b / width_of m)) (sent_as m b % width_of m)
 
 -- the soft values of a payload, in the order of the codeword
-abbrev pub soft_values : Mode → List Symbol → List ℤ
-soft_values m payload = map (soft_bit m payload) (range_with_len 0 (n_of m))
+abbrev pub soft_values : ℕ → Mode → List Symbol → List ℤ
+soft_values divisor m payload = map (soft_bit divisor m payload) (range_with_len 0 (n_of m))
 
 -- the soft value of bit k of a list
 abbrev pub value_at : List ℤ → ℕ → ℤ

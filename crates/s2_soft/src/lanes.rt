@@ -2,23 +2,22 @@
 ghost use Rattle.std.specs.Prelude.{◌≡◌, ℕ, ◌+◌, ◌*◌, ◌/◌, ◌<◌, ◌≤◌, length};
 ghost use Rattle.s2_bits.specs.Lanes.{HasLanes, lane};
 ghost use Rattle.s2_bits.specs.Lanes16.{signed16};
-ghost use Rattle.s2_map.specs.Constants.{diagonal};
-ghost use Rattle.s2_soft.specs.Constants.{divisor};
+ghost use Rattle.s2_soft.specs.Divisors.{IsDivisor, factor_of};
 ghost use Rattle.s2_soft.specs.Soft.{quantized, value_at};
 ghost use Rattle.s2_soft.specs.Closed.{component_difference};
 ghost use Rattle.s2_soft.specs.Lanes.{component_at};
 
-use crate::values::SCALE;
 use s2_bits::lanes16::{all, least, minus, sign, size, where_same};
 use s2_mode::{MOST_SOFT, Symbol, words_from};
 use std::simd::prelude::*;
 
-/// What sizes of components give, divided by `DIVISOR`.
+/// The upper halves of products with a factor.
 #[inline(always)]
-fn quotient(sizes: u16x8) -> u16x8
-    ensures { HasLanes 8 (λ k. lane sizes k * (4 * diagonal * (65536 / divisor)) / 65536) result }
+fn upper_products(sizes: u16x8, factor: u16) -> u16x8
+    ensures { HasLanes 8 (λ k. lane sizes k * factor / 65536) result }
 {
-    (sizes.cast::<u32>() * u32x8::splat(SCALE) / u32x8::splat(65536)).cast::<u16>()
+    let factors = u16x8::splat(factor).cast::<u32>();
+    (sizes.cast::<u32>() * factors / u32x8::splat(65536)).cast::<u16>()
 }
 
 /// The components of four symbols.
@@ -30,12 +29,12 @@ pub(crate) fn components(payload: &[Symbol], at: usize) -> u16x8
     words_from(payload, at)
 }
 
-/// The soft values of components of QPSK.
+/// The soft values of components of QPSK, by the factor of a divisor.
 #[inline(always)]
-pub(crate) fn component_values(components: u16x8) -> u16x8
-    ensures { (k : ℕ) → k < 8 → signed16 (lane result k) ≡ quantized (component_difference (signed16 (lane components k))) }
+pub(crate) fn component_values(components: u16x8, factor: u16) -> u16x8
+    ensures { (d : ℕ) → IsDivisor d → factor ≡ factor_of d → (k : ℕ) → k < 8 → signed16 (lane result k) ≡ quantized d (component_difference (signed16 (lane components k))) }
 {
-    let sizes = least(quotient(size(components)), all(MOST_SOFT));
+    let sizes = least(upper_products(size(components), factor), all(MOST_SOFT));
     where_same(sign(components), all(1), minus(all(0), sizes), sizes)
 }
 

@@ -2,23 +2,24 @@
 //! physical frame and the decoders.
 //!
 //! [`soft_into`] writes exactly the values of the definition, for any symbols, in the codeword's order:
-//! differences of least squared distances to the points of QPSK or 8PSK (EN 302 307-1, 5.4), divided
-//! toward zero and held within [`MOST_SOFT`](s2_mode::MOST_SOFT). Without noise they say the codeword, none of them 0
+//! differences of least squared distances to the points of QPSK or 8PSK (EN 302 307-1, 5.4), divided by
+//! a [`Divisor`] toward zero and held within [`MOST_SOFT`](s2_mode::MOST_SOFT). Without noise they say the codeword, none of them 0
 //! ([`laws::clean`]). No call takes memory.
 //!
 //! ```text
 //! payload_of(mode, &gold, &frame, &mut payload);
-//! soft_into(mode, &payload, &mut soft);
+//! soft_into(mode, Divisor::usual(), &payload, &mut soft);
 //! ```
 #![tactic(auto)]
 
-mod constants;
+mod divisor;
 mod lanes;
 pub mod laws;
 mod quads;
 mod soft;
 mod values;
 
+pub use divisor::{DEFAULT_DIVISOR, DIVISORS, Divisor};
 pub use soft::soft_into;
 
 #[cfg(test)]

@@ -1,13 +1,13 @@
 //! Soft values of 8PSK, four symbols at a time. Lanes hold words of 32 bits in two's complement.
-ghost use Rattle.std.specs.Prelude.{◌≡◌, ℕ, ◌+◌, ◌*◌, ◌/◌, ◌%◌, ◌<◌, ◌≤◌, length};
+ghost use Rattle.std.specs.Prelude.{◌≡◌, ℕ, ◌+◌, ◌*◌, ◌/◌, ◌%◌, ◌^◌, ◌<◌, ◌≤◌, length};
 ghost use Rattle.s2_bits.specs.Lanes.{HasLanes, lane};
 ghost use Rattle.s2_bits.specs.Lanes16.{signed16};
 ghost use Rattle.s2_mode.specs.Symbols.{symbol_at};
+ghost use Rattle.s2_soft.specs.Divisors.{IsDivisor};
 ghost use Rattle.s2_soft.specs.Soft.{quantized, value_at};
 ghost use Rattle.s2_soft.specs.Closed.{first_difference, second_difference, third_difference};
 ghost use Rattle.s2_soft.specs.Lanes.{AreComponents, number, times32, size32};
 
-use crate::constants::DIVISOR;
 use crate::values::{BETWEEN, LONGER, ON_AXIS};
 use s2_bits::lanes32::{all, least, minus, most, plus, where_same};
 use s2_mode::{MOST_SOFT, Symbol};
@@ -30,6 +30,15 @@ fn quotient(a: u32x4, by: u32) -> u32x4
     ensures { HasLanes 4 (λ k. lane a k / by) result }
 {
     a / u32x4::splat(by)
+}
+
+/// Words divided by a power of two.
+#[inline(always)]
+fn shifted(a: u32x4, shift: u32) -> u32x4
+    requires { shift < 32 }
+    ensures { HasLanes 4 (λ k. lane a k / 2 ^ shift) result }
+{
+    a >> u32x4::splat(shift)
 }
 
 /// The lower halves of words.
@@ -151,15 +160,13 @@ pub(crate) fn third_differences(i: u32x4, q: u32x4) -> u32x4
     minus(zero, one)
 }
 
-/// Differences of squared distances as soft values.
+/// Differences of squared distances as soft values, by the divisor that is this power of two.
 #[inline(always)]
-pub(crate) fn quantized(differences: u32x4) -> u16x4
-    ensures { (k : ℕ) → k < 4 → signed16 (lane result k) ≡ quantized (number (lane differences k)) }
+pub(crate) fn quantized(differences: u32x4, shift: u32) -> u16x4
+    requires { shift < 32 }
+    ensures { (d : ℕ) → IsDivisor d → d ≡ 2 ^ shift → (k : ℕ) → k < 4 → signed16 (lane result k) ≡ quantized d (number (lane differences k)) }
 {
-    let sizes = least(
-        quotient(size(differences), DIVISOR as u32),
-        all(MOST_SOFT as u32),
-    );
+    let sizes = least(shifted(size(differences), shift), all(MOST_SOFT as u32));
     let negative = quotient(differences, 1 << 31);
     let words = where_same(negative, all(1), minus(all(65536), sizes), sizes);
     lower(words).cast::<u16>()

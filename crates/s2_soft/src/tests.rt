@@ -1,7 +1,7 @@
 //! Soft values worked by hand, beside those of the definition, and of codewords.
 ghost use Rattle.std.specs.Prelude.{◌≡◌, ◌*◌, ◌<◌, length};
 
-use crate::constants::DIVISOR;
+use crate::divisor::Divisor;
 use crate::soft::{columns_into, pairs_into};
 use crate::soft_into;
 use s2_mode::{MOST_SOFT, Mode, Symbol};
@@ -98,41 +98,47 @@ fn least_distance(points: &[Labelled], symbol: Symbol, place: usize, bit: bool) 
 }
 
 /// The soft value of a bit of a symbol's label, by the definition.
-fn defined(points: &[Labelled], symbol: Symbol, place: usize) -> i64
+fn defined(points: &[Labelled], divisor: u32, symbol: Symbol, place: usize) -> i64
     requires { place < 3 }
 {
     let one = least_distance(points, symbol, place, true);
     let zero = least_distance(points, symbol, place, false);
     let limit = i64::from(MOST_SOFT);
-    (one.wrapping_sub(zero) / i64::from(DIVISOR))
+    (one.wrapping_sub(zero) / i64::from(divisor.max(1)))
         .min(limit)
         .max(-limit)
 }
 
 /// The soft values of a symbol of 8PSK, by the definition.
-fn defined_psk(symbol: Symbol) -> [i64; 3] {
+fn defined_psk(divisor: u32, symbol: Symbol) -> [i64; 3] {
     [
-        defined(&PSK, symbol, 0),
-        defined(&PSK, symbol, 1),
-        defined(&PSK, symbol, 2),
+        defined(&PSK, divisor, symbol, 0),
+        defined(&PSK, divisor, symbol, 1),
+        defined(&PSK, divisor, symbol, 2),
     ]
 }
 
 /// Whether these are the soft values of QPSK symbols.
-fn are_of_qpsk(symbols: &[Symbol], soft: &[i16]) -> bool
+fn are_of_qpsk(divisor: u32, symbols: &[Symbol], soft: &[i16]) -> bool
     requires { length soft.now ≡ 2 * length symbols.now }
 {
     let mut same = true;
     for s in 0..symbols.len() {
-        let first = i64::from(soft[2 * s]) == defined(&QPSK, symbols[s], 0);
-        let second = i64::from(soft[2 * s + 1]) == defined(&QPSK, symbols[s], 1);
+        let first = i64::from(soft[2 * s]) == defined(&QPSK, divisor, symbols[s], 0);
+        let second = i64::from(soft[2 * s + 1]) == defined(&QPSK, divisor, symbols[s], 1);
         same = same && first && second;
     }
     same
 }
 
 /// Whether these are the soft values of 8PSK symbols.
-fn are_of_psk(symbols: &[Symbol], first: &[i16], second: &[i16], third: &[i16]) -> bool
+fn are_of_psk(
+    divisor: u32,
+    symbols: &[Symbol],
+    first: &[i16],
+    second: &[i16],
+    third: &[i16],
+) -> bool
     requires first { length first.now ≡ length symbols.now }
     requires second { length second.now ≡ length symbols.now }
     requires third { length third.now ≡ length symbols.now }
@@ -144,70 +150,95 @@ fn are_of_psk(symbols: &[Symbol], first: &[i16], second: &[i16], third: &[i16]) 
             i64::from(second[s]),
             i64::from(third[s]),
         ];
-        same = same && values == defined_psk(symbols[s]);
+        same = same && values == defined_psk(divisor, symbols[s]);
     }
     same
 }
 
-/// The least component of QPSK whose soft value is not 0.
-const STEP: i16 = ((DIVISOR + 2799) / 2800) as i16;
-
-/// The least component of QPSK whose soft value is the limit.
-const CAP: i16 = ((MOST_SOFT as i32 * DIVISOR + 2799) / 2800) as i16;
-
-/// Symbols at the ends of the range, and at both sides of the first and the last step of QPSK.
-static EDGES: [Symbol; 13] = [
-    Symbol {
-        i: -32768,
-        q: 32767,
-    },
-    Symbol {
-        i: 32767,
-        q: -32768,
-    },
-    Symbol { i: CAP, q: -CAP },
-    Symbol {
-        i: CAP - 1,
-        q: 1 - CAP,
-    },
-    Symbol { i: STEP, q: -STEP },
-    Symbol {
-        i: STEP - 1,
-        q: 1 - STEP,
-    },
-    Symbol { i: 0, q: 0 },
-    Symbol { i: -1, q: 1 },
-    Symbol { i: 990, q: 0 },
-    Symbol { i: 0, q: -990 },
-    Symbol {
-        i: -32768,
-        q: -32768,
-    },
-    Symbol { i: -32768, q: 0 },
-    Symbol {
-        i: CAP + 1,
-        q: -1 - CAP,
-    },
+/// The divisors, each with the least component of QPSK whose soft value is not 0, and the least one
+/// whose soft value is the limit.
+const STEPS: [(u32, i16, i16); 5] = [
+    (4096, 2, 748),
+    (8192, 3, 1496),
+    (16384, 6, 2991),
+    (32768, 12, 5981),
+    (65536, 24, 11961),
 ];
 
+/// Symbols at the ends of the range, and at both sides of the first and the last step of QPSK.
+fn edges(step: i16, cap: i16) -> [Symbol; 13] {
+    let below_step = step.wrapping_sub(1);
+    let below_cap = cap.wrapping_sub(1);
+    let above_cap = cap.wrapping_add(1);
+    [
+        Symbol {
+            i: -32768,
+            q: 32767,
+        },
+        Symbol {
+            i: 32767,
+            q: -32768,
+        },
+        Symbol {
+            i: cap,
+            q: cap.wrapping_neg(),
+        },
+        Symbol {
+            i: below_cap,
+            q: below_cap.wrapping_neg(),
+        },
+        Symbol {
+            i: step,
+            q: step.wrapping_neg(),
+        },
+        Symbol {
+            i: below_step,
+            q: below_step.wrapping_neg(),
+        },
+        Symbol { i: 0, q: 0 },
+        Symbol { i: -1, q: 1 },
+        Symbol { i: 990, q: 0 },
+        Symbol { i: 0, q: -990 },
+        Symbol {
+            i: -32768,
+            q: -32768,
+        },
+        Symbol { i: -32768, q: 0 },
+        Symbol {
+            i: above_cap,
+            q: above_cap.wrapping_neg(),
+        },
+    ]
+}
+
 /// The soft values of a payload whose symbols are all the same.
-fn of_one_symbol(rt: &HostRuntime, mode: Mode, i: i16, q: i16) -> Result<Vec<i16>, Fail> {
+fn of_one_symbol(
+    rt: &HostRuntime,
+    mode: Mode,
+    divisor: u32,
+    i: i16,
+    q: i16,
+) -> Result<Vec<i16>, Fail> {
+    let divisor = Divisor::new(divisor).ok_or("no divisor")?;
     let payload = vec![in rt.alloc(); Symbol { i, q }; 90 * mode.slots()]?;
     let mut soft = vec![in rt.alloc(); 1i16; mode.n()]?;
-    soft_into(mode, &payload, &mut soft);
+    soft_into(mode, divisor, &payload, &mut soft);
     Ok(soft)
 }
 
 #[test]
 fn qpsk_frames_worked_by_hand(rt: HostRuntime) -> Result<(), Fail> {
     let mode = Mode::of(4, true, false).ok_or("no mode")?;
-    for (i, q, first, second) in [
-        (700, 700, 29, 29),
-        (16, -16, 0, 0),
-        (32767, 0, 63, 0),
-        (-24, 700, -1, 29),
+    for (divisor, i, q, first, second) in [
+        (4096, 700, 700, 478, 478),
+        (4096, 16, -16, 10, -10),
+        (4096, 32767, 0, 511, 0),
+        (8192, 700, -700, 239, -239),
+        (16384, 16, -24, 2, -4),
+        (32768, 700, 700, 59, 59),
+        (65536, -24, 16, -1, 0),
     ] {
-        let soft = of_one_symbol(&rt, mode, i, q)?;
+        let soft = of_one_symbol(&rt, mode, divisor, i, q)?;
         assert_eq!(rt; soft.len(), 16200);
         for (k, value) in soft.iter().enumerate() {
             assert_eq!(rt; *value, if k % 2 == 0 { first } else { second });
@@ -219,13 +250,14 @@ fn qpsk_frames_worked_by_hand(rt: HostRuntime) -> Result<(), Fail> {
 #[test]
 fn psk_frames_worked_by_hand(rt: HostRuntime) -> Result<(), Fail> {
     let mode = Mode::of(13, true, false).ok_or("no mode")?;
-    for (i, q, first, second, third) in [
-        (700, 700, 8, 29, 8),
-        (990, 0, 8, 29, -8),
-        (0, 0, 0, 0, 0),
-        (300, -1500, -19, -6, -54),
+    for (divisor, i, q, first, second, third) in [
+        (4096, 700, 700, 140, 478, 140),
+        (4096, 990, 0, 140, 478, -140),
+        (4096, 0, 0, 0, 0, 0),
+        (8192, 700, 700, 70, 239, 70),
+        (65536, 300, -1500, -19, -6, -54),
     ] {
-        let soft = of_one_symbol(&rt, mode, i, q)?;
+        let soft = of_one_symbol(&rt, mode, divisor, i, q)?;
         assert_eq!(rt; soft.len(), 16200);
         for (k, value) in soft.iter().enumerate() {
             let column = if k < 5400 {
@@ -242,27 +274,53 @@ fn psk_frames_worked_by_hand(rt: HostRuntime) -> Result<(), Fail> {
 }
 
 #[test]
-fn qpsk_of_each_length(rt: HostRuntime) {
+fn qpsk_of_each_length(rt: HostRuntime) -> Result<(), Fail> {
     let mut soft = [1i16; 26];
-    for n in 0..14usize {
-        let values = &mut soft[..2 * n];
-        pairs_into(&EDGES[..n], values);
-        assert!(rt; are_of_qpsk(&EDGES[..n], values));
+    for (number, step, cap) in STEPS {
+        let divisor = Divisor::new(number).ok_or("no divisor")?;
+        let symbols = edges(step, cap);
+        for n in 0..14usize {
+            let values = &mut soft[..2 * n];
+            pairs_into(divisor, &symbols[..n], values);
+            assert!(rt; are_of_qpsk(number, &symbols[..n], values));
+        }
     }
+    Ok(())
 }
 
 #[test]
-fn psk_of_each_length(rt: HostRuntime) {
+fn psk_of_each_length(rt: HostRuntime) -> Result<(), Fail> {
     let mut first = [1i16; 13];
     let mut second = [1i16; 13];
     let mut third = [1i16; 13];
-    for n in 0..14usize {
-        columns_into(
-            &EDGES[..n],
-            &mut first[..n],
-            &mut second[..n],
-            &mut third[..n],
-        );
-        assert!(rt; are_of_psk(&EDGES[..n], &first[..n], &second[..n], &third[..n]));
+    for (number, step, cap) in STEPS {
+        let divisor = Divisor::new(number).ok_or("no divisor")?;
+        let symbols = edges(step, cap);
+        for n in 0..14usize {
+            columns_into(
+                divisor,
+                &symbols[..n],
+                &mut first[..n],
+                &mut second[..n],
+                &mut third[..n],
+            );
+            assert!(rt;
+                are_of_psk(
+                    number,
+                    &symbols[..n],
+                    &first[..n],
+                    &second[..n],
+                    &third[..n]
+                )
+            );
+        }
+    }
+    Ok(())
+}
+
+#[test]
+fn no_other_divisor(rt: HostRuntime) {
+    for number in [0, 1, 2048, 4095, 4097, 65535, 131072] {
+        assert!(rt; Divisor::new(number).is_none());
     }
 }

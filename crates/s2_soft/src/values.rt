@@ -3,13 +3,12 @@ ghost use Rattle.std.specs.Prelude.{◌≡◌, neg_ℤ, ◌-ℤ◌};
 ghost use Rattle.s2_soft.specs.Soft.{quantized};
 ghost use Rattle.s2_soft.specs.Closed.{component_difference, along, across, axis, nearest, IsInner, IsNearest, first_difference, second_difference, third_difference};
 
-use crate::constants::DIVISOR;
+use crate::divisor::Divisor;
 use s2_map::{AXIS, DIAGONAL};
 use s2_mode::{MOST_SOFT, Symbol};
 
-/// What a component of QPSK is multiplied by, where 65536 divides: for lanes of 16 bits, whose
-/// products have their upper halves at hand.
-pub(crate) const SCALE: u32 = 4 * DIAGONAL as u32 * (65536 / DIVISOR as u32);
+/// What multiplies a component of QPSK in a difference of squared distances.
+const ALONG: i32 = 4 * DIAGONAL as i32;
 
 /// What multiplies both components in twice an inner product with a point between the axes.
 pub(crate) const BETWEEN: i32 = 2 * DIAGONAL as i32;
@@ -22,20 +21,20 @@ pub(crate) const LONGER: i32 = AXIS as i32 * AXIS as i32 - 2 * DIAGONAL as i32 *
 
 /// A difference of squared distances as a soft value.
 #[inline(always)]
-fn quantized(difference: i32) -> i16
-    ensures { result ≡ quantized difference }
+fn quantized(divisor: Divisor, difference: i32) -> i16
+    ensures { result ≡ quantized divisor difference }
 {
-    (difference / DIVISOR).clamp(-i32::from(MOST_SOFT), i32::from(MOST_SOFT)) as i16
+    let size = difference.unsigned_abs() / divisor.get();
+    let least = size.min(u32::from(MOST_SOFT)) as i16;
+    if difference < 0 { -least } else { least }
 }
 
 /// The soft value of a component of QPSK.
 #[inline(always)]
-pub(crate) fn component_value(component: i16) -> i16
-    ensures { result ≡ quantized (component_difference component) }
+pub(crate) fn component_value(divisor: Divisor, component: i16) -> i16
+    ensures { result ≡ quantized divisor (component_difference component) }
 {
-    let size = (u32::from(component.unsigned_abs()) * SCALE / 65536) as u16;
-    let least = size.min(MOST_SOFT) as i16;
-    if component < 0 { -least } else { least }
+    quantized(divisor, ALONG * i32::from(component))
 }
 
 /// The soft values of the three bits of an 8PSK label.
@@ -48,10 +47,10 @@ pub(crate) struct Three {
 
 /// The soft values of a symbol of 8PSK.
 #[inline(always)]
-pub(crate) fn psk_values(symbol: Symbol) -> Three
-    ensures first { result.first ≡ quantized (first_difference symbol.i symbol.q) }
-    ensures second { result.second ≡ quantized (second_difference symbol.i symbol.q) }
-    ensures third { result.third ≡ quantized (third_difference symbol.i symbol.q) }
+pub(crate) fn psk_values(divisor: Divisor, symbol: Symbol) -> Three
+    ensures first { result.first ≡ quantized divisor (first_difference symbol.i symbol.q) }
+    ensures second { result.second ≡ quantized divisor (second_difference symbol.i symbol.q) }
+    ensures third { result.third ≡ quantized divisor (third_difference symbol.i symbol.q) }
 {
     let Products { a, b, x, y } = inner_products(symbol);
     let c = opposite(a);
@@ -59,9 +58,9 @@ pub(crate) fn psk_values(symbol: Symbol) -> Three
     let z = opposite(x);
     let w = opposite(y);
     Three {
-        first: nearer(nearest(a, c, x, z), nearest(b, d, y, w)),
-        second: nearer(nearest(a, b, x, y), nearest(c, d, z, w)),
-        third: nearer(nearest(a, d, z, y), nearest(c, b, x, w)),
+        first: nearer(divisor, nearest(a, c, x, z), nearest(b, d, y, w)),
+        second: nearer(divisor, nearest(a, b, x, y), nearest(c, d, z, w)),
+        third: nearer(divisor, nearest(a, d, z, y), nearest(c, b, x, w)),
     }
 }
 
@@ -117,10 +116,10 @@ fn nearest(a: i32, b: i32, x: i32, y: i32) -> i32
 
 /// By how much a symbol is nearer to the points of a zero than to those of a one, as a soft value.
 #[inline(always)]
-fn nearer(zero: i32, one: i32) -> i16
+fn nearer(divisor: Divisor, zero: i32, one: i32) -> i16
     requires zero { IsNearest zero }
     requires one { IsNearest one }
-    ensures { result ≡ quantized (zero -ℤ one) }
+    ensures { result ≡ quantized divisor (zero -ℤ one) }
 {
-    quantized(zero - one)
+    quantized(divisor, zero - one)
 }

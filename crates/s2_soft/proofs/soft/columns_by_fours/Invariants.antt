@@ -6,7 +6,7 @@ use Rattle.s2_soft.proofs.soft.columns_by_fours.Given as goal
 
 abbrev pub invariant-loop-block : goal.invariant-loop-block
 invariant-loop-block l = record {
-  first : (k : ℕ) → k < 4 * l.block → value_at l.first k ≡ quantized (first_difference (symbol_at l.payload k).i (symbol_at l.payload k).q);
-  second : (k : ℕ) → k < 4 * l.block → value_at l.second k ≡ quantized (second_difference (symbol_at l.payload k).i (symbol_at l.payload k).q);
-  third : (k : ℕ) → k < 4 * l.block → value_at l.third k ≡ quantized (third_difference (symbol_at l.payload k).i (symbol_at l.payload k).q);
+  first : (k : ℕ) → k < 4 * l.block → value_at l.first k ≡ quantized l.fn.divisor (first_difference (symbol_at l.payload k).i (symbol_at l.payload k).q);
+  second : (k : ℕ) → k < 4 * l.block → value_at l.second k ≡ quantized l.fn.divisor (second_difference (symbol_at l.payload k).i (symbol_at l.payload k).q);
+  third : (k : ℕ) → k < 4 * l.block → value_at l.third k ≡ quantized l.fn.divisor (third_difference (symbol_at l.payload k).i (symbol_at l.payload k).q);
 }

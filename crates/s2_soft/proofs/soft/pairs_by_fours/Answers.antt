@@ -18,6 +18,6 @@ loop-block-preserved c = λ b lt.
           let place : 2 * (4 * c.loop-block.block) + k ≡ b = omega arith in
           ap (value_at c.store.new.soft) (sym here)
           ∙ (c.store.ensures.here k low
-          ∙ (c.component_values-values.ensures k low
-          ∙ ap (λ z. quantized (component_difference z)) (c.components.ensures k low ∙ ap (component_at payload) place)))
+          ∙ (c.component_values-values.ensures c.args.divisor c.factor-factor.ensures.known c.factor-factor.ensures.is k low
+          ∙ ap (λ z. quantized c.args.divisor (component_difference z)) (c.components.ensures k low ∙ ap (component_at payload) place)))
     ]

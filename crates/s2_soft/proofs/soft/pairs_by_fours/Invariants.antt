@@ -5,4 +5,4 @@ use Rattle.s2_soft.specs.Lanes.{component_at}
 use Rattle.s2_soft.proofs.soft.pairs_by_fours.Given as goal
 
 abbrev pub invariant-loop-block : goal.invariant-loop-block
-invariant-loop-block l = (b : ℕ) → b < 8 * l.block → value_at l.soft b ≡ quantized (component_difference (component_at l.payload b))
+invariant-loop-block l = (b : ℕ) → b < 8 * l.block → value_at l.soft b ≡ quantized l.fn.divisor (component_difference (component_at l.payload b))

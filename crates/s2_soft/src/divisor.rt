@@ -1,0 +1,97 @@
+//! By what differences of squared distances are divided.
+ghost use Rattle.std.specs.Prelude.{◌≡◌, ◌↔◌, ◌≤◌, ◌^◌, IsSome, IfSome};
+ghost use Rattle.s2_soft.specs.Divisors.{IsDivisor, default_divisor, factor_of};
+
+use s2_map::DIAGONAL;
+use std::marker::Model;
+
+/// The divisors that there are, from the finest soft values to the coarsest.
+pub const DIVISORS: [u32; 5] = [4096, 8192, 16384, 32768, 65536];
+
+/// The divisor where none is named.
+pub const DEFAULT_DIVISOR: u32 = 4096;
+
+/// By what differences of squared distances are divided: one of [`DIVISORS`]. Its value is that number.
+///
+/// Twice the divisor halves the soft values. By 4096 a QPSK point of 700 has the soft value 478, and what is
+/// over 1.07 times as large is cut off at [`s2_mode::MOST_SOFT`]; where noise is strong, as at low rates, 8192
+/// loses less. Symbols of a larger amplitude want a larger one in proportion.
+#[derive(Clone, Copy, Debug, PartialEq, Eq)]
+pub struct Divisor {
+    number: u32,
+}
+
+impl Model for Divisor {
+    ghost use Rattle.std.specs.Prelude.{ℕ};
+    ghost use Rattle.s2_soft.specs.Divisors.{IsDivisor};
+
+    ghost Value = { ℕ };
+
+    ghost view = { λ d. d.number };
+
+    ghost invariant = { λ d. IsDivisor d.number };
+
+    ghost inverse = { λ v. record { number = v } };
+}
+
+impl Divisor {
+    /// The divisor of this number, if there is one.
+    pub fn new(number: u32) -> Option<Divisor>
+        ensures found { IsSome result ↔ IsDivisor number }
+        ensures value { IfSome result (λ d. d ≡ number) }
+    {
+        if DIVISORS.contains(&number) {
+            Some(Divisor { number })
+        } else {
+            None
+        }
+    }
+
+    /// The divisor of a number that is one.
+    pub fn of(number: u32) -> Divisor
+        requires { IsDivisor number }
+        ensures { result ≡ number }
+    {
+        Divisor { number }
+    }
+
+    /// The divisor where none is named.
+    pub fn usual() -> Divisor
+        ensures { result ≡ default_divisor }
+    {
+        Divisor {
+            number: DEFAULT_DIVISOR,
+        }
+    }
+
+    /// The number.
+    pub fn get(self) -> u32
+        ensures value { result ≡ self }
+        ensures known { IsDivisor result }
+    {
+        self.number
+    }
+
+    /// Which power of two it is.
+    pub(crate) fn shift(self) -> u32
+        ensures power { self ≡ 2 ^ result }
+        ensures most { result ≤ 16 }
+        ensures known { IsDivisor self }
+    {
+        match self.number {
+            4096 => 12,
+            8192 => 13,
+            16384 => 14,
+            32768 => 15,
+            _ => 16,
+        }
+    }
+
+    /// What multiplies a component of QPSK where 65536 divides the product.
+    pub(crate) fn factor(self) -> u16
+        ensures is { result ≡ factor_of self }
+        ensures known { IsDivisor self }
+    {
+        (4 * DIAGONAL as u32 * (65536 / self.number)) as u16
+    }
+}
