@@ -10,3 +10,4 @@ pub mod CertificateFiles
 pub mod CertificateBytes
 pub mod Checking
 pub mod Verdicts
+pub mod Tallies

@@ -22,6 +22,7 @@
 mod certificate;
 mod checker;
 mod hard;
+mod lane_tally;
 mod lanes;
 pub mod laws;
 mod listed_rests;

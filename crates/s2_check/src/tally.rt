@@ -7,9 +7,9 @@ ghost use Rattle.s2_mode.specs.Limits.{most_bits};
 /// least size of all.
 #[derive(Clone, Copy)]
 pub(crate) struct Tally {
-    negative_sum: i64,
-    negative_count: usize,
-    least_size: u32,
+    pub(crate) negative_sum: i64,
+    pub(crate) negative_count: usize,
+    pub(crate) least_size: u32,
 }
 
 impl Tally {
