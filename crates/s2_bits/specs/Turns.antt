@@ -1,6 +1,14 @@
--- Rows of bits, turned.
-use Rattle.std.specs.Prelude.{ℕ, ◌+◌, ◌-◌, ◌%◌}
+-- Rows, one after another, and rows that are turned.
+use Rattle.std.specs.Prelude.{ℕ, ◌+◌, ◌-◌, ◌*◌, ◌%◌, List, get_or}
 
 -- which of n places comes to place k when they are turned by s places
 abbrev pub turned : ℕ → ℕ → ℕ → ℕ
 turned n s k = (k + n - s) % n
+
+-- where place k of n looks that are turned back by s
+abbrev pub turned_back : ℕ → ℕ → ℕ → ℕ
+turned_back n s k = (k + s) % n
+
+-- place c of row r, of n places each
+abbrev pub cell : List ℕ → ℕ → ℕ → ℕ → ℕ
+cell xs n r c = get_or xs (r * n + c) 0

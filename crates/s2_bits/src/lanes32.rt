@@ -1,5 +1,5 @@
 //! Words of 32 bits, four at a time.
-ghost use Rattle.std.specs.Prelude.{min, max, ◌==◌, if◌then◌else◌};
+ghost use Rattle.std.specs.Prelude.{min, max, ◌+◌, ◌≤◌, ◌==◌, if◌then◌else◌, length, slice_index};
 ghost use Rattle.s2_bits.specs.Lanes.{HasLanes, lane};
 ghost use Rattle.s2_bits.specs.Lanes32.{minus32, plus32};
 
@@ -11,6 +11,15 @@ pub fn all(x: u32) -> u32x4
     ensures { HasLanes 4 (λ k. x) result }
 {
     u32x4::splat(x)
+}
+
+/// The four words from `at` on.
+#[inline(always)]
+pub fn load(s: &[u32], at: usize) -> u32x4
+    requires { at + 4 ≤ length s.now }
+    ensures { HasLanes 4 (λ k. slice_index s.now (at + k)) result }
+{
+    u32x4::from_slice(&s[at..])
 }
 
 /// The lesser of two words, taken without a sign.

@@ -6,8 +6,9 @@
 //! and [`Bits::from_bytes`] take memory. Bytes hold their highest bit first, as in all of
 //! EN 302 307-1. A loop over a whole list works on the slice that [`Bits::truths`] lends.
 //! [`add_turned`] adds a row of bits, turned, to another: the step of all that goes by groups of
-//! bits, and [`eight_from`] lends the lanes of a vector eight of them. [`xor_first`] adds the first
-//! bits of one slice of truth values to those of another. Slices of bytes and of truth values go
+//! bits, and [`add_back`] does so with words of 32 bits, turned back. [`eight_from`] lends the lanes
+//! of a vector eight bits. [`xor_first`] adds the first bits of one slice of truth values to those of
+//! another. Slices of bytes and of truth values go
 //! from one to the other by [`bits_into`], [`byte_at`] and [`bytes_from`]. What crates do with lanes
 //! of words stands in [`lanes16`] and [`lanes32`]: sums and differences that wrap, the lesser word,
 //! a choice lane by lane. What the other crates say of bits, of bytes, of the numbers that bits spell
@@ -25,12 +26,14 @@ mod bools;
 mod lanes;
 pub mod lanes16;
 pub mod lanes32;
+mod rows32;
 mod spelling;
 mod turns;
 
 pub use bits::Bits;
 pub use bools::xor_first;
 pub use lanes::eight_from;
+pub use rows32::add_back;
 pub use spelling::{bits_into, byte_at, bytes_from};
 pub use turns::add_turned;
 

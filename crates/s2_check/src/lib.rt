@@ -36,7 +36,6 @@ mod step;
 mod sums;
 mod taken;
 mod tally;
-mod turned;
 mod verdict;
 mod view;
 mod write;

@@ -16,7 +16,7 @@ use Rattle.s2_bits.specs.Lanes16.{size16}
 use Rattle.s2_minsum.specs.Rows.{cell, no_entry, entry_at, AreIn, sent16, received, change_of, changed}
 use Rattle.s2_minsum.specs.Layout.{row_of_bit, last_check, entry_of, entries_of, entry_count, first_row, kept_of, state_of, lacked_row}
 use Rattle.s2_minsum.specs.Decoding.{AreFit, AreNumbers, AreMessages}
-use Rattle.s2_minsum.proofs.Parts.{row_before, put_mid_below, put_mid_at, put_mid_above, length-put_mid}
+use Rattle.s2_bits.proofs.RowParts.{row_before, put_mid_below, put_mid_at, put_mid_above, length-put_mid}
 use Rattle.s2_minsum.proofs.FirstRows.{first_row_before}
 use Rattle.s2_minsum.proofs.LayerIs.{ys_small, state_is, numbers}
 

@@ -1,6 +1,3 @@
-pub mod Steps
-pub mod Turned
-pub mod Parts
 pub mod RowLemmas
 pub mod Places
 pub mod Turning

@@ -3,7 +3,7 @@ use Rattle.std.specs.Prelude.{ℕ, zero, suc, ◌+◌, ◌-◌, ◌*◌, ◌/◌
 use Rattle.s2_minsum.specs.Plain.{size_cap}
 use Rattle.s2_mode.specs.Limits.{most_group}
 use Rattle.s2_bits.specs.Lanes16.{minus16, plus16, size16, sign16}
-pub use Rattle.s2_bits.specs.Turns.{turned}
+pub use Rattle.s2_bits.specs.Turns.{turned, turned_back, cell}
 use Rattle.s2_minsum.specs.declared.rows.Entry.{Entry}
 
 -- the message to a member with input v of a check with these two least sizes, and a word that is negative where an odd number of its inputs are
@@ -11,14 +11,6 @@ abbrev pub sent16 : ℕ → ℕ → ℕ → ℕ → ℕ
 sent16 v first second signs =
     let m = (if size16 v == first then second else first) in
     (if sign16 (bit_xor signs v) == 1 then minus16 0 (m - m / 4) else (m - m / 4))
-
--- where place k of n looks that are turned back by s
-abbrev pub turned_back : ℕ → ℕ → ℕ → ℕ
-turned_back n s k = (k + s) % n
-
--- lane c of row e
-abbrev pub cell : List ℕ → ℕ → ℕ → ℕ → ℕ
-cell xs n e c = get_or xs (e * n + c) 0
 
 abbrev pub no_entry : Entry
 no_entry = record { row = 0; shift = 0 }

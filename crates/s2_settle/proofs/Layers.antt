@@ -12,7 +12,7 @@ use Rattle.s2_matrix.proofs.Totals.{upto_more}
 use Rattle.s2_minsum.specs.declared.rows.Entry.{Entry}
 use Rattle.s2_minsum.specs.Rows.{entry_at, is_lacking}
 use Rattle.s2_minsum.specs.Layout.{lacked_row, entries_of}
-use Rattle.s2_minsum.proofs.Parts.{row_before, put_mid_below, put_mid_at, put_mid_above, length-put_mid}
+use Rattle.s2_bits.proofs.RowParts.{row_before, put_mid_below, put_mid_at, put_mid_above, length-put_mid}
 use Rattle.s2_bits.specs.Lanes32.{plus32}
 use Rattle.s2_settle.specs.Rests.{received, change, changed, gap}
 use Rattle.s2_settle.specs.Nodes.{first_of, second_of, least_at}

@@ -1,5 +1,5 @@
 //! Four words at a time, beside what [`s2_bits::lanes32`] has of them.
-ghost use Rattle.std.specs.Prelude.{◌+◌, ◌/◌, ◌≤◌, ◌==◌, if◌then◌else◌, length, slice_index};
+ghost use Rattle.std.specs.Prelude.{◌/◌, ◌==◌, if◌then◌else◌};
 ghost use Rattle.s2_bits.specs.Lanes.{HasLanes, lane};
 ghost use Rattle.s2_bits.specs.Lanes32.{minus32};
 ghost use Rattle.s2_settle.specs.Rests.{given, gap, change};
@@ -7,14 +7,6 @@ ghost use Rattle.s2_settle.specs.Rests.{given, gap, change};
 use s2_bits::lanes32::{all, least, minus, most, plus, where_same};
 use s2_check::MOST_MOVED;
 use std::simd::prelude::*;
-
-#[inline(always)]
-pub(crate) fn load(s: &[u32], at: usize) -> u32x4
-    requires { at + 4 ≤ length s.now }
-    ensures { HasLanes 4 (λ k. slice_index s.now (at + k)) result }
-{
-    u32x4::from_slice(&s[at..])
-}
 
 #[inline(always)]
 pub(crate) fn half(a: u32x4) -> u32x4

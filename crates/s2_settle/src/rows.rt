@@ -2,52 +2,15 @@
 ghost use Rattle.std.specs.Prelude.{◌≡◌, ◌≤◌, ◌<◌, ◌+◌, ◌-◌, ◌*◌, ◌/◌, ◌==◌, if◌then◌else◌, min, max, length, slice_index, EachIndex};
 ghost use Rattle.s2_mode.specs.Limits.{most_group};
 ghost use Rattle.s2_bits.specs.Bits.{Rewritten};
-ghost use Rattle.s2_bits.specs.Lanes32.{minus32, plus32};
-ghost use Rattle.s2_minsum.specs.Rows.{turned, turned_back};
+ghost use Rattle.s2_bits.specs.Lanes32.{minus32};
+ghost use Rattle.s2_bits.specs.Turns.{turned};
 ghost use Rattle.s2_settle.specs.Rests.{given, gap, change, seen_at};
 
 use crate::lanes;
-use crate::lanes::load;
 use s2_bits::lanes32;
+use s2_bits::lanes32::load;
 use s2_check::MOST_MOVED;
 use std::simd::prelude::*;
-
-/// Adds the whole vectors of a row to those of a row.
-fn sum_blocks_into(to: &mut [u32], from: &[u32])
-    requires { length from.now ≡ length to.old }
-    ensures { Rewritten 0 (length to.old / 4 * 4) (λ k. plus32 (slice_index to.old k) (slice_index from.now k)) to.old to.new }
-{
-    let n = to.len();
-    for block in 0..n / 4 {
-        let at = 4 * block;
-        lanes32::plus(load(to, at), load(from, at)).copy_to_slice(&mut to[at..]);
-    }
-}
-
-/// Adds a row to a row.
-fn sum_into(to: &mut [u32], from: &[u32])
-    requires { length from.now ≡ length to.old }
-    ensures { EachIndex to.new (λ k. slice_index to.new k ≡ plus32 (slice_index to.old k) (slice_index from.now k)) }
-{
-    let n = to.len();
-    sum_blocks_into(to, from);
-    for i in n / 4 * 4..n {
-        to[i] = to[i].wrapping_add(from[i]);
-    }
-}
-
-/// Adds changes to a turned row.
-pub(crate) fn add(row: &mut [u32], changes: &[u32], shift: usize)
-    requires same { length changes.now ≡ length row.old }
-    requires few { length row.old ≤ most_group }
-    requires turn { shift ≤ length row.old }
-    ensures { EachIndex row.new (λ k. slice_index row.new k ≡ plus32 (slice_index row.old k) (slice_index changes.now (turned_back (length row.old) shift k))) }
-{
-    let (low, high) = row.split_at_mut(row.len() - shift);
-    let (first, last) = changes.split_at(shift);
-    sum_into(low, last);
-    sum_into(high, first);
-}
 
 /// What the members of the whole vectors of a piece of a row give.
 fn give_blocks(to: &mut [u32], rests: &[u32], targets: &[u32], amounts: &[u32], e: u32)

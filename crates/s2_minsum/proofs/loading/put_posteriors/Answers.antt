@@ -6,7 +6,7 @@ use Rattle.s2_bits.specs.Lanes16.{signed16}
 use Rattle.s2_minsum.specs.Rows.{cell}
 use Rattle.s2_minsum.specs.Layout.{bit_of, step_of_row}
 use Rattle.s2_minsum.proofs.Places
-use Rattle.s2_minsum.proofs.RowLemmas.{length-part, put_row_same, put_row_other}
+use Rattle.s2_bits.proofs.RowParts.{length-part, put_row_same, put_row_other}
 use Rattle.s2_minsum.proofs.loading.put_posteriors.Goals as goal
 
 pub loop-row-preserved : goal.loop-row-preserved

@@ -1,6 +1,6 @@
 use Rattle.std.proofs.Common.{◌≡◌, ℕ, ◌+◌, ◌*◌, ◌<◌, min, max, bit_xor, get_or, ◌∙◌, arith}
 use Rattle.s2_bits.specs.Lanes16.{size16}
-use Rattle.s2_minsum.proofs.Steps.{Rewritten-store, HasLanes-same}
+use Rattle.s2_bits.proofs.LaneSteps.{Rewritten-store, HasLanes-same}
 use Rattle.s2_minsum.proofs.rows.track_blocks.Goals as goal
 
 pub loop-block-preserved : goal.loop-block-preserved

@@ -6,7 +6,7 @@ use Rattle.s2_matrix.proofs.Joins.{div_below}
 use Rattle.s2_minsum.specs.Rows.{cell}
 use Rattle.s2_minsum.specs.Layout.{bit_of, step_of_row}
 use Rattle.s2_minsum.proofs.Places
-use Rattle.s2_minsum.proofs.RowLemmas.{length-part, length-put_row, put_row_same, put_row_other}
+use Rattle.s2_bits.proofs.RowParts.{length-part, length-put_row, put_row_same, put_row_other}
 use Rattle.s2_settle.specs.Start.{started}
 use Rattle.s2_settle.proofs.Layers.{by_places}
 use Rattle.s2_settle.proofs.start.put_rests.Goals as goal

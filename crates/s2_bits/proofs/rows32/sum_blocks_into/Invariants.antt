@@ -1,7 +1,7 @@
 use Rattle.std.proofs.Common.{◌*◌, get_or}
 use Rattle.s2_bits.specs.Lanes32.{plus32}
 use Rattle.s2_bits.specs.Bits.{Rewritten}
-use Rattle.s2_settle.proofs.rows.sum_blocks_into.Given as goal
+use Rattle.s2_bits.proofs.rows32.sum_blocks_into.Given as goal
 
 abbrev pub invariant-loop-block : goal.invariant-loop-block
 invariant-loop-block l = Rewritten 0 (4 * l.block) (λ k. plus32 (get_or l.fn.to k 0) (get_or l.from k 0)) l.fn.to l.to
