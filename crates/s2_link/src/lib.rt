@@ -1,10 +1,11 @@
-//! What both ends of a DVB-S2 link agree on, and how much a receiver tries.
+//! What both ends of a DVB-S2 link agree on, and how a receiver is tuned.
 //!
 //! A [`Setup`] is a mode, a scrambling number and a roll-off as they come, and [`Link::new`] refuses one that
 //! makes no end of a link, beside the matrix of the address rows: the first of `OtherShape`, `BadNumber` and
 //! `BadRollOff`. A [`Link`] is what came through, and no end refuses it; nor is anything refused where numbers
 //! are known to be in their ranges, as a [`LinkSetup`] has them ([`Link::of`]). A [`Tuning`] is how much a
-//! receiver tries: rounds of min-sum, and passes that look for a certificate.
+//! receiver tries, rounds of min-sum and passes that look for a certificate, and what its soft values are divided
+//! by.
 //!
 //! ```text
 //! let link = Link::new(Setup { mode, number: 0, roll_off: 0 }, &matrix)?;

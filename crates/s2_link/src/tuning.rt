@@ -1,9 +1,11 @@
-//! How much a receiver tries.
+//! How a receiver is tuned.
 ghost use Rattle.std.specs.Prelude.{◌≡◌, ◌≤◌, IfOk, IfErr};
 ghost use Rattle.s2_link.specs.Limits.{most_rounds, most_passes};
+ghost use Rattle.s2_soft.specs.Divisors.{IsDivisor};
 ghost use Rattle.s2_link.specs.Tuning.{tuning_of, IsTuning, RefusesTuning};
 
 use crate::fault::SetupFault;
+use s2_soft::Divisor;
 use std::marker::Model;
 
 /// How many rounds of min-sum a receiver runs at most.
@@ -15,28 +17,30 @@ pub const DEFAULT_ROUNDS: u32 = 50;
 /// How many passes of settling it runs at most.
 pub const MOST_PASSES: u32 = 1000;
 
-/// How much a receiver tries: so many rounds of min-sum, 1 to 200, and so many passes of settling, 0 to 1000.
+/// How a receiver is tuned: so many rounds of min-sum, 1 to 200, so many passes of settling, 0 to 1000, and what
+/// soft values are divided by.
 #[derive(Clone, Copy, Debug, PartialEq, Eq)]
 pub struct Tuning {
     rounds: u32,
     passes: u32,
+    divisor: Divisor,
 }
 
 impl Model for Tuning {
-    ghost use Rattle.s2_link.specs.Tuning.{Tuning as TuningValue, tuning_of, IsTuning};
+    ghost use Rattle.s2_link.specs.Tuning.{Tuning as TuningValue, IsTuning};
 
     ghost Value = { TuningValue };
 
-    ghost view = { λ t. tuning_of t.rounds t.passes };
+    ghost view = { λ t. record { rounds = t.rounds; passes = t.passes; divisor = t.divisor } };
 
-    ghost invariant = { λ t. IsTuning (tuning_of t.rounds t.passes) };
+    ghost invariant = { λ t. IsTuning (record { rounds = t.rounds; passes = t.passes; divisor = t.divisor }) };
 
-    ghost inverse = { λ v. record { rounds = v.rounds; passes = v.passes } };
+    ghost inverse = { λ v. record { rounds = v.rounds; passes = v.passes; divisor = v.divisor } };
 }
 
 impl Tuning {
-    /// So many rounds and passes. Of two refusals the first is answered: `BadRounds` where the rounds are not 1
-    /// to 200, `BadPasses` where the passes are over 1000.
+    /// So many rounds and passes, and the usual divisor, 4096. Of two refusals the first is answered: `BadRounds`
+    /// where the rounds are not 1 to 200, `BadPasses` where the passes are over 1000.
     pub fn new(rounds: u32, passes: u32) -> Result<Tuning, SetupFault>
         ensures is { IfOk result (λ t. t ≡ tuning_of rounds passes) }
         ensures tuned { IfOk result (λ _. IsTuning (tuning_of rounds passes)) }
@@ -48,7 +52,22 @@ impl Tuning {
         if passes > MOST_PASSES {
             return Err(SetupFault::BadPasses);
         }
-        Ok(Tuning { rounds, passes })
+        Ok(Tuning {
+            rounds,
+            passes,
+            divisor: Divisor::usual(),
+        })
+    }
+
+    /// The same rounds and passes, and this divisor.
+    pub fn with_divisor(self, divisor: Divisor) -> Tuning
+        ensures { result ≡ record self { divisor = divisor } }
+    {
+        Tuning {
+            rounds: self.rounds,
+            passes: self.passes,
+            divisor,
+        }
     }
 
     /// How many rounds of min-sum.
@@ -66,5 +85,14 @@ impl Tuning {
         ensures most { result ≤ most_passes }
     {
         self.passes
+    }
+    /// What soft values are divided by.
+    pub fn divisor(self) -> Divisor
+        ensures is { result ≡ self.divisor }
+        ensures known { IsDivisor result }
+    {
+        // what it promises of the number is a part of what is promised here
+        let _number = self.divisor.get();
+        self.divisor
     }
 }
