@@ -4,8 +4,6 @@ A code is the size of a group, how many groups, q, and the address rows; `run` g
 by check, after so many rounds, or after one layer of the first.
 """
 
-MOST_SOFT, CAP = 511, 1023
-
 
 def members(group, groups, q, rows):
     """The members of each check, rising."""
@@ -24,7 +22,7 @@ def members(group, groups, q, rows):
 
 def message(inputs):
     """What the inputs of the other members make."""
-    least = min([CAP] + [abs(v) for v in inputs])
+    least = min([127] + [abs(v) for v in inputs])
     sign = -1 if sum(v < 0 for v in inputs) % 2 else 1
     return sign * (least - least // 4)
 
@@ -55,6 +53,6 @@ if __name__ == "__main__":
     toy = [[0, 4, 8], [0, 1, 2]]
     print("ONE_WRONG_AFTER, _SENT", *run(4, 2, 3, toy, [-4] + [10] * 19, 1, layers=1))
     print("TWICE_AFTER", run(4, 1, 3, [[0, 3]], [8] * 16, 1, layers=1)[0])
-    print("GROWN", run(4, 2, 3, toy, [MOST_SOFT] * 20, 5)[0])
-    print("a check of one member", run(1, 1, 2, [[1]], [MOST_SOFT] * 3, 1, layers=1)[1])
+    print("GROWN", run(4, 2, 3, toy, [63] * 20, 5)[0])
+    print("a check of one member", run(1, 1, 2, [[1]], [63] * 3, 1, layers=1)[1])
     print("pairs", run(1, 1, 1, [[0]], [-5, 3], 1)[0], run(1, 1, 1, [[0]], [-5, 5], 3)[0])
