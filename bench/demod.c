@@ -1,10 +1,13 @@
 /* A DVB-S2 receiver of clean streams in plain C (EN 302 307-1, 5.1 to 5.5): it tells whether symbols give their packets back.
  * It reads frame by frame, turns back, makes soft values, takes hard decisions, tests the parity checks and the remainder of
  * the outer code, descrambles, reads the header and joins packets. It corrects nothing.
- * demod MODCOD SHORT PILOTS NUMBER ROLL_OFF ROWS SYMBOLS PACKETS; SHORT and PILOTS are 0 or 1. */
+ * demod MODCOD SHORT PILOTS NUMBER ROLL_OFF DIVISOR ROWS SYMBOLS PACKETS; SHORT and PILOTS are 0 or 1, and DIVISOR is a power
+ * of two. */
 #include "plain.h"
 
-static int frame_symbols;
+enum { MOST_SOFT = 511 };
+
+static int frame_symbols, shift;
 static uint8_t bytes[4 * MOST_SYMBOLS];
 static symbol frame[MOST_SYMBOLS], payload[MOST_SYMBOLS];
 static int16_t soft[MOST_BITS];
@@ -50,11 +53,11 @@ static void take_payload(void) {
     }
 }
 
-/* ---- soft values: (d1 - d0) / 65536 of the least squared distances, toward zero, held within 63 */
+/* ---- soft values: (d1 - d0) / divisor of the least squared distances, toward zero, held within MOST_SOFT */
 
 static int16_t held(int32_t difference) {
-    int32_t v = difference / 65536;
-    return (int16_t)(v > 63 ? 63 : v < -63 ? -63 : v);
+    int32_t v = (difference + (difference >> 31 & ((1 << shift) - 1))) >> shift;
+    return (int16_t)(v > MOST_SOFT ? MOST_SOFT : v < -MOST_SOFT ? -MOST_SOFT : v);
 }
 
 static int32_t most(int32_t a, int32_t b) { return a > b ? a : b; }
@@ -183,20 +186,21 @@ static int descramble(int *syncd) {
 int main(int argc, char **argv) {
     uint64_t frames = 0, delivered = 0, at = 0;
     FILE *in, *out;
-    if (argc != 9) return 1;
+    if (argc != 10) return 1;
     modcod = atoi(argv[1]);
     is_short = atoi(argv[2]);
     pilots = atoi(argv[3]);
     set_mode();
     frame_symbols = HEADER_SYMBOLS + 90 * slots + (pilots ? 36 * ((slots - 1) / 16) : 0);
-    read_rows(argv[6]);
+    shift = __builtin_ctz((unsigned)atoi(argv[6]));
+    read_rows(argv[7]);
     make_crc_table();
     make_generator();
     make_header();
     make_turns((uint32_t)atoi(argv[4]));
     make_sequence();
-    in = fopen(argv[7], "rb");
-    out = fopen(argv[8], "wb");
+    in = fopen(argv[8], "rb");
+    out = fopen(argv[9], "wb");
     if (!in || !out) return 1;
     body[0] = 0x47;
     while (read_frame(in) == frame_symbols && is_header()) {

@@ -1,10 +1,12 @@
 /* The parts between a codeword and the line in plain C, in both directions, on the symbols and bits that time_front
- * makes: the baseline of bench/front/run. Prints the least nanoseconds of each part, and a sum of what it wrote. */
+ * makes: the baseline of bench/front/run. Prints the least nanoseconds of each part, and a sum of what it wrote.
+ * front DIVISOR; soft values are divided by it, a power of two. */
 #include <stdint.h>
 #include <stdio.h>
+#include <stdlib.h>
 #include <time.h>
 
-enum { SLOTS = 1440, BLOCK = 1476, HEADER = 90, MOST = 33192, GOLD = 262143, QPSK = 32400, PSK = 21600, BITS = 64800 };
+enum { SLOTS = 1440, BLOCK = 1476, HEADER = 90, MOST = 33192, GOLD = 262143, QPSK = 32400, PSK = 21600, BITS = 64800, MOST_SOFT = 511 };
 
 typedef struct { int16_t i, q; } symbol;
 typedef unsigned __int128 u128;
@@ -88,15 +90,16 @@ __attribute__((noinline)) static unsigned feed_all(const symbol *s, int n) {
 
 /* ---- soft values */
 
-static inline int16_t quantized(int32_t d) {
-    d /= 65536;
-    return d > 63 ? 63 : d < -63 ? -63 : d;
+/* Divided by 2^shift, toward zero, and held within MOST_SOFT. */
+static inline int16_t quantized(int32_t d, int shift) {
+    d = (d + (d >> 31 & ((1 << shift) - 1))) >> shift;
+    return d > MOST_SOFT ? MOST_SOFT : d < -MOST_SOFT ? -MOST_SOFT : d;
 }
 
-__attribute__((noinline)) static void soft_qpsk(const symbol *restrict p, int16_t *restrict soft, int n) {
+__attribute__((noinline)) static void soft_qpsk(const symbol *restrict p, int16_t *restrict soft, int n, int shift) {
     for (int s = 0; s < n; s++) {
-        soft[2 * s] = quantized(2800 * p[s].i);
-        soft[2 * s + 1] = quantized(2800 * p[s].q);
+        soft[2 * s] = quantized(2800 * p[s].i, shift);
+        soft[2 * s + 1] = quantized(2800 * p[s].q, shift);
     }
 }
 
@@ -104,12 +107,12 @@ static inline int32_t most(int32_t a, int32_t b) { return a > b ? a : b; }
 
 static inline int32_t nearest(int32_t a, int32_t b, int32_t x, int32_t y) { return most(most(a, b) + 100, most(x, y)); }
 
-__attribute__((noinline)) static void soft_psk(const symbol *restrict p, int16_t *restrict first, int16_t *restrict second, int16_t *restrict third, int n) {
+__attribute__((noinline)) static void soft_psk(const symbol *restrict p, int16_t *restrict first, int16_t *restrict second, int16_t *restrict third, int n, int shift) {
     for (int s = 0; s < n; s++) {
         int32_t i = p[s].i, q = p[s].q, a = 1400 * (i + q), b = 1400 * (i - q), x = 1980 * i, y = 1980 * q;
-        first[s] = quantized(nearest(a, -a, x, -x) - nearest(b, -b, y, -y));
-        second[s] = quantized(nearest(a, b, x, y) - nearest(-a, -b, -x, -y));
-        third[s] = quantized(nearest(a, -b, -x, y) - nearest(-a, b, x, -y));
+        first[s] = quantized(nearest(a, -a, x, -x) - nearest(b, -b, y, -y), shift);
+        second[s] = quantized(nearest(a, b, x, y) - nearest(-a, -b, -x, -y), shift);
+        third[s] = quantized(nearest(a, -b, -x, y) - nearest(-a, b, x, -y), shift);
     }
 }
 
@@ -172,16 +175,18 @@ static uint32_t sum_soft(void) {
         printf("c_%s %.0f %u\n", name, least, (unsigned)(sum)); \
     } while (0)
 
-int main(void) {
+int main(int count, char **words) {
     unsigned found = 0;
+    if (count != 2) return 1;
+    int shift = __builtin_ctz((unsigned)atoi(words[1]));
     fill();
     make_quarters(0);
     headers[0] = header(8, 1);
     for (int k = 0; k < 4; k++) headers[k + 1] = header(k / 2, k % 2);
     LEAST("feed", found += feed_all(frame, 33282), found);
     LEAST("payload_of", payload_of(frame, payload, 360, 22), sum_symbols(payload, QPSK));
-    LEAST("soft_qpsk", soft_qpsk(frame, soft, QPSK), sum_soft());
-    LEAST("soft_psk", soft_psk(frame, soft, soft + PSK, soft + 2 * PSK, PSK), sum_soft());
+    LEAST("soft_qpsk", soft_qpsk(frame, soft, QPSK, shift), sum_soft());
+    LEAST("soft_psk", soft_psk(frame, soft, soft + PSK, soft + 2 * PSK, PSK, shift), sum_soft());
     LEAST("map_qpsk", map_qpsk(bits, payload, QPSK), sum_symbols(payload, QPSK));
     LEAST("map_psk", map_psk(bits, bits + PSK, bits + 2 * PSK, payload, PSK), sum_symbols(payload, PSK));
     return 0;

@@ -11,7 +11,7 @@
 
 typedef int16_t i16;
 
-static const int CAP = 127;
+static const int CAP = 1023;
 
 struct Entry { int row, shift; };
 
@@ -116,10 +116,10 @@ int main(int argc, char **argv) {
     if ((int)rows.size() != groups) return 1;
     Decoder decoder(group, groups, q, rows);
     uint32_t state = 1;
-    // Values as a receiver has them: mostly 28, some wrong.
+    // Values as a receiver has them: about 224, some wrong.
     for (int b = 0; b < group * (groups + q); b++) {
         state = state * 1664525u + 1013904223u;
-        int value = 28 + (int)(state >> 26) - 32;
+        int value = 224 + (int)(state >> 23) - 256;
         int k = group * groups;
         int row = b < k ? b / group : groups + (b - k) % q, lane = b < k ? b % group : (b - k) / q;
         decoder.posteriors[(size_t)row * group + lane] = (i16)value;

@@ -1,5 +1,5 @@
 -- The ways in which is decided, and what holds of what is decided.
-use Rattle.std.proofs.Common.{◌≡◌, ◌↔◌, IsTrue, ℕ, zero, suc, ◌+◌, ◌%◌, ◌==◌, ◌<◌, ◌≤◌, eq-eqb, eqb-true, Bool, true, false, cond, List, [], ◌∷◌, length, map, get_or, ℤ, Option, None, Some, inl, inr, refl, sym, ap, subst, ◌∙◌, arith}
+use Rattle.std.proofs.Common.{◌≡◌, ◌↔◌, IsTrue, ℕ, zero, suc, ◌+◌, ◌%◌, ◌==◌, ◌<◌, ◌≤◌, eq-eqb, eqb-true, Bool, true, false, cond, List, [], ◌∷◌, length, map, get_or, ℤ, Option, None, Some, inl, inr, refl, sym, ap, ap₂, subst, ◌∙◌, arith}
 use Rattle.std.specs.List.{find, range_with_len}
 use Rattle.std.proofs.lemmas.Bool.{cases_Bool, both_ways, false_from_ne_true}
 use Rattle.std.proofs.lemmas.List.FromFn.{length-range_with_len, get_or-range_with_len, length-map-range_with_len}
@@ -11,7 +11,7 @@ use Rattle.s2_check.specs.Hard.{hard_decision}
 use Rattle.s2_check.specs.Views.{View, unsplit_view}
 use Rattle.s2_split.specs.Scattered.{repaired}
 use Rattle.s2_judge.specs.Deciding.{Decided, certified, satisfies, decoded_bits, first_codeword, without_certificate, with_made, by_min_sum, repair_view, by_repair, decided, view_for}
-use Rattle.s2_link.specs.Tuning.{Tuning}
+use Rattle.s2_link.specs.Tuning.{Tuning, tuning_of}
 
 -- ---- the test of every check
 
@@ -122,6 +122,24 @@ module _ (r : Rows) (tuning : Tuning) (soft : List ℤ) where
 
   pub repair_odd : satisfies (code_of r) (repaired (code_of r) soft) ≡ false → repair_view r tuning.passes soft ≡ None
   repair_odd e = ap (λ b. cond b (view_for r tuning.passes soft (repaired (code_of r) soft)) None) e
+
+  -- what soft values were divided by plays no part
+  pub same_numbers : (rounds passes : ℕ) → rounds ≡ tuning.rounds → passes ≡ tuning.passes → decided r tuning soft ≡ decided r (tuning_of rounds passes) soft
+  unfolding decided
+  same_numbers rounds passes as_rounds as_passes =
+      by_numbers ∙ sym (ap₂ (λ a b. decided r (tuning_of a b) soft) as_rounds as_passes)
+    where
+      min_sum_same : (o : Option (List Bool)) → by_min_sum r tuning soft o ≡ by_min_sum r (tuning_of tuning.rounds tuning.passes) soft o
+      min_sum_same (Some bits) = refl
+      min_sum_same None = refl
+
+      repair_same : (o : Option View) → by_repair r tuning soft o ≡ by_repair r (tuning_of tuning.rounds tuning.passes) soft o
+      repair_same (Some view) = refl
+      repair_same None = min_sum_same (first_codeword r tuning.rounds soft)
+
+      by_numbers : decided r tuning soft ≡ decided r (tuning_of tuning.rounds tuning.passes) soft
+      by_numbers =
+          ap (cond (satisfies (code_of r) (hard_decision soft)) (certified (hard_decision soft) (unsplit_view r soft (hard_decision soft)))) (repair_same (repair_view r tuning.passes soft))
 
   -- a proof for each way is a proof for what is decided
   pub by_ways : (P : Decided → Type 0) → (satisfies (code_of r) (hard_decision soft) ≡ true → P (certified (hard_decision soft) (unsplit_view r soft (hard_decision soft)))) → ((view : View) → satisfies (code_of r) (repaired (code_of r) soft) ≡ true → view_for r tuning.passes soft (repaired (code_of r) soft) ≡ Some view → P (certified (repaired (code_of r) soft) view)) → ((bits : List Bool) → repair_view r tuning.passes soft ≡ None → first_codeword r tuning.rounds soft ≡ Some bits → P (with_made bits (view_for r tuning.passes soft bits))) → (repair_view r tuning.passes soft ≡ None → first_codeword r tuning.rounds soft ≡ None → P (without_certificate r tuning soft)) → P (decided r tuning soft)

@@ -13,7 +13,7 @@ use Rattle.s2_judge.specs.declared.ground.Ground.TheVariants.{HardDecision, Foun
 use Rattle.s2_judge.specs.Deciding.{Decided}
 use Rattle.s2_judge.specs.Certifying.{Certifying}
 
--- the rows of its matrix, how much it tries, its soft values, the bits that were last decided, and their certificate
+-- the rows of its matrix, its tuning, its soft values, the bits that were last decided, and their certificate
 pub record Judging : Type 0 where
   pub rows : Rows
   pub tuning : Tuning
@@ -48,8 +48,9 @@ IsGround soft bits certifier Checks = Unit
 IsGround soft bits certifier Nothing = Unit
 
 -- what holds of a judge
-pub record IsJudge (rounds : ℕ) (certifier : Certifying) (decoder : Decoding) (soft : List ℤ) (repair bits : List Bool) (ground : Ground) : Type 0 where
-  pub some : 1 ≤ rounds
+pub record IsJudge (tuning : Tuning) (certifier : Certifying) (decoder : Decoding) (soft : List ℤ) (repair bits : List Bool) (ground : Ground) : Type 0 where
+  pub some : 1 ≤ tuning.rounds
+  pub passes : certifier.passes ≡ tuning.passes
   pub decoder_rows : decoder.rows ≡ certifier.rows
   pub soft_long : length soft ≡ (code_of certifier.rows).bits
   pub repair_long : length repair ≡ (code_of certifier.rows).bits

@@ -33,10 +33,10 @@ use std::marker::Model;
 /// A certificate is found by greedy amounts, else, with no passes, by spreading, and with passes by so
 /// many at most of settling.
 ///
-/// To contracts a judge is its matrix's rows, how much it tries, its soft values, the bits that were
+/// To contracts a judge is its matrix's rows, its tuning, its soft values, the bits that were
 /// last decided, and their certificate.
 pub struct Judge<'a> {
-    rounds: u32,
+    tuning: Tuning,
     certifier: Certifier<'a>,
     decoder: Decoder<'a>,
     soft: Vec<i16>,
@@ -48,7 +48,7 @@ pub struct Judge<'a> {
 impl<'a> Drop for Judge<'a> {
     fn drop(self) {
         let Judge {
-            rounds: _,
+            tuning: _,
             certifier: _,
             decoder: _,
             soft: _,
@@ -60,14 +60,13 @@ impl<'a> Drop for Judge<'a> {
 }
 
 impl<'a> Model for Judge<'a> {
-    ghost use Rattle.s2_link.specs.Tuning.{tuning_of};
     ghost use Rattle.s2_judge.specs.Judging.{Judging, IsJudge, view_by};
 
     ghost Value = { Judging };
 
-    ghost view = { λ j. record { rows = j.certifier.rows; tuning = tuning_of j.rounds j.certifier.passes; soft = j.soft.items; bits = j.bits; certificate = view_by j.certifier.rows j.soft.items j.bits j.certifier.found j.ground } };
+    ghost view = { λ j. record { rows = j.certifier.rows; tuning = j.tuning; soft = j.soft.items; bits = j.bits; certificate = view_by j.certifier.rows j.soft.items j.bits j.certifier.found j.ground } };
 
-    ghost invariant = { λ j. IsJudge j.rounds j.certifier j.decoder j.soft.items j.repair j.bits j.ground };
+    ghost invariant = { λ j. IsJudge j.tuning j.certifier j.decoder j.soft.items j.repair j.bits j.ground };
 }
 
 impl<'a> Judge<'a> {
@@ -79,7 +78,8 @@ impl<'a> Judge<'a> {
         ensures bits { IfOk result (λ j. j.bits ≡ replicate (code_of matrix.now).bits false) }
         ensures none { IfOk result (λ j. j.certificate ≡ None) }
     {
-        let rounds = tuning.rounds();
+        // what it promises of the rounds is a part of what a judge is
+        let _rounds = tuning.rounds();
         let n = matrix.bits();
         let certifier = Certifier::new(alloc, matrix, tuning.passes())?;
         let decoder = Decoder::new(alloc, matrix)?;
@@ -87,7 +87,7 @@ impl<'a> Judge<'a> {
         let repair = Bits::zeroed(alloc, n)?;
         let bits = Bits::zeroed(alloc, n)?;
         Ok(Judge {
-            rounds,
+            tuning,
             certifier,
             decoder,
             soft,
@@ -116,7 +116,7 @@ impl<'a> Judge<'a> {
         &mut self.soft
     }
 
-    /// Decides on the soft values that were written, each from -63 to 63. It takes no memory, and depends on
+    /// Decides on the soft values that were written, each from -511 to 511. It takes no memory, and depends on
     /// these values alone.
     pub fn decide(&mut self) -> Verdict
         requires range { All IsSoft self.old.soft }
@@ -137,14 +137,14 @@ impl<'a> Judge<'a> {
             &mut self.certifier,
             &mut self.decoder,
             &self.soft,
-            self.rounds,
+            self.tuning.rounds(),
             &mut self.repair,
             &mut self.bits,
         );
         self.ground.verdict()
     }
 
-    /// Decides on n soft values from -63 to 63, n the codeword's length, which it copies. It takes no memory, and
+    /// Decides on n soft values from -511 to 511, n the codeword's length, which it copies. It takes no memory, and
     /// depends on these values alone.
     pub fn judge(&mut self, soft: &[i16]) -> Verdict
         requires long { length soft.now ≡ (code_of self.old.rows).bits }

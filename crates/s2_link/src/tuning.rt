@@ -86,6 +86,7 @@ impl Tuning {
     {
         self.passes
     }
+
     /// What soft values are divided by.
     pub fn divisor(self) -> Divisor
         ensures is { result ≡ self.divisor }

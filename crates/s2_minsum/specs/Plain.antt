@@ -10,7 +10,7 @@ use Rattle.s2_matrix.specs.Code.{Code, members, checks_of}
 
 -- the size of an input that is larger counts as this
 abbrev pub size_cap : ℕ
-size_cap = 127
+size_cap = 1023
 
 -- three quarters, rounded up
 abbrev pub reduced : ℕ → ℕ

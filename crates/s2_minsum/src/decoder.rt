@@ -77,7 +77,7 @@ impl<'a> Decoder<'a> {
         })
     }
 
-    /// Takes a soft value of -63 to 63 for each bit, and sets all messages to 0.
+    /// Takes a soft value of -511 to 511 for each bit, and sets all messages to 0.
     pub fn load(&mut self, soft: &[i16])
         requires long { length soft.now ≡ code_bits self.old.rows.shape }
         requires small { AreWithin most_soft soft.now }

@@ -9,7 +9,7 @@ use Rattle.s2_minsum.specs.Plain.{others}
 use Rattle.s2_minsum.proofs.Columns.{found}
 use Rattle.s2_settle.specs.Rests.{gap}
 use Rattle.s2_settle.specs.Nodes.{first_of, second_of, least_at}
-use Rattle.s2_settle.specs.Plain.{least_of, half_gap, amount_to}
+use Rattle.s2_settle.specs.Plain.{first_reserve, least_of, half_gap, amount_to}
 use Rattle.s2_settle.proofs.Least.{first_le, first_at, second_le, second_at}
 use Rattle.s2_settle.proofs.LeastMember.{least_each, least_holds}
 use Rattle.s2_settle.proofs.RestWords.{no_less_is, gap_is, gap_alone}
@@ -163,7 +163,7 @@ module _ (f : ℕ → ℕ) (n : ℕ) (g : ℕ → ℤ) (ms : List ℕ) (bit : �
       second_high f zero = omega arith
       second_high f (suc n) = (let rest = second_high f n in omega arith)
 
-  pub amount_is : (reserve : ℕ) → reserve ≤ 256 → gap reserve (first_of f n) (second_of f n) ≡ amount_to reserve g t (others ms t)
+  pub amount_is : (reserve : ℕ) → reserve ≤ first_reserve → gap reserve (first_of f n) (second_of f n) ≡ amount_to reserve g t (others ms t)
   amount_is reserve few = go (others ms t) refl
     where
       go : (xs : List ℕ) → others ms t ≡ xs → gap reserve (first_of f n) (second_of f n) ≡ amount_to reserve g t xs
@@ -177,7 +177,7 @@ module _ (f : ℕ → ℕ) (n : ℕ) (g : ℕ → ℤ) (ms : List ℕ) (bit : �
   target_low = at_low
 
   -- where anything is moved, the target is the member whose number is least
-  pub target_is : (reserve : ℕ) → reserve ≤ 256 → 0 < amount_to reserve g t (others ms t) → bit at ≡ t
+  pub target_is : (reserve : ℕ) → reserve ≤ first_reserve → 0 < amount_to reserve g t (others ms t) → bit at ≡ t
   target_is reserve few moved = elim (cases_eq (bit at) t) [
     | inl same ↦ same
     | inr other ↦ absurd (go (others ms t) refl (in_others (bit at) (l.member at at_low at_there) other) moved)

@@ -18,7 +18,7 @@ use Rattle.s2_minsum.proofs.StepStates
 use Rattle.s2_minsum.proofs.StepStates.{of_lane, lane_small, stands}
 use Rattle.s2_bits.specs.Lanes32.{plus32}
 use Rattle.s2_settle.specs.Rests.{change, changed}
-use Rattle.s2_settle.specs.Plain.{State, raise, rest, input, least_of, amount_to, new_target as to_target, new_amount as to_amount, layer as layer_of_checks}
+use Rattle.s2_settle.specs.Plain.{first_reserve, State, raise, rest, input, least_of, amount_to, new_target as to_target, new_amount as to_amount, layer as layer_of_checks}
 use Rattle.s2_settle.specs.Layer.{Held, with_layer, new_target, new_amount, change_in, layer as layer_of_rows}
 use Rattle.s2_settle.specs.Placing.{shown, place_of_check}
 use Rattle.s2_minsum.specs.Decoding.{AreFit}
@@ -56,7 +56,7 @@ layer_at n q r xs f r' c lt small long =
 length-with_layer : (n r : ℕ) (xs : List ℕ) (f : ℕ → ℕ) → length (with_layer n r xs f) ≡ length xs
 length-with_layer n r xs f = length-upto_map (λ k. cond (k / n == r) (f (k % n)) (get_or xs k 0)) (length xs)
 
-module _ (rows : Rows) (fit : AreFit rows) (reserve : ℕ) (few : reserve ≤ 256) (r : ℕ) (layer : r < rows.shape.q) (h : Held) (st : State) (within : IsWithin rows st) (shows : Shows rows h st) where
+module _ (rows : Rows) (fit : AreFit rows) (reserve : ℕ) (few : reserve ≤ first_reserve) (r : ℕ) (layer : r < rows.shape.q) (h : Held) (st : State) (within : IsWithin rows st) (shows : Shows rows h st) where
   abbrev after : State
   after = layer_of_checks (code_of rows) rows.shape.q reserve st r
 

@@ -3,7 +3,7 @@ use Rattle.std.proofs.Common.{◌≡◌, ℕ, ◌+◌, ◌-◌, ◌/◌, ◌%◌
 use Rattle.std.proofs.lemmas.Int.{ints, by_lt_z}
 use Rattle.s2_bits.specs.Lanes32.{minus32, plus32}
 use Rattle.s2_settle.specs.Rests.{gap}
-use Rattle.s2_settle.specs.Plain.{half_gap}
+use Rattle.s2_settle.specs.Plain.{first_reserve, half_gap}
 
 pub less_is : (a b : ℤ) → a <ℤ b → int_lt a b ≡ true
 less_is a b h = grind (arith, ints)
@@ -33,7 +33,7 @@ given_is A amount z false is small few =
     omega (arith, ints, e)
 
 -- what is moved, where both numbers are rests
-pub gap_is : (reserve F S : ℕ) (a b : ℤ) → pos F ≡ pos 2147483648 +ℤ a → pos S ≡ pos 2147483648 +ℤ b → unsigned_abs a ≤ 1073741824 → unsigned_abs b ≤ 1073741824 → reserve ≤ 256 → a ≤ℤ b → gap reserve F S ≡ half_gap reserve a b
+pub gap_is : (reserve F S : ℕ) (a b : ℤ) → pos F ≡ pos 2147483648 +ℤ a → pos S ≡ pos 2147483648 +ℤ b → unsigned_abs a ≤ 1073741824 → unsigned_abs b ≤ 1073741824 → reserve ≤ first_reserve → a ≤ℤ b → gap reserve F S ≡ half_gap reserve a b
 gap_is reserve F S a b first second small small' few le =
     let up : F ≤ S = omega (arith, ints) in
     let low : S < 4294967296 = omega (arith, ints) in
@@ -49,7 +49,7 @@ gap_is reserve F S a b first second small small' few le =
     g ∙ ap (λ x. min (x / 2) 1048576) none ∙ sym (ap (λ t. cond t (min (unsigned_abs (b -ℤ a -ℤ pos reserve) / 2) 1048576) 0) (no_less_is (a +ℤ pos reserve) b ge)))
 
 -- what is moved where there are no others
-pub gap_alone : (reserve F : ℕ) (a : ℤ) → pos F ≡ pos 2147483648 +ℤ a → unsigned_abs a ≤ 1073741824 → reserve ≤ 256 → gap reserve F 4294967295 ≡ 1048576
+pub gap_alone : (reserve F : ℕ) (a : ℤ) → pos F ≡ pos 2147483648 +ℤ a → unsigned_abs a ≤ 1073741824 → reserve ≤ first_reserve → gap reserve F 4294967295 ≡ 1048576
 gap_alone reserve F a first small few =
     let low : F ≤ 3221225472 = omega (arith, ints) in
     let d : (4294967295 + (4294967296 - F)) % 4294967296 ≡ 4294967295 - F = omega arith in

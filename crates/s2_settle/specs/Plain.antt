@@ -11,7 +11,7 @@ use Rattle.s2_minsum.specs.Plain.{others}
 
 -- what a soft value is multiplied by
 abbrev pub settling_scale : ℕ
-settling_scale = 256
+settling_scale = 16
 
 -- what is held in reserve in the first pass, and by how much less from pass to pass, down to nothing
 abbrev pub first_reserve : ℕ

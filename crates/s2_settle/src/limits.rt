@@ -1,7 +1,8 @@
 //! The numbers of the settling rule, all in one place.
 
-/// What a soft value is multiplied by: rests stay within 32 bits while soft values reach 63.
-pub const SCALE: u16 = 256;
+/// What a soft value is multiplied by: rests, reserves and amounts count in sixteenths of one. With soft values up to 511
+/// and at most 24 moves of 2^20 a rest's size stays below 2^25, well within 32 bits.
+pub const SCALE: u16 = 16;
 
 /// What is held in reserve in the first pass.
 pub const FIRST_RESERVE: u32 = 256;
