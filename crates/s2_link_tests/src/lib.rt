@@ -10,6 +10,8 @@ mod bbframe_memory_tests;
 #[cfg(test)]
 mod bbframe_tests;
 #[cfg(test)]
+mod divisor_tests;
+#[cfg(test)]
 mod dummy_tests;
 #[cfg(test)]
 mod hostile_tests;

@@ -112,11 +112,11 @@ fn two_packets_arrive_byte_by_byte(rt: HostRuntime) -> Result<(), Fail> {
     assert_heard_by_one(&rt, rt.alloc(), &sample)
 }
 
-/// QPSK points of 700 without noise are 29 away from zero.
+/// QPSK points of 700 without noise are 478 away from zero.
 fn assert_clean<A: Abort>(rt: &A, soft: &[i16]) {
     assert_eq!(rt; soft.len(), 64800);
     for value in soft {
-        assert_eq!(rt; value.abs_diff(0), 29);
+        assert_eq!(rt; value.abs_diff(0), 478);
     }
 }
 

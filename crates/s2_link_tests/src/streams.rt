@@ -7,7 +7,7 @@ ghost use Rattle.s2_receive.specs.Receiving.{IsLive, begun};
 
 use s2_bbframe::Header;
 use s2_bits::Bits;
-use s2_link::Link;
+use s2_link::{Link, Tuning};
 use s2_matrix::Matrix;
 use s2_mode::{
     ByOne, Counted, Counting, DUMMY_SYMBOLS, Endless, FailAt, MOST_SYMBOLS, Mode, Shape,
@@ -21,6 +21,7 @@ use s2_receive::{Fault, Received, Step, Totals};
 use s2_rows::make_rows;
 use s2_scramble::Gold;
 use s2_send::{Coder, Framer, Modulator};
+use s2_soft::Divisor;
 use std::alloc::{AllocError, Global};
 use std::io;
 use std::io::Read;
@@ -624,6 +625,13 @@ pub(crate) fn receiver_of<'a>(
     Receiver::new(alloc, link.setup, &link.matrix, rounds, passes)
 }
 
+/// The receiver of a link, by this divisor.
+fn receiver_by<'a>(alloc: Global, link: &'a Sides, divisor: Divisor) -> Result<Receiver<'a>, Fail> {
+    let tuning = Tuning::new(ROUNDS, 0)?.with_divisor(divisor);
+    let link = Link::new(link.setup, &link.matrix)?;
+    Ok(Receiver::on_link(alloc, &link, tuning)?)
+}
+
 /// Lets a receiver take at most so many symbols.
 fn limit_receiver(receiver: &mut Receiver<'_>, symbols: u64)
     requires { receiver.old.state ≡ begun }
@@ -724,6 +732,24 @@ pub(crate) fn hear(
     }
 }
 
+/// What a new receiver by this divisor answers to five calls on symbols in memory.
+pub(crate) fn hear_by(
+    alloc: Global,
+    link: &Sides,
+    divisor: Divisor,
+    symbols: &[u8],
+) -> Result<Heard, Fail> {
+    match receiver_by(alloc, link, divisor) {
+        Ok(mut receiver) => Ok(heard_by(
+            alloc,
+            &mut receiver,
+            Source::Slice(symbols),
+            [ALL, ALL, ALL],
+        )),
+        Err(fault) => Err(fault),
+    }
+}
+
 /// The first 32 bits of a word.
 pub(crate) fn first_bytes(word: &Bits) -> [u8; 4] {
     [word.byte(0), word.byte(1), word.byte(2), word.byte(3)]
@@ -778,5 +804,18 @@ pub(crate) fn show(alloc: Global, link: &Sides, symbols: &[u8]) -> Result<Shown,
     match receiver_of(alloc, link, ROUNDS, 0) {
         Ok(mut receiver) => shown_after(alloc, &mut receiver, symbols),
         Err(fault) => Err(Fail::from(fault)),
+    }
+}
+
+/// What a receiver by this divisor shows after its first call.
+pub(crate) fn show_by(
+    alloc: Global,
+    link: &Sides,
+    divisor: Divisor,
+    symbols: &[u8],
+) -> Result<Shown, Fail> {
+    match receiver_by(alloc, link, divisor) {
+        Ok(mut receiver) => shown_after(alloc, &mut receiver, symbols),
+        Err(fault) => Err(fault),
     }
 }

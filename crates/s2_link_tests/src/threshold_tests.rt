@@ -16,7 +16,7 @@ use s2_modem::Judge;
 use s2_plframe::{frame_into, payload_of};
 use s2_rows::make_rows;
 use s2_scramble::Gold;
-use s2_soft::soft_into;
+use s2_soft::{Divisor, soft_into};
 use s2_split::Maker;
 use std::alloc::{AllocError, Global};
 use std::test::Fail;
@@ -105,7 +105,7 @@ fn soft_of(alloc: Global, mode: Mode, payload: &[Symbol]) -> Result<Vec<i16>, Fa
         return Err(Fail::from("another mode"));
     }
     let mut soft = vec![in alloc; 0i16; mode.n()]?;
-    soft_into(mode, payload, &mut soft);
+    soft_into(mode, Divisor::usual(), payload, &mut soft);
     Ok(soft)
 }
 
