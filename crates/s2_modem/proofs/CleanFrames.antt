@@ -29,6 +29,7 @@ use Rattle.s2_bch.proofs.NearestWords.{within_is_nearest}
 use Rattle.s2_map.specs.Mapping.{payload_of}
 use Rattle.s2_plframe.specs.Frame.{frame_symbol}
 use Rattle.s2_plframe.specs.Search.{decision, found}
+use Rattle.s2_soft.specs.Divisors.{IsDivisor}
 use Rattle.s2_soft.specs.Soft.{soft_bit}
 use Rattle.s2_receive.specs.Laws.{IsReceived}
 use Rattle.s2_link.specs.Link.{Link, HasShape}
@@ -178,20 +179,20 @@ decision_bits m soft d (Some word) = refl
 decision_bits m soft d None = refl
 
 module _ (link : Link) (tuning : Tuning) (symbols : List Symbol) where
-  pub frame_verdict : (frame_decision link tuning symbols).verdict ≡ (decided link.rows tuning (frame_soft link symbols)).verdict
+  pub frame_verdict : (frame_decision link tuning symbols).verdict ≡ (decided link.rows tuning (frame_soft link tuning symbols)).verdict
   unfolding frame_decision
-  frame_verdict = decision_verdict link.setup.mode (frame_soft link symbols) (decided link.rows tuning (frame_soft link symbols)) _
+  frame_verdict = decision_verdict link.setup.mode (frame_soft link tuning symbols) (decided link.rows tuning (frame_soft link tuning symbols)) _
 
-  pub frame_bits : (frame_decision link tuning symbols).bits ≡ (decided link.rows tuning (frame_soft link symbols)).bits
+  pub frame_bits : (frame_decision link tuning symbols).bits ≡ (decided link.rows tuning (frame_soft link tuning symbols)).bits
   unfolding frame_decision
-  frame_bits = decision_bits link.setup.mode (frame_soft link symbols) (decided link.rows tuning (frame_soft link symbols)) _
+  frame_bits = decision_bits link.setup.mode (frame_soft link tuning symbols) (decided link.rows tuning (frame_soft link tuning symbols)) _
 
 module _ (link : Link) (valid : IsMode link.setup.mode) (sizes : HasCodeSizes link.setup.mode) (shape : HasShape link.setup link.rows) where
   abbrev m : Mode
   m = link.setup.mode
 
-  pub length_soft : (symbols : List Symbol) → length (frame_soft link symbols) ≡ (code_of link.rows).bits
-  length_soft symbols = length-map-range_with_len (soft_bit m (received_payload m link.setup.number symbols)) 0 (n_of m) ∙ sym (code_is m link.rows sizes shape)
+  pub length_soft : (tuning : Tuning) (symbols : List Symbol) → length (frame_soft link tuning symbols) ≡ (code_of link.rows).bits
+  length_soft tuning symbols = length-map-range_with_len (soft_bit tuning.divisor m (received_payload m link.setup.number symbols)) 0 (n_of m) ∙ sym (code_is m link.rows sizes shape)
 
   module _ (tuning : Tuning) (at : ℕ) (symbols : List Symbol) (field : List ℕ) (codeword : List Bool) (ro : link.setup.roll_off ≤ 2) (bytes : AreBytes field) (place : to_place at < length field) (fits : length field ≤ field_bytes m)
       (c : IsCodewordFor m link.rows (header_at link.setup.roll_off at field) field codeword) where
@@ -207,20 +208,20 @@ module _ (link : Link) (valid : IsMode link.setup.mode) (sizes : HasCodeSizes li
         ∙ header_of_bytes-header_bytes m header (omega arith) (omega (arith, sizes.field_most)) (omega arith) (valid_header m link.setup.roll_off at field sizes place fits)
 
     -- where the sent word is the nearest one
-    near_delivers : nearest m (received_word m (decided link.rows tuning (frame_soft link symbols)).bits) ≡ Some c.bch_word
-        → IsDelivered (frame_decision link tuning symbols) (differences (k_of m) (received_word m (decided link.rows tuning (frame_soft link symbols)).bits) c.bch_word) header field
+    near_delivers : nearest m (received_word m (decided link.rows tuning (frame_soft link tuning symbols)).bits) ≡ Some c.bch_word
+        → IsDelivered (frame_decision link tuning symbols) (differences (k_of m) (received_word m (decided link.rows tuning (frame_soft link tuning symbols)).bits) c.bch_word) header field
     unfolding frame_decision
     near_delivers near =
-        let d = decision_of_word m (frame_soft link symbols) (decided link.rows tuning (frame_soft link symbols)) c.bch_word header near read_back in
+        let d = decision_of_word m (frame_soft link tuning symbols) (decided link.rows tuning (frame_soft link tuning symbols)) c.bch_word header near read_back in
         record { outcome = d.outcome; delivered = d.delivered ∙ ap (λ f. Some (header, f)) (says_field m valid sizes header field fits all_bytes refl c.bch_word c.is_bch_word) }
 
     pub both_codes : differences (k_of m) (received_word m (frame_decision link tuning symbols).bits) c.bch_word ≤ t_of m
         → IsDelivered (frame_decision link tuning symbols) (differences (k_of m) (received_word m (frame_decision link tuning symbols).bits) c.bch_word) header field
     both_codes few =
-        let bits = (decided link.rows tuning (frame_soft link symbols)).bits in
+        let bits = (decided link.rows tuning (frame_soft link tuning symbols)).bits in
         let e : received_word m (frame_decision link tuning symbols).bits ≡ received_word m bits = ap (received_word m) (frame_bits link tuning symbols) in
         let word = length-bch_word m sizes (baseband_frame m header field) c.bch_word (length-baseband_frame m header field sizes fits) c.is_bch_word in
-        let whole : length bits ≡ n_of m = decided_long link.rows tuning (frame_soft link symbols) (length_soft symbols) ∙ code_is m link.rows sizes shape in
+        let whole : length bits ≡ n_of m = decided_long link.rows tuning (frame_soft link tuning symbols) (length_soft tuning symbols) ∙ code_is m link.rows sizes shape in
         let long : length (received_word m bits) ≡ k_of m = omega (arith, length-take (k_of m) bits, whole, sizes.checks) in
         let near : differences (length (received_word m bits)) (received_word m bits) c.bch_word ≤ t_of m =
         subst (λ n. differences n (received_word m bits) c.bch_word ≤ t_of m) (sym long) (subst (λ r. differences (k_of m) r c.bch_word ≤ t_of m) e few) in
@@ -228,16 +229,16 @@ module _ (link : Link) (valid : IsMode link.setup.mode) (sizes : HasCodeSizes li
         (near_delivers (within_is_nearest m valid sizes (received_word m bits) long c.bch_word (record { word = record { size = word; multiple = c.is_bch_word.multiple }; near = near })))
 
     -- where the codeword that was sent was decided
-    pub codeword_delivers : (decided link.rows tuning (frame_soft link symbols)).bits ≡ codeword → IsDelivered (frame_decision link tuning symbols) 0 header field
+    pub codeword_delivers : (decided link.rows tuning (frame_soft link tuning symbols)).bits ≡ codeword → IsDelivered (frame_decision link tuning symbols) 0 header field
     codeword_delivers bits =
         let whole : length codeword ≡ n_of m = c.is_codeword.in_code.long ∙ code_is m link.rows sizes shape in
         let enough : k_of m ≤ length codeword = omega (arith, whole, sizes.checks) in
-        let e : received_word m (decided link.rows tuning (frame_soft link symbols)).bits ≡ c.bch_word = ap (received_word m) bits ∙ first_bits m link.rows header field codeword c sizes fits enough in
-        let none : differences (k_of m) (received_word m (decided link.rows tuning (frame_soft link symbols)).bits) c.bch_word ≡ 0 = ap (λ r. differences (k_of m) r c.bch_word) e ∙ differences_none (k_of m) c.bch_word in
+        let e : received_word m (decided link.rows tuning (frame_soft link tuning symbols)).bits ≡ c.bch_word = ap (received_word m) bits ∙ first_bits m link.rows header field codeword c sizes fits enough in
+        let none : differences (k_of m) (received_word m (decided link.rows tuning (frame_soft link tuning symbols)).bits) c.bch_word ≡ 0 = ap (λ r. differences (k_of m) r c.bch_word) e ∙ differences_none (k_of m) c.bch_word in
         subst (λ n. IsDelivered (frame_decision link tuning symbols) n header field) none
         (near_delivers (ap (nearest m) e ∙ nearest_itself m valid sizes header field fits all_bytes refl c.bch_word c.is_bch_word))
 
-  module _ (ro : link.setup.roll_off ≤ 2) (tuning : Tuning) (limit : ℕ) where
+  module _ (ro : link.setup.roll_off ≤ 2) (tuning : Tuning) (known : IsDivisor tuning.divisor) (limit : ℕ) where
     length_sent : (codeword : List Bool) → length (sent_symbols link codeword) ≡ symbols_in m
     length_sent codeword = length-map-range_with_len (frame_symbol m link.setup.number (payload_of m codeword)) 0 (symbols_in m)
 
@@ -254,9 +255,9 @@ module _ (link : Link) (valid : IsMode link.setup.mode) (sizes : HasCodeSizes li
         × IsCertifiedFrame (link_rules link tuning limit) (sent_symbols link codeword)
     hears_frame at field codeword bytes place fits c =
         let symbols = sent_symbols link codeword in
-        let soft = frame_soft link symbols in
+        let soft = frame_soft link tuning symbols in
         let long : length codeword ≡ n_of m = c.is_codeword.in_code.long ∙ code_is m link.rows sizes shape in
-        let heard = received m link.setup.number codeword valid long in
+        let heard = received tuning.divisor m link.setup.number codeword known valid long in
         let hard : hard_decision soft ≡ codeword = heard.soft.decided in
         let is : IsCodeword (code_of link.rows) (hard_decision soft) = subst (IsCodeword (code_of link.rows)) (sym hard) c.is_codeword.in_code in
         let sure = clean_lem link.rows tuning soft is in
@@ -278,24 +279,24 @@ module _ (link : Link) (valid : IsMode link.setup.mode) (sizes : HasCodeSizes li
 
 module _ (m : Mode) (valid : IsMode m) (sizes : HasCodeSizes m) where
   pub hears_law : HearsLaw m
-  hears_law link tuning limit linked ro = hears link (subst IsMode (sym linked.0) valid) (subst HasCodeSizes (sym linked.0) sizes) linked.1 ro tuning limit
+  hears_law link tuning limit linked ro known = hears link (subst IsMode (sym linked.0) valid) (subst HasCodeSizes (sym linked.0) sizes) linked.1 ro tuning known limit
 
   pub arrival_law : ArrivalLaw m
-  arrival_law t tuning count_old count_new source symbols counts totals source_left p p' w w' linked ro bytes runs got =
-      let a = arrives t (link_rules t.link tuning most_symbols) count_old count_new source symbols counts got.state source_left got.left p p' w w' (hears_law t.link tuning most_symbols linked ro) bytes runs got.runs_out in
+  arrival_law t tuning count_old count_new source symbols counts totals source_left p p' w w' linked ro known bytes runs got =
+      let a = arrives t (link_rules t.link tuning most_symbols) count_old count_new source symbols counts got.state source_left got.left p p' w w' (hears_law t.link tuning most_symbols linked ro known) bytes runs got.runs_out in
       record { packets = a.packets; totals_are = got.totals_are ∙ a.totals; lines = a.lines }
 
   pub likely_law : LikelyFrameLaw m
   likely_law link tuning symbols linked verdict =
-      let soft = frame_soft link symbols in
-      let long = length_soft link (subst IsMode (sym linked.0) valid) (subst HasCodeSizes (sym linked.0) sizes) linked.1 symbols in
+      let soft = frame_soft link tuning symbols in
+      let long = length_soft link (subst IsMode (sym linked.0) valid) (subst HasCodeSizes (sym linked.0) sizes) linked.1 tuning symbols in
       subst (IsMostLikely (code_of link.rows) soft) (sym (frame_bits link tuning symbols)) (likely_lem link.rows tuning soft long (sym (frame_verdict link tuning symbols) ∙ verdict))
 
   module _ (link : Link) (tuning : Tuning) (at : ℕ) (symbols : List Symbol) (field : List ℕ) (codeword : List Bool) (sent : IsSent m link at field codeword) where
-    pub scattered_law : IsScattered (code_of link.rows) (frame_soft link symbols) codeword → IsDeliveredCertified (frame_decision link tuning symbols) codeword (header_at link.setup.roll_off at field) field
+    pub scattered_law : IsScattered (code_of link.rows) (frame_soft link tuning symbols) codeword → IsDeliveredCertified (frame_decision link tuning symbols) codeword (header_at link.setup.roll_off at field) field
     scattered_law scattered =
         let same = sent.linked.0 in
-        let sure = scattered_lem link.rows tuning (frame_soft link symbols) codeword scattered in
+        let sure = scattered_lem link.rows tuning (frame_soft link tuning symbols) codeword scattered in
         record {
           verdict = frame_verdict link tuning symbols ∙ sure.0;
           bits = frame_bits link tuning symbols ∙ sure.1;

@@ -140,7 +140,7 @@ decision_is m soft d word None outcome delivered finds reads =
 
 -- the parts that a decider finds are what is decided of a frame
 pub frame_decided : (link : Link) (tuning : Tuning) (symbols : List Symbol) (soft : List ℤ) (bits : List Bool) (verdict : Verdict) (word : List Bool) (found : Option ℕ) (outcome : Outcome) (delivered : Option (Header × List ℕ))
-    → soft ≡ frame_soft link symbols → verdict ≡ (decided link.rows tuning soft).verdict → bits ≡ (decided link.rows tuning soft).bits
+    → soft ≡ frame_soft link tuning symbols → verdict ≡ (decided link.rows tuning soft).verdict → bits ≡ (decided link.rows tuning soft).bits
     → FindsWord link.setup.mode (received_word link.setup.mode bits) word found → Reads link.setup.mode word found outcome delivered
     → shown link.setup.mode soft bits verdict word outcome delivered ≡ frame_decision link tuning symbols
 unfolding frame_decision

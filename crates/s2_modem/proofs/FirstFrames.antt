@@ -12,6 +12,7 @@ use Rattle.s2_receive.specs.Laws.{Piece, coded, dummy, IsReceived, AreReceived}
 use Rattle.s2_receive.proofs.Reception.{gives, front}
 use Rattle.s2_receive.proofs.FieldPlaces.{placed_fields, placed_front}
 use Rattle.s2_receive.proofs.SameSymbols.{same_met}
+use Rattle.s2_soft.specs.Divisors.{IsDivisor}
 use Rattle.s2_link.specs.Tuning.{Tuning}
 use Rattle.s2_link.specs.Link.{Link}
 use Rattle.s2_send.specs.Laws.{IsLinkOf}
@@ -27,21 +28,21 @@ use Rattle.s2_modem.proofs.CleanFrames.{hears_law, scattered_law}
 all_front : {X : Type 0} → (P : X → Type 0) (xs ys : List X) → All P (xs ++ ys) → All P xs
 all_front P xs ys h = subst (All P) (take_at xs ys (length xs) refl) (All-take P (length xs) (xs ++ ys) h)
 
-module _ (m : Mode) (valid : IsMode m) (sizes : HasCodeSizes m) (link : Link) (tuning : Tuning) (limit : ℕ) (linked : IsLinkOf m link) (ro : link.setup.roll_off ≤ 2) where
+module _ (m : Mode) (valid : IsMode m) (sizes : HasCodeSizes m) (link : Link) (tuning : Tuning) (limit : ℕ) (linked : IsLinkOf m link) (ro : link.setup.roll_off ≤ 2) (known : IsDivisor tuning.divisor) where
   abbrev rules : Rules
   rules = link_rules link tuning limit
 
-  heard_one : (at : ℕ) (field : List ℕ) (symbols : List Symbol) → AreBytes field → to_place at < length field → length field ≤ field_bytes link.setup.mode → IsHeard link at field symbols
+  heard_one : (at : ℕ) (field : List ℕ) (symbols : List Symbol) → AreBytes field → to_place at < length field → length field ≤ field_bytes link.setup.mode → IsHeard link tuning at field symbols
       → IsReceived rules (header_at link.setup.roll_off at field) field symbols × IsCertifiedFrame rules symbols
   heard_one at field symbols bytes place fits (codeword, is, inl clean) =
-      let h = (hears_law m valid sizes link tuning limit linked ro).frames at field codeword bytes place fits is in
+      let h = (hears_law m valid sizes link tuning limit linked ro known).frames at field codeword bytes place fits is in
       (subst (IsReceived rules (header_at link.setup.roll_off at field) field) (sym clean) h.0, subst (IsCertifiedFrame rules) (sym clean) h.1)
   heard_one at field symbols bytes place fits (codeword, is, inr (long, header, scattered)) =
       let sent : IsSent m link at field codeword = record { linked = linked; roll_off = ro; bytes = bytes; place = place; fits = fits; codeword_is = is } in
       let d = scattered_law m valid sizes link tuning at symbols field codeword sent scattered in
       ((long, header, d.delivered.delivered), record { verdict = d.verdict; outcome = d.delivered.outcome })
 
-  heard_all : (at : ℕ) (pieces : List Piece) (fields : List (List ℕ)) → All AreBytes fields → Placed at fields → All (λ field. length field ≤ field_bytes link.setup.mode) fields → AreHeard link at pieces fields
+  heard_all : (at : ℕ) (pieces : List Piece) (fields : List (List ℕ)) → All AreBytes fields → Placed at fields → All (λ field. length field ≤ field_bytes link.setup.mode) fields → AreHeard link tuning at pieces fields
       → AreReceived rules link.setup.roll_off at pieces fields × AreCertified rules pieces
   heard_all at [] [] bytes placed short h = (tt, tt)
   heard_all at [] (f ∷ fs) bytes placed short h = absurd h
@@ -55,15 +56,15 @@ module _ (m : Mode) (valid : IsMode m) (sizes : HasCodeSizes m) (link : Link) (t
       ((h.0, more.0), more.1)
 
 pub first_frames_law : (m : Mode) → IsMode m → HasCodeSizes m → FirstFramesLaw m
-first_frames_law m valid sizes = λ link tuning limit packets fields later pieces rest bytes mid left p p' w w' met linked ro each are_bytes cut_so heard spelt count went.
+first_frames_law m valid sizes = λ link tuning limit packets fields later pieces rest bytes mid left p p' w w' met linked ro known each are_bytes cut_so heard spelt count went.
     let size = field_bytes link.setup.mode in
     let rules = link_rules link tuning limit in
-    let hears = hears_law m valid sizes link tuning limit linked ro in
+    let hears = hears_law m valid sizes link tuning limit linked ro known in
     let within : List ℕ → Type 0 = λ field. length field ≤ field_bytes link.setup.mode in
     let whole : All AreBytes (fields ++ later) = subst (All AreBytes) (sym cut_so) (cut_bytes size _ (stream_of packets) (stream_bytes packets are_bytes)) in
     let short : All within (fields ++ later) = subst (All within) (sym cut_so) (short_cuts size _ (stream_of packets)) in
     let placed : Placed 0 fields = placed_front fields later 0 (subst (Placed 0) (sym cut_so) (placed_fields size hears.field_least packets each)) in
-    let h = heard_all m valid sizes link tuning limit linked ro 0 pieces fields (all_front AreBytes fields later whole) placed (all_front within fields later short) heard in
+    let h = heard_all m valid sizes link tuning limit linked ro known 0 pieces fields (all_front AreBytes fields later whole) placed (all_front within fields later short) heard in
     let f = front rules link.setup.roll_off size packets fields later pieces rest bytes mid left p p' w w' met hears.least hears.field_least each cut_so h.0 spelt count went in
     let g = gives rules link.setup.roll_off size packets fields later pieces rest hears.least hears.field_least each cut_so h.0 in
     record {

@@ -10,6 +10,7 @@ use Rattle.s2_plframe.specs.Frame.{frame_symbols}
 use Rattle.s2_plframe.specs.Payload.{received_payload, AllTurnBack}
 use Rattle.s2_plframe.proofs.Payloads.{payload_again}
 use Rattle.s2_plframe.proofs.HeaderFacts.{clean_passes}
+use Rattle.s2_soft.specs.Divisors.{IsDivisor}
 use Rattle.s2_soft.specs.Soft.{soft_values}
 use Rattle.s2_soft.specs.Clean.{Says}
 use Rattle.s2_soft.proofs.Clean.{clean_says}
@@ -63,11 +64,11 @@ payload_turns m word = λ s lt.
     subst CanTurnBack (sym (get_or-map-range_with_len (payload_symbol m word) 0 (90 * slots_of m) s s (symbol (pos 0) (pos 0)) inside here))
     (point_turns m (is_qpsk m) _ (λ t. is_qpsk m))
 
-pub received : (m : Mode) (number : ℕ) (word : List Bool) → IsMode m → length word ≡ n_of m → IsCleanFrame m number word
-received m number word is long =
+pub received : (divisor : ℕ) (m : Mode) (number : ℕ) (word : List Bool) → IsDivisor divisor → IsMode m → length word ≡ n_of m → IsCleanFrame divisor m number word
+received divisor m number word known is long =
     let sized : length (payload_of m word) ≡ 90 * slots_of m = length-map-range_with_len (payload_symbol m word) 0 (90 * slots_of m) in
     let again : received_payload m number (frame_symbols m number (payload_of m word)) ≡ payload_of m word = payload_again m number (payload_of m word) is sized (payload_turns m word) in
     record {
       header = clean_passes m number (payload_of m word) is;
-      soft = subst (λ p. Says (soft_values m p) word) (sym again) (clean_says m word is long);
+      soft = subst (λ p. Says (soft_values divisor m p) word) (sym again) (clean_says divisor known m word is long);
     }

@@ -14,6 +14,7 @@ use Rattle.s2_receive.specs.declared.report.Totals.{Totals}
 use Rattle.s2_check.specs.declared.verdict.Verdict.TheVariants.{MostLikely}
 use Rattle.s2_receive.specs.declared.report.Outcome.TheVariants.{Delivered}
 use Rattle.s2_mode.specs.Limits.{most_symbols}
+use Rattle.s2_soft.specs.Divisors.{IsDivisor}
 use Rattle.s2_link.specs.Limits.{most_roll_off}
 use Rattle.s2_link.specs.Tuning.{Tuning}
 use Rattle.s2_send.specs.declared.outcome.Counts.{Counts}
@@ -31,7 +32,7 @@ use Rattle.s2_modem.specs.Both.{AreBytes, Hears, certified_lines, run_places, to
 abbrev pub LikelyFrameLaw : Mode → Type 0
 LikelyFrameLaw m =
     (link : Link) (tuning : Tuning) (symbols : List Symbol) → IsLinkOf m link → (frame_decision link tuning symbols).verdict ≡ MostLikely
-    → IsMostLikely (code_of link.rows) (frame_soft link symbols) (frame_decision link tuning symbols).bits
+    → IsMostLikely (code_of link.rows) (frame_soft link tuning symbols) (frame_decision link tuning symbols).bits
 
 -- a frame that delivers this data field with this header, after so many changes by BCH decoding
 pub record IsDelivered (d : Decision) (fixed : ℕ) (header : Header) (field : List ℕ) : Type 0 where
@@ -65,12 +66,13 @@ pub record IsDeliveredCertified (d : Decision) (codeword : List Bool) (header : 
 abbrev pub ScatteredFrameLaw : Mode → Type 0
 ScatteredFrameLaw m =
     (link : Link) (tuning : Tuning) (at : ℕ) (symbols : List Symbol) (field : List ℕ) (codeword : List Bool) → IsSent m link at field codeword
-    → IsScattered (code_of link.rows) (frame_soft link symbols) codeword
+    → IsScattered (code_of link.rows) (frame_soft link tuning symbols) codeword
     → IsDeliveredCertified (frame_decision link tuning symbols) codeword (header_at link.setup.roll_off at field) field
 
--- each frame of a link is received as it was sent
+-- each frame of a link is received as it was sent, by each divisor
 abbrev pub HearsLaw : Mode → Type 0
-HearsLaw m = (link : Link) (tuning : Tuning) (limit : ℕ) → IsLinkOf m link → link.setup.roll_off ≤ most_roll_off → Hears link (link_rules link tuning limit)
+HearsLaw m =
+    (link : Link) (tuning : Tuning) (limit : ℕ) → IsLinkOf m link → link.setup.roll_off ≤ most_roll_off → IsDivisor tuning.divisor → Hears link (link_rules link tuning limit)
 
 -- all packets, a line for each frame, certified, and the end's
 pub record AllArrives (t : Transmitter) (tuning : Tuning) (source : List ℕ) (counts : Counts) (totals : Totals) (packets_old packets_new report_old report_new : Option (List ℕ)) : Type 0 where
@@ -78,10 +80,10 @@ pub record AllArrives (t : Transmitter) (tuning : Tuning) (source : List ℕ) (c
   pub totals_are : totals ≡ totals_of counts
   pub lines : Appends report_old report_new (certified_lines (link_rules t.link tuning most_symbols) 0 (run_places (symbols_in t.link.setup.mode) t.dummy_every 1 0 counts.frames) ++ end_line (totals_of counts))
 
--- what a run of the transmitter writes, the frames and the dummy frames among them, received whole
+-- what a run of the transmitter writes, the frames and the dummy frames among them, received whole, by each divisor
 abbrev pub ArrivalLaw : Mode → Type 0
 ArrivalLaw m =
     (t : Transmitter) (tuning : Tuning) (count_old count_new : ℕ) (source symbols : List ℕ) (counts : Counts) (totals : Totals) (source_left packets_old packets_new report_old report_new : Option (List ℕ))
-    → IsLinkOf m t.link → t.link.setup.roll_off ≤ most_roll_off → AreBytes source → TransmitterRuns t (ReadFails t.limit count_old count_new) (Some source) source_left (Some []) (Some symbols) (Ok counts)
+    → IsLinkOf m t.link → t.link.setup.roll_off ≤ most_roll_off → IsDivisor tuning.divisor → AreBytes source → TransmitterRuns t (ReadFails t.limit count_old count_new) (Some source) source_left (Some []) (Some symbols) (Ok counts)
     → Receives (link_rules t.link tuning most_symbols) symbols packets_old packets_new report_old report_new totals
     → AllArrives t tuning source counts totals packets_old packets_new report_old report_new

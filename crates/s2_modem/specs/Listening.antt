@@ -28,16 +28,17 @@ Reads m bch_word (Some fixed) outcome delivered =
     × (delivered ≡ delivered_by (scrambled (message_of m bch_word)) (header_of_bytes m (header_in (scrambled (message_of m bch_word)))))
 Reads m bch_word None outcome delivered = (outcome ≡ NoWord) × (delivered ≡ None)
 
--- a decider of frames: its link, how much its judge tries, what it decided last, and the data field that came of that
+-- a decider of frames: its link, how it is tuned, what it decided last, and the data field that came of that
 pub record Listening : Type 0 where
   pub link : Link
   pub tuning : Tuning
   pub last : Decision
   pub field : List ℕ
 
--- what its stages hold: a mode and a scrambling number
+-- what its stages hold: a mode, what soft values are divided by, and a scrambling number
 pub record Demodulating : Type 0 where
   pub mode : Mode
+  pub divisor : ℕ
   pub number : ℕ
 
 -- a mode, and the word that BCH decoding left last
@@ -55,10 +56,11 @@ abbrev pub decision_held : Mode → List ℤ → List Bool → List Bool → Dec
 decision_held m soft bits bch_word d field =
     record { soft = soft; bits = bits; verdict = d.verdict; message = message_of m bch_word; outcome = d.outcome; delivered = delivered_of d.header field }
 
--- the stages of a decider are of its mode
-pub record IsListening (mode : Mode) (rows : Rows) (demodulates corrects reads : Mode) : Type 0 where
+-- the stages of a decider are of its mode, and the divisor is that of its tuning
+pub record IsListening (mode : Mode) (rows : Rows) (tuning : Tuning) (demodulates : Demodulating) (corrects reads : Mode) : Type 0 where
   pub sizes : HasCodeSizes mode
   pub shape : rows.shape ≡ shape_in mode
-  pub demodulator : demodulates ≡ mode
+  pub demodulator : demodulates.mode ≡ mode
+  pub divisor : demodulates.divisor ≡ tuning.divisor
   pub corrector : corrects ≡ mode
   pub reader : reads ≡ mode

@@ -21,7 +21,7 @@ abbrev pub link_rules : Link → Tuning → ℕ → Rules
 link_rules link tuning limit =
     rules_of (found_as link.setup.mode) (symbols_in link.setup.mode) (frame_decision link tuning) frame_line cut_line end_line limit
 
--- a receiver: its link, how much is tried, how many symbols it takes at most, where it stands, and what it decided last
+-- a receiver: its link, how it is tuned, how many symbols it takes at most, where it stands, and what it decided last
 pub record Receiver : Type 0 where
   pub link : Link
   pub tuning : Tuning
@@ -39,7 +39,7 @@ Refuses setup rows tuning faults.BadPasses = IsSetUp setup rows × RefusesTuning
 Refuses setup rows tuning faults.NoMemory = IsSetUp setup rows × IsTuning tuning
 Refuses setup rows tuning fault = RefusesLink setup rows fault
 
--- a new receiver of a link that tries so much
+-- a new receiver of a link, tuned so
 pub record IsNew (link : Link) (tuning : Tuning) (r : Receiver) : Type 0 where
   pub link_is : r.link ≡ link
   pub tuning_is : r.tuning ≡ tuning

@@ -17,9 +17,9 @@ use Rattle.s2_judge.specs.Deciding.{Decided, decided}
 use Rattle.s2_link.specs.Tuning.{Tuning}
 use Rattle.s2_bch.specs.Decoding.{nearest}
 
--- the soft values of a frame's codeword
-abbrev pub frame_soft : Link → List Symbol → List ℤ
-frame_soft link symbols = soft_values link.setup.mode (received_payload link.setup.mode link.setup.number symbols)
+-- the soft values of a frame's codeword, by the divisor of a tuning
+abbrev pub frame_soft : Link → Tuning → List Symbol → List ℤ
+frame_soft link tuning symbols = soft_values tuning.divisor link.setup.mode (received_payload link.setup.mode link.setup.number symbols)
 
 -- the first Nbch of the decided bits, which BCH decoding takes
 abbrev pub received_word : Mode → List Bool → List Bool
@@ -72,4 +72,4 @@ decision_on m soft d = decision_by m soft d (nearest m (received_word m d.bits))
 -- what is decided of a frame's symbols
 unfoldable pub frame_decision : Link → Tuning → List Symbol → Decision
 frame_decision link tuning symbols =
-    decision_on link.setup.mode (frame_soft link symbols) (decided link.rows tuning (frame_soft link symbols))
+    decision_on link.setup.mode (frame_soft link tuning symbols) (decided link.rows tuning (frame_soft link tuning symbols))

@@ -13,6 +13,7 @@ use Rattle.s2_bbframe.specs.Joining.{closed_in}
 use Rattle.s2_receive.specs.Meeting.{Met}
 use Rattle.s2_receive.specs.Receiving.{State, Went, RunsTo, begun}
 use Rattle.s2_receive.specs.Laws.{Piece, coded, dummy, IsDummy, joined, stream_symbols}
+use Rattle.s2_soft.specs.Divisors.{IsDivisor}
 use Rattle.s2_link.specs.Tuning.{Tuning}
 use Rattle.s2_link.specs.Limits.{most_roll_off}
 use Rattle.s2_link.specs.Link.{Link}
@@ -24,23 +25,23 @@ use Rattle.s2_modem.specs.Reception.{link_rules}
 use Rattle.s2_modem.specs.Both.{AreBytes, sent_symbols, certified_lines}
 
 -- a frame's symbols as they were sent; or some behind a header that is found, whose soft values are scattered about the codeword
-abbrev pub IsClear : Link → List Bool → List Symbol → Type 0
-IsClear link codeword symbols =
+abbrev pub IsClear : Link → Tuning → List Bool → List Symbol → Type 0
+IsClear link tuning codeword symbols =
     (symbols ≡ sent_symbols link codeword)
-    ⊎ ((length symbols ≡ symbols_in link.setup.mode) × (found_as link.setup.mode (take header_symbols symbols) ≡ founds.Coded) × IsScattered (code_of link.rows) (frame_soft link symbols) codeword)
+    ⊎ ((length symbols ≡ symbols_in link.setup.mode) × (found_as link.setup.mode (take header_symbols symbols) ≡ founds.Coded) × IsScattered (code_of link.rows) (frame_soft link tuning symbols) codeword)
 
 -- those of the frame that was sent for a data field, which begins at this byte of the stream
-abbrev pub IsHeard : Link → ℕ → List ℕ → List Symbol → Type 0
-IsHeard link at field symbols =
-    (codeword : List Bool) × IsCodewordFor link.setup.mode link.rows (header_at link.setup.roll_off at field) field codeword × IsClear link codeword symbols
+abbrev pub IsHeard : Link → Tuning → ℕ → List ℕ → List Symbol → Type 0
+IsHeard link tuning at field symbols =
+    (codeword : List Bool) × IsCodewordFor link.setup.mode link.rows (header_at link.setup.roll_off at field) field codeword × IsClear link tuning codeword symbols
 
 -- those of consecutive data fields, and dummy frames among them, each whole and behind a header that is found
-abbrev pub AreHeard : Link → ℕ → List Piece → List (List ℕ) → Type 0
-AreHeard link at [] [] = ⊤
-AreHeard link at [] (field ∷ fields) = ⊥
-AreHeard link at (coded symbols ∷ pieces) [] = ⊥
-AreHeard link at (coded symbols ∷ pieces) (field ∷ fields) = IsHeard link at field symbols × AreHeard link (at + length field) pieces fields
-AreHeard link at (dummy symbols ∷ pieces) fields = IsDummy (found_as link.setup.mode) symbols × AreHeard link at pieces fields
+abbrev pub AreHeard : Link → Tuning → ℕ → List Piece → List (List ℕ) → Type 0
+AreHeard link tuning at [] [] = ⊤
+AreHeard link tuning at [] (field ∷ fields) = ⊥
+AreHeard link tuning at (coded symbols ∷ pieces) [] = ⊥
+AreHeard link tuning at (coded symbols ∷ pieces) (field ∷ fields) = IsHeard link tuning at field symbols × AreHeard link tuning (at + length field) pieces fields
+AreHeard link tuning at (dummy symbols ∷ pieces) fields = IsDummy (found_as link.setup.mode) symbols × AreHeard link tuning at pieces fields
 
 -- where the coded ones begin, from a position on
 abbrev pub places_in : ℕ → ℕ → List Piece → List ℕ
@@ -55,14 +56,14 @@ pub record FrontArrives (link : Link) (tuning : Tuning) (limit : ℕ) (packets f
   pub lines : Appends report_old report_new (certified_lines (link_rules link tuning limit) 0 (places_in (symbols_in link.setup.mode) 0 pieces))
   pub all : later ≡ [] → take (closed_in (length (joined fields))) packets ≡ packets
 
--- What a receiver has written after so many steps as first coded frames of a stream of packets came clear, whatever comes behind
--- them, and whatever dummy frames stand among them.
+-- What a receiver, by each divisor, has written after so many steps as first coded frames of a stream of packets came clear,
+-- whatever comes behind them, and whatever dummy frames stand among them.
 abbrev pub FirstFramesLaw : Mode → Type 0
 FirstFramesLaw m =
     (link : Link) (tuning : Tuning) (limit : ℕ) (packets fields later : List (List ℕ)) (pieces : List Piece) (rest : List Symbol) (bytes : List ℕ)
     (mid : State) (left packets_old packets_new report_old report_new : Option (List ℕ)) (met : List Met)
-    → IsLinkOf m link → link.setup.roll_off ≤ most_roll_off → All IsPacket packets → AreBytes (joined packets)
-    → fields ++ later ≡ fields_of (field_bytes link.setup.mode) (stream_of packets) → AreHeard link 0 pieces fields
+    → IsLinkOf m link → link.setup.roll_off ≤ most_roll_off → IsDivisor tuning.divisor → All IsPacket packets → AreBytes (joined packets)
+    → fields ++ later ≡ fields_of (field_bytes link.setup.mode) (stream_of packets) → AreHeard link tuning 0 pieces fields
     → symbols_of bytes ≡ stream_symbols pieces ++ rest → length met ≡ length fields
     → Went (link_rules link tuning limit) begun mid (Some bytes) left packets_old packets_new report_old report_new met
     → FrontArrives link tuning limit packets fields later pieces packets_old packets_new report_old report_new

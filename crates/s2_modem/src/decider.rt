@@ -51,7 +51,7 @@ impl<'a> Model for Decider<'a> {
       field = d.reader.field;
     } };
 
-    ghost invariant = { λ d. IsListening d.mode d.judge.rows d.demodulator.mode d.corrector.mode d.reader.mode };
+    ghost invariant = { λ d. IsListening d.mode d.judge.rows d.judge.tuning d.demodulator d.corrector.mode d.reader.mode };
 }
 
 impl<'a> Decider<'a> {
@@ -70,7 +70,7 @@ impl<'a> Decider<'a> {
             outcome: Outcome::NoWord,
             header: None,
         };
-        let demodulator = Demodulator::new(alloc, link)?;
+        let demodulator = Demodulator::new(alloc, link, tuning.divisor())?;
         let corrector = Corrector::new(alloc, mode)?;
         let reader = MessageReader::new(alloc, mode)?;
         Ok(Decider {

@@ -9,25 +9,34 @@ use s2_link::Link;
 use s2_mode::{Mode, Symbol};
 use s2_plframe::payload_of;
 use s2_scramble::Gold;
-use s2_soft::soft_into;
+use s2_soft::{Divisor, soft_into};
 use std::alloc::{AllocError, Global};
 use std::marker::Model;
 
-/// Writes the soft values of a frame's codeword.
-fn find_soft(mode: Mode, gold: &Gold, symbols: &[Symbol], payload: &mut [Symbol], soft: &mut [i16])
+/// Writes the soft values of a frame's codeword, by this divisor.
+fn find_soft(
+    mode: Mode,
+    divisor: Divisor,
+    gold: &Gold,
+    symbols: &[Symbol],
+    payload: &mut [Symbol],
+    soft: &mut [i16],
+)
     requires frame { length symbols.now ≡ symbols_in mode }
     requires payload { length payload.old ≡ 90 * slots_of mode }
     requires soft { length soft.old ≡ n_of mode }
-    ensures is { soft.new ≡ soft_values mode (received_payload mode gold.now symbols.now) }
+    ensures is { soft.new ≡ soft_values divisor mode (received_payload mode gold.now symbols.now) }
     ensures range { All IsSoft soft.new }
 {
     payload_of(mode, gold, symbols, payload);
-    soft_into(mode, payload, soft);
+    soft_into(mode, divisor, payload, soft);
 }
 
-/// The demodulating half of a receiver, with its buffer. To contracts it is its mode and its scrambling number.
+/// The demodulating half of a receiver, with its buffer. To contracts it is its mode, its divisor and its
+/// scrambling number.
 pub(crate) struct Demodulator {
     mode: Mode,
+    divisor: Divisor,
     gold: Gold,
     payload: Vec<Symbol>,
 }
@@ -36,6 +45,7 @@ impl Drop for Demodulator {
     fn drop(self) {
         let Demodulator {
             mode: _,
+            divisor: _,
             gold: _,
             payload: _,
         } = self;
@@ -49,21 +59,27 @@ impl Model for Demodulator {
 
     ghost Value = { Demodulating };
 
-    ghost view = { λ d. record { mode = d.mode; number = d.gold } };
+    ghost view = { λ d. record { mode = d.mode; divisor = d.divisor; number = d.gold } };
 
     ghost invariant = { λ d. length d.payload.items ≡ 90 * slots_of d.mode };
 }
 
 impl Demodulator {
-    /// The demodulator of a link.
-    pub(crate) fn new(alloc: Global, link: &Link<'_>) -> Result<Demodulator, AllocError>
+    /// The demodulator of a link, by this divisor.
+    pub(crate) fn new(
+        alloc: Global,
+        link: &Link<'_>,
+        divisor: Divisor,
+    ) -> Result<Demodulator, AllocError>
         ensures mode { IfOk result (λ d. d.mode ≡ link.now.setup.mode) }
+        ensures divisor { IfOk result (λ d. d.divisor ≡ divisor) }
         ensures number { IfOk result (λ d. d.number ≡ link.now.setup.number) }
     {
         let mode = link.mode();
         let origin = Symbol { i: 0, q: 0 };
         Ok(Demodulator {
             mode,
+            divisor,
             gold: Gold::of(alloc, link.number())?,
             payload: vec![in alloc; origin; 90 * mode.slots()]?,
         })
@@ -73,10 +89,17 @@ impl Demodulator {
     pub(crate) fn find_soft(&mut self, symbols: &[Symbol], soft: &mut [i16])
         requires frame { length symbols.now ≡ symbols_in self.old.mode }
         requires soft { length soft.old ≡ n_of self.old.mode }
-        ensures is { soft.new ≡ soft_values self.old.mode (received_payload self.old.mode self.old.number symbols.now) }
+        ensures is { soft.new ≡ soft_values self.old.divisor self.old.mode (received_payload self.old.mode self.old.number symbols.now) }
         ensures range { All IsSoft soft.new }
         ensures same { self.new ≡ self.old }
     {
-        find_soft(self.mode, &self.gold, symbols, &mut self.payload, soft);
+        find_soft(
+            self.mode,
+            self.divisor,
+            &self.gold,
+            symbols,
+            &mut self.payload,
+            soft,
+        );
     }
 }

@@ -31,13 +31,13 @@ pub fn scattered_frame(mode: Mode)
 }
 
 /// A frame without noise: its header is found, and the soft values of its payload say the codeword,
-/// none of them 0, in all modes.
+/// none of them 0, in all modes and by each divisor.
 pub fn clean_frame()
     ensures { CleanFrameLaw }
 {}
 
-/// A frame without noise is found where it begins, and delivered, certified, with no bit changed; a dummy frame
-/// without noise is found as one.
+/// A frame without noise is found where it begins, and delivered, certified, with no bit changed, by each divisor;
+/// a dummy frame without noise is found as one.
 pub fn hears(mode: Mode)
     ensures { HearsLaw mode }
 {
@@ -45,7 +45,8 @@ pub fn hears(mode: Mode)
 }
 
 /// All packets that a transmitter reads are written by a receiver of the symbols that it writes, and each frame is
-/// reported as certified, with no bit changed, at its place, whether the transmitter sends dummy frames or not.
+/// reported as certified, with no bit changed, at its place, by each divisor, whether the transmitter sends dummy
+/// frames or not.
 pub fn arrival(mode: Mode)
     ensures { ArrivalLaw mode }
 {

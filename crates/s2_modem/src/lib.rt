@@ -16,7 +16,8 @@
 //! that is not before the last frame's end and in no dummy frame; the dummy frames of any modulator are passed, and
 //! packets are joined across them. What it reports and writes is exactly what the definitions say of these
 //! symbols: soft values, decided bits with a verdict, the nearest BCH word, its message's header, and
-//! the packets that the joiner makes of its data field. Bits that are called most likely satisfy every
+//! the packets that the joiner makes of its data field. Soft values are divided by [`DEFAULT_DIVISOR`], or by what
+//! the [`Tuning`] of [`Receiver::on_link`] says. Bits that are called most likely satisfy every
 //! check, and no bits that do cost less ([`s2_judge::laws`]). [`Receiver::run`] goes on so to
 //! the end of the symbols, and [`demodulate`] does it for a whole stream in memory.
 //!
@@ -46,4 +47,5 @@ pub use s2_link::{
     Link, MOST_PASSES, MOST_ROLL_OFF, MOST_ROUNDS, RollOff, Setup, SetupFault, Tuning,
 };
 pub use s2_send::{Counts, MOST_PACKETS, SendFault, Transmitter};
+pub use s2_soft::{DEFAULT_DIVISOR, DIVISORS, Divisor};
 pub use whole::{DemodFault, demodulate};

@@ -95,7 +95,8 @@ impl<'a> Model for Receiver<'a> {
 }
 
 impl<'a> Receiver<'a> {
-    /// A receiver with all the memory that it needs. Of several refusals the first is answered:
+    /// A receiver with all the memory that it needs, whose soft values are divided by the usual divisor,
+    /// [`DEFAULT_DIVISOR`](s2_soft::DEFAULT_DIVISOR). Of several refusals the first is answered:
     /// `OtherShape` where the matrix is not of the shape of the mode's code, `BadNumber` where the
     /// scrambling number is over 262141, `BadRollOff` where the roll-off is over 2, `BadRounds` where
     /// the rounds of min-sum are not 1 to 200, `BadPasses` where the passes of settling are over 1000,
@@ -114,8 +115,8 @@ impl<'a> Receiver<'a> {
         Receiver::on_link(alloc, &link, tuning).map_err(|_| SetupFault::NoMemory)
     }
 
-    /// A receiver of a link that tries so much, with all the memory that it needs. `AllocError` only where memory
-    /// does not suffice.
+    /// A receiver of a link that is tuned so, by any divisor, with all the memory that it needs. `AllocError` only
+    /// where memory does not suffice.
     pub fn on_link(
         alloc: Global,
         link: &Link<'a>,

@@ -50,7 +50,8 @@ fn demodulate_link<P: CountedWrite, W: CountedWrite>(
 
 /// Receives a whole stream of symbols, fewer than 2^42 bytes, and writes the packets that its frames
 /// carry and a line for each frame, for a cut one, and for the end. 1 to 3 bytes behind the last
-/// symbol are dropped. A setup is refused as by [`crate::Receiver::new`], and then nothing is written.
+/// symbol are dropped. A setup is refused as by [`crate::Receiver::new`], and then nothing is written; the divisor
+/// of soft values is the usual one, as there.
 pub fn demodulate<P: CountedWrite, W: CountedWrite>(
     alloc: Global,
     setup: Setup,

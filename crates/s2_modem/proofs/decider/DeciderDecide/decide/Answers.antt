@@ -20,11 +20,13 @@ returns-clause-last c =
     let before = d.judge.soft in
     let written : List ℤ = c.find_soft.new.soft in
     let values = refilled (length before) written before refl (c.find_soft.auto.soft ∙ ap length c.soft_mut.ensures.is) in
-    let soft_is : written ≡ frame_soft link c.args.symbols.now =
-    c.find_soft.ensures.is ∙ ap (λ x. soft_values x (received_payload x d.demodulator.number c.args.symbols.now)) c.self.invariant.demodulator in
+    let soft_is : written ≡ frame_soft link d.judge.tuning c.args.symbols.now =
+    c.find_soft.ensures.is
+    ∙ ap (λ x. soft_values d.demodulator.divisor x (received_payload x d.demodulator.number c.args.symbols.now)) c.self.invariant.demodulator
+    ∙ ap (λ x. soft_values x m (received_payload m d.demodulator.number c.args.symbols.now)) c.self.invariant.divisor in
     let was = c.decide-verdict.ensures in
     let held : List ℤ = c.decide-verdict.new.self.soft in
-    let soft_held : held ≡ frame_soft link c.args.symbols.now = was.soft ∙ values ∙ soft_is in
+    let soft_held : held ≡ frame_soft link d.judge.tuning c.args.symbols.now = was.soft ∙ values ∙ soft_is in
     let found = c.correct-found in
     let finds : FindsWord m (received_word m c.decide-verdict.new.self.bits) found.new.self.word found.result =
     subst (λ b. FindsWord m (received_word m b) found.new.self.word found.result) c.word.ensures.is
