@@ -22,7 +22,7 @@ def members(group, groups, q, rows):
 
 def message(inputs):
     """What the inputs of the other members make."""
-    least = min([127] + [abs(v) for v in inputs])
+    least = min([1023] + [abs(v) for v in inputs])
     sign = -1 if sum(v < 0 for v in inputs) % 2 else 1
     return sign * (least - least // 4)
 
@@ -53,6 +53,9 @@ if __name__ == "__main__":
     toy = [[0, 4, 8], [0, 1, 2]]
     print("ONE_WRONG_AFTER, _SENT", *run(4, 2, 3, toy, [-4] + [10] * 19, 1, layers=1))
     print("TWICE_AFTER", run(4, 1, 3, [[0, 3]], [8] * 16, 1, layers=1)[0])
-    print("GROWN", run(4, 2, 3, toy, [63] * 20, 5)[0])
-    print("a check of one member", run(1, 1, 2, [[1]], [63] * 3, 1, layers=1)[1])
+    print("GROWN", run(4, 2, 3, toy, [511] * 20, 5)[0])
+    print("a check of one member", run(1, 1, 2, [[1]], [511] * 3, 1, layers=1)[1])
+    many = (1, 1, 27, [list(range(24))])
+    print("a bit of 24 checks", run(*many, [511] * 28, 3)[0])
+    print("the same of a one", run(*many, [-511 if i == 0 or i % 2 and i < 24 else 511 for i in range(28)], 3)[0])
     print("pairs", run(1, 1, 1, [[0]], [-5, 3], 1)[0], run(1, 1, 1, [[0]], [-5, 5], 3)[0])

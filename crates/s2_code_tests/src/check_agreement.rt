@@ -4,7 +4,7 @@ ghost use Rattle.s2_matrix.specs.Code.{code_of};
 
 use super::check_tests::{assert_listed, checked, placed, zeros};
 use super::codes::{SHAPES, made_matrix};
-use super::values::next_number;
+use super::values::{LARGEST, LEAST, next_number};
 use s2_bits::Bits;
 use s2_check::{Answer, CertView, Move, Refusal};
 use s2_matrix::Matrix;
@@ -13,13 +13,13 @@ use std::alloc::{AllocError, Global};
 use std::process::Abort;
 use std::test::Fail;
 
-/// Moves of up to 31 at scale 16, each to some member of its check.
+/// Moves of up to 1023 at scale 16, each to some member of its check.
 fn moves_of(alloc: Global, matrix: &Matrix) -> Result<Vec<Move>, AllocError> {
     let mut moves = Vec::new(alloc);
     let mut number = 1u32;
     for check in 0..matrix.check_count() {
         number = next_number(number);
-        let amount = number >> 27;
+        let amount = number >> 22;
         let place = (number >> 8) as usize % matrix.degree(check).max(1);
         moves.push(Move {
             place: if amount == 0 { 0 } else { place as u16 },
@@ -51,7 +51,7 @@ fn least_values(
     let mut soft = Vec::new(alloc);
     for bit in 0..matrix.bits() {
         let least = given(matrix, view, bit).wrapping_add(15) >> 4;
-        soft.push(least.clamp(-63, 63) as i16)?;
+        soft.push(least.clamp(i32::from(LEAST), i32::from(LARGEST)) as i16)?;
     }
     Ok(soft)
 }

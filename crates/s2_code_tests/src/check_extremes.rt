@@ -6,7 +6,7 @@ ghost use Rattle.s2_matrix.specs.Code.{code_of};
 
 use super::check_tests::{NONE, checked, placed, zeros};
 use super::codes::{made_matrix, matrix_of};
-use super::values::{are_soft, next_number};
+use super::values::{LARGEST, LEAST, are_soft, next_number};
 use s2_bits::Bits;
 use s2_check::{Answer, CertView, Move, Refusal};
 use s2_matrix::Matrix;
@@ -17,6 +17,12 @@ use std::test::Fail;
 
 /// The largest scale.
 const SCALE: u16 = 4096;
+
+/// The largest soft value by that scale.
+const SCALED: u32 = SCALE as u32 * LARGEST as u32;
+
+/// More than small moves leave of any bit.
+const MOST_LEFT: i64 = 2_200_000;
 
 /// What a bound below the cost is answered.
 const BELOW: Answer = Answer::No(Refusal::BoundBelow);
@@ -184,7 +190,7 @@ fn assert_rest<R: Abort>(
 )
     requires { bit < (code_of matrix.now).bits }
 {
-    let room = rest_of(matrix, soft, shares, bit).clamp(0, 300_000) as i32;
+    let room = rest_of(matrix, soft, shares, bit).clamp(0, MOST_LEFT) as i32;
     let edges = matrix.edges_at(bit);
     if edges.is_empty() || edges[0] as usize >= shares.len() {
         return;
@@ -224,7 +230,7 @@ fn assert_minimum<R: Abort>(
 /// Asserts what is answered on listed shares of moves, and on shares that miss by one in any rest or local minimum.
 fn assert_listed_by_one<R: Abort>(rt: &R, alloc: Global, matrix: &Matrix) -> Result<(), Fail> {
     let word = zeros(alloc, matrix.bits())?;
-    let soft = vec![in alloc; 63i16; matrix.bits()]?;
+    let soft = vec![in alloc; LARGEST; matrix.bits()]?;
     let moves = small_moves(alloc, matrix)?;
     let mut shares = shares_by(alloc, matrix, &moves)?;
     for bit in 0..matrix.bits() {
@@ -266,7 +272,7 @@ fn assert_taken<R: Abort>(
     requires { bit < (code_of matrix.now).bits }
 {
     let shares = shares_by(alloc, matrix, moves)?;
-    let room = rest_of(matrix, soft, &shares, bit).clamp(0, 300_000) as u32;
+    let room = rest_of(matrix, soft, &shares, bit).clamp(0, MOST_LEFT) as u32;
     let Some(check) = taking_check(matrix, moves, bit) else {
         return Ok(());
     };
@@ -281,26 +287,118 @@ fn assert_taken<R: Abort>(
     Ok(())
 }
 
-/// Asserts what is answered on moves that leave a bit nothing, and on moves that miss by one, for each bit.
-fn assert_moved_by_one<R: Abort>(rt: &R, alloc: Global, matrix: &Matrix) -> Result<(), Fail> {
+/// Values of a bit that are low enough for all other bits to have as much to give. With the second one moves are too
+/// large to be summed in lanes.
+const VALUES: [i16; 2] = [250, LARGEST - 6];
+
+/// Asserts what is answered on moves that leave a bit of this value nothing, and on moves that miss by one, for each
+/// bit.
+fn assert_moved_by_one<R: Abort>(
+    rt: &R,
+    alloc: Global,
+    matrix: &Matrix,
+    value: i16,
+) -> Result<(), Fail> {
     let word = zeros(alloc, matrix.bits())?;
-    let mut soft = vec![in alloc; 63i16; matrix.bits()]?;
+    let mut soft = vec![in alloc; LARGEST; matrix.bits()]?;
     let mut moves = small_moves(alloc, matrix)?;
     for bit in 0..matrix.bits() {
         if bit < soft.len() {
-            soft[bit] = 3;
+            soft[bit] = value;
             assert_taken(rt, alloc, matrix, &soft, &word, &mut moves, bit)?;
-            soft[bit] = 63;
+            soft[bit] = LARGEST;
         }
     }
     Ok(())
 }
 
-/// Asserts both over made rows of a shape.
+/// The place of a bit among the members of a check.
+fn place_in(matrix: &Matrix, check: usize, bit: usize) -> u16
+    requires { check < (code_of matrix.now).checks }
+{
+    let mut place = 0u16;
+    for member in matrix.members_at(check) {
+        if *member as usize == bit {
+            break;
+        }
+        place = place.wrapping_add(1);
+    }
+    place
+}
+
+/// Moves of these amounts to a bit, by the first two checks that it is in.
+fn moves_to(
+    alloc: Global,
+    matrix: &Matrix,
+    bit: usize,
+    amounts: [u32; 2],
+) -> Result<Vec<Move>, AllocError>
+    requires { bit < (code_of matrix.now).bits }
+{
+    let mut moves = vec![in alloc; NONE; matrix.check_count()]?;
+    let checks = matrix.checks_at(bit);
+    for at in 0..checks.len().min(2) {
+        let check = checks[at] as usize;
+        if check < matrix.check_count() && check < moves.len() {
+            moves[check] = Move {
+                place: place_in(matrix, check, bit),
+                amount: amounts[at],
+            };
+        }
+    }
+    Ok(moves)
+}
+
+/// The amounts of two checks that make good what a bit of the least value lacks: those that are small enough to be
+/// summed in lanes, and others.
+const MADE_GOOD: [[u32; 2]; 2] = [
+    [1 << 20, SCALED - (1 << 20)],
+    [(1 << 20) + 1, SCALED - (1 << 20) - 1],
+];
+
+/// Asserts that moves make good what a bit of the least value lacks, and that one less does not.
+fn assert_made_good<R: Abort>(
+    rt: &R,
+    alloc: Global,
+    matrix: &Matrix,
+    soft: &[i16],
+    word: &Bits,
+    bit: usize,
+) -> Result<(), Fail>
+    requires { bit < (code_of matrix.now).bits }
+{
+    for amounts in MADE_GOOD {
+        let moves = moves_to(alloc, matrix, bit, amounts)?;
+        assert_moves(rt, alloc, matrix, soft, word, &moves, Answer::Yes)?;
+        let less = [amounts[0], amounts[1].saturating_sub(1)];
+        let moves = moves_to(alloc, matrix, bit, less)?;
+        assert_moves(rt, alloc, matrix, soft, word, &moves, BELOW)?;
+    }
+    Ok(())
+}
+
+/// Asserts it for each bit that is in two checks at least.
+fn assert_each_made_good<R: Abort>(rt: &R, alloc: Global, matrix: &Matrix) -> Result<(), Fail> {
+    let word = zeros(alloc, matrix.bits())?;
+    let mut soft = vec![in alloc; LARGEST; matrix.bits()]?;
+    for bit in 0..matrix.bits() {
+        if bit < soft.len() && matrix.bit_degree(bit) > 1 {
+            soft[bit] = LEAST;
+            assert_made_good(rt, alloc, matrix, &soft, &word, bit)?;
+            soft[bit] = LARGEST;
+        }
+    }
+    Ok(())
+}
+
+/// Asserts all of this over made rows of a shape.
 fn assert_by_one<R: Abort>(rt: &R, alloc: Global, shape: Shape, weight: usize) -> Result<(), Fail> {
     let matrix = made_matrix(alloc, shape, weight)?;
     assert_listed_by_one(rt, alloc, &matrix)?;
-    assert_moved_by_one(rt, alloc, &matrix)
+    for value in VALUES {
+        assert_moved_by_one(rt, alloc, &matrix, value)?;
+    }
+    assert_each_made_good(rt, alloc, &matrix)
 }
 
 /// Groups below, at and over the lanes of a vector.
@@ -348,7 +446,7 @@ fn chain(alloc: Global, checks: usize) -> Result<Vec<Move>, AllocError> {
     let mut moves = Vec::new(alloc);
     let mut amount = 0u32;
     for _ in 0..checks {
-        amount = amount.wrapping_add(258_048).min(MOST);
+        amount = amount.wrapping_add(SCALED).min(MOST);
         moves.push(Move { place: 1, amount })?;
     }
     Ok(moves)
@@ -357,33 +455,33 @@ fn chain(alloc: Global, checks: usize) -> Result<Vec<Move>, AllocError> {
 /// Asserts what is answered along a chain whose last bit lacks all that a soft value can.
 fn assert_chain<R: Abort>(rt: &R, alloc: Global, matrix: &Matrix) -> Result<(), Fail> {
     let word = zeros(alloc, matrix.bits())?;
-    let mut soft = vec![in alloc; 63i16; matrix.bits()]?;
+    let mut soft = vec![in alloc; LARGEST; matrix.bits()]?;
     let mut moves = chain(alloc, matrix.check_count())?;
-    assert!(rt; soft.len() == 9001);
-    assert!(rt; moves.len() == 9000);
-    soft[9000] = -63;
+    assert!(rt; soft.len() == 1201);
+    assert!(rt; moves.len() == 1200);
+    soft[1200] = LEAST;
     assert_moves(rt, alloc, matrix, &soft, &word, &moves, Answer::Yes)?;
-    assert_eq!(rt; moves[8999].amount, MOST);
-    moves[4000].amount = moves[4000].amount.wrapping_add(1);
+    assert_eq!(rt; moves[1199].amount, MOST);
+    moves[1000].amount = moves[1000].amount.wrapping_add(1);
     assert_moves(rt, alloc, matrix, &soft, &word, &moves, BELOW)
 }
 
 /// Asserts that a share of -2^31 is one more than a share of 2^31 - 1 makes good.
 fn assert_least_share<R: Abort>(rt: &R, alloc: Global, matrix: &Matrix) -> Result<(), Fail> {
     let word = zeros(alloc, matrix.bits())?;
-    let soft = vec![in alloc; 63i16; matrix.bits()]?;
+    let soft = vec![in alloc; LARGEST; matrix.bits()]?;
     let mut shares = shares_by(alloc, matrix, &chain(alloc, matrix.check_count())?)?;
-    assert!(rt; shares.len() == 18000);
+    assert!(rt; shares.len() == 2400);
     assert_shares(rt, matrix, &soft, &word, &shares, Answer::Yes);
-    assert_eq!(rt; shares[17999], i32::MIN + 1);
-    shares[17999] = i32::MIN;
+    assert_eq!(rt; shares[2399], i32::MIN + 1);
+    shares[2399] = i32::MIN;
     assert_shares(rt, matrix, &soft, &word, &shares, BELOW);
     Ok(())
 }
 
 #[test]
 fn answers_at_amounts_of_31_bits(rt: HostRuntime) -> Result<(), Fail> {
-    let matrix = matrix_of(rt.alloc(), ([1, 1, 9000], b"0\n"))?;
+    let matrix = matrix_of(rt.alloc(), ([1, 1, 1200], b"0\n"))?;
     assert_chain(&rt, rt.alloc(), &matrix)?;
     assert_least_share(&rt, rt.alloc(), &matrix)
 }

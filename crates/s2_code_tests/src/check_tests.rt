@@ -1,5 +1,5 @@
 //! Certificates of the toy code.
-use super::certificate_bytes::{CODEWORD, codeword_file, with_byte, wrong_bit};
+use super::certificate_bytes::{CODEWORD, SIZE, codeword_file, with_byte, wrong_bit};
 use super::codes::{TOY, matrix_of};
 use super::values::{WEAK, are_soft};
 use s2_bits::Bits;
@@ -40,9 +40,10 @@ fn assert_answer<R: Abort>(rt: &R, alloc: Global, matrix: &Matrix, bytes: &[u8],
 
 fn assert_answers<R: Abort>(rt: &R, alloc: Global, toy: &Matrix) {
     assert_answer(rt, alloc, toy, &wrong_bit(), Answer::Yes);
+    assert_answer(rt, alloc, toy, &codeword_file(), Answer::Yes);
     for (at, byte, refusal) in [
-        (43usize, 0xFB, Refusal::BoundBelow),
-        (37, 0x80, Refusal::OddCheck { check: 0 }),
+        (63usize, 0xFB, Refusal::BoundBelow),
+        (57, 0x80, Refusal::OddCheck { check: 0 }),
     ] {
         assert_answer(rt, alloc, toy, &with_byte(at, byte), Answer::No(refusal));
     }
@@ -66,14 +67,17 @@ fn checks_the_certificate_of_a_wrong_bit(rt: HostRuntime) -> Result<(), Fail> {
 
 fn assert_altered_refused<R: Abort>(rt: &R, alloc: Global, toy: &Matrix) {
     let file = wrong_bit();
-    for at in 0..228usize {
+    for at in 0..SIZE {
         let want = match at {
             0..=4 => Err(CertFault::Magic),
             5 | 7 | 9 => Err(CertFault::Shape),
             6 | 8 | 10 | 15 | 16 => Err(CertFault::Cut),
-            11 | 13 | 14 | 17..=36 => Err(CertFault::Range),
-            37 | 38 => Ok(Answer::No(Refusal::OddCheck { check: 0 })),
-            39 => Ok(Answer::No(Refusal::OddCheck { check: 8 })),
+            11 | 13 | 14 => Err(CertFault::Range),
+            // a value's high byte; with another low byte all values but the first say more for their zeros
+            17..=56 if at % 2 == 1 => Err(CertFault::Range),
+            20..=56 => Ok(Answer::Yes),
+            57 | 58 => Ok(Answer::No(Refusal::OddCheck { check: 0 })),
+            59 => Ok(Answer::No(Refusal::OddCheck { check: 8 })),
             _ => Ok(Answer::No(Refusal::BoundBelow)),
         };
         assert_eq!(rt;
@@ -91,8 +95,7 @@ fn answers_on_each_altered_byte(rt: HostRuntime) -> Result<(), Fail> {
     Ok(())
 }
 
-fn assert_cut_refused<R: Abort>(rt: &R, alloc: Global, toy: &Matrix) {
-    let file = wrong_bit();
+fn assert_cut_refused<R: Abort>(rt: &R, alloc: Global, toy: &Matrix, file: &[u8]) {
     for len in 0..file.len() {
         let cut = answer(alloc, toy, &file[..len]);
         assert_eq!(rt; cut, Err(CertFault::Cut), "{len}");
@@ -102,7 +105,8 @@ fn assert_cut_refused<R: Abort>(rt: &R, alloc: Global, toy: &Matrix) {
 #[test]
 fn refuses_a_cut_certificate(rt: HostRuntime) -> Result<(), Fail> {
     let toy = matrix_of(rt.alloc(), TOY)?;
-    assert_cut_refused(&rt, rt.alloc(), &toy);
+    assert_cut_refused(&rt, rt.alloc(), &toy, &wrong_bit());
+    assert_cut_refused(&rt, rt.alloc(), &toy, &codeword_file());
     Ok(())
 }
 

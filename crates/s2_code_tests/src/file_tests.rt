@@ -1,5 +1,7 @@
 //! Certificate files, by the format.
-use super::certificate_bytes::{with_byte, wrong_bit};
+use super::certificate_bytes::{
+    CODEWORD, SIZE, codeword_file, one_byte_values, with_byte, wrong_bit,
+};
 use s2_file::{CertFault, Contents};
 use std::alloc::Global;
 use std::test::Fail;
@@ -20,14 +22,14 @@ fn refuses_what_is_no_file(rt: HostRuntime) -> Result<(), Fail> {
         (0, 0, CertFault::Magic),
         (6, 0, CertFault::Shape),
         (12, 0, CertFault::Range),
-        (17, 0x40, CertFault::Range),
+        (17, 0x02, CertFault::Range),
     ] {
         assert_eq!(rt; fault_of(alloc, &with_byte(at, byte)), Some(want));
     }
     Ok(())
 }
 
-// A scale of 4096 or 4097; 1,555,200 shares or one more; a soft value of 63, 64, -63 or -64; a
+// A scale of 4096 or 4097; 1,555,200 shares or one more; a soft value of 64, 511, 512, -64, -511 or -512; a
 // padding bit.
 #[test]
 fn keeps_to_the_limits(rt: HostRuntime) -> Result<(), Fail> {
@@ -37,20 +39,33 @@ fn keeps_to_the_limits(rt: HostRuntime) -> Result<(), Fail> {
         ([(11, 0x10), (12, 1), (12, 1)], Some(CertFault::Range)),
         ([(14, 0x17), (15, 0xBB), (16, 0)], Some(CertFault::Cut)),
         ([(14, 0x17), (15, 0xBB), (16, 1)], Some(CertFault::Range)),
-        ([(18, 0x3F), (19, 0xC1), (39, 0x10)], None),
-        ([(18, 0x40), (19, 0x3F), (20, 0x3F)], Some(CertFault::Range)),
-        ([(18, 0xC0), (19, 0x3F), (20, 0x3F)], Some(CertFault::Range)),
-        ([(39, 0x08), (19, 0x3F), (20, 0x3F)], Some(CertFault::Range)),
+        ([(20, 0x40), (21, 0xFF), (22, 0xC0)], None),
+        ([(21, 0x01), (22, 0xFF), (59, 0x10)], None),
+        ([(21, 0xFE), (22, 0x01), (59, 0x10)], None),
+        ([(17, 0x02), (18, 0x00), (59, 0x10)], Some(CertFault::Range)),
+        ([(17, 0xFE), (18, 0x00), (59, 0x10)], Some(CertFault::Range)),
+        ([(55, 0x02), (56, 0x00), (59, 0x10)], Some(CertFault::Range)),
+        ([(55, 0xFE), (56, 0x00), (59, 0x10)], Some(CertFault::Range)),
+        ([(59, 0x08), (20, 0x3F), (22, 0x3F)], Some(CertFault::Range)),
     ];
     for (bytes, want) in cases {
         let mut altered = wrong_bit();
         for (at, byte) in bytes {
-            if at < 228usize {
+            if at < SIZE {
                 altered[at] = byte;
             }
         }
         assert_eq!(rt; fault_of(alloc, &altered), want);
     }
+    Ok(())
+}
+
+#[test]
+fn reads_two_bytes_a_value(rt: HostRuntime) -> Result<(), Fail> {
+    let contents = Contents::read(rt.alloc(), &codeword_file())?;
+    assert_eq!(rt; contents.soft(), CODEWORD.as_slice());
+    let fault = fault_of(rt.alloc(), &one_byte_values());
+    assert_eq!(rt; fault, Some(CertFault::Cut));
     Ok(())
 }
 

@@ -5,7 +5,7 @@ ghost use Rattle.s2_matrix.specs.Code.{code_of};
 ghost use Rattle.s2_check.specs.Views.{IsSoft};
 
 use super::codes::{Code, TOY, made_matrix, matrix_of};
-use super::values::{are_soft, next_number};
+use super::values::{LARGEST, LEAST, are_soft, next_number};
 use s2_check::{Answer, Certificate, Verdict, check};
 use s2_judge::Judge;
 use s2_link::Tuning;
@@ -180,17 +180,17 @@ fn has_room_for_every_mode(rt: HostRuntime) -> Result<(), Fail> {
     Ok(())
 }
 
-/// Soft values of zeros in noise: each is 16 and what twelve numbers from -4 to 4 add up to.
+/// Soft values of zeros in noise: each is 256 and what twelve numbers from -64 to 64 add up to.
 fn noisy_zeros(alloc: Global, count: usize) -> Result<Vec<i16>, AllocError> {
     let mut values = Vec::new(alloc);
     let mut state = 1u32;
     for _value in 0..count {
-        let mut value = 16i16;
+        let mut value = 256i16;
         for _part in 0..12u32 {
             state = next_number(state);
-            value = value.wrapping_add((state / 65536 % 9) as i16 - 4);
+            value = value.wrapping_add((state / 65536 % 129) as i16 - 64);
         }
-        values.push(value.clamp(-63, 63))?;
+        values.push(value.clamp(LEAST, LARGEST))?;
     }
     Ok(values)
 }

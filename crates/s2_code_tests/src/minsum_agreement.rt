@@ -4,7 +4,7 @@ ghost use Rattle.s2_matrix.specs.Code.{code_of};
 
 use super::codes::{SHAPES, made_matrix};
 use super::minsum_tests::loaded;
-use super::values::next_number;
+use super::values::{LARGEST, next_number};
 use s2_matrix::Matrix;
 use s2_minsum::Decoder;
 use s2_mode::Shape;
@@ -12,13 +12,13 @@ use std::alloc::{AllocError, Global};
 use std::process::Abort;
 use std::test::Fail;
 
-/// So many values of either sign, of sizes up to 63.
+/// So many values of either sign, of sizes up to 511.
 fn noise(alloc: Global, count: usize) -> Result<Vec<i16>, AllocError> {
     let mut values = Vec::new(alloc);
     let mut number = 1u32;
     for _made in 0..count {
         number = next_number(number);
-        values.push((number / 65536 % 127) as i16 - 63)?;
+        values.push((number / 65536 % 1023) as i16 - 511)?;
     }
     Ok(values)
 }
@@ -69,7 +69,7 @@ fn inputs(
 
 /// What the other inputs make.
 fn message(inputs: &[i16], own: usize) -> i16 {
-    let mut least = 127u16;
+    let mut least = 1023u16;
     let mut negative = false;
     for place in 0..inputs.len() {
         if place != own {
@@ -179,15 +179,17 @@ fn agrees<R: Abort + AllocGlobal>(rt: &R, matrix: &Matrix, soft: &[i16]) -> Resu
     Ok(agrees_by(rt.alloc(), &mut decoder, matrix, soft)?)
 }
 
-/// Whether they agree for values of both signs and of one.
+/// Whether they agree for values of both signs, of one, and of the largest size.
 fn agrees_for<R: Abort + AllocGlobal>(rt: &R, matrix: &Matrix) -> Result<bool, Fail> {
     let mut soft = noise(rt.alloc(), matrix.bits())?;
     let both = agrees(rt, matrix, &soft)?;
-    // Of one sign, so that inputs grow over the cap.
     for value in soft.iter_mut() {
         *value = value.saturating_abs();
     }
-    Ok(both && agrees(rt, matrix, &soft)?)
+    let one = agrees(rt, matrix, &soft)?;
+    // So that inputs grow over the cap.
+    soft.fill(LARGEST);
+    Ok(both && one && agrees(rt, matrix, &soft)?)
 }
 
 /// Whether they agree over made rows of a shape.

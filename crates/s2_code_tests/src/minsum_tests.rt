@@ -5,8 +5,8 @@ ghost use Rattle.s2_matrix.specs.Code.{code_of};
 ghost use Rattle.s2_mode.specs.Limits.{most_soft};
 ghost use Rattle.s2_minsum.specs.Decoding.{AreWithin};
 
-use super::codes::{TOY, matrix_of};
-use super::values::{WRONG, soft_values};
+use super::codes::{Code, TOY, matrix_of};
+use super::values::{LARGEST, LEAST, WRONG, soft_values};
 use s2_matrix::Matrix;
 use s2_minsum::Decoder;
 use std::alloc::{AllocError, Global};
@@ -22,6 +22,15 @@ const WRONG_SENT: [i16; 16] = [8, -3, -3, 0, 0, 0, 0, 0, 0, 0, 0, 8, 8, 8, 8, 0]
 
 // Group 4, one group, q 3, row 0 3: each information bit is twice in layer 0.
 const TWICE_AFTER: [i16; 16] = [20, 20, 20, 20, 14, 8, 14, 14, 8, 14, 14, 8, 14, 14, 8, 8];
+
+// A check of parity bit 0 alone, and one of all three bits.
+const ALONE: Code<'static> = ([1, 1, 2], b"1\n");
+
+// An information bit in 24 checks.
+const MANY: Code<'static> = (
+    [1, 1, 27],
+    b"0 1 2 3 4 5 6 7 8 9 10 11 12 13 14 15 16 17 18 19 20 21 22 23\n",
+);
 
 pub(crate) fn loaded<'a, R: Abort + AllocGlobal>(
     rt: &R,
@@ -174,4 +183,38 @@ fn assert_repeated<R: Abort + AllocGlobal>(rt: &R, pair: &Matrix) -> Result<(), 
 fn repeats_a_pair_of_bits(rt: HostRuntime) -> Result<(), Fail> {
     let pair = matrix_of(rt.alloc(), ([1, 1, 1], b"0\n"))?;
     assert_repeated(&rt, &pair)
+}
+
+fn assert_sent_alone<R: Abort + AllocGlobal>(rt: &R, alone: &Matrix) -> Result<(), Fail> {
+    let soft = [LEAST, LARGEST, LEAST];
+    assert_posteriors_after_layer(rt, alone, &soft, &[LEAST, 1279, LEAST])?;
+    assert_messages_after_layer(rt, alone, &soft, &[768, 0, 0, 0])
+}
+
+#[test]
+fn sends_the_largest_message_from_a_check_of_one_member(rt: HostRuntime) -> Result<(), Fail> {
+    let alone = matrix_of(rt.alloc(), ALONE)?;
+    assert_sent_alone(&rt, &alone)
+}
+
+/// Asserts the posteriors of the largest values for zeros, and for the codeword that begins with a one.
+fn assert_largest<R: Abort + AllocGlobal>(rt: &R, many: &Matrix) -> Result<(), Fail> {
+    let mut soft = [LARGEST; 28];
+    let mut want = [2047i16; 28];
+    want[0] = 18943;
+    want[25..].copy_from_slice(&[1951, 1663, 1279]);
+    assert_after_rounds(rt, many, &soft, 3, &want)?;
+    for bit in 0..24usize {
+        if bit == 0 || bit % 2 == 1 {
+            soft[bit] = LEAST;
+            want[bit] = want[bit].wrapping_neg();
+        }
+    }
+    assert_after_rounds(rt, many, &soft, 3, &want)
+}
+
+#[test]
+fn reaches_the_largest_posteriors(rt: HostRuntime) -> Result<(), Fail> {
+    let many = matrix_of(rt.alloc(), MANY)?;
+    assert_largest(&rt, &many)
 }

@@ -4,7 +4,7 @@ ghost use Rattle.s2_matrix.specs.Code.{code_of};
 ghost use Rattle.s2_check.specs.Views.{IsSoft};
 
 use super::codes::{Code, TOY, matrix_of};
-use super::values::{WEAK, WRONG, are_soft};
+use super::values::{LARGEST, LEAST, WEAK, WRONG, are_soft};
 use s2_bits::Bits;
 use s2_check::{Answer, CertView, check};
 use s2_matrix::Matrix;
@@ -117,6 +117,26 @@ fn makes_greedy_and_spread_splits(rt: HostRuntime) -> Result<(), Fail> {
         shares: &[-40, 40, 40, 24, -24, 24, 24],
     };
     assert_all_made(&rt, TOY, &[greedy, spread, greedy])
+}
+
+/// The same for values up to the largest.
+#[test]
+fn makes_splits_of_the_largest_values(rt: HostRuntime) -> Result<(), Fail> {
+    let mut soft = [LARGEST; 20];
+    soft[0] = LEAST;
+    let greedy = Made {
+        soft: &soft,
+        scale: 1,
+        shares: &[-511, 511, 511, 0, 0, 0, 0],
+    };
+    assert_all_made(&rt, TOY, &[greedy])?;
+    soft[4..7].fill(127);
+    let spread = Made {
+        soft: &soft,
+        scale: 16,
+        shares: &[-5104, 5104, 5104, 3072, -3072, 3072, 3072],
+    };
+    assert_all_made(&rt, TOY, &[spread])
 }
 
 #[test]

@@ -4,7 +4,13 @@ ghost use Rattle.s2_mode.specs.Limits.{most_soft};
 ghost use Rattle.s2_check.specs.Views.{IsSoft};
 ghost use Rattle.s2_minsum.specs.Decoding.{AreWithin};
 
+use s2_mode::MOST_SOFT;
 use std::alloc::{AllocError, Global};
+
+/// The largest and the least soft value.
+pub const LARGEST: i16 = MOST_SOFT as i16;
+
+pub const LEAST: i16 = -LARGEST;
 
 /// A wrong bit: of 20 values all are 10 but the first.
 pub const WRONG: [i16; 20] = [
@@ -21,21 +27,21 @@ pub fn are_soft(values: &[i16]) -> bool
     ensures { IsTrue result → All IsSoft values.now }
 {
     for value in values {
-        if *value < -63 || *value > 63 {
+        if *value < LEAST || *value > LARGEST {
             return false;
         }
     }
     true
 }
 
-/// These values, none of a size over 63.
+/// These values, none of a size over that of a soft value.
 pub fn soft_values(alloc: Global, values: &[i16]) -> Result<Vec<i16>, AllocError>
     ensures long { IfOk result (λ v. length v.items ≡ length values.now) }
     ensures small { IfOk result (λ v. AreWithin most_soft v.items) }
 {
     let mut soft = Vec::new(alloc);
     for value in values {
-        soft.push((*value).clamp(-63, 63))?;
+        soft.push((*value).clamp(LEAST, LARGEST))?;
     }
     Ok(soft)
 }

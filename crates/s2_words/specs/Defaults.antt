@@ -1,8 +1,11 @@
--- What stands where no number is named.
-use Rattle.std.specs.Prelude.{◌≡◌, decimal}
+-- Numbers that words of the command line are made of.
+use Rattle.std.specs.Prelude.{◌≡◌, decimal, map}
+use Rattle.s2_soft.specs.Divisors.{divisors, default_divisor}
 use Rattle.s2_link.specs.Limits.{default_rounds}
-use Rattle.s2_words.specs.declared.table.TheConstants.{DEFAULT_ROUNDS_TEXT}
+use Rattle.s2_words.specs.declared.table.TheConstants.{DEFAULT_ROUNDS_TEXT, DIVISOR_TEXTS, DEFAULT_DIVISOR_TEXT}
 
--- the rounds by their digits
-abbrev pub DefaultsLaw : Type 0
-DefaultsLaw = DEFAULT_ROUNDS_TEXT.now ≡ decimal default_rounds
+-- what stands where no rounds and no divisor are named, and the divisors that may be named, by their digits
+pub record DefaultsLaw : Type 0 where
+  pub rounds : DEFAULT_ROUNDS_TEXT.now ≡ decimal default_rounds
+  pub divisors : map (λ t. t.now) DIVISOR_TEXTS ≡ map decimal divisors
+  pub divisor : DEFAULT_DIVISOR_TEXT.now ≡ decimal default_divisor

@@ -9,10 +9,10 @@ fn arg_of<'a>(alloc: Global, word: Word) -> Arg<'a> {
         Form::Flag => arg.long(word.name).action(ArgAction::SetTrue),
         Form::Number {
             value,
-            range,
+            allowed,
             default,
         } => {
-            let arg = arg.long(word.name).value_name(value).value_parser(range);
+            let arg = arg.long(word.name).value_name(value).value_parser(allowed);
             match default {
                 Some(text) => arg.default_value(text),
                 None => arg.required(true),

@@ -8,6 +8,7 @@ use clap::error::ErrorKind;
 use clap::{ArgMatches, Error};
 use s2_link::{DEFAULT_ROUNDS, RollOff, Tuning};
 use s2_scramble::ScramblingNumber;
+use s2_soft::Divisor;
 use std::alloc::{AllocError, Global};
 
 fn shape_of(m: &ArgMatches<'_>) -> Option<ShapeWords> {
@@ -29,7 +30,9 @@ fn link_of(m: &ArgMatches<'_>) -> Option<LinkWords> {
 }
 
 fn tuning_of(m: &ArgMatches<'_>) -> Option<Tuning> {
-    Tuning::new(m.get_one::<u32>("rounds")?, m.get_one::<u32>("passes")?).ok()
+    let divisor = Divisor::new(m.get_one::<u32>("divisor")?)?;
+    let tuning = Tuning::new(m.get_one::<u32>("rounds")?, m.get_one::<u32>("passes")?).ok()?;
+    Some(tuning.with_divisor(divisor))
 }
 
 fn channel_of(m: &ArgMatches<'_>) -> Option<ChannelWords> {

@@ -12,15 +12,21 @@ pub(crate) const ABOUT: &str =
 /// The decimal digits of the rounds where none are named.
 pub(crate) const DEFAULT_ROUNDS_TEXT: &str = "50";
 
+/// The decimal digits of each divisor of soft values.
+pub(crate) const DIVISOR_TEXTS: [&str; 5] = ["4096", "8192", "16384", "32768", "65536"];
+
+/// The decimal digits of the divisor where none is named.
+pub(crate) const DEFAULT_DIVISOR_TEXT: &str = "4096";
+
 /// How a word stands on the command line.
 #[derive(Clone, Copy)]
 pub(crate) enum Form {
     /// `--name`.
     Flag,
-    /// `--name VALUE`, a number in a range. It has to stand where it has no default.
+    /// `--name VALUE`, a number in a range or of a list. It has to stand where it has no default.
     Number {
         value: &'static str,
-        range: ValueParser<'static>,
+        allowed: ValueParser<'static>,
         default: Option<&'static str>,
     },
     /// `--name FILE`.
@@ -53,7 +59,7 @@ const GROUP: Word = Word {
     name: "group",
     form: Form::Number {
         value: "G",
-        range: ValueParser::Signed(1, MOST_GROUP as i64),
+        allowed: ValueParser::Signed(1, MOST_GROUP as i64),
         default: None,
     },
     help: "Bits of a group",
@@ -63,7 +69,7 @@ const GROUPS: Word = Word {
     name: "groups",
     form: Form::Number {
         value: "N",
-        range: ValueParser::Signed(1, MOST_BITS as i64 - 1),
+        allowed: ValueParser::Signed(1, MOST_BITS as i64 - 1),
         default: None,
     },
     help: "Groups of information bits",
@@ -73,7 +79,7 @@ const Q: Word = Word {
     name: "q",
     form: Form::Number {
         value: "Q",
-        range: ValueParser::Signed(1, MOST_BITS as i64 - 1),
+        allowed: ValueParser::Signed(1, MOST_BITS as i64 - 1),
         default: None,
     },
     help: "Checks by which a group's next bit moves on",
@@ -83,7 +89,7 @@ const WEIGHT: Word = Word {
     name: "weight",
     form: Form::Number {
         value: "W",
-        range: ValueParser::Signed(1, MOST_ADDRESSES as i64),
+        allowed: ValueParser::Signed(1, MOST_ADDRESSES as i64),
         default: None,
     },
     help: "Addresses of each row",
@@ -93,7 +99,7 @@ const MODCOD: Word = Word {
     name: "modcod",
     form: Form::Number {
         value: "M",
-        range: ValueParser::Signed(1, MOST_MODCOD as i64),
+        allowed: ValueParser::Signed(1, MOST_MODCOD as i64),
         default: None,
     },
     help: "MODCOD, 1 to 17",
@@ -115,7 +121,7 @@ const NUMBER: Word = Word {
     name: "number",
     form: Form::Number {
         value: "N",
-        range: ValueParser::Signed(0, MOST_NUMBER as i64),
+        allowed: ValueParser::Signed(0, MOST_NUMBER as i64),
         default: Some("0"),
     },
     help: "Scrambling number, 0 to 262141",
@@ -125,7 +131,7 @@ const ROLL_OFF: Word = Word {
     name: "ro",
     form: Form::Number {
         value: "R",
-        range: ValueParser::Signed(0, MOST_ROLL_OFF as i64),
+        allowed: ValueParser::Signed(0, MOST_ROLL_OFF as i64),
         default: Some("0"),
     },
     help: "Roll-off that headers tell: 0 is 0.35, 1 is 0.25, 2 is 0.20",
@@ -135,7 +141,7 @@ const DUMMY: Word = Word {
     name: "dummy",
     form: Form::Number {
         value: "D",
-        range: ValueParser::Signed(0, u16::MAX as i64),
+        allowed: ValueParser::Signed(0, u16::MAX as i64),
         default: Some("0"),
     },
     help: "A dummy frame behind every D-th frame, 0 to 65535: 0 for none",
@@ -145,7 +151,7 @@ const ROUNDS: Word = Word {
     name: "rounds",
     form: Form::Number {
         value: "K",
-        range: ValueParser::Signed(1, MOST_ROUNDS as i64),
+        allowed: ValueParser::Signed(1, MOST_ROUNDS as i64),
         default: Some(DEFAULT_ROUNDS_TEXT),
     },
     help: "Rounds of min-sum at most, 1 to 200",
@@ -155,17 +161,27 @@ const PASSES: Word = Word {
     name: "passes",
     form: Form::Number {
         value: "P",
-        range: ValueParser::Signed(0, MOST_PASSES as i64),
+        allowed: ValueParser::Signed(0, MOST_PASSES as i64),
         default: Some("0"),
     },
     help: "Passes at most that look for a certificate, 0 to 1000",
+};
+
+const DIVISOR: Word = Word {
+    name: "divisor",
+    form: Form::Number {
+        value: "D",
+        allowed: ValueParser::Names(&DIVISOR_TEXTS),
+        default: Some(DEFAULT_DIVISOR_TEXT),
+    },
+    help: "What soft values are divided by: 8192 at low rates, more for stronger symbols",
 };
 
 const SEED: Word = Word {
     name: "seed",
     form: Form::Number {
         value: "S",
-        range: ANY,
+        allowed: ANY,
         default: None,
     },
     help: "Seed of the generator",
@@ -175,7 +191,7 @@ const LEVEL: Word = Word {
     name: "level",
     form: Form::Number {
         value: "L",
-        range: ValueParser::Signed(0, u16::MAX as i64),
+        allowed: ValueParser::Signed(0, u16::MAX as i64),
         default: None,
     },
     help: "Level of the noise, 0 to 65535",
@@ -269,6 +285,7 @@ pub(crate) static COMMANDS: [Entry; 7] = [
             ROLL_OFF,
             ROUNDS,
             PASSES,
+            DIVISOR,
             ROWS,
             file!("SYMBOLS", "File of symbols, four bytes each"),
             file!("PACKETS", "File for the packets"),
@@ -287,6 +304,7 @@ pub(crate) static COMMANDS: [Entry; 7] = [
             DUMMY,
             ROUNDS,
             PASSES,
+            DIVISOR,
             SEED,
             LEVEL,
             ROWS,
