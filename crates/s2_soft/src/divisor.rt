@@ -19,19 +19,31 @@ pub const DEFAULT_DIVISOR: u32 = 4096;
 #[derive(Clone, Copy, Debug, PartialEq, Eq)]
 pub struct Divisor {
     number: u32,
+    factor: u16,
 }
 
 impl Model for Divisor {
-    ghost use Rattle.std.specs.Prelude.{ℕ};
-    ghost use Rattle.s2_soft.specs.Divisors.{IsDivisor};
+    ghost use Rattle.std.specs.Prelude.{◌≡◌, ℕ};
+    ghost use Rattle.std.proofs.Common.{sym};
+    ghost use Rattle.s2_soft.specs.Divisors.{IsDivisor, factor_of};
 
     ghost Value = { ℕ };
 
     ghost view = { λ d. d.number };
 
-    ghost invariant = { λ d. IsDivisor d.number };
+    ghost invariant = { λ d. IsDivisor d.number × (d.factor ≡ factor_of d.number) };
 
-    ghost inverse = { λ v. record { number = v } };
+    ghost inverse = { λ v. record { number = v; factor = factor_of v } };
+
+    ghost inverse_ok = { λ d held. λ t. record { number = d.number; factor = sym held.1 t } };
+}
+
+/// What multiplies a component of QPSK where 65536 divides the product.
+fn factor_of(number: u32) -> u16
+    requires { IsDivisor number }
+    ensures { result ≡ factor_of number }
+{
+    (4 * DIAGONAL as u32 * (65536 / number)) as u16
 }
 
 impl Divisor {
@@ -41,7 +53,7 @@ impl Divisor {
         ensures value { IfSome result (λ d. d ≡ number) }
     {
         if DIVISORS.contains(&number) {
-            Some(Divisor { number })
+            Some(Divisor::of(number))
         } else {
             None
         }
@@ -52,16 +64,17 @@ impl Divisor {
         requires { IsDivisor number }
         ensures { result ≡ number }
     {
-        Divisor { number }
+        Divisor {
+            number,
+            factor: factor_of(number),
+        }
     }
 
     /// The divisor where none is named.
     pub fn usual() -> Divisor
         ensures { result ≡ default_divisor }
     {
-        Divisor {
-            number: DEFAULT_DIVISOR,
-        }
+        Divisor::of(DEFAULT_DIVISOR)
     }
 
     /// The number.
@@ -92,6 +105,6 @@ impl Divisor {
         ensures is { result ≡ factor_of self }
         ensures known { IsDivisor self }
     {
-        (4 * DIAGONAL as u32 * (65536 / self.number)) as u16
+        self.factor
     }
 }
