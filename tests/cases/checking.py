@@ -1,5 +1,5 @@
 """`check`."""
-from cases.common import NO, STORED_CERTIFICATE, WRONG_CERTIFICATE, Case, fault
+from cases.common import HEAD, NO, STORED_CERTIFICATE, WRONG_CERTIFICATE, Case, fault
 
 
 def with_byte(at, byte):
@@ -10,23 +10,27 @@ def with_byte(at, byte):
 ANSWERS = [
     (WRONG_CERTIFICATE, 0, "yes cost 0\n"),
     (STORED_CERTIFICATE, 0, "yes cost -45\n"),
-    (with_byte(16, 0x2E)[:224], NO, "no shape\n"),
-    (with_byte(37, 0x80), NO, "no check 0\n"),
-    (with_byte(47, 3), NO, "no bound\n"),
+    (with_byte(16, 0x2E)[:244], NO, "no shape\n"),
+    (with_byte(57, 0x80), NO, "no check 0\n"),
+    (with_byte(67, 3), NO, "no bound\n"),
     # soft value 0, of a bit that is 1, speaks for 0, so that the word costs more than the shares prove
-    (STORED_CERTIFICATE[:17] + b"\x05" + STORED_CERTIFICATE[18:], NO, "no bound\n"),
+    (STORED_CERTIFICATE[:17] + b"\x00\x05" + STORED_CERTIFICATE[19:], NO, "no bound\n"),
+    # soft value 0 is the least, and soft value 1, of a bit that is 0, the largest
+    (STORED_CERTIFICATE[:17] + b"\xFE\x01\x01\xFF" + STORED_CERTIFICATE[21:], 0, "yes cost -551\n"),
 ]
 FAULTS = [
     (with_byte(0, 0x54), "magic"),
     (b"S2ML\x02", "magic"),
     (b"", "cut"),
     (b"S2ML\x01", "cut"),
-    (WRONG_CERTIFICATE[:227], "cut"),
+    # a byte a value
+    (HEAD + bytes([0xFC] + 19 * [10]) + WRONG_CERTIFICATE[57:], "cut"),
     (with_byte(16, 0x2E), "extra"),
     (WRONG_CERTIFICATE + b"\x00", "extra"),
     (with_byte(12, 0), "range"),
-    (with_byte(17, 0x40), "range"),
-    (with_byte(39, 1), "range"),
+    (HEAD + b"\x02\x00" + WRONG_CERTIFICATE[19:], "range"),
+    (HEAD + b"\xFE\x00" + WRONG_CERTIFICATE[19:], "range"),
+    (with_byte(59, 1), "range"),
     (with_byte(10, 0), "shape"),
     (with_byte(6, 0), "shape"),
 ]
@@ -37,11 +41,13 @@ ALTERED = [
     ([6, 8, 10], "cut"),
     ([11, 13, 14], "range"),
     ([15, 16], "cut"),
-    (range(17, 37), "range"),
+    (range(17, 57, 2), "range"),
 ]
-DENIED = [([12], "no bound\n"), ([37, 38], "no check 0\n"), ([39], "no check 8\n"), (range(40, 228, 17), "no bound\n")]
+DENIED = [([12, 18], "no bound\n"), ([57, 58], "no check 0\n"), ([59], "no check 8\n"), (range(60, 248, 17), "no bound\n")]
+# The low bytes of all soft values but the first, which say more for zeros then.
+KEPT = range(20, 57, 2)
 # With q 4 in the place of 3 the rows have 55 edges, not 47.
-OTHER_Q = with_byte(10, 4)[:17] + bytes(24 + 3 + 188)
+OTHER_Q = with_byte(10, 4)[:17] + bytes(2 * 24 + 3 + 188)
 
 
 def checked(certificate, code, line):
@@ -57,6 +63,8 @@ CASES = [
     *(refused(*answer) for answer in FAULTS),
     *(refused(with_byte(at, WRONG_CERTIFICATE[at] ^ 0x80), text) for places, text in ALTERED for at in places),
     *(checked(with_byte(at, WRONG_CERTIFICATE[at] ^ 0x80), NO, line) for places, line in DENIED for at in places),
+    *(checked(with_byte(at, WRONG_CERTIFICATE[at] ^ 0x80), 0, "yes cost 0\n") for at in KEPT),
+    *(refused(whole[:size], "cut") for whole in (WRONG_CERTIFICATE, STORED_CERTIFICATE) for size in range(248)),
     checked(OTHER_Q, NO, "no shape\n"),
     Case("check short_rows out", NO, "no shape\n", reads={"short_rows": b"0 4 8\n0 1\n", "out": WRONG_CERTIFICATE}),
     Case("check normal normal_certificate", out="yes cost 0\n"),

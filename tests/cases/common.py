@@ -9,13 +9,18 @@ PAIR = "--group 1 --groups 1 --q 1"
 CHAIN = "--group 1 --groups 1 --q 3"
 LONG_ROWS = "rows --group 1 --groups 600 --q 64000 --weight 24 --seed 4294967297"
 
+# What soft values may be divided by; the first is the usual one.
+DIVISORS = (4096, 8192, 16384, 32768, 65536)
+
 STORED = b"-5 7 7 7 7 7 7 7 -5 -5 -5 -5 7 7 7 7 -5 -5 -5 -5"
 # Of one wrong bit, which check 0 corrects.
 WRONG = b"-4 " + 19 * b"10 "
 # The certificates of both, under the toy code.
 HEAD = bytes.fromhex("53324D4C 01 0004 0002 0003 0001 0000002F")
-STORED_CERTIFICATE = HEAD + bytes(int(word) % 256 for word in STORED.split()) + bytes.fromhex("80F0F0") + bytes(188)
-WRONG_CERTIFICATE = HEAD + bytes([0xFC] + 19 * [10]) + bytes(3) + bytes.fromhex("FFFFFFFC 00000004 00000004") + bytes(176)
+STORED_CERTIFICATE = HEAD + b"".join(bytes.fromhex("FFFB" if word == b"-5" else "0007") for word in STORED.split())
+STORED_CERTIFICATE += bytes.fromhex("80F0F0") + bytes(188)
+WRONG_CERTIFICATE = HEAD + bytes.fromhex("FFFC") + 19 * bytes.fromhex("000A") + bytes(3)
+WRONG_CERTIFICATE += bytes.fromhex("FFFFFFFC 00000004 00000004") + bytes(176)
 
 PACKET = b"\x47" + bytes(187)
 ONE = "frame 1 at 0 most-likely fixed 0\n"
@@ -54,6 +59,15 @@ class Rule:
 
 
 ANY = Rule("any", lambda got: True)
+
+
+def option(word, text):
+    """Holds of help that tells this word in a line with this end."""
+
+    def told(got):
+        return any(line.strip().startswith(word) and line.endswith(text) for line in got.decode().split("\n"))
+
+    return Rule(f"..{word!r}..{text!r}..", told)
 
 
 def size(count):

@@ -32,7 +32,7 @@ FAILING = [
     (f"judge {TOY} toy stored", "stored", READ, NOTHING),
     (f"judge {TOY} toy stored", "printed", WRITE, NOTHING),
     (f"judge {TOY} --cert out toy stored", "stored", READ, NOTHING),
-    (f"judge {TOY} --cert out toy stored", "printed", WRITE, [(228, 0)]),
+    (f"judge {TOY} --cert out toy stored", "printed", WRITE, [(248, 0)]),
     ("check toy certificate", "toy", READ, NOTHING),
     ("check toy certificate", "certificate", READ, NOTHING),
     ("check toy certificate", "printed", WRITE, NOTHING),

@@ -2,6 +2,8 @@
 from cases.common import CHAIN, FAULT, NO, PAIR, STORED, STORED_CERTIFICATE, TOY, WRONG, WRONG_CERTIFICATE, Case, fault, size
 
 LIKELY = "most-likely cost -45\n"
+# The stored values with sizes of 511.
+LARGEST = STORED.replace(b"5", b"511").replace(b"7", b"511")
 # Value files under the toy code, and what they cost.
 WELL = [
     (STORED, -45),
@@ -11,12 +13,15 @@ WELL = [
     (b"-4 10 10 10 1 1 1 " + 13 * b"10 ", 0),
     (b"# all\n" + 10 * b"0 " + b"\r\n" + 10 * b"0 ", 0),
     (b"\t-05 007" + STORED[4:], -45),
+    (20 * b"64 ", 0),
+    (20 * b"511 ", 0),
+    (LARGEST, -9 * 511),
 ]
 BAD_VALUES = [
     (19 * b"0 ", "too few"),
     (21 * b"0 ", "too many"),
-    (b"0 0\n64 " + 17 * b"0 ", "out of range in line 2"),
-    (b"-64 " + 19 * b"0 ", "out of range in line 1"),
+    (b"0 0\n512 " + 17 * b"0 ", "out of range in line 2"),
+    (b"-512 " + 19 * b"0 ", "out of range in line 1"),
     (b"x " + 18 * b"0 ", "not a number in line 1"),
 ]
 BAD_ROWS = [
@@ -41,9 +46,19 @@ VERDICTS = [
 # the shares of three edges of each information bit and of two of each parity bit but the last.
 NORMAL = "--group 360 --groups 90 --q 90"
 ZEROS = b"".join(b"-4 " if at % 1000 == 0 else b"10 " for at in range(64_800))
-NORMAL_SIZE = 17 + 64_800 + 8100 + 4 * (97_200 + 64_799)
+NORMAL_SIZE = 17 + 2 * 64_800 + 8100 + 4 * (97_200 + 64_799)
+
+
+def cut(values):
+    """A value file of the same codeword, cut: what is left of its last value counts, unless it is a minus alone."""
+    words = [word for word in values.split() if word != b"-"]
+    if len(words) == 20:
+        return Case("", out=f"most-likely cost {sum(min(0, int(word)) for word in words)}\n", given=values)
+    return fault("", "values: not a number in line 1" if values.endswith(b"-") else "values: too few", given=values)
+
 
 CASES = [
+    *(cut(whole[:size]) for whole in (STORED, LARGEST) for size in range(len(whole))),
     *(Case("", out=f"most-likely cost {cost}\n", given=values) for values, cost in WELL),
     *(Case(f"judge {TOY} toy values", out=f"most-likely cost {cost}\n", reads={"values": values}) for values, cost in WELL),
     *(fault("", f"values: {text}", given=values) for values, text in BAD_VALUES),

@@ -1,6 +1,7 @@
 """`rows`, `mod`, `noise`, `demod` and `run`."""
-from cases.common import ANY, LINK, LONG_ROWS, NO, ONE, PACKET, PAIR, TOY, TWO, Case, digest, ending, fault, size
+from cases.common import ANY, DIVISORS, LINK, LONG_ROWS, NO, ONE, PACKET, PAIR, TOY, TWO, Case, digest, ending, fault, size
 from cases.drawn import made_rows, spoilt
+from cases.plain_receiver import broken, checks_of, soft_value, weakened
 
 MOST_SEED = 2**64 - 1
 NONE = "end frames 0 delivered 0 packets 0 bad 0\n"
@@ -110,6 +111,9 @@ RUN = [
     run(f"{LINK} --pilots --number 7 --seed 1 --level 0 made", 0, TWO.replace("8190", "8370"), 2 * PACKET),
     run(f"{LINK} --passes 0 --seed 1 --level 500 made", NO, PARITY, 2 * PACKET),
     run(f"{LINK} --passes 96 --seed 1 --level 500 made", 0, TWO, 2 * PACKET),
+    # by the coarsest soft values, as before there were finer ones
+    run(f"{LINK} --divisor 65536 --passes 0 --seed 1 --level 500 made", NO, PARITY, 2 * PACKET),
+    run(f"{LINK} --divisor 65536 --passes 96 --seed 1 --level 500 made", 0, TWO, 2 * PACKET),
     run(f"{LINK} --rounds 200 --seed 1 --level 0 made", 0, TWO, 2 * PACKET),
     run(f"{LINK} --seed 1 --level 0 made", 0, NONE, b"", b""),
     *(
@@ -126,6 +130,35 @@ RUN = [
     fault(f"run {LINK} --seed 1 --level 0 made packets /dev/full", "cannot write"),
     fault(f"run {LINK} --seed 1 --level 0 made packets out", "cannot write", to="/dev/full", writes={"out": PACKET}),
 ]
+
+
+# A seed and a level behind which two rounds of min-sum leave another count of wrong bits by each divisor, and sizes of components
+# around those from which on a soft value is not 0.
+NOISY, WEAK = (14, 670), (1, 2, 3, 5, 6, 11, 12, 23, 24)
+
+
+def divided(two, rows):
+    """The cases of divisors over the symbols of the two packets: with noise, without, and so weak that a large divisor leaves
+    nothing of them, which is the word of zeros."""
+    checks, noisy, noise = checks_of(rows), spoilt(two, *NOISY), "--rounds 2 --seed {} --level {}".format(*NOISY)
+    lost = TWO.replace("fixed 0", "lost").replace("delivered 2 packets 2", "delivered 0 packets 0")
+    usual = broken(checks, two, noisy, DIVISORS[0], 2)
+    cases = [
+        received(noisy, NO, usual, 2 * PACKET, f"{LINK} --rounds 2 made"),
+        run(f"{LINK} {noise} made", NO, usual, 2 * PACKET),
+    ]
+    for divisor in DIVISORS:
+        words, report = f"{LINK} --divisor {divisor}", broken(checks, two, noisy, divisor, 2)
+        cases += [
+            received(two, 0, TWO, 2 * PACKET, f"{words} made"),
+            run(f"{words} --seed 1 --level 0 made", 0, TWO, 2 * PACKET),
+            received(noisy, NO, report, 2 * PACKET, f"{words} --rounds 2 made"),
+            run(f"{words} {noise} made", NO, report, 2 * PACKET),
+        ]
+        for component in WEAK:
+            ends = (0, TWO, 2 * PACKET) if soft_value((component, component), 0, divisor) else (NO, lost, b"")
+            cases.append(received(weakened(two, component), *ends, f"{words} made"))
+    return cases
 
 
 def among(two, dummies):

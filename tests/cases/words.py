@@ -1,5 +1,5 @@
 """The words of the command line, and the files that they name."""
-from cases.common import FAULT, LINK, PAIR, TOY, Case, fault, first_line
+from cases.common import DIVISORS, FAULT, LINK, PAIR, TOY, Case, fault, first_line, option
 
 HELP = """A DVB-S2 modem with maximum-likelihood certificates. \
 Without a command it judges the 20 soft values of standard input under a toy code
@@ -69,6 +69,7 @@ MISUSES = [
     ("mod --modcod 1 --dummy -1 made packets out", "error: unexpected argument '-1' found"),
     ("mod --modcod 1 --dummy x made packets out", invalid("x", "dummy <D>", "invalid digit found in string")),
     ("mod --modcod 1 --rounds 1 made packets out", "error: unexpected argument '--rounds' found"),
+    ("mod --modcod 1 --divisor 4096 made packets out", "error: unexpected argument '--divisor' found"),
     ("noise --seed 1 packets out", LACKS),
     ("noise --level 1 packets out", LACKS),
     ("noise --seed 1 --level 1 packets", LACKS),
@@ -79,8 +80,6 @@ MISUSES = [
     ("demod --modcod 1 --rounds 0 made packets out", beyond(0, "rounds <K>", 1, 200)),
     ("demod --modcod 1 --rounds 201 made packets out", beyond(201, "rounds <K>", 1, 200)),
     ("demod --modcod 1 --passes 1001 made packets out", beyond(1001, "passes <P>", 0, 1000)),
-    ("demod --modcod 1 --divisor 4095 made packets out", "error: invalid value '4095' for '--divisor <D>'"),
-    ("demod --modcod 1 --divisor 131072 made packets out", "error: invalid value '131072' for '--divisor <D>'"),
     ("demod --modcod 1 --dummy 1 made packets out", "error: unexpected argument '--dummy' found"),
     ("demod --modcod 1 --seed 1 made packets out", "error: unexpected argument '--seed' found"),
     ("run --modcod 1 --seed 1 made packets out", LACKS),
@@ -90,12 +89,15 @@ MISUSES = [
     (f"{RUN} --dummy 65536 made packets out", beyond(65536, "dummy <D>", 0, 65535)),
     (f"{RUN} --rounds 201 made packets out", beyond(201, "rounds <K>", 1, 200)),
     (f"{RUN} --passes 1001 made packets out", beyond(1001, "passes <P>", 0, 1000)),
-    (f"{RUN} --divisor x made packets out", "error: invalid value 'x' for '--divisor <D>'"),
     (f"rows {PAIR} --weight 0 --seed 1", beyond(0, "weight <W>", 1, 24)),
     (f"rows {PAIR} --weight 25 --seed 1", beyond(25, "weight <W>", 1, 24)),
     (f"rows {PAIR} --weight 1 --seed -1", "error: unexpected argument '-1' found"),
     (f"rows {PAIR} --weight 1 --seed {2**64}", invalid(2**64, "seed <S>", "number too large to fit in target type")),
 ]
+# What is no divisor, and what it is like, if anything.
+POSSIBLE = f"[possible values: {', '.join(map(str, DIVISORS))}]"
+NO_DIVISORS = [("4095", 4096), ("0", 4096), ("04096", 4096), ("x", None), ("131072", None)]
+LACKS_DIVISOR = f"error: a value is required for '--divisor <D>' but none was supplied\n  {POSSIBLE}\n{MORE}"
 ABOUTS = {
     "rows": "Prints a row file that a seed determines",
     "judge": "Decides on soft values",
@@ -104,6 +106,15 @@ ABOUTS = {
     "demod": "Receives the packets of symbols",
     "run": "Sends packets, adds noise, and receives them",
 }
+RECEIVING = ("demod --modcod 1", RUN)
+
+
+def no_divisor(command, value, like):
+    tip = f"\n  tip: a similar value exists: '{like}'\n" if like else ""
+    line = f"error: invalid value '{value}' for '--divisor <D>'\n  {POSSIBLE}\n{tip}{MORE}"
+    return Case(f"{command} --divisor {value} made packets old", FAULT, errors=line)
+
+
 # Commands that name a file that is not there, and its name.
 MISSING = [
     (f"judge {TOY} none stored", "none"),
@@ -169,6 +180,9 @@ CASES = [
     Case("check toy", FAULT, errors=NO_CERT),
     *(Case(words, FAULT, errors=f"{line}\n{MORE}") for words, line in MISUSES if " is not in " in line),
     *(Case(words, FAULT, errors=first_line(line)) for words, line in MISUSES),
+    *(no_divisor(command, *pair) for command in RECEIVING for pair in NO_DIVISORS),
+    *(Case(f"{command} made packets old --divisor", FAULT, errors=LACKS_DIVISOR) for command in RECEIVING),
+    *(Case(f"{name} --help", out=option("--divisor <D>", f" [default: 4096] {POSSIBLE}")) for name in ("demod", "run")),
     *(fault(words, f"cannot open {name}") for words, name in MISSING),
     # the certificate's file is made before the others are opened
     fault(f"judge {TOY} --cert out none stored", "cannot open none", writes={"out": b""}),

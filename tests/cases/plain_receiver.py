@@ -1,0 +1,111 @@
+"""What a receiver makes of QPSK 1/4 in short frames behind noise, worked out once more from symbols, checks and members alone:
+soft values by a divisor, and min-sum, as docs/formats.md and docs/definitions.md tell them."""
+import struct
+
+from dummy import quarter_turns
+
+FRAME, HEADER, GROUP, GROUPS, Q = 8190, 90, 360, 9, 36
+POINTS = [(i, q) for i in (700, -700) for q in (700, -700)]
+MOST_SOFT, CAP, MOST_FIXED = 511, 1023, 12
+
+
+def negative(value):
+    return min(-value, 32767)
+
+
+def turned_back(symbol, turn):
+    i, q = symbol
+    return [(i, q), (q, negative(i)), (negative(i), negative(q)), (negative(q), i)][turn]
+
+
+def payloads(symbols):
+    """The payload of each frame."""
+    frames, turns = list(struct.iter_unpack(">hh", symbols)), quarter_turns(0, FRAME - HEADER)
+    for at in range(HEADER, len(frames), FRAME):
+        yield [turned_back(*each) for each in zip(frames[at : at + FRAME - HEADER], turns)]
+
+
+def soft_value(symbol, place, divisor):
+    """The first bit of a point is the sign of I, the second that of Q."""
+    far, near = (
+        min((symbol[0] - i) ** 2 + (symbol[1] - q) ** 2 for i, q in POINTS if ((i, q)[place] < 0) == bit) for bit in (True, False)
+    )
+    value = abs(far - near) // divisor * (1 if far >= near else -1)
+    return max(-MOST_SOFT, min(MOST_SOFT, value))
+
+
+def soft_values(payload, divisor):
+    return [soft_value(symbol, place, divisor) for symbol in payload for place in (0, 1)]
+
+
+def checks_of(rows):
+    """The members of each check, of the text of a row file."""
+    checks = [{GROUP * GROUPS + j for j in (at - 1, at) if j >= 0} for at in range(GROUP * Q)]
+    for g, row in enumerate(rows.split(b"\n")[:GROUPS]):
+        for address in map(int, row.split()):
+            for bit in range(GROUP):
+                checks[(address + bit * Q) % len(checks)].add(GROUP * g + bit)
+    return [sorted(members) for members in checks]
+
+
+def odd(checks, word):
+    return [j for j, members in enumerate(checks) if sum(word[i] for i in members) % 2]
+
+
+def repaired(checks, word):
+    """The word with each bit turned that is in two checks at least, all of them odd."""
+    known, odds, alls = set(odd(checks, word)), [0] * len(word), [0] * len(word)
+    for j, members in enumerate(checks):
+        for i in members:
+            alls[i] += 1
+            odds[i] += j in known
+    return [bit ^ (count >= 2 and count == of) for bit, count, of in zip(word, odds, alls)]
+
+
+def messages(inputs):
+    """To each member what the inputs of the others make."""
+    sent = []
+    for own in range(len(inputs)):
+        others = inputs[:own] + inputs[own + 1 :]
+        least = min([CAP] + [abs(value) for value in others])
+        size = least - least // 4
+        sent.append(-size if sum(value < 0 for value in others) % 2 else size)
+    return sent
+
+
+def decisions(checks, soft, rounds):
+    """The hard decision after each round of min-sum."""
+    posteriors, sent = list(soft), [[0] * len(members) for members in checks]
+    for _ in range(rounds):
+        for layer in range(Q):
+            own = range(layer, len(checks), Q)
+            made = [messages([posteriors[i] - was for i, was in zip(checks[j], sent[j])]) for j in own]
+            for j, now in zip(own, made):
+                for i, was, message in zip(checks[j], sent[j], now):
+                    posteriors[i] += message - was
+                sent[j] = now
+        yield [value < 0 for value in posteriors]
+
+
+def broken(checks, sent, noisy, divisor, rounds):
+    """The report of frames of which no step finds a codeword, where outer coding corrects all: how many of the first bits of
+    min-sum's last decision are not those sent."""
+    lines = []
+    for number, (clean, payload) in enumerate(zip(payloads(sent), payloads(noisy))):
+        soft = soft_values(payload, divisor)
+        hard = [value < 0 for value in soft]
+        words = [hard, repaired(checks, hard), *decisions(checks, soft, rounds)]
+        fixed = sum((value < 0) != bit for value, bit in list(zip(soft_values(clean, 1), words[-1]))[: GROUP * GROUPS])
+        assert all(odd(checks, word) for word in words) and fixed <= MOST_FIXED
+        lines.append(f"frame {number + 1} at {FRAME * number} broken fixed {fixed}\n")
+    return "".join(lines) + f"end frames {len(lines)} delivered {len(lines)} packets {len(lines)} bad 0\n"
+
+
+def weakened(symbols, size):
+    """The symbols with components of this size behind the headers, in the place of 700."""
+    made = b""
+    for at in range(0, len(symbols), 4 * FRAME):
+        frame = symbols[at : at + 4 * FRAME]
+        components = struct.unpack(f">{2 * (FRAME - HEADER)}h", frame[4 * HEADER :])
+        made += frame[: 4 * HEADER] + struct.pack(f">{len(components)}h", *(size if each > 0 else -size for each in components))
+    return made
