@@ -10,6 +10,7 @@ pub mod FlatReads
 pub mod RelationLemmas
 pub mod Sums
 pub mod Parities
+pub mod Odds
 pub mod Adding
 pub mod Planing
 pub mod Lanes

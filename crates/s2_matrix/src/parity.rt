@@ -1,16 +1,16 @@
 //! The parity bits of information bits, and the parity test (EN 302 307-1, 5.3.2).
-ghost use Rattle.std.specs.Prelude.{◌≡◌, ◌≢◌, ℕ, ◌+◌, ◌*◌, ◌<◌, ◌≤◌, ◌%◌, ◌↔◌, All, IsTrue, IfSome, MatchOption, false, length, count_by};
-ghost use Rattle.s2_bits.specs.Bits.{bit_at};
+ghost use Rattle.std.specs.Prelude.{◌≡◌, ◌≢◌, ℕ, ◌+◌, ◌*◌, ◌<◌, ◌≤◌, ◌==◌, ◌%◌, ◌↔◌, All, IsTrue, IfSome, MatchOption, false, length, count_by};
+ghost use Rattle.s2_bits.specs.Bits.{xor, bit_at};
 ghost use Rattle.s2_mode.specs.Shape.{information_bits, check_count};
 ghost use Rattle.s2_mode.specs.Limits.{most_bits};
-ghost use Rattle.s2_matrix.specs.Code.{code_of, IsCodeword, IsOddCheck};
+ghost use Rattle.s2_matrix.specs.Code.{code_of, ones_in, IsCodeword, IsOddCheck};
 ghost use Rattle.s2_matrix.specs.Sums.{information_sum, parity_bit};
 ghost use Rattle.s2_matrix.specs.Planes.{plane_place};
 
 use crate::accumulator::accumulate;
 use crate::matrix::Matrix;
 use crate::planes::{add_row, part};
-use s2_bits::Bits;
+use s2_bits::{Bits, xor_first};
 use s2_mode::{MOST_BITS, MOST_GROUP};
 
 /// How many checks are looked at one by one before all are at once: bits that are far from a
@@ -64,6 +64,20 @@ fn first_difference(a: &[bool], b: &[bool]) -> Option<usize>
     None
 }
 
+/// Writes the sum of each bit and the one before it. Before the first stands none.
+fn add_neighbours(bits: &[bool], sums: &mut [bool])
+    requires some { 1 ≤ length sums.old }
+    requires same { length bits.now ≡ length sums.old }
+    ensures long { length sums.new ≡ length sums.old }
+    ensures first { bit_at sums.new 0 ≡ bit_at bits.now 0 }
+    ensures others { (k : ℕ) → k + 1 < length sums.old → bit_at sums.new (k + 1) ≡ xor (bit_at bits.now (k + 1)) (bit_at bits.now k) }
+{
+    sums[0] = bits[0];
+    for k in 1..sums.len() {
+        sums[k] = bits[k] ^ bits[k - 1];
+    }
+}
+
 /// How many of these places hold a one.
 fn ones_in(word: &[bool], places: &[u32]) -> usize
     requires { All (λ i. i < length word.now) places.now }
@@ -115,6 +129,23 @@ impl Matrix {
         let (made, _) = made.split_at_mut(parities.len());
         self.parities_into(info, made);
         first_difference(parities, made)
+    }
+
+    /// Writes which checks have an odd number of ones in n bits. `codeword` has n bits, and `odd` n - k,
+    /// which are all written. It takes no memory. A check is odd where either its own parity bit or the one before
+    /// it differs from what the information bits ask for, and the other doesn't.
+    pub fn odd_into(&self, codeword: &[bool], odd: &mut [bool])
+        requires codeword { length codeword.now ≡ (code_of self.now).bits }
+        requires odd { length odd.old ≡ (code_of self.now).checks }
+        ensures long { length odd.new ≡ length odd.old }
+        ensures are { (j : ℕ) → j < (code_of self.now).checks → bit_at odd.new j ≡ (ones_in (code_of self.now) codeword.now j % 2 == 1) }
+    {
+        let (info, parities) = codeword.split_at(self.shape().k());
+        let mut apart = [false; MOST_BITS];
+        let (apart, _) = apart.split_at_mut(parities.len());
+        self.parities_into(info, apart);
+        xor_first(apart, parities, parities.len());
+        add_neighbours(apart, odd);
     }
 
     /// The first check with an odd number of ones in n bits. `None` exactly for a codeword. It takes
