@@ -9,18 +9,21 @@ use Rattle.s2_settle.specs.Holding.{Settling}
 use Rattle.s2_judge.specs.declared.certifier.Holder.{Holder}
 use Rattle.s2_judge.specs.declared.certifier.Holder.TheVariants.{Nobody, Maker, Settler}
 
--- the rows of its matrix, how many passes of settling it runs, the codeword that it was last given, and the shares that it found for it
+-- the rows of its matrix, how many passes of settling it runs, the codeword that it was last given, the shares that it found for it,
+-- and whether they are strict
 pub record Certifying : Type 0 where
   pub rows : Rows
   pub passes : ℕ
   pub word : List Bool
   pub found : Option Shared
+  pub strict : Bool
 
 -- the shares of a settler's moves, in favour of a word
 abbrev pub settled_shares : Settling → List Bool → Shared
 settled_shares s word = record {
   scale = settling_scale;
   shares = all_shares (code_of s.rows) (placed_of (code_of s.rows) word 1 s.moves);
+  moves = s.moves;
 }
 
 -- what was found, by who holds it

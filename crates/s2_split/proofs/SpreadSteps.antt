@@ -11,8 +11,7 @@ use Rattle.s2_matrix.specs.Code.{Code, members}
 use Rattle.s2_matrix.proofs.Members.{members_below}
 use Rattle.std.proofs.lemmas.List.Folds.{list_any_none}
 use Rattle.s2_matrix.specs.Total.{upto}
-use Rattle.s2_check.specs.Moves.{no_move, most_moved}
-use Rattle.s2_check.specs.declared.step.Move.{Move}
+use Rattle.s2_check.specs.Moves.{Move, no_move, most_moved}
 use Rattle.s2_split.specs.Scattered.{least_of}
 use Rattle.s2_split.specs.Greedy.{Moved, rest_at, put}
 use Rattle.s2_split.specs.Spreading.{least_member, spread_amount, amount_to, give_back, spread_check, spread_scale}

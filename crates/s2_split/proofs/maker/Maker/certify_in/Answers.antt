@@ -2,8 +2,7 @@ use Rattle.std.proofs.Common.{length, List, Bool, sym, ap, ◌∙◌, arith, ℤ
 use Rattle.s2_rows.specs.Rows.{Rows}
 use Rattle.s2_matrix.specs.Code.{code_of}
 use Rattle.s2_check.specs.Split.{split_of}
-use Rattle.s2_check.specs.Moves.{placed_of, ArePlaced}
-use Rattle.s2_check.specs.declared.step.Move.{Move}
+use Rattle.s2_check.specs.Moves.{Move, placed_of, ArePlaced}
 use Rattle.s2_check.proofs.Lists.{refilled}
 use Rattle.s2_split.specs.Making.{Making, made_of, shared, split_in_ways, AreLeft}
 use Rattle.s2_split.proofs.Held.{copied, held_left}
@@ -23,8 +22,8 @@ returns-clause-made c =
     let moves = refilled inside.moves.len make.new.moves inside.moves.items (sym c.deref_mut-3.ensures.len ∙ ap length c.deref_mut-3.ensures.value) (omega (arith, ap length c.deref_mut-3.ensures.value)) in
     let there = ap (made_of inside.matrix.now c.copy_prefix.new.self make.result) moves in
     let here = ap (λ (w : List Bool). made_of inside.matrix.now w make.result make.new.moves) (word ∙ sym c.truths.ensures) in
-    let made = make.ensures.made ∙ ap (λ (w : List Bool). shared (code_of inside.matrix.now) (split_in_ways c.args.ways (code_of inside.matrix.now) c.args.soft.now w)) c.truths.ensures in
-    there ∙ here ∙ made ∙ ap (λ (r : Rows). shared (code_of r) (split_in_ways c.args.ways (code_of r) c.args.soft.now c.args.word.now)) rows
+    let made = make.ensures.made ∙ ap (λ (w : List Bool). shared (code_of inside.matrix.now) w (split_in_ways c.args.ways (code_of inside.matrix.now) c.args.soft.now w)) c.truths.ensures in
+    there ∙ here ∙ made ∙ ap (λ (r : Rows). shared (code_of r) c.args.word.now (split_in_ways c.args.ways (code_of r) c.args.soft.now c.args.word.now)) rows
 
 pub returns-clause-rests : goal.returns-clause-rests
 returns-clause-rests c =
