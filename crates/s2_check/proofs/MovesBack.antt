@@ -10,8 +10,8 @@ use Rattle.s2_bits.specs.Bits.{bit_at}
 use Rattle.s2_matrix.specs.Code.{Code, members}
 use Rattle.s2_matrix.specs.Total.{upto}
 use Rattle.s2_matrix.proofs.Members.{members_rising}
-use Rattle.s2_check.specs.Moves.{Move, no_move, in_favour, placed_of, ArePlaced}
-use Rattle.s2_check.specs.MovesOf.{move_of, MovesBack}
+use Rattle.s2_check.specs.Moves.{Move, no_move, in_favour, placed_of, AreTargets}
+use Rattle.s2_check.specs.MovesOf.{move_of, moves_of, MovesBack}
 use Rattle.s2_check.proofs.Places.{same_place}
 
 -- a share in favour of the word
@@ -47,32 +47,36 @@ abbrev shares_at : Code → List Bool → ℕ → List Move → ℕ → List ℤ
 shares_at code word scale ms j =
     map (λ i. in_favour word i ((placed_of code word scale ms).share j i)) (members code j)
 
-share_at : (code : Code) (word : List Bool) (scale : ℕ) (ms : List Move) (j k : ℕ) → ArePlaced code word ms → j < code.checks → k < length (members code j) → get_or (shares_at code word scale ms j) k (pos 0) ≡ signed (k == (get_or ms j no_move).place) (get_or ms j no_move).amount
+share_at : (code : Code) (word : List Bool) (scale : ℕ) (ms : List Move) (j k : ℕ) → AreTargets code ms → j < code.checks → k < length (members code j) → get_or (shares_at code word scale ms j) k (pos 0) ≡ signed (k == (get_or ms j no_move).place) (get_or ms j no_move).amount
 share_at code word scale ms j k h low within =
     let own = get_or ms j no_move in
     let i = get_or (members code j) k 0 in
     let t = get_or (members code j) own.place 0 in
-    get_or-map (λ i. in_favour word i ((placed_of code word scale ms).share j i)) (members code j) k 0 (pos 0) within ∙ favour_twice (bit_at word i) (signed (i == t) own.amount) ∙ ap (λ b. signed b own.amount) (same_place (members code j) k own.place (members_rising code j) within (h.targets j low))
+    get_or-map (λ i. in_favour word i ((placed_of code word scale ms).share j i)) (members code j) k 0 (pos 0) within ∙ favour_twice (bit_at word i) (signed (i == t) own.amount) ∙ ap (λ b. signed b own.amount) (same_place (members code j) k own.place (members_rising code j) within (h j low))
 
-move_back : (code : Code) (word : List Bool) (scale : ℕ) (ms : List Move) (j : ℕ) → ArePlaced code word ms → j < code.checks → move_of (shares_at code word scale ms j) ≡ get_or ms j no_move
-move_back code word scale ms j h low =
+move_back : (code : Code) (word : List Bool) (scale : ℕ) (ms : List Move) (j : ℕ) → AreTargets code ms → ((get_or ms j no_move).amount ≡ 0 → (get_or ms j no_move).place ≡ 0) → j < code.checks → move_of (shares_at code word scale ms j) ≡ get_or ms j no_move
+move_back code word scale ms j h unmoved low =
     let own = get_or ms j no_move in
     let xs = shares_at code word scale ms j in
-    let there = h.targets j low in
+    let there = h j low in
     let long : length xs ≡ length (members code j) = length-map (members code j) (λ i. in_favour word i ((placed_of code word scale ms).share j i)) in
     let at = λ (k : ℕ) (within : k < length (members code j)). share_at code word scale ms j k h low within in
     let size = ap unsigned_abs (at 0 (omega (arith, there))) ∙ size_of (0 == own.place) own.amount in
-    move_is xs own size (h.unmoved j) (λ some. position_or_len_is (λ x. int_lt x (pos 0)) xs own.place (pos 0) (omega (arith, there, long)) (λ k less. ap (λ x. int_lt x (pos 0)) (at k (omega (arith, there, less))) ∙ below (k == own.place) own.amount some ∙ ne_eqb k own.place (λ same. omega (arith, same, less))) (λ within. ap (λ x. int_lt x (pos 0)) (at own.place there) ∙ below (own.place == own.place) own.amount some ∙ eq-eqb own.place own.place refl))
+    move_is xs own size unmoved (λ some. position_or_len_is (λ x. int_lt x (pos 0)) xs own.place (pos 0) (omega (arith, there, long)) (λ k less. ap (λ x. int_lt x (pos 0)) (at k (omega (arith, there, less))) ∙ below (k == own.place) own.amount some ∙ ne_eqb k own.place (λ same. omega (arith, same, less))) (λ within. ap (λ x. int_lt x (pos 0)) (at own.place there) ∙ below (own.place == own.place) own.amount some ∙ eq-eqb own.place own.place refl))
 
-pub moves_back : MovesBack
-moves_back code word scale ms h =
+-- of moves to members, to place 0 where nothing is moved
+pub moves_listed : (code : Code) (word : List Bool) (scale : ℕ) (ms : List Move) → length ms ≡ code.checks → AreTargets code ms → ((j : ℕ) → j < code.checks → (get_or ms j no_move).amount ≡ 0 → (get_or ms j no_move).place ≡ 0) → moves_of code word (placed_of code word scale ms) ≡ ms
+moves_listed code word scale ms all h unmoved =
     let f = λ (j : ℕ). move_of (shares_at code word scale ms j) in
     let n = code.checks in
     let long : length (map f (upto n)) ≡ n = length-map (upto n) f ∙ length-range_with_len 0 n in
-    same_lists (map f (upto n)) ms (long ∙ sym h.moves_long) (λ k d within. (
+    same_lists (map f (upto n)) ms (long ∙ sym all) (λ k d within. (
     let low : k < n = omega (arith, within, long) in
     let listed : k < length (upto n) = omega (arith, low, length-range_with_len 0 n) in
     let place : get_or (upto n) k 0 ≡ k = omega (arith, get_or-range_with_len 0 n k 0 low) in
-    let there : k < length ms = omega (arith, low, h.moves_long) in
-    get_or-map f (upto n) k 0 d listed ∙ ap f place ∙ move_back code word scale ms k h low ∙ get_or_default ms k no_move d there
+    let there : k < length ms = omega (arith, low, all) in
+    get_or-map f (upto n) k 0 d listed ∙ ap f place ∙ move_back code word scale ms k h (unmoved k low) low ∙ get_or_default ms k no_move d there
     ))
+
+pub moves_back : MovesBack
+moves_back code word scale ms h = moves_listed code word scale ms h.moves_long h.targets (λ j low. h.unmoved j)

@@ -1,11 +1,12 @@
 -- Certificates that are found for codewords.
-use Rattle.std.proofs.Common.{◌≡◌, ◌≢◌, ◌↔◌, IsTrue, ℕ, ◌==◌, Bool, true, false, cond, List, ℤ, pos, ◌≤ℤ◌, Option, None, Some, IfSome, inl, inr, refl, sym, ap, ap₂, subst, ◌∙◌}
+use Rattle.std.proofs.Common.{◌≡◌, ◌≢◌, ◌↔◌, IsTrue, ℕ, ◌<◌, ◌==◌, Bool, true, false, cond, List, ℤ, pos, ◌≤ℤ◌, Option, None, Some, IfSome, inl, inr, refl, sym, ap, subst, ◌∙◌}
 use Rattle.std.proofs.lemmas.Bool.{cases_Bool, both_ways}
 use Rattle.s2_rows.specs.Rows.{Rows}
 use Rattle.s2_matrix.specs.Code.{code_of, IsCodeword}
 use Rattle.s2_check.specs.Views.{View}
 use Rattle.s2_check.specs.Checking.{IsCertificate}
-use Rattle.s2_check.specs.Split.{split_of}
+use Rattle.s2_check.specs.Moves.{in_favour, placed_of}
+use Rattle.s2_check.proofs.BoundListed.{rest_listed}
 use Rattle.s2_check.specs.Strict.{IsStrict}
 use Rattle.s2_split.specs.Scattered.{repaired, IsScattered}
 use Rattle.s2_split.specs.Making.{Making, Shared, AreLeft, AreSome, HoldsRests, shared, shared_view, shared_views, made_view, greedy_view}
@@ -100,32 +101,33 @@ pub by_nobody : (r : Rows) (passes : ℕ) (soft : List ℤ) (word : List Bool) (
 by_nobody r passes soft word made some made_is none is =
     with_passes r passes soft word some ∙ ap (λ o. or_else (shared_views r soft word o) (settled r soft word passes)) (sym made_is ∙ none) ∙ is
 
-settled_same : (r : Rows) (soft : List ℤ) (word held : List Bool) (settler : Settling) → settler.rows ≡ r → held ≡ word → view_settled settler soft word ≡ shared_view r soft word (settled_shares settler held)
-settled_same r soft word held settler rows same =
-    ap₂ (λ (q : Rows) (w : List Bool). shared_view q soft word (settled_shares settler w)) rows (sym same)
+settled_same : (r : Rows) (soft : List ℤ) (word : List Bool) (settler : Settling) → settler.rows ≡ r → view_settled settler soft word ≡ shared_view r soft word (settled_shares settler)
+settled_same r soft word settler rows = ap (λ (q : Rows). shared_view q soft word (settled_shares settler)) rows
 
 -- whether what a settler holds is strict
-pub strict_settled : (r : Rows) (soft : List ℤ) (word held : List Bool) (settler : Settling) → settler.rows ≡ r → held ≡ word → IsCertificate r (view_settled settler soft word) → (IsTrue settler.strict ↔ IsStrict r (view_settled settler soft word)) → is_strict r (shared_view r soft word (settled_shares settler held)) ≡ settler.strict
-strict_settled r soft word held settler rows same accepted says =
+pub strict_settled : (r : Rows) (soft : List ℤ) (word : List Bool) (settler : Settling) → settler.rows ≡ r → IsCertificate r (view_settled settler soft word) → (IsTrue settler.strict ↔ IsStrict r (view_settled settler soft word)) → is_strict r (shared_view r soft word (settled_shares settler)) ≡ settler.strict
+strict_settled r soft word settler rows accepted says =
     let view = view_settled settler soft word in
-    ap (is_strict r) (sym (settled_same r soft word held settler rows same)) ∙ strict_is r view settler.strict (λ yes'. (says.0 yes').strict, λ strict. says.1 (record { certificate = accepted; strict = strict }))
+    ap (is_strict r) (sym (settled_same r soft word settler rows)) ∙ strict_is r view settler.strict (λ yes'. (says.0 yes').strict, λ strict. says.1 (record { certificate = accepted; strict = strict }))
 
 -- whether what a maker holds is, by its rests
 pub strict_made : (r : Rows) (soft : List ℤ) (word : List Bool) (m : Making) (b : Bool) → m.rows ≡ r → HoldsRests m soft word → (IsTrue b ↔ AreSome (code_of m.rows) m.rests) → IfSome m.made (λ s. is_strict r (shared_view r soft word s) ≡ b)
 strict_made r soft word m b rows left says =
     subst (λ (q : Rows). IfSome m.made (λ s. is_strict q (shared_view q soft word s) ≡ b)) rows (go m.made left)
   where
-    go : (o : Option Shared) → IfSome o (λ s. AreLeft (code_of m.rows) soft word (split_of (code_of m.rows) s.scale s.shares) m.rests) → IfSome o (λ s. is_strict m.rows (shared_view m.rows soft word s) ≡ b)
+    go : (o : Option Shared) → IfSome o (λ s. AreLeft (code_of m.rows) soft word (placed_of (code_of m.rows) word s.scale s.moves) m.rests) → IfSome o (λ s. is_strict m.rows (shared_view m.rows soft word s) ≡ b)
     go None h = tt
-    go (Some s) h = strict_is m.rows (shared_view m.rows soft word s) b (λ yes' i low. subst (λ (z : ℤ). pos 1 ≤ℤ z) (h i low) (says.0 yes' i low), λ strict. says.1 (λ i low. subst (λ (z : ℤ). pos 1 ≤ℤ z) (sym (h i low)) (strict i low)))
+    go (Some s) h =
+        let at = λ (i : ℕ) (low : i < (code_of m.rows).bits). h i low ∙ ap (in_favour word i) (sym (rest_listed (code_of m.rows) soft (placed_of (code_of m.rows) word s.scale s.moves) i low)) in
+        strict_is m.rows (shared_view m.rows soft word s) b (λ yes' i low. subst (λ (z : ℤ). pos 1 ≤ℤ z) (at i low) (says.0 yes' i low), λ strict. says.1 (λ i low. subst (λ (z : ℤ). pos 1 ≤ℤ z) (sym (at i low)) (strict i low)))
 
 -- the settler, where greedy amounts don't reach
-pub by_settler : (r : Rows) (passes : ℕ) (soft : List ℤ) (word held : List Bool) (made : Option Shared) (settler : Settling) → (passes == 0) ≡ false → made ≡ shared (code_of r) word (greedy_split (code_of r) soft word) → made ≡ None → settler.rows ≡ r → held ≡ word → settled r soft word passes ≡ Some (view_settled settler soft word) → view_for r passes soft word ≡ shared_views r soft word (Some (settled_shares settler held))
-by_settler r passes soft word held made settler some made_is none rows same is =
+pub by_settler : (r : Rows) (passes : ℕ) (soft : List ℤ) (word : List Bool) (made : Option Shared) (settler : Settling) → (passes == 0) ≡ false → made ≡ shared (code_of r) word (greedy_split (code_of r) soft word) → made ≡ None → settler.rows ≡ r → settled r soft word passes ≡ Some (view_settled settler soft word) → view_for r passes soft word ≡ shared_views r soft word (Some (settled_shares settler))
+by_settler r passes soft word made settler some made_is none rows is =
     with_passes r passes soft word some
     ∙ ap (λ o. or_else (shared_views r soft word o) (settled r soft word passes)) (sym made_is ∙ none)
     ∙ is
-    ∙ ap Some (settled_same r soft word held settler rows same)
+    ∙ ap Some (settled_same r soft word settler rows)
 
 -- what a certifier, unchanged before, finds for the repair
 pub view_by_certifier : (soft : List ℤ) (word : List Bool) (before start : Certifying) (found : Option Shared) → word ≡ repaired (code_of start.rows) soft → before ≡ start → view_for before.rows before.passes soft word ≡ shared_views before.rows soft word found → view_for start.rows start.passes soft (repaired (code_of start.rows) soft) ≡ shared_views start.rows soft word found

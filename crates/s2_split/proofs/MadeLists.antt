@@ -6,7 +6,7 @@ use Rattle.s2_matrix.specs.Total.{upto}
 use Rattle.s2_matrix.specs.Code.{Code, members, checks_of}
 use Rattle.s2_matrix.proofs.Totals.{total-zero, total-same}
 use Rattle.s2_matrix.proofs.Members.{upto_below}
-use Rattle.s2_check.specs.Moves.{Move, in_favour, moves, no_move, placed_of, listed, all_shares, ArePlaced}
+use Rattle.s2_check.specs.Moves.{Move, in_favour, moves, no_move, placed_of, listed, all_shares}
 use Rattle.s2_check.specs.MovesOf.{move_of, moves_of}
 use Rattle.s2_check.specs.Split.{Split}
 use Rattle.s2_split.specs.Making.{shared, AreLeft}
@@ -23,9 +23,8 @@ use Rattle.s2_split.proofs.FittingLemmas.{none_given'}
 use Rattle.s2_split.proofs.Shifts.{given, scaled_rest}
 use Rattle.s2_check.proofs.BoundListed.{check_at, map-same_in, total-same_in}
 use Rattle.s2_check.proofs.MovedBound.{amount_at}
-use Rattle.s2_check.proofs.MovesBack.{moves_back}
+use Rattle.s2_check.proofs.MovesBack.{moves_listed}
 use Rattle.s2_split.proofs.Steps.{held_as}
-use Rattle.s2_split.proofs.Held.{kept_placed}
 
 listed_same : (f g : ℕ → List ℤ) (js : List ℕ) → All (λ j. f j ≡ g j) js → listed f js ≡ listed g js
 listed_same f g [] h = refl
@@ -62,20 +61,15 @@ maps_same f g [] h = refl
 maps_same f g (j ∷ js) h =
     ap₂ ◌∷◌ (All-head (λ k. f k ≡ g k) j js h) (maps_same f g js (All-tail (λ k. f k ≡ g k) j js h))
 
--- and the moves that they are, are the list
-same_moves : (code : Code) (word : List Bool) (s : ℕ) (m : Moved) (ms : List Move) → ArePlaced code word ms → AreHeldMoves code m ms → moves_of code word (moves word s m.target m.amount) ≡ ms
-same_moves code word s m ms placed h =
+-- and these are the list
+pub same_moves : (code : Code) (word : List Bool) (s : ℕ) (m : Moved) (ms : List Move) → AreHeldMoves code m ms → moves_of code word (moves word s m.target m.amount) ≡ ms
+same_moves code word s m ms h =
     let f = λ (j i : ℕ). in_favour word i ((moves word s m.target m.amount).share j i) in
     let g = λ (j i : ℕ). in_favour word i ((placed_of code word s ms).share j i) in
     maps_same (λ j. move_of (map (f j) (members code j))) (λ j. move_of (map (g j) (members code j))) (upto code.checks) (λ k d within. (
     let j = get_or (upto code.checks) k d in
     ap move_of (map-same_in (f j) (g j) (members code j) (λ k' d' _. (let i = get_or (members code j) k' d' in ap (in_favour word i) (same_share code word s m ms j i (h.each j (upto_below code.checks k d within))))))
-    )) ∙ moves_back code word s ms placed
-
--- what is shared of moves that a list holds
-shared_moves : (code : Code) (soft : List ℤ) (word : List Bool) (s : ℕ) (m : Moved) (rests : List ℤ) (ms : List Move) → length word ≡ code.bits → AreKept code soft word s m rests ms → shared code word (Some (moves word s m.target m.amount)) ≡ Some (record { scale = s; shares = all_shares code (placed_of code word 1 ms); moves = ms })
-shared_moves code soft word s m rests ms long kept =
-    ap₂ (λ (l : List ℤ) (own : List Move). Some (record { scale = s; shares = l; moves = own })) (same_shares code word s m ms kept.held) (same_moves code word s m ms (kept_placed code soft word s m rests ms long kept) kept.held)
+    )) ∙ moves_listed code word s ms h.long (λ j low. (h.each j low).place) (λ j low none. (h.each j low).unmoved (sym (h.each j low).amount_is ∙ none))
 
 -- the moves of a list
 abbrev placed_moves : Code → List Move → Moved
@@ -144,22 +138,22 @@ start_low soft word rests range long are k =
 
 -- ---- how the two ways end
 
-shared_if : (code : Code) (word : List Bool) (b : Bool) (split : Split) (other : Option Split) → b ≡ true → shared code word (cond b (Some split) other) ≡ shared code word (Some split)
+shared_if : (code : Code) (word : List Bool) (b : Bool) (split : Split) (other : Option Split) → b ≡ true → shared code word (cond b (Some split) other) ≡ Some (record { scale = split.scale; moves = moves_of code word split })
 shared_if code word b split other e = ap (λ t. shared code word (cond t (Some split) other)) e
 
 shared_else : (code : Code) (word : List Bool) (b : Bool) (split : Split) (other : Option Split) → b ≡ false → shared code word (cond b (Some split) other) ≡ shared code word other
 shared_else code word b split other e = ap (λ t. shared code word (cond t (Some split) other)) e
 
-pub shared_greedy : (code : Code) (soft : List ℤ) (word : List Bool) (rests : List ℤ) (ms : List Move) (other : Option Split) → length word ≡ code.bits → AreKept code soft word 1 (greedy code soft word) rests ms → has_no_negative_rest code soft word 1 (greedy code soft word) ≡ true → Some (record { scale = 1; shares = all_shares code (placed_of code word 1 ms); moves = ms }) ≡ shared code word (cond (has_no_negative_rest code soft word 1 (greedy code soft word)) (Some (moves word 1 (greedy code soft word).target (greedy code soft word).amount)) other)
-shared_greedy code soft word rests ms other long kept h =
+pub shared_greedy : (code : Code) (soft : List ℤ) (word : List Bool) (rests : List ℤ) (ms : List Move) (other : Option Split) → AreKept code soft word 1 (greedy code soft word) rests ms → has_no_negative_rest code soft word 1 (greedy code soft word) ≡ true → Some (record { scale = 1; moves = ms }) ≡ shared code word (cond (has_no_negative_rest code soft word 1 (greedy code soft word)) (Some (moves word 1 (greedy code soft word).target (greedy code soft word).amount)) other)
+shared_greedy code soft word rests ms other kept h =
     let g = greedy code soft word in
-    sym (shared_if code word (has_no_negative_rest code soft word 1 g) (moves word 1 g.target g.amount) other h ∙ shared_moves code soft word 1 g rests ms long kept)
+    sym (shared_if code word (has_no_negative_rest code soft word 1 g) (moves word 1 g.target g.amount) other h ∙ ap (λ (l : List Move). Some (record { scale = 1; moves = l })) (same_moves code word 1 g ms kept.held))
 
-pub made_spread : (code : Code) (soft : List ℤ) (word : List Bool) (found : Bool) (rests : List ℤ) (ms : List Move) → length word ≡ code.bits → Ends code soft word (spread code soft word most_passes none_moved) found rests ms → has_no_negative_rest code soft word 1 (greedy code soft word) ≡ false → cond found (Some (record { scale = spread_scale; shares = all_shares code (placed_of code word 1 ms); moves = ms })) None ≡ shared code word (made_split code soft word)
-made_spread code soft word found rests ms long ends h =
+pub made_spread : (code : Code) (soft : List ℤ) (word : List Bool) (found : Bool) (rests : List ℤ) (ms : List Move) → Ends code soft word (spread code soft word most_passes none_moved) found rests ms → has_no_negative_rest code soft word 1 (greedy code soft word) ≡ false → cond found (Some (record { scale = spread_scale; moves = ms })) None ≡ shared code word (made_split code soft word)
+made_spread code soft word found rests ms ends h =
     let g = greedy code soft word in
     go (spread code soft word most_passes none_moved) ends ∙ sym (shared_else code word (has_no_negative_rest code soft word 1 g) (moves word 1 g.target g.amount) (split_by word spread_scale (spread code soft word most_passes none_moved)) h)
   where
-    go : (o : Option Moved) → Ends code soft word o found rests ms → cond found (Some (record { scale = spread_scale; shares = all_shares code (placed_of code word 1 ms); moves = ms })) None ≡ shared code word (split_by word spread_scale o)
-    go None e = ap (λ b. cond b (Some (record { scale = spread_scale; shares = all_shares code (placed_of code word 1 ms); moves = ms })) None) e
-    go (Some m) e = ap (λ b. cond b (Some (record { scale = spread_scale; shares = all_shares code (placed_of code word 1 ms); moves = ms })) None) e.0 ∙ sym (shared_moves code soft word spread_scale m rests ms long e.1)
+    go : (o : Option Moved) → Ends code soft word o found rests ms → cond found (Some (record { scale = spread_scale; moves = ms })) None ≡ shared code word (split_by word spread_scale o)
+    go None e = ap (λ b. cond b (Some (record { scale = spread_scale; moves = ms })) None) e
+    go (Some m) e = ap (λ b. cond b (Some (record { scale = spread_scale; moves = ms })) None) e.0 ∙ ap (λ (l : List Move). Some (record { scale = spread_scale; moves = l })) (sym (same_moves code word spread_scale m ms e.1.held))

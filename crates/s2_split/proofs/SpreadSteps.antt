@@ -65,7 +65,7 @@ least_here f P b (x ∷ xs) here all =
     either true = All-head P x xs all
     either false = here
 
-least_holds : (f : ℕ → ℤ) (P : ℕ → Type 0) (xs : List ℕ) → 1 ≤ length xs → All P xs → P (least_member f xs)
+pub least_holds : (f : ℕ → ℤ) (P : ℕ → Type 0) (xs : List ℕ) → 1 ≤ length xs → All P xs → P (least_member f xs)
 least_holds f P [] some all = absurd (omega arith)
 least_holds f P (x ∷ xs) some all = least_here f P x xs (All-head P x xs all) (All-tail P x xs all)
 

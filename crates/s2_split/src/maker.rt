@@ -46,7 +46,7 @@ impl<'a> Model for Maker<'a> {
 
     ghost Value = { Making };
 
-    ghost view = { λ m. record { rows = m.matrix.now; word = m.word; made = made_of m.matrix.now m.word m.scale m.moves.items; rests = m.rests.items } };
+    ghost view = { λ m. record { rows = m.matrix.now; word = m.word; made = made_of m.scale m.moves.items; rests = m.rests.items } };
 
     ghost invariant = { λ m. IsMaker m.matrix.now m.word m.scale m.rests.items m.negatives.items m.moves.items m.odd.items };
 }

@@ -40,7 +40,7 @@ returns-then-certify-clause-view c =
     let none = found_nothing greedy.result greedy.new.self.made greedy.ensures.found c.if-certify_greedily.false in
     let view = view_settled settler soft word in
     let is = ap (λ (q : Rows). settled q soft word passes) (sym c.requires.settler) ∙ c.certify.ensures.is ∙ ap (λ b. cond b (Some view) None) c.if-certify.true in
-    by_settler r passes soft word greedy.new.self.word greedy.new.self.made settler (ne_eqb passes 0 c.if-passes-eq0.false) greedy.ensures.made none (c.certify.ensures.rows ∙ c.requires.settler) greedy.ensures.word is
+    by_settler r passes soft word greedy.new.self.made settler (ne_eqb passes 0 c.if-passes-eq0.false) greedy.ensures.made none (c.certify.ensures.rows ∙ c.requires.settler) is
 
 pub returns-clause-view : goal.returns-clause-view
 returns-clause-view c =
@@ -74,4 +74,4 @@ returns-then-certify-clause-strict c =
     let rows = c.requires.settler in
     let accepted = subst (λ (q : Rows). IsCertificate q view) rows (c.certify.ensures.accepted c.if-certify.true) in
     let strict = subst (λ (q : Rows). IsTrue settler.strict ↔ IsStrict q view) rows (c.certify.ensures.strict c.if-certify.true) in
-    strict_settled r soft word c.certify_greedily.new.self.word settler (c.certify.ensures.rows ∙ rows) c.certify_greedily.ensures.word accepted strict ∙ sym c.is_strict.ensures
+    strict_settled r soft word settler (c.certify.ensures.rows ∙ rows) accepted strict ∙ sym c.is_strict.ensures
