@@ -84,6 +84,12 @@ static void make_soft(void) {
 
 /* ---- 5.3: both codes */
 
+static int none_is_zero(void) {
+    for (int i = 0; i < n; i++)
+        if (soft[i] == 0) return 0;
+    return 1;
+}
+
 static int is_codeword(void) {
     for (int i = 0; i < n; i++) word[i] = soft[i] < 0;
     memset(sums, 0, (size_t)(n - k));
@@ -215,7 +221,7 @@ int main(int argc, char **argv) {
         }
         frames++;
         printf("frame %llu at %llu %s %s\n", (unsigned long long)frames, (unsigned long long)at,
-               likely ? "most-likely" : "broken", count >= 0 ? "fixed 0" : "lost");
+               !likely ? "broken" : none_is_zero() ? "sole" : "most-likely", count >= 0 ? "fixed 0" : "lost");
         at += (uint64_t)frame_symbols;
     }
     printf("end frames %llu delivered %llu packets %llu bad %llu\n", (unsigned long long)frames, (unsigned long long)delivered,

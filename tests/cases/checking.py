@@ -1,26 +1,38 @@
 """`check`."""
-from cases.common import HEAD, NO, STORED_CERTIFICATE, WRONG_CERTIFICATE, Case, fault
+from cases.common import HEAD, NO, STORED_CERTIFICATE, STORED_MOVED, WRONG_CERTIFICATE, WRONG_MOVED, Case, fault
 
 
 def with_byte(at, byte):
     return WRONG_CERTIFICATE[:at] + bytes([byte]) + WRONG_CERTIFICATE[at + 1 :]
 
 
+def pair(place, amount):
+    """Of two bits that are to be the same, values -5 and 3, scale 2: so much is moved to the bit at a place."""
+    front = bytes.fromhex("53324D4C 02 0001 0001 0001 0002 FFFB 0003 C0")
+    return front + place.to_bytes(2, "big") + amount.to_bytes(4, "big")
+
+
+# Moves of the pair, and what comes of them.
+PAIRS = [(1, 7, 0, "sole cost -2\n"), (1, 6, 0, "yes cost -2\n"), (1, 5, NO, "no bound\n"), (2, 7, NO, "no shape\n")]
 # Certificates under the toy rows, and what comes of them.
 ANSWERS = [
     (WRONG_CERTIFICATE, 0, "yes cost 0\n"),
-    (STORED_CERTIFICATE, 0, "yes cost -45\n"),
+    (STORED_CERTIFICATE, 0, "sole cost -45\n"),
+    (WRONG_MOVED, 0, "yes cost 0\n"),
+    (STORED_MOVED, 0, "sole cost -45\n"),
     (with_byte(16, 0x2E)[:244], NO, "no shape\n"),
     (with_byte(57, 0x80), NO, "no check 0\n"),
     (with_byte(67, 3), NO, "no bound\n"),
     # soft value 0, of a bit that is 1, speaks for 0, so that the word costs more than the shares prove
     (STORED_CERTIFICATE[:17] + b"\x00\x05" + STORED_CERTIFICATE[19:], NO, "no bound\n"),
     # soft value 0 is the least, and soft value 1, of a bit that is 0, the largest
-    (STORED_CERTIFICATE[:17] + b"\xFE\x01\x01\xFF" + STORED_CERTIFICATE[21:], 0, "yes cost -551\n"),
+    (STORED_CERTIFICATE[:17] + b"\xFE\x01\x01\xFF" + STORED_CERTIFICATE[21:], 0, "sole cost -551\n"),
 ]
 FAULTS = [
     (with_byte(0, 0x54), "magic"),
-    (b"S2ML\x02", "magic"),
+    (b"S2ML\x03", "magic"),
+    (b"S2ML\x02", "cut"),
+    (WRONG_MOVED + b"\x00", "extra"),
     (b"", "cut"),
     (b"S2ML\x01", "cut"),
     # a byte a value
@@ -50,8 +62,8 @@ KEPT = range(20, 57, 2)
 OTHER_Q = with_byte(10, 4)[:17] + bytes(2 * 24 + 3 + 188)
 
 
-def checked(certificate, code, line):
-    return Case("check toy out", code, line, reads={"out": certificate})
+def checked(certificate, code, line, rows="toy"):
+    return Case(f"check {rows} out", code, line, reads={"out": certificate})
 
 
 def refused(certificate, text, rows="toy"):
@@ -60,7 +72,10 @@ def refused(certificate, text, rows="toy"):
 
 CASES = [
     *(checked(*answer) for answer in ANSWERS),
+    *(checked(pair(place, amount), code, line, "pair") for place, amount, code, line in PAIRS),
+    *(refused(pair(1, amount), "range", "pair") for amount in (0, 1 << 31)),
     *(refused(*answer) for answer in FAULTS),
+    *(refused(whole[:size], "cut") for whole in (WRONG_MOVED, STORED_MOVED) for size in range(128)),
     *(refused(with_byte(at, WRONG_CERTIFICATE[at] ^ 0x80), text) for places, text in ALTERED for at in places),
     *(checked(with_byte(at, WRONG_CERTIFICATE[at] ^ 0x80), NO, line) for places, line in DENIED for at in places),
     *(checked(with_byte(at, WRONG_CERTIFICATE[at] ^ 0x80), 0, "yes cost 0\n") for at in KEPT),

@@ -22,9 +22,19 @@ STORED_CERTIFICATE += bytes.fromhex("80F0F0") + bytes(188)
 WRONG_CERTIFICATE = HEAD + bytes.fromhex("FFFC") + 19 * bytes.fromhex("000A") + bytes(3)
 WRONG_CERTIFICATE += bytes.fromhex("FFFFFFFC 00000004 00000004") + bytes(176)
 
+
+
+def moved(certificate, amount):
+    """A certificate as version 2, in which check 0 moves so much to its first member."""
+    front = certificate[:4] + b"\x02" + certificate[5:13] + certificate[17:60]
+    return front + bytes(2) + amount.to_bytes(4, "big") + bytes(66)
+
+
+STORED_MOVED, WRONG_MOVED = moved(STORED_CERTIFICATE, 0), moved(WRONG_CERTIFICATE, 4)
+
 PACKET = b"\x47" + bytes(187)
-ONE = "frame 1 at 0 most-likely fixed 0\n"
-TWO = ONE + "frame 2 at 8190 most-likely fixed 0\nend frames 2 delivered 2 packets 2 bad 0\n"
+ONE = "frame 1 at 0 sole fixed 0\n"
+TWO = ONE + "frame 2 at 8190 sole fixed 0\nend frames 2 delivered 2 packets 2 bad 0\n"
 
 
 @dataclass(frozen=True)

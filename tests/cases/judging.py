@@ -1,21 +1,21 @@
 """`judge`, and the program without a command."""
-from cases.common import CHAIN, FAULT, NO, PAIR, STORED, STORED_CERTIFICATE, TOY, WRONG, WRONG_CERTIFICATE, Case, fault, size
+from cases.common import CHAIN, FAULT, NO, PAIR, STORED, STORED_MOVED, TOY, WRONG, WRONG_MOVED, Case, fault, size
 
-LIKELY = "most-likely cost -45\n"
+LIKELY, SOLE = "most-likely", "sole"
 # The stored values with sizes of 511.
 LARGEST = STORED.replace(b"5", b"511").replace(b"7", b"511")
-# Value files under the toy code, and what they cost.
+# Value files under the toy code, what they cost, and what `judge` says; the program without a command says most likely of all.
 WELL = [
-    (STORED, -45),
-    (20 * b"10 ", 0),
-    (20 * b"0 ", 0),
-    (WRONG, 0),
-    (b"-4 10 10 10 1 1 1 " + 13 * b"10 ", 0),
-    (b"# all\n" + 10 * b"0 " + b"\r\n" + 10 * b"0 ", 0),
-    (b"\t-05 007" + STORED[4:], -45),
-    (20 * b"64 ", 0),
-    (20 * b"511 ", 0),
-    (LARGEST, -9 * 511),
+    (STORED, -45, SOLE),
+    (20 * b"10 ", 0, SOLE),
+    (20 * b"0 ", 0, LIKELY),
+    (WRONG, 0, LIKELY),
+    (b"-4 10 10 10 1 1 1 " + 13 * b"10 ", 0, LIKELY),
+    (b"# all\n" + 10 * b"0 " + b"\r\n" + 10 * b"0 ", 0, LIKELY),
+    (b"\t-05 007" + STORED[4:], -45, SOLE),
+    (20 * b"64 ", 0, SOLE),
+    (20 * b"511 ", 0, SOLE),
+    (LARGEST, -9 * 511, SOLE),
 ]
 BAD_VALUES = [
     (19 * b"0 ", "too few"),
@@ -43,10 +43,10 @@ VERDICTS = [
     (CHAIN, "chain", b"1 0 -3 0", NO, "parity cost 0\n"),
 ]
 # A normal frame of zeros, of whose decisions each thousandth is wrong. Its certificate has a header, 64800 values, the word, and
-# the shares of three edges of each information bit and of two of each parity bit but the last.
+# a move for each of 32400 checks.
 NORMAL = "--group 360 --groups 90 --q 90"
 ZEROS = b"".join(b"-4 " if at % 1000 == 0 else b"10 " for at in range(64_800))
-NORMAL_SIZE = 17 + 2 * 64_800 + 8100 + 4 * (97_200 + 64_799)
+NORMAL_SIZE = 13 + 2 * 64_800 + 8100 + 6 * 32_400
 
 
 def cut(values):
@@ -59,8 +59,8 @@ def cut(values):
 
 CASES = [
     *(cut(whole[:size]) for whole in (STORED, LARGEST) for size in range(len(whole))),
-    *(Case("", out=f"most-likely cost {cost}\n", given=values) for values, cost in WELL),
-    *(Case(f"judge {TOY} toy values", out=f"most-likely cost {cost}\n", reads={"values": values}) for values, cost in WELL),
+    *(Case("", out=f"most-likely cost {cost}\n", given=values) for values, cost, _ in WELL),
+    *(Case(f"judge {TOY} toy values", out=f"{word} cost {cost}\n", reads={"values": values}) for values, cost, word in WELL),
     *(fault("", f"values: {text}", given=values) for values, text in BAD_VALUES),
     *(fault(f"judge {TOY} toy values", f"values: {text}", reads={"values": values}) for values, text in BAD_VALUES),
     *(fault(f"judge {TOY} rows odd", f"rows: {text}", reads={"rows": rows}) for rows, text in BAD_ROWS),
@@ -71,10 +71,10 @@ CASES = [
     fault(f"judge {TOY} toy .", "cannot read"),
     fault(f"judge {TOY} . values", "cannot read", reads={"values": STORED}),
     # certificates
-    Case(f"judge {TOY} --cert out toy stored", out=LIKELY, writes={"out": STORED_CERTIFICATE}),
-    Case(f"judge {TOY} --passes 96 toy stored", out=LIKELY),
-    Case(f"judge {TOY} --passes 96 --cert old toy stored", out=LIKELY, writes={"old": STORED_CERTIFICATE}),
-    Case(f"judge {TOY} --cert out toy wrong", out="most-likely cost 0\n", writes={"out": WRONG_CERTIFICATE}),
+    Case(f"judge {TOY} --cert out toy stored", out="sole cost -45\n", writes={"out": STORED_MOVED}),
+    Case(f"judge {TOY} --passes 96 toy stored", out="sole cost -45\n"),
+    Case(f"judge {TOY} --passes 96 --cert old toy stored", out="sole cost -45\n", writes={"old": STORED_MOVED}),
+    Case(f"judge {TOY} --cert out toy wrong", out="most-likely cost 0\n", writes={"out": WRONG_MOVED}),
     Case(
         f"judge {NORMAL} --cert out normal values",
         out="most-likely cost 0\n",
@@ -91,5 +91,5 @@ CASES = [
     # input and output that fail
     fault("", "cannot read", given="."),
     *(fault(words, "cannot write", to="/dev/full") for words in ("", f"judge {TOY} toy stored")),
-    fault(f"judge {TOY} --cert out toy stored", "cannot write", to="/dev/full", writes={"out": STORED_CERTIFICATE}),
+    fault(f"judge {TOY} --cert out toy stored", "cannot write", to="/dev/full", writes={"out": STORED_MOVED}),
 ]

@@ -164,7 +164,7 @@ def divided(two, rows):
 def among(two, dummies):
     """The cases of dummy frames among the two packets' frames, by another program's dummy frames, one of each TYPE."""
     one, other, dummy = two[:32_760], two[32_760:], dummies[0]
-    line, end = "frame {} at {} most-likely fixed 0\n", "end frames 2 delivered 2 packets {} bad 0\n"
+    line, end = "frame {} at {} sole fixed 0\n", "end frames 2 delivered 2 packets {} bad 0\n"
     later = TWO.replace("8190", "11520")
     behind_all = line.format(1, 4 * 3330) + line.format(2, 8 * 3330 + 8190) + end.format(2)
     sent_so = [(1, one + dummy + other + dummy), (2, two + dummy), (3, two), (65_535, two)]

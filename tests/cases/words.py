@@ -189,7 +189,7 @@ CASES = [
     *(fault(words, text) for words, text in REFUSED),
     *(fault(words, "file too long", writes=left) for words, left in ENDLESS),
     fault("", "file too long", given="/dev/zero"),
-    Case(f"judge {TOY} longest stored", out="most-likely cost -45\n", reads={"longest": LONGEST}),
+    Case(f"judge {TOY} longest stored", out="sole cost -45\n", reads={"longest": LONGEST}),
     fault(f"judge {TOY} longest stored", "file too long", reads={"longest": TOO_LONG}),
     fault("", "cannot write", to="closed"),
     fault("demod --modcod 1 /dev/null /dev/null /dev/null", "rows: too few rows"),

@@ -1,6 +1,7 @@
 pub mod Cost
 pub mod Split
 pub mod Moves
+pub mod MovesOf
 pub mod Taken
 pub mod Listed
 pub mod Hard
@@ -9,5 +10,6 @@ pub mod Held
 pub mod CertificateFiles
 pub mod CertificateBytes
 pub mod Checking
+pub mod Strict
 pub mod Verdicts
 pub mod Tallies

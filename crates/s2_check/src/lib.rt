@@ -6,15 +6,18 @@
 //! values over its ones. [`judge_unsplit`] is true exactly where the hard decision is a codeword,
 //! which then is most likely. Any other word needs a split of its soft values over the checks:
 //! [`check`] answers Yes exactly for a [`CertView`] whose split is accepted for its word, and the
-//! word is then most likely by weak duality ([`laws::weak_duality`]), whoever made the split.
-//! [`Certificate::read`] accepts exactly the files of the format, and what [`CertView::write`]
-//! writes is accepted as the same view. Only `read` takes memory.
+//! word is then most likely by weak duality ([`laws::weak_duality`]), whoever made the split. Where
+//! its rests in favour of the word are all at least 1, every other codeword costs more
+//! ([`laws::strictness`]): [`sole`] is true exactly there. [`Certificate::read`] accepts exactly the
+//! files of the format, of both versions; [`Certificate::view`] lends one for a matrix. What
+//! [`CertView::write`] writes is accepted, and lent as the same view ([`laws::read_back`],
+//! [`laws::same_view`]). Only `read` takes memory.
 //!
 //! ```
 //! let certificate = Certificate::read(alloc, &bytes)?;
-//! match check(&matrix, &certificate.view()) {
-//!     Answer::Yes => println!(rt; "yes")?,
-//!     Answer::No(refusal) => println!(rt; "{refusal:?}")?,
+//! match certificate.view(&matrix) {
+//!     Some(view) => println!(rt; "{:?}", check(&matrix, &view))?,
+//!     None => println!(rt; "another shape")?,
 //! }
 //! ```
 #![tactic(auto)]
@@ -30,9 +33,11 @@ mod local;
 mod moved;
 mod moved_bound;
 mod moved_sums;
+mod rests;
 mod row_rests;
 mod shares;
 mod step;
+mod strict;
 mod sums;
 mod taken;
 mod tally;
@@ -41,9 +46,9 @@ mod view;
 mod write;
 
 pub use certificate::Certificate;
-pub use checker::{Answer, Refusal, check};
-pub use hard::{cost, hard_into, judge_unsplit};
-pub use s2_file::{CertFault, MOST_SCALE, MOST_SHARES};
-pub use step::{MOST_MOVED, Move};
+pub use checker::{Answer, Examined, Refusal, check, examine, sole};
+pub use hard::{cost, hard_into, judge_unsplit, none_is_zero};
+pub use s2_file::{CertFault, MOST_SCALE, MOST_SHARES, Move};
+pub use step::MOST_MOVED;
 pub use verdict::Verdict;
 pub use view::CertView;

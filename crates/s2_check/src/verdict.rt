@@ -2,10 +2,11 @@
 ghost use Rattle.std.specs.Prelude.{◌≡◌, ◌≤◌, length};
 ghost use Rattle.s2_check.specs.Verdicts.{verdict_word, is_certified};
 
-/// What is known of a frame's decided bits: that no codeword costs less under its soft values, that they are
-/// a codeword, or that they are none.
+/// What is known of a frame's decided bits: that every other codeword costs more under its soft values, that
+/// no codeword costs less, that they are a codeword, or that they are none.
 #[derive(Clone, Copy, Debug, PartialEq, Eq)]
 pub enum Verdict {
+    Sole,
     MostLikely,
     Parity,
     Broken,
@@ -18,6 +19,7 @@ impl Verdict {
         ensures short { length result.now ≤ 11 }
     {
         match self {
+            Verdict::Sole => "sole",
             Verdict::MostLikely => "most-likely",
             Verdict::Parity => "parity",
             Verdict::Broken => "broken",
@@ -29,7 +31,7 @@ impl Verdict {
         ensures { result ≡ is_certified self }
     {
         match self {
-            Verdict::MostLikely => true,
+            Verdict::Sole | Verdict::MostLikely => true,
             Verdict::Parity | Verdict::Broken => false,
         }
     }

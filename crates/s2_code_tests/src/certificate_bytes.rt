@@ -49,6 +49,27 @@ pub(crate) fn codeword_file() -> [u8; SIZE] {
     file
 }
 
+/// How many bytes each has as version 2: 13 of the header, the values and the word, six for each of 12 checks.
+pub(crate) const MOVED_SIZE: usize = 128;
+
+/// A file as version 2, in which check 0 moves so much to its first member.
+pub(crate) fn moved(file: &[u8; SIZE], amount: u8) -> [u8; MOVED_SIZE] {
+    let mut out = [0; MOVED_SIZE];
+    out[..13].copy_from_slice(&file[..13]);
+    out[4] = 2;
+    out[13..56].copy_from_slice(&file[17..60]);
+    out[61] = amount;
+    out
+}
+
+/// Of two bits that are to be the same, values -5 and 3, scale 2: so much is moved to the second.
+pub(crate) fn pair_file(amount: u8) -> [u8; 24] {
+    [
+        0x53, 0x32, 0x4D, 0x4C, 2, 0, 1, 0, 1, 0, 1, 0, 2, 0xFF, 0xFB, 0, 3, 0xC0, 0, 1, 0, 0, 0,
+        amount,
+    ]
+}
+
 /// The file of the wrong bit as it is with a byte for each value.
 pub(crate) fn one_byte_values() -> [u8; SIZE - 20] {
     let mut file = [0; SIZE - 20];

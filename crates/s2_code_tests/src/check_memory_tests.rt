@@ -18,6 +18,9 @@ fn certificate(alloc: Global, bytes: &[u8]) -> Result<Certificate, CertFault> {
 fn asks_again_where_memory_is_refused(rt: HostRuntime) -> Result<(), Fail> {
     let matrix = matrix_of(rt.alloc(), TOY)?;
     let certificate = certificate(rt.alloc(), &wrong_bit())?;
-    assert_eq!(rt; check(&matrix, &certificate.view()), Answer::Yes);
+    let Some(view) = certificate.view(&matrix) else {
+        return Err(Fail::from("another shape"));
+    };
+    assert_eq!(rt; check(&matrix, &view), Answer::Yes);
     Ok(())
 }

@@ -1,10 +1,14 @@
 //! Certificates of the toy code.
-use super::certificate_bytes::{CODEWORD, SIZE, codeword_file, with_byte, wrong_bit};
+use super::certificate_bytes::{
+    CODEWORD, MOVED_SIZE, SIZE, codeword_file, moved, pair_file, with_byte, wrong_bit,
+};
 use super::codes::{TOY, matrix_of};
+use super::judge_tests::PAIR;
 use super::values::{WEAK, are_soft};
 use s2_bits::Bits;
 use s2_check::{
-    Answer, CertFault, CertView, Certificate, Move, Refusal, check, cost, judge_unsplit,
+    Answer, CertFault, CertView, Certificate, Examined, Move, Refusal, check, cost, examine,
+    judge_unsplit, sole,
 };
 use s2_matrix::Matrix;
 use s2_mode::Counting;
@@ -30,7 +34,10 @@ pub(crate) fn checked(matrix: &Matrix, view: &CertView<'_>) -> Answer {
 /// What the checker answers on a file, or why the file is refused.
 fn answer(alloc: Global, matrix: &Matrix, bytes: &[u8]) -> Result<Answer, CertFault> {
     let certificate = read(alloc, bytes)?;
-    Ok(checked(matrix, &certificate.view()))
+    match certificate.view(matrix) {
+        Some(view) => Ok(checked(matrix, &view)),
+        None => Ok(Answer::No(Refusal::OtherShape)),
+    }
 }
 
 /// Asserts what the checker answers on a file.
@@ -41,6 +48,8 @@ fn assert_answer<R: Abort>(rt: &R, alloc: Global, matrix: &Matrix, bytes: &[u8],
 fn assert_answers<R: Abort>(rt: &R, alloc: Global, toy: &Matrix) {
     assert_answer(rt, alloc, toy, &wrong_bit(), Answer::Yes);
     assert_answer(rt, alloc, toy, &codeword_file(), Answer::Yes);
+    assert_answer(rt, alloc, toy, &moved(&wrong_bit(), 4), Answer::Yes);
+    assert_answer(rt, alloc, toy, &moved(&codeword_file(), 0), Answer::Yes);
     for (at, byte, refusal) in [
         (63usize, 0xFB, Refusal::BoundBelow),
         (57, 0x80, Refusal::OddCheck { check: 0 }),
@@ -54,6 +63,7 @@ fn assert_other_shape<R: Abort>(rt: &R, alloc: Global) -> Result<(), Fail> {
     let other = matrix_of(alloc, ([4, 2, 4], TOY.1))?;
     let refused = Answer::No(Refusal::OtherShape);
     assert_answer(rt, alloc, &other, &wrong_bit(), refused);
+    assert_answer(rt, alloc, &other, &moved(&wrong_bit(), 4), refused);
     Ok(())
 }
 
@@ -88,10 +98,38 @@ fn assert_altered_refused<R: Abort>(rt: &R, alloc: Global, toy: &Matrix) {
     }
 }
 
+/// What is answered on the file of version 2 with a byte's highest bit turned.
+fn answer_on_altered(at: usize) -> Result<Answer, CertFault> {
+    match at {
+        0..=4 => Err(CertFault::Magic),
+        5 | 7 | 9 => Err(CertFault::Shape),
+        6 | 8 | 10 => Err(CertFault::Cut),
+        11 => Err(CertFault::Range),
+        13..=52 if at % 2 == 1 => Err(CertFault::Range),
+        16..=52 => Ok(Answer::Yes),
+        53 | 54 => Ok(Answer::No(Refusal::OddCheck { check: 0 })),
+        55 => Ok(Answer::No(Refusal::OddCheck { check: 8 })),
+        // a place past the members of check 0
+        56 | 57 => Ok(Answer::No(Refusal::OtherShape)),
+        // a place where nothing is moved, or an amount's highest bit
+        58..=127 if (at - 56) % 6 < 3 => Err(CertFault::Range),
+        _ => Ok(Answer::No(Refusal::BoundBelow)),
+    }
+}
+
+fn assert_altered_moves_refused<R: Abort>(rt: &R, alloc: Global, toy: &Matrix) {
+    for at in 0..MOVED_SIZE {
+        let mut file = moved(&wrong_bit(), 4);
+        file[at] ^= 0x80;
+        assert_eq!(rt; answer(alloc, toy, &file), answer_on_altered(at), "at {at}");
+    }
+}
+
 #[test]
 fn answers_on_each_altered_byte(rt: HostRuntime) -> Result<(), Fail> {
     let toy = matrix_of(rt.alloc(), TOY)?;
     assert_altered_refused(&rt, rt.alloc(), &toy);
+    assert_altered_moves_refused(&rt, rt.alloc(), &toy);
     Ok(())
 }
 
@@ -107,7 +145,38 @@ fn refuses_a_cut_certificate(rt: HostRuntime) -> Result<(), Fail> {
     let toy = matrix_of(rt.alloc(), TOY)?;
     assert_cut_refused(&rt, rt.alloc(), &toy, &wrong_bit());
     assert_cut_refused(&rt, rt.alloc(), &toy, &codeword_file());
+    assert_cut_refused(&rt, rt.alloc(), &toy, &moved(&wrong_bit(), 4));
+    assert_cut_refused(&rt, rt.alloc(), &toy, &moved(&codeword_file(), 0));
     Ok(())
+}
+
+/// What is found of a file.
+fn examined(alloc: Global, matrix: &Matrix, bytes: &[u8]) -> Result<Examined, Fail> {
+    let certificate = read(alloc, bytes)?;
+    let Some(view) = certificate.view(matrix) else {
+        return Err(Fail::from("another shape"));
+    };
+    let found = examine(matrix, &view);
+    if sole(matrix, &view) != found.strict {
+        return Err(Fail::from("two answers"));
+    }
+    Ok(found)
+}
+
+/// Asserts what is found of moves of 7, 6 and 5, which leave rests of 3 and 1, 4 and 0, 5 and -1.
+fn assert_strict_from_one<R: Abort>(rt: &R, alloc: Global, pair: &Matrix) -> Result<(), Fail> {
+    let no = Answer::No(Refusal::BoundBelow);
+    for (amount, answer, strict) in [(7, Answer::Yes, true), (6, Answer::Yes, false), (5, no, false)] {
+        let found = examined(alloc, pair, &pair_file(amount))?;
+        assert_eq!(rt; found, Examined { answer, strict }, "{amount}");
+    }
+    Ok(())
+}
+
+#[test]
+fn a_rest_of_zero_is_not_strict(rt: HostRuntime) -> Result<(), Fail> {
+    let pair = matrix_of(rt.alloc(), PAIR)?;
+    assert_strict_from_one(&rt, rt.alloc(), &pair)
 }
 
 /// Asserts whether the hard decision of some values is a codeword, and writes it to a word.
@@ -158,7 +227,8 @@ fn assert_unsplit_written<R: Abort>(rt: &R, alloc: Global, toy: &Matrix) -> Resu
     let view = unsplit(rt, toy, &CODEWORD, &word);
     assert_eq!(rt; checked(toy, &view), Answer::Yes);
     assert_eq!(rt; (view.scale(), view.share_count()), (1, 47));
-    assert_file(rt, alloc, &view, &codeword_file())
+    assert!(rt; sole(toy, &view));
+    assert_file(rt, alloc, &view, &moved(&codeword_file(), 0))
 }
 
 #[test]
@@ -269,7 +339,7 @@ fn assert_same_shares<R: Abort>(
     Ok(())
 }
 
-/// Asserts that a view answers as the list of its shares, read from the file that it writes.
+/// Asserts that a view answers as what is read from the file that it writes.
 pub(crate) fn assert_listed<R: Abort>(
     rt: &R,
     alloc: Global,
@@ -279,13 +349,14 @@ pub(crate) fn assert_listed<R: Abort>(
 ) -> Result<(), Fail> {
     let file = file_of(alloc, view)?;
     let certificate = read(alloc, &file)?;
-    let list = certificate.view();
+    let Some(list) = certificate.view(matrices[0]) else {
+        return Err(Fail::from("another shape"));
+    };
     assert_alike(rt, matrices, view, &list, want);
     assert_same_shares(rt, alloc, view, &list)
 }
 
-/// Asserts that moves of 40, 24, 20, 4 and this amount answer as the list of their shares, read from
-/// the file that they write.
+/// Asserts that moves of 40, 24, 20, 4 and this amount answer as what is read from the file that they write.
 fn assert_as_listed<R: Abort>(
     rt: &R,
     alloc: Global,

@@ -17,7 +17,7 @@ fn refuses_what_is_no_file(rt: HostRuntime) -> Result<(), Fail> {
     longer.push(0)?;
     assert_eq!(rt; fault_of(alloc, &longer), Some(CertFault::Extra));
     assert_eq!(rt; fault_of(alloc, b"T"), Some(CertFault::Magic));
-    assert_eq!(rt; fault_of(alloc, b"S2ML\x02"), Some(CertFault::Magic));
+    assert_eq!(rt; fault_of(alloc, b"S2ML\x03"), Some(CertFault::Magic));
     for (at, byte, want) in [
         (0, 0, CertFault::Magic),
         (6, 0, CertFault::Shape),

@@ -16,7 +16,7 @@ use std::process::Abort;
 use std::test::Fail;
 
 /// Two bits that are to be the same.
-const PAIR: Code<'static> = ([1, 1, 1], b"0\n");
+pub(crate) const PAIR: Code<'static> = ([1, 1, 1], b"0\n");
 
 /// A bit in three checks, one after another.
 const CHAIN: Code<'static> = ([1, 1, 3], b"0 1 2\n");
@@ -62,7 +62,10 @@ fn has_word(judge: &Judge<'_>, bits: &[bool]) -> bool {
 /// their certificate, where there is one.
 type Decided = (Verdict, bool, Option<Answer>);
 
-/// Bits that are right and have a certificate.
+/// Bits that are right and have a strict certificate.
+const SOLE: Decided = (Verdict::Sole, true, Some(Answer::Yes));
+
+/// Bits that are right and have a certificate with a rest of 0.
 const LIKELY: Decided = (Verdict::MostLikely, true, Some(Answer::Yes));
 
 /// What a judge decides.
@@ -109,7 +112,8 @@ fn wrong_bit(weak: bool) -> [i16; 20] {
 
 /// Asserts that zeros are decided with one of them wrong or none.
 fn assert_repairs<A: Abort>(rt: &A, alloc: Global, toy: &Matrix) -> Result<(), Fail> {
-    for soft in [[10; 20], [0; 20], wrong_bit(false), wrong_bit(true)] {
+    assert_decided(rt, alloc, toy, &[10; 20], &[false; 20], SOLE)?;
+    for soft in [[0; 20], wrong_bit(false), wrong_bit(true)] {
         assert_decided(rt, alloc, toy, &soft, &[false; 20], LIKELY)?;
     }
     Ok(())
@@ -173,7 +177,7 @@ fn has_room_for_every_mode(rt: HostRuntime) -> Result<(), Fail> {
     for modcod in 1..18u8 {
         for short in [false, true] {
             if let Some(mode) = Mode::of(modcod, short, false) {
-                assert_eq!(rt; decided_in(rt.alloc(), mode)?, LIKELY, "MODCOD {modcod}");
+                assert_eq!(rt; decided_in(rt.alloc(), mode)?, SOLE, "MODCOD {modcod}");
             }
         }
     }
@@ -234,7 +238,10 @@ fn certified(
 /// What the checker says of a certificate's file.
 fn answer_on_file(alloc: Global, matrix: &Matrix, file: &[u8]) -> Result<Answer, Fail> {
     let certificate = Certificate::read(alloc, file)?;
-    Ok(check(matrix, &certificate.view()))
+    let Some(view) = certificate.view(matrix) else {
+        return Err(Fail::from("another shape"));
+    };
+    Ok(check(matrix, &view))
 }
 
 /// Asserts that so many passes find no certificate.
@@ -259,7 +266,7 @@ fn assert_certified<A: Abort>(
     passes: u32,
 ) -> Result<(), Fail> {
     let (verdict, file) = certified(alloc, matrix, soft, passes)?;
-    assert_eq!(rt; verdict, Verdict::MostLikely);
+    assert!(rt; verdict.is_certified());
     assert_eq!(rt; answer_on_file(alloc, matrix, &file)?, Answer::Yes);
     Ok(())
 }

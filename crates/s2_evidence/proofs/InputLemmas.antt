@@ -4,8 +4,8 @@ use Rattle.std.specs.Prelude.{IfSome}
 use Rattle.s2_mode.specs.Shape.{Shape}
 use Rattle.s2_rows.specs.Rows.{Rows}
 use Rattle.s2_rows.specs.RowFiles as row_files
-use Rattle.s2_check.specs.Views.{View}
-use Rattle.s2_check.specs.CertificateFiles as certificate_files
+use Rattle.s2_file.specs.File.{File}
+use Rattle.s2_file.specs.Format.{file_of_bytes}
 use Rattle.s2_console.specs.declared.printed.Printed.{Printed}
 use Rattle.s2_console.specs.declared.exit.Exit.{Exit}
 use Rattle.s2_console.specs.declared.fault.Fault.{Fault}
@@ -62,7 +62,7 @@ on_inputs Says shape known_rows known_soft rows soft made is h =
 -- ---- rows and a certificate
 
 -- a certificate beside which the rows are refused
-pub rows_beside_refused : (text : List ℕ) (view : View) (f : Fault) → Follows {V = Rows} (λ r. r) (Err f) (rows_said view.shape (row_files.rows_of_text text view.shape))
+pub rows_beside_refused : (text : List ℕ) (view : File) (f : Fault) → Follows {V = Rows} (λ r. r) (Err f) (rows_said view.shape (row_files.rows_of_text text view.shape))
     → CommandAnswers IsAnswered (AreRowsBeside text view) (Err f)
 rows_beside_refused text view faults.Read h = tt
 rows_beside_refused text view faults.Write h = tt
@@ -72,12 +72,12 @@ rows_beside_refused text view faults.TooLong h = ap (beside view) h
 rows_beside_refused text view (faults.Told words) h = ap (beside view) h
 
 -- a certificate beside which the rows are read
-pub on_rows : (text : List ℕ) (view : View) (rows : Rows) (made : Result Printed Fault) → rows_said view.shape (row_files.rows_of_text text view.shape) ≡ Ok rows
+pub on_rows : (text : List ℕ) (view : File) (rows : Rows) (made : Result Printed Fault) → rows_said view.shape (row_files.rows_of_text text view.shape) ≡ Ok rows
     → CommandAnswers IsAnswered (IsOnly (rows, view)) made → CommandAnswers IsAnswered (AreRowsBeside text view) made
 on_rows text view rows made p h = answers_moved IsAnswered (IsOnly (rows, view)) (AreRowsBeside text view) made (λ said e. ap (beside view) p ∙ sym e) h
 
 -- a certificate that is refused
-pub certificate_refused : (text certificate : List ℕ) (f : Fault) → Follows {V = View} (λ c. c) (Err f) (certificate_said (certificate_files.certificate_of_bytes certificate))
+pub certificate_refused : (text certificate : List ℕ) (f : Fault) → Follows {V = File} (λ c. c) (Err f) (certificate_said (file_of_bytes certificate))
     → CommandAnswers IsAnswered (ArePartsIn text certificate) (Err f)
 certificate_refused text certificate faults.Read h = tt
 certificate_refused text certificate faults.Write h = tt
@@ -87,14 +87,14 @@ certificate_refused text certificate faults.TooLong h = ap (with_rows text) h
 certificate_refused text certificate (faults.Told words) h = ap (with_rows text) h
 
 -- the rows beside the certificate that the other file says
-pub on_parts : (text certificate : List ℕ) (view : View) (made : Result Printed Fault) → certificate_said (certificate_files.certificate_of_bytes certificate) ≡ Ok view
+pub on_parts : (text certificate : List ℕ) (view : File) (made : Result Printed Fault) → certificate_said (file_of_bytes certificate) ≡ Ok view
     → CommandAnswers IsAnswered (AreRowsBeside text view) made → CommandAnswers IsAnswered (ArePartsIn text certificate) made
 on_parts text certificate view made p h = answers_moved IsAnswered (AreRowsBeside text view) (ArePartsIn text certificate) made (λ said e. ap (with_rows text) p ∙ e) h
 
 both_taken : (a b : Result (List ℕ) Fault) (rows certificate : List ℕ) → a ≡ Ok rows → b ≡ Ok certificate → then_parts a b ≡ parts_in rows certificate
 both_taken a b rows certificate p q = ap (λ x. then_parts x b) p ∙ ap (then_parts (Ok rows)) q
 
-said_of_files : (known_rows known_certificate : Option (List ℕ)) (rows certificate : List ℕ) (said : Result (Rows × View) Fault)
+said_of_files : (known_rows known_certificate : Option (List ℕ)) (rows certificate : List ℕ) (said : Result (Rows × File) Fault)
     → IfSome known_rows (λ xs. taken xs ≡ Ok rows) → IfSome known_certificate (λ ys. taken ys ≡ Ok certificate) → ArePartsIn rows certificate said → AreCheckInputs known_rows known_certificate said
 said_of_files None known_certificate rows certificate said p q h = tt
 said_of_files (Some xs) None rows certificate said p q h = tt

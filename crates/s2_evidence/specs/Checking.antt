@@ -1,61 +1,66 @@
 -- What `check` reads, and what it prints of a certificate.
-use Rattle.std.specs.Prelude.{◌≡◌, ℕ, List, ◌++◌, Option, IfSome, codes, Result, Ok, Err}
+use Rattle.std.specs.Prelude.{◌≡◌, ◌↔◌, ◌⊎◌, IsTrue, ℕ, List, ◌++◌, Option, IfSome, codes, pos, Result, Ok, Err}
 use Rattle.s2_rows.specs.Rows.{Rows}
 use Rattle.s2_rows.specs.RowFiles as row_files
 use Rattle.s2_matrix.specs.Code.{code_of}
 use Rattle.s2_check.specs.Cost.{cost, IsMostLikely}
 use Rattle.s2_check.specs.Views.{View}
 use Rattle.s2_check.specs.Checking.{Checks}
-use Rattle.s2_check.specs.CertificateFiles as certificate_files
+use Rattle.s2_check.specs.CertificateFiles.{Suits, view_of}
+use Rattle.s2_check.specs.Strict.{IsStrict, IsSole}
+use Rattle.s2_file.specs.File.{File}
+use Rattle.s2_file.specs.Format.{file_of_bytes}
 use Rattle.s2_file.specs.FaultTexts.{certificate_fault_text}
 use Rattle.s2_file.specs.declared.fault.CertFault.{CertFault}
 use Rattle.s2_check.specs.declared.checker.Answer.{Answer}
 use Rattle.s2_check.specs.declared.checker.Answer.TheVariants as answers
+use Rattle.s2_check.specs.declared.checker.Examined.{Examined}
+use Rattle.s2_check.specs.declared.checker.Refusal.TheVariants.{OtherShape}
 use Rattle.s2_console.specs.declared.exit.Exit.{Exit}
 use Rattle.s2_console.specs.declared.exit.Exit.TheVariants as exits
 use Rattle.s2_console.specs.declared.fault.Fault.{Fault}
 use Rattle.s2_console.specs.declared.fault.Fault.TheVariants as faults
 use Rattle.s2_evidence.specs.Inputs.{taken, rows_said}
-use Rattle.s2_evidence.specs.Lines.{answer_line}
+use Rattle.s2_evidence.specs.Lines.{answer_line, examined_line}
 
 -- ---- the input
 
-abbrev pub certificate_said : Result View CertFault → Result View Fault
-certificate_said (Ok view) = Ok view
+abbrev pub certificate_said : Result File CertFault → Result File Fault
+certificate_said (Ok file) = Ok file
 certificate_said (Err e) = Err (faults.Told (codes "certificate: " ++ certificate_fault_text e))
 
-abbrev pub beside : View → Result Rows Fault → Result (Rows × View) Fault
-beside view (Ok rows) = Ok (rows, view)
-beside view (Err f) = Err f
+abbrev pub beside : File → Result Rows Fault → Result (Rows × File) Fault
+beside file (Ok rows) = Ok (rows, file)
+beside file (Err f) = Err f
 
 -- the rows by the certificate's shape
-abbrev pub with_rows : List ℕ → Result View Fault → Result (Rows × View) Fault
-with_rows text (Ok view) = beside view (rows_said view.shape (row_files.rows_of_text text view.shape))
+abbrev pub with_rows : List ℕ → Result File Fault → Result (Rows × File) Fault
+with_rows text (Ok file) = beside file (rows_said file.shape (row_files.rows_of_text text file.shape))
 with_rows text (Err f) = Err f
 
 -- what two files in memory say: first the certificate is taken apart
-abbrev pub parts_in : List ℕ → List ℕ → Result (Rows × View) Fault
-parts_in rows certificate = with_rows rows (certificate_said (certificate_files.certificate_of_bytes certificate))
+abbrev pub parts_in : List ℕ → List ℕ → Result (Rows × File) Fault
+parts_in rows certificate = with_rows rows (certificate_said (file_of_bytes certificate))
 
-abbrev pub then_parts : Result (List ℕ) Fault → Result (List ℕ) Fault → Result (Rows × View) Fault
+abbrev pub then_parts : Result (List ℕ) Fault → Result (List ℕ) Fault → Result (Rows × File) Fault
 then_parts (Err f) certificate = Err f
 then_parts (Ok rows) (Err f) = Err f
 then_parts (Ok rows) (Ok certificate) = parts_in rows certificate
 
 -- the bytes of the row file, then those of the certificate, then what they say
-abbrev pub check_inputs : List ℕ → List ℕ → Result (Rows × View) Fault
+abbrev pub check_inputs : List ℕ → List ℕ → Result (Rows × File) Fault
 check_inputs rows certificate = then_parts (taken rows) (taken certificate)
 
 -- what is answered is what a row file in memory says beside a certificate
-abbrev pub AreRowsBeside : List ℕ → View → Result (Rows × View) Fault → Type 0
-AreRowsBeside rows view said = with_rows rows (Ok view) ≡ said
+abbrev pub AreRowsBeside : List ℕ → File → Result (Rows × File) Fault → Type 0
+AreRowsBeside rows file said = with_rows rows (Ok file) ≡ said
 
 -- what is answered is what two files in memory say
-abbrev pub ArePartsIn : List ℕ → List ℕ → Result (Rows × View) Fault → Type 0
+abbrev pub ArePartsIn : List ℕ → List ℕ → Result (Rows × File) Fault → Type 0
 ArePartsIn rows certificate said = parts_in rows certificate ≡ said
 
 -- what is answered is what a row file and a certificate say, where their bytes are known
-abbrev pub AreCheckInputs : Option (List ℕ) → Option (List ℕ) → Result (Rows × View) Fault → Type 0
+abbrev pub AreCheckInputs : Option (List ℕ) → Option (List ℕ) → Result (Rows × File) Fault → Type 0
 AreCheckInputs rows certificate said = IfSome rows (λ xs. IfSome certificate (λ ys. check_inputs xs ys ≡ said))
 
 -- ---- the answer
@@ -64,13 +69,22 @@ abbrev pub answer_exit : Answer → Exit
 answer_exit answers.Yes = exits.Fine
 answer_exit (answers.No refusal) = exits.No
 
--- the checker's answer, its line with the cost of the certificate's word, and its exit; the word of a yes is most likely
+-- what the checker finds, its line with the cost of the certificate's word, and its exit; the word of a yes is most likely, that of
+-- a strict one sole
 pub record SaysAnswer (rows : Rows) (view : View) (exit : Exit) (text : List ℕ) : Type 0 where
-  pub answer : Answer
-  pub checked : Checks rows view answer
-  pub likely : answer ≡ answers.Yes → IsMostLikely (code_of rows) view.soft view.bits
-  pub line : text ≡ answer_line (cost view.soft view.bits) answer
-  pub ends : exit ≡ answer_exit answer
+  pub found : Examined
+  pub checked : Checks rows view found.answer
+  pub strict : IsTrue found.strict ↔ IsStrict rows view
+  pub likely : found.answer ≡ answers.Yes → IsMostLikely (code_of rows) view.soft view.bits
+  pub sole : IsTrue found.strict → IsSole (code_of rows) view.soft view.bits
+  pub line : text ≡ examined_line (cost view.soft view.bits) found
+  pub ends : exit ≡ answer_exit found.answer
 
-abbrev pub IsAnswered : Rows × View → Exit → List ℕ → Type 0
-IsAnswered input exit text = SaysAnswer input.0 input.1 exit text
+-- a certificate that the rows don't suit has another shape
+pub record SaysNoShape (rows : Rows) (file : File) (exit : Exit) (text : List ℕ) : Type 0 where
+  pub unsuited : Suits rows file → ⊥
+  pub line : text ≡ answer_line (pos 0) (answers.No OtherShape)
+  pub answer_is_no : exit ≡ exits.No
+
+abbrev pub IsAnswered : Rows × File → Exit → List ℕ → Type 0
+IsAnswered input exit text = SaysAnswer input.0 (view_of input.0 input.1) exit text ⊎ SaysNoShape input.0 input.1 exit text

@@ -3,19 +3,28 @@ use Rattle.std.specs.Prelude.{◌≡◌, ℕ, ℤ, List, Bool}
 use Rattle.s2_matrix.specs.Code.{IsOddCheck, IsCodeword, code_of}
 use Rattle.s2_rows.specs.Rows.{Rows}
 use Rattle.s2_check.specs.Cost.{cost, IsMostLikely}
+use Rattle.s2_check.specs.Strict.{IsSole}
 use Rattle.s2_check.specs.declared.verdict.Verdict.{Verdict}
 use Rattle.s2_check.specs.declared.verdict.Verdict.TheVariants as verdicts
-use Rattle.s2_link.specs.Tuning.{Tuning}
+use Rattle.s2_link.specs.Limits.{default_rounds}
+use Rattle.s2_link.specs.Tuning.{Tuning, tuning_of}
 use Rattle.s2_judge.specs.Deciding.{Decided, decided}
 use Rattle.s2_console.specs.declared.exit.Exit.{Exit}
 use Rattle.s2_console.specs.declared.exit.Exit.TheVariants as exits
-use Rattle.s2_evidence.specs.Lines.{most_likely_line, parity_line, broken_line}
+use Rattle.s2_evidence.specs.Lines.{sole_line, most_likely_line, parity_line, broken_line}
 
 -- the exit of a verdict
 abbrev pub exit_on : Verdict → Exit
+exit_on verdicts.Sole = exits.Fine
 exit_on verdicts.MostLikely = exits.Fine
 exit_on verdicts.Parity = exits.No
 exit_on verdicts.Broken = exits.No
+
+-- each other codeword costs more than the bits
+pub record SaysSole (rows : Rows) (soft : List ℤ) (bits : List Bool) (exit : Exit) (text : List ℕ) : Type 0 where
+  pub sole : IsSole (code_of rows) soft bits
+  pub line : text ≡ sole_line (cost soft bits)
+  pub fine : exit ≡ exits.Fine
 
 -- the bits are most likely
 pub record SaysMostLikely (rows : Rows) (soft : List ℤ) (bits : List Bool) (exit : Exit) (text : List ℕ) : Type 0 where
@@ -38,6 +47,7 @@ pub record SaysBroken (rows : Rows) (soft : List ℤ) (bits : List Bool) (exit :
 
 -- by the verdict on the bits
 abbrev pub Says : Verdict → Rows → List ℤ → List Bool → Exit → List ℕ → Type 0
+Says verdicts.Sole rows soft bits exit text = SaysSole rows soft bits exit text
 Says verdicts.MostLikely rows soft bits exit text = SaysMostLikely rows soft bits exit text
 Says verdicts.Parity rows soft bits exit text = SaysParity rows soft bits exit text
 Says verdicts.Broken rows soft bits exit text = SaysBroken rows soft bits exit text
@@ -49,3 +59,17 @@ SaysDecided d rows soft exit text = Says d.verdict rows soft d.bits exit text
 -- they tell what a receiver that tries so much decides on soft values
 abbrev pub IsJudged : Tuning → Rows × List ℤ → Exit → List ℕ → Type 0
 IsJudged tuning input exit text = SaysDecided (decided input.0 tuning input.1) input.0 input.1 exit text
+
+-- what the program without words calls it: most likely also where it is sole
+abbrev pub own_verdict : Verdict → Verdict
+own_verdict verdicts.Sole = verdicts.MostLikely
+own_verdict verdicts.MostLikely = verdicts.MostLikely
+own_verdict verdicts.Parity = verdicts.Parity
+own_verdict verdicts.Broken = verdicts.Broken
+
+abbrev pub SaysOwn : Decided → Rows → List ℤ → Exit → List ℕ → Type 0
+SaysOwn d rows soft exit text = Says (own_verdict d.verdict) rows soft d.bits exit text
+
+-- in at most the default rounds, without passes
+abbrev pub IsOwn : Rows × List ℤ → Exit → List ℕ → Type 0
+IsOwn input exit text = SaysOwn (decided input.0 (tuning_of default_rounds 0) input.1) input.0 input.1 exit text

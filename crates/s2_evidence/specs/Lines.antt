@@ -1,16 +1,21 @@
 -- The lines of verdicts and of answers.
-use Rattle.std.specs.Prelude.{ℕ, ℤ, List, ◌++◌, codes, decimal}
+use Rattle.std.specs.Prelude.{ℕ, ℤ, List, ◌++◌, codes, decimal, if◌then◌else◌}
 use Rattle.std.specs.Fmt.{signed_decimal}
 use Rattle.s2_check.specs.Verdicts.{verdict_word}
 use Rattle.s2_check.specs.declared.verdict.Verdict.{Verdict}
 use Rattle.s2_check.specs.declared.verdict.Verdict.TheVariants as verdicts
 use Rattle.s2_check.specs.declared.checker.Answer.{Answer}
+use Rattle.s2_check.specs.declared.checker.Examined.{Examined}
 use Rattle.s2_check.specs.declared.checker.Answer.TheVariants as answers
 use Rattle.s2_check.specs.declared.checker.Refusal.TheVariants as refusals
 
 -- what is known of bits, and their cost
 abbrev pub cost_text : Verdict → ℤ → List ℕ
 cost_text verdict cost = verdict_word verdict ++ (codes " cost " ++ signed_decimal cost)
+
+-- of a word that is more likely than any other
+abbrev pub sole_line : ℤ → List ℕ
+sole_line cost = cost_text verdicts.Sole cost ++ codes "\n"
 
 abbrev pub most_likely_line : ℤ → List ℕ
 most_likely_line cost = cost_text verdicts.MostLikely cost ++ codes "\n"
@@ -32,3 +37,7 @@ answer_text cost (answers.No refusals.BoundBelow) = codes "no bound"
 
 abbrev pub answer_line : ℤ → Answer → List ℕ
 answer_line cost answer = answer_text cost answer ++ codes "\n"
+
+-- what is found of a certificate: of a strict one that its word is sole
+abbrev pub examined_line : ℤ → Examined → List ℕ
+examined_line cost found = if found.strict then sole_line cost else answer_line cost found.answer

@@ -1,16 +1,16 @@
 //! `check`: certificates checked.
 ghost use Rattle.std.specs.Prelude.{◌≡◌, ◌≢◌, ◌+◌, Result, Err, IsOk};
 ghost use Rattle.s2_mode.specs.Counts.{CanCount};
-ghost use Rattle.s2_check.specs.CertificateFiles.{certificate_of_bytes};
+ghost use Rattle.s2_file.specs.Format.{file_of_bytes};
 ghost use Rattle.s2_console.specs.Screens.{CanShow};
 ghost use Rattle.s2_console.specs.Exits.{exit_of, Follows, CommandAnswers, CommandRuns, CommandCounts, Complains};
 ghost use Rattle.s2_evidence.specs.Files.{CanCheck};
-ghost use Rattle.s2_evidence.specs.Checking.{certificate_said, AreRowsBeside, ArePartsIn, AreCheckInputs, answer_exit, IsAnswered};
+ghost use Rattle.s2_evidence.specs.Checking.{certificate_said, AreRowsBeside, ArePartsIn, AreCheckInputs, answer_exit, SaysAnswer, IsAnswered};
 
 use crate::files::CheckFiles;
-use crate::lines::answer_line;
+use crate::lines::{answer_line, examined_line};
 use crate::reading::{matrix_of, read_bytes};
-use s2_check::{Answer, CertFault, CertView, Certificate, check};
+use s2_check::{Answer, CertFault, CertView, Certificate, Refusal, examine};
 use s2_console::{Console, Exit, Fault, Printed};
 use s2_matrix::Matrix;
 use s2_mode::{CountedRead, CountedWrite};
@@ -26,20 +26,33 @@ fn exit_of_answer(answer: Answer) -> Exit
     }
 }
 
-/// Checks a certificate.
-fn answered(matrix: &Matrix, view: &CertView<'_>) -> Printed
-    ensures { IsAnswered (matrix.now, view.now) result.exit result.text }
+/// Checks a certificate that suits the matrix.
+fn examined(matrix: &Matrix, view: &CertView<'_>) -> Printed
+    ensures { SaysAnswer matrix.now view.now result.exit result.text }
 {
-    let answer = check(matrix, view);
+    let found = examine(matrix, view);
     Printed {
-        exit: exit_of_answer(answer),
-        text: answer_line(view.cost(), answer),
+        exit: exit_of_answer(found.answer),
+        text: examined_line(view.cost(), found),
+    }
+}
+
+/// Checks a certificate.
+fn answered(matrix: &Matrix, certificate: &Certificate) -> Printed
+    ensures { IsAnswered (matrix.now, certificate.now) result.exit result.text }
+{
+    match certificate.view(matrix) {
+        Some(view) => examined(matrix, &view),
+        None => Printed {
+            exit: Exit::No,
+            text: answer_line(0, Answer::No(Refusal::OtherShape)),
+        },
     }
 }
 
 /// The certificate of a file in memory.
 fn certificate_of(alloc: Global, bytes: &[u8]) -> Result<Certificate, Fault<'static>>
-    ensures says { Follows (λ c. c) result (certificate_said (certificate_of_bytes bytes.now)) }
+    ensures says { Follows (λ c. c) result (certificate_said (file_of_bytes bytes.now)) }
     ensures read { result ≢ Err Fault.Read }
     ensures write { result ≢ Err Fault.Write }
 {
@@ -51,13 +64,17 @@ fn certificate_of(alloc: Global, bytes: &[u8]) -> Result<Certificate, Fault<'sta
 }
 
 /// Checks a certificate by a row file in memory.
-fn check_by(alloc: Global, rows: &[u8], view: &CertView<'_>) -> Result<Printed, Fault<'static>>
-    ensures answers { CommandAnswers IsAnswered (AreRowsBeside rows.now view.now) result }
+fn check_by(
+    alloc: Global,
+    rows: &[u8],
+    certificate: &Certificate,
+) -> Result<Printed, Fault<'static>>
+    ensures answers { CommandAnswers IsAnswered (AreRowsBeside rows.now certificate.now) result }
     ensures read { result ≢ Err Fault.Read }
     ensures write { result ≢ Err Fault.Write }
 {
-    let matrix = matrix_of(alloc, rows, view.shape())?;
-    Ok(answered(&matrix, view))
+    let matrix = matrix_of(alloc, rows, certificate.shape())?;
+    Ok(answered(&matrix, certificate))
 }
 
 /// Takes two files in memory apart, and checks.
@@ -67,7 +84,7 @@ fn check_parts(alloc: Global, rows: &[u8], certificate: &[u8]) -> Result<Printed
     ensures write { result ≢ Err Fault.Write }
 {
     let certificate = certificate_of(alloc, certificate)?;
-    check_by(alloc, rows, &certificate.view())
+    check_by(alloc, rows, &certificate)
 }
 
 /// Reads rows and a certificate into memory, and checks.

@@ -1,15 +1,17 @@
 //! What is decided on soft values: its line, its exit and its certificate.
-ghost use Rattle.std.specs.Prelude.{◌≡◌, ◌≢◌, All, OnOk, OnErr, length};
+ghost use Rattle.std.specs.Prelude.{◌≡◌, ◌≢◌, IsTrue, All, OnOk, OnErr, length};
 ghost use Rattle.s2_mode.specs.Counts.{CanCount, CountsFault};
 ghost use Rattle.s2_matrix.specs.Code.{code_of, IsCodeword};
 ghost use Rattle.s2_check.specs.Cost.{IsMostLikely};
+ghost use Rattle.s2_check.specs.Strict.{IsSole};
+ghost use Rattle.s2_check.specs.Verdicts.{is_certified};
 ghost use Rattle.s2_check.specs.Views.{IsSoft};
 ghost use Rattle.s2_judge.specs.Deciding.{decided, IsShown};
 ghost use Rattle.s2_evidence.specs.Files.{written, contents_in, failed_in, SameAsked};
-ghost use Rattle.s2_evidence.specs.Judging.{Says, SaysDecided, exit_on};
+ghost use Rattle.s2_evidence.specs.Judging.{Says, SaysDecided, SaysOwn, exit_on, own_verdict};
 ghost use Rattle.s2_evidence.specs.Certifying.{Writes, WritesPart, CertifiesDecided};
 
-use crate::lines::{broken_line, most_likely_line, parity_line};
+use crate::lines::{broken_line, most_likely_line, parity_line, sole_line};
 use crate::reading::Judged;
 use s2_bits::Bits;
 use s2_check::{CertView, Verdict, cost};
@@ -22,7 +24,8 @@ use s2_mode::{CountedWrite, WriteFault};
 fn judgement(matrix: &Matrix, soft: &[i16], word: &Bits, verdict: Verdict) -> Printed
     requires soft { length soft.now ≡ (code_of matrix.now).bits }
     requires word { length word.now ≡ (code_of matrix.now).bits }
-    requires likely { verdict ≡ Verdict.MostLikely → IsMostLikely (code_of matrix.now) soft.now word.now }
+    requires likely { IsTrue (is_certified verdict) → IsMostLikely (code_of matrix.now) soft.now word.now }
+    requires sole { verdict ≡ Verdict.Sole → IsSole (code_of matrix.now) soft.now word.now }
     requires codeword { verdict ≢ Verdict.Broken → IsCodeword (code_of matrix.now) word.now }
     requires broken { verdict ≡ Verdict.Broken → IsCodeword (code_of matrix.now) word.now → ⊥ }
     ensures says { Says verdict matrix.now soft.now word.now result.exit result.text }
@@ -36,6 +39,10 @@ fn judgement(matrix: &Matrix, soft: &[i16], word: &Bits, verdict: Verdict) -> Pr
         (Some(check), _) => Printed {
             exit: Exit::No,
             text: broken_line(cost, check),
+        },
+        (None, Verdict::Sole) => Printed {
+            exit: Exit::Fine,
+            text: sole_line(cost),
         },
         (None, Verdict::MostLikely) => Printed {
             exit: Exit::Fine,
@@ -60,6 +67,28 @@ fn decision(matrix: &Matrix, judge: &mut Judge<'_>, soft: &[i16]) -> Printed
 {
     let verdict = judge.judge(soft);
     judgement(matrix, soft, judge.word(), verdict)
+}
+
+/// The verdict that the program without words tells: most likely also where it is sole.
+fn own_verdict(verdict: Verdict) -> Verdict
+    ensures { result ≡ own_verdict verdict }
+{
+    match verdict {
+        Verdict::Sole | Verdict::MostLikely => Verdict::MostLikely,
+        Verdict::Parity => Verdict::Parity,
+        Verdict::Broken => Verdict::Broken,
+    }
+}
+
+/// What a judge decides on soft values, as the program without words tells it.
+pub(crate) fn own_decision(matrix: &Matrix, judge: &mut Judge<'_>, soft: &[i16]) -> Printed
+    requires rows { judge.old.rows ≡ matrix.now }
+    requires long { length soft.now ≡ (code_of matrix.now).bits }
+    requires range { All IsSoft soft.now }
+    ensures { SaysOwn (decided matrix.now judge.old.tuning soft.now) matrix.now soft.now result.exit result.text }
+{
+    let verdict = judge.judge(soft);
+    judgement(matrix, soft, judge.word(), own_verdict(verdict))
 }
 
 /// Writes a certificate, if there is one and a file for it. After a failed write a part of it is written.

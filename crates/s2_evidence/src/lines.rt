@@ -1,8 +1,8 @@
 //! The lines of verdicts and of answers. They take no memory.
 ghost use Rattle.std.specs.Prelude.{◌≡◌, ◌≤◌, length};
-ghost use Rattle.s2_evidence.specs.Lines.{cost_text, most_likely_line, parity_line, broken_line, answer_text, answer_line};
+ghost use Rattle.s2_evidence.specs.Lines.{cost_text, sole_line, most_likely_line, parity_line, broken_line, answer_text, answer_line, examined_line};
 
-use s2_check::{Answer, Refusal, Verdict};
+use s2_check::{Answer, Examined, Refusal, Verdict};
 use s2_console::Line;
 
 /// What is known of bits, and their cost.
@@ -13,6 +13,15 @@ fn with_cost(verdict: Verdict, cost: i64) -> Line
     let mut line = Line::new();
     line.push(verdict.word());
     line.push_number(" cost ", cost);
+    line
+}
+
+/// The line of a word that is more likely than any other.
+pub(crate) fn sole_line(cost: i64) -> Line
+    ensures { result ≡ sole_line cost }
+{
+    let mut line = with_cost(Verdict::Sole, cost);
+    line.push("\n");
     line
 }
 
@@ -66,4 +75,15 @@ pub(crate) fn answer_line(cost: i64, answer: Answer) -> Line
     let mut line = answer_text(cost, answer);
     line.push("\n");
     line
+}
+
+/// The line of what is found of a certificate, with the cost of its word: of a strict one that the word is sole.
+pub(crate) fn examined_line(cost: i64, found: Examined) -> Line
+    ensures { result ≡ examined_line cost found }
+{
+    if found.strict {
+        sole_line(cost)
+    } else {
+        answer_line(cost, found.answer)
+    }
 }

@@ -1,6 +1,5 @@
 -- The parts of a body.
 use Rattle.std.proofs.Common.{◌≡◌, ℕ, ◌+◌, ◌*◌, ◌/◌, ◌<◌, leb, Bool, true, false, List, map, length, get_or, take, drop, Ok, ℤ, sym, ap, ap₂, ◌∙◌, arith, le-leb}
-use Rattle.std.proofs.lemmas.Bool.{and_from}
 use Rattle.std.proofs.lemmas.List.{same_lists, get_or-map, get_or_default}
 use Rattle.std.proofs.lemmas.List.FromFn.{length-range_with_len, get_or-range_with_len}
 use Rattle.s2_mode.specs.Shape.{code_bits}
@@ -8,11 +7,9 @@ use Rattle.s2_bits.specs.Bits.{bit_at, bit_of_bytes}
 use Rattle.s2_file.specs.declared.header.Header.{Header}
 use Rattle.s2_file.specs.File.{Split}
 use Rattle.s2_file.specs.declared.fault.CertFault.TheVariants as faults
-use Rattle.s2_file.specs.declared.version.Version.{Version}
-use Rattle.s2_file.specs.declared.version.Version.TheVariants as versions
-use Rattle.s2_file.specs.Field.{is_padded, many, bit_list, places}
+use Rattle.s2_file.specs.Field.{many, bit_list, places}
 use Rattle.s2_file.specs.Format.{demand, soft, split, body, body_at, file_of}
-use Rattle.s2_file.proofs.EntryLemmas.{length-listed, listed_pass}
+use Rattle.s2_file.proofs.EntryLemmas.{length-listed}
 
 -- a list by its length and its places
 pub listed : (f : ℕ → Bool) (n : ℕ) (bits : List Bool) → length bits ≡ n → ((k : ℕ) → k < n → bit_at bits k ≡ f k) → bits ≡ map f (places n)
@@ -32,19 +29,6 @@ parts_are h bytes n front rest x b s size front_is rest_is w last w_is last_is x
     let bs : b ≡ (bit_list m).value (take ((m + 7) / 8) (drop (m * soft.size) bytes)) = listed (bit_of_bytes w) n b long at ∙ ap₂ (λ k l. map (bit_of_bytes l) (places k)) size (w_is ∙ ap₂ (λ k l. take ((k + 7) / 8) l) size rests) in
     let ss : s ≡ (split h.version h.count).value (drop ((m + 7) / 8) (drop (m * soft.size) bytes)) = s_is ∙ ap (split h.version h.count).value (last_is ∙ ap₂ (λ k l. drop ((k + 7) / 8) l) size rests) in
     ap (λ k. file_of h (k, (b, s))) xs ∙ ap (λ k. file_of h ((many m soft).value (take (m * soft.size) bytes), (k, s))) bs ∙ ap (λ k. file_of h ((many m soft).value (take (m * soft.size) bytes), ((bit_list m).value (take ((m + 7) / 8) (drop (m * soft.size) bytes)), k))) ss
-
--- any bytes are shares
-split_passes : (v : Version) (n : ℕ) (bytes : List ℕ) → (split v n).test bytes ≡ true
-split_passes versions.Listed n bytes = listed_pass n bytes
-
--- a body whose soft values and padding pass
-pub body_passes : (h : Header) (bytes : List ℕ) (n : ℕ) (front rest w : List ℕ) → n ≡ code_bits h.shape → front ≡ take (n * soft.size) bytes → rest ≡ drop (n * soft.size) bytes → w ≡ take ((n + 7) / 8) rest → (many n soft).test front ≡ true → is_padded w n ≡ true → (body h).test bytes ≡ true
-body_passes h bytes n front rest w size front_is rest_is w_is passes padded =
-    let m = code_bits h.shape in
-    let fronts : front ≡ take (m * soft.size) bytes = front_is ∙ ap (λ k. take (k * soft.size) bytes) size in
-    let rests : rest ≡ drop (m * soft.size) bytes = rest_is ∙ ap (λ k. drop (k * soft.size) bytes) size in
-    let words : w ≡ take ((m + 7) / 8) (drop (m * soft.size) bytes) = w_is ∙ ap₂ (λ k l. take ((k + 7) / 8) l) size rests in
-    and_from _ _ (sym (ap₂ (λ k l. (many k soft).test l) size fronts) ∙ passes) (and_from _ _ (sym (ap₂ (λ k l. is_padded l k) size words) ∙ padded) (split_passes h.version h.count _))
 
 -- a body of the right length, whose fields pass, is accepted
 pub body_accepted : (h : Header) (bytes : List ℕ) → length bytes ≡ (body h).size → (body h).test bytes ≡ true → body_at h bytes ≡ Ok (file_of h ((body h).value bytes))

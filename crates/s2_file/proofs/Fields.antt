@@ -1,10 +1,10 @@
 -- What is written of a field is as long as the field, passes its test and is read back.
-use Rattle.std.proofs.Common.{◌≡◌, ℕ, zero, suc, ◌+◌, ◌*◌, ◌/◌, ◌^◌, ◌<◌, not, Bool, true, false, List, [], ◌∷◌, ◌++◌, length, get_or, take, drop, All, FitsSigned, w16, w32, ℤ, pos, neg_ℤ, int_lt, inl, inr, refl, sym, ap, ap₂, ◌∙◌, arith, length-append}
+use Rattle.std.proofs.Common.{◌≡◌, ℕ, zero, suc, ◌+◌, ◌*◌, ◌/◌, ◌^◌, ◌<◌, not, Bool, true, false, List, [], ◌∷◌, ◌++◌, length, get_or, take, drop, All, FitsSigned, w16, w32, ℤ, pos, neg_ℤ, int_lt, ltb, eqb, lt-ltb, eq-eqb, ◌||◌, inl, inr, refl, sym, ap, ap₂, ◌∙◌, arith, length-append}
 use Rattle.std.specs.List.{flat_map, AllByRecursion}
 use Rattle.std.specs.Int.{Width, byte_len, cast_signed, cast_unsigned, to_be_bytes, from_be_bytes}
 use Rattle.std.proofs.lemmas.Nat.{from_be_bytes-to_be_bytes_2, from_be_bytes-to_be_bytes_4}
 use Rattle.std.proofs.lemmas.Int.{ints, to_z-of_z, fits_signed_from_abs}
-use Rattle.std.proofs.lemmas.Bool.{cases_Bool, and_from}
+use Rattle.std.proofs.lemmas.Bool.{cases_Bool, cases_eq, and_from, or_right, or_left}
 use Rattle.std.proofs.lemmas.List.{same_lists, get_or-map, get_or_past, take_at, drop_at, drop-drop}
 use Rattle.std.proofs.lemmas.List.Concat.{flat_map-cons}
 use Rattle.std.proofs.lemmas.List.Elements.{recursion_from_All}
@@ -14,17 +14,24 @@ use Rattle.s2_rows.specs.Values.{is_value}
 use Rattle.s2_mode.specs.Limits.{most_soft}
 use Rattle.s2_file.proofs.Padding.{padded_yes}
 use Rattle.s2_file.proofs.ByteBits.{bit_back}
+use Rattle.s2_file.specs.declared.step.Move.{Move}
 use Rattle.s2_file.specs.declared.version.Version.{Version}
 use Rattle.s2_file.specs.declared.version.Version.TheVariants as versions
 use Rattle.s2_file.specs.declared.header.Header.{Header}
 use Rattle.s2_mode.specs.Shape.{code_bits}
-use Rattle.s2_file.specs.File.{IsSoft, Split, Listed}
-use Rattle.s2_file.specs.Field.{Field, IsField, places, both, many, bytes_of_bits, bit_list, entry}
-use Rattle.s2_file.specs.Format.{soft_width, soft, share, split, split_bytes, body}
+use Rattle.s2_file.specs.File.{IsMove, IsSoft, Split, Listed, Moved}
+use Rattle.s2_file.specs.Field.{Field, IsField, number, places, both, many, bytes_of_bits, bit_list, entry}
+use Rattle.s2_file.specs.Format.{soft_width, soft, share, move, move_of, move_numbers, is_move, split, split_bytes, body}
 use Rattle.s2_file.proofs.EntryLemmas.{all_pass, length-listed}
 use Rattle.s2_file.proofs.Bodies.{listed}
 
--- ---- shares
+-- ---- numbers
+
+number16_is : IsField (number w16) (λ n. n < 2 ^ 16)
+number16_is = record { long = λ n h. refl; passes = λ n h. refl; back = λ n h. from_be_bytes-to_be_bytes_2 n h }
+
+number32_is : IsField (number w32) (λ n. n < 2 ^ 32)
+number32_is = record { long = λ n h. refl; passes = λ n h. refl; back = λ n h. from_be_bytes-to_be_bytes_4 n h }
 
 pub share_is : IsField share (FitsSigned w32)
 share_is = record {
@@ -121,24 +128,57 @@ soft_is = record {
   back = soft_back;
 }
 
+-- ---- moves
+
+move_passes : (m : Move) → IsMove m → is_move m ≡ true
+move_passes m h =
+    let some : (ltb 0 m.amount || eqb m.place 0) ≡ true = elim (cases_eq m.amount 0) [
+      | inl none ↦ or_right (ltb 0 m.amount) (eqb m.place 0) (eq-eqb m.place 0 (h.unmoved none))
+      | inr some ↦ or_left (ltb 0 m.amount) (eqb m.place 0) (lt-ltb 0 m.amount (omega (arith, some)))
+    ] in
+    and_from _ _ (lt-ltb m.amount 2147483648 h.amount_fits) some
+
+numbers_are : IsField move_numbers (λ x. (x.0 < 2 ^ 16) × (x.1 < 2 ^ 32))
+numbers_are = both_are (number w16) (number w32) (λ n. n < 2 ^ 16) (λ n. n < 2 ^ 32) number16_is number32_is
+
+move_back : (m : Move) → IsMove m → move.value (move.bytes m) ≡ m
+move_back m h =
+    ap move_of (numbers_are.back (m.place, m.amount) (h.place_fits, omega (arith, h.amount_fits)))
+
+pub move_is : IsField move IsMove
+move_is = record { long = λ m h. refl; passes = λ m h. ap is_move (move_back m h) ∙ move_passes m h; back = move_back }
+
 -- ---- the split
 
 -- of this version, and so many
 abbrev pub IsOf : Version → ℕ → Split → Type 0
 IsOf versions.Listed n (Listed xs) = (length xs ≡ n) × All (FitsSigned w32) xs
+IsOf versions.Listed n (Moved ms) = ⊥
+IsOf versions.Moved n (Listed xs) = ⊥
+IsOf versions.Moved n (Moved ms) = (length ms ≡ n) × All IsMove ms
 
 -- a split's bytes, whatever the version
 pub split_bytes_are : (v : Version) (n : ℕ) (s : Split) → split_bytes s ≡ (split v n).bytes s
 split_bytes_are versions.Listed n s = refl
+split_bytes_are versions.Moved n s = refl
 
 split_long : (v : Version) (n : ℕ) (s : Split) → IsOf v n s → length ((split v n).bytes s) ≡ (split v n).size
 split_long versions.Listed n (Listed xs) h = (many_are n share (FitsSigned w32) share_is).long xs h
+split_long versions.Listed n (Moved ms) h = absurd h
+split_long versions.Moved n (Listed xs) h = absurd h
+split_long versions.Moved n (Moved ms) h = (many_are n move IsMove move_is).long ms h
 
 split_passes : (v : Version) (n : ℕ) (s : Split) → IsOf v n s → (split v n).test ((split v n).bytes s) ≡ true
 split_passes versions.Listed n (Listed xs) h = (many_are n share (FitsSigned w32) share_is).passes xs h
+split_passes versions.Listed n (Moved ms) h = absurd h
+split_passes versions.Moved n (Listed xs) h = absurd h
+split_passes versions.Moved n (Moved ms) h = (many_are n move IsMove move_is).passes ms h
 
 split_back : (v : Version) (n : ℕ) (s : Split) → IsOf v n s → (split v n).value ((split v n).bytes s) ≡ s
 split_back versions.Listed n (Listed xs) h = ap Listed ((many_are n share (FitsSigned w32) share_is).back xs h)
+split_back versions.Listed n (Moved ms) h = absurd h
+split_back versions.Moved n (Listed xs) h = absurd h
+split_back versions.Moved n (Moved ms) h = ap Moved ((many_are n move IsMove move_is).back ms h)
 
 pub split_is : (v : Version) (n : ℕ) → IsField (split v n) (IsOf v n)
 split_is v n = record { long = split_long v n; passes = split_passes v n; back = split_back v n }

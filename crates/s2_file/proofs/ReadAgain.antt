@@ -1,5 +1,5 @@
 -- What is written is read back.
-use Rattle.std.proofs.Common.{◌≡◌, ℕ, ◌+◌, ◌*◌, ◌^◌, ◌<◌, ◌≤◌, ltb, true, false, Bool, ℤ, List, ◌++◌, length, Ok, mul-le-mul, refl, ap, ◌∙◌, arith, length-append, le-leb}
+use Rattle.std.proofs.Common.{◌≡◌, ℕ, ◌+◌, ◌*◌, ◌^◌, ◌<◌, ◌≤◌, ltb, true, false, Bool, ℤ, List, ◌++◌, length, Ok, mul-le-mul, refl, sym, ap, ◌∙◌, arith, length-append, le-leb}
 use Rattle.std.specs.Int.{Width, w16, w32, byte_len, to_be_bytes, from_be_bytes}
 use Rattle.std.proofs.lemmas.Bool.{and_from, le-ltb}
 use Rattle.std.proofs.lemmas.List.{take_at, drop_at}
@@ -11,8 +11,8 @@ use Rattle.s2_file.proofs.ShapeTests.{shape_passes}
 use Rattle.s2_file.specs.declared.header.Header.{Header}
 use Rattle.s2_file.specs.declared.version.Version.{Version}
 use Rattle.s2_file.specs.declared.version.Version.TheVariants as versions
-use Rattle.s2_file.specs.File.{File, Split, Listed, IsFile, IsSplit}
-use Rattle.s2_file.specs.Format.{◌>>=◌, is_shape, demand, front_at, number_at, count_at, is_ranged, ranged, header_at, body, body_at, file_of, file_of_bytes, IsHeader, version_of, count_of, count_bytes, header_bytes, header_of, ReadBackLaw}
+use Rattle.s2_file.specs.File.{File, Split, Listed, Moved, IsFile, IsSplit}
+use Rattle.s2_file.specs.Format.{◌>>=◌, is_shape, demand, front_at, number_at, count_at, is_ranged, ranged, header_at, body, body_at, file_of, file_of_bytes, IsCount, IsHeader, version_of, count_of, count_bytes, header_bytes, header_of, ReadBackLaw}
 use Rattle.s2_file.proofs.Bodies.{body_accepted}
 use Rattle.s2_file.proofs.Fields.{IsOf, IsBody, body_is}
 
@@ -24,8 +24,9 @@ number_again w n rest long again =
 two_again : (n : ℕ) (rest : List ℕ) → n < 2 ^ 16 → number_at w16 (to_be_bytes w16 n ++ rest) ≡ Ok (n, rest)
 two_again n rest h = number_again w16 n rest refl (from_be_bytes-to_be_bytes_2 n h)
 
-count_again : (v : Version) (n : ℕ) (rest : List ℕ) → n ≤ most_shares → count_at v (count_bytes v n ++ rest) ≡ Ok (n, rest)
-count_again versions.Listed n rest few = number_again w32 n rest refl (from_be_bytes-to_be_bytes_4 n (omega (arith, few)))
+count_again : (v : Version) (s : Shape) (n : ℕ) (rest : List ℕ) → IsCount v s n → n ≤ most_shares → count_at v s (count_bytes v n ++ rest) ≡ Ok (n, rest)
+count_again versions.Moved s n rest h few = ap (λ k. Ok (k, rest)) (sym h)
+count_again versions.Listed s n rest h few = number_again w32 n rest refl (from_be_bytes-to_be_bytes_4 n (omega (arith, few)))
 
 -- what follows the front
 abbrev numbers : Header → List ℕ → List ℕ
@@ -35,6 +36,7 @@ numbers h rest =
 front_again : (v : Version) (s : Shape) (scale count : ℕ) (rest : List ℕ) → front_at (header_bytes (record { version = v; shape = s; scale = scale; count = count }) ++ rest) ≡ Ok (v, numbers (record { version = v; shape = s; scale = scale; count = count }) rest)
 unfolding front_at
 front_again versions.Listed s scale count rest = refl
+front_again versions.Moved s scale count rest = refl
 
 shape_small : (s : Shape) → IsShape s → (s.group < 2 ^ 16) × (s.groups < 2 ^ 16) × (s.q < 2 ^ 16)
 shape_small s h =
@@ -56,7 +58,7 @@ header_again h rest p =
     let t3 = to_be_bytes w16 h.scale ++ tail in
     let t2 = to_be_bytes w16 h.shape.q ++ t3 in
     let t1 = to_be_bytes w16 h.shape.groups ++ t2 in
-    rw (two_again h.shape.group t1 small.0, two_again h.shape.groups t2 small.1, two_again h.shape.q t3 small.2, two_again h.scale tail (omega (arith, p.scale_most)), count_again h.version h.count rest p.few) (ranged_again h rest p)
+    rw (two_again h.shape.group t1 small.0, two_again h.shape.groups t2 small.1, two_again h.shape.q t3 small.2, two_again h.scale tail (omega (arith, p.scale_most)), count_again h.version h.shape h.count rest p.counted p.few) (ranged_again h rest p)
 
 body_again : (h : Header) (x : List ℤ × (List Bool × Split)) → IsBody h x → body_at h ((body h).bytes x) ≡ Ok (file_of h x)
 body_again h x p =
@@ -64,18 +66,30 @@ body_again h x p =
     body_accepted h ((body h).bytes x) (b.long x p) (b.passes x p) ∙ ap (λ y. Ok (file_of h y)) (b.back x p)
 
 -- the split of a file is of its version and as long as its header says
-split_of_file : (x : Split) → IsSplit x → IsOf (version_of x) (count_of x) x
-split_of_file (Listed xs) h = (refl, h.1)
+split_of_file : (s : Shape) (x : Split) → IsSplit s x → IsOf (version_of x) (count_of x) x
+split_of_file s (Listed xs) h = (refl, h.1)
+split_of_file s (Moved ms) h = (refl, h.1)
 
-count_few : (x : Split) → IsSplit x → count_of x ≤ most_shares
-count_few (Listed xs) h = h.0
+-- a shape has no more checks than places
+count_few : (s : Shape) (x : Split) → IsShape s → IsSplit s x → count_of x ≤ most_shares
+count_few s (Listed xs) shaped h = h.0
+count_few s (Moved ms) shaped h =
+    let same : s.group ≤ s.group = omega arith in
+    let part : s.q ≤ s.groups + s.q = omega arith in
+    let all : s.group * s.q ≤ s.group * (s.groups + s.q) = mul-le-mul same part in
+    omega (arith, all, shaped.few, h.0)
+
+count_is : (s : Shape) (x : Split) → IsSplit s x → IsCount (version_of x) s (count_of x)
+count_is s (Listed xs) h = tt
+count_is s (Moved ms) h = h.0
 
 pub header_of_file : (f : File) → IsFile f → IsHeader (header_of f)
 header_of_file f h = record {
   shaped = h.shaped;
   scale_some = h.scale_some;
   scale_most = h.scale_most;
-  few = count_few f.split h.split;
+  few = count_few f.shape f.split h.shaped h.split;
+  counted = count_is f.shape f.split h.split;
 }
 
 pub read_back_lem : ReadBackLaw
@@ -86,5 +100,5 @@ read_back_lem f p =
     let rest = (body h).bytes x in
     let front = front_again h.version h.shape h.scale h.count rest in
     let header = header_again h rest (header_of_file f p) in
-    let body' = body_again h x ((p.soft_long, p.soft_range), (p.bits_long, split_of_file f.split p.split)) in
+    let body' = body_again h x ((p.soft_long, p.soft_range), (p.bits_long, split_of_file f.shape f.split p.split)) in
     ap (λ r. r >>= λ f. header_at f.0 f.1 >>= λ h. body_at h.0 h.1) front ∙ ap (λ r. r >>= λ h. body_at h.0 h.1) header ∙ body'

@@ -2,7 +2,7 @@
 use Rattle.std.proofs.Common.{◌≡◌, ℕ, Bool, true, false, cond, List, [], ◌∷◌, length, Result, Ok, Err, subst, ap, ◌∙◌}
 use Rattle.std.specs.Prelude.{nat_lt, ◌==◌}
 use Rattle.std.specs.Int.{Width, w16, w32, byte_len}
-use Rattle.s2_mode.specs.Shape.{shape_of}
+use Rattle.s2_mode.specs.Shape.{Shape, shape_of}
 use Rattle.s2_file.specs.declared.fault.CertFault.{CertFault}
 use Rattle.s2_file.specs.declared.fault.CertFault.TheVariants as faults
 use Rattle.s2_file.specs.declared.header.Header.{Header}
@@ -34,7 +34,8 @@ letter_none letter (byte ∷ rest) = either_none (byte == letter) (Ok rest) (Err
 
 version_none : (bytes : List ℕ) → WantsNone (version_at bytes)
 version_none [] = tt
-version_none (byte ∷ rest) = either_none (byte == 1) (Ok (versions.Listed, rest)) (Err faults.Magic) tt tt
+version_none (byte ∷ rest) =
+    either_none (byte == 1) (Ok (versions.Listed, rest)) _ tt (either_none (byte == 2) (Ok (versions.Moved, rest)) (Err faults.Magic) tt tt)
 
 front_none : (bytes : List ℕ) → WantsNone (front_at bytes)
 unfolding front_at
@@ -44,8 +45,9 @@ front_none bytes =
 number_none : (w : Width) (bytes : List ℕ) → WantsNone (number_at w bytes)
 number_none w bytes = either_none (nat_lt (length bytes) (byte_len w)) (Err faults.Cut) _ tt tt
 
-count_none : (v : Version) (bytes : List ℕ) → WantsNone (count_at v bytes)
-count_none versions.Listed bytes = number_none w32 bytes
+count_none : (v : Version) (s : Shape) (bytes : List ℕ) → WantsNone (count_at v s bytes)
+count_none versions.Listed s bytes = number_none w32 bytes
+count_none versions.Moved s bytes = tt
 
 ranged_none : (h : Header) (rest : List ℕ) → WantsNone (ranged h rest)
 ranged_none h rest =
@@ -54,7 +56,7 @@ ranged_none h rest =
 header_none : (v : Version) (bytes : List ℕ) → WantsNone (header_at v bytes)
 unfolding header_at
 header_none v bytes =
-    bind_none (number_at w16 bytes) _ (number_none w16 bytes) (λ g. bind_none (number_at w16 g.1) _ (number_none w16 g.1) (λ i. bind_none (number_at w16 i.1) _ (number_none w16 i.1) (λ q. bind_none (number_at w16 q.1) _ (number_none w16 q.1) (λ s. bind_none (count_at v s.1) _ (count_none v s.1) (λ c. ranged_none (record { version = v; shape = shape_of g.0 i.0 q.0; scale = s.0; count = c.0 }) c.1)))))
+    bind_none (number_at w16 bytes) _ (number_none w16 bytes) (λ g. bind_none (number_at w16 g.1) _ (number_none w16 g.1) (λ i. bind_none (number_at w16 i.1) _ (number_none w16 i.1) (λ q. bind_none (number_at w16 q.1) _ (number_none w16 q.1) (λ s. bind_none (count_at v (shape_of g.0 i.0 q.0) s.1) _ (count_none v (shape_of g.0 i.0 q.0) s.1) (λ c. ranged_none (record { version = v; shape = shape_of g.0 i.0 q.0; scale = s.0; count = c.0 }) c.1)))))
 
 as_answer : {V : Type 0} (view : V → File) (e : CertFault) (read : Result File CertFault) → IsOther e → read ≡ Err e → FileAnswer view (Err e) read
 as_answer view faults.Magic read h p = p

@@ -1,13 +1,15 @@
 -- What a certificate file says.
-use Rattle.std.specs.Prelude.{◌≡◌, ℕ, ◌≤◌, List, Bool, length, All, FitsSigned, ℤ, pos, neg_ℤ, ◌≤ℤ◌}
+use Rattle.std.specs.Prelude.{◌≡◌, ℕ, ◌<◌, ◌≤◌, List, Bool, length, All, FitsSigned, ℤ, pos, neg_ℤ, ◌≤ℤ◌}
 use Rattle.std.specs.Int.{w32}
-use Rattle.s2_mode.specs.Shape.{Shape, IsShape, code_bits}
+use Rattle.s2_mode.specs.Shape.{Shape, IsShape, check_count, code_bits}
 use Rattle.s2_mode.specs.Limits.{most_soft}
 use Rattle.s2_file.specs.Limits.{most_scale, most_shares}
+use Rattle.s2_file.specs.declared.step.Move.{Move}
 
--- the split of a file: a share for each edge, check by check, members rising
+-- the split of a file: a share for each edge, check by check, members rising; or a move for each check
 pub data Split : Type 0 where
   Listed : List ℤ → Split
+  Moved : List Move → Split
 
 -- a shape, a scale, a soft value and a bit for each place of a codeword, and a split
 pub record File : Type 0 where
@@ -22,9 +24,16 @@ pub record IsSoft (v : ℤ) : Type 0 where
   pub low : neg_ℤ (pos most_soft) ≤ℤ v
   pub high : v ≤ℤ pos most_soft
 
--- not too many shares, of 32 bits
-abbrev pub IsSplit : Split → Type 0
-IsSplit (Listed shares) = (length shares ≤ most_shares) × All (FitsSigned w32) shares
+-- the target's place among the members of its check in two bytes, an amount below 2^31, and place 0 where nothing is moved
+pub record IsMove (m : Move) : Type 0 where
+  pub place_fits : m.place < 65536
+  pub amount_fits : m.amount < 2147483648
+  pub unmoved : m.amount ≡ 0 → m.place ≡ 0
+
+-- not too many shares, of 32 bits; or a move for each check
+abbrev pub IsSplit : Shape → Split → Type 0
+IsSplit s (Listed shares) = (length shares ≤ most_shares) × All (FitsSigned w32) shares
+IsSplit s (Moved moves) = (length moves ≡ check_count s) × All IsMove moves
 
 pub record IsFile (f : File) : Type 0 where
   pub shaped : IsShape f.shape
@@ -33,4 +42,4 @@ pub record IsFile (f : File) : Type 0 where
   pub soft_long : length f.soft ≡ code_bits f.shape
   pub soft_range : All IsSoft f.soft
   pub bits_long : length f.bits ≡ code_bits f.shape
-  pub split : IsSplit f.split
+  pub split : IsSplit f.shape f.split

@@ -1,18 +1,19 @@
 -- Certificate files: what is accepted, and the first refusal of what is not. Read from top to bottom; big endian, two's complement.
-use Rattle.std.specs.Prelude.{◌≡◌, ◌↔◌, IsTrue, ℕ, ◌≤◌, nat_le, nat_lt, ◌==◌, ◌&&◌, Bool, if◌then◌else◌, List, [], ◌∷◌, ◌++◌, length, take, drop, Result, Ok, Err, ℤ}
+use Rattle.std.specs.Prelude.{◌≡◌, ◌↔◌, IsTrue, ℕ, ◌≤◌, nat_le, nat_lt, ◌==◌, ◌||◌, ◌&&◌, Bool, if◌then◌else◌, List, [], ◌∷◌, ◌++◌, length, take, drop, Result, Ok, Err, ℤ}
 use Rattle.std.specs.Int.{Width, w16, w32, byte_len, from_be_bytes, to_be_bytes}
 use Rattle.std.specs.List.{flat_map}
-use Rattle.s2_mode.specs.Shape.{Shape, IsShape, shape_of, code_bits}
+use Rattle.s2_mode.specs.Shape.{Shape, IsShape, shape_of, check_count, code_bits}
 use Rattle.s2_mode.specs.Limits.{most_bits, most_group}
 use Rattle.s2_rows.specs.Values.{is_value}
 use Rattle.s2_file.specs.declared.fault.CertFault.{CertFault}
 use Rattle.s2_file.specs.declared.fault.CertFault.TheVariants as faults
 use Rattle.s2_file.specs.declared.header.Header.{Header}
+use Rattle.s2_file.specs.declared.step.Move.{Move}
 use Rattle.s2_file.specs.declared.version.Version.{Version}
 use Rattle.s2_file.specs.declared.version.Version.TheVariants as versions
 use Rattle.s2_file.specs.Limits.{most_scale, most_shares}
-use Rattle.s2_file.specs.Field.{Field, signed, tested, both, many, bit_list}
-use Rattle.s2_file.specs.File.{File, IsFile, Split, Listed}
+use Rattle.s2_file.specs.Field.{Field, number, signed, tested, both, many, bit_list}
+use Rattle.s2_file.specs.File.{File, IsFile, Split, Listed, Moved}
 
 -- a reading, and what is read after it
 infixl 10 ◌>>=◌
@@ -32,7 +33,8 @@ letter_at letter (byte ∷ rest) = if byte == letter then Ok rest else Err fault
 
 abbrev pub version_at : List ℕ → Result (Version × List ℕ) CertFault
 version_at [] = Err faults.Cut
-version_at (byte ∷ rest) = if byte == 1 then Ok (versions.Listed, rest) else Err faults.Magic
+version_at (byte ∷ rest) =
+    if byte == 1 then Ok (versions.Listed, rest) else if byte == 2 then Ok (versions.Moved, rest) else Err faults.Magic
 
 unfoldable pub front_at : List ℕ → Result (Version × List ℕ) CertFault
 front_at bytes = do
@@ -42,14 +44,15 @@ front_at bytes = do
   l ← letter_at 76 m
   version_at l
 
--- ---- the header: the shape and the scale in two bytes each, and the count of shares in four
+-- ---- the header: the shape and the scale in two bytes each, and the count of shares in four; that of moves is not there
 
 abbrev pub number_at : Width → List ℕ → Result (ℕ × List ℕ) CertFault
 number_at w bytes =
     if nat_lt (length bytes) (byte_len w) then Err faults.Cut else Ok (from_be_bytes w (take (byte_len w) bytes), drop (byte_len w) bytes)
 
-abbrev pub count_at : Version → List ℕ → Result (ℕ × List ℕ) CertFault
-count_at versions.Listed bytes = number_at w32 bytes
+abbrev pub count_at : Version → Shape → List ℕ → Result (ℕ × List ℕ) CertFault
+count_at versions.Listed shape bytes = number_at w32 bytes
+count_at versions.Moved shape bytes = Ok (check_count shape, bytes)
 
 -- numbers that are a shape
 abbrev pub is_shape : Shape → Bool
@@ -64,12 +67,18 @@ ShapeLaw = (s : Shape) → IsTrue (is_shape s) ↔ IsShape s
 abbrev pub is_ranged : Header → Bool
 is_ranged h = nat_le 1 h.scale && (nat_le h.scale most_scale && nat_le h.count most_shares)
 
+-- a move for each check
+abbrev pub IsCount : Version → Shape → ℕ → Type 0
+IsCount versions.Listed shape count = Unit
+IsCount versions.Moved shape count = count ≡ check_count shape
+
 -- what is known of the header of a file
 pub record IsHeader (h : Header) : Type 0 where
   pub shaped : IsShape h.shape
   pub scale_some : 1 ≤ h.scale
   pub scale_most : h.scale ≤ most_scale
   pub few : h.count ≤ most_shares
+  pub counted : IsCount h.version h.shape h.count
 
 abbrev pub ranged : Header → List ℕ → Result (Header × List ℕ) CertFault
 ranged h rest = demand (is_shape h.shape) faults.Shape (demand (is_ranged h) faults.Range (Ok (h, rest)))
@@ -80,7 +89,7 @@ header_at version bytes = do
   groups ← number_at w16 group.1
   q ← number_at w16 groups.1
   scale ← number_at w16 q.1
-  count ← count_at version scale.1
+  count ← count_at version (shape_of group.0 groups.0 q.0) scale.1
   ranged (record { version = version; shape = shape_of group.0 groups.0 q.0; scale = scale.0; count = count.0 }) count.1
 
 -- ---- the body: a soft value and a bit for each place of a codeword, and the split
@@ -95,14 +104,40 @@ soft = tested (signed soft_width) is_value
 abbrev pub share : Field ℤ
 share = signed w32
 
+abbrev pub move_of : ℕ × ℕ → Move
+move_of m = record { place = m.0; amount = m.1 }
+
+-- an amount below 2^31, and place 0 where nothing is moved
+abbrev pub is_move : Move → Bool
+is_move m = nat_lt m.amount 2147483648 && (nat_lt 0 m.amount || (m.place == 0))
+
+-- the target's place among the members of its check, and the amount
+abbrev pub move_numbers : Field (ℕ × ℕ)
+move_numbers = both (number w16) (number w32)
+
+abbrev pub move : Field Move
+move = record {
+  size = move_numbers.size;
+  test = λ bytes. is_move (move_of (move_numbers.value bytes));
+  value = λ bytes. move_of (move_numbers.value bytes);
+  bytes = λ m. move_numbers.bytes (m.place, m.amount);
+}
+
 abbrev pub split_bytes : Split → List ℕ
 split_bytes (Listed shares) = flat_map share.bytes shares
+split_bytes (Moved moves) = flat_map move.bytes moves
 
 abbrev pub split : Version → ℕ → Field Split
 split versions.Listed n = record {
   size = (many n share).size;
   test = (many n share).test;
   value = λ bytes. Listed ((many n share).value bytes);
+  bytes = split_bytes;
+}
+split versions.Moved n = record {
+  size = (many n move).size;
+  test = (many n move).test;
+  value = λ bytes. Moved ((many n move).value bytes);
   bytes = split_bytes;
 }
 
@@ -134,15 +169,19 @@ file_of_bytes bytes = do
 
 abbrev pub version_of : Split → Version
 version_of (Listed shares) = versions.Listed
+version_of (Moved moves) = versions.Moved
 
 abbrev pub version_byte : Version → ℕ
 version_byte versions.Listed = 1
+version_byte versions.Moved = 2
 
 abbrev pub count_of : Split → ℕ
 count_of (Listed shares) = length shares
+count_of (Moved moves) = length moves
 
 abbrev pub count_bytes : Version → ℕ → List ℕ
 count_bytes versions.Listed count = to_be_bytes w32 count
+count_bytes versions.Moved count = []
 
 abbrev pub header_of : File → Header
 header_of f = record { version = version_of f.split; shape = f.shape; scale = f.scale; count = count_of f.split }

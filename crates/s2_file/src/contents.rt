@@ -8,8 +8,8 @@ ghost use Rattle.s2_file.specs.Answers.{FileAnswer, Reads};
 use crate::fault::CertFault;
 use crate::header::{Header, read_front, read_header};
 use crate::held::Held;
-use crate::lists::{are_soft, is_padded, shares, soft_values};
-use crate::version::{SHARE_BYTES, SOFT_BYTES, Version};
+use crate::lists::{are_moves, are_soft, is_padded, moves, shares, soft_values};
+use crate::version::{MOVE_BYTES, SHARE_BYTES, SOFT_BYTES, Version};
 use s2_bits::Bits;
 use s2_mode::Shape;
 use std::alloc::{AllocError, Global};
@@ -55,6 +55,18 @@ fn split_size(header: &Header) -> usize
 {
     match header.version {
         Version::Listed => header.count * SHARE_BYTES,
+        Version::Moved => header.count * MOVE_BYTES,
+    }
+}
+
+/// Whether the split's numbers are in range.
+fn is_split(header: &Header, bytes: &[u8]) -> bool
+    requires { length bytes.now ≡ (split header.now.version header.now.count).size }
+    ensures { result ≡ (split header.now.version header.now.count).test bytes.now }
+{
+    match header.version {
+        Version::Listed => true,
+        Version::Moved => are_moves(bytes, header.count),
     }
 }
 
@@ -62,13 +74,18 @@ fn split_size(header: &Header) -> usize
 fn read_split(alloc: Global, header: &Header, bytes: &[u8]) -> Result<Held, AllocError>
     requires header { IsHeader header.now }
     requires size { length bytes.now ≡ (split header.now.version header.now.count).size }
+    requires tests { (split header.now.version header.now.count).test bytes.now ≡ true }
     ensures is { IfOk result (λ s. split_in s ≡ (split header.now.version header.now.count).value bytes.now) }
-    ensures fits { IfOk result (λ s. IsSplit (split_in s)) }
+    ensures fits { IfOk result (λ s. IsSplit header.now.shape (split_in s)) }
 {
     match header.version {
         Version::Listed => {
             let list = shares(alloc, bytes, header.count)?;
             Ok(Held::Listed(list))
+        }
+        Version::Moved => {
+            let list = moves(alloc, bytes, header.count)?;
+            Ok(Held::Moved(list))
         }
     }
 }
@@ -92,7 +109,7 @@ fn accept(header: &Header, bytes: &[u8]) -> Result<(), CertFault>
     }
     let (soft, rest) = bytes.split_at(soft_size);
     let (word, last) = rest.split_at(word_size);
-    if !are_soft(soft, n) || !is_padded(word, n) {
+    if !are_soft(soft, n) || !is_padded(word, n) || !is_split(header, last) {
         return Err(CertFault::Range);
     }
     Ok(())
@@ -134,8 +151,8 @@ impl Contents {
     }
 
     /// The contents of a file, or its first refusal in this order: magic, cut (before the end of
-    /// the header), shape, range (the scale or the count), cut, extra, range (a soft value or a
-    /// padding bit). `NoMemory` comes only for a file that is otherwise accepted.
+    /// the header), shape, range (the scale or the count), cut, extra, range (a soft value, a
+    /// padding bit or a move). `NoMemory` comes only for a file that is otherwise accepted.
     #[tactic(auto, unfolding(crate::specs::Format::file_of_bytes))]
     pub fn read(alloc: Global, bytes: &[u8]) -> Result<Contents, CertFault>
         ensures { FileAnswer (λ c. c) result (file_of_bytes bytes.now) }

@@ -1,7 +1,8 @@
 //! The front and the header of a file, each reader giving a value and the rest.
 ghost use Rattle.std.specs.Prelude.{◌≡◌, IfOk};
 ghost use Rattle.std.specs.Int.{w16, w32};
-ghost use Rattle.s2_file.specs.Format.{letter_at, version_at, front_at, number_at, count_at, header_at, IsHeader};
+ghost use Rattle.s2_mode.specs.Shape.{shape_of};
+ghost use Rattle.s2_file.specs.Format.{letter_at, version_at, front_at, number_at, count_at, header_at, IsCount, IsHeader};
 ghost use Rattle.s2_file.specs.Answers.{Reads};
 
 use crate::fault::CertFault;
@@ -18,7 +19,7 @@ pub struct Header {
     pub shape: Shape,
     /// The scale of the split.
     pub scale: u16,
-    /// How many shares there are.
+    /// How many shares or moves there are.
     pub count: usize,
 }
 
@@ -47,6 +48,8 @@ fn read_version(bytes: &[u8]) -> Result<(Version, &[u8]), CertFault>
         [byte, rest @ ..] => {
             if *byte == 1 {
                 Ok((Version::Listed, rest))
+            } else if *byte == 2 {
+                Ok((Version::Moved, rest))
             } else {
                 Err(CertFault::Magic)
             }
@@ -90,12 +93,23 @@ fn number32(bytes: &[u8]) -> Result<(u32, &[u8]), CertFault>
     Ok((number, rest))
 }
 
-/// How many shares there are.
-fn read_count(version: Version, bytes: &[u8]) -> Result<(u32, &[u8]), CertFault>
-    ensures { Reads (λ x. (x.0, x.1.now)) result (count_at version bytes.now) }
+/// How many shares or moves there are: there is a move for each check.
+fn read_count(
+    version: Version,
+    group: u16,
+    groups: u16,
+    q: u16,
+    bytes: &[u8],
+) -> Result<(usize, &[u8]), CertFault>
+    ensures is { Reads (λ x. (x.0, x.1.now)) result (count_at version (shape_of group groups q) bytes.now) }
+    ensures counted { IfOk result (λ x. IsCount version (shape_of group groups q) x.0) }
 {
     match version {
-        Version::Listed => number32(bytes),
+        Version::Listed => {
+            let (count, rest) = number32(bytes)?;
+            Ok((count as usize, rest))
+        }
+        Version::Moved => Ok((usize::from(group) * usize::from(q), bytes)),
     }
 }
 
@@ -109,8 +123,7 @@ pub(crate) fn read_header(version: Version, bytes: &[u8]) -> Result<(Header, &[u
     let (groups, rest) = number16(rest)?;
     let (q, rest) = number16(rest)?;
     let (scale, rest) = number16(rest)?;
-    let (count, rest) = read_count(version, rest)?;
-    let count = count as usize;
+    let (count, rest) = read_count(version, group, groups, q, rest)?;
     let Some(shape) = Shape::new(usize::from(group), usize::from(groups), usize::from(q)) else {
         return Err(CertFault::Shape);
     };

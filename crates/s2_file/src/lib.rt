@@ -2,10 +2,11 @@
 //! what a file says as a view.
 //!
 //! A file has S2ML and a version, a shape and a scale, a soft value and a bit for each place of a
-//! codeword, and a split of the soft values. [`Contents::read`] accepts exactly the files of the
+//! codeword, and a split of the soft values: a share for each edge (version 1), or a move for each
+//! check (version 2). [`Contents::read`] accepts exactly the files of the
 //! format, which `specs/Format` reads from top to bottom, and answers the first refusal of any other
 //! file; only it takes memory. What the writers of [`write_header`], [`write_soft`], [`write_word`]
-//! and [`write_share`] append, one after the other, is accepted as the same contents
+//! and [`write_share`] or [`write_move`] append, one after the other, is accepted as the same contents
 //! ([`laws::read_back`]).
 //!
 //! ```
@@ -23,6 +24,7 @@ pub mod laws;
 mod limits;
 mod lists;
 mod page;
+mod step;
 mod version;
 mod write;
 
@@ -32,5 +34,6 @@ pub use header::Header;
 pub use held::Held;
 pub use limits::{MOST_SCALE, MOST_SHARES};
 pub use page::Page;
+pub use step::Move;
 pub use version::Version;
-pub use write::{write_header, write_share, write_soft, write_word};
+pub use write::{write_header, write_move, write_share, write_soft, write_word};

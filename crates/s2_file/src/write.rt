@@ -9,10 +9,11 @@ ghost use Rattle.s2_file.specs.Limits.{most_shares};
 ghost use Rattle.s2_file.specs.Pages.{PutsThrough};
 ghost use Rattle.s2_file.specs.Field.{bytes_of_bits};
 ghost use Rattle.s2_file.specs.File.{IsSoft};
-ghost use Rattle.s2_file.specs.Format.{header_bytes, soft, share, version_byte, count_bytes, front_bytes};
+ghost use Rattle.s2_file.specs.Format.{header_bytes, soft, share, move, version_byte, count_bytes, front_bytes};
 
 use crate::header::Header;
 use crate::page::{Page, put, put_all};
+use crate::step::Move;
 use crate::version::Version;
 use s2_bits::Bits;
 use s2_mode::{CountedWrite, WriteFault};
@@ -23,6 +24,7 @@ fn byte_of(version: Version) -> u8
 {
     match version {
         Version::Listed => 1,
+        Version::Moved => 2,
     }
 }
 
@@ -50,7 +52,7 @@ fn write_front<W: CountedWrite>(
     )
 }
 
-/// Writes the count of shares.
+/// Writes the count of shares. There is none of moves.
 fn write_count<W: CountedWrite>(
     out: &mut W,
     page: &mut Page,
@@ -63,6 +65,7 @@ fn write_count<W: CountedWrite>(
 {
     match version {
         Version::Listed => put_all(out, page, &count.to_be_bytes()),
+        Version::Moved => Ok(()),
     }
 }
 
@@ -136,4 +139,19 @@ pub fn write_share<W: CountedWrite>(
     ensures cause { CountsFault (W.count out.old) (W.count out.new) result }
 {
     put_all(out, page, &value.cast_unsigned().to_be_bytes())
+}
+
+/// Writes a move.
+pub fn write_move<W: CountedWrite>(
+    out: &mut W,
+    page: &mut Page,
+    value: Move,
+) -> Result<(), WriteFault>
+    requires { W.count out.old < 2 ^ 64 - 1 }
+    ensures bytes { PutsThrough (move.bytes value) (W.contents out.old) (W.contents out.new) page.old.items page.new.items result }
+    ensures cause { CountsFault (W.count out.old) (W.count out.new) result }
+{
+    let [p0, p1] = value.place.to_be_bytes();
+    let [a0, a1, a2, a3] = value.amount.to_be_bytes();
+    put_all(out, page, &[p0, p1, a0, a1, a2, a3])
 }

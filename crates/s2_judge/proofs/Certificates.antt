@@ -1,21 +1,23 @@
 -- Certificates that are found for codewords.
-use Rattle.std.proofs.Common.{◌≡◌, ◌≢◌, ◌↔◌, IsTrue, ℕ, ◌==◌, Bool, true, false, cond, List, ℤ, Option, None, Some, IfSome, inl, inr, refl, sym, ap, ap₂, subst, ◌∙◌}
+use Rattle.std.proofs.Common.{◌≡◌, ◌≢◌, ◌↔◌, IsTrue, ℕ, ◌<◌, ◌==◌, Bool, true, false, cond, List, ℤ, pos, ◌≤ℤ◌, Option, None, Some, IfSome, inl, inr, refl, sym, ap, subst, ◌∙◌}
 use Rattle.std.proofs.lemmas.Bool.{cases_Bool, both_ways}
 use Rattle.s2_rows.specs.Rows.{Rows}
 use Rattle.s2_matrix.specs.Code.{code_of, IsCodeword}
 use Rattle.s2_check.specs.Views.{View}
 use Rattle.s2_check.specs.Checking.{IsCertificate}
-use Rattle.s2_check.specs.Moves.{all_shares, placed_of}
+use Rattle.s2_check.specs.Moves.{in_favour, placed_of}
+use Rattle.s2_check.proofs.BoundListed.{rest_listed}
+use Rattle.s2_check.specs.Strict.{IsStrict}
 use Rattle.s2_split.specs.Scattered.{repaired, IsScattered}
-use Rattle.s2_split.specs.Making.{Shared, shared, shared_views, made_view, greedy_view}
+use Rattle.s2_split.specs.Making.{Making, Shared, AreLeft, AreSome, HoldsRests, shared, shared_view, shared_views, made_view, greedy_view}
 use Rattle.s2_split.specs.Spreading.{made_split, greedy_split}
 use Rattle.s2_split.proofs.Accepted.{made_certificate, greedy_certificate, scattered_view, scattered_greedy}
 use Rattle.s2_settle.specs.Settled.{settled}
-use Rattle.s2_settle.specs.Plain.{settling_scale}
 use Rattle.s2_settle.specs.Holding.{Settling, view_by as view_settled}
 use Rattle.s2_settle.proofs.SettledViews.{settled_lem}
-use Rattle.s2_judge.specs.Deciding.{IsCertificateOf, or_else, view_for}
+use Rattle.s2_judge.specs.Deciding.{is_strict, IsCertificateOf, or_else, view_for}
 use Rattle.s2_judge.specs.Certifying.{Certifying, settled_shares}
+use Rattle.s2_judge.proofs.Decisions.{strict_is}
 
 -- with passes or without
 pub without_passes : (r : Rows) (passes : ℕ) (soft : List ℤ) (bits : List Bool) → (passes == 0) ≡ true → view_for r passes soft bits ≡ made_view r soft bits
@@ -29,7 +31,7 @@ with_passes r passes soft bits e =
 of_lists : (r : Rows) (soft : List ℤ) (bits : List Bool) (view : View) (o : Option Shared) → shared_views r soft bits o ≡ Some view → (view.soft ≡ soft) × (view.bits ≡ bits)
 of_lists r soft bits view None e = cc
 of_lists r soft bits view (Some s) e =
-    let same : record { shape = r.shape; scale = s.scale; soft = soft; bits = bits; shares = s.shares } ≡ view = cc in
+    let same : shared_view r soft bits s ≡ view = cc in
     (sym (ap (λ (v : View). v.soft) same), sym (ap (λ (v : View). v.bits) same))
 
 shared_shown : (r : Rows) (soft : List ℤ) (bits : List Bool) (view : View) (o : Option Shared) → IfSome (shared_views r soft bits o) (λ v. IsCertificate r v) → shared_views r soft bits o ≡ Some view → IsCertificateOf r soft bits view
@@ -50,12 +52,12 @@ settled_shown r passes soft bits view codeword is =
 pub found_shown : (r : Rows) (passes : ℕ) (soft : List ℤ) (bits : List Bool) (view : View) → IsCodeword (code_of r) bits → view_for r passes soft bits ≡ Some view → IsCertificateOf r soft bits view
 found_shown r passes soft bits view codeword is =
     elim (cases_Bool (passes == 0)) [
-      | inl none ↦ shared_shown r soft bits view (shared (code_of r) (made_split (code_of r) soft bits)) (made_certificate r soft bits codeword) (sym (without_passes r passes soft bits none) ∙ is)
+      | inl none ↦ shared_shown r soft bits view (shared (code_of r) bits (made_split (code_of r) soft bits)) (made_certificate r soft bits codeword) (sym (without_passes r passes soft bits none) ∙ is)
       | inr some ↦ either (greedy_view r soft bits) refl (sym (with_passes r passes soft bits some) ∙ is)
     ]
   where
     either : (o : Option View) → greedy_view r soft bits ≡ o → or_else o (settled r soft bits passes) ≡ Some view → IsCertificateOf r soft bits view
-    either (Some v) e s = shared_shown r soft bits view (shared (code_of r) (greedy_split (code_of r) soft bits)) (greedy_certificate r soft bits codeword) (e ∙ s)
+    either (Some v) e s = shared_shown r soft bits view (shared (code_of r) bits (greedy_split (code_of r) soft bits)) (greedy_certificate r soft bits codeword) (e ∙ s)
     either None e s = settled_shown r passes soft bits view codeword s
 
 -- where the values are scattered about a word, one is found
@@ -86,7 +88,7 @@ found_or_none r soft bits found false says =
     ap (shared_views r soft bits) (found_nothing false found says refl)
 
 -- greedy amounts, where there are passes
-pub by_greedy : (r : Rows) (passes : ℕ) (soft : List ℤ) (word : List Bool) (made : Option Shared) → (passes == 0) ≡ false → made ≡ shared (code_of r) (greedy_split (code_of r) soft word) → made ≢ None → view_for r passes soft word ≡ shared_views r soft word made
+pub by_greedy : (r : Rows) (passes : ℕ) (soft : List ℤ) (word : List Bool) (made : Option Shared) → (passes == 0) ≡ false → made ≡ shared (code_of r) word (greedy_split (code_of r) soft word) → made ≢ None → view_for r passes soft word ≡ shared_views r soft word made
 by_greedy r passes soft word made some made_is found =
     with_passes r passes soft word some ∙ ap (λ o. or_else (shared_views r soft word o) (settled r soft word passes)) (sym made_is) ∙ first made found
   where
@@ -95,17 +97,37 @@ by_greedy r passes soft word made some made_is found =
     first None found = absurd (found refl)
 
 -- nobody, where neither greedy amounts nor passes reach
-pub by_nobody : (r : Rows) (passes : ℕ) (soft : List ℤ) (word : List Bool) (made : Option Shared) → (passes == 0) ≡ false → made ≡ shared (code_of r) (greedy_split (code_of r) soft word) → made ≡ None → settled r soft word passes ≡ None → view_for r passes soft word ≡ None
+pub by_nobody : (r : Rows) (passes : ℕ) (soft : List ℤ) (word : List Bool) (made : Option Shared) → (passes == 0) ≡ false → made ≡ shared (code_of r) word (greedy_split (code_of r) soft word) → made ≡ None → settled r soft word passes ≡ None → view_for r passes soft word ≡ None
 by_nobody r passes soft word made some made_is none is =
     with_passes r passes soft word some ∙ ap (λ o. or_else (shared_views r soft word o) (settled r soft word passes)) (sym made_is ∙ none) ∙ is
 
+settled_same : (r : Rows) (soft : List ℤ) (word : List Bool) (settler : Settling) → settler.rows ≡ r → view_settled settler soft word ≡ shared_view r soft word (settled_shares settler)
+settled_same r soft word settler rows = ap (λ (q : Rows). shared_view q soft word (settled_shares settler)) rows
+
+-- whether what a settler holds is strict
+pub strict_settled : (r : Rows) (soft : List ℤ) (word : List Bool) (settler : Settling) → settler.rows ≡ r → IsCertificate r (view_settled settler soft word) → (IsTrue settler.strict ↔ IsStrict r (view_settled settler soft word)) → is_strict r (shared_view r soft word (settled_shares settler)) ≡ settler.strict
+strict_settled r soft word settler rows accepted says =
+    let view = view_settled settler soft word in
+    ap (is_strict r) (sym (settled_same r soft word settler rows)) ∙ strict_is r view settler.strict (λ yes'. (says.0 yes').strict, λ strict. says.1 (record { certificate = accepted; strict = strict }))
+
+-- whether what a maker holds is, by its rests
+pub strict_made : (r : Rows) (soft : List ℤ) (word : List Bool) (m : Making) (b : Bool) → m.rows ≡ r → HoldsRests m soft word → (IsTrue b ↔ AreSome (code_of m.rows) m.rests) → IfSome m.made (λ s. is_strict r (shared_view r soft word s) ≡ b)
+strict_made r soft word m b rows left says =
+    subst (λ (q : Rows). IfSome m.made (λ s. is_strict q (shared_view q soft word s) ≡ b)) rows (go m.made left)
+  where
+    go : (o : Option Shared) → IfSome o (λ s. AreLeft (code_of m.rows) soft word (placed_of (code_of m.rows) word s.scale s.moves) m.rests) → IfSome o (λ s. is_strict m.rows (shared_view m.rows soft word s) ≡ b)
+    go None h = tt
+    go (Some s) h =
+        let at = λ (i : ℕ) (low : i < (code_of m.rows).bits). h i low ∙ ap (in_favour word i) (sym (rest_listed (code_of m.rows) soft (placed_of (code_of m.rows) word s.scale s.moves) i low)) in
+        strict_is m.rows (shared_view m.rows soft word s) b (λ yes' i low. subst (λ (z : ℤ). pos 1 ≤ℤ z) (at i low) (says.0 yes' i low), λ strict. says.1 (λ i low. subst (λ (z : ℤ). pos 1 ≤ℤ z) (sym (at i low)) (strict i low)))
+
 -- the settler, where greedy amounts don't reach
-pub by_settler : (r : Rows) (passes : ℕ) (soft : List ℤ) (word held : List Bool) (made : Option Shared) (settler : Settling) → (passes == 0) ≡ false → made ≡ shared (code_of r) (greedy_split (code_of r) soft word) → made ≡ None → settler.rows ≡ r → held ≡ word → settled r soft word passes ≡ Some (view_settled settler soft word) → view_for r passes soft word ≡ shared_views r soft word (Some (settled_shares settler held))
-by_settler r passes soft word held made settler some made_is none rows same is =
+pub by_settler : (r : Rows) (passes : ℕ) (soft : List ℤ) (word : List Bool) (made : Option Shared) (settler : Settling) → (passes == 0) ≡ false → made ≡ shared (code_of r) word (greedy_split (code_of r) soft word) → made ≡ None → settler.rows ≡ r → settled r soft word passes ≡ Some (view_settled settler soft word) → view_for r passes soft word ≡ shared_views r soft word (Some (settled_shares settler))
+by_settler r passes soft word made settler some made_is none rows is =
     with_passes r passes soft word some
     ∙ ap (λ o. or_else (shared_views r soft word o) (settled r soft word passes)) (sym made_is ∙ none)
     ∙ is
-    ∙ ap₂ (λ (q : Rows) (w : List Bool). Some (record { shape = q.shape; scale = settling_scale; soft = soft; bits = word; shares = all_shares (code_of settler.rows) (placed_of (code_of settler.rows) w 1 settler.moves) })) rows (sym same)
+    ∙ ap Some (settled_same r soft word settler rows)
 
 -- what a certifier, unchanged before, finds for the repair
 pub view_by_certifier : (soft : List ℤ) (word : List Bool) (before start : Certifying) (found : Option Shared) → word ≡ repaired (code_of start.rows) soft → before ≡ start → view_for before.rows before.passes soft word ≡ shared_views before.rows soft word found → view_for start.rows start.passes soft (repaired (code_of start.rows) soft) ≡ shared_views start.rows soft word found

@@ -16,7 +16,7 @@ decided_long r tuning soft long =
     by_ways r tuning soft (λ d. length d.bits ≡ (code_of r).bits) (λ even. length-map soft _ ∙ long) (λ view even is. length-repaired (code_of r) soft)
     (λ bits none is. with_view bits (found_codeword r tuning.rounds soft bits is).long (view_for r tuning.passes soft bits)) (λ none is. last (satisfies (code_of r) (repaired (code_of r) soft)))
   where
-    with_view : (bits : List Bool) → length bits ≡ (code_of r).bits → (o : Option View) → length (with_made bits o).bits ≡ (code_of r).bits
+    with_view : (bits : List Bool) → length bits ≡ (code_of r).bits → (o : Option View) → length (with_made r bits o).bits ≡ (code_of r).bits
     with_view bits whole (Some view) = whole
     with_view bits whole None = whole
 

@@ -1,25 +1,41 @@
 -- What holds of what is decided.
-use Rattle.std.proofs.Common.{◌≡◌, ◌≢◌, Bool, true, false, cond, List, length, ℤ, pos, Option, None, Some, IfSome, refl, subst, ◌∙◌}
+use Rattle.std.proofs.Common.{◌≡◌, ◌≢◌, ◌↔◌, IsTrue, Bool, true, false, cond, List, length, ℤ, pos, Option, None, Some, IfSome, refl, sym, ap, subst, ◌∙◌}
 use Rattle.std.proofs.lemmas.List.{length-map, length-replicate}
 use Rattle.s2_rows.specs.Rows.{Rows}
 use Rattle.s2_matrix.specs.Code.{code_of, first_edge, IsCodeword}
 use Rattle.s2_check.specs.Cost.{IsMostLikely}
 use Rattle.s2_check.specs.Hard.{hard_decision}
+use Rattle.s2_check.specs.Strict.{IsStrict, IsSole}
+use Rattle.s2_check.specs.Verdicts.{is_certified}
 use Rattle.s2_check.specs.Views.{View, unsplit_view}
 use Rattle.s2_check.specs.Checking.{split_in}
 use Rattle.s2_check.proofs.Duality.{weak_duality_lem}
+use Rattle.s2_check.proofs.Strictness.{strictness_lem}
 use Rattle.s2_check.proofs.UnsplitSplits.{unsplit_accepted_lem}
+use Rattle.s2_check.proofs.UnsplitStrict.{unsplit_strict_lem}
 use Rattle.s2_split.specs.Scattered.{repaired}
-use Rattle.s2_judge.specs.Deciding.{Decided, certified, uncertified, satisfies, decoded_bits, first_codeword, with_made, view_for, decided, CleanLaw, LikelyLaw, IsCertificateOf, IsShown, CertifiedLaw, BrokenLaw}
+use Rattle.s2_judge.specs.Deciding.{Decided, is_strict, verdict_by, certified, uncertified, satisfies, decoded_bits, first_codeword, with_made, view_for, decided, CleanLaw, LikelyLaw, SoleLaw, IsCertificateOf, IsShown, CertifiedLaw, BrokenLaw}
 use Rattle.s2_check.specs.declared.verdict.Verdict.{Verdict}
-use Rattle.s2_check.specs.declared.verdict.Verdict.TheVariants.{MostLikely, Parity, Broken}
+use Rattle.s2_check.specs.declared.verdict.Verdict.TheVariants.{Sole, Parity, Broken}
 use Rattle.s2_judge.proofs.Certificates.{found_shown}
 use Rattle.s2_split.proofs.Repairs.{length-repaired}
-use Rattle.s2_judge.proofs.Decisions.{satisfied_codeword, codeword_satisfied, not_codeword, found_codeword, last_odd, by_hard, by_ways}
+use Rattle.s2_judge.proofs.Decisions.{strict_test, test_strict, certified_by, satisfied_codeword, codeword_satisfied, not_codeword, found_codeword, last_odd, by_hard, by_ways}
+
+sole_by : (b : Bool) → verdict_by b ≡ Sole → b ≡ true
+sole_by true e = refl
+sole_by false e = cc
+
+not_broken : (b : Bool) → verdict_by b ≢ Broken
+not_broken true e = cc
+not_broken false e = cc
 
 pub clean_lem : CleanLaw
 clean_lem r tuning soft codeword =
-    by_hard r tuning soft (codeword_satisfied (code_of r) (hard_decision soft) codeword)
+    let view = unsplit_view r soft (hard_decision soft) in
+    let is = by_hard r tuning soft (codeword_satisfied (code_of r) (hard_decision soft) codeword) in
+    let verdict = ap (λ (d : Decided). d.verdict) is in
+    let rests = unsplit_strict_lem (code_of r) soft (first_edge (code_of r) (code_of r).checks) (sym (length-map soft _) ∙ codeword.long) in
+    (is, (λ e. rests.1 (test_strict r view (sole_by (is_strict r view) (sym verdict ∙ e))), λ some. verdict ∙ ap verdict_by (strict_test r view (rests.0 some))))
 
 -- ---- certificates
 
@@ -34,11 +50,16 @@ unsplit_shown r soft codeword = record {
   word = refl;
 }
 
-by_certificate : (r : Rows) (soft : List ℤ) (bits : List Bool) (view : View) → IsCertificateOf r soft bits view → IsShown r soft (certified bits view)
-by_certificate r soft bits view c = record { some = λ e none. cc; only = λ some. refl; certified = c }
+by_certificate : (r : Rows) (soft : List ℤ) (bits : List Bool) (view : View) → IsCertificateOf r soft bits view → IsShown r soft (certified r bits view)
+by_certificate r soft bits view c = record {
+  some = λ e none. cc;
+  only = λ some. certified_by (is_strict r view);
+  certified = c;
+  strict = (λ e. record { certificate = c.accepted; strict = test_strict r view (sole_by (is_strict r view) e) }, λ s. ap verdict_by (strict_test r view s.strict));
+}
 
-without : (r : Rows) (soft : List ℤ) (verdict : Verdict) (bits : List Bool) → verdict ≢ MostLikely → IsShown r soft (uncertified verdict bits)
-without r soft verdict bits other = record { some = λ e. absurd (other e); only = λ some. absurd (some refl); certified = tt }
+without : (r : Rows) (soft : List ℤ) (verdict : Verdict) (bits : List Bool) → (IsTrue (is_certified verdict) → ⊥) → IsShown r soft (uncertified verdict bits)
+without r soft verdict bits other = record { some = λ e. absurd (other e); only = λ some. absurd (some refl); certified = tt; strict = tt }
 
 hard_codeword : (r : Rows) (soft : List ℤ) → length soft ≡ (code_of r).bits → satisfies (code_of r) (hard_decision soft) ≡ true → IsCodeword (code_of r) (hard_decision soft)
 hard_codeword r soft long even =
@@ -52,7 +73,7 @@ pub certified_lem : CertifiedLaw
 certified_lem r tuning soft long =
     by_ways r tuning soft (IsShown r soft) (λ even. by_certificate r soft (hard_decision soft) _ (unsplit_shown r soft (hard_codeword r soft long even))) (λ view even is. by_certificate r soft (repaired (code_of r) soft) view (found_shown r tuning.passes soft (repaired (code_of r) soft) view (repaired_codeword r soft even) is)) (λ bits none is. with_view bits (found_codeword r tuning.rounds soft bits is) (view_for r tuning.passes soft bits) refl) (λ none is. either (satisfies (code_of r) (repaired (code_of r) soft)))
   where
-    with_view : (bits : List Bool) → IsCodeword (code_of r) bits → (o : Option View) → view_for r tuning.passes soft bits ≡ o → IsShown r soft (with_made bits o)
+    with_view : (bits : List Bool) → IsCodeword (code_of r) bits → (o : Option View) → view_for r tuning.passes soft bits ≡ o → IsShown r soft (with_made r bits o)
     with_view bits codeword (Some view) e = by_certificate r soft bits view (found_shown r tuning.passes soft bits view codeword e)
     with_view bits codeword None e = without r soft Parity bits (λ e. cc)
 
@@ -70,6 +91,16 @@ likely_lem r tuning soft long e =
     go (Some view) some c =
         subst (λ (bits : List Bool). IsMostLikely (code_of r) soft bits) c.word (subst (λ (values : List ℤ). IsMostLikely (code_of r) values view.bits) c.values (weak_duality_lem (code_of r) view.soft (split_in r view) view.bits c.accepted.accepted))
 
+pub sole_lem : SoleLaw
+sole_lem r tuning soft long e =
+    let shown = certified_lem r tuning soft long in
+    go (decided r tuning soft).certificate (shown.some (ap is_certified e)) shown.certified shown.strict
+  where
+    go : (o : Option View) → o ≢ None → IfSome o (IsCertificateOf r soft (decided r tuning soft).bits) → IfSome o (λ view. ((decided r tuning soft).verdict ≡ Sole) ↔ IsStrict r view) → IsSole (code_of r) soft (decided r tuning soft).bits
+    go None some c s = absurd (some refl)
+    go (Some view) some c s =
+        subst (λ (bits : List Bool). IsSole (code_of r) soft bits) c.word (subst (λ (values : List ℤ). IsSole (code_of r) values view.bits) c.values (strictness_lem (code_of r) view.soft (split_in r view) view.bits c.accepted.accepted (s.0 e).strict))
+
 -- ---- codewords
 
 Says : Rows → Decided → Type 0
@@ -83,10 +114,10 @@ says_yes r verdict bits view other codeword = (λ _. codeword, λ e. absurd (oth
 pub broken_lem : BrokenLaw
 unfolding Says
 broken_lem r tuning soft long some =
-    by_ways r tuning soft (Says r) (λ even. says_yes r MostLikely (hard_decision soft) (Some (unsplit_view r soft (hard_decision soft))) (λ e. cc) (hard_codeword r soft long even)) (λ view even is. says_yes r MostLikely (repaired (code_of r) soft) (Some view) (λ e. cc) (repaired_codeword r soft even)) (λ bits none is. with_view bits (found_codeword r tuning.rounds soft bits is) (view_for r tuning.passes soft bits)) (λ none is. either (satisfies (code_of r) (repaired (code_of r) soft)) refl is)
+    by_ways r tuning soft (Says r) (λ even. says_yes r (verdict_by (is_strict r (unsplit_view r soft (hard_decision soft)))) (hard_decision soft) (Some (unsplit_view r soft (hard_decision soft))) (not_broken (is_strict r (unsplit_view r soft (hard_decision soft)))) (hard_codeword r soft long even)) (λ view even is. says_yes r (verdict_by (is_strict r view)) (repaired (code_of r) soft) (Some view) (not_broken (is_strict r view)) (repaired_codeword r soft even)) (λ bits none is. with_view bits (found_codeword r tuning.rounds soft bits is) (view_for r tuning.passes soft bits)) (λ none is. either (satisfies (code_of r) (repaired (code_of r) soft)) refl is)
   where
-    with_view : (bits : List Bool) → IsCodeword (code_of r) bits → (o : Option View) → Says r (with_made bits o)
-    with_view bits codeword (Some view) = says_yes r MostLikely bits (Some view) (λ e. cc) codeword
+    with_view : (bits : List Bool) → IsCodeword (code_of r) bits → (o : Option View) → Says r (with_made r bits o)
+    with_view bits codeword (Some view) = says_yes r (verdict_by (is_strict r view)) bits (Some view) (not_broken (is_strict r view)) codeword
     with_view bits codeword None = says_yes r Parity bits None (λ e. cc) codeword
 
     either : (b : Bool) → satisfies (code_of r) (repaired (code_of r) soft) ≡ b → first_codeword r tuning.rounds soft ≡ None → Says r (cond b (uncertified Parity (repaired (code_of r) soft)) (uncertified Broken (decoded_bits r soft tuning.rounds)))

@@ -1,16 +1,22 @@
 -- The ways in which is decided, and what holds of what is decided.
-use Rattle.std.proofs.Common.{◌≡◌, ◌↔◌, IsTrue, ℕ, zero, suc, ◌+◌, ◌%◌, ◌==◌, ◌<◌, ◌≤◌, eq-eqb, eqb-true, Bool, true, false, cond, List, [], ◌∷◌, length, map, get_or, ℤ, Option, None, Some, inl, inr, refl, sym, ap, ap₂, subst, ◌∙◌, arith}
+use Rattle.std.proofs.Common.{◌≡◌, ◌↔◌, IsTrue, ℕ, zero, suc, ◌+◌, ◌%◌, ◌==◌, ◌<◌, ◌≤◌, eq-eqb, eqb-true, Bool, true, false, cond, List, [], ◌∷◌, length, map, get_or, ℤ, pos, int_lt, ◌≤ℤ◌, Option, None, Some, inl, inr, refl, sym, ap, ap₂, subst, ◌∙◌, arith}
 use Rattle.std.specs.List.{find, range_with_len}
 use Rattle.std.proofs.lemmas.Bool.{cases_Bool, both_ways, false_from_ne_true}
+use Rattle.std.proofs.lemmas.Int.{ints}
 use Rattle.std.proofs.lemmas.List.FromFn.{length-range_with_len, get_or-range_with_len, length-map-range_with_len}
 use Rattle.std.proofs.lemmas.List.Sums.{AllPass-from_list_all, list_all-from_AllPass}
 use Rattle.s2_rows.specs.Rows.{Rows}
 use Rattle.s2_matrix.specs.Total.{upto}
 use Rattle.s2_matrix.specs.Code.{Code, code_of, ones_in, IsCodeword}
 use Rattle.s2_check.specs.Hard.{hard_decision}
+use Rattle.s2_check.specs.Split.{rest}
+use Rattle.s2_check.specs.Moves.{in_favour}
 use Rattle.s2_check.specs.Views.{View, unsplit_view}
+use Rattle.s2_check.specs.Checking.{split_in}
+use Rattle.s2_check.specs.Strict.{AreStrict}
+use Rattle.s2_check.specs.Verdicts.{is_certified}
 use Rattle.s2_split.specs.Scattered.{repaired}
-use Rattle.s2_judge.specs.Deciding.{Decided, certified, satisfies, decoded_bits, first_codeword, without_certificate, with_made, by_min_sum, repair_view, by_repair, decided, view_for}
+use Rattle.s2_judge.specs.Deciding.{Decided, is_strict, verdict_by, certified, satisfies, decoded_bits, first_codeword, without_certificate, with_made, by_min_sum, repair_view, by_repair, decided, view_for}
 use Rattle.s2_link.specs.Tuning.{Tuning, tuning_of}
 
 -- ---- the test of every check
@@ -48,6 +54,46 @@ test_in r q bits b same long says =
 
 pub not_codeword : (code : Code) (bits : List Bool) → satisfies code bits ≡ false → IsCodeword code bits → ⊥
 not_codeword code bits no_ codeword = both_ways (satisfies code bits) no_ (codeword_satisfied code bits codeword)
+
+-- ---- the test of every rest
+
+above : (z : ℤ) → pos 1 ≤ℤ z → int_lt (pos 0) z ≡ true
+above z h = grind (arith, ints)
+
+at_one : (z : ℤ) → int_lt (pos 0) z ≡ true → pos 1 ≤ℤ z
+at_one z h = grind (arith, ints)
+
+module _ (r : Rows) (v : View) where
+  abbrev rest_of : ℕ → ℤ
+  rest_of i = in_favour v.bits i (rest (code_of r) v.soft (split_in r v) i)
+
+  pub strict_test : AreStrict (code_of r) v.soft (split_in r v) v.bits → is_strict r v ≡ true
+  unfolding is_strict
+  strict_test strict =
+      let n = (code_of r).bits in
+      let test = λ (i : ℕ). int_lt (pos 0) (rest_of i) in
+      list_all-from_AllPass test (upto n) (λ k d within. (
+      let low : k < n = omega (arith, length-range_with_len 0 n) in
+      let place : get_or (upto n) k d ≡ k = omega (arith, get_or-range_with_len 0 n k d low) in
+      ap test place ∙ above (rest_of k) (strict k low)
+      ))
+
+  pub test_strict : is_strict r v ≡ true → AreStrict (code_of r) v.soft (split_in r v) v.bits
+  unfolding is_strict
+  test_strict h i low =
+      let n = (code_of r).bits in
+      let test = λ (i : ℕ). int_lt (pos 0) (rest_of i) in
+      let short : i < length (upto n) = omega (arith, length-range_with_len 0 n) in
+      let place : get_or (upto n) i 0 ≡ i = omega (arith, get_or-range_with_len 0 n i 0 low) in
+      at_one (rest_of i) (subst (λ k. test k ≡ true) place (AllPass-from_list_all test (upto n) h i 0 short))
+
+  pub strict_is : (b : Bool) → (IsTrue b ↔ AreStrict (code_of r) v.soft (split_in r v) v.bits) → is_strict r v ≡ b
+  strict_is true h = strict_test (h.0 refl)
+  strict_is false h = false_from_ne_true (is_strict r v) (λ e. both_ways false refl (h.1 (test_strict e)))
+
+pub certified_by : (b : Bool) → is_certified (verdict_by b) ≡ true
+certified_by true = refl
+certified_by false = refl
 
 -- ---- the first of a list that passes a test
 
@@ -107,15 +153,15 @@ last_odd r (suc k) soft some is =
 -- ---- the ways in which is decided
 
 module _ (r : Rows) (tuning : Tuning) (soft : List ℤ) where
-  pub by_hard : satisfies (code_of r) (hard_decision soft) ≡ true → decided r tuning soft ≡ certified (hard_decision soft) (unsplit_view r soft (hard_decision soft))
+  pub by_hard : satisfies (code_of r) (hard_decision soft) ≡ true → decided r tuning soft ≡ certified r (hard_decision soft) (unsplit_view r soft (hard_decision soft))
   unfolding decided
   by_hard e =
-      ap (λ b. cond b (certified (hard_decision soft) (unsplit_view r soft (hard_decision soft))) (by_repair r tuning soft (repair_view r tuning.passes soft))) e
+      ap (λ b. cond b (certified r (hard_decision soft) (unsplit_view r soft (hard_decision soft))) (by_repair r tuning soft (repair_view r tuning.passes soft))) e
 
   pub not_hard : satisfies (code_of r) (hard_decision soft) ≡ false → decided r tuning soft ≡ by_repair r tuning soft (repair_view r tuning.passes soft)
   unfolding decided
   not_hard e =
-      ap (λ b. cond b (certified (hard_decision soft) (unsplit_view r soft (hard_decision soft))) (by_repair r tuning soft (repair_view r tuning.passes soft))) e
+      ap (λ b. cond b (certified r (hard_decision soft) (unsplit_view r soft (hard_decision soft))) (by_repair r tuning soft (repair_view r tuning.passes soft))) e
 
   pub repair_made : satisfies (code_of r) (repaired (code_of r) soft) ≡ true → repair_view r tuning.passes soft ≡ view_for r tuning.passes soft (repaired (code_of r) soft)
   repair_made e = ap (λ b. cond b (view_for r tuning.passes soft (repaired (code_of r) soft)) None) e
@@ -139,10 +185,10 @@ module _ (r : Rows) (tuning : Tuning) (soft : List ℤ) where
 
       by_numbers : decided r tuning soft ≡ decided r (tuning_of tuning.rounds tuning.passes) soft
       by_numbers =
-          ap (cond (satisfies (code_of r) (hard_decision soft)) (certified (hard_decision soft) (unsplit_view r soft (hard_decision soft)))) (repair_same (repair_view r tuning.passes soft))
+          ap (cond (satisfies (code_of r) (hard_decision soft)) (certified r (hard_decision soft) (unsplit_view r soft (hard_decision soft)))) (repair_same (repair_view r tuning.passes soft))
 
   -- a proof for each way is a proof for what is decided
-  pub by_ways : (P : Decided → Type 0) → (satisfies (code_of r) (hard_decision soft) ≡ true → P (certified (hard_decision soft) (unsplit_view r soft (hard_decision soft)))) → ((view : View) → satisfies (code_of r) (repaired (code_of r) soft) ≡ true → view_for r tuning.passes soft (repaired (code_of r) soft) ≡ Some view → P (certified (repaired (code_of r) soft) view)) → ((bits : List Bool) → repair_view r tuning.passes soft ≡ None → first_codeword r tuning.rounds soft ≡ Some bits → P (with_made bits (view_for r tuning.passes soft bits))) → (repair_view r tuning.passes soft ≡ None → first_codeword r tuning.rounds soft ≡ None → P (without_certificate r tuning soft)) → P (decided r tuning soft)
+  pub by_ways : (P : Decided → Type 0) → (satisfies (code_of r) (hard_decision soft) ≡ true → P (certified r (hard_decision soft) (unsplit_view r soft (hard_decision soft)))) → ((view : View) → satisfies (code_of r) (repaired (code_of r) soft) ≡ true → view_for r tuning.passes soft (repaired (code_of r) soft) ≡ Some view → P (certified r (repaired (code_of r) soft) view)) → ((bits : List Bool) → repair_view r tuning.passes soft ≡ None → first_codeword r tuning.rounds soft ≡ Some bits → P (with_made r bits (view_for r tuning.passes soft bits))) → (repair_view r tuning.passes soft ≡ None → first_codeword r tuning.rounds soft ≡ None → P (without_certificate r tuning soft)) → P (decided r tuning soft)
   by_ways P hard repair found left =
       elim (cases_Bool (satisfies (code_of r) (hard_decision soft))) [
         | inl even ↦ subst P (sym (by_hard even)) (hard even)

@@ -1,10 +1,11 @@
 -- What is decided on each ground.
-use Rattle.std.proofs.Common.{◌≡◌, ◌≢◌, ℕ, ◌+◌, Bool, true, false, cond, List, All, ℤ, Option, None, Some, refl, sym, ap, ap₂, subst, ◌∙◌, arith}
+use Rattle.std.proofs.Common.{◌≡◌, ◌≢◌, ◌↔◌, IsTrue, IfSome, ℕ, ◌+◌, Bool, true, false, cond, List, All, length, ℤ, Option, None, Some, refl, sym, ap, ap₂, subst, ◌∙◌, arith}
 use Rattle.std.proofs.lemmas.Int.{ints}
 use Rattle.s2_rows.specs.Rows.{Rows}
-use Rattle.s2_matrix.specs.Code.{code_of}
-use Rattle.s2_check.specs.Hard.{hard_decision}
-use Rattle.s2_check.specs.Views.{IsSoft}
+use Rattle.s2_matrix.specs.Code.{code_of, first_edge}
+use Rattle.s2_check.specs.Hard.{hard_decision, NoneIsZero}
+use Rattle.s2_check.specs.Views.{View, IsSoft, unsplit_view}
+use Rattle.s2_check.proofs.UnsplitStrict.{unsplit_strict_lem}
 use Rattle.s2_check.specs.declared.verdict.Verdict.{Verdict}
 use Rattle.s2_check.specs.declared.verdict.Verdict.TheVariants.{Parity, Broken}
 use Rattle.s2_split.specs.Scattered.{repaired}
@@ -16,9 +17,9 @@ use Rattle.s2_minsum.specs.Decoding.{AreWithin, Decoding, decoded}
 use Rattle.s2_link.specs.Tuning.{Tuning, tuning_of}
 use Rattle.s2_judge.specs.declared.ground.Ground.{Ground}
 use Rattle.s2_judge.specs.declared.ground.Ground.TheVariants.{HardDecision, Found, Checks, Nothing}
-use Rattle.s2_judge.specs.Deciding.{Decided, certified, uncertified, satisfies, after_rounds, decoded_bits, first_codeword, with_made, by_min_sum, repair_view, by_repair, decided, view_for}
+use Rattle.s2_judge.specs.Deciding.{Decided, is_strict, verdict_by, certified, uncertified, satisfies, after_rounds, decoded_bits, first_codeword, with_made, by_min_sum, repair_view, by_repair, decided, view_for}
 use Rattle.s2_judge.specs.Judging.{shown_by, verdict_of, view_by}
-use Rattle.s2_judge.proofs.Decisions.{by_hard, not_hard}
+use Rattle.s2_judge.proofs.Decisions.{strict_is, by_hard, not_hard}
 
 -- ---- rounds
 
@@ -42,29 +43,36 @@ bits_step r soft k d bits rows state is =
 
 -- ---- what was found for a codeword
 
-pub with_found : (r : Rows) (soft : List ℤ) (bits : List Bool) (found : Option Shared) → found ≢ None → with_made bits (shared_views r soft bits found) ≡ shown_by r soft bits found Found
-with_found r soft bits (Some s) some = refl
-with_found r soft bits None some = absurd (some refl)
+-- by a certificate that is strict or not
+abbrev by_view : List Bool → View → Bool → Decided
+by_view bits view strict = record { verdict = verdict_by strict; bits = bits; certificate = Some view }
 
-pub with_none : (r : Rows) (soft : List ℤ) (bits : List Bool) (found : Option Shared) → found ≡ None → with_made bits (shared_views r soft bits found) ≡ shown_by r soft bits found Checks
+pub with_found : (r : Rows) (soft : List ℤ) (bits : List Bool) (found : Option Shared) (strict : Bool) → found ≢ None → IfSome found (λ s. is_strict r (shared_view r soft bits s) ≡ strict) → with_made r bits (shared_views r soft bits found) ≡ shown_by r soft bits found (Found strict)
+with_found r soft bits (Some s) strict some is = ap (by_view bits (shared_view r soft bits s)) is
+with_found r soft bits None strict some is = absurd (some refl)
+
+pub with_none : (r : Rows) (soft : List ℤ) (bits : List Bool) (found : Option Shared) → found ≡ None → with_made r bits (shared_views r soft bits found) ≡ shown_by r soft bits found Checks
 with_none r soft bits (Some s) none = cc
 with_none r soft bits None none = refl
 
 -- ---- the steps
 
-pub step_one : (r : Rows) (tuning : Tuning) (soft : List ℤ) (bits : List Bool) (found : Option Shared) → bits ≡ hard_decision soft → satisfies (code_of r) (hard_decision soft) ≡ true → decided r tuning soft ≡ shown_by r soft bits found HardDecision
-step_one r tuning soft bits found is even =
-    by_hard r tuning soft even ∙ ap (λ (w : List Bool). shown_by r soft w found HardDecision) (sym is)
+pub step_one : (r : Rows) (tuning : Tuning) (soft : List ℤ) (bits : List Bool) (found : Option Shared) (strict : Bool) → bits ≡ hard_decision soft → satisfies (code_of r) (hard_decision soft) ≡ true → length soft ≡ (code_of r).bits → (IsTrue strict ↔ NoneIsZero soft) → decided r tuning soft ≡ shown_by r soft bits found (HardDecision strict)
+step_one r tuning soft bits found strict is even long says =
+    let view = unsplit_view r soft (hard_decision soft) in
+    let rests = unsplit_strict_lem (code_of r) soft (first_edge (code_of r) (code_of r).checks) long in
+    by_hard r tuning soft even ∙ ap (by_view (hard_decision soft) view) (strict_is r view strict (λ yes'. rests.0 (says.0 yes'), λ all. says.1 (rests.1 all))) ∙ ap (λ (w : List Bool). shown_by r soft w found (HardDecision strict)) (sym is)
 
 -- with a certificate for the repair
-pub step_two : (r : Rows) (tuning : Tuning) (soft : List ℤ) (bits rep : List Bool) (found : Option Shared) → satisfies (code_of r) (hard_decision soft) ≡ false → rep ≡ repaired (code_of r) soft → bits ≡ rep → found ≢ None → repair_view r tuning.passes soft ≡ shared_views r soft rep found → decided r tuning soft ≡ shown_by r soft bits found Found
-step_two r tuning soft bits rep found odd rep_is same some view =
-    not_hard r tuning soft odd ∙ ap (by_repair r tuning soft) view ∙ go found some
+pub step_two : (r : Rows) (tuning : Tuning) (soft : List ℤ) (bits rep : List Bool) (found : Option Shared) (strict : Bool) → satisfies (code_of r) (hard_decision soft) ≡ false → rep ≡ repaired (code_of r) soft → bits ≡ rep → found ≢ None → repair_view r tuning.passes soft ≡ shared_views r soft rep found → IfSome found (λ s. is_strict r (shared_view r soft rep s) ≡ strict) → decided r tuning soft ≡ shown_by r soft bits found (Found strict)
+step_two r tuning soft bits rep found strict odd rep_is same some view is =
+    not_hard r tuning soft odd ∙ ap (by_repair r tuning soft) view ∙ go found some is
   where
-    go : (found : Option Shared) → found ≢ None → by_repair r tuning soft (shared_views r soft rep found) ≡ shown_by r soft bits found Found
-    go None some = absurd (some refl)
-    go (Some s) some =
-        ap₂ (λ (w v : List Bool). certified w (shared_view r soft v s)) (sym rep_is ∙ sym same) (sym same)
+    go : (found : Option Shared) → found ≢ None → IfSome found (λ s. is_strict r (shared_view r soft rep s) ≡ strict) → by_repair r tuning soft (shared_views r soft rep found) ≡ shown_by r soft bits found (Found strict)
+    go None some is = absurd (some refl)
+    go (Some s) some is =
+        ap₂ (λ (w v : List Bool). certified r w (shared_view r soft v s)) (sym rep_is ∙ sym same) (sym same)
+        ∙ ap (by_view bits (shared_view r soft bits s)) (ap (λ (w : List Bool). is_strict r (shared_view r soft w s)) same ∙ is)
 
 -- without one
 pub past_two : (r : Rows) (tuning : Tuning) (soft : List ℤ) → satisfies (code_of r) (hard_decision soft) ≡ false → repair_view r tuning.passes soft ≡ None → decided r tuning soft ≡ by_min_sum r tuning soft (first_codeword r tuning.rounds soft)
@@ -76,7 +84,7 @@ pub by_same : (r q : Rows) (rounds passes p : ℕ) (soft : List ℤ) (bits : Lis
 by_same r q rounds passes p soft bits found ground rows same is =
     subst (λ (q : Rows). by_min_sum q (tuning_of rounds passes) soft (first_codeword q rounds soft) ≡ shown_by q soft bits found ground) rows (subst (λ (p : ℕ). by_min_sum q (tuning_of rounds p) soft (first_codeword q rounds soft) ≡ shown_by q soft bits found ground) same is)
 
-pub step_three : (r : Rows) (tuning : Tuning) (soft : List ℤ) (bits : List Bool) (d : Decided) → first_codeword r tuning.rounds soft ≡ Some bits → with_made bits (view_for r tuning.passes soft bits) ≡ d → by_min_sum r tuning soft (first_codeword r tuning.rounds soft) ≡ d
+pub step_three : (r : Rows) (tuning : Tuning) (soft : List ℤ) (bits : List Bool) (d : Decided) → first_codeword r tuning.rounds soft ≡ Some bits → with_made r bits (view_for r tuning.passes soft bits) ≡ d → by_min_sum r tuning soft (first_codeword r tuning.rounds soft) ≡ d
 step_three r tuning soft bits d is with_ = ap (by_min_sum r tuning soft) is ∙ with_
 
 pub step_four : (r : Rows) (tuning : Tuning) (soft : List ℤ) (bits : List Bool) (found : Option Shared) → first_codeword r tuning.rounds soft ≡ None → satisfies (code_of r) (repaired (code_of r) soft) ≡ true → bits ≡ repaired (code_of r) soft → by_min_sum r tuning soft (first_codeword r tuning.rounds soft) ≡ shown_by r soft bits found Checks

@@ -1,5 +1,5 @@
 -- What is decided where the values are scattered about a codeword.
-use Rattle.std.proofs.Common.{◌≡◌, ◌≢◌, ℕ, ◌<◌, Bool, true, false, not, cond, List, get_or, ℤ, pos, int_lt, None, inl, inr, refl, sym, ap, ◌∙◌, arith}
+use Rattle.std.proofs.Common.{◌≡◌, ◌≢◌, IsTrue, ℕ, ◌<◌, Bool, true, false, not, cond, List, get_or, ℤ, pos, int_lt, None, inl, inr, refl, sym, ap, ◌∙◌, arith}
 use Rattle.std.proofs.lemmas.Bool.{cases_Bool}
 use Rattle.std.proofs.lemmas.List.{ext_get_or, length-map}
 use Rattle.s2_rows.specs.Rows.{Rows}
@@ -8,14 +8,15 @@ use Rattle.s2_matrix.specs.Code.{Code, code_of, members, checks_of, IsCodeword}
 use Rattle.s2_matrix.proofs.Members.{place_in_members}
 use Rattle.s2_check.specs.Cost.{value_at}
 use Rattle.s2_check.specs.Hard.{hard_decision, differs}
+use Rattle.s2_check.specs.Views.{unsplit_view}
 use Rattle.s2_split.specs.Scattered.{IsScattered}
 use Rattle.s2_check.proofs.BoundListed.{check_at}
 use Rattle.s2_split.proofs.RepairLemmas.{odd_is, hard_at, count_some, repair_lem}
-use Rattle.s2_check.specs.declared.verdict.Verdict.TheVariants.{MostLikely}
-use Rattle.s2_judge.specs.Deciding.{Decided, satisfies, repair_view, view_for, ScatteredLaw}
+use Rattle.s2_check.specs.Verdicts.{is_certified}
+use Rattle.s2_judge.specs.Deciding.{Decided, is_strict, satisfies, repair_view, view_for, ScatteredLaw}
 use Rattle.s2_link.specs.Tuning.{Tuning}
 use Rattle.s2_judge.proofs.Certificates.{scattered_found}
-use Rattle.s2_judge.proofs.Decisions.{satisfied_codeword, codeword_satisfied, repair_made, by_ways}
+use Rattle.s2_judge.proofs.Decisions.{satisfied_codeword, codeword_satisfied, certified_by, repair_made, by_ways}
 
 -- where the hard decision is a codeword, no place differs from the word that the values are scattered about
 none_differs : (code : Code) (soft : List ℤ) (word : List Bool) (i : ℕ) → IsScattered code soft word → IsCodeword code (hard_decision soft) → i < code.bits → differs soft word i ≡ false
@@ -55,5 +56,5 @@ repair_shown r tuning soft sent s none =
 pub scattered_lem : ScatteredLaw
 scattered_lem r tuning soft sent s =
     let code = code_of r in
-    let P : Decided → Type 0 = λ d. ((d.verdict ≡ MostLikely) × (d.bits ≡ sent)) in
-    by_ways r tuning soft P (λ even. (refl, hard_scattered code soft sent s (satisfied_codeword code (hard_decision soft) (length-map soft _ ∙ s.long) even))) (λ view even is. (refl, repair_lem code soft sent s)) (λ bits none is. absurd (repair_shown r tuning soft sent s none)) (λ none is. absurd (repair_shown r tuning soft sent s none))
+    let P : Decided → Type 0 = λ d. IsTrue (is_certified d.verdict) × (d.bits ≡ sent) in
+    by_ways r tuning soft P (λ even. (certified_by (is_strict r (unsplit_view r soft (hard_decision soft))), hard_scattered code soft sent s (satisfied_codeword code (hard_decision soft) (length-map soft _ ∙ s.long) even))) (λ view even is. (certified_by (is_strict r view), repair_lem code soft sent s)) (λ bits none is. absurd (repair_shown r tuning soft sent s none)) (λ none is. absurd (repair_shown r tuning soft sent s none))

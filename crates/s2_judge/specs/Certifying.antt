@@ -1,33 +1,30 @@
 -- What a certifier shows, and what holds of its parts.
 use Rattle.std.specs.Prelude.{◌≡◌, ◌≢◌, ℕ, Bool, List, Option, None, Some}
 use Rattle.s2_rows.specs.Rows.{Rows}
-use Rattle.s2_matrix.specs.Code.{code_of}
-use Rattle.s2_check.specs.Moves.{all_shares, placed_of}
 use Rattle.s2_split.specs.Making.{Making, Shared}
 use Rattle.s2_settle.specs.Plain.{settling_scale}
 use Rattle.s2_settle.specs.Holding.{Settling}
 use Rattle.s2_judge.specs.declared.certifier.Holder.{Holder}
 use Rattle.s2_judge.specs.declared.certifier.Holder.TheVariants.{Nobody, Maker, Settler}
 
--- the rows of its matrix, how many passes of settling it runs, the codeword that it was last given, and the shares that it found for it
+-- the rows of its matrix, how many passes of settling it runs, the codeword that it was last given, what it found for it, and whether
+-- that is strict
 pub record Certifying : Type 0 where
   pub rows : Rows
   pub passes : ℕ
   pub word : List Bool
   pub found : Option Shared
+  pub strict : Bool
 
--- the shares of a settler's moves, in favour of a word
-abbrev pub settled_shares : Settling → List Bool → Shared
-settled_shares s word = record {
-  scale = settling_scale;
-  shares = all_shares (code_of s.rows) (placed_of (code_of s.rows) word 1 s.moves);
-}
+-- a settler's moves
+abbrev pub settled_shares : Settling → Shared
+settled_shares s = record { scale = settling_scale; moves = s.moves }
 
 -- what was found, by who holds it
 abbrev pub found_by : Making → Settling → Holder → Option Shared
 found_by maker settler Nobody = None
 found_by maker settler Maker = maker.made
-found_by maker settler Settler = Some (settled_shares settler maker.word)
+found_by maker settler Settler = Some (settled_shares settler)
 
 -- a maker that is said to hold something does
 abbrev pub IsHolder : Making → Holder → Type 0

@@ -1,21 +1,25 @@
 -- What the receiver decides on the soft values of one frame: the bits, a verdict on them, and a certificate where
--- they are shown to be most likely. The first of four steps that succeeds decides.
-use Rattle.std.specs.Prelude.{◌≡◌, ◌≢◌, ℕ, ◌+◌, ◌%◌, ◌==◌, ◌≤◌, Bool, if◌then◌else◌, List, length, map, fold, ℤ, Option, None, Some, IfSome}
+-- they are shown to be sole or most likely. The first of four steps that succeeds decides.
+use Rattle.std.specs.Prelude.{◌≡◌, ◌≢◌, ℕ, ◌+◌, ◌%◌, ◌==◌, ◌≤◌, ◌↔◌, IsTrue, Bool, if◌then◌else◌, List, length, map, fold, ℤ, pos, int_lt, Option, None, Some, IfSome}
 use Rattle.std.specs.List.{list_all, find}
 use Rattle.s2_rows.specs.Rows.{Rows}
 use Rattle.s2_matrix.specs.Total.{upto}
 use Rattle.s2_matrix.specs.Code.{Code, code_of, ones_in, IsCodeword}
 use Rattle.s2_check.specs.Cost.{IsMostLikely}
-use Rattle.s2_check.specs.Hard.{hard_decision}
+use Rattle.s2_check.specs.Hard.{hard_decision, NoneIsZero}
+use Rattle.s2_check.specs.Split.{rest}
+use Rattle.s2_check.specs.Moves.{in_favour}
 use Rattle.s2_check.specs.Views.{View, unsplit_view}
-use Rattle.s2_check.specs.Checking.{IsCertificate}
+use Rattle.s2_check.specs.Checking.{split_in, IsCertificate}
+use Rattle.s2_check.specs.Strict.{IsStrict, IsSole}
+use Rattle.s2_check.specs.Verdicts.{is_certified}
 use Rattle.s2_split.specs.Scattered.{repaired, IsScattered}
 use Rattle.s2_split.specs.Making.{made_view, greedy_view}
 use Rattle.s2_settle.specs.Settled.{settled}
 use Rattle.s2_minsum.specs.Plain.{State, start, round, decision}
 use Rattle.s2_link.specs.Tuning.{Tuning}
 use Rattle.s2_check.specs.declared.verdict.Verdict.{Verdict}
-use Rattle.s2_check.specs.declared.verdict.Verdict.TheVariants.{MostLikely, Parity, Broken}
+use Rattle.s2_check.specs.declared.verdict.Verdict.TheVariants.{Sole, MostLikely, Parity, Broken}
 
 -- a verdict, the bits that it speaks of, and their certificate
 pub record Decided : Type 0 where
@@ -23,10 +27,19 @@ pub record Decided : Type 0 where
   pub bits : List Bool
   pub certificate : Option View
 
--- shown to be most likely by a certificate
-abbrev pub certified : List Bool → View → Decided
-certified bits view =
-    record { verdict = MostLikely; bits = bits; certificate = Some view }
+-- whether every rest that a certificate leaves is at least 1 in favour of its word
+unfoldable pub is_strict : Rows → View → Bool
+is_strict r v =
+    list_all (λ i. int_lt (pos 0) (in_favour v.bits i (rest (code_of r) v.soft (split_in r v) i))) (upto (code_of r).bits)
+
+-- the verdict by a certificate, strict or not
+abbrev pub verdict_by : Bool → Verdict
+verdict_by strict = if strict then Sole else MostLikely
+
+-- shown by a certificate
+abbrev pub certified : Rows → List Bool → View → Decided
+certified r bits view =
+    record { verdict = verdict_by (is_strict r view); bits = bits; certificate = Some view }
 
 -- without a certificate
 abbrev pub uncertified : Verdict → List Bool → Decided
@@ -71,13 +84,13 @@ without_certificate r tuning soft =
     if satisfies (code_of r) (repaired (code_of r) soft) then uncertified Parity (repaired (code_of r) soft) else uncertified Broken (decoded_bits r soft tuning.rounds)
 
 -- a codeword that min-sum found, with the certificate that is made for it, or with none
-abbrev pub with_made : List Bool → Option View → Decided
-with_made bits (Some view) = certified bits view
-with_made bits None = uncertified Parity bits
+abbrev pub with_made : Rows → List Bool → Option View → Decided
+with_made r bits (Some view) = certified r bits view
+with_made r bits None = uncertified Parity bits
 
 -- step 3: what min-sum found
 abbrev pub by_min_sum : Rows → Tuning → List ℤ → Option (List Bool) → Decided
-by_min_sum r tuning soft (Some bits) = with_made bits (view_for r tuning.passes soft bits)
+by_min_sum r tuning soft (Some bits) = with_made r bits (view_for r tuning.passes soft bits)
 by_min_sum r tuning soft None = without_certificate r tuning soft
 
 -- the certificate that is made for the repair, if that satisfies every check
@@ -87,25 +100,30 @@ repair_view r passes soft =
 
 -- step 2: the repair with its certificate
 abbrev pub by_repair : Rows → Tuning → List ℤ → Option View → Decided
-by_repair r tuning soft (Some view) = certified (repaired (code_of r) soft) view
+by_repair r tuning soft (Some view) = certified r (repaired (code_of r) soft) view
 by_repair r tuning soft None = by_min_sum r tuning soft (first_codeword r tuning.rounds soft)
 
 -- step 1: the hard decision, where it satisfies every check
 unfoldable pub decided : Rows → Tuning → List ℤ → Decided
 decided r tuning soft =
-    if satisfies (code_of r) (hard_decision soft) then certified (hard_decision soft) (unsplit_view r soft (hard_decision soft)) else by_repair r tuning soft (repair_view r tuning.passes soft)
+    if satisfies (code_of r) (hard_decision soft) then certified r (hard_decision soft) (unsplit_view r soft (hard_decision soft)) else by_repair r tuning soft (repair_view r tuning.passes soft)
 
 -- ---- laws
 
--- a hard decision that is a codeword is decided, by its unsplit certificate
+-- a hard decision that is a codeword is decided, by its unsplit certificate, and called sole exactly where no value is 0
 abbrev pub CleanLaw : Type 0
 CleanLaw =
-    (r : Rows) (tuning : Tuning) (soft : List ℤ) → IsCodeword (code_of r) (hard_decision soft) → decided r tuning soft ≡ certified (hard_decision soft) (unsplit_view r soft (hard_decision soft))
+    (r : Rows) (tuning : Tuning) (soft : List ℤ) → IsCodeword (code_of r) (hard_decision soft) → (decided r tuning soft ≡ certified r (hard_decision soft) (unsplit_view r soft (hard_decision soft))) × (((decided r tuning soft).verdict ≡ Sole) ↔ NoneIsZero soft)
 
--- bits that are called most likely are
+-- bits that have a certificate are most likely
 abbrev pub LikelyLaw : Type 0
 LikelyLaw =
-    (r : Rows) (tuning : Tuning) (soft : List ℤ) → length soft ≡ (code_of r).bits → (decided r tuning soft).verdict ≡ MostLikely → IsMostLikely (code_of r) soft (decided r tuning soft).bits
+    (r : Rows) (tuning : Tuning) (soft : List ℤ) → length soft ≡ (code_of r).bits → IsTrue (is_certified (decided r tuning soft).verdict) → IsMostLikely (code_of r) soft (decided r tuning soft).bits
+
+-- where they are called sole, each other codeword costs more
+abbrev pub SoleLaw : Type 0
+SoleLaw =
+    (r : Rows) (tuning : Tuning) (soft : List ℤ) → length soft ≡ (code_of r).bits → (decided r tuning soft).verdict ≡ Sole → IsSole (code_of r) soft (decided r tuning soft).bits
 
 -- a certificate that is accepted, of these values and these bits
 pub record IsCertificateOf (r : Rows) (soft : List ℤ) (bits : List Bool) (view : View) : Type 0 where
@@ -113,11 +131,13 @@ pub record IsCertificateOf (r : Rows) (soft : List ℤ) (bits : List Bool) (view
   pub values : view.soft ≡ soft
   pub word : view.bits ≡ bits
 
--- there is a certificate exactly where the bits are called most likely, and it is accepted
+-- there is a certificate exactly where the bits are called sole or most likely; it is accepted, and strict exactly where they are
+-- called sole
 pub record IsShown (r : Rows) (soft : List ℤ) (d : Decided) : Type 0 where
-  pub some : d.verdict ≡ MostLikely → d.certificate ≢ None
-  pub only : d.certificate ≢ None → d.verdict ≡ MostLikely
+  pub some : IsTrue (is_certified d.verdict) → d.certificate ≢ None
+  pub only : d.certificate ≢ None → IsTrue (is_certified d.verdict)
   pub certified : IfSome d.certificate (IsCertificateOf r soft d.bits)
+  pub strict : IfSome d.certificate (λ view. (d.verdict ≡ Sole) ↔ IsStrict r view)
 
 abbrev pub CertifiedLaw : Type 0
 CertifiedLaw =
@@ -131,4 +151,4 @@ BrokenLaw =
 -- where the values are scattered about a codeword, that is decided, with a certificate
 abbrev pub ScatteredLaw : Type 0
 ScatteredLaw =
-    (r : Rows) (tuning : Tuning) (soft : List ℤ) (sent : List Bool) → IsScattered (code_of r) soft sent → ((decided r tuning soft).verdict ≡ MostLikely) × ((decided r tuning soft).bits ≡ sent)
+    (r : Rows) (tuning : Tuning) (soft : List ℤ) (sent : List Bool) → IsScattered (code_of r) soft sent → IsTrue (is_certified (decided r tuning soft).verdict) × ((decided r tuning soft).bits ≡ sent)

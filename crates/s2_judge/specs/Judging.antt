@@ -4,13 +4,13 @@ use Rattle.s2_rows.specs.Rows.{Rows}
 use Rattle.s2_matrix.specs.Code.{code_of}
 use Rattle.s2_check.specs.Views.{View, IsSoft, unsplit_view}
 use Rattle.s2_check.specs.declared.verdict.Verdict.{Verdict}
-use Rattle.s2_check.specs.declared.verdict.Verdict.TheVariants.{MostLikely, Parity, Broken}
+use Rattle.s2_check.specs.declared.verdict.Verdict.TheVariants.{Parity, Broken}
 use Rattle.s2_split.specs.Making.{Shared, shared_views}
 use Rattle.s2_minsum.specs.Decoding.{Decoding}
 use Rattle.s2_link.specs.Tuning.{Tuning}
 use Rattle.s2_judge.specs.declared.ground.Ground.{Ground}
 use Rattle.s2_judge.specs.declared.ground.Ground.TheVariants.{HardDecision, Found, Checks, Nothing}
-use Rattle.s2_judge.specs.Deciding.{Decided}
+use Rattle.s2_judge.specs.Deciding.{Decided, verdict_by}
 use Rattle.s2_judge.specs.Certifying.{Certifying}
 
 -- the rows of its matrix, its tuning, its soft values, the bits that were last decided, and their certificate
@@ -23,15 +23,15 @@ pub record Judging : Type 0 where
 
 -- the verdict on a ground
 abbrev pub verdict_of : Ground → Verdict
-verdict_of HardDecision = MostLikely
-verdict_of Found = MostLikely
+verdict_of (HardDecision strict) = verdict_by strict
+verdict_of (Found strict) = verdict_by strict
 verdict_of Checks = Parity
 verdict_of Nothing = Broken
 
 -- the certificate on a ground: without shares, or with those that were found
 abbrev pub view_by : Rows → List ℤ → List Bool → Option Shared → Ground → Option View
-view_by r soft bits found HardDecision = Some (unsplit_view r soft bits)
-view_by r soft bits found Found = shared_views r soft bits found
+view_by r soft bits found (HardDecision strict) = Some (unsplit_view r soft bits)
+view_by r soft bits found (Found strict) = shared_views r soft bits found
 view_by r soft bits found Checks = None
 view_by r soft bits found Nothing = None
 
@@ -42,8 +42,8 @@ shown_by r soft bits found ground =
 
 -- on a ground with a certificate the values are soft values, and what was found is of these bits
 abbrev pub IsGround : List ℤ → List Bool → Certifying → Ground → Type 0
-IsGround soft bits certifier HardDecision = All IsSoft soft
-IsGround soft bits certifier Found = All IsSoft soft × (certifier.word ≡ bits)
+IsGround soft bits certifier (HardDecision strict) = All IsSoft soft
+IsGround soft bits certifier (Found strict) = All IsSoft soft × (certifier.word ≡ bits)
 IsGround soft bits certifier Checks = Unit
 IsGround soft bits certifier Nothing = Unit
 

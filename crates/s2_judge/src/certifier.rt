@@ -1,10 +1,10 @@
 //! Certificates of codewords.
-ghost use Rattle.std.specs.Prelude.{◌≡◌, ◌≢◌, ◌↔◌, All, IfOk, IsTrue, None, length};
+ghost use Rattle.std.specs.Prelude.{◌≡◌, ◌≢◌, ◌↔◌, All, IfOk, IfSome, IsTrue, None, length};
 ghost use Rattle.s2_matrix.specs.Code.{code_of, IsCodeword};
 ghost use Rattle.s2_check.specs.Views.{IsSoft};
-ghost use Rattle.s2_split.specs.Making.{shared_views};
+ghost use Rattle.s2_split.specs.Making.{shared_view, shared_views};
 ghost use Rattle.s2_split.specs.Scattered.{repaired};
-ghost use Rattle.s2_judge.specs.Deciding.{view_for};
+ghost use Rattle.s2_judge.specs.Deciding.{is_strict, view_for};
 ghost use Rattle.s2_judge.specs.Certifying.{found_by, IsHolder};
 
 use s2_bits::Bits;
@@ -35,14 +35,15 @@ impl Holder {
     }
 }
 
-/// Looks for a certificate of a codeword, by so many passes of settling if any: who then holds it.
+/// Looks for a certificate of a codeword, by so many passes of settling if any: who then holds it, and
+/// whether it is strict.
 fn find_holder(
     maker: &mut Maker<'_>,
     settler: &mut Settler<'_>,
     soft: &[i16],
     codeword: &Bits,
     passes: u32,
-) -> Holder
+) -> (Holder, bool)
     requires settler { settler.old.rows ≡ maker.old.rows }
     requires soft { length soft.now ≡ (code_of maker.old.rows).bits }
     requires range { All IsSoft soft.now }
@@ -50,35 +51,37 @@ fn find_holder(
     ensures maker { maker.new.rows ≡ maker.old.rows }
     ensures settler { settler.new.rows ≡ settler.old.rows }
     ensures word { maker.new.word ≡ codeword.now }
-    ensures holder { IsHolder maker.new result }
-    ensures view { view_for maker.old.rows passes soft.now codeword.now ≡ shared_views maker.old.rows soft.now codeword.now (found_by maker.new settler.new result) }
+    ensures holder { IsHolder maker.new result.0 }
+    ensures view { view_for maker.old.rows passes soft.now codeword.now ≡ shared_views maker.old.rows soft.now codeword.now (found_by maker.new settler.new result.0) }
+    ensures strict { IfSome (found_by maker.new settler.new result.0) (λ s. is_strict maker.old.rows (shared_view maker.old.rows soft.now codeword.now s) ≡ result.1) }
 {
     if passes == 0 {
         if maker.certify_codeword(soft, codeword) {
-            return Holder::Maker;
+            return (Holder::Maker, maker.is_strict());
         }
-        return Holder::Nobody;
+        return (Holder::Nobody, false);
     }
     if maker.certify_greedily(soft, codeword) {
-        return Holder::Maker;
+        return (Holder::Maker, maker.is_strict());
     }
     if settler.certify(soft, codeword, passes) {
-        return Holder::Settler;
+        return (Holder::Settler, settler.is_strict());
     }
-    Holder::Nobody
+    (Holder::Nobody, false)
 }
 
 /// Finds certificates of codewords: by the maker's greedy amounts, else, with no passes, by its spreading, and
 /// with passes by so many at most of the settler.
 ///
-/// To contracts it is the rows of its matrix, how many passes it runs, the codeword that it was last given, and
-/// what it found for it.
+/// To contracts it is the rows of its matrix, how many passes it runs, the codeword that it was last given, what
+/// it found for it, and whether that is strict.
 pub(crate) struct Certifier<'a> {
     matrix: &'a Matrix,
     passes: u32,
     maker: Maker<'a>,
     settler: Settler<'a>,
     holder: Holder,
+    strict: bool,
 }
 
 impl<'a> Drop for Certifier<'a> {
@@ -89,6 +92,7 @@ impl<'a> Drop for Certifier<'a> {
             maker: _,
             settler: _,
             holder: _,
+            strict: _,
         } = self;
     }
 }
@@ -98,7 +102,7 @@ impl<'a> Model for Certifier<'a> {
 
     ghost Value = { Certifying };
 
-    ghost view = { λ c. record { rows = c.matrix.now; passes = c.passes; word = c.maker.word; found = found_by c.maker c.settler c.holder } };
+    ghost view = { λ c. record { rows = c.matrix.now; passes = c.passes; word = c.maker.word; found = found_by c.maker c.settler c.holder; strict = c.strict } };
 
     ghost invariant = { λ c. IsCertifier c.matrix.now c.maker c.settler c.holder };
 }
@@ -122,6 +126,7 @@ impl<'a> Certifier<'a> {
             maker,
             settler,
             holder: Holder::Nobody,
+            strict: false,
         })
     }
 
@@ -153,15 +158,25 @@ impl<'a> Certifier<'a> {
         ensures word { self.new.word ≡ codeword.now }
         ensures found { IsTrue result ↔ (self.new.found ≢ None) }
         ensures view { view_for self.old.rows self.old.passes soft.now codeword.now ≡ shared_views self.old.rows soft.now codeword.now self.new.found }
+        ensures strict { IfSome self.new.found (λ s. is_strict self.old.rows (shared_view self.old.rows soft.now codeword.now s) ≡ self.new.strict) }
     {
-        self.holder = find_holder(
+        let (holder, strict) = find_holder(
             &mut self.maker,
             &mut self.settler,
             soft,
             codeword,
             self.passes,
         );
+        self.holder = holder;
+        self.strict = strict;
         self.holder.is_some()
+    }
+
+    /// Whether what was found last is strict.
+    pub(crate) fn is_strict(&self) -> bool
+        ensures { result ≡ self.now.strict }
+    {
+        self.strict
     }
 
     /// The certificate of these values and this word by what was found.

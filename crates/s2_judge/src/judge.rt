@@ -1,9 +1,11 @@
 //! The receiver's decision on the soft values of one frame.
-ghost use Rattle.std.specs.Prelude.{◌≡◌, ◌≢◌, IfOk, All, Bool, List, None, length, replicate, false, pos};
+ghost use Rattle.std.specs.Prelude.{◌≡◌, ◌≢◌, ◌↔◌, IsTrue, IfOk, All, Bool, List, None, length, replicate, false, pos};
 ghost use Rattle.std.specs.Borrow.{sem};
 ghost use Rattle.s2_matrix.specs.Code.{code_of, IsCodeword};
 ghost use Rattle.s2_check.specs.Cost.{IsMostLikely};
-ghost use Rattle.s2_check.specs.Hard.{hard_decision};
+ghost use Rattle.s2_check.specs.Hard.{hard_decision, NoneIsZero};
+ghost use Rattle.s2_check.specs.Strict.{IsSole};
+ghost use Rattle.s2_check.specs.Verdicts.{is_certified};
 ghost use Rattle.s2_check.specs.Views.{IsSoft};
 ghost use Rattle.s2_split.specs.Scattered.{IsScattered};
 ghost use Rattle.s2_judge.specs.Deciding.{decided, IsShown};
@@ -31,7 +33,8 @@ use std::marker::Model;
 /// 4. the repair where it satisfies every check; if not, min-sum's last hard decision, broken.
 ///
 /// A certificate is found by greedy amounts, else, with no passes, by spreading, and with passes by so
-/// many at most of settling.
+/// many at most of settling. Where a certificate is strict, the verdict is sole in the place of most
+/// likely: every other codeword costs more. In step 1 that is where no soft value is 0.
 ///
 /// To contracts a judge is its matrix's rows, its tuning, its soft values, the bits that were
 /// last decided, and their certificate.
@@ -126,12 +129,13 @@ impl<'a> Judge<'a> {
         ensures verdict { result ≡ (decided self.old.rows self.old.tuning self.old.soft).verdict }
         ensures bits { self.new.bits ≡ (decided self.old.rows self.old.tuning self.old.soft).bits }
         ensures certificate { self.new.certificate ≡ (decided self.old.rows self.old.tuning self.old.soft).certificate }
-        ensures likely { result ≡ Verdict.MostLikely → IsMostLikely (code_of self.old.rows) self.old.soft self.new.bits }
+        ensures likely { IsTrue (is_certified result) → IsMostLikely (code_of self.old.rows) self.old.soft self.new.bits }
+        ensures sole { result ≡ Verdict.Sole → IsSole (code_of self.old.rows) self.old.soft self.new.bits }
         ensures certified { IsShown self.old.rows self.old.soft (record { verdict = result; bits = self.new.bits; certificate = self.new.certificate }) }
         ensures codeword { result ≢ Verdict.Broken → IsCodeword (code_of self.old.rows) self.new.bits }
         ensures broken { result ≡ Verdict.Broken → IsCodeword (code_of self.old.rows) self.new.bits → ⊥ }
-        ensures scattered { (sent : List Bool) → IsScattered (code_of self.old.rows) self.old.soft sent → (result ≡ Verdict.MostLikely) × (self.new.bits ≡ sent) }
-        ensures clean { IsCodeword (code_of self.old.rows) (hard_decision self.old.soft) → (result ≡ Verdict.MostLikely) × (self.new.bits ≡ hard_decision self.old.soft) }
+        ensures scattered { (sent : List Bool) → IsScattered (code_of self.old.rows) self.old.soft sent → IsTrue (is_certified result) × (self.new.bits ≡ sent) }
+        ensures clean { IsCodeword (code_of self.old.rows) (hard_decision self.old.soft) → IsTrue (is_certified result) × (self.new.bits ≡ hard_decision self.old.soft) × ((result ≡ Verdict.Sole) ↔ NoneIsZero self.old.soft) }
     {
         self.ground = decide(
             &mut self.certifier,
@@ -155,12 +159,13 @@ impl<'a> Judge<'a> {
         ensures verdict { result ≡ (decided self.old.rows self.old.tuning soft.now).verdict }
         ensures bits { self.new.bits ≡ (decided self.old.rows self.old.tuning soft.now).bits }
         ensures certificate { self.new.certificate ≡ (decided self.old.rows self.old.tuning soft.now).certificate }
-        ensures likely { result ≡ Verdict.MostLikely → IsMostLikely (code_of self.old.rows) soft.now self.new.bits }
+        ensures likely { IsTrue (is_certified result) → IsMostLikely (code_of self.old.rows) soft.now self.new.bits }
+        ensures sole { result ≡ Verdict.Sole → IsSole (code_of self.old.rows) soft.now self.new.bits }
         ensures certified { IsShown self.old.rows soft.now (record { verdict = result; bits = self.new.bits; certificate = self.new.certificate }) }
         ensures codeword { result ≢ Verdict.Broken → IsCodeword (code_of self.old.rows) self.new.bits }
         ensures broken { result ≡ Verdict.Broken → IsCodeword (code_of self.old.rows) self.new.bits → ⊥ }
-        ensures scattered { (sent : List Bool) → IsScattered (code_of self.old.rows) soft.now sent → (result ≡ Verdict.MostLikely) × (self.new.bits ≡ sent) }
-        ensures clean { IsCodeword (code_of self.old.rows) (hard_decision soft.now) → (result ≡ Verdict.MostLikely) × (self.new.bits ≡ hard_decision soft.now) }
+        ensures scattered { (sent : List Bool) → IsScattered (code_of self.old.rows) soft.now sent → IsTrue (is_certified result) × (self.new.bits ≡ sent) }
+        ensures clean { IsCodeword (code_of self.old.rows) (hard_decision soft.now) → IsTrue (is_certified result) × (self.new.bits ≡ hard_decision soft.now) × ((result ≡ Verdict.Sole) ↔ NoneIsZero soft.now) }
     {
         self.soft_mut().copy_from_slice(soft);
         self.decide()
@@ -175,17 +180,17 @@ impl<'a> Judge<'a> {
     }
 
     /// The certificate of the bits that were last decided: `Some` exactly where the verdict was
-    /// most likely, and no soft values were asked for since to be written.
+    /// sole or most likely, and no soft values were asked for since to be written.
     pub fn certificate(&self) -> Option<CertView<'_>>
         ensures { result ≡ self.now.certificate }
     {
         match self.ground {
-            Ground::HardDecision => Some(CertView::unsplit(
+            Ground::HardDecision(_) => Some(CertView::unsplit(
                 self.certifier.matrix(),
                 &self.soft,
                 &self.bits,
             )),
-            Ground::Found => self.certifier.held(&self.soft, &self.bits),
+            Ground::Found(_) => self.certifier.held(&self.soft, &self.bits),
             Ground::Checks | Ground::Nothing => None,
         }
     }

@@ -1,17 +1,17 @@
 //! The four steps of a decision.
-ghost use Rattle.std.specs.Prelude.{◌≡◌, ◌≢◌, ◌≤◌, All, IsTrue, Some, None, if◌then◌else◌, false, length};
+ghost use Rattle.std.specs.Prelude.{◌≡◌, ◌≢◌, ◌≤◌, All, IsTrue, IfSome, Some, None, if◌then◌else◌, false, length};
 ghost use Rattle.s2_matrix.specs.Code.{code_of};
 ghost use Rattle.s2_check.specs.Views.{IsSoft};
-ghost use Rattle.s2_split.specs.Making.{shared_views};
+ghost use Rattle.s2_split.specs.Making.{shared_view, shared_views};
 ghost use Rattle.s2_split.specs.Scattered.{repaired};
 ghost use Rattle.s2_link.specs.Tuning.{tuning_of};
-ghost use Rattle.s2_judge.specs.Deciding.{decoded_bits, first_codeword, repair_view, by_min_sum, decided};
+ghost use Rattle.s2_judge.specs.Deciding.{is_strict, decoded_bits, first_codeword, repair_view, by_min_sum, decided};
 ghost use Rattle.s2_judge.specs.Judging.{shown_by, IsGround};
 
 use crate::certifier::Certifier;
 use crate::ground::Ground;
 use s2_bits::Bits;
-use s2_check::judge_unsplit;
+use s2_check::{judge_unsplit, none_is_zero};
 use s2_matrix::Matrix;
 use s2_minsum::Decoder;
 
@@ -25,6 +25,7 @@ fn try_repair(certifier: &mut Certifier<'_>, soft: &[i16], repair: &mut Bits) ->
     ensures repair { repair.new ≡ repaired (code_of certifier.old.rows) soft.now }
     ensures word { IsTrue result → certifier.new.word ≡ repair.new }
     ensures found { IsTrue result → certifier.new.found ≢ None }
+    ensures strict { IsTrue result → IfSome certifier.new.found (λ s. is_strict certifier.old.rows (shared_view certifier.old.rows soft.now repair.new s) ≡ certifier.new.strict) }
     ensures view { repair_view certifier.old.rows certifier.old.passes soft.now ≡ (if result then shared_views certifier.old.rows soft.now repair.new certifier.new.found else None) }
 {
     certifier.repair_into(soft, repair);
@@ -89,7 +90,7 @@ fn decide_by_min_sum(
 {
     if decode(certifier.matrix(), decoder, soft, rounds, bits) {
         if certifier.certify(soft, bits) {
-            return Ground::Found;
+            return Ground::Found(certifier.is_strict());
         }
         return Ground::Checks;
     }
@@ -124,11 +125,11 @@ pub(crate) fn decide(
     ensures decided { decided certifier.old.rows (tuning_of rounds certifier.old.passes) soft.now ≡ shown_by certifier.old.rows soft.now bits.new certifier.new.found result }
 {
     if judge_unsplit(certifier.matrix(), soft, bits) {
-        return Ground::HardDecision;
+        return Ground::HardDecision(none_is_zero(soft));
     }
     if try_repair(certifier, soft, repair) {
         bits.copy_prefix(repair, repair.len());
-        return Ground::Found;
+        return Ground::Found(certifier.is_strict());
     }
     decide_by_min_sum(certifier, decoder, soft, rounds, repair, bits)
 }

@@ -63,7 +63,7 @@ fn with_dummies(
 
 /// The report of these.
 const REPORT: &str =
-    "frame 1 at 3330 most-likely fixed 0\nframe 2 at 18180 most-likely fixed 0\nend frames 2 delivered 2 packets 2 bad 0\n";
+    "frame 1 at 3330 sole fixed 0\nframe 2 at 18180 sole fixed 0\nend frames 2 delivered 2 packets 2 bad 0\n";
 
 /// Asserts what is told where the last dummy frame has so many bytes.
 fn assert_passed<A: Abort>(
@@ -124,11 +124,11 @@ fn receives_what_was_sent_with_dummy_frames(rt: HostRuntime) -> Result<(), Fail>
     for (every, report) in [
         (
             1,
-            "frame 1 at 0 most-likely fixed 0\nframe 2 at 11520 most-likely fixed 0\nend frames 2 delivered 2 packets 2 bad 0\n",
+            "frame 1 at 0 sole fixed 0\nframe 2 at 11520 sole fixed 0\nend frames 2 delivered 2 packets 2 bad 0\n",
         ),
         (
             2,
-            "frame 1 at 0 most-likely fixed 0\nframe 2 at 8190 most-likely fixed 0\nend frames 2 delivered 2 packets 2 bad 0\n",
+            "frame 1 at 0 sole fixed 0\nframe 2 at 8190 sole fixed 0\nend frames 2 delivered 2 packets 2 bad 0\n",
         ),
     ] {
         assert_across(&rt, rt.alloc(), &sample, every, report)?;

@@ -20,9 +20,9 @@ const FRAME: u64 = 4 * 8190;
 /// The first lines of the report of the two frames of two packets: none, one, two, and all.
 const LINES: [&str; 4] = [
     "",
-    "frame 1 at 0 most-likely fixed 0\n",
-    "frame 1 at 0 most-likely fixed 0\nframe 2 at 8190 most-likely fixed 0\n",
-    "frame 1 at 0 most-likely fixed 0\nframe 2 at 8190 most-likely fixed 0\nend frames 2 delivered 2 packets 2 bad 0\n",
+    "frame 1 at 0 sole fixed 0\n",
+    "frame 1 at 0 sole fixed 0\nframe 2 at 8190 sole fixed 0\n",
+    "frame 1 at 0 sole fixed 0\nframe 2 at 8190 sole fixed 0\nend frames 2 delivered 2 packets 2 bad 0\n",
 ];
 
 /// The first lines of the report.
@@ -416,7 +416,7 @@ fn frames_with_their_own_headers_are_those_sent(rt: HostRuntime) -> Result<(), F
 fn a_forged_first_header_loses_both_packets(rt: HostRuntime) -> Result<(), Fail> {
     let sample = forged(rt.alloc(), header(3000, 0), header(24, 16))?;
     let report =
-        "frame 1 at 0 most-likely lost\nframe 2 at 8190 most-likely fixed 0\nend frames 2 delivered 1 packets 0 bad 0\n";
+        "frame 1 at 0 sole lost\nframe 2 at 8190 sole fixed 0\nend frames 2 delivered 1 packets 0 bad 0\n";
     assert_sample(&rt, rt.alloc(), &sample, report, &[]);
     Ok(())
 }
@@ -425,7 +425,7 @@ fn a_forged_first_header_loses_both_packets(rt: HostRuntime) -> Result<(), Fail>
 fn a_forged_second_header_loses_its_packet(rt: HostRuntime) -> Result<(), Fail> {
     let sample = forged(rt.alloc(), header(2992, 0), header(3000, 0))?;
     let report =
-        "frame 1 at 0 most-likely fixed 0\nframe 2 at 8190 most-likely lost\nend frames 2 delivered 1 packets 1 bad 0\n";
+        "frame 1 at 0 sole fixed 0\nframe 2 at 8190 sole lost\nend frames 2 delivered 1 packets 1 bad 0\n";
     assert_sample(&rt, rt.alloc(), &sample, report, &packet_of(0));
     Ok(())
 }
@@ -435,7 +435,7 @@ fn told() -> Steps {
     let lost = Step::Frame(Report {
         number: 1,
         at: 0,
-        verdict: Verdict::MostLikely,
+        verdict: Verdict::Sole,
         outcome: Outcome::BadHeader(HeaderFault::BadLengths),
     });
     let end = Ok(Step::End);

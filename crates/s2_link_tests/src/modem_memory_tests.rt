@@ -14,7 +14,7 @@ use std::process::Abort;
 use std::test::Fail;
 
 const REPORT: &[u8] =
-    b"frame 1 at 0 most-likely fixed 0\nend frames 1 delivered 1 packets 1 bad 0\n";
+    b"frame 1 at 0 sole fixed 0\nend frames 1 delivered 1 packets 1 bad 0\n";
 
 /// A writer into memory.
 type Writer = Counting<Vec<u8>>;

@@ -19,7 +19,7 @@ pub(crate) fn frame(number: u64, at: u64) -> Step {
     Step::Frame(Report {
         number,
         at,
-        verdict: Verdict::MostLikely,
+        verdict: Verdict::Sole,
         outcome: Outcome::Delivered { fixed: 0 },
     })
 }
@@ -28,7 +28,7 @@ pub(crate) fn frame(number: u64, at: u64) -> Step {
 fn one_packet_arrives(rt: HostRuntime) -> Result<(), Fail> {
     let sample = one_frame(rt.alloc())?;
     assert_eq!(rt; sample.symbols.len(), 129960);
-    let report = "frame 1 at 0 most-likely fixed 0\nend frames 1 delivered 1 packets 1 bad 0\n";
+    let report = "frame 1 at 0 sole fixed 0\nend frames 1 delivered 1 packets 1 bad 0\n";
     assert_sample(&rt, rt.alloc(), &sample, report, &packet_of_zeros());
     Ok(())
 }
@@ -85,7 +85,7 @@ fn totals_are_answered(rt: HostRuntime) -> Result<(), Fail> {
 
 /// The report of the frames of two packets.
 const TWO: &str =
-    "frame 1 at 0 most-likely fixed 0\nframe 2 at 8190 most-likely fixed 0\nend frames 2 delivered 2 packets 2 bad 0\n";
+    "frame 1 at 0 sole fixed 0\nframe 2 at 8190 sole fixed 0\nend frames 2 delivered 2 packets 2 bad 0\n";
 
 #[test]
 fn two_packets_arrive(rt: HostRuntime) -> Result<(), Fail> {
@@ -179,7 +179,7 @@ fn a_lost_frame_is_not_joined_over(rt: HostRuntime) -> Result<(), Fail> {
     assert_eq!(rt; sample.symbols.len(), 4 * 3 * 8190);
     sample.symbols[4 * (8190 + 90)..4 * 2 * 8190].fill(0);
     let report =
-        "frame 1 at 0 most-likely fixed 0\nframe 2 at 8190 most-likely lost\nframe 3 at 16380 most-likely fixed 0\nend frames 3 delivered 2 packets 2 bad 0\n";
+        "frame 1 at 0 sole fixed 0\nframe 2 at 8190 most-likely lost\nframe 3 at 16380 sole fixed 0\nend frames 3 delivered 2 packets 2 bad 0\n";
     let want = [packet_of(0), packet_of(4)];
     assert_sample(&rt, rt.alloc(), &sample, report, want.as_flattened());
     Ok(())
@@ -195,7 +195,7 @@ fn behind_zeros(alloc: Global, symbols: &[u8]) -> Result<Vec<u8>, AllocError> {
 /// Asserts that a sample arrives behind zeros.
 fn assert_passed_over<A: Abort>(rt: &A, alloc: Global, sample: &Sample) -> Result<(), Fail> {
     let stream = behind_zeros(alloc, &sample.symbols)?;
-    let report = "frame 1 at 1000 most-likely fixed 0\nend frames 1 delivered 1 packets 1 bad 0\n";
+    let report = "frame 1 at 1000 sole fixed 0\nend frames 1 delivered 1 packets 1 bad 0\n";
     assert_reported(rt, alloc, &sample.link, &stream, report, &packet_of(0));
     Ok(())
 }
@@ -240,7 +240,7 @@ fn frame_of_twelve_wrong(alloc: Global, link: &Sides) -> Result<Vec<u8>, Fail> {
 /// Asserts that they are corrected.
 fn assert_corrected<A: Abort>(rt: &A, alloc: Global, link: &Sides) -> Result<(), Fail> {
     let symbols = frame_of_twelve_wrong(alloc, link)?;
-    let report = "frame 1 at 0 most-likely fixed 12\nend frames 1 delivered 1 packets 1 bad 0\n";
+    let report = "frame 1 at 0 sole fixed 12\nend frames 1 delivered 1 packets 1 bad 0\n";
     assert_reported(rt, alloc, link, &symbols, report, &packet_of(0));
     Ok(())
 }

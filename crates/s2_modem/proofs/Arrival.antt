@@ -1,6 +1,6 @@
 -- What is sent arrives.
 use Rattle.std.specs.Prelude.{⊤, if◌then◌else◌}
-use Rattle.std.proofs.Common.{◌≡◌, ℕ, zero, suc, ◌+◌, ◌*◌, ◌<◌, ◌≤◌, Bool, true, false, List, [], ◌∷◌, ◌++◌, All, Option, Some, None, length, take, drop, map, refl, sym, ap, ◌∙◌, subst, append_assoc, append-nil, length-append, length-take, arith}
+use Rattle.std.proofs.Common.{◌≡◌, ℕ, zero, suc, ◌+◌, ◌*◌, ◌<◌, ◌≤◌, IsTrue, Bool, true, false, List, [], ◌∷◌, ◌++◌, All, Option, Some, None, length, take, drop, map, refl, sym, ap, ap₂, ◌∙◌, subst, append_assoc, append-nil, length-append, length-take, arith}
 use Rattle.std.specs.List.{range_with_len}
 use Rattle.std.proofs.lemmas.List.Elements.{All-nil, All-cons, All-head, All-tail}
 use Rattle.std.proofs.lemmas.List.FromFn.{length-map-range_with_len}
@@ -26,7 +26,7 @@ use Rattle.s2_receive.specs.declared.report.Phase.TheVariants as phases
 use Rattle.s2_receive.specs.declared.report.Report.{Report}
 use Rattle.s2_receive.specs.declared.report.Totals.{Totals}
 use Rattle.s2_check.specs.declared.verdict.Verdict.{Verdict}
-use Rattle.s2_check.specs.declared.verdict.Verdict.TheVariants.{MostLikely}
+use Rattle.s2_check.specs.Verdicts.{is_certified}
 use Rattle.s2_receive.specs.declared.report.Outcome.TheVariants.{Delivered}
 use Rattle.s2_receive.specs.declared.report.Outcome.{Outcome}
 use Rattle.s2_receive.proofs.Reception.{gives}
@@ -77,7 +77,7 @@ module _ (t : Transmitter) (rules : Rules) (hears : Hears t.link rules) where
   certified_behind true pieces h = h
   certified_behind false pieces h = h
 
-  places_behind : (due : Bool) (place : ℕ) (pieces : List Piece) → places_in rules.size place (behind due pieces) ≡ places_in rules.size (if due then place + 3330 else place) pieces
+  places_behind : (due : Bool) (place : ℕ) (pieces : List Piece) → places_in rules place (behind due pieces) ≡ places_in rules (if due then place + 3330 else place) pieces
   places_behind true place pieces = refl
   places_behind false place pieces = refl
 
@@ -96,7 +96,7 @@ module _ (t : Transmitter) (rules : Rules) (hears : Hears t.link rules) where
     pieces : List Piece
     are : AreReceived rules link.setup.roll_off at pieces fields
     certified : AreCertified rules pieces
-    places : (place : ℕ) → places_in rules.size place pieces ≡ run_places rules.size t.dummy_every number place (length fields)
+    places : (place : ℕ) → places_in rules place pieces ≡ run_places rules.size t.dummy_every number place (length fields)
     symbols : (rest : List ℕ) → symbols_of (bytes_joined units ++ rest) ≡ stream_symbols pieces ++ symbols_of rest
 
   -- a unit before others
@@ -114,7 +114,7 @@ module _ (t : Transmitter) (rules : Rules) (hears : Hears t.link rules) where
         pieces = coded (symbols_of b) ∷ later;
         are = (subst (λ l. IsReceived rules (header_at link.setup.roll_off at f) f l) (sym read) one.0, are_behind due (at + length f) more.pieces fs more.are);
         certified = (subst (IsCertifiedFrame rules) (sym read) one.1, certified_behind due more.pieces more.certified);
-        places = λ place. ap (λ l. place ∷ l) (places_behind due (place + rules.size) more.pieces ∙ more.places (if due then place + rules.size + 3330 else place + rules.size));
+        places = λ place. ap₂ (λ (v : Verdict) (l : List (ℕ × Verdict)). (place, v) ∷ l) (ap (λ (l : List Symbol). (rules.decide l).verdict) read ∙ one.2) (places_behind due (place + rules.size) more.pieces ∙ more.places (if due then place + rules.size + 3330 else place + rules.size));
         symbols = λ rest.
             (let others = bytes_joined us ++ rest in
             let tail = sent_behind link due ++ others in
@@ -137,18 +137,26 @@ module _ (t : Transmitter) (rules : Rules) (hears : Hears t.link rules) where
 module _ (rules : Rules) (roll_off : ℕ) where
   -- their lines
   pub lines_frames : (at k : ℕ) (pieces : List Piece) (fields : List (List ℕ)) (s : Standing) → AreReceived rules roll_off k pieces fields → AreCertified rules pieces
-      → all_lines rules s (frames_at rules.size at pieces) ≡ certified_lines rules s.totals.frames (places_in rules.size at pieces)
+      → all_lines rules s (frames_at rules.size at pieces) ≡ certified_lines rules s.totals.frames (places_in rules at pieces)
   lines_frames at k [] [] t h c = refl
   lines_frames at k [] (f ∷ fs) t h c = absurd h
   lines_frames at k (coded s ∷ ps) [] t h c = absurd h
   lines_frames at k (coded s ∷ ps) (f ∷ fs) t h c =
       let here = c.0 in
       let report : Verdict → Outcome → Report = λ v o. record { number = t.totals.frames + 1; at = at; verdict = v; outcome = o } in
-      let line = ap (λ v. rules.frame_line (report v (rules.decide s).outcome)) here.verdict ∙ ap (λ o. rules.frame_line (report MostLikely o)) here.outcome in
+      let verdict = (rules.decide s).verdict in
+      let line = ap (λ o. rules.frame_line (report verdict o)) here.outcome in
       let later = all_lines rules (after rules t (frame at false s)) (frames_at rules.size (at + rules.size) ps) in
       ap (λ l. l ++ later) line
-      ∙ ap (λ l. rules.frame_line (report MostLikely (Delivered 0)) ++ l) (lines_frames (at + rules.size) (k + length f) ps fs (after rules t (frame at false s)) h.1 c.1)
+      ∙ ap (λ l. rules.frame_line (report verdict (Delivered 0)) ++ l) (lines_frames (at + rules.size) (k + length f) ps fs (after rules t (frame at false s)) h.1 c.1)
   lines_frames at k (dummy s ∷ ps) fs t h c = lines_frames (at + 3330) k ps fs t h.1 c
+
+-- and what they are called
+pub all_certified : (rules : Rules) (at : ℕ) (pieces : List Piece) → AreCertified rules pieces → All (λ (place : ℕ × Verdict). IsTrue (is_certified place.1)) (places_in rules at pieces)
+all_certified rules at [] c = All-nil (λ (place : ℕ × Verdict). IsTrue (is_certified place.1))
+all_certified rules at (coded s ∷ ps) c =
+    All-cons (λ (place : ℕ × Verdict). IsTrue (is_certified place.1)) (at, (rules.decide s).verdict) (places_in rules (at + rules.size) ps) c.0.verdict (all_certified rules (at + rules.size) ps c.1)
+all_certified rules at (dummy s ∷ ps) c = all_certified rules (at + 3330) ps c
 
 -- all that was read
 all_read : (source bytes : List ℕ) (left : Option (List ℕ)) → Consumes (Some source) left bytes → IsAtEnd left → source ≡ bytes

@@ -1,9 +1,9 @@
 -- A frame without noise is delivered, certified, with nothing changed.
-use Rattle.std.proofs.Common.{◌≡◌, ℕ, zero, suc, ◌+◌, ◌-◌, ◌*◌, ◌/◌, ◌%◌, ◌<◌, ◌≤◌, Bool, true, false, List, [], ◌∷◌, ◌++◌, length, take, drop, map, get_or, Option, Some, None, Ok, refl, sym, ap, subst, ◌∙◌, arith, append_assoc, length-append, length-take, length-drop, ℤ}
+use Rattle.std.proofs.Common.{◌≡◌, ℕ, zero, suc, ◌+◌, ◌-◌, ◌*◌, ◌/◌, ◌%◌, ◌<◌, ◌≤◌, Bool, true, false, List, [], ◌∷◌, ◌++◌, length, take, drop, map, get_or, Option, Some, None, Ok, refl, sym, ap, subst, ◌∙◌, arith, append_assoc, length-append, length-take, length-drop, ℤ, pos, int_lt}
 use Rattle.std.specs.Prelude.{◌||◌}
 use Rattle.std.specs.Int.{w16, to_be_bytes}
 use Rattle.std.proofs.lemmas.Bool.{le-leb, eq-eqb}
-use Rattle.std.proofs.lemmas.List.{ext_get_or, get_or-take, get_or-drop, get_or-append_right, take_at, drop_at, take_all}
+use Rattle.std.proofs.lemmas.List.{length-map, ext_get_or, get_or-take, get_or-drop, get_or-append_right, take_at, drop_at, take_all}
 use Rattle.std.proofs.lemmas.List.FromFn.{fill_by_all, length-map-range_with_len}
 use Rattle.std.proofs.lemmas.List.Elements.{All-nil, All-cons, All-head, All-tail, All-append}
 use Rattle.s2_mode.specs.Mode.{Mode, IsMode, HasCodeSizes, k_of, kbch_of, n_of, t_of, symbols_in}
@@ -14,7 +14,9 @@ use Rattle.s2_rows.specs.Rows.{Rows}
 use Rattle.s2_bits.specs.Bits.{bit_at, bits_of_byte, bits_of_bytes, byte_at, byte_of, bytes_from, differences, number, xor}
 use Rattle.s2_bits.proofs.Spelled.{byte_back, length-bits_of_byte}
 use Rattle.s2_matrix.specs.Code.{code_of, IsCodeword}
-use Rattle.s2_check.specs.Hard.{hard_decision}
+use Rattle.s2_check.specs.Hard.{hard_decision, NoneIsZero}
+use Rattle.s2_check.specs.Verdicts.{is_certified}
+use Rattle.s2_check.specs.Strict.{IsSole}
 use Rattle.s2_bbframe.specs.Crc.{crc8}
 use Rattle.s2_bbframe.specs.declared.header.Header.{Header}
 use Rattle.s2_bbframe.specs.Headers.{header_bytes, has_valid_lengths, header_of_bytes, signalling}
@@ -40,13 +42,14 @@ use Rattle.s2_link.specs.Tuning.{Tuning}
 use Rattle.s2_modem.specs.Reports.{frame_soft, received_word, message_of, header_in, field_in, outcome_by, delivered_by, decision_by, decision_on, frame_decision}
 use Rattle.s2_modem.specs.Reception.{link_rules}
 use Rattle.s2_modem.specs.Both.{IsByte, AreBytes, sent_symbols, IsCertifiedFrame, Hears}
-use Rattle.s2_modem.specs.Headline.{IsDelivered, IsSent, IsDeliveredCertified, HearsLaw, ArrivalLaw, LikelyFrameLaw}
+use Rattle.s2_modem.specs.Headline.{IsDelivered, IsSent, IsDeliveredCertified, HearsLaw, ArrivalLaw, LikelyFrameLaw, SoleFrameLaw}
 use Rattle.s2_check.specs.Cost.{IsMostLikely}
 use Rattle.s2_split.specs.Scattered.{IsScattered}
 use Rattle.s2_mode.specs.Limits.{most_symbols}
 use Rattle.s2_plframe.specs.Payload.{received_payload}
+use Rattle.s2_check.specs.declared.verdict.Verdict.TheVariants.{Sole}
 use Rattle.s2_modem.proofs.Arrival.{arrives}
-use Rattle.s2_judge.proofs.DecidingLemmas.{clean_lem, likely_lem}
+use Rattle.s2_judge.proofs.DecidingLemmas.{clean_lem, likely_lem, sole_lem}
 use Rattle.s2_judge.proofs.Scattering.{scattered_lem}
 use Rattle.s2_judge.proofs.DecidedLengths.{decided_long}
 use Rattle.s2_modem.proofs.DecisionLemmas.{code_is}
@@ -253,6 +256,7 @@ module _ (link : Link) (valid : IsMode link.setup.mode) (sizes : HasCodeSizes li
         → IsCodewordFor m link.rows (header_at link.setup.roll_off at field) field codeword
         → IsReceived (link_rules link tuning limit) (header_at link.setup.roll_off at field) field (sent_symbols link codeword)
         × IsCertifiedFrame (link_rules link tuning limit) (sent_symbols link codeword)
+        × ((frame_decision link tuning (sent_symbols link codeword)).verdict ≡ Sole)
     hears_frame at field codeword bytes place fits c =
         let symbols = sent_symbols link codeword in
         let soft = frame_soft link tuning symbols in
@@ -261,9 +265,12 @@ module _ (link : Link) (valid : IsMode link.setup.mode) (sizes : HasCodeSizes li
         let hard : hard_decision soft ≡ codeword = heard.soft.decided in
         let is : IsCodeword (code_of link.rows) (hard_decision soft) = subst (IsCodeword (code_of link.rows)) (sym hard) c.is_codeword.in_code in
         let sure = clean_lem link.rows tuning soft is in
-        let given = codeword_delivers tuning at symbols field codeword ro bytes place fits c (ap (λ d. d.bits) sure ∙ hard) in (
+        let given = codeword_delivers tuning at symbols field codeword ro bytes place fits c (ap (λ d. d.bits) sure.0 ∙ hard) in
+        let some : NoneIsZero soft = λ i low. heard.soft.some i (omega (arith, low, ap length hard, length-map soft (λ v. int_lt v (pos 0)))) in
+        let verdict = frame_verdict link tuning symbols ∙ sure.1.1 some in (
           (length_sent codeword, found_sent codeword heard.header, given.delivered),
-          record { verdict = frame_verdict link tuning symbols ∙ ap (λ d. d.verdict) sure; outcome = given.outcome },
+          record { verdict = ap is_certified verdict; outcome = given.outcome },
+          verdict,
         )
 
     pub hears : Hears link (link_rules link tuning limit)
@@ -290,7 +297,13 @@ module _ (m : Mode) (valid : IsMode m) (sizes : HasCodeSizes m) where
   likely_law link tuning symbols linked verdict =
       let soft = frame_soft link tuning symbols in
       let long = length_soft link (subst IsMode (sym linked.0) valid) (subst HasCodeSizes (sym linked.0) sizes) linked.1 tuning symbols in
-      subst (IsMostLikely (code_of link.rows) soft) (sym (frame_bits link tuning symbols)) (likely_lem link.rows tuning soft long (sym (frame_verdict link tuning symbols) ∙ verdict))
+      subst (IsMostLikely (code_of link.rows) soft) (sym (frame_bits link tuning symbols)) (likely_lem link.rows tuning soft long (sym (ap is_certified (frame_verdict link tuning symbols)) ∙ verdict))
+
+  pub sole_law : SoleFrameLaw m
+  sole_law link tuning symbols linked verdict =
+      let soft = frame_soft link tuning symbols in
+      let long = length_soft link (subst IsMode (sym linked.0) valid) (subst HasCodeSizes (sym linked.0) sizes) linked.1 tuning symbols in
+      subst (IsSole (code_of link.rows) soft) (sym (frame_bits link tuning symbols)) (sole_lem link.rows tuning soft long (sym (frame_verdict link tuning symbols) ∙ verdict))
 
   module _ (link : Link) (tuning : Tuning) (at : ℕ) (symbols : List Symbol) (field : List ℕ) (codeword : List Bool) (sent : IsSent m link at field codeword) where
     pub scattered_law : IsScattered (code_of link.rows) (frame_soft link tuning symbols) codeword → IsDeliveredCertified (frame_decision link tuning symbols) codeword (header_at link.setup.roll_off at field) field
@@ -298,7 +311,7 @@ module _ (m : Mode) (valid : IsMode m) (sizes : HasCodeSizes m) where
         let same = sent.linked.0 in
         let sure = scattered_lem link.rows tuning (frame_soft link tuning symbols) codeword scattered in
         record {
-          verdict = frame_verdict link tuning symbols ∙ sure.0;
+          verdict = ap is_certified (frame_verdict link tuning symbols) ∙ sure.0;
           bits = frame_bits link tuning symbols ∙ sure.1;
           delivered = codeword_delivers link (subst IsMode (sym same) valid) (subst HasCodeSizes (sym same) sizes) sent.linked.1 tuning at symbols field codeword sent.roll_off sent.bytes sent.place sent.fits sent.codeword_is sure.1;
         }

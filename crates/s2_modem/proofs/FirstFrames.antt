@@ -21,7 +21,7 @@ use Rattle.s2_modem.specs.Both.{AreBytes, IsCertifiedFrame}
 use Rattle.s2_modem.specs.Headline.{IsSent}
 use Rattle.s2_modem.specs.Streams.{IsHeard, AreHeard, FirstFramesLaw, OneStreamLaw}
 use Rattle.s2_modem.proofs.ByteStreams.{stream_bytes, cut_bytes}
-use Rattle.s2_modem.proofs.Arrival.{AreCertified, short_cuts, lines_frames}
+use Rattle.s2_modem.proofs.Arrival.{AreCertified, short_cuts, lines_frames, all_certified}
 use Rattle.s2_modem.proofs.CleanFrames.{hears_law, scattered_law}
 
 -- what holds of a whole list holds of its front
@@ -70,6 +70,7 @@ first_frames_law m valid sizes = λ link tuning limit packets fields later piece
     record {
       written = f.1;
       lines = subst (Appends w w') (ap (all_lines rules at_start) f.0 ∙ lines_frames rules link.setup.roll_off 0 0 pieces fields at_start h.0 h.1) went.lines;
+      certified = all_certified rules 0 pieces h.1;
       all = g.all;
     }
 

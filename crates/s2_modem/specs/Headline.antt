@@ -1,5 +1,5 @@
 -- What holds of a whole link: of each frame, and from packets to packets.
-use Rattle.std.specs.Prelude.{◌≡◌, ℕ, ◌<◌, ◌≤◌, Bool, List, [], ◌++◌, length, Option, Some, Ok}
+use Rattle.std.specs.Prelude.{◌≡◌, ℕ, ◌<◌, ◌≤◌, IsTrue, Bool, List, [], ◌++◌, length, Option, Some, Ok}
 use Rattle.std.specs.Io.KnownBytes.{Appends}
 use Rattle.s2_mode.specs.Mode.{Mode, k_of, t_of, symbols_in}
 use Rattle.s2_mode.specs.declared.symbols.Symbol.{Symbol}
@@ -11,7 +11,9 @@ use Rattle.s2_bbframe.specs.declared.header.Header.{Header}
 use Rattle.s2_bbframe.specs.DataStream.{header_at, to_place, field_bytes}
 use Rattle.s2_receive.specs.Receiving.{Decision}
 use Rattle.s2_receive.specs.declared.report.Totals.{Totals}
-use Rattle.s2_check.specs.declared.verdict.Verdict.TheVariants.{MostLikely}
+use Rattle.s2_check.specs.Strict.{IsSole}
+use Rattle.s2_check.specs.Verdicts.{is_certified}
+use Rattle.s2_check.specs.declared.verdict.Verdict.TheVariants.{Sole}
 use Rattle.s2_receive.specs.declared.report.Outcome.TheVariants.{Delivered}
 use Rattle.s2_mode.specs.Limits.{most_symbols}
 use Rattle.s2_soft.specs.Divisors.{IsDivisor}
@@ -28,11 +30,17 @@ use Rattle.s2_receive.specs.ReportLines.{end_line}
 use Rattle.s2_modem.specs.Reception.{link_rules, Receives}
 use Rattle.s2_modem.specs.Both.{AreBytes, Hears, certified_lines, run_places, totals_of}
 
--- a frame that is called most likely: no codeword costs less under its soft values than its bits
+-- a frame that has a certificate: no codeword costs less under its soft values than its bits
 abbrev pub LikelyFrameLaw : Mode → Type 0
 LikelyFrameLaw m =
-    (link : Link) (tuning : Tuning) (symbols : List Symbol) → IsLinkOf m link → (frame_decision link tuning symbols).verdict ≡ MostLikely
+    (link : Link) (tuning : Tuning) (symbols : List Symbol) → IsLinkOf m link → IsTrue (is_certified (frame_decision link tuning symbols).verdict)
     → IsMostLikely (code_of link.rows) (frame_soft link tuning symbols) (frame_decision link tuning symbols).bits
+
+-- a frame that is called sole: each other codeword costs more
+abbrev pub SoleFrameLaw : Mode → Type 0
+SoleFrameLaw m =
+    (link : Link) (tuning : Tuning) (symbols : List Symbol) → IsLinkOf m link → (frame_decision link tuning symbols).verdict ≡ Sole
+    → IsSole (code_of link.rows) (frame_soft link tuning symbols) (frame_decision link tuning symbols).bits
 
 -- a frame that delivers this data field with this header, after so many changes by BCH decoding
 pub record IsDelivered (d : Decision) (fixed : ℕ) (header : Header) (field : List ℕ) : Type 0 where
@@ -58,7 +66,7 @@ BothCodesLaw m =
 
 -- a frame that is certified, with no bit changed
 pub record IsDeliveredCertified (d : Decision) (codeword : List Bool) (header : Header) (field : List ℕ) : Type 0 where
-  pub verdict : d.verdict ≡ MostLikely
+  pub verdict : IsTrue (is_certified d.verdict)
   pub bits : d.bits ≡ codeword
   pub delivered : IsDelivered d 0 header field
 
@@ -74,7 +82,7 @@ abbrev pub HearsLaw : Mode → Type 0
 HearsLaw m =
     (link : Link) (tuning : Tuning) (limit : ℕ) → IsLinkOf m link → link.setup.roll_off ≤ most_roll_off → IsDivisor tuning.divisor → Hears link (link_rules link tuning limit)
 
--- all packets, a line for each frame, certified, and the end's
+-- all packets, a line for each frame, sole, and the end's
 pub record AllArrives (t : Transmitter) (tuning : Tuning) (source : List ℕ) (counts : Counts) (totals : Totals) (packets_old packets_new report_old report_new : Option (List ℕ)) : Type 0 where
   pub packets : Appends packets_old packets_new source
   pub totals_are : totals ≡ totals_of counts

@@ -1,5 +1,5 @@
 -- What holds of a stream of symbols: of its first frames, and where it is read in two ways.
-use Rattle.std.specs.Prelude.{◌≡◌, ℕ, ◌+◌, ◌≤◌, ◌⊎◌, Bool, List, [], ◌∷◌, ◌++◌, All, length, take, Option, Some, ⊤}
+use Rattle.std.specs.Prelude.{◌≡◌, ℕ, ◌+◌, ◌≤◌, ◌⊎◌, IsTrue, Bool, List, [], ◌∷◌, ◌++◌, All, length, take, Option, Some, ⊤}
 use Rattle.std.specs.Io.KnownBytes.{Appends}
 use Rattle.s2_mode.specs.Limits.{header_symbols, dummy_symbols}
 use Rattle.s2_mode.specs.Mode.{Mode, symbols_in}
@@ -11,8 +11,10 @@ use Rattle.s2_split.specs.Scattered.{IsScattered}
 use Rattle.s2_bbframe.specs.DataStream.{IsPacket, stream_of, fields_of, field_bytes, header_at}
 use Rattle.s2_bbframe.specs.Joining.{closed_in}
 use Rattle.s2_receive.specs.Meeting.{Met}
-use Rattle.s2_receive.specs.Receiving.{State, Went, RunsTo, begun}
+use Rattle.s2_receive.specs.Receiving.{Rules, State, Went, RunsTo, begun}
 use Rattle.s2_receive.specs.Laws.{Piece, coded, dummy, IsDummy, joined, stream_symbols}
+use Rattle.s2_check.specs.Verdicts.{is_certified}
+use Rattle.s2_check.specs.declared.verdict.Verdict.{Verdict}
 use Rattle.s2_soft.specs.Divisors.{IsDivisor}
 use Rattle.s2_link.specs.Tuning.{Tuning}
 use Rattle.s2_link.specs.Limits.{most_roll_off}
@@ -43,17 +45,18 @@ AreHeard link tuning at (coded symbols ∷ pieces) [] = ⊥
 AreHeard link tuning at (coded symbols ∷ pieces) (field ∷ fields) = IsHeard link tuning at field symbols × AreHeard link tuning (at + length field) pieces fields
 AreHeard link tuning at (dummy symbols ∷ pieces) fields = IsDummy (found_as link.setup.mode) symbols × AreHeard link tuning at pieces fields
 
--- where the coded ones begin, from a position on
-abbrev pub places_in : ℕ → ℕ → List Piece → List ℕ
-places_in size at [] = []
-places_in size at (coded symbols ∷ pieces) = at ∷ places_in size (at + size) pieces
-places_in size at (dummy symbols ∷ pieces) = places_in size (at + dummy_symbols) pieces
+-- where the coded ones begin, from a position on, and what these rules call them
+abbrev pub places_in : Rules → ℕ → List Piece → List (ℕ × Verdict)
+places_in rules at [] = []
+places_in rules at (coded symbols ∷ pieces) = (at, (rules.decide symbols).verdict) ∷ places_in rules (at + rules.size) pieces
+places_in rules at (dummy symbols ∷ pieces) = places_in rules (at + dummy_symbols) pieces
 
 -- Each of the first coded frames is reported as certified, and just those packets are written whose closing CRC-8 lies in their data
 -- fields; all packets, where these are all fields.
 pub record FrontArrives (link : Link) (tuning : Tuning) (limit : ℕ) (packets fields later : List (List ℕ)) (pieces : List Piece) (packets_old packets_new report_old report_new : Option (List ℕ)) : Type 0 where
   pub written : Appends packets_old packets_new (joined (take (closed_in (length (joined fields))) packets))
-  pub lines : Appends report_old report_new (certified_lines (link_rules link tuning limit) 0 (places_in (symbols_in link.setup.mode) 0 pieces))
+  pub lines : Appends report_old report_new (certified_lines (link_rules link tuning limit) 0 (places_in (link_rules link tuning limit) 0 pieces))
+  pub certified : All (λ (place : ℕ × Verdict). IsTrue (is_certified place.1)) (places_in (link_rules link tuning limit) 0 pieces)
   pub all : later ≡ [] → take (closed_in (length (joined fields))) packets ≡ packets
 
 -- What a receiver, by each divisor, has written after so many steps as first coded frames of a stream of packets came clear,

@@ -1,15 +1,23 @@
 //! What the definitions determine: each a call that does nothing, whose clause is the law.
 ghost use Rattle.s2_modem.specs.Front.{CleanFrameLaw};
-ghost use Rattle.s2_modem.specs.Headline.{LikelyFrameLaw, BothCodesLaw, ScatteredFrameLaw, HearsLaw, ArrivalLaw};
+ghost use Rattle.s2_modem.specs.Headline.{LikelyFrameLaw, SoleFrameLaw, BothCodesLaw, ScatteredFrameLaw, HearsLaw, ArrivalLaw};
 ghost use Rattle.s2_modem.specs.Streams.{FirstFramesLaw, OneStreamLaw};
 
 use s2_mode::Mode;
 pub use s2_send::laws::{no_dummies, one_frame, one_run};
 
-/// The bits of a frame that is called most likely satisfy every check, and no bits that do cost less
+/// The bits of a frame that is called sole or most likely satisfy every check, and no bits that do cost less
 /// under its soft values.
 pub fn likely_frame(mode: Mode)
     ensures { LikelyFrameLaw mode }
+{
+    let _ = mode.k();
+}
+
+/// The bits of a frame that is called sole satisfy every check, and all others that do cost more under its soft
+/// values.
+pub fn sole_frame(mode: Mode)
+    ensures { SoleFrameLaw mode }
 {
     let _ = mode.k();
 }
@@ -36,7 +44,7 @@ pub fn clean_frame()
     ensures { CleanFrameLaw }
 {}
 
-/// A frame without noise is found where it begins, and delivered, certified, with no bit changed, by each divisor;
+/// A frame without noise is found where it begins, and delivered, sole, with no bit changed, by each divisor;
 /// a dummy frame without noise is found as one.
 pub fn hears(mode: Mode)
     ensures { HearsLaw mode }
@@ -45,7 +53,7 @@ pub fn hears(mode: Mode)
 }
 
 /// All packets that a transmitter reads are written by a receiver of the symbols that it writes, and each frame is
-/// reported as certified, with no bit changed, at its place, by each divisor, whether the transmitter sends dummy
+/// reported as sole, with no bit changed, at its place, by each divisor, whether the transmitter sends dummy
 /// frames or not.
 pub fn arrival(mode: Mode)
     ensures { ArrivalLaw mode }

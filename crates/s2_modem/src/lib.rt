@@ -17,8 +17,8 @@
 //! packets are joined across them. What it reports and writes is exactly what the definitions say of these
 //! symbols: soft values, decided bits with a verdict, the nearest BCH word, its message's header, and
 //! the packets that the joiner makes of its data field. Soft values are divided by [`DEFAULT_DIVISOR`], or by what
-//! the [`Tuning`] of [`Receiver::on_link`] says. Bits that are called most likely satisfy every
-//! check, and no bits that do cost less ([`s2_judge::laws`]). [`Receiver::run`] goes on so to
+//! the [`Tuning`] of [`Receiver::on_link`] says. Bits that are called sole or most likely satisfy every
+//! check, and no bits that do cost less, nor as little where they are called sole ([`s2_judge::laws`]). [`Receiver::run`] goes on so to
 //! the end of the symbols, and [`demodulate`] does it for a whole stream in memory.
 //!
 //! The decided bits of a frame, n of them, are called its word, whether they are a codeword or not. Their

@@ -10,7 +10,7 @@ use Rattle.s2_receive.specs.Meeting.{Met, frame, cut, ended, met_in}
 use Rattle.s2_receive.specs.Finding.{YieldsSymbols, Meets}
 use Rattle.s2_receive.specs.Stepping.{FailsIn}
 use Rattle.s2_check.specs.declared.verdict.Verdict.{Verdict}
-use Rattle.s2_check.specs.declared.verdict.Verdict.TheVariants as verdicts
+use Rattle.s2_check.specs.Verdicts.{is_certified}
 use Rattle.s2_mode.specs.declared.counts.WriteFault.{WriteFault}
 use Rattle.s2_receive.specs.declared.report.Outcome.{Outcome}
 use Rattle.s2_receive.specs.declared.report.Outcome.TheVariants as outcomes
@@ -118,9 +118,9 @@ abbrev pub all_lines : Rules → Standing → List Met → List ℕ
 all_lines rules s [] = []
 all_lines rules s (met ∷ later) = line_of rules s met ++ all_lines rules (after rules s met) later
 
--- a frame that was delivered with bits that are most likely, or the end; a cut one is not well
+-- a frame that was delivered with bits that are sole or most likely, or the end; a cut one is not well
 abbrev pub is_sure : Outcome → Verdict → Bool
-is_sure (outcomes.Delivered fixed) verdicts.MostLikely = true
+is_sure (outcomes.Delivered fixed) verdict = is_certified verdict
 is_sure outcome verdict = false
 
 abbrev pub is_well : Step → Bool

@@ -7,16 +7,15 @@ use crate::parts::{Decide, Lines};
 use crate::receiver::Receiver;
 use crate::report::{Outcome, Received, Step, Totals};
 use crate::search::Search;
-use s2_check::Verdict;
 use s2_mode::{CountedRead, CountedWrite, InMemory, StreamFault, WriteFault};
 
-/// Whether a step is a frame that was delivered with bits that are most likely, or the end.
+/// Whether a step is a frame that was delivered with bits that are sole or most likely, or the end.
 fn is_well(step: Step) -> bool
     ensures { result ≡ is_well step }
 {
     match step {
         Step::Frame(report) => match report.outcome {
-            Outcome::Delivered { .. } => report.verdict == Verdict::MostLikely,
+            Outcome::Delivered { .. } => report.verdict.is_certified(),
             _ => false,
         },
         Step::Cut { .. } => false,

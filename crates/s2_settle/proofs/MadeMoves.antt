@@ -4,8 +4,7 @@ use Rattle.std.proofs.lemmas.Bool.{cases_lt, cases_eq}
 use Rattle.std.proofs.lemmas.List.{get_or_past, get_or-replicate, length-replicate}
 use Rattle.s2_rows.specs.Rows.{Rows}
 use Rattle.s2_matrix.specs.Code.{code_of, members}
-use Rattle.s2_check.specs.Moves.{no_move}
-use Rattle.s2_check.specs.declared.step.Move.{Move}
+use Rattle.s2_check.specs.Moves.{Move, no_move}
 use Rattle.s2_check.proofs.Places.{some_member}
 use Rattle.s2_settle.specs.Settled.{place_in, move_to}
 use Rattle.s2_settle.specs.Placing.{shown, place_of_check, move_of, moves_of}

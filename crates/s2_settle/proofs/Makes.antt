@@ -8,10 +8,9 @@ use Rattle.s2_check.specs.Cost.{cost}
 use Rattle.s2_check.specs.Split.{bound}
 use Rattle.s2_check.specs.Views.{View}
 use Rattle.s2_check.specs.Checking.{IsCertificate, Refuses, split_in}
-use Rattle.s2_check.specs.declared.step.Move.{Move}
 use Rattle.s2_check.specs.declared.checker.Refusal.{Refusal}
 use Rattle.s2_check.specs.declared.checker.Refusal.TheVariants.{OtherShape, OddCheck, BoundBelow}
-use Rattle.s2_check.specs.Moves.{placed_of}
+use Rattle.s2_check.specs.Moves.{Move, placed_of}
 use Rattle.s2_check.proofs.Listing.{length-all_shares}
 use Rattle.s2_settle.specs.Plain.{settling_scale}
 use Rattle.s2_settle.specs.Layer.{Held}

@@ -6,9 +6,8 @@ use Rattle.s2_matrix.specs.Code.{code_of, IsCodeword}
 use Rattle.s2_check.specs.Cost.{cost}
 use Rattle.s2_check.specs.Split.{bound}
 use Rattle.s2_check.specs.Views.{View}
-use Rattle.s2_check.specs.Moves.{placed_of}
+use Rattle.s2_check.specs.Moves.{Move, placed_of}
 use Rattle.s2_check.specs.Checking.{IsCertificate, split_in}
-use Rattle.s2_check.specs.declared.step.Move.{Move}
 use Rattle.s2_check.proofs.Duality.{bound-le-cost}
 use Rattle.s2_check.proofs.Listing.{length-all_shares}
 use Rattle.s2_settle.specs.Plain.{settling_scale, State, start, passes}

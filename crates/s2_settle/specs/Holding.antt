@@ -2,17 +2,17 @@
 use Rattle.std.specs.Prelude.{◌≡◌, ℕ, ◌<◌, Bool, List, length, get_or, ℤ}
 use Rattle.s2_rows.specs.Rows.{Rows}
 use Rattle.s2_matrix.specs.Code.{Code, code_of}
-use Rattle.s2_check.specs.Moves.{no_move, AreTargets}
+use Rattle.s2_check.specs.Moves.{Move, no_move, AreTargets}
 use Rattle.s2_check.specs.Views.{View}
-use Rattle.s2_check.specs.declared.step.Move.{Move}
 use Rattle.s2_minsum.specs.Decoding.{AreFit, HasRoom}
 use Rattle.s2_settle.specs.Layer.{Held, AreLong}
 use Rattle.s2_settle.specs.Settled.{moved_view}
 
--- the rows of a settler's matrix, and the moves that it made last, check by check
+-- the rows of a settler's matrix, the moves that it made last, check by check, and whether the certificate that it found last is strict
 pub record Settling : Type 0 where
   pub rows : Rows
   pub moves : List Move
+  pub strict : Bool
 
 -- the certificate of these values and this word by the moves that were made last
 abbrev pub view_by : Settling → List ℤ → List Bool → View

@@ -5,10 +5,9 @@ use Rattle.s2_rows.specs.Rows.{Rows}
 use Rattle.s2_matrix.specs.Total.{upto}
 use Rattle.s2_matrix.specs.Code.{code_of, members}
 use Rattle.s2_check.specs.Views.{View}
-use Rattle.s2_check.specs.declared.step.Move.{Move}
 use Rattle.s2_minsum.specs.Rows.{turned, entry_at}
 use Rattle.s2_minsum.specs.Layout.{bit_of, entries_of}
-use Rattle.s2_check.specs.Moves.{most_moved}
+use Rattle.s2_check.specs.Moves.{Move, most_moved}
 use Rattle.s2_settle.specs.Layer.{Held}
 use Rattle.s2_settle.specs.Settled.{move_to, moved_view, if_reached}
 

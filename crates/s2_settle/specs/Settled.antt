@@ -6,10 +6,9 @@ use Rattle.s2_matrix.specs.Total.{upto}
 use Rattle.s2_matrix.specs.Code.{Code, code_of, members}
 use Rattle.s2_check.specs.Cost.{cost}
 use Rattle.s2_check.specs.Split.{bound}
-use Rattle.s2_check.specs.Moves.{no_move, placed_of}
-use Rattle.s2_check.specs.Views.{View, split_view}
+use Rattle.s2_check.specs.Moves.{Move, no_move, placed_of}
+use Rattle.s2_check.specs.Views.{View, placed_view}
 use Rattle.s2_check.specs.Checking.{split_in}
-use Rattle.s2_check.specs.declared.step.Move.{Move}
 use Rattle.s2_settle.specs.Plain.{settling_scale, State, start, passes}
 
 abbrev pub place_in : List ℕ → ℕ → ℕ
@@ -31,7 +30,7 @@ moves_in code s = map (move_in code s) (upto code.checks)
 -- the certificate of moves
 abbrev pub moved_view : Rows → List ℤ → List Bool → List Move → View
 moved_view rows soft word ms =
-    split_view rows settling_scale soft word (placed_of (code_of rows) word 1 ms)
+    placed_view rows settling_scale soft word ms
 
 -- whether the bound that a certificate's split shows reaches the scaled cost of its word
 abbrev pub reaches : Rows → View → Bool

@@ -1,7 +1,8 @@
 //! The settler.
-ghost use Rattle.std.specs.Prelude.{◌≡◌, IsTrue, IfOk, All, Some, None, if◌then◌else◌, length};
+ghost use Rattle.std.specs.Prelude.{◌≡◌, ◌↔◌, IsTrue, IfOk, All, Some, None, if◌then◌else◌, length};
 ghost use Rattle.s2_matrix.specs.Code.{code_of, IsCodeword};
 ghost use Rattle.s2_check.specs.Checking.{IsCertificate};
+ghost use Rattle.s2_check.specs.Strict.{IsStrict};
 ghost use Rattle.s2_check.specs.Views.{IsSoft};
 ghost use Rattle.s2_settle.specs.Settled.{settled};
 ghost use Rattle.s2_settle.specs.Holding.{view_by};
@@ -10,20 +11,21 @@ use crate::find::find_moves;
 use crate::held::Held;
 use crate::limits::SCALE;
 use s2_bits::Bits;
-use s2_check::{Answer, CertView, Move, check};
+use s2_check::{Answer, CertView, Move, examine};
 use s2_matrix::Matrix;
 use s2_minsum::{Layers, scratch_len};
 use std::alloc::{AllocError, Global};
 use std::marker::Model;
 
-/// A maker of certificates by passes over all layers. To contracts it is the address rows and the moves that
-/// it made last.
+/// A maker of certificates by passes over all layers. To contracts it is the address rows, the moves that it
+/// made last, and whether the certificate that it found last is strict.
 pub struct Settler<'a> {
     matrix: &'a Matrix,
     layers: Layers<'a>,
     held: Held,
     scratch: Vec<u32>,
     moves: Vec<Move>,
+    strict: bool,
 }
 
 impl<'a> Drop for Settler<'a> {
@@ -34,6 +36,7 @@ impl<'a> Drop for Settler<'a> {
             held: _,
             scratch: _,
             moves: _,
+            strict: _,
         } = self;
     }
 }
@@ -44,7 +47,7 @@ impl<'a> Model for Settler<'a> {
 
     ghost Value = { Settling };
 
-    ghost view = { λ s. record { rows = s.matrix.now; moves = s.moves.items } };
+    ghost view = { λ s. record { rows = s.matrix.now; moves = s.moves.items; strict = s.strict } };
 
     ghost invariant = { λ s. IsSettler s.matrix.now s.layers s.held s.moves.items (length s.scratch.items) };
 }
@@ -69,6 +72,7 @@ impl<'a> Settler<'a> {
             held,
             scratch,
             moves,
+            strict: false,
         })
     }
 
@@ -81,6 +85,7 @@ impl<'a> Settler<'a> {
         ensures rows { self.new.rows ≡ self.old.rows }
         ensures is { settled self.old.rows soft.now word.now passes ≡ (if result then Some (view_by self.new soft.now word.now) else None) }
         ensures accepted { IsTrue result → IsCertificate self.old.rows (view_by self.new soft.now word.now) }
+        ensures strict { IsTrue result → (IsTrue self.new.strict ↔ IsStrict self.old.rows (view_by self.new soft.now word.now)) }
     {
         if !find_moves(
             self.matrix,
@@ -94,10 +99,19 @@ impl<'a> Settler<'a> {
         ) {
             return false;
         }
-        match check(self.matrix, &self.held(soft, word)) {
+        let examined = examine(self.matrix, &self.held(soft, word));
+        self.strict = examined.strict;
+        match examined.answer {
             Answer::Yes => true,
             Answer::No(_) => false,
         }
+    }
+
+    /// Whether the certificate that was found last is strict.
+    pub fn is_strict(&self) -> bool
+        ensures { result ≡ self.now.strict }
+    {
+        self.strict
     }
 
     /// The certificate of these values and this word by the moves that were made last.

@@ -3,8 +3,7 @@ use Rattle.std.proofs.Common.{◌≡◌, ℕ, ◌*◌, ◌<◌, ◌≤◌, AllPa
 use Rattle.std.proofs.lemmas.Bool.{both_ways, cases_eq, cases_lt, cond-true, cond-false, eqb-true}
 use Rattle.std.proofs.lemmas.Int.{ints}
 use Rattle.std.proofs.lemmas.List.Folds.{list_any_at}
-use Rattle.s2_check.specs.declared.step.Move.{Move}
-use Rattle.s2_check.specs.Moves.{most_moved}
+use Rattle.s2_check.specs.Moves.{Move, most_moved}
 use Rattle.s2_split.specs.Kept.{most_rest, most_between, is_among, taken_at, evenly_at, given_back}
 use Rattle.s2_split.proofs.Lesser.{IsWrittenAt}
 

@@ -6,8 +6,7 @@ use Rattle.std.proofs.lemmas.Int.{ints, clamps}
 use Rattle.std.proofs.lemmas.List.{set-get_or}
 use Rattle.std.proofs.lemmas.List.Elements.{All-head, All-tail}
 use Rattle.s2_matrix.specs.Code.{Code, members, checks_of}
-use Rattle.s2_check.specs.Moves.{no_move}
-use Rattle.s2_check.specs.declared.step.Move.{Move}
+use Rattle.s2_check.specs.Moves.{Move, no_move}
 use Rattle.s2_check.proofs.BoundListed.{check_at}
 use Rattle.s2_check.specs.Hard.{differs}
 use Rattle.s2_split.specs.Scattered.{least_of}

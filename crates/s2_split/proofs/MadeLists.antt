@@ -6,8 +6,8 @@ use Rattle.s2_matrix.specs.Total.{upto}
 use Rattle.s2_matrix.specs.Code.{Code, members, checks_of}
 use Rattle.s2_matrix.proofs.Totals.{total-zero, total-same}
 use Rattle.s2_matrix.proofs.Members.{upto_below}
-use Rattle.s2_check.specs.Moves.{in_favour, moves, no_move, placed_of, listed, all_shares}
-use Rattle.s2_check.specs.declared.step.Move.{Move}
+use Rattle.s2_check.specs.Moves.{Move, in_favour, moves, no_move, placed_of, listed, all_shares}
+use Rattle.s2_check.specs.MovesOf.{move_of, moves_of}
 use Rattle.s2_check.specs.Split.{Split}
 use Rattle.s2_split.specs.Making.{shared, AreLeft}
 use Rattle.s2_mode.specs.Limits.{most_soft}
@@ -18,11 +18,12 @@ use Rattle.s2_check.specs.Cost.{value_at}
 use Rattle.s2_check.specs.Views.{IsSoft}
 use Rattle.std.proofs.lemmas.Bool.{cases_eq, cases_lt, both_ways}
 use Rattle.std.proofs.lemmas.List.{get_or_past}
-use Rattle.s2_split.specs.Kept.{scaled_at, AreLow, AreHeldMoves, AreKept, Ends}
+use Rattle.s2_split.specs.Kept.{scaled_at, AreLow, IsHeld, AreHeldMoves, AreKept, Ends}
 use Rattle.s2_split.proofs.FittingLemmas.{none_given'}
 use Rattle.s2_split.proofs.Shifts.{given, scaled_rest}
-use Rattle.s2_check.proofs.BoundListed.{check_at, total-same_in}
+use Rattle.s2_check.proofs.BoundListed.{check_at, map-same_in, total-same_in}
 use Rattle.s2_check.proofs.MovedBound.{amount_at}
+use Rattle.s2_check.proofs.MovesBack.{moves_listed}
 use Rattle.s2_split.proofs.Steps.{held_as}
 
 listed_same : (f g : ℕ → List ℤ) (js : List ℕ) → All (λ j. f j ≡ g j) js → listed f js ≡ listed g js
@@ -35,24 +36,40 @@ nothing : (b : Bool) → cond b (neg_ℤ (pos 0)) (pos 0) ≡ pos 0
 nothing true = refl
 nothing false = refl
 
-row_of_none : (word : List Bool) (ms : List ℕ) (t t' : ℕ) → map (λ i. in_favour word i (cond (i == t) (neg_ℤ (pos 0)) (pos 0))) ms ≡ map (λ i. in_favour word i (cond (i == t') (neg_ℤ (pos 0)) (pos 0))) ms
-row_of_none word [] t t' = refl
-row_of_none word (m ∷ ms) t t' =
-    ap₂ (λ (v : ℤ) (vs : List ℤ). v ∷ vs) (ap (in_favour word m) (nothing (m == t) ∙ sym (nothing (m == t')))) (row_of_none word ms t t')
+-- of moves and of a list that holds them the shares are the same
+same_share : (code : Code) (word : List Bool) (s : ℕ) (m : Moved) (ms : List Move) (j i : ℕ) → IsHeld code j (m.target j) (m.amount j) (get_or ms j no_move) → (moves word s m.target m.amount).share j i ≡ (placed_of code word s ms).share j i
+same_share code word s m ms j i here =
+    let share = λ (t a : ℕ). in_favour word i (cond (i == t) (neg_ℤ (pos a)) (pos a)) in
+    let at = get_or (members code j) (get_or ms j no_move).place 0 in
+    let held = sym here.amount_is in
+    elim (cases_eq (m.amount j) 0) [
+      | inl none ↦ ap (share (m.target j)) none ∙ ap (in_favour word i) (nothing (i == m.target j) ∙ sym (nothing (i == at))) ∙ ap (share at) (sym none ∙ held)
+      | inr some ↦ ap₂ share (sym (here.target_is some)) held
+    ]
 
 pub same_shares : (code : Code) (word : List Bool) (s : ℕ) (m : Moved) (ms : List Move) → AreHeldMoves code m ms → all_shares code (moves word s m.target m.amount) ≡ all_shares code (placed_of code word 1 ms)
 same_shares code word s m ms h =
-    let row = λ (t a j : ℕ). map (λ i. in_favour word i (cond (i == t) (neg_ℤ (pos a)) (pos a))) (members code j) in
-    let at = λ (j : ℕ). get_or (members code j) (get_or ms j no_move).place 0 in
-    listed_same (λ j. row (m.target j) (m.amount j) j) (λ j. row (at j) (get_or ms j no_move).amount j) (upto code.checks) (λ k d within. (
+    let f = (moves word s m.target m.amount).share in
+    let g = (placed_of code word s ms).share in
+    listed_same (λ j. map (f j) (members code j)) (λ j. map (g j) (members code j)) (upto code.checks) (λ k d within. (
     let j = get_or (upto code.checks) k d in
-    let here = h.each j (upto_below code.checks k d within) in
-    let held = sym here.amount_is in
-    elim (cases_eq (m.amount j) 0) [
-      | inl none ↦ ap (λ a. row (m.target j) a j) none ∙ row_of_none word (members code j) (m.target j) (at j) ∙ ap (λ a. row (at j) a j) (sym none ∙ held)
-      | inr some ↦ ap₂ (λ t a. row t a j) (sym (here.target_is some)) held
-    ]
+    map-same_in (f j) (g j) (members code j) (λ k' d' _. same_share code word s m ms j (get_or (members code j) k' d') (h.each j (upto_below code.checks k d within)))
     ))
+
+maps_same : (f g : ℕ → Move) (js : List ℕ) → All (λ j. f j ≡ g j) js → map f js ≡ map g js
+maps_same f g [] h = refl
+maps_same f g (j ∷ js) h =
+    ap₂ ◌∷◌ (All-head (λ k. f k ≡ g k) j js h) (maps_same f g js (All-tail (λ k. f k ≡ g k) j js h))
+
+-- and these are the list
+pub same_moves : (code : Code) (word : List Bool) (s : ℕ) (m : Moved) (ms : List Move) → AreHeldMoves code m ms → moves_of code word (moves word s m.target m.amount) ≡ ms
+same_moves code word s m ms h =
+    let f = λ (j i : ℕ). in_favour word i ((moves word s m.target m.amount).share j i) in
+    let g = λ (j i : ℕ). in_favour word i ((placed_of code word s ms).share j i) in
+    maps_same (λ j. move_of (map (f j) (members code j))) (λ j. move_of (map (g j) (members code j))) (upto code.checks) (λ k d within. (
+    let j = get_or (upto code.checks) k d in
+    ap move_of (map-same_in (f j) (g j) (members code j) (λ k' d' _. (let i = get_or (members code j) k' d' in ap (in_favour word i) (same_share code word s m ms j i (h.each j (upto_below code.checks k d within))))))
+    )) ∙ moves_listed code word s ms h.long (λ j low. (h.each j low).place) (λ j low none. (h.each j low).unmoved (sym (h.each j low).amount_is ∙ none))
 
 -- the moves of a list
 abbrev placed_moves : Code → List Move → Moved
@@ -121,22 +138,22 @@ start_low soft word rests range long are k =
 
 -- ---- how the two ways end
 
-shared_if : (code : Code) (b : Bool) (split : Split) (other : Option Split) → b ≡ true → shared code (cond b (Some split) other) ≡ Some (record { scale = split.scale; shares = all_shares code split })
-shared_if code b split other e = ap (λ t. shared code (cond t (Some split) other)) e
+shared_if : (code : Code) (word : List Bool) (b : Bool) (split : Split) (other : Option Split) → b ≡ true → shared code word (cond b (Some split) other) ≡ Some (record { scale = split.scale; moves = moves_of code word split })
+shared_if code word b split other e = ap (λ t. shared code word (cond t (Some split) other)) e
 
-shared_else : (code : Code) (b : Bool) (split : Split) (other : Option Split) → b ≡ false → shared code (cond b (Some split) other) ≡ shared code other
-shared_else code b split other e = ap (λ t. shared code (cond t (Some split) other)) e
+shared_else : (code : Code) (word : List Bool) (b : Bool) (split : Split) (other : Option Split) → b ≡ false → shared code word (cond b (Some split) other) ≡ shared code word other
+shared_else code word b split other e = ap (λ t. shared code word (cond t (Some split) other)) e
 
-pub shared_greedy : (code : Code) (soft : List ℤ) (word : List Bool) (rests : List ℤ) (ms : List Move) (other : Option Split) → AreKept code soft word 1 (greedy code soft word) rests ms → has_no_negative_rest code soft word 1 (greedy code soft word) ≡ true → Some (record { scale = 1; shares = all_shares code (placed_of code word 1 ms) }) ≡ shared code (cond (has_no_negative_rest code soft word 1 (greedy code soft word)) (Some (moves word 1 (greedy code soft word).target (greedy code soft word).amount)) other)
+pub shared_greedy : (code : Code) (soft : List ℤ) (word : List Bool) (rests : List ℤ) (ms : List Move) (other : Option Split) → AreKept code soft word 1 (greedy code soft word) rests ms → has_no_negative_rest code soft word 1 (greedy code soft word) ≡ true → Some (record { scale = 1; moves = ms }) ≡ shared code word (cond (has_no_negative_rest code soft word 1 (greedy code soft word)) (Some (moves word 1 (greedy code soft word).target (greedy code soft word).amount)) other)
 shared_greedy code soft word rests ms other kept h =
     let g = greedy code soft word in
-    sym (shared_if code (has_no_negative_rest code soft word 1 g) (moves word 1 g.target g.amount) other h ∙ ap (λ (l : List ℤ). Some (record { scale = 1; shares = l })) (same_shares code word 1 g ms kept.held))
+    sym (shared_if code word (has_no_negative_rest code soft word 1 g) (moves word 1 g.target g.amount) other h ∙ ap (λ (l : List Move). Some (record { scale = 1; moves = l })) (same_moves code word 1 g ms kept.held))
 
-pub made_spread : (code : Code) (soft : List ℤ) (word : List Bool) (found : Bool) (rests : List ℤ) (ms : List Move) → Ends code soft word (spread code soft word most_passes none_moved) found rests ms → has_no_negative_rest code soft word 1 (greedy code soft word) ≡ false → cond found (Some (record { scale = spread_scale; shares = all_shares code (placed_of code word 1 ms) })) None ≡ shared code (made_split code soft word)
+pub made_spread : (code : Code) (soft : List ℤ) (word : List Bool) (found : Bool) (rests : List ℤ) (ms : List Move) → Ends code soft word (spread code soft word most_passes none_moved) found rests ms → has_no_negative_rest code soft word 1 (greedy code soft word) ≡ false → cond found (Some (record { scale = spread_scale; moves = ms })) None ≡ shared code word (made_split code soft word)
 made_spread code soft word found rests ms ends h =
     let g = greedy code soft word in
-    go (spread code soft word most_passes none_moved) ends ∙ sym (shared_else code (has_no_negative_rest code soft word 1 g) (moves word 1 g.target g.amount) (split_by word spread_scale (spread code soft word most_passes none_moved)) h)
+    go (spread code soft word most_passes none_moved) ends ∙ sym (shared_else code word (has_no_negative_rest code soft word 1 g) (moves word 1 g.target g.amount) (split_by word spread_scale (spread code soft word most_passes none_moved)) h)
   where
-    go : (o : Option Moved) → Ends code soft word o found rests ms → cond found (Some (record { scale = spread_scale; shares = all_shares code (placed_of code word 1 ms) })) None ≡ shared code (split_by word spread_scale o)
-    go None e = ap (λ b. cond b (Some (record { scale = spread_scale; shares = all_shares code (placed_of code word 1 ms) })) None) e
-    go (Some m) e = ap (λ b. cond b (Some (record { scale = spread_scale; shares = all_shares code (placed_of code word 1 ms) })) None) e.0 ∙ ap (λ (l : List ℤ). Some (record { scale = spread_scale; shares = l })) (sym (same_shares code word spread_scale m ms e.1.held))
+    go : (o : Option Moved) → Ends code soft word o found rests ms → cond found (Some (record { scale = spread_scale; moves = ms })) None ≡ shared code word (split_by word spread_scale o)
+    go None e = ap (λ b. cond b (Some (record { scale = spread_scale; moves = ms })) None) e
+    go (Some m) e = ap (λ b. cond b (Some (record { scale = spread_scale; moves = ms })) None) e.0 ∙ ap (λ (l : List Move). Some (record { scale = spread_scale; moves = l })) (sym (same_moves code word spread_scale m ms e.1.held))

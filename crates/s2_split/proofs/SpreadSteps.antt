@@ -11,8 +11,7 @@ use Rattle.s2_matrix.specs.Code.{Code, members}
 use Rattle.s2_matrix.proofs.Members.{members_below}
 use Rattle.std.proofs.lemmas.List.Folds.{list_any_none}
 use Rattle.s2_matrix.specs.Total.{upto}
-use Rattle.s2_check.specs.Moves.{no_move, most_moved}
-use Rattle.s2_check.specs.declared.step.Move.{Move}
+use Rattle.s2_check.specs.Moves.{Move, no_move, most_moved}
 use Rattle.s2_split.specs.Scattered.{least_of}
 use Rattle.s2_split.specs.Greedy.{Moved, rest_at, put}
 use Rattle.s2_split.specs.Spreading.{least_member, spread_amount, amount_to, give_back, spread_check, spread_scale}
@@ -66,7 +65,7 @@ least_here f P b (x ∷ xs) here all =
     either true = All-head P x xs all
     either false = here
 
-least_holds : (f : ℕ → ℤ) (P : ℕ → Type 0) (xs : List ℕ) → 1 ≤ length xs → All P xs → P (least_member f xs)
+pub least_holds : (f : ℕ → ℤ) (P : ℕ → Type 0) (xs : List ℕ) → 1 ≤ length xs → All P xs → P (least_member f xs)
 least_holds f P [] some all = absurd (omega arith)
 least_holds f P (x ∷ xs) some all = least_here f P x xs (All-head P x xs all) (All-tail P x xs all)
 

@@ -6,8 +6,7 @@ use Rattle.s2_matrix.specs.Code.{Code, members, checks_of}
 use Rattle.s2_bits.specs.Bits.{bit_at}
 use Rattle.s2_check.specs.Cost.{value_at}
 use Rattle.s2_check.specs.Views.{IsSoft}
-use Rattle.s2_check.specs.Moves.{no_move, most_moved}
-use Rattle.s2_check.specs.declared.step.Move.{Move}
+use Rattle.s2_check.specs.Moves.{Move, no_move, most_moved}
 use Rattle.s2_mode.specs.Limits.{most_soft}
 use Rattle.s2_rows.specs.Limits.{most_addresses}
 use Rattle.s2_split.specs.Greedy.{Moved, rest_at, none_moved, serve}

@@ -98,7 +98,7 @@ pub(crate) fn make_moves(
     requires rests { length rests.old ≡ (code_of matrix.now).bits }
     requires negatives { length negatives.old ≡ (code_of matrix.now).checks }
     requires moves { length moves.old ≡ (code_of matrix.now).checks }
-    ensures made { made_of matrix.now word.now result moves.new ≡ shared (code_of matrix.now) (split_in_ways ways (code_of matrix.now) soft.now word.now) }
+    ensures made { made_of result moves.new ≡ shared (code_of matrix.now) word.now (split_in_ways ways (code_of matrix.now) soft.now word.now) }
     ensures moves { ArePlaced (code_of matrix.now) word.now moves.new }
     ensures rests { result ≢ 0 → AreLeft (code_of matrix.now) soft.now word.now (placed_of (code_of matrix.now) word.now result moves.new) rests.new }
     ensures scaled { result ≤ spread_scale }

@@ -3,12 +3,13 @@ ghost use Rattle.std.specs.Prelude.{◌≡◌, ◌≤◌, IfOk, Bool, All, lengt
 ghost use Rattle.s2_matrix.specs.Code.{code_of, IsCodeword};
 ghost use Rattle.s2_check.specs.Checking.{IsCertificate};
 ghost use Rattle.s2_check.specs.Views.{IsSoft};
-ghost use Rattle.s2_split.specs.Making.{shared, shared_view, made_view, split_in_ways, HoldsRests};
+ghost use Rattle.s2_split.specs.Making.{shared, shared_view, made_view, split_in_ways, HoldsRests, AreSome};
 ghost use Rattle.s2_split.specs.Scattered.{repaired, IsScattered};
 ghost use Rattle.s2_split.specs.Spreading.{greedy_split, made_split};
 
 use crate::make::{Ways, make_moves};
 use crate::repair::repair;
+use crate::rests::are_some;
 use s2_bits::Bits;
 use s2_check::{CertView, Move, hard_into};
 use s2_matrix::Matrix;
@@ -45,7 +46,7 @@ impl<'a> Model for Maker<'a> {
 
     ghost Value = { Making };
 
-    ghost view = { λ m. record { rows = m.matrix.now; word = m.word; made = made_of m.matrix.now m.word m.scale m.moves.items; rests = m.rests.items } };
+    ghost view = { λ m. record { rows = m.matrix.now; word = m.word; made = made_of m.scale m.moves.items; rests = m.rests.items } };
 
     ghost invariant = { λ m. IsMaker m.matrix.now m.word m.scale m.rests.items m.negatives.items m.moves.items m.odd.items };
 }
@@ -120,7 +121,7 @@ impl<'a> Maker<'a> {
         ensures word { self.new.word ≡ word.now }
         ensures found { IsTrue result ↔ (self.new.made ≢ None) }
         ensures codeword { IsTrue result → IsCodeword (code_of self.old.rows) word.now }
-        ensures made { IsCodeword (code_of self.old.rows) word.now → self.new.made ≡ shared (code_of self.old.rows) (made_split (code_of self.old.rows) soft.now word.now) }
+        ensures made { IsCodeword (code_of self.old.rows) word.now → self.new.made ≡ shared (code_of self.old.rows) word.now (made_split (code_of self.old.rows) soft.now word.now) }
         ensures odd { (IsCodeword (code_of self.old.rows) word.now → ⊥) → self.new.made ≡ None }
         ensures rests { HoldsRests self.new soft.now word.now }
     {
@@ -140,7 +141,7 @@ impl<'a> Maker<'a> {
         ensures rows { self.new.rows ≡ self.old.rows }
         ensures word { self.new.word ≡ word.now }
         ensures found { IsTrue result ↔ (self.new.made ≢ None) }
-        ensures made { self.new.made ≡ shared (code_of self.old.rows) (made_split (code_of self.old.rows) soft.now word.now) }
+        ensures made { self.new.made ≡ shared (code_of self.old.rows) word.now (made_split (code_of self.old.rows) soft.now word.now) }
         ensures rests { HoldsRests self.new soft.now word.now }
     {
         self.certify_in(Ways::GreedyThenSpreading, soft, word)
@@ -154,7 +155,7 @@ impl<'a> Maker<'a> {
         ensures rows { self.new.rows ≡ self.old.rows }
         ensures word { self.new.word ≡ word.now }
         ensures found { IsTrue result ↔ (self.new.made ≢ None) }
-        ensures made { self.new.made ≡ shared (code_of self.old.rows) (greedy_split (code_of self.old.rows) soft.now word.now) }
+        ensures made { self.new.made ≡ shared (code_of self.old.rows) word.now (greedy_split (code_of self.old.rows) soft.now word.now) }
         ensures rests { HoldsRests self.new soft.now word.now }
     {
         self.certify_in(Ways::Greedy, soft, word)
@@ -168,7 +169,7 @@ impl<'a> Maker<'a> {
         ensures rows { self.new.rows ≡ self.old.rows }
         ensures word { self.new.word ≡ word.now }
         ensures found { IsTrue result ↔ (self.new.made ≢ None) }
-        ensures made { self.new.made ≡ shared (code_of self.old.rows) (split_in_ways ways (code_of self.old.rows) soft.now word.now) }
+        ensures made { self.new.made ≡ shared (code_of self.old.rows) word.now (split_in_ways ways (code_of self.old.rows) soft.now word.now) }
         ensures rests { HoldsRests self.new soft.now word.now }
     {
         self.word.copy_prefix(word, word.len());
@@ -182,6 +183,13 @@ impl<'a> Maker<'a> {
             &mut self.moves,
         );
         self.scale > 0
+    }
+
+    /// Whether every rest that is held is at least 1. Where a split was made, just then its certificate is strict.
+    pub fn is_strict(&self) -> bool
+        ensures { IsTrue result ↔ AreSome (code_of self.now.rows) self.now.rests }
+    {
+        are_some(&self.rests)
     }
 
     /// The certificate of these values and this word by what the maker holds.

@@ -1,5 +1,5 @@
 //! Rests, and the moves that change them.
-ghost use Rattle.std.specs.Prelude.{◌≡◌, ◌≢◌, ℕ, true, ◌<◌, ◌≤◌, ◌==◌, not, nat_lt, if◌then◌else◌, All, length, get_or, map, filter, fold, pos, neg_ℤ, ◌≤ℤ◌, ◌-ℤ◌};
+ghost use Rattle.std.specs.Prelude.{◌≡◌, ◌≢◌, ◌↔◌, IsTrue, ℕ, true, ◌<◌, ◌≤◌, ◌==◌, not, nat_lt, if◌then◌else◌, All, length, get_or, map, filter, fold, pos, neg_ℤ, ◌≤ℤ◌, ◌-ℤ◌};
 ghost use Rattle.std.specs.List.{AllPairs};
 ghost use Rattle.std.specs.Int.{int_min};
 ghost use Rattle.s2_mode.specs.Limits.{most_soft};
@@ -123,6 +123,18 @@ fn half_gap(count: usize, rest: i32, other: i32) -> u32
             .min(other.abs_diff(rest) / 2)
             .min(MOST_MOVED)
     }
+}
+
+/// Whether every rest is at least 1.
+pub(crate) fn are_some(rests: &[i32]) -> bool
+    ensures { IsTrue result ↔ ((i : ℕ) → i < length rests.now → pos 1 ≤ℤ get_or rests.now i (pos 0)) }
+{
+    for i in 0..rests.len() {
+        if rests[i] < 1 {
+            return false;
+        }
+    }
+    true
 }
 
 /// The move of an amount to the member at a place; where nothing is moved the place is 0.

@@ -7,9 +7,7 @@ use Rattle.clap.specs.declared.error.kind.ErrorKind.TheVariants as kinds
 use Rattle.s2_mode.specs.Mode.{mode_of}
 use Rattle.s2_mode.specs.Shape.{IsShape, Shape, shape_of}
 use Rattle.s2_mode.specs.Streams.{Streams}
-use Rattle.s2_link.specs.Limits.{default_rounds}
 use Rattle.s2_link.specs.Link.{Link}
-use Rattle.s2_link.specs.Tuning.{tuning_of}
 use Rattle.s2_link.specs.declared.setup.Setup.{Setup}
 use Rattle.s2_console.specs.declared.exit.Exit.{Exit}
 use Rattle.s2_console.specs.declared.exit.Exit.TheVariants as exits
@@ -23,7 +21,7 @@ use Rattle.s2_words.specs.declared.request.LinkWords.{LinkWords}
 use Rattle.s2_words.specs.declared.request.RowsWords.{RowsWords}
 use Rattle.s2_words.specs.declared.request.ShapeWords.{ShapeWords}
 use Rattle.s2_evidence.specs.Inputs.{AreInputs}
-use Rattle.s2_evidence.specs.Judging.{IsJudged}
+use Rattle.s2_evidence.specs.Judging.{IsJudged, IsOwn}
 use Rattle.s2_evidence.specs.Checking.{IsAnswered}
 use Rattle.s2_tool.specs.Links.{Deed, DoesOn}
 use Rattle.s2_tool.specs.Making.{IsRowFile, rows_made}
@@ -70,7 +68,7 @@ pub record Reports (Does : Deed) (setup : Setup) (ended : Result Exit Fault) (ol
 -- One that names files prints what their command says of some rows, soft values, certificate, packets or symbols; where a file
 -- cannot be opened, nothing.
 abbrev pub Serves : Request → Option (List ℕ) → Result Exit Fault → Option (List ℕ) → Option (List ℕ) → Type 0
-Serves requests.Own input ended old new = CommandRuns (IsJudged (tuning_of default_rounds 0)) (AreInputs (shape_of 4 2 3) (Some (codes "0 4 8\n0 1 2\n")) input) ended old new
+Serves requests.Own input ended old new = CommandRuns IsOwn (AreInputs (shape_of 4 2 3) (Some (codes "0 4 8\n0 1 2\n")) input) ended old new
 Serves (requests.Rows words) input ended old new = CommandRuns IsRowFile (AreAskedRows words) ended old new
 Serves (requests.Judge words) input ended old new = CommandRuns (IsJudged words.tuning) Anything ended old new
 Serves (requests.Check words) input ended old new = CommandRuns IsAnswered Anything ended old new

@@ -1,8 +1,7 @@
 use Rattle.std.proofs.Common.{◌≡◌, ◌<◌, length, get_or, inl, inr, ap, arith}
 use Rattle.std.proofs.lemmas.Bool.{cases_lt}
 use Rattle.std.proofs.lemmas.List.{get_or_past}
-use Rattle.s2_check.specs.Moves.{no_move}
-use Rattle.s2_check.specs.declared.step.Move.{Move}
+use Rattle.s2_check.specs.Moves.{Move, no_move}
 use Rattle.s2_code_tests.proofs.check_tests.placed.Goals as goal
 
 pub placed-requires-clause-moves : goal.placed-requires-clause-moves

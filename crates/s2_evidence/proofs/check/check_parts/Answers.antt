@@ -1,7 +1,6 @@
-use Rattle.std.proofs.Common.{◌≡◌, Ok, subst, sym}
+use Rattle.std.proofs.Common.{◌≡◌, Ok}
 use Rattle.std.proofs.lemmas.Result.{err_from_is_err_and}
-use Rattle.s2_check.specs.Views.{View}
-use Rattle.s2_check.specs.CertificateFiles as certificate_files
+use Rattle.s2_file.specs.Format.{file_of_bytes}
 use Rattle.s2_evidence.specs.Checking.{certificate_said}
 use Rattle.s2_evidence.proofs.InputLemmas.{certificate_refused, on_parts}
 use Rattle.s2_evidence.proofs.check.check_parts.Goals as goal
@@ -13,6 +12,5 @@ returns-in_err-certificate-clause-answers c =
 
 pub returns-clause-answers : goal.returns-clause-answers
 returns-clause-answers c =
-    let said : certificate_said (certificate_files.certificate_of_bytes c.args.certificate.now) ≡ Ok c.in_ok-certificate.certificate = c.in_ok-certificate.ensures.says in
-    let P : View → Type 0 = λ v. certificate_said (certificate_files.certificate_of_bytes c.args.certificate.now) ≡ Ok v in
-    on_parts c.args.rows.now c.args.certificate.now c.view.result c.check_by.result (subst P (sym c.view.ensures) said) c.check_by.ensures.answers
+    let said : certificate_said (file_of_bytes c.args.certificate.now) ≡ Ok c.in_ok-certificate.certificate = c.in_ok-certificate.ensures.says in
+    on_parts c.args.rows.now c.args.certificate.now c.in_ok-certificate.certificate c.check_by.result said c.check_by.ensures.answers

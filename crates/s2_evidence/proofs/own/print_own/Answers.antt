@@ -1,13 +1,11 @@
 use Rattle.std.proofs.Common.{◌≡◌, List, ℤ, Result, Some}
 use Rattle.std.specs.Prelude.{codes}
 use Rattle.s2_mode.specs.Shape.{shape_of}
-use Rattle.s2_link.specs.Limits.{default_rounds}
-use Rattle.s2_link.specs.Tuning.{tuning_of}
 use Rattle.s2_rows.specs.Rows.{Rows}
 use Rattle.s2_console.specs.declared.fault.Fault.{Fault}
 use Rattle.s2_console.proofs.CommandLemmas.{printed}
 use Rattle.s2_evidence.specs.Inputs.{AreInputs}
-use Rattle.s2_evidence.specs.Judging.{IsJudged}
+use Rattle.s2_evidence.specs.Judging.{IsOwn}
 use Rattle.s2_evidence.proofs.OwnLemmas.{at_rows}
 use Rattle.s2_evidence.proofs.own.print_own.Goals as goal
 
@@ -16,6 +14,6 @@ returns-clause-run g c =
     let toy : c.of-shape.result ≡ shape_of 4 2 3 = c.of-shape.ensures in
     let Is : Result (Rows × List ℤ) Fault → Type 0 = AreInputs c.of-shape.result (Some c.new-rows.result.bytes.now) (g.S.CountedRead.remaining c.args.soft.now) in
     at_rows (g.S.CountedRead.remaining c.args.soft.now) c.print.result (g.O.CountedWrite.contents c.args.out.now) (g.O.CountedWrite.contents c.print.new.out)
-    c.default_tuning-tuning.result (tuning_of default_rounds 0) c.of-shape.result (shape_of 4 2 3) c.new-rows.result.bytes.now (codes "0 4 8\n0 1 2\n") c.default_tuning-tuning.ensures toy c.new-rows.ensures
-    (printed (IsJudged c.default_tuning-tuning.result) Is c.in_ok-judge_read.field-0 c.print.result (g.O.CountedWrite.contents c.args.out.now) (g.O.CountedWrite.contents c.print.new.out)
-    c.in_ok-judge_read.ensures.answers c.print.ensures.prints)
+    c.of-shape.result (shape_of 4 2 3) c.new-rows.result.bytes.now (codes "0 4 8\n0 1 2\n") toy c.new-rows.ensures
+    (printed IsOwn Is c.in_ok-own_read.field-0 c.print.result (g.O.CountedWrite.contents c.args.out.now) (g.O.CountedWrite.contents c.print.new.out)
+    c.in_ok-own_read.ensures.answers c.print.ensures.prints)

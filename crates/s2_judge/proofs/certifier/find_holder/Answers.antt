@@ -1,9 +1,11 @@
-use Rattle.std.proofs.Common.{Some, None, cond, ne_eqb, eq-eqb, sym, ap, ◌∙◌}
+use Rattle.std.proofs.Common.{◌↔◌, IsTrue, Some, None, cond, ne_eqb, eq-eqb, sym, ap, subst, ◌∙◌}
 use Rattle.s2_rows.specs.Rows.{Rows}
+use Rattle.s2_check.specs.Checking.{IsCertificate}
+use Rattle.s2_check.specs.Strict.{IsStrict}
 use Rattle.s2_split.specs.Making.{shared_views}
 use Rattle.s2_settle.specs.Settled.{settled}
 use Rattle.s2_settle.specs.Holding.{view_by as view_settled}
-use Rattle.s2_judge.proofs.Certificates.{without_passes, found_nothing, by_greedy, by_settler, by_nobody}
+use Rattle.s2_judge.proofs.Certificates.{without_passes, found_nothing, by_greedy, by_settler, by_nobody, strict_made, strict_settled}
 use Rattle.s2_judge.proofs.certifier.find_holder.Goals as goal
 
 pub returns-then-certify_codeword-clause-view : goal.returns-then-certify_codeword-clause-view
@@ -38,7 +40,7 @@ returns-then-certify-clause-view c =
     let none = found_nothing greedy.result greedy.new.self.made greedy.ensures.found c.if-certify_greedily.false in
     let view = view_settled settler soft word in
     let is = ap (λ (q : Rows). settled q soft word passes) (sym c.requires.settler) ∙ c.certify.ensures.is ∙ ap (λ b. cond b (Some view) None) c.if-certify.true in
-    by_settler r passes soft word greedy.new.self.word greedy.new.self.made settler (ne_eqb passes 0 c.if-passes-eq0.false) greedy.ensures.made none (c.certify.ensures.rows ∙ c.requires.settler) greedy.ensures.word is
+    by_settler r passes soft word greedy.new.self.made settler (ne_eqb passes 0 c.if-passes-eq0.false) greedy.ensures.made none (c.certify.ensures.rows ∙ c.requires.settler) is
 
 pub returns-clause-view : goal.returns-clause-view
 returns-clause-view c =
@@ -51,3 +53,25 @@ returns-clause-view c =
     let view = view_settled c.certify.new.self soft word in
     let is = ap (λ (q : Rows). settled q soft word passes) (sym c.requires.settler) ∙ c.certify.ensures.is ∙ ap (λ b. cond b (Some view) None) c.if-certify.false in
     by_nobody r passes soft word greedy.new.self.made (ne_eqb passes 0 c.if-passes-eq0.false) greedy.ensures.made none is
+
+pub returns-then-certify_codeword-clause-strict : goal.returns-then-certify_codeword-clause-strict
+returns-then-certify_codeword-clause-strict c =
+    let maker = c.certify_codeword in
+    strict_made c.args.maker.now.rows c.args.soft.now c.args.codeword.now maker.new.self c.is_strict.result maker.ensures.rows maker.ensures.rests c.is_strict.ensures
+
+pub returns-then-certify_greedily-clause-strict : goal.returns-then-certify_greedily-clause-strict
+returns-then-certify_greedily-clause-strict c =
+    let maker = c.certify_greedily in
+    strict_made c.args.maker.now.rows c.args.soft.now c.args.codeword.now maker.new.self c.is_strict.result maker.ensures.rows maker.ensures.rests c.is_strict.ensures
+
+pub returns-then-certify-clause-strict : goal.returns-then-certify-clause-strict
+returns-then-certify-clause-strict c =
+    let r = c.args.maker.now.rows in
+    let soft = c.args.soft.now in
+    let word = c.args.codeword.now in
+    let settler = c.certify.new.self in
+    let view = view_settled settler soft word in
+    let rows = c.requires.settler in
+    let accepted = subst (λ (q : Rows). IsCertificate q view) rows (c.certify.ensures.accepted c.if-certify.true) in
+    let strict = subst (λ (q : Rows). IsTrue settler.strict ↔ IsStrict q view) rows (c.certify.ensures.strict c.if-certify.true) in
+    strict_settled r soft word settler (c.certify.ensures.rows ∙ rows) accepted strict ∙ sym c.is_strict.ensures

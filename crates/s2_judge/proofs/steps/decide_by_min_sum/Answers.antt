@@ -1,10 +1,11 @@
-use Rattle.std.proofs.Common.{Some, None, cond, length, sym, ap, ◌∙◌}
+use Rattle.std.proofs.Common.{◌≡◌, Bool, Some, None, IfSome, cond, length, sym, ap, subst, ◌∙◌}
 use Rattle.s2_rows.specs.Rows.{Rows}
 use Rattle.s2_matrix.specs.Code.{code_of}
+use Rattle.s2_split.specs.Making.{shared_view}
 use Rattle.s2_split.proofs.Held.{copied}
 use Rattle.s2_split.proofs.Repairs.{length-repaired}
 use Rattle.s2_link.specs.Tuning.{tuning_of}
-use Rattle.s2_judge.specs.Deciding.{satisfies, decoded_bits, first_codeword, with_made}
+use Rattle.s2_judge.specs.Deciding.{is_strict, satisfies, decoded_bits, first_codeword, with_made}
 use Rattle.s2_judge.proofs.Certificates.{found_nothing}
 use Rattle.s2_judge.proofs.Decisions.{found_codeword, test_in}
 use Rattle.s2_judge.proofs.Grounds.{with_found, with_none, step_three, step_four, step_none}
@@ -29,7 +30,8 @@ returns-then-certify-clause-decided c =
     let bits = c.decode.new.bits in
     let found = c.certify.new.self.found in
     let first = sym (ap (λ (q : Rows). first_codeword q rounds soft) c.matrix.ensures) ∙ c.decode.ensures.first ∙ ap (λ b. cond b (Some bits) None) c.if-decode.true in
-    let shown = ap (with_made bits) c.certify.ensures.view ∙ with_found r soft bits found (c.certify.ensures.found.0 c.if-certify.true) in
+    let strict = subst (λ (b : Bool). IfSome found (λ s. is_strict r (shared_view r soft bits s) ≡ b)) (sym c.is_strict.ensures) c.certify.ensures.strict in
+    let shown = ap (with_made r bits) c.certify.ensures.view ∙ with_found r soft bits found c.is_strict.result (c.certify.ensures.found.0 c.if-certify.true) strict in
     step_three r (tuning_of rounds c.args.certifier.now.passes) soft bits _ first shown
 
 pub returns-then-decode-clause-decided : goal.returns-then-decode-clause-decided
@@ -41,7 +43,7 @@ returns-then-decode-clause-decided c =
     let found = c.certify.new.self.found in
     let first = sym (ap (λ (q : Rows). first_codeword q rounds soft) c.matrix.ensures) ∙ c.decode.ensures.first ∙ ap (λ b. cond b (Some bits) None) c.if-decode.true in
     let none = found_nothing c.certify.result found c.certify.ensures.found c.if-certify.false in
-    let shown = ap (with_made bits) c.certify.ensures.view ∙ with_none r soft bits found none in
+    let shown = ap (with_made r bits) c.certify.ensures.view ∙ with_none r soft bits found none in
     step_three r (tuning_of rounds c.args.certifier.now.passes) soft bits _ first shown
 
 pub returns-then-satisfied-clause-decided : goal.returns-then-satisfied-clause-decided

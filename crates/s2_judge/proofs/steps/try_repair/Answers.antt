@@ -1,9 +1,10 @@
-use Rattle.std.proofs.Common.{length, sym, ap, ◌∙◌}
+use Rattle.std.proofs.Common.{◌≡◌, IfSome, length, sym, ap, subst, ◌∙◌}
 use Rattle.s2_rows.specs.Rows.{Rows}
 use Rattle.s2_matrix.specs.Code.{code_of}
+use Rattle.s2_split.specs.Making.{shared_view}
 use Rattle.s2_split.proofs.Repairs.{length-repaired}
 use Rattle.s2_link.specs.Tuning.{tuning_of}
-use Rattle.s2_judge.specs.Deciding.{satisfies}
+use Rattle.s2_judge.specs.Deciding.{is_strict, satisfies}
 use Rattle.s2_judge.specs.Certifying.{Certifying}
 use Rattle.s2_judge.proofs.Certificates.{found_or_none, view_by_certifier}
 use Rattle.s2_judge.proofs.Decisions.{repair_made, repair_odd, test_in}
@@ -37,3 +38,8 @@ returns-else-satisfied-clause-view c =
     let rows = c.matrix.ensures ∙ ap (λ (m : Certifying). m.rows) c.repair_into.ensures.same in
     let odd = ap (satisfies (code_of r)) (sym rep) ∙ test_in r c.matrix.result.now word c.satisfied.result rows (ap length rep ∙ length-repaired (code_of r) soft) c.satisfied.ensures ∙ c.if-satisfied.false in
     repair_odd r (tuning_of 0 c.args.certifier.now.passes) soft odd
+
+pub returns-then-satisfied-clause-strict : goal.returns-then-satisfied-clause-strict
+returns-then-satisfied-clause-strict c yes' =
+    let now = c.certify.new.self in
+    subst (λ (q : Rows). IfSome now.found (λ s. is_strict q (shared_view q c.args.soft.now c.repair_into.new.word s) ≡ now.strict)) (ap (λ (m : Certifying). m.rows) c.repair_into.ensures.same) c.certify.ensures.strict

@@ -4,7 +4,7 @@ use Rattle.s2_matrix.specs.Code.{code_of}
 use Rattle.s2_check.specs.Hard.{differs}
 use Rattle.s2_split.specs.Greedy.{Moved, none_moved, serve}
 use Rattle.s2_split.specs.Kept.{served, AreLow, AreKept, HaveOneSign}
-use Rattle.s2_check.specs.declared.step.Move.{Move}
+use Rattle.s2_check.specs.Moves.{Move}
 use Rattle.s2_split.proofs.Passes.{fold_passed, fold_left_out, lists_as}
 use Rattle.s2_split.proofs.Signs.{none_more}
 use Rattle.s2_split.proofs.greedy.serve_between.Goals as goal

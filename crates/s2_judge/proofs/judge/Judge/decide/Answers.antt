@@ -1,14 +1,18 @@
-use Rattle.std.proofs.Common.{◌≡◌, ◌≢◌, ◌≤◌, length, sym, ap, subst, ◌∙◌}
+use Rattle.std.proofs.Common.{◌≡◌, ◌≢◌, ◌↔◌, IsTrue, ◌≤◌, length, sym, ap, subst, ◌∙◌}
 use Rattle.s2_rows.specs.Rows.{Rows}
 use Rattle.s2_matrix.specs.Code.{code_of, IsCodeword}
 use Rattle.s2_check.specs.Cost.{IsMostLikely}
-use Rattle.s2_check.specs.declared.verdict.Verdict.TheVariants.{MostLikely, Broken}
+use Rattle.s2_check.specs.Hard.{hard_decision, NoneIsZero}
+use Rattle.s2_check.specs.Strict.{IsSole}
+use Rattle.s2_check.specs.Verdicts.{is_certified}
+use Rattle.s2_check.specs.Views.{unsplit_view}
+use Rattle.s2_check.specs.declared.verdict.Verdict.TheVariants.{Sole, Broken}
 use Rattle.s2_link.specs.Tuning.{Tuning}
-use Rattle.s2_judge.specs.Deciding.{Decided, IsShown}
+use Rattle.s2_judge.specs.Deciding.{Decided, is_strict, IsShown}
 use Rattle.s2_judge.specs.Judging.{Judging}
-use Rattle.s2_judge.proofs.DecidingLemmas.{clean_lem, likely_lem, certified_lem, broken_lem}
+use Rattle.s2_judge.proofs.DecidingLemmas.{clean_lem, likely_lem, sole_lem, certified_lem, broken_lem}
 use Rattle.s2_judge.proofs.Scattering.{scattered_lem}
-use Rattle.s2_judge.proofs.Decisions.{same_numbers}
+use Rattle.s2_judge.proofs.Decisions.{certified_by, same_numbers}
 use Rattle.s2_judge.proofs.Grounds.{as_shown}
 use Rattle.s2_judge.proofs.judge.Judge.decide.Goals as goal
 
@@ -36,13 +40,15 @@ returns c =
       verdict = sym (ap (λ (d : Decided). d.verdict) is);
       bits = sym (ap (λ (d : Decided). d.bits) is);
       certificate = sym (ap (λ (d : Decided). d.certificate) is);
-      likely = subst (λ (d : Decided). d.verdict ≡ MostLikely → IsMostLikely (code_of r) soft d.bits) is (likely_lem r n soft long);
+      likely = subst (λ (d : Decided). IsTrue (is_certified d.verdict) → IsMostLikely (code_of r) soft d.bits) is (likely_lem r n soft long);
+      sole = subst (λ (d : Decided). d.verdict ≡ Sole → IsSole (code_of r) soft d.bits) is (sole_lem r n soft long);
       certified = subst (IsShown r soft) is (certified_lem r n soft long);
       codeword = checks.0;
       broken = checks.1;
-      scattered = λ sent s. subst (λ (d : Decided). (d.verdict ≡ MostLikely) × (d.bits ≡ sent)) is (scattered_lem r n soft sent s);
+      scattered = λ sent s. subst (λ (d : Decided). IsTrue (is_certified d.verdict) × (d.bits ≡ sent)) is (scattered_lem r n soft sent s);
       clean = λ codeword. (
-          let hard = sym is ∙ clean_lem r n soft codeword in
-          (ap (λ (d : Decided). d.verdict) hard, ap (λ (d : Decided). d.bits) hard)
+          let law = clean_lem r n soft codeword in
+          let hard = sym is ∙ law.0 in
+          (ap (λ (d : Decided). is_certified d.verdict) hard ∙ certified_by (is_strict r (unsplit_view r soft (hard_decision soft))), ap (λ (d : Decided). d.bits) hard, subst (λ (d : Decided). (d.verdict ≡ Sole) ↔ NoneIsZero soft) is law.1)
           );
     }

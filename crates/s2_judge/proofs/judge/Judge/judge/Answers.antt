@@ -1,8 +1,10 @@
-use Rattle.std.proofs.Common.{◌≡◌, List, ℤ, length, refl, ap, subst, ◌∙◌}
+use Rattle.std.proofs.Common.{◌≡◌, ◌↔◌, IsTrue, List, ℤ, length, refl, ap, subst, ◌∙◌}
 use Rattle.s2_matrix.specs.Code.{code_of, IsCodeword}
 use Rattle.s2_check.specs.Cost.{IsMostLikely}
-use Rattle.s2_check.specs.Hard.{hard_decision}
-use Rattle.s2_check.specs.declared.verdict.Verdict.TheVariants.{MostLikely}
+use Rattle.s2_check.specs.Hard.{hard_decision, NoneIsZero}
+use Rattle.s2_check.specs.Strict.{IsSole}
+use Rattle.s2_check.specs.Verdicts.{is_certified}
+use Rattle.s2_check.specs.declared.verdict.Verdict.TheVariants.{Sole}
 use Rattle.s2_check.proofs.Lists.{refilled}
 use Rattle.s2_split.specs.Scattered.{IsScattered}
 use Rattle.s2_judge.specs.Deciding.{decided, IsShown}
@@ -26,10 +28,11 @@ returns c =
       verdict = was.verdict ∙ ap (λ d. d.verdict) is;
       bits = was.bits ∙ ap (λ d. d.bits) is;
       certificate = was.certificate ∙ ap (λ d. d.certificate) is;
-      likely = subst (λ (xs : List ℤ). verdict ≡ MostLikely → IsMostLikely (code_of r) xs bits) values was.likely;
+      likely = subst (λ (xs : List ℤ). IsTrue (is_certified verdict) → IsMostLikely (code_of r) xs bits) values was.likely;
+      sole = subst (λ (xs : List ℤ). verdict ≡ Sole → IsSole (code_of r) xs bits) values was.sole;
       certified = subst (λ (xs : List ℤ). IsShown r xs (record { verdict = verdict; bits = bits; certificate = c.decide.new.self.certificate })) values was.certified;
       codeword = was.codeword;
       broken = was.broken;
-      scattered = λ sent. subst (λ (xs : List ℤ). IsScattered (code_of r) xs sent → (verdict ≡ MostLikely) × (bits ≡ sent)) values (was.scattered sent);
-      clean = subst (λ (xs : List ℤ). IsCodeword (code_of r) (hard_decision xs) → (verdict ≡ MostLikely) × (bits ≡ hard_decision xs)) values was.clean;
+      scattered = λ sent. subst (λ (xs : List ℤ). IsScattered (code_of r) xs sent → IsTrue (is_certified verdict) × (bits ≡ sent)) values (was.scattered sent);
+      clean = subst (λ (xs : List ℤ). IsCodeword (code_of r) (hard_decision xs) → IsTrue (is_certified verdict) × (bits ≡ hard_decision xs) × ((verdict ≡ Sole) ↔ NoneIsZero xs)) values was.clean;
     }

@@ -1,7 +1,7 @@
 use Rattle.std.proofs.Common.{List, Bool, Some, length, ap, sym, subst, ◌∙◌}
 use Rattle.s2_rows.specs.Rows.{Rows}
 use Rattle.s2_matrix.specs.Code.{code_of, IsCodeword}
-use Rattle.s2_check.specs.declared.step.Move.{Move}
+use Rattle.s2_check.specs.Moves.{Move}
 use Rattle.s2_check.specs.Checking.{IsCertificate, Checks}
 use Rattle.s2_check.specs.Views.{View}
 use Rattle.s2_check.specs.declared.checker.Answer.{Answer}
@@ -39,7 +39,7 @@ returns-in-Yes-clause-is c =
     let is = held_settled m soft word c.args.passes find.result find.new.moves c.if-not-find_moves.false finds in
     let moves = refilled d.moves.len find.new.moves d.moves.items (sym c.deref_mut-2.ensures.len ∙ ap length c.deref_mut-2.ensures.value) (find.auto.moves ∙ ap length c.deref_mut-2.ensures.value) in
     let view = c.held.ensures ∙ ap (λ (ms : List Move). moved_view m soft word ms) moves in
-    let cert = subst (λ (v : View). IsCertificate m v) view (c.check.ensures.yes.0 c.in-Yes.is) in
+    let cert = subst (λ (v : View). IsCertificate m v) view (c.examine-examined.ensures.yes.0 c.in-Yes.is) in
     ap (λ (r : Rows). settled r soft word c.args.passes) (sym rows) ∙ sym (found_settled m soft word c.args.passes fit c.requires.range) ∙ is ∙ reached m (moved_view m soft word find.new.moves) cert ∙ ap (λ (ms : List Move). Some (moved_view m soft word ms)) (sym moves)
 
 pub returns-in-No-clause-is : goal.returns-in-No-clause-is
@@ -56,5 +56,5 @@ returns-in-No-clause-is c =
     let moves = refilled d.moves.len find.new.moves d.moves.items (sym c.deref_mut-2.ensures.len ∙ ap length c.deref_mut-2.ensures.value) (find.auto.moves ∙ ap length c.deref_mut-2.ensures.value) in
     let view = c.held.ensures ∙ ap (λ (ms : List Move). moved_view m soft word ms) moves in
     let codeword = subst (λ (r : Rows). IsCodeword (code_of r) word) (sym rows) c.requires.codeword in
-    let refuses = subst (λ (a : Answer). Checks m c.held.result a) c.in-No.is c.check.ensures.exact in
+    let refuses = subst (λ (a : Answer). Checks m c.held.result a) c.in-No.is c.examine-examined.ensures.exact in
     ap (λ (r : Rows). settled r soft word c.args.passes) (sym rows) ∙ sym (found_settled m soft word c.args.passes fit c.requires.range) ∙ is ∙ missed m soft word find.new.moves c.held.result c.in-No.field-0 view codeword refuses

@@ -1,9 +1,7 @@
 use Rattle.std.proofs.Common.{length, List, Bool, sym, ap, ◌∙◌, arith, ℤ, ◌≢◌, IfSome, subst, take, drop, ◌++◌}
 use Rattle.s2_rows.specs.Rows.{Rows}
 use Rattle.s2_matrix.specs.Code.{code_of}
-use Rattle.s2_check.specs.Split.{split_of}
-use Rattle.s2_check.specs.Moves.{placed_of, ArePlaced}
-use Rattle.s2_check.specs.declared.step.Move.{Move}
+use Rattle.s2_check.specs.Moves.{Move, placed_of, ArePlaced}
 use Rattle.s2_check.proofs.Lists.{refilled}
 use Rattle.s2_split.specs.Making.{Making, made_of, shared, split_in_ways, AreLeft}
 use Rattle.s2_split.proofs.Held.{copied, held_left}
@@ -19,12 +17,10 @@ returns-clause-made c =
     let inside = c.self.inside in
     let make = c.make_moves-self-inside in
     let rows = ap (λ (v : Making). v.rows) c.self.view_is in
-    let word = returns-clause-word c in
     let moves = refilled inside.moves.len make.new.moves inside.moves.items (sym c.deref_mut-3.ensures.len ∙ ap length c.deref_mut-3.ensures.value) (omega (arith, ap length c.deref_mut-3.ensures.value)) in
-    let there = ap (made_of inside.matrix.now c.copy_prefix.new.self make.result) moves in
-    let here = ap (λ (w : List Bool). made_of inside.matrix.now w make.result make.new.moves) (word ∙ sym c.truths.ensures) in
-    let made = make.ensures.made ∙ ap (λ (w : List Bool). shared (code_of inside.matrix.now) (split_in_ways c.args.ways (code_of inside.matrix.now) c.args.soft.now w)) c.truths.ensures in
-    there ∙ here ∙ made ∙ ap (λ (r : Rows). shared (code_of r) (split_in_ways c.args.ways (code_of r) c.args.soft.now c.args.word.now)) rows
+    let there = ap (made_of make.result) moves in
+    let made = make.ensures.made ∙ ap (λ (w : List Bool). shared (code_of inside.matrix.now) w (split_in_ways c.args.ways (code_of inside.matrix.now) c.args.soft.now w)) c.truths.ensures in
+    there ∙ made ∙ ap (λ (r : Rows). shared (code_of r) c.args.word.now (split_in_ways c.args.ways (code_of r) c.args.soft.now c.args.word.now)) rows
 
 pub returns-clause-rests : goal.returns-clause-rests
 returns-clause-rests c =
@@ -33,12 +29,11 @@ returns-clause-rests c =
     let own = inside.matrix.now in
     let soft = c.args.soft.now in
     let w = c.args.word.now in
-    let new = c.copy_prefix.new.self in
     let moves = refilled inside.moves.len make.new.moves inside.moves.items (sym c.deref_mut-3.ensures.len ∙ ap length c.deref_mut-3.ensures.value) (omega (arith, ap length c.deref_mut-3.ensures.value)) in
     let rests = refilled inside.rests.len make.new.rests inside.rests.items (sym c.deref_mut.ensures.len ∙ ap length c.deref_mut.ensures.value) (omega (arith, ap length c.deref_mut.ensures.value, make.ensures.long)) in
-    let P : List Move → List ℤ → Type 0 = λ ms rs. IfSome (made_of own new make.result ms) (λ s. AreLeft (code_of own) soft w (split_of (code_of own) s.scale s.shares) rs) in
+    let P : List Move → List ℤ → Type 0 = λ ms rs. IfSome (made_of make.result ms) (λ s. AreLeft (code_of own) soft w (placed_of (code_of own) w s.scale s.moves) rs) in
     let left = λ (some : make.result ≢ 0). subst (λ (u : List Bool). AreLeft (code_of own) soft u (placed_of (code_of own) u make.result make.new.moves) make.new.rests) c.truths.ensures (make.ensures.rests some) in
-    let base : P make.new.moves make.new.rests = held_left own new w soft make.result make.new.rests make.new.moves (sym (returns-clause-word c)) left in
+    let base : P make.new.moves make.new.rests = held_left own w soft make.result make.new.rests make.new.moves left in
     let held = take inside.rests.len (make.new.rests ++ drop (length make.new.rests) inside.rests.items) in
     subst (λ (ms : List Move). P ms held) (sym moves) (subst (P make.new.moves) (sym rests) base)
 
@@ -55,7 +50,7 @@ invariant_of-self c =
     let same_moves = refilled inside.moves.len make.new.moves inside.moves.items (sym c.deref_mut-3.ensures.len ∙ ap length c.deref_mut-3.ensures.value) (omega (arith, ap length c.deref_mut-3.ensures.value)) in
     let same_rests = refilled inside.rests.len make.new.rests inside.rests.items (sym c.deref_mut.ensures.len ∙ ap length c.deref_mut.ensures.value) (omega (arith, ap length c.deref_mut.ensures.value, make.ensures.long)) in
     let same_negatives = refilled inside.negatives.len make.new.negatives inside.negatives.items (sym c.deref_mut-2.ensures.len ∙ ap length c.deref_mut-2.ensures.value) (omega (arith, ap length c.deref_mut-2.ensures.value, make.ensures.negatives)) in
-    let P : List Bool → Type 0 = λ u. IfSome (made_of own new make.result moves) (λ s. AreLeft (code_of own) soft u (split_of (code_of own) s.scale s.shares) rests) in
+    let P : List Bool → Type 0 = λ u. IfSome (made_of make.result moves) (λ s. AreLeft (code_of own) soft u (placed_of (code_of own) u s.scale s.moves) rests) in
     record {
       few = c.self.invariant.few;
       scaled = make.ensures.scaled;

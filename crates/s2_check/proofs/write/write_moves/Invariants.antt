@@ -1,0 +1,11 @@
+use Rattle.std.proofs.Common.{◌≡◌, take}
+use Rattle.std.specs.List.{flat_map}
+use Rattle.s2_file.specs.Format.{move}
+use Rattle.s2_file.specs.Pages.{GoesThrough}
+use Rattle.s2_check.proofs.write.write_moves.Given as goal
+
+abbrev pub invariant-loop-value : goal.invariant-loop-value
+invariant-loop-value g l = record {
+  bytes : GoesThrough (flat_map move.bytes (take l.value-index l.list)) (g.W.CountedWrite.contents l.initial.out) (g.W.CountedWrite.contents l.out) l.initial.page.items l.page.items;
+  count : g.W.Counted.count l.out ≡ g.W.Counted.count l.initial.out;
+}

@@ -1,0 +1,24 @@
+//! What is shown of a word by the rests that a split leaves.
+ghost use Rattle.std.specs.Prelude.{◌↔◌, IsTrue, pos, neg_ℤ, ◌≤ℤ◌, if◌then◌else◌};
+
+/// A sum of negative rests, and whether every rest in favour of the word is at least 1.
+#[derive(Clone, Copy)]
+pub(crate) struct Rests {
+    pub(crate) negative: i64,
+    pub(crate) strict: bool,
+}
+
+/// The bound that a split shows, and whether every rest in favour of the word is at least 1.
+#[derive(Clone, Copy)]
+pub(crate) struct Shown {
+    pub(crate) bound: i64,
+    pub(crate) strict: bool,
+}
+
+/// Whether a rest is at least 1 in favour of a bit.
+#[inline(always)]
+pub(crate) fn is_favoured(rest: i64, one: bool) -> bool
+    ensures { IsTrue result ↔ (pos 1 ≤ℤ (if one then neg_ℤ rest else rest)) }
+{
+    if one { rest <= -1 } else { rest >= 1 }
+}
