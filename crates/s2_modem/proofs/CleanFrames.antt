@@ -40,7 +40,8 @@ use Rattle.s2_receive.specs.Windows.{found_as}
 use Rattle.s2_judge.specs.Deciding.{Decided, decided}
 use Rattle.s2_link.specs.Tuning.{Tuning}
 use Rattle.s2_modem.specs.Reports.{frame_soft, received_word, message_of, header_in, field_in, outcome_by, delivered_by, decision_by, decision_on, frame_decision}
-use Rattle.s2_modem.specs.Reception.{link_rules}
+use Rattle.s2_modem.specs.Reception.{AllAsLikely, link_rules}
+use Rattle.s2_send.specs.Laws.{IsLinkOf}
 use Rattle.s2_modem.specs.Both.{IsByte, AreBytes, sent_symbols, IsCertifiedFrame, Hears}
 use Rattle.s2_modem.specs.Headline.{IsDelivered, IsSent, IsDeliveredCertified, HearsLaw, ArrivalLaw, LikelyFrameLaw, SoleFrameLaw}
 use Rattle.s2_check.specs.Cost.{IsMostLikely}
@@ -304,6 +305,9 @@ module _ (m : Mode) (valid : IsMode m) (sizes : HasCodeSizes m) where
       let soft = frame_soft link tuning symbols in
       let long = length_soft link (subst IsMode (sym linked.0) valid) (subst HasCodeSizes (sym linked.0) sizes) linked.1 tuning symbols in
       subst (IsSole (code_of link.rows) soft) (sym (frame_bits link tuning symbols)) (sole_lem link.rows tuning soft long (sym (frame_verdict link tuning symbols) ∙ verdict))
+
+  pub all_as_likely : (link : Link) (tuning : Tuning) → IsLinkOf m link → AllAsLikely link tuning
+  all_as_likely link tuning linked = λ symbols. record { likely = likely_law link tuning symbols linked; sole = sole_law link tuning symbols linked }
 
   module _ (link : Link) (tuning : Tuning) (at : ℕ) (symbols : List Symbol) (field : List ℕ) (codeword : List Bool) (sent : IsSent m link at field codeword) where
     pub scattered_law : IsScattered (code_of link.rows) (frame_soft link tuning symbols) codeword → IsDeliveredCertified (frame_decision link tuning symbols) codeword (header_at link.setup.roll_off at field) field

@@ -1,7 +1,14 @@
 -- What a receiver of a link reads, reports and writes, and which setups it refuses.
-use Rattle.std.specs.Prelude.{◌≡◌, ℕ, List, Option, Some, Result, Ok, Err}
+use Rattle.std.specs.Prelude.{◌≡◌, IsTrue, ℕ, ℤ, Bool, List, Option, Some, Result, Ok, Err, ⊤}
 use Rattle.s2_mode.specs.Mode.{symbols_in}
+use Rattle.s2_mode.specs.declared.symbols.Symbol.{Symbol}
 use Rattle.s2_rows.specs.Rows.{Rows}
+use Rattle.s2_matrix.specs.Code.{Code, code_of}
+use Rattle.s2_check.specs.Cost.{IsMostLikely}
+use Rattle.s2_check.specs.Strict.{IsSole}
+use Rattle.s2_check.specs.Verdicts.{is_certified}
+use Rattle.s2_check.specs.declared.verdict.Verdict.{Verdict}
+use Rattle.s2_check.specs.declared.verdict.Verdict.TheVariants.{Sole}
 use Rattle.s2_receive.specs.Receiving.{Rules, State, Decision, begun, rules_of, RunsOut, BreaksAfter}
 use Rattle.s2_receive.specs.declared.report.Totals.{Totals}
 use Rattle.s2_mode.specs.Limits.{most_symbols}
@@ -13,7 +20,7 @@ use Rattle.s2_modem.specs.declared.whole.DemodFault.TheVariants as demod_faults
 use Rattle.s2_link.specs.Tuning.{Tuning, IsTuning, RefusesTuning}
 use Rattle.s2_link.specs.Link.{Link, link_of, IsSetUp, RefusesLink}
 use Rattle.s2_receive.specs.Windows.{found_as}
-use Rattle.s2_modem.specs.Reports.{frame_decision}
+use Rattle.s2_modem.specs.Reports.{frame_soft, frame_decision}
 use Rattle.s2_receive.specs.ReportLines.{frame_line, cut_line, end_line}
 
 -- a link's rules: its header, its frames, what is decided of them, the lines of the report, and how many symbols are taken
@@ -31,6 +38,16 @@ pub record Receiver : Type 0 where
 
 abbrev pub rules_for : Receiver → Rules
 rules_for r = link_rules r.link r.tuning r.limit
+
+-- bits are as likely as their verdict says: where it has a certificate no codeword costs less, where it is sole each other one more
+pub record IsAsLikely (code : Code) (soft : List ℤ) (verdict : Verdict) (bits : List Bool) : Type 0 where
+  pub likely : IsTrue (is_certified verdict) → IsMostLikely code soft bits
+  pub sole : verdict ≡ Sole → IsSole code soft bits
+
+-- and so are those of any frame's symbols
+abbrev pub AllAsLikely : Link → Tuning → Type 0
+AllAsLikely link tuning =
+    (symbols : List Symbol) → IsAsLikely (code_of link.rows) (frame_soft link tuning symbols) (frame_decision link tuning symbols).verdict (frame_decision link tuning symbols).bits
 
 -- when each refusal comes: the first of five; want of memory only where none of them does
 abbrev pub Refuses : Setup → Rows → Tuning → SetupFault → Type 0
@@ -74,3 +91,9 @@ Demodulates setup rows tuning bytes p p' w w' (Ok totals) =
 Demodulates setup rows tuning bytes p p' w w' (Err demod_faults.Write) =
     IsSetUp setup rows × IsTuning tuning × BreaksAfter (link_rules (link_of setup rows) tuning most_symbols) begun (Some bytes) p p' w w'
 Demodulates setup rows tuning bytes p p' w w' (Err (demod_faults.Setup fault)) = Refuses setup rows tuning fault × (p' ≡ p) × (w' ≡ w)
+
+-- where symbols were received, all bits that were reported are as likely as their verdicts say
+abbrev pub AreAsLikely : Link → Tuning → Result Totals DemodFault → Type 0
+AreAsLikely link tuning (Ok totals) = AllAsLikely link tuning
+AreAsLikely link tuning (Err demod_faults.Write) = AllAsLikely link tuning
+AreAsLikely link tuning (Err (demod_faults.Setup fault)) = ⊤

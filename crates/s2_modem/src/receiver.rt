@@ -1,6 +1,7 @@
 //! The receiver of one link.
 ghost use Rattle.std.specs.Prelude.{◌≡◌, ◌≢◌, ◌+◌, ◌-◌, ◌^◌, ◌<◌, ◌≤◌, ◌⊎◌, Ok, Err, IfOk, IsErrOf, length};
 ghost use Rattle.s2_mode.specs.Mode.{symbols_in};
+ghost use Rattle.s2_matrix.specs.Code.{code_of};
 ghost use Rattle.s2_mode.specs.Limits.{most_symbols};
 ghost use Rattle.s2_mode.specs.declared.stream_fault.StreamFault.TheVariants as stream_faults;
 ghost use Rattle.s2_receive.specs.declared.report.Report.{Report as ReportValue};
@@ -14,7 +15,7 @@ ghost use Rattle.s2_receive.specs.Receiving.{IsLive, StepAnswers, MetFrame, Runs
 ghost use Rattle.s2_link.specs.Tuning.{tuning_of};
 ghost use Rattle.s2_link.specs.Link.{link_of, setup_of};
 ghost use Rattle.s2_modem.specs.Reports.{frame_decision};
-ghost use Rattle.s2_modem.specs.Reception.{link_rules, rules_for, IsNew, Makes};
+ghost use Rattle.s2_modem.specs.Reception.{AllAsLikely, IsAsLikely, link_rules, rules_for, IsNew, Makes};
 
 use crate::decider::Decider;
 use s2_bits::Bits;
@@ -38,8 +39,11 @@ pub(crate) fn tune<'a>(
         ≡ link_rules link.now tuning most_symbols) }
     ensures limit { IfOk result (λ r. r.limit ≡ most_symbols) }
     ensures begun { IfOk result (λ r. r.state ≡ begun) }
+    ensures as_likely { AllAsLikely link.now tuning }
 {
     let mode = link.mode();
+    // what it promises of the mode is a part of what is promised here
+    let _k = mode.k();
     let decider = Decider::new(alloc, link, tuning)?;
     let search = HeaderSearch::new(mode);
     s2_receive::Receiver::new(
@@ -78,7 +82,7 @@ impl<'a> Model for Receiver<'a> {
     ghost use Rattle.s2_receive.specs.ReportLines.{frame_line, cut_line, end_line};
     ghost use Rattle.s2_link.specs.Link.{link_of, setup_of};
     ghost use Rattle.s2_modem.specs.Reports.{frame_decision};
-    ghost use Rattle.s2_modem.specs.Reception.{Receiver as ReceiverValue, link_rules};
+    ghost use Rattle.s2_modem.specs.Reception.{Receiver as ReceiverValue, AllAsLikely, link_rules};
 
     ghost Value = { ReceiverValue };
 
@@ -90,8 +94,8 @@ impl<'a> Model for Receiver<'a> {
       last = r.inner.decider.last;
     } };
 
-    ghost invariant = { λ r. rules_of (found_as r.inner.search.mode) (length r.inner.frame) (frame_decision r.inner.decider.link r.inner.decider.tuning) frame_line cut_line end_line r.inner.limit
-        ≡ link_rules (link_of (setup_of r.setup) r.matrix.now) r.tuning r.inner.limit };
+    ghost invariant = { λ r. (rules_of (found_as r.inner.search.mode) (length r.inner.frame) (frame_decision r.inner.decider.link r.inner.decider.tuning) frame_line cut_line end_line r.inner.limit
+        ≡ link_rules (link_of (setup_of r.setup) r.matrix.now) r.tuning r.inner.limit) × AllAsLikely (link_of (setup_of r.setup) r.matrix.now) r.tuning };
 }
 
 impl<'a> Receiver<'a> {
@@ -143,8 +147,8 @@ impl<'a> Receiver<'a> {
         self.inner.limit(symbols);
     }
 
-    /// The next frame, a cut one, or the end. Just the symbols up to the end of what is answered are
-    /// read. Dummy frames before it, known by a header of any TYPE, are passed, and so is what there is of
+    /// The next frame, a cut one, or the end. The bits of a frame are as likely as its verdict says. Just the
+    /// symbols up to the end of what is answered are read. Dummy frames before it, known by a header of any TYPE, are passed, and so is what there is of
     /// a last one that lacks symbols: of them nothing is told, and they are no gap. A frame's packets are
     /// written, and then its line of the report; the end has its line once. It takes no memory.
     ///
@@ -164,6 +168,7 @@ impl<'a> Receiver<'a> {
             (P.contents packets.old) (P.contents packets.new) (W.contents report.old) (W.contents report.new) result }
         ensures frame { (r : ReportValue) → result ≡ Ok (steps.Frame r) → MetFrame (rules_for self.old) self.old.state self.new.state (R.remaining reader.old) (R.remaining reader.new)
             (P.contents packets.old) (P.contents packets.new) (W.contents report.old) (W.contents report.new) r self.new.last }
+        ensures as_likely { (r : ReportValue) → result ≡ Ok (steps.Frame r) → IsAsLikely (code_of self.old.link.rows) self.new.last.soft r.verdict self.new.last.bits }
         ensures taken { StandsBehind (symbols_in self.old.link.setup.mode) self.new.state.at result }
         ensures ended { self.old.state.phase ≡ phases.Ended → result ≡ Ok steps.End }
         ensures failed { self.old.state.phase ≡ phases.Failed → result ≡ Err faults.Failed }
@@ -198,6 +203,7 @@ impl<'a> Receiver<'a> {
         ensures all { IfOk result (λ received. RunsTo (rules_for self.old) self.old.state self.new.state (R.remaining reader.old) (R.remaining reader.new)
             (P.contents packets.old) (P.contents packets.new) (W.contents report.old) (W.contents report.new) received.well) }
         ensures totals { IfOk result (λ received. received.totals ≡ self.new.state.standing.totals) }
+        ensures as_likely { AllAsLikely self.old.link self.old.tuning }
         ensures stops { IsErrOf result stream_faults.Read → StopsAfter (rules_for self.old) self.old.state (R.remaining reader.old)
             (P.contents packets.old) (P.contents packets.new) (W.contents report.old) (W.contents report.new) }
         ensures breaks { IsErrOf result stream_faults.Write → BreaksAfter (rules_for self.old) self.old.state (R.remaining reader.old)

@@ -211,12 +211,13 @@ pub record Went (rules : Rules) (old new : State) (reader_old reader_new packets
   pub packets : Appends packets_old packets_new (all_packets rules old.standing met)
   pub lines : Appends report_old report_new (all_lines rules old.standing met)
 
--- The frame of this report was met, and what is decided of its symbols was decided last.
+-- The frame of this report was met, what is decided of its symbols was decided last, and the report tells that.
 pub record MetFrame (rules : Rules) (old new : State) (reader_old reader_new packets_old packets_new report_old report_new : Option (List ℕ)) (report : Report) (last : Decision) : Type 0 where
   pub over : Bool
   pub symbols : List Symbol
   pub went : Went rules old new reader_old reader_new packets_old packets_new report_old report_new (frame report.at over symbols ∷ [])
   pub is_last : last ≡ rules.decide symbols
+  pub told : report ≡ report_for last old.standing.totals report.at
 
 -- A write failed when this was to be written, the next thing in known bytes: of its packets a part was written and not all;
 -- or its packets whole, and of its line a part and not all.

@@ -1,4 +1,4 @@
-use Rattle.std.proofs.Common.{◌≡◌, ℕ, ap, ◌∙◌}
+use Rattle.std.proofs.Common.{◌≡◌, ℕ, sym, ap, ◌∙◌}
 use Rattle.std.proofs.lemmas.Result.{IfOk-weaker}
 use Rattle.s2_mode.specs.Mode.{Mode, symbols_in}
 use Rattle.s2_link.specs.Tuning.{Tuning}
@@ -7,6 +7,7 @@ use Rattle.s2_receive.specs.Receiving.{Rules, rules_of}
 use Rattle.s2_receive.specs.Windows.{found_as}
 use Rattle.s2_receive.specs.ReportLines.{frame_line, cut_line, end_line}
 use Rattle.s2_modem.specs.Reports.{frame_decision}
+use Rattle.s2_modem.proofs.CleanFrames.{all_as_likely}
 use Rattle.s2_modem.proofs.receiver.tune.Goals as goal
 
 abbrev made : Mode → ℕ → Link → Tuning → ℕ → Rules
@@ -20,3 +21,7 @@ pub returns-clause-rules : goal.returns-clause-rules
 returns-clause-rules c =
     let d = c.in_ok-decider in
     IfOk-weaker c.new-2.result _ _ (λ r e. same _ _ _ _ _ _ _ _ _ _ (ap (λ s. s.mode) e.0 ∙ (c.new-search.ensures ∙ c.mode-mode.ensures.is)) (e.3 ∙ (c.symbols.ensures.is ∙ ap symbols_in c.mode-mode.ensures.is)) (ap (λ x. x.link) e.1 ∙ d.ensures.link) (ap (λ x. x.tuning) e.1 ∙ d.ensures.tuning) e.4) c.new-2.ensures.parts
+
+pub returns-clause-as_likely : goal.returns-clause-as_likely
+returns-clause-as_likely c =
+    all_as_likely c.mode c.k-_k.ensures.valid c.k-_k.ensures.sizes c.args.link.now c.args.tuning (sym c.mode-mode.ensures.is, c.mode-mode.ensures.shape)
