@@ -1,4 +1,4 @@
-use Rattle.std.proofs.Common.{◌≡◌, ◌+◌, ◌-◌, ◌*◌, ◌<◌, ◌≤◌, ◌∙◌, ap, pos, length, arith, length-take, length-drop}
+use Rattle.std.proofs.Common.{◌≡◌, ◌+◌, ◌-◌, ◌*◌, ◌<◌, ◌≤◌, ◌∙◌, ap, pos, length, arith}
 use Rattle.std.proofs.lemmas.List.FromFn.{fill_by_all}
 use Rattle.s2_mode.specs.Symbols.{symbol, symbol_at}
 use Rattle.s2_mode.specs.Mode.{slots_of, symbols_in}
@@ -9,7 +9,6 @@ use Rattle.s2_plframe.specs.Payload.{slot_place, received_symbol, received_paylo
 use Rattle.s2_plframe.specs.Inside.{place_behind}
 use Rattle.s2_plframe.proofs.Payloads.{place_is, place_within, payload_again}
 use Rattle.s2_plframe.proofs.receive.payload.payload_of.Goals as goal
-use borrow.Rule.Slice.PartMut.{mid_of}
 
 pub returns-clause-is : goal.returns-clause-is
 returns-clause-is c =
@@ -21,15 +20,13 @@ returns-clause-is c =
     let n = length frame - 90 in
     let sized : length frame ≡ symbols_in m = c.requires.frame in
     let some : 90 ≤ symbols_in m = omega (arith, c.pilot_blocks-blocks.ensures.sizes.symbols) in
-    let fits : 90 + n ≤ length frame = omega arith in
-    let long : length (mid_of 90 n frame) ≡ n = simp (length-take, length-drop) (omega arith) in
     fill_by_all (received_symbol m gold frame) c.read_slots.new.out (90 * slots_of m) none (c.read_slots.auto.out ∙ c.requires.room)
     (λ s lt.
     let place : place_behind c.pilot_blocks-blocks.result s ≡ slot_place m s = ap (λ b. place_behind b s) c.pilot_blocks-blocks.ensures.is ∙ place_is m m.pilots s valid (λ r. m.pilots) lt in
     let within : 90 + slot_place m s < symbols_in m = place_within m m.pilots s valid (λ r. m.pilots) lt in
     let inside : slot_place m s < n = omega arith in
     c.read_slots.ensures s (omega arith)
-    ∙ (λ t. turned_back (quarter_turns gold (place t)) (((λ r. symbol_at (mid_of 90 n frame) (place r)) ∙ get_or-mid_of none 90 n frame (mid_of 90 n frame) fits long (slot_place m s) inside) t)))
+    ∙ (λ t. turned_back (quarter_turns gold (place t)) (((λ r. symbol_at (mid_of 90 n frame) (place r)) ∙ get_or-mid_of none 90 n frame (slot_place m s) inside) t)))
 
 pub returns-clause-undoes : goal.returns-clause-undoes
 returns-clause-undoes c = λ sent long can framed.

@@ -3,7 +3,7 @@ use Rattle.s2_mode.specs.Symbols.{symbol, symbol_at}
 use Rattle.s2_scramble.specs.Gold.{quarter_turns}
 use Rattle.s2_scramble.specs.Turns.{turned}
 use Rattle.s2_plframe.specs.Frame.{spaced_symbol}
-use Rattle.s2_scramble.proofs.Pieces.{put_mid_below, put_mid_at}
+use Rattle.s2_bits.proofs.RowParts.{put_mid_below, put_mid_at}
 use Rattle.s2_plframe.proofs.Blocks.{written_piece, whole_block, other_slots}
 use Rattle.s2_plframe.proofs.send.frame.write_slots.Goals as goal
 use borrow.Rule.Slice.PartMut.{put_mid, mid_of}
