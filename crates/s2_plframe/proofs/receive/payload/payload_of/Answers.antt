@@ -9,6 +9,7 @@ use Rattle.s2_plframe.specs.Payload.{slot_place, received_symbol, received_paylo
 use Rattle.s2_plframe.specs.Inside.{place_behind}
 use Rattle.s2_plframe.proofs.Payloads.{place_is, place_within, payload_again}
 use Rattle.s2_plframe.proofs.receive.payload.payload_of.Goals as goal
+use borrow.Rule.Slice.PartMut.{mid_of}
 
 pub returns-clause-is : goal.returns-clause-is
 returns-clause-is c =
