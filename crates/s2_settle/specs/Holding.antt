@@ -8,7 +8,7 @@ use Rattle.s2_minsum.specs.Decoding.{AreFit, HasRoom}
 use Rattle.s2_settle.specs.Layer.{Held, AreLong}
 use Rattle.s2_settle.specs.Settled.{moved_view}
 
--- the rows of a settler's matrix, the moves that it made last, check by check, and whether the certificate that it found last is strict
+-- the rows of a settler's matrix, the moves that it made last, check by check, and whether they were found to be a strict certificate
 pub record Settling : Type 0 where
   pub rows : Rows
   pub moves : List Move

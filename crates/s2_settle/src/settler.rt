@@ -18,7 +18,7 @@ use std::alloc::{AllocError, Global};
 use std::marker::Model;
 
 /// A maker of certificates by passes over all layers. To contracts it is the address rows, the moves that it
-/// made last, and whether the certificate that it found last is strict.
+/// made last, and whether they were found to be a strict certificate.
 pub struct Settler<'a> {
     matrix: &'a Matrix,
     layers: Layers<'a>,
@@ -107,7 +107,7 @@ impl<'a> Settler<'a> {
         }
     }
 
-    /// Whether the certificate that was found last is strict.
+    /// Whether the moves that were made last were found to be a strict certificate.
     pub fn is_strict(&self) -> bool
         ensures { result ≡ self.now.strict }
     {

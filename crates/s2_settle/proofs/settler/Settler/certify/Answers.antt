@@ -14,6 +14,7 @@ use Rattle.s2_settle.proofs.PlainSettled.{found_settled}
 use Rattle.s2_check.proofs.Lists.{refilled}
 use Rattle.s2_settle.proofs.Makes.{none_settled, held_settled, reached, missed}
 use Rattle.s2_settle.proofs.settler.Settler.certify.Goals as goal
+use Rattle.s2_settle.proofs.settler.Settler.certify.Goals.{in-Yes, in-No}
 
 pub returns-then-not-find_moves-clause-is : goal.returns-then-not-find_moves-clause-is
 returns-then-not-find_moves-clause-is c =
@@ -26,24 +27,8 @@ returns-then-not-find_moves-clause-is c =
     let finds = subst (λ (w : List Bool). Finds m (spread m c.args.passes 0 0 (start m soft w)) find.result find.new.moves) c.truths.ensures find.ensures.found in
     ap (λ (r : Rows). settled r soft word c.args.passes) (sym rows) ∙ sym (found_settled m soft word c.args.passes fit c.requires.range) ∙ none_settled m soft word c.args.passes find.result find.new.moves c.if-not-find_moves.true finds
 
-pub returns-in-Yes-clause-is : goal.returns-in-Yes-clause-is
-returns-in-Yes-clause-is c =
-    let d = c.self.inside in
-    let m = d.matrix.now in
-    let soft = c.args.soft.now in
-    let word = c.args.word.now in
-    let find = c.find_moves in
-    let fit = c.self.invariant.fit in
-    let rows = ap (λ (v : Settling). v.rows) c.self.view_is in
-    let finds = subst (λ (w : List Bool). Finds m (spread m c.args.passes 0 0 (start m soft w)) find.result find.new.moves) c.truths.ensures find.ensures.found in
-    let is = held_settled m soft word c.args.passes find.result find.new.moves c.if-not-find_moves.false finds in
-    let moves = refilled d.moves.len find.new.moves d.moves.items (sym c.deref_mut-2.ensures.len ∙ ap length c.deref_mut-2.ensures.value) (find.auto.moves ∙ ap length c.deref_mut-2.ensures.value) in
-    let view = c.held.ensures ∙ ap (λ (ms : List Move). moved_view m soft word ms) moves in
-    let cert = subst (λ (v : View). IsCertificate m v) view (c.examine-examined.ensures.yes.0 c.in-Yes.is) in
-    ap (λ (r : Rows). settled r soft word c.args.passes) (sym rows) ∙ sym (found_settled m soft word c.args.passes fit c.requires.range) ∙ is ∙ reached m (moved_view m soft word find.new.moves) cert ∙ ap (λ (ms : List Move). Some (moved_view m soft word ms)) (sym moves)
-
-pub returns-in-No-clause-is : goal.returns-in-No-clause-is
-returns-in-No-clause-is c =
+pub returns-clause-is : goal.returns-clause-is
+returns-clause-is c =
     let d = c.self.inside in
     let m = d.matrix.now in
     let soft = c.args.soft.now in
@@ -56,5 +41,14 @@ returns-in-No-clause-is c =
     let moves = refilled d.moves.len find.new.moves d.moves.items (sym c.deref_mut-2.ensures.len ∙ ap length c.deref_mut-2.ensures.value) (find.auto.moves ∙ ap length c.deref_mut-2.ensures.value) in
     let view = c.held.ensures ∙ ap (λ (ms : List Move). moved_view m soft word ms) moves in
     let codeword = subst (λ (r : Rows). IsCodeword (code_of r) word) (sym rows) c.requires.codeword in
-    let refuses = subst (λ (a : Answer). Checks m c.held.result a) c.in-No.is c.examine-examined.ensures.exact in
-    ap (λ (r : Rows). settled r soft word c.args.passes) (sym rows) ∙ sym (found_settled m soft word c.args.passes fit c.requires.range) ∙ is ∙ missed m soft word find.new.moves c.held.result c.in-No.field-0 view codeword refuses
+    let from = ap (λ (r : Rows). settled r soft word c.args.passes) (sym rows) ∙ sym (found_settled m soft word c.args.passes fit c.requires.range) ∙ is in
+    elim c.match-examined.branch [
+      | in-Yes w ↦ (
+          let cert = subst (λ (v : View). IsCertificate m v) view (c.examine-examined.ensures.yes.0 w.in-Yes.is) in
+          rw w.result-is (from ∙ reached m (moved_view m soft word find.new.moves) cert ∙ ap (λ (ms : List Move). Some (moved_view m soft word ms)) (sym moves))
+          )
+      | in-No w ↦ (
+          let refuses = subst (λ (a : Answer). Checks m c.held.result a) w.in-No.is c.examine-examined.ensures.exact in
+          rw w.result-is (from ∙ missed m soft word find.new.moves c.held.result w.in-No.field-0 view codeword refuses)
+          )
+    ]
