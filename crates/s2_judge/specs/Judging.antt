@@ -1,5 +1,5 @@
 -- What a judge shows, and what holds of its parts.
-use Rattle.std.specs.Prelude.{◌≡◌, ℕ, ◌≤◌, Bool, List, All, length, ℤ, Option, None, Some}
+use Rattle.std.specs.Prelude.{◌≡◌, ◌≤◌, Bool, List, All, length, ℤ, Option, None, Some}
 use Rattle.s2_rows.specs.Rows.{Rows}
 use Rattle.s2_matrix.specs.Code.{code_of}
 use Rattle.s2_check.specs.Views.{View, IsSoft, unsplit_view}

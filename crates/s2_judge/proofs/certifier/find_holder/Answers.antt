@@ -62,7 +62,7 @@ returns-then-certify_codeword-clause-strict c =
 pub returns-then-certify_greedily-clause-strict : goal.returns-then-certify_greedily-clause-strict
 returns-then-certify_greedily-clause-strict c =
     let maker = c.certify_greedily in
-    strict_made c.args.maker.now.rows c.args.soft.now c.args.codeword.now maker.new.self c.is_strict.result maker.ensures.rows maker.ensures.rests c.is_strict.ensures
+    strict_made c.args.maker.now.rows c.args.soft.now c.args.codeword.now maker.new.self c.is_strict-then-certify_greedily.result maker.ensures.rows maker.ensures.rests c.is_strict-then-certify_greedily.ensures
 
 pub returns-then-certify-clause-strict : goal.returns-then-certify-clause-strict
 returns-then-certify-clause-strict c =
@@ -74,4 +74,4 @@ returns-then-certify-clause-strict c =
     let rows = c.requires.settler in
     let accepted = subst (λ (q : Rows). IsCertificate q view) rows (c.certify.ensures.accepted c.if-certify.true) in
     let strict = subst (λ (q : Rows). IsTrue settler.strict ↔ IsStrict q view) rows (c.certify.ensures.strict c.if-certify.true) in
-    strict_settled r soft word settler (c.certify.ensures.rows ∙ rows) accepted strict ∙ sym c.is_strict.ensures
+    strict_settled r soft word settler (c.certify.ensures.rows ∙ rows) accepted strict ∙ sym c.is_strict-then-certify.ensures
