@@ -39,7 +39,7 @@ pub(crate) fn tune<'a>(
         ≡ link_rules link.now tuning most_symbols) }
     ensures limit { IfOk result (λ r. r.limit ≡ most_symbols) }
     ensures begun { IfOk result (λ r. r.state ≡ begun) }
-    ensures as_likely { AllAsLikely link.now tuning }
+    ensures as_likely { IfOk result (λ _. AllAsLikely link.now tuning) }
 {
     let mode = link.mode();
     // what it promises of the mode is a part of what is promised here

@@ -1,6 +1,6 @@
 use Rattle.std.proofs.Common.{◌≡◌, ℕ, sym, ap, ◌∙◌}
 use Rattle.std.proofs.lemmas.Result.{IfOk-weaker}
-use Rattle.s2_mode.specs.Mode.{Mode, symbols_in}
+use Rattle.s2_mode.specs.Mode.{Mode, shape_in, symbols_in}
 use Rattle.s2_link.specs.Tuning.{Tuning}
 use Rattle.s2_link.specs.Link.{Link}
 use Rattle.s2_receive.specs.Receiving.{Rules, rules_of}
@@ -24,4 +24,6 @@ returns-clause-rules c =
 
 pub returns-clause-as_likely : goal.returns-clause-as_likely
 returns-clause-as_likely c =
-    all_as_likely c.mode c.k-_k.ensures.valid c.k-_k.ensures.sizes c.args.link.now c.args.tuning (sym c.mode-mode.ensures.is, c.mode-mode.ensures.shape)
+    let k = c.k-k.ensures in
+    let all = all_as_likely c.mode-mode.result k.valid k.sizes c.args.link.now c.args.tuning (sym c.mode-mode.ensures.is, c.mode-mode.ensures.shape ∙ ap shape_in c.mode-mode.ensures.is) in
+    IfOk-weaker c.new-2.result _ _ (λ r e. all) c.new-2.ensures.parts
