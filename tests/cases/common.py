@@ -22,15 +22,11 @@ STORED_CERTIFICATE += bytes.fromhex("80F0F0") + bytes(188)
 WRONG_CERTIFICATE = HEAD + bytes.fromhex("FFFC") + 19 * bytes.fromhex("000A") + bytes(3)
 WRONG_CERTIFICATE += bytes.fromhex("FFFFFFFC 00000004 00000004") + bytes(176)
 
-
-
-def moved(certificate, amount):
-    """A certificate as version 2, in which check 0 moves so much to its first member."""
-    front = certificate[:4] + b"\x02" + certificate[5:13] + certificate[17:60]
-    return front + bytes(2) + amount.to_bytes(4, "big") + bytes(66)
-
-
-STORED_MOVED, WRONG_MOVED = moved(STORED_CERTIFICATE, 0), moved(WRONG_CERTIFICATE, 4)
+# The same as moves: of each check a place and an amount.
+HEAD_MOVED = bytes.fromhex("53324D4C 02 0004 0002 0003 0001")
+STORED_MOVED = HEAD_MOVED + STORED_CERTIFICATE[17:57] + bytes.fromhex("80F0F0") + bytes(72)
+WRONG_MOVED = HEAD_MOVED + bytes.fromhex("FFFC") + 19 * bytes.fromhex("000A") + bytes(3)
+WRONG_MOVED += bytes.fromhex("0000 00000004") + bytes(66)
 
 PACKET = b"\x47" + bytes(187)
 ONE = "frame 1 at 0 sole fixed 0\n"

@@ -5,7 +5,7 @@ READ, WRITE = "cannot read", "cannot write"
 MOD, DEMOD = f"mod {LINK} made packets out", f"demod {LINK} made two out"
 DUMMY, ACROSS = f"mod {LINK} --dummy 1 made packets out", f"demod {LINK} made among out"
 NOISE, RUN = "noise --seed 1 --level 256 two out", f"run {LINK} --seed 1 --level 0 made packets out"
-NOTHING, FRAMES = [(0, 0)], [(188, 0), (376, 33), (376, 69)]
+NOTHING, FRAMES = [(0, 0)], [(188, 0), (376, 26), (376, 55)]
 
 
 def is_whole_symbols(moved, size, printed):
@@ -32,7 +32,7 @@ FAILING = [
     (f"judge {TOY} toy stored", "stored", READ, NOTHING),
     (f"judge {TOY} toy stored", "printed", WRITE, NOTHING),
     (f"judge {TOY} --cert out toy stored", "stored", READ, NOTHING),
-    (f"judge {TOY} --cert out toy stored", "printed", WRITE, [(248, 0)]),
+    (f"judge {TOY} --cert out toy stored", "printed", WRITE, [(128, 0)]),
     ("check toy certificate", "toy", READ, NOTHING),
     ("check toy certificate", "certificate", READ, NOTHING),
     ("check toy certificate", "printed", WRITE, NOTHING),
@@ -43,18 +43,18 @@ FAILING = [
     (NOISE, "two", READ, is_whole_symbols),
     (NOISE, "out", WRITE, is_no_less),
     (DEMOD, "made", READ, NOTHING),
-    (DEMOD, "two", READ, [(0, 0), (188, 33), (376, 69)]),
-    (DEMOD, "out", WRITE, [(0, 0), (188, 33)]),
+    (DEMOD, "two", READ, [(0, 0), (188, 26), (376, 55)]),
+    (DEMOD, "out", WRITE, [(0, 0), (188, 26)]),
     (DEMOD, "printed", WRITE, FRAMES),
     # each frame stands with the dummy frame behind it
     (DUMMY, "packets", READ, [(0, 0), (46_080, 0)]),
     (DUMMY, "out", WRITE, [(0, 0), (32_760, 0), (46_080, 0), (78_840, 0)]),
     (DUMMY, "printed", WRITE, [(92_160, 0)]),
-    (ACROSS, "among", READ, [(0, 0), (188, 33), (376, 70)]),
-    (ACROSS, "out", WRITE, [(0, 0), (188, 33)]),
-    (ACROSS, "printed", WRITE, [(188, 0), (376, 33), (376, 70)]),
+    (ACROSS, "among", READ, [(0, 0), (188, 26), (376, 56)]),
+    (ACROSS, "out", WRITE, [(0, 0), (188, 26)]),
+    (ACROSS, "printed", WRITE, [(188, 0), (376, 26), (376, 56)]),
     (RUN, "made", READ, NOTHING),
     (RUN, "packets", READ, NOTHING),
-    (RUN, "out", WRITE, [(0, 0), (188, 33)]),
+    (RUN, "out", WRITE, [(0, 0), (188, 26)]),
     (RUN, "printed", WRITE, FRAMES),
 ]

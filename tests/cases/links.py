@@ -141,7 +141,7 @@ def divided(two, rows):
     """The cases of divisors over the symbols of the two packets: with noise, without, and so weak that a large divisor leaves
     nothing of them, which is the word of zeros."""
     checks, noisy, noise = checks_of(rows), spoilt(two, *NOISY), "--rounds 2 --seed {} --level {}".format(*NOISY)
-    lost = TWO.replace("fixed 0", "lost").replace("delivered 2 packets 2", "delivered 0 packets 0")
+    lost = TWO.replace("sole fixed 0", "most-likely lost").replace("delivered 2 packets 2", "delivered 0 packets 0")
     usual = broken(checks, two, noisy, DIVISORS[0], 2)
     cases = [
         received(noisy, NO, usual, 2 * PACKET, f"{LINK} --rounds 2 made"),

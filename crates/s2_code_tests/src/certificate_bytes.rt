@@ -49,25 +49,38 @@ pub(crate) fn codeword_file() -> [u8; SIZE] {
     file
 }
 
-/// How many bytes each has as version 2: 13 of the header, the values and the word, six for each of 12 checks.
+/// How many bytes each has as moves: 13 of the header, two for each value, three of the word, six for each of 12 checks.
 pub(crate) const MOVED_SIZE: usize = 128;
 
-/// A file as version 2, in which check 0 moves so much to its first member.
-pub(crate) fn moved(file: &[u8; SIZE], amount: u8) -> [u8; MOVED_SIZE] {
-    let mut out = [0; MOVED_SIZE];
-    out[..13].copy_from_slice(&file[..13]);
-    out[4] = 2;
-    out[13..56].copy_from_slice(&file[17..60]);
-    out[61] = amount;
-    out
+/// What each begins with as moves: format, shape and scale 1.
+const MOVED_HEAD: [u8; 13] = [0x53, 0x32, 0x4D, 0x4C, 2, 0, 4, 0, 2, 0, 3, 0, 1];
+
+/// A file as moves, of which check 0 moves so much to its first member, and the others nothing.
+pub(crate) fn moved(listed: &[u8; SIZE], amount: u8) -> [u8; MOVED_SIZE] {
+    let mut file = [0; MOVED_SIZE];
+    file[..13].copy_from_slice(&MOVED_HEAD);
+    file[13..56].copy_from_slice(&listed[17..60]);
+    file[61] = amount;
+    file
 }
 
-/// Of two bits that are to be the same, values -5 and 3, scale 2: so much is moved to the second.
-pub(crate) fn pair_file(amount: u8) -> [u8; 24] {
-    [
-        0x53, 0x32, 0x4D, 0x4C, 2, 0, 1, 0, 1, 0, 1, 0, 2, 0xFF, 0xFB, 0, 3, 0xC0, 0, 1, 0, 0, 0,
-        amount,
-    ]
+/// The file of the wrong bit as moves, with another byte at a place.
+pub(crate) fn moved_with_byte(at: usize, byte: u8) -> [u8; MOVED_SIZE] {
+    let mut file = moved(&wrong_bit(), 4);
+    if at < MOVED_SIZE {
+        file[at] = byte;
+    }
+    file
+}
+
+/// Of two bits that are to be the same, values -5 and 3, scale 2, ones: so much is moved to the bit at a place.
+pub(crate) fn pair_file(place: u8, amount: [u8; 4]) -> [u8; 24] {
+    let mut file = [
+        0x53, 0x32, 0x4D, 0x4C, 2, 0, 1, 0, 1, 0, 1, 0, 2, 0xFF, 0xFB, 0, 3, 0xC0, 0, 0, 0, 0, 0, 0,
+    ];
+    file[19] = place;
+    file[20..24].copy_from_slice(&amount);
+    file
 }
 
 /// The file of the wrong bit as it is with a byte for each value.

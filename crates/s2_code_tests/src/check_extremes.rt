@@ -75,7 +75,7 @@ fn defined(matrix: &Matrix, soft: &[i16], shares: &[i32]) -> Answer {
 }
 
 /// Whether all shares are numbers of 32 bits, which they are.
-fn are_words(shares: &[i32]) -> bool
+pub(crate) fn are_words(shares: &[i32]) -> bool
     ensures { IsTrue result → All (FitsSigned w32) shares.now }
 {
     for share in shares {

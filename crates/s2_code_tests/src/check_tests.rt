@@ -1,7 +1,5 @@
 //! Certificates of the toy code.
-use super::certificate_bytes::{
-    CODEWORD, MOVED_SIZE, SIZE, codeword_file, moved, pair_file, with_byte, wrong_bit,
-};
+use super::certificate_bytes::{CODEWORD, codeword_file, moved, pair_file, with_byte, wrong_bit};
 use super::codes::{TOY, matrix_of};
 use super::judge_tests::PAIR;
 use super::values::{WEAK, are_soft};
@@ -75,62 +73,110 @@ fn checks_the_certificate_of_a_wrong_bit(rt: HostRuntime) -> Result<(), Fail> {
     Ok(())
 }
 
-fn assert_altered_refused<R: Abort>(rt: &R, alloc: Global, toy: &Matrix) {
-    let file = wrong_bit();
-    for at in 0..SIZE {
-        let want = match at {
-            0..=4 => Err(CertFault::Magic),
-            5 | 7 | 9 => Err(CertFault::Shape),
-            6 | 8 | 10 | 15 | 16 => Err(CertFault::Cut),
-            11 | 13 | 14 => Err(CertFault::Range),
-            // a value's high byte; with another low byte all values but the first say more for their zeros
-            17..=56 if at % 2 == 1 => Err(CertFault::Range),
-            20..=56 => Ok(Answer::Yes),
-            57 | 58 => Ok(Answer::No(Refusal::OddCheck { check: 0 })),
-            59 => Ok(Answer::No(Refusal::OddCheck { check: 8 })),
-            _ => Ok(Answer::No(Refusal::BoundBelow)),
-        };
-        assert_eq!(rt;
-            answer(alloc, toy, &with_byte(at, file[at] ^ 0x80)),
-            want,
-            "at {at}"
-        );
-    }
-}
-
-/// What is answered on the file of version 2 with a byte's highest bit turned.
-fn answer_on_altered(at: usize) -> Result<Answer, CertFault> {
+/// What is answered on the file of the wrong bit with a byte's highest bit turned.
+fn on_altered_wrong_bit(at: usize) -> Result<Answer, CertFault> {
     match at {
         0..=4 => Err(CertFault::Magic),
         5 | 7 | 9 => Err(CertFault::Shape),
-        6 | 8 | 10 => Err(CertFault::Cut),
-        11 => Err(CertFault::Range),
-        13..=52 if at % 2 == 1 => Err(CertFault::Range),
-        16..=52 => Ok(Answer::Yes),
-        53 | 54 => Ok(Answer::No(Refusal::OddCheck { check: 0 })),
-        55 => Ok(Answer::No(Refusal::OddCheck { check: 8 })),
-        // a place past the members of check 0
+        6 | 8 | 10 | 15 | 16 => Err(CertFault::Cut),
+        11 | 13 | 14 => Err(CertFault::Range),
+        // a value's high byte; with another low byte all values but the first say more for their zeros
+        17..=56 if at % 2 == 1 => Err(CertFault::Range),
+        20..=56 => Ok(Answer::Yes),
+        57 | 58 => Ok(Answer::No(Refusal::OddCheck { check: 0 })),
+        59 => Ok(Answer::No(Refusal::OddCheck { check: 8 })),
+        _ => Ok(Answer::No(Refusal::BoundBelow)),
+    }
+}
+
+/// The same of the codeword's file: another scale is as good, and so are values that say more for their bits.
+fn on_altered_codeword(at: usize) -> Result<Answer, CertFault> {
+    match at {
+        12 | 18 => Ok(Answer::Yes),
+        _ => on_altered_wrong_bit(at),
+    }
+}
+
+/// The same of the file of the wrong bit as moves: it has no count, and behind its word moves of six bytes.
+fn on_altered_moves(at: usize) -> Result<Answer, CertFault> {
+    match at {
+        0..=12 => on_altered_wrong_bit(at),
+        13..=55 => on_altered_wrong_bit(at + 4),
+        // a place past the members
         56 | 57 => Ok(Answer::No(Refusal::OtherShape)),
-        // a place where nothing is moved, or an amount's highest bit
+        // a place where nothing is moved, or an amount of 2^31 and more
         58..=127 if (at - 56) % 6 < 3 => Err(CertFault::Range),
         _ => Ok(Answer::No(Refusal::BoundBelow)),
     }
 }
 
-fn assert_altered_moves_refused<R: Abort>(rt: &R, alloc: Global, toy: &Matrix) {
-    for at in 0..MOVED_SIZE {
-        let mut file = moved(&wrong_bit(), 4);
-        file[at] ^= 0x80;
-        assert_eq!(rt; answer(alloc, toy, &file), answer_on_altered(at), "at {at}");
+/// The same of the codeword's file as moves.
+fn on_altered_codeword_moves(at: usize) -> Result<Answer, CertFault> {
+    match at {
+        12 | 14 => Ok(Answer::Yes),
+        56 | 57 => Err(CertFault::Range),
+        _ => on_altered_moves(at),
     }
+}
+
+/// A file with the highest bit of a byte turned.
+fn altered(alloc: Global, file: &[u8], at: usize) -> Result<Vec<u8>, AllocError> {
+    let mut bytes = Vec::from_slice(alloc, file)?;
+    if at < bytes.len() {
+        bytes[at] ^= 0x80;
+    }
+    Ok(bytes)
+}
+
+/// Asserts what is answered with the highest bit of a byte turned.
+fn assert_altered<R: Abort>(
+    rt: &R,
+    alloc: Global,
+    toy: &Matrix,
+    file: &[u8],
+    at: usize,
+    want: Result<Answer, CertFault>,
+) -> Result<(), Fail> {
+    let bytes = altered(alloc, file, at)?;
+    assert_eq!(rt; answer(alloc, toy, &bytes), want, "at {at}");
+    Ok(())
+}
+
+fn assert_altered_refused<R: Abort>(rt: &R, alloc: Global, toy: &Matrix) -> Result<(), Fail> {
+    for at in 0..248usize {
+        assert_altered(rt, alloc, toy, &wrong_bit(), at, on_altered_wrong_bit(at))?;
+        assert_altered(
+            rt,
+            alloc,
+            toy,
+            &codeword_file(),
+            at,
+            on_altered_codeword(at),
+        )?;
+    }
+    Ok(())
+}
+
+fn assert_altered_moves_refused<R: Abort>(rt: &R, alloc: Global, toy: &Matrix) -> Result<(), Fail> {
+    let wrong_bit = moved(&wrong_bit(), 4);
+    let codeword = moved(&codeword_file(), 0);
+    for at in 0..128usize {
+        assert_altered(rt, alloc, toy, &wrong_bit, at, on_altered_moves(at))?;
+        assert_altered(rt, alloc, toy, &codeword, at, on_altered_codeword_moves(at))?;
+    }
+    Ok(())
 }
 
 #[test]
 fn answers_on_each_altered_byte(rt: HostRuntime) -> Result<(), Fail> {
     let toy = matrix_of(rt.alloc(), TOY)?;
-    assert_altered_refused(&rt, rt.alloc(), &toy);
-    assert_altered_moves_refused(&rt, rt.alloc(), &toy);
-    Ok(())
+    assert_altered_refused(&rt, rt.alloc(), &toy)
+}
+
+#[test]
+fn answers_on_each_altered_byte_of_moves(rt: HostRuntime) -> Result<(), Fail> {
+    let toy = matrix_of(rt.alloc(), TOY)?;
+    assert_altered_moves_refused(&rt, rt.alloc(), &toy)
 }
 
 fn assert_cut_refused<R: Abort>(rt: &R, alloc: Global, toy: &Matrix, file: &[u8]) {
@@ -150,25 +196,49 @@ fn refuses_a_cut_certificate(rt: HostRuntime) -> Result<(), Fail> {
     Ok(())
 }
 
-/// What is found of a file.
-fn examined(alloc: Global, matrix: &Matrix, bytes: &[u8]) -> Result<Examined, Fail> {
+/// What is found of a file, and whether it is said alike by each call.
+fn examined(alloc: Global, matrix: &Matrix, bytes: &[u8]) -> Result<(Examined, bool), Fail> {
     let certificate = read(alloc, bytes)?;
-    let Some(view) = certificate.view(matrix) else {
-        return Err(Fail::from("another shape"));
-    };
-    let found = examine(matrix, &view);
-    if sole(matrix, &view) != found.strict {
-        return Err(Fail::from("two answers"));
+    match certificate.view(matrix) {
+        Some(view) => Ok(examined_view(matrix, &view)),
+        None => Err(Fail::from("another shape")),
     }
-    Ok(found)
 }
 
-/// Asserts what is found of moves of 7, 6 and 5, which leave rests of 3 and 1, 4 and 0, 5 and -1.
+/// What is found of a view, and whether it is said alike by each call.
+fn examined_view(matrix: &Matrix, view: &CertView<'_>) -> (Examined, bool) {
+    let found = examine(matrix, view);
+    let alike = check(matrix, view) == found.answer && sole(matrix, view) == found.strict;
+    (found, alike)
+}
+
+/// Asserts what is found of a file.
+fn assert_examined<R: Abort>(
+    rt: &R,
+    alloc: Global,
+    matrix: &Matrix,
+    bytes: &[u8],
+    answer: Answer,
+    strict: bool,
+) -> Result<(), Fail> {
+    let found = examined(alloc, matrix, bytes)?;
+    assert_eq!(rt; found, (Examined { answer, strict }, true));
+    Ok(())
+}
+
+/// Asserts what is found of moves of 7, 6 and 5 to the second bit, which leave rests of 3 and 1, 4 and 0, 5 and -1.
 fn assert_strict_from_one<R: Abort>(rt: &R, alloc: Global, pair: &Matrix) -> Result<(), Fail> {
     let no = Answer::No(Refusal::BoundBelow);
-    for (amount, answer, strict) in [(7, Answer::Yes, true), (6, Answer::Yes, false), (5, no, false)] {
-        let found = examined(alloc, pair, &pair_file(amount))?;
-        assert_eq!(rt; found, Examined { answer, strict }, "{amount}");
+    for (amount, answer, strict) in [
+        (7, Answer::Yes, true),
+        (6, Answer::Yes, false),
+        (5, no, false),
+        (9, Answer::Yes, true),
+        (10, Answer::Yes, false),
+        (11, no, false),
+    ] {
+        let file = pair_file(1, [0, 0, 0, amount]);
+        assert_examined(rt, alloc, pair, &file, answer, strict)?;
     }
     Ok(())
 }
@@ -177,6 +247,43 @@ fn assert_strict_from_one<R: Abort>(rt: &R, alloc: Global, pair: &Matrix) -> Res
 fn a_rest_of_zero_is_not_strict(rt: HostRuntime) -> Result<(), Fail> {
     let pair = matrix_of(rt.alloc(), PAIR)?;
     assert_strict_from_one(&rt, rt.alloc(), &pair)
+}
+
+/// Asserts that a place past the members has no view, and that one of them has, whatever is moved to it.
+fn assert_places<R: Abort>(rt: &R, alloc: Global, pair: &Matrix) {
+    let no = Answer::No(Refusal::BoundBelow);
+    let other = Answer::No(Refusal::OtherShape);
+    for (place, amount, want) in [
+        (2, [0, 0, 0, 7], other),
+        (255, [0, 0, 0, 7], other),
+        (0, [0, 0, 0, 7], no),
+        (0, [0, 0, 0, 0], no),
+        (1, [0x7F, 0xFF, 0xFF, 0xFF], no),
+    ] {
+        assert_answer(rt, alloc, pair, &pair_file(place, amount), want);
+    }
+}
+
+#[test]
+fn has_no_view_past_the_members(rt: HostRuntime) -> Result<(), Fail> {
+    let pair = matrix_of(rt.alloc(), PAIR)?;
+    assert_places(&rt, rt.alloc(), &pair);
+    Ok(())
+}
+
+/// Asserts what is found of both files in both versions.
+fn assert_found_in_both<R: Abort>(rt: &R, alloc: Global, toy: &Matrix) -> Result<(), Fail> {
+    let yes = Answer::Yes;
+    assert_examined(rt, alloc, toy, &wrong_bit(), yes, false)?;
+    assert_examined(rt, alloc, toy, &moved(&wrong_bit(), 4), yes, false)?;
+    assert_examined(rt, alloc, toy, &codeword_file(), yes, true)?;
+    assert_examined(rt, alloc, toy, &moved(&codeword_file(), 0), yes, true)
+}
+
+#[test]
+fn finds_the_same_in_both_versions(rt: HostRuntime) -> Result<(), Fail> {
+    let toy = matrix_of(rt.alloc(), TOY)?;
+    assert_found_in_both(&rt, rt.alloc(), &toy)
 }
 
 /// Asserts whether the hard decision of some values is a codeword, and writes it to a word.

@@ -1,8 +1,9 @@
 //! Certificate files, by the format.
 use super::certificate_bytes::{
-    CODEWORD, SIZE, codeword_file, one_byte_values, with_byte, wrong_bit,
+    CODEWORD, MOVED_SIZE, SIZE, codeword_file, moved, moved_with_byte, one_byte_values, pair_file,
+    with_byte, wrong_bit,
 };
-use s2_file::{CertFault, Contents};
+use s2_file::{CertFault, Contents, Held, Move};
 use std::alloc::Global;
 use std::test::Fail;
 
@@ -16,8 +17,12 @@ fn refuses_what_is_no_file(rt: HostRuntime) -> Result<(), Fail> {
     let mut longer = Vec::from_slice(alloc, &wrong_bit())?;
     longer.push(0)?;
     assert_eq!(rt; fault_of(alloc, &longer), Some(CertFault::Extra));
-    assert_eq!(rt; fault_of(alloc, b"T"), Some(CertFault::Magic));
-    assert_eq!(rt; fault_of(alloc, b"S2ML\x03"), Some(CertFault::Magic));
+    for start in ["T", "S2MX", "S2ML\x00", "S2ML\x03"] {
+        assert_eq!(rt; fault_of(alloc, start.as_bytes()), Some(CertFault::Magic));
+    }
+    for start in ["", "S2M", "S2ML", "S2ML\x01", "S2ML\x02"] {
+        assert_eq!(rt; fault_of(alloc, start.as_bytes()), Some(CertFault::Cut));
+    }
     for (at, byte, want) in [
         (0, 0, CertFault::Magic),
         (6, 0, CertFault::Shape),
@@ -57,6 +62,108 @@ fn keeps_to_the_limits(rt: HostRuntime) -> Result<(), Fail> {
         }
         assert_eq!(rt; fault_of(alloc, &altered), want);
     }
+    Ok(())
+}
+
+// What is behind the end; of the front alone a shape or a scale of 0, and that one of its bytes lacks.
+#[test]
+fn refuses_in_order(rt: HostRuntime) -> Result<(), Fail> {
+    let alloc = rt.alloc();
+    let mut longer = Vec::from_slice(alloc, &moved_with_byte(13, 0x7F))?;
+    longer.push(0)?;
+    assert_eq!(rt; fault_of(alloc, &longer), Some(CertFault::Extra));
+    for (at, want) in [
+        (4, CertFault::Magic),
+        (6, CertFault::Shape),
+        (8, CertFault::Shape),
+        (10, CertFault::Shape),
+        (12, CertFault::Range),
+        (13, CertFault::Cut),
+    ] {
+        let file = moved_with_byte(at, 0);
+        let before = if at == 4 { want } else { CertFault::Cut };
+        assert_eq!(rt; fault_of(alloc, &file[..13]), Some(want));
+        assert_eq!(rt; fault_of(alloc, &file[..12]), Some(before));
+    }
+    Ok(())
+}
+
+// A third version; a scale of 4096 or 4097; a soft value of 511 or 512; a padding bit; a place of a check that moves
+// nothing.
+#[test]
+fn keeps_to_the_limits_of_moves(rt: HostRuntime) -> Result<(), Fail> {
+    let alloc = rt.alloc();
+    let cases = [
+        ([(11, 0x10), (12, 0)], None),
+        ([(11, 0x10), (12, 1)], Some(CertFault::Range)),
+        ([(17, 0x01), (18, 0xFF)], None),
+        ([(17, 0x02), (18, 0x00)], Some(CertFault::Range)),
+        ([(55, 0x10), (12, 1)], None),
+        ([(55, 0x08), (12, 1)], Some(CertFault::Range)),
+        ([(4, 3), (12, 0)], Some(CertFault::Magic)),
+        ([(62, 0x01), (12, 1)], Some(CertFault::Range)),
+        ([(63, 0x01), (12, 1)], Some(CertFault::Range)),
+        ([(63, 0x01), (67, 1)], None),
+        ([(61, 0x00), (57, 1)], Some(CertFault::Range)),
+        ([(56, 0xFF), (57, 0xFF)], None),
+        ([(58, 0x7F), (59, 0xFF)], None),
+        ([(58, 0x80), (61, 0x00)], Some(CertFault::Range)),
+    ];
+    for (bytes, want) in cases {
+        let mut altered = moved(&wrong_bit(), 4);
+        for (at, byte) in bytes {
+            if at < MOVED_SIZE {
+                altered[at] = byte;
+            }
+        }
+        assert_eq!(rt; fault_of(alloc, &altered), want);
+    }
+    Ok(())
+}
+
+// The least and the largest amounts beside those that are refused.
+#[test]
+fn keeps_to_amounts_of_31_bits(rt: HostRuntime) -> Result<(), Fail> {
+    let alloc = rt.alloc();
+    for (place, amount, want) in [
+        (0, [0, 0, 0, 0], None),
+        (1, [0, 0, 0, 0], Some(CertFault::Range)),
+        (1, [0, 0, 0, 1], None),
+        (1, [0x7F, 0xFF, 0xFF, 0xFF], None),
+        (1, [0x80, 0, 0, 0], Some(CertFault::Range)),
+        (1, [0xFF, 0xFF, 0xFF, 0xFF], Some(CertFault::Range)),
+    ] {
+        assert_eq!(rt; fault_of(alloc, &pair_file(place, amount)), want);
+    }
+    Ok(())
+}
+
+/// Whether a file's split is this move in the first check, and none in the others.
+fn moves_once(contents: &Contents, first: Move) -> bool {
+    let none = Move {
+        place: 0,
+        amount: 0,
+    };
+    match contents.held() {
+        Held::Moved(moves) => match moves.split_first() {
+            Some((one, others)) => *one == first && others == [none; 11].as_slice(),
+            None => false,
+        },
+        Held::Listed(_) => false,
+    }
+}
+
+#[test]
+fn reads_moves(rt: HostRuntime) -> Result<(), Fail> {
+    let contents = Contents::read(rt.alloc(), &moved(&codeword_file(), 0))?;
+    assert_eq!(rt; contents.soft(), CODEWORD.as_slice());
+    let first = Move {
+        place: 2,
+        amount: 0x01020304,
+    };
+    let mut file = moved(&wrong_bit(), 4);
+    file[56..62].copy_from_slice(&[0, 2, 1, 2, 3, 4]);
+    assert!(rt; moves_once(&Contents::read(rt.alloc(), &file)?, first));
     Ok(())
 }
 

@@ -4,9 +4,12 @@ ghost use Rattle.std.specs.Prelude.{◌≡◌, All, IfOk, IsTrue, length};
 ghost use Rattle.s2_matrix.specs.Code.{code_of};
 ghost use Rattle.s2_check.specs.Views.{IsSoft};
 
+use super::certificate_bytes::CODEWORD;
 use super::codes::{Code, TOY, made_matrix, matrix_of};
+use super::settle_tests::{FIVE, REST_OF_ONE, REST_OF_ZERO};
+use super::split_tests::{GIVEN_BACK, GIVEN_BACK_VALUES};
 use super::values::{LARGEST, LEAST, are_soft, next_number};
-use s2_check::{Answer, Certificate, Verdict, check};
+use s2_check::{Answer, Certificate, Examined, Verdict, check, examine};
 use s2_judge::Judge;
 use s2_link::Tuning;
 use s2_matrix::Matrix;
@@ -45,10 +48,10 @@ fn verdict_by(judge: &mut Judge<'_>, soft: &[i16]) -> Verdict
     judge.judge(soft)
 }
 
-/// What the checker says of a judge's certificate, where there is one.
-fn answer_on(matrix: &Matrix, judge: &Judge<'_>) -> Option<Answer> {
+/// What the checker finds of a judge's certificate, where there is one.
+fn found_on(matrix: &Matrix, judge: &Judge<'_>) -> Option<Examined> {
     match judge.certificate() {
-        Some(view) => Some(check(matrix, &view)),
+        Some(view) => Some(examine(matrix, &view)),
         None => None,
     }
 }
@@ -58,15 +61,30 @@ fn has_word(judge: &Judge<'_>, bits: &[bool]) -> bool {
     judge.word().truths() == bits
 }
 
-/// What is decided of some values: the verdict, whether the bits are these, and what the checker says of
+/// What is decided of some values: the verdict, whether the bits are these, and what the checker finds of
 /// their certificate, where there is one.
-type Decided = (Verdict, bool, Option<Answer>);
+type Decided = (Verdict, bool, Option<Examined>);
+
+/// A certificate all of whose rests are at least 1.
+const STRICT: Examined = Examined {
+    answer: Answer::Yes,
+    strict: true,
+};
+
+/// A certificate with a rest of 0.
+const ACCEPTED: Examined = Examined {
+    answer: Answer::Yes,
+    strict: false,
+};
 
 /// Bits that are right and have a strict certificate.
-const SOLE: Decided = (Verdict::Sole, true, Some(Answer::Yes));
+const SOLE: Decided = (Verdict::Sole, true, Some(STRICT));
 
 /// Bits that are right and have a certificate with a rest of 0.
-const LIKELY: Decided = (Verdict::MostLikely, true, Some(Answer::Yes));
+const LIKELY: Decided = (Verdict::MostLikely, true, Some(ACCEPTED));
+
+/// Bits that are right and have no certificate.
+const PARITY: Decided = (Verdict::Parity, true, None);
 
 /// What a judge decides.
 fn decided_by(matrix: &Matrix, judge: &mut Judge<'_>, soft: &[i16], bits: &[bool]) -> Decided
@@ -74,16 +92,27 @@ fn decided_by(matrix: &Matrix, judge: &mut Judge<'_>, soft: &[i16], bits: &[bool
     requires range { All IsSoft soft.now }
 {
     let verdict = verdict_by(judge, soft);
-    (verdict, has_word(judge, bits), answer_on(matrix, judge))
+    (verdict, has_word(judge, bits), found_on(matrix, judge))
+}
+
+/// What is decided by so many passes of settling.
+fn decided_in_passes(
+    alloc: Global,
+    matrix: &Matrix,
+    soft: &[i16],
+    bits: &[bool],
+    passes: u32,
+) -> Result<Decided, Fail> {
+    if !fits(matrix, soft) {
+        return Err(Fail::from("other values"));
+    }
+    let mut judge = judge_of(alloc, matrix, passes)?;
+    Ok(decided_by(matrix, &mut judge, soft, bits))
 }
 
 /// What is decided without passes of settling.
 fn decided(alloc: Global, matrix: &Matrix, soft: &[i16], bits: &[bool]) -> Result<Decided, Fail> {
-    if !fits(matrix, soft) {
-        return Err(Fail::from("other values"));
-    }
-    let mut judge = judge_of(alloc, matrix, 0)?;
-    Ok(decided_by(matrix, &mut judge, soft, bits))
+    decided_in_passes(alloc, matrix, soft, bits, 0)
 }
 
 /// Asserts what is decided of some values.
@@ -145,9 +174,8 @@ fn decodes_where_the_repair_has_an_odd_check(rt: HostRuntime) -> Result<(), Fail
 
 /// Asserts that zeros are found on a chain of checks, without a certificate.
 fn assert_chain_decided<A: Abort>(rt: &A, alloc: Global, chain: &Matrix) -> Result<(), Fail> {
-    let parity = (Verdict::Parity, true, None);
     for soft in [[0, -1, -1, 0], [1, 0, -3, 0]] {
-        assert_decided(rt, alloc, chain, &soft, &[false; 4], parity)?;
+        assert_decided(rt, alloc, chain, &soft, &[false; 4], PARITY)?;
     }
     Ok(())
 }
@@ -156,6 +184,99 @@ fn assert_chain_decided<A: Abort>(rt: &A, alloc: Global, chain: &Matrix) -> Resu
 fn finds_codewords_without_a_certificate(rt: HostRuntime) -> Result<(), Fail> {
     let chain = matrix_of(rt.alloc(), CHAIN)?;
     assert_chain_decided(&rt, rt.alloc(), &chain)
+}
+
+/// Asserts what is decided on values of a codeword one of which is 0, 1 or -1 in the place of its own.
+fn assert_least_value<A: Abort>(
+    rt: &A,
+    alloc: Global,
+    toy: &Matrix,
+    bits: &[bool],
+    place: usize,
+) -> Result<(), Fail> {
+    let mut soft = CODEWORD;
+    assert!(rt; place < soft.len());
+    let is_one = soft[place] < 0;
+    soft[place] = if is_one { -1 } else { 1 };
+    assert_decided(rt, alloc, toy, &soft, bits, SOLE)?;
+    if !is_one {
+        soft[place] = 0;
+        assert_decided(rt, alloc, toy, &soft, bits, LIKELY)?;
+    }
+    Ok(())
+}
+
+/// The bits that values decide.
+fn signs_of(soft: &[i16; 20]) -> [bool; 20] {
+    let mut bits = [false; 20];
+    for place in 0..20usize {
+        bits[place] = soft[place] < 0;
+    }
+    bits
+}
+
+/// Asserts it at each place.
+fn assert_least_values<A: Abort>(rt: &A, alloc: Global, toy: &Matrix) -> Result<(), Fail> {
+    let bits = signs_of(&CODEWORD);
+    assert_decided(rt, alloc, toy, &CODEWORD, &bits, SOLE)?;
+    for place in 0..20usize {
+        assert_least_value(rt, alloc, toy, &bits, place)?;
+    }
+    Ok(())
+}
+
+/// A codeword is sole without any repair exactly where no value is 0.
+#[test]
+fn a_value_of_zero_is_not_strict(rt: HostRuntime) -> Result<(), Fail> {
+    let toy = matrix_of(rt.alloc(), TOY)?;
+    assert_least_values(&rt, rt.alloc(), &toy)
+}
+
+/// Asserts what is decided in so many passes, and that one less finds no certificate.
+fn assert_decided_after<A: Abort>(
+    rt: &A,
+    alloc: Global,
+    five: &Matrix,
+    soft: &[i16; 8],
+    bits: &[bool; 8],
+    passes: u32,
+    want: Decided,
+) -> Result<(), Fail> {
+    let before = decided_in_passes(alloc, five, soft, bits, passes.saturating_sub(1))?;
+    assert_eq!(rt; before, PARITY);
+    for enough in [passes, 1000] {
+        let found = decided_in_passes(alloc, five, soft, bits, enough)?;
+        assert_eq!(rt; found, want);
+    }
+    Ok(())
+}
+
+/// Asserts what is decided where passes leave a rest of 1, and where one of 0.
+fn assert_rests_decided<A: Abort>(rt: &A, alloc: Global, five: &Matrix) -> Result<(), Fail> {
+    let bits = [true, false, false, true, false, false, true, true];
+    assert_decided_after(rt, alloc, five, &REST_OF_ONE, &bits, 3, SOLE)?;
+    let bits = [false, true, false, true, true, false, false, false];
+    assert_decided_after(rt, alloc, five, &REST_OF_ZERO, &bits, 8, LIKELY)
+}
+
+#[test]
+fn a_rest_of_zero_is_not_strict(rt: HostRuntime) -> Result<(), Fail> {
+    let five = matrix_of(rt.alloc(), FIVE)?;
+    assert_rests_decided(&rt, rt.alloc(), &five)
+}
+
+/// Spreading leaves rests of 0 mostly, but not always.
+#[test]
+fn spreading_may_be_strict(rt: HostRuntime) -> Result<(), Fail> {
+    let code = matrix_of(rt.alloc(), GIVEN_BACK)?;
+    assert_decided(
+        &rt,
+        rt.alloc(),
+        &code,
+        &GIVEN_BACK_VALUES,
+        &[false; 12],
+        SOLE,
+    )
 }
 
 /// What is decided of a clean frame of zeros.

@@ -3,12 +3,14 @@
 ghost use Rattle.std.specs.Prelude.{◌≡◌, length};
 ghost use Rattle.s2_matrix.specs.Code.{code_of};
 
+use super::check_extremes::are_words;
 use super::codes::made_matrix;
 use super::values::are_soft;
 use s2_bits::Bits;
+use s2_check::{CertView, Certificate, sole};
 use s2_matrix::Matrix;
 use s2_minsum::Decoder;
-use s2_mode::Mode;
+use s2_mode::{Counting, Mode};
 use s2_settle::Settler;
 use s2_split::Maker;
 use std::alloc::{AllocError, Global};
@@ -61,14 +63,74 @@ fn settler_has_room(alloc: Global, matrix: &Matrix) -> Result<(), AllocError> {
     Ok(())
 }
 
-/// Asserts that all three have room for a code.
+/// The bytes of a view's file.
+fn file_of(alloc: Global, view: &CertView<'_>) -> Result<Vec<u8>, Fail> {
+    let mut out = Counting::new(Vec::new(alloc));
+    view.write(&mut out)?;
+    Ok(out.into_inner())
+}
+
+/// Whether what is read of a file has a view, which is strict.
+fn is_sole_in(alloc: Global, matrix: &Matrix, file: &[u8]) -> Result<bool, Fail> {
+    let certificate = Certificate::read(alloc, file)?;
+    match certificate.view(matrix) {
+        Some(view) => Ok(sole(matrix, &view)),
+        None => Ok(false),
+    }
+}
+
+/// The bytes of the file of zeros without a split: of a list of shares, or of moves.
+fn zeros_file(
+    alloc: Global,
+    matrix: &Matrix,
+    soft: &[i16],
+    word: &Bits,
+    is_listed: bool,
+) -> Result<Vec<u8>, Fail> {
+    if soft.len() != matrix.bits() || !are_soft(soft) || word.len() != matrix.bits() {
+        return Err(Fail::from("other values"));
+    }
+    if !is_listed {
+        return file_of(alloc, &CertView::unsplit(matrix, soft, word));
+    }
+    let shares = vec![in alloc; 0i32; matrix.edges()]?;
+    if shares.len() != matrix.edges() || !are_words(&shares) {
+        return Err(Fail::from("other shares"));
+    }
+    file_of(alloc, &CertView::listed(matrix, 1, soft, word, &shares))
+}
+
+/// Asserts that the certificate of zeros is written and read, in either version, as a strict one of so many bytes.
+fn assert_certificates_have_room<R: Abort>(
+    rt: &R,
+    alloc: Global,
+    matrix: &Matrix,
+) -> Result<(), Fail> {
+    let soft = vec![in alloc; 1i16; matrix.bits()]?;
+    let word = Bits::zeroed(alloc, matrix.bits())?;
+    let body = matrix.bits().wrapping_mul(17) / 8;
+    let shares = matrix.edges().wrapping_mul(4);
+    let moves = matrix.check_count().wrapping_mul(6);
+    for (is_listed, size) in [
+        (true, body.wrapping_add(17).wrapping_add(shares)),
+        (false, body.wrapping_add(13).wrapping_add(moves)),
+    ] {
+        let file = zeros_file(alloc, matrix, &soft, &word, is_listed)?;
+        assert_eq!(rt; file.len(), size);
+        assert!(rt; is_sole_in(alloc, matrix, &file)?);
+    }
+    Ok(())
+}
+
+/// Asserts that all of them have room for a code.
 fn assert_have_room<R: Abort>(rt: &R, alloc: Global, matrix: &Matrix) -> Result<(), Fail> {
     decoder_has_room(alloc, matrix)?;
     settler_has_room(alloc, matrix)?;
+    assert_certificates_have_room(rt, alloc, matrix)?;
     assert_maker_has_room(rt, alloc, matrix)
 }
 
-/// Asserts that all three have room for a mode.
+/// Asserts that all of them have room for a mode.
 fn assert_have_room_in<R: Abort>(rt: &R, alloc: Global, mode: Mode) -> Result<(), Fail> {
     let matrix = made_matrix(alloc, mode.shape(), 3)?;
     assert_have_room(rt, alloc, &matrix)

@@ -6,7 +6,7 @@ ghost use Rattle.s2_check.specs.Views.{IsSoft};
 use super::codes::{Code, TOY, matrix_of};
 use super::values::are_soft;
 use s2_bits::Bits;
-use s2_check::{Answer, CertView, check};
+use s2_check::{Answer, CertView, Examined, examine};
 use s2_matrix::Matrix;
 use s2_settle::Settler;
 use std::alloc::{AllocError, Global};
@@ -77,6 +77,24 @@ const GROUP_9_SHARES: [i32; 89] = [
     -113,
 ];
 
+// Passes leave a rest of 1, and no smaller one.
+pub(crate) const REST_OF_ONE: [i16; 8] = [54, 261, 54, 50, 106, 153, -449, -172];
+
+const REST_OF_ONE_ONES: [usize; 4] = [0, 3, 6, 7];
+
+const REST_OF_ONE_SHARES: [i32; 16] = [
+    -801, 801, 801, 0, 0, 0, 0, 457, 457, -457, 2165, 2165, -2165, -824, -824, -824,
+];
+
+// Passes leave a rest of 0.
+pub(crate) const REST_OF_ZERO: [i16; 8] = [207, -109, -164, -400, -274, 161, -113, 292];
+
+const REST_OF_ZERO_ONES: [usize; 3] = [1, 3, 4];
+
+const REST_OF_ZERO_SHARES: [i32; 16] = [
+    -1556, -1556, -1556, 2804, -2804, -2804, -2804, 224, -224, 224, 1808, 1808, -1808, 0, 0, 0,
+];
+
 // Given up after eight passes; nine would do.
 const GIVEN_UP: [i16; 20] = [
     178, 86, 453, -191, -511, -360, 381, -394, -79, 337, -365, -262, 64, 336, -262, 193, 84, -157,
@@ -96,14 +114,24 @@ fn word_of(alloc: Global, bits: usize, ones: &[usize]) -> Result<Bits, AllocErro
     Ok(word)
 }
 
-/// Asserts that the shares of a certificate are these, and that the checker accepts it.
-fn assert_shares<R: Abort>(rt: &R, matrix: &Matrix, view: &CertView<'_>, shares: &[i32]) {
+/// Asserts that the shares of a certificate are these, and what the checker finds of it.
+fn assert_shares<R: Abort>(
+    rt: &R,
+    matrix: &Matrix,
+    view: &CertView<'_>,
+    shares: &[i32],
+    strict: bool,
+) {
     assert_eq!(rt; view.scale(), 16);
     assert_eq!(rt; view.share_count(), shares.len());
     for edge in 0..view.share_count() {
         assert_eq!(rt; Some(&view.share(edge)), shares.get(edge));
     }
-    assert_eq!(rt; check(matrix, view), Answer::Yes);
+    let found = Examined {
+        answer: Answer::Yes,
+        strict,
+    };
+    assert_eq!(rt; examine(matrix, view), found);
 }
 
 /// The codeword with ones at these places.
@@ -131,13 +159,15 @@ fn is_certified(settler: &mut Settler<'_>, soft: &[i16], word: &Bits, passes: u3
     settler.certify(soft, word, passes)
 }
 
-/// What is found for a word with ones at these places in so many passes: these shares, or nothing.
+/// What is found for a word with ones at these places in so many passes: these shares, which leave every rest at least 1
+/// or do not, or nothing.
 #[derive(Clone, Copy)]
 struct Found<'a> {
     soft: &'a [i16],
     ones: &'a [usize],
     passes: u32,
     shares: Option<&'a [i32]>,
+    strict: bool,
 }
 
 /// Asserts what is found.
@@ -156,7 +186,9 @@ fn assert_settled<R: Abort + AllocGlobal>(
     let found = is_certified(settler, frame.soft, &word, frame.passes);
     assert_eq!(rt; found, frame.shares.is_some());
     if let Some(shares) = frame.shares {
-        assert_shares(rt, matrix, &settler.held(frame.soft, &word), shares);
+        assert_eq!(rt; settler.is_strict(), frame.strict);
+        let view = settler.held(frame.soft, &word);
+        assert_shares(rt, matrix, &view, shares, frame.strict);
     }
     Ok(())
 }
@@ -196,7 +228,7 @@ fn assert_all_settled<R: Abort + AllocGlobal>(
     assert_settled_anew(rt, &matrix, frames)
 }
 
-/// Asserts that a certificate with these shares is found in so many passes, and none in one pass less.
+/// Asserts that a certificate with these shares, strict or not, is found in so many passes, and none in one pass less.
 fn assert_found<R: Abort + AllocGlobal>(
     rt: &R,
     code: Code<'_>,
@@ -204,25 +236,36 @@ fn assert_found<R: Abort + AllocGlobal>(
     ones: &[usize],
     passes: u32,
     shares: &[i32],
+    strict: bool,
 ) -> Result<(), Fail> {
     let none = Found {
         soft,
         ones,
         passes: passes.saturating_sub(1),
         shares: None,
+        strict: false,
     };
     let found = Found {
         soft,
         ones,
         passes,
         shares: Some(shares),
+        strict,
     };
     assert_all_settled(rt, code, &[none, found])
 }
 
 #[test]
 fn finds_the_moves_of_the_rule(rt: HostRuntime) -> Result<(), Fail> {
-    assert_found(&rt, TOY, &ONE_PASS, &ONE_PASS_ONES, 1, &ONE_PASS_SHARES)?;
+    assert_found(
+        &rt,
+        TOY,
+        &ONE_PASS,
+        &ONE_PASS_ONES,
+        1,
+        &ONE_PASS_SHARES,
+        true,
+    )?;
     assert_found(
         &rt,
         TOY,
@@ -230,17 +273,50 @@ fn finds_the_moves_of_the_rule(rt: HostRuntime) -> Result<(), Fail> {
         &THREE_PASSES_ONES,
         3,
         &THREE_PASSES_SHARES,
+        true,
+    )
+}
+
+/// Five checks one after another, of three bits.
+pub(crate) const FIVE: Code<'static> = ([1, 3, 5], b"0 1 3\n0 2\n1 4\n");
+
+#[test]
+fn a_rest_of_zero_is_not_strict(rt: HostRuntime) -> Result<(), Fail> {
+    assert_found(
+        &rt,
+        FIVE,
+        &REST_OF_ONE,
+        &REST_OF_ONE_ONES,
+        3,
+        &REST_OF_ONE_SHARES,
+        true,
+    )?;
+    assert_found(
+        &rt,
+        FIVE,
+        &REST_OF_ZERO,
+        &REST_OF_ZERO_ONES,
+        8,
+        &REST_OF_ZERO_SHARES,
+        false,
     )
 }
 
 #[test]
 fn finds_them_in_groups_of_any_size(rt: HostRuntime) -> Result<(), Fail> {
-    let one = ([1, 3, 5], b"0 1 3\n0 2\n1 4\n".as_slice());
-    assert_found(&rt, one, &GROUP_1, &GROUP_1_ONES, 2, &GROUP_1_SHARES)?;
+    assert_found(&rt, FIVE, &GROUP_1, &GROUP_1_ONES, 2, &GROUP_1_SHARES, true)?;
     let seven = ([7, 1, 3], b"0 4 11\n".as_slice());
-    assert_found(&rt, seven, &GROUP_7, &GROUP_7_ONES, 2, &GROUP_7_SHARES)?;
+    assert_found(
+        &rt,
+        seven,
+        &GROUP_7,
+        &GROUP_7_ONES,
+        2,
+        &GROUP_7_SHARES,
+        true,
+    )?;
     let nine = ([9, 2, 2], b"0 5 7\n1 4 10\n".as_slice());
-    assert_found(&rt, nine, &GROUP_9, &GROUP_9_ONES, 3, &GROUP_9_SHARES)
+    assert_found(&rt, nine, &GROUP_9, &GROUP_9_ONES, 3, &GROUP_9_SHARES, true)
 }
 
 /// One settler, frame after frame.
@@ -251,18 +327,21 @@ fn forgets_the_moves_of_an_earlier_frame(rt: HostRuntime) -> Result<(), Fail> {
         ones: &ONE_PASS_ONES,
         passes: 9,
         shares: Some(&ONE_PASS_SHARES),
+        strict: true,
     };
     let given_up = Found {
         soft: &GIVEN_UP,
         ones: &GIVEN_UP_ONES,
         passes: 40,
         shares: None,
+        strict: false,
     };
     let three = Found {
         soft: &THREE_PASSES,
         ones: &THREE_PASSES_ONES,
         passes: 9,
         shares: Some(&THREE_PASSES_SHARES),
+        strict: true,
     };
     let frames = [one, given_up, three, one, given_up, three];
     assert_all_settled(&rt, TOY, &frames)

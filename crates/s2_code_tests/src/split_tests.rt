@@ -6,29 +6,35 @@ ghost use Rattle.s2_check.specs.Views.{IsSoft};
 use super::codes::{Code, TOY, matrix_of};
 use super::values::{LARGEST, LEAST, WEAK, WRONG, are_soft};
 use s2_bits::Bits;
-use s2_check::{Answer, CertView, check};
+use s2_check::{Answer, CertView, Examined, examine};
 use s2_matrix::Matrix;
 use s2_split::Maker;
 use std::alloc::Global;
 use std::process::Abort;
 use std::test::Fail;
 
-/// What is made for a word of zeros under these values: a scale, 0 for none, and the first shares.
+/// What is made for a word of zeros under these values: a scale, 0 for none, the first shares, and whether every rest
+/// is at least 1.
 #[derive(Clone, Copy)]
 struct Made<'a> {
     soft: &'a [i16],
     scale: u16,
     shares: &'a [i32],
+    strict: bool,
 }
 
-/// Asserts that a view has this scale and these first shares, and that the checker accepts it.
+/// Asserts that a view has this scale and these first shares, and what the checker finds of it.
 fn assert_view<R: Abort>(rt: &R, matrix: &Matrix, view: &CertView<'_>, made: &Made<'_>) {
     assert_eq!(rt; view.scale(), made.scale);
     assert!(rt; made.shares.len() <= view.share_count());
     for edge in 0..made.shares.len() {
         assert_eq!(rt; view.share(edge), made.shares[edge]);
     }
-    assert_eq!(rt; check(matrix, view), Answer::Yes);
+    let found = Examined {
+        answer: Answer::Yes,
+        strict: made.strict,
+    };
+    assert_eq!(rt; examine(matrix, view), found);
 }
 
 /// Whether a split is made for a word.
@@ -58,6 +64,7 @@ fn assert_made<R: Abort>(
     assert_eq!(rt; made.soft.len(), matrix.bits());
     assert!(rt; are_soft(made.soft));
     if is_certified(maker, made.soft, &word) {
+        assert_eq!(rt; maker.is_strict(), made.strict);
         assert_view(rt, matrix, &maker.held(made.soft, &word), made);
     } else {
         assert_eq!(rt; made.scale, 0);
@@ -110,11 +117,13 @@ fn makes_greedy_and_spread_splits(rt: HostRuntime) -> Result<(), Fail> {
         soft: &WRONG,
         scale: 1,
         shares: &[-4, 4, 4, 0, 0, 0, 0],
+        strict: false,
     };
     let spread = Made {
         soft: &WEAK,
         scale: 16,
         shares: &[-40, 40, 40, 24, -24, 24, 24],
+        strict: false,
     };
     assert_all_made(&rt, TOY, &[greedy, spread, greedy])
 }
@@ -128,6 +137,7 @@ fn makes_splits_of_the_largest_values(rt: HostRuntime) -> Result<(), Fail> {
         soft: &soft,
         scale: 1,
         shares: &[-511, 511, 511, 0, 0, 0, 0],
+        strict: false,
     };
     assert_all_made(&rt, TOY, &[greedy])?;
     soft[4..7].fill(127);
@@ -135,6 +145,7 @@ fn makes_splits_of_the_largest_values(rt: HostRuntime) -> Result<(), Fail> {
         soft: &soft,
         scale: 16,
         shares: &[-5104, 5104, 5104, 3072, -3072, 3072, 3072],
+        strict: false,
     };
     assert_all_made(&rt, TOY, &[spread])
 }
@@ -145,8 +156,30 @@ fn finds_no_split_of_a_word_that_costs_more(rt: HostRuntime) -> Result<(), Fail>
         soft: &[-5, 3],
         scale: 0,
         shares: &[],
+        strict: false,
     };
     assert_all_made(&rt, ([1, 1, 1], b"0\n"), &[none])
+}
+
+/// A code in which checks give back what other checks have made good, and values for which no rest is below 3 after that.
+pub(crate) const GIVEN_BACK: Code<'static> = ([2, 3, 3], b"0 4\n2 3 4 5\n2 3 5\n");
+
+pub(crate) const GIVEN_BACK_VALUES: [i16; 12] = [23, 11, -8, -9, 4, 20, 20, -2, 6, 17, 9, 6];
+
+const GIVEN_BACK_SHARES: [i32; 29] = [
+    225, -225, 225, 225, 54, 54, 54, -54, -13, 13, 13, 13, 13, 13, 40, -40, 40, 40, 40, 78, -78,
+    78, 78, 0, 0, 0, 0, 0, 0,
+];
+
+#[test]
+fn spreads_a_strict_split(rt: HostRuntime) -> Result<(), Fail> {
+    let spread = Made {
+        soft: &GIVEN_BACK_VALUES,
+        scale: 16,
+        shares: &GIVEN_BACK_SHARES,
+        strict: true,
+    };
+    assert_all_made(&rt, GIVEN_BACK, &[spread])
 }
 
 const FOUND_BY_63: [i16; 12] = [21, 15, -12, 24, -23, -3, -1, 0, -47, 61, -7, 34];
@@ -173,16 +206,19 @@ fn makes_64_passes(rt: HostRuntime) -> Result<(), Fail> {
             soft: &FOUND_BY_63,
             scale: 16,
             shares: &AFTER_63,
+            strict: false,
         },
         Made {
             soft: &FOUND_BY_64,
             scale: 16,
             shares: &AFTER_64,
+            strict: false,
         },
         Made {
             soft: &NOT_FOUND,
             scale: 0,
             shares: &[],
+            strict: false,
         },
     ];
     assert_all_made(&rt, ([1, 1, 11], b"2 7\n"), &frames)

@@ -1,6 +1,7 @@
 //! Frames without noise by each divisor of soft values.
+use super::hearing::{hear_by, show_by};
 use super::modem_tests::frame;
-use super::streams::{Sample, hear_by, sample_of, show_by, two_packets};
+use super::streams::{Sample, sample_of, two_packets};
 use s2_receive::Step;
 use s2_soft::{DIVISORS, Divisor};
 use std::alloc::Global;

@@ -1,10 +1,8 @@
 //! A receiver of streams in which dummy frames of each TYPE stand, made here by the numbers of the standard.
+use super::hearing::{Heard, Steps, assert_reported, hear};
 use super::modem_tests::frame;
 use super::plframe_tests::header_of;
-use super::streams::{
-    ALL, Heard, Sample, Source, Steps, assert_reported, hear, send_with_dummies, two_frames,
-    two_packets,
-};
+use super::streams::{ALL, Sample, Source, send_with_dummies, two_frames, two_packets};
 use s2_mode::{ByOne, Endless, MOST_SYMBOLS, Symbol};
 use s2_receive::{Fault, Step};
 use std::alloc::{AllocError, Global};

@@ -1,9 +1,12 @@
 //! A receiver whose readers and writers fail or never end, and frames that are cut or whose headers are forged.
+use super::hearing::{
+    Demodulated, Heard, Steps, assert_received, assert_reported, assert_sample, hear, receive,
+    received,
+};
 use super::modem_tests::frame;
 use super::streams::{
-    ALL, Demodulated, Heard, Sample, Sides, Source, Steps, assert_received, assert_reported,
-    assert_sample, frame_of, hear, link_of, one_frame, packet_of, packet_of_zeros, receive,
-    received, sample_of, two_frames, two_packets,
+    ALL, Sample, Sides, Source, frame_of, link_of, one_frame, packet_of, packet_of_zeros,
+    sample_of, two_frames, two_packets,
 };
 use s2_bbframe::{Header, HeaderFault, crc8};
 use s2_check::Verdict;

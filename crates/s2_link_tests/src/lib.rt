@@ -1,8 +1,8 @@
 //! Tests of a link and of its parts, from baseband frames to both ends, over public calls alone, with the
 //! numbers of the standard.
 //!
-//! Each crate's tests stand in a module of its name. What several need stands in `streams`: small links, and what is
-//! sent and received on them.
+//! Each crate's tests stand in a module of its name. What several need stands in `streams` (small links, and what is
+//! sent on them) and in `hearing` (what is received of it).
 #![tactic(auto)]
 
 #[cfg(test)]
@@ -13,6 +13,8 @@ mod bbframe_tests;
 mod divisor_tests;
 #[cfg(test)]
 mod dummy_tests;
+#[cfg(test)]
+mod hearing;
 #[cfg(test)]
 mod hostile_tests;
 #[cfg(test)]

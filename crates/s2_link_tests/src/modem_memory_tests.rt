@@ -13,8 +13,7 @@ use std::alloc::{AllocError, Global};
 use std::process::Abort;
 use std::test::Fail;
 
-const REPORT: &[u8] =
-    b"frame 1 at 0 sole fixed 0\nend frames 1 delivered 1 packets 1 bad 0\n";
+const REPORT: &[u8] = b"frame 1 at 0 sole fixed 0\nend frames 1 delivered 1 packets 1 bad 0\n";
 
 /// A writer into memory.
 type Writer = Counting<Vec<u8>>;

@@ -1,8 +1,10 @@
 //! Whole streams through a receiver.
+use super::hearing::{
+    Shown, assert_reported, assert_sample, hear, received, received_whole, receiver_of, show,
+};
 use super::streams::{
-    ALL, Sample, Shown, Sides, Source, assert_reported, assert_sample, bch_word_of, frame_of_word,
-    hear, link_of, one_frame, other_link, packet_of, packet_of_zeros, received, received_whole,
-    receiver_of, sample_of, show, two_frames, two_packets,
+    ALL, Sample, Sides, Source, bch_word_of, frame_of_word, link_of, one_frame, other_link,
+    packet_of, packet_of_zeros, sample_of, two_frames, two_packets,
 };
 use s2_bbframe::Header;
 use s2_bits::Bits;

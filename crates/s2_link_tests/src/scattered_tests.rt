@@ -1,5 +1,6 @@
 //! A frame whose wrong decisions are scattered.
-use super::streams::{Sides, assert_reported, matrix_of, packet_of_zeros, setup_of, symbols_of};
+use super::hearing::assert_reported;
+use super::streams::{Sides, matrix_of, packet_of_zeros, setup_of, symbols_of};
 use s2_matrix::Matrix;
 use std::alloc::{AllocError, Global};
 use std::process::Abort;

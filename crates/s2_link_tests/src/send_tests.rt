@@ -1,7 +1,8 @@
 //! The transmitter on known streams. The symbols are those of the modulator in plain C.
+use super::hearing::first_bytes;
 use super::streams::{
-    ALL, Sample, Sent, Sides, Source, dummy_of, first_bytes, link_in, link_of, other_link,
-    packet_of, packet_of_zeros, sample_of, send, send_packets, send_with_dummies, sent_by, sum_of,
+    ALL, Sample, Sent, Sides, Source, dummy_of, link_in, link_of, other_link, packet_of,
+    packet_of_zeros, sample_of, send, send_packets, send_with_dummies, sent_by, sum_of,
     transmitter_of, two_frames, two_packets,
 };
 use s2_bbframe::Header;

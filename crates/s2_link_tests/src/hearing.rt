@@ -1,0 +1,364 @@
+//! What is received of small links' streams, for tests. As in `streams`, what has a large contract is called here and
+//! nowhere else in the tests, each such call by a function that has none.
+ghost use Rattle.std.specs.Prelude.{◌≡◌, IfOk};
+ghost use Rattle.s2_receive.specs.Receiving.{IsLive, begun};
+
+use super::streams::{
+    ALL, ROUNDS, Reader, Sample, Sides, Source, Writer, reader_of, taken, writer_of,
+};
+use s2_bits::Bits;
+use s2_link::{Link, Tuning};
+use s2_mode::{Counted, MOST_SYMBOLS, StreamFault};
+use s2_modem::{DemodFault, Receiver, SetupFault, demodulate};
+use s2_receive::{Fault, Received, Step, Totals};
+use s2_soft::Divisor;
+use std::alloc::{AllocError, Global};
+use std::process::Abort;
+use std::test::Fail;
+
+/// What is received of symbols in memory.
+pub(crate) struct Demodulated {
+    pub(crate) answer: Result<Totals, DemodFault>,
+    pub(crate) packets: Vec<u8>,
+    pub(crate) report: Vec<u8>,
+}
+
+impl Drop for Demodulated {
+    fn drop(self) {
+        let Demodulated {
+            answer: _,
+            packets: _,
+            report: _,
+        } = self;
+    }
+}
+
+/// Receives symbols in memory, and writes packets and lines to these.
+fn receive_into(
+    alloc: Global,
+    link: &Sides,
+    symbols: &[u8],
+    packets: &mut Writer,
+    report: &mut Writer,
+) -> Result<Totals, DemodFault> {
+    if packets.count() == u64::MAX || report.count() == u64::MAX {
+        return Err(DemodFault::Write);
+    }
+    let symbols = &symbols[..symbols.len().min(1 << 30)];
+    demodulate(
+        alloc,
+        link.setup,
+        &link.matrix,
+        ROUNDS,
+        0,
+        symbols,
+        packets,
+        report,
+    )
+}
+
+/// Receives symbols in memory, where so many writes of packets and so many of lines pass.
+pub(crate) fn receive(
+    alloc: Global,
+    link: &Sides,
+    symbols: &[u8],
+    writes: [u64; 2],
+) -> Demodulated {
+    let mut packets = writer_of(alloc, writes[0]);
+    let mut report = writer_of(alloc, writes[1]);
+    let answer = receive_into(alloc, link, symbols, &mut packets, &mut report);
+    Demodulated {
+        answer,
+        packets: taken(packets),
+        report: taken(report),
+    }
+}
+
+/// Receives symbols in memory.
+pub(crate) fn received(alloc: Global, link: &Sides, symbols: &[u8]) -> Demodulated {
+    receive(alloc, link, symbols, [ALL, ALL])
+}
+
+/// Asserts what was reported, and the packets.
+pub(crate) fn assert_received<A: Abort>(
+    rt: &A,
+    received: &Demodulated,
+    report: &str,
+    packets: &[u8],
+) {
+    assert_eq!(rt; received.report.as_slice(), report.as_bytes());
+    assert_eq!(rt; received.packets.as_slice(), packets);
+}
+
+/// Asserts what is reported of symbols in memory, and the packets.
+pub(crate) fn assert_reported<A: Abort>(
+    rt: &A,
+    alloc: Global,
+    link: &Sides,
+    symbols: &[u8],
+    report: &str,
+    packets: &[u8],
+) {
+    assert_received(rt, &received(alloc, link, symbols), report, packets);
+}
+
+/// Asserts what is reported of a sample, and the packets.
+pub(crate) fn assert_sample<A: Abort>(
+    rt: &A,
+    alloc: Global,
+    sample: &Sample,
+    report: &str,
+    packets: &[u8],
+) {
+    assert_reported(rt, alloc, &sample.link, &sample.symbols, report, packets);
+}
+
+/// Lets a receiver run to the end of what is read.
+fn run_receiver(
+    receiver: &mut Receiver<'_>,
+    reader: &mut Reader<'_>,
+    packets: &mut Writer,
+    report: &mut Writer,
+) -> Result<Received, StreamFault>
+    requires { IsLive receiver.old.state.phase }
+{
+    let failed = [reader.count(), packets.count(), report.count()];
+    if failed[0] == u64::MAX || failed[1] == u64::MAX || failed[2] == u64::MAX {
+        return Err(StreamFault::Read);
+    }
+    receiver.run(reader, packets, report)
+}
+
+/// Receives symbols in memory to their end by a single call.
+fn run_to_end(
+    alloc: Global,
+    receiver: &mut Receiver<'_>,
+    symbols: &[u8],
+) -> Result<Received, StreamFault>
+    requires { IsLive receiver.old.state.phase }
+{
+    let mut reader = reader_of(Source::Slice(symbols), ALL);
+    let mut packets = writer_of(alloc, ALL);
+    let mut report = writer_of(alloc, ALL);
+    run_receiver(receiver, &mut reader, &mut packets, &mut report)
+}
+
+/// What a receiver of a link, with so many passes, takes of symbols by a single call.
+pub(crate) fn received_whole(
+    alloc: Global,
+    link: &Sides,
+    symbols: &[u8],
+    passes: u32,
+) -> Result<Received, Fail> {
+    match receiver_of(alloc, link, ROUNDS, passes) {
+        Ok(mut receiver) => Ok(run_to_end(alloc, &mut receiver, symbols)?),
+        Err(fault) => Err(Fail::from(fault)),
+    }
+}
+
+/// The receiver of a link, of so many rounds and passes.
+pub(crate) fn receiver_of<'a>(
+    alloc: Global,
+    link: &'a Sides,
+    rounds: u32,
+    passes: u32,
+) -> Result<Receiver<'a>, SetupFault>
+    ensures { IfOk result (λ r. r.state ≡ begun) }
+{
+    Receiver::new(alloc, link.setup, &link.matrix, rounds, passes)
+}
+
+/// The receiver of a link, by this divisor.
+fn receiver_by<'a>(alloc: Global, link: &'a Sides, divisor: Divisor) -> Result<Receiver<'a>, Fail> {
+    let tuning = Tuning::new(ROUNDS, 0)?.with_divisor(divisor);
+    let link = Link::new(link.setup, &link.matrix)?;
+    Ok(Receiver::on_link(alloc, &link, tuning)?)
+}
+
+/// Lets a receiver take at most so many symbols.
+fn limit_receiver(receiver: &mut Receiver<'_>, symbols: u64)
+    requires { receiver.old.state ≡ begun }
+{
+    receiver.limit(symbols.clamp(1, MOST_SYMBOLS));
+}
+
+/// Calls a receiver once.
+fn step(
+    receiver: &mut Receiver<'_>,
+    reader: &mut Reader<'_>,
+    packets: &mut Writer,
+    report: &mut Writer,
+) -> Result<Step, Fault> {
+    let failed = [reader.count(), packets.count(), report.count()];
+    if failed[0] == u64::MAX || failed[1] == u64::MAX || failed[2] == u64::MAX {
+        return Err(Fault::Failed);
+    }
+    receiver.next(reader, packets, report)
+}
+
+/// What five calls of a receiver answer.
+pub(crate) type Steps = [Result<Step, Fault>; 5];
+
+fn five_steps(
+    receiver: &mut Receiver<'_>,
+    reader: &mut Reader<'_>,
+    packets: &mut Writer,
+    report: &mut Writer,
+) -> Steps {
+    let mut steps = [Err(Fault::Failed); 5];
+    for answer in steps.iter_mut() {
+        *answer = step(receiver, reader, packets, report);
+    }
+    steps
+}
+
+/// What five calls of a receiver answered and wrote.
+pub(crate) struct Heard {
+    pub(crate) steps: Steps,
+    pub(crate) packets: Vec<u8>,
+    pub(crate) report: Vec<u8>,
+}
+
+impl Drop for Heard {
+    fn drop(self) {
+        let Heard {
+            steps: _,
+            packets: _,
+            report: _,
+        } = self;
+    }
+}
+
+fn heard_by(
+    alloc: Global,
+    receiver: &mut Receiver<'_>,
+    source: Source<'_>,
+    passes: [u64; 3],
+) -> Heard {
+    let mut reader = reader_of(source, passes[0]);
+    let mut packets = writer_of(alloc, passes[1]);
+    let mut report = writer_of(alloc, passes[2]);
+    let steps = five_steps(receiver, &mut reader, &mut packets, &mut report);
+    Heard {
+        steps,
+        packets: taken(packets),
+        report: taken(report),
+    }
+}
+
+/// The same of a receiver that takes at most so many symbols.
+fn heard_within(
+    alloc: Global,
+    receiver: &mut Receiver<'_>,
+    symbols: u64,
+    source: Source<'_>,
+    passes: [u64; 3],
+) -> Heard
+    requires { receiver.old.state ≡ begun }
+{
+    limit_receiver(receiver, symbols);
+    heard_by(alloc, receiver, source, passes)
+}
+
+/// Calls a new receiver five times, which takes at most so many symbols, and where so many reads, writes
+/// of packets and writes of lines pass.
+pub(crate) fn hear(
+    alloc: Global,
+    link: &Sides,
+    symbols: u64,
+    source: Source<'_>,
+    passes: [u64; 3],
+) -> Result<Heard, SetupFault> {
+    match receiver_of(alloc, link, ROUNDS, 0) {
+        Ok(mut receiver) => Ok(heard_within(alloc, &mut receiver, symbols, source, passes)),
+        Err(fault) => Err(fault),
+    }
+}
+
+/// What a new receiver by this divisor answers to five calls on symbols in memory.
+pub(crate) fn hear_by(
+    alloc: Global,
+    link: &Sides,
+    divisor: Divisor,
+    symbols: &[u8],
+) -> Result<Heard, Fail> {
+    match receiver_by(alloc, link, divisor) {
+        Ok(mut receiver) => Ok(heard_by(
+            alloc,
+            &mut receiver,
+            Source::Slice(symbols),
+            [ALL, ALL, ALL],
+        )),
+        Err(fault) => Err(fault),
+    }
+}
+
+/// The first 32 bits of a word.
+pub(crate) fn first_bytes(word: &Bits) -> [u8; 4] {
+    [word.byte(0), word.byte(1), word.byte(2), word.byte(3)]
+}
+
+/// What a receiver shows of a frame.
+pub(crate) struct Shown {
+    pub(crate) soft: Vec<i16>,
+    /// The word's first 32 bits.
+    pub(crate) word: [u8; 4],
+    pub(crate) message: Vec<bool>,
+}
+
+impl Drop for Shown {
+    fn drop(self) {
+        let Shown {
+            soft: _,
+            word: _,
+            message: _,
+        } = self;
+    }
+}
+
+fn shown_by(alloc: Global, receiver: &Receiver<'_>) -> Result<Shown, AllocError> {
+    let mut soft = Vec::new(alloc);
+    soft.extend_from_slice(receiver.soft())?;
+    let mut message = Vec::new(alloc);
+    message.extend_from_slice(receiver.message())?;
+    Ok(Shown {
+        soft,
+        word: first_bytes(receiver.word()),
+        message,
+    })
+}
+
+/// Calls a receiver once, on symbols in memory.
+fn step_over(alloc: Global, receiver: &mut Receiver<'_>, symbols: &[u8]) -> Result<Step, Fault> {
+    let mut reader = reader_of(Source::Slice(symbols), ALL);
+    let mut packets = writer_of(alloc, ALL);
+    let mut report = writer_of(alloc, ALL);
+    step(receiver, &mut reader, &mut packets, &mut report)
+}
+
+/// The same after one more call.
+fn shown_after(alloc: Global, receiver: &mut Receiver<'_>, symbols: &[u8]) -> Result<Shown, Fail> {
+    let _step = step_over(alloc, receiver, symbols)?;
+    Ok(shown_by(alloc, receiver)?)
+}
+
+/// What a receiver shows after its first call.
+pub(crate) fn show(alloc: Global, link: &Sides, symbols: &[u8]) -> Result<Shown, Fail> {
+    match receiver_of(alloc, link, ROUNDS, 0) {
+        Ok(mut receiver) => shown_after(alloc, &mut receiver, symbols),
+        Err(fault) => Err(Fail::from(fault)),
+    }
+}
+
+/// What a receiver by this divisor shows after its first call.
+pub(crate) fn show_by(
+    alloc: Global,
+    link: &Sides,
+    divisor: Divisor,
+    symbols: &[u8],
+) -> Result<Shown, Fail> {
+    match receiver_by(alloc, link, divisor) {
+        Ok(mut receiver) => shown_after(alloc, &mut receiver, symbols),
+        Err(fault) => Err(fault),
+    }
+}
