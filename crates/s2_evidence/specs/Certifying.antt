@@ -25,13 +25,13 @@ WritesPart None old new = ⊥
 WritesPart (Some view) old new = AppendsPart (bytes_of view) old new
 
 -- What is written for an input beside a verdict of this exit: the certificate of the decided bits. It is accepted, and there is
--- one exactly where they are most likely.
+-- one exactly where they are called sole or most likely.
 pub record Wrote (tuning : Tuning) (input : Rows × List ℤ) (exit : Exit) (old new : Option (List ℕ)) : Type 0 where
   pub shown : IsShown input.0 input.1 (decided input.0 tuning input.1)
   pub exit_is : exit ≡ exit_on (decided input.0 tuning input.1).verdict
   pub written : Writes (decided input.0 tuning input.1).certificate old new
 
--- Where the certificate's writer failed: a part of the certificate of the decided bits, which are most likely.
+-- Where the certificate's writer failed: a part of the certificate of the decided bits, which are called sole or most likely.
 pub record WrotePart (tuning : Tuning) (input : Rows × List ℤ) (old new : Option (List ℕ)) : Type 0 where
   pub shown : IsShown input.0 input.1 (decided input.0 tuning input.1)
   pub written : WritesPart (decided input.0 tuning input.1).certificate old new

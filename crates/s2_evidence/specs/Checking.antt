@@ -86,5 +86,7 @@ pub record SaysNoShape (rows : Rows) (file : File) (exit : Exit) (text : List �
   pub line : text ≡ answer_line (pos 0) (answers.No OtherShape)
   pub answer_is_no : exit ≡ exits.No
 
+-- one that they suit is examined
 abbrev pub IsAnswered : Rows × File → Exit → List ℕ → Type 0
-IsAnswered input exit text = SaysAnswer input.0 (view_of input.0 input.1) exit text ⊎ SaysNoShape input.0 input.1 exit text
+IsAnswered input exit text =
+    (Suits input.0 input.1 × SaysAnswer input.0 (view_of input.0 input.1) exit text) ⊎ SaysNoShape input.0 input.1 exit text

@@ -121,7 +121,7 @@ fn print_check<R: CountedRead, S: CountedRead, O: CountedWrite>(
     check_read(alloc, &mut files.rows, &mut files.certificate)?.print(out)
 }
 
-/// `check`: whether a certificate shows its word to be most likely under the code of a row file.
+/// `check`: whether a certificate shows its word to be sole, or most likely, under the code of a row file.
 pub fn check_command<R: CountedRead, S: CountedRead, O: CountedWrite, E: CountedWrite>(
     alloc: Global,
     files: &mut CheckFiles<R, S>,

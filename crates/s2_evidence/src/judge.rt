@@ -120,8 +120,8 @@ fn print_judgement<R: CountedRead, S: CountedRead, C: CountedWrite, O: CountedWr
 
 /// `judge`: what a receiver that tries so much decides on the soft values of a file under the code of a row
 /// file, and what is known of it. Where a file for it is asked for, the certificate of the decided bits is
-/// written if they are most likely, before the verdict is printed; where its writer fails, a part of it is
-/// written.
+/// written if they are sole or most likely, before the verdict is printed; where its writer fails, a part of it
+/// is written.
 pub fn judge_command<
     R: CountedRead,
     S: CountedRead,

@@ -78,7 +78,8 @@ fn print_own<S: CountedRead, O: CountedWrite>(
     own_read(alloc, shape, &mut rows, soft)?.print(out)
 }
 
-/// The program without words: `judge` of its input under the toy rows, but a word that is sole is called most likely, as it also is.
+/// The program without words: `judge` of its input under the toy rows, but a word that is sole is called most
+/// likely, as it also is.
 pub fn self_command<S: CountedRead, O: CountedWrite, E: CountedWrite>(
     alloc: Global,
     soft: &mut S,

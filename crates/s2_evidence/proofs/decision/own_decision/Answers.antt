@@ -1,4 +1,4 @@
-use Rattle.std.proofs.Common.{◌≡◌, List, Bool, ℤ, sym, ap, subst, ◌∙◌}
+use Rattle.std.proofs.Common.{◌≡◌, List, Bool, sym, ap, subst, ◌∙◌}
 use Rattle.s2_rows.specs.Rows.{Rows}
 use Rattle.s2_matrix.specs.Code.{code_of, IsCodeword}
 use Rattle.s2_check.specs.Cost.{IsMostLikely}
