@@ -63,6 +63,34 @@ fn settler_has_room(alloc: Global, matrix: &Matrix) -> Result<(), AllocError> {
     Ok(())
 }
 
+/// Asserts that all three have room for a code.
+fn assert_have_room<R: Abort>(rt: &R, alloc: Global, matrix: &Matrix) -> Result<(), Fail> {
+    decoder_has_room(alloc, matrix)?;
+    settler_has_room(alloc, matrix)?;
+    assert_maker_has_room(rt, alloc, matrix)
+}
+
+/// Asserts that all three have room for a mode.
+fn assert_have_room_in<R: Abort>(rt: &R, alloc: Global, mode: Mode) -> Result<(), Fail> {
+    let matrix = made_matrix(alloc, mode.shape(), 3)?;
+    assert_have_room(rt, alloc, &matrix)
+}
+
+#[test]
+fn have_room_for_every_mode(rt: HostRuntime) -> Result<(), Fail> {
+    let mut modes = 0u8;
+    for modcod in 1..18u8 {
+        for short in [false, true] {
+            if let Some(mode) = Mode::of(modcod, short, false) {
+                modes = modes.wrapping_add(1);
+                assert_have_room_in(&rt, rt.alloc(), mode)?;
+            }
+        }
+    }
+    assert_eq!(rt; modes, 32);
+    Ok(())
+}
+
 /// The bytes of a view's file.
 fn file_of(alloc: Global, view: &CertView<'_>) -> Result<Vec<u8>, Fail> {
     let mut out = Counting::new(Vec::new(alloc));
@@ -122,31 +150,25 @@ fn assert_certificates_have_room<R: Abort>(
     Ok(())
 }
 
-/// Asserts that all of them have room for a code.
-fn assert_have_room<R: Abort>(rt: &R, alloc: Global, matrix: &Matrix) -> Result<(), Fail> {
-    decoder_has_room(alloc, matrix)?;
-    settler_has_room(alloc, matrix)?;
-    assert_certificates_have_room(rt, alloc, matrix)?;
-    assert_maker_has_room(rt, alloc, matrix)
-}
-
-/// Asserts that all of them have room for a mode.
-fn assert_have_room_in<R: Abort>(rt: &R, alloc: Global, mode: Mode) -> Result<(), Fail> {
+/// Asserts that there is room for certificates of a mode.
+fn assert_certificates_have_room_in<R: Abort>(
+    rt: &R,
+    alloc: Global,
+    mode: Mode,
+) -> Result<(), Fail> {
     let matrix = made_matrix(alloc, mode.shape(), 3)?;
-    assert_have_room(rt, alloc, &matrix)
+    assert_certificates_have_room(rt, alloc, &matrix)
 }
 
+/// The codes of QPSK are those of all modes.
 #[test]
-fn have_room_for_every_mode(rt: HostRuntime) -> Result<(), Fail> {
-    let mut modes = 0u8;
-    for modcod in 1..18u8 {
+fn certificates_have_room_for_every_code(rt: HostRuntime) -> Result<(), Fail> {
+    for modcod in 1..12u8 {
         for short in [false, true] {
             if let Some(mode) = Mode::of(modcod, short, false) {
-                modes = modes.wrapping_add(1);
-                assert_have_room_in(&rt, rt.alloc(), mode)?;
+                assert_certificates_have_room_in(&rt, rt.alloc(), mode)?;
             }
         }
     }
-    assert_eq!(rt; modes, 32);
     Ok(())
 }
