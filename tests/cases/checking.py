@@ -12,8 +12,20 @@ def pair(place, amount):
     return front + place.to_bytes(2, "big") + amount.to_bytes(4, "big")
 
 
-# Moves of the pair, and what comes of them.
-PAIRS = [(1, 7, 0, "sole cost -2\n"), (1, 6, 0, "yes cost -2\n"), (1, 5, NO, "no bound\n"), (2, 7, NO, "no shape\n")]
+# Moves of the pair, and what comes of them: rests of 3 and 1, 4 and 0, 5 and -1, 1 and 3, 0 and 4, -1 and 5; places past the two bits.
+PAIRS = [
+    (1, 7, 0, "sole cost -2\n"),
+    (1, 6, 0, "yes cost -2\n"),
+    (1, 5, NO, "no bound\n"),
+    (1, 9, 0, "sole cost -2\n"),
+    (1, 10, 0, "yes cost -2\n"),
+    (1, 11, NO, "no bound\n"),
+    (0, 7, NO, "no bound\n"),
+    (0, 0, NO, "no bound\n"),
+    (1, 2**31 - 1, NO, "no bound\n"),
+    (2, 7, NO, "no shape\n"),
+    (65_535, 7, NO, "no shape\n"),
+]
 # Certificates under the toy rows, and what comes of them.
 ANSWERS = [
     (WRONG_CERTIFICATE, 0, "yes cost 0\n"),
@@ -46,18 +58,43 @@ FAULTS = [
     (with_byte(10, 0), "shape"),
     (with_byte(6, 0), "shape"),
 ]
-# Bytes of the wrong bit's certificate whose highest bit is turned, and what comes of that.
-ALTERED = [
-    ([0, 1, 2, 3, 4], "magic"),
-    ([5, 7, 9], "shape"),
-    ([6, 8, 10], "cut"),
-    ([11, 13, 14], "range"),
-    ([15, 16], "cut"),
-    (range(17, 57, 2), "range"),
-]
-DENIED = [([12, 18], "no bound\n"), ([57, 58], "no check 0\n"), ([59], "no check 8\n"), (range(60, 248, 17), "no bound\n")]
-# The low bytes of all soft values but the first, which say more for zeros then.
-KEPT = range(20, 57, 2)
+
+
+def turned(file, at):
+    """A file with the highest bit of a byte turned."""
+    return file[:at] + bytes([file[at] ^ 0x80]) + file[at + 1 :]
+
+
+def on_turned(at, is_codeword):
+    """What comes of the wrong bit's certificate with a byte turned so, and of the codeword's: a fault, or a line."""
+    if at in range(5):
+        return "magic"
+    if at in (5, 7, 9):
+        return "shape"
+    if at in (6, 8, 10, 15, 16):
+        return "cut"
+    if at in (11, 13, 14) or at in range(17, 57, 2):
+        return "range"
+    # another scale, and values that say more for their bits, by 128
+    if is_codeword and at in [18 + 2 * bit for bit in ONES]:
+        return "sole cost -173\n"
+    if at in range(20, 57, 2) or is_codeword and at == 12:
+        return YES[is_codeword]
+    return {57: "no check 0\n", 58: "no check 0\n", 59: "no check 8\n"}.get(at, "no bound\n")
+
+
+def on_turned_moves(at, is_codeword):
+    """The same of version 2, which has no count of shares, and moves of six bytes from byte 56 on."""
+    if at < 56:
+        return on_turned(at if at < 13 else at + 4, is_codeword)
+    # a place where nothing is moved, or past the members; an amount of 2^31 and more
+    if at in (56, 57) and not is_codeword:
+        return "no shape\n"
+    return "range" if (at - 56) % 6 < 3 else "no bound\n"
+
+
+# What is said of the wrong bit's certificates, and of the codeword's, and the ones of the codeword.
+YES, ONES = ["yes cost 0\n", "sole cost -45\n"], [0, 8, 9, 10, 11, 16, 17, 18, 19]
 # With q 4 in the place of 3 the rows have 55 edges, not 47.
 OTHER_Q = with_byte(10, 4)[:17] + bytes(2 * 24 + 3 + 188)
 
@@ -70,19 +107,30 @@ def refused(certificate, text, rows="toy"):
     return fault(f"check {rows} out", f"certificate: {text}", reads={"out": certificate})
 
 
+def answered(certificate, said):
+    """A case whose line is told, or the text of its fault."""
+    if not said.endswith("\n"):
+        return refused(certificate, said)
+    return checked(certificate, NO if said.startswith("no") else 0, said)
+
+
 CASES = [
     *(checked(*answer) for answer in ANSWERS),
     *(checked(pair(place, amount), code, line, "pair") for place, amount, code, line in PAIRS),
     *(refused(pair(1, amount), "range", "pair") for amount in (0, 1 << 31)),
     *(refused(*answer) for answer in FAULTS),
     *(refused(whole[:size], "cut") for whole in (WRONG_MOVED, STORED_MOVED) for size in range(128)),
-    *(refused(with_byte(at, WRONG_CERTIFICATE[at] ^ 0x80), text) for places, text in ALTERED for at in places),
-    *(checked(with_byte(at, WRONG_CERTIFICATE[at] ^ 0x80), NO, line) for places, line in DENIED for at in places),
-    *(checked(with_byte(at, WRONG_CERTIFICATE[at] ^ 0x80), 0, "yes cost 0\n") for at in KEPT),
+    *(answered(turned(whole, at), on_turned(at, n)) for n, whole in enumerate((WRONG_CERTIFICATE, STORED_CERTIFICATE)) for at in range(248)),
+    *(answered(turned(whole, at), on_turned_moves(at, n)) for n, whole in enumerate((WRONG_MOVED, STORED_MOVED)) for at in range(128)),
     *(refused(whole[:size], "cut") for whole in (WRONG_CERTIFICATE, STORED_CERTIFICATE) for size in range(248)),
     checked(OTHER_Q, NO, "no shape\n"),
     Case("check short_rows out", NO, "no shape\n", reads={"short_rows": b"0 4 8\n0 1\n", "out": WRONG_CERTIFICATE}),
     Case("check normal normal_certificate", out="yes cost 0\n"),
+    # a byte behind the end is told before what else is wrong, and what lacks of the header before a shape
+    refused(turned(WRONG_MOVED, 13) + b"\x00", "extra"),
+    refused(WRONG_MOVED[:5] + bytes(7), "cut"),
+    refused(WRONG_MOVED[:5] + bytes(8), "shape"),
+    refused(WRONG_MOVED[:11] + bytes(2), "range"),
     # the certificate is taken apart before the rows
     refused(with_byte(0, 0x54), "magic", "odd"),
     fault("check letter out", "rows: not a number in line 1", reads={"letter": b"x", "out": WRONG_CERTIFICATE}),

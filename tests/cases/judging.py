@@ -16,6 +16,12 @@ WELL = [
     (20 * b"64 ", 0, SOLE),
     (20 * b"511 ", 0, SOLE),
     (LARGEST, -9 * 511, SOLE),
+    (20 * b"1 ", 0, SOLE),
+    (19 * b"1 " + b"0 ", 0, LIKELY),
+    (b"0 " + 19 * b"511 ", 0, LIKELY),
+    (b"-1" + STORED[2:], -41, SOLE),
+    (STORED.replace(b"7", b"1"), -45, SOLE),
+    (STORED.replace(b"7", b"0", 1), -45, LIKELY),
 ]
 BAD_VALUES = [
     (19 * b"0 ", "too few"),
@@ -41,6 +47,29 @@ VERDICTS = [
     (PAIR, "pair", b"-5 5", NO, "broken cost -5 check 0\n"),
     (CHAIN, "chain", b"0 -1 -1 0", NO, "parity cost 0\n"),
     (CHAIN, "chain", b"1 0 -3 0", NO, "parity cost 0\n"),
+]
+# Codes of three groups, and their rows.
+FIVE, SIX = ("--group 1 --groups 3 --q 5", b"0 1 3\n0 2\n1 4\n"), ("--group 2 --groups 3 --q 3", b"0 4\n2 3 4 5\n2 3 5\n")
+
+
+def moves(front, soft, word, *pairs):
+    """A certificate file of version 2, of scale 16: of each check a place and an amount."""
+    numbers = b"".join(value.to_bytes(2, "big", signed=True) for value in map(int, soft.split()))
+    return bytes.fromhex(front) + numbers + word + b"".join(place.to_bytes(2, "big") + amount.to_bytes(4, "big") for place, amount in pairs)
+
+
+# Values for which passes of settling leave a least rest of 1, and of 0, and spreading one of 3; the moves are those of another program.
+ONE_LEFT, NONE_LEFT = b"54 261 54 50 106 153 -449 -172", b"207 -109 -164 -400 -274 161 -113 292"
+THREE_LEFT = b"23 11 -8 -9 4 20 20 -2 6 17 9 6"
+FRONT_FIVE, FRONT_SIX = "53324D4C 02 0001 0003 0005 0010", "53324D4C 02 0002 0003 0003 0010"
+ONE_MOVED = moves(FRONT_FIVE, ONE_LEFT, b"\x93", (2, 801), (0, 0), (2, 457), (0, 2165), (0, 824))
+NONE_MOVED = moves(FRONT_FIVE, NONE_LEFT, b"\x58", (0, 1556), (1, 2804), (0, 224), (2, 1808), (0, 0))
+THREE_MOVED = moves(FRONT_SIX, THREE_LEFT, bytes(2), (1, 225), (3, 54), (0, 13), (1, 40), (1, 78), (0, 0))
+# Codes, passes, values, the line of `judge`, that of `check`, and the certificate.
+LEFT = [
+    (FIVE, 3, ONE_LEFT, "sole cost -517\n", "sole cost -517\n", ONE_MOVED),
+    (FIVE, 8, NONE_LEFT, "most-likely cost -783\n", "yes cost -783\n", NONE_MOVED),
+    (SIX, 0, THREE_LEFT, "sole cost 0\n", "sole cost 0\n", THREE_MOVED),
 ]
 # A normal frame of zeros, of whose decisions each thousandth is wrong. Its certificate has a header, 64800 values, the word, and
 # a move for each of 32400 checks.
@@ -80,6 +109,16 @@ CASES = [
         out="most-likely cost 0\n",
         reads={"values": ZEROS},
         writes={"out": size(NORMAL_SIZE)},
+    ),
+    *(
+        Case(f"judge {shape} --passes {passes} --cert out rows values", 0, line, reads={"rows": rows, "values": values}, writes={"out": file})
+        for (shape, rows), passes, values, line, _, file in LEFT
+    ),
+    *(Case("check rows out", 0, line, reads={"rows": rows, "out": file}) for (_, rows), _, _, _, line, file in LEFT),
+    *(
+        Case(f"judge {shape} --passes {passes - 1} rows values", NO, line.replace("most-likely", "parity").replace("sole", "parity"), reads={"rows": rows, "values": values})
+        for (shape, rows), passes, values, line, _, _ in LEFT
+        if passes
     ),
     *(
         Case(f"judge {shape} --cert old {rows} values", NO, line, reads={"values": values}, writes={"old": b""})
