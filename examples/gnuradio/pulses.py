@@ -7,7 +7,7 @@ import flow
 
 
 def main():
-    chosen = flow.words_given(__doc__, 7.0, 20, 0)
+    chosen = flow.words_given(__doc__, 7.0, 8, 0)
     graph, link = gr.top_block(), flow.Link(chosen)
     shaped, matched = flow.shaped(), flow.matched()
     graph.connect(link.sent(graph), shaped)

@@ -49,7 +49,8 @@ def spoilt(graph, samples, ratio, seed):
     """Samples behind a channel whose delay, offset and phase the seed determines."""
     draw = random.Random(seed)
     delay, offset, phase = draw.uniform(0, flow.SAMPLES), draw.uniform(-MOST_OFFSET, MOST_OFFSET), draw.random()
-    print(f"delay {delay / flow.SAMPLES:.3f} symbols, offset {offset:.4f} of the symbol rate, phase {360 * phase:.0f} degrees", flush=True)
+    told = f"delay {delay / flow.SAMPLES:.3f} symbols, offset {offset:.4f} of the symbol rate, phase {360 * phase:.0f} degrees"
+    print(told, file=sys.stderr, flush=True)
     places = numpy.arange(-24, 30) - delay
     delayed = filters.fir_filter_ccf(1, list(numpy.sinc(places) * (0.54 + 0.46 * numpy.cos(numpy.pi * places / 30))))
     turned = blocks.rotator_cc(2 * numpy.pi * offset / flow.SAMPLES)
@@ -68,11 +69,12 @@ def recovered(graph, samples):
     turns = QuarterTurns(flow.MODCOD, flow.TYPE)
     edges = digital.fll_band_edge_cc(flow.SAMPLES, flow.ROLL_OFF, 12 * flow.SAMPLES + 1, 0.0015)
     graph.connect(samples, edges, timing, digital.costas_loop_cc(0.008, 4), turns)
+    graph.turns = turns  # the graph itself does not keep a block of Python alive
     return turns
 
 
 def main():
-    chosen = flow.words_given(__doc__, 7.0, 20, 3)
+    chosen = flow.words_given(__doc__, 7.0, 10, 3)
     graph, link = gr.top_block(), flow.Link(chosen)
     shaped = flow.shaped()
     graph.connect(link.sent(graph), shaped)
@@ -88,4 +90,5 @@ def main():
     link.judge(chosen.lost)
 
 
-main()
+if __name__ == "__main__":
+    main()

@@ -27,7 +27,7 @@ def transmitter(graph, packets):
 
 
 def main():
-    chosen = flow.words_given(__doc__, 7.0, 20, 2)
+    chosen = flow.words_given(__doc__, 7.0, 8, 2)
     graph, link = gr.top_block(), flow.Link(chosen)
     shaped, matched = flow.shaped(), flow.matched()
     graph.connect(transmitter(graph, link.place("packets")), shaped)
