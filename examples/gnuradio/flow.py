@@ -1,0 +1,176 @@
+"""What the flow graphs of this folder have in common: both ends of the modem behind pipes, pulses, noise, pictures, and what is said of
+the packets that came."""
+import argparse
+import os
+import random
+import subprocess
+import sys
+import tempfile
+import threading
+
+import matplotlib
+import numpy
+from gnuradio import analog, blocks, filter as filters, gr
+from gnuradio.filter import firdes
+
+matplotlib.use("Agg")
+from matplotlib import pyplot
+
+S2 = os.environ.get("S2", os.path.join(os.path.dirname(os.path.abspath(__file__)), "../../s2"))
+# QPSK 3/4, normal frames, pilots: the words, the packets that a frame has room for, and what stands for 1 in a symbol file.
+MODE = ["--modcod", "7", "--pilots"]
+MODCOD, TYPE = 7, 1
+PACKETS_A_FRAME = 32
+AMPLITUDE = 990
+# Samples a symbol, and the pulses: roots of raised cosines, cut off behind so many symbols.
+SAMPLES, ROLL_OFF, SPAN = 4, 0.35, 32
+# How many symbols are drawn, and how many samples of how many symbols go into a line of the spectrum.
+DRAWN, HEARD, LINE = 8000, 60000, 512
+
+
+def pulse(gain, rate=SAMPLES):
+    return firdes.root_raised_cosine(gain, rate, 1, ROLL_OFF, SPAN * rate + 1)
+
+
+def shaped():
+    """Symbols to samples."""
+    return filters.interp_fir_filter_ccf(SAMPLES, pulse(SAMPLES))
+
+
+def matched():
+    """Samples to symbols, where the sampling is ours: a pulse's peak is every SAMPLES-th sample from the first on."""
+    return filters.fir_filter_ccf(SAMPLES, pulse(1))
+
+
+def noised(graph, samples, ratio, seed):
+    """Samples with white noise of this Es/N0 in dB, for symbols of amplitude 1."""
+    added = blocks.add_cc()
+    graph.connect(samples, (added, 0))
+    graph.connect(analog.noise_source_c(analog.GR_GAUSSIAN, (SAMPLES / 10 ** (ratio / 10)) ** 0.5, seed), (added, 1))
+    return added
+
+
+class Keep(gr.sync_block):
+    """Keeps some items of a stream behind those that are passed by, for a picture."""
+
+    def __init__(self, count, after=0):
+        gr.sync_block.__init__(self, "keep", [numpy.complex64], None)
+        self.kept, self.room, self.after = [], count, after
+
+    def work(self, input_items, output_items):
+        taken = input_items[0][self.after : self.after + self.room]
+        self.after = max(0, self.after - len(input_items[0]))
+        self.room -= len(taken)
+        self.kept.append(taken.copy())
+        return len(input_items[0])
+
+    def items(self):
+        return numpy.concatenate(self.kept)
+
+
+class Link:
+    """The packets that are sent, and the two ends of the modem, which run beside the flow graph and talk with it through pipes."""
+
+    def __init__(self, chosen):
+        self.chosen, self.room = chosen, tempfile.TemporaryDirectory(prefix="flow-")
+        draw = random.Random(chosen.seed)
+        self.packets = [b"\x47" + draw.randbytes(187) for _ in range(PACKETS_A_FRAME * chosen.frames)]
+        with open(self.place("packets"), "wb") as file:
+            file.write(b"".join(self.packets))
+        self.ends, self.report = [], []
+
+    def place(self, name):
+        return os.path.join(self.room.name, name)
+
+    def begin(self, words, end):
+        """Starts an end of the modem with an end of a pipe, which is this process's no more afterwards."""
+        self.ends.append(subprocess.Popen([S2, *words], stdout=subprocess.PIPE, text=True, pass_fds=[end]))
+        os.close(end)
+
+    def sent(self, graph):
+        """The symbols of `s2 mod`, amplitude 1. A dummy frame stands behind each frame, so that what the filters hold back at the
+        end is none of ours."""
+        read, written = os.pipe()
+        self.begin(["mod", *MODE, "--dummy", "1", self.chosen.rows, self.place("packets"), f"/dev/fd/{written}"], written)
+        symbols = blocks.interleaved_short_to_complex(False, False, AMPLITUDE)
+        graph.connect(blocks.file_descriptor_source(gr.sizeof_short, read), blocks.endian_swap(2), symbols)
+        return symbols
+
+    def receive(self, graph, symbols):
+        """Symbols of amplitude 1 into `s2 demod`."""
+        read, self.written = os.pipe()
+        self.begin(["demod", *MODE, "--passes", str(self.chosen.passes), self.chosen.rows, f"/dev/fd/{read}", self.place("received")], read)
+        self.sink = blocks.file_sink(gr.sizeof_short, f"/dev/fd/{self.written}")
+        numbers = [blocks.multiply_const_cc(AMPLITUDE), blocks.complex_to_interleaved_short(), blocks.endian_swap(2)]
+        graph.connect(symbols, *numbers, self.sink)
+
+    def tell(self, end):
+        for line in end.stdout:
+            self.report.append(line)
+            print(line, end="", flush=True)
+
+    def run(self, graph):
+        """Runs the flow graph and both ends to their ends; the lines of the reports are printed as they come."""
+        tellers = [threading.Thread(target=self.tell, args=[end]) for end in self.ends]
+        for teller in tellers:
+            teller.start()
+        os.close(self.written)
+        graph.run()
+        self.sink.close()
+        self.sink.do_update()  # without which it closes its end of the pipe much later
+        for end, teller in zip(self.ends, tellers):
+            teller.join()
+            end.wait()
+
+    def received(self):
+        """The places of the packets that came among those that were sent; None for one that was not sent."""
+        places = {packet: place for place, packet in enumerate(self.packets)}
+        with open(self.place("received"), "rb") as file:
+            came = file.read()
+        return [places.get(came[at : at + 188]) for at in range(0, len(came), 188)]
+
+    def frames(self):
+        """The words of each frame's line."""
+        return [line.split() for line in self.report if line.startswith("frame ")]
+
+    def judge(self, most_lost):
+        """Says what came, and ends with 1 where packets are wrong, out of order or missing behind the first that came, or more frames
+        than allowed are not among them."""
+        came, frames = self.received(), self.frames()
+        certified = sum(words[4] in ("sole", "most-likely") for words in frames)
+        lost = len(self.packets) - len(came)
+        print(f"sent {len(self.packets)} packets, received {len(came)}, from packet {came[0] if came else None} on; {certified} of {len(frames)} frames certified")
+        in_order = came == list(range(came[0], came[0] + len(came))) if came and came[0] is not None else False
+        if not in_order or lost > most_lost * PACKETS_A_FRAME:
+            sys.exit("packets are missing")
+
+
+def spectrum(samples):
+    """The power of samples by frequency, in dB, means of many lines; and the frequencies, in symbol rates."""
+    lines = samples[: len(samples) // LINE * LINE].reshape(-1, LINE) * numpy.hanning(LINE)
+    power = numpy.mean(abs(numpy.fft.fftshift(numpy.fft.fft(lines), axes=1)) ** 2, axis=0)
+    return numpy.fft.fftshift(numpy.fft.fftfreq(LINE, 1 / SAMPLES)), 10 * numpy.log10(power / max(power))
+
+
+def draw(path, title, samples, symbols):
+    """A picture of the spectrum on the channel and of the symbols behind the receiver's filter."""
+    figure, (left, right) = pyplot.subplots(1, 2, figsize=(9, 4))
+    left.plot(*spectrum(samples), linewidth=0.8)
+    left.set(xlabel="frequency / symbol rate", ylabel="power, dB", title="spectrum on the channel")
+    right.plot(symbols.real, symbols.imag, ",")
+    right.set(xlabel="I", ylabel="Q", title="received symbols", xlim=(-2, 2), ylim=(-2, 2), aspect="equal")
+    figure.suptitle(title)
+    figure.tight_layout()
+    figure.savefig(path, dpi=100, metadata={"Software": None})
+
+
+def words_given(what, ratio, frames, most_lost):
+    words = argparse.ArgumentParser(description=what.partition("\n")[0])
+    words.add_argument("rows", help="row file of rate 3/4, normal frames")
+    words.add_argument("--ratio", type=float, default=ratio, help=f"Es/N0 in dB, {ratio} without it")
+    words.add_argument("--frames", type=int, default=frames, help=f"frames that are sent, {frames} without it")
+    words.add_argument("--seed", type=int, default=1, help="seed of packets and noise")
+    words.add_argument("--lost", type=int, default=most_lost, help=f"frames that may be lost at the ends, {most_lost} without it")
+    words.add_argument("--passes", type=int, default=96, help="passes of `s2 demod` that look for certificates, 96 without it")
+    words.add_argument("--picture", help="PNG of the spectrum and the symbols")
+    return words.parse_args()

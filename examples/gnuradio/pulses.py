@@ -1,0 +1,26 @@
+"""Sends packets by `s2 mod` in root raised cosine pulses through noise, and receives them by a matched filter and `s2 demod`.
+
+Both ends run beside the flow graph, through pipes, and each frame is reported as it comes. All packets must come."""
+from gnuradio import gr
+
+import flow
+
+
+def main():
+    chosen = flow.words_given(__doc__, 7.0, 8, 0)
+    graph, link = gr.top_block(), flow.Link(chosen)
+    shaped, matched = flow.shaped(), flow.matched()
+    graph.connect(link.sent(graph), shaped)
+    noisy = flow.noised(graph, shaped, chosen.ratio, chosen.seed)
+    graph.connect(noisy, matched)
+    link.receive(graph, matched)
+    samples, symbols = flow.Keep(flow.SAMPLES * flow.HEARD), flow.Keep(flow.DRAWN, flow.SPAN)
+    graph.connect(noisy, samples)
+    graph.connect(matched, symbols)
+    link.run(graph)
+    if chosen.picture:
+        flow.draw(chosen.picture, f"s2 mod, Es/N0 {chosen.ratio} dB", samples.items(), symbols.items())
+    link.judge(chosen.lost)
+
+
+main()

@@ -1,0 +1,94 @@
+"""Sends packets by `s2 mod` through a channel with a fractional delay, a frequency offset, an unknown phase and noise, and receives
+them by GNU Radio's loops and `s2 demod`.
+
+A band edge loop takes the frequency off, symbol_sync finds the symbols' time through matched filters, a Costas loop takes the rest of
+the frequency and the phase off but for quarter turns, and these are told by the headers of the frames. The first frames are lost
+while the loops settle; behind the first packet that comes none may be missing."""
+import os
+import random
+import sys
+
+import numpy
+from gnuradio import blocks, digital, filter as filters, gr
+
+import flow
+
+sys.dont_write_bytecode = True
+sys.path.append(os.path.join(os.path.dirname(os.path.abspath(__file__)), "../../bench/gnuradio"))
+from dummy import bpsk, header
+
+# The most that the carrier turns in a symbol.
+MOST_OFFSET = 0.05
+# How many filters symbol_sync chooses from, for the time between two samples.
+FILTERS = 32
+
+
+class QuarterTurns(gr.sync_block):
+    """Finds the headers of a mode in symbols of amplitude 1 that are turned by quarters, and turns back what comes from each on."""
+
+    def __init__(self, modcod, frame_type):
+        gr.sync_block.__init__(self, "quarter turns", [numpy.complex64], [numpy.complex64])
+        self.header = numpy.array(bpsk(header(modcod, frame_type))) / 2**0.5
+        self.turn = 1
+        self.set_history(len(self.header))
+
+    def work(self, input_items, output_items):
+        symbols, out = input_items[0], output_items[0]
+        # Of each symbol that goes out the sum over the header that would begin there.
+        sums = numpy.correlate(symbols, self.header, "valid") / len(self.header)
+        begun = 0
+        for start in [*numpy.flatnonzero(abs(sums) > 0.6), len(out)]:
+            out[begun:start] = symbols[begun:start] * self.turn
+            if start < len(out):
+                self.turn = 1j ** -round(numpy.angle(sums[start]) / (numpy.pi / 2))
+            begun = start
+        return len(out)
+
+
+def spoilt(graph, samples, ratio, seed):
+    """Samples behind a channel whose delay, offset and phase the seed determines."""
+    draw = random.Random(seed)
+    delay, offset, phase = draw.uniform(0, flow.SAMPLES), draw.uniform(-MOST_OFFSET, MOST_OFFSET), draw.random()
+    told = f"delay {delay / flow.SAMPLES:.3f} symbols, offset {offset:.4f} of the symbol rate, phase {360 * phase:.0f} degrees"
+    print(told, file=sys.stderr, flush=True)
+    places = numpy.arange(-24, 30) - delay
+    delayed = filters.fir_filter_ccf(1, list(numpy.sinc(places) * (0.54 + 0.46 * numpy.cos(numpy.pi * places / 30))))
+    turned = blocks.rotator_cc(2 * numpy.pi * offset / flow.SAMPLES)
+    phased = blocks.multiply_const_cc(numpy.exp(2j * numpy.pi * phase))
+    graph.connect(samples, delayed, turned, phased)
+    return flow.noised(graph, phased, ratio, seed)
+
+
+def recovered(graph, samples):
+    """Symbols of the samples, turned back."""
+    points = digital.constellation_qpsk().base()
+    bank = flow.pulse(FILTERS, FILTERS * flow.SAMPLES)
+    timing = digital.symbol_sync_cc(
+        digital.TED_SIGNAL_TIMES_SLOPE_ML, flow.SAMPLES, 0.002, 1, 1, 0.1, 1, points, digital.IR_PFB_MF, FILTERS, bank
+    )
+    turns = QuarterTurns(flow.MODCOD, flow.TYPE)
+    edges = digital.fll_band_edge_cc(flow.SAMPLES, flow.ROLL_OFF, 12 * flow.SAMPLES + 1, 0.0015)
+    graph.connect(samples, edges, timing, digital.costas_loop_cc(0.008, 4), turns)
+    graph.turns = turns  # the graph itself does not keep a block of Python alive
+    return turns
+
+
+def main():
+    chosen = flow.words_given(__doc__, 7.0, 10, 3)
+    graph, link = gr.top_block(), flow.Link(chosen)
+    shaped = flow.shaped()
+    graph.connect(link.sent(graph), shaped)
+    noisy = spoilt(graph, shaped, chosen.ratio, chosen.seed)
+    symbols = recovered(graph, noisy)
+    link.receive(graph, symbols)
+    samples, shown = flow.Keep(flow.SAMPLES * flow.HEARD), flow.Keep(flow.DRAWN, 10 * flow.DRAWN)
+    graph.connect(noisy, samples)
+    graph.connect(symbols, shown)
+    link.run(graph)
+    if chosen.picture:
+        flow.draw(chosen.picture, f"recovered, Es/N0 {chosen.ratio} dB", samples.items(), shown.items())
+    link.judge(chosen.lost)
+
+
+if __name__ == "__main__":
+    main()
