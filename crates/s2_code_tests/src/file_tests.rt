@@ -1,7 +1,7 @@
 //! Certificate files, by the format.
 use super::certificate_bytes::{
-    CODEWORD, MOVED_SIZE, SIZE, codeword_file, moved, moved_with_byte, one_byte_values, pair_file,
-    with_byte, wrong_bit,
+    CODEWORD, MOVED_SIZE, SIZE, codeword_file, moved, moved_by, moved_with_byte, one_byte_values,
+    pair_file, with_byte, wrong_bit,
 };
 use s2_file::{CertFault, Contents, Held, Move};
 use std::alloc::Global;
@@ -161,9 +161,8 @@ fn reads_moves(rt: HostRuntime) -> Result<(), Fail> {
         place: 2,
         amount: 0x01020304,
     };
-    let mut file = moved(&wrong_bit(), 4);
-    file[56..62].copy_from_slice(&[0, 2, 1, 2, 3, 4]);
-    assert!(rt; moves_once(&Contents::read(rt.alloc(), &file)?, first));
+    let contents = Contents::read(rt.alloc(), &moved_by(&[0, 2, 1, 2, 3, 4]))?;
+    assert!(rt; moves_once(&contents, first));
     Ok(())
 }
 
