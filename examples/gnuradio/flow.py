@@ -120,7 +120,8 @@ class Link:
         self.sink.do_update()  # without which it closes its end of the pipe much later
         for end, teller in zip(self.ends, tellers):
             teller.join()
-            end.wait()
+            if end.wait() == 1:  # its fault stands on standard error
+                sys.exit(f"s2 {end.args[1]} failed")
 
     def received(self):
         """The places of the packets that came among those that were sent; None for one that was not sent."""
