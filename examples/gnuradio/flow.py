@@ -120,7 +120,8 @@ class Link:
         self.sink.do_update()  # without which it closes its end of the pipe much later
         for end, teller in zip(self.ends, tellers):
             teller.join()
-            end.wait()
+            if end.wait() == 1:  # its fault stands on standard error
+                sys.exit(f"s2 {end.args[1]} failed")
 
     def received(self):
         """The places of the packets that came among those that were sent; None for one that was not sent."""
@@ -139,8 +140,9 @@ class Link:
         came, frames = self.received(), self.frames()
         certified = sum(words[4] in ("sole", "most-likely") for words in frames)
         lost = len(self.packets) - len(came)
-        print(f"sent {len(self.packets)} packets, received {len(came)}, from packet {came[0] if came else None} on; {certified} of {len(frames)} frames certified")
-        in_order = came == list(range(came[0], came[0] + len(came))) if came and came[0] is not None else False
+        first = came[0] if came else None
+        print(f"sent {len(self.packets)} packets, received {len(came)}, from packet {first} on; {certified} of {len(frames)} frames certified")
+        in_order = first is not None and came == list(range(first, first + len(came)))
         if not in_order or lost > most_lost * PACKETS_A_FRAME:
             sys.exit("packets are missing")
 
