@@ -117,4 +117,20 @@ def verdict(code, soft, passes, rounds=50):
 
 
 TOY, PAIR, CHAIN = (4, 2, 3, [[0, 4, 8], [0, 1, 2]]), (1, 1, 1, [[0]]), (1, 1, 3, [[0, 1, 2]])
-WRONG, WEAK = [-4] + 19 * [10], [-4, 10, 10, 10, 1, 1, 1] + 13 * [10]
+FIVE, GIVEN_BACK = (1, 3, 5, [[0, 1, 3], [0, 2], [1, 4]]), (2, 3, 3, [[0, 4], [2, 3, 4, 5], [2, 3, 5]])
+# A code, soft values, and passes.
+CASES = {
+    "a wrong bit": (TOY, [-4] + 19 * [10], 0),
+    "a wrong bit whose neighbours are weak": (TOY, [-4, 10, 10, 10, 1, 1, 1] + 13 * [10], 0),
+    "a pair": (PAIR, [-5, 3], 0),
+    "a pair that disagrees": (PAIR, [-5, 5], 0),
+    "a chain": (CHAIN, [0, -1, -1, 0], 0),
+    "REST_OF_ONE": (FIVE, [54, 261, 54, 50, 106, 153, -449, -172], 3),
+    "REST_OF_ZERO": (FIVE, [207, -109, -164, -400, -274, 161, -113, 292], 8),
+    "GIVEN_BACK_VALUES": (GIVEN_BACK, [23, 11, -8, -9, 4, 20, 20, -2, 6, 17, 9, 6], 0),
+}
+
+if __name__ == "__main__":
+    for name, (code, soft, passes) in CASES.items():
+        word, bits, least = verdict(code, soft, passes)
+        print(name, word, [i for i, bit in enumerate(bits) if bit], least)
