@@ -123,6 +123,17 @@ class Link:
             if end.wait() == 1:  # its fault stands on standard error
                 sys.exit(f"s2 {end.args[1]} failed")
 
+    def finish(self, graph, what, samples, symbols, passed=SPAN):
+        """Runs the flow graph, draws these samples on the channel and, behind so many that are passed by, these symbols where a picture is
+        asked for, and judges what came."""
+        heard, shown = Keep(SAMPLES * HEARD), Keep(DRAWN, passed)
+        graph.connect(samples, heard)
+        graph.connect(symbols, shown)
+        self.run(graph)
+        if self.chosen.picture:
+            draw(self.chosen.picture, f"{what}, Es/N0 {self.chosen.ratio} dB", heard.items(), shown.items())
+        self.judge(self.chosen.lost)
+
     def received(self):
         """The places of the packets that came among those that were sent; None for one that was not sent."""
         places = {packet: place for place, packet in enumerate(self.packets)}

@@ -14,13 +14,7 @@ def main():
     noisy = flow.noised(graph, shaped, chosen.ratio, chosen.seed)
     graph.connect(noisy, matched)
     link.receive(graph, matched)
-    samples, symbols = flow.Keep(flow.SAMPLES * flow.HEARD), flow.Keep(flow.DRAWN, flow.SPAN)
-    graph.connect(noisy, samples)
-    graph.connect(matched, symbols)
-    link.run(graph)
-    if chosen.picture:
-        flow.draw(chosen.picture, f"s2 mod, Es/N0 {chosen.ratio} dB", samples.items(), symbols.items())
-    link.judge(chosen.lost)
+    link.finish(graph, "s2 mod", noisy, matched)
 
 
 main()

@@ -81,13 +81,7 @@ def main():
     noisy = spoilt(graph, shaped, chosen.ratio, chosen.seed)
     symbols = recovered(graph, noisy)
     link.receive(graph, symbols)
-    samples, shown = flow.Keep(flow.SAMPLES * flow.HEARD), flow.Keep(flow.DRAWN, 10 * flow.DRAWN)
-    graph.connect(noisy, samples)
-    graph.connect(symbols, shown)
-    link.run(graph)
-    if chosen.picture:
-        flow.draw(chosen.picture, f"recovered, Es/N0 {chosen.ratio} dB", samples.items(), shown.items())
-    link.judge(chosen.lost)
+    link.finish(graph, "recovered", noisy, symbols, 10 * flow.DRAWN)
 
 
 if __name__ == "__main__":
