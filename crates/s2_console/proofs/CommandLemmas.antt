@@ -13,7 +13,9 @@ answers_moved Says A B (Err faults.Read) f h = h
 answers_moved Says A B (Err faults.Write) f h = h
 answers_moved Says A B (Err faults.NoMemory) f h = h
 answers_moved Says A B (Err (faults.Open name)) f h = f (Err (faults.Open name)) h
+answers_moved Says A B (Err (faults.UsedTwice name)) f h = f (Err (faults.UsedTwice name)) h
 answers_moved Says A B (Err faults.TooLong) f h = f (Err faults.TooLong) h
+answers_moved Says A B (Err (faults.Rows text)) f h = f (Err (faults.Rows text)) h
 answers_moved Says A B (Err (faults.Told text)) f h = f (Err (faults.Told text)) h
 
 -- a command that failed before it printed
@@ -22,7 +24,9 @@ refused Says IsInput faults.Read old new h same = same
 refused Says IsInput faults.Write old new h same = inl same
 refused Says IsInput faults.NoMemory old new h same = same
 refused Says IsInput (faults.Open name) old new h same = (h, same)
+refused Says IsInput (faults.UsedTwice name) old new h same = (h, same)
 refused Says IsInput faults.TooLong old new h same = (h, same)
+refused Says IsInput (faults.Rows text) old new h same = (h, same)
 refused Says IsInput (faults.Told text) old new h same = (h, same)
 
 -- a command that printed, or could not
@@ -33,7 +37,9 @@ printed_text Says IsInput input exit text (Err faults.Write) old new is says par
 printed_text Says IsInput input exit text (Err faults.Read) old new is says no_way = absurd no_way
 printed_text Says IsInput input exit text (Err faults.NoMemory) old new is says no_way = absurd no_way
 printed_text Says IsInput input exit text (Err (faults.Open name)) old new is says no_way = absurd no_way
+printed_text Says IsInput input exit text (Err (faults.UsedTwice name)) old new is says no_way = absurd no_way
 printed_text Says IsInput input exit text (Err faults.TooLong) old new is says no_way = absurd no_way
+printed_text Says IsInput input exit text (Err (faults.Rows said)) old new is says no_way = absurd no_way
 printed_text Says IsInput input exit text (Err (faults.Told said)) old new is says no_way = absurd no_way
 
 pub printed : {I : Type 0} → (Says : I → Exit → List ℕ → Type 0) (IsInput : Result I Fault → Type 0) (p : Printed) (ended : Result Exit Fault) (old new : Option (List ℕ)) → CommandAnswers Says IsInput (Ok p) → Prints p.exit p.text ended old new → CommandRuns Says IsInput ended old new
@@ -47,7 +53,9 @@ runs_moved Says A B (Err faults.Write) old new f (inl same) = inl same
 runs_moved Says A B (Err faults.Write) old new f (inr (input, is, rest)) = inr (input, f (Ok input) is, rest)
 runs_moved Says A B (Err faults.NoMemory) old new f h = h
 runs_moved Says A B (Err (faults.Open name)) old new f (h, same) = (f (Err (faults.Open name)) h, same)
+runs_moved Says A B (Err (faults.UsedTwice name)) old new f (h, same) = (f (Err (faults.UsedTwice name)) h, same)
 runs_moved Says A B (Err faults.TooLong) old new f (h, same) = (f (Err faults.TooLong) h, same)
+runs_moved Says A B (Err (faults.Rows text)) old new f (h, same) = (f (Err (faults.Rows text)) h, same)
 runs_moved Says A B (Err (faults.Told text)) old new f (h, same) = (f (Err (faults.Told text)) h, same)
 
 -- a fault of one of a command's parts is the fault of all
@@ -56,7 +64,9 @@ told v w faults.Read a b g h = tt
 told v w faults.Write a b g h = tt
 told v w faults.NoMemory a b g h = tt
 told v w (faults.Open name) a b g h = g h
+told v w (faults.UsedTwice name) a b g h = g h
 told v w faults.TooLong a b g h = g h
+told v w (faults.Rows text) a b g h = g h
 told v w (faults.Told text) a b g h = g h
 
 -- what a part refuses, a command refuses
@@ -66,7 +76,9 @@ refuses Says IsInput view faults.Read planned g h = tt
 refuses Says IsInput view faults.Write planned g h = tt
 refuses Says IsInput view faults.NoMemory planned g h = tt
 refuses Says IsInput view (faults.Open name) planned g h = g h
+refuses Says IsInput view (faults.UsedTwice name) planned g h = g h
 refuses Says IsInput view faults.TooLong planned g h = g h
+refuses Says IsInput view (faults.Rows text) planned g h = g h
 refuses Says IsInput view (faults.Told text) planned g h = g h
 
 -- the counts of failed calls by other names

@@ -7,10 +7,12 @@ use Rattle.s2_console.specs.declared.fault.Phrase.{Phrase}
 
 abbrev pub fault_text : Fault → List ℕ
 fault_text (faults.Open name) = codes "cannot open " ++ name.now
+fault_text (faults.UsedTwice name) = name.now ++ codes " is used twice"
 fault_text faults.Read = codes "cannot read"
 fault_text faults.Write = codes "cannot write"
 fault_text faults.TooLong = codes "file too long"
 fault_text faults.NoMemory = codes "no memory"
+fault_text (faults.Rows text) = text
 fault_text (faults.Told text) = text
 
 abbrev pub fault_line : Fault → List ℕ

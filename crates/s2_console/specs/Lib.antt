@@ -1,4 +1,5 @@
 pub mod Exits
 pub mod Faults
 pub mod Lines
+pub mod Notes
 pub mod Screens

@@ -1,5 +1,5 @@
 //! Where a command prints and where it complains.
-ghost use Rattle.std.specs.Prelude.{◌≡◌, ◌≢◌, IsOk, Err};
+ghost use Rattle.std.specs.Prelude.{◌≡◌, ◌≢◌, ◌≤◌, IsOk, Err};
 ghost use Rattle.s2_mode.specs.Counts.{CanCount};
 ghost use Rattle.s2_console.specs.Exits.{exit_of, Complains};
 ghost use Rattle.s2_console.specs.Screens.{screen_of};
@@ -38,6 +38,7 @@ impl<O: CountedWrite, E: CountedWrite> Console<O, E> {
         ensures exit { result ≡ Exit.Fault }
         ensures output { self.new.output ≡ self.old.output }
         ensures output_failed { self.new.output_failed ≡ self.old.output_failed }
+        ensures counted { self.old.errors_failed ≤ self.new.errors_failed }
         ensures told { Complains (Err fault.entry) self.old self.new }
     {
         let _ = write_fault(&mut self.errors, fault);

@@ -14,10 +14,15 @@ use s2_mode::{CountedWrite, FaultText, WriteFault, write_full};
 pub enum Fault<'a> {
     /// The file of this name cannot be opened or made.
     Open(&'a str),
+    /// The file of this name is to be written, and is already read or written under another name or the same; or a
+    /// standard stream is named twice.
+    UsedTwice(&'a str),
     Read,
     Write,
     TooLong,
     NoMemory,
+    /// Rows are refused: what the refusal says.
+    Rows(Told),
     /// What was asked for, or what a file holds, is refused: what the refusal says.
     Told(Told),
 }
@@ -28,6 +33,13 @@ impl<'a> Fault<'a> {
         ensures { result ≡ Fault.Told (said text) }
     {
         Fault::Told(Told::new("", text))
+    }
+
+    /// The fault of rows that says this.
+    pub fn of_rows(text: FaultText) -> Fault<'a>
+        ensures { result ≡ Fault.Rows (codes "rows: " ++ said text) }
+    {
+        Fault::Rows(Told::new("rows: ", text))
     }
 
     /// The fault that says this of a subject.
@@ -74,10 +86,12 @@ fn phrase_of<'a>(fault: Fault<'a>) -> Phrase<'a>
 {
     match fault {
         Fault::Open(name) => plain("cannot open ", name),
+        Fault::UsedTwice(name) => plain(name, " is used twice"),
         Fault::Read => plain("", "cannot read"),
         Fault::Write => plain("", "cannot write"),
         Fault::TooLong => plain("", "file too long"),
         Fault::NoMemory => plain("", "no memory"),
+        Fault::Rows(told) => parts_of(told),
         Fault::Told(told) => parts_of(told),
     }
 }

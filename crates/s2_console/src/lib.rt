@@ -16,6 +16,7 @@ mod exit;
 mod fault;
 pub mod laws;
 mod line;
+mod place;
 mod printed;
 mod told;
 
@@ -23,5 +24,6 @@ pub use console::Console;
 pub use exit::Exit;
 pub use fault::Fault;
 pub use line::{LINE_ROOM, Line};
+pub use place::Place;
 pub use printed::{Printed, print};
 pub use told::Told;

@@ -1,0 +1,46 @@
+//! What was opened.
+use std::fs::OpenFile;
+use std::io;
+use std::io::{Read, Write};
+
+/// A file that was opened by its name, or a standard stream.
+#[derive(Drop)]
+pub enum Opened<F, S> {
+    File(F),
+    Standard(S),
+}
+
+impl<F: OpenFile, S> Opened<F, S> {
+    /// Cuts the file to length 0. A standard stream stays as it is, since more may stand in it than its reader has asked for.
+    pub(crate) fn cut(&self) -> io::Result<()> {
+        match self {
+            Opened::File(file) => file.set_len(0),
+            Opened::Standard(_) => Ok(()),
+        }
+    }
+}
+
+impl<F: Read, S: Read> Read for Opened<F, S> {
+    fn read(&mut self, buf: &mut [u8]) -> io::Result<usize> {
+        match self {
+            Opened::File(file) => file.read(buf),
+            Opened::Standard(stream) => stream.read(buf),
+        }
+    }
+}
+
+impl<F: Write, S: Write> Write for Opened<F, S> {
+    fn write(&mut self, buf: &[u8]) -> io::Result<usize> {
+        match self {
+            Opened::File(file) => file.write(buf),
+            Opened::Standard(stream) => stream.write(buf),
+        }
+    }
+
+    fn flush(&mut self) -> io::Result<()> {
+        match self {
+            Opened::File(file) => file.flush(),
+            Opened::Standard(stream) => stream.flush(),
+        }
+    }
+}

@@ -1,0 +1,234 @@
+//! Files opened, each once.
+ghost use Rattle.std.specs.Prelude.{◌≡◌, ◌⊎◌, ◌+◌, ◌<◌, ◌≤◌, [], ◌∷◌, ◌++◌, false, true, IfOk, IfErr, OnErr, OnOk, IsOk, ◌↔◌, length};
+ghost use Rattle.s2_files.specs.Names.{NamesStandard};
+ghost use Rattle.s2_files.specs.Uses.{clashes_any, Takes};
+
+use crate::opened::Opened;
+use crate::standard::{StandardStreams, is_standard, standard_path};
+use crate::target::Target;
+use crate::uses::{Node, Role, Use, clashes_any};
+use arrayvec::ArrayVec;
+use s2_console::Fault;
+use s2_mode::Counting;
+use std::fs::{Metadata, OpenFile, OpenOptions};
+use std::io::BufReader;
+use std::marker::Model;
+use std::os::unix::fs::{FileTypeExt, MetadataExt};
+use std::rt::Files;
+use std::{fs, io};
+
+/// The most files of a command.
+pub const MOST_FILES: usize = 4;
+
+/// An input behind a buffer, with its failed calls counted.
+pub type Reader<F, S> = Counting<BufReader<Opened<F, S>>>;
+
+/// An input without a buffer, with its failed calls counted.
+pub type PlainReader<F, S> = Counting<Opened<F, S>>;
+
+/// By what a file system knows a file that holds bytes.
+fn node_of(file: &Metadata) -> Option<Node> {
+    if file.is_file() || file.file_type().is_block_device() {
+        Some(Node {
+            device: file.dev(),
+            number: file.ino(),
+        })
+    } else {
+        None
+    }
+}
+
+/// The length of a regular file.
+fn length_of<F: OpenFile>(file: &F) -> Option<u64> {
+    match file.metadata() {
+        Ok(metadata) if metadata.is_file() => Some(metadata.len()),
+        _ => None,
+    }
+}
+
+/// Opens a file that is written, without cutting it; makes it where there is none.
+fn open_whole<R: Files>(rt: &R, name: &str) -> io::Result<R::File> {
+    let mut options = OpenOptions::new();
+    options.write(true).create(true);
+    options.open(rt, name)
+}
+
+/// Opens files, each once. To contracts it is how each file that was opened is used, in order.
+pub struct Opener<'r, R> {
+    rt: &'r R,
+    uses: ArrayVec<Use, MOST_FILES>,
+    length: Option<u64>,
+}
+
+impl<'r, R> Drop for Opener<'r, R> {
+    fn drop(self) {
+        let Opener {
+            rt: _,
+            uses: _,
+            length: _,
+        } = self;
+    }
+}
+
+impl<'r, R> Model for Opener<'r, R> {
+    ghost use Rattle.std.specs.Prelude.{List};
+    ghost use Rattle.s2_files.specs.declared.uses.Use.{Use};
+
+    ghost Value = { List Use };
+
+    ghost view = { λ o. o.uses.items };
+}
+
+impl<'r, R: Files + StandardStreams> Opener<'r, R> {
+    /// Nothing is open so far.
+    pub fn new(rt: &'r R) -> Opener<'r, R>
+        ensures { result ≡ [] }
+    {
+        Opener {
+            rt,
+            uses: ArrayVec::new(),
+            length: None,
+        }
+    }
+
+    /// The length of the input that was opened last, where it is a regular file that was opened by its name.
+    pub fn last_length(&self) -> Option<u64> {
+        self.length
+    }
+
+    /// Takes up a new use of this name, where it goes together with those before it.
+    fn take<'a>(&mut self, name: &'a str, new: Use) -> Result<(), Fault<'a>>
+        requires room { length self.old < 4 }
+        ensures refused { IsOk result ↔ (clashes_any self.old new ≡ false) }
+        ensures taken { OnOk result (self.new ≡ self.old ++ new ∷ []) }
+        ensures kept { OnErr result (self.new ≡ self.old) }
+        ensures count { OnOk result (length self.new ≡ length self.old + 1) }
+        ensures fault { IfErr result (λ fault. fault ≡ Fault.UsedTwice name.entry) }
+    {
+        if clashes_any(self.uses.as_slice(), new) {
+            return Err(Fault::UsedTwice(name));
+        }
+        self.uses.push(new);
+        Ok(())
+    }
+
+    /// By what the file system knows a standard stream, where it is a file that holds bytes.
+    fn standard_node(&self, role: Role) -> Option<Node> {
+        match fs::metadata(self.rt, standard_path(role)) {
+            Ok(metadata) => node_of(&metadata),
+            Err(_) => None,
+        }
+    }
+
+    /// Takes up a standard stream by one of its names.
+    fn take_standard<'a>(&mut self, role: Role, name: &'a str) -> Result<(), Fault<'a>>
+        requires room { length self.old < 4 }
+        ensures taken { OnOk result (Takes role true self.old self.new) }
+        ensures kept { OnErr result (self.new ≡ self.old) }
+        ensures count { OnOk result (length self.new ≡ length self.old + 1) }
+        ensures fault { IfErr result (λ fault. fault ≡ Fault.UsedTwice name.entry) }
+    {
+        let node = self.standard_node(role);
+        self.take(
+            name,
+            Use {
+                role,
+                standard: true,
+                node,
+            },
+        )
+    }
+
+    /// Takes up an open file by its name. Answers whether it is a regular file.
+    fn take_file<'a>(
+        &mut self,
+        role: Role,
+        name: &'a str,
+        file: &R::File,
+    ) -> Result<bool, Fault<'a>>
+        requires room { length self.old < 4 }
+        ensures taken { OnOk result (Takes role false self.old self.new) }
+        ensures kept { OnErr result (self.new ≡ self.old) }
+        ensures count { OnOk result (length self.new ≡ length self.old + 1) }
+        ensures fault { IfErr result (λ fault. (fault ≡ Fault.Open name.entry) ⊎ (fault ≡ Fault.UsedTwice name.entry)) }
+    {
+        let Ok(metadata) = file.metadata() else {
+            return Err(Fault::Open(name));
+        };
+        let node = node_of(&metadata);
+        self.take(
+            name,
+            Use {
+                role,
+                standard: false,
+                node,
+            },
+        )?;
+        Ok(metadata.is_file())
+    }
+
+    /// Opens an input.
+    pub fn read<'a>(&mut self, name: &'a str) -> Result<PlainReader<R::File, R::Input>, Fault<'a>>
+        requires room { length self.old < 4 }
+        ensures fresh { IfOk result (λ file. file.failed ≡ 0) }
+        ensures standard { NamesStandard Role.Input name.entry.now → OnOk result (Takes Role.Input true self.old self.new) }
+        ensures named { (NamesStandard Role.Input name.entry.now → ⊥) → OnOk result (Takes Role.Input false self.old self.new) }
+        ensures kept { OnErr result (self.new ≡ self.old) }
+        ensures count { OnOk result (length self.new ≡ length self.old + 1) }
+        ensures fault { IfErr result (λ fault. (fault ≡ Fault.Open name.entry) ⊎ (fault ≡ Fault.UsedTwice name.entry)) }
+    {
+        if is_standard(Role::Input, name) {
+            self.take_standard(Role::Input, name)?;
+            self.length = None;
+            return Ok(Counting::new(Opened::Standard(self.rt.input())));
+        }
+        let Ok(file) = fs::open(self.rt, name) else {
+            return Err(Fault::Open(name));
+        };
+        self.take_file(Role::Input, name, &file)?;
+        self.length = length_of(&file);
+        Ok(Counting::new(Opened::File(file)))
+    }
+
+    /// Opens an output, which is not cut.
+    pub fn write<'a>(&mut self, name: &'a str) -> Result<Target<R::File, R::Output>, Fault<'a>>
+        requires room { length self.old < 4 }
+        ensures fresh { IfOk result (λ file. file.failed ≡ 0) }
+        ensures standard { NamesStandard Role.Output name.entry.now → OnOk result (Takes Role.Output true self.old self.new) }
+        ensures named { (NamesStandard Role.Output name.entry.now → ⊥) → OnOk result (Takes Role.Output false self.old self.new) }
+        ensures kept { OnErr result (self.new ≡ self.old) }
+        ensures count { OnOk result (length self.new ≡ length self.old + 1) }
+        ensures fault { IfErr result (λ fault. (fault ≡ Fault.Open name.entry) ⊎ (fault ≡ Fault.UsedTwice name.entry)) }
+    {
+        if is_standard(Role::Output, name) {
+            self.take_standard(Role::Output, name)?;
+            return Ok(Target::new(Opened::Standard(self.rt.output()), false));
+        }
+        let Ok(file) = open_whole(self.rt, name) else {
+            return Err(Fault::Open(name));
+        };
+        let holds = self.take_file(Role::Output, name, &file)?;
+        Ok(Target::new(Opened::File(file), holds))
+    }
+}
+
+impl<'r, R: Files + StandardStreams + AllocGlobal> Opener<'r, R> {
+    /// Opens an input behind a buffer.
+    pub fn read_buffered<'a>(
+        &mut self,
+        name: &'a str,
+    ) -> Result<Reader<R::File, R::Input>, Fault<'a>>
+        requires room { length self.old < 4 }
+        ensures fresh { IfOk result (λ file. file.failed ≡ 0) }
+        ensures standard { NamesStandard Role.Input name.entry.now → OnOk result (Takes Role.Input true self.old self.new) }
+        ensures named { (NamesStandard Role.Input name.entry.now → ⊥) → OnOk result (Takes Role.Input false self.old self.new) }
+        ensures count { OnOk result (length self.new ≡ length self.old + 1) }
+        ensures fault { IfErr result (λ fault. (fault ≡ Fault.Open name.entry) ⊎ ((fault ≡ Fault.UsedTwice name.entry) ⊎ (fault ≡ Fault.NoMemory))) }
+    {
+        let file = self.read(name)?;
+        match BufReader::new(self.rt.alloc(), file.into_inner()) {
+            Ok(buffered) => Ok(Counting::new(buffered)),
+            Err(_) => Err(Fault::NoMemory),
+        }
+    }
+}

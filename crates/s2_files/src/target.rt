@@ -1,0 +1,110 @@
+//! Outputs that are whole until they are begun.
+ghost use Rattle.std.specs.Prelude.{◌≡◌, ◌≢◌, ◌⊎◌, IfOk, IfErr, IsOk};
+
+use crate::opened::Opened;
+use crate::output::Output;
+use s2_console::{Exit, Fault};
+use s2_mode::{Counted, CountedWrite, Counting, WriteFault, write_full};
+use std::alloc::Global;
+use std::fs::OpenFile;
+use std::io::{BufWriter, Write};
+
+/// An output that was opened without being cut, with its failed calls counted.
+#[derive(Drop)]
+pub struct Target<F, S> {
+    to: Opened<F, S>,
+    holds: bool,
+    failed: u64,
+}
+
+/// An output behind a buffer.
+pub type Writer<F, S> = Counting<BufWriter<Opened<F, S>>>;
+
+impl<F, S> Target<F, S> {
+    /// `holds` tells that it is a regular file, which may hold something.
+    pub(crate) fn new(to: Opened<F, S>, holds: bool) -> Target<F, S>
+        ensures fresh { result.failed ≡ 0 }
+    {
+        Target {
+            to,
+            holds,
+            failed: 0,
+        }
+    }
+}
+
+impl<F: Write + OpenFile + Drop, S: Write + Drop> Target<F, S> {
+    /// Begins it, behind a buffer. Where there is no memory for the buffer, nothing is cut.
+    pub fn begin_buffered(self, alloc: Global) -> Result<Writer<F, S>, Fault<'static>>
+        ensures fresh { IfOk result (λ writer. writer.failed ≡ 0) }
+        ensures fault { IfErr result (λ fault. (fault ≡ Fault.NoMemory) ⊎ (fault ≡ Fault.Write)) }
+    {
+        let Target {
+            to,
+            holds,
+            failed: _,
+        } = self;
+        let Ok(buffered) = BufWriter::new(alloc, to) else {
+            return Err(Fault::NoMemory);
+        };
+        if holds && buffered.get_ref().cut().is_err() {
+            return Err(Fault::Write);
+        }
+        Ok(Counting::new(buffered))
+    }
+}
+
+impl<F, S> Counted for Target<F, S> {
+    ghost count = { λ t. t.failed };
+
+    fn count(&self) -> u64 {
+        self.failed
+    }
+}
+
+impl<F: Write, S: Write> CountedWrite for Target<F, S> {
+    ghost use Rattle.std.specs.Prelude.{None};
+
+    ghost contents = { λ _. None };
+
+    fn write(&mut self, buf: &[u8]) -> Result<usize, WriteFault> {
+        match self.to.write(buf) {
+            Ok(n) if n > 0 || buf.is_empty() => Ok(n),
+            _ => {
+                self.failed = self.failed.saturating_add(1);
+                Err(WriteFault)
+            }
+        }
+    }
+}
+
+impl<F: Write + OpenFile, S: Write> Output for Target<F, S> {
+    fn begin(&mut self) -> Result<(), WriteFault> {
+        if self.holds && self.to.cut().is_err() {
+            self.failed = self.failed.saturating_add(1);
+            return Err(WriteFault);
+        }
+        Ok(())
+    }
+}
+
+/// Ends an output behind a buffer: what is still in the buffer is written, also where a fault was told that is none of this
+/// output. Once a write has failed, nothing more is.
+pub fn finish<F: Write + Drop, S: Write + Drop>(
+    exit: Exit,
+    to: Writer<F, S>,
+) -> Result<Exit, Fault<'static>>
+    ensures same { IfOk result (λ ended. ended ≡ exit) }
+    ensures fault { IfErr result (λ fault. fault ≡ Fault.Write) }
+    ensures told { exit ≢ Exit.Fine → IsOk result }
+{
+    let failed = to.count() > 0;
+    let (file, left) = to.into_inner().into_parts();
+    if failed {
+        return Ok(exit);
+    }
+    match write_full(&mut Counting::new(file), &left) {
+        Err(_) if exit == Exit::Fine => Err(Fault::Write),
+        _ => Ok(exit),
+    }
+}
