@@ -1,0 +1,4 @@
+pub mod JoinedTexts
+pub mod RateTexts
+pub mod NameTexts
+pub mod Codes

@@ -1,0 +1,4 @@
+pub mod Names
+pub mod Rates
+pub mod Ideal
+pub mod ModeLines

@@ -1,0 +1,75 @@
+//! The names of modes.
+ghost use Rattle.std.specs.Prelude.{◌≡◌, ◌↔◌, ◌++◌, false, IsTrue, IsSome, IfSome};
+ghost use Rattle.s2_mode.specs.Mode.{IsMode, mode_of};
+ghost use Rattle.s2_modes.specs.Names.{constellation_text, code_rate_of, code_rate_text, name_of, IsNameOf, IsName};
+
+use crate::texts::text_at;
+use s2_mode::{MOST_MODCOD, Mode};
+
+/// The code rates by MODCOD, from 1 on: those of QPSK, and from 12 on those of 8PSK.
+const CODE_RATES: [&str; 17] = [
+    "1/4", "1/3", "2/5", "1/2", "3/5", "2/3", "3/4", "4/5", "5/6", "8/9", "9/10", "3/5", "2/3",
+    "3/4", "5/6", "8/9", "9/10",
+];
+
+/// In which letters a constellation is written.
+#[derive(Clone, Copy, Debug, PartialEq, Eq)]
+pub enum Case {
+    Small,
+    Capital,
+}
+
+/// The constellation of a mode: `qpsk` or `8psk`, or `QPSK` or `8PSK`.
+pub fn constellation(mode: &Mode, case: Case) -> &'static str
+    ensures { result.now ≡ constellation_text mode.now case }
+{
+    match (case, mode.is_qpsk()) {
+        (Case::Small, true) => "qpsk",
+        (Case::Small, false) => "8psk",
+        (Case::Capital, true) => "QPSK",
+        (Case::Capital, false) => "8PSK",
+    }
+}
+
+/// The code rate of a mode, as `3/4`.
+pub fn code_rate(mode: &Mode) -> &'static str
+    ensures { result.now ≡ code_rate_text (code_rate_of mode.now) }
+{
+    text_at(&CODE_RATES, usize::from(mode.modcod()) - 1)
+}
+
+/// Whether bytes are these two parts.
+fn is_joined(bytes: &[u8], front: &[u8], back: &[u8]) -> bool
+    ensures { IsTrue result ↔ (bytes.now ≡ front.now ++ back.now) }
+{
+    match bytes.strip_prefix(front) {
+        Some(rest) => rest == back,
+        None => false,
+    }
+}
+
+/// Whether a name is that of a mode.
+fn is_named(mode: &Mode, case: Case, name: &[u8]) -> bool
+    ensures { IsTrue result ↔ (name.now ≡ name_of mode.now case) }
+{
+    let front = constellation(mode, case);
+    is_joined(name, front.as_bytes(), code_rate(mode).as_bytes())
+}
+
+/// The MODCOD of a name: of a constellation, all in small letters or all in capitals, and a code rate. `None` where it is no
+/// mode's.
+pub fn modcod_of(name: &str) -> Option<u8>
+    ensures found { IsSome result ↔ IsName name.now }
+    ensures value { IfSome result (λ modcod. IsMode (mode_of modcod false false) × IsNameOf (mode_of modcod false false) name.now) }
+{
+    for modcod in 1..=MOST_MODCOD {
+        if let Some(mode) = Mode::of(modcod, false, false) {
+            if is_named(&mode, Case::Small, name.as_bytes())
+                || is_named(&mode, Case::Capital, name.as_bytes())
+            {
+                return Some(modcod);
+            }
+        }
+    }
+    None
+}
