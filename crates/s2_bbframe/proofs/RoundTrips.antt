@@ -7,7 +7,7 @@ use Rattle.std.proofs.lemmas.List.{length_push, take_at, drop_at, take-append-le
 use Rattle.std.proofs.lemmas.List.Elements.{All-head, All-tail}
 use Rattle.s2_bbframe.specs.Crc.{crc8}
 use Rattle.s2_bbframe.specs.DataStream.{IsPacket, closed_body, stream_of, to_place, header_at}
-use Rattle.s2_bbframe.specs.Joining.{field, Run, run_of, more, closing, inside, place_in, begins, step, and_then, joining, events_from, Placed}
+use Rattle.s2_bbframe.specs.Joining.{field, Run, run_of, more, closing, inside, place_in, begins, step, begun_body, torn_in, torn, and_then, joining, events_from, Placed}
 use Rattle.s2_bbframe.proofs.BodySteps.{more-more, run-fill, run-good}
 
 more-none : (r : Run) → more [] 0 r ≡ r
@@ -94,17 +94,26 @@ front-run (p ∷ ps) xs rest h e = elim (cases_lt (length xs) 188) [
       (ap (λ r. r.good) r ∙ ap (λ l. p ∷ l) ih.0 ∙ ap (λ n. take n (p ∷ ps)) one_more, ap (λ r. r.bad) r ∙ omega (arith, ih.1)))
 ]
 
+-- inside a run the header of each field names the run's next place
+names_next : (at x : ℕ) (xs body : List ℕ) → 0 < at → length body ≡ (at - 1) % 188 → to_place at < length (x ∷ xs) → nat_eq (8 * to_place at) (place_in body (x ∷ xs)) ≡ true
+names_next at x xs body positive here placed =
+    let place : to_place at ≡ 187 - length body = omega arith in
+    let lies : nat_lt (187 - length body) (length (x ∷ xs)) ≡ true = lt-ltb (187 - length body) (length (x ∷ xs)) (omega arith) in
+    let expected : place_in body (x ∷ xs) ≡ 8 * (187 - length body) = ap (λ b. cond b (8 * (187 - length body)) 65535) lies in
+    eq-eqb (8 * to_place at) (place_in body (x ∷ xs)) (ap (λ n. 8 * n) place ∙ sym expected)
+
 module _ (ro : ℕ) where
-  -- inside a run each field goes on
+  -- so it goes on
   goes : (at : ℕ) (bytes body : List ℕ) → 0 < at → length body ≡ (at - 1) % 188 → to_place at < length bytes
       → step (Some body) (field (header_at ro at bytes) bytes) ≡ inside (run_of body bytes)
   goes at [] body positive here placed = absurd (omega arith)
   goes at (x ∷ xs) body positive here placed =
-      let place : to_place at ≡ 187 - length body = omega arith in
-      let lies : nat_lt (187 - length body) (length (x ∷ xs)) ≡ true = lt-ltb (187 - length body) (length (x ∷ xs)) (omega arith) in
-      let expected : place_in body (x ∷ xs) ≡ 8 * (187 - length body) = ap (λ b. cond b (8 * (187 - length body)) 65535) lies in
-      let same : nat_eq (8 * to_place at) (place_in body (x ∷ xs)) ≡ true = eq-eqb (8 * to_place at) (place_in body (x ∷ xs)) (ap (λ n. 8 * n) place ∙ sym expected) in
-      ap (λ b. cond b (inside (run_of body (x ∷ xs))) (begins (8 * to_place at) (x ∷ xs))) same
+      ap (λ b. cond b (inside (run_of body (x ∷ xs))) (begins (8 * to_place at) (x ∷ xs))) (names_next at x xs body positive here placed)
+
+  -- and drops no body
+  keeps : (at : ℕ) (bytes body : List ℕ) → 0 < at → length body ≡ (at - 1) % 188 → to_place at < length bytes → torn_in (Some body) (field (header_at ro at bytes) bytes) ≡ 0
+  keeps at [] body positive here placed = absurd (omega arith)
+  keeps at (x ∷ xs) body positive here placed = ap (λ b. cond b 0 (begun_body (Some body))) (names_next at x xs body positive here placed)
 
   joined_two : (body xs ys : List ℕ) → and_then (inside (run_of body xs)) (inside (run_of (run_of body xs).body ys)) ≡ inside (run_of body (xs ++ ys))
   joined_two body xs ys = ap inside (sym (run-append xs ys body))
@@ -120,10 +129,19 @@ module _ (ro : ℕ) where
       let ih = all_go (at + length f) fs held (omega arith) (omega arith) placed.1 in
       ap (λ j. and_then j (joining j.held rest)) first ∙ ap (and_then (inside (run_of body f))) ih ∙ joined_two body f (flat_map (λ f. f) fs)
 
-  -- whatever fields of the stream come first, the packets that are closed in them are given, and none is bad
+  none_torn : (at : ℕ) (fs : List (List ℕ)) (body : List ℕ) → 0 < at → length body ≡ (at - 1) % 188 → Placed at fs → torn (Some body) (events_from ro at fs) ≡ 0
+  none_torn at [] body positive here placed = refl
+  none_torn at (f ∷ fs) body positive here placed =
+      let rest = events_from ro (at + length f) fs in
+      let held = (run_of body f).body in
+      let long : length held ≡ (length body + length f) % 188 = run-length f body (omega arith) in
+      let later = ap (λ j. torn j.held rest) (goes at f body positive here placed.0) ∙ none_torn (at + length f) fs held (omega arith) (omega arith) placed.1 in
+      omega (arith, keeps at f body positive here placed.0, later)
+
+  -- whatever fields of the stream come first, the packets that are closed in them are given, and none is bad or torn
   pub round_trip : (packets fs : List (List ℕ)) (rest : List ℕ) → All IsPacket packets → stream_of packets ≡ flat_map (λ f. f) fs ++ rest → Placed 0 fs
-      → ((joining None (events_from ro 0 fs)).good ≡ take ((length (flat_map (λ f. f) fs) - 1) / 188) packets) × ((joining None (events_from ro 0 fs)).bad ≡ 0)
-  round_trip packets [] rest each whole placed = (refl, refl)
+      → ((joining None (events_from ro 0 fs)).good ≡ take ((length (flat_map (λ f. f) fs) - 1) / 188) packets) × ((joining None (events_from ro 0 fs)).bad ≡ 0) × (torn None (events_from ro 0 fs) ≡ 0)
+  round_trip packets [] rest each whole placed = (refl, refl, refl)
   round_trip packets ([] ∷ fs) rest each whole placed = absurd (omega (arith, placed.0))
   round_trip [] ((x ∷ xs) ∷ fs) rest each whole placed = cc
   round_trip (p ∷ ps) ((x ∷ xs) ∷ fs) rest each whole placed =
@@ -136,4 +154,5 @@ module _ (ro : ℕ) where
       let all : joining None (events_from ro 0 ((x ∷ xs) ∷ fs)) ≡ inside (run_of [] (xs ++ later)) =
       ap (and_then (inside (run_of [] xs))) go ∙ joined_two [] xs later in
       let count : length (xs ++ later) / 188 ≡ (length ((x ∷ xs) ++ later) - 1) / 188 = ap (λ n. n / 188) (omega arith) in
-      (ap (λ j. j.good) all ∙ read.0 ∙ ap (λ n. take n (p ∷ ps)) count, ap (λ j. j.bad) all ∙ read.1)
+      let kept = none_torn (0 + length (x ∷ xs)) fs body (omega arith) (omega arith) placed.1 in
+      (ap (λ j. j.good) all ∙ read.0 ∙ ap (λ n. take n (p ∷ ps)) count, ap (λ j. j.bad) all ∙ read.1, omega (arith, kept))

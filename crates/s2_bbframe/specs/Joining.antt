@@ -71,6 +71,28 @@ abbrev pub step : Option (List ℕ) → Event → Joined
 step held (field header bytes) = fed held header.syncd bytes
 step held gap = still None
 
+-- a body that was begun, with at least a byte
+abbrev pub begun_body : Option (List ℕ) → ℕ
+begun_body (Some (byte ∷ body)) = 1
+begun_body (Some []) = 0
+begun_body None = 0
+
+-- How many bodies that were begun a field that comes drops: that of a run that does not go on. An empty field drops none.
+abbrev pub torn_by : Option (List ℕ) → ℕ → List ℕ → ℕ
+torn_by held syncd [] = 0
+torn_by None syncd (byte ∷ bytes) = 0
+torn_by (Some body) syncd (byte ∷ bytes) = if nat_eq syncd (place_in body (byte ∷ bytes)) then 0 else begun_body (Some body)
+
+-- and a gap drops the one that is held
+abbrev pub torn_in : Option (List ℕ) → Event → ℕ
+torn_in held (field header bytes) = torn_by held header.syncd bytes
+torn_in held gap = begun_body held
+
+-- all that come, one after another
+abbrev pub torn : Option (List ℕ) → List Event → ℕ
+torn held [] = 0
+torn held (event ∷ events) = torn_in held event + torn (step held event).held events
+
 -- what comes after it
 abbrev pub and_then : Joined → Joined → Joined
 and_then first second = record { held = second.held; good = first.good ++ second.good; bad = first.bad + second.bad }
@@ -96,10 +118,11 @@ Placed at (bytes ∷ fields) = (to_place at < length bytes) × Placed (at + leng
 abbrev pub closed_in : ℕ → ℕ
 closed_in bytes = (bytes - 1) / packet_bytes
 
--- Whatever fields of a data stream come first: the packets whose closing CRC-8 lies in them are given, and none is bad.
+-- Whatever fields of a data stream come first: the packets whose closing CRC-8 lies in them are given, and none is bad or torn.
 abbrev pub RoundTripLaw : Type 0
 RoundTripLaw =
     (roll_off : ℕ) (packets fields : List (List ℕ)) (rest : List ℕ)
     → All IsPacket packets → stream_of packets ≡ flat_map (λ bytes. bytes) fields ++ rest → Placed 0 fields
     → ((joining None (events_from roll_off 0 fields)).good ≡ take (closed_in (length (flat_map (λ bytes. bytes) fields))) packets)
     × ((joining None (events_from roll_off 0 fields)).bad ≡ 0)
+    × (torn None (events_from roll_off 0 fields) ≡ 0)

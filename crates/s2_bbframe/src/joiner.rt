@@ -1,11 +1,11 @@
 //! Packets out of delivered data fields.
-ghost use Rattle.std.specs.Prelude.{◌≡◌, ◌+◌, ◌-◌, ◌*◌, ◌/◌, ◌%◌, ◌^◌, ◌<◌, ◌≤◌, ◌⊎◌, None, Some, IfOk, IfSome, OnOk, OnErr, drop, length, take, if◌then◌else◌};
+ghost use Rattle.std.specs.Prelude.{ℕ, List, nat_lt, ◌≡◌, ◌+◌, ◌-◌, ◌*◌, ◌/◌, ◌%◌, ◌^◌, ◌<◌, ◌≤◌, ◌⊎◌, None, Some, IfOk, IfSome, OnOk, OnErr, drop, length, take, if◌then◌else◌};
 ghost use Rattle.std.specs.List.{flat_map};
 ghost use Rattle.std.specs.Io.KnownBytes.{Appends};
 ghost use Rattle.s2_mode.specs.Counts.{CountsFault};
 ghost use Rattle.s2_mode.specs.Pieces.{AppendsPart};
 ghost use Rattle.s2_bbframe.specs.Limits.{body_bytes, no_place};
-ghost use Rattle.s2_bbframe.specs.Joining.{fed, still, inside, run_of};
+ghost use Rattle.s2_bbframe.specs.Joining.{fed, still, inside, run_of, begun_body, torn_by};
 
 use crate::bodies::{Bodies, read_bodies};
 use crate::header::Header;
@@ -14,11 +14,13 @@ use s2_mode::{CountedWrite, WriteFault};
 use std::marker::Model;
 use std::mem;
 
-/// How many packets a field gave, and how many bodies were dropped because their CRC-8 was wrong.
+/// How many packets a field gave, how many bodies were dropped because their CRC-8 was wrong, and how many that
+/// were begun, with at least a byte, because its header names another place than the run's next one.
 #[derive(Clone, Copy, Debug, PartialEq, Eq)]
 pub struct Fed {
     pub good: usize,
     pub bad: usize,
+    pub torn: usize,
 }
 
 /// Joins the packets of consecutive data fields (EN 302 307-1, 5.1.4 and 5.1.5).
@@ -51,6 +53,40 @@ struct Join {
     from: usize,
 }
 
+// the distance in bits to a run's next place behind so many held bytes, or `NO_PLACE` where it lies past the field
+fn next_place(held: usize, field: &[u8]) -> usize
+    requires { held ≤ body_bytes }
+    ensures { result ≡ if nat_lt (body_bytes - held) (length field.now) then 8 * (body_bytes - held) else no_place }
+{
+    let to_place = BODY_BYTES - held;
+    if to_place < field.len() {
+        8 * to_place
+    } else {
+        usize::from(NO_PLACE)
+    }
+}
+
+// how many bodies that were begun are dropped with what is held
+fn begun_body(inside: bool, held: usize) -> usize
+    requires { held ≤ body_bytes }
+    ensures is { (body : List ℕ) → length body ≡ body_bytes → result ≡ begun_body (if inside then Some (take held body) else None) }
+    ensures few { result ≤ 1 }
+{
+    if inside && held > 0 { 1 } else { 0 }
+}
+
+// how many bodies that were begun a field drops
+fn torn_by(inside: bool, held: usize, syncd: u16, field: &[u8]) -> usize
+    requires { held ≤ body_bytes }
+    ensures is { (body : List ℕ) → length body ≡ body_bytes → result ≡ torn_by (if inside then Some (take held body) else None) syncd field.now }
+    ensures few { result ≤ 1 }
+{
+    if field.is_empty() || usize::from(syncd) == next_place(held, field) {
+        return 0;
+    }
+    begun_body(inside, held)
+}
+
 // where the run goes on: with the body that is held where `SYNCD` names its next place, else behind the place that it names
 fn resumed(was_inside: bool, body: &[u8], held: usize, syncd: u16, field: &[u8]) -> Option<Join>
     requires held { held ≤ body_bytes }
@@ -62,13 +98,7 @@ fn resumed(was_inside: bool, body: &[u8], held: usize, syncd: u16, field: &[u8])
     ensures from { IfSome result (λ r. r.from ≤ length field.now) }
     ensures run { IfSome result (λ r. fed (if was_inside then Some (take held body.now) else None) syncd field.now ≡ inside (run_of (take r.start body.now) (drop r.from field.now))) }
 {
-    let to_place = BODY_BYTES - held;
-    let expected = if to_place < field.len() {
-        8 * to_place
-    } else {
-        usize::from(NO_PLACE)
-    };
-    if was_inside && usize::from(syncd) == expected {
+    if was_inside && usize::from(syncd) == next_place(held, field) {
         return Some(Join {
             start: held,
             from: 0,
@@ -95,15 +125,20 @@ impl Joiner {
         }
     }
 
-    /// A field may be missing here: the joiner is lost, and the body that it held is dropped.
-    pub fn gap(&mut self)
-        ensures { self.new ≡ None }
+    /// A field may be missing here: the joiner is lost, and the body that it held is dropped. How many bodies with
+    /// at least a byte these are: 1 or 0.
+    pub fn gap(&mut self) -> usize
+        ensures lost { self.new ≡ None }
+        ensures torn { result ≡ begun_body self.old }
+        ensures few { result ≤ 1 }
     {
+        let torn = begun_body(self.inside, self.held);
         self.inside = false;
+        torn
     }
 
     /// Joins a data field on: writes the packets that are whole with it, and tells how many they were
-    /// and how many bodies had a wrong CRC-8. `SYNCD` names a byte of the field or is [`NO_PLACE`], as
+    /// and how many bodies were dropped. `SYNCD` names a byte of the field or is [`NO_PLACE`], as
     /// [`Header::read`] sees to. After a fault a part of these packets has been written, and the joiner
     /// is lost.
     pub fn feed<W: CountedWrite>(
@@ -117,14 +152,20 @@ impl Joiner {
         ensures held { OnOk result (self.new ≡ (fed self.old header.now.syncd field.now).held) }
         ensures good { IfOk result (λ r. r.good ≡ length (fed self.old header.now.syncd field.now).good) }
         ensures bad { IfOk result (λ r. r.bad ≡ (fed self.old header.now.syncd field.now).bad) }
+        ensures torn { IfOk result (λ r. r.torn ≡ torn_by self.old header.now.syncd field.now) }
         ensures packets { OnOk result (Appends (W.contents out.old) (W.contents out.new) (flat_map (λ packet. packet) (fed self.old header.now.syncd field.now).good)) }
-        ensures most { IfOk result (λ r. r.good + r.bad ≤ length field.now) }
+        ensures most { IfOk result (λ r. (r.good + r.bad ≤ length field.now) × (r.torn ≤ 1)) }
         ensures part { OnErr result (AppendsPart (flat_map (λ packet. packet) (fed self.old header.now.syncd field.now).good) (W.contents out.old) (W.contents out.new)) }
         ensures lost { OnErr result (self.new ≡ None) }
         ensures cause { CountsFault (W.count out.old) (W.count out.new) result }
     {
+        let torn = torn_by(self.inside, self.held, header.syncd, field);
         if field.is_empty() {
-            return Ok(Fed { good: 0, bad: 0 });
+            return Ok(Fed {
+                good: 0,
+                bad: 0,
+                torn,
+            });
         }
         let was_inside = mem::take(&mut self.inside);
         let Some(Join { start, from }) = resumed(
@@ -134,11 +175,15 @@ impl Joiner {
             header.syncd,
             field,
         ) else {
-            return Ok(Fed { good: 0, bad: 0 });
+            return Ok(Fed {
+                good: 0,
+                bad: 0,
+                torn,
+            });
         };
         let Bodies { held, good, bad } = read_bodies(&mut self.body, start, &field[from..], out)?;
         self.held = held;
         self.inside = true;
-        Ok(Fed { good, bad })
+        Ok(Fed { good, bad, torn })
     }
 }

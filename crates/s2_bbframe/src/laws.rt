@@ -9,7 +9,7 @@ pub fn remainder()
     ensures { RemainderLaw }
 {}
 
-/// The first fields of a data stream give the packets whose closing CRC-8 lies in them, and no other;
+/// The first fields of a data stream give the packets whose closing CRC-8 lies in them, no other, and tear none;
 /// so all its fields give all its packets.
 pub fn round_trip()
     ensures { RoundTripLaw }

@@ -16,7 +16,7 @@
 //! let header = slicer.take(0, &mut field)?;
 //! header.write(&mut bytes);
 //! assert_eq!(Header::read(&bytes, mode), Ok(header));
-//! let Fed { good, bad } = Joiner::new().feed(&header, &field, &mut out)?;
+//! let Fed { good, bad, torn } = Joiner::new().feed(&header, &field, &mut out)?;
 //! ```
 #![tactic(auto)]
 

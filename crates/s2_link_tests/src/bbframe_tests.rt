@@ -254,9 +254,17 @@ const LAST: Header = Header {
     syncd: 16,
 };
 
-const NOTHING: Fed = Fed { good: 0, bad: 0 };
+const NOTHING: Fed = Fed {
+    good: 0,
+    bad: 0,
+    torn: 0,
+};
 
-const ONE_GOOD: Fed = Fed { good: 1, bad: 0 };
+const ONE_GOOD: Fed = Fed {
+    good: 1,
+    bad: 0,
+    torn: 0,
+};
 
 /// Asserts what comes of a field.
 fn assert_fed(
@@ -298,7 +306,7 @@ fn joins_two_packets_from_two_fields(rt: HostRuntime) -> Result<(), Fail> {
 fn join_across_a_gap(rt: &impl Abort, out: &mut Counting<Vec<u8>>) -> Result<(), WriteFault> {
     let mut joiner = Joiner::new();
     assert_fed(rt, &mut joiner, &FULL, &[0; 374], out, ONE_GOOD)?;
-    joiner.gap();
+    assert_eq!(rt; joiner.gap(), 1);
     assert_fed(rt, &mut joiner, &LAST, &[0; 3], out, NOTHING)
 }
 

@@ -42,7 +42,11 @@ fn totals(frames: u64, cut: bool) -> Totals {
         delivered: frames,
         packets: frames,
         bad: 0,
+        torn: 0,
         cut,
+        passed: 0,
+        places: 0,
+        first: 0,
     }
 }
 

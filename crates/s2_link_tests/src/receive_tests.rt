@@ -194,7 +194,22 @@ fn totals(frames: u64, delivered: u64, packets: u64) -> Totals {
         delivered,
         packets,
         bad: 0,
+        torn: 0,
         cut: false,
+        passed: 0,
+        places: 0,
+        first: 0,
+    }
+}
+
+/// The same with so many symbols passed over in one place, which begins there, and so many packets torn.
+fn losing(totals: Totals, passed: u64, first: u64, torn: u64) -> Totals {
+    Totals {
+        passed,
+        places: 1,
+        first,
+        torn,
+        ..totals
     }
 }
 
@@ -222,7 +237,7 @@ fn takes_frames_and_the_end_byte_by_byte(rt: HostRuntime) -> Result<(), Fail> {
     let step = receiver.next(&mut reader, &mut packets, &mut report)?;
     assert_eq!(rt; step, Step::End);
     assert_eq!(rt; report.into_inner().as_slice(), b"FFFE".as_slice());
-    assert_eq!(rt; receiver.totals(), totals(3, 3, 0));
+    assert_eq!(rt; receiver.totals(), losing(totals(3, 3, 0), 10, 200, 2));
     Ok(())
 }
 
@@ -247,11 +262,15 @@ fn joins_the_parts_of_a_packet_and_none_across_a_gap(rt: HostRuntime) -> Result<
     assert_eq!(rt; joined.totals, totals(2, 2, 1));
     assert!(rt; joined.well);
     let lost = received(&rt, &[1, -1], 0, 2)?;
-    assert_eq!(rt; lost.totals, totals(3, 2, 0));
+    let torn = Totals {
+        torn: 1,
+        ..totals(3, 2, 0)
+    };
+    assert_eq!(rt; lost.totals, torn);
     assert!(rt; !lost.well);
     let passed = received(&rt, &[1], 1, 2)?;
-    assert_eq!(rt; passed.totals, totals(2, 2, 0));
-    assert!(rt; passed.well);
+    assert_eq!(rt; passed.totals, losing(totals(2, 2, 0), 1, 100, 1));
+    assert!(rt; passed.well && passed.symbols == 201);
     laws::joining();
     laws::reception();
     laws::front();
@@ -368,14 +387,18 @@ fn received_of(rt: &HostRuntime, bytes: &[u8]) -> Result<Received, Fail> {
 
 #[test]
 fn keeps_a_gap_across_a_dummy_frame(rt: HostRuntime) -> Result<(), Fail> {
-    for (before, behind) in [(1, 0), (0, 1), (89, 0)] {
+    for (before, behind, first) in [(1, 0, 100), (0, 1, 3430), (89, 0, 100)] {
         let mut bytes = Vec::new(rt.alloc());
         put_frame(&mut bytes, 1)?;
         put_symbols(&mut bytes, before)?;
         put_dummy(&mut bytes, 3330)?;
         put_symbols(&mut bytes, behind)?;
         put_frame(&mut bytes, 2)?;
-        assert_eq!(rt; received_of(&rt, &bytes)?.totals, totals(2, 2, 0));
+        let passed = u64::from(before + behind);
+        assert_eq!(rt;
+            received_of(&rt, &bytes)?.totals,
+            losing(totals(2, 2, 0), passed, first, 1)
+        );
     }
     Ok(())
 }
@@ -397,7 +420,7 @@ fn finds_a_frame_behind_a_false_dummy_header(rt: HostRuntime) -> Result<(), Fail
     assert_eq!(rt; step, frame(1, 3420));
     let step = receiver.next(&mut reader, &mut packets, &mut report)?;
     assert_eq!(rt; step, frame(2, 3520));
-    assert_eq!(rt; receiver.totals(), totals(2, 2, 1));
+    assert_eq!(rt; receiver.totals(), losing(totals(2, 2, 1), 90, 0, 0));
     Ok(())
 }
 
@@ -410,6 +433,35 @@ fn ends_behind_dummy_frames_alone(rt: HostRuntime) -> Result<(), Fail> {
     let received = received_of(&rt, &bytes)?;
     assert_eq!(rt; received.totals, totals(0, 0, 0));
     assert!(rt; received.well);
+    Ok(())
+}
+
+#[test]
+fn counts_what_is_passed_over_at_the_end(rt: HostRuntime) -> Result<(), Fail> {
+    for (passed, want) in [
+        (89, totals(1, 1, 0)),
+        (90, losing(totals(1, 1, 0), 90, 100, 0)),
+    ] {
+        let mut bytes = Vec::new(rt.alloc());
+        put_frame(&mut bytes, 1)?;
+        put_symbols(&mut bytes, passed)?;
+        assert_eq!(rt; received_of(&rt, &bytes)?.totals, want);
+    }
+    Ok(())
+}
+
+#[test]
+fn counts_what_is_passed_over_before_a_cut_frame(rt: HostRuntime) -> Result<(), Fail> {
+    let mut bytes = Vec::new(rt.alloc());
+    put_frame(&mut bytes, 1)?;
+    put_symbols(&mut bytes, 3)?;
+    put_symbols(&mut bytes, 89)?;
+    put_symbol(&mut bytes, -1, 1)?;
+    let want = Totals {
+        cut: true,
+        ..losing(totals(1, 1, 0), 3, 100, 1)
+    };
+    assert_eq!(rt; received_of(&rt, &bytes)?.totals, want);
     Ok(())
 }
 

@@ -1,5 +1,5 @@
 -- What is sent arrives.
-use Rattle.std.specs.Prelude.{⊤, if◌then◌else◌}
+use Rattle.std.specs.Prelude.{⊤, nat_eq, if◌then◌else◌}
 use Rattle.std.proofs.Common.{◌≡◌, ℕ, zero, suc, ◌+◌, ◌*◌, ◌<◌, ◌≤◌, IsTrue, Bool, true, false, List, [], ◌∷◌, ◌++◌, All, Option, Some, None, length, take, drop, map, refl, sym, ap, ap₂, ◌∙◌, subst, append_assoc, append-nil, length-append, length-take, arith}
 use Rattle.std.specs.List.{range_with_len}
 use Rattle.std.proofs.lemmas.List.Elements.{All-nil, All-cons, All-head, All-tail}
@@ -18,10 +18,10 @@ use Rattle.s2_send.specs.Transmitter.{Transmitter}
 use Rattle.s2_send.specs.Sending.{is_due, AreUnits, joined as bytes_joined}
 use Rattle.s2_send.specs.declared.outcome.Counts.{Counts}
 use Rattle.s2_bbframe.specs.Joining.{Placed}
-use Rattle.s2_receive.specs.Meeting.{Met, frame, ended, met_from}
+use Rattle.s2_receive.specs.Meeting.{Met, frame, ended, nothing_over, met_from}
 use Rattle.s2_receive.specs.Finding.{Meets}
-use Rattle.s2_receive.specs.Receiving.{Rules, State, Standing, at_start, met_left, after, after_all, all_packets, all_lines}
-use Rattle.s2_receive.specs.Laws.{Piece, coded, dummy, joined, stream_symbols, IsReceived, AreReceived, frames_at}
+use Rattle.s2_receive.specs.Receiving.{Rules, State, Standing, at_start, passes, met_left, after, after_all, all_packets, all_lines}
+use Rattle.s2_receive.specs.Laws.{Piece, coded, dummy, joined, stream_symbols, IsReceived, AreReceived, frames_at, PassedNone}
 use Rattle.s2_receive.specs.declared.report.Phase.TheVariants as phases
 use Rattle.s2_receive.specs.declared.report.Report.{Report}
 use Rattle.s2_receive.specs.declared.report.Totals.{Totals}
@@ -146,9 +146,9 @@ module _ (rules : Rules) (roll_off : ℕ) where
       let report : Verdict → Outcome → Report = λ v o. record { number = t.totals.frames + 1; at = at; verdict = v; outcome = o } in
       let verdict = (rules.decide s).verdict in
       let line = ap (λ o. rules.frame_line (report verdict o)) here.outcome in
-      let later = all_lines rules (after rules t (frame at false s)) (frames_at rules.size (at + rules.size) ps) in
+      let later = all_lines rules (after rules t (frame at nothing_over s)) (frames_at rules.size (at + rules.size) ps) in
       ap (λ l. l ++ later) line
-      ∙ ap (λ l. rules.frame_line (report verdict (Delivered 0)) ++ l) (lines_frames (at + rules.size) (k + length f) ps fs (after rules t (frame at false s)) h.1 c.1)
+      ∙ ap (λ l. rules.frame_line (report verdict (Delivered 0)) ++ l) (lines_frames (at + rules.size) (k + length f) ps fs (after rules t (frame at nothing_over s)) h.1 c.1)
   lines_frames at k (dummy s ∷ ps) fs t h c = lines_frames (at + 3330) k ps fs t h.1 c
 
 -- and what they are called
@@ -165,16 +165,24 @@ all_read source bytes (Some left) consumes end = consumes ∙ ap (λ l. bytes ++
 
 -- all that was met
 all_met : (rules : Rules) (symbols : List ℕ) (new : State) (r' : Option (List ℕ)) (met : List Met) → new.phase ≡ phases.Ended
-    → Meets (met_left rules phases.Searching 0 (Some symbols)) (met_left rules new.phase new.at r') met → met_from rules.finds rules.size 0 0 false (symbols_of symbols) ≡ met
+    → Meets (met_left rules phases.Searching 0 (Some symbols)) (met_left rules new.phase new.at r') met → met_from rules.finds rules.size 0 0 nothing_over (symbols_of symbols) ≡ met
 all_met rules symbols new r' met phase h =
     let whole : Meets (met_left rules phases.Searching 0 (Some symbols)) (Some []) met = subst (λ x. Meets (met_left rules phases.Searching 0 (Some symbols)) (met_left rules x new.at r') met) phase h in
     whole ∙ append-nil met
 
-same_totals : (t : Totals) (counts : Counts) → t.frames ≡ counts.frames → t.delivered ≡ counts.frames → t.packets ≡ counts.packets → t.bad ≡ 0 → t.cut ≡ false → t ≡ totals_of counts
-same_totals t counts a b c d e =
-    let made : ℕ → ℕ → ℕ → ℕ → Bool → Totals = λ f v p w x. record { frames = f; delivered = v; packets = p; bad = w; cut = x } in
-    ap (λ n. made n t.delivered t.packets t.bad t.cut) a ∙ ap (λ n. made counts.frames n t.packets t.bad t.cut) b ∙ ap (λ n. made counts.frames counts.frames n t.bad t.cut) c
-    ∙ ap (λ n. made counts.frames counts.frames counts.packets n t.cut) d ∙ ap (λ x. made counts.frames counts.frames counts.packets 0 x) e
+same_totals : (t : Totals) (counts : Counts) → t.frames ≡ counts.frames → t.delivered ≡ counts.frames → t.packets ≡ counts.packets → t.bad ≡ 0 → t.torn ≡ 0 → t.cut ≡ false → PassedNone t → t ≡ totals_of counts
+same_totals t counts a b c d torn e over =
+    ap (λ n. record t { frames = n }) a ∙ ap (λ n. record t { frames = counts.frames; delivered = n }) b ∙ ap (λ n. record t { frames = counts.frames; delivered = counts.frames; packets = n }) c
+    ∙ ap (λ n. record t { frames = counts.frames; delivered = counts.frames; packets = counts.packets; bad = n }) d
+    ∙ ap (λ n. record t { frames = counts.frames; delivered = counts.frames; packets = counts.packets; bad = 0; torn = n }) torn
+    ∙ ap (λ x. record t { frames = counts.frames; delivered = counts.frames; packets = counts.packets; bad = 0; torn = 0; cut = x }) e
+    ∙ ap (λ n. record (totals_of counts) { passed = n; places = t.places; first = t.first }) over.0
+    ∙ ap (λ n. record (totals_of counts) { places = n; first = t.first }) over.1
+    ∙ ap (λ n. record (totals_of counts) { first = n }) over.2
+
+-- the end adds nothing where nothing was passed over before it
+passed_at_end : (t : Totals) → PassedNone t → PassedNone (passes t nothing_over)
+passed_at_end t over = (omega (arith, over.0), omega (arith, over.1), ap (λ n. if nat_eq n 0 then 0 else t.first) over.1)
 
 pub arrives : LinkLaw
 arrives t rules count_old count_new source symbols counts new source_left symbols_left p p' w w' hears are_bytes runs out =
@@ -195,17 +203,18 @@ arrives t rules count_old count_new source symbols counts new source_left symbol
     let places = run_places rules.size t.dummy_every 1 0 in
     let g = gives rules link.setup.roll_off size runs.packets runs.fields [] h.pieces [] hears.least hears.field_least runs.each_is_packet (append-nil runs.fields ∙ fields_are) h.are in
     let just = frames_at rules.size 0 h.pieces in
-    let met_is : met ≡ just ++ ended ∷ [] = sym (all_met rules symbols new symbols_left met out.0 went.left) ∙ ap (met_from rules.finds rules.size 0 0 false) (ap symbols_of sent ∙ h.symbols []) ∙ g.met in
+    let met_is : met ≡ just ++ ended nothing_over ∷ [] = sym (all_met rules symbols new symbols_left met out.0 went.left) ∙ ap (met_from rules.finds rules.size 0 0 nothing_over) (ap symbols_of sent ∙ h.symbols []) ∙ g.met in
     let end = after_all rules at_start just in
-    let standing : new.standing ≡ end = went.standing ∙ ap (after_all rules at_start) met_is ∙ after-append rules just (ended ∷ []) at_start in
+    let last = passes end.totals nothing_over in
+    let standing : new.standing ≡ record end { totals = last } = went.standing ∙ ap (after_all rules at_start) met_is ∙ after-append rules just (ended nothing_over ∷ []) at_start in
     let all = g.all refl in
     let packets : all_packets rules at_start met ≡ source =
-    ap (all_packets rules at_start) met_is ∙ packets-append rules just (ended ∷ []) at_start ∙ append-nil (all_packets rules at_start just) ∙ g.written ∙ ap joined all ∙ sym from in
-    let totals : end.totals ≡ totals_of counts =
-    same_totals end.totals counts (g.frames_count ∙ sym framed) (g.delivered ∙ sym framed) (g.packets_count ∙ ap length all ∙ sym counted) g.bad g.cut in
+    ap (all_packets rules at_start) met_is ∙ packets-append rules just (ended nothing_over ∷ []) at_start ∙ append-nil (all_packets rules at_start just) ∙ g.written ∙ ap joined all ∙ sym from in
+    let totals : last ≡ totals_of counts =
+    same_totals last counts (g.frames_count ∙ sym framed) (g.delivered ∙ sym framed) (g.packets_count ∙ ap length all ∙ sym counted) g.bad g.torn_none g.cut (passed_at_end end.totals g.over) in
     let lines : all_lines rules at_start met ≡ certified_lines rules 0 (places counts.frames) ++ rules.end_line (totals_of counts) =
-    ap (all_lines rules at_start) met_is ∙ lines-append rules just (ended ∷ []) at_start ∙ ap (λ l. all_lines rules at_start just ++ l) (append-nil (rules.end_line end.totals))
-    ∙ ap (λ l. l ++ rules.end_line end.totals) (lines_frames rules link.setup.roll_off 0 0 h.pieces runs.fields at_start h.are h.certified ∙ ap (certified_lines rules 0) (h.places 0 ∙ ap places (sym framed)))
+    ap (all_lines rules at_start) met_is ∙ lines-append rules just (ended nothing_over ∷ []) at_start ∙ ap (λ l. all_lines rules at_start just ++ l) (append-nil (rules.end_line last))
+    ∙ ap (λ l. l ++ rules.end_line last) (lines_frames rules link.setup.roll_off 0 0 h.pieces runs.fields at_start h.are h.certified ∙ ap (certified_lines rules 0) (h.places 0 ∙ ap places (sym framed)))
     ∙ ap (λ t. certified_lines rules 0 (places counts.frames) ++ rules.end_line t) totals in
     record {
       packets = subst (Appends p p') packets went.packets;

@@ -203,6 +203,7 @@ impl<'a> Receiver<'a> {
         ensures all { IfOk result (λ received. RunsTo (rules_for self.old) self.old.state self.new.state (R.remaining reader.old) (R.remaining reader.new)
             (P.contents packets.old) (P.contents packets.new) (W.contents report.old) (W.contents report.new) received.well) }
         ensures totals { IfOk result (λ received. received.totals ≡ self.new.state.standing.totals) }
+        ensures symbols { IfOk result (λ received. received.symbols ≡ self.new.state.at) }
         ensures as_likely { AllAsLikely self.old.link self.old.tuning }
         ensures stops { IsErrOf result stream_faults.Read → StopsAfter (rules_for self.old) self.old.state (R.remaining reader.old)
             (P.contents packets.old) (P.contents packets.new) (W.contents report.old) (W.contents report.new) }

@@ -1,14 +1,15 @@
 -- Frames that are received as they were sent.
-use Rattle.std.proofs.Common.{◌≡◌, ℕ, suc, ◌+◌, ◌≤◌, false, List, [], ◌∷◌, ◌++◌, All, Option, Some, None, length, take, refl, sym, ap, ◌∙◌, subst, append_assoc, append-nil, length-append, arith}
+use Rattle.std.proofs.Common.{◌≡◌, ℕ, suc, ◌+◌, ◌≤◌, cond, List, [], ◌∷◌, ◌++◌, All, Option, Some, None, length, take, refl, sym, ap, ◌∙◌, subst, append_assoc, append-nil, length-append, arith}
 use Rattle.std.proofs.lemmas.List.{take_at}
 use Rattle.std.proofs.lemmas.List.Concat.{flat_map-append}
 use Rattle.s2_mode.specs.declared.symbols.Symbol.{Symbol}
 use Rattle.s2_bbframe.specs.DataStream.{IsPacket, stream_of, fields_of, header_at}
-use Rattle.s2_bbframe.specs.Joining.{field, joining, events_from, Placed}
+use Rattle.std.specs.Prelude.{nat_eq}
+use Rattle.s2_bbframe.specs.Joining.{field, joining, torn, events_from, Placed}
 use Rattle.s2_bbframe.proofs.RoundTrips.{round_trip}
-use Rattle.s2_receive.specs.Meeting.{Met, frame, met_from}
+use Rattle.s2_receive.specs.Meeting.{Met, frame, nothing_over, met_from}
 use Rattle.s2_receive.specs.Receiving.{Rules, Standing, at_start, after_all, all_packets, delivery, count_of}
-use Rattle.s2_receive.specs.Laws.{Piece, coded, dummy, joined, stream_symbols, events_of, AreReceived, frames_at, Gives, FrontLaw}
+use Rattle.s2_receive.specs.Laws.{Piece, coded, dummy, joined, stream_symbols, events_of, AreReceived, frames_at, PassedNone, Gives, FrontLaw}
 use Rattle.s2_bbframe.specs.Joining.{closed_in}
 use Rattle.s2_receive.specs.Finding.{Meets}
 use Rattle.s2_mode.specs.Symbols.{symbols_of}
@@ -23,26 +24,26 @@ module _ (rules : Rules) (roll_off : ℕ) (large : 90 ≤ rules.size) where
 
   -- they are met as just these frames
   pub met_frames : (at k : ℕ) (pieces : List Piece) (fields : List (List ℕ)) (rest : List Symbol) → AreReceived rules roll_off k pieces fields
-      → met_from rules.finds rules.size at 0 false (stream_symbols pieces ++ rest) ≡ frames_at rules.size at pieces ++ met_from rules.finds rules.size (at + length (stream_symbols pieces)) 0 false rest
-  met_frames at k [] [] rest h = ap (λ n. met_from rules.finds rules.size n 0 false rest) (omega arith)
+      → met_from rules.finds rules.size at 0 nothing_over (stream_symbols pieces ++ rest) ≡ frames_at rules.size at pieces ++ met_from rules.finds rules.size (at + length (stream_symbols pieces)) 0 nothing_over rest
+  met_frames at k [] [] rest h = ap (λ n. met_from rules.finds rules.size n 0 nothing_over rest) (omega arith)
   met_frames at k [] (f ∷ fs) rest h = absurd h
   met_frames at k (coded s ∷ ps) [] rest h = absurd h
   met_frames at k (coded s ∷ ps) (f ∷ fs) rest h =
       let ih = met_frames (at + rules.size) (k + length f) ps fs rest h.1 in
       let long = length-append s (stream_symbols ps) in
       let here = h.0.0 in
-      ap (met_from rules.finds rules.size at 0 false) (append_assoc s (stream_symbols ps) rest)
-      ∙ whole_frame rules.finds rules.size s (stream_symbols ps ++ rest) at false here large h.0.1
-      ∙ ap (λ l. frame at false s ∷ l) ih
-      ∙ ap (λ n. frame at false s ∷ (frames_at rules.size (at + rules.size) ps ++ met_from rules.finds rules.size n 0 false rest)) (omega (arith, long, here))
+      ap (met_from rules.finds rules.size at 0 nothing_over) (append_assoc s (stream_symbols ps) rest)
+      ∙ whole_frame rules.finds rules.size s (stream_symbols ps ++ rest) at nothing_over here large h.0.1
+      ∙ ap (λ l. frame at nothing_over s ∷ l) ih
+      ∙ ap (λ n. frame at nothing_over s ∷ (frames_at rules.size (at + rules.size) ps ++ met_from rules.finds rules.size n 0 nothing_over rest)) (omega (arith, long, here))
   met_frames at k (dummy s ∷ ps) fs rest h =
       let ih = met_frames (at + 3330) k ps fs rest h.1 in
       let long = length-append s (stream_symbols ps) in
       let here = h.0.0 in
-      ap (met_from rules.finds rules.size at 0 false) (append_assoc s (stream_symbols ps) rest)
-      ∙ whole_dummy rules.finds rules.size s (stream_symbols ps ++ rest) at false here h.0.1
+      ap (met_from rules.finds rules.size at 0 nothing_over) (append_assoc s (stream_symbols ps) rest)
+      ∙ whole_dummy rules.finds rules.size s (stream_symbols ps ++ rest) at nothing_over here h.0.1
       ∙ ih
-      ∙ ap (λ n. frames_at rules.size (at + 3330) ps ++ met_from rules.finds rules.size n 0 false rest) (omega (arith, long, here))
+      ∙ ap (λ n. frames_at rules.size (at + 3330) ps ++ met_from rules.finds rules.size n 0 nothing_over rest) (omega (arith, long, here))
 
   -- the joiner gets just the fields
   pub events_frames : (at k : ℕ) (pieces : List Piece) (fields : List (List ℕ)) → AreReceived rules roll_off k pieces fields
@@ -60,13 +61,14 @@ module _ (rules : Rules) (roll_off : ℕ) (large : 90 ≤ rules.size) where
       → ((after_all rules s (frames_at rules.size at pieces)).totals.frames ≡ s.totals.frames + length fields)
       × ((after_all rules s (frames_at rules.size at pieces)).totals.delivered ≡ s.totals.delivered + length fields)
       × ((after_all rules s (frames_at rules.size at pieces)).totals.cut ≡ s.totals.cut)
-  count_frames at k [] [] t h = (omega arith, omega arith, refl)
+      × (PassedNone s.totals → PassedNone (after_all rules s (frames_at rules.size at pieces)).totals)
+  count_frames at k [] [] t h = (omega arith, omega arith, refl, λ none. none)
   count_frames at k [] (f ∷ fs) t h = absurd h
   count_frames at k (coded s ∷ ps) [] t h = absurd h
   count_frames at k (coded s ∷ ps) (f ∷ fs) t h =
       let one : count_of (rules.decide s).delivered ≡ 1 = ap count_of h.0.2 in
       let ih = count_frames (at + rules.size) (k + length f) ps fs _ h.1 in
-      (ih.0 ∙ omega arith, ih.1 ∙ omega (arith, one), ih.2)
+      (ih.0 ∙ omega arith, ih.1 ∙ omega (arith, one), ih.2, λ none. ih.3 (omega (arith, none.0), omega (arith, none.1), ap (λ n. cond (nat_eq n 0) 0 t.totals.first) none.1))
   count_frames at k (dummy s ∷ ps) fs t h = count_frames (at + 3330) k ps fs t h.1
 
   -- one for each field
@@ -86,17 +88,20 @@ gives rules roll_off size packets fields later pieces rest large room each cut_s
     let whole : stream_of packets ≡ joined fields ++ joined later = sym (joined_fields size room packets) ∙ ap joined (sym cut_so) ∙ flat_map-append (λ l. l) fields later in
     let placed : Placed 0 fields = placed_front fields later 0 (subst (Placed 0) (sym cut_so) (placed_fields size room packets each)) in
     let trip = round_trip roll_off packets fields (joined later) each whole placed in
-    let events = ap (joining None) (events_frames rules roll_off large 0 0 pieces fields received) in
+    let those = events_frames rules roll_off large 0 0 pieces fields received in
+    let events = ap (joining None) those in
     let counts = count_frames rules roll_off large 0 0 pieces fields at_start received in
     let good = ap (λ j. j.good) events ∙ trip.0 in
     record {
-      met = met_frames rules roll_off large 0 0 pieces fields rest received ∙ ap (λ n. met ++ met_from rules.finds rules.size n 0 false rest) (omega arith);
+      met = met_frames rules roll_off large 0 0 pieces fields rest received ∙ ap (λ n. met ++ met_from rules.finds rules.size n 0 nothing_over rest) (omega arith);
       written = join.packets ∙ ap joined good;
       frames_count = counts.0 ∙ omega arith;
       delivered = counts.1 ∙ omega arith;
       packets_count = join.good ∙ ap (λ l. 0 + length l) good ∙ omega arith;
       bad = join.bad ∙ ap (λ j. 0 + j.bad) events ∙ omega (arith, trip.1);
+      torn_none = join.torn_is ∙ ap (λ e. 0 + torn None e) those ∙ omega (arith, trip.2);
       cut = counts.2;
+      over = counts.3 (refl, refl, refl);
       all = λ none. ap (λ n. take (closed_in n) packets) (ap length (sym (append-nil (joined fields)) ∙ ap (λ l. joined fields ++ joined l) (sym none) ∙ sym whole)) ∙ all_closed packets each;
     }
 
@@ -111,7 +116,7 @@ pub front : FrontLaw
 front rules roll_off size packets fields later pieces rest bytes mid left p p' w w' met large room each cut_so received spelt count went =
     let g = gives rules roll_off size packets fields later pieces rest large room each cut_so received in
     let just = frames_at rules.size 0 pieces in
-    let whole = ap (met_from rules.finds rules.size 0 0 false) spelt ∙ g.met in
+    let whole = ap (met_from rules.finds rules.size 0 0 nothing_over) spelt ∙ g.met in
     let many : length met ≡ length just = count ∙ sym (length_frames rules roll_off large 0 0 pieces fields received) in
-    let same : met ≡ just = front_of (met_from rules.finds rules.size 0 0 false (symbols_of bytes)) _ met just _ went.left whole many in
+    let same : met ≡ just = front_of (met_from rules.finds rules.size 0 0 nothing_over (symbols_of bytes)) _ met just _ went.left whole many in
     (same, subst (Appends p p') (ap (all_packets rules at_start) same ∙ g.written) went.packets)

@@ -1,5 +1,5 @@
 -- What follows from the definitions alone.
-use Rattle.std.specs.Prelude.{◌≡◌, ℕ, ◌+◌, ◌-◌, ◌<◌, ◌≤◌, Bool, false, if◌then◌else◌, List, [], ◌∷◌, ◌++◌, length, take, drop, All, Option, Some, Ok, ⊤}
+use Rattle.std.specs.Prelude.{◌≡◌, ℕ, ◌+◌, ◌-◌, ◌<◌, ◌≤◌, false, if◌then◌else◌, List, [], ◌∷◌, ◌++◌, length, take, drop, All, Option, Some, Ok, ⊤}
 use Rattle.std.specs.List.{flat_map}
 use Rattle.s2_mode.specs.declared.symbols.Symbol.{Symbol}
 use Rattle.s2_bbframe.specs.declared.header.Header.{Header}
@@ -8,10 +8,12 @@ use Rattle.s2_plframe.specs.declared.receive.found.Found.{Found}
 use Rattle.s2_plframe.specs.declared.receive.found.Found.TheVariants as founds
 use Rattle.s2_bbframe.specs.Limits.{packet_bytes}
 use Rattle.s2_bbframe.specs.DataStream.{IsPacket, stream_of, fields_of, header_at}
-use Rattle.s2_bbframe.specs.Joining.{Event, gap, joining, closed_in}
-use Rattle.s2_receive.specs.Meeting.{Met, frame, cut, ended, begins, met_from, passed}
+use Rattle.s2_bbframe.specs.Joining.{Event, gap, joining, torn, closed_in}
+use Rattle.s2_receive.specs.declared.stretch.Stretch.{Stretch}
+use Rattle.s2_receive.specs.Meeting.{Met, frame, cut, ended, nothing_over, is_over, begins, met_from, passed}
 use Rattle.s2_receive.specs.Receiving.{Rules, Decision, Standing, State, Went, StepAnswers, RunsOut, begun, delivery, at_start, after_all, all_packets, all_lines}
 use Rattle.s2_receive.specs.declared.report.Step.{Step}
+use Rattle.s2_receive.specs.declared.report.Totals.{Totals}
 use Rattle.s2_mode.specs.Symbols.{symbols_of}
 use Rattle.std.specs.Io.KnownBytes.{Appends}
 
@@ -23,9 +25,9 @@ joined lists = flat_map (λ list. list) lists
 
 -- what comes to the joiner of something met
 abbrev pub met_events : (List Symbol → Decision) → Met → List Event
-met_events decide (frame at over symbols) = (if over then gap ∷ [] else []) ++ (delivery (decide symbols).delivered ∷ [])
-met_events decide (cut at count) = gap ∷ []
-met_events decide ended = []
+met_events decide (frame at over symbols) = (if is_over over then gap ∷ [] else []) ++ (delivery (decide symbols).delivered ∷ [])
+met_events decide (cut at over count) = gap ∷ []
+met_events decide (ended over) = []
 
 abbrev pub events_of : (List Symbol → Decision) → List Met → List Event
 events_of decide [] = []
@@ -37,6 +39,7 @@ pub record IsJoined (rules : Rules) (s : Standing) (met : List Met) : Type 0 whe
   pub packets : all_packets rules s met ≡ joined (joining s.held (events_of rules.decide met)).good
   pub good : (after_all rules s met).totals.packets ≡ s.totals.packets + length (joining s.held (events_of rules.decide met)).good
   pub bad : (after_all rules s met).totals.bad ≡ s.totals.bad + (joining s.held (events_of rules.decide met)).bad
+  pub torn_is : (after_all rules s met).totals.torn ≡ s.totals.torn + torn s.held (events_of rules.decide met)
 
 abbrev pub JoiningLaw : Type 0
 JoiningLaw = (rules : Rules) (s : Standing) (met : List Met) → IsJoined rules s met
@@ -77,19 +80,25 @@ AreReceived rules roll_off at (dummy symbols ∷ pieces) fields = IsDummy rules.
 -- just these coded frames, one after another from a position on, with none passed over
 abbrev pub frames_at : ℕ → ℕ → List Piece → List Met
 frames_at size at [] = []
-frames_at size at (coded symbols ∷ pieces) = frame at false symbols ∷ frames_at size (at + size) pieces
+frames_at size at (coded symbols ∷ pieces) = frame at nothing_over symbols ∷ frames_at size (at + size) pieces
 frames_at size at (dummy symbols ∷ pieces) = frames_at size (at + dummy_symbols) pieces
 
--- Coded frames that were received as sent, the first ones of a stream, are met as just these. The packets written then are those
+-- no symbol was passed over
+abbrev pub PassedNone : Totals → Type 0
+PassedNone t = (t.passed ≡ 0) × (t.places ≡ 0) × (t.first ≡ 0)
+
+-- Coded frames that were received as sent, the first ones of a stream, are met as just these, and no packet is torn. The packets written then are those
 -- whose closing CRC-8 lies in the fields of these frames; all of them where these are all fields.
 pub record Gives (rules : Rules) (packets fields later : List (List ℕ)) (pieces : List Piece) (rest : List Symbol) : Type 0 where
-  pub met : met_from rules.finds rules.size 0 0 false (stream_symbols pieces ++ rest) ≡ frames_at rules.size 0 pieces ++ met_from rules.finds rules.size (length (stream_symbols pieces)) 0 false rest
+  pub met : met_from rules.finds rules.size 0 0 nothing_over (stream_symbols pieces ++ rest) ≡ frames_at rules.size 0 pieces ++ met_from rules.finds rules.size (length (stream_symbols pieces)) 0 nothing_over rest
   pub written : all_packets rules at_start (frames_at rules.size 0 pieces) ≡ joined (take (closed_in (length (joined fields))) packets)
   pub frames_count : (after_all rules at_start (frames_at rules.size 0 pieces)).totals.frames ≡ length fields
   pub delivered : (after_all rules at_start (frames_at rules.size 0 pieces)).totals.delivered ≡ length fields
   pub packets_count : (after_all rules at_start (frames_at rules.size 0 pieces)).totals.packets ≡ length (take (closed_in (length (joined fields))) packets)
   pub bad : (after_all rules at_start (frames_at rules.size 0 pieces)).totals.bad ≡ 0
+  pub torn_none : (after_all rules at_start (frames_at rules.size 0 pieces)).totals.torn ≡ 0
   pub cut : (after_all rules at_start (frames_at rules.size 0 pieces)).totals.cut ≡ false
+  pub over : PassedNone (after_all rules at_start (frames_at rules.size 0 pieces)).totals
   pub all : later ≡ [] → take (closed_in (length (joined fields))) packets ≡ packets
 
 abbrev pub ReceptionLaw : Type 0
@@ -116,19 +125,19 @@ NoneBegins finds n symbols = (i : ℕ) → i < n → begins finds (drop i symbol
 -- The search in its own words: where no header begins at the first n symbols and a coded frame's begins at the next, that is where
 -- the next frame stands; it has its symbols and the search goes on behind them, or it is cut. Where a dummy frame's begins there,
 -- the search goes on behind its symbols, or the end comes where it lacks some. Where none begins anywhere the end comes.
-pub record Searches (finds : List Symbol → Found) (size at : ℕ) (over : Bool) (symbols : List Symbol) : Type 0 where
+pub record Searches (finds : List Symbol → Found) (size at : ℕ) (over : Stretch) (symbols : List Symbol) : Type 0 where
   pub found : (n : ℕ) → n + size ≤ length symbols → NoneBegins finds n symbols → begins finds (drop n symbols) ≡ founds.Coded
-      → met_from finds size at 0 over symbols ≡ frame (at + n) (passed over n) (take size (drop n symbols)) ∷ met_from finds size (at + n + size) 0 false (drop (n + size) symbols)
+      → met_from finds size at 0 over symbols ≡ frame (at + n) (passed over at n) (take size (drop n symbols)) ∷ met_from finds size (at + n + size) 0 nothing_over (drop (n + size) symbols)
   pub lacks : (n : ℕ) → n < length symbols → length symbols < n + size → NoneBegins finds n symbols → begins finds (drop n symbols) ≡ founds.Coded
-      → met_from finds size at 0 over symbols ≡ cut (at + n) (length symbols - n) ∷ (ended ∷ [])
+      → met_from finds size at 0 over symbols ≡ cut (at + n) (passed over at n) (length symbols - n) ∷ (ended nothing_over ∷ [])
   pub goes_on : (n : ℕ) → n + dummy_symbols ≤ length symbols → NoneBegins finds n symbols → begins finds (drop n symbols) ≡ founds.Dummy
-      → met_from finds size at 0 over symbols ≡ met_from finds size (at + n + dummy_symbols) 0 (passed over n) (drop (n + dummy_symbols) symbols)
+      → met_from finds size at 0 over symbols ≡ met_from finds size (at + n + dummy_symbols) 0 (passed over at n) (drop (n + dummy_symbols) symbols)
   pub breaks_off : (n : ℕ) → n < length symbols → length symbols < n + dummy_symbols → NoneBegins finds n symbols → begins finds (drop n symbols) ≡ founds.Dummy
-      → met_from finds size at 0 over symbols ≡ ended ∷ []
-  pub none : NoneBegins finds (length symbols) symbols → met_from finds size at 0 over symbols ≡ ended ∷ []
+      → met_from finds size at 0 over symbols ≡ ended (passed over at n) ∷ []
+  pub none : NoneBegins finds (length symbols) symbols → met_from finds size at 0 over symbols ≡ ended (passed over at (length symbols)) ∷ []
 
 abbrev pub SearchLaw : Type 0
-SearchLaw = (finds : List Symbol → Found) (size at : ℕ) (over : Bool) (symbols : List Symbol) → header_symbols ≤ size → Searches finds size at over symbols
+SearchLaw = (finds : List Symbol → Found) (size at : ℕ) (over : Stretch) (symbols : List Symbol) → header_symbols ≤ size → Searches finds size at over symbols
 
 -- ---- one stream of symbols, read in two ways
 

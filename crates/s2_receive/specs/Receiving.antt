@@ -1,12 +1,14 @@
 -- What a receiver does with what it meets.
-use Rattle.std.specs.Prelude.{◌≡◌, ℕ, ℤ, ◌+◌, Bool, true, false, ◌&&◌, if◌then◌else◌, List, [], ◌∷◌, ◌++◌, length, Option, Some, None, Result, Ok, Err, ⊤}
+use Rattle.std.specs.Prelude.{◌≡◌, ℕ, ℤ, ◌+◌, Bool, true, false, ◌&&◌, nat_eq, nat_lt, if◌then◌else◌, List, [], ◌∷◌, ◌++◌, length, Option, Some, None, Result, Ok, Err, ⊤}
 use Rattle.std.specs.List.{flat_map}
 use Rattle.std.specs.Io.KnownBytes.{Appends}
 use Rattle.s2_mode.specs.declared.symbols.Symbol.{Symbol}
 use Rattle.s2_plframe.specs.declared.receive.found.Found.{Found}
 use Rattle.s2_bbframe.specs.declared.header.Header.{Header}
-use Rattle.s2_bbframe.specs.Joining.{Event, field, gap, Joined, step}
-use Rattle.s2_receive.specs.Meeting.{Met, frame, cut, ended, met_in}
+use Rattle.s2_mode.specs.Limits.{header_symbols}
+use Rattle.s2_bbframe.specs.Joining.{Event, field, gap, Joined, step, begun_body, torn_in}
+use Rattle.s2_receive.specs.declared.stretch.Stretch.{Stretch}
+use Rattle.s2_receive.specs.Meeting.{Met, frame, cut, ended, nothing_over, is_over, met_in}
 use Rattle.s2_receive.specs.Finding.{YieldsSymbols, Meets}
 use Rattle.s2_receive.specs.Stepping.{FailsIn}
 use Rattle.s2_check.specs.declared.verdict.Verdict.{Verdict}
@@ -56,21 +58,44 @@ pub record Standing : Type 0 where
 
 -- no frame so far
 abbrev pub at_start : Standing
-at_start = record { held = None; totals = record { frames = 0; delivered = 0; packets = 0; bad = 0; cut = false } }
+at_start = record { held = None; totals = record { frames = 0; delivered = 0; packets = 0; bad = 0; torn = 0; cut = false; passed = 0; places = 0; first = 0 } }
 
--- the joiner after a frame: a gap comes first where symbols were passed over
-abbrev pub joined_after : Option (List ℕ) → Bool → Option (Header × List ℕ) → Joined
-joined_after held over delivered = step (if over then None else held) (delivery delivered)
+-- what the joiner holds when a frame comes: a gap comes first where symbols were passed over
+abbrev pub held_before : Option (List ℕ) → Stretch → Option (List ℕ)
+held_before held over = if is_over over then None else held
+
+-- how many bodies that gap drops
+abbrev pub torn_before : Option (List ℕ) → Stretch → ℕ
+torn_before held over = if is_over over then begun_body held else 0
+
+-- the joiner after the frame
+abbrev pub joined_after : Option (List ℕ) → Stretch → Option (Header × List ℕ) → Joined
+joined_after held over delivered = step (held_before held over) (delivery delivered)
+
+-- and how many bodies that were begun it dropped
+abbrev pub torn_after : Option (List ℕ) → Stretch → Option (Header × List ℕ) → ℕ
+torn_after held over delivered = torn_before held over + torn_in (held_before held over) (delivery delivered)
 
 abbrev pub count_of : Option (Header × List ℕ) → ℕ
 count_of (Some pair) = 1
 count_of None = 0
 
-abbrev pub totals_after : Totals → Joined → ℕ → Totals
-totals_after t joined delivered = record { frames = t.frames + 1; delivered = t.delivered + delivered; packets = t.packets + length joined.good; bad = t.bad + joined.bad; cut = t.cut }
+-- the totals with what was passed over in one place more, or in none; the first place is kept
+abbrev pub passes : Totals → Stretch → Totals
+passes t over = record t { passed = t.passed + over.symbols; places = t.places + (if is_over over then 1 else 0); first = if nat_eq t.places 0 then over.first else t.first }
 
-abbrev pub cut_totals : Totals → Totals
-cut_totals t = record { frames = t.frames; delivered = t.delivered; packets = t.packets; bad = t.bad; cut = true }
+-- what counts of what was passed over behind the last frame, where the stream ends: of fewer symbols than a header has, none
+abbrev pub at_end : Stretch → Stretch
+at_end over = if nat_lt over.symbols header_symbols then nothing_over else over
+
+-- the totals with a frame more
+abbrev pub totals_after : Totals → Joined → ℕ → ℕ → Totals
+totals_after t joined torn delivered =
+    record t { frames = t.frames + 1; delivered = t.delivered + delivered; packets = t.packets + length joined.good; bad = t.bad + joined.bad; torn = t.torn + torn }
+
+-- and with a cut one
+abbrev pub cut_totals : Totals → ℕ → Totals
+cut_totals t torn = record t { torn = t.torn + torn; cut = true }
 
 abbrev pub report_for : Decision → Totals → ℕ → Report
 report_for decision t at = record { number = t.frames + 1; at = at; verdict = decision.verdict; outcome = decision.outcome }
@@ -83,10 +108,11 @@ abbrev pub after : Rules → Standing → Met → Standing
 after rules s (frame at over symbols) =
     record {
       held = (joined_after s.held over (rules.decide symbols).delivered).held;
-      totals = totals_after s.totals (joined_after s.held over (rules.decide symbols).delivered) (count_of (rules.decide symbols).delivered);
+      totals =
+          totals_after (passes s.totals over) (joined_after s.held over (rules.decide symbols).delivered) (torn_after s.held over (rules.decide symbols).delivered) (count_of (rules.decide symbols).delivered);
     }
-after rules s (cut at count) = record { held = None; totals = cut_totals s.totals }
-after rules s ended = s
+after rules s (cut at over count) = record { held = None; totals = cut_totals (passes s.totals over) (begun_body s.held) }
+after rules s (ended over) = record { held = s.held; totals = passes s.totals (at_end over) }
 
 -- the bytes of the packets that it gives
 abbrev pub packets_of : Rules → Standing → Met → List ℕ
@@ -96,14 +122,14 @@ packets_of rules s met = []
 -- its line of the report
 abbrev pub line_of : Rules → Standing → Met → List ℕ
 line_of rules s (frame at over symbols) = rules.frame_line (report_of rules s.totals at symbols)
-line_of rules s (cut at count) = rules.cut_line at count
-line_of rules s ended = rules.end_line s.totals
+line_of rules s (cut at over count) = rules.cut_line at count
+line_of rules s (ended over) = rules.end_line (passes s.totals (at_end over))
 
 -- the answer
 abbrev pub step_of : Rules → Standing → Met → Step
 step_of rules s (frame at over symbols) = steps.Frame (report_of rules s.totals at symbols)
-step_of rules s (cut at count) = steps.Cut at count
-step_of rules s ended = steps.End
+step_of rules s (cut at over count) = steps.Cut at count
+step_of rules s (ended over) = steps.End
 
 -- the same for all that is met
 abbrev pub after_all : Rules → Standing → List Met → Standing
@@ -162,8 +188,8 @@ IsLive phases.Failed = ⊥
 
 abbrev pub phase_after : Met → Phase
 phase_after (frame at over symbols) = phases.Searching
-phase_after (cut at count) = phases.Closing
-phase_after ended = phases.Ended
+phase_after (cut at over count) = phases.Closing
+phase_after (ended over) = phases.Ended
 
 -- whether no frame comes any more
 abbrev pub rank : Phase → ℕ
@@ -174,8 +200,8 @@ rank phases.Failed = 2
 
 -- what is still to be met in known bytes
 abbrev pub met_left : Rules → Phase → ℕ → Option (List ℕ) → Option (List Met)
-met_left rules phases.Searching at bytes = met_in rules.finds rules.size at 0 false [] bytes
-met_left rules phases.Closing at bytes = Some (ended ∷ [])
+met_left rules phases.Searching at bytes = met_in rules.finds rules.size at 0 nothing_over [] bytes
+met_left rules phases.Closing at bytes = Some (ended nothing_over ∷ [])
 met_left rules phases.Ended at bytes = Some []
 met_left rules phases.Failed at bytes = Some []
 
@@ -213,7 +239,7 @@ pub record Went (rules : Rules) (old new : State) (reader_old reader_new packets
 
 -- The frame of this report was met, what is decided of its symbols was decided last, and the report tells that.
 pub record MetFrame (rules : Rules) (old new : State) (reader_old reader_new packets_old packets_new report_old report_new : Option (List ℕ)) (report : Report) (last : Decision) : Type 0 where
-  pub over : Bool
+  pub over : Stretch
   pub symbols : List Symbol
   pub went : Went rules old new reader_old reader_new packets_old packets_new report_old report_new (frame report.at over symbols ∷ [])
   pub is_last : last ≡ rules.decide symbols

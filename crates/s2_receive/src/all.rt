@@ -47,6 +47,7 @@ pub fn receive_all<
         receiver.old.state receiver.new.state
         (R.remaining reader.old) (R.remaining reader.new) (P.contents packets.old) (P.contents packets.new) (W.contents report.old) (W.contents report.new) received.well) }
     ensures totals { IfOk result (λ received. received.totals ≡ receiver.new.state.standing.totals) }
+    ensures symbols { IfOk result (λ received. received.symbols ≡ receiver.new.state.at) }
     ensures stops { IsErrOf result StreamFault.Read → StopsAfter (rules_in S.finds D.decide L.frame_line L.cut_line L.end_line receiver.old)
         receiver.old.state
         (R.remaining reader.old) (P.contents packets.old) (P.contents packets.new) (W.contents report.old) (W.contents report.new) }
@@ -67,7 +68,12 @@ pub fn receive_all<
             Ok(step) => {
                 if step == Step::End {
                     let totals = receiver.totals();
-                    return Ok(Received { totals, well });
+                    let symbols = receiver.place.at;
+                    return Ok(Received {
+                        totals,
+                        well,
+                        symbols,
+                    });
                 }
                 well &= is_well(step);
             }

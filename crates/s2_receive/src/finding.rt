@@ -4,23 +4,24 @@ ghost use Rattle.std.specs.Io.KnownBytes.{IsAtEnd};
 ghost use Rattle.s2_mode.specs.Counts.{CountsFault};
 ghost use Rattle.s2_mode.specs.Limits.{header_symbols, most_symbols};
 ghost use Rattle.s2_plframe.specs.declared.receive.found.Found.{Found};
-ghost use Rattle.s2_receive.specs.Meeting.{met_in, frame as met_frame};
-ghost use Rattle.s2_receive.specs.Finding.{Reaches, Meets, Looks, LiesWithin, IsFrameAfter, met_with, place_with, met_of, met_after, place_after};
+ghost use Rattle.s2_receive.specs.Meeting.{met_in, nothing_over, frame as met_frame};
+ghost use Rattle.s2_receive.specs.Finding.{Reaches, Meets, Looks, LiesWithin, IsBehind, met_with, place_with, met_of, met_after, place_after};
 
 use crate::reading::read_symbols;
 use crate::scanning::look_through;
 use crate::search::Search;
+use crate::stretch::Stretch;
 use s2_mode::{CountedRead, ReadFault, Symbol};
 
 /// What comes next in the stream; positions count symbols from 0.
 #[derive(Clone, Copy)]
 pub(crate) enum Next {
-    /// A coded frame that has all its symbols, and whether symbols were passed over before it.
-    Frame { at: u64, over: bool },
-    /// A frame that has so many symbols and lacks the others.
-    Cut { at: u64, count: u64 },
-    /// No frame comes any more, and the stream has so many symbols.
-    End { at: u64 },
+    /// A coded frame that has all its symbols, and what was passed over before it.
+    Frame { at: u64, over: Stretch },
+    /// A frame that has so many symbols and lacks the others, and what was passed over before it.
+    Cut { at: u64, over: Stretch, count: u64 },
+    /// No frame comes any more, the stream has so many symbols, and these were passed over last.
+    End { at: u64, over: Stretch },
 }
 
 /// What is held of the stream at the front of a frame's buffer.
@@ -28,8 +29,8 @@ pub(crate) enum Next {
 struct Held {
     /// The place of its first symbol.
     at: u64,
-    /// Whether symbols were passed over before it.
-    over: bool,
+    /// What was passed over before it.
+    over: Stretch,
     count: usize,
     /// How many symbols from the first on still belong to a dummy frame. Behind them a frame may begin.
     inside: usize,
@@ -64,21 +65,30 @@ fn fill<R: CountedRead>(
 fn meet_last<S: Search>(search: &mut S, frame: &[Symbol], held: Held) -> Next
     requires few { held.count < length frame.now }
     requires size { length frame.now ≤ 2 ^ 32 }
-    requires place { place_with held < 2 ^ 64 }
+    requires place { place_with held ≤ most_symbols }
+    requires over { held.over.symbols ≤ held.at }
     ensures met { (bytes : Option (List ℕ)) → IsAtEnd bytes → Meets (met_with (S.finds search.old) held frame.now bytes) (met_after (S.finds search.old) (length frame.now) result bytes) (met_of result frame.now ∷ []) }
     ensures place { place_after (length frame.now) result ≡ place_with held }
-    ensures frame { IsFrameAfter held.at result }
+    ensures behind { IsBehind held.at held.over result }
     ensures same { S.finds search.new ≡ S.finds search.old }
 {
-    let scan = look_through(search, &frame[..held.count], held.inside, held.over);
+    let scan = look_through(
+        search,
+        &frame[..held.count],
+        held.at,
+        held.inside,
+        held.over,
+    );
     if scan.coded {
         Next::Cut {
             at: held.at + scan.place as u64,
+            over: scan.over,
             count: (held.count - scan.place) as u64,
         }
     } else {
         Next::End {
             at: held.at + held.count as u64,
+            over: scan.over.passed(held.at, scan.place, held.count),
         }
     }
 }
@@ -89,16 +99,18 @@ fn meet_last<S: Search>(search: &mut S, frame: &[Symbol], held: Held) -> Next
 fn pass_over<S: Search>(search: &mut S, frame: &mut [Symbol], held: &mut Held) -> bool
     requires size { (header_symbols ≤ length frame.old) × (length frame.old ≤ 2 ^ 32) }
     requires full { held.old.count ≡ length frame.old }
-    requires place { place_with held.old < 2 ^ 64 }
+    requires place { place_with held.old ≤ most_symbols }
+    requires over { held.old.over.symbols ≤ held.old.at }
     ensures stands { result ≡ false → (bytes : Option (List ℕ)) → Meets (met_with (S.finds search.old) held.old frame.old bytes)
-        (met_in (S.finds search.old) (length frame.old) (place_with held.old) 0 false [] bytes) (met_frame held.new.at held.new.over frame.new ∷ []) }
-    ensures held { result ≡ false → held.new.at ≡ held.old.at }
+        (met_in (S.finds search.old) (length frame.old) (place_with held.old) 0 nothing_over [] bytes) (met_frame held.new.at held.new.over frame.new ∷ []) }
+    ensures held { result ≡ false → (held.new.at ≡ held.old.at) × (held.new.over.symbols ≤ held.old.over.symbols) }
     ensures passed { result ≡ true → (bytes : Option (List ℕ)) → Meets (met_with (S.finds search.old) held.old frame.old bytes) (met_with (S.finds search.old) held.new frame.new bytes) [] }
     ensures further { result ≡ true → (held.old.at < held.new.at) × (place_with held.new ≡ place_with held.old) }
+    ensures over { result ≡ true → held.old.at + held.new.over.symbols ≤ held.new.at + held.old.over.symbols }
     ensures same { S.finds search.new ≡ S.finds search.old }
 {
     let size = frame.len();
-    let scan = look_through(search, frame, held.inside, held.over);
+    let scan = look_through(search, frame, held.at, held.inside, held.over);
     if scan.place == 0 {
         held.over = scan.over;
         return false;
@@ -129,6 +141,7 @@ fn look<S: Search, R: CountedRead>(
     requires bytes { length bytes.old ≡ 4 * length frame.old }
     requires held { held.old.count < length frame.old }
     requires place { place_with held.old ≤ limit }
+    requires over { held.old.over.symbols ≤ held.old.at }
     requires limit { limit ≤ most_symbols }
     ensures looks { IfOk result (Looks (S.finds search.old) limit held.old held.new frame.old frame.new (R.remaining reader.old) (R.remaining reader.new)) }
     ensures count { IfOk result (λ _. R.count reader.new ≡ R.count reader.old) }
@@ -172,7 +185,7 @@ pub(crate) fn find_frame<S: Search, R: CountedRead>(
     requires bytes { length bytes.old ≡ 4 * length frame.old }
     requires start { start ≤ limit }
     requires limit { limit ≤ most_symbols }
-    ensures met { IfOk result (λ found. Meets (met_in (S.finds search.old) (length frame.old) start 0 false [] (R.remaining reader.old))
+    ensures met { IfOk result (λ found. Meets (met_in (S.finds search.old) (length frame.old) start 0 nothing_over [] (R.remaining reader.old))
         (met_after (S.finds search.old) (length frame.old) found (R.remaining reader.new)) (met_of found frame.new ∷ [])) }
     ensures taken { IfOk result (λ found. Reaches (place_after (length frame.old) found) start (R.remaining reader.old) (R.remaining reader.new)) }
     ensures within { IfOk result (LiesWithin (length frame.old) start limit) }
@@ -182,7 +195,7 @@ pub(crate) fn find_frame<S: Search, R: CountedRead>(
 {
     let mut held = Held {
         at: start,
-        over: false,
+        over: Stretch::none(),
         count: 0,
         inside: 0,
     };

@@ -7,7 +7,7 @@
 //! [`Receiver::next`] takes one step: the reader gives the symbols up to that step's end and no others, the
 //! answer is the first coded frame at or after the end of the last one, a frame that lacks symbols, or the end, and
 //! just its packets and its line are written. Dummy frames are passed: they are in no report, and packets are joined
-//! across them. [`receive_all`] and [`receive_bytes`] take all steps. What is met is a function of the symbols
+//! across them. [`Totals`] tell what was lost: symbols that were passed over, and packets that were begun and dropped. [`receive_all`] and [`receive_bytes`] take all steps. What is met is a function of the symbols
 //! (`specs/Meeting.antt`), and what stands, is written and is answered then a function of what is met
 //! (`specs/Receiving.antt`). [`laws`] has what follows: the search in its own words, that packets are joined without a
 //! gap alone, that frames received as they were sent give what was sent, and that it doesn't matter how a reader cuts
@@ -32,6 +32,7 @@ mod receiver;
 mod report;
 mod scanning;
 mod search;
+mod stretch;
 mod telling;
 
 pub use all::{receive_all, receive_bytes};

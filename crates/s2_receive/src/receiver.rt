@@ -11,6 +11,7 @@ use crate::finding::{Next, find_frame};
 use crate::parts::{Decide, Lines};
 use crate::report::{Fault, Phase, Step, Totals};
 use crate::search::Search;
+use crate::stretch::Stretch;
 use s2_bbframe::Joiner;
 use s2_mode::{CountedRead, CountedWrite, ReadFault, StreamFault, Symbol};
 use std::alloc::{AllocError, Global};
@@ -106,13 +107,7 @@ impl<S: Search, D: Decide, L: Lines> Receiver<S, D, L> {
             place: Place {
                 phase: Phase::Searching,
                 at: 0,
-                totals: Totals {
-                    frames: 0,
-                    delivered: 0,
-                    packets: 0,
-                    bad: 0,
-                    cut: false,
-                },
+                totals: Totals::none(),
             },
             limit,
         })
@@ -246,7 +241,10 @@ impl<S: Search, D: Decide, L: Lines> Receiver<S, D, L> {
         } = self.place;
         self.place.phase = Phase::Failed;
         if phase == Phase::Closing {
-            return Ok(Next::End { at });
+            return Ok(Next::End {
+                at,
+                over: Stretch::none(),
+            });
         }
         find_frame(
             &mut self.search,

@@ -1,7 +1,9 @@
 //! What a receiver answers and counts.
-ghost use Rattle.std.specs.Prelude.{◌≡◌};
+ghost use Rattle.std.specs.Prelude.{◌≡◌, ◌+◌, ◌^◌, ◌<◌, ◌≤◌};
 ghost use Rattle.s2_receive.specs.Faults.{fault_of};
+ghost use Rattle.s2_receive.specs.Receiving.{at_start, passes, cut_totals};
 
+use crate::stretch::Stretch;
 use s2_bbframe::HeaderFault;
 use s2_check::Verdict;
 use s2_mode::StreamFault;
@@ -34,15 +36,94 @@ pub struct Totals {
     pub delivered: u64,
     pub packets: u64,
     pub bad: u64,
+    /// Packets of which a body was begun, with at least a byte, and dropped: by a gap, or by a header that
+    /// names another place than the next one.
+    pub torn: u64,
     pub cut: bool,
+    /// The symbols that belong to no frame, to no cut one and to no dummy frame; behind the last frame fewer than
+    /// 90 in all are none.
+    pub passed: u64,
+    /// In how many places they stand, each in front of a frame or a cut one, or behind the last frame. A dummy frame
+    /// divides none.
+    pub places: u64,
+    /// Where the first of them stands, 0 where there is none.
+    pub first: u64,
 }
 
-/// What a run to the end came to: its totals, and whether each frame was delivered with bits that are most
+impl Totals {
+    /// Nothing.
+    pub(crate) fn none() -> Totals
+        ensures { result ≡ at_start.totals }
+    {
+        Totals {
+            frames: 0,
+            delivered: 0,
+            packets: 0,
+            bad: 0,
+            torn: 0,
+            cut: false,
+            passed: 0,
+            places: 0,
+            first: 0,
+        }
+    }
+
+    /// With what was passed over in one place more, or in none.
+    pub(crate) fn passes(self, over: Stretch) -> Totals
+        requires symbols { self.passed + over.symbols < 2 ^ 63 }
+        requires places { self.places < 2 ^ 63 }
+        ensures { result ≡ passes self over }
+    {
+        Totals {
+            passed: self.passed + over.symbols,
+            places: self.places + u64::from(over.is_over()),
+            first: if self.places == 0 {
+                over.first
+            } else {
+                self.first
+            },
+            ..self
+        }
+    }
+
+    /// With a frame more: so many delivered messages, packets, bodies with a wrong CRC-8, and torn bodies.
+    pub(crate) fn with_frame(self, delivered: u64, good: u64, bad: u64, torn: u64) -> Totals
+        requires frames { (self.frames < 2 ^ 62) × (self.delivered < 2 ^ 62) × (delivered ≤ 1) }
+        requires packets { (self.packets < 2 ^ 62) × (self.bad < 2 ^ 62) × (good + bad ≤ 8191) }
+        requires torn { (self.torn < 2 ^ 62) × (torn ≤ 2) }
+        ensures { result ≡ record self { frames = self.frames + 1; delivered = self.delivered + delivered; packets = self.packets + good; bad = self.bad + bad; torn = self.torn + torn } }
+    {
+        Totals {
+            frames: self.frames + 1,
+            delivered: self.delivered + delivered,
+            packets: self.packets + good,
+            bad: self.bad + bad,
+            torn: self.torn + torn,
+            ..self
+        }
+    }
+
+    /// With a cut frame, before which so many bodies were torn.
+    pub(crate) fn with_cut(self, torn: u64) -> Totals
+        requires { self.torn + torn < 2 ^ 63 }
+        ensures { result ≡ cut_totals self torn }
+    {
+        Totals {
+            torn: self.torn + torn,
+            cut: true,
+            ..self
+        }
+    }
+}
+
+/// What a run to the end came to: its totals, how many symbols it took, and whether each frame was delivered with bits that are most
 /// likely, and none was cut.
 #[derive(Clone, Copy, Debug, PartialEq, Eq)]
 pub struct Received {
     pub totals: Totals,
     pub well: bool,
+    /// How many symbols were taken in all.
+    pub symbols: u64,
 }
 
 /// What a step came to: a frame; a frame that lacks symbols, at which symbol it begins and how many it has; or

@@ -1,9 +1,10 @@
 //! The search in symbols that are held.
-ghost use Rattle.std.specs.Prelude.{◌≡◌, ◌-◌, ◌^◌, ◌≤◌, length};
-ghost use Rattle.s2_receive.specs.Meeting.{passed};
+ghost use Rattle.std.specs.Prelude.{◌≡◌, ◌+◌, ◌^◌, ◌≤◌, length};
+ghost use Rattle.s2_mode.specs.Limits.{most_symbols};
 ghost use Rattle.s2_receive.specs.Finding.{Scans};
 
 use crate::search::Search;
+use crate::stretch::Stretch;
 use s2_mode::{DUMMY_SYMBOLS, HEADER_SYMBOLS, Symbol};
 use s2_plframe::Found;
 
@@ -13,29 +14,25 @@ pub(crate) struct Scan {
     /// The place at which a coded frame begins, or else the first at which one may still begin: it lies
     /// behind the symbols where a dummy frame reaches past them.
     pub(crate) place: usize,
-    /// Whether symbols were passed over before it.
-    pub(crate) over: bool,
+    /// What was passed over before it.
+    pub(crate) over: Stretch,
     /// Whether a coded frame begins there.
     pub(crate) coded: bool,
 }
 
-/// Whether symbols were passed over, after those from one place to another.
-fn is_over(over: bool, start: usize, place: usize) -> bool
-    ensures { result ≡ passed over (place - start) }
-{
-    over || start < place
-}
-
-/// Looks for the header of a coded frame. The symbols of dummy frames are passed without a look, and so
-/// are so many of the first ones.
+/// Looks for the header of a coded frame in symbols that begin at this one of the stream. The symbols of dummy
+/// frames are passed without a look, and so are so many of the first ones; those at which nothing begins are passed over.
 pub(crate) fn look_through<S: Search>(
     search: &mut S,
     symbols: &[Symbol],
+    from: u64,
     inside: usize,
-    over: bool,
+    over: Stretch,
 ) -> Scan
     requires size { length symbols.now ≤ 2 ^ 32 }
-    ensures scans { Scans (S.finds search.old) symbols.now inside over result }
+    requires place { from + length symbols.now ≤ most_symbols }
+    requires over { over.symbols ≤ from }
+    ensures scans { Scans (S.finds search.old) symbols.now from inside over result }
     ensures same { S.finds search.new ≡ S.finds search.old }
 {
     let mut over = over;
@@ -51,13 +48,13 @@ pub(crate) fn look_through<S: Search>(
                 let place = at - HEADER_SYMBOLS;
                 return Scan {
                     place,
-                    over: is_over(over, start, place),
+                    over: over.passed(from, start, place),
                     coded: true,
                 };
             }
             Found::Dummy => {
                 let place = at - HEADER_SYMBOLS;
-                over = is_over(over, start, place);
+                over = over.passed(from, start, place);
                 start = place + DUMMY_SYMBOLS;
                 at = start;
                 search.restart();
@@ -67,7 +64,7 @@ pub(crate) fn look_through<S: Search>(
     let place = start.max(symbols.len().saturating_sub(HEADER_SYMBOLS - 1));
     Scan {
         place,
-        over: is_over(over, start, place),
+        over: over.passed(from, start, place),
         coded: false,
     }
 }

@@ -1,6 +1,7 @@
 //! What was found, told: its packets and its line.
 ghost use Rattle.std.specs.Prelude.{◌≡◌, ◌+◌, ◌-◌, ℕ, List, Option, ◌*◌, ◌^◌, ◌<◌, ◌≤◌, length};
 ghost use Rattle.s2_mode.specs.Counts.{CountsFault};
+ghost use Rattle.s2_mode.specs.Limits.{header_symbols};
 ghost use Rattle.s2_receive.specs.Meeting.{frame, cut, ended};
 ghost use Rattle.s2_receive.specs.Finding.{LiesWithin, met_of, place_after};
 ghost use Rattle.s2_receive.specs.Receiving.{Tells, IsDecided, rules_in};
@@ -10,8 +11,9 @@ use crate::delivering::give_packets;
 use crate::finding::Next;
 use crate::parts::{Decide, Lines};
 use crate::receiver::{Place, Receiver};
-use crate::report::{Phase, Report, Step, Totals};
+use crate::report::{Phase, Report, Step};
 use crate::search::Search;
+use crate::stretch::Stretch;
 use s2_mode::{CountedWrite, WriteFault};
 
 impl<S: Search, D: Decide, L: Lines> Receiver<S, D, L> {
@@ -20,13 +22,13 @@ impl<S: Search, D: Decide, L: Lines> Receiver<S, D, L> {
     fn deliver<P: CountedWrite, W: CountedWrite>(
         &mut self,
         at: u64,
-        over: bool,
+        over: Stretch,
         packets: &mut P,
         report: &mut W,
     ) -> Result<Step, WriteFault>
         requires packets { P.count packets.old < 2 ^ 64 - 1 }
         requires report { W.count report.old < 2 ^ 64 - 1 }
-        requires start { self.old.state.at ≤ at }
+        requires start { self.old.state.at + over.symbols ≤ at }
         requires room { at + length self.old.frame ≤ self.old.limit }
         ensures rules { rules_in S.finds D.decide L.frame_line L.cut_line L.end_line self.new ≡ rules_in S.finds D.decide L.frame_line L.cut_line L.end_line self.old }
         ensures tells { Tells (rules_in S.finds D.decide L.frame_line L.cut_line L.end_line self.old) self.old.state self.new.state (frame at over self.old.frame) (at + length self.old.frame)
@@ -41,14 +43,8 @@ impl<S: Search, D: Decide, L: Lines> Receiver<S, D, L> {
             over,
             packets,
         )?;
-        let before = self.place.totals;
-        let totals = Totals {
-            frames: before.frames + 1,
-            delivered: before.delivered + given.delivered,
-            packets: before.packets + given.good,
-            bad: before.bad + given.bad,
-            cut: before.cut,
-        };
+        let passed = self.place.totals.passes(over);
+        let totals = passed.with_frame(given.delivered, given.good, given.bad, given.torn);
         let line = Report {
             number: totals.frames,
             at,
@@ -68,34 +64,43 @@ impl<S: Search, D: Decide, L: Lines> Receiver<S, D, L> {
     fn meet_cut<W: CountedWrite>(
         &mut self,
         at: u64,
+        over: Stretch,
         count: u64,
         report: &mut W,
     ) -> Result<Step, WriteFault>
         requires report { W.count report.old < 2 ^ 64 - 1 }
-        requires start { self.old.state.at ≤ at + count }
+        requires start { self.old.state.at + over.symbols ≤ at }
+        requires some { header_symbols ≤ count }
         requires room { at + count ≤ self.old.limit }
         ensures rules { rules_in S.finds D.decide L.frame_line L.cut_line L.end_line self.new ≡ rules_in S.finds D.decide L.frame_line L.cut_line L.end_line self.old }
-        ensures tells { (packets : Option (List ℕ)) → Tells (rules_in S.finds D.decide L.frame_line L.cut_line L.end_line self.old) self.old.state self.new.state (cut at count) (at + count) packets packets (W.contents report.old) (W.contents report.new) result }
+        ensures tells { (packets : Option (List ℕ)) → Tells (rules_in S.finds D.decide L.frame_line L.cut_line L.end_line self.old) self.old.state self.new.state (cut at over count) (at + count) packets packets (W.contents report.old) (W.contents report.new) result }
         ensures cause { CountsFault (W.count report.old) (W.count report.new) result }
     {
-        self.joiner.gap();
+        let torn = self.joiner.gap();
         self.lines.write_cut(at, count, report)?;
-        self.place.totals.cut = true;
+        self.place.totals = self.place.totals.passes(over).with_cut(torn as u64);
         self.place.at = at + count;
         self.place.phase = Phase::Closing;
         Ok(Step::Cut { at, symbols: count })
     }
 
     /// Writes the last line.
-    fn meet_end<W: CountedWrite>(&mut self, at: u64, report: &mut W) -> Result<Step, WriteFault>
+    fn meet_end<W: CountedWrite>(
+        &mut self,
+        at: u64,
+        over: Stretch,
+        report: &mut W,
+    ) -> Result<Step, WriteFault>
         requires report { W.count report.old < 2 ^ 64 - 1 }
-        requires start { self.old.state.at ≤ at }
+        requires start { self.old.state.at + over.symbols ≤ at }
         requires room { at ≤ self.old.limit }
         ensures rules { rules_in S.finds D.decide L.frame_line L.cut_line L.end_line self.new ≡ rules_in S.finds D.decide L.frame_line L.cut_line L.end_line self.old }
-        ensures tells { (packets : Option (List ℕ)) → Tells (rules_in S.finds D.decide L.frame_line L.cut_line L.end_line self.old) self.old.state self.new.state ended at packets packets (W.contents report.old) (W.contents report.new) result }
+        ensures tells { (packets : Option (List ℕ)) → Tells (rules_in S.finds D.decide L.frame_line L.cut_line L.end_line self.old) self.old.state self.new.state (ended over) at packets packets (W.contents report.old) (W.contents report.new) result }
         ensures cause { CountsFault (W.count report.old) (W.count report.new) result }
     {
-        self.lines.write_end(self.place.totals, report)?;
+        let totals = self.place.totals.passes(over.at_end());
+        self.lines.write_end(totals, report)?;
+        self.place.totals = totals;
         self.place.at = at;
         self.place.phase = Phase::Ended;
         Ok(Step::End)
@@ -120,8 +125,8 @@ impl<S: Search, D: Decide, L: Lines> Receiver<S, D, L> {
     {
         match found {
             Next::Frame { at, over } => self.deliver(at, over, packets, report),
-            Next::Cut { at, count } => self.meet_cut(at, count, report),
-            Next::End { at } => self.meet_end(at, report),
+            Next::Cut { at, over, count } => self.meet_cut(at, over, count, report),
+            Next::End { at, over } => self.meet_end(at, over, report),
         }
     }
 }

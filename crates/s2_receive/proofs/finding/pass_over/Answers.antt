@@ -12,3 +12,11 @@ returns-clause-passed g c = λ is bytes.
     let gone : ℕ = c.min-gone.result in
     let least = c.min-gone.ensures in
     moved (g.S.Search.finds c.args.search.now) c.args.held.now symbols bytes c.look_through-scan.result c.requires.full c.requires.size.0 c.look_through-scan.ensures.scans gone c.copy_within.new.self (length symbols) (omega (arith, least)) (omega (arith, least)) c.copy_within.ensures.after refl c.copy_within.ensures.len
+
+pub returns-then-scan-eq0-clause-held : goal.returns-then-scan-eq0-clause-held
+returns-then-scan-eq0-clause-held g c = λ is. (refl, omega (arith, c.look_through-scan.ensures.scans.within.0, c.if-scan-eq0.true))
+
+pub returns-clause-over : goal.returns-clause-over
+returns-clause-over g c = λ is.
+    let within = c.look_through-scan.ensures.scans.within in
+    omega (arith, within.0, within.1, c.min-gone.ensures, c.requires.full)
