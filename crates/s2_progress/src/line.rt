@@ -1,0 +1,152 @@
+//! The words of a line.
+ghost use Rattle.std.specs.Prelude.{◌≡◌, ◌+◌, ◌-◌, ◌≤◌, ◌++◌, length, decimal};
+ghost use Rattle.s2_console.specs.Lines.{line_room};
+ghost use Rattle.s2_progress.specs.Words.{part, megabytes, counts_text, pace_text, line_text, fits, fitted, blanks, shown_text, wiped_text, widest};
+
+use crate::numbers::Numbers;
+use s2_console::Line;
+
+/// The most characters of a line.
+pub(crate) const WIDEST: usize = 191;
+
+/// Puts a number behind a line between words.
+fn push_between(line: &mut Line, before: &str, number: u64, after: &str)
+    requires { length line.old + (length before.now + 40) + length after.now ≤ line_room }
+    ensures bytes { line.new ≡ line.old ++ (before.now ++ decimal number ++ after.now) }
+    ensures room { length line.new ≤ length line.old + (length before.now + 20) + length after.now }
+{
+    line.push_number(before, number);
+    line.push(after);
+}
+
+/// The same where there is a number.
+fn push_part(line: &mut Line, before: &str, number: Option<u64>, after: &str)
+    requires { length line.old + (length before.now + 40) + length after.now ≤ line_room }
+    ensures bytes { line.new ≡ line.old ++ part before.now number after.now }
+    ensures room { length line.new ≤ length line.old + (length before.now + 20) + length after.now }
+{
+    if let Some(number) = number {
+        push_between(line, before, number, after);
+    }
+}
+
+/// Puts megabytes behind a line, of which so many tenths are there.
+#[tactic(auto, unfolding(crate::specs::Words::megabytes))]
+fn push_megabytes(line: &mut Line, tenths: u64)
+    requires { length line.old + 84 ≤ line_room }
+    ensures bytes { line.new ≡ line.old ++ megabytes tenths }
+    ensures room { length line.new ≤ length line.old + 44 }
+{
+    push_between(line, "", tenths / 10, ".");
+    push_between(line, "", tenths % 10, " MB");
+}
+
+/// Puts behind a line how much has passed.
+#[tactic(auto, unfolding(crate::specs::Words::counts_text))]
+fn push_counts(line: &mut Line, numbers: Numbers)
+    requires { length line.old ≤ 1 }
+    ensures bytes { line.new ≡ line.old ++ counts_text numbers }
+    ensures room { length line.new ≤ length line.old + 107 }
+{
+    line.push("s2: ");
+    push_part(line, "", numbers.frames, " frames, ");
+    push_part(line, "", numbers.packets, " packets, ");
+    push_megabytes(line, numbers.tenths);
+}
+
+/// Puts behind a line how fast it goes, and how far it has gone.
+#[tactic(auto, unfolding(crate::specs::Words::pace_text))]
+fn push_pace(line: &mut Line, numbers: Numbers)
+    requires { length line.old ≤ 108 }
+    ensures bytes { line.new ≡ line.old ++ pace_text numbers }
+    ensures room { length line.new ≤ length line.old + 84 }
+{
+    push_part(line, ", ", numbers.rate, " symbols/s");
+    push_part(line, ", ", numbers.share, "%");
+    push_part(line, ", ", numbers.left, " s left");
+}
+
+/// Puts the words of these numbers behind a line.
+#[tactic(auto, unfolding(crate::specs::Words::line_text))]
+fn push_numbers(line: &mut Line, numbers: Numbers)
+    requires { length line.old ≤ 1 }
+    ensures bytes { line.new ≡ line.old ++ line_text numbers }
+    ensures room { length line.new ≤ length line.old + widest }
+{
+    push_counts(line, numbers);
+    push_pace(line, numbers);
+}
+
+/// The words of these numbers: `s2: 7 frames, 120 packets, 1.9 MB, 500000 symbols/s, 41%, 12 s left`.
+pub fn line_of(numbers: Numbers) -> Line
+    ensures { result ≡ line_text numbers }
+{
+    let mut line = Line::new();
+    push_numbers(&mut line, numbers);
+    line
+}
+
+/// The most characters that are shown, for a terminal of 80 columns.
+const COLUMNS: usize = 79;
+
+/// Whether the words of these numbers fit on a line of a terminal.
+fn fits(numbers: Numbers) -> bool
+    ensures { result ≡ fits numbers }
+{
+    line_of(numbers).as_bytes().len() <= COLUMNS
+}
+
+/// What is shown of these numbers: where their words don't fit on a line, no frames, and where those don't fit either, no packets.
+fn fitted(numbers: Numbers) -> Numbers
+    ensures { result ≡ fitted numbers }
+{
+    let few = Numbers {
+        frames: None,
+        ..numbers
+    };
+    if fits(numbers) {
+        numbers
+    } else if fits(few) {
+        few
+    } else {
+        Numbers {
+            packets: None,
+            ..few
+        }
+    }
+}
+
+/// Puts so many blanks behind a line.
+fn push_blanks(line: &mut Line, count: usize)
+    requires { length line.old + count ≤ line_room }
+    ensures { line.new ≡ line.old ++ blanks count }
+{
+    'blanks: for _ in 0..count {
+        line.push(" ");
+    }
+}
+
+/// The words of what is shown of these numbers, over those that stand on the line before, of which there are so many characters.
+pub(crate) fn shown(numbers: Numbers, width: usize) -> Line
+    requires { width ≤ widest }
+    ensures { result ≡ shown_text numbers width }
+{
+    let mut line = Line::new();
+    line.push("\r");
+    push_numbers(&mut line, fitted(numbers));
+    let columns = line.as_bytes().len();
+    push_blanks(&mut line, (width + 1).saturating_sub(columns));
+    line
+}
+
+/// Blanks over what stands on the line before, of which there are so many characters.
+pub(crate) fn wiped(width: usize) -> Line
+    requires { width ≤ widest }
+    ensures { result ≡ wiped_text width }
+{
+    let mut line = Line::new();
+    line.push("\r");
+    push_blanks(&mut line, width);
+    line.push("\r");
+    line
+}

@@ -1,0 +1,157 @@
+//! The numbers of a line.
+ghost use Rattle.std.specs.Prelude.{◌≡◌};
+ghost use Rattle.s2_progress.specs.Numbers.{capped, ratio, symbols_of, packets_of, frames_of, done_of, whole_of, share_of, left_of, tenths_of, numbers_at};
+
+/// What of a command's bytes are packets, and what are symbols. `frame` tells the symbols of a frame.
+#[derive(Clone, Copy, Debug, PartialEq, Eq)]
+pub enum Pace {
+    /// Packets come in, symbols go out.
+    Sending { frame: u64 },
+    /// Symbols come in, packets go out.
+    Receiving { frame: u64 },
+    /// Symbols come in, and go out.
+    Spoiling,
+    /// Packets come in, and once all have come they go out.
+    Looping,
+}
+
+/// How many bytes were taken and given in how many milliseconds, and how many there are to take, where that is known.
+#[derive(Clone, Copy, Debug, PartialEq, Eq)]
+pub struct Passed {
+    pub taken: u64,
+    pub given: u64,
+    pub millis: u64,
+    pub length: Option<u64>,
+}
+
+/// The numbers of a line: frames, packets, tenths of a megabyte, symbols in a second, hundredths of the whole, and the seconds that
+/// are left. A number over 2^64 - 1 is given as that.
+#[derive(Clone, Copy, Debug, PartialEq, Eq)]
+pub struct Numbers {
+    pub frames: Option<u64>,
+    pub packets: Option<u64>,
+    pub tenths: u64,
+    pub rate: Option<u64>,
+    pub share: Option<u64>,
+    pub left: Option<u64>,
+}
+
+const PACKET_BYTES: u64 = 188;
+
+const SYMBOL_BYTES: u64 = 4;
+
+/// The number, or the largest that there is.
+pub(crate) fn capped(number: u128) -> u64
+    ensures { result ≡ capped number }
+{
+    number.min(u64::MAX as u128) as u64
+}
+
+/// So many in so many, at this number: the rule of three. None in nothing.
+fn ratio(number: u64, many: u64, per: u64) -> Option<u64>
+    ensures { result ≡ ratio number many per }
+{
+    if per == 0 {
+        return None;
+    }
+    Some(capped(number as u128 * many as u128 / per as u128))
+}
+
+/// The symbols that have passed.
+fn symbols_of(pace: Pace, passed: Passed) -> Option<u64>
+    ensures { result ≡ symbols_of pace passed }
+{
+    match pace {
+        Pace::Sending { frame: _ } => Some(passed.given / SYMBOL_BYTES),
+        Pace::Receiving { frame: _ } | Pace::Spoiling => Some(passed.taken / SYMBOL_BYTES),
+        Pace::Looping => None,
+    }
+}
+
+/// The packets that have passed. Of those that go round they are the ones that came back, once there are such.
+fn packets_of(pace: Pace, passed: Passed) -> Option<u64>
+    ensures { result ≡ packets_of pace passed }
+{
+    match pace {
+        Pace::Sending { frame: _ } => Some(passed.taken / PACKET_BYTES),
+        Pace::Receiving { frame: _ } => Some(passed.given / PACKET_BYTES),
+        Pace::Spoiling => None,
+        Pace::Looping if passed.given == 0 => Some(passed.taken / PACKET_BYTES),
+        Pace::Looping => Some(passed.given / PACKET_BYTES),
+    }
+}
+
+/// The frames that have passed.
+fn frames_of(pace: Pace, passed: Passed) -> Option<u64>
+    ensures { result ≡ frames_of pace passed }
+{
+    match pace {
+        Pace::Sending { frame } => ratio(passed.given / SYMBOL_BYTES, 1, frame),
+        Pace::Receiving { frame } => ratio(passed.taken / SYMBOL_BYTES, 1, frame),
+        Pace::Spoiling | Pace::Looping => None,
+    }
+}
+
+/// How many bytes are done: those that were taken, and of packets that go round those that came back too.
+fn done_of(pace: Pace, passed: Passed) -> u64
+    ensures { result ≡ done_of pace passed }
+{
+    match pace {
+        Pace::Looping => passed.taken.saturating_add(passed.given),
+        _ => passed.taken,
+    }
+}
+
+/// How many bytes are to be done of an input of this length.
+fn whole_of(pace: Pace, length: u64) -> u64
+    ensures { result ≡ whole_of pace length }
+{
+    match pace {
+        Pace::Looping => length.saturating_mul(2),
+        _ => length,
+    }
+}
+
+/// The hundredths that are done, at most all.
+fn share_of(pace: Pace, passed: Passed) -> Option<u64>
+    ensures { result ≡ share_of pace passed }
+{
+    let whole = whole_of(pace, passed.length?);
+    let share = ratio(done_of(pace, passed), 100, whole)?;
+    Some(share.min(100))
+}
+
+/// The seconds that are left, at the pace so far.
+fn left_of(pace: Pace, passed: Passed) -> Option<u64>
+    ensures { result ≡ left_of pace passed }
+{
+    let whole = whole_of(pace, passed.length?);
+    let done = done_of(pace, passed);
+    let millis = ratio(whole.saturating_sub(done), passed.millis, done)?;
+    Some(millis / 1000)
+}
+
+/// The tenths of a megabyte that were taken and given.
+fn tenths_of(passed: Passed) -> u64
+    ensures { result ≡ tenths_of passed }
+{
+    capped((passed.taken as u128 + passed.given as u128) / 100_000)
+}
+
+/// The numbers of so many bytes in so much time.
+#[tactic(auto, unfolding(crate::specs::Numbers::numbers_at))]
+pub fn numbers_at(pace: Pace, passed: Passed) -> Numbers
+    ensures { result ≡ numbers_at pace passed }
+{
+    Numbers {
+        frames: frames_of(pace, passed),
+        packets: packets_of(pace, passed),
+        tenths: tenths_of(passed),
+        rate: match symbols_of(pace, passed) {
+            Some(symbols) => ratio(symbols, 1000, passed.millis),
+            None => None,
+        },
+        share: share_of(pace, passed),
+        left: left_of(pace, passed),
+    }
+}

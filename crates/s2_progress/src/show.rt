@@ -1,0 +1,113 @@
+//! How far a command is, shown on a terminal.
+use crate::meter::Meter;
+use crate::numbers::{Pace, Passed, capped, numbers_at};
+use crate::terminal::Terminal;
+use s2_files::StandardStreams;
+use std::cell::Cell;
+use std::time::{Clock, Instant};
+
+/// The clock is read once so many bytes have passed.
+const PIECE: u64 = 1 << 16;
+
+/// The same of packets that go round, where symbols pass unseen between them.
+const LOOPED_PIECE: u64 = 1 << 11;
+
+/// The milliseconds for which a line stands at least, and before the first.
+const STANDS: u64 = 1000;
+
+/// How far a command is, shown on a terminal: a line a second at most, and none in the first. Where nothing is to be shown, it does
+/// nothing.
+#[derive(Drop)]
+pub struct Show<'t, 'r, R> {
+    terminal: &'t Terminal<'r, R>,
+    pace: Pace,
+    start: Option<Instant>,
+    length: Cell<Option<u64>>,
+    taken: Cell<u64>,
+    given: Cell<u64>,
+    unseen: Cell<u64>,
+    shown_at: Cell<u64>,
+}
+
+impl<'t, 'r, R: Clock + StandardStreams> Show<'t, 'r, R> {
+    /// Nothing has passed so far. `wanted` tells whether it is to be shown; without a clock it cannot be.
+    pub fn new(terminal: &'t Terminal<'r, R>, pace: Pace, wanted: bool) -> Show<'t, 'r, R> {
+        let start = if wanted {
+            Instant::now(terminal.host()).ok()
+        } else {
+            None
+        };
+        Show {
+            terminal,
+            pace,
+            start,
+            length: Cell::new(None),
+            taken: Cell::new(0),
+            given: Cell::new(0),
+            unseen: Cell::new(0),
+            shown_at: Cell::new(0),
+        }
+    }
+
+    /// Takes away what is shown.
+    pub fn finish(&self) {
+        self.terminal.clear();
+    }
+
+    /// Counts bytes that passed, and looks at the clock once a piece.
+    fn pass(&self, count: &Cell<u64>, bytes: usize) {
+        let Some(start) = self.start else {
+            return;
+        };
+        count.set(count.get().saturating_add(bytes as u64));
+        let unseen = self.unseen.get().saturating_add(bytes as u64);
+        if unseen < self.piece() {
+            self.unseen.set(unseen);
+        } else {
+            self.unseen.set(0);
+            self.look(start);
+        }
+    }
+
+    /// After how many bytes the clock is read.
+    fn piece(&self) -> u64 {
+        match self.pace {
+            Pace::Looping => LOOPED_PIECE,
+            _ => PIECE,
+        }
+    }
+
+    /// Shows a line, where the one before has stood for a second.
+    fn look(&self, start: Instant) {
+        let Ok(now) = Instant::now(self.terminal.host()) else {
+            return;
+        };
+        let millis = capped(now.duration_since(start).as_millis());
+        if millis.saturating_sub(self.shown_at.get()) >= STANDS {
+            self.shown_at.set(millis);
+            self.terminal.show(numbers_at(
+                self.pace,
+                Passed {
+                    taken: self.taken.get(),
+                    given: self.given.get(),
+                    millis,
+                    length: self.length.get(),
+                },
+            ));
+        }
+    }
+}
+
+impl<R: Clock + StandardStreams> Meter for Show<'_, '_, R> {
+    fn expect(&self, length: Option<u64>) {
+        self.length.set(length);
+    }
+
+    fn took(&self, bytes: usize) {
+        self.pass(&self.taken, bytes);
+    }
+
+    fn gave(&self, bytes: usize) {
+        self.pass(&self.given, bytes);
+    }
+}

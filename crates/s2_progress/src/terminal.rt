@@ -1,0 +1,55 @@
+//! The last line of standard error.
+use crate::line::{WIDEST, shown, wiped};
+use crate::numbers::Numbers;
+use s2_console::Line;
+use s2_files::StandardStreams;
+use s2_mode::{Counting, write_full};
+use std::cell::Cell;
+use std::io::IsTerminal;
+
+/// The last line of standard error, on which numbers are shown, and of which so many characters are shown on.
+#[derive(Drop)]
+pub struct Terminal<'r, R> {
+    rt: &'r R,
+    width: Cell<usize>,
+}
+
+impl<'r, R: StandardStreams> Terminal<'r, R> {
+    /// Nothing is shown on it so far.
+    pub fn new(rt: &'r R) -> Terminal<'r, R> {
+        Terminal {
+            rt,
+            width: Cell::new(0),
+        }
+    }
+
+    /// What it is the terminal of.
+    pub(crate) fn host(&self) -> &'r R {
+        self.rt
+    }
+
+    /// Whether standard error is a terminal.
+    pub fn is_there(&self) -> bool {
+        self.rt.errors().is_terminal()
+    }
+
+    /// Shows numbers in place of what is shown.
+    pub(crate) fn show(&self, numbers: Numbers) {
+        let line = shown(numbers, self.width.get().min(WIDEST));
+        self.width.set(line.as_bytes().len().saturating_sub(1));
+        self.write(&line);
+    }
+
+    /// Takes away what is shown.
+    pub fn clear(&self) {
+        let width = self.width.replace(0).min(WIDEST);
+        if width > 0 {
+            self.write(&wiped(width));
+        }
+    }
+
+    /// Writes a line. Where it cannot be written nobody is to be told.
+    fn write(&self, line: &Line) {
+        let _ = write_full(&mut Counting::new(self.rt.errors()), line.as_bytes());
+    }
+}
