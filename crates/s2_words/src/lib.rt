@@ -14,11 +14,13 @@
 pub mod laws;
 mod parser;
 mod reading;
+mod refusal;
 mod request;
 mod table;
+mod told;
 
 pub use reading::read_words;
 pub use request::{
-    ChannelWords, CheckWords, DemodWords, JudgeWords, LinkWords, ModWords, NoiseWords, Request,
-    RowsWords, RunWords, ShapeWords,
+    ChannelWords, CheckWords, DemodWords, JudgeWords, LinkWords, ModWords, ModesWords, NoiseWords,
+    NoteWords, Progress, Request, RowsWords, RunWords, ShapeWords, TableWords,
 };

@@ -1,9 +1,34 @@
 //! The parser that the table describes.
-use crate::table::{ABOUT, COMMANDS, Entry, Form, Word};
+use crate::table::{ABOUT, Entry, Form, MORE, Word, commands, more_of, words_of};
+use clap::builder::ValueParser;
 use clap::{Arg, ArgAction, Command};
 use std::alloc::{AllocError, Global};
 
-fn arg_of<'a>(alloc: Global, word: Word) -> Arg<'a> {
+/// What is read of the values that may be told by a name.
+#[derive(Clone, Copy, PartialEq, Eq)]
+pub(crate) enum Values {
+    /// Numbers, which the parser tests.
+    Numbers,
+    /// Any text.
+    Texts,
+}
+
+/// A word with a value, which has to stand where it has no default.
+fn valued<'a>(
+    arg: Arg<'a>,
+    word: Word,
+    value: &'static str,
+    allowed: ValueParser<'static>,
+    default: Option<&'static str>,
+) -> Arg<'a> {
+    let arg = arg.long(word.name).value_name(value).value_parser(allowed);
+    match default {
+        Some(text) => arg.default_value(text),
+        None => arg.required(true),
+    }
+}
+
+fn arg_of<'a>(alloc: Global, word: Word, values: Values) -> Arg<'a> {
     let arg = Arg::new(alloc, word.name).help(word.help);
     match word.form {
         Form::Flag => arg.long(word.name).action(ArgAction::SetTrue),
@@ -11,24 +36,36 @@ fn arg_of<'a>(alloc: Global, word: Word) -> Arg<'a> {
             value,
             allowed,
             default,
+        } => valued(arg, word, value, allowed, default),
+        Form::Told {
+            value,
+            allowed,
+            default,
         } => {
-            let arg = arg.long(word.name).value_name(value).value_parser(allowed);
-            match default {
-                Some(text) => arg.default_value(text),
-                None => arg.required(true),
+            let arg = arg.allow_negative_numbers(true);
+            match values {
+                Values::Numbers => valued(arg, word, value, allowed, default),
+                Values::Texts => valued(arg, word, value, ValueParser::String, default),
             }
+        }
+        Form::NamedNumber { value, allowed } => {
+            arg.long(word.name).value_name(value).value_parser(allowed)
         }
         Form::NamedFile => arg.long(word.name).value_name("FILE"),
         Form::File => arg.required(true),
     }
 }
 
-fn command_of<'a>(alloc: Global, entry: Entry) -> Result<Command<'a>, AllocError> {
+pub(crate) fn command_of<'a>(
+    alloc: Global,
+    entry: Entry,
+    values: Values,
+) -> Result<Command<'a>, AllocError> {
     let mut command = Command::new(alloc, entry.name)
         .about(entry.about)
-        .after_help(entry.example);
-    for word in entry.words {
-        command = command.arg(arg_of(alloc, *word))?;
+        .after_help(more_of(entry.command));
+    for word in words_of(entry.command) {
+        command = command.arg(arg_of(alloc, *word, values))?;
     }
     Ok(command)
 }
@@ -38,16 +75,25 @@ fn with_command<'a>(
     alloc: Global,
     program: Command<'a>,
     entry: Entry,
+    values: Values,
 ) -> Result<Command<'a>, AllocError> {
-    let command = command_of(alloc, entry)?;
+    let command = command_of(alloc, entry, values)?;
     program.subcommand(command)
 }
 
+/// The program without its commands.
+fn without_commands<'a>(alloc: Global) -> Command<'a> {
+    Command::new(alloc, "s2")
+        .version("0.1")
+        .about(ABOUT)
+        .after_help(MORE)
+}
+
 /// The parser of all that the program understands.
-pub(crate) fn program<'a>(alloc: Global) -> Result<Command<'a>, AllocError> {
-    let mut program = Command::new(alloc, "s2").version("0.1").about(ABOUT);
-    for entry in &COMMANDS {
-        program = with_command(alloc, program, *entry)?;
+pub(crate) fn program<'a>(alloc: Global, values: Values) -> Result<Command<'a>, AllocError> {
+    let mut program = without_commands(alloc);
+    for entry in commands() {
+        program = with_command(alloc, program, *entry, values)?;
     }
     Ok(program)
 }

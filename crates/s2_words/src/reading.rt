@@ -1,15 +1,17 @@
 //! What words ask for.
 use crate::parser::program;
+use crate::refusal::{misused, not_understood, values_in};
 use crate::request::{
-    ChannelWords, CheckWords, DemodWords, JudgeWords, LinkWords, ModWords, NoiseWords, Request,
-    RowsWords, RunWords, ShapeWords,
+    ChannelWords, CheckWords, DemodWords, JudgeWords, LinkWords, ModWords, ModesWords, NoiseWords,
+    NoteWords, Progress, Request, RowsWords, RunWords, ShapeWords, TableWords,
 };
-use clap::error::ErrorKind;
+use crate::told::{modcod_told, progress_told};
 use clap::{ArgMatches, Error};
 use s2_link::{DEFAULT_ROUNDS, RollOff, Tuning};
+use s2_modes::SymbolRate;
 use s2_scramble::ScramblingNumber;
 use s2_soft::Divisor;
-use std::alloc::{AllocError, Global};
+use std::alloc::Global;
 
 fn shape_of(m: &ArgMatches<'_>) -> Option<ShapeWords> {
     Some(ShapeWords {
@@ -21,7 +23,7 @@ fn shape_of(m: &ArgMatches<'_>) -> Option<ShapeWords> {
 
 fn link_of(m: &ArgMatches<'_>) -> Option<LinkWords> {
     Some(LinkWords {
-        modcod: m.get_one::<u8>("modcod")?,
+        modcod: modcod_told(m.get_str("modcod")?)?,
         short: m.get_flag("short"),
         pilots: m.get_flag("pilots"),
         number: ScramblingNumber::new(m.get_one::<u32>("number")?)?,
@@ -42,12 +44,40 @@ fn channel_of(m: &ArgMatches<'_>) -> Option<ChannelWords> {
     })
 }
 
+fn notes_of(m: &ArgMatches<'_>) -> NoteWords {
+    NoteWords {
+        strict: m.get_flag("strict"),
+        quiet: m.get_flag("quiet"),
+    }
+}
+
+fn progress_of(m: &ArgMatches<'_>) -> Progress {
+    progress_told(m.get_flag("progress"), m.get_flag("quiet"))
+}
+
 fn rows_of<'a>(m: &ArgMatches<'a>) -> Option<Request<'a>> {
     Some(Request::Rows(RowsWords {
         shape: shape_of(m)?,
         weight: m.get_one::<u8>("weight")?,
         seed: m.get_one::<u64>("seed")?,
     }))
+}
+
+fn table_of<'a>(m: &ArgMatches<'a>) -> Option<Request<'a>> {
+    Some(Request::Table(TableWords {
+        modcod: modcod_told(m.get_str("modcod")?)?,
+        short: m.get_flag("short"),
+        quiet: m.get_flag("quiet"),
+        rows: m.get_str("ROWS")?,
+    }))
+}
+
+fn modes_of<'a>(m: &ArgMatches<'a>) -> Option<Request<'a>> {
+    let rate = match m.get_str("rate") {
+        Some(_) => Some(SymbolRate::new(m.get_one::<usize>("rate")?)?),
+        None => None,
+    };
+    Some(Request::Modes(ModesWords { rate }))
 }
 
 fn judge_of<'a>(m: &ArgMatches<'a>) -> Option<Request<'a>> {
@@ -71,6 +101,8 @@ fn mod_of<'a>(m: &ArgMatches<'a>) -> Option<Request<'a>> {
     Some(Request::Mod(ModWords {
         link: link_of(m)?,
         dummy: m.get_one::<u16>("dummy")?,
+        quiet: m.get_flag("quiet"),
+        progress: progress_of(m),
         rows: m.get_str("ROWS")?,
         packets: m.get_str("PACKETS")?,
         symbols: m.get_str("SYMBOLS")?,
@@ -80,6 +112,7 @@ fn mod_of<'a>(m: &ArgMatches<'a>) -> Option<Request<'a>> {
 fn noise_of<'a>(m: &ArgMatches<'a>) -> Option<Request<'a>> {
     Some(Request::Noise(NoiseWords {
         channel: channel_of(m)?,
+        progress: progress_of(m),
         from: m.get_str("IN")?,
         to: m.get_str("OUT")?,
     }))
@@ -89,6 +122,8 @@ fn demod_of<'a>(m: &ArgMatches<'a>) -> Option<Request<'a>> {
     Some(Request::Demod(DemodWords {
         link: link_of(m)?,
         tuning: tuning_of(m)?,
+        notes: notes_of(m),
+        progress: progress_of(m),
         rows: m.get_str("ROWS")?,
         symbols: m.get_str("SYMBOLS")?,
         packets: m.get_str("PACKETS")?,
@@ -101,6 +136,8 @@ fn run_of<'a>(m: &ArgMatches<'a>) -> Option<Request<'a>> {
         dummy: m.get_one::<u16>("dummy")?,
         tuning: tuning_of(m)?,
         channel: channel_of(m)?,
+        notes: notes_of(m),
+        progress: progress_of(m),
         rows: m.get_str("ROWS")?,
         packets: m.get_str("PACKETS")?,
         to: m.get_str("OUT")?,
@@ -109,7 +146,9 @@ fn run_of<'a>(m: &ArgMatches<'a>) -> Option<Request<'a>> {
 
 fn request_of<'a>(name: &str, m: &ArgMatches<'a>) -> Option<Request<'a>> {
     match name {
+        "modes" => modes_of(m),
         "rows" => rows_of(m),
+        "table" => table_of(m),
         "judge" => judge_of(m),
         "check" => check_of(m),
         "mod" => mod_of(m),
@@ -120,21 +159,18 @@ fn request_of<'a>(name: &str, m: &ArgMatches<'a>) -> Option<Request<'a>> {
     }
 }
 
-/// What the words ask for. The parser takes only words of which a request can be made; of others that got
-/// through it the user hears by a usage fault.
+/// What the words ask for. The parser takes only words of which a request can be made, but for values that are told by
+/// a name; of others that got through it, and of names that are none, the user hears by a usage fault.
 pub fn read_words<'a>(alloc: Global, words: &'a [String]) -> Result<Request<'a>, Error> {
-    let matches = program(alloc)?.try_get_matches_from(words)?;
+    let matches = match program(alloc, values_in(words))?.try_get_matches_from(words) {
+        Ok(matches) => matches,
+        Err(error) => return Err(misused(alloc, words, error)?),
+    };
     match matches.subcommand() {
         None => Ok(Request::Own),
         Some((name, inner)) => match request_of(name, inner) {
             Some(request) => Ok(request),
-            None => Err(not_understood(alloc)?),
+            None => Err(not_understood(alloc, name, inner)?),
         },
     }
-}
-
-/// The usage fault of words that ask for nothing.
-fn not_understood(alloc: Global) -> Result<Error, AllocError> {
-    let mut program = program(alloc)?;
-    program.error(ErrorKind::ValueValidation, "no request has these words")
 }

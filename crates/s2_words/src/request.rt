@@ -1,5 +1,6 @@
 //! What the words of a command line ask for.
 use s2_link::{RollOff, Tuning};
+use s2_modes::SymbolRate;
 use s2_scramble::ScramblingNumber;
 
 /// The numbers of a shape.
@@ -45,6 +46,15 @@ pub struct JudgeWords<'a> {
     pub soft: &'a str,
 }
 
+/// `table`: the numbers of a code, and its row file.
+#[derive(Clone, Copy, PartialEq, Eq)]
+pub struct TableWords<'a> {
+    pub modcod: u8,
+    pub short: bool,
+    pub quiet: bool,
+    pub rows: &'a str,
+}
+
 /// `check`: the files.
 #[derive(Clone, Copy, PartialEq, Eq)]
 pub struct CheckWords<'a> {
@@ -52,52 +62,86 @@ pub struct CheckWords<'a> {
     pub certificate: &'a str,
 }
 
-/// `mod`: a link, behind every how many frames a dummy frame stands (0 for none), and the files.
+/// Whether progress is shown on standard error.
+#[derive(Clone, Copy, Debug, PartialEq, Eq)]
+pub enum Progress {
+    /// It was asked for.
+    Shown,
+    /// Where standard error is a terminal.
+    OnTerminal,
+    /// It was to be quiet.
+    Hidden,
+}
+
+/// `mod`: a link, behind every how many frames a dummy frame stands (0 for none), whether notes are left out, whether
+/// progress is shown, and the files.
 #[derive(Clone, Copy, PartialEq, Eq)]
 pub struct ModWords<'a> {
     pub link: LinkWords,
     pub dummy: u16,
+    pub quiet: bool,
+    pub progress: Progress,
     pub rows: &'a str,
     pub packets: &'a str,
     pub symbols: &'a str,
 }
 
-/// `noise`: a channel, and the files.
+/// `noise`: a channel, whether progress is shown, and the files.
 #[derive(Clone, Copy, PartialEq, Eq)]
 pub struct NoiseWords<'a> {
     pub channel: ChannelWords,
+    pub progress: Progress,
     pub from: &'a str,
     pub to: &'a str,
 }
 
-/// `demod`: a link, how much is tried, and the files.
+/// What is told of a reception besides its report: whether what was lost decides the exit too, and whether notes are left out.
+#[derive(Clone, Copy, PartialEq, Eq)]
+pub struct NoteWords {
+    pub strict: bool,
+    pub quiet: bool,
+}
+
+/// `demod`: a link, how much is tried, what is told, whether progress is shown, and the files.
 #[derive(Clone, Copy, PartialEq, Eq)]
 pub struct DemodWords<'a> {
     pub link: LinkWords,
     pub tuning: Tuning,
+    pub notes: NoteWords,
+    pub progress: Progress,
     pub rows: &'a str,
     pub symbols: &'a str,
     pub packets: &'a str,
 }
 
-/// `run`: a link, behind every how many frames a dummy frame stands (0 for none), how much is tried, a channel, and
-/// the files.
+/// `run`: a link, behind every how many frames a dummy frame stands (0 for none), how much is tried, a channel, what
+/// is told, whether progress is shown, and the files.
 #[derive(Clone, Copy, PartialEq, Eq)]
 pub struct RunWords<'a> {
     pub link: LinkWords,
     pub dummy: u16,
     pub tuning: Tuning,
     pub channel: ChannelWords,
+    pub notes: NoteWords,
+    pub progress: Progress,
     pub rows: &'a str,
     pub packets: &'a str,
     pub to: &'a str,
+}
+
+/// `modes`: a symbol rate, where the bits of a transport stream in a second are to be listed.
+#[derive(Clone, Copy, PartialEq, Eq)]
+pub struct ModesWords {
+    pub rate: Option<SymbolRate>,
 }
 
 /// What the words ask for: `Own` without a command, else the command with its words.
 #[derive(Clone, Copy, PartialEq, Eq)]
 pub enum Request<'a> {
     Own,
+    Modes(ModesWords),
     Rows(RowsWords),
+    Table(TableWords<'a>),
     Judge(JudgeWords<'a>),
     Check(CheckWords<'a>),
     Mod(ModWords<'a>),

@@ -2,12 +2,23 @@
 use clap::builder::ValueParser;
 use s2_link::{MOST_PASSES, MOST_ROLL_OFF, MOST_ROUNDS};
 use s2_mode::{MOST_BITS, MOST_GROUP, MOST_MODCOD};
+use s2_modes::MOST_RATE;
 use s2_rows::MOST_ADDRESSES;
 use s2_scramble::MOST_NUMBER;
 
 /// What the program says of itself.
 pub(crate) const ABOUT: &str =
     "A DVB-S2 modem with maximum-likelihood certificates. Without a command it judges the 20 soft values of standard input under a toy code";
+
+/// What stands below the program's own options.
+pub(crate) const MORE: &str = "\
+Files:
+  -    standard input where it is read, standard output where it is written: a report then stands on standard error
+
+Exits:
+  0  all went well
+  1  a usage fault, or a fault that standard error tells
+  2  the answer is no, or something was lost: each command's help tells what";
 
 /// The decimal digits of the rounds where none are named.
 pub(crate) const DEFAULT_ROUNDS_TEXT: &str = "50";
@@ -17,6 +28,157 @@ pub(crate) const DIVISOR_TEXTS: [&str; 5] = ["4096", "8192", "16384", "32768", "
 
 /// The decimal digits of the divisor where none is named.
 pub(crate) const DEFAULT_DIVISOR_TEXT: &str = "4096";
+
+/// What stands below the options of `modes`.
+const MODES_MORE: &str = "\
+Each line:
+  modcod M NAME         the number and the name, either of which --modcod takes
+  normal, short         frames of 64800 bits, or of 16200 (--short)
+  kbch K                bits of a message of the outer code, the header's 80 among them
+  k K                   information bits of the inner code
+  symbols S P           of a frame, without pilot blocks and with them (--pilots)
+  bits S P              of the transport stream for each symbol, to the nearest millionth
+  esn0 E                dB at which reception begins in theory (EN 302 307-1, table 13); short frames take 0.2 to 0.3 dB more
+  ts S P                with --rate: bits a second of the transport stream, rounded down
+
+Exits:
+  0  all modes are listed
+  1  a usage fault, or a fault that standard error tells
+
+Example:
+  s2 modes --rate 27500000";
+
+/// What stands below the options of `rows`.
+const ROWS_MORE: &str = "\
+Each line:
+  W addresses below G * Q, none twice. These rows are not the standard's: both ends of a link need the same.
+  G * (N + Q) is at most 64800, and W at most G * Q.
+
+Exits:
+  0  the rows are printed
+  1  a usage fault, or a fault that standard error tells
+
+Example:
+  s2 rows --group 360 --groups 90 --q 90 --weight 8 --seed 1 > rows";
+
+/// What stands below the options of `table`.
+const TABLE_MORE: &str = "\
+The answer:
+  standard  the rows are those of the standard for this code, whatever the order within each row
+  other     they are not: a recording of the standard's frames comes out `broken` under them
+
+Exits:
+  0  standard
+  1  a usage fault, or a fault that standard error tells
+  2  other
+
+Example:
+  s2 table --modcod qpsk3/4 rows";
+
+/// What stands below the options of `judge`.
+const JUDGE_MORE: &str = "\
+The report:
+  sole cost C              the decided bits cost C, every other codeword costs more
+  most-likely cost C       the decided bits cost C, no codeword costs less
+  parity cost C            all parity checks hold, no certificate was found: try --passes 96
+  broken cost C check J    check J, from 0 on, is the first that does not hold: this is no codeword
+
+Exits:
+  0  sole or most-likely: nothing is to be done
+  1  a usage fault, or a fault that standard error tells
+  2  parity or broken
+
+Example:
+  s2 judge --group 4 --groups 2 --q 3 --cert certificate rows soft";
+
+/// What stands below the options of `check`.
+const CHECK_MORE: &str = "\
+The report:
+  sole cost C           accepted: the word costs C, every other codeword costs more
+  yes cost C            accepted: the word costs C, no codeword costs less
+  no shape              the certificate is of other rows: give those that it was made by
+  no check J            the word is no codeword: check J, from 0 on, does not hold
+  no bound              the certificate proves less than the word's cost: make it anew
+
+Exits:
+  0  sole or yes: the certificate is accepted
+  1  a usage fault, or a fault that standard error tells
+  2  no: it is not accepted
+
+Example:
+  s2 check rows certificate";
+
+/// What stands below the options of `mod`.
+const MOD_MORE: &str = "\
+The report, at the end:
+  packets P frames F    P packets were taken, and F frames written, dummy frames not counted
+
+Exits:
+  0  all packets are sent
+  1  a usage fault, or a fault that standard error tells: the frames before a packet that is refused stand in SYMBOLS
+
+Notes, on standard error:
+  these rows are not the standard's for MODE    no other modem receives this, but one that has the same rows
+  MODE wants N rows of addresses below M        the row file that is refused is to have these
+
+Example:
+  s2 mod --modcod 4 --pilots rows packets.ts symbols";
+
+/// What stands below the options of `noise`.
+const NOISE_MORE: &str = "\
+Exits:
+  0  all symbols are written, and nothing is printed
+  1  a usage fault, or a fault that standard error tells: the symbols before a read that failed stand in OUT
+
+Example:
+  s2 noise --seed 1 --level 100 symbols noisy
+  s2 mod --modcod 4 rows - - < packets.ts | s2 noise --seed 1 --level 100 - - | s2 demod --modcod 4 rows - received.ts";
+
+/// The report of a receiver, and its exits.
+macro_rules! report {
+    ($example:literal) => {
+        concat!(
+            "\
+The report, a line for each frame as it comes, and one for the end:
+  frame I at SYMBOL VERDICT fixed COUNT       delivered; the outer code corrected COUNT bits
+  frame I at SYMBOL VERDICT lost              not delivered: try --rounds 200, or the noise is too strong
+  cut at SYMBOL symbols COUNT                 the symbols end within a frame, of which COUNT are there
+  end frames F delivered D packets P bad B    of F frames D were delivered, P packets written, B had a wrong CRC-8
+  Frames count from 1, symbols from 0; dummy frames have no line.
+
+Verdicts:
+  sole         no other codeword is as likely: nothing is to be done
+  most-likely  no codeword is more likely: nothing is to be done
+  parity       all parity checks hold, no certificate was found: with `fixed` the packets are whole; try --passes 96
+  broken       some parity check does not hold: with `fixed` the packets are whole all the same; try --rounds 200
+
+Exits:
+  0  every frame is delivered, and sole or most-likely
+  1  a usage fault, or a fault that standard error tells
+  2  a frame is lost, cut, parity or broken
+     with --strict also: symbols were passed over, no frame was found, or a packet was torn or bad
+
+Notes, on standard error:
+  these rows are not the standard's for MODE           only what was sent by the same rows is received by them
+  MODE wants N rows of addresses below M               the row file that is refused is to have these
+  N symbols passed over in M places, the first at S    they belong to no frame: symbols were inserted, or headers were lost
+  no frame of MODE in N symbols                        another mode, byte order, form of samples or rotation
+  N packets torn                                       begun, and lost with a frame that is missing or not delivered
+
+Example:
+",
+            $example
+        )
+    };
+}
+
+/// What stands below the options of `demod`.
+const DEMOD_MORE: &str = report!("  s2 demod --modcod qpsk1/2 --pilots rows noisy received.ts");
+
+/// What stands below the options of `run`.
+const RUN_MORE: &str = report!(
+    "  s2 run --modcod qpsk1/2 --pilots --seed 1 --level 100 rows packets.ts received.ts"
+);
 
 /// How a word stands on the command line.
 #[derive(Clone, Copy)]
@@ -28,6 +190,17 @@ pub(crate) enum Form {
         value: &'static str,
         allowed: ValueParser<'static>,
         default: Option<&'static str>,
+    },
+    /// The same, but of words that are no number the reader has to say what they are, or what is to stand there.
+    Told {
+        value: &'static str,
+        allowed: ValueParser<'static>,
+        default: Option<&'static str>,
+    },
+    /// `--name VALUE`, a number in a range, which may be left out.
+    NamedNumber {
+        value: &'static str,
+        allowed: ValueParser<'static>,
     },
     /// `--name FILE`.
     NamedFile,
@@ -43,13 +216,26 @@ pub(crate) struct Word {
     pub help: &'static str,
 }
 
-/// A command: its words in order.
+/// The commands.
+#[derive(Clone, Copy, PartialEq, Eq)]
+pub(crate) enum Name {
+    Modes,
+    Rows,
+    Table,
+    Judge,
+    Check,
+    Mod,
+    Noise,
+    Demod,
+    Run,
+}
+
+/// A command, and what its name is. Its words and what help tells of it stand apart, so that no proof meets the texts of all.
 #[derive(Clone, Copy)]
 pub(crate) struct Entry {
+    pub command: Name,
     pub name: &'static str,
     pub about: &'static str,
-    pub example: &'static str,
-    pub words: &'static [Word],
 }
 
 /// Any number of 64 bits.
@@ -62,7 +248,7 @@ const GROUP: Word = Word {
         allowed: ValueParser::Signed(1, MOST_GROUP as i64),
         default: None,
     },
-    help: "Bits of a group",
+    help: "Bits of a group, 1 to 360",
 };
 
 const GROUPS: Word = Word {
@@ -72,7 +258,7 @@ const GROUPS: Word = Word {
         allowed: ValueParser::Signed(1, MOST_BITS as i64 - 1),
         default: None,
     },
-    help: "Groups of information bits",
+    help: "Groups of information bits, 1 to 64799",
 };
 
 const Q: Word = Word {
@@ -82,7 +268,7 @@ const Q: Word = Word {
         allowed: ValueParser::Signed(1, MOST_BITS as i64 - 1),
         default: None,
     },
-    help: "Checks by which a group's next bit moves on",
+    help: "Checks by which a group's next bit moves on, 1 to 64799",
 };
 
 const WEIGHT: Word = Word {
@@ -92,29 +278,29 @@ const WEIGHT: Word = Word {
         allowed: ValueParser::Signed(1, MOST_ADDRESSES as i64),
         default: None,
     },
-    help: "Addresses of each row",
+    help: "Addresses of each row, 1 to 24",
 };
 
 const MODCOD: Word = Word {
     name: "modcod",
-    form: Form::Number {
+    form: Form::Told {
         value: "M",
         allowed: ValueParser::Signed(1, MOST_MODCOD as i64),
         default: None,
     },
-    help: "MODCOD, 1 to 17",
+    help: "MODCOD, 1 to 17, or the mode's name, in small letters or in capitals, as qpsk3/4 or 8PSK2/3: `s2 modes` lists them",
 };
 
 const SHORT: Word = Word {
     name: "short",
     form: Form::Flag,
-    help: "Frames of 16200 bits",
+    help: "Frames of 16200 bits, and not of 64800",
 };
 
 const PILOTS: Word = Word {
     name: "pilots",
     form: Form::Flag,
-    help: "Frames with pilot blocks",
+    help: "Frames with pilot blocks; takes no value",
 };
 
 const NUMBER: Word = Word {
@@ -129,12 +315,12 @@ const NUMBER: Word = Word {
 
 const ROLL_OFF: Word = Word {
     name: "ro",
-    form: Form::Number {
+    form: Form::Told {
         value: "R",
         allowed: ValueParser::Signed(0, MOST_ROLL_OFF as i64),
         default: Some("0"),
     },
-    help: "Roll-off that headers tell: 0 is 0.35, 1 is 0.25, 2 is 0.20",
+    help: "Roll-off that headers tell: 0 for 0.35, 1 for 0.25, 2 for 0.20",
 };
 
 const DUMMY: Word = Word {
@@ -154,7 +340,7 @@ const ROUNDS: Word = Word {
         allowed: ValueParser::Signed(1, MOST_ROUNDS as i64),
         default: Some(DEFAULT_ROUNDS_TEXT),
     },
-    help: "Rounds of min-sum at most, 1 to 200",
+    help: "Rounds of min-sum at most for each frame, 1 to 200",
 };
 
 const PASSES: Word = Word {
@@ -164,7 +350,7 @@ const PASSES: Word = Word {
         allowed: ValueParser::Signed(0, MOST_PASSES as i64),
         default: Some("0"),
     },
-    help: "Passes at most that look for a certificate, 0 to 1000",
+    help: "Passes at most that look for a certificate of what has none yet, 0 to 1000",
 };
 
 const DIVISOR: Word = Word {
@@ -174,7 +360,7 @@ const DIVISOR: Word = Word {
         allowed: ValueParser::Names(&DIVISOR_TEXTS),
         default: Some(DEFAULT_DIVISOR_TEXT),
     },
-    help: "What soft values are divided by: 8192 at low rates, more for stronger symbols",
+    help: "What soft values are divided by: 8192 at low code rates, more for stronger symbols",
 };
 
 const SEED: Word = Word {
@@ -184,7 +370,7 @@ const SEED: Word = Word {
         allowed: ANY,
         default: None,
     },
-    help: "Seed of the generator",
+    help: "Seed of the generator, any number of 64 bits",
 };
 
 const LEVEL: Word = Word {
@@ -194,13 +380,46 @@ const LEVEL: Word = Word {
         allowed: ValueParser::Signed(0, u16::MAX as i64),
         default: None,
     },
-    help: "Level of the noise, 0 to 65535",
+    help: "Level of the noise, 0 to 65535: a standard deviation of 0.816 L in each component, where a QPSK point has 700",
+};
+
+const RATE: Word = Word {
+    name: "rate",
+    form: Form::NamedNumber {
+        value: "R",
+        allowed: ValueParser::Signed(1, MOST_RATE as i64),
+    },
+    help: "Symbols a second, 1 to 1000000000: adds the bits a second of the transport stream",
+};
+
+const STRICT: Word = Word {
+    name: "strict",
+    form: Form::Flag,
+    help: "Exit 2 also where symbols were passed over, a packet was bad or torn, or no frame was found in 90 symbols or more",
+};
+
+const QUIET: Word = Word {
+    name: "quiet",
+    form: Form::Flag,
+    help: "No notes on standard error",
+};
+
+/// The same word of a command that shows progress.
+const QUIET_AND_STILL: Word = Word {
+    help: "No notes on standard error, and no progress but by --progress",
+    ..QUIET
+};
+
+const PROGRESS: Word = Word {
+    name: "progress",
+    form: Form::Flag,
+    help: "Progress on standard error, also where that is no terminal: a line that is rewritten once a second",
 };
 
 const CERTIFICATE: Word = Word {
     name: "cert",
     form: Form::NamedFile,
-    help: "File for the certificate of a most likely word",
+    help: "File for the certificate of a word that is sole or most likely: none is made without it",
 };
 
 /// A word that is the name of a file.
@@ -219,97 +438,179 @@ const ROWS: Word = file!("ROWS", "Row file");
 const PACKETS: Word = file!("PACKETS", "Transport stream, packets of 188 bytes");
 
 /// All commands.
-pub(crate) static COMMANDS: [Entry; 7] = [
+static COMMANDS: [Entry; 9] = [
     Entry {
+        command: Name::Modes,
+        name: "modes",
+        about: "Lists the modes",
+    },
+    Entry {
+        command: Name::Rows,
         name: "rows",
         about: "Prints a row file that a seed determines",
-        example: "Example:\n  s2 rows --group 360 --groups 90 --q 90 --weight 8 --seed 1 > rows",
-        words: &[GROUP, GROUPS, Q, WEIGHT, SEED],
     },
     Entry {
+        command: Name::Table,
+        name: "table",
+        about: "Tells whether rows are the standard's",
+    },
+    Entry {
+        command: Name::Judge,
         name: "judge",
         about: "Decides on soft values",
-        example: "Example:\n  s2 judge --group 4 --groups 2 --q 3 --cert certificate rows soft",
-        words: &[
-            GROUP,
-            GROUPS,
-            Q,
-            CERTIFICATE,
-            PASSES,
-            ROWS,
-            file!("SOFT", "Value file, one value for each bit of a codeword"),
-        ],
     },
     Entry {
+        command: Name::Check,
         name: "check",
         about: "Checks a certificate that its word is most likely",
-        example: "Example:\n  s2 check rows certificate",
-        words: &[ROWS, file!("CERT", "Certificate file")],
     },
     Entry {
+        command: Name::Mod,
         name: "mod",
         about: "Makes the symbols of packets",
-        example: "Example:\n  s2 mod --modcod 4 --pilots rows packets.ts symbols",
-        words: &[
-            MODCOD,
-            SHORT,
-            PILOTS,
-            NUMBER,
-            ROLL_OFF,
-            DUMMY,
-            ROWS,
-            PACKETS,
-            file!("SYMBOLS", "File for the symbols, four bytes each"),
-        ],
     },
     Entry {
+        command: Name::Noise,
         name: "noise",
         about: "Adds noise that a seed determines to symbols",
-        example: "Example:\n  s2 noise --seed 1 --level 100 symbols noisy",
-        words: &[
-            SEED,
-            LEVEL,
-            file!("IN", "File of symbols"),
-            file!("OUT", "File for the symbols with noise"),
-        ],
     },
     Entry {
+        command: Name::Demod,
         name: "demod",
         about: "Receives the packets of symbols",
-        example: "Example:\n  s2 demod --modcod 4 --pilots rows noisy received.ts",
-        words: &[
-            MODCOD,
-            SHORT,
-            PILOTS,
-            NUMBER,
-            ROLL_OFF,
-            ROUNDS,
-            PASSES,
-            DIVISOR,
-            ROWS,
-            file!("SYMBOLS", "File of symbols, four bytes each"),
-            file!("PACKETS", "File for the packets"),
-        ],
     },
     Entry {
+        command: Name::Run,
         name: "run",
         about: "Sends packets, adds noise, and receives them",
-        example: "Example:\n  s2 run --modcod 4 --pilots --seed 1 --level 100 rows packets.ts received.ts",
-        words: &[
-            MODCOD,
-            SHORT,
-            PILOTS,
-            NUMBER,
-            ROLL_OFF,
-            DUMMY,
-            ROUNDS,
-            PASSES,
-            DIVISOR,
-            SEED,
-            LEVEL,
-            ROWS,
-            PACKETS,
-            file!("OUT", "File for the packets that are received"),
-        ],
     },
 ];
+
+/// All commands.
+pub(crate) fn commands() -> &'static [Entry] {
+    &COMMANDS
+}
+
+/// The words of `modes`, in order.
+static MODES_WORDS: [Word; 2] = [RATE, QUIET];
+
+/// The words of `rows`, in order.
+static ROWS_WORDS: [Word; 6] = [GROUP, GROUPS, Q, WEIGHT, SEED, QUIET];
+
+/// The words of `table`, in order.
+static TABLE_WORDS: [Word; 4] = [MODCOD, SHORT, QUIET, ROWS];
+
+/// The words of `judge`, in order.
+static JUDGE_WORDS: [Word; 8] = [
+    GROUP,
+    GROUPS,
+    Q,
+    CERTIFICATE,
+    PASSES,
+    QUIET,
+    ROWS,
+    file!("SOFT", "Value file, one value for each bit of a codeword"),
+];
+
+/// The words of `check`, in order.
+static CHECK_WORDS: [Word; 3] = [QUIET, ROWS, file!("CERT", "Certificate file")];
+
+/// The words of `mod`, in order.
+static MOD_WORDS: [Word; 11] = [
+    MODCOD,
+    SHORT,
+    PILOTS,
+    NUMBER,
+    ROLL_OFF,
+    DUMMY,
+    QUIET_AND_STILL,
+    PROGRESS,
+    ROWS,
+    PACKETS,
+    file!(
+        "SYMBOLS",
+        "File for the symbols, four bytes each: I and Q, signed, high byte first"
+    ),
+];
+
+/// The words of `noise`, in order.
+static NOISE_WORDS: [Word; 6] = [
+    SEED,
+    LEVEL,
+    QUIET_AND_STILL,
+    PROGRESS,
+    file!("IN", "File of symbols"),
+    file!("OUT", "File for the symbols with noise"),
+];
+
+/// The words of `demod`, in order.
+static DEMOD_WORDS: [Word; 14] = [
+    MODCOD,
+    SHORT,
+    PILOTS,
+    NUMBER,
+    ROLL_OFF,
+    ROUNDS,
+    PASSES,
+    DIVISOR,
+    STRICT,
+    QUIET_AND_STILL,
+    PROGRESS,
+    ROWS,
+    file!(
+        "SYMBOLS",
+        "File of symbols, four bytes each: I and Q, signed, high byte first"
+    ),
+    file!("PACKETS", "File for the packets"),
+];
+
+/// The words of `run`, in order.
+static RUN_WORDS: [Word; 17] = [
+    MODCOD,
+    SHORT,
+    PILOTS,
+    NUMBER,
+    ROLL_OFF,
+    DUMMY,
+    ROUNDS,
+    PASSES,
+    DIVISOR,
+    SEED,
+    LEVEL,
+    STRICT,
+    QUIET_AND_STILL,
+    PROGRESS,
+    ROWS,
+    PACKETS,
+    file!("OUT", "File for the packets that are received"),
+];
+
+/// The words of a command.
+pub(crate) fn words_of(command: Name) -> &'static [Word] {
+    match command {
+        Name::Modes => &MODES_WORDS,
+        Name::Rows => &ROWS_WORDS,
+        Name::Table => &TABLE_WORDS,
+        Name::Judge => &JUDGE_WORDS,
+        Name::Check => &CHECK_WORDS,
+        Name::Mod => &MOD_WORDS,
+        Name::Noise => &NOISE_WORDS,
+        Name::Demod => &DEMOD_WORDS,
+        Name::Run => &RUN_WORDS,
+    }
+}
+
+/// What stands below the options of a command.
+pub(crate) fn more_of(command: Name) -> &'static str {
+    match command {
+        Name::Modes => MODES_MORE,
+        Name::Rows => ROWS_MORE,
+        Name::Table => TABLE_MORE,
+        Name::Judge => JUDGE_MORE,
+        Name::Check => CHECK_MORE,
+        Name::Mod => MOD_MORE,
+        Name::Noise => NOISE_MORE,
+        Name::Demod => DEMOD_MORE,
+        Name::Run => RUN_MORE,
+    }
+}

@@ -1,0 +1,194 @@
+//! Usage faults that say what is to stand where a value was told by a name that is none.
+use crate::parser::{Values, command_of, program};
+use crate::table::{Entry, commands};
+use crate::told::modcod_told;
+use clap::error::ErrorKind;
+use clap::{ArgMatches, Error};
+use s2_link::RollOff;
+use s2_mode::{MOST_MODCOD, Mode};
+use s2_modes::{Case, code_rate, constellation};
+use std::alloc::{AllocError, Global};
+
+/// What is given to a word: what stands behind it, or behind its equals sign.
+fn given<'a>(words: &'a [String], name: &str) -> Option<&'a str> {
+    for (at, word) in words.iter().enumerate() {
+        if let Some(rest) = word.as_str().strip_prefix(name) {
+            if rest.is_empty() {
+                return Some(words.get(at + 1)?.as_str());
+            }
+            if let Some(value) = rest.strip_prefix("=") {
+                return Some(value);
+            }
+        }
+    }
+    None
+}
+
+/// Whether a text is a sign, if any, and digits, which the parser reads as a number or says why it is none.
+fn is_numeral(text: &str) -> bool {
+    let digits = text.strip_prefix("-").unwrap_or(text);
+    for byte in digits.bytes() {
+        if !byte.is_ascii_digit() {
+            return false;
+        }
+    }
+    !digits.is_empty()
+}
+
+/// Whether `--modcod` is given a name.
+fn is_named(words: &[String]) -> bool {
+    match given(words, "--modcod") {
+        Some(text) => !is_numeral(text),
+        None => false,
+    }
+}
+
+/// The numbers of roll-offs.
+const ROLL_OFFS: [&str; 3] = ["0", "1", "2"];
+
+/// Whether `--ro` is given something else than such a number.
+fn is_other_roll_off(words: &[String]) -> bool {
+    match given(words, "--ro") {
+        Some(text) => !ROLL_OFFS.contains(&text),
+        None => false,
+    }
+}
+
+/// What has to be read of the values that may be told by a name.
+pub(crate) fn values_in(words: &[String]) -> Values {
+    if is_named(words) || is_other_roll_off(words) {
+        Values::Texts
+    } else {
+        Values::Numbers
+    }
+}
+
+/// A usage fault of a command, with its usage.
+fn fault_in(alloc: Global, name: &str, message: &str) -> Result<Error, AllocError> {
+    for entry in commands() {
+        if entry.name == name {
+            return fault_of(alloc, *entry, message);
+        }
+    }
+    program(alloc, Values::Numbers)?.error(ErrorKind::ValueValidation, message)
+}
+
+fn fault_of(alloc: Global, entry: Entry, message: &str) -> Result<Error, AllocError> {
+    let mut name = String::from_str(alloc, "s2 ")?;
+    name.push_str(entry.name)?;
+    command_of(alloc, entry, Values::Numbers)?
+        .bin_name(name.as_str())?
+        .error(ErrorKind::ValueValidation, message)
+}
+
+/// Puts the names of all modes of a constellation behind a text.
+fn push_names(text: &mut String, is_qpsk: bool) -> Result<(), AllocError> {
+    let mut between = "";
+    for modcod in 1..=MOST_MODCOD {
+        if let Some(mode) = Mode::of(modcod, false, false) {
+            if mode.is_qpsk() == is_qpsk {
+                text.push_str(between)?;
+                text.push_str(constellation(&mode, Case::Small))?;
+                text.push_str(code_rate(&mode))?;
+                between = ", ";
+            }
+        }
+    }
+    Ok(())
+}
+
+/// Puts what is to stand in place of a name behind a text: the names of its constellation, where it begins with one.
+fn push_modes(text: &mut String, name: &str) -> Result<(), AllocError> {
+    if begins_with(name, "qpsk", "QPSK") {
+        text.push_str("QPSK has ")?;
+        push_names(text, true)
+    } else if begins_with(name, "8psk", "8PSK") {
+        text.push_str("8PSK has ")?;
+        push_names(text, false)
+    } else {
+        text.push_str("it is 1 to 17, or qpsk or 8psk with a code rate, as qpsk3/4 or 8psk2/3")
+    }
+}
+
+fn begins_with(name: &str, small: &str, capital: &str) -> bool {
+    name.starts_with(small) || name.starts_with(capital)
+}
+
+/// What is to stand in place of values that are none, where there is one.
+fn message_of(alloc: Global, m: &ArgMatches<'_>) -> Result<Option<String>, AllocError> {
+    if let Some(name) = m.get_str("modcod") {
+        if modcod_told(name).is_none() {
+            let mut text = format!(in alloc; "invalid value '{name}' for '--modcod <M>': ")?;
+            push_modes(&mut text, name)?;
+            return Ok(Some(text));
+        }
+    }
+    if let Some(name) = m.get_str("ro") {
+        if m.get_one::<u8>("ro").and_then(RollOff::new).is_none() {
+            let text = format!(in alloc;
+                "invalid value '{name}' for '--ro <R>': it is 0 for 0.35, 1 for 0.25, or 2 for 0.20"
+            )?;
+            return Ok(Some(text));
+        }
+    }
+    Ok(None)
+}
+
+/// The usage fault of words that ask for nothing.
+pub(crate) fn not_understood(
+    alloc: Global,
+    name: &str,
+    m: &ArgMatches<'_>,
+) -> Result<Error, AllocError> {
+    match message_of(alloc, m)? {
+        Some(message) => fault_in(alloc, name, message.as_str()),
+        None => fault_in(alloc, name, "no request has these words"),
+    }
+}
+
+/// What is given to `--pilots` in the belief that it takes a value.
+const SWITCHES: [&str; 8] = ["on", "off", "yes", "no", "true", "false", "1", "0"];
+
+/// Whether such a value stands behind `--pilots`.
+fn is_switched(words: &[String]) -> bool {
+    let Some(value) = given(words, "--pilots") else {
+        return false;
+    };
+    for switch in SWITCHES {
+        if switch.eq_ignore_ascii_case(value) {
+            return true;
+        }
+    }
+    false
+}
+
+/// Whether `--pilots` is given a value by an equals sign.
+fn is_assigned(words: &[String]) -> bool {
+    for word in words {
+        if word.as_str().starts_with("--pilots=") {
+            return true;
+        }
+    }
+    false
+}
+
+/// Whether a fault of this kind comes from a value that `--pilots` is given.
+fn has_switch(words: &[String], kind: ErrorKind) -> bool {
+    match kind {
+        ErrorKind::UnknownArgument => is_switched(words),
+        ErrorKind::TooManyValues => is_assigned(words),
+        _ => false,
+    }
+}
+
+/// A usage fault, or in its place one that says that `--pilots` takes no value where it was given one.
+pub(crate) fn misused(alloc: Global, words: &[String], error: Error) -> Result<Error, AllocError> {
+    match words.get(1) {
+        Some(name) if has_switch(words, error.kind()) => fault_in(
+            alloc,
+            name.as_str(),
+            "'--pilots' takes no value: frames have pilot blocks where it stands, and none where it does not",
+        ),
+        _ => Ok(error),
+    }
+}
