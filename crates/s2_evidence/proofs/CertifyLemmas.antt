@@ -19,7 +19,9 @@ certified_moved tuning A B (Err faults.Read) old new f h = h
 certified_moved tuning A B (Err faults.Write) old new f (input, is, part) = (input, f (Ok input) is, part)
 certified_moved tuning A B (Err faults.NoMemory) old new f h = h
 certified_moved tuning A B (Err (faults.Open name)) old new f h = h
+certified_moved tuning A B (Err (faults.UsedTwice name)) old new f h = h
 certified_moved tuning A B (Err faults.TooLong) old new f h = h
+certified_moved tuning A B (Err (faults.Rows words)) old new f h = h
 certified_moved tuning A B (Err (faults.Told words)) old new f h = h
 
 -- where the input is refused nothing is written
@@ -28,7 +30,9 @@ uncertified tuning IsInput faults.Write old other = absurd (other refl)
 uncertified tuning IsInput faults.Read old other = refl
 uncertified tuning IsInput faults.NoMemory old other = refl
 uncertified tuning IsInput (faults.Open name) old other = refl
+uncertified tuning IsInput (faults.UsedTwice name) old other = refl
 uncertified tuning IsInput faults.TooLong old other = refl
+uncertified tuning IsInput (faults.Rows words) old other = refl
 uncertified tuning IsInput (faults.Told words) old other = refl
 
 -- where no verdict is printed
@@ -38,7 +42,9 @@ unprinted tuning IsInput faults.Write old new rises (input, is, part) = (input, 
 unprinted tuning IsInput faults.Read old new rises h = h
 unprinted tuning IsInput faults.NoMemory old new rises h = h
 unprinted tuning IsInput (faults.Open name) old new rises h = h
+unprinted tuning IsInput (faults.UsedTwice name) old new rises h = h
 unprinted tuning IsInput faults.TooLong old new rises h = h
+unprinted tuning IsInput (faults.Rows words) old new rises h = h
 unprinted tuning IsInput (faults.Told words) old new rises h = h
 
 pub certifies : (tuning : Tuning) (IsInput : Result (Rows × List ℤ) Fault → Type 0) (p : Printed) (ended : Result Exit Fault) (out out' : Option (List ℕ)) (old new : Option Written)
@@ -48,7 +54,9 @@ certifies tuning IsInput p (Err faults.Write) out out' old new same printed (inp
 certifies tuning IsInput p (Err faults.Read) out out' old new same no_way h = absurd no_way
 certifies tuning IsInput p (Err faults.NoMemory) out out' old new same no_way h = absurd no_way
 certifies tuning IsInput p (Err (faults.Open name)) out out' old new same no_way h = absurd no_way
+certifies tuning IsInput p (Err (faults.UsedTwice name)) out out' old new same no_way h = absurd no_way
 certifies tuning IsInput p (Err faults.TooLong) out out' old new same no_way h = absurd no_way
+certifies tuning IsInput p (Err (faults.Rows words)) out out' old new same no_way h = absurd no_way
 certifies tuning IsInput p (Err (faults.Told words)) out out' old new same no_way h = absurd no_way
 
 -- on files that were read

@@ -50,7 +50,9 @@ refused_inputs Says view shape known_rows known_soft faults.Read h = tt
 refused_inputs Says view shape known_rows known_soft faults.Write h = tt
 refused_inputs Says view shape known_rows known_soft faults.NoMemory h = tt
 refused_inputs Says view shape known_rows known_soft (faults.Open name) h = h
+refused_inputs Says view shape known_rows known_soft (faults.UsedTwice name) h = h
 refused_inputs Says view shape known_rows known_soft faults.TooLong h = h
+refused_inputs Says view shape known_rows known_soft (faults.Rows words) h = h
 refused_inputs Says view shape known_rows known_soft (faults.Told words) h = h
 
 -- a command on files that were read
@@ -68,7 +70,9 @@ rows_beside_refused text view faults.Read h = tt
 rows_beside_refused text view faults.Write h = tt
 rows_beside_refused text view faults.NoMemory h = tt
 rows_beside_refused text view (faults.Open name) h = ap (beside view) h
+rows_beside_refused text view (faults.UsedTwice name) h = ap (beside view) h
 rows_beside_refused text view faults.TooLong h = ap (beside view) h
+rows_beside_refused text view (faults.Rows words) h = ap (beside view) h
 rows_beside_refused text view (faults.Told words) h = ap (beside view) h
 
 -- a certificate beside which the rows are read
@@ -83,7 +87,9 @@ certificate_refused text certificate faults.Read h = tt
 certificate_refused text certificate faults.Write h = tt
 certificate_refused text certificate faults.NoMemory h = tt
 certificate_refused text certificate (faults.Open name) h = ap (with_rows text) h
+certificate_refused text certificate (faults.UsedTwice name) h = ap (with_rows text) h
 certificate_refused text certificate faults.TooLong h = ap (with_rows text) h
+certificate_refused text certificate (faults.Rows words) h = ap (with_rows text) h
 certificate_refused text certificate (faults.Told words) h = ap (with_rows text) h
 
 -- the rows beside the certificate that the other file says

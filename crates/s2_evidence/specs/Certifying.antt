@@ -19,9 +19,10 @@ abbrev pub Writes : Option View → Option (List ℕ) → Option (List ℕ) → 
 Writes None old new = new ≡ old
 Writes (Some view) old new = Appends old new (bytes_of view)
 
--- a certificate's bytes are written in part, from the first one on, and not all
+-- A certificate's bytes are written in part, from the first one on, and not all. Where there is none nothing is: its file could not
+-- be cut.
 abbrev pub WritesPart : Option View → Option (List ℕ) → Option (List ℕ) → Type 0
-WritesPart None old new = ⊥
+WritesPart None old new = new ≡ old
 WritesPart (Some view) old new = AppendsPart (bytes_of view) old new
 
 -- What is written for an input beside a verdict of this exit: the certificate of the decided bits. It is accepted, and there is

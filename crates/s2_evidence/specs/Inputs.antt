@@ -12,7 +12,7 @@ use Rattle.s2_console.specs.declared.fault.Fault.TheVariants as faults
 
 abbrev pub rows_said : Shape → Result (List (List ℕ)) RowFault → Result Rows Fault
 rows_said shape (Ok rows) = Ok (rows_value shape rows)
-rows_said shape (Err e) = Err (faults.Told (codes "rows: " ++ row_fault_text e))
+rows_said shape (Err e) = Err (faults.Rows (codes "rows: " ++ row_fault_text e))
 
 -- the most bytes of a file that is read into memory
 abbrev pub most_bytes : ℕ

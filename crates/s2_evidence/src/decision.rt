@@ -16,9 +16,10 @@ use crate::reading::Judged;
 use s2_bits::Bits;
 use s2_check::{CertView, Verdict, cost};
 use s2_console::{Exit, Printed};
+use s2_files::Output;
 use s2_judge::Judge;
 use s2_matrix::Matrix;
-use s2_mode::{CountedWrite, WriteFault};
+use s2_mode::WriteFault;
 
 /// The line and the exit of a verdict on decided bits.
 fn judgement(matrix: &Matrix, soft: &[i16], word: &Bits, verdict: Verdict) -> Printed
@@ -91,8 +92,25 @@ pub(crate) fn own_decision(matrix: &Matrix, judge: &mut Judge<'_>, soft: &[i16])
     judgement(matrix, soft, judge.word(), own_verdict(verdict))
 }
 
-/// Writes a certificate, if there is one and a file for it. After a failed write a part of it is written.
-fn write_certificate<C: CountedWrite>(
+/// Begins a file, and writes a certificate, if there is one. After a failed write a part of it is written; where the file could
+/// not be cut, nothing.
+fn write_begun<C: Output>(view: Option<CertView<'_>>, file: &mut C) -> Result<(), WriteFault>
+    requires { CanCount (C.count file.old) }
+    ensures bytes { OnOk result (Writes view.entry (C.contents file.old) (C.contents file.new)) }
+    ensures part { OnErr result (WritesPart view.entry (C.contents file.old) (C.contents file.new)) }
+    ensures cause { CountsFault (C.count file.old) (C.count file.new) result }
+{
+    match view {
+        Some(view) => {
+            file.begin()?;
+            view.write(file)
+        }
+        None => file.begin(),
+    }
+}
+
+/// The same where there is a file.
+fn write_certificate<C: Output>(
     view: Option<CertView<'_>>,
     certificate: &mut Option<C>,
 ) -> Result<(), WriteFault>
@@ -103,13 +121,14 @@ fn write_certificate<C: CountedWrite>(
     ensures asked { SameAsked (written (λ c. C.contents c) (λ c. C.count c) certificate.old) (written (λ c. C.contents c) (λ c. C.count c) certificate.new) }
 {
     match (view, certificate) {
-        (Some(view), Some(certificate)) => view.write(certificate),
-        _ => Ok(()),
+        (view, Some(file)) => write_begun(view, file),
+        (Some(_), None) => Ok(()),
+        (None, None) => Ok(()),
     }
 }
 
-/// Decides by a judge, and writes the certificate of what is decided, where there is one and a file for it.
-pub(crate) fn decide_by<C: CountedWrite>(
+/// Decides by a judge, begins the file for a certificate, where there is one, and writes that of what is decided, where there is one.
+pub(crate) fn decide_by<C: Output>(
     judged: &Judged,
     judge: &mut Judge<'_>,
     certificate: &mut Option<C>,

@@ -1,10 +1,11 @@
 //! `judge`: soft values judged.
-ghost use Rattle.std.specs.Prelude.{◌≡◌, ◌≢◌, ◌+◌, All, IsOk, Result, Err, length};
+ghost use Rattle.std.specs.Prelude.{◌≡◌, ◌≢◌, ◌+◌, ◌≤◌, All, IsOk, Result, Err, [], length};
 ghost use Rattle.s2_mode.specs.Counts.{CanCount};
 ghost use Rattle.s2_matrix.specs.Code.{code_of};
 ghost use Rattle.s2_check.specs.Views.{IsSoft};
-ghost use Rattle.s2_console.specs.Screens.{CanShow};
-ghost use Rattle.s2_console.specs.Exits.{exit_of, CommandAnswers, CommandRuns, CommandCounts, Complains};
+ghost use Rattle.s2_console.specs.Screens.{Screen, CanTell, SameBeside, report_in, report_failed};
+ghost use Rattle.s2_console.specs.Exits.{exit_of, CommandAnswers, CommandRuns, CommandCounts};
+ghost use Rattle.s2_console.specs.Notes.{Concludes};
 ghost use Rattle.s2_evidence.specs.Files.{written, contents_in, failed_in, SameAsked, CanJudge};
 ghost use Rattle.s2_evidence.specs.Inputs.{AreInputs, IsOnly};
 ghost use Rattle.s2_evidence.specs.Judging.{IsJudged};
@@ -13,14 +14,15 @@ ghost use Rattle.s2_evidence.specs.Certifying.{Certifies, IsCertified};
 use crate::decision::decide_by;
 use crate::files::JudgeFiles;
 use crate::reading::{Judged, read_judged};
-use s2_console::{Console, Exit, Fault, Printed};
+use s2_console::{Console, Exit, Fault, Place, Printed};
+use s2_files::Output;
 use s2_judge::Judge;
 use s2_link::Tuning;
 use s2_mode::{CountedRead, CountedWrite, Shape};
 use std::alloc::Global;
 
 /// Judges soft values, and writes the certificate of what is decided, where there is one and a file for it.
-fn judge_soft<C: CountedWrite>(
+fn judge_soft<C: Output>(
     alloc: Global,
     tuning: Tuning,
     judged: &Judged,
@@ -47,7 +49,7 @@ fn judge_soft<C: CountedWrite>(
 }
 
 /// Reads rows and soft values, and judges.
-pub(crate) fn judge_read<R: CountedRead, S: CountedRead, C: CountedWrite>(
+pub(crate) fn judge_read<R: CountedRead, S: CountedRead, C: Output>(
     alloc: Global,
     shape: Shape,
     tuning: Tuning,
@@ -72,7 +74,7 @@ pub(crate) fn judge_read<R: CountedRead, S: CountedRead, C: CountedWrite>(
 }
 
 /// The same on a command's files.
-fn judge_files<R: CountedRead, S: CountedRead, C: CountedWrite>(
+fn judge_files<R: CountedRead, S: CountedRead, C: Output>(
     alloc: Global,
     shape: Shape,
     tuning: Tuning,
@@ -98,7 +100,7 @@ fn judge_files<R: CountedRead, S: CountedRead, C: CountedWrite>(
 }
 
 /// Reads rows and soft values, judges, certifies, and then prints the verdict.
-fn print_judgement<R: CountedRead, S: CountedRead, C: CountedWrite, O: CountedWrite>(
+fn print_judgement<R: CountedRead, S: CountedRead, C: Output, O: CountedWrite>(
     alloc: Global,
     shape: Shape,
     tuning: Tuning,
@@ -108,6 +110,7 @@ fn print_judgement<R: CountedRead, S: CountedRead, C: CountedWrite, O: CountedWr
     requires files { CanJudge files.old }
     requires out { CanCount (O.count out.old) }
     ensures whole { IsOk result → O.count out.new ≡ O.count out.old }
+    ensures few { O.count out.new ≤ O.count out.old + 1 }
     ensures asked { SameAsked files.old.certificate files.new.certificate }
     ensures run { CommandRuns (IsJudged tuning) (AreInputs shape files.old.rows files.old.soft) result (O.contents out.old) (O.contents out.new) }
     ensures certified { Certifies tuning (AreInputs shape files.old.rows files.old.soft) result
@@ -118,36 +121,59 @@ fn print_judgement<R: CountedRead, S: CountedRead, C: CountedWrite, O: CountedWr
     judge_files(alloc, shape, tuning, files)?.print(out)
 }
 
-/// `judge`: what a receiver that tries so much decides on the soft values of a file under the code of a row
-/// file, and what is known of it. Where a file for it is asked for, the certificate of the decided bits is
-/// written if they are sole or most likely, before the verdict is printed; where its writer fails, a part of it
-/// is written.
-pub fn judge_command<
-    R: CountedRead,
-    S: CountedRead,
-    C: CountedWrite,
-    O: CountedWrite,
-    E: CountedWrite,
->(
+/// The same with the verdict at a place of a console.
+fn judge_at<R: CountedRead, S: CountedRead, C: Output, O: CountedWrite, E: CountedWrite>(
     alloc: Global,
     shape: Shape,
     tuning: Tuning,
     files: &mut JudgeFiles<R, S, C>,
+    place: Place,
+    console: &mut Console<O, E>,
+) -> Result<Exit, Fault<'static>>
+    requires files { CanJudge files.old }
+    requires console { CanTell console.old }
+    ensures whole { IsOk result → console.new.output_failed ≡ console.old.output_failed }
+    ensures quiet { IsOk result → console.new.errors_failed ≡ console.old.errors_failed }
+    ensures few { console.new.errors_failed ≤ console.old.errors_failed + 1 }
+    ensures beside { SameBeside place console.old console.new }
+    ensures asked { SameAsked files.old.certificate files.new.certificate }
+    ensures run { CommandRuns (IsJudged tuning) (AreInputs shape files.old.rows files.old.soft) result (report_in place console.old) (report_in place console.new) }
+    ensures certified { Certifies tuning (AreInputs shape files.old.rows files.old.soft) result
+        files.old.certificate files.new.certificate }
+    ensures causes { CommandCounts result (files.old.rows_failed + files.old.soft_failed) (files.new.rows_failed + files.new.soft_failed)
+        (failed_in files.old.certificate + report_failed place console.old) (failed_in files.new.certificate + report_failed place console.new) }
+{
+    match place {
+        Place::Output => print_judgement(alloc, shape, tuning, files, &mut console.output),
+        Place::Errors => print_judgement(alloc, shape, tuning, files, &mut console.errors),
+    }
+}
+
+/// `judge`: what a receiver that tries so much decides on the soft values of a file under the code of a row
+/// file, and what is known of it. Where a file for it is asked for, the certificate of the decided bits is
+/// written if they are sole or most likely, before the verdict is printed; where its writer fails, a part of it
+/// is written.
+pub fn judge_command<R: CountedRead, S: CountedRead, C: Output, O: CountedWrite, E: CountedWrite>(
+    alloc: Global,
+    shape: Shape,
+    tuning: Tuning,
+    files: &mut JudgeFiles<R, S, C>,
+    place: Place,
     console: &mut Console<O, E>,
 ) -> Exit
     requires files { CanJudge files.old }
-    requires console { CanShow console.old }
+    requires console { CanTell console.old }
     ensures quiet { result ≢ Exit.Fault → console.new.errors_failed ≡ console.old.errors_failed }
     ensures whole { result ≢ Exit.Fault → console.new.output_failed ≡ console.old.output_failed }
     ensures asked { SameAsked files.old.certificate files.new.certificate }
-    ensures run { (ended : Result Exit Fault) × (result ≡ exit_of ended)
-        × CommandRuns (IsJudged tuning) (AreInputs shape files.old.rows files.old.soft) ended console.old.output console.new.output
+    ensures run { (ended : Result Exit Fault) × (shown : Screen) × (result ≡ exit_of ended)
+        × CommandRuns (IsJudged tuning) (AreInputs shape files.old.rows files.old.soft) ended (report_in place console.old) (report_in place shown)
         × Certifies tuning (AreInputs shape files.old.rows files.old.soft) ended
         files.old.certificate files.new.certificate
         × CommandCounts ended (files.old.rows_failed + files.old.soft_failed) (files.new.rows_failed + files.new.soft_failed)
-        (failed_in files.old.certificate + console.old.output_failed) (failed_in files.new.certificate + console.new.output_failed)
-        × Complains ended console.old console.new }
+        (failed_in files.old.certificate + report_failed place console.old) (failed_in files.new.certificate + report_failed place shown)
+        × Concludes place [] ended console.old shown console.new }
 {
-    let ended = print_judgement(alloc, shape, tuning, files, &mut console.output);
+    let ended = judge_at(alloc, shape, tuning, files, place, console);
     console.conclude(ended)
 }

@@ -10,7 +10,7 @@
 //!
 //! ```text
 //! let mut files = JudgeFiles { rows, soft, certificate: Some(file) };
-//! let exit = judge_command(alloc, shape, Tuning::new(50, 0)?, &mut files, &mut console);
+//! let exit = judge_command(alloc, shape, Tuning::new(50, 0)?, &mut files, Place::Output, &mut console);
 //! ```
 #![tactic(auto)]
 

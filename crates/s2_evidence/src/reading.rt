@@ -46,7 +46,7 @@ fn rows_of(alloc: Global, text: &[u8], shape: Shape) -> Result<Rows, Fault<'stat
     match read_rows(alloc, text, shape) {
         Ok(rows) => Ok(rows),
         Err(RowFault::NoMemory) => Err(Fault::NoMemory),
-        Err(fault) => Err(Fault::about("rows: ", fault.text())),
+        Err(fault) => Err(Fault::of_rows(fault.text())),
     }
 }
 

@@ -1,0 +1,7 @@
+pub mod Hashing
+pub mod RisenRows
+pub mod NoteLemmas
+pub mod RisenLaws
+pub mod SumTexts
+pub mod TableLemmas
+pub mod TellLemmas

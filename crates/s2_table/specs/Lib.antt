@@ -1,0 +1,4 @@
+pub mod Rising
+pub mod Sums
+pub mod Tables
+pub mod Wanted

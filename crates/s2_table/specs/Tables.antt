@@ -1,0 +1,45 @@
+-- What `table` prints of rows, and the note of rows that are others than the standard's.
+use Rattle.std.specs.Prelude.{◌≡◌, ℕ, ◌++◌, Bool, true, false, List, Option, IfSome, Result, codes}
+use Rattle.std.specs.Io.KnownBytes.{Appends}
+use Rattle.s2_mode.specs.Mode.{Mode}
+use Rattle.s2_mode.specs.Shape.{Shape}
+use Rattle.s2_rows.specs.Rows.{Rows}
+use Rattle.s2_modes.specs.Names.{mode_words}
+use Rattle.s2_console.specs.declared.exit.Exit.{Exit}
+use Rattle.s2_console.specs.declared.exit.Exit.TheVariants as exits
+use Rattle.s2_console.specs.declared.fault.Fault.{Fault}
+use Rattle.s2_evidence.specs.Inputs.{rows_in}
+use Rattle.s2_table.specs.Rising.{HasSum}
+use Rattle.s2_table.specs.Sums.{standard_sum}
+
+-- what is answered is what a row file says, where its bytes are known
+abbrev pub AreRowsIn : Shape → Option (List ℕ) → Result Rows Fault → Type 0
+AreRowsIn shape known said = IfSome known (λ text. rows_in shape text ≡ said)
+
+abbrev pub answer_line : Bool → List ℕ
+answer_line true = codes "standard\n"
+answer_line false = codes "other\n"
+
+abbrev pub answer_exit : Bool → Exit
+answer_exit true = exits.Fine
+answer_exit false = exits.No
+
+-- whether rows are the standard's for the code of a mode, and the exit of that
+pub record IsTold (mode : Mode) (rows : Rows) (exit : Exit) (text : List ℕ) : Type 0 where
+  pub answer : Bool
+  pub has : HasSum rows (standard_sum mode) answer
+  pub line : text ≡ answer_line answer
+  pub ends : exit ≡ answer_exit answer
+
+-- the line of the note
+abbrev pub note_line : Mode → List ℕ
+note_line m = codes "s2: note: these rows are not the standard's for " ++ (mode_words m ++ codes "\n")
+
+-- of the standard's rows nothing is noted
+abbrev pub Notes : Mode → Bool → Option (List ℕ) → Option (List ℕ) → Type 0
+Notes mode true old new = new ≡ old
+Notes mode false old new = Appends old new (note_line mode)
+
+-- of others it is noted that they are that
+abbrev pub IsNoted : Mode → Rows → Option (List ℕ) → Option (List ℕ) → Type 0
+IsNoted mode rows old new = (answer : Bool) × HasSum rows (standard_sum mode) answer × Notes mode answer old new

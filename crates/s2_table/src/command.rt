@@ -1,0 +1,98 @@
+//! `table`: whether rows are the standard's.
+ghost use Rattle.std.specs.Prelude.{◌≡◌, ◌≢◌, ◌+◌, Result, Err, IsOk};
+ghost use Rattle.s2_mode.specs.Counts.{CanCount};
+ghost use Rattle.s2_mode.specs.Mode.{shape_in};
+ghost use Rattle.s2_console.specs.Exits.{exit_of, CommandAnswers, CommandRuns, CommandCounts};
+ghost use Rattle.s2_console.specs.Notes.{Remarks};
+ghost use Rattle.s2_console.specs.Screens.{CanTell};
+ghost use Rattle.s2_table.specs.Wanted.{notes_on};
+ghost use Rattle.s2_table.specs.Tables.{AreRowsIn, IsTold, answer_line, answer_exit};
+
+use crate::standard::is_standard;
+use crate::wanted::conclude_noted;
+use s2_console::{Console, Exit, Fault, Line, Printed};
+use s2_evidence::read_matrix;
+use s2_matrix::Matrix;
+use s2_mode::{CountedRead, CountedWrite, Mode};
+use std::alloc::Global;
+
+/// The exit of an answer.
+fn exit_of_answer(answer: bool) -> Exit
+    ensures { result ≡ answer_exit answer }
+{
+    if answer { Exit::Fine } else { Exit::No }
+}
+
+/// The line of an answer.
+fn line_of_answer(answer: bool) -> Line
+    ensures { result ≡ answer_line answer }
+{
+    let mut line = Line::new();
+    line.push(if answer { "standard\n" } else { "other\n" });
+    line
+}
+
+/// Whether rows are the standard's for the code of a mode.
+fn told(mode: &Mode, matrix: &Matrix) -> Printed
+    ensures { IsTold mode.now matrix.now result.exit result.text }
+{
+    let answer = is_standard(mode, matrix);
+    Printed {
+        exit: exit_of_answer(answer),
+        text: line_of_answer(answer),
+    }
+}
+
+/// Reads rows, and tells whether they are the standard's.
+fn table_read<R: CountedRead>(
+    alloc: Global,
+    mode: &Mode,
+    rows: &mut R,
+) -> Result<Printed, Fault<'static>>
+    requires { CanCount (R.count rows.old) }
+    ensures answers { CommandAnswers (IsTold mode.now) (AreRowsIn (shape_in mode.now) (R.remaining rows.old)) result }
+    ensures read { result ≡ Err Fault.Read → R.count rows.new ≡ R.count rows.old + 1 }
+    ensures no_read { result ≢ Err Fault.Read → R.count rows.new ≡ R.count rows.old }
+    ensures write { result ≢ Err Fault.Write }
+{
+    let matrix = read_matrix(alloc, rows, mode.shape())?;
+    Ok(told(mode, &matrix))
+}
+
+/// Reads rows, and prints whether they are the standard's.
+fn print_table<R: CountedRead, O: CountedWrite>(
+    alloc: Global,
+    mode: &Mode,
+    rows: &mut R,
+    out: &mut O,
+) -> Result<Exit, Fault<'static>>
+    requires rows { CanCount (R.count rows.old) }
+    requires out { CanCount (O.count out.old) }
+    ensures whole { IsOk result → O.count out.new ≡ O.count out.old }
+    ensures run { CommandRuns (IsTold mode.now) (AreRowsIn (shape_in mode.now) (R.remaining rows.old)) result (O.contents out.old) (O.contents out.new) }
+    ensures causes { CommandCounts result (R.count rows.old) (R.count rows.new) (O.count out.old) (O.count out.new) }
+{
+    table_read(alloc, mode, rows)?.print(out)
+}
+
+/// `table`: whether the rows of a file are the standard's for the code of a mode, whatever the order within each row. Of rows that
+/// are refused it is noted which ones the mode wants, unless notes are left out.
+pub fn table_command<R: CountedRead, O: CountedWrite, E: CountedWrite>(
+    alloc: Global,
+    mode: &Mode,
+    quiet: bool,
+    rows: &mut R,
+    console: &mut Console<O, E>,
+) -> Exit
+    requires rows { CanCount (R.count rows.old) }
+    requires console { CanTell console.old }
+    ensures quiet { result ≢ Exit.Fault → console.new.errors_failed ≡ console.old.errors_failed }
+    ensures whole { result ≢ Exit.Fault → console.new.output_failed ≡ console.old.output_failed }
+    ensures run { (ended : Result Exit Fault) × (result ≡ exit_of ended)
+        × CommandRuns (IsTold mode.now) (AreRowsIn (shape_in mode.now) (R.remaining rows.old)) ended console.old.output console.new.output
+        × CommandCounts ended (R.count rows.old) (R.count rows.new) console.old.output_failed console.new.output_failed
+        × Remarks (notes_on quiet mode.now ended) ended console.old console.new }
+{
+    let ended = print_table(alloc, mode, rows, &mut console.output);
+    conclude_noted(quiet, mode, ended, console)
+}
