@@ -7,7 +7,6 @@ use Rattle.s2_mode.specs.Streams.{Streams}
 use Rattle.s2_rows.specs.Rows.{Rows}
 use Rattle.s2_link.specs.Link.{Link, link_of}
 use Rattle.s2_link.specs.declared.setup.Setup.{Setup}
-use Rattle.s2_console.specs.declared.exit.Exit.{Exit}
 use Rattle.s2_console.specs.declared.fault.Fault.{Fault}
 use Rattle.s2_console.specs.declared.fault.Fault.TheVariants as faults
 use Rattle.s2_console.specs.Exits.{Follows}
@@ -41,16 +40,20 @@ no_memory : (setup : Setup) (known : Option (List ℕ)) → IfSome known (λ tex
 no_memory setup None = tt
 no_memory setup (Some text) = tt
 
+no_write : (setup : Setup) (known : Option (List ℕ)) → IfSome known (λ text. Follows {V = Link} (λ l. l) (Err faults.Write) (link_in setup text))
+no_write setup None = tt
+no_write setup (Some text) = tt
+
 -- ---- a setup, and its row file that is read by this shape
 
 -- what is there was read
 pub never : {T : Type 0} → (x : T) → Ok x ≢ Err faults.Read
 never x h = cc
 
-module _ (Does : Deed) (setup : Setup) (known : Option (List ℕ)) where
+module _ {T : Type 0} (Does : Deed T) (setup : Setup) (known : Option (List ℕ)) where
   -- nothing is done
   undone : (f : Fault) (old new : Streams) → IfSome known (λ text. Follows {V = Link} (λ l. l) (Err f) (link_in setup text))
-      → (f ≡ faults.Read → new.reads ≡ old.reads + 1) → new.taken ≡ old.taken → new.given ≡ old.given → new.out ≡ old.out → Causes old new (Err f) → OnLink Does setup known old new (Err f)
+      → (f ≡ faults.Read → new.reads ≡ old.reads + 1) → new.taken ≡ old.taken → new.given ≡ old.given → new.out ≡ old.out → Causes {T = T} old new (Err f) → OnLink Does setup known old new (Err f)
   undone f old new linked failed taken given out causes =
       record { link = Err f; linked = linked; setup_kept = tt; does = (refl, failed, taken, given, out); causes = causes }
 
@@ -61,18 +64,23 @@ module _ (Does : Deed) (setup : Setup) (known : Option (List ℕ)) where
   refused_rows shape f old new is h other failed well writes taken given out =
       undone f old new (linked_refused setup known shape f is h) failed taken given out (λ e. well (λ q. e (ap Err q)), λ e. absurd (other cc), λ e. writes)
 
-  on_rows : (shape : Shape) (rows : Rows) (old new : Streams) (ended : Result Exit Fault) → shape ≡ shape_in setup.mode → IfSome known (λ text. rows_in shape text ≡ Ok rows)
+  on_rows : (shape : Shape) (rows : Rows) (old new : Streams) (ended : Result T Fault) → shape ≡ shape_in setup.mode → IfSome known (λ text. rows_in shape text ≡ Ok rows)
       → Tries Does (link_of setup rows) old new ended → Causes old new ended → OnLink Does setup known old new ended
   on_rows shape rows old new ended is read (inl does) causes =
       record { link = Ok (link_of setup rows); linked = linked_on setup known shape rows is read; setup_kept = refl; does = does; causes = causes }
-  on_rows shape rows old new ended is read (inr (lacking, same)) causes =
-      let P : Result Exit Fault → Type 0 = λ e. OnLink Does setup known old new e in
-      let C : Result Exit Fault → Type 0 = λ e. Causes old new e in
+  on_rows shape rows old new ended is read (inr (inl (lacking, same))) causes =
+      let P : Result T Fault → Type 0 = λ e. OnLink Does setup known old new e in
+      let C : Result T Fault → Type 0 = λ e. Causes old new e in
       subst P (sym lacking)
       (undone faults.NoMemory old new (no_memory setup known) (λ e. cc) (ap (λ (s : Streams). s.taken) same) (ap (λ (s : Streams). s.given) same) (ap (λ (s : Streams). s.out) same) (subst C lacking causes))
+  on_rows shape rows old new ended is read (inr (inr (uncut, same))) causes =
+      let P : Result T Fault → Type 0 = λ e. OnLink Does setup known old new e in
+      let C : Result T Fault → Type 0 = λ e. Causes old new e in
+      subst P (sym uncut)
+      (undone faults.Write old new (no_write setup known) (λ e. cc) (ap (λ (s : Streams). s.taken) same) (ap (λ (s : Streams). s.given) same) (ap (λ (s : Streams). s.out) same) (subst C uncut causes))
 
   -- it is tried on the link of these rows, which were read before
-  pub tried : (shape : Shape) (rows : Rows) (link : Link) (old read new : Streams) (ended : Result Exit Fault) → shape ≡ shape_in setup.mode
+  pub tried : (shape : Shape) (rows : Rows) (link : Link) (old read new : Streams) (ended : Result T Fault) → shape ≡ shape_in setup.mode
       → IfSome known (λ text. rows_in shape text ≡ Ok rows) → link ≡ link_of setup rows → read ≡ old → Tries Does link read new ended → Causes read new ended → OnLink Does setup known old new ended
   tried shape rows link old read new ended is known_is linked same h causes =
       let P : Streams → Type 0 = λ s. OnLink Does setup known s new ended in

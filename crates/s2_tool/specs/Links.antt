@@ -1,5 +1,6 @@
 -- The link that a command works on, and its files.
 use Rattle.std.specs.Prelude.{◌≡◌, ◌≢◌, ◌⊎◌, ℕ, ◌+◌, List, Option, IfSome, Result, Ok, Err, IfOk}
+use Rattle.std.specs.Borrow.{Bor}
 use Rattle.s2_mode.specs.Counts.{CanCount}
 use Rattle.s2_mode.specs.Mode.{shape_in}
 use Rattle.s2_mode.specs.Streams.{Streams}
@@ -10,7 +11,8 @@ use Rattle.s2_console.specs.declared.exit.Exit.{Exit}
 use Rattle.s2_console.specs.declared.fault.Fault.{Fault}
 use Rattle.s2_console.specs.declared.fault.Fault.TheVariants as faults
 use Rattle.s2_console.specs.Exits.{Follows}
-use Rattle.s2_console.specs.Screens.{Screen}
+use Rattle.s2_console.specs.Screens.{Screen, report_in, report_failed}
+use Rattle.s2_console.specs.declared.place.Place.{Place}
 use Rattle.s2_evidence.specs.Inputs.{rows_in}
 
 -- ---- the files
@@ -38,14 +40,19 @@ abbrev pub streams_with : Ends → Option (List ℕ) → ℕ → Streams
 streams_with ends out failed =
     record { taken = ends.taken; given = ends.given; out = out; reads = ends.rows_failed + ends.taken_failed; writes = ends.given_failed + failed }
 
-abbrev pub streams_of : Ends → Screen → Streams
-streams_of ends screen = streams_with ends screen.output screen.output_failed
+-- these files, and a console that takes the report at this place
+abbrev pub streams_at : Place → Ends → Screen → Streams
+streams_at place ends screen = streams_with ends (report_in place screen) (report_failed place screen)
 
 -- The causes of a failed device: where a read is told no write failed, where a write is told the count of failed writes rose, and
 -- where neither is told neither count rose.
-abbrev pub Causes : Streams → Streams → Result Exit Fault → Type 0
+abbrev pub Causes : {T : Type 0} → Streams → Streams → Result T Fault → Type 0
 Causes old new ended =
     (ended ≢ Err faults.Read → new.reads ≡ old.reads) × (ended ≡ Err faults.Write → new.writes ≡ old.writes + 1) × (ended ≢ Err faults.Write → new.writes ≡ old.writes)
+
+-- why a file of this name could not be opened
+abbrev pub CannotOpen : Bor (List ℕ) → Fault → Type 0
+CannotOpen name fault = (fault ≡ faults.Open name) ⊎ ((fault ≡ faults.UsedTwice name) ⊎ (fault ≡ faults.NoMemory))
 
 -- ---- the link
 
@@ -58,22 +65,27 @@ link_on setup (Ok rows) = Ok (link_of setup rows)
 abbrev pub link_in : Setup → List ℕ → Result Link Fault
 link_in setup text = link_on setup (rows_in (shape_in setup.mode) text)
 
--- what a command does on a link
-abbrev pub Deed : Type 1
-Deed = Link → Streams → Streams → Result Exit Fault → Type 0
+-- what a command does on a link, and what it answers
+abbrev pub Deed : Type 0 → Type 1
+Deed T = Link → Streams → Streams → Result T Fault → Type 0
 
 -- Without a link its fault is told, nothing is read behind the rows and nothing written.
-abbrev pub DoesOn : Deed → Result Link Fault → Streams → Streams → Result Exit Fault → Type 0
+abbrev pub DoesOn : {T : Type 0} → Deed T → Result Link Fault → Streams → Streams → Result T Fault → Type 0
 DoesOn Does (Ok link) old new ended = Does link old new ended
 DoesOn Does (Err f) old new ended =
     (ended ≡ Err f) × (f ≡ faults.Read → new.reads ≡ old.reads + 1) × (new.taken ≡ old.taken) × (new.given ≡ old.given) × (new.out ≡ old.out)
 
--- what a command did on a link, or nothing since memory ran out
-abbrev pub Tries : Deed → Deed
-Tries Does link old new ended = Does link old new ended ⊎ ((ended ≡ Err faults.NoMemory) × (new ≡ old))
+-- nothing was done, since memory ran out, or since the file that is to be written could not be cut
+abbrev pub Undone : {T : Type 0} → Streams → Streams → Result T Fault → Type 0
+Undone old new ended =
+    ((ended ≡ Err faults.NoMemory) × (new ≡ old)) ⊎ ((ended ≡ Err faults.Write) × (new ≡ record old { writes = old.writes + 1 }))
+
+-- what a command did on a link, or nothing
+abbrev pub Tries : {T : Type 0} → Deed T → Deed T
+Tries Does link old new ended = Does link old new ended ⊎ Undone old new ended
 
 -- a command on a setup and a row file
-pub record OnLink (Does : Deed) (setup : Setup) (rows : Option (List ℕ)) (old new : Streams) (ended : Result Exit Fault) : Type 0 where
+pub record OnLink {T : Type 0} (Does : Deed T) (setup : Setup) (rows : Option (List ℕ)) (old new : Streams) (ended : Result T Fault) : Type 0 where
   -- what the row file says, unless memory ran out or a read failed
   pub link : Result Link Fault
   pub linked : IfSome rows (λ text. Follows (λ l. l) link (link_in setup text))

@@ -7,6 +7,7 @@ use Rattle.s2_send.specs.Transmitter.{Transmitter}
 use Rattle.s2_send.specs.declared.outcome.Counts.{Counts}
 use Rattle.s2_send.specs.declared.outcome.SendFault.{SendFault}
 use Rattle.s2_receive.specs.Receiving.{Rules}
+use Rattle.s2_receive.specs.declared.report.Received.{Received}
 use Rattle.s2_modem.specs.Reception.{link_rules}
 use Rattle.s2_console.specs.declared.exit.Exit.{Exit}
 use Rattle.s2_console.specs.declared.fault.Fault.{Fault}
@@ -28,36 +29,36 @@ abbrev pub in_memory : List ℕ → List ℕ → ℕ → Streams
 in_memory taken given writes = piped (Some taken) (Some given) 0 writes
 
 -- a part that ended in a fault ends all: nothing is written, and nothing printed
-abbrev pub EndsAll : Fault → Streams → Streams → Result Exit Fault → Type 0
+abbrev pub EndsAll : Fault → Streams → Streams → Result Received Fault → Type 0
 EndsAll f old new ended = (ended ≡ Err (kept_fault f)) × (new.given ≡ old.given) × (new.out ≡ old.out)
 
 -- what came through the channel is received from memory
-abbrev pub HearsAll : Rules → List ℕ → Result Exit Fault → Streams → Streams → Result Exit Fault → Type 0
+abbrev pub HearsAll : Rules → List ℕ → Result Exit Fault → Streams → Streams → Result Received Fault → Type 0
 HearsAll rules heard (Ok exit) old new ended =
     (left : Option (List ℕ)) × Receives rules (record old { taken = Some heard; reads = 0 }) (record new { taken = left; reads = 0 }) ended
 HearsAll rules heard (Err f) old new ended = EndsAll f old new ended
 
 -- symbols in memory are spoilt, and what comes is received
-abbrev pub Passes : Rules → ChannelWords → List ℕ → Streams → Streams → Result Exit Fault → Type 0
+abbrev pub Passes : Rules → ChannelWords → List ℕ → Streams → Streams → Result Received Fault → Type 0
 Passes rules channel symbols old new ended =
     (spoilt : Result Exit Fault) × (left heard : List ℕ) × (failed : ℕ)
     × Spoils channel (in_memory symbols [] 0) (in_memory left heard failed) spoilt × HearsAll rules heard spoilt old new ended
 
 -- the same where the transmitter may refuse
-abbrev pub PassesAll : Rules → ChannelWords → List ℕ → Result Counts SendFault → Streams → Streams → Result Exit Fault → Type 0
+abbrev pub PassesAll : Rules → ChannelWords → List ℕ → Result Counts SendFault → Streams → Streams → Result Received Fault → Type 0
 PassesAll rules channel symbols (Ok counts) old new ended = Passes rules channel symbols old new ended
 PassesAll rules channel symbols (Err refusal) old new ended = EndsAll (refusal_fault refusal) old new ended
 
 -- a transmitter sends packets into memory, and what becomes of their symbols is received by these rules
-abbrev pub LoopsBy : Transmitter → Rules → ChannelWords → Streams → Streams → Result Exit Fault → Type 0
+abbrev pub LoopsBy : Transmitter → Rules → ChannelWords → Streams → Streams → Result Received Fault → Type 0
 LoopsBy t rules channel old new ended =
     (answer : Result Counts SendFault) × (symbols : List ℕ)
     × Runs t (record old { given = Some [] }) (record new { given = Some symbols }) answer × PassesAll rules channel symbols answer old new ended
 
 -- `run` on a link, with the dummy frames, the tuning and the channel of its words
-abbrev pub Loops : RunWords → Deed
+abbrev pub Loops : RunWords → Deed Received
 Loops words link old new ended = LoopsBy (transmitter_on link words.dummy) (link_rules link words.tuning most_symbols) words.channel old new ended
 
 -- `run` on a setup, these words and a row file
-abbrev pub LoopsBack : Setup → RunWords → Option (List ℕ) → Streams → Streams → Result Exit Fault → Type 0
+abbrev pub LoopsBack : Setup → RunWords → Option (List ℕ) → Streams → Streams → Result Received Fault → Type 0
 LoopsBack setup words rows old new ended = OnLink (Loops words) setup rows old new ended

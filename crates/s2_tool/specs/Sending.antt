@@ -46,7 +46,7 @@ abbrev pub transmitter_on : Link → ℕ → Transmitter
 transmitter_on link dummy = record (new_transmitter link) { dummy_every = dummy }
 
 -- `mod` on a link, with dummy frames
-abbrev pub Sends : ℕ → Deed
+abbrev pub Sends : ℕ → Deed Exit
 Sends dummy link old new ended = SendsBy (transmitter_on link dummy) old new ended
 
 -- `mod` on a setup, with dummy frames, and a row file

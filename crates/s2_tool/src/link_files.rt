@@ -1,5 +1,9 @@
 //! The files of a command on a link.
+ghost use Rattle.std.specs.Prelude.{◌≡◌};
+
+use s2_files::Output;
 use s2_mode::{CountedRead, CountedWrite};
+use s2_progress::{Meter, Watched};
 use std::marker::Model;
 
 /// The files of a command on a link: its row file, the file that it reads behind that one, and the file that
@@ -35,4 +39,21 @@ impl<R: CountedRead, S: CountedRead, W: CountedWrite> Model for LinkFiles<R, S, 
       taken_failed = S.count f.from;
       given_failed = W.count f.to;
     } };
+}
+
+impl<R: CountedRead, S: CountedRead, W: Output> LinkFiles<R, S, W> {
+    /// The same files, of which a meter is told what passes through the second and the third.
+    pub(crate) fn watched<'m, M: Meter>(
+        self,
+        meter: &'m M,
+    ) -> LinkFiles<R, Watched<'m, S, M>, Watched<'m, W, M>>
+        ensures { result ≡ self }
+    {
+        let LinkFiles { rows, from, to } = self;
+        LinkFiles {
+            rows,
+            from: Watched::new(from, meter),
+            to: Watched::new(to, meter),
+        }
+    }
 }

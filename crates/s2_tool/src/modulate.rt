@@ -1,18 +1,22 @@
 //! `mod`: packets sent.
-ghost use Rattle.std.specs.Prelude.{◌≡◌, ◌≢◌, IsOk, Result};
+ghost use Rattle.std.specs.Prelude.{◌≡◌, ◌≢◌, ◌≤◌, ◌+◌, ◌⊎◌, IsOk, Result};
 ghost use Rattle.s2_mode.specs.Counts.{CanCount};
 ghost use Rattle.s2_link.specs.Link.{setup_of};
-ghost use Rattle.s2_console.specs.Exits.{exit_of, Complains};
-ghost use Rattle.s2_console.specs.Screens.{CanShow};
-ghost use Rattle.s2_tool.specs.Links.{CanFail, Causes, Tries, streams_of, streams_with};
+ghost use Rattle.s2_console.specs.Exits.{exit_of};
+ghost use Rattle.s2_console.specs.Notes.{Concludes};
+ghost use Rattle.s2_console.specs.Screens.{Screen, CanTell, SameBeside};
+ghost use Rattle.s2_tool.specs.Links.{CanFail, Causes, Tries, Undone, streams_at, streams_with};
+ghost use Rattle.s2_table.specs.Wanted.{notes_on};
 ghost use Rattle.s2_tool.specs.Sending.{sent_line, refusal_fault, SendsBy, Sends, Modulates};
 
 use crate::link_files::LinkFiles;
-use s2_console::{Console, Exit, Fault, Line, print};
-use s2_evidence::read_matrix;
+use s2_console::{Console, Exit, Fault, Line, Place, print};
+use s2_files::Output;
 use s2_link::{Link, LinkSetup};
 use s2_mode::{CountedRead, CountedWrite};
 use s2_send::{Counts, SendFault, Transmitter};
+use s2_table::{conclude_noted, read_noted};
+use s2_words::ModWords;
 use std::alloc::Global;
 
 /// The line of a run's counts. It takes no memory, so that none can lack once frames are written.
@@ -40,7 +44,7 @@ pub(crate) fn fault_of(refusal: SendFault) -> Fault<'static>
 }
 
 /// Sends packets, and prints the counts.
-fn send_packets<R: CountedRead, S: CountedRead, W: CountedWrite, O: CountedWrite>(
+fn send_packets<R: CountedRead, S: CountedRead, W: Output, O: CountedWrite>(
     transmitter: &mut Transmitter<'_>,
     files: &mut LinkFiles<R, S, W>,
     out: &mut O,
@@ -48,6 +52,7 @@ fn send_packets<R: CountedRead, S: CountedRead, W: CountedWrite, O: CountedWrite
     requires files { CanFail files.old }
     requires out { CanCount (O.count out.old) }
     ensures whole { IsOk result → O.count out.new ≡ O.count out.old }
+    ensures few { O.count out.new ≤ O.count out.old + 1 }
     ensures sends { SendsBy transmitter.old (streams_with files.old (O.contents out.old) (O.count out.old)) (streams_with files.new (O.contents out.new) (O.count out.new)) result }
     ensures causes { Causes (streams_with files.old (O.contents out.old) (O.count out.old)) (streams_with files.new (O.contents out.new) (O.count out.new)) result }
 {
@@ -57,8 +62,28 @@ fn send_packets<R: CountedRead, S: CountedRead, W: CountedWrite, O: CountedWrite
     }
 }
 
+/// Begins the file that is written, and sends packets.
+fn send_begun<R: CountedRead, S: CountedRead, W: Output, O: CountedWrite>(
+    transmitter: &mut Transmitter<'_>,
+    files: &mut LinkFiles<R, S, W>,
+    out: &mut O,
+) -> Result<Exit, Fault<'static>>
+    requires files { CanFail files.old }
+    requires out { CanCount (O.count out.old) }
+    ensures whole { IsOk result → O.count out.new ≡ O.count out.old }
+    ensures few { O.count out.new ≤ O.count out.old + 1 }
+    ensures sends { SendsBy transmitter.old (streams_with files.old (O.contents out.old) (O.count out.old)) (streams_with files.new (O.contents out.new) (O.count out.new)) result
+        ⊎ Undone (streams_with files.old (O.contents out.old) (O.count out.old)) (streams_with files.new (O.contents out.new) (O.count out.new)) result }
+    ensures causes { Causes (streams_with files.old (O.contents out.old) (O.count out.old)) (streams_with files.new (O.contents out.new) (O.count out.new)) result }
+{
+    match files.to.begin() {
+        Ok(()) => send_packets(transmitter, files, out),
+        Err(_) => Err(Fault::Write),
+    }
+}
+
 /// Sends packets on a link, with a dummy frame behind every so many frames.
-fn send_link<R: CountedRead, S: CountedRead, W: CountedWrite, O: CountedWrite>(
+fn send_link<R: CountedRead, S: CountedRead, W: Output, O: CountedWrite>(
     alloc: Global,
     link: &Link<'_>,
     dummy: u16,
@@ -68,33 +93,69 @@ fn send_link<R: CountedRead, S: CountedRead, W: CountedWrite, O: CountedWrite>(
     requires files { CanFail files.old }
     requires out { CanCount (O.count out.old) }
     ensures whole { IsOk result → O.count out.new ≡ O.count out.old }
+    ensures few { O.count out.new ≤ O.count out.old + 1 }
     ensures sends { Tries (Sends dummy) link.now (streams_with files.old (O.contents out.old) (O.count out.old)) (streams_with files.new (O.contents out.new) (O.count out.new)) result }
     ensures causes { Causes (streams_with files.old (O.contents out.old) (O.count out.old)) (streams_with files.new (O.contents out.new) (O.count out.new)) result }
 {
     match Transmitter::on_link(alloc, link) {
         Ok(mut transmitter) => {
             transmitter.dummy_every(dummy);
-            send_packets(&mut transmitter, files, out)
+            send_begun(&mut transmitter, files, out)
         }
         Err(_) => Err(Fault::NoMemory),
     }
 }
 
 /// Reads rows, and sends packets.
-fn send_files<R: CountedRead, S: CountedRead, W: CountedWrite, O: CountedWrite>(
+fn send_files<R: CountedRead, S: CountedRead, W: Output, O: CountedWrite, N: CountedWrite>(
     alloc: Global,
     setup: LinkSetup,
-    dummy: u16,
+    words: &ModWords<'_>,
     files: &mut LinkFiles<R, S, W>,
     out: &mut O,
+    notes: &mut N,
 ) -> Result<Exit, Fault<'static>>
     requires files { CanFail files.old }
     requires out { CanCount (O.count out.old) }
+    requires notes { CanCount (N.count notes.old) }
     ensures whole { IsOk result → O.count out.new ≡ O.count out.old }
-    ensures run { Modulates (setup_of setup) dummy files.old.rows (streams_with files.old (O.contents out.old) (O.count out.old)) (streams_with files.new (O.contents out.new) (O.count out.new)) result }
+    ensures few { O.count out.new ≤ O.count out.old + 1 }
+    ensures run { Modulates (setup_of setup) words.now.dummy files.old.rows (streams_with files.old (O.contents out.old) (O.count out.old)) (streams_with files.new (O.contents out.new) (O.count out.new)) result }
 {
-    let matrix = read_matrix(alloc, &mut files.rows, setup.mode.shape())?;
-    send_link(alloc, &Link::of(setup, &matrix), dummy, files, out)
+    let matrix = read_noted(alloc, &setup.mode, &mut files.rows, words.quiet, notes)?;
+    send_link(alloc, &Link::of(setup, &matrix), words.dummy, files, out)
+}
+
+/// The same with the report at a place of a console.
+fn send_at<
+    R: CountedRead,
+    S: CountedRead,
+    W: Output,
+    O: CountedWrite,
+    E: CountedWrite,
+    N: CountedWrite,
+>(
+    alloc: Global,
+    setup: LinkSetup,
+    words: &ModWords<'_>,
+    files: &mut LinkFiles<R, S, W>,
+    place: Place,
+    console: &mut Console<O, E>,
+    notes: &mut N,
+) -> Result<Exit, Fault<'static>>
+    requires files { CanFail files.old }
+    requires console { CanTell console.old }
+    requires notes { CanCount (N.count notes.old) }
+    ensures whole { IsOk result → console.new.output_failed ≡ console.old.output_failed }
+    ensures quiet { IsOk result → console.new.errors_failed ≡ console.old.errors_failed }
+    ensures few { console.new.errors_failed ≤ console.old.errors_failed + 1 }
+    ensures beside { SameBeside place console.old console.new }
+    ensures run { Modulates (setup_of setup) words.now.dummy files.old.rows (streams_at place files.old console.old) (streams_at place files.new console.new) result }
+{
+    match place {
+        Place::Output => send_files(alloc, setup, words, files, &mut console.output, notes),
+        Place::Errors => send_files(alloc, setup, words, files, &mut console.errors, notes),
+    }
 }
 
 /// `mod`: sends the packets of a stream on the link of a setup and a row file, with a dummy frame behind every
@@ -103,24 +164,28 @@ fn send_files<R: CountedRead, S: CountedRead, W: CountedWrite, O: CountedWrite>(
 pub fn mod_command<
     R: CountedRead,
     S: CountedRead,
-    W: CountedWrite,
+    W: Output,
     O: CountedWrite,
     E: CountedWrite,
+    N: CountedWrite,
 >(
     alloc: Global,
     setup: LinkSetup,
-    dummy: u16,
+    words: &ModWords<'_>,
     files: &mut LinkFiles<R, S, W>,
+    place: Place,
     console: &mut Console<O, E>,
+    notes: &mut N,
 ) -> Exit
     requires files { CanFail files.old }
-    requires console { CanShow console.old }
+    requires console { CanTell console.old }
+    requires notes { CanCount (N.count notes.old) }
     ensures quiet { result ≢ Exit.Fault → console.new.errors_failed ≡ console.old.errors_failed }
     ensures whole { result ≢ Exit.Fault → console.new.output_failed ≡ console.old.output_failed }
-    ensures run { (ended : Result Exit Fault) × (result ≡ exit_of ended)
-        × Modulates (setup_of setup) dummy files.old.rows (streams_of files.old console.old) (streams_of files.new console.new) ended
-        × Complains ended console.old console.new }
+    ensures run { (ended : Result Exit Fault) × (shown : Screen) × (result ≡ exit_of ended)
+        × Modulates (setup_of setup) words.now.dummy files.old.rows (streams_at place files.old console.old) (streams_at place files.new shown) ended
+        × Concludes place (notes_on words.now.quiet setup.mode ended) ended console.old shown console.new }
 {
-    let ended = send_files(alloc, setup, dummy, files, &mut console.output);
-    console.conclude(ended)
+    let ended = send_at(alloc, setup, words, files, place, console, notes);
+    conclude_noted(words.quiet, &setup.mode, ended, console)
 }

@@ -1,125 +1,152 @@
 //! Files opened.
-ghost use Rattle.std.specs.Prelude.{◌≡◌, ◌⊎◌, IfOk, IfErr, IfSome, Some};
-ghost use Rattle.s2_tool.specs.Links.{NoneFailed};
+ghost use Rattle.std.specs.Prelude.{◌≡◌, ◌⊎◌, ◌≤◌, [], IfOk, IfErr, IfSome, OnOk, length};
+ghost use Rattle.s2_evidence.specs.Files.{failed_in};
+ghost use Rattle.s2_tool.specs.Links.{CannotOpen, NoneFailed};
 
 use crate::link_files::LinkFiles;
 use s2_console::Fault;
-use s2_mode::Counting;
-use std::fs;
-use std::io::{BufReader, BufWriter};
+use s2_evidence::{CheckFiles, JudgeFiles};
+use s2_files::{Opener, PlainReader, Reader, StandardStreams, Target, Writer};
+use s2_words::{CheckWords, JudgeWords, NoiseWords};
 use std::rt::Files;
 
-/// A file that is read, behind a buffer and with its failed calls counted.
-type Reader<F> = Counting<BufReader<F>>;
-
-/// Opens a file that is read.
-pub(crate) fn open<'a, R: Files + AllocGlobal>(
+/// Opens the files of a command on a link: the row file, then the one that is read behind it. The one that is
+/// written is opened once both are open, and stays whole. How many bytes the second has, where that is known, stands beside them.
+pub(crate) fn open_link<'a, R: Files + StandardStreams + AllocGlobal>(
     rt: &R,
-    name: &'a str,
-) -> Result<Reader<R::File>, Fault<'a>>
-    ensures fresh { IfOk result (λ file. file.failed ≡ 0) }
-    ensures fault { IfErr result (λ fault. (fault ≡ Fault.Open name.entry) ⊎ (fault ≡ Fault.NoMemory)) }
+    rows: &'a str,
+    from: &'a str,
+    to: &'a str,
+) -> Result<
+    (
+        LinkFiles<Reader<R::File, R::Input>, Reader<R::File, R::Input>, Target<R::File, R::Output>>,
+        Option<u64>,
+    ),
+    Fault<'a>,
+>
+    ensures fresh { IfOk result (λ opened. NoneFailed opened.0) }
+    ensures fault { IfErr result (λ fault. CannotOpen rows.entry fault ⊎ (CannotOpen from.entry fault ⊎ CannotOpen to.entry fault)) }
 {
-    let Ok(file) = fs::open(rt, name) else {
-        return Err(Fault::Open(name));
-    };
-    let Ok(buffered) = BufReader::new(rt.alloc(), file) else {
-        return Err(Fault::NoMemory);
-    };
-    Ok(Counting::new(buffered))
+    let mut opener = Opener::new(rt);
+    let rows = opener.read_buffered(rows)?;
+    let from = opener.read_buffered(from)?;
+    let length = opener.last_length();
+    let to = opener.write(to)?;
+    Ok((LinkFiles { rows, from, to }, length))
 }
 
-/// Opens two files that are read, the first one first.
-pub(crate) fn open_both<'a, R: Files + AllocGlobal>(
+/// The same for who reads many bytes of the second file at a time, which has no buffer.
+pub(crate) fn open_whole<'a, R: Files + StandardStreams + AllocGlobal>(
     rt: &R,
-    first: &'a str,
-    second: &'a str,
-) -> Result<(Reader<R::File>, Reader<R::File>), Fault<'a>>
-    ensures first { IfOk result (λ files. files.0.failed ≡ 0) }
-    ensures second { IfOk result (λ files. files.1.failed ≡ 0) }
-    ensures fault { IfErr result (λ fault. (fault ≡ Fault.Open first.entry) ⊎ ((fault ≡ Fault.Open second.entry) ⊎ (fault ≡ Fault.NoMemory))) }
+    rows: &'a str,
+    from: &'a str,
+    to: &'a str,
+) -> Result<
+    (
+        LinkFiles<
+            Reader<R::File, R::Input>,
+            PlainReader<R::File, R::Input>,
+            Target<R::File, R::Output>,
+        >,
+        Option<u64>,
+    ),
+    Fault<'a>,
+>
+    ensures fresh { IfOk result (λ opened. NoneFailed opened.0) }
+    ensures fault { IfErr result (λ fault. CannotOpen rows.entry fault ⊎ (CannotOpen from.entry fault ⊎ CannotOpen to.entry fault)) }
 {
-    let first = open(rt, first)?;
-    Ok((first, open(rt, second)?))
+    let mut opener = Opener::new(rt);
+    let rows = opener.read_buffered(rows)?;
+    let from = opener.read(from)?;
+    let length = opener.last_length();
+    let to = opener.write(to)?;
+    Ok((LinkFiles { rows, from, to }, length))
 }
 
-/// Makes a file that is written, or empties it, with its failed calls counted.
-fn create<'a, R: Files>(rt: &R, name: &'a str) -> Result<Counting<R::File>, Fault<'a>>
-    ensures fresh { IfOk result (λ file. file.failed ≡ 0) }
-    ensures fault { IfErr result (λ fault. fault ≡ Fault.Open name.entry) }
-{
-    match fs::create(rt, name) {
-        Ok(file) => Ok(Counting::new(file)),
-        Err(_) => Err(Fault::Open(name)),
-    }
-}
-
-/// The same where a name is given.
-pub(crate) fn create_named<'a, R: Files>(
-    rt: &R,
+/// Opens an output where a name is given.
+fn write_named<'a, R: Files + StandardStreams>(
+    opener: &mut Opener<'_, R>,
     name: Option<&'a str>,
-) -> Result<Option<Counting<R::File>>, Fault<'a>>
+) -> Result<Option<Target<R::File, R::Output>>, Fault<'a>>
+    requires room { opener.old ≡ [] }
+    ensures room { OnOk result (length opener.new ≤ 1) }
     ensures fresh { IfOk result (λ made. IfSome made (λ file. file.failed ≡ 0)) }
-    ensures fault { IfErr result (λ fault. IfSome name.entry (λ given. fault ≡ Fault.Open given)) }
+    ensures fault { IfErr result (λ fault. IfSome name.entry (λ given. CannotOpen given fault)) }
 {
     match name {
-        Some(name) => Ok(Some(create(rt, name)?)),
+        Some(name) => Ok(Some(opener.write(name)?)),
         None => Ok(None),
     }
 }
 
-/// The same behind a buffer, which is to be flushed at the end.
-pub(crate) fn create_buffered<'a, R: Files + AllocGlobal>(
+/// Opens the files of `judge`: that of the certificate, which stays whole, before the others.
+pub(crate) fn open_judge<'a, R: Files + StandardStreams + AllocGlobal>(
     rt: &R,
-    name: &'a str,
-) -> Result<Counting<BufWriter<R::File>>, Fault<'a>>
-    ensures fresh { IfOk result (λ file. file.failed ≡ 0) }
-    ensures fault { IfErr result (λ fault. (fault ≡ Fault.Open name.entry) ⊎ (fault ≡ Fault.NoMemory)) }
+    words: &JudgeWords<'a>,
+) -> Result<
+    JudgeFiles<Reader<R::File, R::Input>, Reader<R::File, R::Input>, Target<R::File, R::Output>>,
+    Fault<'a>,
+>
+    ensures fresh { IfOk result (λ files. (files.rows_failed ≡ 0) × (files.soft_failed ≡ 0)) }
+    ensures certificate { IfOk result (λ files. failed_in files.certificate ≡ 0) }
 {
-    let Ok(file) = fs::create(rt, name) else {
-        return Err(Fault::Open(name));
-    };
-    let Ok(buffered) = BufWriter::new(rt.alloc(), file) else {
-        return Err(Fault::NoMemory);
-    };
-    Ok(Counting::new(buffered))
-}
-
-/// Opens the files of a command on a link: the row file, then the one that is read behind it. The one that is
-/// written is made once both are open.
-pub(crate) fn open_link<'a, R: Files + AllocGlobal>(
-    rt: &R,
-    rows: &'a str,
-    from: &'a str,
-    to: &'a str,
-) -> Result<LinkFiles<Reader<R::File>, Reader<R::File>, Counting<R::File>>, Fault<'a>>
-    ensures fresh { IfOk result NoneFailed }
-    ensures fault { IfErr result (λ fault. (fault ≡ Fault.Open rows.entry) ⊎ ((fault ≡ Fault.Open from.entry) ⊎ ((fault ≡ Fault.Open to.entry) ⊎ (fault ≡ Fault.NoMemory)))) }
-{
-    let rows = open(rt, rows)?;
-    let from = open(rt, from)?;
-    let to = create(rt, to)?;
-    Ok(LinkFiles { rows, from, to })
-}
-
-/// The same for who reads many bytes of the second file at a time, which has no buffer.
-pub(crate) fn open_whole<'a, R: Files + AllocGlobal>(
-    rt: &R,
-    rows: &'a str,
-    from: &'a str,
-    to: &'a str,
-) -> Result<LinkFiles<Reader<R::File>, Counting<R::File>, Counting<R::File>>, Fault<'a>>
-    ensures fresh { IfOk result NoneFailed }
-    ensures fault { IfErr result (λ fault. (fault ≡ Fault.Open rows.entry) ⊎ ((fault ≡ Fault.Open from.entry) ⊎ ((fault ≡ Fault.Open to.entry) ⊎ (fault ≡ Fault.NoMemory)))) }
-{
-    let rows = open(rt, rows)?;
-    let Ok(file) = fs::open(rt, from) else {
-        return Err(Fault::Open(from));
-    };
-    let to = create(rt, to)?;
-    Ok(LinkFiles {
+    let mut opener = Opener::new(rt);
+    let certificate = write_named(&mut opener, words.certificate)?;
+    let rows = opener.read_buffered(words.rows)?;
+    let soft = opener.read_buffered(words.soft)?;
+    Ok(JudgeFiles {
         rows,
-        from: Counting::new(file),
-        to,
+        soft,
+        certificate,
     })
+}
+
+/// Opens the files of `check`.
+pub(crate) fn open_check<'a, R: Files + StandardStreams + AllocGlobal>(
+    rt: &R,
+    words: &CheckWords<'a>,
+) -> Result<CheckFiles<Reader<R::File, R::Input>, Reader<R::File, R::Input>>, Fault<'a>>
+    ensures fresh { IfOk result (λ files. (files.rows_failed ≡ 0) × (files.certificate_failed ≡ 0)) }
+    ensures fault { IfErr result (λ fault. CannotOpen words.now.rows fault ⊎ CannotOpen words.now.certificate fault) }
+{
+    let mut opener = Opener::new(rt);
+    let rows = opener.read_buffered(words.rows)?;
+    let certificate = opener.read_buffered(words.certificate)?;
+    Ok(CheckFiles { rows, certificate })
+}
+
+/// Opens a row file.
+pub(crate) fn open_rows<'a, R: Files + StandardStreams + AllocGlobal>(
+    rt: &R,
+    rows: &'a str,
+) -> Result<Reader<R::File, R::Input>, Fault<'a>>
+    ensures fresh { IfOk result (λ file. file.failed ≡ 0) }
+    ensures fault { IfErr result (λ fault. CannotOpen rows.entry fault) }
+{
+    let mut opener = Opener::new(rt);
+    opener.read_buffered(rows)
+}
+
+/// Opens the files of `noise`, and begins the one that is written, behind a buffer. How many bytes the other has, where that is known,
+/// stands beside them.
+pub(crate) fn open_noise<'a, R: Files + StandardStreams + AllocGlobal>(
+    rt: &R,
+    words: &NoiseWords<'a>,
+) -> Result<
+    (
+        Reader<R::File, R::Input>,
+        Writer<R::File, R::Output>,
+        Option<u64>,
+    ),
+    Fault<'a>,
+>
+    ensures from { IfOk result (λ files. files.0.failed ≡ 0) }
+    ensures to { IfOk result (λ files. files.1.failed ≡ 0) }
+    ensures fault { IfErr result (λ fault. CannotOpen words.now.from fault ⊎ (CannotOpen words.now.to fault ⊎ (fault ≡ Fault.Write))) }
+{
+    let mut opener = Opener::new(rt);
+    let from = opener.read_buffered(words.from)?;
+    let length = opener.last_length();
+    let to = opener.write(words.to)?.begin_buffered(rt.alloc())?;
+    Ok((from, to, length))
 }

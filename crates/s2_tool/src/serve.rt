@@ -1,29 +1,33 @@
 //! The commands on the files and streams that their words name.
-ghost use Rattle.std.specs.Prelude.{◌≡◌, ◌↔◌, None, IsSome, IfSome};
+ghost use Rattle.std.specs.Prelude.{◌≡◌, ◌↔◌, None, IsSome, IfSome, IsTrue, IsFalse};
 ghost use Rattle.s2_mode.specs.Counts.{CanCount};
 ghost use Rattle.s2_mode.specs.Mode.{IsMode, mode_of};
 ghost use Rattle.s2_mode.specs.Shape.{IsShape};
 ghost use Rattle.s2_mode.specs.Shape as shapes;
 ghost use Rattle.s2_link.specs.Link as links;
-ghost use Rattle.s2_console.specs.Screens.{CanShow};
-ghost use Rattle.s2_tool.specs.Serving.{asked_setup, no_mode, no_shape, Served, Began};
+ghost use Rattle.s2_console.specs.Screens.{CanShow, CanTell};
+ghost use Rattle.s2_tool.specs.Serving.{IsPlacedFor, asked_setup, no_mode, no_shape, Served, Began};
 
 use crate::demod::demod_command;
 use crate::modulate::mod_command;
 use crate::noise::noise_command;
-use crate::opening::{create_buffered, create_named, open, open_both, open_link, open_whole};
+use crate::opening::{open_check, open_judge, open_link, open_noise, open_rows, open_whole};
 use crate::rows::rows_command;
 use crate::run::run_command;
-use s2_console::{Console, Exit, Fault};
-use s2_evidence::{CheckFiles, JudgeFiles, check_command, judge_command, self_command};
+use s2_console::{Console, Exit, Fault, Place};
+use s2_evidence::{check_command, judge_command, self_command};
+use s2_files::{StandardStreams, finish, place_of};
 use s2_link::LinkSetup;
-use s2_mode::{CountedRead, CountedWrite, FaultText, Mode, Shape};
+use s2_mode::{CountedRead, CountedWrite, Counting, FaultText, Mode, Shape};
+use s2_modes::modes_command;
+use s2_progress::{Meter, Pace, Show, Terminal, Watched};
+use s2_table::table_command;
 use s2_words::{
-    CheckWords, DemodWords, JudgeWords, LinkWords, ModWords, NoiseWords, Request, RowsWords,
-    RunWords, ShapeWords,
+    CheckWords, DemodWords, JudgeWords, LinkWords, ModWords, NoiseWords, Progress, Request,
+    RowsWords, RunWords, ShapeWords, TableWords,
 };
-use std::io::Write;
 use std::rt::Files;
+use std::time::Clock;
 
 /// The shape of three words.
 fn shape_of(words: ShapeWords) -> Option<Shape>
@@ -51,25 +55,33 @@ fn setup_of(words: &LinkWords) -> Option<LinkSetup>
 }
 
 /// Serves a request.
-pub fn serve<R: Files + AllocGlobal, S: CountedRead, O: CountedWrite, E: CountedWrite>(
+pub fn serve<
+    R: Files + StandardStreams + Clock + AllocGlobal,
+    S: CountedRead,
+    O: CountedWrite,
+    E: CountedWrite,
+>(
     rt: &R,
+    terminal: &Terminal<'_, R>,
     request: &Request<'_>,
     input: &mut S,
     console: &mut Console<O, E>,
 ) -> Exit
     requires input { CanCount (S.count input.old) }
-    requires console { CanShow console.old }
+    requires console { CanTell console.old }
     ensures served { Served request.now (S.remaining input.old) result console.old console.new }
 {
     let begun = match request {
         Request::Own => Ok(self_command(rt.alloc(), input, console)),
+        Request::Modes(words) => Ok(modes_command(rt.alloc(), &words.rate, console)),
         Request::Rows(words) => serve_rows(rt, words, console),
+        Request::Table(words) => serve_table(rt, words, console),
         Request::Judge(words) => serve_judge(rt, words, console),
         Request::Check(words) => serve_check(rt, words, console),
-        Request::Mod(words) => serve_mod(rt, words, console),
-        Request::Noise(words) => serve_noise(rt, words, console),
-        Request::Demod(words) => serve_demod(rt, words, console),
-        Request::Run(words) => serve_run(rt, words, console),
+        Request::Mod(words) => serve_mod(rt, terminal, words, console),
+        Request::Noise(words) => serve_noise(rt, terminal, words, console),
+        Request::Demod(words) => serve_demod(rt, terminal, words, console),
+        Request::Run(words) => serve_run(rt, terminal, words, console),
     };
     match begun {
         Ok(exit) => exit,
@@ -107,31 +119,81 @@ fn serve_rows<R: AllocGlobal, O: CountedWrite, E: CountedWrite>(
     Ok(rows_command(rt.alloc(), shape, weight, words.seed, console))
 }
 
-/// Judges soft values. The certificate's file is made before the others are opened.
-fn serve_judge<'a, R: Files + AllocGlobal, O: CountedWrite, E: CountedWrite>(
+/// Whether progress is shown on standard error.
+fn is_shown<R: StandardStreams>(terminal: &Terminal<'_, R>, progress: Progress) -> bool
+    ensures shown { progress ≡ Progress.Shown → IsTrue result }
+    ensures hidden { progress ≡ Progress.Hidden → IsFalse result }
+{
+    match progress {
+        Progress::Shown => true,
+        Progress::OnTerminal => terminal.is_there(),
+        Progress::Hidden => false,
+    }
+}
+
+/// What shows how far a command is.
+fn show_on<'t, 'r, R: StandardStreams + Clock>(
+    terminal: &'t Terminal<'r, R>,
+    pace: Pace,
+    progress: Progress,
+) -> Show<'t, 'r, R> {
+    Show::new(terminal, pace, is_shown(terminal, progress))
+}
+
+/// Where notes go that stand before a report: standard error, beside the console.
+fn notes_of<R: StandardStreams>(rt: &R) -> Counting<R::Errors>
+    ensures { result.failed ≡ 0 }
+{
+    Counting::new(rt.errors())
+}
+
+/// Tells whether rows are the standard's.
+fn serve_table<'a, R: Files + StandardStreams + AllocGlobal, O: CountedWrite, E: CountedWrite>(
+    rt: &R,
+    words: &TableWords<'a>,
+    console: &mut Console<O, E>,
+) -> Result<Exit, Fault<'a>>
+    requires { CanTell console.old }
+    ensures { Began (Request.Table words.now) None result console.old console.new }
+{
+    let Some(mode) = Mode::of(words.modcod, words.short, false) else {
+        return Err(no_mode());
+    };
+    let mut rows = open_rows(rt, words.rows)?;
+    Ok(table_command(rt.alloc(), &mode, words.quiet, &mut rows, console))
+}
+
+/// Where the report goes beside an output that may be asked for.
+fn place_beside(name: Option<&str>) -> Place
+    ensures { IsPlacedFor name.entry result }
+{
+    match name {
+        Some(name) => place_of(name),
+        None => Place::Output,
+    }
+}
+
+/// Judges soft values. The certificate's file is opened before the others, and the verdict stands beside standard output where
+/// that is it.
+fn serve_judge<'a, R: Files + StandardStreams + AllocGlobal, O: CountedWrite, E: CountedWrite>(
     rt: &R,
     words: &JudgeWords<'a>,
     console: &mut Console<O, E>,
 ) -> Result<Exit, Fault<'a>>
-    requires { CanShow console.old }
+    requires { CanTell console.old }
     ensures { Began (Request.Judge words.now) None result console.old console.new }
 {
+    let place = place_beside(words.certificate);
     let Some(shape) = shape_of(words.shape) else {
         return Err(no_shape());
     };
-    let certificate = create_named(rt, words.certificate)?;
-    let (rows, soft) = open_both(rt, words.rows, words.soft)?;
-    let mut files = JudgeFiles {
-        rows,
-        soft,
-        certificate,
-    };
+    let mut files = open_judge(rt, words)?;
     let tuning = words.tuning;
-    Ok(judge_command(rt.alloc(), shape, tuning, &mut files, console))
+    Ok(judge_command(rt.alloc(), shape, tuning, &mut files, place, console))
 }
 
 /// Checks a certificate.
-fn serve_check<'a, R: Files + AllocGlobal, O: CountedWrite, E: CountedWrite>(
+fn serve_check<'a, R: Files + StandardStreams + AllocGlobal, O: CountedWrite, E: CountedWrite>(
     rt: &R,
     words: &CheckWords<'a>,
     console: &mut Console<O, E>,
@@ -139,75 +201,147 @@ fn serve_check<'a, R: Files + AllocGlobal, O: CountedWrite, E: CountedWrite>(
     requires { CanShow console.old }
     ensures { Began (Request.Check words.now) None result console.old console.new }
 {
-    let (rows, certificate) = open_both(rt, words.rows, words.certificate)?;
-    let mut files = CheckFiles { rows, certificate };
+    let mut files = open_check(rt, words)?;
     Ok(check_command(rt.alloc(), &mut files, console))
 }
 
-/// Sends packets. The symbol file is made once the others are open.
-fn serve_mod<'a, R: Files + AllocGlobal, O: CountedWrite, E: CountedWrite>(
+/// Sends packets. The symbol file is opened once the others are, and the counts stand beside standard output where that is it.
+fn serve_mod<
+    'a,
+    R: Files + StandardStreams + Clock + AllocGlobal,
+    O: CountedWrite,
+    E: CountedWrite,
+>(
     rt: &R,
+    terminal: &Terminal<'_, R>,
     words: &ModWords<'a>,
     console: &mut Console<O, E>,
 ) -> Result<Exit, Fault<'a>>
-    requires { CanShow console.old }
+    requires { CanTell console.old }
     ensures { Began (Request.Mod words.now) None result console.old console.new }
 {
+    let place = place_of(words.symbols);
     let Some(setup) = setup_of(&words.link) else {
         return Err(no_mode());
     };
-    let mut files = open_link(rt, words.rows, words.packets, words.symbols)?;
-    Ok(mod_command(rt.alloc(), setup, words.dummy, &mut files, console))
+    let frame = setup.mode.symbols() as u64;
+    let show = show_on(terminal, Pace::Sending { frame }, words.progress);
+    let opened = open_link(rt, words.rows, words.packets, words.symbols)?;
+    show.expect(opened.1);
+    let mut files = opened.0.watched(&show);
+    let mut notes = notes_of(rt);
+    let exit = mod_command(
+        rt.alloc(),
+        setup,
+        words,
+        &mut files,
+        place,
+        console,
+        &mut notes,
+    );
+    show.finish();
+    Ok(exit)
 }
 
 /// Adds noise to symbols. What its buffer still holds at the end is written before the command has
-/// ended well.
-fn serve_noise<'a, R: Files + AllocGlobal, O: CountedWrite, E: CountedWrite>(
+/// ended well; after a fault nothing more is.
+fn serve_noise<
+    'a,
+    R: Files + StandardStreams + Clock + AllocGlobal,
+    O: CountedWrite,
+    E: CountedWrite,
+>(
     rt: &R,
+    terminal: &Terminal<'_, R>,
     words: &NoiseWords<'a>,
     console: &mut Console<O, E>,
 ) -> Result<Exit, Fault<'a>>
     requires { CanShow console.old }
     ensures { Began (Request.Noise words.now) None result console.old console.new }
 {
-    let mut from = open(rt, words.from)?;
-    let mut to = create_buffered(rt, words.to)?;
+    let show = show_on(terminal, Pace::Spoiling, words.progress);
+    let (from, to, length) = open_noise(rt, words)?;
+    show.expect(length);
+    let mut from = Watched::new(from, &show);
+    let mut to = Watched::new(to, &show);
     let exit = noise_command(words.channel, &mut from, &mut to, console);
-    if exit == Exit::Fine && to.into_inner().flush().is_err() {
-        return Err(Fault::Write);
-    }
-    Ok(exit)
+    show.finish();
+    finish(exit, to.into_inner())
 }
 
-/// Receives symbols. The packet file is made once the others are open.
-fn serve_demod<'a, R: Files + AllocGlobal, O: CountedWrite, E: CountedWrite>(
+/// Receives symbols. The packet file is opened once the others are, and the report stands beside standard output where that
+/// is it.
+fn serve_demod<
+    'a,
+    R: Files + StandardStreams + Clock + AllocGlobal,
+    O: CountedWrite,
+    E: CountedWrite,
+>(
     rt: &R,
+    terminal: &Terminal<'_, R>,
     words: &DemodWords<'a>,
     console: &mut Console<O, E>,
 ) -> Result<Exit, Fault<'a>>
-    requires { CanShow console.old }
+    requires { CanTell console.old }
     ensures { Began (Request.Demod words.now) None result console.old console.new }
 {
+    let place = place_of(words.packets);
     let Some(setup) = setup_of(&words.link) else {
         return Err(no_mode());
     };
-    let mut files = open_whole(rt, words.rows, words.symbols, words.packets)?;
-    let tuning = words.tuning;
-    Ok(demod_command(rt.alloc(), setup, tuning, &mut files, console))
+    let frame = setup.mode.symbols() as u64;
+    let show = show_on(terminal, Pace::Receiving { frame }, words.progress);
+    let opened = open_whole(rt, words.rows, words.symbols, words.packets)?;
+    show.expect(opened.1);
+    let mut files = opened.0.watched(&show);
+    let mut notes = notes_of(rt);
+    let exit = demod_command(
+        rt.alloc(),
+        setup,
+        words,
+        &mut files,
+        place,
+        console,
+        &mut notes,
+    );
+    show.finish();
+    Ok(exit)
 }
 
-/// Sends, spoils and receives packets. The file of what is received is made once the others are open.
-fn serve_run<'a, R: Files + AllocGlobal, O: CountedWrite, E: CountedWrite>(
+/// Sends, spoils and receives packets. The file of what is received is opened once the others are, and the report stands beside
+/// standard output where that is it.
+fn serve_run<
+    'a,
+    R: Files + StandardStreams + Clock + AllocGlobal,
+    O: CountedWrite,
+    E: CountedWrite,
+>(
     rt: &R,
+    terminal: &Terminal<'_, R>,
     words: &RunWords<'a>,
     console: &mut Console<O, E>,
 ) -> Result<Exit, Fault<'a>>
-    requires { CanShow console.old }
+    requires { CanTell console.old }
     ensures { Began (Request.Run words.now) None result console.old console.new }
 {
+    let place = place_of(words.to);
     let Some(setup) = setup_of(&words.link) else {
         return Err(no_mode());
     };
-    let mut files = open_link(rt, words.rows, words.packets, words.to)?;
-    Ok(run_command(rt.alloc(), setup, words, &mut files, console))
+    let show = show_on(terminal, Pace::Looping, words.progress);
+    let opened = open_link(rt, words.rows, words.packets, words.to)?;
+    show.expect(opened.1);
+    let mut files = opened.0.watched(&show);
+    let mut notes = notes_of(rt);
+    let exit = run_command(
+        rt.alloc(),
+        setup,
+        words,
+        &mut files,
+        place,
+        console,
+        &mut notes,
+    );
+    show.finish();
+    Ok(exit)
 }

@@ -1,0 +1,55 @@
+-- What was lost of a stream that was received: how it decides the exit of a strict command, and the notes of it.
+use Rattle.std.specs.Prelude.{◌≡◌, ◌⊎◌, ℕ, Bool, ◌&&◌, ◌||◌, not, nat_eq, nat_le, if◌then◌else◌, List, [], ◌++◌, codes, decimal, Result, Ok, Err}
+use Rattle.s2_mode.specs.Limits.{header_symbols}
+use Rattle.s2_mode.specs.Mode.{Mode}
+use Rattle.s2_modes.specs.Names.{mode_words}
+use Rattle.s2_receive.specs.declared.report.Received.{Received}
+use Rattle.s2_receive.specs.declared.report.Totals.{Totals}
+use Rattle.s2_words.specs.declared.request.NoteWords.{NoteWords}
+use Rattle.s2_table.specs.Wanted.{fault_note}
+use Rattle.s2_console.specs.declared.exit.Exit.{Exit}
+use Rattle.s2_console.specs.declared.exit.Exit.TheVariants as exits
+use Rattle.s2_console.specs.declared.fault.Fault.{Fault}
+use Rattle.s2_console.specs.declared.fault.Fault.TheVariants as faults
+
+-- no frame was found, nor a cut one, in enough symbols for a header
+abbrev pub is_deaf : Received → Bool
+is_deaf r = nat_eq r.totals.frames 0 && not r.totals.cut && nat_le header_symbols r.symbols
+
+-- no symbol was passed over, and no packet was bad or torn
+abbrev pub is_clean : Totals → Bool
+is_clean t = nat_eq t.passed 0 && nat_eq t.bad 0 && nat_eq t.torn 0
+
+-- the exit of a stream that was received to its end: by whether all was well, and of a strict command whether nothing was lost
+abbrev pub exit_by : Bool → Received → Exit
+exit_by strict r = if r.well && (not strict || (is_clean r.totals && not (is_deaf r))) then exits.Fine else exits.No
+
+-- N symbols passed over in M places, the first at S
+unfoldable pub passed_note : Totals → List ℕ
+passed_note t =
+    (codes "s2: note: " ++ decimal t.passed) ++ (codes " symbols passed over in " ++ decimal t.places) ++ (codes " places, the first at " ++ decimal t.first) ++ codes "\n"
+
+-- behind the words of a mode's code: whether it has pilot blocks, and in how many symbols no frame was
+unfoldable pub deaf_end : Bool → ℕ → List ℕ
+deaf_end pilots symbols = ((if pilots then codes ", pilots in " else codes " in ") ++ decimal symbols) ++ codes " symbols\n"
+
+-- no frame of a mode in N symbols
+abbrev pub deaf_note : Mode → ℕ → List ℕ
+deaf_note m symbols = codes "s2: note: no frame of " ++ (mode_words m ++ deaf_end m.pilots symbols)
+
+-- N packets torn
+unfoldable pub torn_note : Totals → List ℕ
+torn_note t = (codes "s2: note: " ++ decimal t.torn) ++ codes " packets torn\n"
+
+-- one where it is so
+abbrev pub note_if : Bool → List ℕ → List ℕ
+note_if so note = if so then note else []
+
+-- the notes of a stream that was received to its end
+abbrev pub notes_of : Mode → Received → List ℕ
+notes_of m r = note_if (not (nat_eq r.totals.passed 0)) (passed_note r.totals) ++ note_if (is_deaf r) (deaf_note m r.symbols) ++ note_if (not (nat_eq r.totals.torn 0)) (torn_note r.totals)
+
+-- How a command ends that received so, and its notes. Where they cannot be written, that is its fault.
+abbrev pub Answered : NoteWords → Mode → Result Received Fault → Result Exit Fault → List ℕ → Type 0
+Answered words m (Ok r) ended notes = (notes ≡ (if words.quiet then [] else notes_of m r)) × ((ended ≡ Ok (exit_by words.strict r)) ⊎ (ended ≡ Err faults.Write))
+Answered words m (Err f) ended notes = (notes ≡ (if words.quiet then [] else fault_note m f)) × (ended ≡ Err f)
