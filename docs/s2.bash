@@ -3,22 +3,24 @@ _s2() {
   local now=${COMP_WORDS[COMP_CWORD]} before=${COMP_WORDS[COMP_CWORD-1]} words=""
   COMPREPLY=()
   if ((COMP_CWORD == 1)); then
-    COMPREPLY=($(compgen -W "rows judge check mod noise demod run help --help --version" -- "$now"))
+    COMPREPLY=($(compgen -W "modes rows table judge check mod noise demod run help --help --version" -- "$now"))
     return
   fi
   case "$before" in
     --divisor) COMPREPLY=($(compgen -W "4096 8192 16384 32768 65536" -- "$now")); return ;;
-    --group|--groups|--q|--weight|--seed|--passes|--modcod|--number|--ro|--dummy|--level|--rounds) return ;;
+    --rate|--group|--groups|--q|--weight|--seed|--modcod|--passes|--number|--ro|--dummy|--level|--rounds) return ;;
   esac
   case "${COMP_WORDS[1]}" in
-    rows) words="--group --groups --q --weight --seed --help" ;;
-    judge) words="--group --groups --q --cert --passes --help" ;;
-    check) words="--help" ;;
-    mod) words="--modcod --short --pilots --number --ro --dummy --help" ;;
-    noise) words="--seed --level --help" ;;
-    demod) words="--modcod --short --pilots --number --ro --rounds --passes --divisor --help" ;;
-    run) words="--modcod --short --pilots --number --ro --dummy --rounds --passes --divisor --seed --level --help" ;;
-    help) words="rows judge check mod noise demod run" ;;
+    modes) words="--rate --quiet --help" ;;
+    rows) words="--group --groups --q --weight --seed --quiet --help" ;;
+    table) words="--modcod --short --quiet --help" ;;
+    judge) words="--group --groups --q --cert --passes --quiet --help" ;;
+    check) words="--quiet --help" ;;
+    mod) words="--modcod --short --pilots --number --ro --dummy --quiet --progress --help" ;;
+    noise) words="--seed --level --quiet --progress --help" ;;
+    demod) words="--modcod --short --pilots --number --ro --rounds --passes --divisor --strict --quiet --progress --help" ;;
+    run) words="--modcod --short --pilots --number --ro --dummy --rounds --passes --divisor --seed --level --strict --quiet --progress --help" ;;
+    help) words="modes rows table judge check mod noise demod run" ;;
   esac
   if [[ $now == -* || ${COMP_WORDS[1]} == help ]]; then
     COMPREPLY=($(compgen -W "$words" -- "$now"))

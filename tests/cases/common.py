@@ -29,6 +29,8 @@ WRONG_MOVED = HEAD_MOVED + bytes.fromhex("FFFC") + 19 * bytes.fromhex("000A") + 
 WRONG_MOVED += bytes.fromhex("0000 00000004") + bytes(66)
 
 PACKET = b"\x47" + bytes(187)
+# Of a row file that does not fit the mode of LINK.
+WANTED = "QPSK 1/4, short wants 9 rows of addresses below 12960"
 ONE = "frame 1 at 0 sole fixed 0\n"
 TWO = ONE + "frame 2 at 8190 sole fixed 0\nend frames 2 delivered 2 packets 2 bad 0\n"
 
@@ -39,7 +41,9 @@ class Case:
 
     It is run in a folder of its own, where stand those of the files that are common to all, or are told by `reads`, that its words
     name. `writes` tells what it leaves in files that it makes or changes; each other file has to stay as it was. `given` is its
-    standard input, or the path of it. Where `to` is told, its standard output is that path, or a pipe that is `closed`."""
+    standard input, or the path of it. Where `to` is told, its standard output is that path, or a pipe that is `closed`. `links` tells
+    further names of files there, each by how it is linked, `hard` or `symbolic`, and to which. The note that its rows are not
+    the standard's is passed over unless it is `noted`."""
 
     words: str
     code: int = FINE
@@ -49,6 +53,13 @@ class Case:
     writes: dict = field(default_factory=dict)
     given: object = STORED
     to: str = ""
+    links: dict = field(default_factory=dict)
+    noted: bool = False
+
+
+def without_notes(errors):
+    """What stands on standard error, but for the note that rows are not the standard's, as no rows here are."""
+    return b"".join(line for line in errors.splitlines(True) if not line.startswith(b"s2: note: these rows are "))
 
 
 class Rule:
@@ -100,6 +111,10 @@ def digest(number):
     return Rule(f"bytes of the digest {number:#x}", digested)
 
 
-def fault(words, text, **more):
-    """A case that ends with the line of a fault, and prints nothing else."""
-    return Case(words, FAULT, errors=f"s2: {text}\n", **more)
+def noted(*notes):
+    return "".join(f"s2: note: {note}\n" for note in notes)
+
+
+def fault(words, text, *notes, **more):
+    """A case that ends with the line of a fault, behind these notes, and prints nothing else."""
+    return Case(words, FAULT, errors=noted(*notes) + f"s2: {text}\n", **more)

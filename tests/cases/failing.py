@@ -13,9 +13,9 @@ def is_whole_symbols(moved, size, printed):
     return (size, printed) == (moved // 4 * 4, 0)
 
 
-def is_no_less(moved, size, printed):
-    """Where a write fails, what was written before stands. What the buffer holds is written once more as it goes."""
-    return size >= moved and printed == 0
+def is_moved(moved, size, printed):
+    """Where a write fails, what was written before stands, and nothing more is written."""
+    return (size, printed) == (moved, 0)
 
 
 # Of each command and one file that it reads or writes: what it says where a call on that file fails, and how many bytes stand in
@@ -41,7 +41,7 @@ FAILING = [
     (MOD, "out", WRITE, [(0, 0), (32_760, 0)]),
     (MOD, "printed", WRITE, [(65_520, 0)]),
     (NOISE, "two", READ, is_whole_symbols),
-    (NOISE, "out", WRITE, is_no_less),
+    (NOISE, "out", WRITE, is_moved),
     (DEMOD, "made", READ, NOTHING),
     (DEMOD, "two", READ, [(0, 0), (188, 26), (376, 55)]),
     (DEMOD, "out", WRITE, [(0, 0), (188, 26)]),

@@ -1,5 +1,5 @@
 """`rows`, `mod`, `noise`, `demod` and `run`."""
-from cases.common import ANY, DIVISORS, LINK, LONG_ROWS, NO, ONE, PACKET, PAIR, TOY, TWO, Case, digest, ending, fault, size
+from cases.common import ANY, DIVISORS, LINK, LONG_ROWS, NO, ONE, PACKET, PAIR, TOY, TWO, WANTED, Case, digest, ending, fault, noted, size
 from cases.drawn import made_rows, spoilt
 from cases.plain_receiver import broken, checks_of, soft_value, weakened
 
@@ -45,7 +45,8 @@ MOD = [
     ),
     # the frame that was full stands
     fault(f"mod {LINK} made in out", f"{NO_SYNC} 3", reads={"in": 2 * PACKET + b"\x48" + bytes(187)}, writes={"out": size(32_760)}),
-    fault(f"mod {LINK} toy packets out", "rows: too few rows", writes={"out": b""}),
+    fault(f"mod {LINK} toy packets out", "rows: too few rows", WANTED, writes={"out": b""}),
+    *(fault(f"{words} --quiet {LINK} toy packets out", "rows: too few rows", writes={"out": b""}) for words in ("mod", "demod", "run --seed 1 --level 0")),
     fault(f"mod {LINK} made . out", "cannot read", writes={"out": b""}),
     fault(f"mod {LINK} . packets out", "cannot read", writes={"out": b""}),
     fault(f"mod {LINK} made packets /dev/full", "cannot write"),
@@ -66,8 +67,8 @@ NOISE = [
 ]
 
 
-def received(symbols, code, report, packets, words=f"{LINK} made"):
-    return Case(f"demod {words} in out", code, report, reads={"in": symbols}, writes={"out": packets})
+def received(symbols, code, report, packets, words=f"{LINK} made", errors=""):
+    return Case(f"demod {words} in out", code, report, errors, reads={"in": symbols}, writes={"out": packets})
 
 
 def cut(frames, count):
@@ -84,7 +85,8 @@ def demod(two, single):
         received(two, 0, TWO, 2 * PACKET),
         received(two + b"123", 0, TWO, 2 * PACKET),
         received(single, 0, SINGLE, PACKET, "--modcod 1 normal4"),
-        *(received(two[:size], *cut(1, count), PACKET) for size, count in cut_two),
+        # the second packet began in the first frame
+        *(received(two[:size], *cut(1, count), PACKET, errors=noted("1 packets torn") if count else "") for size, count in cut_two),
         *(
             received(single[: 4 * count], *cut(0, count if count >= 90 else 0), b"", "--modcod 1 normal4")
             for count in (0, 89, 90, 32_489)
@@ -92,12 +94,42 @@ def demod(two, single):
         *(received(symbols, 0, NONE, b"") for symbols in (b"", b"1", b"12", b"123", bytes(359))),
         # behind its header the frame has lost its symbols: the word of zeros is decided, whose message is no header
         received(two[:360] + bytes(32_400), NO, lost, b""),
-        fault(f"demod {LINK} toy in out", "rows: too few rows", reads={"in": two}, writes={"out": b""}),
+        fault(f"demod {LINK} toy in out", "rows: too few rows", WANTED, reads={"in": two}, writes={"out": b""}),
         fault(f"demod {LINK} . in out", "cannot read", reads={"in": two}, writes={"out": b""}),
         fault(f"demod {LINK} made . out", "cannot read", writes={"out": b""}),
         fault(f"demod {LINK} made in /dev/full", "cannot write", reads={"in": two}),
         # a frame's packets are written before its line
         fault(f"demod {LINK} made in out", "cannot write", reads={"in": two}, to="/dev/full", writes={"out": PACKET}),
+    ]
+
+
+def losing(two):
+    """The cases of what is lost of the symbols of the two packets: notes of it, the exits of strict commands, and quiet ones."""
+    one, other, gap = two[:32_760], two[32_760:], bytes(400)
+    first, torn = ONE + "frame 2 at 8290 sole fixed 0\nend frames 2 delivered 2 packets 1 bad 0\n", "1 packets torn"
+    nothing = "100 symbols passed over in 1 places, the first at 0", "no frame of QPSK 1/4, short in 100 symbols"
+    cases = [
+        # before the frames, between them, behind them, and before a cut one
+        (gap + two, 0, TWO.replace("at 0 ", "at 100 ").replace("8190", "8290"), 2 * PACKET, ["100 symbols passed over in 1 places, the first at 0"]),
+        (one + gap + other, 0, first, PACKET, ["100 symbols passed over in 1 places, the first at 8190", torn]),
+        (two + gap, 0, TWO, 2 * PACKET, ["100 symbols passed over in 1 places, the first at 16380"]),
+        (two + gap[:356], 0, TWO, 2 * PACKET, []),
+        (gap[:8] + two + gap, 0, TWO.replace("at 0 ", "at 2 ").replace("8190", "8192"), 2 * PACKET, ["102 symbols passed over in 2 places, the first at 0"]),
+        (one + gap[:4] + other[:400], NO, ONE + "cut at 8191 symbols 100\nend frames 1 delivered 1 packets 1 bad 0\n", PACKET, ["1 symbols passed over in 1 places, the first at 8190", torn]),
+        # a header that names another place
+        (one + one, 0, TWO, 2 * PACKET, [torn]),
+        (gap, 0, NONE, b"", nothing),
+        (two, 0, TWO, 2 * PACKET, []),
+    ]
+    return [
+        case
+        for symbols, code, report, packets, notes in cases
+        for case in (
+            received(symbols, code, report, packets, errors=noted(*notes)),
+            received(symbols, code, report, packets, f"{LINK} --quiet made"),
+            received(symbols, NO if notes else code, report, packets, f"{LINK} --strict made", noted(*notes)),
+            received(symbols, NO if notes else code, report, packets, f"{LINK} --quiet --strict made"),
+        )
     ]
 
 
@@ -124,7 +156,7 @@ RUN = [
             (2 * PACKET + bytes(188), f"{NO_SYNC} 3"),
         ]
     ),
-    fault(f"run {LINK} --seed 1 --level 0 toy packets out", "rows: too few rows", writes={"out": b""}),
+    fault(f"run {LINK} --seed 1 --level 0 toy packets out", "rows: too few rows", WANTED, writes={"out": b""}),
     fault(f"run {LINK} --seed 1 --level 0 made . out", "cannot read", writes={"out": b""}),
     fault(f"run {LINK} --seed 1 --level 0 . packets out", "cannot read", writes={"out": b""}),
     fault(f"run {LINK} --seed 1 --level 0 made packets /dev/full", "cannot write"),
@@ -179,8 +211,17 @@ def among(two, dummies):
         *(received(one + each + other + each[:400], 0, later, 2 * PACKET) for each in dummies),
         received(b"".join(dummies) + one + b"".join(dummies) + other, 0, behind_all, 2 * PACKET),
         # a symbol before a dummy frame is passed over, so that the packet that the next frame ends is lost
-        received(one + bytes(4) + dummy + other, 0, ONE + line.format(2, 11_521) + end.format(1), PACKET),
-        *(received(symbols, 0, NONE, b"") for symbols in (dummy, 100 * dummy, dummy[:400], b"".join(dummies))),
+        received(
+            one + bytes(4) + dummy + other,
+            0,
+            ONE + line.format(2, 11_521) + end.format(1),
+            PACKET,
+            errors=noted("1 symbols passed over in 1 places, the first at 8190", "1 packets torn"),
+        ),
+        *(
+            received(symbols, 0, NONE, b"", errors=noted(f"no frame of QPSK 1/4, short in {len(symbols) // 4} symbols"))
+            for symbols in (dummy, 100 * dummy, dummy[:400], b"".join(dummies))
+        ),
         run(f"{LINK} --dummy 1 --seed 1 --level 0 made", 0, later, 2 * PACKET),
         run(f"{LINK} --dummy 2 --seed 1 --level 0 made", 0, TWO, 2 * PACKET),
         run(f"{LINK} --dummy 3 --seed 1 --level 100 made", 0, ending("end frames 4 delivered 4 packets 6 bad 0\n"), 6 * PACKET, 6 * PACKET),
@@ -199,17 +240,19 @@ def among_pilots(two, dummies):
     ]
 
 
-def heard(words, symbols, code, end, packets):
-    return Case(f"demod {words} made in out", code, ending(end), reads={"in": symbols}, writes={"out": packets})
+def heard(words, symbols, code, end, packets, errors=""):
+    return Case(f"demod {words} made in out", code, ending(end), errors, reads={"in": symbols}, writes={"out": packets})
 
 
 def worded(two):
     """Symbols with pilots and another scrambling number, received with other words too."""
     words, end = f"{LINK} --pilots", "end frames 2 delivered {0} packets {0} bad 0\n"
+    deaf = "16740 symbols passed over in 1 places, the first at 0", "no frame of QPSK 1/4, short in 16740 symbols"
     return [
         heard(f"{words} --number 7", two, 0, end.format(2), 2 * PACKET),
         heard(words, two, NO, end.format(0), b""),
-        heard(f"{LINK} --number 7", two, 0, NONE, b""),
+        heard(f"{LINK} --number 7", two, 0, NONE, b"", noted(*deaf)),
+        heard(f"{LINK} --number 7 --strict", two, NO, NONE, b"", noted(*deaf)),
     ]
 
 
@@ -217,8 +260,8 @@ def alike(two):
     """What ends in the same way, `demod` behind noise and `run`. With one round at level 700 no packet comes through."""
     return [
         (
-            heard(f"{LINK} {words}", spoilt(two, seed, level), code, "", packets),
-            Case(f"run {LINK} {words} --seed {seed} --level {level} made packets out", code, ANY, writes={"out": packets}),
+            heard(f"{LINK} {words}", spoilt(two, seed, level), code, "", packets, ANY),
+            Case(f"run {LINK} {words} --seed {seed} --level {level} made packets out", code, ANY, ANY, writes={"out": packets}),
         )
         for seed, level, words, code, packets in [
             (1, 700, "", ANY, 2 * PACKET),

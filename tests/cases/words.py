@@ -1,5 +1,5 @@
 """The words of the command line, and the files that they name."""
-from cases.common import DIVISORS, FAULT, LINK, PAIR, TOY, Case, fault, first_line, option
+from cases.common import DIVISORS, FAULT, LINK, NO, PACKET, PAIR, TOY, TWO, Case, fault, first_line, option, size
 
 HELP = """A DVB-S2 modem with maximum-likelihood certificates. \
 Without a command it judges the 20 soft values of standard input under a toy code
@@ -7,7 +7,9 @@ Without a command it judges the 20 soft values of standard input under a toy cod
 Usage: s2 [COMMAND]
 
 Commands:
+  modes  Lists the modes
   rows   Prints a row file that a seed determines
+  table  Tells whether rows are the standard's
   judge  Decides on soft values
   check  Checks a certificate that its word is most likely
   mod    Makes the symbols of packets
@@ -19,17 +21,38 @@ Commands:
 Options:
   -h, --help     Print help
   -V, --version  Print version
+
+Files:
+  -    standard input where it is read, standard output where it is written: a report then stands on standard error
+
+Exits:
+  0  all went well
+  1  a usage fault, or a fault that standard error tells
+  2  the answer is no, or something was lost: each command's help tells what
 """
 CHECK_HELP = """Checks a certificate that its word is most likely
 
-Usage: s2 check <ROWS> <CERT>
+Usage: s2 check [OPTIONS] <ROWS> <CERT>
 
 Arguments:
   <ROWS>  Row file
   <CERT>  Certificate file
 
 Options:
-  -h, --help  Print help
+      --quiet  No notes on standard error
+  -h, --help   Print help
+
+The report:
+  sole cost C           accepted: the word costs C, every other codeword costs more
+  yes cost C            accepted: the word costs C, no codeword costs less
+  no shape              the certificate is of other rows: give those that it was made by
+  no check J            the word is no codeword: check J, from 0 on, does not hold
+  no bound              the certificate proves less than the word's cost: make it anew
+
+Exits:
+  0  sole or yes: the certificate is accepted
+  1  a usage fault, or a fault that standard error tells
+  2  no: it is not accepted
 
 Example:
   s2 check rows certificate
@@ -38,6 +61,7 @@ LACKS = "error: the following required arguments were not provided:"
 MORE = "\nFor more information, try '--help'.\n"
 NO_CERT = f"{LACKS}\n  <CERT>\n\nUsage: s2 check <ROWS> <CERT>\n{MORE}"
 RUN = "run --modcod 1 --seed 1 --level 1"
+WANTED_NORMAL = "QPSK 1/4, normal wants 45 rows of addresses below 48600"
 
 
 def invalid(value, word, why):
@@ -64,7 +88,6 @@ MISUSES = [
     ("mod --modcod 0 made packets out", beyond(0, "modcod <M>", 1, 17)),
     ("mod --modcod 18 made packets out", beyond(18, "modcod <M>", 1, 17)),
     ("mod --modcod 1 --number 262142 made packets out", beyond(262142, "number <N>", 0, 262141)),
-    ("mod --modcod 1 --ro 3 made packets out", beyond(3, "ro <R>", 0, 2)),
     ("mod --modcod 1 --dummy 65536 made packets out", beyond(65536, "dummy <D>", 0, 65535)),
     ("mod --modcod 1 --dummy -1 made packets out", "error: unexpected argument '-1' found"),
     ("mod --modcod 1 --dummy x made packets out", invalid("x", "dummy <D>", "invalid digit found in string")),
@@ -99,7 +122,9 @@ POSSIBLE = f"[possible values: {', '.join(map(str, DIVISORS))}]"
 NO_DIVISORS = [("4095", 4096), ("0", 4096), ("04096", 4096), ("x", None), ("131072", None)]
 LACKS_DIVISOR = f"error: a value is required for '--divisor <D>' but none was supplied\n  {POSSIBLE}\n{MORE}"
 ABOUTS = {
+    "modes": "Lists the modes",
     "rows": "Prints a row file that a seed determines",
+    "table": "Tells whether rows are the standard's",
     "judge": "Decides on soft values",
     "mod": "Makes the symbols of packets",
     "noise": "Adds noise that a seed determines to symbols",
@@ -107,6 +132,71 @@ ABOUTS = {
     "run": "Sends packets, adds noise, and receives them",
 }
 RECEIVING = ("demod --modcod 1", RUN)
+ENDS = {
+    "modes": "all modes are listed",
+    "rows": "the rows are printed",
+    "table": "standard",
+    "judge": "sole or most-likely: nothing is to be done",
+    "check": "sole or yes: the certificate is accepted",
+    "mod": "all packets are sent",
+    "noise": "all symbols are written, and nothing is printed",
+    "demod": "every frame is delivered, and sole or most-likely",
+    "run": "every frame is delivered, and sole or most-likely",
+}
+# What a word says, and the value where it is left out.
+WORDS = [
+    ("rows", "--group <G>", "Bits of a group, 1 to 360"),
+    ("rows", "--weight <W>", "Addresses of each row, 1 to 24"),
+    ("judge", "--cert <FILE>", "sole or most likely: none is made without it"),
+    ("judge", "--passes <P>", "0 to 1000 [default: 0]"),
+    ("mod", "--modcod <M>", "as qpsk3/4 or 8PSK2/3: `s2 modes` lists them"),
+    ("mod", "--short", "Frames of 16200 bits, and not of 64800"),
+    ("mod", "--pilots", "Frames with pilot blocks; takes no value"),
+    ("mod", "--number <N>", "Scrambling number, 0 to 262141 [default: 0]"),
+    ("mod", "--ro <R>", "0 for 0.35, 1 for 0.25, 2 for 0.20 [default: 0]"),
+    ("mod", "--dummy <D>", "0 to 65535: 0 for none [default: 0]"),
+    ("noise", "--level <L>", "0.816 L in each component, where a QPSK point has 700"),
+    ("demod", "--rounds <K>", "Rounds of min-sum at most for each frame, 1 to 200 [default: 50]"),
+    ("demod", "--passes <P>", "0 to 1000 [default: 0]"),
+    ("modes", "--rate <R>", "Symbols a second, 1 to 1000000000: adds the bits a second of the transport stream"),
+    ("mod", "packets P frames F", "P packets were taken, and F frames written, dummy frames not counted"),
+]
+# The commands that show how far they are, those that may be strict, and a line of each command with what it needs.
+SHOWING, STRICT = ("mod", "noise", "demod", "run"), ("demod", "run")
+LINES = {
+    "modes": "modes",
+    "rows": f"rows {PAIR} --weight 1 --seed 1",
+    "table": f"table {LINK} made",
+    "judge": f"judge {TOY} toy stored",
+    "check": "check toy certificate",
+    "mod": f"mod {LINK} made packets out",
+    "noise": "noise --seed 1 --level 0 packets out",
+    "demod": f"demod {LINK} made empty out",
+    "run": f"run {LINK} --seed 1 --level 0 made packets out",
+}
+
+
+def refused(word, name):
+    """A command that does not know a word."""
+    return Case(f"{LINES[name]} {word}", FAULT, errors=first_line(f"error: unexpected argument '{word}' found"))
+
+
+def taken(word, name):
+    """A command that takes a word, and ends as without it."""
+    return Case(f"{LINES[name]} {word}", **ENDED[name])
+
+
+# How each of these commands ends.
+ENDED = {
+    "rows": {"out": "0\n"},
+    "table": {"code": NO, "out": "other\n"},
+    "judge": {"out": "sole cost -45\n"},
+    "check": {"out": "sole cost -45\n"},
+    "mod": {"out": "packets 2 frames 2\n", "writes": {"out": size(65_520)}},
+    "noise": {"writes": {"out": 2 * PACKET}},
+    "demod": {"out": "end frames 0 delivered 0 packets 0 bad 0\n", "reads": {"empty": b""}, "writes": {"out": b""}},
+    "run": {"out": TWO, "writes": {"out": 2 * PACKET}},
+}
 
 
 def no_divisor(command, value, like):
@@ -176,6 +266,17 @@ CASES = [
     Case("--help", out=HELP),
     Case("check --help", out=CHECK_HELP),
     *(Case(f"{name} --help", out=first_line(about)) for name, about in ABOUTS.items()),
+    *(Case(f"{name} --help", out=option("0  ", end)) for name, end in ENDS.items()),
+    *(Case(f"{name} --help", out=option(word, says)) for name, word, says in WORDS),
+    *(Case(f"{name} --help", out=option("--quiet", f"No notes on standard error{', and no progress but by --progress' * (name in SHOWING)}")) for name in LINES),
+    *(Case(f"{name} --help", out=option("--progress", "a line that is rewritten once a second")) for name in SHOWING),
+    *(Case(f"{name} --help", out=option("--strict", "or no frame was found in 90 symbols or more")) for name in STRICT),
+    *(taken("--quiet", name) for name in ENDED),
+    *(taken(word, name) for name in SHOWING for word in ("--progress", "--quiet --progress")),
+    *(taken("--strict", name) for name in STRICT),
+    *(refused("--progress", name) for name in LINES if name not in SHOWING),
+    *(refused("--strict", name) for name in LINES if name not in STRICT),
+    *(refused("--rate", name) for name in LINES if name != "modes"),
     Case("--help", FAULT, to="/dev/full"),
     Case("check toy", FAULT, errors=NO_CERT),
     *(Case(words, FAULT, errors=f"{line}\n{MORE}") for words, line in MISUSES if " is not in " in line),
@@ -192,6 +293,6 @@ CASES = [
     Case(f"judge {TOY} longest stored", out="sole cost -45\n", reads={"longest": LONGEST}),
     fault(f"judge {TOY} longest stored", "file too long", reads={"longest": TOO_LONG}),
     fault("", "cannot write", to="closed"),
-    fault("demod --modcod 1 /dev/null /dev/null /dev/null", "rows: too few rows"),
-    fault(f"{RUN} /dev/null /dev/null /dev/null", "rows: too few rows"),
+    fault("demod --modcod 1 /dev/null /dev/null /dev/null", "rows: too few rows", WANTED_NORMAL),
+    fault(f"{RUN} /dev/null /dev/null /dev/null", "rows: too few rows", WANTED_NORMAL),
 ]

@@ -1,0 +1,130 @@
+"""`modes`, and modes by name: what is wanted is computed here from the tables of the standard."""
+from fractions import Fraction
+
+from cases.common import FAULT, Case, fault, first_line, option
+from cases.modes import MODES
+
+RATES = ["1/4", "1/3", "2/5", "1/2", "3/5", "2/3", "3/4", "4/5", "5/6", "8/9", "9/10", "3/5", "2/3", "3/4", "5/6", "8/9", "9/10"]
+NAMES = [f"{'qpsk' if place < 11 else '8psk'}{rate}" for place, rate in enumerate(RATES)]
+IDEAL = "-2.35 -1.24 -0.30 1.00 2.23 3.10 4.03 4.68 5.18 6.20 6.42 5.50 6.62 7.91 9.35 10.69 10.98".split()
+# Table 13 has these spectral efficiencies of normal frames without pilot blocks, too.
+EFFICIENCIES = [
+    0.490243, 0.656448, 0.789412, 0.988858, 1.188304, 1.322253, 1.487473, 1.587196, 1.654663, 1.766451, 1.788612,
+    1.779991, 1.980636, 2.228124, 2.478562, 2.646012, 2.679207,
+]  # fmt: skip
+
+
+def frame(modcod, short, pilots):
+    slots = (16200 if short else 64800) // (2 if modcod <= 11 else 3) // 90
+    return 90 + 90 * slots + 36 * ((slots - 1) // 16) * pilots
+
+
+def kbch(modcod, short, k):
+    t = 12 if short else {"2/3": 10, "5/6": 10, "8/9": 8, "9/10": 8}.get(RATES[modcod - 1], 12)
+    return k - (14 if short else 16) * t
+
+
+def line(modcod, words, groups, rate=None):
+    short, k = bool(words), 360 * groups
+    bits = kbch(modcod, short, k)
+    pair = [frame(modcod, short, pilots) for pilots in (0, 1)]
+    each = [f"{(Fraction(10**6 * (bits - 80), it) + Fraction(1, 2)) // 1:07d}" for it in pair]
+    text = f"modcod {modcod} {NAMES[modcod - 1]} {'short' if short else 'normal'} kbch {bits} k {k} symbols {pair[0]} {pair[1]}"
+    text += f" bits {' '.join(f'{it[:-6]}.{it[-6:]}' for it in each)} esn0 {IDEAL[modcod - 1]}{'+0.2..0.3' * short}"
+    if rate:
+        text += f" ts {' '.join(str(rate * (bits - 80) // it) for it in pair)}"
+    return f"{text}\n"
+
+
+def listed(rate=None):
+    codes = sorted(MODES, key=lambda it: (it[1], it[0]))
+    return "".join(line(modcod, words, groups, rate) for modcod, words, groups, *_ in codes)
+
+
+assert [f"{(kbch(m, False, 360 * g) - 80) / frame(m, False, 0):.6f}" for m, words, g, *_ in MODES if not words] == [f"{it:.6f}" for it in EFFICIENCIES]
+
+QPSK, PSK = ", ".join(NAMES[:11]), ", ".join(NAMES[11:])
+FORMS = "it is 1 to 17, or qpsk or 8psk with a code rate, as qpsk3/4 or 8psk2/3"
+SWITCH = "error: '--pilots' takes no value: frames have pilot blocks where it stands, and none where it does not"
+MORE = "\nFor more information, try '--help'.\n"
+USAGES = {
+    "table": "s2 table [OPTIONS] --modcod <M> <ROWS>",
+    "mod": "s2 mod [OPTIONS] --modcod <M> <ROWS> <PACKETS> <SYMBOLS>",
+    "demod": "s2 demod [OPTIONS] --modcod <M> <ROWS> <SYMBOLS> <PACKETS>",
+    "run": "s2 run [OPTIONS] --modcod <M> --seed <S> --level <L> <ROWS> <PACKETS> <OUT>",
+}
+REST = {"table": "made", "mod": "made packets out", "demod": "made packets out", "run": "--seed 1 --level 1 made packets out"}
+
+
+def no_mode(name, text):
+    return f"error: invalid value '{name}' for '--modcod <M>': {text}"
+
+
+def no_roll_off(name):
+    return f"error: invalid value '{name}' for '--ro <R>': it is 0 for 0.35, 1 for 0.25, or 2 for 0.20"
+
+
+def misused(name, words, line):
+    """A command with words that it refuses with this line and its usage, and nothing else."""
+    return Case(f"{name} {words} {REST[name]}", FAULT, errors=f"{line}\n\nUsage: {USAGES[name]}\n{MORE}")
+
+
+# What is no name, and what stands there.
+NO_NAMES = [
+    ("qpsk7/8", f"QPSK has {QPSK}"),
+    ("QPSK", f"QPSK has {QPSK}"),
+    ("qpsk3/4,", f"QPSK has {QPSK}"),
+    ("8psk1/2", f"8PSK has {PSK}"),
+    ("8PSK4/5", f"8PSK has {PSK}"),
+    ("16apsk2/3", FORMS),
+    ("bpsk", FORMS),
+    ("x", FORMS),
+    ("-", FORMS),
+    ("3-4", FORMS),
+    ("Qpsk3/4", FORMS),
+    ("3/4", FORMS),
+]
+LINKED = ("mod", "demod", "run")
+SWITCHES = ["--pilots yes", "--pilots no", "--pilots on", "--pilots OFF", "--pilots True", "--pilots 1", "--pilots=1", "--pilots=off", "--pilots="]
+MISUSES = [
+    ("mod --modcod -1 made packets out", "error: invalid value '-1' for '--modcod <M>': -1 is not in 1..=17"),
+    ("table --modcod 18 made", "error: invalid value '18' for '--modcod <M>': 18 is not in 1..=17"),
+    ("mod --modcod qpsk3/4 --modcod 7 made packets out", "error: the argument '--modcod <M>' cannot be used multiple times"),
+    ("mod --modcod 1 --ro", "error: a value is required for '--ro <R>' but none was supplied"),
+    # the fault is another word's
+    ("mod --modcod 1 --short=1 --pilots made packets out", "error: unexpected value '1' for '--short' found; no more were expected"),
+    ("mod --modcod 1 --pilots made packets out more", "error: unexpected argument 'more' found"),
+    ("mod --modcod 1 --pilot made packets out", "error: unexpected argument '--pilot' found"),
+    ("noise --seed 1 --level 1 --pilots packets out", "error: unexpected argument '--pilots' found"),
+    ("noise --seed 1 --level 1 --ro 0 packets out", "error: unexpected argument '--ro' found"),
+    ("table --modcod 1 --ro 0 made", "error: unexpected argument '--ro' found"),
+    ("modes --rate 0", "error: invalid value '0' for '--rate <R>': 0 is not in 1..=1000000000"),
+    ("modes --rate 1000000001", "error: invalid value '1000000001' for '--rate <R>': 1000000001 is not in 1..=1000000000"),
+    ("modes --rate x", "error: invalid value 'x' for '--rate <R>': invalid digit found in string"),
+    ("modes --rate", "error: a value is required for '--rate <R>' but none was supplied"),
+    ("modes all", "error: unexpected argument 'all' found"),
+]
+
+CASES = [
+    Case("modes", out=listed()),
+    *(Case(f"modes --rate {rate}", out=listed(rate)) for rate in (1, 27500000, 10**9)),
+    Case("modes --quiet", out=listed()),
+    Case("modes --quiet --rate 27500000", out=listed(27500000)),
+    fault("modes", "cannot write", to="/dev/full"),
+    *(misused(name, f"--modcod {text}", no_mode(text, says)) for name in USAGES for text, says in NO_NAMES),
+    *(misused(name, f"--modcod={text}", no_mode(text, says)) for name in USAGES for text, says in [*NO_NAMES, ("", FORMS)]),
+    *(misused(name, f"--modcod 1 --ro {text}", no_roll_off(text)) for name in LINKED for text in ("3", "5", "0.35", "35", "x", "-1", "-0.35")),
+    *(misused(name, f"--modcod qpsk1/4 --ro={text}", no_roll_off(text)) for name in LINKED for text in ("5", "")),
+    *(misused(name, f"--modcod 1 {words}", SWITCH) for name in LINKED for words in SWITCHES),
+    *(Case(words, FAULT, errors=first_line(line)) for words, line in MISUSES),
+    Case("demod --help", out=option("parity", "try --passes 96")),
+    Case("demod --help", out=option("broken", "the packets are whole all the same; try --rounds 200")),
+    Case("judge --help", out=option("broken cost C check J", "this is no codeword")),
+    Case("run --help", out=option("2  ", "a frame is lost, cut, parity or broken")),
+]
+# Commands by a name, and by its number.
+ALIKE = [
+    tuple(fault(f"{name} --modcod {mode} {REST[name].replace('made', 'none')}", "cannot open none") for mode in modes)
+    for name in USAGES
+    for modes in [(1, "qpsk1/4"), (7, "QPSK3/4"), (11, "QPSK9/10"), (12, "8psk3/5"), (17, "8PSK9/10")]
+]

@@ -1,0 +1,64 @@
+"""`table`, and the note of rows that are not the standard's. Of the standard's rows there are none here: `bench/rows_sums --check`
+tries those that a user has."""
+from cases.common import ANY, FAULT, LINK, NO, WANTED, Case, fault, first_line, option
+from cases.drawn import made_rows
+from cases.words import WANTED_NORMAL
+
+LACKS = "error: the following required arguments were not provided:"
+OTHER = "other\n"
+RUN = "run --seed 1 --level 0"
+
+
+def noted(words, name, **more):
+    """A command that notes of rows that they are not the standard's, and tells nothing else on standard error."""
+    return Case(words, out=ANY, errors=f"s2: note: these rows are not the standard's for {name}\n", noted=True, **more)
+
+
+def turned(rows):
+    """The same rows, each the other way round, under a comment."""
+    lines = [b" ".join(reversed(line.split())) for line in rows.split(b"\n")]
+    return b"# turned\n" + b"\n".join(lines)
+
+
+MADE = made_rows(360, 9, 36, 3, 1)
+
+CASES = [
+    Case(f"table {LINK} made", NO, OTHER),
+    Case("table --modcod qpsk1/2 normal", NO, OTHER),
+    Case("table --modcod QPSK1/4 normal4", NO, OTHER),
+    Case(f"table {LINK} turned", NO, OTHER, reads={"turned": turned(MADE)}),
+    Case(f"table {LINK} -", NO, OTHER, given=MADE),
+    fault("table --modcod 1 made", "rows: too few rows", WANTED_NORMAL),
+    fault(f"table {LINK} normal4", "rows: address too large in line 1", WANTED),
+    fault(f"table {LINK} more", "rows: too many rows", WANTED, reads={"more": MADE + b"0\n"}),
+    fault(f"table {LINK} stored", "rows: not a number in line 1", WANTED),
+    fault(f"table {LINK} --quiet stored", "rows: not a number in line 1"),
+    fault(f"table {LINK} none", "cannot open none"),
+    fault(f"table {LINK} .", "cannot read"),
+    fault(f"table {LINK} /dev/zero", "file too long"),
+    fault("table --modcod 11 --short none", "no such mode"),
+    fault(f"table {LINK} made", "cannot write", to="/dev/full"),
+    Case("table made", FAULT, errors=first_line(LACKS)),
+    Case(f"table {LINK}", FAULT, errors=first_line(LACKS)),
+    Case(f"table {LINK} --pilots made", FAULT, errors=first_line("error: unexpected argument '--pilots' found")),
+    Case("table --help", out=first_line("Tells whether rows are the standard's")),
+    Case("table --help", out=option("2  ", "other")),
+    # a note stands where no fault does, and in front of a report that goes to the errors
+    noted(f"mod {LINK} made packets out", "QPSK 1/4, short", writes={"out": ANY}),
+    noted("mod --modcod 4 normal packets out", "QPSK 1/2, normal", writes={"out": ANY}),
+    noted(f"demod {LINK} made two out", "QPSK 1/4, short", writes={"out": ANY}),
+    noted(f"{RUN} {LINK} made packets out", "QPSK 1/4, short", writes={"out": ANY}),
+    noted("mod --modcod 13 --short eight packets out", "8PSK 2/3, short", reads={"eight": made_rows(360, 30, 15, 3, 1)}, writes={"out": ANY}),
+    Case(f"mod {LINK} made packets -", out=ANY, errors="s2: note: these rows are not the standard's for QPSK 1/4, short\npackets 2 frames 2\n", noted=True),
+    fault(f"mod {LINK} stored packets old", "rows: not a number in line 1", WANTED, noted=True),
+    fault(f"demod {LINK} normal4 packets old", "rows: address too large in line 1", WANTED, noted=True),
+    # left out with all notes
+    Case(f"mod {LINK} --quiet made packets out", out=ANY, writes={"out": ANY}, noted=True),
+    Case(f"demod {LINK} --quiet made two out", out=ANY, writes={"out": ANY}, noted=True),
+    Case(f"{RUN} {LINK} --quiet made packets out", out=ANY, writes={"out": ANY}, noted=True),
+    Case(f"table {LINK} --quiet made", NO, OTHER, noted=True),
+]
+# What is one code, told twice: it has one table.
+ALIKE = [
+    (Case("table --modcod 5 rows", NO, OTHER, reads={"rows": made_rows(360, 108, 72, 3, 1)}), Case("table --modcod 8psk3/5 rows", NO, OTHER, reads={"rows": made_rows(360, 108, 72, 3, 1)})),
+]
