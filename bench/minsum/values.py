@@ -20,14 +20,14 @@ def members(group, groups, q, rows):
     return [sorted(check) for check in checks]
 
 
-def message(inputs):
-    """What the inputs of the other members make."""
+def message(inputs, factor):
+    """What the inputs of the other members make: so many sixteenths of the least size, rounded up."""
     least = min([1023] + [abs(v) for v in inputs])
     sign = -1 if sum(v < 0 for v in inputs) % 2 else 1
-    return sign * (least - least // 4)
+    return sign * -(-least * factor // 16)
 
 
-def run(group, groups, q, rows, soft, rounds, layers=None):
+def run(group, groups, q, rows, soft, rounds, layers=None, factor=12):
     checks = members(group, groups, q, rows)
     sent = {(j, i): 0 for j, check in enumerate(checks) for i in check}
 
@@ -44,7 +44,7 @@ def run(group, groups, q, rows, soft, rounds, layers=None):
             for j in range(r, len(checks), q):
                 inputs = {i: before[i] - sent[j, i] for i in checks[j]}
                 for i in checks[j]:
-                    new[j, i] = message([inputs[x] for x in checks[j] if x != i])
+                    new[j, i] = message([inputs[x] for x in checks[j] if x != i], factor)
             sent.update(new)
     return posteriors(), [sent[j, i] for j, check in enumerate(checks) for i in check]
 
@@ -59,3 +59,9 @@ if __name__ == "__main__":
     print("a bit of 24 checks", run(*many, [511] * 28, 3)[0])
     print("the same of a one", run(*many, [-511 if i == 0 or i % 2 and i < 24 else 511 for i in range(28)], 3)[0])
     print("pairs", run(1, 1, 1, [[0]], [-5, 3], 1)[0], run(1, 1, 1, [[0]], [-5, 5], 3)[0])
+    mixed = [-4, 37, -12, 511, 93, 8, -250, 61, 17, -5, 129, 33, 44, 7, -90, 300, 21, 15, -63, 2]
+    for factor in (8, 12, 15, 16):
+        for rounds in (1, 2):
+            print(f"MIXED by {factor} after {rounds}", run(4, 2, 3, toy, mixed, rounds, factor=factor)[0])
+        print(f"a check of one member by {factor}", run(1, 1, 2, [[1]], [511] * 3, 1, layers=1, factor=factor)[1])
+    print("a bit of 24 checks by 16", run(*many, [511] * 28, 3, factor=16)[0])

@@ -97,7 +97,7 @@ def shown(bits, rests):
     return "sole" if least >= 1 else "most-likely", bits, least
 
 
-def verdict(code, soft, passes, rounds=50):
+def verdict(code, soft, passes, rounds=50, factor=12):
     checks = values.members(*code)
     hard = [v < 0 for v in soft]
     if not any(odd(checks, hard)):
@@ -109,7 +109,7 @@ def verdict(code, soft, passes, rounds=50):
         return shown(repair, rests)
     bits = hard
     for done in range(rounds):
-        bits = [v < 0 for v in values.run(*code, soft, done + 1)[0]]
+        bits = [v < 0 for v in values.run(*code, soft, done + 1, factor=factor)[0]]
         if not any(odd(checks, bits)):
             rests = certified(code, checks, soft, bits, passes)
             return ("parity", bits, None) if rests is None else shown(bits, rests)

@@ -47,6 +47,10 @@ VERDICTS = [
     (PAIR, "pair", b"-5 5", NO, "broken cost -5 check 0\n"),
     (CHAIN, "chain", b"0 -1 -1 0", NO, "parity cost 0\n"),
     (CHAIN, "chain", b"1 0 -3 0", NO, "parity cost 0\n"),
+    (f"{PAIR} --factor 9", "pair", b"-5 3", NO, "broken cost -5 check 0\n"),
+    (f"{PAIR} --factor 10", "pair", b"-5 3", 0, "most-likely cost -2\n"),
+    (f"{PAIR} --factor 12", "pair", b"-5 5", NO, "broken cost -5 check 0\n"),
+    (f"{PAIR} --factor 13", "pair", b"-5 5", 0, "most-likely cost 0\n"),
 ]
 # Codes of three groups, and their rows.
 FIVE, SIX = ("--group 1 --groups 3 --q 5", b"0 1 3\n0 2\n1 4\n"), ("--group 2 --groups 3 --q 3", b"0 4\n2 3 4 5\n2 3 5\n")

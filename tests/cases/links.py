@@ -167,11 +167,13 @@ RUN = [
 # A seed and a level behind which two rounds of min-sum leave another count of wrong bits by each divisor, and sizes of components
 # around those from which on a soft value is not 0.
 NOISY, WEAK = (14, 670), (1, 2, 3, 5, 6, 11, 12, 23, 24)
+# By each of these factors it leaves another count, too.
+FACTORS = (12, 13, 14, 16)
 
 
 def divided(two, rows):
     """The cases of divisors over the symbols of the two packets: with noise, without, and so weak that a large divisor leaves
-    nothing of them, which is the word of zeros."""
+    nothing of them, which is the word of zeros; and with noise those of factors."""
     checks, noisy, noise = checks_of(rows), spoilt(two, *NOISY), "--rounds 2 --seed {} --level {}".format(*NOISY)
     lost = TWO.replace("sole fixed 0", "most-likely lost").replace("delivered 2 packets 2", "delivered 0 packets 0")
     usual = broken(checks, two, noisy, DIVISORS[0], 2)
@@ -190,6 +192,12 @@ def divided(two, rows):
         for component in WEAK:
             ends = (0, TWO, 2 * PACKET) if soft_value((component, component), 0, divisor) else (NO, lost, b"")
             cases.append(received(weakened(two, component), *ends, f"{words} made"))
+    for factor in FACTORS:
+        words, report = f"{LINK} --factor {factor}", broken(checks, two, noisy, DIVISORS[0], 2, factor)
+        cases += [
+            received(noisy, NO, report, 2 * PACKET, f"{words} --rounds 2 made"),
+            run(f"{words} {noise} made", NO, report, 2 * PACKET),
+        ]
     return cases
 
 

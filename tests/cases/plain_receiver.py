@@ -62,24 +62,24 @@ def repaired(checks, word):
     return [bit ^ (count >= 2 and count == of) for bit, count, of in zip(word, odds, alls)]
 
 
-def messages(inputs):
-    """To each member what the inputs of the others make."""
+def messages(inputs, factor):
+    """To each member what the inputs of the others make: so many sixteenths of their least size, rounded up."""
     sent = []
     for own in range(len(inputs)):
         others = inputs[:own] + inputs[own + 1 :]
         least = min([CAP] + [abs(value) for value in others])
-        size = least - least // 4
+        size = -(-least * factor // 16)
         sent.append(-size if sum(value < 0 for value in others) % 2 else size)
     return sent
 
 
-def decisions(checks, soft, rounds):
+def decisions(checks, soft, rounds, factor):
     """The hard decision after each round of min-sum."""
     posteriors, sent = list(soft), [[0] * len(members) for members in checks]
     for _ in range(rounds):
         for layer in range(Q):
             own = range(layer, len(checks), Q)
-            made = [messages([posteriors[i] - was for i, was in zip(checks[j], sent[j])]) for j in own]
+            made = [messages([posteriors[i] - was for i, was in zip(checks[j], sent[j])], factor) for j in own]
             for j, now in zip(own, made):
                 for i, was, message in zip(checks[j], sent[j], now):
                     posteriors[i] += message - was
@@ -87,14 +87,14 @@ def decisions(checks, soft, rounds):
         yield [value < 0 for value in posteriors]
 
 
-def broken(checks, sent, noisy, divisor, rounds):
+def broken(checks, sent, noisy, divisor, rounds, factor=12):
     """The report of frames of which no step finds a codeword, where outer coding corrects all: how many of the first bits of
     min-sum's last decision are not those sent."""
     lines = []
     for number, (clean, payload) in enumerate(zip(payloads(sent), payloads(noisy))):
         soft = soft_values(payload, divisor)
         hard = [value < 0 for value in soft]
-        words = [hard, repaired(checks, hard), *decisions(checks, soft, rounds)]
+        words = [hard, repaired(checks, hard), *decisions(checks, soft, rounds, factor)]
         fixed = sum((value < 0) != bit for value, bit in list(zip(soft_values(clean, 1), words[-1]))[: GROUP * GROUPS])
         assert all(odd(checks, word) for word in words) and fixed <= MOST_FIXED
         lines.append(f"frame {number + 1} at {FRAME * number} broken fixed {fixed}\n")

@@ -13,6 +13,7 @@ use s2_check::{Answer, Certificate, Examined, Verdict, check, examine};
 use s2_judge::Judge;
 use s2_link::Tuning;
 use s2_matrix::Matrix;
+use s2_minsum::Factor;
 use s2_mode::{Counting, Mode};
 use std::alloc::{AllocError, Global};
 use std::process::Abort;
@@ -170,6 +171,49 @@ fn assert_pair_decided<A: Abort>(rt: &A, alloc: Global, pair: &Matrix) -> Result
 fn decodes_where_the_repair_has_an_odd_check(rt: HostRuntime) -> Result<(), Fail> {
     let pair = matrix_of(rt.alloc(), PAIR)?;
     assert_pair_decided(&rt, rt.alloc(), &pair)
+}
+
+/// What is decided by at most 50 rounds of a factor.
+fn decided_by_factor(
+    alloc: Global,
+    matrix: &Matrix,
+    soft: &[i16],
+    bits: &[bool],
+    factor: Factor,
+) -> Result<Decided, Fail> {
+    if !fits(matrix, soft) {
+        return Err(Fail::from("other values"));
+    }
+    let tuning = Tuning::new(50, 0)?.with_factor(factor);
+    let mut judge = Judge::new(alloc, matrix, tuning)?;
+    Ok(decided_by(matrix, &mut judge, soft, bits))
+}
+
+/// Asserts what is decided on two bits that are to be the same, by some factors.
+fn assert_pair_decided_by_factors<A: Abort>(
+    rt: &A,
+    alloc: Global,
+    pair: &Matrix,
+) -> Result<(), Fail> {
+    let broken = (Verdict::Broken, true, None);
+    for (soft, number, bits, want) in [
+        ([-5, 3], 9, [true, false], broken),
+        ([-5, 3], 10, [true, true], LIKELY),
+        ([-5, 5], 12, [true, false], broken),
+        ([-5, 5], 13, [false, false], LIKELY),
+        ([-5, 5], 16, [false, false], LIKELY),
+    ] {
+        let factor = Factor::new(number).expect(rt, "a factor");
+        let found = decided_by_factor(alloc, pair, &soft, &bits, factor)?;
+        assert_eq!(rt; found, want, "{soft:?} by {number}");
+    }
+    Ok(())
+}
+
+#[test]
+fn decodes_by_the_factor_of_its_tuning(rt: HostRuntime) -> Result<(), Fail> {
+    let pair = matrix_of(rt.alloc(), PAIR)?;
+    assert_pair_decided_by_factors(&rt, rt.alloc(), &pair)
 }
 
 /// Asserts that zeros are found on a chain of checks, without a certificate.

@@ -6,7 +6,7 @@ use super::codes::{SHAPES, made_matrix};
 use super::minsum_tests::loaded;
 use super::values::{LARGEST, next_number};
 use s2_matrix::Matrix;
-use s2_minsum::Decoder;
+use s2_minsum::{Decoder, Factor};
 use s2_mode::Shape;
 use std::alloc::{AllocError, Global};
 use std::process::Abort;
@@ -68,7 +68,7 @@ fn inputs(
 }
 
 /// What the other inputs make.
-fn message(inputs: &[i16], own: usize) -> i16 {
+fn message(inputs: &[i16], own: usize, factor: Factor) -> i16 {
     let mut least = 1023u16;
     let mut negative = false;
     for place in 0..inputs.len() {
@@ -77,21 +77,27 @@ fn message(inputs: &[i16], own: usize) -> i16 {
             negative = negative != (inputs[place] < 0);
         }
     }
-    let size = (least - least / 4).cast_signed();
+    let lacks = 16u16.wrapping_sub(factor.get() as u16);
+    let size = least
+        .wrapping_sub(least.wrapping_mul(lacks) / 16)
+        .cast_signed();
     if negative { size.wrapping_neg() } else { size }
 }
 
-/// Appends the messages of a check after a layer: the new ones if it is of the layer, else those before.
+/// Appends the messages of a check after a layer: the new ones by a factor if it is of the layer, else those before.
 fn push_messages(
     next: &mut Vec<i16>,
     messages: &[i16],
     first: usize,
     inputs: &[i16],
-    is_new: bool,
+    factor: Option<Factor>,
 ) -> Result<(), AllocError> {
     for place in 0..inputs.len() {
         let sent = at(messages, first.wrapping_add(place));
-        next.push(if is_new { message(inputs, place) } else { sent })?;
+        next.push(match factor {
+            Some(factor) => message(inputs, place, factor),
+            None => sent,
+        })?;
     }
     Ok(())
 }
@@ -103,6 +109,7 @@ fn layer(
     soft: &[i16],
     messages: &[i16],
     r: usize,
+    factor: Factor,
 ) -> Result<Vec<i16>, AllocError> {
     let posteriors = posteriors(alloc, matrix, soft, messages)?;
     let q = matrix.shape().q();
@@ -111,7 +118,8 @@ fn layer(
         let first = matrix.first_edge(check);
         let members = matrix.members_at(check);
         let inputs = inputs(alloc, &posteriors, messages, first, members)?;
-        push_messages(&mut next, messages, first, &inputs, check % q == r)?;
+        let renewed = if check % q == r { Some(factor) } else { None };
+        push_messages(&mut next, messages, first, &inputs, renewed)?;
     }
     Ok(next)
 }
@@ -158,14 +166,15 @@ fn agrees_by(
     decoder: &mut Decoder<'_>,
     matrix: &Matrix,
     soft: &[i16],
+    factor: Factor,
 ) -> Result<bool, AllocError>
     requires { decoder.old.rows ≡ matrix.now }
 {
     let q = matrix.shape().q();
     let mut messages = Vec::new(alloc);
     for step in 0..2 * q {
-        decoder.layer(step % q);
-        messages = layer(alloc, matrix, soft, &messages, step % q)?;
+        decoder.layer(step % q, factor);
+        messages = layer(alloc, matrix, soft, &messages, step % q, factor)?;
         if !has_state(alloc, decoder, matrix, soft, &messages)? {
             return Ok(false);
         }
@@ -173,10 +182,16 @@ fn agrees_by(
     Ok(true)
 }
 
-/// Whether lanes and rule agree for these values.
+/// Whether lanes and rule agree for these values, by the usual factor and by two others.
 fn agrees<R: Abort + AllocGlobal>(rt: &R, matrix: &Matrix, soft: &[i16]) -> Result<bool, Fail> {
-    let mut decoder = loaded(rt, matrix, soft)?;
-    Ok(agrees_by(rt.alloc(), &mut decoder, matrix, soft)?)
+    for number in [8, 12, 15] {
+        let factor = Factor::new(number).expect(rt, "a factor");
+        let mut decoder = loaded(rt, matrix, soft)?;
+        if !agrees_by(rt.alloc(), &mut decoder, matrix, soft, factor)? {
+            return Ok(false);
+        }
+    }
+    Ok(true)
 }
 
 /// Whether they agree for values of both signs, of one, and of the largest size.

@@ -8,7 +8,7 @@ use super::codes::TOY;
 use super::minsum_tests::WRONG_AFTER;
 use super::values::{WRONG, soft_values};
 use s2_matrix::Matrix;
-use s2_minsum::Decoder;
+use s2_minsum::{Decoder, Factor};
 use std::alloc::{AllocError, Global};
 use std::process::Abort;
 use std::test::Fail;
@@ -40,7 +40,7 @@ fn assert_after_layer<R: Abort>(rt: &R, matrix: &Matrix, decoder: &mut Decoder<'
     assert!(rt; matrix.bits() == 20 && matrix.shape().q() == 3);
     assert_eq!(rt; soft.len(), matrix.bits());
     decoder.load(soft);
-    decoder.layer(0);
+    decoder.layer(0, Factor::usual());
     for bit in 0..20usize {
         assert_eq!(rt; decoder.posterior(bit), WRONG_AFTER[bit]);
     }

@@ -8,7 +8,7 @@ ghost use Rattle.s2_minsum.specs.Decoding.{AreWithin};
 use super::codes::{Code, TOY, matrix_of};
 use super::values::{LARGEST, LEAST, WRONG, soft_values};
 use s2_matrix::Matrix;
-use s2_minsum::Decoder;
+use s2_minsum::{Decoder, Factor};
 use std::alloc::{AllocError, Global};
 use std::process::Abort;
 use std::test::Fail;
@@ -22,6 +22,55 @@ const WRONG_SENT: [i16; 16] = [8, -3, -3, 0, 0, 0, 0, 0, 0, 0, 0, 8, 8, 8, 8, 0]
 
 // Group 4, one group, q 3, row 0 3: each information bit is twice in layer 0.
 const TWICE_AFTER: [i16; 16] = [20, 20, 20, 20, 14, 8, 14, 14, 8, 14, 14, 8, 14, 14, 8, 8];
+
+// Values of many sizes on the toy code, and by some factors the posteriors after one round and after two.
+const MIXED: [i16; 20] = [
+    -4, 37, -12, 511, 93, 8, -250, 61, 17, -5, 129, 33, 44, 7, -90, 300, 21, 15, -63, 2,
+];
+
+const MIXED_AFTER: [(u32, [i16; 20], [i16; 20]); 4] = [
+    (
+        8,
+        [
+            3, 83, -19, 517, 86, 29, -258, 72, 12, -8, 131, 40, 48, 15, -107, 312, 20, 30, -66, -32,
+        ],
+        [
+            1, 82, -11, 507, 82, 17, -251, 65, 6, -4, 134, 33, 35, 5, -100, 312, 22, 20, -61, -29,
+        ],
+    ),
+    (
+        12,
+        [
+            9, 104, -25, 517, 81, 38, -252, 76, 10, -17, 130, 46, 49, 28, -117, 308, 7, 36, -66,
+            -49,
+        ],
+        [
+            6, 95, 12, 483, 84, 10, -235, 46, -7, 12, 144, 28, 16, 1, -100, 309, 11, -5, -52, -34,
+        ],
+    ),
+    (
+        15,
+        [
+            15, 121, -30, 516, 76, 46, -252, 79, 8, -28, 129, 53, 51, 43, -126, 309, -10, 40, -66,
+            -62,
+        ],
+        [
+            7, 102, 59, 459, 87, 8, -224, 49, -23, 56, 154, 23, -6, -10, -102, 309, -3, -47, -70,
+            -46,
+        ],
+    ),
+    (
+        16,
+        [
+            18, 126, -33, 516, 76, 49, -252, 79, 8, -33, 129, 54, 52, 49, -128, 309, -18, 41, -66,
+            -66,
+        ],
+        [
+            6, 101, 80, 457, 89, 10, -219, 57, -28, 80, 158, 21, -10, -17, -101, 309, -6, -57, -79,
+            -57,
+        ],
+    ),
+];
 
 // A check of parity bit 0 alone, and one of all three bits.
 const ALONE: Code<'static> = ([1, 1, 2], b"1\n");
@@ -99,12 +148,13 @@ fn after_layer<'a, R: Abort + AllocGlobal>(
     rt: &R,
     matrix: &'a Matrix,
     values: &[i16],
+    factor: Factor,
 ) -> Result<Decoder<'a>, Fail>
     ensures { IfOk result (λ d. d.rows ≡ matrix.now) }
 {
     let mut decoder = loaded(rt, matrix, values)?;
     assert!(rt; matrix.shape().q() > 0);
-    decoder.layer(0);
+    decoder.layer(0, factor);
     Ok(decoder)
 }
 
@@ -114,10 +164,11 @@ fn after_rounds<R: Abort + AllocGlobal>(
     matrix: &Matrix,
     values: &[i16],
     rounds: u32,
+    factor: Factor,
 ) -> Result<Vec<i16>, Fail> {
     let mut decoder = loaded(rt, matrix, values)?;
     for _rounds in 0..rounds {
-        decoder.round();
+        decoder.round(factor);
     }
     Ok(posteriors(rt.alloc(), &decoder, matrix)?)
 }
@@ -128,9 +179,10 @@ fn assert_after_rounds<R: Abort + AllocGlobal>(
     matrix: &Matrix,
     values: &[i16],
     rounds: u32,
+    factor: Factor,
     want: &[i16],
 ) -> Result<(), Fail> {
-    let after = after_rounds(rt, matrix, values, rounds)?;
+    let after = after_rounds(rt, matrix, values, rounds, factor)?;
     assert_eq!(rt; after.as_slice(), want);
     Ok(())
 }
@@ -142,7 +194,7 @@ fn assert_posteriors_after_layer<R: Abort + AllocGlobal>(
     values: &[i16],
     want: &[i16],
 ) -> Result<(), Fail> {
-    let decoder = after_layer(rt, matrix, values)?;
+    let decoder = after_layer(rt, matrix, values, Factor::usual())?;
     assert_posteriors(rt, &decoder, matrix, want)
 }
 
@@ -151,15 +203,16 @@ fn assert_messages_after_layer<R: Abort + AllocGlobal>(
     rt: &R,
     matrix: &Matrix,
     values: &[i16],
+    factor: Factor,
     want: &[i16],
 ) -> Result<(), Fail> {
-    let decoder = after_layer(rt, matrix, values)?;
+    let decoder = after_layer(rt, matrix, values, factor)?;
     assert_messages(rt, &decoder, matrix, want)
 }
 
 fn assert_sent<R: Abort + AllocGlobal>(rt: &R, toy: &Matrix) -> Result<(), Fail> {
     assert_posteriors_after_layer(rt, toy, &WRONG, &WRONG_AFTER)?;
-    assert_messages_after_layer(rt, toy, &WRONG, &WRONG_SENT)
+    assert_messages_after_layer(rt, toy, &WRONG, Factor::usual(), &WRONG_SENT)
 }
 
 #[test]
@@ -175,8 +228,9 @@ fn adds_both_changes_where_a_bit_is_twice_in_a_layer(rt: HostRuntime) -> Result<
 }
 
 fn assert_repeated<R: Abort + AllocGlobal>(rt: &R, pair: &Matrix) -> Result<(), Fail> {
-    assert_after_rounds(rt, pair, &[-5, 3], 1, &[-2, -1])?;
-    assert_after_rounds(rt, pair, &[-5, 5], 3, &[-1, 1])
+    let usual = Factor::usual();
+    assert_after_rounds(rt, pair, &[-5, 3], 1, usual, &[-2, -1])?;
+    assert_after_rounds(rt, pair, &[-5, 5], 3, usual, &[-1, 1])
 }
 
 #[test]
@@ -188,7 +242,11 @@ fn repeats_a_pair_of_bits(rt: HostRuntime) -> Result<(), Fail> {
 fn assert_sent_alone<R: Abort + AllocGlobal>(rt: &R, alone: &Matrix) -> Result<(), Fail> {
     let soft = [LEAST, LARGEST, LEAST];
     assert_posteriors_after_layer(rt, alone, &soft, &[LEAST, 1279, LEAST])?;
-    assert_messages_after_layer(rt, alone, &soft, &[768, 0, 0, 0])
+    for (number, size) in [(8, 512i16), (12, 768), (15, 960), (16, 1023)] {
+        let factor = Factor::new(number).expect(rt, "a factor");
+        assert_messages_after_layer(rt, alone, &soft, factor, &[size, 0, 0, 0])?;
+    }
+    Ok(())
 }
 
 #[test]
@@ -203,18 +261,54 @@ fn assert_largest<R: Abort + AllocGlobal>(rt: &R, many: &Matrix) -> Result<(), F
     let mut want = [2047i16; 28];
     want[0] = 18943;
     want[25..].copy_from_slice(&[1951, 1663, 1279]);
-    assert_after_rounds(rt, many, &soft, 3, &want)?;
+    assert_after_rounds(rt, many, &soft, 3, Factor::usual(), &want)?;
     for bit in 0..24usize {
         if bit == 0 || bit % 2 == 1 {
             soft[bit] = LEAST;
             want[bit] = want[bit].wrapping_neg();
         }
     }
-    assert_after_rounds(rt, many, &soft, 3, &want)
+    assert_after_rounds(rt, many, &soft, 3, Factor::usual(), &want)
+}
+
+/// Asserts the posteriors of the largest values for zeros, where sizes are kept whole.
+fn assert_largest_of_all<R: Abort + AllocGlobal>(rt: &R, many: &Matrix) -> Result<(), Fail> {
+    let whole = Factor::new(16).expect(rt, "a factor");
+    let mut want = [2557i16; 28];
+    want[0] = 25063;
+    want[25..].copy_from_slice(&[2556, 2045, 1534]);
+    assert_after_rounds(rt, many, &[LARGEST; 28], 3, whole, &want)
 }
 
 #[test]
 fn reaches_the_largest_posteriors(rt: HostRuntime) -> Result<(), Fail> {
     let many = matrix_of(rt.alloc(), MANY)?;
-    assert_largest(&rt, &many)
+    assert_largest(&rt, &many)?;
+    assert_largest_of_all(&rt, &many)
+}
+
+/// Asserts the posteriors after one round and after two, by some factors.
+fn assert_mixed<R: Abort + AllocGlobal>(rt: &R, toy: &Matrix) -> Result<(), Fail> {
+    for (number, once, twice) in MIXED_AFTER {
+        let factor = Factor::new(number).expect(rt, "a factor");
+        assert_after_rounds(rt, toy, &MIXED, 1, factor, &once)?;
+        assert_after_rounds(rt, toy, &MIXED, 2, factor, &twice)?;
+    }
+    Ok(())
+}
+
+#[test]
+fn keeps_so_many_sixteenths_of_a_size(rt: HostRuntime) -> Result<(), Fail> {
+    let toy = matrix_of(rt.alloc(), TOY)?;
+    assert_mixed(&rt, &toy)
+}
+
+#[test]
+fn has_nine_factors(rt: HostRuntime) -> Result<(), Fail> {
+    for number in 0..20u32 {
+        let found = Factor::new(number).map(Factor::get);
+        let is_one = number >= 8 && number <= 16;
+        assert_eq!(rt; found, if is_one { Some(number) } else { None });
+    }
+    Ok(())
 }

@@ -14,12 +14,12 @@ use Rattle.s2_judge.proofs.Decisions.{length-decoded, found_codeword, by_ways}
 pub decided_long : (r : Rows) (tuning : Tuning) (soft : List ℤ) → length soft ≡ (code_of r).bits → length (decided r tuning soft).bits ≡ (code_of r).bits
 decided_long r tuning soft long =
     by_ways r tuning soft (λ d. length d.bits ≡ (code_of r).bits) (λ even. length-map soft _ ∙ long) (λ view even is. length-repaired (code_of r) soft)
-    (λ bits none is. with_view bits (found_codeword r tuning.rounds soft bits is).long (view_for r tuning.passes soft bits)) (λ none is. last (satisfies (code_of r) (repaired (code_of r) soft)))
+    (λ bits none is. with_view bits (found_codeword r tuning.factor tuning.rounds soft bits is).long (view_for r tuning.passes soft bits)) (λ none is. last (satisfies (code_of r) (repaired (code_of r) soft)))
   where
     with_view : (bits : List Bool) → length bits ≡ (code_of r).bits → (o : Option View) → length (with_made r bits o).bits ≡ (code_of r).bits
     with_view bits whole (Some view) = whole
     with_view bits whole None = whole
 
-    last : (b : Bool) → length (cond b (uncertified Parity (repaired (code_of r) soft)) (uncertified Broken (decoded_bits r soft tuning.rounds))).bits ≡ (code_of r).bits
+    last : (b : Bool) → length (cond b (uncertified Parity (repaired (code_of r) soft)) (uncertified Broken (decoded_bits r tuning.factor soft tuning.rounds))).bits ≡ (code_of r).bits
     last true = length-repaired (code_of r) soft
-    last false = length-decoded r soft tuning.rounds
+    last false = length-decoded r tuning.factor soft tuning.rounds

@@ -71,15 +71,15 @@ repaired_codeword r soft even =
 
 pub certified_lem : CertifiedLaw
 certified_lem r tuning soft long =
-    by_ways r tuning soft (IsShown r soft) (λ even. by_certificate r soft (hard_decision soft) _ (unsplit_shown r soft (hard_codeword r soft long even))) (λ view even is. by_certificate r soft (repaired (code_of r) soft) view (found_shown r tuning.passes soft (repaired (code_of r) soft) view (repaired_codeword r soft even) is)) (λ bits none is. with_view bits (found_codeword r tuning.rounds soft bits is) (view_for r tuning.passes soft bits) refl) (λ none is. either (satisfies (code_of r) (repaired (code_of r) soft)))
+    by_ways r tuning soft (IsShown r soft) (λ even. by_certificate r soft (hard_decision soft) _ (unsplit_shown r soft (hard_codeword r soft long even))) (λ view even is. by_certificate r soft (repaired (code_of r) soft) view (found_shown r tuning.passes soft (repaired (code_of r) soft) view (repaired_codeword r soft even) is)) (λ bits none is. with_view bits (found_codeword r tuning.factor tuning.rounds soft bits is) (view_for r tuning.passes soft bits) refl) (λ none is. either (satisfies (code_of r) (repaired (code_of r) soft)))
   where
     with_view : (bits : List Bool) → IsCodeword (code_of r) bits → (o : Option View) → view_for r tuning.passes soft bits ≡ o → IsShown r soft (with_made r bits o)
     with_view bits codeword (Some view) e = by_certificate r soft bits view (found_shown r tuning.passes soft bits view codeword e)
     with_view bits codeword None e = without r soft Parity bits (λ e. cc)
 
-    either : (b : Bool) → IsShown r soft (cond b (uncertified Parity (repaired (code_of r) soft)) (uncertified Broken (decoded_bits r soft tuning.rounds)))
+    either : (b : Bool) → IsShown r soft (cond b (uncertified Parity (repaired (code_of r) soft)) (uncertified Broken (decoded_bits r tuning.factor soft tuning.rounds)))
     either true = without r soft Parity (repaired (code_of r) soft) (λ e. cc)
-    either false = without r soft Broken (decoded_bits r soft tuning.rounds) (λ e. cc)
+    either false = without r soft Broken (decoded_bits r tuning.factor soft tuning.rounds) (λ e. cc)
 
 pub likely_lem : LikelyLaw
 likely_lem r tuning soft long e =
@@ -114,14 +114,14 @@ says_yes r verdict bits view other codeword = (λ _. codeword, λ e. absurd (oth
 pub broken_lem : BrokenLaw
 unfolding Says
 broken_lem r tuning soft long some =
-    by_ways r tuning soft (Says r) (λ even. says_yes r (verdict_by (is_strict r (unsplit_view r soft (hard_decision soft)))) (hard_decision soft) (Some (unsplit_view r soft (hard_decision soft))) (not_broken (is_strict r (unsplit_view r soft (hard_decision soft)))) (hard_codeword r soft long even)) (λ view even is. says_yes r (verdict_by (is_strict r view)) (repaired (code_of r) soft) (Some view) (not_broken (is_strict r view)) (repaired_codeword r soft even)) (λ bits none is. with_view bits (found_codeword r tuning.rounds soft bits is) (view_for r tuning.passes soft bits)) (λ none is. either (satisfies (code_of r) (repaired (code_of r) soft)) refl is)
+    by_ways r tuning soft (Says r) (λ even. says_yes r (verdict_by (is_strict r (unsplit_view r soft (hard_decision soft)))) (hard_decision soft) (Some (unsplit_view r soft (hard_decision soft))) (not_broken (is_strict r (unsplit_view r soft (hard_decision soft)))) (hard_codeword r soft long even)) (λ view even is. says_yes r (verdict_by (is_strict r view)) (repaired (code_of r) soft) (Some view) (not_broken (is_strict r view)) (repaired_codeword r soft even)) (λ bits none is. with_view bits (found_codeword r tuning.factor tuning.rounds soft bits is) (view_for r tuning.passes soft bits)) (λ none is. either (satisfies (code_of r) (repaired (code_of r) soft)) refl is)
   where
     with_view : (bits : List Bool) → IsCodeword (code_of r) bits → (o : Option View) → Says r (with_made r bits o)
     with_view bits codeword (Some view) = says_yes r (verdict_by (is_strict r view)) bits (Some view) (not_broken (is_strict r view)) codeword
     with_view bits codeword None = says_yes r Parity bits None (λ e. cc) codeword
 
-    either : (b : Bool) → satisfies (code_of r) (repaired (code_of r) soft) ≡ b → first_codeword r tuning.rounds soft ≡ None → Says r (cond b (uncertified Parity (repaired (code_of r) soft)) (uncertified Broken (decoded_bits r soft tuning.rounds)))
+    either : (b : Bool) → satisfies (code_of r) (repaired (code_of r) soft) ≡ b → first_codeword r tuning.factor tuning.rounds soft ≡ None → Says r (cond b (uncertified Parity (repaired (code_of r) soft)) (uncertified Broken (decoded_bits r tuning.factor soft tuning.rounds)))
     either true even is = says_yes r Parity (repaired (code_of r) soft) None (λ e. cc) (repaired_codeword r soft even)
-    either false odd is = (λ other. absurd (other refl), λ e. not_codeword (code_of r) (decoded_bits r soft tuning.rounds) (last_odd r tuning.rounds soft some is))
+    either false odd is = (λ other. absurd (other refl), λ e. not_codeword (code_of r) (decoded_bits r tuning.factor soft tuning.rounds) (last_odd r tuning.factor tuning.rounds soft some is))
 
 -- ---- scattered values: see Scattering

@@ -1,5 +1,5 @@
 -- The ways in which is decided, and what holds of what is decided.
-use Rattle.std.proofs.Common.{◌≡◌, ◌↔◌, IsTrue, ℕ, zero, suc, ◌+◌, ◌%◌, ◌==◌, ◌<◌, ◌≤◌, eq-eqb, eqb-true, Bool, true, false, cond, List, [], ◌∷◌, length, map, get_or, ℤ, pos, int_lt, ◌≤ℤ◌, Option, None, Some, inl, inr, refl, sym, ap, ap₂, subst, ◌∙◌, arith}
+use Rattle.std.proofs.Common.{◌≡◌, ◌↔◌, IsTrue, ℕ, zero, suc, ◌+◌, ◌%◌, ◌==◌, ◌<◌, ◌≤◌, eq-eqb, eqb-true, Bool, true, false, cond, List, [], ◌∷◌, length, map, get_or, ℤ, pos, int_lt, ◌≤ℤ◌, Option, None, Some, inl, inr, refl, sym, ap, subst, ◌∙◌, arith}
 use Rattle.std.specs.List.{find, range_with_len}
 use Rattle.std.proofs.lemmas.Bool.{cases_Bool, both_ways, false_from_ne_true}
 use Rattle.std.proofs.lemmas.Int.{ints}
@@ -17,7 +17,7 @@ use Rattle.s2_check.specs.Strict.{AreStrict}
 use Rattle.s2_check.specs.Verdicts.{is_certified}
 use Rattle.s2_split.specs.Scattered.{repaired}
 use Rattle.s2_judge.specs.Deciding.{Decided, is_strict, verdict_by, certified, satisfies, decoded_bits, first_codeword, without_certificate, with_made, by_min_sum, repair_view, by_repair, decided, view_for}
-use Rattle.s2_link.specs.Tuning.{Tuning, tuning_of}
+use Rattle.s2_link.specs.Tuning.{Tuning}
 
 -- ---- the test of every check
 
@@ -119,36 +119,36 @@ none_passes p f a (suc n) k is low =
         ap (λ i. p (f i)) here ∙ later k s (omega arith)
 
 -- of those from round a on, the first that satisfies every check
-abbrev pub first_from : Rows → List ℤ → ℕ → ℕ → Option (List Bool)
-first_from r soft a n =
-    find (satisfies (code_of r)) (map (λ k. decoded_bits r soft (k + 1)) (range_with_len a n))
+abbrev pub first_from : Rows → ℕ → List ℤ → ℕ → ℕ → Option (List Bool)
+first_from r factor soft a n =
+    find (satisfies (code_of r)) (map (λ k. decoded_bits r factor soft (k + 1)) (range_with_len a n))
 
-pub first_now : (r : Rows) (soft : List ℤ) (a n : ℕ) → satisfies (code_of r) (decoded_bits r soft (a + 1)) ≡ true → first_from r soft a (suc n) ≡ Some (decoded_bits r soft (a + 1))
-first_now r soft a n e =
-    ap (λ b. cond b (Some (decoded_bits r soft (a + 1))) (first_from r soft (a + 1) n)) e
+pub first_now : (r : Rows) (factor : ℕ) (soft : List ℤ) (a n : ℕ) → satisfies (code_of r) (decoded_bits r factor soft (a + 1)) ≡ true → first_from r factor soft a (suc n) ≡ Some (decoded_bits r factor soft (a + 1))
+first_now r factor soft a n e =
+    ap (λ b. cond b (Some (decoded_bits r factor soft (a + 1))) (first_from r factor soft (a + 1) n)) e
 
-pub first_later : (r : Rows) (soft : List ℤ) (a n : ℕ) → satisfies (code_of r) (decoded_bits r soft (a + 1)) ≡ false → first_from r soft a (suc n) ≡ first_from r soft (a + 1) n
-first_later r soft a n e =
-    ap (λ b. cond b (Some (decoded_bits r soft (a + 1))) (first_from r soft (a + 1) n)) e
+pub first_later : (r : Rows) (factor : ℕ) (soft : List ℤ) (a n : ℕ) → satisfies (code_of r) (decoded_bits r factor soft (a + 1)) ≡ false → first_from r factor soft a (suc n) ≡ first_from r factor soft (a + 1) n
+first_later r factor soft a n e =
+    ap (λ b. cond b (Some (decoded_bits r factor soft (a + 1))) (first_from r factor soft (a + 1) n)) e
 
-pub length-decoded : (r : Rows) (soft : List ℤ) (k : ℕ) → length (decoded_bits r soft k) ≡ (code_of r).bits
+pub length-decoded : (r : Rows) (factor : ℕ) (soft : List ℤ) (k : ℕ) → length (decoded_bits r factor soft k) ≡ (code_of r).bits
 unfolding decoded_bits
-length-decoded r soft k = length-map-range_with_len _ 0 (code_of r).bits
+length-decoded r factor soft k = length-map-range_with_len _ 0 (code_of r).bits
 
 -- what min-sum finds is a codeword
-pub found_codeword : (r : Rows) (rounds : ℕ) (soft : List ℤ) (bits : List Bool) → first_codeword r rounds soft ≡ Some bits → IsCodeword (code_of r) bits
-found_codeword r rounds soft bits is =
+pub found_codeword : (r : Rows) (factor rounds : ℕ) (soft : List ℤ) (bits : List Bool) → first_codeword r factor rounds soft ≡ Some bits → IsCodeword (code_of r) bits
+found_codeword r factor rounds soft bits is =
     let code = code_of r in
-    let at = found_passes (satisfies code) (λ k. decoded_bits r soft (k + 1)) (λ (w : List Bool). length w ≡ code.bits) (upto rounds) bits (λ k. length-decoded r soft (k + 1)) is in
+    let at = found_passes (satisfies code) (λ k. decoded_bits r factor soft (k + 1)) (λ (w : List Bool). length w ≡ code.bits) (upto rounds) bits (λ k. length-decoded r factor soft (k + 1)) is in
     satisfied_codeword code bits at.0 at.1
 
 -- where it finds none, its last decision has an odd check
-pub last_odd : (r : Rows) (rounds : ℕ) (soft : List ℤ) → 1 ≤ rounds → first_codeword r rounds soft ≡ None → satisfies (code_of r) (decoded_bits r soft rounds) ≡ false
-last_odd r zero soft some is = absurd (omega arith)
-last_odd r (suc k) soft some is =
-    let at = none_passes (satisfies (code_of r)) (λ i. decoded_bits r soft (i + 1)) 0 (suc k) k is (omega arith) in
+pub last_odd : (r : Rows) (factor rounds : ℕ) (soft : List ℤ) → 1 ≤ rounds → first_codeword r factor rounds soft ≡ None → satisfies (code_of r) (decoded_bits r factor soft rounds) ≡ false
+last_odd r factor zero soft some is = absurd (omega arith)
+last_odd r factor (suc k) soft some is =
+    let at = none_passes (satisfies (code_of r)) (λ i. decoded_bits r factor soft (i + 1)) 0 (suc k) k is (omega arith) in
     let here : 0 + k + 1 ≡ suc k = omega arith in
-    sym (ap (λ i. satisfies (code_of r) (decoded_bits r soft i)) here) ∙ at
+    sym (ap (λ i. satisfies (code_of r) (decoded_bits r factor soft i)) here) ∙ at
 
 -- ---- the ways in which is decided
 
@@ -169,26 +169,8 @@ module _ (r : Rows) (tuning : Tuning) (soft : List ℤ) where
   pub repair_odd : satisfies (code_of r) (repaired (code_of r) soft) ≡ false → repair_view r tuning.passes soft ≡ None
   repair_odd e = ap (λ b. cond b (view_for r tuning.passes soft (repaired (code_of r) soft)) None) e
 
-  -- what soft values were divided by plays no part
-  pub same_numbers : (rounds passes : ℕ) → rounds ≡ tuning.rounds → passes ≡ tuning.passes → decided r tuning soft ≡ decided r (tuning_of rounds passes) soft
-  unfolding decided
-  same_numbers rounds passes as_rounds as_passes =
-      by_numbers ∙ sym (ap₂ (λ a b. decided r (tuning_of a b) soft) as_rounds as_passes)
-    where
-      min_sum_same : (o : Option (List Bool)) → by_min_sum r tuning soft o ≡ by_min_sum r (tuning_of tuning.rounds tuning.passes) soft o
-      min_sum_same (Some bits) = refl
-      min_sum_same None = refl
-
-      repair_same : (o : Option View) → by_repair r tuning soft o ≡ by_repair r (tuning_of tuning.rounds tuning.passes) soft o
-      repair_same (Some view) = refl
-      repair_same None = min_sum_same (first_codeword r tuning.rounds soft)
-
-      by_numbers : decided r tuning soft ≡ decided r (tuning_of tuning.rounds tuning.passes) soft
-      by_numbers =
-          ap (cond (satisfies (code_of r) (hard_decision soft)) (certified r (hard_decision soft) (unsplit_view r soft (hard_decision soft)))) (repair_same (repair_view r tuning.passes soft))
-
   -- a proof for each way is a proof for what is decided
-  pub by_ways : (P : Decided → Type 0) → (satisfies (code_of r) (hard_decision soft) ≡ true → P (certified r (hard_decision soft) (unsplit_view r soft (hard_decision soft)))) → ((view : View) → satisfies (code_of r) (repaired (code_of r) soft) ≡ true → view_for r tuning.passes soft (repaired (code_of r) soft) ≡ Some view → P (certified r (repaired (code_of r) soft) view)) → ((bits : List Bool) → repair_view r tuning.passes soft ≡ None → first_codeword r tuning.rounds soft ≡ Some bits → P (with_made r bits (view_for r tuning.passes soft bits))) → (repair_view r tuning.passes soft ≡ None → first_codeword r tuning.rounds soft ≡ None → P (without_certificate r tuning soft)) → P (decided r tuning soft)
+  pub by_ways : (P : Decided → Type 0) → (satisfies (code_of r) (hard_decision soft) ≡ true → P (certified r (hard_decision soft) (unsplit_view r soft (hard_decision soft)))) → ((view : View) → satisfies (code_of r) (repaired (code_of r) soft) ≡ true → view_for r tuning.passes soft (repaired (code_of r) soft) ≡ Some view → P (certified r (repaired (code_of r) soft) view)) → ((bits : List Bool) → repair_view r tuning.passes soft ≡ None → first_codeword r tuning.factor tuning.rounds soft ≡ Some bits → P (with_made r bits (view_for r tuning.passes soft bits))) → (repair_view r tuning.passes soft ≡ None → first_codeword r tuning.factor tuning.rounds soft ≡ None → P (without_certificate r tuning soft)) → P (decided r tuning soft)
   by_ways P hard repair found left =
       elim (cases_Bool (satisfies (code_of r) (hard_decision soft))) [
         | inl even ↦ subst P (sym (by_hard even)) (hard even)
@@ -199,7 +181,7 @@ module _ (r : Rows) (tuning : Tuning) (soft : List ℤ) where
       both true o view e = (refl, e)
       both false o view e = cc
 
-      at_min_sum : repair_view r tuning.passes soft ≡ None → (o : Option (List Bool)) → first_codeword r tuning.rounds soft ≡ o → P (by_min_sum r tuning soft o)
+      at_min_sum : repair_view r tuning.passes soft ≡ None → (o : Option (List Bool)) → first_codeword r tuning.factor tuning.rounds soft ≡ o → P (by_min_sum r tuning soft o)
       at_min_sum none (Some bits) e = found bits none e
       at_min_sum none None e = left none e
 
@@ -207,4 +189,4 @@ module _ (r : Rows) (tuning : Tuning) (soft : List ℤ) where
       at_repair (Some view) e =
           let is = both (satisfies (code_of r) (repaired (code_of r) soft)) (view_for r tuning.passes soft (repaired (code_of r) soft)) view e in
           repair view is.0 is.1
-      at_repair None e = at_min_sum e (first_codeword r tuning.rounds soft) refl
+      at_repair None e = at_min_sum e (first_codeword r tuning.factor tuning.rounds soft) refl

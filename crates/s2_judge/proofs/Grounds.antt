@@ -14,7 +14,7 @@ use Rattle.s2_split.proofs.Passes.{fold_upto}
 use Rattle.s2_mode.specs.Limits.{most_soft}
 use Rattle.s2_minsum.specs.Plain.{State, start, round, decision}
 use Rattle.s2_minsum.specs.Decoding.{AreWithin, Decoding, decoded}
-use Rattle.s2_link.specs.Tuning.{Tuning, tuning_of}
+use Rattle.s2_link.specs.Tuning.{Tuning}
 use Rattle.s2_judge.specs.declared.ground.Ground.{Ground}
 use Rattle.s2_judge.specs.declared.ground.Ground.TheVariants.{HardDecision, Found, Checks, Nothing}
 use Rattle.s2_judge.specs.Deciding.{Decided, is_strict, verdict_by, certified, uncertified, satisfies, after_rounds, decoded_bits, first_codeword, with_made, by_min_sum, repair_view, by_repair, decided, view_for}
@@ -28,17 +28,17 @@ soft_within soft range k d within =
     let at = range k d within in
     omega (arith, ints, at.low, at.high)
 
-pub one_more_round : (r : Rows) (soft : List ℤ) (k : ℕ) → after_rounds r soft (k + 1) ≡ round (code_of r) r.shape.q (after_rounds r soft k)
-one_more_round r soft k =
-    fold_upto (λ (before : State) _. round (code_of r) r.shape.q before) (start soft) k
+pub one_more_round : (r : Rows) (factor : ℕ) (soft : List ℤ) (k : ℕ) → after_rounds r factor soft (k + 1) ≡ round (code_of r) r.shape.q factor (after_rounds r factor soft k)
+one_more_round r factor soft k =
+    fold_upto (λ (before : State) _. round (code_of r) r.shape.q factor before) (start soft) k
 
-pub round_step : (r : Rows) (soft : List ℤ) (k : ℕ) (old new : Decoding) → old.rows ≡ r → decoded old ≡ after_rounds r soft k → decoded new ≡ round (code_of old.rows) old.rows.shape.q (decoded old) → decoded new ≡ after_rounds r soft (k + 1)
-round_step r soft k old new rows state is =
-    is ∙ ap₂ (λ (q : Rows) (s : State). round (code_of q) q.shape.q s) rows state ∙ sym (one_more_round r soft k)
+pub round_step : (r : Rows) (factor : ℕ) (soft : List ℤ) (k : ℕ) (old new : Decoding) → old.rows ≡ r → decoded old ≡ after_rounds r factor soft k → decoded new ≡ round (code_of old.rows) old.rows.shape.q factor (decoded old) → decoded new ≡ after_rounds r factor soft (k + 1)
+round_step r factor soft k old new rows state is =
+    is ∙ ap₂ (λ (q : Rows) (s : State). round (code_of q) q.shape.q factor s) rows state ∙ sym (one_more_round r factor soft k)
 
-pub bits_step : (r : Rows) (soft : List ℤ) (k : ℕ) (d : Decoding) (bits : List Bool) → d.rows ≡ r → decoded d ≡ after_rounds r soft k → bits ≡ decision (code_of d.rows) (decoded d) → bits ≡ decoded_bits r soft k
+pub bits_step : (r : Rows) (factor : ℕ) (soft : List ℤ) (k : ℕ) (d : Decoding) (bits : List Bool) → d.rows ≡ r → decoded d ≡ after_rounds r factor soft k → bits ≡ decision (code_of d.rows) (decoded d) → bits ≡ decoded_bits r factor soft k
 unfolding decoded_bits
-bits_step r soft k d bits rows state is =
+bits_step r factor soft k d bits rows state is =
     is ∙ ap₂ (λ (q : Rows) (s : State). decision (code_of q) s) rows state
 
 -- ---- what was found for a codeword
@@ -75,27 +75,27 @@ step_two r tuning soft bits rep found strict odd rep_is same some view is =
         ∙ ap (by_view bits (shared_view r soft bits s)) (ap (λ (w : List Bool). is_strict r (shared_view r soft w s)) same ∙ is)
 
 -- without one
-pub past_two : (r : Rows) (tuning : Tuning) (soft : List ℤ) → satisfies (code_of r) (hard_decision soft) ≡ false → repair_view r tuning.passes soft ≡ None → decided r tuning soft ≡ by_min_sum r tuning soft (first_codeword r tuning.rounds soft)
+pub past_two : (r : Rows) (tuning : Tuning) (soft : List ℤ) → satisfies (code_of r) (hard_decision soft) ≡ false → repair_view r tuning.passes soft ≡ None → decided r tuning soft ≡ by_min_sum r tuning soft (first_codeword r tuning.factor tuning.rounds soft)
 past_two r tuning soft odd none =
     not_hard r tuning soft odd ∙ ap (by_repair r tuning soft) none
 
--- over the same rows and passes
-pub by_same : (r q : Rows) (rounds passes p : ℕ) (soft : List ℤ) (bits : List Bool) (found : Option Shared) (ground : Ground) → q ≡ r → p ≡ passes → by_min_sum q (tuning_of rounds p) soft (first_codeword q rounds soft) ≡ shown_by q soft bits found ground → by_min_sum r (tuning_of rounds passes) soft (first_codeword r rounds soft) ≡ shown_by r soft bits found ground
-by_same r q rounds passes p soft bits found ground rows same is =
-    subst (λ (q : Rows). by_min_sum q (tuning_of rounds passes) soft (first_codeword q rounds soft) ≡ shown_by q soft bits found ground) rows (subst (λ (p : ℕ). by_min_sum q (tuning_of rounds p) soft (first_codeword q rounds soft) ≡ shown_by q soft bits found ground) same is)
+-- over the same rows
+pub by_same : (r q : Rows) (tuning : Tuning) (soft : List ℤ) (bits : List Bool) (found : Option Shared) (ground : Ground) → q ≡ r → by_min_sum q tuning soft (first_codeword q tuning.factor tuning.rounds soft) ≡ shown_by q soft bits found ground → by_min_sum r tuning soft (first_codeword r tuning.factor tuning.rounds soft) ≡ shown_by r soft bits found ground
+by_same r q tuning soft bits found ground rows is =
+    subst (λ (q : Rows). by_min_sum q tuning soft (first_codeword q tuning.factor tuning.rounds soft) ≡ shown_by q soft bits found ground) rows is
 
-pub step_three : (r : Rows) (tuning : Tuning) (soft : List ℤ) (bits : List Bool) (d : Decided) → first_codeword r tuning.rounds soft ≡ Some bits → with_made r bits (view_for r tuning.passes soft bits) ≡ d → by_min_sum r tuning soft (first_codeword r tuning.rounds soft) ≡ d
+pub step_three : (r : Rows) (tuning : Tuning) (soft : List ℤ) (bits : List Bool) (d : Decided) → first_codeword r tuning.factor tuning.rounds soft ≡ Some bits → with_made r bits (view_for r tuning.passes soft bits) ≡ d → by_min_sum r tuning soft (first_codeword r tuning.factor tuning.rounds soft) ≡ d
 step_three r tuning soft bits d is with_ = ap (by_min_sum r tuning soft) is ∙ with_
 
-pub step_four : (r : Rows) (tuning : Tuning) (soft : List ℤ) (bits : List Bool) (found : Option Shared) → first_codeword r tuning.rounds soft ≡ None → satisfies (code_of r) (repaired (code_of r) soft) ≡ true → bits ≡ repaired (code_of r) soft → by_min_sum r tuning soft (first_codeword r tuning.rounds soft) ≡ shown_by r soft bits found Checks
+pub step_four : (r : Rows) (tuning : Tuning) (soft : List ℤ) (bits : List Bool) (found : Option Shared) → first_codeword r tuning.factor tuning.rounds soft ≡ None → satisfies (code_of r) (repaired (code_of r) soft) ≡ true → bits ≡ repaired (code_of r) soft → by_min_sum r tuning soft (first_codeword r tuning.factor tuning.rounds soft) ≡ shown_by r soft bits found Checks
 step_four r tuning soft bits found none even same =
     let rep = repaired (code_of r) soft in
-    ap (by_min_sum r tuning soft) none ∙ ap (λ b. cond b (uncertified Parity rep) (uncertified Broken (decoded_bits r soft tuning.rounds))) even ∙ ap (uncertified Parity) (sym same)
+    ap (by_min_sum r tuning soft) none ∙ ap (λ b. cond b (uncertified Parity rep) (uncertified Broken (decoded_bits r tuning.factor soft tuning.rounds))) even ∙ ap (uncertified Parity) (sym same)
 
-pub step_none : (r : Rows) (tuning : Tuning) (soft : List ℤ) (bits : List Bool) (found : Option Shared) → first_codeword r tuning.rounds soft ≡ None → satisfies (code_of r) (repaired (code_of r) soft) ≡ false → bits ≡ decoded_bits r soft tuning.rounds → by_min_sum r tuning soft (first_codeword r tuning.rounds soft) ≡ shown_by r soft bits found Nothing
+pub step_none : (r : Rows) (tuning : Tuning) (soft : List ℤ) (bits : List Bool) (found : Option Shared) → first_codeword r tuning.factor tuning.rounds soft ≡ None → satisfies (code_of r) (repaired (code_of r) soft) ≡ false → bits ≡ decoded_bits r tuning.factor soft tuning.rounds → by_min_sum r tuning soft (first_codeword r tuning.factor tuning.rounds soft) ≡ shown_by r soft bits found Nothing
 step_none r tuning soft bits found none odd same =
     let rep = repaired (code_of r) soft in
-    ap (by_min_sum r tuning soft) none ∙ ap (λ b. cond b (uncertified Parity rep) (uncertified Broken (decoded_bits r soft tuning.rounds))) odd ∙ ap (uncertified Broken) (sym same)
+    ap (by_min_sum r tuning soft) none ∙ ap (λ b. cond b (uncertified Parity rep) (uncertified Broken (decoded_bits r tuning.factor soft tuning.rounds))) odd ∙ ap (uncertified Broken) (sym same)
 
 -- what a judge shows after a decision
 pub as_shown : (r r' r'' : Rows) (n n' : Tuning) (soft items given : List ℤ) (bits : List Bool) (found : Option Shared) (ground : Ground) (verdict : Verdict) → r' ≡ r → r'' ≡ r' → n' ≡ n → items ≡ soft → given ≡ items → verdict ≡ verdict_of ground → decided r' n' given ≡ shown_by r' given bits found ground → decided r n soft ≡ record { verdict = verdict; bits = bits; certificate = view_by r'' items bits found ground }

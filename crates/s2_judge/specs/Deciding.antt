@@ -51,19 +51,19 @@ satisfies code bits = list_all (λ j. ones_in code bits j % 2 == 0) (upto code.c
 
 -- ---- min-sum
 
--- its state after so many rounds
-abbrev pub after_rounds : Rows → List ℤ → ℕ → State
-after_rounds r soft rounds =
-    fold (λ before _. round (code_of r) r.shape.q before) (start soft) (upto rounds)
+-- its state after so many rounds by a factor
+abbrev pub after_rounds : Rows → ℕ → List ℤ → ℕ → State
+after_rounds r factor soft rounds =
+    fold (λ before _. round (code_of r) r.shape.q factor before) (start soft) (upto rounds)
 
 -- its hard decision after so many rounds
-unfoldable pub decoded_bits : Rows → List ℤ → ℕ → List Bool
-decoded_bits r soft rounds = decision (code_of r) (after_rounds r soft rounds)
+unfoldable pub decoded_bits : Rows → ℕ → List ℤ → ℕ → List Bool
+decoded_bits r factor soft rounds = decision (code_of r) (after_rounds r factor soft rounds)
 
 -- of its hard decisions after 1, 2, .. rounds the first that satisfies every check
-abbrev pub first_codeword : Rows → ℕ → List ℤ → Option (List Bool)
-first_codeword r rounds soft =
-    find (satisfies (code_of r)) (map (λ k. decoded_bits r soft (k + 1)) (upto rounds))
+abbrev pub first_codeword : Rows → ℕ → ℕ → List ℤ → Option (List Bool)
+first_codeword r factor rounds soft =
+    find (satisfies (code_of r)) (map (λ k. decoded_bits r factor soft (k + 1)) (upto rounds))
 
 -- ---- certificates of codewords
 
@@ -81,7 +81,7 @@ view_for r passes soft bits =
 -- step 4: the repair where it satisfies every check, else min-sum's last hard decision
 abbrev pub without_certificate : Rows → Tuning → List ℤ → Decided
 without_certificate r tuning soft =
-    if satisfies (code_of r) (repaired (code_of r) soft) then uncertified Parity (repaired (code_of r) soft) else uncertified Broken (decoded_bits r soft tuning.rounds)
+    if satisfies (code_of r) (repaired (code_of r) soft) then uncertified Parity (repaired (code_of r) soft) else uncertified Broken (decoded_bits r tuning.factor soft tuning.rounds)
 
 -- a codeword that min-sum found, with the certificate that is made for it, or with none
 abbrev pub with_made : Rows → List Bool → Option View → Decided
@@ -101,7 +101,7 @@ repair_view r passes soft =
 -- step 2: the repair with its certificate
 abbrev pub by_repair : Rows → Tuning → List ℤ → Option View → Decided
 by_repair r tuning soft (Some view) = certified r (repaired (code_of r) soft) view
-by_repair r tuning soft None = by_min_sum r tuning soft (first_codeword r tuning.rounds soft)
+by_repair r tuning soft None = by_min_sum r tuning soft (first_codeword r tuning.factor tuning.rounds soft)
 
 -- step 1: the hard decision, where it satisfies every check
 unfoldable pub decided : Rows → Tuning → List ℤ → Decided

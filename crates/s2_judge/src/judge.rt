@@ -141,7 +141,7 @@ impl<'a> Judge<'a> {
             &mut self.certifier,
             &mut self.decoder,
             &self.soft,
-            self.tuning.rounds(),
+            self.tuning,
             &mut self.repair,
             &mut self.bits,
         );

@@ -4,7 +4,6 @@ ghost use Rattle.s2_matrix.specs.Code.{code_of};
 ghost use Rattle.s2_check.specs.Views.{IsSoft};
 ghost use Rattle.s2_split.specs.Making.{shared_view, shared_views};
 ghost use Rattle.s2_split.specs.Scattered.{repaired};
-ghost use Rattle.s2_link.specs.Tuning.{tuning_of};
 ghost use Rattle.s2_judge.specs.Deciding.{is_strict, decoded_bits, first_codeword, repair_view, by_min_sum, decided};
 ghost use Rattle.s2_judge.specs.Judging.{shown_by, IsGround};
 
@@ -12,8 +11,9 @@ use crate::certifier::Certifier;
 use crate::ground::Ground;
 use s2_bits::Bits;
 use s2_check::{judge_unsplit, none_is_zero};
+use s2_link::Tuning;
 use s2_matrix::Matrix;
-use s2_minsum::Decoder;
+use s2_minsum::{Decoder, Factor};
 
 /// Writes the repair and, if it satisfies every check, looks for its certificate: whether there is one.
 fn try_repair(certifier: &mut Certifier<'_>, soft: &[i16], repair: &mut Bits) -> bool
@@ -36,13 +36,14 @@ fn try_repair(certifier: &mut Certifier<'_>, soft: &[i16], repair: &mut Bits) ->
     }
 }
 
-/// Runs min-sum, at most so many rounds, until its hard decision satisfies every check: whether it
+/// Runs min-sum by a factor, at most so many rounds, until its hard decision satisfies every check: whether it
 /// does. The bits are its last hard decision.
 fn decode(
     matrix: &Matrix,
     decoder: &mut Decoder<'_>,
     soft: &[i16],
     rounds: u32,
+    factor: Factor,
     bits: &mut Bits,
 ) -> bool
     requires decoder { decoder.old.rows ≡ matrix.now }
@@ -51,13 +52,13 @@ fn decode(
     requires rounds { 1 ≤ rounds }
     requires bits { length bits.old ≡ (code_of matrix.now).bits }
     ensures rows { decoder.new.rows ≡ matrix.now }
-    ensures first { first_codeword matrix.now rounds soft.now ≡ (if result then Some bits.new else None) }
-    ensures last { result ≡ false → bits.new ≡ decoded_bits matrix.now soft.now rounds }
+    ensures first { first_codeword matrix.now factor rounds soft.now ≡ (if result then Some bits.new else None) }
+    ensures last { result ≡ false → bits.new ≡ decoded_bits matrix.now factor soft.now rounds }
     ensures long { length bits.new ≡ (code_of matrix.now).bits }
 {
     decoder.load(soft);
     'decoding: for round in 0..rounds {
-        decoder.round();
+        decoder.round(factor);
         decoder.hard_into(bits);
         if matrix.satisfied(bits) {
             return true;
@@ -71,14 +72,14 @@ fn decide_by_min_sum(
     certifier: &mut Certifier<'_>,
     decoder: &mut Decoder<'_>,
     soft: &[i16],
-    rounds: u32,
+    tuning: Tuning,
     repair: &Bits,
     bits: &mut Bits,
 ) -> Ground
     requires decoder { decoder.old.rows ≡ certifier.old.rows }
     requires soft { length soft.now ≡ (code_of certifier.old.rows).bits }
     requires range { All IsSoft soft.now }
-    requires rounds { 1 ≤ rounds }
+    requires passes { certifier.old.passes ≡ tuning.passes }
     requires repair { repair.now ≡ repaired (code_of certifier.old.rows) soft.now }
     requires bits { length bits.old ≡ (code_of certifier.old.rows).bits }
     ensures certifier { certifier.new.rows ≡ certifier.old.rows }
@@ -86,9 +87,10 @@ fn decide_by_min_sum(
     ensures decoder { decoder.new.rows ≡ certifier.old.rows }
     ensures long { length bits.new ≡ (code_of certifier.old.rows).bits }
     ensures ground { IsGround soft.now bits.new certifier.new result }
-    ensures decided { by_min_sum certifier.old.rows (tuning_of rounds certifier.old.passes) soft.now (first_codeword certifier.old.rows rounds soft.now) ≡ shown_by certifier.old.rows soft.now bits.new certifier.new.found result }
+    ensures decided { by_min_sum certifier.old.rows tuning soft.now (first_codeword certifier.old.rows tuning.factor tuning.rounds soft.now) ≡ shown_by certifier.old.rows soft.now bits.new certifier.new.found result }
 {
-    if decode(certifier.matrix(), decoder, soft, rounds, bits) {
+    let (rounds, factor) = (tuning.rounds(), tuning.factor());
+    if decode(certifier.matrix(), decoder, soft, rounds, factor, bits) {
         if certifier.certify(soft, bits) {
             return Ground::Found(certifier.is_strict());
         }
@@ -106,14 +108,14 @@ pub(crate) fn decide(
     certifier: &mut Certifier<'_>,
     decoder: &mut Decoder<'_>,
     soft: &[i16],
-    rounds: u32,
+    tuning: Tuning,
     repair: &mut Bits,
     bits: &mut Bits,
 ) -> Ground
     requires decoder { decoder.old.rows ≡ certifier.old.rows }
     requires soft { length soft.now ≡ (code_of certifier.old.rows).bits }
     requires range { All IsSoft soft.now }
-    requires rounds { 1 ≤ rounds }
+    requires passes { certifier.old.passes ≡ tuning.passes }
     requires repair { length repair.old ≡ (code_of certifier.old.rows).bits }
     requires bits { length bits.old ≡ (code_of certifier.old.rows).bits }
     ensures certifier { certifier.new.rows ≡ certifier.old.rows }
@@ -122,7 +124,7 @@ pub(crate) fn decide(
     ensures repair { length repair.new ≡ (code_of certifier.old.rows).bits }
     ensures long { length bits.new ≡ (code_of certifier.old.rows).bits }
     ensures ground { IsGround soft.now bits.new certifier.new result }
-    ensures decided { decided certifier.old.rows (tuning_of rounds certifier.old.passes) soft.now ≡ shown_by certifier.old.rows soft.now bits.new certifier.new.found result }
+    ensures decided { decided certifier.old.rows tuning soft.now ≡ shown_by certifier.old.rows soft.now bits.new certifier.new.found result }
 {
     if judge_unsplit(certifier.matrix(), soft, bits) {
         return Ground::HardDecision(none_is_zero(soft));
@@ -131,5 +133,5 @@ pub(crate) fn decide(
         bits.copy_prefix(repair, repair.len());
         return Ground::Found(certifier.is_strict());
     }
-    decide_by_min_sum(certifier, decoder, soft, rounds, repair, bits)
+    decide_by_min_sum(certifier, decoder, soft, tuning, repair, bits)
 }

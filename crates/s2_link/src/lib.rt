@@ -4,8 +4,8 @@
 //! makes no end of a link, beside the matrix of the address rows: the first of `OtherShape`, `BadNumber` and
 //! `BadRollOff`. A [`Link`] is what came through, and no end refuses it; nor is anything refused where numbers
 //! are known to be in their ranges, as a [`LinkSetup`] has them ([`Link::of`]). A [`Tuning`] is how much a
-//! receiver tries, rounds of min-sum and passes that look for a certificate, and what its soft values are divided
-//! by.
+//! receiver tries, rounds of min-sum and passes that look for a certificate, what its soft values are divided by, and
+//! how much of a size min-sum's messages have.
 //!
 //! ```text
 //! let link = Link::new(Setup { mode, number: 0, roll_off: 0 }, &matrix)?;

@@ -2,9 +2,11 @@
 ghost use Rattle.std.specs.Prelude.{◌≡◌, ◌≤◌, IfOk, IfErr};
 ghost use Rattle.s2_link.specs.Limits.{most_rounds, most_passes};
 ghost use Rattle.s2_soft.specs.Divisors.{IsDivisor};
+ghost use Rattle.s2_minsum.specs.Factors.{IsFactor};
 ghost use Rattle.s2_link.specs.Tuning.{tuning_of, IsTuning, RefusesTuning};
 
 use crate::fault::SetupFault;
+use s2_minsum::Factor;
 use s2_soft::Divisor;
 use std::marker::Model;
 
@@ -17,13 +19,14 @@ pub const DEFAULT_ROUNDS: u32 = 50;
 /// How many passes of settling it runs at most.
 pub const MOST_PASSES: u32 = 1000;
 
-/// How a receiver is tuned: so many rounds of min-sum, 1 to 200, so many passes of settling, 0 to 1000, and what
-/// soft values are divided by.
+/// How a receiver is tuned: so many rounds of min-sum, 1 to 200, so many passes of settling, 0 to 1000, what soft
+/// values are divided by, and how many sixteenths of the least size min-sum's messages have.
 #[derive(Clone, Copy, Debug, PartialEq, Eq)]
 pub struct Tuning {
     rounds: u32,
     passes: u32,
     divisor: Divisor,
+    factor: Factor,
 }
 
 impl Model for Tuning {
@@ -31,15 +34,15 @@ impl Model for Tuning {
 
     ghost Value = { TuningValue };
 
-    ghost view = { λ t. record { rounds = t.rounds; passes = t.passes; divisor = t.divisor } };
+    ghost view = { λ t. record { rounds = t.rounds; passes = t.passes; divisor = t.divisor; factor = t.factor } };
 
-    ghost invariant = { λ t. IsTuning (record { rounds = t.rounds; passes = t.passes; divisor = t.divisor }) };
+    ghost invariant = { λ t. IsTuning (record { rounds = t.rounds; passes = t.passes; divisor = t.divisor; factor = t.factor }) };
 
-    ghost inverse = { λ v. record { rounds = v.rounds; passes = v.passes; divisor = v.divisor } };
+    ghost inverse = { λ v. record { rounds = v.rounds; passes = v.passes; divisor = v.divisor; factor = v.factor } };
 }
 
 impl Tuning {
-    /// So many rounds and passes, and the usual divisor, 4096. Of two refusals the first is answered: `BadRounds`
+    /// So many rounds and passes, the usual divisor, 4096, and the usual factor, 12. Of two refusals the first is answered: `BadRounds`
     /// where the rounds are not 1 to 200, `BadPasses` where the passes are over 1000.
     pub fn new(rounds: u32, passes: u32) -> Result<Tuning, SetupFault>
         ensures is { IfOk result (λ t. t ≡ tuning_of rounds passes) }
@@ -56,10 +59,11 @@ impl Tuning {
             rounds,
             passes,
             divisor: Divisor::usual(),
+            factor: Factor::usual(),
         })
     }
 
-    /// The same rounds and passes, and this divisor.
+    /// The same, but with this divisor.
     pub fn with_divisor(self, divisor: Divisor) -> Tuning
         ensures { result ≡ record self { divisor = divisor } }
     {
@@ -67,6 +71,19 @@ impl Tuning {
             rounds: self.rounds,
             passes: self.passes,
             divisor,
+            factor: self.factor,
+        }
+    }
+
+    /// The same, but with this factor.
+    pub fn with_factor(self, factor: Factor) -> Tuning
+        ensures { result ≡ record self { factor = factor } }
+    {
+        Tuning {
+            rounds: self.rounds,
+            passes: self.passes,
+            divisor: self.divisor,
+            factor,
         }
     }
 
@@ -95,5 +112,15 @@ impl Tuning {
         // what it promises of the number is a part of what is promised here
         let _number = self.divisor.get();
         self.divisor
+    }
+
+    /// How many sixteenths of the least size min-sum's messages have.
+    pub fn factor(self) -> Factor
+        ensures is { result ≡ self.factor }
+        ensures known { IsFactor result }
+    {
+        // what it promises of the number is a part of what is promised here
+        let _number = self.factor.get();
+        self.factor
     }
 }

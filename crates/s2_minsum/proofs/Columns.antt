@@ -84,17 +84,17 @@ module _ (h : ℕ → Bool) (g : ℕ → ℤ) (capped : (x : ℕ) → h x ≡ fa
         ]
       ]
 
-  pub made_capped : (xs : List ℕ) (i : ℕ) → made g (others xs i) ≡ made g (others (filter h xs) i)
-  made_capped xs i =
+  pub made_capped : (factor : ℕ) (xs : List ℕ) (i : ℕ) → made factor g (others xs i) ≡ made factor g (others (filter h xs) i)
+  made_capped factor xs i =
       let p = λ (k : ℕ). not (k == i) in
       let least = least_capped p size_cap xs (omega arith) in
       let count = count_capped p xs in
-      λ x. with_sign (count x % 2 == 1) (reduced (least x))
+      λ x. with_sign (count x % 2 == 1) (reduced factor (least x))
 
 -- the message depends on the inputs of the members alone
-made_congr : (g g' : ℕ → ℤ) (xs : List ℕ) (e : ℕ) → AllPairs (λ a b. a ≢ b) xs → e < length xs → ((k : ℕ) → k < length xs → g (get_or xs k 0) ≡ g' (get_or xs k 0)) → made g (others xs (get_or xs e 0)) ≡ made g' (others xs (get_or xs e 0))
-made_congr g g' xs e apart within same =
-    made_is g (λ k. g (get_or xs k 0)) xs e apart within (λ k lt. refl) ∙ sym (made_is g' (λ k. g (get_or xs k 0)) xs e apart within same)
+made_congr : (factor : ℕ) (g g' : ℕ → ℤ) (xs : List ℕ) (e : ℕ) → AllPairs (λ a b. a ≢ b) xs → e < length xs → ((k : ℕ) → k < length xs → g (get_or xs k 0) ≡ g' (get_or xs k 0)) → made factor g (others xs (get_or xs e 0)) ≡ made factor g' (others xs (get_or xs e 0))
+made_congr factor g g' xs e apart within same =
+    made_is factor g (λ k. g (get_or xs k 0)) xs e apart within (λ k lt. refl) ∙ sym (made_is factor g' (λ k. g (get_or xs k 0)) xs e apart within same)
 
 choose : (l h : Bool) (a b : ℤ) → (l ≡ true → h ≡ false) → (l ≡ false → h ≡ true) → cond l a b ≡ cond h b a
 choose true h a b one two = sym (ap (λ t. cond t b a) (one refl))
@@ -161,10 +161,10 @@ module _ (rows : Rows) (shaped : IsShape rows.shape) (r : ℕ) (layer : r < rows
         let again = λ (k : ℕ) (lt : k < length ms). Places.back_forth s shaped c (get_or ms k 0) small (member_below k lt) in
         members_apart (code_of rows) (last_check s r) a b 0 less lb (sym (again a la) ∙ ap (back s c) (sym one ∙ same ∙ two) ∙ again b lb)
 
-    pub lane_sent : (state : State) (f : ℕ → ℤ) (x : ℕ) → x < code_bits rows.shape → is_member rows (r + c * rows.shape.q) x ≡ true
+    pub lane_sent : (factor : ℕ) (state : State) (f : ℕ → ℤ) (x : ℕ) → x < code_bits rows.shape → is_member rows (r + c * rows.shape.q) x ≡ true
         → ((k : ℕ) → k < length (members (code_of rows) (last_check rows.shape r)) → f k ≡ cond (is_lacking (lacked_row rows.shape r) (entry_of rows.shape (get_or (members (code_of rows) (last_check rows.shape r)) k 0)) c) (pos size_cap) (input (code_of rows) state (r + c * rows.shape.q) (forth rows.shape c (get_or (members (code_of rows) (last_check rows.shape r)) k 0))))
-        → sent f (length (members (code_of rows) (last_check rows.shape r))) (position_or_len (λ m. m == back rows.shape c x) (members (code_of rows) (last_check rows.shape r))) ≡ made (input (code_of rows) state (r + c * rows.shape.q)) (others (members (code_of rows) (r + c * rows.shape.q)) x)
-    lane_sent state f x low has gives =
+        → sent factor f (length (members (code_of rows) (last_check rows.shape r))) (position_or_len (λ m. m == back rows.shape c x) (members (code_of rows) (last_check rows.shape r))) ≡ made factor (input (code_of rows) state (r + c * rows.shape.q)) (others (members (code_of rows) (r + c * rows.shape.q)) x)
+    lane_sent factor state f x low has gives =
         let s = rows.shape in
         let code = code_of rows in
         let j = r + c * s.q in
@@ -205,11 +205,11 @@ module _ (rows : Rows) (shaped : IsShape rows.shape) (r : ℕ) (layer : r < rows
         let z_is : get_or bits p 0 ≡ z = at p z_place ∙ ap (forth s c) (found ms (back s c z) z_place) ∙ Places.forth_back s shaped c z small z_low in
         in_filter h z z_has bits (list_any_at (λ m. m == z) bits p 0 (omega arith) (eq-eqb (get_or bits p 0) z z_is))
         in
-        ap (λ n. sent f n e) (sym long)
-        ∙ sym (made_is g' f bits e bits_apart within' gives')
-        ∙ ap (λ b. made g' (others bits b)) shows
-        ∙ made_capped h g' (λ z lacks'. ap (λ t. cond t (g z) (pos size_cap)) lacks') bits x
-        ∙ made_same g' (filter h bits) ys x (AllPairs-filter (λ a b. a ≢ b) h bits bits_apart) (members_apart code j) bits_in ys_in
-        ∙ ap (λ b. made g' (others ys b)) (sym shown)
-        ∙ made_congr g' g ys y (members_apart code j) place (λ k lt. ap (λ t. cond t (g (get_or ys k 0)) (pos size_cap)) (filter_passes h (upto code.bits) k 0 lt))
-        ∙ ap (λ b. made g (others ys b)) shown
+        ap (λ n. sent factor f n e) (sym long)
+        ∙ sym (made_is factor g' f bits e bits_apart within' gives')
+        ∙ ap (λ b. made factor g' (others bits b)) shows
+        ∙ made_capped h g' (λ z lacks'. ap (λ t. cond t (g z) (pos size_cap)) lacks') factor bits x
+        ∙ made_same factor g' (filter h bits) ys x (AllPairs-filter (λ a b. a ≢ b) h bits bits_apart) (members_apart code j) bits_in ys_in
+        ∙ ap (λ b. made factor g' (others ys b)) (sym shown)
+        ∙ made_congr factor g' g ys y (members_apart code j) place (λ k lt. ap (λ t. cond t (g (get_or ys k 0)) (pos size_cap)) (filter_passes h (upto code.bits) k 0 lt))
+        ∙ ap (λ b. made factor g (others ys b)) shown

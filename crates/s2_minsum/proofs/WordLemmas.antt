@@ -9,8 +9,8 @@ use mir.Syntax.{w16}
 use Rattle.s2_minsum.specs.Plain.{with_sign, reduced}
 use Rattle.s2_bits.proofs.Words16.{word_low, word_high, negative_word}
 use Rattle.s2_bits.specs.Lanes16.{signed16, minus16, plus16, size16, sign16}
-use Rattle.s2_minsum.specs.Rows.{sent16}
-use Rattle.s2_minsum.proofs.Nodes.{least_is, least_but_small, negatives_are}
+use Rattle.s2_minsum.specs.Rows.{reduced16}
+use Rattle.s2_minsum.proofs.Nodes.{least_is, least_but_small, negatives_are, reduced_small}
 use Rattle.s2_minsum.specs.Nodes.{first_of, second_of, negatives_of, negatives_but, least_but, signs_of, sizes, sent}
 
 pub word_minus : (a b : ℕ) → a < 65536 → b < 65536 → unsigned_abs (signed16 a -ℤ signed16 b) < 32768 → signed16 (minus16 a b) ≡ signed16 a -ℤ signed16 b
@@ -68,6 +68,11 @@ signed : (negative : Bool) (m : ℕ) → m < 32768 → signed16 (cond negative (
 signed false m small = word_low m small
 signed true m small = negative_word m small
 
+-- what is kept of the one that is chosen of two sizes
+chosen_reduced : (factor : ℕ) (b : Bool) (x y : ℕ) → cond b (reduced factor x) (reduced factor y) ≡ reduced factor (cond b x y)
+chosen_reduced factor true x y = refl
+chosen_reduced factor false x y = refl
+
 -- the message of a member, by words
 module _ (g : ℕ → ℕ) (f : ℕ → ℤ) (n : ℕ) (fits : (k : ℕ) → k < n → g k < 65536) (is : (k : ℕ) → k < n → signed16 (g k) ≡ f k) where
   size_same : (k : ℕ) → k < n → size16 (g k) ≡ unsigned_abs (f k)
@@ -106,8 +111,8 @@ module _ (g : ℕ → ℕ) (f : ℕ → ℤ) (n : ℕ) (fits : (k : ℕ) → k <
       let joined = sign_xor (signs_of g n) (g e) (signs_fit n (omega arith)) (fits e lt) in
       joined ∙ (λ i. (signs i + own i) % 2) ∙ even_out (negatives_of f n) (negatives_but f e n) count all
 
-  pub sent_word : (e : ℕ) → e < n → signed16 (sent16 (g e) (first_of (λ k. size16 (g k)) n) (second_of (λ k. size16 (g k)) n) (signs_of g n)) ≡ sent f n e
-  sent_word e lt =
+  pub sent_word : (factor e : ℕ) → e < n → signed16 (reduced16 factor (g e) (first_of (λ k. size16 (g k)) n) (second_of (λ k. size16 (g k)) n) (signs_of g n)) ≡ sent factor f n e
+  sent_word factor e lt =
       let first = first_same n (omega arith) in
       let second = second_same n (omega arith) in
       let own = size_same e lt in
@@ -116,5 +121,7 @@ module _ (g : ℕ → ℕ) (f : ℕ → ℤ) (n : ℕ) (fits : (k : ℕ) → k <
       let least' = least_is (sizes f) n e lt in
       let chosen : cond (size16 (g e) == first_of (λ k. size16 (g k)) n) (second_of (λ k. size16 (g k)) n) (first_of (λ k. size16 (g k)) n) ≡ least_but (sizes f) e n = (λ i. cond (own i == first i) (second i) (first i)) ∙ least' in
       let small = least_but_small (sizes f) e n in
-      (λ i. signed16 (cond (parity i == 1) (minus16 0 (reduced (chosen i))) (reduced (chosen i))))
-      ∙ signed (negatives_but f e n % 2 == 1) (reduced (least_but (sizes f) e n)) (omega arith)
+      let kept = chosen_reduced factor (size16 (g e) == first_of (λ k. size16 (g k)) n) (second_of (λ k. size16 (g k)) n) (first_of (λ k. size16 (g k)) n) ∙ ap (reduced factor) chosen in
+      let below = reduced_small factor (least_but (sizes f) e n) in
+      (λ i. signed16 (cond (parity i == 1) (minus16 0 (kept i)) (kept i)))
+      ∙ signed (negatives_but f e n % 2 == 1) (reduced factor (least_but (sizes f) e n)) (omega (arith, small, below))

@@ -56,12 +56,17 @@ abbrev pub HasRoom : Rows → ℕ → Type 0
 HasRoom rows words =
     (r : ℕ) → r < rows.shape.q → (entry_count rows r + 3) * rows.shape.group ≤ words
 
+-- so many words are enough for a decoder's work on each layer: a row more, for least sizes reduced
+abbrev pub HasDecoderRoom : Rows → ℕ → Type 0
+HasDecoderRoom rows words =
+    (r : ℕ) → r < rows.shape.q → (entry_count rows r + 4) * rows.shape.group ≤ words
+
 -- what holds of a decoder
 pub record IsDecoder (rows layered : Rows) (soft : List ℤ) (messages posteriors : List ℕ) (scratch : ℕ) : Type 0 where
   pub layers : layered ≡ rows
   pub fit : AreFit rows
   pub numbers : AreNumbers rows soft messages posteriors
-  pub room : HasRoom rows scratch
+  pub room : HasDecoderRoom rows scratch
 
 -- whether the posterior of a bit is negative
 abbrev pub is_one : Shape → List ℕ → ℕ → Bool

@@ -1,3 +1,4 @@
+pub mod Factors
 pub mod Plain
 pub mod Laws
 pub mod Rows

@@ -5,6 +5,7 @@ use Rattle.s2_mode.specs.Limits.{most_soft}
 use Rattle.s2_rows.specs.Limits.{most_addresses}
 use Rattle.s2_matrix.specs.Total.{total, upto}
 use Rattle.s2_matrix.specs.Code.{Code, members, checks_of}
+use Rattle.s2_minsum.specs.Factors.{most_factor}
 
 -- ---- the numbers
 
@@ -12,13 +13,13 @@ use Rattle.s2_matrix.specs.Code.{Code, members, checks_of}
 abbrev pub size_cap : ℕ
 size_cap = 1023
 
--- three quarters, rounded up
-abbrev pub reduced : ℕ → ℕ
-reduced m = m - m / 4
+-- so many sixteenths of a size, rounded up
+abbrev pub reduced : ℕ → ℕ → ℕ
+reduced factor m = m - m * (most_factor - factor) / most_factor
 
--- the largest size of a message: what a check of one member sends
+-- the largest size of a message, by any factor: what a check of one member sends where sizes are kept whole
 abbrev pub most_message : ℕ
-most_message = reduced size_cap
+most_message = size_cap
 
 -- the largest size of a posterior: a bit is in as many checks as its row has addresses, at most
 abbrev pub most_posterior : ℕ
@@ -66,8 +67,8 @@ abbrev pub with_sign : Bool → ℕ → ℤ
 with_sign negative size = if negative then neg_ℤ (pos size) else pos size
 
 -- the message that the inputs of the other members make: the sign of their product, and their least size reduced
-abbrev pub made : (ℕ → ℤ) → List ℕ → ℤ
-made f ms = with_sign (is_product_negative f ms) (reduced (least_size f ms))
+abbrev pub made : ℕ → (ℕ → ℤ) → List ℕ → ℤ
+made factor f ms = with_sign (is_product_negative f ms) (reduced factor (least_size f ms))
 
 -- ---- layers
 
@@ -76,10 +77,10 @@ abbrev pub is_edge : Code → ℕ → ℕ → Bool
 is_edge code j i = nat_lt j code.checks && (nat_lt i code.bits && code.has j i)
 
 -- layer r renews the messages of the checks j with j mod q = r, all by the state before it, and leaves the others
-abbrev pub layer : Code → ℕ → ℕ → State → State
-layer code q r s =
-    record { soft = s.soft; message = λ j i. if is_edge code j i && (j % q == r) then made (input code s j) (others (members code j) i) else s.message j i }
+abbrev pub layer : Code → ℕ → ℕ → ℕ → State → State
+layer code q factor r s =
+    record { soft = s.soft; message = λ j i. if is_edge code j i && (j % q == r) then made factor (input code s j) (others (members code j) i) else s.message j i }
 
 -- a round: layers 0 to q - 1 in this order
-abbrev pub round : Code → ℕ → State → State
-round code q s = fold (λ before r. layer code q r before) s (upto q)
+abbrev pub round : Code → ℕ → ℕ → State → State
+round code q factor s = fold (λ before r. layer code q factor r before) s (upto q)

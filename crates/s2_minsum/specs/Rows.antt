@@ -1,16 +1,22 @@
 -- Rows of words of 16 bits, one word for each lane, and the entries that turn them.
-use Rattle.std.specs.Prelude.{ℕ, zero, suc, ◌+◌, ◌-◌, ◌*◌, ◌/◌, ◌%◌, ◌==◌, ◌&&◌, ◌<◌, ◌≤◌, Bool, if◌then◌else◌, List, length, get_or, bit_xor}
-use Rattle.s2_minsum.specs.Plain.{size_cap}
+use Rattle.std.specs.Prelude.{ℕ, zero, suc, ◌+◌, ◌*◌, ◌/◌, ◌%◌, ◌==◌, ◌&&◌, ◌<◌, ◌≤◌, Bool, if◌then◌else◌, List, length, get_or, bit_xor}
+use Rattle.s2_minsum.specs.Plain.{size_cap, reduced}
 use Rattle.s2_mode.specs.Limits.{most_group}
 use Rattle.s2_bits.specs.Lanes16.{minus16, plus16, size16, sign16}
 pub use Rattle.s2_bits.specs.Turns.{turned, turned_back, cell}
 use Rattle.s2_minsum.specs.declared.rows.Entry.{Entry}
 
--- the message to a member with input v of a check with these two least sizes, and a word that is negative where an odd number of its inputs are
-abbrev pub sent16 : ℕ → ℕ → ℕ → ℕ → ℕ
-sent16 v first second signs =
-    let m = (if size16 v == first then second else first) in
-    (if sign16 (bit_xor signs v) == 1 then minus16 0 (m - m / 4) else (m - m / 4))
+-- the message to a member with input v of a check with this least size: of size high if v has it, else low; and a word that is negative
+-- where an odd number of its inputs are
+abbrev pub sent16 : ℕ → ℕ → ℕ → ℕ → ℕ → ℕ
+sent16 v first low high signs =
+    let m = (if size16 v == first then high else low) in
+    (if sign16 (bit_xor signs v) == 1 then minus16 0 m else m)
+
+-- the same by the check's two least sizes, both reduced
+abbrev pub reduced16 : ℕ → ℕ → ℕ → ℕ → ℕ → ℕ
+reduced16 factor v first second signs =
+    sent16 v first (reduced factor first) (reduced factor second) signs
 
 abbrev pub no_entry : Entry
 no_entry = record { row = 0; shift = 0 }

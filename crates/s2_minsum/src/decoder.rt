@@ -7,7 +7,8 @@ ghost use Rattle.s2_minsum.specs.Plain.{posterior as posterior_of, layer as afte
 ghost use Rattle.s2_minsum.specs.Decoding.{AreWithin, Decoding, decoded};
 
 use crate::edge::message_place;
-use crate::entries::scratch_len;
+use crate::entries::decoder_len;
+use crate::factor::Factor;
 use crate::hard::decide;
 use crate::layers::Layers;
 use crate::layout::place_of;
@@ -66,7 +67,7 @@ impl<'a> Decoder<'a> {
         let soft = vec![in alloc; 0i16; matrix.bits()]?;
         let messages = vec![in alloc; 0u16; rows * group]?;
         let posteriors = vec![in alloc; 0u16; matrix.bits()]?;
-        let scratch = vec![in alloc; 0u16; scratch_len(matrix)]?;
+        let scratch = vec![in alloc; 0u16; decoder_len(matrix)]?;
         Ok(Decoder {
             matrix,
             layers,
@@ -89,11 +90,11 @@ impl<'a> Decoder<'a> {
         put_posteriors(self.matrix, &self.soft, &mut self.posteriors);
     }
 
-    /// Renews the messages of the checks j with j mod q = r, all by the state before.
-    pub fn layer(&mut self, r: usize)
+    /// Renews the messages of the checks j with j mod q = r, all by the state before; of sizes they have so much.
+    pub fn layer(&mut self, r: usize, factor: Factor)
         requires { r < self.old.rows.shape.q }
         ensures rows { self.new.rows ≡ self.old.rows }
-        ensures state { decoded self.new ≡ after_layer (code_of self.old.rows) self.old.rows.shape.q r (decoded self.old) }
+        ensures state { decoded self.new ≡ after_layer (code_of self.old.rows) self.old.rows.shape.q factor r (decoded self.old) }
     {
         run_layer(
             self.matrix,
@@ -103,17 +104,18 @@ impl<'a> Decoder<'a> {
             &mut self.posteriors,
             &mut self.scratch,
             r,
+            factor,
         );
     }
 
     /// Runs the layers 0 to q - 1, in this order.
-    pub fn round(&mut self)
+    pub fn round(&mut self, factor: Factor)
         ensures rows { self.new.rows ≡ self.old.rows }
-        ensures state { decoded self.new ≡ after_round (code_of self.old.rows) self.old.rows.shape.q (decoded self.old) }
+        ensures state { decoded self.new ≡ after_round (code_of self.old.rows) self.old.rows.shape.q factor (decoded self.old) }
     {
         let q = self.matrix.shape().q();
         for r in 0..q {
-            self.layer(r);
+            self.layer(r, factor);
         }
     }
 

@@ -2,7 +2,7 @@
 ghost use Rattle.std.specs.Prelude.{◌≡◌, ◌++◌, ℕ, ◌<◌, ◌≤◌, OnOk};
 ghost use Rattle.s2_mode.specs.Limits.{most_bits};
 ghost use Rattle.s2_minsum.specs.Layout.{entries_of, entry_count};
-ghost use Rattle.s2_minsum.specs.Decoding.{HasRoom};
+ghost use Rattle.s2_minsum.specs.Decoding.{HasRoom, HasDecoderRoom};
 
 use crate::layout::entry_of;
 use crate::rows::Entry;
@@ -50,4 +50,11 @@ pub fn scratch_len(matrix: &Matrix) -> usize
     ensures least { (words : ℕ) → HasRoom matrix.now words → result ≤ words }
 {
     (most_entries(matrix) + 3) * matrix.shape().group()
+}
+
+/// How many words a decoder works in: a row more, for least sizes reduced.
+pub(crate) fn decoder_len(matrix: &Matrix) -> usize
+    ensures { HasDecoderRoom matrix.now result }
+{
+    (most_entries(matrix) + 4) * matrix.shape().group()
 }

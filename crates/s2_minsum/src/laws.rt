@@ -2,6 +2,7 @@
 ghost use Rattle.std.specs.Prelude.{◌≡◌};
 ghost use Rattle.s2_mode.specs.Limits.{most_soft};
 ghost use Rattle.s2_minsum.specs.Plain.{size_cap, most_message};
+ghost use Rattle.s2_minsum.specs.Factors.{FactorsLaw};
 ghost use Rattle.s2_minsum.specs.Laws.{DecisionLaw};
 
 use crate::limits::{MOST_MESSAGE, SIZE_CAP};
@@ -16,4 +17,10 @@ pub fn decision()
 pub fn limits()
     ensures cap { SIZE_CAP ≡ size_cap }
     ensures message { MOST_MESSAGE ≡ most_message }
+{}
+
+/// The factors that are tested, [`crate::LEAST_FACTOR`] and [`crate::MOST_FACTOR`], and the one where none is named,
+/// [`crate::DEFAULT_FACTOR`], are those of the definitions.
+pub fn factors()
+    ensures { FactorsLaw }
 {}

@@ -4,7 +4,8 @@
 //! The standard leaves decoding free; the rule is this project's own and stands in `specs/Plain.antt`. Each
 //! check sends a message to each of its members; the posterior of a bit is its soft value plus all messages
 //! to it. [`Decoder::layer`] renews the messages of the checks of one layer, those whose numbers leave the
-//! same rest by q, and [`Decoder::round`] those of all layers in order. Each call is promised as an equation
+//! same rest by q, and [`Decoder::round`] those of all layers in order; how much of the least size of the others a
+//! message has tells a [`Factor`]. Each call is promised as an equation
 //! between states: [`Decoder::load`] gives the soft values with all messages 0, a layer exactly the layer of
 //! the state before, and [`Decoder::posterior`], [`Decoder::message`] and [`Decoder::hard_into`] show what
 //! the state is. That rounds lead to a codeword is not promised: whoever uses the hard decision tests it.
@@ -19,7 +20,7 @@
 //! ```
 //! let mut decoder = Decoder::new(alloc, &matrix)?;
 //! decoder.load(&soft);
-//! decoder.round();
+//! decoder.round(Factor::usual());
 //! decoder.hard_into(&mut bits);
 //! let found = matrix.satisfied(&bits);
 //! ```
@@ -28,6 +29,7 @@
 mod decoder;
 mod edge;
 mod entries;
+mod factor;
 mod hard;
 mod lacking;
 mod lanes;
@@ -42,6 +44,7 @@ mod rows;
 
 pub use decoder::Decoder;
 pub use entries::scratch_len;
+pub use factor::{DEFAULT_FACTOR, Factor, LEAST_FACTOR, MOST_FACTOR};
 pub use lacking::mask_lacking;
 pub use layers::Layers;
 pub use layout::{first_bit, last_row, place_among, step_of};

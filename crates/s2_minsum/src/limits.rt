@@ -3,5 +3,5 @@
 /// The size of an input that is larger counts as this.
 pub const SIZE_CAP: u16 = 1023;
 
-/// The largest size of a message, three quarters of the cap, rounded up: what a check of one member sends.
-pub const MOST_MESSAGE: u16 = SIZE_CAP - SIZE_CAP / 4;
+/// The largest size of a message, by any factor: what a check of one member sends where sizes are kept whole.
+pub const MOST_MESSAGE: u16 = SIZE_CAP;

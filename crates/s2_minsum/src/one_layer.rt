@@ -3,8 +3,9 @@ ghost use Rattle.std.specs.Prelude.{◌≡◌, ℕ, ◌≤◌, ◌<◌, ◌+◌,
 ghost use Rattle.s2_matrix.specs.Code.{code_of};
 ghost use Rattle.s2_minsum.specs.Plain.{layer as after_layer};
 ghost use Rattle.s2_minsum.specs.Layout.{kept_of, state_of};
-ghost use Rattle.s2_minsum.specs.Decoding.{AreNumbers, HasRoom};
+ghost use Rattle.s2_minsum.specs.Decoding.{AreNumbers, HasDecoderRoom};
 
+use crate::factor::Factor;
 use crate::layer::run;
 use crate::layers::Layers;
 use crate::layout::last_row;
@@ -19,13 +20,14 @@ pub(crate) fn run_layer(
     posteriors: &mut [u16],
     scratch: &mut [u16],
     r: usize,
+    factor: Factor,
 )
     requires layers { layers.now ≡ matrix.now }
     requires numbers { AreNumbers matrix.now soft.now messages.old posteriors.old }
-    requires room { HasRoom matrix.now (length scratch.old) }
+    requires room { HasDecoderRoom matrix.now (length scratch.old) }
     requires layer { r < matrix.now.shape.q }
     ensures numbers { AreNumbers matrix.now soft.now messages.new posteriors.new }
-    ensures state { state_of matrix.now soft.now (kept_of matrix.now messages.new) ≡ after_layer (code_of matrix.now) matrix.now.shape.q r (state_of matrix.now soft.now (kept_of matrix.now messages.old)) }
+    ensures state { state_of matrix.now soft.now (kept_of matrix.now messages.new) ≡ after_layer (code_of matrix.now) matrix.now.shape.q factor r (state_of matrix.now soft.now (kept_of matrix.now messages.old)) }
 {
     let shape = matrix.shape();
     let n = shape.group();
@@ -40,5 +42,6 @@ pub(crate) fn run_layer(
         posteriors,
         &mut messages[at..at + width],
         scratch,
+        factor,
     );
 }

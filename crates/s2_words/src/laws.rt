@@ -1,8 +1,9 @@
 //! What the definitions determine: each a call that does nothing, whose clause is the law.
 ghost use Rattle.s2_words.specs.Defaults.{DefaultsLaw};
 
-/// Help tells the rounds where none are named, [`s2_link::DEFAULT_ROUNDS`], the divisors, [`s2_soft::DIVISORS`], and
-/// the one where none is named, [`s2_soft::DEFAULT_DIVISOR`], by their decimal digits.
+/// Help tells the rounds where none are named, [`s2_link::DEFAULT_ROUNDS`], the divisors, [`s2_soft::DIVISORS`], the
+/// one where none is named, [`s2_soft::DEFAULT_DIVISOR`], and the factor where none is named,
+/// [`s2_minsum::DEFAULT_FACTOR`], by their decimal digits.
 pub fn defaults()
     ensures { DefaultsLaw }
 {}

@@ -8,6 +8,7 @@ use crate::request::{
 use crate::told::{modcod_told, progress_told};
 use clap::{ArgMatches, Error};
 use s2_link::{DEFAULT_ROUNDS, RollOff, Tuning};
+use s2_minsum::Factor;
 use s2_modes::SymbolRate;
 use s2_scramble::ScramblingNumber;
 use s2_soft::Divisor;
@@ -31,10 +32,14 @@ fn link_of(m: &ArgMatches<'_>) -> Option<LinkWords> {
     })
 }
 
+fn factor_of(m: &ArgMatches<'_>) -> Option<Factor> {
+    Factor::new(m.get_one::<u32>("factor")?)
+}
+
 fn tuning_of(m: &ArgMatches<'_>) -> Option<Tuning> {
     let divisor = Divisor::new(m.get_one::<u32>("divisor")?)?;
     let tuning = Tuning::new(m.get_one::<u32>("rounds")?, m.get_one::<u32>("passes")?).ok()?;
-    Some(tuning.with_divisor(divisor))
+    Some(tuning.with_divisor(divisor).with_factor(factor_of(m)?))
 }
 
 fn channel_of(m: &ArgMatches<'_>) -> Option<ChannelWords> {
@@ -81,9 +86,10 @@ fn modes_of<'a>(m: &ArgMatches<'a>) -> Option<Request<'a>> {
 }
 
 fn judge_of<'a>(m: &ArgMatches<'a>) -> Option<Request<'a>> {
+    let tuning = Tuning::new(DEFAULT_ROUNDS, m.get_one::<u32>("passes")?).ok()?;
     Some(Request::Judge(JudgeWords {
         shape: shape_of(m)?,
-        tuning: Tuning::new(DEFAULT_ROUNDS, m.get_one::<u32>("passes")?).ok()?,
+        tuning: tuning.with_factor(factor_of(m)?),
         certificate: m.get_str("cert"),
         rows: m.get_str("ROWS")?,
         soft: m.get_str("SOFT")?,

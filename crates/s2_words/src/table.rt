@@ -1,6 +1,7 @@
 //! The table of all that the program understands.
 use clap::builder::ValueParser;
 use s2_link::{MOST_PASSES, MOST_ROLL_OFF, MOST_ROUNDS};
+use s2_minsum::{LEAST_FACTOR, MOST_FACTOR};
 use s2_mode::{MOST_BITS, MOST_GROUP, MOST_MODCOD};
 use s2_modes::MOST_RATE;
 use s2_rows::MOST_ADDRESSES;
@@ -28,6 +29,9 @@ pub(crate) const DIVISOR_TEXTS: [&str; 5] = ["4096", "8192", "16384", "32768", "
 
 /// The decimal digits of the divisor where none is named.
 pub(crate) const DEFAULT_DIVISOR_TEXT: &str = "4096";
+
+/// The decimal digits of the factor where none is named.
+pub(crate) const DEFAULT_FACTOR_TEXT: &str = "12";
 
 /// What stands below the options of `modes`.
 const MODES_MORE: &str = "\
@@ -363,6 +367,16 @@ const DIVISOR: Word = Word {
     help: "What soft values are divided by: 8192 at low code rates, more for stronger symbols",
 };
 
+const FACTOR: Word = Word {
+    name: "factor",
+    form: Form::Number {
+        value: "F",
+        allowed: ValueParser::Signed(LEAST_FACTOR as i64, MOST_FACTOR as i64),
+        default: Some(DEFAULT_FACTOR_TEXT),
+    },
+    help: "Sixteenths of a size that messages of min-sum have, 8 to 16: more at low code rates",
+};
+
 const SEED: Word = Word {
     name: "seed",
     form: Form::Number {
@@ -501,12 +515,13 @@ static ROWS_WORDS: [Word; 6] = [GROUP, GROUPS, Q, WEIGHT, SEED, QUIET];
 static TABLE_WORDS: [Word; 4] = [MODCOD, SHORT, QUIET, ROWS];
 
 /// The words of `judge`, in order.
-static JUDGE_WORDS: [Word; 8] = [
+static JUDGE_WORDS: [Word; 9] = [
     GROUP,
     GROUPS,
     Q,
     CERTIFICATE,
     PASSES,
+    FACTOR,
     QUIET,
     ROWS,
     file!("SOFT", "Value file, one value for each bit of a codeword"),
@@ -544,7 +559,7 @@ static NOISE_WORDS: [Word; 6] = [
 ];
 
 /// The words of `demod`, in order.
-static DEMOD_WORDS: [Word; 14] = [
+static DEMOD_WORDS: [Word; 15] = [
     MODCOD,
     SHORT,
     PILOTS,
@@ -553,6 +568,7 @@ static DEMOD_WORDS: [Word; 14] = [
     ROUNDS,
     PASSES,
     DIVISOR,
+    FACTOR,
     STRICT,
     QUIET_AND_STILL,
     PROGRESS,
@@ -565,7 +581,7 @@ static DEMOD_WORDS: [Word; 14] = [
 ];
 
 /// The words of `run`, in order.
-static RUN_WORDS: [Word; 17] = [
+static RUN_WORDS: [Word; 18] = [
     MODCOD,
     SHORT,
     PILOTS,
@@ -575,6 +591,7 @@ static RUN_WORDS: [Word; 17] = [
     ROUNDS,
     PASSES,
     DIVISOR,
+    FACTOR,
     SEED,
     LEVEL,
     STRICT,

@@ -5,8 +5,7 @@ use Rattle.s2_check.specs.Hard.{hard_decision}
 use Rattle.s2_split.specs.Making.{shared_view, shared_views}
 use Rattle.s2_split.proofs.Held.{copied}
 use Rattle.s2_split.proofs.Repairs.{length-repaired}
-use Rattle.s2_link.specs.Tuning.{tuning_of}
-use Rattle.s2_judge.specs.Deciding.{is_strict}
+use Rattle.s2_judge.specs.Deciding.{is_strict, repair_view}
 use Rattle.s2_judge.proofs.Decisions.{test_in}
 use Rattle.s2_judge.proofs.Grounds.{step_one, step_two, past_two, by_same}
 use Rattle.s2_judge.proofs.steps.decide.Goals as goal
@@ -16,7 +15,7 @@ returns-then-judge_unsplit-clause-decided c =
     let r = c.args.certifier.now.rows in
     let soft = c.args.soft.now in
     let even = test_in r c.matrix.result.now (hard_decision soft) c.judge_unsplit.result c.matrix.ensures (length-map soft _ ∙ c.requires.soft) c.judge_unsplit.ensures.codeword ∙ c.if-judge_unsplit.true in
-    step_one r (tuning_of c.args.rounds c.args.certifier.now.passes) soft c.judge_unsplit.new.word c.args.certifier.now.found c.none_is_zero.result c.judge_unsplit.ensures.word even c.requires.soft c.none_is_zero.ensures
+    step_one r c.args.tuning soft c.judge_unsplit.new.word c.args.certifier.now.found c.none_is_zero.result c.judge_unsplit.ensures.word even c.requires.soft c.none_is_zero.ensures
 
 pub copy_prefix-requires-clause-mine : goal.copy_prefix-requires-clause-mine
 copy_prefix-requires-clause-mine c =
@@ -54,8 +53,8 @@ returns-then-try_repair-clause-decided c =
     let same = copied word c.judge_unsplit.new.word c.copy_prefix.new.self c.len.result c.len.ensures (long ∙ sym whole) c.copy_prefix.ensures in
     let odd = test_in r c.matrix.result.now (hard_decision soft) c.judge_unsplit.result c.matrix.ensures (length-map soft _ ∙ c.requires.soft) c.judge_unsplit.ensures.codeword ∙ c.if-judge_unsplit.false in
     let strict = subst (λ (b : Bool). IfSome found (λ s. is_strict r (shared_view r soft word s) ≡ b)) (sym c.is_strict.ensures) (try.ensures.strict c.if-try_repair.true) in
-    let view = try.ensures.view ∙ ap (λ b. cond b (shared_views r soft word found) None) c.if-try_repair.true in
-    step_two r (tuning_of c.args.rounds c.args.certifier.now.passes) soft c.copy_prefix.new.self word found c.is_strict.result odd try.ensures.repair same (try.ensures.found c.if-try_repair.true) view strict
+    let view = sym (ap (λ p. repair_view r p soft) c.requires.passes) ∙ try.ensures.view ∙ ap (λ b. cond b (shared_views r soft word found) None) c.if-try_repair.true in
+    step_two r c.args.tuning soft c.copy_prefix.new.self word found c.is_strict.result odd try.ensures.repair same (try.ensures.found c.if-try_repair.true) view strict
 
 pub returns-clause-decided : goal.returns-clause-decided
 returns-clause-decided c =
@@ -64,6 +63,6 @@ returns-clause-decided c =
     let try = c.try_repair in
     let by = c.decide_by_min_sum in
     let odd = test_in r c.matrix.result.now (hard_decision soft) c.judge_unsplit.result c.matrix.ensures (length-map soft _ ∙ c.requires.soft) c.judge_unsplit.ensures.codeword ∙ c.if-judge_unsplit.false in
-    let none = try.ensures.view ∙ ap (λ b. cond b (shared_views r soft try.new.repair try.new.certifier.found) None) c.if-try_repair.false in
-    past_two r (tuning_of c.args.rounds c.args.certifier.now.passes) soft odd none
-    ∙ by_same r try.new.certifier.rows c.args.rounds c.args.certifier.now.passes try.new.certifier.passes soft by.new.bits by.new.certifier.found by.result try.ensures.rows try.ensures.passes by.ensures.decided
+    let none = sym (ap (λ p. repair_view r p soft) c.requires.passes) ∙ try.ensures.view ∙ ap (λ b. cond b (shared_views r soft try.new.repair try.new.certifier.found) None) c.if-try_repair.false in
+    past_two r c.args.tuning soft odd none
+    ∙ by_same r try.new.certifier.rows c.args.tuning soft by.new.bits by.new.certifier.found by.result try.ensures.rows by.ensures.decided

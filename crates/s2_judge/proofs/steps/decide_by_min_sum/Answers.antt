@@ -4,8 +4,7 @@ use Rattle.s2_matrix.specs.Code.{code_of}
 use Rattle.s2_split.specs.Making.{shared_view}
 use Rattle.s2_split.proofs.Held.{copied}
 use Rattle.s2_split.proofs.Repairs.{length-repaired}
-use Rattle.s2_link.specs.Tuning.{tuning_of}
-use Rattle.s2_judge.specs.Deciding.{is_strict, satisfies, decoded_bits, first_codeword, with_made}
+use Rattle.s2_judge.specs.Deciding.{is_strict, satisfies, decoded_bits, first_codeword, with_made, view_for}
 use Rattle.s2_judge.proofs.Certificates.{found_nothing}
 use Rattle.s2_judge.proofs.Decisions.{found_codeword, test_in}
 use Rattle.s2_judge.proofs.Grounds.{with_found, with_none, step_three, step_four, step_none}
@@ -16,7 +15,7 @@ certify-requires-clause-codeword c =
     let r = c.args.certifier.now.rows in
     let soft = c.args.soft.now in
     let bits = c.decode.new.bits in
-    found_codeword r c.args.rounds soft bits (sym (ap (λ (q : Rows). first_codeword q c.args.rounds soft) c.matrix.ensures) ∙ c.decode.ensures.first ∙ ap (λ b. cond b (Some bits) None) c.if-decode.true)
+    found_codeword r c.args.tuning.factor c.args.tuning.rounds soft bits (sym (λ i. first_codeword (c.matrix.ensures i) (c.factor-factor.ensures.is i) (c.rounds-rounds.ensures.is i) soft) ∙ c.decode.ensures.first ∙ ap (λ b. cond b (Some bits) None) c.if-decode.true)
 
 pub satisfied-requires : goal.satisfied-requires
 satisfied-requires c =
@@ -26,49 +25,49 @@ pub returns-then-certify-clause-decided : goal.returns-then-certify-clause-decid
 returns-then-certify-clause-decided c =
     let r = c.args.certifier.now.rows in
     let soft = c.args.soft.now in
-    let rounds = c.args.rounds in
+    let tuning = c.args.tuning in
     let bits = c.decode.new.bits in
     let found = c.certify.new.self.found in
-    let first = sym (ap (λ (q : Rows). first_codeword q rounds soft) c.matrix.ensures) ∙ c.decode.ensures.first ∙ ap (λ b. cond b (Some bits) None) c.if-decode.true in
+    let first = sym (λ i. first_codeword (c.matrix.ensures i) (c.factor-factor.ensures.is i) (c.rounds-rounds.ensures.is i) soft) ∙ c.decode.ensures.first ∙ ap (λ b. cond b (Some bits) None) c.if-decode.true in
     let strict = subst (λ (b : Bool). IfSome found (λ s. is_strict r (shared_view r soft bits s) ≡ b)) (sym c.is_strict.ensures) c.certify.ensures.strict in
-    let shown = ap (with_made r bits) c.certify.ensures.view ∙ with_found r soft bits found c.is_strict.result (c.certify.ensures.found.0 c.if-certify.true) strict in
-    step_three r (tuning_of rounds c.args.certifier.now.passes) soft bits _ first shown
+    let shown = sym (ap (λ p. with_made r bits (view_for r p soft bits)) c.requires.passes) ∙ ap (with_made r bits) c.certify.ensures.view ∙ with_found r soft bits found c.is_strict.result (c.certify.ensures.found.0 c.if-certify.true) strict in
+    step_three r tuning soft bits _ first shown
 
 pub returns-then-decode-clause-decided : goal.returns-then-decode-clause-decided
 returns-then-decode-clause-decided c =
     let r = c.args.certifier.now.rows in
     let soft = c.args.soft.now in
-    let rounds = c.args.rounds in
+    let tuning = c.args.tuning in
     let bits = c.decode.new.bits in
     let found = c.certify.new.self.found in
-    let first = sym (ap (λ (q : Rows). first_codeword q rounds soft) c.matrix.ensures) ∙ c.decode.ensures.first ∙ ap (λ b. cond b (Some bits) None) c.if-decode.true in
+    let first = sym (λ i. first_codeword (c.matrix.ensures i) (c.factor-factor.ensures.is i) (c.rounds-rounds.ensures.is i) soft) ∙ c.decode.ensures.first ∙ ap (λ b. cond b (Some bits) None) c.if-decode.true in
     let none = found_nothing c.certify.result found c.certify.ensures.found c.if-certify.false in
-    let shown = ap (with_made r bits) c.certify.ensures.view ∙ with_none r soft bits found none in
-    step_three r (tuning_of rounds c.args.certifier.now.passes) soft bits _ first shown
+    let shown = sym (ap (λ p. with_made r bits (view_for r p soft bits)) c.requires.passes) ∙ ap (with_made r bits) c.certify.ensures.view ∙ with_none r soft bits found none in
+    step_three r tuning soft bits _ first shown
 
 pub returns-then-satisfied-clause-decided : goal.returns-then-satisfied-clause-decided
 returns-then-satisfied-clause-decided c =
     let r = c.args.certifier.now.rows in
     let soft = c.args.soft.now in
-    let rounds = c.args.rounds in
+    let tuning = c.args.tuning in
     let repair = c.args.repair.now in
     let bits = c.decode.new.bits in
-    let none = sym (ap (λ (q : Rows). first_codeword q rounds soft) c.matrix.ensures) ∙ c.decode.ensures.first ∙ ap (λ b. cond b (Some bits) None) c.if-decode.false in
+    let none = sym (λ i. first_codeword (c.matrix.ensures i) (c.factor-factor.ensures.is i) (c.rounds-rounds.ensures.is i) soft) ∙ c.decode.ensures.first ∙ ap (λ b. cond b (Some bits) None) c.if-decode.false in
     let whole = ap length c.requires.repair ∙ length-repaired (code_of r) soft in
     let long = c.decode.ensures.long ∙ ap (λ (q : Rows). (code_of q).bits) c.matrix.ensures in
     let even = sym (ap (satisfies (code_of r)) c.requires.repair) ∙ test_in r c.matrix-2.result.now repair c.satisfied.result c.matrix-2.ensures whole c.satisfied.ensures ∙ c.if-satisfied.true in
     let same = copied repair bits c.copy_prefix.new.self c.len.result c.len.ensures (long ∙ sym whole) c.copy_prefix.ensures in
-    step_four r (tuning_of rounds c.args.certifier.now.passes) soft c.copy_prefix.new.self c.args.certifier.now.found none even (same ∙ c.requires.repair)
+    step_four r tuning soft c.copy_prefix.new.self c.args.certifier.now.found none even (same ∙ c.requires.repair)
 
 pub returns-clause-decided : goal.returns-clause-decided
 returns-clause-decided c =
     let r = c.args.certifier.now.rows in
     let soft = c.args.soft.now in
-    let rounds = c.args.rounds in
+    let tuning = c.args.tuning in
     let repair = c.args.repair.now in
     let bits = c.decode.new.bits in
-    let none = sym (ap (λ (q : Rows). first_codeword q rounds soft) c.matrix.ensures) ∙ c.decode.ensures.first ∙ ap (λ b. cond b (Some bits) None) c.if-decode.false in
+    let none = sym (λ i. first_codeword (c.matrix.ensures i) (c.factor-factor.ensures.is i) (c.rounds-rounds.ensures.is i) soft) ∙ c.decode.ensures.first ∙ ap (λ b. cond b (Some bits) None) c.if-decode.false in
     let whole = ap length c.requires.repair ∙ length-repaired (code_of r) soft in
     let odd = sym (ap (satisfies (code_of r)) c.requires.repair) ∙ test_in r c.matrix-2.result.now repair c.satisfied.result c.matrix-2.ensures whole c.satisfied.ensures ∙ c.if-satisfied.false in
-    let last = c.decode.ensures.last c.if-decode.false ∙ ap (λ (q : Rows). decoded_bits q soft rounds) c.matrix.ensures in
-    step_none r (tuning_of rounds c.args.certifier.now.passes) soft bits c.args.certifier.now.found none odd last
+    let last = c.decode.ensures.last c.if-decode.false ∙ (λ i. decoded_bits (c.matrix.ensures i) (c.factor-factor.ensures.is i) soft (c.rounds-rounds.ensures.is i)) in
+    step_none r tuning soft bits c.args.certifier.now.found none odd last

@@ -18,7 +18,7 @@ pub decoding-init : goal.decoding-init
 decoding-init c = record {
   rows = c.load.ensures.rows ∙ c.requires.decoder;
   state = c.load.ensures.state;
-  first = λ n is. ap (first_from c.args.matrix.now c.args.soft.now 0) (omega arith);
+  first = λ n is. ap (first_from c.args.matrix.now c.args.factor c.args.soft.now 0) (omega arith);
   long = c.requires.bits;
   last = λ some. absurd (omega arith);
 }
@@ -31,14 +31,14 @@ decoding-preserved c =
     let before = c.decoding.invariant in
     let bits = c.hard_into.new.word in
     let rows = c.round.ensures.rows ∙ before.rows in
-    let state = round_step r soft k c.decoding.decoder c.round.new.self before.rows before.state c.round.ensures.state in
-    let is = bits_step r soft (k + 1) c.round.new.self bits rows state c.hard_into.ensures in
-    let long = ap length is ∙ length-decoded r soft (k + 1) in
+    let state = round_step r c.args.factor soft k c.decoding.decoder c.round.new.self before.rows before.state c.round.ensures.state in
+    let is = bits_step r c.args.factor soft (k + 1) c.round.new.self bits rows state c.hard_into.ensures in
+    let long = ap length is ∙ length-decoded r c.args.factor soft (k + 1) in
     let odd = sym (ap (satisfies (code_of r)) is) ∙ test_of (code_of r) bits c.satisfied.result long c.satisfied.ensures ∙ c.if-satisfied.false in
     record {
       rows = rows;
       state = state;
-      first = λ n left. before.first (suc n) (omega arith) ∙ first_later r soft k n odd;
+      first = λ n left. before.first (suc n) (omega arith) ∙ first_later r c.args.factor soft k n odd;
       long = long;
       last = λ some. is;
     }
@@ -51,10 +51,10 @@ returns-then-satisfied-clause-first c =
     let n = c.args.rounds - (k + 1) in
     let before = c.decoding.invariant in
     let bits = c.hard_into.new.word in
-    let state = round_step r soft k c.decoding.decoder c.round.new.self before.rows before.state c.round.ensures.state in
-    let is = bits_step r soft (k + 1) c.round.new.self bits (c.round.ensures.rows ∙ before.rows) state c.hard_into.ensures in
-    let even = sym (ap (satisfies (code_of r)) is) ∙ test_of (code_of r) bits c.satisfied.result (ap length is ∙ length-decoded r soft (k + 1)) c.satisfied.ensures ∙ c.if-satisfied.true in
-    before.first (suc n) (omega arith) ∙ first_now r soft k n even ∙ ap (λ (w : List Bool). Some w) (sym is)
+    let state = round_step r c.args.factor soft k c.decoding.decoder c.round.new.self before.rows before.state c.round.ensures.state in
+    let is = bits_step r c.args.factor soft (k + 1) c.round.new.self bits (c.round.ensures.rows ∙ before.rows) state c.hard_into.ensures in
+    let even = sym (ap (satisfies (code_of r)) is) ∙ test_of (code_of r) bits c.satisfied.result (ap length is ∙ length-decoded r c.args.factor soft (k + 1)) c.satisfied.ensures ∙ c.if-satisfied.true in
+    before.first (suc n) (omega arith) ∙ first_now r c.args.factor soft k n even ∙ ap (λ (w : List Bool). Some w) (sym is)
 
 pub returns-clause-first : goal.returns-clause-first
 returns-clause-first c = c.decoding.invariant.first 0 (omega arith)
@@ -62,4 +62,4 @@ returns-clause-first c = c.decoding.invariant.first 0 (omega arith)
 pub returns-clause-last : goal.returns-clause-last
 returns-clause-last c no_ =
     let end : c.decoding.round ≡ c.args.rounds = omega arith in
-    c.decoding.invariant.last (omega arith) ∙ ap (decoded_bits c.args.matrix.now c.args.soft.now) end
+    c.decoding.invariant.last (omega arith) ∙ ap (decoded_bits c.args.matrix.now c.args.factor c.args.soft.now) end

@@ -43,7 +43,7 @@ run-requires-clause-room c =
     let g = c.group-n.ensures.is ∙ ap (λ (s : Shape). s.group) c.shape-shape.ensures.is in
     let es_is = c.entries-entries.ensures.are ∙ ap (λ (x : Rows). entries_of x c.args.r) c.requires.layers in
     let count = ap (λ (es : List Entry). length es) es_is ∙ length-entries rows c.args.r in
-    let product : (length c.entries-entries.result.now + 3) * c.group-n.result ≡ (entry_count rows c.args.r + 3) * rows.shape.group = λ i. (count i + 3) * g i in
+    let product : (length c.entries-entries.result.now + 4) * c.group-n.result ≡ (entry_count rows c.args.r + 4) * rows.shape.group = λ i. (count i + 4) * g i in
     omega (arith, product, c.requires.room c.args.r c.requires.layer)
 
 pub run-requires-clause-entries : goal.run-requires-clause-entries
@@ -63,7 +63,7 @@ returns-clause-numbers c =
     let start = c.first.ensures.is ∙ ap (λ (x : Rows). first_row x c.args.r) c.requires.layers in
     let count = ap (λ (es : List Entry). length es) es_is ∙ length-entries rows c.args.r in
     let last = c.last_row-last.ensures ∙ ap (λ (s : Shape). lacked_row s c.args.r) c.shape-shape.ensures.is in
-    (gives rows c.args.soft.now c.args.messages.now c.args.posteriors.now fit c.requires.numbers c.args.r c.requires.layer c.run.new.messages c.run.new.posteriors
+    (gives rows c.args.factor c.args.soft.now c.args.messages.now c.args.posteriors.now fit c.requires.numbers c.args.r c.requires.layer c.run.new.messages c.run.new.posteriors
     c.entries-entries.result.now c.group-n.result c.first.result (length c.entries-entries.result.now) c.last_row-last.result (sym es_is) (sym g) (sym start) (sym count) (sym last)
     (record {
       long = c.run.auto.messages;
@@ -83,7 +83,7 @@ returns-clause-state c =
     let start = c.first.ensures.is ∙ ap (λ (x : Rows). first_row x c.args.r) c.requires.layers in
     let count = ap (λ (es : List Entry). length es) es_is ∙ length-entries rows c.args.r in
     let last = c.last_row-last.ensures ∙ ap (λ (s : Shape). lacked_row s c.args.r) c.shape-shape.ensures.is in
-    (gives rows c.args.soft.now c.args.messages.now c.args.posteriors.now fit c.requires.numbers c.args.r c.requires.layer c.run.new.messages c.run.new.posteriors
+    (gives rows c.args.factor c.args.soft.now c.args.messages.now c.args.posteriors.now fit c.requires.numbers c.args.r c.requires.layer c.run.new.messages c.run.new.posteriors
     c.entries-entries.result.now c.group-n.result c.first.result (length c.entries-entries.result.now) c.last_row-last.result (sym es_is) (sym g) (sym start) (sym count) (sym last)
     (record {
       long = c.run.auto.messages;

@@ -13,4 +13,5 @@ returns c =
       rounds = sym (decimal-digits_of 50 (omega arith) (omega arith));
       divisors = sym (λ t. is_4096 t ∷ is_8192 t ∷ is_16384 t ∷ is_32768 t ∷ is_65536 t ∷ []);
       divisor = sym is_4096;
+      factor = sym (decimal-digits_of 12 (omega arith) (omega arith));
     }

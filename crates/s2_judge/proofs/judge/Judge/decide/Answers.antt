@@ -12,7 +12,7 @@ use Rattle.s2_judge.specs.Deciding.{Decided, is_strict, IsShown}
 use Rattle.s2_judge.specs.Judging.{Judging}
 use Rattle.s2_judge.proofs.DecidingLemmas.{clean_lem, likely_lem, sole_lem, certified_lem, broken_lem}
 use Rattle.s2_judge.proofs.Scattering.{scattered_lem}
-use Rattle.s2_judge.proofs.Decisions.{certified_by, same_numbers}
+use Rattle.s2_judge.proofs.Decisions.{certified_by}
 use Rattle.s2_judge.proofs.Grounds.{as_shown}
 use Rattle.s2_judge.proofs.judge.Judge.decide.Goals as goal
 
@@ -28,8 +28,7 @@ returns c =
     let rows = ap (λ (v : Judging). v.rows) c.self.view_is in
     let tuning = ap (λ (v : Judging). v.tuning) c.self.view_is in
     let values = ap (λ (v : Judging). v.soft) c.self.view_is in
-    let numbers = same_numbers was.rows inside.tuning c.deref.result.now c.rounds.result was.passes c.rounds.ensures.is c.self.invariant.passes in
-    let is = as_shown r was.rows now.rows n inside.tuning soft inside.soft.items c.deref.result.now decide.new.bits now.found decide.result c.verdict.result rows decide.ensures.certifier tuning values c.deref.ensures.value c.verdict.ensures (numbers ∙ decide.ensures.decided) in
+    let is = as_shown r was.rows now.rows n inside.tuning soft inside.soft.items c.deref.result.now decide.new.bits now.found decide.result c.verdict.result rows decide.ensures.certifier tuning values c.deref.ensures.value c.verdict.ensures decide.ensures.decided in
     let long = ap length (sym values) ∙ c.self.invariant.soft_long ∙ ap (λ (q : Rows). (code_of q).bits) rows in
     let some : 1 ≤ n.rounds = subst (λ (t : Tuning). 1 ≤ t.rounds) tuning c.self.invariant.some in
     let checks = subst (λ (d : Decided). ((d.verdict ≢ Broken → IsCodeword (code_of r) d.bits) × (d.verdict ≡ Broken → IsCodeword (code_of r) d.bits → ⊥))) is (broken_lem r n soft long some) in

@@ -40,7 +40,7 @@ invariant_of-result c =
           (omega (arith, c.in_ok-posteriors.ensures.len, c.bits-2.ensures.is))
           (λ k. let is = none' k in omega (arith, is))
           (λ row lane high low. ap signed16 (none' (row * rows.shape.group + lane)) ∙ sym (none'' (bit_of rows.shape row lane)));
-      room = λ r lt. omega (arith, c.scratch_len.ensures.room r lt, c.in_ok-scratch.ensures.len);
+      room = λ r lt. omega (arith, c.decoder_len.ensures r lt, c.in_ok-scratch.ensures.len);
     }
 
 pub returns-clause-state : goal.returns-clause-state

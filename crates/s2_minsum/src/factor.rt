@@ -1,0 +1,75 @@
+//! How much of a size a message keeps.
+ghost use Rattle.std.specs.Prelude.{◌≡◌, ◌↔◌, ◌-◌, ◌≤◌, IsSome, IfSome};
+ghost use Rattle.s2_minsum.specs.Factors.{IsFactor, default_factor, most_factor};
+
+use std::marker::Model;
+
+/// The factor that keeps least of a size: half of it.
+pub const LEAST_FACTOR: u32 = 8;
+
+/// The factor that keeps all of it.
+pub const MOST_FACTOR: u32 = 16;
+
+/// The factor where none is named: three quarters.
+pub const DEFAULT_FACTOR: u32 = 12;
+
+/// How many sixteenths of the least size of the others a message has, 8 to 16. Its value is that number.
+///
+/// Min-sum takes the least size for what all others together say, which is too much: a part of it decodes more.
+/// At high code rates three quarters do well, at rates of 2/5 and less more of it.
+#[derive(Clone, Copy, Debug, PartialEq, Eq)]
+pub struct Factor {
+    number: u32,
+}
+
+impl Model for Factor {
+    ghost use Rattle.std.specs.Prelude.{ℕ};
+    ghost use Rattle.s2_minsum.specs.Factors.{IsFactor};
+
+    ghost Value = { ℕ };
+
+    ghost view = { λ f. f.number };
+
+    ghost invariant = { λ f. IsFactor f.number };
+
+    ghost inverse = { λ v. record { number = v } };
+}
+
+impl Factor {
+    /// The factor of this number, if there is one.
+    pub fn new(number: u32) -> Option<Factor>
+        ensures found { IsSome result ↔ IsFactor number }
+        ensures value { IfSome result (λ f. f ≡ number) }
+    {
+        if number >= LEAST_FACTOR && number <= MOST_FACTOR {
+            Some(Factor { number })
+        } else {
+            None
+        }
+    }
+
+    /// The factor where none is named.
+    pub fn usual() -> Factor
+        ensures { result ≡ default_factor }
+    {
+        Factor {
+            number: DEFAULT_FACTOR,
+        }
+    }
+
+    /// The number.
+    pub fn get(self) -> u32
+        ensures value { result ≡ self }
+        ensures known { IsFactor result }
+    {
+        self.number
+    }
+
+    /// How many sixteenths a message lacks.
+    pub(crate) fn lacks(self) -> u16
+        ensures is { result ≡ most_factor - self }
+        ensures few { result ≤ 8 }
+    {
+        (MOST_FACTOR - self.number) as u16
+    }
+}
