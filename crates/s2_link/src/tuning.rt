@@ -3,10 +3,12 @@ ghost use Rattle.std.specs.Prelude.{◌≡◌, ◌≤◌, IfOk, IfErr};
 ghost use Rattle.s2_link.specs.Limits.{most_rounds, most_passes};
 ghost use Rattle.s2_soft.specs.Divisors.{IsDivisor};
 ghost use Rattle.s2_minsum.specs.Factors.{IsFactor};
+ghost use Rattle.s2_plframe.specs.Search.{IsLock};
 ghost use Rattle.s2_link.specs.Tuning.{tuning_of, IsTuning, RefusesTuning};
 
 use crate::fault::SetupFault;
 use s2_minsum::Factor;
+use s2_plframe::Lock;
 use s2_soft::Divisor;
 use std::marker::Model;
 
@@ -20,13 +22,15 @@ pub const DEFAULT_ROUNDS: u32 = 50;
 pub const MOST_PASSES: u32 = 1000;
 
 /// How a receiver is tuned: so many rounds of min-sum, 1 to 200, so many passes of settling, 0 to 1000, what soft
-/// values are divided by, and how many sixteenths of the least size min-sum's messages have.
+/// values are divided by, how many sixteenths of the least size min-sum's messages have, and how many bits of a header
+/// may be wrong right behind a frame.
 #[derive(Clone, Copy, Debug, PartialEq, Eq)]
 pub struct Tuning {
     rounds: u32,
     passes: u32,
     divisor: Divisor,
     factor: Factor,
+    lock: Lock,
 }
 
 impl Model for Tuning {
@@ -34,15 +38,15 @@ impl Model for Tuning {
 
     ghost Value = { TuningValue };
 
-    ghost view = { λ t. record { rounds = t.rounds; passes = t.passes; divisor = t.divisor; factor = t.factor } };
+    ghost view = { λ t. record { rounds = t.rounds; passes = t.passes; divisor = t.divisor; factor = t.factor; lock = t.lock } };
 
-    ghost invariant = { λ t. IsTuning (record { rounds = t.rounds; passes = t.passes; divisor = t.divisor; factor = t.factor }) };
+    ghost invariant = { λ t. IsTuning (record { rounds = t.rounds; passes = t.passes; divisor = t.divisor; factor = t.factor; lock = t.lock }) };
 
-    ghost inverse = { λ v. record { rounds = v.rounds; passes = v.passes; divisor = v.divisor; factor = v.factor } };
+    ghost inverse = { λ v. record { rounds = v.rounds; passes = v.passes; divisor = v.divisor; factor = v.factor; lock = v.lock } };
 }
 
 impl Tuning {
-    /// So many rounds and passes, the usual divisor, 4096, and the usual factor, 12. Of two refusals the first is answered: `BadRounds`
+    /// So many rounds and passes, the usual divisor, 4096, the usual factor, 12, and the usual lock, 12. Of two refusals the first is answered: `BadRounds`
     /// where the rounds are not 1 to 200, `BadPasses` where the passes are over 1000.
     pub fn new(rounds: u32, passes: u32) -> Result<Tuning, SetupFault>
         ensures is { IfOk result (λ t. t ≡ tuning_of rounds passes) }
@@ -60,6 +64,7 @@ impl Tuning {
             passes,
             divisor: Divisor::usual(),
             factor: Factor::usual(),
+            lock: Lock::usual(),
         })
     }
 
@@ -72,6 +77,7 @@ impl Tuning {
             passes: self.passes,
             divisor,
             factor: self.factor,
+            lock: self.lock,
         }
     }
 
@@ -84,6 +90,20 @@ impl Tuning {
             passes: self.passes,
             divisor: self.divisor,
             factor,
+            lock: self.lock,
+        }
+    }
+
+    /// The same, but with this lock.
+    pub fn with_lock(self, lock: Lock) -> Tuning
+        ensures { result ≡ record self { lock = lock } }
+    {
+        Tuning {
+            rounds: self.rounds,
+            passes: self.passes,
+            divisor: self.divisor,
+            factor: self.factor,
+            lock,
         }
     }
 
@@ -122,5 +142,15 @@ impl Tuning {
         // what it promises of the number is a part of what is promised here
         let _number = self.factor.get();
         self.factor
+    }
+
+    /// How many bits of a header may be wrong right behind a frame.
+    pub fn lock(self) -> Lock
+        ensures is { result ≡ self.lock }
+        ensures known { IsLock result }
+    {
+        // what it promises of the number is a part of what is promised here
+        let _number = self.lock.get();
+        self.lock
     }
 }

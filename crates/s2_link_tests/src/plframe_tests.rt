@@ -1,7 +1,7 @@
 //! Headers, frames and the search on known values.
 use super::streams::{dummy_of, sum_of};
 use s2_mode::{DUMMY_SYMBOLS, Mode, Symbol};
-use s2_plframe::{Found, Search, dummy_into, frame_into, header_matches, payload_of};
+use s2_plframe::{Found, Lock, Search, dummy_into, frame_into, header_matches, payload_of};
 use s2_scramble::Gold;
 use std::test::Fail;
 
@@ -70,6 +70,32 @@ fn first_found(mode: Mode, symbols: &[Symbol]) -> (Found, usize) {
     (Found::Nothing, fed)
 }
 
+/// What a header with so many of its symbols negated is right behind a frame, with a lock, and what it is elsewhere.
+fn found_with(rt: &HostRuntime, mode: Mode, wrong: usize, lock: u32) -> Result<Option<(Found, Found)>, Fail> {
+    let frame = negated(rt, mode, wrong)?;
+    let mut search = Search::new(mode);
+    let mut elsewhere = Found::Nothing;
+    for symbol in frame.iter().take(90) {
+        elsewhere = search.feed(*symbol);
+    }
+    Ok(Lock::new(lock).map(|lock| (search.behind(lock), elsewhere)))
+}
+
+/// Whether a lock of 12 changes nothing, and one of 30 lets a header pass right behind a frame with up to 30 wrong bits.
+fn is_locked(rt: &HostRuntime, mode: Mode) -> Result<bool, Fail> {
+    let mut right = true;
+    for (wrong, lock, behind, elsewhere) in [
+        (12, 12, Found::Coded, Found::Coded),
+        (13, 12, Found::Nothing, Found::Nothing),
+        (13, 30, Found::Coded, Found::Nothing),
+        (30, 30, Found::Coded, Found::Nothing),
+        (31, 30, Found::Nothing, Found::Nothing),
+    ] {
+        right = right && found_with(rt, mode, wrong, lock)? == Some((behind, elsewhere));
+    }
+    Ok(right)
+}
+
 /// Whether a header is found with 12 of its symbols negated, and not with 13.
 fn is_found(rt: &HostRuntime, mode: Mode) -> Result<bool, Fail> {
     let mut right = true;
@@ -94,9 +120,11 @@ fn finds_a_header(rt: HostRuntime) -> Result<(), Fail> {
     let short = Mode::of(4, true, true).ok_or("no mode")?;
     assert_eq!(rt; short.symbols(), 8370);
     assert!(rt; is_found(&rt, short)?);
+    assert!(rt; is_locked(&rt, short)?);
     let normal = Mode::of(4, false, false).ok_or("no mode")?;
     assert_eq!(rt; normal.symbols(), 32490);
     assert!(rt; is_found(&rt, normal)?);
+    assert!(rt; is_locked(&rt, normal)?);
     Ok(())
 }
 

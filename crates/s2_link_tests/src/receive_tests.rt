@@ -22,6 +22,7 @@ use std::test::Fail;
 #[derive(Drop)]
 struct LastSearch {
     count: u64,
+    last: Found,
 }
 
 /// What ends in a symbol.
@@ -38,18 +39,23 @@ fn ends_at(symbol: Symbol) -> Found
 }
 
 impl Search for LastSearch {
-    ghost finds = { λ _. last_tells };
+    ghost finds = { λ _ _. last_tells };
 
-    ghost saw = { λ s seen. s.count ≡ min (length seen) 90 };
+    ghost saw = { λ s seen. (s.count ≡ min (length seen) 90) × (90 ≤ length seen → s.last ≡ last_tells seen) };
 
     fn feed(&mut self, symbol: Symbol) -> Found {
         if self.count < 90 {
             self.count += 1;
         }
+        self.last = ends_at(symbol);
         if self.count < 90 {
             return Found::Nothing;
         }
-        ends_at(symbol)
+        self.last
+    }
+
+    fn behind(&self) -> Found {
+        self.last
     }
 
     fn restart(&mut self) {
@@ -144,7 +150,10 @@ fn toy(alloc: Global, limit: u64) -> Result<Toy, AllocError>
     };
     Receiver::new(
         alloc,
-        LastSearch { count: 0 },
+        LastSearch {
+        count: 0,
+        last: Found::Nothing,
+    },
         decider,
         Letters {},
         100,

@@ -26,7 +26,7 @@ use Rattle.s2_receive.specs.ReportLines.{frame_line, cut_line, end_line}
 -- a link's rules: its header, its frames, what is decided of them, the lines of the report, and how many symbols are taken
 abbrev pub link_rules : Link → Tuning → ℕ → Rules
 link_rules link tuning limit =
-    rules_of (found_as link.setup.mode) (symbols_in link.setup.mode) (frame_decision link tuning) frame_line cut_line end_line limit
+    rules_of (found_as link.setup.mode tuning.lock) (symbols_in link.setup.mode) (frame_decision link tuning) frame_line cut_line end_line limit
 
 -- a receiver: its link, how it is tuned, how many symbols it takes at most, where it stands, and what it decided last
 pub record Receiver : Type 0 where

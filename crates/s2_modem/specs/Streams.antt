@@ -30,7 +30,7 @@ use Rattle.s2_modem.specs.Both.{AreBytes, sent_symbols, certified_lines}
 abbrev pub IsClear : Link → Tuning → List Bool → List Symbol → Type 0
 IsClear link tuning codeword symbols =
     (symbols ≡ sent_symbols link codeword)
-    ⊎ ((length symbols ≡ symbols_in link.setup.mode) × (found_as link.setup.mode (take header_symbols symbols) ≡ founds.Coded) × IsScattered (code_of link.rows) (frame_soft link tuning symbols) codeword)
+    ⊎ ((length symbols ≡ symbols_in link.setup.mode) × ((behind : Bool) → found_as link.setup.mode tuning.lock behind (take header_symbols symbols) ≡ founds.Coded) × IsScattered (code_of link.rows) (frame_soft link tuning symbols) codeword)
 
 -- those of the frame that was sent for a data field, which begins at this byte of the stream
 abbrev pub IsHeard : Link → Tuning → ℕ → List ℕ → List Symbol → Type 0
@@ -43,7 +43,7 @@ AreHeard link tuning at [] [] = ⊤
 AreHeard link tuning at [] (field ∷ fields) = ⊥
 AreHeard link tuning at (coded symbols ∷ pieces) [] = ⊥
 AreHeard link tuning at (coded symbols ∷ pieces) (field ∷ fields) = IsHeard link tuning at field symbols × AreHeard link tuning (at + length field) pieces fields
-AreHeard link tuning at (dummy symbols ∷ pieces) fields = IsDummy (found_as link.setup.mode) symbols × AreHeard link tuning at pieces fields
+AreHeard link tuning at (dummy symbols ∷ pieces) fields = IsDummy (found_as link.setup.mode tuning.lock) symbols × AreHeard link tuning at pieces fields
 
 -- where the coded ones begin, from a position on, and what these rules call them
 abbrev pub places_in : Rules → ℕ → List Piece → List (ℕ × Verdict)

@@ -35,7 +35,7 @@ pub(crate) fn tune<'a>(
     link: &Link<'a>,
     tuning: Tuning,
 ) -> Result<Inner<'a>, AllocError>
-    ensures rules { IfOk result (λ r. rules_of (found_as r.search.mode) (length r.frame) (frame_decision r.decider.link r.decider.tuning) frame_line cut_line end_line r.limit
+    ensures rules { IfOk result (λ r. rules_of (found_as r.search.search.mode r.search.lock) (length r.frame) (frame_decision r.decider.link r.decider.tuning) frame_line cut_line end_line r.limit
         ≡ link_rules link.now tuning most_symbols) }
     ensures limit { IfOk result (λ r. r.limit ≡ most_symbols) }
     ensures begun { IfOk result (λ r. r.state ≡ begun) }
@@ -45,7 +45,7 @@ pub(crate) fn tune<'a>(
     // what it promises of the mode is a part of what is promised here
     let _k = mode.k();
     let decider = Decider::new(alloc, link, tuning)?;
-    let search = HeaderSearch::new(mode);
+    let search = HeaderSearch::new(mode, tuning.lock());
     s2_receive::Receiver::new(
         alloc,
         search,
@@ -94,7 +94,7 @@ impl<'a> Model for Receiver<'a> {
       last = r.inner.decider.last;
     } };
 
-    ghost invariant = { λ r. (rules_of (found_as r.inner.search.mode) (length r.inner.frame) (frame_decision r.inner.decider.link r.inner.decider.tuning) frame_line cut_line end_line r.inner.limit
+    ghost invariant = { λ r. (rules_of (found_as r.inner.search.search.mode r.inner.search.lock) (length r.inner.frame) (frame_decision r.inner.decider.link r.inner.decider.tuning) frame_line cut_line end_line r.inner.limit
         ≡ link_rules (link_of (setup_of r.setup) r.matrix.now) r.tuning r.inner.limit) × AllAsLikely (link_of (setup_of r.setup) r.matrix.now) r.tuning };
 }
 

@@ -5,6 +5,10 @@ use Rattle.std.specs.Prelude.{ℕ}
 abbrev pub most_wrong : ℕ
 most_wrong = 12
 
+-- own: the largest of these that may be allowed right behind a frame
+abbrev pub most_lock : ℕ
+most_lock = 40
+
 -- the symbols of 16 slots, behind which a pilot block stands
 abbrev pub sixteen_slots : ℕ
 sixteen_slots = 1440

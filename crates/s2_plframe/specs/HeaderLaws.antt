@@ -5,9 +5,10 @@ use Rattle.s2_mode.specs.Limits.{header_symbols}
 use Rattle.s2_mode.specs.Mode.{Mode, IsMode, slots_of}
 use Rattle.s2_bits.specs.Bits.{xor, number}
 use Rattle.s2_plframe.specs.Header.{header_bit, header_of, dummy_mode}
+use Rattle.s2_plframe.specs.Constants.{most_wrong}
 use Rattle.s2_plframe.specs.Frame.{frame_symbols}
 use Rattle.s2_plframe.specs.Payload.{received_payload, AllTurnBack}
-use Rattle.s2_plframe.specs.Search.{Decision, decision, passes, passes_dummy, found, recent}
+use Rattle.s2_plframe.specs.Search.{Decision, decision, passes, passes_dummy, found, found_behind, recent}
 use Rattle.s2_plframe.specs.declared.receive.found.Found.TheVariants as founds
 
 -- a frame is a header, and a payload that can be taken out again
@@ -47,6 +48,15 @@ differences a b (suc n) = differences a b n + number (xor (a n) (b n))
 -- the header of a mode differs from that of a dummy frame, with each TYPE, in at least 32 bits
 abbrev pub DummiesApartLaw : Type 0
 DummiesApartLaw = (m : Mode) (short pilots : Bool) → IsMode m → 32 ≤ differences (header_bit m) (header_bit (dummy_mode short pilots)) header_symbols
+
+-- with a lock of 12 the test right behind a frame is the one elsewhere
+abbrev pub BehindLaw : Type 0
+BehindLaw = (m : Mode) (window : List Decision) → IsMode m → length window ≡ header_symbols → found_behind m most_wrong window ≡ found m window
+
+-- what is found elsewhere is found right behind a frame as well
+abbrev pub StillFoundLaw : Type 0
+StillFoundLaw = (m : Mode) (lock : ℕ) (window : List Decision) → IsMode m → most_wrong ≤ lock → length window ≡ header_symbols
+    → (found m window ≡ founds.Coded → found_behind m lock window ≡ founds.Coded) × (found m window ≡ founds.Dummy → found_behind m lock window ≡ founds.Dummy)
 
 -- no window passes as a header of a mode and as one of a dummy frame
 abbrev pub ApartLaw : Type 0

@@ -1,5 +1,5 @@
 -- What only the clauses of the code itself speak of: bits of headers in numbers, whose lowest digit is the last one's, and places counted by blocks.
-use Rattle.std.specs.Prelude.{ℕ, ◌+◌, ◌-◌, ◌*◌, ◌/◌, ◌%◌, ◌^◌, ◌≡◌, ◌<◌, ◌≤◌, ◌==◌, ◌||◌, Bool, true, false, List, map, nat_lt, nat_le, if◌then◌else◌}
+use Rattle.std.specs.Prelude.{ℕ, ◌+◌, ◌-◌, ◌*◌, ◌/◌, ◌%◌, ◌^◌, ◌≡◌, ◌<◌, ◌≤◌, ◌==◌, ◌||◌, min, Bool, true, false, List, map, nat_lt, nat_le, if◌then◌else◌}
 use Rattle.std.specs.List.{range_with_len}
 use Rattle.std.specs.Int.{bit_at as digit}
 use Rattle.std.specs.Int.RustNames.{count_ones, bit_xor}
@@ -44,6 +44,17 @@ is_dummy dummy dummy_pilots dummy_short dummy_both window =
 abbrev pub found_by : ℕ → ℕ → ℕ → ℕ → ℕ → ℕ → Found
 found_by coded dummy dummy_pilots dummy_short dummy_both window =
     if is_near coded window then founds.Coded else (if is_dummy dummy dummy_pilots dummy_short dummy_both window then founds.Dummy else founds.Nothing)
+
+-- the test right behind a frame
+abbrev pub wrong_in : ℕ → ℕ → ℕ
+wrong_in header window = count_ones (bit_xor header window)
+
+abbrev pub wrong_in_dummy : ℕ → ℕ → ℕ → ℕ → ℕ → ℕ
+wrong_in_dummy dummy dummy_pilots dummy_short dummy_both window =
+    min (min (wrong_in dummy window) (wrong_in dummy_pilots window)) (min (wrong_in dummy_short window) (wrong_in dummy_both window))
+
+abbrev pub behind_by : ℕ → ℕ → ℕ → Found
+behind_by coded dummy lock = if nat_le coded dummy then (if nat_le coded lock then founds.Coded else founds.Nothing) else (if nat_le dummy lock then founds.Dummy else founds.Nothing)
 
 -- the headers that a search looks for, as numbers
 pub record AreHeaders (m : Mode) (coded dummy dummy_pilots dummy_short dummy_both : ℕ) : Type 0 where

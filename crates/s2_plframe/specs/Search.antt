@@ -1,11 +1,11 @@
 -- The header test and the search for frames (own): the bits that a header's symbols are decided as, and how many differ.
-use Rattle.std.specs.Prelude.{ℕ, zero, suc, ◌+◌, ◌-◌, ◌%◌, ◌==◌, ◌||◌, Bool, true, false, List, length, drop, slice_index_or, pos, ◌+ℤ◌, ◌-ℤ◌, int_lt, nat_lt, nat_le, if◌then◌else◌}
+use Rattle.std.specs.Prelude.{ℕ, zero, suc, ◌+◌, ◌-◌, ◌%◌, ◌==◌, ◌||◌, ◌≤◌, min, Bool, true, false, List, length, drop, slice_index_or, pos, ◌+ℤ◌, ◌-ℤ◌, int_lt, nat_lt, nat_le, if◌then◌else◌}
 use Rattle.s2_mode.specs.declared.symbols.Symbol.{Symbol}
 use Rattle.s2_mode.specs.Limits.{header_symbols}
 use Rattle.s2_mode.specs.Mode.{Mode}
 use Rattle.s2_bits.specs.Bits.{xor, number}
 use Rattle.s2_plframe.specs.Header.{header_bit, dummy_mode}
-use Rattle.s2_plframe.specs.Constants.{most_wrong}
+use Rattle.s2_plframe.specs.Constants.{most_wrong, most_lock}
 use Rattle.s2_plframe.specs.declared.receive.found.Found.{Found}
 use Rattle.s2_plframe.specs.declared.receive.found.Found.TheVariants as founds
 
@@ -45,6 +45,28 @@ found m window =
     if nat_lt (length window) header_symbols
     then founds.Nothing
     else (if passes (header_bit m) window then founds.Coded else (if passes_dummy window then founds.Dummy else founds.Nothing))
+
+-- how many bits of a window differ from a header
+abbrev pub wrong_bits : (ℕ → Bool) → List Decision → ℕ
+wrong_bits header window = mismatches header window header_symbols
+
+-- and from the one of dummy frames from which the fewest differ
+abbrev pub wrong_bits_dummy : List Decision → ℕ
+wrong_bits_dummy window =
+    min (min (wrong_bits (header_bit (dummy_mode false false)) window) (wrong_bits (header_bit (dummy_mode false true)) window))
+    (min (wrong_bits (header_bit (dummy_mode true false)) window) (wrong_bits (header_bit (dummy_mode true true)) window))
+
+-- What 90 symbols right behind a frame are: of the headers the one from which the fewest bits differ passes, where these are at most so
+-- many; that of the mode where as many differ from one of dummy frames.
+abbrev pub found_behind : Mode → ℕ → List Decision → Found
+found_behind m lock window =
+    if nat_le (wrong_bits (header_bit m) window) (wrong_bits_dummy window)
+    then (if nat_le (wrong_bits (header_bit m) window) lock then founds.Coded else founds.Nothing)
+    else (if nat_le (wrong_bits_dummy window) lock then founds.Dummy else founds.Nothing)
+
+-- how many bits of a header may be wrong right behind a frame
+abbrev pub IsLock : ℕ → Type 0
+IsLock lock = (most_wrong ≤ lock) × (lock ≤ most_lock)
 
 -- the last 90 of a list
 abbrev pub recent : List Decision → List Decision

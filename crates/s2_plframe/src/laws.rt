@@ -1,5 +1,5 @@
 //! Laws of frames, of the header test and of the search.
-ghost use Rattle.s2_plframe.specs.HeaderLaws.{TakenOutLaw, SeenLaw, LastLaw, CleanHeaderLaw, DummyHeaderLaw, DummiesApartLaw, ApartLaw};
+ghost use Rattle.s2_plframe.specs.HeaderLaws.{TakenOutLaw, SeenLaw, LastLaw, CleanHeaderLaw, DummyHeaderLaw, DummiesApartLaw, ApartLaw, BehindLaw, StillFoundLaw};
 
 /// A frame is its mode's header, and a payload that can be taken out again.
 pub fn taken_out()
@@ -35,4 +35,14 @@ pub fn dummies_apart()
 /// No window passes as a header of a mode and as one of dummy frames.
 pub fn apart()
     ensures { ApartLaw }
+{}
+
+/// With a lock of 12 the test right behind a frame is the test elsewhere.
+pub fn behind()
+    ensures { BehindLaw }
+{}
+
+/// What is found elsewhere is found right behind a frame as well, with each lock.
+pub fn still_found()
+    ensures { StillFoundLaw }
 {}

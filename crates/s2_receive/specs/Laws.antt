@@ -1,5 +1,5 @@
 -- What follows from the definitions alone.
-use Rattle.std.specs.Prelude.{◌≡◌, ℕ, ◌+◌, ◌-◌, ◌<◌, ◌≤◌, false, if◌then◌else◌, List, [], ◌∷◌, ◌++◌, length, take, drop, All, Option, Some, Ok, ⊤}
+use Rattle.std.specs.Prelude.{Bool, true, nat_lt, nat_eq, ◌&&◌, ◌≡◌, ℕ, ◌+◌, ◌-◌, ◌<◌, ◌≤◌, false, if◌then◌else◌, List, [], ◌∷◌, ◌++◌, length, take, drop, All, Option, Some, Ok, ⊤}
 use Rattle.std.specs.List.{flat_map}
 use Rattle.s2_mode.specs.declared.symbols.Symbol.{Symbol}
 use Rattle.s2_bbframe.specs.declared.header.Header.{Header}
@@ -59,14 +59,14 @@ piece_symbols (dummy symbols) = symbols
 abbrev pub stream_symbols : List Piece → List Symbol
 stream_symbols pieces = flat_map piece_symbols pieces
 
--- symbols of a frame's size, whose header is found, and of which this header and this data field are delivered
+-- symbols of a frame's size, whose header is found by either test, and of which this header and this data field are delivered
 abbrev pub IsReceived : Rules → Header → List ℕ → List Symbol → Type 0
 IsReceived rules header field symbols =
-    (length symbols ≡ rules.size) × (rules.finds (take header_symbols symbols) ≡ founds.Coded) × ((rules.decide symbols).delivered ≡ Some (header, field))
+    (length symbols ≡ rules.size) × ((behind : Bool) → rules.finds behind (take header_symbols symbols) ≡ founds.Coded) × ((rules.decide symbols).delivered ≡ Some (header, field))
 
 -- those of a dummy frame, whose header is found
-abbrev pub IsDummy : (List Symbol → Found) → List Symbol → Type 0
-IsDummy finds symbols = (length symbols ≡ dummy_symbols) × (finds (take header_symbols symbols) ≡ founds.Dummy)
+abbrev pub IsDummy : (Bool → List Symbol → Found) → List Symbol → Type 0
+IsDummy finds symbols = (length symbols ≡ dummy_symbols) × ((behind : Bool) → finds behind (take header_symbols symbols) ≡ founds.Dummy)
 
 -- the coded frames of consecutive data fields, the first of which begins at this byte of the stream, and dummy frames among them
 abbrev pub AreReceived : Rules → ℕ → ℕ → List Piece → List (List ℕ) → Type 0
@@ -90,7 +90,7 @@ PassedNone t = (t.passed ≡ 0) × (t.places ≡ 0) × (t.first ≡ 0)
 -- Coded frames that were received as sent, the first ones of a stream, are met as just these, and no packet is torn. The packets written then are those
 -- whose closing CRC-8 lies in the fields of these frames; all of them where these are all fields.
 pub record Gives (rules : Rules) (packets fields later : List (List ℕ)) (pieces : List Piece) (rest : List Symbol) : Type 0 where
-  pub met : met_from rules.finds rules.size 0 0 nothing_over (stream_symbols pieces ++ rest) ≡ frames_at rules.size 0 pieces ++ met_from rules.finds rules.size (length (stream_symbols pieces)) 0 nothing_over rest
+  pub met : met_from rules.finds rules.size 0 0 false nothing_over (stream_symbols pieces ++ rest) ≡ frames_at rules.size 0 pieces ++ met_from rules.finds rules.size (length (stream_symbols pieces)) 0 (nat_lt 0 (length (stream_symbols pieces))) nothing_over rest
   pub written : all_packets rules at_start (frames_at rules.size 0 pieces) ≡ joined (take (closed_in (length (joined fields))) packets)
   pub frames_count : (after_all rules at_start (frames_at rules.size 0 pieces)).totals.frames ≡ length fields
   pub delivered : (after_all rules at_start (frames_at rules.size 0 pieces)).totals.delivered ≡ length fields
@@ -118,26 +118,30 @@ FrontLaw =
     → Went rules begun mid (Some bytes) left packets_old packets_new report_old report_new met
     → (met ≡ frames_at rules.size 0 pieces) × Appends packets_old packets_new (joined (take (closed_in (length (joined fields))) packets))
 
+-- whether a frame ended right before symbol n, where one did before the first or not
+abbrev pub behind_at : Bool → ℕ → Bool
+behind_at behind n = behind && nat_eq n 0
+
 -- no header begins at the first n symbols
-abbrev pub NoneBegins : (List Symbol → Found) → ℕ → List Symbol → Type 0
-NoneBegins finds n symbols = (i : ℕ) → i < n → begins finds (drop i symbols) ≡ founds.Nothing
+abbrev pub NoneBegins : (Bool → List Symbol → Found) → Bool → ℕ → List Symbol → Type 0
+NoneBegins finds behind n symbols = (i : ℕ) → i < n → begins (finds (behind_at behind i)) (drop i symbols) ≡ founds.Nothing
 
 -- The search in its own words: where no header begins at the first n symbols and a coded frame's begins at the next, that is where
 -- the next frame stands; it has its symbols and the search goes on behind them, or it is cut. Where a dummy frame's begins there,
 -- the search goes on behind its symbols, or the end comes where it lacks some. Where none begins anywhere the end comes.
-pub record Searches (finds : List Symbol → Found) (size at : ℕ) (over : Stretch) (symbols : List Symbol) : Type 0 where
-  pub found : (n : ℕ) → n + size ≤ length symbols → NoneBegins finds n symbols → begins finds (drop n symbols) ≡ founds.Coded
-      → met_from finds size at 0 over symbols ≡ frame (at + n) (passed over at n) (take size (drop n symbols)) ∷ met_from finds size (at + n + size) 0 nothing_over (drop (n + size) symbols)
-  pub lacks : (n : ℕ) → n < length symbols → length symbols < n + size → NoneBegins finds n symbols → begins finds (drop n symbols) ≡ founds.Coded
-      → met_from finds size at 0 over symbols ≡ cut (at + n) (passed over at n) (length symbols - n) ∷ (ended nothing_over ∷ [])
-  pub goes_on : (n : ℕ) → n + dummy_symbols ≤ length symbols → NoneBegins finds n symbols → begins finds (drop n symbols) ≡ founds.Dummy
-      → met_from finds size at 0 over symbols ≡ met_from finds size (at + n + dummy_symbols) 0 (passed over at n) (drop (n + dummy_symbols) symbols)
-  pub breaks_off : (n : ℕ) → n < length symbols → length symbols < n + dummy_symbols → NoneBegins finds n symbols → begins finds (drop n symbols) ≡ founds.Dummy
-      → met_from finds size at 0 over symbols ≡ ended (passed over at n) ∷ []
-  pub none : NoneBegins finds (length symbols) symbols → met_from finds size at 0 over symbols ≡ ended (passed over at (length symbols)) ∷ []
+pub record Searches (finds : Bool → List Symbol → Found) (size at : ℕ) (behind : Bool) (over : Stretch) (symbols : List Symbol) : Type 0 where
+  pub found : (n : ℕ) → n + size ≤ length symbols → NoneBegins finds behind n symbols → begins (finds (behind_at behind n)) (drop n symbols) ≡ founds.Coded
+      → met_from finds size at 0 behind over symbols ≡ frame (at + n) (passed over at n) (take size (drop n symbols)) ∷ met_from finds size (at + n + size) 0 true nothing_over (drop (n + size) symbols)
+  pub lacks : (n : ℕ) → n < length symbols → length symbols < n + size → NoneBegins finds behind n symbols → begins (finds (behind_at behind n)) (drop n symbols) ≡ founds.Coded
+      → met_from finds size at 0 behind over symbols ≡ cut (at + n) (passed over at n) (length symbols - n) ∷ (ended nothing_over ∷ [])
+  pub goes_on : (n : ℕ) → n + dummy_symbols ≤ length symbols → NoneBegins finds behind n symbols → begins (finds (behind_at behind n)) (drop n symbols) ≡ founds.Dummy
+      → met_from finds size at 0 behind over symbols ≡ met_from finds size (at + n + dummy_symbols) 0 true (passed over at n) (drop (n + dummy_symbols) symbols)
+  pub breaks_off : (n : ℕ) → n < length symbols → length symbols < n + dummy_symbols → NoneBegins finds behind n symbols → begins (finds (behind_at behind n)) (drop n symbols) ≡ founds.Dummy
+      → met_from finds size at 0 behind over symbols ≡ ended (passed over at n) ∷ []
+  pub none : NoneBegins finds behind (length symbols) symbols → met_from finds size at 0 behind over symbols ≡ ended (passed over at (length symbols)) ∷ []
 
 abbrev pub SearchLaw : Type 0
-SearchLaw = (finds : List Symbol → Found) (size at : ℕ) (over : Stretch) (symbols : List Symbol) → header_symbols ≤ size → Searches finds size at over symbols
+SearchLaw = (finds : Bool → List Symbol → Found) (size at : ℕ) (behind : Bool) (over : Stretch) (symbols : List Symbol) → header_symbols ≤ size → Searches finds size at behind over symbols
 
 -- ---- one stream of symbols, read in two ways
 

@@ -42,7 +42,8 @@ delivery None = gap
 
 -- what a receiver was made with
 pub record Rules : Type 0 where
-  pub finds : List Symbol → Found
+  -- what a header is found as, right behind a frame (`true`) and elsewhere
+  pub finds : Bool → List Symbol → Found
   pub size : ℕ
   pub decide : List Symbol → Decision
   pub frame_line : Report → List ℕ
@@ -198,9 +199,9 @@ rank phases.Closing = 1
 rank phases.Ended = 2
 rank phases.Failed = 2
 
--- what is still to be met in known bytes
+-- what is still to be met in known bytes; a receiver that searches stands right behind a frame where it took symbols
 abbrev pub met_left : Rules → Phase → ℕ → Option (List ℕ) → Option (List Met)
-met_left rules phases.Searching at bytes = met_in rules.finds rules.size at 0 nothing_over [] bytes
+met_left rules phases.Searching at bytes = met_in rules.finds rules.size at 0 (nat_lt 0 at) nothing_over [] bytes
 met_left rules phases.Closing at bytes = Some (ended nothing_over ∷ [])
 met_left rules phases.Ended at bytes = Some []
 met_left rules phases.Failed at bytes = Some []
@@ -267,12 +268,12 @@ StandsBehind size at (Ok (steps.Frame report)) = at ≡ report.at + size
 StandsBehind size at (Ok (steps.Cut place count)) = at ≡ place + count
 StandsBehind size at result = ⊤
 
-abbrev pub rules_of : (List Symbol → Found) → ℕ → (List Symbol → Decision) → (Report → List ℕ) → (ℕ → ℕ → List ℕ) → (Totals → List ℕ) → ℕ → Rules
+abbrev pub rules_of : (Bool → List Symbol → Found) → ℕ → (List Symbol → Decision) → (Report → List ℕ) → (ℕ → ℕ → List ℕ) → (Totals → List ℕ) → ℕ → Rules
 rules_of finds size decide frame_line cut_line end_line limit =
     record { finds = finds; size = size; decide = decide; frame_line = frame_line; cut_line = cut_line; end_line = end_line; limit = limit }
 
 -- by what its search, its decider and its lines do
-abbrev pub rules_in : {S D L : Type 0} → (S → List Symbol → Found) → (D → List Symbol → Decision) → (L → Report → List ℕ) → (L → ℕ → ℕ → List ℕ) → (L → Totals → List ℕ) → Receiver S D L → Rules
+abbrev pub rules_in : {S D L : Type 0} → (S → Bool → List Symbol → Found) → (D → List Symbol → Decision) → (L → Report → List ℕ) → (L → ℕ → ℕ → List ℕ) → (L → Totals → List ℕ) → Receiver S D L → Rules
 rules_in finds decide frame_line cut_line end_line r =
     rules_of (finds r.search) (length r.frame) (decide r.decider) (frame_line r.lines) (cut_line r.lines) (end_line r.lines) r.limit
 

@@ -1,5 +1,5 @@
 //! The next frame of a reader's symbols.
-ghost use Rattle.std.specs.Prelude.{◌≡◌, ◌≢◌, ◌+◌, ◌-◌, ◌*◌, ◌^◌, ◌<◌, ◌≤◌, ◌∷◌, [], ℕ, List, Option, IfOk, IsErr, length, true, false};
+ghost use Rattle.std.specs.Prelude.{◌≡◌, ◌≢◌, ◌+◌, ◌-◌, ◌*◌, ◌^◌, ◌<◌, ◌≤◌, ◌∷◌, [], ℕ, List, Option, IfOk, IsErr, length, nat_lt, Bool, true, false};
 ghost use Rattle.std.specs.Io.KnownBytes.{IsAtEnd};
 ghost use Rattle.s2_mode.specs.Counts.{CountsFault};
 ghost use Rattle.s2_mode.specs.Limits.{header_symbols, most_symbols};
@@ -34,6 +34,8 @@ struct Held {
     count: usize,
     /// How many symbols from the first on still belong to a dummy frame. Behind them a frame may begin.
     inside: usize,
+    /// Whether a frame ended right before the first symbol that belongs to none.
+    behind: bool,
 }
 
 /// Reads so many symbols behind those that are held. Whether they came: if not the stream ended, where up to
@@ -48,9 +50,9 @@ fn fill<R: CountedRead>(
     requires count { R.count reader.old < 2 ^ 64 - 1 }
     requires bytes { length bytes.old ≡ 4 * length frame.old }
     requires room { held.old.count + wanted ≤ length frame.old }
-    ensures met { IfOk result (λ _. (finds : List Symbol → Found) → Meets (met_with finds held.old frame.old (R.remaining reader.old)) (met_with finds held.new frame.new (R.remaining reader.new)) []) }
+    ensures met { IfOk result (λ _. (finds : Bool → List Symbol → Found) → Meets (met_with finds held.old frame.old (R.remaining reader.old)) (met_with finds held.new frame.new (R.remaining reader.new)) []) }
     ensures taken { IfOk result (λ _. Reaches (place_with held.new) (place_with held.old) (R.remaining reader.old) (R.remaining reader.new)) }
-    ensures held { IfOk result (λ _. (held.new.at ≡ held.old.at) × (held.new.over ≡ held.old.over) × (held.new.inside ≡ held.old.inside)) }
+    ensures held { IfOk result (λ _. (held.new.at ≡ held.old.at) × (held.new.over ≡ held.old.over) × (held.new.inside ≡ held.old.inside) × (held.new.behind ≡ held.old.behind)) }
     ensures full { IfOk result (λ full. full ≡ true → held.new.count ≡ held.old.count + wanted) }
     ensures end { IfOk result (λ full. full ≡ false → (held.new.count < held.old.count + wanted) × IsAtEnd (R.remaining reader.new)) }
     ensures cause { CountsFault (R.count reader.old) (R.count reader.new) result }
@@ -77,6 +79,7 @@ fn meet_last<S: Search>(search: &mut S, frame: &[Symbol], held: Held) -> Next
         &frame[..held.count],
         held.at,
         held.inside,
+        held.behind,
         held.over,
     );
     if scan.coded {
@@ -102,7 +105,7 @@ fn pass_over<S: Search>(search: &mut S, frame: &mut [Symbol], held: &mut Held) -
     requires place { place_with held.old ≤ most_symbols }
     requires over { held.old.over.symbols ≤ held.old.at }
     ensures stands { result ≡ false → (bytes : Option (List ℕ)) → Meets (met_with (S.finds search.old) held.old frame.old bytes)
-        (met_in (S.finds search.old) (length frame.old) (place_with held.old) 0 nothing_over [] bytes) (met_frame held.new.at held.new.over frame.new ∷ []) }
+        (met_in (S.finds search.old) (length frame.old) (place_with held.old) 0 true nothing_over [] bytes) (met_frame held.new.at held.new.over frame.new ∷ []) }
     ensures held { result ≡ false → (held.new.at ≡ held.old.at) × (held.new.over.symbols ≤ held.old.over.symbols) }
     ensures passed { result ≡ true → (bytes : Option (List ℕ)) → Meets (met_with (S.finds search.old) held.old frame.old bytes) (met_with (S.finds search.old) held.new frame.new bytes) [] }
     ensures further { result ≡ true → (held.old.at < held.new.at) × (place_with held.new ≡ place_with held.old) }
@@ -110,7 +113,7 @@ fn pass_over<S: Search>(search: &mut S, frame: &mut [Symbol], held: &mut Held) -
     ensures same { S.finds search.new ≡ S.finds search.old }
 {
     let size = frame.len();
-    let scan = look_through(search, frame, held.at, held.inside, held.over);
+    let scan = look_through(search, frame, held.at, held.inside, held.behind, held.over);
     if scan.place == 0 {
         held.over = scan.over;
         return false;
@@ -122,6 +125,7 @@ fn pass_over<S: Search>(search: &mut S, frame: &mut [Symbol], held: &mut Held) -
         over: scan.over,
         count: size - gone,
         inside: scan.place - gone,
+        behind: scan.behind,
     };
     true
 }
@@ -169,7 +173,7 @@ fn look<S: Search, R: CountedRead>(
 
 /// Takes the symbols up to the end of the next frame, and leaves the frame's in `frame`.
 ///
-/// No frame begins before the buffer's first symbol. A whole frame's room is read at once and searched there;
+/// Behind the stream's start a frame ended right before. No frame begins before the buffer's first symbol. A whole frame's room is read at once and searched there;
 /// then what begins at the header, or the last 89 symbols, moves to the front, and nothing where a dummy frame
 /// reaches past them. So nothing behind the frame is read, and no symbol is kept between two calls.
 pub(crate) fn find_frame<S: Search, R: CountedRead>(
@@ -185,7 +189,7 @@ pub(crate) fn find_frame<S: Search, R: CountedRead>(
     requires bytes { length bytes.old ≡ 4 * length frame.old }
     requires start { start ≤ limit }
     requires limit { limit ≤ most_symbols }
-    ensures met { IfOk result (λ found. Meets (met_in (S.finds search.old) (length frame.old) start 0 nothing_over [] (R.remaining reader.old))
+    ensures met { IfOk result (λ found. Meets (met_in (S.finds search.old) (length frame.old) start 0 (nat_lt 0 start) nothing_over [] (R.remaining reader.old))
         (met_after (S.finds search.old) (length frame.old) found (R.remaining reader.new)) (met_of found frame.new ∷ [])) }
     ensures taken { IfOk result (λ found. Reaches (place_after (length frame.old) found) start (R.remaining reader.old) (R.remaining reader.new)) }
     ensures within { IfOk result (LiesWithin (length frame.old) start limit) }
@@ -198,6 +202,7 @@ pub(crate) fn find_frame<S: Search, R: CountedRead>(
         over: Stretch::none(),
         count: 0,
         inside: 0,
+        behind: start > 0,
     };
     'looking: loop {
         match look(search, reader, bytes, frame, &mut held, limit)? {

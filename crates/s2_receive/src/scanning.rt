@@ -16,32 +16,40 @@ pub(crate) struct Scan {
     pub(crate) place: usize,
     /// What was passed over before it.
     pub(crate) over: Stretch,
+    /// Whether a frame ended right before it.
+    pub(crate) behind: bool,
     /// Whether a coded frame begins there.
     pub(crate) coded: bool,
 }
 
 /// Looks for the header of a coded frame in symbols that begin at this one of the stream. The symbols of dummy
 /// frames are passed without a look, and so are so many of the first ones; those at which nothing begins are passed over.
+/// Right behind those that are passed, and at the first one where none are and `behind` says so, a header passes as the
+/// search says of one behind a frame.
 pub(crate) fn look_through<S: Search>(
     search: &mut S,
     symbols: &[Symbol],
     from: u64,
     inside: usize,
+    behind: bool,
     over: Stretch,
 ) -> Scan
     requires size { length symbols.now ≤ 2 ^ 32 }
     requires place { from + length symbols.now ≤ most_symbols }
     requires over { over.symbols ≤ from }
-    ensures scans { Scans (S.finds search.old) symbols.now from inside over result }
+    ensures scans { Scans (S.finds search.old) symbols.now from inside behind over result }
     ensures same { S.finds search.new ≡ S.finds search.old }
 {
     let mut over = over;
     let mut start = inside;
     let mut at = inside;
+    let mut behind = behind || inside > 0;
     search.restart();
     'look: while at < symbols.len() {
-        let found = search.feed(symbols[at]);
+        let fed = search.feed(symbols[at]);
         at += 1;
+        let first = behind && at == start + HEADER_SYMBOLS;
+        let found = if first { search.behind() } else { fed };
         match found {
             Found::Nothing => {}
             Found::Coded => {
@@ -49,6 +57,7 @@ pub(crate) fn look_through<S: Search>(
                 return Scan {
                     place,
                     over: over.passed(from, start, place),
+                    behind: first,
                     coded: true,
                 };
             }
@@ -57,6 +66,7 @@ pub(crate) fn look_through<S: Search>(
                 over = over.passed(from, start, place);
                 start = place + DUMMY_SYMBOLS;
                 at = start;
+                behind = true;
                 search.restart();
             }
         }
@@ -65,6 +75,7 @@ pub(crate) fn look_through<S: Search>(
     Scan {
         place,
         over: over.passed(from, start, place),
+        behind: behind && place == start,
         coded: false,
     }
 }

@@ -3,11 +3,13 @@ use Rattle.std.specs.Prelude.{◌≡◌, decimal, map}
 use Rattle.s2_soft.specs.Divisors.{divisors, default_divisor}
 use Rattle.s2_link.specs.Limits.{default_rounds}
 use Rattle.s2_minsum.specs.Factors.{default_factor}
-use Rattle.s2_words.specs.declared.table.TheConstants.{DEFAULT_ROUNDS_TEXT, DIVISOR_TEXTS, DEFAULT_DIVISOR_TEXT, DEFAULT_FACTOR_TEXT}
+use Rattle.s2_plframe.specs.Constants.{most_wrong}
+use Rattle.s2_words.specs.declared.table.TheConstants.{DEFAULT_ROUNDS_TEXT, DIVISOR_TEXTS, DEFAULT_DIVISOR_TEXT, DEFAULT_FACTOR_TEXT, DEFAULT_LOCK_TEXT}
 
--- what stands where no rounds, no divisor and no factor are named, and the divisors that may be named, by their digits
+-- what stands where no rounds, no divisor, no factor and no lock are named, and the divisors that may be named, by their digits
 pub record DefaultsLaw : Type 0 where
   pub rounds : DEFAULT_ROUNDS_TEXT.now ≡ decimal default_rounds
   pub divisors : map (λ t. t.now) DIVISOR_TEXTS ≡ map decimal divisors
   pub divisor : DEFAULT_DIVISOR_TEXT.now ≡ decimal default_divisor
   pub factor : DEFAULT_FACTOR_TEXT.now ≡ decimal default_factor
+  pub lock : DEFAULT_LOCK_TEXT.now ≡ decimal most_wrong

@@ -10,6 +10,7 @@ use clap::{ArgMatches, Error};
 use s2_link::{DEFAULT_ROUNDS, RollOff, Tuning};
 use s2_minsum::Factor;
 use s2_modes::SymbolRate;
+use s2_plframe::Lock;
 use s2_scramble::ScramblingNumber;
 use s2_soft::Divisor;
 use std::alloc::Global;
@@ -39,7 +40,9 @@ fn factor_of(m: &ArgMatches<'_>) -> Option<Factor> {
 fn tuning_of(m: &ArgMatches<'_>) -> Option<Tuning> {
     let divisor = Divisor::new(m.get_one::<u32>("divisor")?)?;
     let tuning = Tuning::new(m.get_one::<u32>("rounds")?, m.get_one::<u32>("passes")?).ok()?;
-    Some(tuning.with_divisor(divisor).with_factor(factor_of(m)?))
+    let lock = Lock::new(m.get_one::<u32>("lock")?)?;
+    let factor = factor_of(m)?;
+    Some(tuning.with_divisor(divisor).with_factor(factor).with_lock(lock))
 }
 
 fn channel_of(m: &ArgMatches<'_>) -> Option<ChannelWords> {

@@ -2,6 +2,7 @@
 use clap::builder::ValueParser;
 use s2_link::{MOST_PASSES, MOST_ROLL_OFF, MOST_ROUNDS};
 use s2_minsum::{LEAST_FACTOR, MOST_FACTOR};
+use s2_plframe::{MOST_LOCK, MOST_WRONG};
 use s2_mode::{MOST_BITS, MOST_GROUP, MOST_MODCOD};
 use s2_modes::MOST_RATE;
 use s2_rows::MOST_ADDRESSES;
@@ -32,6 +33,9 @@ pub(crate) const DEFAULT_DIVISOR_TEXT: &str = "4096";
 
 /// The decimal digits of the factor where none is named.
 pub(crate) const DEFAULT_FACTOR_TEXT: &str = "12";
+
+/// The decimal digits of the lock where none is named.
+pub(crate) const DEFAULT_LOCK_TEXT: &str = "12";
 
 /// What stands below the options of `modes`.
 const MODES_MORE: &str = "\
@@ -377,6 +381,16 @@ const FACTOR: Word = Word {
     help: "Sixteenths of a size that messages of min-sum have, 8 to 16: more at low code rates",
 };
 
+const LOCK: Word = Word {
+    name: "lock",
+    form: Form::Number {
+        value: "H",
+        allowed: ValueParser::Signed(MOST_WRONG as i64, MOST_LOCK as i64),
+        default: Some(DEFAULT_LOCK_TEXT),
+    },
+    help: "Bits of a header that may be wrong right behind a frame, 12 to 40; elsewhere 12 may",
+};
+
 const SEED: Word = Word {
     name: "seed",
     form: Form::Number {
@@ -559,7 +573,7 @@ static NOISE_WORDS: [Word; 6] = [
 ];
 
 /// The words of `demod`, in order.
-static DEMOD_WORDS: [Word; 15] = [
+static DEMOD_WORDS: [Word; 16] = [
     MODCOD,
     SHORT,
     PILOTS,
@@ -569,6 +583,7 @@ static DEMOD_WORDS: [Word; 15] = [
     PASSES,
     DIVISOR,
     FACTOR,
+    LOCK,
     STRICT,
     QUIET_AND_STILL,
     PROGRESS,
@@ -581,7 +596,7 @@ static DEMOD_WORDS: [Word; 15] = [
 ];
 
 /// The words of `run`, in order.
-static RUN_WORDS: [Word; 18] = [
+static RUN_WORDS: [Word; 19] = [
     MODCOD,
     SHORT,
     PILOTS,
@@ -592,6 +607,7 @@ static RUN_WORDS: [Word; 18] = [
     PASSES,
     DIVISOR,
     FACTOR,
+    LOCK,
     SEED,
     LEVEL,
     STRICT,

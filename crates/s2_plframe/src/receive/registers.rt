@@ -5,7 +5,7 @@ ghost use Rattle.s2_mode.specs.Limits.{header_symbols};
 ghost use Rattle.s2_mode.specs.Mode.{mode_of};
 ghost use Rattle.s2_bits.specs.Bits.{number};
 ghost use Rattle.s2_plframe.specs.Header.{header_bit};
-ghost use Rattle.s2_plframe.specs.Inside.{IsHeader, is_near};
+ghost use Rattle.s2_plframe.specs.Inside.{IsHeader, is_near, wrong_in};
 
 use crate::constants::MOST_WRONG;
 use crate::header::{PlsCode, header_bit};
@@ -43,6 +43,13 @@ pub(crate) fn is_near(header: u128, window: u128) -> bool
     ensures { result ≡ is_near header window }
 {
     (header ^ window).count_ones() <= MOST_WRONG
+}
+
+/// How many bits of a window differ from a header.
+pub(crate) fn wrong_in(header: u128, window: u128) -> u32
+    ensures { result ≡ wrong_in header window }
+{
+    (header ^ window).count_ones()
 }
 
 /// A header as a number.

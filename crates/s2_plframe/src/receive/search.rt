@@ -1,14 +1,16 @@
 //! The search for frames.
 ghost use Rattle.std.specs.Prelude.{◌≡◌, ℕ, ◌<◌, ◌%◌, ◌==◌, if◌then◌else◌, [], ◌∷◌, ◌++◌, List, length, map};
 ghost use Rattle.s2_mode.specs.declared.symbols.Symbol.{Symbol};
+ghost use Rattle.s2_mode.specs.Limits.{header_symbols};
 ghost use Rattle.s2_plframe.specs.Header.{header_bit};
-ghost use Rattle.s2_plframe.specs.Search.{decision, found, passes};
-ghost use Rattle.s2_plframe.specs.Inside.{AreHeaders, is_dummy, found_by};
+ghost use Rattle.s2_plframe.specs.Search.{decision, found, found_behind, passes};
+ghost use Rattle.s2_plframe.specs.Inside.{AreHeaders, is_dummy, found_by, wrong_in_dummy, behind_by};
 
 use crate::constants::MOST_WRONG;
 use crate::header::{dummy_code, header_bit, pls_code};
 use crate::receive::found::Found;
-use crate::receive::registers::{header_number, is_near, mixed, pushed};
+use crate::receive::lock::Lock;
+use crate::receive::registers::{header_number, is_near, mixed, pushed, wrong_in};
 use s2_mode::{HEADER_SYMBOLS, Mode, Symbol};
 use std::marker::Model;
 
@@ -100,6 +102,33 @@ fn found_by(headers: &Headers, window: u128) -> Found
     }
 }
 
+/// How many bits of a window differ from that header of dummy frames from which the fewest do.
+fn wrong_in_dummy(headers: &Headers, window: u128) -> u32
+    ensures { result ≡ wrong_in_dummy headers.now.dummy headers.now.dummy_pilots headers.now.dummy_short headers.now.dummy_both window }
+{
+    let long = wrong_in(headers.dummy, window).min(wrong_in(headers.dummy_pilots, window));
+    let short = wrong_in(headers.dummy_short, window).min(wrong_in(headers.dummy_both, window));
+    long.min(short)
+}
+
+/// The header that passes right behind a frame, where so many bits differ from the mode's, so many from a dummy
+/// frame's, and so many may.
+fn behind_by(coded: u32, dummy: u32, lock: u32) -> Found
+    ensures { result ≡ behind_by coded dummy lock }
+{
+    if coded <= dummy {
+        if coded <= lock {
+            Found::Coded
+        } else {
+            Found::Nothing
+        }
+    } else if dummy <= lock {
+        Found::Dummy
+    } else {
+        Found::Nothing
+    }
+}
+
 /// The search for the header of a mode's frames, symbol by symbol. Its value is the mode and what the
 /// last symbols say, at most 90 of them, since it was made or begun again.
 #[derive(Drop)]
@@ -160,5 +189,15 @@ impl Search {
             return Found::Nothing;
         }
         found_by(&self.headers, mixed(self.odd, self.even))
+    }
+    /// What the last 90 symbols are where they stand right behind a frame: the header from which the fewest bits
+    /// differ passes, with at most so many wrong ones as the lock says.
+    pub fn behind(&self, lock: Lock) -> Found
+        requires seen { length self.now.seen ≡ header_symbols }
+        ensures { result ≡ found_behind self.now.mode lock self.now.seen }
+    {
+        let window = mixed(self.odd, self.even);
+        let coded = wrong_in(self.headers.coded, window);
+        behind_by(coded, wrong_in_dummy(&self.headers, window), lock.get())
     }
 }

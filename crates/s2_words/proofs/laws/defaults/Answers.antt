@@ -14,4 +14,5 @@ returns c =
       divisors = sym (λ t. is_4096 t ∷ is_8192 t ∷ is_16384 t ∷ is_32768 t ∷ is_65536 t ∷ []);
       divisor = sym is_4096;
       factor = sym (decimal-digits_of 12 (omega arith) (omega arith));
+      lock = sym (decimal-digits_of 12 (omega arith) (omega arith));
     }
