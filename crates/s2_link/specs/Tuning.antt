@@ -1,5 +1,5 @@
 -- How a receiver is tuned, and which numbers are refused.
-use Rattle.std.specs.Prelude.{◌≡◌, ℕ, ◌<◌, ◌≤◌, ◌⊎◌}
+use Rattle.std.specs.Prelude.{◌≡◌, IsTrue, Bool, false, ℕ, ◌<◌, ◌≤◌, ◌⊎◌}
 use Rattle.s2_soft.specs.Divisors.{IsDivisor, default_divisor}
 use Rattle.s2_minsum.specs.Factors.{IsFactor, default_factor}
 use Rattle.s2_link.specs.declared.fault.SetupFault.{SetupFault}
@@ -7,24 +7,28 @@ use Rattle.s2_link.specs.declared.fault.SetupFault.TheVariants as faults
 use Rattle.s2_link.specs.Limits.{most_rounds, most_passes}
 
 -- so many rounds of min-sum, so many passes of settling, what soft values are divided by, and how many sixteenths of the least
--- size min-sum's messages have; with no passes a certificate is made by greedy amounts and spreading
+-- size min-sum's messages have; with no passes a certificate is made by greedy amounts and spreading; uncertified, none is made for
+-- what min-sum finds
 pub record Tuning : Type 0 where
   pub rounds : ℕ
   pub passes : ℕ
   pub divisor : ℕ
   pub factor : ℕ
+  pub uncertified : Bool
 
--- so many rounds and passes, and the usual divisor and factor
+-- so many rounds and passes, and the usual divisor and factor, with certificates
 abbrev pub tuning_of : ℕ → ℕ → Tuning
-tuning_of rounds passes = record { rounds = rounds; passes = passes; divisor = default_divisor; factor = default_factor }
+tuning_of rounds passes = record { rounds = rounds; passes = passes; divisor = default_divisor; factor = default_factor; uncertified = false }
 
--- at least one round of min-sum, no more rounds and no more passes of settling than may be, and a divisor and a factor that there are
+-- at least one round of min-sum, no more rounds and no more passes of settling than may be, a divisor and a factor that there are, and
+-- no passes where min-sum's words stay uncertified
 pub record IsTuning (tuning : Tuning) : Type 0 where
   pub some : 1 ≤ tuning.rounds
   pub most : tuning.rounds ≤ most_rounds
   pub passes : tuning.passes ≤ most_passes
   pub divisor : IsDivisor tuning.divisor
   pub factor : IsFactor tuning.factor
+  pub uncertified : IsTrue tuning.uncertified → tuning.passes ≡ 0
 
 -- when rounds and passes are refused: the first of two
 abbrev pub RefusesTuning : Tuning → SetupFault → Type 0

@@ -1,5 +1,5 @@
 //! How a receiver is tuned.
-ghost use Rattle.std.specs.Prelude.{◌≡◌, ◌≤◌, IfOk, IfErr};
+ghost use Rattle.std.specs.Prelude.{◌≡◌, ◌≤◌, IfOk, IfErr, true};
 ghost use Rattle.s2_link.specs.Limits.{most_rounds, most_passes};
 ghost use Rattle.s2_soft.specs.Divisors.{IsDivisor};
 ghost use Rattle.s2_minsum.specs.Factors.{IsFactor};
@@ -20,13 +20,15 @@ pub const DEFAULT_ROUNDS: u32 = 50;
 pub const MOST_PASSES: u32 = 1000;
 
 /// How a receiver is tuned: so many rounds of min-sum, 1 to 200, so many passes of settling, 0 to 1000, what soft
-/// values are divided by, and how many sixteenths of the least size min-sum's messages have.
+/// values are divided by, and how many sixteenths of the least size min-sum's messages have. Uncertified, with no passes, no certificate
+/// is looked for of what min-sum finds.
 #[derive(Clone, Copy, Debug, PartialEq, Eq)]
 pub struct Tuning {
     rounds: u32,
     passes: u32,
     divisor: Divisor,
     factor: Factor,
+    uncertified: bool,
 }
 
 impl Model for Tuning {
@@ -34,15 +36,15 @@ impl Model for Tuning {
 
     ghost Value = { TuningValue };
 
-    ghost view = { λ t. record { rounds = t.rounds; passes = t.passes; divisor = t.divisor; factor = t.factor } };
+    ghost view = { λ t. record { rounds = t.rounds; passes = t.passes; divisor = t.divisor; factor = t.factor; uncertified = t.uncertified } };
 
-    ghost invariant = { λ t. IsTuning (record { rounds = t.rounds; passes = t.passes; divisor = t.divisor; factor = t.factor }) };
+    ghost invariant = { λ t. IsTuning (record { rounds = t.rounds; passes = t.passes; divisor = t.divisor; factor = t.factor; uncertified = t.uncertified }) };
 
-    ghost inverse = { λ v. record { rounds = v.rounds; passes = v.passes; divisor = v.divisor; factor = v.factor } };
+    ghost inverse = { λ v. record { rounds = v.rounds; passes = v.passes; divisor = v.divisor; factor = v.factor; uncertified = v.uncertified } };
 }
 
 impl Tuning {
-    /// So many rounds and passes, the usual divisor, 4096, and the usual factor, 12. Of two refusals the first is answered: `BadRounds`
+    /// So many rounds and passes, the usual divisor, 4096, and the usual factor, 12, with certificates. Of two refusals the first is answered: `BadRounds`
     /// where the rounds are not 1 to 200, `BadPasses` where the passes are over 1000.
     pub fn new(rounds: u32, passes: u32) -> Result<Tuning, SetupFault>
         ensures is { IfOk result (λ t. t ≡ tuning_of rounds passes) }
@@ -60,6 +62,7 @@ impl Tuning {
             passes,
             divisor: Divisor::usual(),
             factor: Factor::usual(),
+            uncertified: false,
         })
     }
 
@@ -72,6 +75,7 @@ impl Tuning {
             passes: self.passes,
             divisor,
             factor: self.factor,
+            uncertified: self.uncertified,
         }
     }
 
@@ -84,6 +88,20 @@ impl Tuning {
             passes: self.passes,
             divisor: self.divisor,
             factor,
+            uncertified: self.uncertified,
+        }
+    }
+
+    /// The same, but without passes, and without looking for a certificate of what min-sum finds.
+    pub fn without_certificates(self) -> Tuning
+        ensures { result ≡ record self { passes = 0; uncertified = true } }
+    {
+        Tuning {
+            rounds: self.rounds,
+            passes: 0,
+            divisor: self.divisor,
+            factor: self.factor,
+            uncertified: true,
         }
     }
 
@@ -122,5 +140,12 @@ impl Tuning {
         // what it promises of the number is a part of what is promised here
         let _number = self.factor.get();
         self.factor
+    }
+
+    /// Whether no certificate is looked for of what min-sum finds.
+    pub fn is_uncertified(self) -> bool
+        ensures { result ≡ self.uncertified }
+    {
+        self.uncertified
     }
 }

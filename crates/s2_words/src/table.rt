@@ -189,6 +189,8 @@ const RUN_MORE: &str = report!(
 pub(crate) enum Form {
     /// `--name`.
     Flag,
+    /// `--name`, which does not stand with this other word.
+    FlagWithout(&'static str),
     /// `--name VALUE`, a number in a range or of a list. It has to stand where it has no default.
     Number {
         value: &'static str,
@@ -377,6 +379,18 @@ const FACTOR: Word = Word {
     help: "Sixteenths of a size that messages of min-sum have, 8 to 16: more at low code rates",
 };
 
+const UNCERTIFIED: Word = Word {
+    name: "uncertified",
+    form: Form::FlagWithout("passes"),
+    help: "No certificate is looked for of what min-sum finds, which is `parity` then; not with --passes",
+};
+
+const TUNED: Word = Word {
+    name: "tuned",
+    form: Form::Flag,
+    help: "The factor that is best for the mode, --divisor 8192 and --passes 96; words that stand beside it win",
+};
+
 const SEED: Word = Word {
     name: "seed",
     form: Form::Number {
@@ -515,12 +529,13 @@ static ROWS_WORDS: [Word; 6] = [GROUP, GROUPS, Q, WEIGHT, SEED, QUIET];
 static TABLE_WORDS: [Word; 4] = [MODCOD, SHORT, QUIET, ROWS];
 
 /// The words of `judge`, in order.
-static JUDGE_WORDS: [Word; 9] = [
+static JUDGE_WORDS: [Word; 10] = [
     GROUP,
     GROUPS,
     Q,
     CERTIFICATE,
     PASSES,
+    UNCERTIFIED,
     FACTOR,
     QUIET,
     ROWS,
@@ -559,7 +574,7 @@ static NOISE_WORDS: [Word; 6] = [
 ];
 
 /// The words of `demod`, in order.
-static DEMOD_WORDS: [Word; 15] = [
+static DEMOD_WORDS: [Word; 17] = [
     MODCOD,
     SHORT,
     PILOTS,
@@ -567,8 +582,10 @@ static DEMOD_WORDS: [Word; 15] = [
     ROLL_OFF,
     ROUNDS,
     PASSES,
+    UNCERTIFIED,
     DIVISOR,
     FACTOR,
+    TUNED,
     STRICT,
     QUIET_AND_STILL,
     PROGRESS,
@@ -581,7 +598,7 @@ static DEMOD_WORDS: [Word; 15] = [
 ];
 
 /// The words of `run`, in order.
-static RUN_WORDS: [Word; 18] = [
+static RUN_WORDS: [Word; 20] = [
     MODCOD,
     SHORT,
     PILOTS,
@@ -590,8 +607,10 @@ static RUN_WORDS: [Word; 18] = [
     DUMMY,
     ROUNDS,
     PASSES,
+    UNCERTIFIED,
     DIVISOR,
     FACTOR,
+    TUNED,
     SEED,
     LEVEL,
     STRICT,
