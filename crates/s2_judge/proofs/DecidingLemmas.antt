@@ -14,7 +14,7 @@ use Rattle.s2_check.proofs.Strictness.{strictness_lem}
 use Rattle.s2_check.proofs.UnsplitSplits.{unsplit_accepted_lem}
 use Rattle.s2_check.proofs.UnsplitStrict.{unsplit_strict_lem}
 use Rattle.s2_split.specs.Scattered.{repaired}
-use Rattle.s2_judge.specs.Deciding.{Decided, is_strict, verdict_by, certified, uncertified, satisfies, decoded_bits, first_codeword, with_made, view_for, decided, CleanLaw, LikelyLaw, SoleLaw, IsCertificateOf, IsShown, CertifiedLaw, BrokenLaw}
+use Rattle.s2_judge.specs.Deciding.{Decided, is_strict, verdict_by, certified, uncertified, satisfies, decoded_bits, first_codeword, with_made, view_for, min_sum_view, decided, CleanLaw, LikelyLaw, SoleLaw, IsCertificateOf, IsShown, CertifiedLaw, BrokenLaw}
 use Rattle.s2_check.specs.declared.verdict.Verdict.{Verdict}
 use Rattle.s2_check.specs.declared.verdict.Verdict.TheVariants.{Sole, Parity, Broken}
 use Rattle.s2_judge.proofs.Certificates.{found_shown}
@@ -69,12 +69,17 @@ repaired_codeword : (r : Rows) (soft : List ℤ) → satisfies (code_of r) (repa
 repaired_codeword r soft even =
     satisfied_codeword (code_of r) (repaired (code_of r) soft) (length-repaired (code_of r) soft) even
 
+-- what there is was looked for
+looked_for : (b : Bool) (o : Option View) (view : View) → cond b None o ≡ Some view → o ≡ Some view
+looked_for true o view e = cc
+looked_for false o view e = e
+
 pub certified_lem : CertifiedLaw
 certified_lem r tuning soft long =
-    by_ways r tuning soft (IsShown r soft) (λ even. by_certificate r soft (hard_decision soft) _ (unsplit_shown r soft (hard_codeword r soft long even))) (λ view even is. by_certificate r soft (repaired (code_of r) soft) view (found_shown r tuning.passes soft (repaired (code_of r) soft) view (repaired_codeword r soft even) is)) (λ bits none is. with_view bits (found_codeword r tuning.factor tuning.rounds soft bits is) (view_for r tuning.passes soft bits) refl) (λ none is. either (satisfies (code_of r) (repaired (code_of r) soft)))
+    by_ways r tuning soft (IsShown r soft) (λ even. by_certificate r soft (hard_decision soft) _ (unsplit_shown r soft (hard_codeword r soft long even))) (λ view even is. by_certificate r soft (repaired (code_of r) soft) view (found_shown r tuning.passes soft (repaired (code_of r) soft) view (repaired_codeword r soft even) is)) (λ bits none is. with_view bits (found_codeword r tuning.factor tuning.rounds soft bits is) (min_sum_view r tuning soft bits) refl) (λ none is. either (satisfies (code_of r) (repaired (code_of r) soft)))
   where
-    with_view : (bits : List Bool) → IsCodeword (code_of r) bits → (o : Option View) → view_for r tuning.passes soft bits ≡ o → IsShown r soft (with_made r bits o)
-    with_view bits codeword (Some view) e = by_certificate r soft bits view (found_shown r tuning.passes soft bits view codeword e)
+    with_view : (bits : List Bool) → IsCodeword (code_of r) bits → (o : Option View) → min_sum_view r tuning soft bits ≡ o → IsShown r soft (with_made r bits o)
+    with_view bits codeword (Some view) e = by_certificate r soft bits view (found_shown r tuning.passes soft bits view codeword (looked_for tuning.uncertified (view_for r tuning.passes soft bits) view e))
     with_view bits codeword None e = without r soft Parity bits (λ e. cc)
 
     either : (b : Bool) → IsShown r soft (cond b (uncertified Parity (repaired (code_of r) soft)) (uncertified Broken (decoded_bits r tuning.factor soft tuning.rounds)))
@@ -114,7 +119,7 @@ says_yes r verdict bits view other codeword = (λ _. codeword, λ e. absurd (oth
 pub broken_lem : BrokenLaw
 unfolding Says
 broken_lem r tuning soft long some =
-    by_ways r tuning soft (Says r) (λ even. says_yes r (verdict_by (is_strict r (unsplit_view r soft (hard_decision soft)))) (hard_decision soft) (Some (unsplit_view r soft (hard_decision soft))) (not_broken (is_strict r (unsplit_view r soft (hard_decision soft)))) (hard_codeword r soft long even)) (λ view even is. says_yes r (verdict_by (is_strict r view)) (repaired (code_of r) soft) (Some view) (not_broken (is_strict r view)) (repaired_codeword r soft even)) (λ bits none is. with_view bits (found_codeword r tuning.factor tuning.rounds soft bits is) (view_for r tuning.passes soft bits)) (λ none is. either (satisfies (code_of r) (repaired (code_of r) soft)) refl is)
+    by_ways r tuning soft (Says r) (λ even. says_yes r (verdict_by (is_strict r (unsplit_view r soft (hard_decision soft)))) (hard_decision soft) (Some (unsplit_view r soft (hard_decision soft))) (not_broken (is_strict r (unsplit_view r soft (hard_decision soft)))) (hard_codeword r soft long even)) (λ view even is. says_yes r (verdict_by (is_strict r view)) (repaired (code_of r) soft) (Some view) (not_broken (is_strict r view)) (repaired_codeword r soft even)) (λ bits none is. with_view bits (found_codeword r tuning.factor tuning.rounds soft bits is) (min_sum_view r tuning soft bits)) (λ none is. either (satisfies (code_of r) (repaired (code_of r) soft)) refl is)
   where
     with_view : (bits : List Bool) → IsCodeword (code_of r) bits → (o : Option View) → Says r (with_made r bits o)
     with_view bits codeword (Some view) = says_yes r (verdict_by (is_strict r view)) bits (Some view) (not_broken (is_strict r view)) codeword

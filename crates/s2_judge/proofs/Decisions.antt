@@ -16,7 +16,7 @@ use Rattle.s2_check.specs.Checking.{split_in}
 use Rattle.s2_check.specs.Strict.{AreStrict}
 use Rattle.s2_check.specs.Verdicts.{is_certified}
 use Rattle.s2_split.specs.Scattered.{repaired}
-use Rattle.s2_judge.specs.Deciding.{Decided, is_strict, verdict_by, certified, satisfies, decoded_bits, first_codeword, without_certificate, with_made, by_min_sum, repair_view, by_repair, decided, view_for}
+use Rattle.s2_judge.specs.Deciding.{Decided, is_strict, verdict_by, certified, satisfies, decoded_bits, first_codeword, without_certificate, with_made, min_sum_view, by_min_sum, repair_view, by_repair, decided, view_for}
 use Rattle.s2_link.specs.Tuning.{Tuning}
 
 -- ---- the test of every check
@@ -170,7 +170,7 @@ module _ (r : Rows) (tuning : Tuning) (soft : List ℤ) where
   repair_odd e = ap (λ b. cond b (view_for r tuning.passes soft (repaired (code_of r) soft)) None) e
 
   -- a proof for each way is a proof for what is decided
-  pub by_ways : (P : Decided → Type 0) → (satisfies (code_of r) (hard_decision soft) ≡ true → P (certified r (hard_decision soft) (unsplit_view r soft (hard_decision soft)))) → ((view : View) → satisfies (code_of r) (repaired (code_of r) soft) ≡ true → view_for r tuning.passes soft (repaired (code_of r) soft) ≡ Some view → P (certified r (repaired (code_of r) soft) view)) → ((bits : List Bool) → repair_view r tuning.passes soft ≡ None → first_codeword r tuning.factor tuning.rounds soft ≡ Some bits → P (with_made r bits (view_for r tuning.passes soft bits))) → (repair_view r tuning.passes soft ≡ None → first_codeword r tuning.factor tuning.rounds soft ≡ None → P (without_certificate r tuning soft)) → P (decided r tuning soft)
+  pub by_ways : (P : Decided → Type 0) → (satisfies (code_of r) (hard_decision soft) ≡ true → P (certified r (hard_decision soft) (unsplit_view r soft (hard_decision soft)))) → ((view : View) → satisfies (code_of r) (repaired (code_of r) soft) ≡ true → view_for r tuning.passes soft (repaired (code_of r) soft) ≡ Some view → P (certified r (repaired (code_of r) soft) view)) → ((bits : List Bool) → repair_view r tuning.passes soft ≡ None → first_codeword r tuning.factor tuning.rounds soft ≡ Some bits → P (with_made r bits (min_sum_view r tuning soft bits))) → (repair_view r tuning.passes soft ≡ None → first_codeword r tuning.factor tuning.rounds soft ≡ None → P (without_certificate r tuning soft)) → P (decided r tuning soft)
   by_ways P hard repair found left =
       elim (cases_Bool (satisfies (code_of r) (hard_decision soft))) [
         | inl even ↦ subst P (sym (by_hard even)) (hard even)

@@ -17,7 +17,7 @@ use Rattle.s2_minsum.specs.Decoding.{AreWithin, Decoding, decoded}
 use Rattle.s2_link.specs.Tuning.{Tuning}
 use Rattle.s2_judge.specs.declared.ground.Ground.{Ground}
 use Rattle.s2_judge.specs.declared.ground.Ground.TheVariants.{HardDecision, Found, Checks, Nothing}
-use Rattle.s2_judge.specs.Deciding.{Decided, is_strict, verdict_by, certified, uncertified, satisfies, after_rounds, decoded_bits, first_codeword, with_made, by_min_sum, repair_view, by_repair, decided, view_for}
+use Rattle.s2_judge.specs.Deciding.{Decided, is_strict, verdict_by, certified, uncertified, satisfies, after_rounds, decoded_bits, first_codeword, with_made, by_min_sum, repair_view, by_repair, decided, min_sum_view}
 use Rattle.s2_judge.specs.Judging.{shown_by, verdict_of, view_by}
 use Rattle.s2_judge.proofs.Decisions.{strict_is, by_hard, not_hard}
 
@@ -84,7 +84,7 @@ pub by_same : (r q : Rows) (tuning : Tuning) (soft : List ℤ) (bits : List Bool
 by_same r q tuning soft bits found ground rows is =
     subst (λ (q : Rows). by_min_sum q tuning soft (first_codeword q tuning.factor tuning.rounds soft) ≡ shown_by q soft bits found ground) rows is
 
-pub step_three : (r : Rows) (tuning : Tuning) (soft : List ℤ) (bits : List Bool) (d : Decided) → first_codeword r tuning.factor tuning.rounds soft ≡ Some bits → with_made r bits (view_for r tuning.passes soft bits) ≡ d → by_min_sum r tuning soft (first_codeword r tuning.factor tuning.rounds soft) ≡ d
+pub step_three : (r : Rows) (tuning : Tuning) (soft : List ℤ) (bits : List Bool) (d : Decided) → first_codeword r tuning.factor tuning.rounds soft ≡ Some bits → with_made r bits (min_sum_view r tuning soft bits) ≡ d → by_min_sum r tuning soft (first_codeword r tuning.factor tuning.rounds soft) ≡ d
 step_three r tuning soft bits d is with_ = ap (by_min_sum r tuning soft) is ∙ with_
 
 pub step_four : (r : Rows) (tuning : Tuning) (soft : List ℤ) (bits : List Bool) (found : Option Shared) → first_codeword r tuning.factor tuning.rounds soft ≡ None → satisfies (code_of r) (repaired (code_of r) soft) ≡ true → bits ≡ repaired (code_of r) soft → by_min_sum r tuning soft (first_codeword r tuning.factor tuning.rounds soft) ≡ shown_by r soft bits found Checks

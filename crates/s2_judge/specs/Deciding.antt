@@ -88,9 +88,14 @@ abbrev pub with_made : Rows → List Bool → Option View → Decided
 with_made r bits (Some view) = certified r bits view
 with_made r bits None = uncertified Parity bits
 
+-- the certificate that is made for a codeword that min-sum found: none where those stay uncertified
+abbrev pub min_sum_view : Rows → Tuning → List ℤ → List Bool → Option View
+min_sum_view r tuning soft bits =
+    if tuning.uncertified then None else view_for r tuning.passes soft bits
+
 -- step 3: what min-sum found
 abbrev pub by_min_sum : Rows → Tuning → List ℤ → Option (List Bool) → Decided
-by_min_sum r tuning soft (Some bits) = with_made r bits (view_for r tuning.passes soft bits)
+by_min_sum r tuning soft (Some bits) = with_made r bits (min_sum_view r tuning soft bits)
 by_min_sum r tuning soft None = without_certificate r tuning soft
 
 -- the certificate that is made for the repair, if that satisfies every check

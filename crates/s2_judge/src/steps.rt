@@ -91,6 +91,9 @@ fn decide_by_min_sum(
 {
     let (rounds, factor) = (tuning.rounds(), tuning.factor());
     if decode(certifier.matrix(), decoder, soft, rounds, factor, bits) {
+        if tuning.is_uncertified() {
+            return Ground::Checks;
+        }
         if certifier.certify(soft, bits) {
             return Ground::Found(certifier.is_strict());
         }

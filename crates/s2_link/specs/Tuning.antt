@@ -1,5 +1,5 @@
 -- How a receiver is tuned, and which numbers are refused.
-use Rattle.std.specs.Prelude.{◌≡◌, ℕ, ◌<◌, ◌≤◌, ◌⊎◌}
+use Rattle.std.specs.Prelude.{◌≡◌, IsTrue, Bool, false, ℕ, ◌<◌, ◌≤◌, ◌⊎◌}
 use Rattle.s2_soft.specs.Divisors.{IsDivisor, default_divisor}
 use Rattle.s2_minsum.specs.Factors.{IsFactor, default_factor}
 use Rattle.s2_plframe.specs.Constants.{most_wrong}
@@ -9,19 +9,23 @@ use Rattle.s2_link.specs.declared.fault.SetupFault.TheVariants as faults
 use Rattle.s2_link.specs.Limits.{most_rounds, most_passes}
 
 -- so many rounds of min-sum, so many passes of settling, what soft values are divided by, and how many sixteenths of the least
--- size min-sum's messages have, and how many bits of a header may be wrong right behind a frame; with no passes a certificate is made by greedy amounts and spreading
+-- size min-sum's messages have, and how many bits of a header may be wrong right behind a frame; with no passes a certificate is made by
+-- greedy amounts and spreading; uncertified, none is made for what min-sum finds
 pub record Tuning : Type 0 where
   pub rounds : ℕ
   pub passes : ℕ
   pub divisor : ℕ
   pub factor : ℕ
   pub lock : ℕ
+  pub uncertified : Bool
 
--- so many rounds and passes, and the usual divisor, factor and lock
+-- so many rounds and passes, and the usual divisor, factor and lock, with certificates
 abbrev pub tuning_of : ℕ → ℕ → Tuning
-tuning_of rounds passes = record { rounds = rounds; passes = passes; divisor = default_divisor; factor = default_factor; lock = most_wrong }
+tuning_of rounds passes =
+    record { rounds = rounds; passes = passes; divisor = default_divisor; factor = default_factor; lock = most_wrong; uncertified = false }
 
--- at least one round of min-sum, no more rounds and no more passes of settling than may be, and a divisor, a factor and a lock that there are
+-- at least one round of min-sum, no more rounds and no more passes of settling than may be, a divisor, a factor and a lock that there
+-- are, and no passes where min-sum's words stay uncertified
 pub record IsTuning (tuning : Tuning) : Type 0 where
   pub some : 1 ≤ tuning.rounds
   pub most : tuning.rounds ≤ most_rounds
@@ -29,6 +33,7 @@ pub record IsTuning (tuning : Tuning) : Type 0 where
   pub divisor : IsDivisor tuning.divisor
   pub factor : IsFactor tuning.factor
   pub lock : IsLock tuning.lock
+  pub uncertified : IsTrue tuning.uncertified → tuning.passes ≡ 0
 
 -- when rounds and passes are refused: the first of two
 abbrev pub RefusesTuning : Tuning → SetupFault → Type 0

@@ -1,5 +1,5 @@
 //! How a receiver is tuned.
-ghost use Rattle.std.specs.Prelude.{◌≡◌, ◌≤◌, IfOk, IfErr};
+ghost use Rattle.std.specs.Prelude.{◌≡◌, ◌≤◌, IfOk, IfErr, true};
 ghost use Rattle.s2_link.specs.Limits.{most_rounds, most_passes};
 ghost use Rattle.s2_soft.specs.Divisors.{IsDivisor};
 ghost use Rattle.s2_minsum.specs.Factors.{IsFactor};
@@ -23,7 +23,7 @@ pub const MOST_PASSES: u32 = 1000;
 
 /// How a receiver is tuned: so many rounds of min-sum, 1 to 200, so many passes of settling, 0 to 1000, what soft
 /// values are divided by, how many sixteenths of the least size min-sum's messages have, and how many bits of a header
-/// may be wrong right behind a frame.
+/// may be wrong right behind a frame. Uncertified, with no passes, no certificate is looked for of what min-sum finds.
 #[derive(Clone, Copy, Debug, PartialEq, Eq)]
 pub struct Tuning {
     rounds: u32,
@@ -31,6 +31,7 @@ pub struct Tuning {
     divisor: Divisor,
     factor: Factor,
     lock: Lock,
+    uncertified: bool,
 }
 
 impl Model for Tuning {
@@ -38,15 +39,15 @@ impl Model for Tuning {
 
     ghost Value = { TuningValue };
 
-    ghost view = { λ t. record { rounds = t.rounds; passes = t.passes; divisor = t.divisor; factor = t.factor; lock = t.lock } };
+    ghost view = { λ t. record { rounds = t.rounds; passes = t.passes; divisor = t.divisor; factor = t.factor; lock = t.lock; uncertified = t.uncertified } };
 
-    ghost invariant = { λ t. IsTuning (record { rounds = t.rounds; passes = t.passes; divisor = t.divisor; factor = t.factor; lock = t.lock }) };
+    ghost invariant = { λ t. IsTuning (record { rounds = t.rounds; passes = t.passes; divisor = t.divisor; factor = t.factor; lock = t.lock; uncertified = t.uncertified }) };
 
-    ghost inverse = { λ v. record { rounds = v.rounds; passes = v.passes; divisor = v.divisor; factor = v.factor; lock = v.lock } };
+    ghost inverse = { λ v. record { rounds = v.rounds; passes = v.passes; divisor = v.divisor; factor = v.factor; lock = v.lock; uncertified = v.uncertified } };
 }
 
 impl Tuning {
-    /// So many rounds and passes, the usual divisor, 4096, the usual factor, 12, and the usual lock, 12. Of two refusals the first is answered: `BadRounds`
+    /// So many rounds and passes, the usual divisor, 4096, the usual factor, 12, and the usual lock, 12, with certificates. Of two refusals the first is answered: `BadRounds`
     /// where the rounds are not 1 to 200, `BadPasses` where the passes are over 1000.
     pub fn new(rounds: u32, passes: u32) -> Result<Tuning, SetupFault>
         ensures is { IfOk result (λ t. t ≡ tuning_of rounds passes) }
@@ -65,6 +66,7 @@ impl Tuning {
             divisor: Divisor::usual(),
             factor: Factor::usual(),
             lock: Lock::usual(),
+            uncertified: false,
         })
     }
 
@@ -78,6 +80,7 @@ impl Tuning {
             divisor,
             factor: self.factor,
             lock: self.lock,
+            uncertified: self.uncertified,
         }
     }
 
@@ -91,6 +94,7 @@ impl Tuning {
             divisor: self.divisor,
             factor,
             lock: self.lock,
+            uncertified: self.uncertified,
         }
     }
 
@@ -104,6 +108,21 @@ impl Tuning {
             divisor: self.divisor,
             factor: self.factor,
             lock,
+            uncertified: self.uncertified,
+        }
+    }
+
+    /// The same, but without passes, and without looking for a certificate of what min-sum finds.
+    pub fn without_certificates(self) -> Tuning
+        ensures { result ≡ record self { passes = 0; uncertified = true } }
+    {
+        Tuning {
+            rounds: self.rounds,
+            passes: 0,
+            divisor: self.divisor,
+            factor: self.factor,
+            lock: self.lock,
+            uncertified: true,
         }
     }
 
@@ -152,5 +171,12 @@ impl Tuning {
         // what it promises of the number is a part of what is promised here
         let _number = self.lock.get();
         self.lock
+    }
+
+    /// Whether no certificate is looked for of what min-sum finds.
+    pub fn is_uncertified(self) -> bool
+        ensures { result ≡ self.uncertified }
+    {
+        self.uncertified
     }
 }

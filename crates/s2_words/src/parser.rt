@@ -28,10 +28,14 @@ fn valued<'a>(
     }
 }
 
-fn arg_of<'a>(alloc: Global, word: Word, values: Values) -> Arg<'a> {
+fn arg_of<'a>(alloc: Global, word: Word, values: Values) -> Result<Arg<'a>, AllocError> {
     let arg = Arg::new(alloc, word.name).help(word.help);
-    match word.form {
+    let arg = match word.form {
         Form::Flag => arg.long(word.name).action(ArgAction::SetTrue),
+        Form::FlagWithout(other) => arg
+            .long(word.name)
+            .action(ArgAction::SetTrue)
+            .conflicts_with(other)?,
         Form::Number {
             value,
             allowed,
@@ -53,7 +57,8 @@ fn arg_of<'a>(alloc: Global, word: Word, values: Values) -> Arg<'a> {
         }
         Form::NamedFile => arg.long(word.name).value_name("FILE"),
         Form::File => arg.required(true),
-    }
+    };
+    Ok(arg)
 }
 
 pub(crate) fn command_of<'a>(
@@ -65,7 +70,7 @@ pub(crate) fn command_of<'a>(
         .about(entry.about)
         .after_help(more_of(entry.command));
     for word in words_of(entry.command) {
-        command = command.arg(arg_of(alloc, *word, values))?;
+        command = command.arg(arg_of(alloc, *word, values)?)?;
     }
     Ok(command)
 }

@@ -5,7 +5,8 @@ use crate::request::{
     ChannelWords, CheckWords, DemodWords, JudgeWords, LinkWords, ModWords, ModesWords, NoiseWords,
     NoteWords, Progress, Request, RowsWords, RunWords, ShapeWords, TableWords,
 };
-use crate::told::{modcod_told, progress_told};
+use crate::told::{modcod_told, number_told, progress_told, tuned_factor};
+use clap::parser::ValueSource;
 use clap::{ArgMatches, Error};
 use s2_link::{DEFAULT_ROUNDS, RollOff, Tuning};
 use s2_minsum::Factor;
@@ -14,6 +15,15 @@ use s2_plframe::Lock;
 use s2_scramble::ScramblingNumber;
 use s2_soft::Divisor;
 use std::alloc::Global;
+
+/// The divisor that `--tuned` says.
+const TUNED_DIVISOR: u32 = 8192;
+
+/// The lock that `--tuned` says.
+const TUNED_LOCK: u32 = 30;
+
+/// The passes that `--tuned` says.
+const TUNED_PASSES: u32 = 96;
 
 fn shape_of(m: &ArgMatches<'_>) -> Option<ShapeWords> {
     Some(ShapeWords {
@@ -37,12 +47,33 @@ fn factor_of(m: &ArgMatches<'_>) -> Option<Factor> {
     Factor::new(m.get_one::<u32>("factor")?)
 }
 
+/// A number that stands on the line, else what `--tuned` says where that does, else its default.
+fn tuned_number(m: &ArgMatches<'_>, name: &str, tuned: u32) -> Option<u32> {
+    let stands = match m.value_source(name) {
+        Some(ValueSource::CommandLine) => true,
+        _ => false,
+    };
+    let number = m.get_one::<u32>(name)?;
+    Some(number_told(stands, m.get_flag("tuned"), number, tuned))
+}
+
+/// The same tuning, without certificates of what min-sum finds where the line asks for that.
+fn certified_by(m: &ArgMatches<'_>, tuning: Tuning) -> Tuning {
+    if m.get_flag("uncertified") {
+        tuning.without_certificates()
+    } else {
+        tuning
+    }
+}
+
 fn tuning_of(m: &ArgMatches<'_>) -> Option<Tuning> {
-    let divisor = Divisor::new(m.get_one::<u32>("divisor")?)?;
-    let tuning = Tuning::new(m.get_one::<u32>("rounds")?, m.get_one::<u32>("passes")?).ok()?;
-    let lock = Lock::new(m.get_one::<u32>("lock")?)?;
-    let factor = factor_of(m)?;
-    Some(tuning.with_divisor(divisor).with_factor(factor).with_lock(lock))
+    let modcod = modcod_told(m.get_str("modcod")?)?;
+    let divisor = Divisor::new(tuned_number(m, "divisor", TUNED_DIVISOR)?)?;
+    let factor = Factor::new(tuned_number(m, "factor", tuned_factor(modcod))?)?;
+    let lock = Lock::new(tuned_number(m, "lock", TUNED_LOCK)?)?;
+    let passes = tuned_number(m, "passes", TUNED_PASSES)?;
+    let tuning = Tuning::new(m.get_one::<u32>("rounds")?, passes).ok()?;
+    Some(certified_by(m, tuning.with_divisor(divisor).with_factor(factor).with_lock(lock)))
 }
 
 fn channel_of(m: &ArgMatches<'_>) -> Option<ChannelWords> {
@@ -92,7 +123,7 @@ fn judge_of<'a>(m: &ArgMatches<'a>) -> Option<Request<'a>> {
     let tuning = Tuning::new(DEFAULT_ROUNDS, m.get_one::<u32>("passes")?).ok()?;
     Some(Request::Judge(JudgeWords {
         shape: shape_of(m)?,
-        tuning: tuning.with_factor(factor_of(m)?),
+        tuning: certified_by(m, tuning.with_factor(factor_of(m)?)),
         certificate: m.get_str("cert"),
         rows: m.get_str("ROWS")?,
         soft: m.get_str("SOFT")?,

@@ -193,6 +193,8 @@ const RUN_MORE: &str = report!(
 pub(crate) enum Form {
     /// `--name`.
     Flag,
+    /// `--name`, which does not stand with this other word.
+    FlagWithout(&'static str),
     /// `--name VALUE`, a number in a range or of a list. It has to stand where it has no default.
     Number {
         value: &'static str,
@@ -391,6 +393,18 @@ const LOCK: Word = Word {
     help: "Bits of a header that may be wrong right behind a frame, 12 to 40; elsewhere 12 may",
 };
 
+const UNCERTIFIED: Word = Word {
+    name: "uncertified",
+    form: Form::FlagWithout("passes"),
+    help: "No certificate is looked for of what min-sum finds, which is `parity` then; not with --passes",
+};
+
+const TUNED: Word = Word {
+    name: "tuned",
+    form: Form::Flag,
+    help: "The factor that is best for the mode, --lock 30, --divisor 8192 and --passes 96; words that stand beside it win",
+};
+
 const SEED: Word = Word {
     name: "seed",
     form: Form::Number {
@@ -529,12 +543,13 @@ static ROWS_WORDS: [Word; 6] = [GROUP, GROUPS, Q, WEIGHT, SEED, QUIET];
 static TABLE_WORDS: [Word; 4] = [MODCOD, SHORT, QUIET, ROWS];
 
 /// The words of `judge`, in order.
-static JUDGE_WORDS: [Word; 9] = [
+static JUDGE_WORDS: [Word; 10] = [
     GROUP,
     GROUPS,
     Q,
     CERTIFICATE,
     PASSES,
+    UNCERTIFIED,
     FACTOR,
     QUIET,
     ROWS,
@@ -573,7 +588,7 @@ static NOISE_WORDS: [Word; 6] = [
 ];
 
 /// The words of `demod`, in order.
-static DEMOD_WORDS: [Word; 16] = [
+static DEMOD_WORDS: [Word; 18] = [
     MODCOD,
     SHORT,
     PILOTS,
@@ -581,9 +596,11 @@ static DEMOD_WORDS: [Word; 16] = [
     ROLL_OFF,
     ROUNDS,
     PASSES,
+    UNCERTIFIED,
     DIVISOR,
     FACTOR,
     LOCK,
+    TUNED,
     STRICT,
     QUIET_AND_STILL,
     PROGRESS,
@@ -596,7 +613,7 @@ static DEMOD_WORDS: [Word; 16] = [
 ];
 
 /// The words of `run`, in order.
-static RUN_WORDS: [Word; 19] = [
+static RUN_WORDS: [Word; 21] = [
     MODCOD,
     SHORT,
     PILOTS,
@@ -605,9 +622,11 @@ static RUN_WORDS: [Word; 19] = [
     DUMMY,
     ROUNDS,
     PASSES,
+    UNCERTIFIED,
     DIVISOR,
     FACTOR,
     LOCK,
+    TUNED,
     SEED,
     LEVEL,
     STRICT,

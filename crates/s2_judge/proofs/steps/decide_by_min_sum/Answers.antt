@@ -21,6 +21,16 @@ pub satisfied-requires : goal.satisfied-requires
 satisfied-requires c =
     ap length c.requires.repair ∙ length-repaired (code_of c.args.certifier.now.rows) c.args.soft.now ∙ sym (ap (λ (q : Rows). (code_of q).bits) c.matrix-2.ensures)
 
+pub returns-then-is_uncertified-clause-decided : goal.returns-then-is_uncertified-clause-decided
+returns-then-is_uncertified-clause-decided c =
+    let r = c.args.certifier.now.rows in
+    let soft = c.args.soft.now in
+    let tuning = c.args.tuning in
+    let bits = c.decode.new.bits in
+    let first = sym (λ i. first_codeword (c.matrix.ensures i) (c.factor-factor.ensures.is i) (c.rounds-rounds.ensures.is i) soft) ∙ c.decode.ensures.first ∙ ap (λ b. cond b (Some bits) None) c.if-decode.true in
+    let left = sym c.is_uncertified.ensures ∙ c.if-is_uncertified.true in
+    step_three r tuning soft bits _ first (ap (with_made r bits) (ap (λ b. cond b None (view_for r tuning.passes soft bits)) left))
+
 pub returns-then-certify-clause-decided : goal.returns-then-certify-clause-decided
 returns-then-certify-clause-decided c =
     let r = c.args.certifier.now.rows in
@@ -31,7 +41,8 @@ returns-then-certify-clause-decided c =
     let first = sym (λ i. first_codeword (c.matrix.ensures i) (c.factor-factor.ensures.is i) (c.rounds-rounds.ensures.is i) soft) ∙ c.decode.ensures.first ∙ ap (λ b. cond b (Some bits) None) c.if-decode.true in
     let strict = subst (λ (b : Bool). IfSome found (λ s. is_strict r (shared_view r soft bits s) ≡ b)) (sym c.is_strict.ensures) c.certify.ensures.strict in
     let shown = sym (ap (λ p. with_made r bits (view_for r p soft bits)) c.requires.passes) ∙ ap (with_made r bits) c.certify.ensures.view ∙ with_found r soft bits found c.is_strict.result (c.certify.ensures.found.0 c.if-certify.true) strict in
-    step_three r tuning soft bits _ first shown
+    let looked = sym c.is_uncertified.ensures ∙ c.if-is_uncertified.false in
+    step_three r tuning soft bits _ first (ap (with_made r bits) (ap (λ b. cond b None (view_for r tuning.passes soft bits)) looked) ∙ shown)
 
 pub returns-then-decode-clause-decided : goal.returns-then-decode-clause-decided
 returns-then-decode-clause-decided c =
@@ -43,7 +54,8 @@ returns-then-decode-clause-decided c =
     let first = sym (λ i. first_codeword (c.matrix.ensures i) (c.factor-factor.ensures.is i) (c.rounds-rounds.ensures.is i) soft) ∙ c.decode.ensures.first ∙ ap (λ b. cond b (Some bits) None) c.if-decode.true in
     let none = found_nothing c.certify.result found c.certify.ensures.found c.if-certify.false in
     let shown = sym (ap (λ p. with_made r bits (view_for r p soft bits)) c.requires.passes) ∙ ap (with_made r bits) c.certify.ensures.view ∙ with_none r soft bits found none in
-    step_three r tuning soft bits _ first shown
+    let looked = sym c.is_uncertified.ensures ∙ c.if-is_uncertified.false in
+    step_three r tuning soft bits _ first (ap (with_made r bits) (ap (λ b. cond b None (view_for r tuning.passes soft bits)) looked) ∙ shown)
 
 pub returns-then-satisfied-clause-decided : goal.returns-then-satisfied-clause-decided
 returns-then-satisfied-clause-decided c =
