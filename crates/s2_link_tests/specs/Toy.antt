@@ -25,5 +25,5 @@ place_for q = if int_lt q (pos 0) then None else (if int_lt q (pos 2) then Some 
 -- what is decided then: the field is the same each time
 abbrev pub decision_for : List ℕ → Option ℕ → Decision
 decision_for bytes (Some place) =
-    record { soft = []; bits = []; verdict = MostLikely; message = []; outcome = Delivered 0; delivered = Some (record { roll_off = 0; second = 0; dfl = 800; syncd = place }, bytes) }
-decision_for bytes None = record { soft = []; bits = []; verdict = Broken; message = []; outcome = NoWord; delivered = None }
+    record { soft = []; bits = []; verdict = MostLikely; certificate = None; message = []; outcome = Delivered 0; delivered = Some (record { roll_off = 0; second = 0; dfl = 800; syncd = place }, bytes) }
+decision_for bytes None = record { soft = []; bits = []; verdict = Broken; certificate = None; message = []; outcome = NoWord; delivered = None }

@@ -37,10 +37,10 @@ use Rattle.s2_receive.specs.Laws.{IsReceived}
 use Rattle.s2_link.specs.Link.{Link, HasShape}
 use Rattle.s2_send.specs.Frames.{padded_bits, baseband_frame, IsCodewordFor}
 use Rattle.s2_receive.specs.Windows.{found_as}
-use Rattle.s2_judge.specs.Deciding.{Decided, decided}
+use Rattle.s2_judge.specs.Deciding.{Decided, decided, IsShown}
 use Rattle.s2_link.specs.Tuning.{Tuning}
 use Rattle.s2_modem.specs.Reports.{frame_soft, received_word, message_of, header_in, field_in, outcome_by, delivered_by, decision_by, decision_on, frame_decision}
-use Rattle.s2_modem.specs.Reception.{AllAsLikely, link_rules}
+use Rattle.s2_modem.specs.Reception.{AllAsLikely, AllCertified, IsCertifiedBy, link_rules}
 use Rattle.s2_send.specs.Laws.{IsLinkOf}
 use Rattle.s2_modem.specs.Both.{IsByte, AreBytes, sent_symbols, IsCertifiedFrame, Hears}
 use Rattle.s2_modem.specs.Headline.{IsDelivered, IsSent, IsDeliveredCertified, HearsLaw, ArrivalLaw, LikelyFrameLaw, SoleFrameLaw}
@@ -50,7 +50,7 @@ use Rattle.s2_mode.specs.Limits.{most_symbols}
 use Rattle.s2_plframe.specs.Payload.{received_payload}
 use Rattle.s2_check.specs.declared.verdict.Verdict.TheVariants.{Sole}
 use Rattle.s2_modem.proofs.Arrival.{arrives}
-use Rattle.s2_judge.proofs.DecidingLemmas.{clean_lem, likely_lem, sole_lem}
+use Rattle.s2_judge.proofs.DecidingLemmas.{clean_lem, certified_lem, likely_lem, sole_lem}
 use Rattle.s2_judge.proofs.Scattering.{scattered_lem}
 use Rattle.s2_judge.proofs.DecidedLengths.{decided_long}
 use Rattle.s2_modem.proofs.DecisionLemmas.{code_is}
@@ -182,7 +182,15 @@ decision_bits : (m : Mode) (soft : List ℤ) (d : Decided) (o : Option (List Boo
 decision_bits m soft d (Some word) = refl
 decision_bits m soft d None = refl
 
+decision_certified : (r : Rows) (m : Mode) (soft : List ℤ) (d : Decided) (o : Option (List Bool)) → IsShown r soft d → IsCertifiedBy r (decision_by m soft d o).verdict (decision_by m soft d o)
+decision_certified r m soft d (Some word) shown = record { some = shown.some; only = shown.only; certified = shown.certified; strict = shown.strict }
+decision_certified r m soft d None shown = record { some = shown.some; only = shown.only; certified = shown.certified; strict = shown.strict }
+
 module _ (link : Link) (tuning : Tuning) (symbols : List Symbol) where
+  pub frame_certified : IsShown link.rows (frame_soft link tuning symbols) (decided link.rows tuning (frame_soft link tuning symbols)) → IsCertifiedBy link.rows (frame_decision link tuning symbols).verdict (frame_decision link tuning symbols)
+  unfolding frame_decision
+  frame_certified = decision_certified link.rows link.setup.mode (frame_soft link tuning symbols) (decided link.rows tuning (frame_soft link tuning symbols)) _
+
   pub frame_verdict : (frame_decision link tuning symbols).verdict ≡ (decided link.rows tuning (frame_soft link tuning symbols)).verdict
   unfolding frame_decision
   frame_verdict = decision_verdict link.setup.mode (frame_soft link tuning symbols) (decided link.rows tuning (frame_soft link tuning symbols)) _
@@ -308,6 +316,11 @@ module _ (m : Mode) (valid : IsMode m) (sizes : HasCodeSizes m) where
 
   pub all_as_likely : (link : Link) (tuning : Tuning) → IsLinkOf m link → AllAsLikely link tuning
   all_as_likely link tuning linked = λ symbols. record { likely = likely_law link tuning symbols linked; sole = sole_law link tuning symbols linked }
+
+  pub all_certified : (link : Link) (tuning : Tuning) → IsLinkOf m link → AllCertified link tuning
+  all_certified link tuning linked = λ symbols.
+      let long = length_soft link (subst IsMode (sym linked.0) valid) (subst HasCodeSizes (sym linked.0) sizes) linked.1 tuning symbols in
+      frame_certified link tuning symbols (certified_lem link.rows tuning (frame_soft link tuning symbols) long)
 
   module _ (link : Link) (tuning : Tuning) (at : ℕ) (symbols : List Symbol) (field : List ℕ) (codeword : List Bool) (sent : IsSent m link at field codeword) where
     pub scattered_law : IsScattered (code_of link.rows) (frame_soft link tuning symbols) codeword → IsDeliveredCertified (frame_decision link tuning symbols) codeword (header_at link.setup.roll_off at field) field

@@ -1,8 +1,8 @@
 -- What a decider finds is what is decided of a frame.
 use Rattle.std.proofs.Common.{◌≡◌, ℕ, ◌+◌, ◌-◌, ◌*◌, ◌/◌, ◌%◌, ◌<◌, ◌≤◌, ◌⊎◌, Bool, true, false, List, length, take, Option, Some, None, IfSome, IfNone, Result, Ok, Err, refl, sym, ap, subst, ◌∙◌, arith, inl, inr, length-take, ℤ}
-use Rattle.std.specs.Prelude.{◌||◌}
+use Rattle.std.specs.Prelude.{◌||◌, replicate, pos}
 use Rattle.std.proofs.lemmas.Bool.{cases_Bool, leb-true, eqb-true}
-use Rattle.std.proofs.lemmas.List.{ext_get_or, get_or-take, take_all}
+use Rattle.std.proofs.lemmas.List.{ext_get_or, get_or-take, take_all, take-replicate}
 use Rattle.s2_bbframe.specs.DataStream.{field_bytes}
 use Rattle.s2_mode.specs.Mode.{Mode, HasCodeSizes, k_of, kbch_of, t_of, n_of, shape_in}
 use Rattle.s2_mode.specs.Shape.{code_bits}
@@ -10,6 +10,7 @@ use Rattle.s2_mode.specs.declared.symbols.Symbol.{Symbol}
 use Rattle.s2_rows.specs.Rows.{Rows}
 use Rattle.s2_matrix.specs.Code.{code_of}
 use Rattle.s2_check.specs.declared.verdict.Verdict.{Verdict}
+use Rattle.s2_check.specs.Views.{View}
 use Rattle.s2_link.specs.Link.{Link}
 use Rattle.s2_bits.specs.Bits.{bit_at, bytes_from, differences, Rewritten}
 use Rattle.s2_bbframe.specs.declared.header.Header.{Header}
@@ -21,13 +22,14 @@ use Rattle.s2_bch.specs.Codes.{IsWithin}
 use Rattle.s2_bch.specs.Decoding.{nearest}
 use Rattle.s2_receive.specs.Parts.{HasPlace}
 use Rattle.s2_receive.specs.Receiving.{Decision}
+use Rattle.s2_receive.specs.declared.parts.Decided.{Decided as Answer}
 use Rattle.s2_receive.specs.declared.report.Outcome.{Outcome}
 use Rattle.s2_judge.specs.Deciding.{Decided, decided}
 use Rattle.s2_link.specs.Tuning.{Tuning}
-use Rattle.s2_modem.specs.Reports.{frame_soft, frame_decision, received_word, message_of, header_in, outcome_by, delivered_by, decision_on, decision_by}
+use Rattle.s2_modem.specs.Reports.{frame_soft, frame_decision, received_word, message_of, header_in, outcome_by, delivered_by, decision_on, decision_by, IsUndecided}
 use Rattle.s2_scramble.specs.Baseband.{scrambled}
 use Rattle.s2_receive.specs.declared.report.Outcome.TheVariants.{NoWord}
-use Rattle.s2_modem.specs.Listening.{FindsWord, Reads}
+use Rattle.s2_modem.specs.Listening.{FindsWord, Reads, decision_held}
 
 -- a list over which the first bits of another were written, as many as it has
 pub prefix_is : (n : ℕ) (bits old now : List Bool) → Rewritten false n (bit_at bits) old now → length old ≡ n → n ≤ length bits → now ≡ take n bits
@@ -117,10 +119,11 @@ has_place m h field sizes valid long =
     )
 
 abbrev made : Mode → List ℤ → Decided → List Bool → Outcome → Option (Header × List ℕ) → Decision
-made m soft d word outcome delivered = record { soft = soft; bits = d.bits; verdict = d.verdict; message = message_of m word; outcome = outcome; delivered = delivered }
+made m soft d word outcome delivered = record { soft = soft; bits = d.bits; verdict = d.verdict; certificate = d.certificate; message = message_of m word; outcome = outcome; delivered = delivered }
 
-abbrev pub shown : Mode → List ℤ → List Bool → Verdict → List Bool → Outcome → Option (Header × List ℕ) → Decision
-shown m soft bits verdict word outcome delivered = record { soft = soft; bits = bits; verdict = verdict; message = message_of m word; outcome = outcome; delivered = delivered }
+abbrev pub shown : Mode → List ℤ → List Bool → Verdict → Option View → List Bool → Outcome → Option (Header × List ℕ) → Decision
+shown m soft bits verdict certificate word outcome delivered =
+    record { soft = soft; bits = bits; verdict = verdict; certificate = certificate; message = message_of m word; outcome = outcome; delivered = delivered }
 
 -- what was found and read is what is decided
 pub decision_is : (m : Mode) (soft : List ℤ) (d : Decided) (word : List Bool) (found : Option ℕ) (outcome : Outcome) (delivered : Option (Header × List ℕ))
@@ -139,16 +142,17 @@ decision_is m soft d word None outcome delivered finds reads =
     ∙ ap (decision_by m soft d) (sym finds.0)
 
 -- the parts that a decider finds are what is decided of a frame
-pub frame_decided : (link : Link) (tuning : Tuning) (symbols : List Symbol) (soft : List ℤ) (bits : List Bool) (verdict : Verdict) (word : List Bool) (found : Option ℕ) (outcome : Outcome) (delivered : Option (Header × List ℕ))
-    → soft ≡ frame_soft link tuning symbols → verdict ≡ (decided link.rows tuning soft).verdict → bits ≡ (decided link.rows tuning soft).bits
+pub frame_decided : (link : Link) (tuning : Tuning) (symbols : List Symbol) (soft : List ℤ) (bits : List Bool) (verdict : Verdict) (certificate : Option View) (word : List Bool) (found : Option ℕ) (outcome : Outcome) (delivered : Option (Header × List ℕ))
+    → soft ≡ frame_soft link tuning symbols → verdict ≡ (decided link.rows tuning soft).verdict → bits ≡ (decided link.rows tuning soft).bits → certificate ≡ (decided link.rows tuning soft).certificate
     → FindsWord link.setup.mode (received_word link.setup.mode bits) word found → Reads link.setup.mode word found outcome delivered
-    → shown link.setup.mode soft bits verdict word outcome delivered ≡ frame_decision link tuning symbols
+    → shown link.setup.mode soft bits verdict certificate word outcome delivered ≡ frame_decision link tuning symbols
 unfolding frame_decision
-frame_decided link tuning symbols soft bits verdict word found outcome delivered soft_is verdict_is bits_are finds reads =
+frame_decided link tuning symbols soft bits verdict certificate word found outcome delivered soft_is verdict_is bits_are certificate_is finds reads =
     let m = link.setup.mode in
     let d : Decided = decided link.rows tuning soft in
-    ap (λ v. shown m soft bits v word outcome delivered) verdict_is
-    ∙ ap (λ b. shown m soft b d.verdict word outcome delivered) bits_are
+    ap (λ v. shown m soft bits v certificate word outcome delivered) verdict_is
+    ∙ ap (λ b. shown m soft b d.verdict certificate word outcome delivered) bits_are
+    ∙ ap (λ x. shown m soft d.bits d.verdict x word outcome delivered) certificate_is
     ∙ decision_is m soft d word found outcome delivered (subst (λ b. FindsWord m (received_word m b) word found) bits_are finds) reads
     ∙ ap (λ s. decision_on m s (decided link.rows tuning s)) soft_is
 
@@ -171,3 +175,16 @@ field_fits m h n sizes valid is =
     let short = short_field m h valid in
     let whole = sizes.field in
     (omega (arith, is, short, whole), omega (arith, is, short, whole))
+
+-- before a frame came all are zeros
+pub undecided : (m : Mode) (rows : Rows) (soft : List ℤ) (bits word : List Bool) (certificate : Option View) (d : Answer) (field : List ℕ) → HasCodeSizes m → rows.shape ≡ shape_in m
+    → soft ≡ replicate (code_of rows).bits (pos 0) → bits ≡ replicate (code_of rows).bits false → certificate ≡ None → word ≡ replicate (k_of m) false
+    → IsUndecided m (decision_held m soft bits certificate word d field)
+undecided m rows soft bits word certificate d field sizes shape soft_is bits_are none word_is =
+    let long = code_is m rows sizes shape in
+    record {
+      soft = soft_is ∙ ap (λ n. replicate n (pos 0)) long;
+      bits = bits_are ∙ ap (λ n. replicate n false) long;
+      certificate = none;
+      message = ap (take (kbch_of m)) word_is ∙ take-replicate (kbch_of m) (k_of m) false (message_fits m sizes);
+    }

@@ -1,4 +1,4 @@
--- The last frame's bits are as likely as its report says.
+-- The last frame's bits are as likely as its report says, by a certificate.
 use Rattle.std.proofs.Common.{◌≡◌, List, ℤ, Option, Some, None, Bool, refl, sym, ap, subst, ◌∙◌}
 use Rattle.s2_mode.specs.Mode.{Mode}
 use Rattle.s2_mode.specs.declared.symbols.Symbol.{Symbol}
@@ -11,7 +11,7 @@ use Rattle.s2_receive.specs.declared.report.Totals.{Totals}
 use Rattle.s2_link.specs.Link.{Link}
 use Rattle.s2_link.specs.Tuning.{Tuning}
 use Rattle.s2_modem.specs.Reports.{frame_soft, decision_by, frame_decision}
-use Rattle.s2_modem.specs.Reception.{IsAsLikely, AllAsLikely}
+use Rattle.s2_modem.specs.Reception.{IsAsLikely, AllAsLikely, IsCertifiedBy, AllCertified}
 
 decision_soft : (m : Mode) (soft : List ℤ) (d : Decided) (o : Option (List Bool)) → (decision_by m soft d o).soft ≡ soft
 decision_soft m soft d (Some word) = refl
@@ -31,3 +31,10 @@ last_as_likely link tuning symbols last t report all is told =
     let of_decision = subst (λ s. IsAsLikely code s d.verdict d.bits) (sym (frame_soft_is link tuning symbols)) (all symbols) in
     let of_last = subst (λ (x : Decision). IsAsLikely code x.soft x.verdict x.bits) (sym is) of_decision in
     subst (λ (v : Verdict). IsAsLikely code last.soft v last.bits) (sym (ap (λ (r : Report). r.verdict) told)) of_last
+
+pub last_certified : (link : Link) (tuning : Tuning) (symbols : List Symbol) (last : Decision) (t : Totals) (report : Report)
+    → AllCertified link tuning → last ≡ frame_decision link tuning symbols → report ≡ report_for last t report.at
+    → IsCertifiedBy link.rows report.verdict last
+last_certified link tuning symbols last t report all is told =
+    let of_last = subst (λ (x : Decision). IsCertifiedBy link.rows x.verdict x) (sym is) (all symbols) in
+    subst (λ (v : Verdict). IsCertifiedBy link.rows v last) (sym (ap (λ (r : Report). r.verdict) told)) of_last

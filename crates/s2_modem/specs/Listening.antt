@@ -3,6 +3,7 @@ use Rattle.std.specs.Prelude.{◌≡◌, ℕ, Bool, List, Option, Some, None, �
 use Rattle.s2_mode.specs.Mode.{Mode, k_of, shape_in, HasCodeSizes}
 use Rattle.s2_rows.specs.Rows.{Rows}
 use Rattle.s2_bits.specs.Bits.{differences}
+use Rattle.s2_check.specs.Views.{View}
 use Rattle.s2_bbframe.specs.declared.header.Header.{Header}
 use Rattle.s2_bbframe.specs.Headers.{header_of_bytes}
 use Rattle.s2_scramble.specs.Baseband.{scrambled}
@@ -52,9 +53,16 @@ pub record Reading : Type 0 where
   pub field : List ℕ
 
 -- what the stages show
-abbrev pub decision_held : Mode → List ℤ → List Bool → List Bool → Decided → List ℕ → Decision
-decision_held m soft bits bch_word d field =
-    record { soft = soft; bits = bits; verdict = d.verdict; message = message_of m bch_word; outcome = d.outcome; delivered = delivered_of d.header field }
+abbrev pub decision_held : Mode → List ℤ → List Bool → Option View → List Bool → Decided → List ℕ → Decision
+decision_held m soft bits certificate bch_word d field = record {
+  soft = soft;
+  bits = bits;
+  verdict = d.verdict;
+  certificate = certificate;
+  message = message_of m bch_word;
+  outcome = d.outcome;
+  delivered = delivered_of d.header field;
+}
 
 -- the stages of a decider are of its mode, and the divisor is that of its tuning
 pub record IsListening (mode : Mode) (rows : Rows) (tuning : Tuning) (demodulates : Demodulating) (corrects reads : Mode) : Type 0 where

@@ -20,7 +20,8 @@ use Rattle.s2_modem.specs.declared.whole.DemodFault.TheVariants as demod_faults
 use Rattle.s2_link.specs.Tuning.{Tuning, IsTuning, RefusesTuning}
 use Rattle.s2_link.specs.Link.{Link, link_of, IsSetUp, RefusesLink}
 use Rattle.s2_receive.specs.Windows.{found_as}
-use Rattle.s2_modem.specs.Reports.{frame_soft, frame_decision}
+use Rattle.s2_judge.specs.Deciding.{IsShown}
+use Rattle.s2_modem.specs.Reports.{frame_soft, frame_decision, IsUndecided}
 use Rattle.s2_receive.specs.ReportLines.{frame_line, cut_line, end_line}
 
 -- a link's rules: its header, its frames, what is decided of them, the lines of the report, and how many symbols are taken
@@ -49,6 +50,16 @@ abbrev pub AllAsLikely : Link → Tuning → Type 0
 AllAsLikely link tuning =
     (symbols : List Symbol) → IsAsLikely (code_of link.rows) (frame_soft link tuning symbols) (frame_decision link tuning symbols).verdict (frame_decision link tuning symbols).bits
 
+-- a frame has a certificate exactly where its report calls its bits sole or most likely; it is accepted, of its soft values and bits, and
+-- strict exactly where they are called sole
+abbrev pub IsCertifiedBy : Rows → Verdict → Decision → Type 0
+IsCertifiedBy rows verdict d = IsShown rows d.soft (record { verdict = verdict; bits = d.bits; certificate = d.certificate })
+
+-- and so has each of any frame's symbols
+abbrev pub AllCertified : Link → Tuning → Type 0
+AllCertified link tuning =
+    (symbols : List Symbol) → IsCertifiedBy link.rows (frame_decision link tuning symbols).verdict (frame_decision link tuning symbols)
+
 -- when each refusal comes: the first of five; want of memory only where none of them does
 abbrev pub Refuses : Setup → Rows → Tuning → SetupFault → Type 0
 Refuses setup rows tuning faults.BadRounds = IsSetUp setup rows × RefusesTuning tuning faults.BadRounds
@@ -62,6 +73,7 @@ pub record IsNew (link : Link) (tuning : Tuning) (r : Receiver) : Type 0 where
   pub tuning_is : r.tuning ≡ tuning
   pub limit : r.limit ≡ most_symbols
   pub state : r.state ≡ begun
+  pub undecided : IsUndecided link.setup.mode r.last
 
 -- the answer for a setup, rows and a tuning
 abbrev pub Makes : Setup → Rows → Tuning → Result Receiver SetupFault → Type 0

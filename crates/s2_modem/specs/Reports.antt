@@ -1,6 +1,6 @@
 -- What is decided and delivered of a frame's symbols.
-use Rattle.std.specs.Prelude.{ℕ, ◌/◌, Bool, List, take, Option, Some, None, Result, Ok, Err, ℤ}
-use Rattle.s2_mode.specs.Mode.{Mode, kbch_of, k_of}
+use Rattle.std.specs.Prelude.{◌≡◌, ℕ, ◌/◌, Bool, false, List, replicate, take, Option, Some, None, Result, Ok, Err, ℤ, pos}
+use Rattle.s2_mode.specs.Mode.{Mode, kbch_of, k_of, n_of}
 use Rattle.s2_mode.specs.declared.symbols.Symbol.{Symbol}
 use Rattle.s2_bits.specs.Bits.{bytes_from, differences}
 use Rattle.s2_bbframe.specs.declared.header.Header.{Header}
@@ -52,6 +52,7 @@ decision_by m soft d (Some bch_word) = record {
   soft = soft;
   bits = d.bits;
   verdict = d.verdict;
+  certificate = d.certificate;
   message = message_of m bch_word;
   outcome = outcome_by (differences (k_of m) (received_word m d.bits) bch_word) (header_of_bytes m (header_in (scrambled (message_of m bch_word))));
   delivered = delivered_by (scrambled (message_of m bch_word)) (header_of_bytes m (header_in (scrambled (message_of m bch_word))));
@@ -60,10 +61,18 @@ decision_by m soft d None = record {
   soft = soft;
   bits = d.bits;
   verdict = d.verdict;
+  certificate = d.certificate;
   message = message_of m (received_word m d.bits);
   outcome = NoWord;
   delivered = None;
 }
+
+-- what stands where no frame came yet: zeros, and no certificate
+pub record IsUndecided (m : Mode) (d : Decision) : Type 0 where
+  pub soft : d.soft ≡ replicate (n_of m) (pos 0)
+  pub bits : d.bits ≡ replicate (n_of m) false
+  pub certificate : d.certificate ≡ None
+  pub message : d.message ≡ replicate (kbch_of m) false
 
 -- what is decided of soft values
 abbrev pub decision_on : Mode → List ℤ → Decided → Decision

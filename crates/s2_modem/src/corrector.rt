@@ -1,5 +1,5 @@
 //! From decided bits to a BCH word (EN 302 307-1, 5.3.1, turned back).
-ghost use Rattle.std.specs.Prelude.{◌≡◌, ◌≤◌, length, replicate, IfOk};
+ghost use Rattle.std.specs.Prelude.{◌≡◌, ◌≤◌, length, replicate, false, IfOk};
 ghost use Rattle.s2_mode.specs.Mode.{k_of};
 ghost use Rattle.s2_modem.specs.Reports.{received_word};
 ghost use Rattle.s2_modem.specs.Listening.{FindsWord};
@@ -56,7 +56,8 @@ impl Model for Corrector {
 impl Corrector {
     /// The corrector of a mode.
     pub(crate) fn new(alloc: Global, mode: Mode) -> Result<Corrector, AllocError>
-        ensures { IfOk result (λ c. c.mode ≡ mode) }
+        ensures mode { IfOk result (λ c. c.mode ≡ mode) }
+        ensures zeros { IfOk result (λ c. c.word ≡ replicate (k_of mode) false) }
     {
         Ok(Corrector {
             mode,

@@ -1,12 +1,13 @@
 //! From a frame's symbols to the message that it carries.
 ghost use Rattle.std.specs.Prelude.{◌≡◌, IfOk, true};
 ghost use Rattle.s2_mode.specs.Mode.{symbols_in};
+ghost use Rattle.s2_modem.specs.Reports.{IsUndecided};
 
 use crate::corrector::Corrector;
 use crate::demodulator::Demodulator;
 use crate::message::MessageReader;
 use s2_bits::Bits;
-use s2_check::Verdict;
+use s2_check::{CertView, Verdict};
 use s2_judge::Judge;
 use s2_link::{Link, RollOff, Tuning};
 use s2_mode::{Mode, Symbol};
@@ -47,7 +48,7 @@ impl<'a> Model for Decider<'a> {
     ghost view = { λ d. record {
       link = record { setup = record { mode = d.mode; number = d.demodulator.number; roll_off = d.roll_off }; rows = d.judge.rows };
       tuning = d.judge.tuning;
-      last = decision_held d.mode d.judge.soft d.judge.bits d.corrector.word d.last d.reader.field;
+      last = decision_held d.mode d.judge.soft d.judge.bits d.judge.certificate d.corrector.word d.last d.reader.field;
       field = d.reader.field;
     } };
 
@@ -63,6 +64,7 @@ impl<'a> Decider<'a> {
     ) -> Result<Decider<'a>, AllocError>
         ensures link { IfOk result (λ d. d.link ≡ link.now) }
         ensures tuning { IfOk result (λ d. d.tuning ≡ tuning) }
+        ensures undecided { IfOk result (λ d. IsUndecided link.now.setup.mode d.last) }
     {
         let mode = link.mode();
         let last = Decided {
@@ -96,6 +98,13 @@ impl<'a> Decider<'a> {
         ensures { result.now ≡ self.now.last.bits }
     {
         self.judge.word()
+    }
+
+    /// The certificate of the last frame's decided bits, where its verdict has one.
+    pub(crate) fn certificate(&self) -> Option<CertView<'_>>
+        ensures { result ≡ self.now.last.certificate }
+    {
+        self.judge.certificate()
     }
 
     /// The message that BCH decoding left of the last frame, before it was descrambled.

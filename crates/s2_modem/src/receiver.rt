@@ -14,11 +14,12 @@ ghost use Rattle.s2_receive.specs.ReportLines.{frame_line, cut_line, end_line};
 ghost use Rattle.s2_receive.specs.Receiving.{IsLive, StepAnswers, MetFrame, RunsTo, StandsBehind, StopsAfter, BreaksAfter, begun, rules_of};
 ghost use Rattle.s2_link.specs.Tuning.{tuning_of};
 ghost use Rattle.s2_link.specs.Link.{link_of, setup_of};
-ghost use Rattle.s2_modem.specs.Reports.{frame_decision};
-ghost use Rattle.s2_modem.specs.Reception.{AllAsLikely, IsAsLikely, link_rules, rules_for, IsNew, Makes};
+ghost use Rattle.s2_modem.specs.Reports.{frame_decision, IsUndecided};
+ghost use Rattle.s2_modem.specs.Reception.{AllAsLikely, AllCertified, IsAsLikely, IsCertifiedBy, link_rules, rules_for, IsNew, Makes};
 
 use crate::decider::Decider;
 use s2_bits::Bits;
+use s2_check::CertView;
 use s2_link::{Link, LinkSetup, Setup, SetupFault, Tuning};
 use s2_matrix::Matrix;
 use s2_mode::{CountedRead, CountedWrite, MOST_SYMBOLS, StreamFault};
@@ -40,6 +41,8 @@ pub(crate) fn tune<'a>(
     ensures limit { IfOk result (λ r. r.limit ≡ most_symbols) }
     ensures begun { IfOk result (λ r. r.state ≡ begun) }
     ensures as_likely { IfOk result (λ _. AllAsLikely link.now tuning) }
+    ensures certified { IfOk result (λ _. AllCertified link.now tuning) }
+    ensures undecided { IfOk result (λ r. IsUndecided link.now.setup.mode r.decider.last) }
 {
     let mode = link.mode();
     // what it promises of the mode is a part of what is promised here
@@ -82,7 +85,7 @@ impl<'a> Model for Receiver<'a> {
     ghost use Rattle.s2_receive.specs.ReportLines.{frame_line, cut_line, end_line};
     ghost use Rattle.s2_link.specs.Link.{link_of, setup_of};
     ghost use Rattle.s2_modem.specs.Reports.{frame_decision};
-    ghost use Rattle.s2_modem.specs.Reception.{Receiver as ReceiverValue, AllAsLikely, link_rules};
+    ghost use Rattle.s2_modem.specs.Reception.{Receiver as ReceiverValue, AllAsLikely, AllCertified, link_rules};
 
     ghost Value = { ReceiverValue };
 
@@ -95,7 +98,8 @@ impl<'a> Model for Receiver<'a> {
     } };
 
     ghost invariant = { λ r. (rules_of (found_as r.inner.search.search.mode r.inner.search.lock) (length r.inner.frame) (frame_decision r.inner.decider.link r.inner.decider.tuning) frame_line cut_line end_line r.inner.limit
-        ≡ link_rules (link_of (setup_of r.setup) r.matrix.now) r.tuning r.inner.limit) × AllAsLikely (link_of (setup_of r.setup) r.matrix.now) r.tuning };
+        ≡ link_rules (link_of (setup_of r.setup) r.matrix.now) r.tuning r.inner.limit) × AllAsLikely (link_of (setup_of r.setup) r.matrix.now) r.tuning
+        × AllCertified (link_of (setup_of r.setup) r.matrix.now) r.tuning };
 }
 
 impl<'a> Receiver<'a> {
@@ -147,7 +151,8 @@ impl<'a> Receiver<'a> {
         self.inner.limit(symbols);
     }
 
-    /// The next frame, a cut one, or the end. The bits of a frame are as likely as its verdict says. Just the
+    /// The next frame, a cut one, or the end. The bits of a frame are as likely as its verdict says, by
+    /// the certificate that [`Receiver::certificate`] lends. Just the
     /// symbols up to the end of what is answered are read. Dummy frames before it, known by a header of any TYPE, are passed, and so is what there is of
     /// a last one that lacks symbols: of them nothing is told, and they are no gap. A frame's packets are
     /// written, and then its line of the report; the end has its line once. It takes no memory.
@@ -169,6 +174,7 @@ impl<'a> Receiver<'a> {
         ensures frame { (r : ReportValue) → result ≡ Ok (steps.Frame r) → MetFrame (rules_for self.old) self.old.state self.new.state (R.remaining reader.old) (R.remaining reader.new)
             (P.contents packets.old) (P.contents packets.new) (W.contents report.old) (W.contents report.new) r self.new.last }
         ensures as_likely { (r : ReportValue) → result ≡ Ok (steps.Frame r) → IsAsLikely (code_of self.old.link.rows) self.new.last.soft r.verdict self.new.last.bits }
+        ensures certified { (r : ReportValue) → result ≡ Ok (steps.Frame r) → IsCertifiedBy self.old.link.rows r.verdict self.new.last }
         ensures taken { StandsBehind (symbols_in self.old.link.setup.mode) self.new.state.at result }
         ensures ended { self.old.state.phase ≡ phases.Ended → result ≡ Ok steps.End }
         ensures failed { self.old.state.phase ≡ phases.Failed → result ≡ Err faults.Failed }
@@ -232,6 +238,14 @@ impl<'a> Receiver<'a> {
         ensures { result.now ≡ self.now.last.bits }
     {
         self.inner.decider().word()
+    }
+
+    /// The certificate of the last frame's decided bits: `Some` exactly where it was reported sole or most likely. It can
+    /// be checked ([`s2_check::check`]), and written to a file; `None` before the first frame.
+    pub fn certificate(&self) -> Option<CertView<'_>>
+        ensures { result ≡ self.now.last.certificate }
+    {
+        self.inner.decider().certificate()
     }
 
     /// The message that BCH decoding left of the last frame's decided bits, Kbch bits, still

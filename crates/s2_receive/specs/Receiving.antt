@@ -13,6 +13,7 @@ use Rattle.s2_receive.specs.Finding.{YieldsSymbols, Meets}
 use Rattle.s2_receive.specs.Stepping.{FailsIn}
 use Rattle.s2_check.specs.declared.verdict.Verdict.{Verdict}
 use Rattle.s2_check.specs.Verdicts.{is_certified}
+use Rattle.s2_check.specs.Views.{View}
 use Rattle.s2_mode.specs.declared.counts.WriteFault.{WriteFault}
 use Rattle.s2_receive.specs.declared.report.Outcome.{Outcome}
 use Rattle.s2_receive.specs.declared.report.Outcome.TheVariants as outcomes
@@ -25,12 +26,13 @@ use Rattle.s2_receive.specs.declared.report.Fault.TheVariants as faults
 use Rattle.s2_receive.specs.declared.report.Phase.{Phase}
 use Rattle.s2_receive.specs.declared.report.Phase.TheVariants as phases
 
--- What is decided of a frame's symbols: their soft values, the decided bits and what is known of them, the message that BCH
--- decoding leaves, and what comes of it; where its header is accepted, the header and the data field.
+-- What is decided of a frame's symbols: their soft values, the decided bits, what is known of them and the certificate of that, the
+-- message that BCH decoding leaves, and what comes of it; where its header is accepted, the header and the data field.
 pub record Decision : Type 0 where
   pub soft : List ℤ
   pub bits : List Bool
   pub verdict : Verdict
+  pub certificate : Option View
   pub message : List Bool
   pub outcome : Outcome
   pub delivered : Option (Header × List ℕ)

@@ -1,4 +1,4 @@
-use Rattle.std.proofs.Common.{◌≡◌, ℕ, sym, ap, ◌∙◌}
+use Rattle.std.proofs.Common.{◌≡◌, ℕ, sym, ap, subst, ◌∙◌}
 use Rattle.std.proofs.lemmas.Result.{IfOk-weaker}
 use Rattle.s2_mode.specs.Mode.{Mode, shape_in, symbols_in}
 use Rattle.s2_link.specs.Tuning.{Tuning}
@@ -6,8 +6,9 @@ use Rattle.s2_link.specs.Link.{Link}
 use Rattle.s2_receive.specs.Receiving.{Rules, rules_of}
 use Rattle.s2_receive.specs.Windows.{found_as}
 use Rattle.s2_receive.specs.ReportLines.{frame_line, cut_line, end_line}
-use Rattle.s2_modem.specs.Reports.{frame_decision}
-use Rattle.s2_modem.proofs.CleanFrames.{all_as_likely}
+use Rattle.s2_modem.specs.Reports.{frame_decision, IsUndecided}
+use Rattle.s2_modem.specs.Listening.{Listening}
+use Rattle.s2_modem.proofs.CleanFrames.{all_as_likely, all_certified}
 use Rattle.s2_modem.proofs.receiver.tune.Goals as goal
 
 abbrev made : Mode → ℕ → Link → Tuning → ℕ → Rules
@@ -27,3 +28,13 @@ returns-clause-as_likely c =
     let k = c.k-k.ensures in
     let all = all_as_likely c.mode-mode.result k.valid k.sizes c.args.link.now c.args.tuning (sym c.mode-mode.ensures.is, c.mode-mode.ensures.shape ∙ ap shape_in c.mode-mode.ensures.is) in
     IfOk-weaker c.new-2.result _ _ (λ r e. all) c.new-2.ensures.parts
+
+pub returns-clause-certified : goal.returns-clause-certified
+returns-clause-certified c =
+    let k = c.k-k.ensures in
+    let all = all_certified c.mode-mode.result k.valid k.sizes c.args.link.now c.args.tuning (sym c.mode-mode.ensures.is, c.mode-mode.ensures.shape ∙ ap shape_in c.mode-mode.ensures.is) in
+    IfOk-weaker c.new-2.result _ _ (λ r e. all) c.new-2.ensures.parts
+
+pub returns-clause-undecided : goal.returns-clause-undecided
+returns-clause-undecided c =
+    IfOk-weaker c.new-2.result _ _ (λ r e. subst (λ (d : Listening). IsUndecided c.args.link.now.setup.mode d.last) (sym e.1) c.in_ok-decider.ensures.undecided) c.new-2.ensures.parts

@@ -35,9 +35,10 @@ returns-clause-last c =
     let reads : Reads m found.new.self.word found.result r.result.outcome (delivered_of r.result.header r.new.self.field) =
     subst (λ w. Reads m w found.result r.result.outcome (delivered_of r.result.header r.new.self.field)) c.word-2.ensures.is
     (subst (λ x. Reads x c.word-2.result.now found.result r.result.outcome (delivered_of r.result.header r.new.self.field)) c.self.invariant.reader r.ensures.reads) in
-    frame_decided link d.judge.tuning c.args.symbols.now held c.decide-verdict.new.self.bits r.result.verdict found.new.self.word found.result r.result.outcome (delivered_of r.result.header r.new.self.field)
+    frame_decided link d.judge.tuning c.args.symbols.now held c.decide-verdict.new.self.bits r.result.verdict c.decide-verdict.new.self.certificate found.new.self.word found.result r.result.outcome (delivered_of r.result.header r.new.self.field)
     soft_held (r.ensures.verdict ∙ was.verdict ∙ ap (λ xs. (decided rows d.judge.tuning xs).verdict) (sym was.soft))
-    (was.bits ∙ ap (λ xs. (decided rows d.judge.tuning xs).bits) (sym was.soft)) finds reads
+    (was.bits ∙ ap (λ xs. (decided rows d.judge.tuning xs).bits) (sym was.soft))
+    (was.certificate ∙ ap (λ xs. (decided rows d.judge.tuning xs).certificate) (sym was.soft)) finds reads
     ∙ ap (λ (l : Listening). frame_decision l.link l.tuning c.args.symbols.now) c.self.view_is
 
 pub returns-clause-verdict : goal.returns-clause-verdict
