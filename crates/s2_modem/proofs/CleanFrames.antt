@@ -1,5 +1,5 @@
 -- A frame without noise is delivered, certified, with nothing changed.
-use Rattle.std.proofs.Common.{◌≡◌, ℕ, zero, suc, ◌+◌, ◌-◌, ◌*◌, ◌/◌, ◌%◌, ◌<◌, ◌≤◌, Bool, true, false, List, [], ◌∷◌, ◌++◌, length, take, drop, map, get_or, Option, Some, None, Ok, refl, sym, ap, subst, ◌∙◌, arith, append_assoc, length-append, length-take, length-drop, ℤ, pos, int_lt}
+use Rattle.std.proofs.Common.{◌≡◌, ℕ, zero, suc, ◌+◌, ◌-◌, ◌*◌, ◌/◌, ◌%◌, ◌<◌, ◌≤◌, Bool, true, false, List, [], ◌∷◌, ◌++◌, length, take, drop, map, get_or, Option, Some, None, Result, Ok, Err, refl, sym, ap, subst, ◌∙◌, arith, append_assoc, length-append, length-take, length-drop, ℤ, pos, int_lt}
 use Rattle.std.specs.Prelude.{◌||◌}
 use Rattle.std.specs.Int.{w16, to_be_bytes}
 use Rattle.std.proofs.lemmas.Bool.{le-leb, eq-eqb}
@@ -19,15 +19,17 @@ use Rattle.s2_check.specs.Verdicts.{is_certified}
 use Rattle.s2_check.specs.Strict.{IsSole}
 use Rattle.s2_bbframe.specs.Crc.{crc8}
 use Rattle.s2_bbframe.specs.declared.header.Header.{Header}
+use Rattle.s2_bbframe.specs.declared.header.HeaderFault.{HeaderFault}
+use Rattle.s2_receive.specs.Receiving.{Decision}
 use Rattle.s2_bbframe.specs.Headers.{header_bytes, has_valid_lengths, header_of_bytes, signalling}
 use Rattle.s2_bbframe.specs.DataStream.{header_at, to_place, field_bytes}
 use Rattle.s2_bbframe.proofs.Headers.{header_of_bytes-header_bytes}
 use Rattle.s2_bbframe.proofs.Division.{divided}
 use Rattle.s2_scramble.specs.Baseband.{scrambled}
 use Rattle.s2_scramble.proofs.Blocks.{scrambled-scrambled}
-use Rattle.s2_bch.specs.Codes.{IsBchWordOf}
+use Rattle.s2_bch.specs.Codes.{IsBchWordOf, IsWithin}
 use Rattle.s2_bch.specs.Decoding.{nearest}
-use Rattle.s2_bch.proofs.NearestWords.{within_is_nearest}
+use Rattle.s2_bch.proofs.NearestWords.{within_is_nearest, nearest_is_within, no_nearest}
 use Rattle.s2_map.specs.Mapping.{payload_of}
 use Rattle.s2_plframe.specs.Frame.{frame_symbol}
 use Rattle.s2_plframe.specs.Search.{decision, found}
@@ -40,7 +42,7 @@ use Rattle.s2_receive.specs.Windows.{found_as}
 use Rattle.s2_judge.specs.Deciding.{Decided, decided, IsShown}
 use Rattle.s2_link.specs.Tuning.{Tuning}
 use Rattle.s2_modem.specs.Reports.{frame_soft, received_word, message_of, header_in, field_in, outcome_by, delivered_by, decision_by, decision_on, frame_decision}
-use Rattle.s2_modem.specs.Reception.{AllAsLikely, AllCertified, IsCertifiedBy, link_rules}
+use Rattle.s2_modem.specs.Reception.{AllAsLikely, AllTold, IsCertifiedBy, IsCorrected, link_rules}
 use Rattle.s2_send.specs.Laws.{IsLinkOf}
 use Rattle.s2_modem.specs.Both.{IsByte, AreBytes, sent_symbols, IsCertifiedFrame, Hears}
 use Rattle.s2_modem.specs.Headline.{IsDelivered, IsSent, IsDeliveredCertified, HearsLaw, ArrivalLaw, LikelyFrameLaw, SoleFrameLaw}
@@ -174,6 +176,18 @@ first_bits m rows h field codeword c sizes fits room =
 
 -- ---- whole frames
 
+-- what is read of the word that BCH decoding finds
+read_corrected : (m : Mode) (d : Decision) (word : List Bool) (h : Result Header HeaderFault) → IsWithin m (received_word m d.bits) word → d.message ≡ message_of m word
+    → IsCorrected m d (outcome_by (differences (k_of m) (received_word m d.bits) word) h)
+read_corrected m d word (Ok header) near message = (word, near, message, refl)
+read_corrected m d word (Err fault) near message = (word, near, message)
+
+decision_corrected : (m : Mode) → IsMode m → HasCodeSizes m → (soft : List ℤ) (d : Decided) (o : Option (List Bool)) → length (received_word m d.bits) ≡ k_of m → nearest m (received_word m d.bits) ≡ o
+    → IsCorrected m (decision_by m soft d o) (decision_by m soft d o).outcome
+decision_corrected m valid sizes soft d (Some word) long near =
+    read_corrected m (decision_by m soft d (Some word)) word (header_of_bytes m (header_in (scrambled (message_of m word)))) (nearest_is_within m valid sizes (received_word m d.bits) long word near) refl
+decision_corrected m valid sizes soft d None long near = no_nearest m valid sizes (received_word m d.bits) long near
+
 decision_verdict : (m : Mode) (soft : List ℤ) (d : Decided) (o : Option (List Bool)) → (decision_by m soft d o).verdict ≡ d.verdict
 decision_verdict m soft d (Some word) = refl
 decision_verdict m soft d None = refl
@@ -206,6 +220,17 @@ module _ (link : Link) (valid : IsMode link.setup.mode) (sizes : HasCodeSizes li
   pub length_soft : (tuning : Tuning) (symbols : List Symbol) → length (frame_soft link tuning symbols) ≡ (code_of link.rows).bits
   length_soft tuning symbols = length-map-range_with_len (soft_bit tuning.divisor m (received_payload m link.setup.number symbols)) 0 (n_of m) ∙ sym (code_is m link.rows sizes shape)
 
+  length_received : (tuning : Tuning) (symbols : List Symbol) → length (received_word m (decided link.rows tuning (frame_soft link tuning symbols)).bits) ≡ k_of m
+  length_received tuning symbols =
+      let bits = (decided link.rows tuning (frame_soft link tuning symbols)).bits in
+      let whole : length bits ≡ n_of m = decided_long link.rows tuning (frame_soft link tuning symbols) (length_soft tuning symbols) ∙ code_is m link.rows sizes shape in
+      omega (arith, length-take (k_of m) bits, whole, sizes.checks)
+
+  pub frame_corrected : (tuning : Tuning) (symbols : List Symbol) → IsCorrected m (frame_decision link tuning symbols) (frame_decision link tuning symbols).outcome
+  unfolding frame_decision
+  frame_corrected tuning symbols =
+      decision_corrected m valid sizes (frame_soft link tuning symbols) (decided link.rows tuning (frame_soft link tuning symbols)) _ (length_received tuning symbols) refl
+
   module _ (tuning : Tuning) (at : ℕ) (symbols : List Symbol) (field : List ℕ) (codeword : List Bool) (ro : link.setup.roll_off ≤ 2) (bytes : AreBytes field) (place : to_place at < length field) (fits : length field ≤ field_bytes m)
       (c : IsCodewordFor m link.rows (header_at link.setup.roll_off at field) field codeword) where
     abbrev header : Header
@@ -233,8 +258,7 @@ module _ (link : Link) (valid : IsMode link.setup.mode) (sizes : HasCodeSizes li
         let bits = (decided link.rows tuning (frame_soft link tuning symbols)).bits in
         let e : received_word m (frame_decision link tuning symbols).bits ≡ received_word m bits = ap (received_word m) (frame_bits link tuning symbols) in
         let word = length-bch_word m sizes (baseband_frame m header field) c.bch_word (length-baseband_frame m header field sizes fits) c.is_bch_word in
-        let whole : length bits ≡ n_of m = decided_long link.rows tuning (frame_soft link tuning symbols) (length_soft tuning symbols) ∙ code_is m link.rows sizes shape in
-        let long : length (received_word m bits) ≡ k_of m = omega (arith, length-take (k_of m) bits, whole, sizes.checks) in
+        let long = length_received tuning symbols in
         let near : differences (length (received_word m bits)) (received_word m bits) c.bch_word ≤ t_of m =
         subst (λ n. differences n (received_word m bits) c.bch_word ≤ t_of m) (sym long) (subst (λ r. differences (k_of m) r c.bch_word ≤ t_of m) e few) in
         subst (λ r. IsDelivered (frame_decision link tuning symbols) (differences (k_of m) r c.bch_word) header field) (sym e)
@@ -317,10 +341,15 @@ module _ (m : Mode) (valid : IsMode m) (sizes : HasCodeSizes m) where
   pub all_as_likely : (link : Link) (tuning : Tuning) → IsLinkOf m link → AllAsLikely link tuning
   all_as_likely link tuning linked = λ symbols. record { likely = likely_law link tuning symbols linked; sole = sole_law link tuning symbols linked }
 
-  pub all_certified : (link : Link) (tuning : Tuning) → IsLinkOf m link → AllCertified link tuning
-  all_certified link tuning linked = λ symbols.
-      let long = length_soft link (subst IsMode (sym linked.0) valid) (subst HasCodeSizes (sym linked.0) sizes) linked.1 tuning symbols in
-      frame_certified link tuning symbols (certified_lem link.rows tuning (frame_soft link tuning symbols) long)
+  pub all_told : (link : Link) (tuning : Tuning) → IsLinkOf m link → AllTold link tuning
+  all_told link tuning linked = λ symbols.
+      let valid' = subst IsMode (sym linked.0) valid in
+      let sizes' = subst HasCodeSizes (sym linked.0) sizes in
+      let long = length_soft link valid' sizes' linked.1 tuning symbols in
+      record {
+        certified = frame_certified link tuning symbols (certified_lem link.rows tuning (frame_soft link tuning symbols) long);
+        within = frame_corrected link valid' sizes' linked.1 tuning symbols;
+      }
 
   module _ (link : Link) (tuning : Tuning) (at : ℕ) (symbols : List Symbol) (field : List ℕ) (codeword : List Bool) (sent : IsSent m link at field codeword) where
     pub scattered_law : IsScattered (code_of link.rows) (frame_soft link tuning symbols) codeword → IsDeliveredCertified (frame_decision link tuning symbols) codeword (header_at link.setup.roll_off at field) field

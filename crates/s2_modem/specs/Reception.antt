@@ -1,6 +1,6 @@
 -- What a receiver of a link reads, reports and writes, and which setups it refuses.
 use Rattle.std.specs.Prelude.{◌≡◌, IsTrue, ℕ, ℤ, Bool, List, Option, Some, Result, Ok, Err, ⊤}
-use Rattle.s2_mode.specs.Mode.{symbols_in}
+use Rattle.s2_mode.specs.Mode.{Mode, k_of, symbols_in}
 use Rattle.s2_mode.specs.declared.symbols.Symbol.{Symbol}
 use Rattle.s2_rows.specs.Rows.{Rows}
 use Rattle.s2_matrix.specs.Code.{Code, code_of}
@@ -21,7 +21,11 @@ use Rattle.s2_link.specs.Tuning.{Tuning, IsTuning, RefusesTuning}
 use Rattle.s2_link.specs.Link.{Link, link_of, IsSetUp, RefusesLink}
 use Rattle.s2_receive.specs.Windows.{found_as}
 use Rattle.s2_judge.specs.Deciding.{IsShown}
-use Rattle.s2_modem.specs.Reports.{frame_soft, frame_decision, IsUndecided}
+use Rattle.s2_bits.specs.Bits.{differences}
+use Rattle.s2_bch.specs.Codes.{IsWithin}
+use Rattle.s2_receive.specs.declared.report.Outcome.{Outcome}
+use Rattle.s2_receive.specs.declared.report.Outcome.TheVariants.{Delivered, NoWord, BadHeader}
+use Rattle.s2_modem.specs.Reports.{frame_soft, frame_decision, received_word, message_of, IsUndecided}
 use Rattle.s2_receive.specs.ReportLines.{frame_line, cut_line, end_line}
 
 -- a link's rules: its header, its frames, what is decided of them, the lines of the report, and how many symbols are taken
@@ -55,10 +59,23 @@ AllAsLikely link tuning =
 abbrev pub IsCertifiedBy : Rows → Verdict → Decision → Type 0
 IsCertifiedBy rows verdict d = IsShown rows d.soft (record { verdict = verdict; bits = d.bits; certificate = d.certificate })
 
--- and so has each of any frame's symbols
-abbrev pub AllCertified : Link → Tuning → Type 0
-AllCertified link tuning =
-    (symbols : List Symbol) → IsCertifiedBy link.rows (frame_decision link tuning symbols).verdict (frame_decision link tuning symbols)
+-- What comes of a frame is what BCH decoding finds of its first Nbch decided bits: a word of the code that differs from them in at most
+-- t places, in just as many as are reported, and begins with the message; or there is none so near.
+abbrev pub IsCorrected : Mode → Decision → Outcome → Type 0
+IsCorrected m d (Delivered fixed) =
+    (word : List Bool) × IsWithin m (received_word m d.bits) word × (d.message ≡ message_of m word) × (fixed ≡ differences (k_of m) (received_word m d.bits) word)
+IsCorrected m d (BadHeader fault) = (word : List Bool) × IsWithin m (received_word m d.bits) word × (d.message ≡ message_of m word)
+IsCorrected m d NoWord = (word : List Bool) → IsWithin m (received_word m d.bits) word → ⊥
+
+-- what a report says of a frame is so
+pub record IsTold (link : Link) (verdict : Verdict) (outcome : Outcome) (d : Decision) : Type 0 where
+  pub certified : IsCertifiedBy link.rows verdict d
+  pub within : IsCorrected link.setup.mode d outcome
+
+-- and so it is of any frame's symbols
+abbrev pub AllTold : Link → Tuning → Type 0
+AllTold link tuning =
+    (symbols : List Symbol) → IsTold link (frame_decision link tuning symbols).verdict (frame_decision link tuning symbols).outcome (frame_decision link tuning symbols)
 
 -- when each refusal comes: the first of five; want of memory only where none of them does
 abbrev pub Refuses : Setup → Rows → Tuning → SetupFault → Type 0

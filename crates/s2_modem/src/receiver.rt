@@ -15,7 +15,7 @@ ghost use Rattle.s2_receive.specs.Receiving.{IsLive, StepAnswers, MetFrame, Runs
 ghost use Rattle.s2_link.specs.Tuning.{tuning_of};
 ghost use Rattle.s2_link.specs.Link.{link_of, setup_of};
 ghost use Rattle.s2_modem.specs.Reports.{frame_decision, IsUndecided};
-ghost use Rattle.s2_modem.specs.Reception.{AllAsLikely, AllCertified, IsAsLikely, IsCertifiedBy, link_rules, rules_for, IsNew, Makes};
+ghost use Rattle.s2_modem.specs.Reception.{AllAsLikely, AllTold, IsAsLikely, IsCertifiedBy, IsCorrected, link_rules, rules_for, IsNew, Makes};
 
 use crate::decider::Decider;
 use s2_bits::Bits;
@@ -41,7 +41,7 @@ pub(crate) fn tune<'a>(
     ensures limit { IfOk result (λ r. r.limit ≡ most_symbols) }
     ensures begun { IfOk result (λ r. r.state ≡ begun) }
     ensures as_likely { IfOk result (λ _. AllAsLikely link.now tuning) }
-    ensures certified { IfOk result (λ _. AllCertified link.now tuning) }
+    ensures told { IfOk result (λ _. AllTold link.now tuning) }
     ensures undecided { IfOk result (λ r. IsUndecided link.now.setup.mode r.decider.last) }
 {
     let mode = link.mode();
@@ -85,7 +85,7 @@ impl<'a> Model for Receiver<'a> {
     ghost use Rattle.s2_receive.specs.ReportLines.{frame_line, cut_line, end_line};
     ghost use Rattle.s2_link.specs.Link.{link_of, setup_of};
     ghost use Rattle.s2_modem.specs.Reports.{frame_decision};
-    ghost use Rattle.s2_modem.specs.Reception.{Receiver as ReceiverValue, AllAsLikely, AllCertified, link_rules};
+    ghost use Rattle.s2_modem.specs.Reception.{Receiver as ReceiverValue, AllAsLikely, AllTold, link_rules};
 
     ghost Value = { ReceiverValue };
 
@@ -99,7 +99,7 @@ impl<'a> Model for Receiver<'a> {
 
     ghost invariant = { λ r. (rules_of (found_as r.inner.search.search.mode r.inner.search.lock) (length r.inner.frame) (frame_decision r.inner.decider.link r.inner.decider.tuning) frame_line cut_line end_line r.inner.limit
         ≡ link_rules (link_of (setup_of r.setup) r.matrix.now) r.tuning r.inner.limit) × AllAsLikely (link_of (setup_of r.setup) r.matrix.now) r.tuning
-        × AllCertified (link_of (setup_of r.setup) r.matrix.now) r.tuning };
+        × AllTold (link_of (setup_of r.setup) r.matrix.now) r.tuning };
 }
 
 impl<'a> Receiver<'a> {
@@ -175,6 +175,7 @@ impl<'a> Receiver<'a> {
             (P.contents packets.old) (P.contents packets.new) (W.contents report.old) (W.contents report.new) r self.new.last }
         ensures as_likely { (r : ReportValue) → result ≡ Ok (steps.Frame r) → IsAsLikely (code_of self.old.link.rows) self.new.last.soft r.verdict self.new.last.bits }
         ensures certified { (r : ReportValue) → result ≡ Ok (steps.Frame r) → IsCertifiedBy self.old.link.rows r.verdict self.new.last }
+        ensures within { (r : ReportValue) → result ≡ Ok (steps.Frame r) → IsCorrected self.old.link.setup.mode self.new.last r.outcome }
         ensures taken { StandsBehind (symbols_in self.old.link.setup.mode) self.new.state.at result }
         ensures ended { self.old.state.phase ≡ phases.Ended → result ≡ Ok steps.End }
         ensures failed { self.old.state.phase ≡ phases.Failed → result ≡ Err faults.Failed }

@@ -8,7 +8,7 @@ use Rattle.s2_receive.specs.Windows.{found_as}
 use Rattle.s2_receive.specs.ReportLines.{frame_line, cut_line, end_line}
 use Rattle.s2_modem.specs.Reports.{frame_decision, IsUndecided}
 use Rattle.s2_modem.specs.Listening.{Listening}
-use Rattle.s2_modem.proofs.CleanFrames.{all_as_likely, all_certified}
+use Rattle.s2_modem.proofs.CleanFrames.{all_as_likely, all_told}
 use Rattle.s2_modem.proofs.receiver.tune.Goals as goal
 
 abbrev made : Mode → ℕ → Link → Tuning → ℕ → Rules
@@ -29,10 +29,10 @@ returns-clause-as_likely c =
     let all = all_as_likely c.mode-mode.result k.valid k.sizes c.args.link.now c.args.tuning (sym c.mode-mode.ensures.is, c.mode-mode.ensures.shape ∙ ap shape_in c.mode-mode.ensures.is) in
     IfOk-weaker c.new-2.result _ _ (λ r e. all) c.new-2.ensures.parts
 
-pub returns-clause-certified : goal.returns-clause-certified
-returns-clause-certified c =
+pub returns-clause-told : goal.returns-clause-told
+returns-clause-told c =
     let k = c.k-k.ensures in
-    let all = all_certified c.mode-mode.result k.valid k.sizes c.args.link.now c.args.tuning (sym c.mode-mode.ensures.is, c.mode-mode.ensures.shape ∙ ap shape_in c.mode-mode.ensures.is) in
+    let all = all_told c.mode-mode.result k.valid k.sizes c.args.link.now c.args.tuning (sym c.mode-mode.ensures.is, c.mode-mode.ensures.shape ∙ ap shape_in c.mode-mode.ensures.is) in
     IfOk-weaker c.new-2.result _ _ (λ r e. all) c.new-2.ensures.parts
 
 pub returns-clause-undecided : goal.returns-clause-undecided
