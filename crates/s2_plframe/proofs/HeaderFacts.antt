@@ -44,7 +44,7 @@ point_says k b = elim (eqb_tells (k % 2) 0) [
   | inr other ↦ rw other.0 (point_says_even b)
 ]
 
-header_at : (m : Mode) (n : ℕ) (payload : List Symbol) (k : ℕ) → IsMode m → k < 90 → symbol_at (take 90 (frame_symbols m n payload)) k ≡ header_symbol m k
+pub header_at : (m : Mode) (n : ℕ) (payload : List Symbol) (k : ℕ) → IsMode m → k < 90 → symbol_at (take 90 (frame_symbols m n payload)) k ≡ header_symbol m k
 header_at m n payload k is lt =
     let none = symbol (pos 0) (pos 0) in
     let inside : k < symbols_in m = omega (arith, (frame_sizes m is).symbols) in
@@ -76,7 +76,7 @@ xor_triangle false true false = omega arith
 xor_triangle false false true = omega arith
 xor_triangle false false false = omega arith
 
-triangle : (a b : ℕ → Bool) (window : List Decision) (n : ℕ) → differences a b n ≤ mismatches a window n + mismatches b window n
+pub triangle : (a b : ℕ → Bool) (window : List Decision) (n : ℕ) → differences a b n ≤ mismatches a window n + mismatches b window n
 unfolding differences mismatches
 triangle a b window zero = omega arith
 triangle a b window (suc n) =
@@ -135,7 +135,7 @@ seen_last symbols = ap (λ n. drop (n - 90) (map decision symbols)) (length-map 
 
 -- ---- dummy headers
 
-header_no_mismatch : (m : Mode) → mismatches (header_bit m) (map decision (header_of m)) 90 ≡ 0
+pub header_no_mismatch : (m : Mode) → mismatches (header_bit m) (map decision (header_of m)) 90 ≡ 0
 header_no_mismatch m =
     let symbols = header_of m in
     no_mismatch (header_bit m) (map decision symbols) 90
