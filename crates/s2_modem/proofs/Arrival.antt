@@ -165,7 +165,7 @@ all_read source bytes (Some left) consumes end = consumes ∙ ap (λ l. bytes ++
 
 -- all that was met
 all_met : (rules : Rules) (symbols : List ℕ) (new : State) (r' : Option (List ℕ)) (met : List Met) → new.phase ≡ phases.Ended
-    → Meets (met_left rules phases.Searching 0 (Some symbols)) (met_left rules new.phase new.at r') met → met_from rules.finds rules.size 0 0 nothing_over (symbols_of symbols) ≡ met
+    → Meets (met_left rules phases.Searching 0 (Some symbols)) (met_left rules new.phase new.at r') met → met_from rules.finds rules.size 0 0 false nothing_over (symbols_of symbols) ≡ met
 all_met rules symbols new r' met phase h =
     let whole : Meets (met_left rules phases.Searching 0 (Some symbols)) (Some []) met = subst (λ x. Meets (met_left rules phases.Searching 0 (Some symbols)) (met_left rules x new.at r') met) phase h in
     whole ∙ append-nil met
@@ -203,7 +203,7 @@ arrives t rules count_old count_new source symbols counts new source_left symbol
     let places = run_places rules.size t.dummy_every 1 0 in
     let g = gives rules link.setup.roll_off size runs.packets runs.fields [] h.pieces [] hears.least hears.field_least runs.each_is_packet (append-nil runs.fields ∙ fields_are) h.are in
     let just = frames_at rules.size 0 h.pieces in
-    let met_is : met ≡ just ++ ended nothing_over ∷ [] = sym (all_met rules symbols new symbols_left met out.0 went.left) ∙ ap (met_from rules.finds rules.size 0 0 nothing_over) (ap symbols_of sent ∙ h.symbols []) ∙ g.met in
+    let met_is : met ≡ just ++ ended nothing_over ∷ [] = sym (all_met rules symbols new symbols_left met out.0 went.left) ∙ ap (met_from rules.finds rules.size 0 0 false nothing_over) (ap symbols_of sent ∙ h.symbols []) ∙ g.met in
     let end = after_all rules at_start just in
     let last = passes end.totals nothing_over in
     let standing : new.standing ≡ record end { totals = last } = went.standing ∙ ap (after_all rules at_start) met_is ∙ after-append rules just (ended nothing_over ∷ []) at_start in

@@ -33,6 +33,7 @@ use Rattle.s2_bch.proofs.NearestWords.{within_is_nearest, nearest_is_within, no_
 use Rattle.s2_map.specs.Mapping.{payload_of}
 use Rattle.s2_plframe.specs.Frame.{frame_symbol}
 use Rattle.s2_plframe.specs.Search.{decision, found}
+use Rattle.s2_plframe.proofs.HeadersBehind.{clean_behind}
 use Rattle.s2_soft.specs.Divisors.{IsDivisor}
 use Rattle.s2_soft.specs.Soft.{soft_bit}
 use Rattle.s2_receive.specs.Laws.{IsReceived}
@@ -281,9 +282,11 @@ module _ (link : Link) (valid : IsMode link.setup.mode) (sizes : HasCodeSizes li
     least_symbols : 90 ≤ symbols_in m
     least_symbols = omega (arith, (frame_sizes m valid).symbols)
 
-    found_sent : (codeword : List Bool) → found m (map decision (take 90 (sent_symbols link codeword))) ≡ founds.Coded → found_as m (take 90 (sent_symbols link codeword)) ≡ founds.Coded
+    found_sent : (codeword : List Bool) → found m (map decision (take 90 (sent_symbols link codeword))) ≡ founds.Coded
+        → (behind : Bool) → found_as m tuning.lock behind (take 90 (sent_symbols link codeword)) ≡ founds.Coded
     unfolding found_as
-    found_sent codeword coded = coded
+    found_sent codeword coded true = clean_behind m tuning.lock link.setup.number (payload_of m codeword) valid
+    found_sent codeword coded false = coded
 
     hears_frame : (at : ℕ) (field : List ℕ) (codeword : List Bool) → AreBytes field → to_place at < length field → length field ≤ field_bytes m
         → IsCodewordFor m link.rows (header_at link.setup.roll_off at field) field codeword
@@ -311,7 +314,7 @@ module _ (link : Link) (valid : IsMode link.setup.mode) (sizes : HasCodeSizes li
       size = refl;
       least = least_symbols;
       field_least = omega (arith, sizes.field_least);
-      dummies = dummy_is m link.setup.number valid;
+      dummies = dummy_is m tuning.lock link.setup.number valid;
       frames = hears_frame;
     }
 

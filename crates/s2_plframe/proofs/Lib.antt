@@ -4,3 +4,4 @@ pub mod HeaderBits
 pub mod Mismatches
 pub mod Windows
 pub mod HeaderFacts
+pub mod HeadersBehind

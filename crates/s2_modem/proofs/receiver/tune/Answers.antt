@@ -11,17 +11,18 @@ use Rattle.s2_modem.specs.Listening.{Listening}
 use Rattle.s2_modem.proofs.CleanFrames.{all_as_likely, all_told}
 use Rattle.s2_modem.proofs.receiver.tune.Goals as goal
 
-abbrev made : Mode → ℕ → Link → Tuning → ℕ → Rules
-made m n link tuning limit = rules_of (found_as m) n (frame_decision link tuning) frame_line cut_line end_line limit
+abbrev made : Mode → ℕ → ℕ → Link → Tuning → ℕ → Rules
+made m lock n link tuning limit = rules_of (found_as m lock) n (frame_decision link tuning) frame_line cut_line end_line limit
 
-same : (m m' : Mode) (n n' : ℕ) (l l' : Link) (r r' : Tuning) (k k' : ℕ) → m ≡ m' → n ≡ n' → l ≡ l' → r ≡ r' → k ≡ k' → made m n l r k ≡ made m' n' l' r' k'
-same m m' n n' l l' r r' k k' em en el er ek =
-    ap (λ x. made x n l r k) em ∙ (ap (λ x. made m' x l r k) en ∙ (ap (λ x. made m' n' x r k) el ∙ (ap (λ x. made m' n' l' x k) er ∙ ap (λ x. made m' n' l' r' x) ek)))
+same : (m m' : Mode) (h h' n n' : ℕ) (l l' : Link) (r r' : Tuning) (k k' : ℕ) → m ≡ m' → h ≡ h' → n ≡ n' → l ≡ l' → r ≡ r' → k ≡ k' → made m h n l r k ≡ made m' h' n' l' r' k'
+same m m' h h' n n' l l' r r' k k' em eh en el er ek = λ t. made (em t) (eh t) (en t) (el t) (er t) (ek t)
 
 pub returns-clause-rules : goal.returns-clause-rules
 returns-clause-rules c =
     let d = c.in_ok-decider in
-    IfOk-weaker c.new-2.result _ _ (λ r e. same _ _ _ _ _ _ _ _ _ _ (ap (λ s. s.mode) e.0 ∙ (c.new-search.ensures ∙ c.mode-mode.ensures.is)) (e.3 ∙ (c.symbols.ensures.is ∙ ap symbols_in c.mode-mode.ensures.is)) (ap (λ x. x.link) e.1 ∙ d.ensures.link) (ap (λ x. x.tuning) e.1 ∙ d.ensures.tuning) e.4) c.new-2.ensures.parts
+    let search = c.new-search.ensures in
+    IfOk-weaker c.new-2.result _ _ (λ r e. same _ _ _ _ _ _ _ _ _ _ _ _ (ap (λ s. s.search.mode) e.0 ∙ (search.mode ∙ c.mode-mode.ensures.is)) (ap (λ s. s.lock) e.0 ∙ (search.lock ∙ c.lock.ensures.is))
+    (e.3 ∙ (c.symbols.ensures.is ∙ ap symbols_in c.mode-mode.ensures.is)) (ap (λ x. x.link) e.1 ∙ d.ensures.link) (ap (λ x. x.tuning) e.1 ∙ d.ensures.tuning) e.4) c.new-2.ensures.parts
 
 pub returns-clause-as_likely : goal.returns-clause-as_likely
 returns-clause-as_likely c =
