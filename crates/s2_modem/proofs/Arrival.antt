@@ -69,8 +69,8 @@ module _ (t : Transmitter) (rules : Rules) (hears : Hears t.link rules) where
   behind true pieces = dummy (dummy_frame link.setup.number) ∷ pieces
   behind false pieces = pieces
 
-  are_behind : (due : Bool) (k : ℕ) (pieces : List Piece) (fields : List (List ℕ)) → AreReceived rules link.setup.roll_off k pieces fields → AreReceived rules link.setup.roll_off k (behind due pieces) fields
-  are_behind true k pieces fields h = (hears.dummies, h)
+  are_behind : (due : Bool) (k : ℕ) (pieces : List Piece) (fields : List (List ℕ)) → ((b : Bool) → AreReceived rules link.setup.roll_off b k pieces fields) → (b : Bool) → AreReceived rules link.setup.roll_off b k (behind due pieces) fields
+  are_behind true k pieces fields h = λ b. (hears.dummies b, h true)
   are_behind false k pieces fields h = h
 
   certified_behind : (due : Bool) (pieces : List Piece) → AreCertified rules pieces → AreCertified rules (behind due pieces)
@@ -94,7 +94,7 @@ module _ (t : Transmitter) (rules : Rules) (hears : Hears t.link rules) where
   -- what was sent for some fields, as pieces of a stream
   record Heard (number at : ℕ) (fields units : List (List ℕ)) : Type 0 where
     pieces : List Piece
-    are : AreReceived rules link.setup.roll_off at pieces fields
+    are : (b : Bool) → AreReceived rules link.setup.roll_off b at pieces fields
     certified : AreCertified rules pieces
     places : (place : ℕ) → places_in rules place pieces ≡ run_places rules.size t.dummy_every number place (length fields)
     symbols : (rest : List ℕ) → symbols_of (bytes_joined units ++ rest) ≡ stream_symbols pieces ++ symbols_of rest
@@ -112,7 +112,7 @@ module _ (t : Transmitter) (rules : Rules) (hears : Hears t.link rules) where
       let later = behind due more.pieces in
       record {
         pieces = coded (symbols_of b) ∷ later;
-        are = (subst (λ l. IsReceived rules (header_at link.setup.roll_off at f) f l) (sym read) one.0, are_behind due (at + length f) more.pieces fs more.are);
+        are = λ b. (subst (λ l. IsReceived rules b (header_at link.setup.roll_off at f) f l) (sym read) (one.0 b), are_behind due (at + length f) more.pieces fs more.are true);
         certified = (subst (IsCertifiedFrame rules) (sym read) one.1, certified_behind due more.pieces more.certified);
         places = λ place. ap₂ (λ (v : Verdict) (l : List (ℕ × Verdict)). (place, v) ∷ l) (ap (λ (l : List Symbol). (rules.decide l).verdict) read ∙ one.2) (places_behind due (place + rules.size) more.pieces ∙ more.places (if due then place + rules.size + 3330 else place + rules.size));
         symbols = λ rest.
@@ -127,7 +127,7 @@ module _ (t : Transmitter) (rules : Rules) (hears : Hears t.link rules) where
 
   heard : (number at : ℕ) (fields units : List (List ℕ)) → All AreBytes fields → Placed at fields → All (λ field. length field ≤ field_bytes link.setup.mode) fields
       → AreUnits t number at fields units → Heard number at fields units
-  heard number at [] [] bytes placed short sent = record { pieces = []; are = tt; certified = tt; places = λ place. refl; symbols = λ rest. refl }
+  heard number at [] [] bytes placed short sent = record { pieces = []; are = λ b. tt; certified = tt; places = λ place. refl; symbols = λ rest. refl }
   heard number at [] (u ∷ us) bytes placed short sent = absurd sent
   heard number at (f ∷ fs) [] bytes placed short sent = absurd sent
   heard number at (f ∷ fs) (u ∷ us) bytes placed short sent =
@@ -136,20 +136,20 @@ module _ (t : Transmitter) (rules : Rules) (hears : Hears t.link rules) where
 
 module _ (rules : Rules) (roll_off : ℕ) where
   -- their lines
-  pub lines_frames : (at k : ℕ) (pieces : List Piece) (fields : List (List ℕ)) (s : Standing) → AreReceived rules roll_off k pieces fields → AreCertified rules pieces
+  pub lines_frames : (b : Bool) (at k : ℕ) (pieces : List Piece) (fields : List (List ℕ)) (s : Standing) → AreReceived rules roll_off b k pieces fields → AreCertified rules pieces
       → all_lines rules s (frames_at rules.size at pieces) ≡ certified_lines rules s.totals.frames (places_in rules at pieces)
-  lines_frames at k [] [] t h c = refl
-  lines_frames at k [] (f ∷ fs) t h c = absurd h
-  lines_frames at k (coded s ∷ ps) [] t h c = absurd h
-  lines_frames at k (coded s ∷ ps) (f ∷ fs) t h c =
+  lines_frames b at k [] [] t h c = refl
+  lines_frames b at k [] (f ∷ fs) t h c = absurd h
+  lines_frames b at k (coded s ∷ ps) [] t h c = absurd h
+  lines_frames b at k (coded s ∷ ps) (f ∷ fs) t h c =
       let here = c.0 in
       let report : Verdict → Outcome → Report = λ v o. record { number = t.totals.frames + 1; at = at; verdict = v; outcome = o } in
       let verdict = (rules.decide s).verdict in
       let line = ap (λ o. rules.frame_line (report verdict o)) here.outcome in
       let later = all_lines rules (after rules t (frame at nothing_over s)) (frames_at rules.size (at + rules.size) ps) in
       ap (λ l. l ++ later) line
-      ∙ ap (λ l. rules.frame_line (report verdict (Delivered 0)) ++ l) (lines_frames (at + rules.size) (k + length f) ps fs (after rules t (frame at nothing_over s)) h.1 c.1)
-  lines_frames at k (dummy s ∷ ps) fs t h c = lines_frames (at + 3330) k ps fs t h.1 c
+      ∙ ap (λ l. rules.frame_line (report verdict (Delivered 0)) ++ l) (lines_frames true (at + rules.size) (k + length f) ps fs (after rules t (frame at nothing_over s)) h.1 c.1)
+  lines_frames b at k (dummy s ∷ ps) fs t h c = lines_frames true (at + 3330) k ps fs t h.1 c
 
 -- and what they are called
 pub all_certified : (rules : Rules) (at : ℕ) (pieces : List Piece) → AreCertified rules pieces → All (λ (place : ℕ × Verdict). IsTrue (is_certified place.1)) (places_in rules at pieces)
@@ -201,7 +201,7 @@ arrives t rules count_old count_new source symbols counts new source_left symbol
     let bytes : All AreBytes runs.fields = subst (All AreBytes) (sym fields_are) (cut_bytes size _ (stream_of runs.packets) (stream_bytes runs.packets (subst AreBytes from are_bytes))) in
     let h = heard t rules hears 1 0 runs.fields runs.units bytes placed short runs.are_units in
     let places = run_places rules.size t.dummy_every 1 0 in
-    let g = gives rules link.setup.roll_off size runs.packets runs.fields [] h.pieces [] hears.least hears.field_least runs.each_is_packet (append-nil runs.fields ∙ fields_are) h.are in
+    let g = gives rules link.setup.roll_off size runs.packets runs.fields [] h.pieces [] hears.least hears.field_least runs.each_is_packet (append-nil runs.fields ∙ fields_are) (h.are false) in
     let just = frames_at rules.size 0 h.pieces in
     let met_is : met ≡ just ++ ended nothing_over ∷ [] = sym (all_met rules symbols new symbols_left met out.0 went.left) ∙ ap (met_from rules.finds rules.size 0 0 false nothing_over) (ap symbols_of sent ∙ h.symbols []) ∙ g.met in
     let end = after_all rules at_start just in
@@ -214,7 +214,7 @@ arrives t rules count_old count_new source symbols counts new source_left symbol
     same_totals last counts (g.frames_count ∙ sym framed) (g.delivered ∙ sym framed) (g.packets_count ∙ ap length all ∙ sym counted) g.bad g.torn_none g.cut (passed_at_end end.totals g.over) in
     let lines : all_lines rules at_start met ≡ certified_lines rules 0 (places counts.frames) ++ rules.end_line (totals_of counts) =
     ap (all_lines rules at_start) met_is ∙ lines-append rules just (ended nothing_over ∷ []) at_start ∙ ap (λ l. all_lines rules at_start just ++ l) (append-nil (rules.end_line last))
-    ∙ ap (λ l. l ++ rules.end_line last) (lines_frames rules link.setup.roll_off 0 0 h.pieces runs.fields at_start h.are h.certified ∙ ap (certified_lines rules 0) (h.places 0 ∙ ap places (sym framed)))
+    ∙ ap (λ l. l ++ rules.end_line last) (lines_frames rules link.setup.roll_off false 0 0 h.pieces runs.fields at_start (h.are false) h.certified ∙ ap (certified_lines rules 0) (h.places 0 ∙ ap places (sym framed)))
     ∙ ap (λ t. certified_lines rules 0 (places counts.frames) ++ rules.end_line t) totals in
     record {
       packets = subst (Appends p p') packets went.packets;

@@ -290,7 +290,7 @@ module _ (link : Link) (valid : IsMode link.setup.mode) (sizes : HasCodeSizes li
 
     hears_frame : (at : ℕ) (field : List ℕ) (codeword : List Bool) → AreBytes field → to_place at < length field → length field ≤ field_bytes m
         → IsCodewordFor m link.rows (header_at link.setup.roll_off at field) field codeword
-        → IsReceived (link_rules link tuning limit) (header_at link.setup.roll_off at field) field (sent_symbols link codeword)
+        → ((behind : Bool) → IsReceived (link_rules link tuning limit) behind (header_at link.setup.roll_off at field) field (sent_symbols link codeword))
         × IsCertifiedFrame (link_rules link tuning limit) (sent_symbols link codeword)
         × ((frame_decision link tuning (sent_symbols link codeword)).verdict ≡ Sole)
     hears_frame at field codeword bytes place fits c =
@@ -304,7 +304,7 @@ module _ (link : Link) (valid : IsMode link.setup.mode) (sizes : HasCodeSizes li
         let given = codeword_delivers tuning at symbols field codeword ro bytes place fits c (ap (λ d. d.bits) sure.0 ∙ hard) in
         let some : NoneIsZero soft = λ i low. heard.soft.some i (omega (arith, low, ap length hard, length-map soft (λ v. int_lt v (pos 0)))) in
         let verdict = frame_verdict link tuning symbols ∙ sure.1.1 some in (
-          (length_sent codeword, found_sent codeword heard.header, given.delivered),
+          λ behind. (length_sent codeword, found_sent codeword heard.header behind, given.delivered),
           record { verdict = ap is_certified verdict; outcome = given.outcome },
           verdict,
         )

@@ -35,5 +35,5 @@ unfolding found_as
 dummy_header m lock number valid true = ap (λ symbols. found_behind m lock (map decision symbols)) (dummy_front number) ∙ dummy_behind m lock false false valid
 dummy_header m lock number valid false = ap (λ symbols. found m (map decision symbols)) (dummy_front number) ∙ dummy_found m false false valid
 
-pub dummy_is : (m : Mode) (lock number : ℕ) → IsMode m → IsDummy (found_as m lock) (dummy_frame number)
-dummy_is m lock number valid = (length_dummy number, dummy_header m lock number valid)
+pub dummy_is : (m : Mode) (lock number : ℕ) → IsMode m → (behind : Bool) → IsDummy (found_as m lock) behind (dummy_frame number)
+dummy_is m lock number valid behind = (length_dummy number, dummy_header m lock number valid behind)

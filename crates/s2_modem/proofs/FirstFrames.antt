@@ -1,5 +1,5 @@
 -- The first frames of a stream arrive, and one stream gives the same however it is read.
-use Rattle.std.proofs.Common.{◌≡◌, ℕ, ◌+◌, ◌<◌, ◌≤◌, inl, inr, List, [], ◌∷◌, ◌++◌, All, length, refl, sym, ap, ◌∙◌, subst}
+use Rattle.std.proofs.Common.{◌≡◌, Bool, true, false, ℕ, ◌+◌, ◌<◌, ◌≤◌, inl, inr, List, [], ◌∷◌, ◌++◌, All, length, refl, sym, ap, ◌∙◌, subst}
 use Rattle.std.proofs.lemmas.List.{take_at}
 use Rattle.std.proofs.lemmas.List.Elements.{All-head, All-tail, All-take}
 use Rattle.std.specs.Io.KnownBytes.{Appends}
@@ -32,27 +32,27 @@ module _ (m : Mode) (valid : IsMode m) (sizes : HasCodeSizes m) (link : Link) (t
   abbrev rules : Rules
   rules = link_rules link tuning limit
 
-  heard_one : (at : ℕ) (field : List ℕ) (symbols : List Symbol) → AreBytes field → to_place at < length field → length field ≤ field_bytes link.setup.mode → IsHeard link tuning at field symbols
-      → IsReceived rules (header_at link.setup.roll_off at field) field symbols × IsCertifiedFrame rules symbols
-  heard_one at field symbols bytes place fits (codeword, is, inl clean) =
+  heard_one : (behind : Bool) (at : ℕ) (field : List ℕ) (symbols : List Symbol) → AreBytes field → to_place at < length field → length field ≤ field_bytes link.setup.mode → IsHeard link tuning behind at field symbols
+      → IsReceived rules behind (header_at link.setup.roll_off at field) field symbols × IsCertifiedFrame rules symbols
+  heard_one behind at field symbols bytes place fits (codeword, is, inl clean) =
       let h = (hears_law m valid sizes link tuning limit linked ro known).frames at field codeword bytes place fits is in
-      (subst (IsReceived rules (header_at link.setup.roll_off at field) field) (sym clean) h.0, subst (IsCertifiedFrame rules) (sym clean) h.1)
-  heard_one at field symbols bytes place fits (codeword, is, inr (long, header, scattered)) =
+      (subst (IsReceived rules behind (header_at link.setup.roll_off at field) field) (sym clean) (h.0 behind), subst (IsCertifiedFrame rules) (sym clean) h.1)
+  heard_one behind at field symbols bytes place fits (codeword, is, inr (long, header, scattered)) =
       let sent : IsSent m link at field codeword = record { linked = linked; roll_off = ro; bytes = bytes; place = place; fits = fits; codeword_is = is } in
       let d = scattered_law m valid sizes link tuning at symbols field codeword sent scattered in
       ((long, header, d.delivered.delivered), record { verdict = d.verdict; outcome = d.delivered.outcome })
 
-  heard_all : (at : ℕ) (pieces : List Piece) (fields : List (List ℕ)) → All AreBytes fields → Placed at fields → All (λ field. length field ≤ field_bytes link.setup.mode) fields → AreHeard link tuning at pieces fields
-      → AreReceived rules link.setup.roll_off at pieces fields × AreCertified rules pieces
-  heard_all at [] [] bytes placed short h = (tt, tt)
-  heard_all at [] (f ∷ fs) bytes placed short h = absurd h
-  heard_all at (coded s ∷ ps) [] bytes placed short h = absurd h
-  heard_all at (coded s ∷ ps) (f ∷ fs) bytes placed short h =
-      let one = heard_one at f s (All-head AreBytes f fs bytes) placed.0 (All-head (λ field. length field ≤ field_bytes link.setup.mode) f fs short) h.0 in
-      let more = heard_all (at + length f) ps fs (All-tail AreBytes f fs bytes) placed.1 (All-tail (λ field. length field ≤ field_bytes link.setup.mode) f fs short) h.1 in
+  heard_all : (behind : Bool) (at : ℕ) (pieces : List Piece) (fields : List (List ℕ)) → All AreBytes fields → Placed at fields → All (λ field. length field ≤ field_bytes link.setup.mode) fields → AreHeard link tuning behind at pieces fields
+      → AreReceived rules link.setup.roll_off behind at pieces fields × AreCertified rules pieces
+  heard_all behind at [] [] bytes placed short h = (tt, tt)
+  heard_all behind at [] (f ∷ fs) bytes placed short h = absurd h
+  heard_all behind at (coded s ∷ ps) [] bytes placed short h = absurd h
+  heard_all behind at (coded s ∷ ps) (f ∷ fs) bytes placed short h =
+      let one = heard_one behind at f s (All-head AreBytes f fs bytes) placed.0 (All-head (λ field. length field ≤ field_bytes link.setup.mode) f fs short) h.0 in
+      let more = heard_all true (at + length f) ps fs (All-tail AreBytes f fs bytes) placed.1 (All-tail (λ field. length field ≤ field_bytes link.setup.mode) f fs short) h.1 in
       ((one.0, more.0), (one.1, more.1))
-  heard_all at (dummy s ∷ ps) fs bytes placed short h =
-      let more = heard_all at ps fs bytes placed short h.1 in
+  heard_all behind at (dummy s ∷ ps) fs bytes placed short h =
+      let more = heard_all true at ps fs bytes placed short h.1 in
       ((h.0, more.0), more.1)
 
 pub first_frames_law : (m : Mode) → IsMode m → HasCodeSizes m → FirstFramesLaw m
@@ -64,12 +64,12 @@ first_frames_law m valid sizes = λ link tuning limit packets fields later piece
     let whole : All AreBytes (fields ++ later) = subst (All AreBytes) (sym cut_so) (cut_bytes size _ (stream_of packets) (stream_bytes packets are_bytes)) in
     let short : All within (fields ++ later) = subst (All within) (sym cut_so) (short_cuts size _ (stream_of packets)) in
     let placed : Placed 0 fields = placed_front fields later 0 (subst (Placed 0) (sym cut_so) (placed_fields size hears.field_least packets each)) in
-    let h = heard_all m valid sizes link tuning limit linked ro known 0 pieces fields (all_front AreBytes fields later whole) placed (all_front within fields later short) heard in
+    let h = heard_all m valid sizes link tuning limit linked ro known false 0 pieces fields (all_front AreBytes fields later whole) placed (all_front within fields later short) heard in
     let f = front rules link.setup.roll_off size packets fields later pieces rest bytes mid left p p' w w' met hears.least hears.field_least each cut_so h.0 spelt count went in
     let g = gives rules link.setup.roll_off size packets fields later pieces rest hears.least hears.field_least each cut_so h.0 in
     record {
       written = f.1;
-      lines = subst (Appends w w') (ap (all_lines rules at_start) f.0 ∙ lines_frames rules link.setup.roll_off 0 0 pieces fields at_start h.0 h.1) went.lines;
+      lines = subst (Appends w w') (ap (all_lines rules at_start) f.0 ∙ lines_frames rules link.setup.roll_off false 0 0 pieces fields at_start h.0 h.1) went.lines;
       certified = all_certified rules 0 pieces h.1;
       all = g.all;
     }

@@ -1,5 +1,5 @@
 -- What holds of a stream of symbols: of its first frames, and where it is read in two ways.
-use Rattle.std.specs.Prelude.{◌≡◌, ℕ, ◌+◌, ◌≤◌, ◌⊎◌, IsTrue, Bool, List, [], ◌∷◌, ◌++◌, All, length, take, Option, Some, ⊤}
+use Rattle.std.specs.Prelude.{◌≡◌, ℕ, ◌+◌, ◌≤◌, ◌⊎◌, IsTrue, Bool, true, false, List, [], ◌∷◌, ◌++◌, All, length, take, Option, Some, ⊤}
 use Rattle.std.specs.Io.KnownBytes.{Appends}
 use Rattle.s2_mode.specs.Limits.{header_symbols, dummy_symbols}
 use Rattle.s2_mode.specs.Mode.{Mode, symbols_in}
@@ -26,24 +26,26 @@ use Rattle.s2_modem.specs.Reports.{frame_soft}
 use Rattle.s2_modem.specs.Reception.{link_rules}
 use Rattle.s2_modem.specs.Both.{AreBytes, sent_symbols, certified_lines}
 
--- a frame's symbols as they were sent; or some behind a header that is found, whose soft values are scattered about the codeword
-abbrev pub IsClear : Link → Tuning → List Bool → List Symbol → Type 0
-IsClear link tuning codeword symbols =
+-- a frame's symbols as they were sent; or some behind a header that is found there, right behind a frame or not, whose soft values are
+-- scattered about the codeword
+abbrev pub IsClear : Link → Tuning → Bool → List Bool → List Symbol → Type 0
+IsClear link tuning behind codeword symbols =
     (symbols ≡ sent_symbols link codeword)
-    ⊎ ((length symbols ≡ symbols_in link.setup.mode) × ((behind : Bool) → found_as link.setup.mode tuning.lock behind (take header_symbols symbols) ≡ founds.Coded) × IsScattered (code_of link.rows) (frame_soft link tuning symbols) codeword)
+    ⊎ ((length symbols ≡ symbols_in link.setup.mode) × (found_as link.setup.mode tuning.lock behind (take header_symbols symbols) ≡ founds.Coded) × IsScattered (code_of link.rows) (frame_soft link tuning symbols) codeword)
 
 -- those of the frame that was sent for a data field, which begins at this byte of the stream
-abbrev pub IsHeard : Link → Tuning → ℕ → List ℕ → List Symbol → Type 0
-IsHeard link tuning at field symbols =
-    (codeword : List Bool) × IsCodewordFor link.setup.mode link.rows (header_at link.setup.roll_off at field) field codeword × IsClear link tuning codeword symbols
+abbrev pub IsHeard : Link → Tuning → Bool → ℕ → List ℕ → List Symbol → Type 0
+IsHeard link tuning behind at field symbols =
+    (codeword : List Bool) × IsCodewordFor link.setup.mode link.rows (header_at link.setup.roll_off at field) field codeword × IsClear link tuning behind codeword symbols
 
--- those of consecutive data fields, and dummy frames among them, each whole and behind a header that is found
-abbrev pub AreHeard : Link → Tuning → ℕ → List Piece → List (List ℕ) → Type 0
-AreHeard link tuning at [] [] = ⊤
-AreHeard link tuning at [] (field ∷ fields) = ⊥
-AreHeard link tuning at (coded symbols ∷ pieces) [] = ⊥
-AreHeard link tuning at (coded symbols ∷ pieces) (field ∷ fields) = IsHeard link tuning at field symbols × AreHeard link tuning (at + length field) pieces fields
-AreHeard link tuning at (dummy symbols ∷ pieces) fields = IsDummy (found_as link.setup.mode tuning.lock) symbols × AreHeard link tuning at pieces fields
+-- those of consecutive data fields, and dummy frames among them, each whole and behind a header that is found there: that of the first by
+-- one test, those of all others, which stand right behind a frame, by that of the lock
+abbrev pub AreHeard : Link → Tuning → Bool → ℕ → List Piece → List (List ℕ) → Type 0
+AreHeard link tuning behind at [] [] = ⊤
+AreHeard link tuning behind at [] (field ∷ fields) = ⊥
+AreHeard link tuning behind at (coded symbols ∷ pieces) [] = ⊥
+AreHeard link tuning behind at (coded symbols ∷ pieces) (field ∷ fields) = IsHeard link tuning behind at field symbols × AreHeard link tuning true (at + length field) pieces fields
+AreHeard link tuning behind at (dummy symbols ∷ pieces) fields = IsDummy (found_as link.setup.mode tuning.lock) behind symbols × AreHeard link tuning true at pieces fields
 
 -- where the coded ones begin, from a position on, and what these rules call them
 abbrev pub places_in : Rules → ℕ → List Piece → List (ℕ × Verdict)
@@ -66,7 +68,7 @@ FirstFramesLaw m =
     (link : Link) (tuning : Tuning) (limit : ℕ) (packets fields later : List (List ℕ)) (pieces : List Piece) (rest : List Symbol) (bytes : List ℕ)
     (mid : State) (left packets_old packets_new report_old report_new : Option (List ℕ)) (met : List Met)
     → IsLinkOf m link → link.setup.roll_off ≤ most_roll_off → IsDivisor tuning.divisor → All IsPacket packets → AreBytes (joined packets)
-    → fields ++ later ≡ fields_of (field_bytes link.setup.mode) (stream_of packets) → AreHeard link tuning 0 pieces fields
+    → fields ++ later ≡ fields_of (field_bytes link.setup.mode) (stream_of packets) → AreHeard link tuning false 0 pieces fields
     → symbols_of bytes ≡ stream_symbols pieces ++ rest → length met ≡ length fields
     → Went (link_rules link tuning limit) begun mid (Some bytes) left packets_old packets_new report_old report_new met
     → FrontArrives link tuning limit packets fields later pieces packets_old packets_new report_old report_new
