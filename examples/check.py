@@ -2,13 +2,15 @@
 """Checks a certificate of version 2 without the modem: examples/check.py ROWS CERTIFICATE
 
 A check moves its amount to one of its bits from each of its others. Another codeword differs from the word in an even number of the
-check's bits, so over these all that was moved adds up to nothing or less: it costs at least what the bits where it differs have left."""
+check's bits, to which no more comes by that move than goes. So it costs more by at least what the bits where it differs have left."""
 import struct
 import sys
 
 
 def checked(rows, file):
     group, groups, q, scale = struct.unpack(">4H", file[5:13])
+    if file[:5] != b"S2ML\x02" or len(rows) != groups or scale < 1:
+        return "no shape"
     k, checks = group * groups, group * q
     n = k + checks
     soft = struct.unpack(f">{n}h", file[13 : 13 + 2 * n])
