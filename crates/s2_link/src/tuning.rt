@@ -20,8 +20,8 @@ pub const DEFAULT_ROUNDS: u32 = 50;
 pub const MOST_PASSES: u32 = 1000;
 
 /// How a receiver is tuned: so many rounds of min-sum, 1 to 200, so many passes of settling, 0 to 1000, what soft
-/// values are divided by, and how many sixteenths of the least size min-sum's messages have. Uncertified, with no passes, no certificate
-/// is looked for of what min-sum finds.
+/// values are divided by, and how many sixteenths of the least size min-sum's messages have. Uncertified, with no
+/// passes, no certificate is looked for of what min-sum finds.
 #[derive(Clone, Copy, Debug, PartialEq, Eq)]
 pub struct Tuning {
     rounds: u32,
@@ -44,8 +44,8 @@ impl Model for Tuning {
 }
 
 impl Tuning {
-    /// So many rounds and passes, the usual divisor, 4096, and the usual factor, 12, with certificates. Of two refusals the first is answered: `BadRounds`
-    /// where the rounds are not 1 to 200, `BadPasses` where the passes are over 1000.
+    /// So many rounds and passes, the usual divisor, 4096, and the usual factor, 12, with certificates. Of two refusals
+    /// the first is answered: `BadRounds` where the rounds are not 1 to 200, `BadPasses` where the passes are over 1000.
     pub fn new(rounds: u32, passes: u32) -> Result<Tuning, SetupFault>
         ensures is { IfOk result (λ t. t ≡ tuning_of rounds passes) }
         ensures tuned { IfOk result (λ _. IsTuning (tuning_of rounds passes)) }
