@@ -23,7 +23,7 @@ module _ (rules : Rules) (roll_off : ℕ) (large : 90 ≤ rules.size) where
   size = rules.size
 
   -- they are met as just these frames
-  pub met_frames : (at k : ℕ) (behind : Bool) (pieces : List Piece) (fields : List (List ℕ)) (rest : List Symbol) → AreReceived rules roll_off k pieces fields
+  pub met_frames : (at k : ℕ) (behind : Bool) (pieces : List Piece) (fields : List (List ℕ)) (rest : List Symbol) → AreReceived rules roll_off behind k pieces fields
       → met_from rules.finds rules.size at 0 behind nothing_over (stream_symbols pieces ++ rest)
       ≡ frames_at rules.size at pieces ++ met_from rules.finds rules.size (at + length (stream_symbols pieces)) 0 (behind_of (length (stream_symbols pieces)) behind) nothing_over rest
   met_frames at k behind [] [] rest h = ap (λ n. met_from rules.finds rules.size n 0 behind nothing_over rest) (omega arith)
@@ -34,7 +34,7 @@ module _ (rules : Rules) (roll_off : ℕ) (large : 90 ≤ rules.size) where
       let long = length-append s (stream_symbols ps) in
       let here = h.0.0 in
       ap (met_from rules.finds rules.size at 0 behind nothing_over) (append_assoc s (stream_symbols ps) rest)
-      ∙ whole_frame rules.finds rules.size s (stream_symbols ps ++ rest) at behind nothing_over here large (h.0.1 behind)
+      ∙ whole_frame rules.finds rules.size s (stream_symbols ps ++ rest) at behind nothing_over here large h.0.1
       ∙ ap (λ l. frame at nothing_over s ∷ l) ih
       ∙ ap (λ b. frame at nothing_over s ∷ (frames_at rules.size (at + rules.size) ps ++ met_from rules.finds rules.size (at + rules.size + length (stream_symbols ps)) 0 b nothing_over rest))
       (behind_true (length (stream_symbols ps)) ∙ sym (behind_some (length (s ++ stream_symbols ps)) behind (omega (arith, long, here))))
@@ -44,48 +44,48 @@ module _ (rules : Rules) (roll_off : ℕ) (large : 90 ≤ rules.size) where
       let long = length-append s (stream_symbols ps) in
       let here = h.0.0 in
       ap (met_from rules.finds rules.size at 0 behind nothing_over) (append_assoc s (stream_symbols ps) rest)
-      ∙ whole_dummy rules.finds rules.size s (stream_symbols ps ++ rest) at behind nothing_over here (h.0.1 behind)
+      ∙ whole_dummy rules.finds rules.size s (stream_symbols ps ++ rest) at behind nothing_over here h.0.1
       ∙ ih
       ∙ ap (λ b. frames_at rules.size (at + 3330) ps ++ met_from rules.finds rules.size (at + 3330 + length (stream_symbols ps)) 0 b nothing_over rest)
       (behind_true (length (stream_symbols ps)) ∙ sym (behind_some (length (s ++ stream_symbols ps)) behind (omega (arith, long, here))))
       ∙ ap (λ n. frames_at rules.size (at + 3330) ps ++ met_from rules.finds rules.size n 0 (behind_of (length (s ++ stream_symbols ps)) behind) nothing_over rest) (omega (arith, long, here))
 
   -- the joiner gets just the fields
-  pub events_frames : (at k : ℕ) (pieces : List Piece) (fields : List (List ℕ)) → AreReceived rules roll_off k pieces fields
+  pub events_frames : (behind : Bool) (at k : ℕ) (pieces : List Piece) (fields : List (List ℕ)) → AreReceived rules roll_off behind k pieces fields
       → events_of rules.decide (frames_at rules.size at pieces) ≡ events_from roll_off k fields
-  events_frames at k [] [] h = refl
-  events_frames at k [] (f ∷ fs) h = absurd h
-  events_frames at k (coded s ∷ ps) [] h = absurd h
-  events_frames at k (coded s ∷ ps) (f ∷ fs) h =
+  events_frames behind at k [] [] h = refl
+  events_frames behind at k [] (f ∷ fs) h = absurd h
+  events_frames behind at k (coded s ∷ ps) [] h = absurd h
+  events_frames behind at k (coded s ∷ ps) (f ∷ fs) h =
       let here : delivery (rules.decide s).delivered ≡ field (header_at roll_off k f) f = ap delivery h.0.2 in
       ap (λ e. e ∷ events_of rules.decide (frames_at rules.size (at + rules.size) ps)) here
-      ∙ ap (λ l. field (header_at roll_off k f) f ∷ l) (events_frames (at + rules.size) (k + length f) ps fs h.1)
-  events_frames at k (dummy s ∷ ps) fs h = events_frames (at + 3330) k ps fs h.1
+      ∙ ap (λ l. field (header_at roll_off k f) f ∷ l) (events_frames true (at + rules.size) (k + length f) ps fs h.1)
+  events_frames behind at k (dummy s ∷ ps) fs h = events_frames true (at + 3330) k ps fs h.1
 
-  pub count_frames : (at k : ℕ) (pieces : List Piece) (fields : List (List ℕ)) (s : Standing) → AreReceived rules roll_off k pieces fields
+  pub count_frames : (behind : Bool) (at k : ℕ) (pieces : List Piece) (fields : List (List ℕ)) (s : Standing) → AreReceived rules roll_off behind k pieces fields
       → ((after_all rules s (frames_at rules.size at pieces)).totals.frames ≡ s.totals.frames + length fields)
       × ((after_all rules s (frames_at rules.size at pieces)).totals.delivered ≡ s.totals.delivered + length fields)
       × ((after_all rules s (frames_at rules.size at pieces)).totals.cut ≡ s.totals.cut)
       × (PassedNone s.totals → PassedNone (after_all rules s (frames_at rules.size at pieces)).totals)
-  count_frames at k [] [] t h = (omega arith, omega arith, refl, λ none. none)
-  count_frames at k [] (f ∷ fs) t h = absurd h
-  count_frames at k (coded s ∷ ps) [] t h = absurd h
-  count_frames at k (coded s ∷ ps) (f ∷ fs) t h =
+  count_frames behind at k [] [] t h = (omega arith, omega arith, refl, λ none. none)
+  count_frames behind at k [] (f ∷ fs) t h = absurd h
+  count_frames behind at k (coded s ∷ ps) [] t h = absurd h
+  count_frames behind at k (coded s ∷ ps) (f ∷ fs) t h =
       let one : count_of (rules.decide s).delivered ≡ 1 = ap count_of h.0.2 in
-      let ih = count_frames (at + rules.size) (k + length f) ps fs _ h.1 in
+      let ih = count_frames true (at + rules.size) (k + length f) ps fs _ h.1 in
       (ih.0 ∙ omega arith, ih.1 ∙ omega (arith, one), ih.2, λ none. ih.3 (omega (arith, none.0), omega (arith, none.1), ap (λ n. cond (nat_eq n 0) 0 t.totals.first) none.1))
-  count_frames at k (dummy s ∷ ps) fs t h = count_frames (at + 3330) k ps fs t h.1
+  count_frames behind at k (dummy s ∷ ps) fs t h = count_frames true (at + 3330) k ps fs t h.1
 
   -- one for each field
-  pub length_frames : (at k : ℕ) (pieces : List Piece) (fields : List (List ℕ)) → AreReceived rules roll_off k pieces fields → length (frames_at rules.size at pieces) ≡ length fields
-  length_frames at k [] [] h = refl
-  length_frames at k [] (f ∷ fs) h = absurd h
-  length_frames at k (coded s ∷ ps) [] h = absurd h
-  length_frames at k (coded s ∷ ps) (f ∷ fs) h = ap suc (length_frames (at + rules.size) (k + length f) ps fs h.1)
-  length_frames at k (dummy s ∷ ps) fs h = length_frames (at + 3330) k ps fs h.1
+  pub length_frames : (behind : Bool) (at k : ℕ) (pieces : List Piece) (fields : List (List ℕ)) → AreReceived rules roll_off behind k pieces fields → length (frames_at rules.size at pieces) ≡ length fields
+  length_frames behind at k [] [] h = refl
+  length_frames behind at k [] (f ∷ fs) h = absurd h
+  length_frames behind at k (coded s ∷ ps) [] h = absurd h
+  length_frames behind at k (coded s ∷ ps) (f ∷ fs) h = ap suc (length_frames true (at + rules.size) (k + length f) ps fs h.1)
+  length_frames behind at k (dummy s ∷ ps) fs h = length_frames true (at + 3330) k ps fs h.1
 
 pub gives : (rules : Rules) (roll_off size : ℕ) (packets fields later : List (List ℕ)) (pieces : List Piece) (rest : List Symbol)
-    → 90 ≤ rules.size → 188 ≤ size → All IsPacket packets → fields ++ later ≡ fields_of size (stream_of packets) → AreReceived rules roll_off 0 pieces fields
+    → 90 ≤ rules.size → 188 ≤ size → All IsPacket packets → fields ++ later ≡ fields_of size (stream_of packets) → AreReceived rules roll_off false 0 pieces fields
     → Gives rules packets fields later pieces rest
 gives rules roll_off size packets fields later pieces rest large room each cut_so received =
     let met = frames_at rules.size 0 pieces in
@@ -93,9 +93,9 @@ gives rules roll_off size packets fields later pieces rest large room each cut_s
     let whole : stream_of packets ≡ joined fields ++ joined later = sym (joined_fields size room packets) ∙ ap joined (sym cut_so) ∙ flat_map-append (λ l. l) fields later in
     let placed : Placed 0 fields = placed_front fields later 0 (subst (Placed 0) (sym cut_so) (placed_fields size room packets each)) in
     let trip = round_trip roll_off packets fields (joined later) each whole placed in
-    let those = events_frames rules roll_off large 0 0 pieces fields received in
+    let those = events_frames rules roll_off large false 0 0 pieces fields received in
     let events = ap (joining None) those in
-    let counts = count_frames rules roll_off large 0 0 pieces fields at_start received in
+    let counts = count_frames rules roll_off large false 0 0 pieces fields at_start received in
     let good = ap (λ j. j.good) events ∙ trip.0 in
     record {
       met = met_frames rules roll_off large 0 0 false pieces fields rest received
@@ -124,6 +124,6 @@ front rules roll_off size packets fields later pieces rest bytes mid left p p' w
     let g = gives rules roll_off size packets fields later pieces rest large room each cut_so received in
     let just = frames_at rules.size 0 pieces in
     let whole = ap (met_from rules.finds rules.size 0 0 false nothing_over) spelt ∙ g.met in
-    let many : length met ≡ length just = count ∙ sym (length_frames rules roll_off large 0 0 pieces fields received) in
+    let many : length met ≡ length just = count ∙ sym (length_frames rules roll_off large false 0 0 pieces fields received) in
     let same : met ≡ just = front_of (met_from rules.finds rules.size 0 0 false nothing_over (symbols_of bytes)) _ met just _ went.left whole many in
     (same, subst (Appends p p') (ap (all_packets rules at_start) same ∙ g.written) went.packets)

@@ -59,23 +59,25 @@ piece_symbols (dummy symbols) = symbols
 abbrev pub stream_symbols : List Piece → List Symbol
 stream_symbols pieces = flat_map piece_symbols pieces
 
--- symbols of a frame's size, whose header is found by either test, and of which this header and this data field are delivered
-abbrev pub IsReceived : Rules → Header → List ℕ → List Symbol → Type 0
-IsReceived rules header field symbols =
-    (length symbols ≡ rules.size) × ((behind : Bool) → rules.finds behind (take header_symbols symbols) ≡ founds.Coded) × ((rules.decide symbols).delivered ≡ Some (header, field))
+-- symbols of a frame's size, whose header is found there, right behind a frame or not, and of which this header and this data field are
+-- delivered
+abbrev pub IsReceived : Rules → Bool → Header → List ℕ → List Symbol → Type 0
+IsReceived rules behind header field symbols =
+    (length symbols ≡ rules.size) × (rules.finds behind (take header_symbols symbols) ≡ founds.Coded) × ((rules.decide symbols).delivered ≡ Some (header, field))
 
--- those of a dummy frame, whose header is found
-abbrev pub IsDummy : (Bool → List Symbol → Found) → List Symbol → Type 0
-IsDummy finds symbols = (length symbols ≡ dummy_symbols) × ((behind : Bool) → finds behind (take header_symbols symbols) ≡ founds.Dummy)
+-- those of a dummy frame, whose header is found there
+abbrev pub IsDummy : (Bool → List Symbol → Found) → Bool → List Symbol → Type 0
+IsDummy finds behind symbols = (length symbols ≡ dummy_symbols) × (finds behind (take header_symbols symbols) ≡ founds.Dummy)
 
--- the coded frames of consecutive data fields, the first of which begins at this byte of the stream, and dummy frames among them
-abbrev pub AreReceived : Rules → ℕ → ℕ → List Piece → List (List ℕ) → Type 0
-AreReceived rules roll_off at [] [] = ⊤
-AreReceived rules roll_off at [] (field ∷ fields) = ⊥
-AreReceived rules roll_off at (coded symbols ∷ pieces) [] = ⊥
-AreReceived rules roll_off at (coded symbols ∷ pieces) (field ∷ fields) =
-    IsReceived rules (header_at roll_off at field) field symbols × AreReceived rules roll_off (at + length field) pieces fields
-AreReceived rules roll_off at (dummy symbols ∷ pieces) fields = IsDummy rules.finds symbols × AreReceived rules roll_off at pieces fields
+-- the coded frames of consecutive data fields, the first of which begins at this byte of the stream, and dummy frames among them; each but
+-- the first stands right behind a frame
+abbrev pub AreReceived : Rules → ℕ → Bool → ℕ → List Piece → List (List ℕ) → Type 0
+AreReceived rules roll_off behind at [] [] = ⊤
+AreReceived rules roll_off behind at [] (field ∷ fields) = ⊥
+AreReceived rules roll_off behind at (coded symbols ∷ pieces) [] = ⊥
+AreReceived rules roll_off behind at (coded symbols ∷ pieces) (field ∷ fields) =
+    IsReceived rules behind (header_at roll_off at field) field symbols × AreReceived rules roll_off true (at + length field) pieces fields
+AreReceived rules roll_off behind at (dummy symbols ∷ pieces) fields = IsDummy rules.finds behind symbols × AreReceived rules roll_off true at pieces fields
 
 -- just these coded frames, one after another from a position on, with none passed over
 abbrev pub frames_at : ℕ → ℕ → List Piece → List Met
@@ -104,7 +106,7 @@ pub record Gives (rules : Rules) (packets fields later : List (List ℕ)) (piece
 abbrev pub ReceptionLaw : Type 0
 ReceptionLaw =
     (rules : Rules) (roll_off size : ℕ) (packets fields later : List (List ℕ)) (pieces : List Piece) (rest : List Symbol)
-    → header_symbols ≤ rules.size → packet_bytes ≤ size → All IsPacket packets → fields ++ later ≡ fields_of size (stream_of packets) → AreReceived rules roll_off 0 pieces fields
+    → header_symbols ≤ rules.size → packet_bytes ≤ size → All IsPacket packets → fields ++ later ≡ fields_of size (stream_of packets) → AreReceived rules roll_off false 0 pieces fields
     → Gives rules packets fields later pieces rest
 
 -- What a receiver wrote when it had met as many things as so many coded frames that were received as sent, the first ones of a
@@ -113,7 +115,7 @@ abbrev pub FrontLaw : Type 0
 FrontLaw =
     (rules : Rules) (roll_off size : ℕ) (packets fields later : List (List ℕ)) (pieces : List Piece) (rest : List Symbol) (bytes : List ℕ)
     (mid : State) (left packets_old packets_new report_old report_new : Option (List ℕ)) (met : List Met)
-    → header_symbols ≤ rules.size → packet_bytes ≤ size → All IsPacket packets → fields ++ later ≡ fields_of size (stream_of packets) → AreReceived rules roll_off 0 pieces fields
+    → header_symbols ≤ rules.size → packet_bytes ≤ size → All IsPacket packets → fields ++ later ≡ fields_of size (stream_of packets) → AreReceived rules roll_off false 0 pieces fields
     → symbols_of bytes ≡ stream_symbols pieces ++ rest → length met ≡ length fields
     → Went rules begun mid (Some bytes) left packets_old packets_new report_old report_new met
     → (met ≡ frames_at rules.size 0 pieces) × Appends packets_old packets_new (joined (take (closed_in (length (joined fields))) packets))
