@@ -1,8 +1,8 @@
 -- Facts of the header test.
-use Rattle.std.proofs.Common.{◌≡◌, ℕ, zero, suc, ◌+◌, ◌-◌, ◌*◌, ◌%◌, ◌<◌, ◌≤◌, negsuc, Bool, true, false, List, [], ◌∷◌, ◌++◌, length, length-append, length-drop, length-take, take, drop, map, pos, inl, inr, refl, sym, ap, ◌∙◌, arith}
+use Rattle.std.proofs.Common.{◌≡◌, ℕ, zero, suc, ◌+◌, ◌-◌, ◌*◌, ◌%◌, ◌<◌, ◌≤◌, negsuc, Bool, true, false, List, [], ◌∷◌, ◌++◌, length, length-append, length-drop, length-take, take, drop, map, pos, inl, inr, refl, sym, ap, ◌∙◌, arith, min}
 use Rattle.std.specs.Prelude.{◌==◌, ◌||◌, nat_le, if◌then◌else◌}
-use Rattle.std.proofs.lemmas.Bool.{false≢true, leb-true, lt-leb, lt-ltb, le-ltb}
-use Rattle.std.proofs.lemmas.Bool.Decides.{eqb_tells}
+use Rattle.std.proofs.lemmas.Bool.{false≢true, leb-true, lt-leb, le-leb, lt-ltb, le-ltb}
+use Rattle.std.proofs.lemmas.Bool.Decides.{eqb_tells, leb_tells}
 use Rattle.std.proofs.lemmas.List.{get_or-take, length-map, map-append, drop-drop, drop-append-le}
 use Rattle.std.proofs.lemmas.List.FromFn.{fill_by_all, get_or-map-range_with_len, length-map-range_with_len}
 use Rattle.s2_mode.specs.declared.symbols.Symbol.{Symbol}
@@ -13,7 +13,9 @@ use Rattle.s2_bits.specs.Bits.{xor, number}
 use Rattle.s2_bits.proofs.Sums.{xor_same}
 use Rattle.s2_plframe.specs.Header.{header_bit, header_point, header_symbol, header_of, dummy_mode, sum_of_rows}
 use Rattle.s2_plframe.specs.Frame.{frame_symbol, frame_symbols}
-use Rattle.s2_plframe.specs.Search.{Decision, decision, decided, mismatches, passes, passes_dummy, found, recent}
+use Rattle.s2_plframe.specs.Search.{Decision, decision, decided, mismatches, passes, passes_dummy, wrong_bits, wrong_bits_dummy, found, found_behind, recent}
+use Rattle.s2_plframe.specs.Inside.{behind_by}
+use Rattle.s2_plframe.specs.declared.receive.found.Found.{Found}
 use Rattle.s2_plframe.specs.HeaderLaws.{seen_of, differences, HoldsFrame}
 use Rattle.s2_plframe.specs.declared.receive.found.Found.TheVariants as founds
 use Rattle.s2_plframe.specs.Payload.{AllTurnBack}
@@ -109,6 +111,117 @@ one_fails short pilots m window is passed =
 pub apart_is : (m : Mode) (window : List Decision) → IsMode m → passes (header_bit m) window ≡ true → passes_dummy window ≡ false
 apart_is m window is passed =
     λ t. one_fails false false m window is passed t || (one_fails false true m window is passed t || (one_fails true false m window is passed t || one_fails true true m window is passed t))
+
+-- ---- right behind a frame
+
+-- as many may differ from one of two headers as from the one from which fewer differ
+le_min : (a b n : ℕ) → (nat_le a n || nat_le b n) ≡ nat_le (min a b) n
+le_min a b n = elim (leb_tells a n) [
+  | inl first ↦ let low : a ≤ n = first.1 in let least : min a b ≤ n = omega arith in rw first.0 (sym (le-leb (min a b) n least))
+  | inr first ↦ let high : n < a = first.1 in rw first.0 (elim (leb_tells b n) [
+    | inl second ↦ let low : b ≤ n = second.1 in let least : min a b ≤ n = omega arith in second.0 ∙ sym (le-leb (min a b) n least)
+    | inr second ↦ let over : n < b = second.1 in let least : n < min a b = omega arith in second.0 ∙ sym (lt-leb (min a b) n least)
+  ])
+]
+
+or_together : (a b c d : Bool) → (a || (b || (c || d))) ≡ ((a || b) || (c || d))
+or_together true b c d = refl
+or_together false b c d = refl
+
+dummy_passes : (window : List Decision) → passes_dummy window ≡ nat_le (wrong_bits_dummy window) 12
+dummy_passes window =
+    let a = wrong_bits (header_bit (dummy_mode false false)) window in
+    let b = wrong_bits (header_bit (dummy_mode false true)) window in
+    let c = wrong_bits (header_bit (dummy_mode true false)) window in
+    let d = wrong_bits (header_bit (dummy_mode true true)) window in
+    or_together (nat_le a 12) (nat_le b 12) (nat_le c 12) (nat_le d 12) ∙ ((λ t. le_min a b 12 t || le_min c d 12 t) ∙ le_min (min a b) (min c d) 12)
+
+far_from : (m : Mode) (short pilots : Bool) (window : List Decision) → IsMode m → 32 ≤ wrong_bits (header_bit m) window + wrong_bits (header_bit (dummy_mode short pilots)) window
+far_from m short pilots window is =
+    let least : 32 ≤ differences (header_bit m) (header_bit (dummy_mode short pilots)) 90 = dummies_apart_is m short pilots is in
+    let both = triangle (header_bit m) (header_bit (dummy_mode short pilots)) window 90 in
+    omega arith
+
+-- a window differs in so many bits from a mode's header and from one of dummy frames
+both_far : (m : Mode) (window : List Decision) → IsMode m → 32 ≤ wrong_bits (header_bit m) window + wrong_bits_dummy window
+both_far m window is =
+    let a = far_from m false false window is in
+    let b = far_from m false true window is in
+    let c = far_from m true false window is in
+    let d = far_from m true true window is in
+    omega arith
+
+-- the test elsewhere by how many bits differ
+found_of : ℕ → ℕ → Found
+found_of coded dummy = if nat_le coded 12 then founds.Coded else (if nat_le dummy 12 then founds.Dummy else founds.Nothing)
+
+found_by_wrong : (m : Mode) (window : List Decision) → length window ≡ 90 → found m window ≡ found_of (wrong_bits (header_bit m) window) (wrong_bits_dummy window)
+unfolding found_of
+found_by_wrong m window long =
+    let full : 90 ≤ length window = omega arith in
+    rw (le-ltb (length window) 90 full) (λ t. if passes (header_bit m) window then founds.Coded else (if dummy_passes window t then founds.Dummy else founds.Nothing))
+
+coded_near : (c d lock : ℕ) → 12 ≤ lock → 32 ≤ c + d → c ≤ 12 → behind_by c d lock ≡ founds.Coded
+coded_near c d lock least apart near =
+    let first : c ≤ d = omega arith in
+    let allowed : c ≤ lock = omega arith in
+    rw (le-leb c d first, le-leb c lock allowed) refl
+
+dummy_near : (c d lock : ℕ) → 12 ≤ lock → 12 < c → d ≤ 12 → behind_by c d lock ≡ founds.Dummy
+dummy_near c d lock least apart near =
+    let first : d < c = omega arith in
+    let allowed : d ≤ lock = omega arith in
+    rw (lt-leb c d first, le-leb d lock allowed) refl
+
+none_near : (c d : ℕ) → 12 < c → 12 < d → behind_by c d 12 ≡ founds.Nothing
+none_near c d coded dummy = elim (leb_tells c d) [
+  | inl first ↦ rw (first.0, lt-leb c 12 coded) refl
+  | inr second ↦ rw (second.0, lt-leb d 12 dummy) refl
+]
+
+found_coded : (c d : ℕ) → nat_le c 12 ≡ true → found_of c d ≡ founds.Coded
+unfolding found_of
+found_coded c d near = rw near refl
+
+found_dummy : (c d : ℕ) → nat_le c 12 ≡ false → nat_le d 12 ≡ true → found_of c d ≡ founds.Dummy
+unfolding found_of
+found_dummy c d many near = rw (many, near) refl
+
+found_none : (c d : ℕ) → nat_le c 12 ≡ false → nat_le d 12 ≡ false → found_of c d ≡ founds.Nothing
+unfolding found_of
+found_none c d many more = rw (many, more) refl
+
+same_test : (c d : ℕ) → 32 ≤ c + d → behind_by c d 12 ≡ found_of c d
+same_test c d apart = elim (leb_tells c 12) [
+  | inl near ↦ let few : c ≤ 12 = near.1 in coded_near c d 12 (omega arith) apart few ∙ sym (found_coded c d near.0)
+  | inr many ↦ let coded : 12 < c = many.1 in elim (leb_tells d 12) [
+    | inl near ↦ let few : d ≤ 12 = near.1 in dummy_near c d 12 (omega arith) coded few ∙ sym (found_dummy c d many.0 near.0)
+    | inr more ↦ let dummy : 12 < d = more.1 in none_near c d coded dummy ∙ sym (found_none c d many.0 more.0)
+  ]
+]
+
+still : (c d lock : ℕ) → 12 ≤ lock → 32 ≤ c + d
+    → (found_of c d ≡ founds.Coded → behind_by c d lock ≡ founds.Coded) × (found_of c d ≡ founds.Dummy → behind_by c d lock ≡ founds.Dummy)
+unfolding found_of
+still c d lock least apart = elim (leb_tells c 12) [
+  | inl near ↦ let few : c ≤ 12 = near.1 in
+      rw near.0 ((λ _. coded_near c d lock least apart few), (λ e. absurd (cc)))
+  | inr many ↦ let coded : 12 < c = many.1 in rw many.0 (elim (leb_tells d 12) [
+    | inl near ↦ let few : d ≤ 12 = near.1 in rw near.0 ((λ e. absurd (cc)), (λ _. dummy_near c d lock least coded few))
+    | inr more ↦ rw more.0 ((λ e. absurd (cc)), (λ e. absurd (cc)))
+  ])
+]
+
+pub behind_the_same : (m : Mode) (window : List Decision) → IsMode m → length window ≡ 90 → found_behind m 12 window ≡ found m window
+behind_the_same m window is long =
+    same_test (wrong_bits (header_bit m) window) (wrong_bits_dummy window) (both_far m window is) ∙ sym (found_by_wrong m window long)
+
+pub found_still : (m : Mode) (lock : ℕ) (window : List Decision) → IsMode m → 12 ≤ lock → length window ≡ 90
+    → (found m window ≡ founds.Coded → found_behind m lock window ≡ founds.Coded) × (found m window ≡ founds.Dummy → found_behind m lock window ≡ founds.Dummy)
+found_still m lock window is least long =
+    let by = found_by_wrong m window long in
+    let all = still (wrong_bits (header_bit m) window) (wrong_bits_dummy window) lock least (both_far m window is) in
+    ((λ e. all.0 (sym by ∙ e)), (λ e. all.1 (sym by ∙ e)))
 
 -- ---- one symbol more
 

@@ -71,12 +71,16 @@ counted header window h w (suc n) is_h is_w le =
     let step : count_ones (x / 2 ^ (89 - n)) ≡ x / 2 ^ (89 - n) % 2 + count_ones (x / 2 ^ (89 - n) / 2) = ones_step (x / 2 ^ (89 - n)) in
     (λ t. e t + d t) ∙ (add_comm (count_ones (x / 2 ^ (90 - n))) (digit x (89 - n)) ∙ sym (ap (λ m. count_ones (x / 2 ^ m)) place ∙ (step ∙ ap (λ m. digit x (89 - n) + count_ones m) half)))
 
--- the test by numbers is the test by bits
-pub test_is : (header : ℕ → Bool) (window : List Decision) (h w : ℕ) → IsHeader header h → IsWindow window w → is_near h w ≡ passes header window
-test_is header window h w is_h is_w =
+-- how many bits differ by numbers is how many differ by bits
+pub wrong_is : (header : ℕ → Bool) (window : List Decision) (h w : ℕ) → IsHeader header h → IsWindow window w → count_ones (bit_xor h w) ≡ mismatches header window 90
+wrong_is header window h w is_h is_w =
     let all : 90 ≤ 90 = omega arith in
     let whole : bit_xor h w / 1 ≡ bit_xor h w = omega arith in
-    sym (ap (λ n. nat_le n 12) (counted header window h w 90 is_h is_w all ∙ ap count_ones whole))
+    sym (counted header window h w 90 is_h is_w all ∙ ap count_ones whole)
+
+-- and so is the test
+pub test_is : (header : ℕ → Bool) (window : List Decision) (h w : ℕ) → IsHeader header h → IsWindow window w → is_near h w ≡ passes header window
+test_is header window h w is_h is_w = ap (λ n. nat_le n 12) (wrong_is header window h w is_h is_w)
 
 -- ---- counted one by one
 

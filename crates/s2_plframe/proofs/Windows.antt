@@ -24,9 +24,9 @@ use Rattle.s2_mode.specs.Symbols.{symbol, symbol_at}
 use Rattle.s2_mode.specs.Mode.{Mode}
 use Rattle.s2_plframe.specs.Header.{header_bit, dummy_mode}
 use Rattle.s2_plframe.specs.declared.receive.found.Found.TheVariants as founds
-use Rattle.s2_plframe.specs.Search.{Decision, decision, decided, mismatches, passes, recent, decision_at, found}
-use Rattle.s2_plframe.specs.Inside.{held, held_list, is_near, found_by, AreHeaders, IsHeader, IsWindow}
-use Rattle.s2_plframe.proofs.Mismatches.{bit_number, test_is}
+use Rattle.s2_plframe.specs.Search.{Decision, decision, decided, mismatches, passes, recent, decision_at, found, found_behind}
+use Rattle.s2_plframe.specs.Inside.{held, held_list, is_near, found_by, wrong_in, wrong_in_dummy, behind_by, AreHeaders, IsHeader, IsWindow}
+use Rattle.s2_plframe.proofs.Mismatches.{bit_number, test_is, wrong_is}
 
 held_next : (odd even odd' even' j : ℕ) → ((i : ℕ) → i < 127 → digit odd' (i + 1) ≡ digit odd i) → ((i : ℕ) → i < 127 → digit even' (i + 1) ≡ digit even i) → j < 127 → held odd' even' (j + 1) ≡ held odd even j
 held_next odd even odd' even' j a b lt = λ t. record { odd = a j lt t == 1; even = b j lt t == 1 }
@@ -103,6 +103,16 @@ found_is m coded d0 d1 d2 d3 seen w are long is =
     let a_3 = test_is (header_bit (dummy_mode true true)) seen d3 w are.dummy_both_is is in
     rw (le-ltb (length seen) 90 full)
     (λ t. if c t then founds.Coded else (if a_0 t || (a_1 t || (a_2 t || a_3 t)) then founds.Dummy else founds.Nothing))
+
+pub behind_is : (m : Mode) (coded d0 d1 d2 d3 lock : ℕ) (seen : List Decision) (w : ℕ) → AreHeaders m coded d0 d1 d2 d3 → IsWindow seen w
+    → behind_by (wrong_in coded w) (wrong_in_dummy d0 d1 d2 d3 w) lock ≡ found_behind m lock seen
+behind_is m coded d0 d1 d2 d3 lock seen w are is =
+    let c = wrong_is (header_bit m) seen coded w are.coded_is is in
+    let a_0 = wrong_is (header_bit (dummy_mode false false)) seen d0 w are.dummy_is is in
+    let a_1 = wrong_is (header_bit (dummy_mode false true)) seen d1 w are.dummy_pilots_is is in
+    let a_2 = wrong_is (header_bit (dummy_mode true false)) seen d2 w are.dummy_short_is is in
+    let a_3 = wrong_is (header_bit (dummy_mode true true)) seen d3 w are.dummy_both_is is in
+    λ t. behind_by (c t) (min (min (a_0 t) (a_1 t)) (min (a_2 t) (a_3 t))) lock
 
 pub found_early : (m : Mode) (seen : List Decision) → length seen < 90 → founds.Nothing ≡ found m seen
 found_early m seen few = rw (lt-ltb (length seen) 90 few) refl

@@ -4,6 +4,7 @@ ghost use Rattle.s2_mode.specs.declared.symbols.Symbol.{Symbol};
 ghost use Rattle.s2_mode.specs.Limits.{header_symbols};
 ghost use Rattle.s2_plframe.specs.Header.{header_bit};
 ghost use Rattle.s2_plframe.specs.Search.{decision, found, found_behind, passes};
+ghost use Rattle.s2_plframe.specs.declared.receive.found.Found.TheVariants as founds;
 ghost use Rattle.s2_plframe.specs.Inside.{AreHeaders, is_dummy, found_by, wrong_in_dummy, behind_by};
 
 use crate::constants::MOST_WRONG;
@@ -190,12 +191,16 @@ impl Search {
         }
         found_by(&self.headers, mixed(self.odd, self.even))
     }
+
     /// What the last 90 symbols are where they stand right behind a frame: the header from which the fewest bits
-    /// differ passes, with at most so many wrong ones as the lock says.
+    /// differ passes, with at most so many wrong ones as the lock says. Nothing where fewer came.
     pub fn behind(&self, lock: Lock) -> Found
-        requires seen { length self.now.seen ≡ header_symbols }
-        ensures { result ≡ found_behind self.now.mode lock self.now.seen }
+        ensures found { length self.now.seen ≡ header_symbols → result ≡ found_behind self.now.mode lock self.now.seen }
+        ensures early { length self.now.seen < header_symbols → result ≡ founds.Nothing }
     {
+        if self.count < HEADER_SYMBOLS {
+            return Found::Nothing;
+        }
         let window = mixed(self.odd, self.even);
         let coded = wrong_in(self.headers.coded, window);
         behind_by(coded, wrong_in_dummy(&self.headers, window), lock.get())
