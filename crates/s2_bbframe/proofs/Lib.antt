@@ -6,4 +6,7 @@ pub mod Headers
 pub mod Streams
 pub mod BodySteps
 pub mod BrokenWrites
+pub mod Runs
+pub mod Events
+pub mod Parts
 pub mod RoundTrips

@@ -1,158 +1,28 @@
 -- The fields of a data stream give its packets again.
-use Rattle.std.proofs.Common.{◌≡◌, ℕ, suc, ◌+◌, ◌-◌, ◌*◌, ◌/◌, ◌%◌, ◌<◌, ◌≤◌, true, false, List, [], ◌∷◌, ◌++◌, All, Some, None, length, take, drop, refl, sym, ap, ◌∙◌, append_assoc, append-nil, length-append, length-drop, take-append-drop, arith, cond, eq-eqb, lt-ltb, inl, inr}
-use Rattle.std.specs.Prelude.{nat_eq, nat_lt}
+use Rattle.std.proofs.Common.{◌≡◌, ℕ, ◌+◌, ◌-◌, ◌*◌, ◌/◌, true, List, [], ◌∷◌, ◌++◌, All, None, length, take, refl, sym, ap, ◌∙◌, arith, cond, lt-ltb}
 use Rattle.std.specs.List.{flat_map}
-use Rattle.std.proofs.lemmas.Bool.{cases_lt}
-use Rattle.std.proofs.lemmas.List.{length_push, take_at, drop_at, take-append-le, drop-append-le}
-use Rattle.std.proofs.lemmas.List.Elements.{All-head, All-tail}
-use Rattle.s2_bbframe.specs.Crc.{crc8}
-use Rattle.s2_bbframe.specs.DataStream.{IsPacket, closed_body, stream_of, to_place, header_at}
-use Rattle.s2_bbframe.specs.Joining.{field, Run, run_of, more, closing, inside, place_in, begins, step, begun_body, torn_in, torn, and_then, joining, events_from, Placed}
-use Rattle.s2_bbframe.proofs.BodySteps.{more-more, run-fill, run-good}
-
-more-none : (r : Run) → more [] 0 r ≡ r
-more-none r =
-    let e : 0 + r.bad ≡ r.bad = omega arith in
-    let join : ℕ → Run = λ b. record { body = r.body; good = r.good; bad = b } in
-    ap join e
-
--- bytes in two parts
-pub run-append : (xs ys body : List ℕ) → run_of body (xs ++ ys) ≡ more (run_of body xs).good (run_of body xs).bad (run_of (run_of body xs).body ys)
-run-append [] ys body = sym (more-none (run_of body ys))
-run-append (x ∷ xs) ys body =
-    let one = run_of [] xs in
-    let both = run_of [] (xs ++ ys) in
-    let ih : both ≡ more one.good one.bad (run_of one.body ys) = run-append xs ys [] in
-    let split : Run → Run = λ r. more r.good r.bad (run_of r.body ys) in
-    let closes : closing body x both ≡ split (closing body x one) =
-    elim (nat_eq x (crc8 body)) as (λ b. cond b (more ((71 ∷ body) ∷ []) 0 both) (more [] 1 both) ≡ split (cond b (more ((71 ∷ body) ∷ []) 0 one) (more [] 1 one))) [
-      | true ↦ ap (more ((71 ∷ body) ∷ []) 0) ih ∙ more-more ((71 ∷ body) ∷ []) 0 one.good one.bad (run_of one.body ys)
-      | false ↦ ap (more [] 1) ih ∙ more-more [] 1 one.good one.bad (run_of one.body ys)
-    ] in
-    elim (nat_eq (length body) 187) as (λ b. cond b (closing body x both) (run_of (body ++ x ∷ []) (xs ++ ys)) ≡ split (cond b (closing body x one) (run_of (body ++ x ∷ []) xs))) [
-      | true ↦ closes
-      | false ↦ run-append xs ys (body ++ x ∷ [])
-    ]
-
-closing-body : (body : List ℕ) (x : ℕ) (r : Run) → (closing body x r).body ≡ r.body
-closing-body body x r = elim (nat_eq x (crc8 body)) as (λ b. (cond b (more ((71 ∷ body) ∷ []) 0 r) (more [] 1 r)).body ≡ r.body) [ true ↦ refl | false ↦ refl ]
-
--- how much of a body is held
-pub run-length : (xs body : List ℕ) → length body ≤ 187 → length (run_of body xs).body ≡ (length body + length xs) % 188
-run-length [] body h = omega arith
-run-length (x ∷ xs) body h = elim (cases_lt (length body) 187) [
-  | inl k ↦ (let push = length_push body x in
-      let ih = run-length xs (body ++ x ∷ []) (omega arith) in
-      ap (λ r. length r.body) (run-fill body x xs k) ∙ ih ∙ ap (λ n. n % 188) (omega arith))
-  | inr k ↦ (let full : length body ≡ 187 = omega arith in
-      let e : nat_eq (length body) 187 ≡ true = eq-eqb (length body) 187 full in
-      let ih = run-length xs [] (omega arith) in
-      ap (λ t. length (cond t (closing body x (run_of [] xs)) (run_of (body ++ x ∷ []) xs)).body) e ∙ ap length (closing-body body x (run_of [] xs)) ∙ ih ∙ omega arith)
-]
-
--- bytes that fill a body no further than to its end
-fills_on : (xs ys body : List ℕ) → length body + length xs ≤ 187 → run_of body (xs ++ ys) ≡ run_of (body ++ xs) ys
-fills_on [] ys body h = ap (λ b. run_of b ys) (sym (append-nil body))
-fills_on (x ∷ xs) ys body h =
-    let push = length_push body x in
-    run-fill body x (xs ++ ys) (omega arith) ∙ fills_on xs ys (body ++ x ∷ []) (omega arith) ∙ ap (λ b. run_of b ys) (append_assoc body (x ∷ []) xs)
-
-packet-is : (p : List ℕ) → IsPacket p → 71 ∷ drop 1 p ≡ p
-packet-is [] h = absurd (omega (arith, h.0))
-packet-is (x ∷ xs) h = ap (λ y. y ∷ xs) (sym h.1)
-
--- a packet's bytes give the packet
-packet-run : (p xs : List ℕ) → IsPacket p → run_of [] (closed_body p ++ xs) ≡ more (p ∷ []) 0 (run_of [] xs)
-packet-run p xs h =
-    let long : length (drop 1 p) ≡ 187 = omega (arith, length-drop 1 p, h.0) in
-    ap (run_of []) (append_assoc (drop 1 p) (crc8 (drop 1 p) ∷ []) xs)
-    ∙ fills_on (drop 1 p) (crc8 (drop 1 p) ∷ xs) [] (omega arith)
-    ∙ run-good (drop 1 p) (crc8 (drop 1 p)) xs long refl
-    ∙ ap (λ q. more (q ∷ []) 0 (run_of [] xs)) (packet-is p h)
-
-length_closed : (p : List ℕ) → IsPacket p → length (closed_body p) ≡ 188
-length_closed p h = omega (arith, length-append (drop 1 p) (crc8 (drop 1 p) ∷ []), length-drop 1 p, h.0)
-
--- the front of the packets' bytes gives the packets that are closed in it
-pub front-run : (ps : List (List ℕ)) (xs rest : List ℕ) → All IsPacket ps → flat_map closed_body ps ≡ xs ++ rest
-    → ((run_of [] xs).good ≡ take (length xs / 188) ps) × ((run_of [] xs).bad ≡ 0)
-front-run [] [] rest h e = (refl, refl)
-front-run [] (x ∷ xs) rest h e = cc
-front-run (p ∷ ps) xs rest h e = elim (cases_lt (length xs) 188) [
-  | inl k ↦ (let none : length xs / 188 ≡ 0 = omega arith in
-      let r : run_of [] xs ≡ record { body = xs; good = []; bad = 0 } = ap (run_of []) (sym (append-nil xs)) ∙ fills_on xs [] [] (omega arith) in
-      (ap (λ r. r.good) r ∙ ap (λ n. take n (p ∷ ps)) (sym none), ap (λ r. r.bad) r))
-  | inr k ↦ (let packet : IsPacket p = All-head IsPacket p ps h in
-      let long = length_closed p packet in
-      let whole = flat_map closed_body ps in
-      let first : closed_body p ≡ take 188 xs = sym (take_at (closed_body p) whole 188 long) ∙ ap (take 188) e ∙ take-append-le 188 xs rest k in
-      let later : whole ≡ drop 188 xs ++ rest = sym (drop_at (closed_body p) whole 188 long) ∙ ap (drop 188) e ∙ drop-append-le 188 xs rest k in
-      let ih = front-run ps (drop 188 xs) rest (All-tail IsPacket p ps h) later in
-      let parts : xs ≡ closed_body p ++ drop 188 xs = sym (take-append-drop 188 xs) ∙ ap (λ l. l ++ drop 188 xs) (sym first) in
-      let r : run_of [] xs ≡ more (p ∷ []) 0 (run_of [] (drop 188 xs)) = ap (run_of []) parts ∙ packet-run p (drop 188 xs) packet in
-      let one_more : suc (length (drop 188 xs) / 188) ≡ length xs / 188 = omega (arith, length-drop 188 xs) in
-      (ap (λ r. r.good) r ∙ ap (λ l. p ∷ l) ih.0 ∙ ap (λ n. take n (p ∷ ps)) one_more, ap (λ r. r.bad) r ∙ omega (arith, ih.1)))
-]
-
--- inside a run the header of each field names the run's next place
-names_next : (at x : ℕ) (xs body : List ℕ) → 0 < at → length body ≡ (at - 1) % 188 → to_place at < length (x ∷ xs) → nat_eq (8 * to_place at) (place_in body (x ∷ xs)) ≡ true
-names_next at x xs body positive here placed =
-    let place : to_place at ≡ 187 - length body = omega arith in
-    let lies : nat_lt (187 - length body) (length (x ∷ xs)) ≡ true = lt-ltb (187 - length body) (length (x ∷ xs)) (omega arith) in
-    let expected : place_in body (x ∷ xs) ≡ 8 * (187 - length body) = ap (λ b. cond b (8 * (187 - length body)) 65535) lies in
-    eq-eqb (8 * to_place at) (place_in body (x ∷ xs)) (ap (λ n. 8 * n) place ∙ sym expected)
+use Rattle.std.specs.Prelude.{nat_lt}
+use Rattle.s2_bbframe.specs.DataStream.{IsPacket, stream_of, to_place, header_at}
+use Rattle.s2_bbframe.specs.Joining.{field, joining, torn, events_from, Placed}
+use Rattle.s2_bbframe.specs.Gaps.{cut_events}
+use Rattle.s2_bbframe.proofs.Parts.{part_given, lost_torn}
 
 module _ (ro : ℕ) where
-  -- so it goes on
-  goes : (at : ℕ) (bytes body : List ℕ) → 0 < at → length body ≡ (at - 1) % 188 → to_place at < length bytes
-      → step (Some body) (field (header_at ro at bytes) bytes) ≡ inside (run_of body bytes)
-  goes at [] body positive here placed = absurd (omega arith)
-  goes at (x ∷ xs) body positive here placed =
-      ap (λ b. cond b (inside (run_of body (x ∷ xs))) (begins (8 * to_place at) (x ∷ xs))) (names_next at x xs body positive here placed)
-
-  -- and drops no body
-  keeps : (at : ℕ) (bytes body : List ℕ) → 0 < at → length body ≡ (at - 1) % 188 → to_place at < length bytes → torn_in (Some body) (field (header_at ro at bytes) bytes) ≡ 0
-  keeps at [] body positive here placed = absurd (omega arith)
-  keeps at (x ∷ xs) body positive here placed = ap (λ b. cond b 0 (begun_body (Some body))) (names_next at x xs body positive here placed)
-
-  joined_two : (body xs ys : List ℕ) → and_then (inside (run_of body xs)) (inside (run_of (run_of body xs).body ys)) ≡ inside (run_of body (xs ++ ys))
-  joined_two body xs ys = ap inside (sym (run-append xs ys body))
-
-  all_go : (at : ℕ) (fs : List (List ℕ)) (body : List ℕ) → 0 < at → length body ≡ (at - 1) % 188 → Placed at fs
-      → joining (Some body) (events_from ro at fs) ≡ inside (run_of body (flat_map (λ f. f) fs))
-  all_go at [] body positive here placed = refl
-  all_go at (f ∷ fs) body positive here placed =
-      let first = goes at f body positive here placed.0 in
-      let rest = events_from ro (at + length f) fs in
-      let held = (run_of body f).body in
-      let long : length held ≡ (length body + length f) % 188 = run-length f body (omega arith) in
-      let ih = all_go (at + length f) fs held (omega arith) (omega arith) placed.1 in
-      ap (λ j. and_then j (joining j.held rest)) first ∙ ap (and_then (inside (run_of body f))) ih ∙ joined_two body f (flat_map (λ f. f) fs)
-
-  none_torn : (at : ℕ) (fs : List (List ℕ)) (body : List ℕ) → 0 < at → length body ≡ (at - 1) % 188 → Placed at fs → torn (Some body) (events_from ro at fs) ≡ 0
-  none_torn at [] body positive here placed = refl
-  none_torn at (f ∷ fs) body positive here placed =
-      let rest = events_from ro (at + length f) fs in
-      let held = (run_of body f).body in
-      let long : length held ≡ (length body + length f) % 188 = run-length f body (omega arith) in
-      let later = ap (λ j. torn j.held rest) (goes at f body positive here placed.0) ∙ none_torn (at + length f) fs held (omega arith) (omega arith) placed.1 in
-      omega (arith, keeps at f body positive here placed.0, later)
+  -- where a place lies in each field its header is that of any field
+  same_events : (at : ℕ) (fs : List (List ℕ)) → Placed at fs → cut_events ro at fs ≡ events_from ro at fs
+  same_events at [] placed = refl
+  same_events at (f ∷ fs) placed =
+      let there : nat_lt (to_place at) (length f) ≡ true = lt-ltb (to_place at) (length f) placed.0 in
+      let others = cut_events ro (at + length f) fs in
+      ap (λ b. field (record { roll_off = ro; second = 0; dfl = 8 * length f; syncd = cond b (8 * to_place at) 65535 }) f ∷ others) there
+      ∙ ap (λ l. field (header_at ro at f) f ∷ l) (same_events (at + length f) fs placed.1)
 
   -- whatever fields of the stream come first, the packets that are closed in them are given, and none is bad or torn
   pub round_trip : (packets fs : List (List ℕ)) (rest : List ℕ) → All IsPacket packets → stream_of packets ≡ flat_map (λ f. f) fs ++ rest → Placed 0 fs
       → ((joining None (events_from ro 0 fs)).good ≡ take ((length (flat_map (λ f. f) fs) - 1) / 188) packets) × ((joining None (events_from ro 0 fs)).bad ≡ 0) × (torn None (events_from ro 0 fs) ≡ 0)
-  round_trip packets [] rest each whole placed = (refl, refl, refl)
-  round_trip packets ([] ∷ fs) rest each whole placed = absurd (omega (arith, placed.0))
-  round_trip [] ((x ∷ xs) ∷ fs) rest each whole placed = cc
-  round_trip (p ∷ ps) ((x ∷ xs) ∷ fs) rest each whole placed =
-      let body = (run_of [] xs).body in
-      let later = flat_map (λ f. f) fs in
-      let long : length body ≡ length xs % 188 = run-length xs [] (omega arith) ∙ ap (λ n. n % 188) (omega arith) in
-      let go = all_go (0 + length (x ∷ xs)) fs body (omega arith) (omega arith) placed.1 in
-      let tail : flat_map closed_body (p ∷ ps) ≡ (xs ++ later) ++ rest = ap (drop 1) whole in
-      let read = front-run (p ∷ ps) (xs ++ later) rest each tail in
-      let all : joining None (events_from ro 0 ((x ∷ xs) ∷ fs)) ≡ inside (run_of [] (xs ++ later)) =
-      ap (and_then (inside (run_of [] xs))) go ∙ joined_two [] xs later in
-      let count : length (xs ++ later) / 188 ≡ (length ((x ∷ xs) ++ later) - 1) / 188 = ap (λ n. n / 188) (omega arith) in
-      let kept = none_torn (0 + length (x ∷ xs)) fs body (omega arith) (omega arith) placed.1 in
-      (ap (λ j. j.good) all ∙ read.0 ∙ ap (λ n. take n (p ∷ ps)) count, ap (λ j. j.bad) all ∙ read.1, omega (arith, kept))
+  round_trip packets fs rest each whole placed =
+      let same = sym (same_events 0 fs placed) in
+      let given = part_given ro packets each (record { at = 0; fields = fs }) (rest, whole) in
+      let long = length (flat_map (λ f. f) fs) in
+      let from : 0 + long ≡ long = omega arith in
+      (ap (λ l. (joining None l).good) same ∙ given.0 ∙ ap (λ n. take ((n - 1) / 188) packets) from, ap (λ l. (joining None l).bad) same ∙ given.1, ap (torn None) same ∙ lost_torn ro 0 fs)

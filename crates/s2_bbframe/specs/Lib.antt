@@ -3,3 +3,4 @@ pub mod Crc
 pub mod Headers
 pub mod DataStream
 pub mod Joining
+pub mod Gaps

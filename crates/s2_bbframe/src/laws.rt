@@ -1,5 +1,6 @@
 //! Laws of the definitions: each a call that does nothing, whose clause is the law.
 ghost use Rattle.s2_bbframe.specs.Crc.{RemainderLaw};
+ghost use Rattle.s2_bbframe.specs.Gaps.{PartsLaw, AcrossLaw};
 ghost use Rattle.s2_bbframe.specs.Joining.{RoundTripLaw};
 ghost use Rattle.s2_bbframe.specs.Limits.{LimitsLaw};
 
@@ -13,6 +14,14 @@ pub fn remainder()
 /// so all its fields give all its packets.
 pub fn round_trip()
     ensures { RoundTripLaw }
+{}
+
+/// Parts of a data stream, each cut anywhere into data fields whose SYNCD names their first sync place, with
+/// gaps between them, give just the packets that lie whole in one of the parts, and none is bad. So a gap
+/// loses just the packets that reach across it.
+pub fn gaps()
+    ensures given { PartsLaw }
+    ensures lost { AcrossLaw }
 {}
 
 /// The numbers of packets and headers that the code works with, [`crate::PACKET_BYTES`],

@@ -7,7 +7,8 @@
 //! are the stream. [`Header::write`] writes a field's header (BBHEADER), and [`Header::read`] accepts exactly
 //! the headers of the profile and says why another is refused; what is written is read as it was.
 //! A [`Joiner`] takes delivered fields and writes their packets; [`laws::round_trip`] says that the first
-//! fields of a stream give just the packets whose CRC-8 lies in them. Only [`Slicer::new`] takes memory.
+//! fields of a stream give just the packets whose CRC-8 lies in them, and [`laws::gaps`] that fields cut
+//! anywhere do, and that a gap loses just the packets that reach across it. Only [`Slicer::new`] takes memory.
 //!
 //! ```
 //! let mut slicer = Slicer::new(alloc, mode)?;
