@@ -97,7 +97,7 @@ def shown(bits, rests):
     return "sole" if least >= 1 else "most-likely", bits, least
 
 
-def verdict(code, soft, passes, rounds=50, factor=12):
+def verdict(code, soft, passes, rounds=50, factor=12, uncertified=False):
     checks = values.members(*code)
     hard = [v < 0 for v in soft]
     if not any(odd(checks, hard)):
@@ -111,7 +111,7 @@ def verdict(code, soft, passes, rounds=50, factor=12):
     for done in range(rounds):
         bits = [v < 0 for v in values.run(*code, soft, done + 1, factor=factor)[0]]
         if not any(odd(checks, bits)):
-            rests = certified(code, checks, soft, bits, passes)
+            rests = None if uncertified else certified(code, checks, soft, bits, passes)
             return ("parity", bits, None) if rests is None else shown(bits, rests)
     return ("parity", repair, None) if is_codeword else ("broken", bits, None)
 
@@ -133,4 +133,4 @@ CASES = {
 if __name__ == "__main__":
     for name, (code, soft, passes) in CASES.items():
         word, bits, least = verdict(code, soft, passes)
-        print(name, word, [i for i, bit in enumerate(bits) if bit], least)
+        print(name, word, [i for i, bit in enumerate(bits) if bit], least, "uncertified", verdict(code, soft, 0, uncertified=True)[0])

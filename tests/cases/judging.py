@@ -51,6 +51,8 @@ VERDICTS = [
     (f"{PAIR} --factor 10", "pair", b"-5 3", 0, "most-likely cost -2\n"),
     (f"{PAIR} --factor 12", "pair", b"-5 5", NO, "broken cost -5 check 0\n"),
     (f"{PAIR} --factor 13", "pair", b"-5 5", 0, "most-likely cost 0\n"),
+    (f"{PAIR} --uncertified", "pair", b"-5 3", NO, "parity cost -2\n"),
+    (f"{PAIR} --factor 13 --uncertified", "pair", b"-5 5", NO, "parity cost 0\n"),
 ]
 # Codes of three groups, and their rows.
 FIVE, SIX = ("--group 1 --groups 3 --q 5", b"0 1 3\n0 2\n1 4\n"), ("--group 2 --groups 3 --q 3", b"0 4\n2 3 4 5\n2 3 5\n")
@@ -82,6 +84,11 @@ ZEROS = b"".join(b"-4 " if at % 1000 == 0 else b"10 " for at in range(64_800))
 NORMAL_SIZE = 13 + 2 * 64_800 + 8100 + 6 * 32_400
 
 
+def uncertified(line):
+    """The line without a certificate."""
+    return line.replace(LIKELY, "parity").replace(SOLE, "parity")
+
+
 def cut(values):
     """A value file of the same codeword, cut: what is left of its last value counts, unless it is a minus alone."""
     words = [word for word in values.split() if word != b"-"]
@@ -94,6 +101,10 @@ CASES = [
     *(cut(whole[:size]) for whole in (STORED, LARGEST) for size in range(len(whole))),
     *(Case("", out=f"most-likely cost {cost}\n", given=values) for values, cost, _ in WELL),
     *(Case(f"judge {TOY} toy values", out=f"{word} cost {cost}\n", reads={"values": values}) for values, cost, word in WELL),
+    # a hard decision and a repaired word keep their certificates, what min-sum finds has none
+    *(Case(f"judge {TOY} --uncertified toy values", out=f"{word} cost {cost}\n", reads={"values": values}) for values, cost, word in WELL),
+    Case(f"judge {TOY} --uncertified --cert out toy wrong", out="most-likely cost 0\n", writes={"out": WRONG_MOVED}),
+    *(Case(f"judge {shape} --uncertified --cert old rows values", NO, uncertified(line), reads={"rows": rows, "values": values}, writes={"old": b""}) for (shape, rows), _, values, line, _, _ in LEFT),
     *(fault("", f"values: {text}", given=values) for values, text in BAD_VALUES),
     *(fault(f"judge {TOY} toy values", f"values: {text}", reads={"values": values}) for values, text in BAD_VALUES),
     *(fault(f"judge {TOY} rows odd", f"rows: {text}", reads={"rows": rows}) for rows, text in BAD_ROWS),
@@ -120,7 +131,7 @@ CASES = [
     ),
     *(Case("check rows out", 0, line, reads={"rows": rows, "out": file}) for (_, rows), _, _, _, line, file in LEFT),
     *(
-        Case(f"judge {shape} --passes {passes - 1} rows values", NO, line.replace("most-likely", "parity").replace("sole", "parity"), reads={"rows": rows, "values": values})
+        Case(f"judge {shape} --passes {passes - 1} rows values", NO, uncertified(line), reads={"rows": rows, "values": values})
         for (shape, rows), passes, values, line, _, _ in LEFT
         if passes
     ),

@@ -147,6 +147,12 @@ RUN = [
     run(f"{LINK} --divisor 65536 --passes 0 --seed 1 --level 500 made", NO, PARITY, 2 * PACKET),
     run(f"{LINK} --divisor 65536 --passes 96 --seed 1 --level 500 made", 0, TWO, 2 * PACKET),
     run(f"{LINK} --rounds 200 --seed 1 --level 0 made", 0, TWO, 2 * PACKET),
+    run(f"{LINK} --uncertified --seed 1 --level 500 made", NO, PARITY, 2 * PACKET),
+    run(f"{LINK} --uncertified --seed 1 --level 0 made", 0, TWO, 2 * PACKET),
+    # best are 96 passes, unless others stand there, or none can
+    run(f"{LINK} --tuned --seed 1 --level 500 made", 0, TWO, 2 * PACKET),
+    run(f"{LINK} --tuned --passes 0 --seed 1 --level 500 made", NO, PARITY, 2 * PACKET),
+    run(f"{LINK} --tuned --uncertified --seed 1 --level 500 made", NO, PARITY, 2 * PACKET),
     run(f"{LINK} --seed 1 --level 0 made", 0, NONE, b"", b""),
     *(
         fault(f"run {LINK} --seed 1 --level 0 made in out", text, reads={"in": packets}, writes={"out": b""})
@@ -169,11 +175,19 @@ RUN = [
 NOISY, WEAK = (14, 670), (1, 2, 3, 5, 6, 11, 12, 23, 24)
 # By each of these factors it leaves another count, too.
 FACTORS = (12, 13, 14, 16)
+# Words that are best for QPSK 1/4, and those that win over them, also by what is their default: the divisor and the factor.
+TUNED = [
+    ("--tuned", 8192, 15),
+    ("--tuned --divisor 4096", 4096, 15),
+    ("--factor 12 --tuned", 8192, 12),
+    ("--divisor 4096 --factor 13 --tuned", 4096, 13),
+    ("--tuned --factor 12 --divisor 4096", 4096, 12),
+]
 
 
 def divided(two, rows):
     """The cases of divisors over the symbols of the two packets: with noise, without, and so weak that a large divisor leaves
-    nothing of them, which is the word of zeros; and with noise those of factors."""
+    nothing of them, which is the word of zeros; and with noise those of factors, and of what is best."""
     checks, noisy, noise = checks_of(rows), spoilt(two, *NOISY), "--rounds 2 --seed {} --level {}".format(*NOISY)
     lost = TWO.replace("sole fixed 0", "most-likely lost").replace("delivered 2 packets 2", "delivered 0 packets 0")
     usual = broken(checks, two, noisy, DIVISORS[0], 2)
@@ -192,11 +206,11 @@ def divided(two, rows):
         for component in WEAK:
             ends = (0, TWO, 2 * PACKET) if soft_value((component, component), 0, divisor) else (NO, lost, b"")
             cases.append(received(weakened(two, component), *ends, f"{words} made"))
-    for factor in FACTORS:
-        words, report = f"{LINK} --factor {factor}", broken(checks, two, noisy, DIVISORS[0], 2, factor)
+    for words, divisor, factor in [*((f"--factor {factor}", DIVISORS[0], factor) for factor in FACTORS), *TUNED]:
+        report = broken(checks, two, noisy, divisor, 2, factor)
         cases += [
-            received(noisy, NO, report, 2 * PACKET, f"{words} --rounds 2 made"),
-            run(f"{words} {noise} made", NO, report, 2 * PACKET),
+            received(noisy, NO, report, 2 * PACKET, f"{LINK} {words} --rounds 2 made"),
+            run(f"{LINK} {words} {noise} made", NO, report, 2 * PACKET),
         ]
     return cases
 
@@ -276,6 +290,8 @@ def alike(two):
             (1, 700, "--rounds 1", NO, b""),
             (1, 500, "--passes 0", NO, 2 * PACKET),
             (1, 500, "--passes 96", 0, 2 * PACKET),
+            (1, 500, "--tuned", 0, 2 * PACKET),
+            (1, 500, "--uncertified", NO, 2 * PACKET),
             (MOST_SEED, 700, "", ANY, ANY),
         ]
     ]

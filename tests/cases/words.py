@@ -72,6 +72,7 @@ def beyond(value, word, least, most):
     return invalid(value, word, f"{value} is not in {least}..={most}")
 
 
+NOT_BOTH = "error: the argument '--uncertified' cannot be used with '--passes <P>'"
 # Words that no command has, and the first line on standard error.
 MISUSES = [
     ("send", "error: unrecognized subcommand 'send'"),
@@ -83,6 +84,10 @@ MISUSES = [
     (f"judge {TOY} --passes 1001 toy stored", beyond(1001, "passes <P>", 0, 1000)),
     (f"judge {TOY} --divisor 4096 toy stored", "error: unexpected argument '--divisor' found"),
     (f"judge {TOY} --factor 7 toy stored", beyond(7, "factor <F>", 8, 16)),
+    (f"judge {TOY} --factor 17 toy stored", beyond(17, "factor <F>", 8, 16)),
+    (f"judge {TOY} --factor x toy stored", invalid("x", "factor <F>", "invalid digit found in string")),
+    (f"judge {TOY} --uncertified --passes 0 toy stored", NOT_BOTH),
+    (f"judge {TOY} --passes 96 --uncertified toy stored", "error: the argument '--passes <P>' cannot be used with '--uncertified'"),
     ("check toy", LACKS),
     ("mod made packets out", LACKS),
     ("mod --modcod 1 made packets", LACKS),
@@ -105,7 +110,9 @@ MISUSES = [
     ("demod --modcod 1 --rounds 0 made packets out", beyond(0, "rounds <K>", 1, 200)),
     ("demod --modcod 1 --rounds 201 made packets out", beyond(201, "rounds <K>", 1, 200)),
     ("demod --modcod 1 --passes 1001 made packets out", beyond(1001, "passes <P>", 0, 1000)),
+    ("demod --modcod 1 --factor 7 made packets out", beyond(7, "factor <F>", 8, 16)),
     ("demod --modcod 1 --factor 17 made packets out", beyond(17, "factor <F>", 8, 16)),
+    ("demod --modcod 1 --uncertified --passes 96 made packets out", NOT_BOTH),
     ("demod --modcod 1 --dummy 1 made packets out", "error: unexpected argument '--dummy' found"),
     ("demod --modcod 1 --seed 1 made packets out", "error: unexpected argument '--seed' found"),
     ("run --modcod 1 --seed 1 made packets out", LACKS),
@@ -116,6 +123,9 @@ MISUSES = [
     (f"{RUN} --rounds 201 made packets out", beyond(201, "rounds <K>", 1, 200)),
     (f"{RUN} --passes 1001 made packets out", beyond(1001, "passes <P>", 0, 1000)),
     (f"{RUN} --factor 7 made packets out", beyond(7, "factor <F>", 8, 16)),
+    (f"{RUN} --factor 17 made packets out", beyond(17, "factor <F>", 8, 16)),
+    (f"{RUN} --uncertified --passes 0 made packets out", NOT_BOTH),
+    (f"{RUN} --tuned=1 made packets out", "error: unexpected value '1' for '--tuned' found; no more were expected"),
     (f"rows {PAIR} --weight 0 --seed 1", beyond(0, "weight <W>", 1, 24)),
     (f"rows {PAIR} --weight 25 --seed 1", beyond(25, "weight <W>", 1, 24)),
     (f"rows {PAIR} --weight 1 --seed -1", "error: unexpected argument '-1' found"),
@@ -162,11 +172,14 @@ WORDS = [
     ("noise", "--level <L>", "0.816 L in each component, where a QPSK point has 700"),
     ("demod", "--rounds <K>", "Rounds of min-sum at most for each frame, 1 to 200 [default: 50]"),
     ("demod", "--passes <P>", "0 to 1000 [default: 0]"),
+    *((name, "--uncertified", "which is `parity` then; not with --passes") for name in ("judge", "demod", "run")),
+    *((name, "--tuned", "words that stand beside it win") for name in ("demod", "run")),
     ("modes", "--rate <R>", "Symbols a second, 1 to 1000000000: adds the bits a second of the transport stream"),
     ("mod", "packets P frames F", "P packets were taken, and F frames written, dummy frames not counted"),
 ]
-# The commands that show how far they are, those that may be strict, and a line of each command with what it needs.
-SHOWING, STRICT = ("mod", "noise", "demod", "run"), ("demod", "run")
+# The commands that show how far they are, those that may be strict, those that decide, and a line of each command with what it
+# needs.
+SHOWING, STRICT, DECIDING = ("mod", "noise", "demod", "run"), ("demod", "run"), ("judge", "demod", "run")
 LINES = {
     "modes": "modes",
     "rows": f"rows {PAIR} --weight 1 --seed 1",
@@ -277,9 +290,11 @@ CASES = [
     *(Case(f"{name} --help", out=option("--strict", "or no frame was found in 90 symbols or more")) for name in STRICT),
     *(taken("--quiet", name) for name in ENDED),
     *(taken(word, name) for name in SHOWING for word in ("--progress", "--quiet --progress")),
-    *(taken("--strict", name) for name in STRICT),
+    *(taken(word, name) for name in STRICT for word in ("--strict", "--tuned", "--tuned --uncertified", "--tuned --passes 0")),
+    *(taken(word, name) for name in DECIDING for word in ("--uncertified", "--factor 8", "--uncertified --factor 16")),
     *(refused("--progress", name) for name in LINES if name not in SHOWING),
-    *(refused("--strict", name) for name in LINES if name not in STRICT),
+    *(refused(word, name) for name in LINES if name not in STRICT for word in ("--strict", "--tuned")),
+    *(refused("--uncertified", name) for name in LINES if name not in DECIDING),
     *(refused("--rate", name) for name in LINES if name != "modes"),
     Case("--help", FAULT, to="/dev/full"),
     Case("check toy", FAULT, errors=NO_CERT),
@@ -288,7 +303,7 @@ CASES = [
     *(no_divisor(command, *pair) for command in RECEIVING for pair in NO_DIVISORS),
     *(Case(f"{command} made packets old --divisor", FAULT, errors=LACKS_DIVISOR) for command in RECEIVING),
     *(Case(f"{name} --help", out=option("--divisor <D>", f" [default: 4096] {POSSIBLE}")) for name in ("demod", "run")),
-    *(Case(f"{name} --help", out=option("--factor <F>", " [default: 12]")) for name in ("judge", "demod", "run")),
+    *(Case(f"{name} --help", out=option("--factor <F>", " [default: 12]")) for name in DECIDING),
     *(fault(words, f"cannot open {name}") for words, name in MISSING),
     # the certificate's file is made before the others are opened
     fault(f"judge {TOY} --cert out none stored", "cannot open none", writes={"out": b""}),

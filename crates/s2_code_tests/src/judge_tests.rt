@@ -96,6 +96,21 @@ fn decided_by(matrix: &Matrix, judge: &mut Judge<'_>, soft: &[i16], bits: &[bool
     (verdict, has_word(judge, bits), found_on(matrix, judge))
 }
 
+/// What is decided by a tuning.
+fn decided_by_tuning(
+    alloc: Global,
+    matrix: &Matrix,
+    soft: &[i16],
+    bits: &[bool],
+    tuning: Tuning,
+) -> Result<Decided, Fail> {
+    if !fits(matrix, soft) {
+        return Err(Fail::from("other values"));
+    }
+    let mut judge = Judge::new(alloc, matrix, tuning)?;
+    Ok(decided_by(matrix, &mut judge, soft, bits))
+}
+
 /// What is decided by so many passes of settling.
 fn decided_in_passes(
     alloc: Global,
@@ -104,11 +119,7 @@ fn decided_in_passes(
     bits: &[bool],
     passes: u32,
 ) -> Result<Decided, Fail> {
-    if !fits(matrix, soft) {
-        return Err(Fail::from("other values"));
-    }
-    let mut judge = judge_of(alloc, matrix, passes)?;
-    Ok(decided_by(matrix, &mut judge, soft, bits))
+    decided_by_tuning(alloc, matrix, soft, bits, Tuning::new(50, passes)?)
 }
 
 /// What is decided without passes of settling.
@@ -173,22 +184,6 @@ fn decodes_where_the_repair_has_an_odd_check(rt: HostRuntime) -> Result<(), Fail
     assert_pair_decided(&rt, rt.alloc(), &pair)
 }
 
-/// What is decided by at most 50 rounds of a factor.
-fn decided_by_factor(
-    alloc: Global,
-    matrix: &Matrix,
-    soft: &[i16],
-    bits: &[bool],
-    factor: Factor,
-) -> Result<Decided, Fail> {
-    if !fits(matrix, soft) {
-        return Err(Fail::from("other values"));
-    }
-    let tuning = Tuning::new(50, 0)?.with_factor(factor);
-    let mut judge = Judge::new(alloc, matrix, tuning)?;
-    Ok(decided_by(matrix, &mut judge, soft, bits))
-}
-
 /// Asserts what is decided on two bits that are to be the same, by some factors.
 fn assert_pair_decided_by_factors<A: Abort>(
     rt: &A,
@@ -204,7 +199,8 @@ fn assert_pair_decided_by_factors<A: Abort>(
         ([-5, 5], 16, [false, false], LIKELY),
     ] {
         let factor = Factor::new(number).expect(rt, "a factor");
-        let found = decided_by_factor(alloc, pair, &soft, &bits, factor)?;
+        let tuning = Tuning::new(50, 0)?.with_factor(factor);
+        let found = decided_by_tuning(alloc, pair, &soft, &bits, tuning)?;
         assert_eq!(rt; found, want, "{soft:?} by {number}");
     }
     Ok(())
@@ -320,6 +316,48 @@ fn spreading_may_be_strict(rt: HostRuntime) -> Result<(), Fail> {
         &GIVEN_BACK_VALUES,
         &[false; 12],
         SOLE,
+    )
+}
+
+/// Asserts what is decided of some values where what min-sum finds stays uncertified.
+fn assert_left<A: Abort>(
+    rt: &A,
+    alloc: Global,
+    code: Code<'_>,
+    soft: &[i16],
+    bits: &[bool],
+    want: Decided,
+) -> Result<(), Fail> {
+    let matrix = matrix_of(alloc, code)?;
+    let tuning = Tuning::new(50, 96)?.without_certificates();
+    let found = decided_by_tuning(alloc, &matrix, soft, bits, tuning)?;
+    assert_eq!(rt; found, want, "{soft:?}");
+    Ok(())
+}
+
+/// A hard decision and a repaired word keep their certificates.
+#[test]
+fn uncertified_certifies_what_is_repaired(rt: HostRuntime) -> Result<(), Fail> {
+    assert_left(&rt, rt.alloc(), TOY, &[10; 20], &[false; 20], SOLE)?;
+    for soft in [[0; 20], wrong_bit(false), wrong_bit(true)] {
+        assert_left(&rt, rt.alloc(), TOY, &soft, &[false; 20], LIKELY)?;
+    }
+    Ok(())
+}
+
+/// What min-sum finds has none, by greedy amounts, by passes and by spreading.
+#[test]
+fn uncertified_leaves_what_min_sum_finds(rt: HostRuntime) -> Result<(), Fail> {
+    assert_left(&rt, rt.alloc(), PAIR, &[-5, 3], &[true; 2], PARITY)?;
+    let bits = [true, false, false, true, false, false, true, true];
+    assert_left(&rt, rt.alloc(), FIVE, &REST_OF_ONE, &bits, PARITY)?;
+    assert_left(
+        &rt,
+        rt.alloc(),
+        GIVEN_BACK,
+        &GIVEN_BACK_VALUES,
+        &[false; 12],
+        PARITY,
     )
 }
 

@@ -33,7 +33,8 @@ use std::marker::Model;
 /// 4. the repair where it satisfies every check; if not, min-sum's last hard decision, broken.
 ///
 /// A certificate is found by greedy amounts, else, with no passes, by spreading, and with passes by so
-/// many at most of settling. Where a certificate is strict, the verdict is sole in the place of most
+/// many at most of settling; for what min-sum found none is looked for where the tuning leaves that
+/// uncertified. Where a certificate is strict, the verdict is sole in the place of most
 /// likely: every other codeword costs more. In step 1 that is where no soft value is 0.
 ///
 /// To contracts a judge is its matrix's rows, its tuning, its soft values, the bits that were

@@ -47,8 +47,9 @@ impl Model for Tuning {
 }
 
 impl Tuning {
-    /// So many rounds and passes, the usual divisor, 4096, the usual factor, 12, and the usual lock, 12, with certificates. Of two refusals the first is answered: `BadRounds`
-    /// where the rounds are not 1 to 200, `BadPasses` where the passes are over 1000.
+    /// So many rounds and passes, the usual divisor, 4096, the usual factor, 12, and the usual lock, 12, with certificates.
+    /// Of two refusals the first is answered: `BadRounds` where the rounds are not 1 to 200, `BadPasses` where the
+    /// passes are over 1000.
     pub fn new(rounds: u32, passes: u32) -> Result<Tuning, SetupFault>
         ensures is { IfOk result (λ t. t ≡ tuning_of rounds passes) }
         ensures tuned { IfOk result (λ _. IsTuning (tuning_of rounds passes)) }

@@ -1,5 +1,5 @@
 -- What a few words say.
-use Rattle.std.specs.Prelude.{◌≡◌, ℕ, ◌==◌, nat_le, ◌||◌, ◌⊎◌, Bool, false, List, if◌then◌else◌}
+use Rattle.std.specs.Prelude.{◌≡◌, ℕ, ◌⊎◌, Bool, false, List, if◌then◌else◌}
 use Rattle.std.specs.Str.Parse.{IsNumeral, digits_value, without_leading_plus}
 use Rattle.s2_mode.specs.Mode.{IsMode, mode_of}
 use Rattle.s2_modes.specs.Names.{IsNameOf}
@@ -21,13 +21,3 @@ NamesMode tells text = (modcod : ℕ) × tells modcod text
 -- progress that is asked for is shown, also by a command that is to be quiet
 abbrev pub progress_by : Bool → Bool → Progress
 progress_by asked quiet = if asked then progress.Shown else (if quiet then progress.Hidden else progress.OnTerminal)
-
--- a number that stands wins, else what is best where that is asked for, else the default
-abbrev pub number_by : Bool → Bool → ℕ → ℕ → ℕ
-number_by stands tuned number best =
-    if stands then number else if tuned then best else number
-
--- the factor that is best for a MODCOD: QPSK 1/4 and 1/3, 2/5, 3/5 of QPSK and of 8PSK, all others
-abbrev pub factor_by_mode : ℕ → ℕ
-factor_by_mode modcod =
-    if nat_le modcod 2 then 15 else if modcod == 3 then 14 else if (modcod == 5) || (modcod == 12) then 12 else 13

@@ -5,25 +5,13 @@ use crate::request::{
     ChannelWords, CheckWords, DemodWords, JudgeWords, LinkWords, ModWords, ModesWords, NoiseWords,
     NoteWords, Progress, Request, RowsWords, RunWords, ShapeWords, TableWords,
 };
-use crate::told::{modcod_told, number_told, progress_told, tuned_factor};
+use crate::told::{Number, TuningWords, judging_told, modcod_told, progress_told, tuning_told};
 use clap::parser::ValueSource;
 use clap::{ArgMatches, Error};
-use s2_link::{DEFAULT_ROUNDS, RollOff, Tuning};
-use s2_minsum::Factor;
+use s2_link::{RollOff, Tuning};
 use s2_modes::SymbolRate;
-use s2_plframe::Lock;
 use s2_scramble::ScramblingNumber;
-use s2_soft::Divisor;
 use std::alloc::Global;
-
-/// The divisor that `--tuned` says.
-const TUNED_DIVISOR: u32 = 8192;
-
-/// The lock that `--tuned` says.
-const TUNED_LOCK: u32 = 30;
-
-/// The passes that `--tuned` says.
-const TUNED_PASSES: u32 = 96;
 
 fn shape_of(m: &ArgMatches<'_>) -> Option<ShapeWords> {
     Some(ShapeWords {
@@ -43,37 +31,32 @@ fn link_of(m: &ArgMatches<'_>) -> Option<LinkWords> {
     })
 }
 
-fn factor_of(m: &ArgMatches<'_>) -> Option<Factor> {
-    Factor::new(m.get_one::<u32>("factor")?)
-}
-
-/// A number that stands on the line, else what `--tuned` says where that does, else its default.
-fn tuned_number(m: &ArgMatches<'_>, name: &str, tuned: u32) -> Option<u32> {
-    let stands = match m.value_source(name) {
+fn stands(m: &ArgMatches<'_>, name: &str) -> bool {
+    match m.value_source(name) {
         Some(ValueSource::CommandLine) => true,
         _ => false,
-    };
-    let number = m.get_one::<u32>(name)?;
-    Some(number_told(stands, m.get_flag("tuned"), number, tuned))
+    }
 }
 
-/// The same tuning, without certificates of what min-sum finds where the line asks for that.
-fn certified_by(m: &ArgMatches<'_>, tuning: Tuning) -> Tuning {
-    if m.get_flag("uncertified") {
-        tuning.without_certificates()
-    } else {
-        tuning
-    }
+fn number_of(m: &ArgMatches<'_>, name: &str) -> Option<Number> {
+    Some(Number {
+        stands: stands(m, name),
+        value: m.get_one::<u32>(name)?,
+    })
 }
 
 fn tuning_of(m: &ArgMatches<'_>) -> Option<Tuning> {
     let modcod = modcod_told(m.get_str("modcod")?)?;
-    let divisor = Divisor::new(tuned_number(m, "divisor", TUNED_DIVISOR)?)?;
-    let factor = Factor::new(tuned_number(m, "factor", tuned_factor(modcod))?)?;
-    let lock = Lock::new(tuned_number(m, "lock", TUNED_LOCK)?)?;
-    let passes = tuned_number(m, "passes", TUNED_PASSES)?;
-    let tuning = Tuning::new(m.get_one::<u32>("rounds")?, passes).ok()?;
-    Some(certified_by(m, tuning.with_divisor(divisor).with_factor(factor).with_lock(lock)))
+    let words = TuningWords {
+        rounds: m.get_one::<u32>("rounds")?,
+        passes: number_of(m, "passes")?,
+        divisor: number_of(m, "divisor")?,
+        factor: number_of(m, "factor")?,
+        lock: number_of(m, "lock")?,
+        tuned: m.get_flag("tuned"),
+        uncertified: m.get_flag("uncertified"),
+    };
+    tuning_told(modcod, words)
 }
 
 fn channel_of(m: &ArgMatches<'_>) -> Option<ChannelWords> {
@@ -120,10 +103,10 @@ fn modes_of<'a>(m: &ArgMatches<'a>) -> Option<Request<'a>> {
 }
 
 fn judge_of<'a>(m: &ArgMatches<'a>) -> Option<Request<'a>> {
-    let tuning = Tuning::new(DEFAULT_ROUNDS, m.get_one::<u32>("passes")?).ok()?;
+    let (passes, factor) = (m.get_one::<u32>("passes")?, m.get_one::<u32>("factor")?);
     Some(Request::Judge(JudgeWords {
         shape: shape_of(m)?,
-        tuning: certified_by(m, tuning.with_factor(factor_of(m)?)),
+        tuning: judging_told(passes, factor, m.get_flag("uncertified"))?,
         certificate: m.get_str("cert"),
         rows: m.get_str("ROWS")?,
         soft: m.get_str("SOFT")?,

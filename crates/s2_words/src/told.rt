@@ -1,10 +1,16 @@
 //! What a few words say, whatever else stands on the line.
-ghost use Rattle.std.specs.Prelude.{◌≡◌, ◌↔◌, IsSome, IfSome};
-ghost use Rattle.s2_words.specs.Told.{IsNumbered, IsTold, NamesMode, progress_by, number_by, factor_by_mode};
+ghost use Rattle.std.specs.Prelude.{◌≡◌, ◌↔◌, IsTrue, IsSome, IfSome};
+ghost use Rattle.s2_link.specs.Tuning.{IsTuning};
+ghost use Rattle.s2_words.specs.Told.{IsNumbered, IsTold, NamesMode, progress_by};
+ghost use Rattle.s2_words.specs.Tuned.{number_by, factor_by_mode, passes_by, judging_by, tuning_by};
 
 use crate::request::Progress;
+use s2_link::{DEFAULT_ROUNDS, Tuning};
+use s2_minsum::Factor;
 use s2_mode::MOST_MODCOD;
 use s2_modes::modcod_of;
+use s2_plframe::Lock;
+use s2_soft::Divisor;
 
 /// The MODCOD of a number, which may have a plus and zeros in front.
 fn numbered(text: &str) -> Option<u8>
@@ -28,21 +34,49 @@ pub(crate) fn modcod_told(text: &str) -> Option<u8>
     }
 }
 
-/// A number that stands on the line, else what `--tuned` says where that does, else the default.
-pub(crate) fn number_told(stands: bool, tuned: bool, number: u32, best: u32) -> u32
-    ensures { result ≡ number_by stands tuned number best }
+/// A number of the line, its default where it does not stand there.
+#[derive(Clone, Copy)]
+pub(crate) struct Number {
+    pub(crate) stands: bool,
+    pub(crate) value: u32,
+}
+
+/// What the line says of how a receiver is tuned.
+#[derive(Clone, Copy)]
+pub(crate) struct TuningWords {
+    pub(crate) rounds: u32,
+    pub(crate) passes: Number,
+    pub(crate) divisor: Number,
+    pub(crate) factor: Number,
+    pub(crate) lock: Number,
+    pub(crate) tuned: bool,
+    pub(crate) uncertified: bool,
+}
+
+/// The divisor that `--tuned` says.
+const TUNED_DIVISOR: u32 = 8192;
+
+/// The lock that `--tuned` says.
+const TUNED_LOCK: u32 = 30;
+
+/// The passes that `--tuned` says.
+const TUNED_PASSES: u32 = 96;
+
+/// A number that stands on the line, else what `--tuned` says where that does, else its default.
+fn number_told(tuned: bool, number: Number, best: u32) -> u32
+    ensures { result ≡ number_by tuned number best }
 {
-    if stands {
-        number
+    if number.stands {
+        number.value
     } else if tuned {
         best
     } else {
-        number
+        number.value
     }
 }
 
 /// The factor that `--tuned` says for a MODCOD.
-pub(crate) fn tuned_factor(modcod: u8) -> u32
+fn tuned_factor(modcod: u8) -> u32
     ensures { result ≡ factor_by_mode modcod }
 {
     if modcod <= 2 {
@@ -54,6 +88,54 @@ pub(crate) fn tuned_factor(modcod: u8) -> u32
     } else {
         13
     }
+}
+
+/// How many passes there are: none where what min-sum finds stays uncertified.
+fn passes_told(uncertified: bool, passes: u32) -> u32
+    ensures { result ≡ passes_by uncertified passes }
+{
+    if uncertified { 0 } else { passes }
+}
+
+/// The same tuning, and uncertified where that is asked for.
+fn certified_told(uncertified: bool, tuning: Tuning) -> Tuning
+    requires { IsTrue uncertified → tuning.passes ≡ 0 }
+    ensures { result ≡ record tuning { uncertified = uncertified } }
+{
+    if uncertified {
+        tuning.without_certificates()
+    } else {
+        tuning
+    }
+}
+
+/// How `judge` is tuned.
+pub(crate) fn judging_told(passes: u32, factor: u32, uncertified: bool) -> Option<Tuning>
+    ensures found { IsSome result ↔ IsTuning (judging_by passes factor uncertified) }
+    ensures value { IfSome result (λ t. t ≡ judging_by passes factor uncertified) }
+{
+    let factor = Factor::new(factor)?;
+    let tuning = Tuning::new(DEFAULT_ROUNDS, passes_told(uncertified, passes)).ok()?;
+    Some(certified_told(uncertified, tuning.with_factor(factor)))
+}
+
+/// How a receiver of a MODCOD is tuned.
+pub(crate) fn tuning_told(modcod: u8, words: TuningWords) -> Option<Tuning>
+    ensures found { IsSome result ↔ IsTuning (tuning_by modcod words) }
+    ensures value { IfSome result (λ t. t ≡ tuning_by modcod words) }
+{
+    let divisor = Divisor::new(number_told(words.tuned, words.divisor, TUNED_DIVISOR))?;
+    let factor = Factor::new(number_told(words.tuned, words.factor, tuned_factor(modcod)))?;
+    let lock = Lock::new(number_told(words.tuned, words.lock, TUNED_LOCK))?;
+    let passes = number_told(words.tuned, words.passes, TUNED_PASSES);
+    let tuning = Tuning::new(words.rounds, passes_told(words.uncertified, passes)).ok()?;
+    Some(certified_told(
+        words.uncertified,
+        tuning
+            .with_divisor(divisor)
+            .with_factor(factor)
+            .with_lock(lock),
+    ))
 }
 
 /// Whether progress is shown, by whether it is asked for, and whether the command is to be quiet.

@@ -1,0 +1,44 @@
+-- How a receiver is tuned by the words of the line.
+use Rattle.std.specs.Prelude.{ℕ, nat_le, ◌==◌, ◌||◌, Bool, if◌then◌else◌}
+use Rattle.s2_link.specs.Limits.{default_rounds}
+use Rattle.s2_link.specs.Tuning.{Tuning, tuning_of}
+use Rattle.s2_words.specs.declared.told.Number.{Number}
+use Rattle.s2_words.specs.declared.told.TuningWords.{TuningWords}
+
+-- ---- what is best, where that is asked for
+
+-- the factor that is best for a MODCOD: QPSK 1/4 and 1/3, 2/5, 3/5 of QPSK and of 8PSK, all others
+abbrev pub factor_by_mode : ℕ → ℕ
+factor_by_mode modcod =
+    if nat_le modcod 2 then 15 else if modcod == 3 then 14 else if (modcod == 5) || (modcod == 12) then 12 else 13
+
+-- the lock, the divisor and the passes
+abbrev pub best_lock : ℕ
+best_lock = 30
+
+abbrev pub best_divisor : ℕ
+best_divisor = 8192
+
+abbrev pub best_passes : ℕ
+best_passes = 96
+
+-- ---- what the words say
+
+-- a number that stands on the line wins, else what is best where that is asked for, else the default
+abbrev pub number_by : Bool → Number → ℕ → ℕ
+number_by tuned number best =
+    if number.stands then number.value else if tuned then best else number.value
+
+-- no passes where what min-sum finds stays uncertified
+abbrev pub passes_by : Bool → ℕ → ℕ
+passes_by uncertified passes = if uncertified then 0 else passes
+
+-- how `judge` is tuned
+abbrev pub judging_by : ℕ → ℕ → Bool → Tuning
+judging_by passes factor uncertified =
+    record (tuning_of default_rounds (passes_by uncertified passes)) { factor = factor; uncertified = uncertified }
+
+-- how a receiver of a MODCOD is tuned
+abbrev pub tuning_by : ℕ → TuningWords → Tuning
+tuning_by modcod words =
+    record { rounds = words.rounds; passes = passes_by words.uncertified (number_by words.tuned words.passes best_passes); divisor = number_by words.tuned words.divisor best_divisor; factor = number_by words.tuned words.factor (factor_by_mode modcod); lock = number_by words.tuned words.lock best_lock; uncertified = words.uncertified }
