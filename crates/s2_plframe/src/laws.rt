@@ -1,5 +1,9 @@
 //! Laws of frames, of the header test and of the search.
+ghost use Rattle.std.specs.Prelude.{◌≡◌};
+ghost use Rattle.s2_plframe.specs.Constants.{most_wrong, most_lock};
 ghost use Rattle.s2_plframe.specs.HeaderLaws.{TakenOutLaw, SeenLaw, LastLaw, CleanHeaderLaw, DummyHeaderLaw, DummiesApartLaw, ApartLaw, BehindLaw, StillFoundLaw};
+
+use crate::constants::{MOST_LOCK, MOST_WRONG};
 
 /// A frame is its mode's header, and a payload that can be taken out again.
 pub fn taken_out()
@@ -45,4 +49,11 @@ pub fn behind()
 /// What is found elsewhere is found right behind a frame as well, with each lock.
 pub fn still_found()
     ensures { StillFoundLaw }
+{}
+
+/// How many bits of a header may be wrong, [`crate::MOST_WRONG`], and how many may be allowed to be right behind a
+/// frame, [`crate::MOST_LOCK`], are the numbers of the definitions.
+pub fn limits()
+    ensures wrong { MOST_WRONG ≡ most_wrong }
+    ensures lock { MOST_LOCK ≡ most_lock }
 {}

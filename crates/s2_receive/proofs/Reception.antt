@@ -1,5 +1,5 @@
 -- Frames that are received as they were sent.
-use Rattle.std.proofs.Common.{◌≡◌, ℕ, suc, ◌+◌, ◌≤◌, cond, List, [], ◌∷◌, ◌++◌, All, Option, Some, None, length, take, refl, sym, ap, ◌∙◌, subst, append_assoc, append-nil, length-append, arith}
+use Rattle.std.proofs.Common.{◌≡◌, Bool, true, false, ℕ, suc, ◌+◌, ◌≤◌, cond, List, [], ◌∷◌, ◌++◌, All, Option, Some, None, length, take, refl, sym, ap, ◌∙◌, subst, append_assoc, append-nil, length-append, arith}
 use Rattle.std.proofs.lemmas.List.{take_at}
 use Rattle.std.proofs.lemmas.List.Concat.{flat_map-append}
 use Rattle.s2_mode.specs.declared.symbols.Symbol.{Symbol}
@@ -14,7 +14,7 @@ use Rattle.s2_bbframe.specs.Joining.{closed_in}
 use Rattle.s2_receive.specs.Finding.{Meets}
 use Rattle.s2_mode.specs.Symbols.{symbols_of}
 use Rattle.std.specs.Io.KnownBytes.{Appends}
-use Rattle.s2_receive.proofs.MetLemmas.{whole_frame, whole_dummy}
+use Rattle.s2_receive.proofs.MetLemmas.{behind_of, behind_true, behind_some, behind_taken, whole_frame, whole_dummy}
 use Rattle.s2_receive.proofs.JoinLemmas.{all_joined}
 use Rattle.s2_receive.proofs.FieldPlaces.{placed_fields, placed_front, joined_fields, all_closed}
 
@@ -23,27 +23,32 @@ module _ (rules : Rules) (roll_off : ℕ) (large : 90 ≤ rules.size) where
   size = rules.size
 
   -- they are met as just these frames
-  pub met_frames : (at k : ℕ) (pieces : List Piece) (fields : List (List ℕ)) (rest : List Symbol) → AreReceived rules roll_off k pieces fields
-      → met_from rules.finds rules.size at 0 nothing_over (stream_symbols pieces ++ rest) ≡ frames_at rules.size at pieces ++ met_from rules.finds rules.size (at + length (stream_symbols pieces)) 0 nothing_over rest
-  met_frames at k [] [] rest h = ap (λ n. met_from rules.finds rules.size n 0 nothing_over rest) (omega arith)
-  met_frames at k [] (f ∷ fs) rest h = absurd h
-  met_frames at k (coded s ∷ ps) [] rest h = absurd h
-  met_frames at k (coded s ∷ ps) (f ∷ fs) rest h =
-      let ih = met_frames (at + rules.size) (k + length f) ps fs rest h.1 in
+  pub met_frames : (at k : ℕ) (behind : Bool) (pieces : List Piece) (fields : List (List ℕ)) (rest : List Symbol) → AreReceived rules roll_off k pieces fields
+      → met_from rules.finds rules.size at 0 behind nothing_over (stream_symbols pieces ++ rest)
+      ≡ frames_at rules.size at pieces ++ met_from rules.finds rules.size (at + length (stream_symbols pieces)) 0 (behind_of (length (stream_symbols pieces)) behind) nothing_over rest
+  met_frames at k behind [] [] rest h = ap (λ n. met_from rules.finds rules.size n 0 behind nothing_over rest) (omega arith)
+  met_frames at k behind [] (f ∷ fs) rest h = absurd h
+  met_frames at k behind (coded s ∷ ps) [] rest h = absurd h
+  met_frames at k behind (coded s ∷ ps) (f ∷ fs) rest h =
+      let ih = met_frames (at + rules.size) (k + length f) true ps fs rest h.1 in
       let long = length-append s (stream_symbols ps) in
       let here = h.0.0 in
-      ap (met_from rules.finds rules.size at 0 nothing_over) (append_assoc s (stream_symbols ps) rest)
-      ∙ whole_frame rules.finds rules.size s (stream_symbols ps ++ rest) at nothing_over here large h.0.1
+      ap (met_from rules.finds rules.size at 0 behind nothing_over) (append_assoc s (stream_symbols ps) rest)
+      ∙ whole_frame rules.finds rules.size s (stream_symbols ps ++ rest) at behind nothing_over here large (h.0.1 behind)
       ∙ ap (λ l. frame at nothing_over s ∷ l) ih
-      ∙ ap (λ n. frame at nothing_over s ∷ (frames_at rules.size (at + rules.size) ps ++ met_from rules.finds rules.size n 0 nothing_over rest)) (omega (arith, long, here))
-  met_frames at k (dummy s ∷ ps) fs rest h =
-      let ih = met_frames (at + 3330) k ps fs rest h.1 in
+      ∙ ap (λ b. frame at nothing_over s ∷ (frames_at rules.size (at + rules.size) ps ++ met_from rules.finds rules.size (at + rules.size + length (stream_symbols ps)) 0 b nothing_over rest))
+      (behind_true (length (stream_symbols ps)) ∙ sym (behind_some (length (s ++ stream_symbols ps)) behind (omega (arith, long, here))))
+      ∙ ap (λ n. frame at nothing_over s ∷ (frames_at rules.size (at + rules.size) ps ++ met_from rules.finds rules.size n 0 (behind_of (length (s ++ stream_symbols ps)) behind) nothing_over rest)) (omega (arith, long, here))
+  met_frames at k behind (dummy s ∷ ps) fs rest h =
+      let ih = met_frames (at + 3330) k true ps fs rest h.1 in
       let long = length-append s (stream_symbols ps) in
       let here = h.0.0 in
-      ap (met_from rules.finds rules.size at 0 nothing_over) (append_assoc s (stream_symbols ps) rest)
-      ∙ whole_dummy rules.finds rules.size s (stream_symbols ps ++ rest) at nothing_over here h.0.1
+      ap (met_from rules.finds rules.size at 0 behind nothing_over) (append_assoc s (stream_symbols ps) rest)
+      ∙ whole_dummy rules.finds rules.size s (stream_symbols ps ++ rest) at behind nothing_over here (h.0.1 behind)
       ∙ ih
-      ∙ ap (λ n. frames_at rules.size (at + 3330) ps ++ met_from rules.finds rules.size n 0 nothing_over rest) (omega (arith, long, here))
+      ∙ ap (λ b. frames_at rules.size (at + 3330) ps ++ met_from rules.finds rules.size (at + 3330 + length (stream_symbols ps)) 0 b nothing_over rest)
+      (behind_true (length (stream_symbols ps)) ∙ sym (behind_some (length (s ++ stream_symbols ps)) behind (omega (arith, long, here))))
+      ∙ ap (λ n. frames_at rules.size (at + 3330) ps ++ met_from rules.finds rules.size n 0 (behind_of (length (s ++ stream_symbols ps)) behind) nothing_over rest) (omega (arith, long, here))
 
   -- the joiner gets just the fields
   pub events_frames : (at k : ℕ) (pieces : List Piece) (fields : List (List ℕ)) → AreReceived rules roll_off k pieces fields
@@ -93,7 +98,9 @@ gives rules roll_off size packets fields later pieces rest large room each cut_s
     let counts = count_frames rules roll_off large 0 0 pieces fields at_start received in
     let good = ap (λ j. j.good) events ∙ trip.0 in
     record {
-      met = met_frames rules roll_off large 0 0 pieces fields rest received ∙ ap (λ n. met ++ met_from rules.finds rules.size n 0 nothing_over rest) (omega arith);
+      met = met_frames rules roll_off large 0 0 false pieces fields rest received
+          ∙ ap (λ n. met ++ met_from rules.finds rules.size n 0 (behind_of (length (stream_symbols pieces)) false) nothing_over rest) (omega arith)
+          ∙ ap (λ b. met ++ met_from rules.finds rules.size (length (stream_symbols pieces)) 0 b nothing_over rest) (behind_taken (length (stream_symbols pieces)));
       written = join.packets ∙ ap joined good;
       frames_count = counts.0 ∙ omega arith;
       delivered = counts.1 ∙ omega arith;
@@ -116,7 +123,7 @@ pub front : FrontLaw
 front rules roll_off size packets fields later pieces rest bytes mid left p p' w w' met large room each cut_so received spelt count went =
     let g = gives rules roll_off size packets fields later pieces rest large room each cut_so received in
     let just = frames_at rules.size 0 pieces in
-    let whole = ap (met_from rules.finds rules.size 0 0 nothing_over) spelt ∙ g.met in
+    let whole = ap (met_from rules.finds rules.size 0 0 false nothing_over) spelt ∙ g.met in
     let many : length met ≡ length just = count ∙ sym (length_frames rules roll_off large 0 0 pieces fields received) in
-    let same : met ≡ just = front_of (met_from rules.finds rules.size 0 0 nothing_over (symbols_of bytes)) _ met just _ went.left whole many in
+    let same : met ≡ just = front_of (met_from rules.finds rules.size 0 0 false nothing_over (symbols_of bytes)) _ met just _ went.left whole many in
     (same, subst (Appends p p') (ap (all_packets rules at_start) same ∙ g.written) went.packets)

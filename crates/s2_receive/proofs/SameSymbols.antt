@@ -1,5 +1,6 @@
 -- What known bytes spell determines what is met.
 use Rattle.std.proofs.Common.{◌≡◌, ℕ, List, [], ◌∷◌, ◌++◌, Option, Some, None, refl, sym, ap, ◌∙◌, subst, append-nil}
+use Rattle.std.specs.Prelude.{nat_lt}
 use Rattle.s2_mode.specs.Symbols.{symbols_of}
 use Rattle.s2_receive.specs.Meeting.{Met, ended, nothing_over, met_from}
 use Rattle.s2_receive.specs.Finding.{Meets}
@@ -11,13 +12,13 @@ use Rattle.s2_receive.specs.declared.report.Phase.TheVariants as phases
 module _ (rules : Rules) where
   -- in known bytes it is known what is left
   spelled : (phase : Phase) (at : ℕ) (bytes : List ℕ) → (left : List Met) × (met_left rules phase at (Some bytes) ≡ Some left)
-  spelled phases.Searching at bytes = (met_from rules.finds rules.size at 0 nothing_over (symbols_of bytes), refl)
+  spelled phases.Searching at bytes = (met_from rules.finds rules.size at 0 (nat_lt 0 at) nothing_over (symbols_of bytes), refl)
   spelled phases.Closing at bytes = (ended nothing_over ∷ [], refl)
   spelled phases.Ended at bytes = ([], refl)
   spelled phases.Failed at bytes = ([], refl)
 
   same_left : (phase : Phase) (at : ℕ) (bytes other : List ℕ) → symbols_of bytes ≡ symbols_of other → met_left rules phase at (Some bytes) ≡ met_left rules phase at (Some other)
-  same_left phases.Searching at bytes other e = ap (λ symbols. Some (met_from rules.finds rules.size at 0 nothing_over symbols)) e
+  same_left phases.Searching at bytes other e = ap (λ symbols. Some (met_from rules.finds rules.size at 0 (nat_lt 0 at) nothing_over symbols)) e
   same_left phases.Closing at bytes other e = refl
   same_left phases.Ended at bytes other e = refl
   same_left phases.Failed at bytes other e = refl

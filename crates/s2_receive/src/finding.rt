@@ -173,9 +173,10 @@ fn look<S: Search, R: CountedRead>(
 
 /// Takes the symbols up to the end of the next frame, and leaves the frame's in `frame`.
 ///
-/// Behind the stream's start a frame ended right before. No frame begins before the buffer's first symbol. A whole frame's room is read at once and searched there;
-/// then what begins at the header, or the last 89 symbols, moves to the front, and nothing where a dummy frame
-/// reaches past them. So nothing behind the frame is read, and no symbol is kept between two calls.
+/// Right before the first symbol a frame ended, but at the start of the stream. No frame begins before the buffer's
+/// first symbol. A whole frame's room is read at once and searched there; then what begins at the header, or the last
+/// 89 symbols, moves to the front, and nothing where a dummy frame reaches past them. So nothing behind the frame is
+/// read, and no symbol is kept between two calls.
 pub(crate) fn find_frame<S: Search, R: CountedRead>(
     search: &mut S,
     reader: &mut R,

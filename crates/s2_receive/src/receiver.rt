@@ -225,6 +225,7 @@ impl<S: Search, D: Decide, L: Lines> Receiver<S, D, L> {
         requires live { IsLive self.old.state.phase }
         ensures rules { rules_in S.finds D.decide L.frame_line L.cut_line L.end_line self.new ≡ rules_in S.finds D.decide L.frame_line L.cut_line L.end_line self.old }
         ensures few { self.old.state.standing.totals.frames ≤ most_symbols }
+        ensures size { header_symbols ≤ length self.old.frame }
         ensures state { self.new.state ≡ record self.old.state { phase = phases.Failed } }
         ensures decider { self.new.decider ≡ self.old.decider }
         ensures met { IfOk result (λ found. Meets (met_left (rules_in S.finds D.decide L.frame_line L.cut_line L.end_line self.old) self.old.state.phase self.old.state.at (R.remaining reader.old))

@@ -1,7 +1,8 @@
 //! The search in symbols that are held.
-ghost use Rattle.std.specs.Prelude.{◌≡◌, ◌+◌, ◌^◌, ◌≤◌, length};
-ghost use Rattle.s2_mode.specs.Limits.{most_symbols};
-ghost use Rattle.s2_receive.specs.Finding.{Scans};
+ghost use Rattle.std.specs.Prelude.{◌≡◌, ◌+◌, ◌^◌, ◌≤◌, ◌&&◌, nat_eq, List, [], ◌∷◌, ◌++◌, length, true};
+ghost use Rattle.s2_mode.specs.declared.symbols.Symbol.{Symbol as SymbolValue};
+ghost use Rattle.s2_mode.specs.Limits.{header_symbols, most_symbols};
+ghost use Rattle.s2_receive.specs.Finding.{Scans, found_last};
 
 use crate::search::Search;
 use crate::stretch::Stretch;
@@ -20,6 +21,26 @@ pub(crate) struct Scan {
     pub(crate) behind: bool,
     /// Whether a coded frame begins there.
     pub(crate) coded: bool,
+}
+
+/// Whether a place is the first one of all, and a frame ended right before that.
+fn is_first(behind: bool, place: usize, start: usize) -> bool
+    ensures { result ≡ (behind && nat_eq place start) }
+{
+    behind && place == start
+}
+
+/// Takes a symbol, and says what the last 90 are, where they stand right behind a frame (`first`) or elsewhere.
+fn found_with<S: Search>(search: &mut S, symbol: Symbol, first: bool) -> Found
+    ensures header { (seen : List SymbolValue) → S.saw search.old seen → (first ≡ true → header_symbols ≤ length (seen ++ symbol ∷ []))
+        → S.saw search.new (seen ++ symbol ∷ []) × (result ≡ found_last (S.finds search.old first) (seen ++ symbol ∷ [])) }
+    ensures same { S.finds search.new ≡ S.finds search.old }
+{
+    let found = search.feed(symbol);
+    if first {
+        return search.behind();
+    }
+    found
 }
 
 /// Looks for the header of a coded frame in symbols that begin at this one of the stream. The symbols of dummy
@@ -46,10 +67,9 @@ pub(crate) fn look_through<S: Search>(
     let mut behind = behind || inside > 0;
     search.restart();
     'look: while at < symbols.len() {
-        let fed = search.feed(symbols[at]);
+        let first = is_first(behind, at + 1, start + HEADER_SYMBOLS);
+        let found = found_with(search, symbols[at], first);
         at += 1;
-        let first = behind && at == start + HEADER_SYMBOLS;
-        let found = if first { search.behind() } else { fed };
         match found {
             Found::Nothing => {}
             Found::Coded => {
@@ -75,7 +95,7 @@ pub(crate) fn look_through<S: Search>(
     Scan {
         place,
         over: over.passed(from, start, place),
-        behind: behind && place == start,
+        behind: is_first(behind, place, start),
         coded: false,
     }
 }

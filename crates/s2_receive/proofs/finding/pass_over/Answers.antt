@@ -11,7 +11,7 @@ returns-clause-passed g c = λ is bytes.
     let symbols = c.args.frame.now in
     let gone : ℕ = c.min-gone.result in
     let least = c.min-gone.ensures in
-    moved (g.S.Search.finds c.args.search.now) c.args.held.now symbols bytes c.look_through-scan.result c.requires.full c.requires.size.0 c.look_through-scan.ensures.scans gone c.copy_within.new.self (length symbols) (omega (arith, least)) (omega (arith, least)) c.copy_within.ensures.after refl c.copy_within.ensures.len
+    moved (g.S.Search.finds c.args.search.now) c.args.held.now symbols bytes c.look_through-scan.result c.requires.full c.requires.size.0 c.look_through-scan.ensures.scans gone c.copy_within.new.self (length symbols) (omega (arith, least)) (omega (arith, least)) (λ far. omega (arith, least, far)) c.copy_within.ensures.after refl c.copy_within.ensures.len
 
 pub returns-then-scan-eq0-clause-held : goal.returns-then-scan-eq0-clause-held
 returns-then-scan-eq0-clause-held g c = λ is. (refl, omega (arith, c.look_through-scan.ensures.scans.within.0, c.if-scan-eq0.true))

@@ -1,10 +1,26 @@
-use Rattle.std.proofs.Common.{◌≡◌, ◌++◌, ◌∷◌, [], ◌+◌, ◌-◌, ℕ, false, true, length, sym, ap, take, drop, subst, ◌∙◌}
-use Rattle.std.specs.Prelude.{max}
+use Rattle.std.proofs.Common.{◌≡◌, ◌++◌, ◌∷◌, [], ◌+◌, ◌-◌, ℕ, Bool, false, true, length, sym, ap, take, drop, subst, ◌∙◌}
+use Rattle.std.specs.Prelude.{◌||◌, nat_lt, max}
 use Rattle.s2_mode.specs.Symbols.{symbol_at}
 use Rattle.s2_plframe.specs.declared.receive.found.Found.TheVariants as founds
 use Rattle.s2_receive.specs.Finding.{Scans}
-use Rattle.s2_receive.proofs.Headers.{Looked, seen_none, seen_more, found_now, nothing_more, coded_there, dummy_there, none_left}
+use Rattle.s2_receive.proofs.Headers.{Looked, begun, seen_none, seen_more, found_now, many_seen, nothing_more, coded_there, dummy_there, none_left}
+use Rattle.s2_receive.proofs.MetLemmas.{behind_or}
+use Rattle.s2_receive.proofs.scanning.look_through.Goals.{then-behind, else-behind}
 use Rattle.s2_receive.proofs.scanning.look_through.Goals as goal
+
+pub look-init : goal.look-init
+look-init g c =
+    let symbols = c.args.symbols.now in
+    let inside : ℕ = c.args.inside in
+    let some : Bool = nat_lt 0 inside in
+    let first : c.if-behind.behind ≡ (c.args.behind || some) = elim c.if-behind.branch [
+      | then-behind w ↦ w.behind-is ∙ w.if-behind.true ∙ sym (ap (λ b. b || some) w.if-behind.true)
+      | else-behind w ↦ w.behind-is ∙ sym (ap (λ b. b || some) w.if-behind.false)
+    ] in (
+      subst (g.S.Search.saw c.restart.new.self) (seen_none symbols inside) c.restart.ensures.saw,
+      begun (g.S.Search.finds c.args.search.now) symbols c.args.from inside c.args.behind c.args.over c.if-behind.behind (first ∙ sym (behind_or inside c.args.behind)),
+      c.restart.ensures.same,
+    )
 
 pub look-preserved-in-Nothing : goal.look-preserved-in-Nothing
 look-preserved-in-Nothing g c =
@@ -12,11 +28,15 @@ look-preserved-in-Nothing g c =
     let finds = g.S.Search.finds c.args.search.now in
     let start : ℕ = c.look.start in
     let at : ℕ = c.look.at in
+    let first : Bool = c.is_first-first.result in
     let looked = c.look.invariant.1 in
-    let fed = c.feed-found.ensures.header (drop start (take at symbols)) c.look.invariant.0 in
-    let now = seen_more finds symbols start at looked.order c.look-test.true in
-    let none = found_now finds symbols (g.S.Search.finds c.look.search) start at (drop start (take at symbols) ++ symbol_at symbols at ∷ []) founds.Nothing c.feed-found.result c.look.invariant.2 now fed.1 c.in-Nothing.is in
-    (subst (g.S.Search.saw c.feed-found.new.self) now fed.0, nothing_more finds symbols c.args.from c.args.inside c.args.over start at c.look.over looked c.look-test.true none, c.feed-found.ensures.same ∙ c.look.invariant.2)
+    let now = seen_more symbols start at looked.order c.look-test.true in
+    let fed = c.found_with-found.ensures.header (drop start (take at symbols)) c.look.invariant.0 (many_seen symbols start at c.look.behind first c.is_first-first.ensures looked.order c.look-test.true) in
+    let none = found_now (finds first) symbols (g.S.Search.finds c.look.search first) start at (drop start (take at symbols) ++ symbol_at symbols at ∷ []) founds.Nothing c.found_with-found.result (ap (λ f. f first) c.look.invariant.2) now fed.1 c.in-Nothing.is in (
+      subst (g.S.Search.saw c.found_with-found.new.search) now fed.0,
+      nothing_more finds symbols c.args.from c.args.inside c.args.behind c.args.over start at c.look.behind c.look.over looked first c.is_first-first.ensures c.look-test.true none,
+      c.found_with-found.ensures.same ∙ c.look.invariant.2,
+    )
 
 pub returns-in-Coded-clause-scans : goal.returns-in-Coded-clause-scans
 returns-in-Coded-clause-scans g c =
@@ -24,12 +44,13 @@ returns-in-Coded-clause-scans g c =
     let finds = g.S.Search.finds c.args.search.now in
     let start : ℕ = c.look.start in
     let at : ℕ = c.look.at in
+    let first : Bool = c.is_first-first.result in
     let looked = c.look.invariant.1 in
-    let fed = c.feed-found.ensures.header (drop start (take at symbols)) c.look.invariant.0 in
-    let now = seen_more finds symbols start at looked.order c.look-test.true in
-    let coded = found_now finds symbols (g.S.Search.finds c.look.search) start at (drop start (take at symbols) ++ symbol_at symbols at ∷ []) founds.Coded c.feed-found.result c.look.invariant.2 now fed.1 c.in-Coded.is in
-    let scans = (coded_there finds symbols c.args.from c.args.inside c.args.over start at c.look.over looked c.look-test.true coded).1 in
-    subst (λ over. Scans finds symbols c.args.from c.args.inside c.args.over (record { place = at + 1 - 90; over = over; coded = true })) (sym c.passed.ensures) scans
+    let now = seen_more symbols start at looked.order c.look-test.true in
+    let fed = c.found_with-found.ensures.header (drop start (take at symbols)) c.look.invariant.0 (many_seen symbols start at c.look.behind first c.is_first-first.ensures looked.order c.look-test.true) in
+    let coded = found_now (finds first) symbols (g.S.Search.finds c.look.search first) start at (drop start (take at symbols) ++ symbol_at symbols at ∷ []) founds.Coded c.found_with-found.result (ap (λ f. f first) c.look.invariant.2) now fed.1 c.in-Coded.is in
+    let scans = (coded_there finds symbols c.args.from c.args.inside c.args.behind c.args.over start at c.look.behind c.look.over looked first c.is_first-first.ensures c.look-test.true coded).1 in
+    subst (λ over. Scans finds symbols c.args.from c.args.inside c.args.behind c.args.over (record { place = at + 1 - 90; over = over; behind = first; coded = true })) (sym c.passed.ensures) scans
 
 pub look-preserved : goal.look-preserved
 look-preserved g c =
@@ -37,15 +58,16 @@ look-preserved g c =
     let finds = g.S.Search.finds c.args.search.now in
     let start : ℕ = c.look.start in
     let at : ℕ = c.look.at in
+    let first : Bool = c.is_first-first.result in
     let looked = c.look.invariant.1 in
-    let fed = c.feed-found.ensures.header (drop start (take at symbols)) c.look.invariant.0 in
-    let now = seen_more finds symbols start at looked.order c.look-test.true in
-    let dummy = found_now finds symbols (g.S.Search.finds c.look.search) start at (drop start (take at symbols) ++ symbol_at symbols at ∷ []) founds.Dummy c.feed-found.result c.look.invariant.2 now fed.1 c.in-Dummy.is in
-    let there = (dummy_there finds symbols c.args.from c.args.inside c.args.over start at c.look.over looked c.look-test.true dummy).1 in
+    let now = seen_more symbols start at looked.order c.look-test.true in
+    let fed = c.found_with-found.ensures.header (drop start (take at symbols)) c.look.invariant.0 (many_seen symbols start at c.look.behind first c.is_first-first.ensures looked.order c.look-test.true) in
+    let dummy = found_now (finds first) symbols (g.S.Search.finds c.look.search first) start at (drop start (take at symbols) ++ symbol_at symbols at ∷ []) founds.Dummy c.found_with-found.result (ap (λ f. f first) c.look.invariant.2) now fed.1 c.in-Dummy.is in
+    let there = (dummy_there finds symbols c.args.from c.args.inside c.args.behind c.args.over start at c.look.behind c.look.over looked first c.is_first-first.ensures c.look-test.true dummy).1 in
     let next : ℕ = at + 1 - 90 + 3330 in (
-      subst (g.S.Search.saw c.restart-in-Dummy.new.self) (seen_none finds symbols next) c.restart-in-Dummy.ensures.saw,
-      subst (Looked finds symbols c.args.from c.args.inside c.args.over next next) (sym c.passed-over.ensures) there,
-      c.restart-in-Dummy.ensures.same ∙ c.feed-found.ensures.same ∙ c.look.invariant.2,
+      subst (g.S.Search.saw c.restart-in-Dummy.new.self) (seen_none symbols next) c.restart-in-Dummy.ensures.saw,
+      subst (Looked finds symbols c.args.from c.args.inside c.args.behind c.args.over next next true) (sym c.passed-over.ensures) there,
+      c.restart-in-Dummy.ensures.same ∙ c.found_with-found.ensures.same ∙ c.look.invariant.2,
     )
 
 pub returns-clause-scans : goal.returns-clause-scans
@@ -55,6 +77,7 @@ returns-clause-scans g c =
     let start : ℕ = c.look.start in
     let at : ℕ = c.look.at in
     let place : ℕ = c.max-place.result in
+    let there : Bool = c.is_first.result in
     let is : place ≡ max start (length symbols - 89) = c.max-place.ensures ∙ ap (max start) c.saturating_sub.ensures in
-    let scans = none_left finds symbols c.args.from c.args.inside c.args.over start at c.look.over c.look.invariant.1 place c.look-test.false is in
-    subst (λ over. Scans finds symbols c.args.from c.args.inside c.args.over (record { place = place; over = over; coded = false })) (sym c.passed-2.ensures) scans
+    let scans = none_left finds symbols c.args.from c.args.inside c.args.behind c.args.over start at c.look.behind c.look.over c.look.invariant.1 place there c.is_first.ensures c.look-test.false is in
+    subst (λ over. Scans finds symbols c.args.from c.args.inside c.args.behind c.args.over (record { place = place; over = over; behind = there; coded = false })) (sym c.passed-2.ensures) scans

@@ -6,7 +6,7 @@ use Rattle.s2_receive.proofs.scanning.look_through.Given as goal
 abbrev pub invariant-look : goal.invariant-look
 invariant-look g l =
     g.S.Search.saw l.search (drop l.start (take l.at l.symbols))
-    × Looked (g.S.Search.finds l.fn.search) l.symbols l.from l.inside l.fn.over l.start l.at l.over
+    × Looked (g.S.Search.finds l.fn.search) l.symbols l.from l.inside l.fn.behind l.fn.over l.start l.at l.behind l.over
     × (g.S.Search.finds l.search ≡ g.S.Search.finds l.fn.search)
 
 abbrev pub decreases-look : goal.decreases-look

@@ -1,4 +1,4 @@
-use Rattle.std.proofs.Common.{◌∙◌, Ok, Result, ap, subst}
+use Rattle.std.proofs.Common.{◌≤◌, ◌∙◌, Ok, Result, ap, subst}
 use Rattle.s2_mode.specs.declared.stream_fault.StreamFault.{StreamFault}
 use Rattle.s2_receive.specs.Finding.{met_of, place_after}
 use Rattle.s2_receive.specs.Stepping.{FailsIn}
@@ -14,6 +14,7 @@ step_in result other = other
 pub returns-in_default-tell-clause-step : goal.returns-in_default-tell-clause-step
 returns-in_default-tell-clause-step g c =
     let rules : Rules = rules_in g.S.Search.finds g.D.Decide.decide g.L.Lines.frame_line g.L.Lines.cut_line g.L.Lines.end_line c.args.self.now in
+    let large : 90 ≤ rules.size = c.find.ensures.size in
     let mid : State = c.find.new.self.state in
     let found = c.in-Ok.found in
     let symbols = c.find.new.self.frame in
@@ -24,12 +25,13 @@ returns-in_default-tell-clause-step g c =
     let tells = c.in_default-tell.ensures.tells in
     let part = subst (λ x. FailsIn (packets_of x mid.standing (met_of found symbols)) (line_of x mid.standing (met_of found symbols)) p p' w w') c.find.ensures.rules tells.1 in (
       tells.0 ∙ ap (λ s. s.phase) c.find.ensures.state,
-      breaks rules c.args.self.now.state mid c.tell.new.self.state (g.R.CountedRead.remaining c.args.reader.now) (g.R.CountedRead.remaining c.find.new.reader) p p' w w' found symbols (ap (λ s. s.standing) c.find.ensures.state) c.in-Ok.ensures.met part,
+      breaks rules c.args.self.now.state mid c.tell.new.self.state (g.R.CountedRead.remaining c.args.reader.now) (g.R.CountedRead.remaining c.find.new.reader) p p' w w' found symbols large (ap (λ s. s.standing) c.find.ensures.state) c.in-Ok.ensures.met part,
     )
 
 pub returns-clause-step : goal.returns-clause-step
 returns-clause-step g c =
     let rules : Rules = rules_in g.S.Search.finds g.D.Decide.decide g.L.Lines.frame_line g.L.Lines.cut_line g.L.Lines.end_line c.args.self.now in
+    let large : 90 ≤ rules.size = c.find.ensures.size in
     let mid : State = c.find.new.self.state in
     let new : State = c.tell.new.self.state in
     let found = c.in-Ok.found in
@@ -40,12 +42,13 @@ returns-clause-step g c =
     let w' = g.W.CountedWrite.contents c.tell.new.report in
     let step = c.in-Ok-tell.step in
     let told = subst (λ x. Told x mid new (met_of found symbols) (place_after x.size found) p p' w w' step) c.find.ensures.rules c.in-Ok-tell.ensures.tells in
-    steps_on rules c.args.self.now.state mid new (g.R.CountedRead.remaining c.args.reader.now) (g.R.CountedRead.remaining c.find.new.reader) p p' w w' found symbols (ap (λ s. s.standing) c.find.ensures.state) c.in-Ok.ensures.met step c.in-Ok.ensures.taken told
+    steps_on rules c.args.self.now.state mid new (g.R.CountedRead.remaining c.args.reader.now) (g.R.CountedRead.remaining c.find.new.reader) p p' w w' found symbols large (ap (λ s. s.standing) c.find.ensures.state) c.in-Ok.ensures.met step c.in-Ok.ensures.taken told
 
 pub returns-clause-frame : goal.returns-clause-frame
 returns-clause-frame g c = λ report is.
     let rules : Rules = rules_in g.S.Search.finds g.D.Decide.decide g.L.Lines.frame_line g.L.Lines.cut_line g.L.Lines.end_line c.args.self.now in
     let old : State = c.args.self.now.state in
+    let large : 90 ≤ rules.size = c.find.ensures.size in
     let mid : State = c.find.new.self.state in
     let new : State = c.tell.new.self.state in
     let found = c.in-Ok.found in
@@ -61,7 +64,7 @@ returns-clause-frame g c = λ report is.
     let told = subst (λ x. Told x mid new (met_of found symbols) (place_after x.size found) p p' w w' step) c.find.ensures.rules c.in-Ok-tell.ensures.tells in
     let last = g.D.Decide.last c.tell.new.self.decider in
     met_frame rules old new r r' p p' w w' found symbols step last report
-    (went rules old mid new r r' p p' w w' found symbols same c.in-Ok.ensures.met step c.in-Ok.ensures.taken told)
+    (went rules old mid new r r' p p' w w' found symbols large same c.in-Ok.ensures.met step c.in-Ok.ensures.taken told)
     (told.step_is ∙ ap (λ t. step_of rules t (met_of found symbols)) same)
     (subst (λ x. IsDecided x (met_of found symbols) last) c.find.ensures.rules c.tell.ensures.decided)
     (ap (λ x. step_in x step) is)
