@@ -2,9 +2,9 @@
 use clap::builder::ValueParser;
 use s2_link::{MOST_PASSES, MOST_ROLL_OFF, MOST_ROUNDS};
 use s2_minsum::{LEAST_FACTOR, MOST_FACTOR};
-use s2_plframe::{MOST_LOCK, MOST_WRONG};
 use s2_mode::{MOST_BITS, MOST_GROUP, MOST_MODCOD};
 use s2_modes::MOST_RATE;
+use s2_plframe::{MOST_LOCK, MOST_WRONG};
 use s2_rows::MOST_ADDRESSES;
 use s2_scramble::MOST_NUMBER;
 

@@ -1,5 +1,5 @@
 //! What a few words say, whatever else stands on the line.
-ghost use Rattle.std.specs.Prelude.{◌≡◌, ◌↔◌, IsTrue, IsSome, IfSome};
+ghost use Rattle.std.specs.Prelude.{◌≡◌, ◌↔◌, IsTrue, IsSome, IfSome, false};
 ghost use Rattle.s2_link.specs.Tuning.{IsTuning};
 ghost use Rattle.s2_words.specs.Told.{IsNumbered, IsTold, NamesMode, progress_by};
 ghost use Rattle.s2_words.specs.Tuned.{number_by, factor_by_mode, passes_by, judging_by, tuning_by};
@@ -99,7 +99,8 @@ fn passes_told(uncertified: bool, passes: u32) -> u32
 
 /// The same tuning, and uncertified where that is asked for.
 fn certified_told(uncertified: bool, tuning: Tuning) -> Tuning
-    requires { IsTrue uncertified → tuning.passes ≡ 0 }
+    requires certified { tuning.uncertified ≡ false }
+    requires passes { IsTrue uncertified → tuning.passes ≡ 0 }
     ensures { result ≡ record tuning { uncertified = uncertified } }
 {
     if uncertified {
