@@ -10,6 +10,7 @@ use s2_bits::Bits;
 use s2_link::{Link, Tuning};
 use s2_mode::{Counted, MOST_SYMBOLS, StreamFault};
 use s2_modem::{DemodFault, Receiver, SetupFault, demodulate};
+use s2_plframe::Lock;
 use s2_receive::{Fault, Received, Step, Totals};
 use s2_soft::Divisor;
 use std::alloc::{AllocError, Global};
@@ -168,11 +169,19 @@ pub(crate) fn receiver_of<'a>(
     Receiver::new(alloc, link.setup, &link.matrix, rounds, passes)
 }
 
-/// The receiver of a link, by this divisor.
-fn receiver_by<'a>(alloc: Global, link: &'a Sides, divisor: Divisor) -> Result<Receiver<'a>, Fail> {
-    let tuning = Tuning::new(ROUNDS, 0)?.with_divisor(divisor);
+/// The receiver of a link that is tuned so.
+fn receiver_tuned<'a>(
+    alloc: Global,
+    link: &'a Sides,
+    tuning: Tuning,
+) -> Result<Receiver<'a>, Fail> {
     let link = Link::new(link.setup, &link.matrix)?;
     Ok(Receiver::on_link(alloc, &link, tuning)?)
+}
+
+/// The receiver of a link, by this divisor.
+fn receiver_by<'a>(alloc: Global, link: &'a Sides, divisor: Divisor) -> Result<Receiver<'a>, Fail> {
+    receiver_tuned(alloc, link, Tuning::new(ROUNDS, 0)?.with_divisor(divisor))
 }
 
 /// Lets a receiver take at most so many symbols.
@@ -283,6 +292,24 @@ pub(crate) fn hear_by(
     symbols: &[u8],
 ) -> Result<Heard, Fail> {
     match receiver_by(alloc, link, divisor) {
+        Ok(mut receiver) => Ok(heard_by(
+            alloc,
+            &mut receiver,
+            Source::Slice(symbols),
+            [ALL, ALL, ALL],
+        )),
+        Err(fault) => Err(fault),
+    }
+}
+
+/// What a new receiver with this lock answers to five calls on symbols in memory.
+pub(crate) fn hear_locked(
+    alloc: Global,
+    link: &Sides,
+    lock: Lock,
+    symbols: &[u8],
+) -> Result<Heard, Fail> {
+    match receiver_tuned(alloc, link, Tuning::new(ROUNDS, 0)?.with_lock(lock)) {
         Ok(mut receiver) => Ok(heard_by(
             alloc,
             &mut receiver,

@@ -18,6 +18,8 @@ mod hearing;
 #[cfg(test)]
 mod hostile_tests;
 #[cfg(test)]
+mod lock_tests;
+#[cfg(test)]
 mod modem_memory_tests;
 #[cfg(test)]
 mod modem_tests;

@@ -44,8 +44,8 @@ pub fn clean_frame()
     ensures { CleanFrameLaw }
 {}
 
-/// A frame without noise is found where it begins, and delivered, sole, with no bit changed, by each divisor;
-/// a dummy frame without noise is found as one.
+/// A frame without noise is found where it begins, right behind a frame and elsewhere, and delivered, sole, with no bit
+/// changed, by each divisor and with each lock; a dummy frame without noise is found as one.
 pub fn hears(mode: Mode)
     ensures { HearsLaw mode }
 {

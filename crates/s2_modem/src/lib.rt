@@ -13,7 +13,8 @@
 //! [`Transmitter::limit`] and [`Receiver::limit`] lower how much is taken at most.
 //!
 //! [`Receiver::next`] takes just the symbols up to the end of the next frame, which stands at the first header
-//! that is not before the last frame's end and in no dummy frame; the dummy frames of any modulator are passed, and
+//! that is not before the last frame's end and in no dummy frame; right behind a frame or a dummy frame a header
+//! passes with as many wrong bits as the tuning's lock says. The dummy frames of any modulator are passed, and
 //! packets are joined across them. What it reports and writes is exactly what the definitions say of these
 //! symbols: soft values, decided bits with a verdict, the nearest BCH word, its message's header, and
 //! the packets that the joiner makes of its data field. Soft values are divided by [`DEFAULT_DIVISOR`], or by what
