@@ -67,6 +67,8 @@ impl<'a> Decider<'a> {
         ensures undecided { IfOk result (λ d. IsUndecided link.now.setup.mode d.last) }
     {
         let mode = link.mode();
+        // what it promises of the mode is a part of what is promised here
+        let _k = mode.k();
         let last = Decided {
             verdict: Verdict::Broken,
             outcome: Outcome::NoWord,
