@@ -5,7 +5,7 @@ ghost use Rattle.s2_mode.specs.Counts.{CountsFault};
 ghost use Rattle.s2_mode.specs.Limits.{header_symbols, most_symbols};
 ghost use Rattle.s2_plframe.specs.declared.receive.found.Found.{Found};
 ghost use Rattle.s2_receive.specs.Meeting.{met_in, nothing_over, frame as met_frame};
-ghost use Rattle.s2_receive.specs.Finding.{Reaches, Meets, Looks, LiesWithin, IsBehind, met_with, place_with, met_of, met_after, place_after};
+ghost use Rattle.s2_receive.specs.Finding.{Reaches, Meets, EndsBehind, Looks, LiesWithin, IsBehind, met_with, place_with, met_of, met_after, place_after};
 
 use crate::reading::read_symbols;
 use crate::scanning::look_through;
@@ -150,6 +150,7 @@ fn look<S: Search, R: CountedRead>(
     ensures looks { IfOk result (Looks (S.finds search.old) limit held.old held.new frame.old frame.new (R.remaining reader.old) (R.remaining reader.new)) }
     ensures count { IfOk result (λ _. R.count reader.new ≡ R.count reader.old) }
     ensures cause { IsErr result → R.count reader.new ≢ R.count reader.old + 1 → (R.count reader.new ≡ R.count reader.old) × Reaches limit (place_with held.old) (R.remaining reader.old) (R.remaining reader.new) }
+    ensures ends { IsErr result → R.count reader.new ≢ R.count reader.old + 1 → EndsBehind (length frame.old) limit (met_with (S.finds search.old) held.old frame.old (R.remaining reader.old)) }
     ensures same { S.finds search.new ≡ S.finds search.old }
 {
     let size = frame.len();
@@ -196,6 +197,8 @@ pub(crate) fn find_frame<S: Search, R: CountedRead>(
     ensures within { IfOk result (LiesWithin (length frame.old) start limit) }
     ensures count { IfOk result (λ _. R.count reader.new ≡ R.count reader.old) }
     ensures cause { IsErr result → R.count reader.new ≢ R.count reader.old + 1 → (R.count reader.new ≡ R.count reader.old) × Reaches limit start (R.remaining reader.old) (R.remaining reader.new) }
+    ensures ends { IsErr result → R.count reader.new ≢ R.count reader.old + 1
+        → EndsBehind (length frame.old) limit (met_in (S.finds search.old) (length frame.old) start 0 (nat_lt 0 start) nothing_over [] (R.remaining reader.old)) }
     ensures same { S.finds search.new ≡ S.finds search.old }
 {
     let mut held = Held {

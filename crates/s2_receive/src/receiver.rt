@@ -4,7 +4,7 @@ ghost use Rattle.s2_mode.specs.Limits.{header_symbols, most_symbols};
 ghost use Rattle.s2_receive.specs.declared.report.Report.{Report as ReportValue};
 ghost use Rattle.s2_receive.specs.Faults.{answer_of};
 ghost use Rattle.s2_receive.specs.declared.report.Phase.TheVariants as phases;
-ghost use Rattle.s2_receive.specs.Finding.{Reaches, Meets, LiesWithin, met_of, met_after, place_after};
+ghost use Rattle.s2_receive.specs.Finding.{Reaches, Meets, EndsBehind, LiesWithin, met_of, met_after, place_after};
 ghost use Rattle.s2_receive.specs.Receiving.{IsLive, StepAnswers, MetFrame, StandsBehind, begun, met_left, rules_in};
 
 use crate::finding::{Next, find_frame};
@@ -140,9 +140,10 @@ impl<S: Search, D: Decide, L: Lines> Receiver<S, D, L> {
     /// A frame stands where the first coded frame's header begins, not before the last frame's end and in no
     /// dummy frame: of these the symbols are passed, and nothing is told. The joiner has a gap where other
     /// symbols were passed over, where a frame isn't delivered, and after a cut. After `Cut` comes
-    /// `End`, after `End` comes `End` and nothing is written. `Read` comes where a read failed or where the
-    /// limit was reached, `Write` where one of the two writers failed, which then has a part of the step's
-    /// packets or of its line; from a fault on every call answers `Failed` and reads and writes nothing.
+    /// `End`, after `End` comes `End` and nothing is written. `Read` comes, never after `Cut`, where a read failed or
+    /// where the limit was reached and the next frame would end behind it, `Write` where one of the two writers
+    /// failed, which then has a part of the step's packets or of its line; from a fault on every call answers
+    /// `Failed` and reads and writes nothing.
     pub fn next<R: CountedRead, P: CountedWrite, W: CountedWrite>(
         &mut self,
         reader: &mut R,
@@ -168,6 +169,9 @@ impl<S: Search, D: Decide, L: Lines> Receiver<S, D, L> {
         ensures nothing { (IsLive self.old.state.phase → ⊥) → (self.new.state ≡ self.old.state) × (reader.new ≡ reader.old) × (packets.new ≡ packets.old) × (report.new ≡ report.old) }
         ensures read { IsErrOf result Fault.Read → (packets.new ≡ packets.old) × (report.new ≡ report.old)
             × (R.count reader.new ≢ R.count reader.old + 1 → (R.count reader.new ≡ R.count reader.old) × Reaches self.old.limit self.old.state.at (R.remaining reader.old) (R.remaining reader.new)) }
+        ensures searching { IsErrOf result Fault.Read → self.old.state.phase ≡ Phase.Searching }
+        ensures ends { IsErrOf result Fault.Read → R.count reader.new ≢ R.count reader.old + 1 → EndsBehind (length self.old.frame) self.old.limit
+            (met_left (rules_in S.finds D.decide L.frame_line L.cut_line L.end_line self.old) self.old.state.phase self.old.state.at (R.remaining reader.old)) }
         ensures no_read { result ≢ Err Fault.Read → R.count reader.new ≡ R.count reader.old }
         ensures write { IsErrOf result Fault.Write → ((P.count packets.new ≡ P.count packets.old + 1) × (W.count report.new ≡ W.count report.old))
             ⊎ ((P.count packets.new ≡ P.count packets.old) × (W.count report.new ≡ W.count report.old + 1)) }
@@ -205,6 +209,9 @@ impl<S: Search, D: Decide, L: Lines> Receiver<S, D, L> {
         ensures taken { StandsBehind (length self.old.frame) self.new.state.at result }
         ensures read { IsErrOf result StreamFault.Read → (packets.new ≡ packets.old) × (report.new ≡ report.old)
             × (R.count reader.new ≢ R.count reader.old + 1 → (R.count reader.new ≡ R.count reader.old) × Reaches self.old.limit self.old.state.at (R.remaining reader.old) (R.remaining reader.new)) }
+        ensures searching { IsErrOf result StreamFault.Read → self.old.state.phase ≡ Phase.Searching }
+        ensures ends { IsErrOf result StreamFault.Read → R.count reader.new ≢ R.count reader.old + 1 → EndsBehind (length self.old.frame) self.old.limit
+            (met_left (rules_in S.finds D.decide L.frame_line L.cut_line L.end_line self.old) self.old.state.phase self.old.state.at (R.remaining reader.old)) }
         ensures no_read { result ≢ Err StreamFault.Read → R.count reader.new ≡ R.count reader.old }
         ensures write { IsErrOf result StreamFault.Write → ((P.count packets.new ≡ P.count packets.old + 1) × (W.count report.new ≡ W.count report.old))
             ⊎ ((P.count packets.new ≡ P.count packets.old) × (W.count report.new ≡ W.count report.old + 1)) }
@@ -233,6 +240,9 @@ impl<S: Search, D: Decide, L: Lines> Receiver<S, D, L> {
         ensures taken { IfOk result (λ found. Reaches (place_after (length self.old.frame) found) self.old.state.at (R.remaining reader.old) (R.remaining reader.new)) }
         ensures within { IfOk result (LiesWithin (length self.old.frame) self.old.state.at self.old.limit) }
         ensures count { IfOk result (λ _. R.count reader.new ≡ R.count reader.old) }
+        ensures searching { IsErr result → self.old.state.phase ≡ Phase.Searching }
+        ensures ends { IsErr result → R.count reader.new ≢ R.count reader.old + 1 → EndsBehind (length self.old.frame) self.old.limit
+            (met_left (rules_in S.finds D.decide L.frame_line L.cut_line L.end_line self.old) self.old.state.phase self.old.state.at (R.remaining reader.old)) }
         ensures cause { IsErr result → R.count reader.new ≢ R.count reader.old + 1 → (R.count reader.new ≡ R.count reader.old) × Reaches self.old.limit self.old.state.at (R.remaining reader.old) (R.remaining reader.new) }
     {
         let Place {
