@@ -23,6 +23,7 @@ fn try_repair(certifier: &mut Certifier<'_>, soft: &[i16], repair: &mut Bits) ->
     ensures rows { certifier.new.rows ≡ certifier.old.rows }
     ensures passes { certifier.new.passes ≡ certifier.old.passes }
     ensures repair { repair.new ≡ repaired (code_of certifier.old.rows) soft.now }
+    ensures long { length repair.new ≡ (code_of certifier.old.rows).bits }
     ensures word { IsTrue result → certifier.new.word ≡ repair.new }
     ensures found { IsTrue result → certifier.new.found ≢ None }
     ensures strict { IsTrue result → IfSome certifier.new.found (λ s. is_strict certifier.old.rows (shared_view certifier.old.rows soft.now repair.new s) ≡ certifier.new.strict) }

@@ -4,7 +4,6 @@ use Rattle.s2_matrix.specs.Code.{code_of}
 use Rattle.s2_check.specs.Hard.{hard_decision}
 use Rattle.s2_split.specs.Making.{shared_view, shared_views}
 use Rattle.s2_split.proofs.Held.{copied}
-use Rattle.s2_split.proofs.Repairs.{length-repaired}
 use Rattle.s2_judge.specs.Deciding.{is_strict, repair_view}
 use Rattle.s2_judge.proofs.Decisions.{test_in}
 use Rattle.s2_judge.proofs.Grounds.{step_one, step_two, past_two, by_same}
@@ -20,16 +19,7 @@ returns-then-judge_unsplit-clause-decided c =
 pub copy_prefix-requires-clause-mine : goal.copy_prefix-requires-clause-mine
 copy_prefix-requires-clause-mine c =
     let long = ap length c.judge_unsplit.ensures.word ∙ length-map c.args.soft.now _ ∙ c.requires.soft in
-    let whole = ap length c.try_repair.ensures.repair ∙ length-repaired (code_of c.args.certifier.now.rows) c.args.soft.now in
-    omega (arith, c.len.ensures, long, whole)
-
-pub returns-then-try_repair-clause-repair : goal.returns-then-try_repair-clause-repair
-returns-then-try_repair-clause-repair c =
-    ap length c.try_repair.ensures.repair ∙ length-repaired (code_of c.args.certifier.now.rows) c.args.soft.now
-
-pub returns-clause-repair : goal.returns-clause-repair
-returns-clause-repair c =
-    ap length c.try_repair.ensures.repair ∙ length-repaired (code_of c.args.certifier.now.rows) c.args.soft.now
+    omega (arith, c.len.ensures, long, c.try_repair.ensures.long)
 
 pub returns-then-try_repair-clause-ground : goal.returns-then-try_repair-clause-ground
 returns-then-try_repair-clause-ground c =
@@ -37,8 +27,7 @@ returns-then-try_repair-clause-ground c =
     let soft = c.args.soft.now in
     let word = c.try_repair.new.repair in
     let long = ap length c.judge_unsplit.ensures.word ∙ length-map soft _ ∙ c.requires.soft in
-    let whole = ap length c.try_repair.ensures.repair ∙ length-repaired (code_of r) soft in
-    let same = copied word c.judge_unsplit.new.word c.copy_prefix.new.self c.len.result c.len.ensures (long ∙ sym whole) c.copy_prefix.ensures in
+    let same = copied word c.judge_unsplit.new.word c.copy_prefix.new.self c.len.result c.len.ensures (long ∙ sym c.try_repair.ensures.long) c.copy_prefix.ensures in
     (c.requires.range, c.try_repair.ensures.word c.if-try_repair.true ∙ sym same)
 
 pub returns-then-try_repair-clause-decided : goal.returns-then-try_repair-clause-decided
@@ -49,8 +38,7 @@ returns-then-try_repair-clause-decided c =
     let word = try.new.repair in
     let found = try.new.certifier.found in
     let long = ap length c.judge_unsplit.ensures.word ∙ length-map soft _ ∙ c.requires.soft in
-    let whole = ap length try.ensures.repair ∙ length-repaired (code_of r) soft in
-    let same = copied word c.judge_unsplit.new.word c.copy_prefix.new.self c.len.result c.len.ensures (long ∙ sym whole) c.copy_prefix.ensures in
+    let same = copied word c.judge_unsplit.new.word c.copy_prefix.new.self c.len.result c.len.ensures (long ∙ sym try.ensures.long) c.copy_prefix.ensures in
     let odd = test_in r c.matrix.result.now (hard_decision soft) c.judge_unsplit.result c.matrix.ensures (length-map soft _ ∙ c.requires.soft) c.judge_unsplit.ensures.codeword ∙ c.if-judge_unsplit.false in
     let strict = subst (λ (b : Bool). IfSome found (λ s. is_strict r (shared_view r soft word s) ≡ b)) (sym c.is_strict.ensures) (try.ensures.strict c.if-try_repair.true) in
     let view = sym (ap (λ p. repair_view r p soft) c.requires.passes) ∙ try.ensures.view ∙ ap (λ b. cond b (shared_views r soft word found) None) c.if-try_repair.true in

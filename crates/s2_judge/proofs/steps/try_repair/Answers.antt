@@ -15,6 +15,14 @@ satisfied-requires c =
     let rows = c.matrix.ensures ∙ ap (λ (m : Certifying). m.rows) c.repair_into.ensures.same in
     ap length c.repair_into.ensures.word ∙ length-repaired (code_of c.args.certifier.now.rows) c.args.soft.now ∙ sym (ap (λ (q : Rows). (code_of q).bits) rows)
 
+pub returns-then-satisfied-clause-long : goal.returns-then-satisfied-clause-long
+returns-then-satisfied-clause-long c =
+    ap length c.repair_into.ensures.word ∙ length-repaired (code_of c.args.certifier.now.rows) c.args.soft.now
+
+pub returns-else-satisfied-clause-long : goal.returns-else-satisfied-clause-long
+returns-else-satisfied-clause-long c =
+    ap length c.repair_into.ensures.word ∙ length-repaired (code_of c.args.certifier.now.rows) c.args.soft.now
+
 pub returns-then-satisfied-clause-view : goal.returns-then-satisfied-clause-view
 returns-then-satisfied-clause-view c =
     let r = c.args.certifier.now.rows in
