@@ -1,5 +1,5 @@
 -- Noise (this project's own): what a symbol gains, as a function of the level and the generator's state.
-use Rattle.std.specs.Prelude.{◌≡◌, List, [], ◌∷◌, ◌++◌, Option, ℕ, ℤ, pos, negsuc, ◌+◌, ◌≤◌, ◌+ℤ◌, ◌-ℤ◌, ◌*ℤ◌, int_div, length, take, sum}
+use Rattle.std.specs.Prelude.{List, [], ◌∷◌, ◌++◌, Option, ℕ, zero, suc, ℤ, pos, negsuc, ◌+◌, ◌≤◌, ◌+ℤ◌, ◌-ℤ◌, ◌*ℤ◌, int_div, length, take, sum}
 use Rattle.std.specs.Int.{w32, int_min, int_max, to_le_bytes}
 use Rattle.std.specs.Io.KnownBytes.{Appends}
 use Rattle.rand_pcg.specs.Lcg.{Lcg}
@@ -26,6 +26,11 @@ moved level component drawn = int_max (negsuc 32767) (int_min (component +ℤ ga
 -- a symbol with what is drawn next, first for I, then for Q, and the generator after it
 unfoldable pub add : ℕ → Lcg → Symbol → Symbol × Lcg
 add level g s = (record { i = moved level s.i (draw g).0; q = moved level s.q (draw (draw g).1).0 }, (draw (draw g).1).1)
+
+-- the generator after what is drawn for so many symbols, two sums for each
+abbrev pub drawn_for : ℕ → Lcg → Lcg
+drawn_for zero g = g
+drawn_for (suc n) g = (draw (draw (drawn_for n g)).1).1
 
 -- the bytes of these symbols with what is drawn for each in turn
 abbrev pub noisy : ℕ → Lcg → List Symbol → List ℕ

@@ -3,7 +3,7 @@ ghost use Rattle.std.specs.Prelude.{◌≡◌, ◌≢◌, ◌+◌, ◌-◌, ◌^
 ghost use Rattle.std.specs.Io.KnownBytes.{Appends};
 ghost use Rattle.s2_mode.specs.Limits.{most_symbols};
 ghost use Rattle.s2_mode.specs.Symbols.{symbols_of};
-ghost use Rattle.s2_channel.specs.Noise.{noisy, AppendsFront};
+ghost use Rattle.s2_channel.specs.Noise.{drawn_for, noisy, AppendsFront};
 
 use crate::noise::Noise;
 use s2_mode::{CountedRead, CountedWrite, MOST_SYMBOLS, StreamFault, read_symbol, write_symbol};
@@ -11,6 +11,7 @@ use s2_mode::{CountedRead, CountedWrite, MOST_SYMBOLS, StreamFault, read_symbol,
 /// Writes each symbol of a stream with its noise, up to the reader's end, where one to three bytes that
 /// are left over are dropped. `Read` where a read failed, or where [`MOST_SYMBOLS`] symbols came: then the
 /// writer has gained the noisy symbols of those that were read, each whole. `Write` where a write failed.
+/// Behind the end the noise goes on where the last symbol's ended.
 pub fn add_to_all<R: CountedRead, W: CountedWrite>(
     noise: &mut Noise,
     reader: &mut R,
@@ -20,6 +21,8 @@ pub fn add_to_all<R: CountedRead, W: CountedWrite>(
     requires writer { W.count writer.old < 2 ^ 64 - 1 }
     ensures written { OnOk result (IfSome (R.remaining reader.old) (λ xs.
         Appends (W.contents writer.old) (W.contents writer.new) (noisy noise.old.level noise.old.generator (symbols_of xs)))) }
+    ensures drawn { OnOk result (IfSome (R.remaining reader.old) (λ xs.
+        noise.new.generator ≡ drawn_for (length (symbols_of xs)) noise.old.generator)) }
     ensures write { IsErrOf result StreamFault.Write → W.count writer.new ≡ W.count writer.old + 1 }
     ensures wrote { result ≢ Err StreamFault.Write → W.count writer.new ≡ W.count writer.old }
     ensures read { IsErrOf result StreamFault.Read → R.count reader.new ≡ R.count reader.old →

@@ -8,10 +8,10 @@ ghost use Rattle.s2_receive.specs.declared.report.Report.{Report as ReportValue}
 ghost use Rattle.s2_receive.specs.declared.report.Phase.TheVariants as phases;
 ghost use Rattle.s2_receive.specs.declared.report.Step.TheVariants as steps;
 ghost use Rattle.s2_receive.specs.declared.report.Fault.TheVariants as faults;
-ghost use Rattle.s2_receive.specs.Finding.{Reaches};
+ghost use Rattle.s2_receive.specs.Finding.{Reaches, EndsBehind};
 ghost use Rattle.s2_receive.specs.Windows.{found_as};
 ghost use Rattle.s2_receive.specs.ReportLines.{frame_line, cut_line, end_line};
-ghost use Rattle.s2_receive.specs.Receiving.{IsLive, StepAnswers, MetFrame, RunsTo, StandsBehind, StopsAfter, BreaksAfter, begun, rules_of};
+ghost use Rattle.s2_receive.specs.Receiving.{IsLive, StepAnswers, MetFrame, RunsTo, StandsBehind, StopsAfter, BreaksAfter, begun, met_left, rules_of};
 ghost use Rattle.s2_link.specs.Tuning.{tuning_of};
 ghost use Rattle.s2_link.specs.Link.{link_of, setup_of};
 ghost use Rattle.s2_modem.specs.Reports.{frame_decision, IsUndecided};
@@ -157,8 +157,8 @@ impl<'a> Receiver<'a> {
     /// a last one that lacks symbols: of them nothing is told, and they are no gap. A frame's packets are
     /// written, and then its line of the report; the end has its line once. It takes no memory.
     ///
-    /// `Read` tells that a read failed, or that as many symbols were taken as the receiver takes and
-    /// more are wanted; `Write` that a write failed. After either each further call answers `Failed`,
+    /// `Read`, which never comes after a cut frame, tells that a read failed, or that as many symbols were taken as the
+    /// receiver takes, and the next frame would end behind them; `Write` that a write failed. After either each further call answers `Failed`,
     /// and after `End` each answers `End`; such calls read and write nothing.
     pub fn next<R: CountedRead, P: CountedWrite, W: CountedWrite>(
         &mut self,
@@ -182,6 +182,9 @@ impl<'a> Receiver<'a> {
         ensures nothing { (IsLive self.old.state.phase → ⊥) → (self.new.state ≡ self.old.state) × (reader.new ≡ reader.old) × (packets.new ≡ packets.old) × (report.new ≡ report.old) }
         ensures read { IsErrOf result faults.Read → (packets.new ≡ packets.old) × (report.new ≡ report.old)
             × (R.count reader.new ≢ R.count reader.old + 1 → (R.count reader.new ≡ R.count reader.old) × Reaches self.old.limit self.old.state.at (R.remaining reader.old) (R.remaining reader.new)) }
+        ensures searching { IsErrOf result faults.Read → self.old.state.phase ≡ phases.Searching }
+        ensures ends { IsErrOf result faults.Read → R.count reader.new ≢ R.count reader.old + 1
+            → EndsBehind (symbols_in self.old.link.setup.mode) self.old.limit (met_left (rules_for self.old) self.old.state.phase self.old.state.at (R.remaining reader.old)) }
         ensures no_read { result ≢ Err faults.Read → R.count reader.new ≡ R.count reader.old }
         ensures write { IsErrOf result faults.Write → ((P.count packets.new ≡ P.count packets.old + 1) × (W.count report.new ≡ W.count report.old))
             ⊎ ((P.count packets.new ≡ P.count packets.old) × (W.count report.new ≡ W.count report.old + 1)) }
