@@ -1,5 +1,5 @@
 -- How a receiver is tuned by the words of the line.
-use Rattle.std.specs.Prelude.{ℕ, nat_le, ◌==◌, ◌||◌, Bool, if◌then◌else◌}
+use Rattle.std.specs.Prelude.{ℕ, ◌==◌, ◌||◌, Bool, if◌then◌else◌}
 use Rattle.s2_link.specs.Limits.{default_rounds}
 use Rattle.s2_link.specs.Tuning.{Tuning, tuning_of}
 use Rattle.s2_words.specs.declared.told.Number.{Number}
@@ -7,10 +7,10 @@ use Rattle.s2_words.specs.declared.told.TuningWords.{TuningWords}
 
 -- ---- what is best, where that is asked for
 
--- the factor that is best for a MODCOD: QPSK 1/4 and 1/3, 2/5, 3/5 of QPSK and of 8PSK, all others
+-- the factor that is best for a MODCOD: QPSK 1/4, 1/3 and 3/5, 8PSK 3/4 and 5/6, all others
 abbrev pub factor_by_mode : ℕ → ℕ
 factor_by_mode modcod =
-    if nat_le modcod 2 then 15 else if modcod == 3 then 14 else if (modcod == 5) || (modcod == 12) then 12 else 13
+    if modcod == 1 then 15 else if modcod == 2 then 14 else if modcod == 5 then 11 else if (modcod == 14) || (modcod == 15) then 12 else 13
 
 -- the lock, the divisor and the passes
 abbrev pub best_lock : ℕ

@@ -79,11 +79,13 @@ fn number_told(tuned: bool, number: Number, best: u32) -> u32
 fn tuned_factor(modcod: u8) -> u32
     ensures { result ≡ factor_by_mode modcod }
 {
-    if modcod <= 2 {
+    if modcod == 1 {
         15
-    } else if modcod == 3 {
+    } else if modcod == 2 {
         14
-    } else if modcod == 5 || modcod == 12 {
+    } else if modcod == 5 {
+        11
+    } else if modcod == 14 || modcod == 15 {
         12
     } else {
         13
