@@ -164,7 +164,7 @@ all_read source bytes None consumes end = absurd consumes
 all_read source bytes (Some left) consumes end = consumes ∙ ap (λ l. bytes ++ l) end ∙ append-nil bytes
 
 -- all that was met
-all_met : (rules : Rules) (symbols : List ℕ) (new : State) (r' : Option (List ℕ)) (met : List Met) → new.phase ≡ phases.Ended
+pub all_met : (rules : Rules) (symbols : List ℕ) (new : State) (r' : Option (List ℕ)) (met : List Met) → new.phase ≡ phases.Ended
     → Meets (met_left rules phases.Searching 0 (Some symbols)) (met_left rules new.phase new.at r') met → met_from rules.finds rules.size 0 0 false nothing_over (symbols_of symbols) ≡ met
 all_met rules symbols new r' met phase h =
     let whole : Meets (met_left rules phases.Searching 0 (Some symbols)) (Some []) met = subst (λ x. Meets (met_left rules phases.Searching 0 (Some symbols)) (met_left rules x new.at r') met) phase h in

@@ -25,14 +25,14 @@ use Rattle.s2_modem.proofs.Arrival.{AreCertified, short_cuts, lines_frames, all_
 use Rattle.s2_modem.proofs.CleanFrames.{hears_law, scattered_law}
 
 -- what holds of a whole list holds of its front
-all_front : {X : Type 0} → (P : X → Type 0) (xs ys : List X) → All P (xs ++ ys) → All P xs
+pub all_front : {X : Type 0} → (P : X → Type 0) (xs ys : List X) → All P (xs ++ ys) → All P xs
 all_front P xs ys h = subst (All P) (take_at xs ys (length xs) refl) (All-take P (length xs) (xs ++ ys) h)
 
 module _ (m : Mode) (valid : IsMode m) (sizes : HasCodeSizes m) (link : Link) (tuning : Tuning) (limit : ℕ) (linked : IsLinkOf m link) (ro : link.setup.roll_off ≤ 2) (known : IsDivisor tuning.divisor) where
   abbrev rules : Rules
   rules = link_rules link tuning limit
 
-  heard_one : (behind : Bool) (at : ℕ) (field : List ℕ) (symbols : List Symbol) → AreBytes field → to_place at < length field → length field ≤ field_bytes link.setup.mode → IsHeard link tuning behind at field symbols
+  pub heard_one : (behind : Bool) (at : ℕ) (field : List ℕ) (symbols : List Symbol) → AreBytes field → to_place at < length field → length field ≤ field_bytes link.setup.mode → IsHeard link tuning behind at field symbols
       → IsReceived rules behind (header_at link.setup.roll_off at field) field symbols × IsCertifiedFrame rules symbols
   heard_one behind at field symbols bytes place fits (codeword, is, inl clean) =
       let h = (hears_law m valid sizes link tuning limit linked ro known).frames at field codeword bytes place fits is in

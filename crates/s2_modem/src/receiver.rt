@@ -16,6 +16,7 @@ ghost use Rattle.s2_link.specs.Tuning.{tuning_of};
 ghost use Rattle.s2_link.specs.Link.{link_of, setup_of};
 ghost use Rattle.s2_modem.specs.Reports.{frame_decision, IsUndecided};
 ghost use Rattle.s2_modem.specs.Reception.{AllAsLikely, AllTold, IsAsLikely, IsCertifiedBy, IsCorrected, link_rules, rules_for, IsNew, Makes};
+ghost use Rattle.s2_modem.specs.Promise.{IsHeadline, KeepsHeadline};
 
 use crate::decider::Decider;
 use s2_bits::Bits;
@@ -42,11 +43,14 @@ pub(crate) fn tune<'a>(
     ensures begun { IfOk result (λ r. r.state ≡ begun) }
     ensures as_likely { IfOk result (λ _. AllAsLikely link.now tuning) }
     ensures told { IfOk result (λ _. AllTold link.now tuning) }
+    ensures headline { IfOk result (λ _. KeepsHeadline link.now tuning) }
     ensures undecided { IfOk result (λ r. IsUndecided link.now.setup.mode r.decider.last) }
 {
     let mode = link.mode();
-    // what it promises of the mode is a part of what is promised here
+    // what these promise of the mode and of numbers is a part of what is promised here
     let _k = mode.k();
+    let _roll_off = link.roll_off();
+    let _divisor = tuning.divisor();
     let decider = Decider::new(alloc, link, tuning)?;
     let search = HeaderSearch::new(mode, tuning.lock());
     s2_receive::Receiver::new(
@@ -86,6 +90,7 @@ impl<'a> Model for Receiver<'a> {
     ghost use Rattle.s2_link.specs.Link.{link_of, setup_of};
     ghost use Rattle.s2_modem.specs.Reports.{frame_decision};
     ghost use Rattle.s2_modem.specs.Reception.{Receiver as ReceiverValue, AllAsLikely, AllTold, link_rules};
+    ghost use Rattle.s2_modem.specs.Promise.{KeepsHeadline};
 
     ghost Value = { ReceiverValue };
 
@@ -99,7 +104,7 @@ impl<'a> Model for Receiver<'a> {
 
     ghost invariant = { λ r. (rules_of (found_as r.inner.search.search.mode r.inner.search.lock) (length r.inner.frame) (frame_decision r.inner.decider.link r.inner.decider.tuning) frame_line cut_line end_line r.inner.limit
         ≡ link_rules (link_of (setup_of r.setup) r.matrix.now) r.tuning r.inner.limit) × AllAsLikely (link_of (setup_of r.setup) r.matrix.now) r.tuning
-        × AllTold (link_of (setup_of r.setup) r.matrix.now) r.tuning };
+        × AllTold (link_of (setup_of r.setup) r.matrix.now) r.tuning × KeepsHeadline (link_of (setup_of r.setup) r.matrix.now) r.tuning };
 }
 
 impl<'a> Receiver<'a> {
@@ -195,8 +200,8 @@ impl<'a> Receiver<'a> {
     }
 
     /// Takes all steps that are left, up to the end line, and answers the totals and whether each frame
-    /// was delivered with bits that are most likely and none was cut. Not to be called after the end or
-    /// a fault. It takes no memory.
+    /// was delivered with bits that are most likely and none was cut. Of a new receiver, which takes a whole stream,
+    /// the headline holds. Not to be called after the end or a fault. It takes no memory.
     ///
     /// After a fault what was met before it is written whole: after `Read`, which comes as in
     /// [`Receiver::next`], nothing else is, after `Write` a part of the next packets or line is.
@@ -214,6 +219,7 @@ impl<'a> Receiver<'a> {
             (P.contents packets.old) (P.contents packets.new) (W.contents report.old) (W.contents report.new) received.well) }
         ensures totals { IfOk result (λ received. received.totals ≡ self.new.state.standing.totals) }
         ensures symbols { IfOk result (λ received. received.symbols ≡ self.new.state.at) }
+        ensures headline { IfOk result (λ _. self.old.state ≡ begun → IsHeadline self.old.link self.old.tuning (R.remaining reader.old) (P.contents packets.old) (P.contents packets.new) (W.contents report.old) (W.contents report.new)) }
         ensures as_likely { AllAsLikely self.old.link self.old.tuning }
         ensures stops { IsErrOf result stream_faults.Read → StopsAfter (rules_for self.old) self.old.state (R.remaining reader.old)
             (P.contents packets.old) (P.contents packets.new) (W.contents report.old) (W.contents report.new) }

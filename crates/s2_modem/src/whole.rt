@@ -1,8 +1,9 @@
 //! A whole stream of symbols in memory.
-ghost use Rattle.std.specs.Prelude.{◌≡◌, ◌≢◌, ◌+◌, ◌-◌, ◌*◌, ◌^◌, ◌<◌, ◌⊎◌, Err, IsErrOf, length};
+ghost use Rattle.std.specs.Prelude.{◌≡◌, ◌≢◌, ◌+◌, ◌-◌, ◌*◌, ◌^◌, ◌<◌, ◌⊎◌, Some, Err, IfOk, IsErrOf, length};
 ghost use Rattle.s2_link.specs.Link.{link_of};
 ghost use Rattle.s2_link.specs.Tuning.{tuning_of};
 ghost use Rattle.s2_modem.specs.Reception.{AreAsLikely, Demodulates, DemodulatesOn};
+ghost use Rattle.s2_modem.specs.Promise.{IsHeadline};
 
 use crate::receiver::tune;
 use s2_link::{Link, Setup, SetupFault, Tuning};
@@ -37,6 +38,7 @@ fn demodulate_link<P: CountedWrite, W: CountedWrite>(
     requires few { length bytes.now < 2 ^ 42 }
     ensures demodulates { DemodulatesOn link.now tuning bytes.now (P.contents packets.old) (P.contents packets.new) (W.contents report.old) (W.contents report.new) result }
     ensures as_likely { AreAsLikely link.now tuning result }
+    ensures headline { IfOk result (λ _. IsHeadline link.now tuning (Some bytes.now) (P.contents packets.old) (P.contents packets.new) (W.contents report.old) (W.contents report.new)) }
     ensures write { IsErrOf result DemodFault.Write → ((P.count packets.new ≡ P.count packets.old + 1) × (W.count report.new ≡ W.count report.old))
         ⊎ ((P.count packets.new ≡ P.count packets.old) × (W.count report.new ≡ W.count report.old + 1)) }
     ensures no_write { result ≢ Err DemodFault.Write → (P.count packets.new ≡ P.count packets.old) × (W.count report.new ≡ W.count report.old) }
@@ -52,7 +54,8 @@ fn demodulate_link<P: CountedWrite, W: CountedWrite>(
 
 /// Receives a whole stream of symbols, fewer than 2^42 bytes, and writes the packets that its frames
 /// carry and a line for each frame, for a cut one, and for the end. 1 to 3 bytes behind the last
-/// symbol are dropped. The bits that are reported are as likely as their verdicts say. A setup is refused as by [`crate::Receiver::new`], and then nothing is written; the divisor
+/// symbol are dropped. The bits that are reported are as likely as their verdicts say, and of the whole stream the
+/// headline holds. A setup is refused as by [`crate::Receiver::new`], and then nothing is written; the divisor
 /// of soft values is the usual one, as there.
 pub fn demodulate<P: CountedWrite, W: CountedWrite>(
     alloc: Global,
@@ -69,6 +72,7 @@ pub fn demodulate<P: CountedWrite, W: CountedWrite>(
     requires few { length bytes.now < 2 ^ 42 }
     ensures demodulates { Demodulates setup matrix.now (tuning_of rounds passes) bytes.now (P.contents packets.old) (P.contents packets.new) (W.contents report.old) (W.contents report.new) result }
     ensures as_likely { AreAsLikely (link_of setup matrix.now) (tuning_of rounds passes) result }
+    ensures headline { IfOk result (λ _. IsHeadline (link_of setup matrix.now) (tuning_of rounds passes) (Some bytes.now) (P.contents packets.old) (P.contents packets.new) (W.contents report.old) (W.contents report.new)) }
     ensures write { IsErrOf result DemodFault.Write → ((P.count packets.new ≡ P.count packets.old + 1) × (W.count report.new ≡ W.count report.old))
         ⊎ ((P.count packets.new ≡ P.count packets.old) × (W.count report.new ≡ W.count report.old + 1)) }
     ensures no_write { result ≢ Err DemodFault.Write → (P.count packets.new ≡ P.count packets.old) × (W.count report.new ≡ W.count report.old) }

@@ -1,6 +1,7 @@
-use Rattle.std.proofs.Common.{◌≡◌, ℕ, sym, ap, subst, ◌∙◌}
+use Rattle.std.proofs.Common.{◌≡◌, ℕ, ◌≤◌, sym, ap, subst, ◌∙◌}
 use Rattle.std.proofs.lemmas.Result.{IfOk-weaker}
 use Rattle.s2_mode.specs.Mode.{Mode, shape_in, symbols_in}
+use Rattle.s2_soft.specs.Divisors.{IsDivisor}
 use Rattle.s2_link.specs.Tuning.{Tuning}
 use Rattle.s2_link.specs.Link.{Link}
 use Rattle.s2_receive.specs.Receiving.{Rules, rules_of}
@@ -9,6 +10,7 @@ use Rattle.s2_receive.specs.ReportLines.{frame_line, cut_line, end_line}
 use Rattle.s2_modem.specs.Reports.{frame_decision, IsUndecided}
 use Rattle.s2_modem.specs.Listening.{Listening}
 use Rattle.s2_modem.proofs.CleanFrames.{all_as_likely, all_told}
+use Rattle.s2_modem.proofs.HeadlineLemmas.{keeps_headline}
 use Rattle.s2_modem.proofs.receiver.tune.Goals as goal
 
 abbrev made : Mode → ℕ → ℕ → Link → Tuning → ℕ → Rules
@@ -39,3 +41,12 @@ returns-clause-told c =
 pub returns-clause-undecided : goal.returns-clause-undecided
 returns-clause-undecided c =
     IfOk-weaker c.new-2.result _ _ (λ r e. subst (λ (d : Listening). IsUndecided c.args.link.now.setup.mode d.last) (sym e.1) c.in_ok-decider.ensures.undecided) c.new-2.ensures.parts
+
+pub returns-clause-headline : goal.returns-clause-headline
+returns-clause-headline c =
+    let k = c.k-k.ensures in
+    let link = c.args.link.now in
+    let ro : link.setup.roll_off ≤ 2 = subst (λ n. n ≤ 2) c.roll_off-roll_off.ensures.is c.roll_off-roll_off.ensures.most in
+    let known : IsDivisor c.args.tuning.divisor = subst IsDivisor c.divisor-divisor.ensures.is c.divisor-divisor.ensures.known in
+    let keeps = keeps_headline c.mode-mode.result k.valid k.sizes link c.args.tuning (sym c.mode-mode.ensures.is, c.mode-mode.ensures.shape ∙ ap shape_in c.mode-mode.ensures.is) ro known in
+    IfOk-weaker c.new-2.result _ _ (λ r e. keeps) c.new-2.ensures.parts

@@ -1,5 +1,8 @@
 use Rattle.std.proofs.Common.{subst}
+use Rattle.std.proofs.lemmas.Result.{IfOk-weaker}
 use Rattle.s2_modem.specs.Reception.{Receiver, AllAsLikely}
+use Rattle.s2_modem.specs.Promise.{KeepsHeadline}
+use Rattle.s2_modem.proofs.HeadlineLemmas.{run_headline}
 use Rattle.s2_modem.proofs.receiver.Receiver.run.Goals as goal
 
 pub returns-clause-as_likely : goal.returns-clause-as_likely

@@ -1,0 +1,102 @@
+-- The headline: what a receiver of a link promises of a stream of symbols, and of the packets and the report that it writes of it.
+use Rattle.std.specs.Prelude.{◌≡◌, ℕ, ◌+◌, ◌≤◌, ◌⊎◌, Bool, true, false, List, [], ◌∷◌, ◌++◌, All, length, take, drop, Option, Some, None, ⊤}
+use Rattle.std.specs.List.{flat_map}
+use Rattle.std.specs.Io.KnownBytes.{Appends}
+use Rattle.s2_mode.specs.Limits.{header_symbols}
+use Rattle.s2_mode.specs.Mode.{k_of, t_of, symbols_in}
+use Rattle.s2_mode.specs.Symbols.{symbols_of}
+use Rattle.s2_mode.specs.declared.symbols.Symbol.{Symbol}
+use Rattle.s2_bits.specs.Bits.{differences}
+use Rattle.s2_matrix.specs.Code.{code_of}
+use Rattle.s2_bbframe.specs.DataStream.{IsPacket, stream_of, fields_of, field_bytes, header_at}
+use Rattle.s2_bbframe.specs.Joining.{closed_in}
+use Rattle.s2_plframe.specs.declared.receive.found.Found.TheVariants as founds
+use Rattle.s2_link.specs.Tuning.{Tuning}
+use Rattle.s2_link.specs.Link.{Link}
+use Rattle.s2_send.specs.Frames.{IsCodewordFor}
+use Rattle.s2_receive.specs.Windows.{found_as}
+use Rattle.s2_receive.specs.ReportLines.{frame_line, cut_line, end_line}
+use Rattle.s2_receive.specs.Receiving.{State, Decision, RunsOut, begun}
+use Rattle.s2_receive.specs.Laws.{Piece, coded, dummy, IsDummy, joined, stream_symbols}
+use Rattle.s2_receive.specs.declared.report.Report.{Report}
+use Rattle.s2_receive.specs.declared.report.Totals.{Totals}
+use Rattle.s2_modem.specs.Reports.{frame_soft, frame_decision, received_word}
+use Rattle.s2_modem.specs.Reception.{IsAsLikely, IsCorrected, link_rules}
+use Rattle.s2_modem.specs.Both.{AreBytes}
+use Rattle.s2_modem.specs.Streams.{IsClear}
+
+-- the symbols of the frame that begins at this one of a stream, and what is decided of them
+abbrev pub frame_from : Link → List Symbol → ℕ → List Symbol
+frame_from link symbols at = take (symbols_in link.setup.mode) (drop at symbols)
+
+abbrev pub decision_from : Link → Tuning → List Symbol → ℕ → Decision
+decision_from link tuning symbols at = frame_decision link tuning (frame_from link symbols at)
+
+-- the last lines of a report: that of a frame that was cut, where one was, and that of the end
+abbrev pub IsClosing : List ℕ → Type 0
+IsClosing lines = ((totals : Totals) × (lines ≡ end_line totals)) ⊎ ((at : ℕ) × (count : ℕ) × (totals : Totals) × (lines ≡ cut_line at count ++ end_line totals))
+
+-- a line for each of these frames, and the last lines
+pub record IsReport (frames : List Report) (report : List ℕ) : Type 0 where
+  pub last : List ℕ
+  pub closing : IsClosing last
+  pub lines : report ≡ flat_map frame_line frames ++ last
+
+-- Symbols of the frame that was sent for a data field, which begins at this byte of the stream: as they were sent, or behind a header that
+-- passes there, and scattered about the codeword, or with at most t wrong ones among the first Nbch decided bits.
+abbrev pub IsReadable : Link → Tuning → Bool → ℕ → List ℕ → List Symbol → Type 0
+IsReadable link tuning behind at field symbols =
+    (codeword : List Bool) × (sent : IsCodewordFor link.setup.mode link.rows (header_at link.setup.roll_off at field) field codeword)
+    × (IsClear link tuning behind codeword symbols
+    ⊎ ((length symbols ≡ symbols_in link.setup.mode) × (found_as link.setup.mode tuning.lock behind (take header_symbols symbols) ≡ founds.Coded)
+    × (differences (k_of link.setup.mode) (received_word link.setup.mode (frame_decision link tuning symbols).bits) sent.bch_word ≤ t_of link.setup.mode)))
+
+-- those of consecutive data fields, and dummy frames among them, each whole and behind a header that passes where it stands: right behind
+-- a frame, but for the first
+abbrev pub AreReadable : Link → Tuning → Bool → ℕ → List Piece → List (List ℕ) → Type 0
+AreReadable link tuning behind at [] [] = ⊤
+AreReadable link tuning behind at [] (field ∷ fields) = ⊥
+AreReadable link tuning behind at (coded symbols ∷ pieces) [] = ⊥
+AreReadable link tuning behind at (coded symbols ∷ pieces) (field ∷ fields) =
+    IsReadable link tuning behind at field symbols × AreReadable link tuning true (at + length field) pieces fields
+AreReadable link tuning behind at (dummy symbols ∷ pieces) fields = IsDummy (found_as link.setup.mode tuning.lock) behind symbols × AreReadable link tuning true at pieces fields
+
+-- the first data fields of these packets, and the frames that a transmitter of the link makes of them, as they come
+pub record Arriving (link : Link) (tuning : Tuning) (packets fields later : List (List ℕ)) (pieces : List Piece) : Type 0 where
+  pub each : All IsPacket packets
+  pub bytes : AreBytes (joined packets)
+  pub fields_are : fields ++ later ≡ fields_of (field_bytes link.setup.mode) (stream_of packets)
+  pub frames : AreReadable link tuning false 0 pieces fields
+
+-- these bytes, and others behind them
+abbrev pub BeginsWith : List ℕ → List ℕ → Type 0
+BeginsWith bytes front = (behind : List ℕ) × (bytes ≡ front ++ behind)
+
+-- The headline. Of a stream of symbols, and the packets and the report that were written of it: the report has a line for each of these
+-- frames, in order, and its last lines.
+pub record Headline (link : Link) (tuning : Tuning) (symbols : List Symbol) (packets report : List ℕ) : Type 0 where
+  pub frames : List Report
+  pub lines : IsReport frames report
+  -- The bits of a frame that is called most likely or sole are a codeword, and no codeword costs less under its soft values; where it is
+  -- called sole each other one costs more.
+  pub likely : All (λ frame. IsAsLikely (code_of link.rows) (frame_soft link tuning (frame_from link symbols frame.at)) frame.verdict (decision_from link tuning symbols frame.at).bits) frames
+  -- Where a message is delivered its BCH word differs from the decided bits in just as many places as the line says, at most t; where no
+  -- word is found none lies within t places.
+  pub within : All (λ frame. IsCorrected link.setup.mode (decision_from link tuning symbols frame.at) frame.outcome) frames
+  -- Where the symbols begin with the first frames that a transmitter of the link makes of some packets, as they come, the packets that
+  -- were written begin with just those whose closing CRC-8 lies in their data fields; with all, where these are all fields.
+  pub heard : (sent fields later : List (List ℕ)) (pieces : List Piece) (rest : List Symbol) → Arriving link tuning sent fields later pieces → symbols ≡ stream_symbols pieces ++ rest
+      → BeginsWith packets (joined (take (closed_in (length (joined fields))) sent)) × (later ≡ [] → BeginsWith packets (joined sent))
+
+-- the same of known bytes, and of what writers took
+abbrev pub IsHeadline : Link → Tuning → Option (List ℕ) → (packets_old packets_new report_old report_new : Option (List ℕ)) → Type 0
+IsHeadline link tuning None p p' w w' = ⊤
+IsHeadline link tuning (Some bytes) p p' w w' =
+    (packets : List ℕ) × (report : List ℕ) × Appends p p' packets × Appends w w' report × Headline link tuning (symbols_of bytes) packets report
+
+-- it holds of whoever goes by the link's rules from the beginning to the end
+abbrev pub KeepsHeadline : Link → Tuning → Type 0
+KeepsHeadline link tuning =
+    (limit : ℕ) (state : State) (bytes : List ℕ) (left packets_old packets_new report_old report_new : Option (List ℕ))
+    → RunsOut (link_rules link tuning limit) begun state (Some bytes) left packets_old packets_new report_old report_new
+    → IsHeadline link tuning (Some bytes) packets_old packets_new report_old report_new
