@@ -2,7 +2,6 @@
 use Rattle.std.proofs.Common.{◌≡◌, ℕ, zero, suc, ◌+◌, ◌-◌, ◌<◌, ◌≤◌, Bool, true, false, cond, List, [], ◌∷◌, ◌++◌, All, Option, Some, None, length, take, drop, inl, inr, refl, sym, ap, ◌∙◌, subst, append_assoc, append-nil}
 use Rattle.std.specs.Prelude.{nat_le, nat_lt}
 use Rattle.std.specs.List.{flat_map}
-use Rattle.std.specs.Io.KnownBytes.{Appends}
 use Rattle.std.proofs.lemmas.List.{drop-drop}
 use Rattle.std.proofs.lemmas.List.Elements.{All-nil, All-cons, All-head, All-tail, All-weaker}
 use Rattle.s2_mode.specs.Mode.{Mode, IsMode, HasCodeSizes, symbols_in}
@@ -20,7 +19,6 @@ use Rattle.s2_link.specs.Link.{Link}
 use Rattle.s2_send.specs.Laws.{IsLinkOf}
 use Rattle.s2_receive.specs.declared.stretch.Stretch.{Stretch}
 use Rattle.s2_receive.specs.declared.report.Report.{Report}
-use Rattle.s2_receive.specs.declared.report.Totals.{Totals}
 use Rattle.s2_receive.specs.declared.report.Outcome.{Outcome}
 use Rattle.s2_receive.specs.ReportLines.{frame_line, cut_line, end_line}
 use Rattle.s2_receive.specs.Meeting.{Met, frame, cut, ended, nothing_over, passed, begins, by_found, met_from}
@@ -179,10 +177,10 @@ module _ (m : Mode) (valid : IsMode m) (sizes : HasCodeSizes m) (link : Link) (t
           frames = said.frames;
           lines = said.lines;
           likely = All-weaker (Tells link tuning symbols) likely (λ r h.
-          subst (λ (v : Verdict). IsAsLikely (code_of link.rows) (frame_soft link tuning (frame_from link symbols r.at)) v (decision_from link tuning symbols r.at).bits) (sym h.0)
-          (all_as_likely m valid sizes link tuning linked (frame_from link symbols r.at))) said.frames said.told;
+              subst (λ (v : Verdict). IsAsLikely (code_of link.rows) (frame_soft link tuning (frame_from link symbols r.at)) v (decision_from link tuning symbols r.at).bits) (sym h.0)
+              (all_as_likely m valid sizes link tuning linked (frame_from link symbols r.at))) said.frames said.told;
           within = All-weaker (Tells link tuning symbols) within (λ r h.
-          subst (λ (o : Outcome). IsCorrected link.setup.mode (decision_from link tuning symbols r.at) o) (sym h.1) (all_told m valid sizes link tuning linked (frame_from link symbols r.at)).within) said.frames said.told;
+              subst (λ (o : Outcome). IsCorrected link.setup.mode (decision_from link tuning symbols r.at) o) (sym h.1) (all_told m valid sizes link tuning linked (frame_from link symbols r.at)).within) said.frames said.told;
           heard = heard symbols;
         }
 

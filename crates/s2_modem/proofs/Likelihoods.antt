@@ -1,5 +1,5 @@
 -- The last frame's bits are as likely as its report says, by a certificate.
-use Rattle.std.proofs.Common.{◌≡◌, List, ℤ, Option, Some, None, Bool, refl, sym, ap, subst, ◌∙◌}
+use Rattle.std.proofs.Common.{◌≡◌, List, ℤ, Option, Some, None, Bool, refl, sym, ap, subst}
 use Rattle.s2_mode.specs.Mode.{Mode}
 use Rattle.s2_mode.specs.declared.symbols.Symbol.{Symbol}
 use Rattle.s2_matrix.specs.Code.{code_of}

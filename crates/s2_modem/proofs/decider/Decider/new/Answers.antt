@@ -1,4 +1,4 @@
-use Rattle.std.proofs.Common.{◌≡◌, List, ℕ, None, sym, ap, subst, ◌∙◌}
+use Rattle.std.proofs.Common.{List, ℕ, None, sym, ap, subst, ◌∙◌}
 use Rattle.s2_mode.specs.Mode.{Mode, shape_in}
 use Rattle.s2_check.specs.declared.verdict.Verdict.TheVariants.{Broken}
 use Rattle.s2_receive.specs.declared.parts.Decided.{Decided}
