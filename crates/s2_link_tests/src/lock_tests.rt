@@ -65,21 +65,37 @@ fn three_frames(alloc: Global, wrong: [usize; 3]) -> Result<Sample, Fail> {
 }
 
 /// All three frames, with all packets.
-const ALL_THREE: &str = "frame 1 at 0 sole fixed 0\nframe 2 at 8190 sole fixed 0\nframe 3 at 16380 sole fixed 0\nend frames 3 delivered 3 packets 4 bad 0\n";
+const ALL_THREE: &str =
+    "frame 1 at 0 sole fixed 0\nframe 2 at 8190 sole fixed 0\nframe 3 at 16380 sole fixed 0\nend frames 3 delivered 3 packets 4 bad 0\n";
 
 /// The first alone.
 const FIRST: &str = "frame 1 at 0 sole fixed 0\nend frames 1 delivered 1 packets 1 bad 0\n";
 
 /// The first, and the last by the search.
-const OUTER: &str = "frame 1 at 0 sole fixed 0\nframe 2 at 16380 sole fixed 0\nend frames 2 delivered 2 packets 1 bad 0\n";
+const OUTER: &str =
+    "frame 1 at 0 sole fixed 0\nframe 2 at 16380 sole fixed 0\nend frames 2 delivered 2 packets 1 bad 0\n";
 
 #[test]
 fn finds_headers_right_behind_frames(rt: HostRuntime) -> Result<(), Fail> {
     let packets = four_packets();
     let clean = three_frames(rt.alloc(), [12, 12, 12])?;
-    assert_locked(&rt, rt.alloc(), &clean, 12, ALL_THREE, packets.as_flattened())?;
+    assert_locked(
+        &rt,
+        rt.alloc(),
+        &clean,
+        12,
+        ALL_THREE,
+        packets.as_flattened(),
+    )?;
     let wrong = three_frames(rt.alloc(), [12, 13, 30])?;
-    assert_locked(&rt, rt.alloc(), &wrong, 30, ALL_THREE, packets.as_flattened())?;
+    assert_locked(
+        &rt,
+        rt.alloc(),
+        &wrong,
+        30,
+        ALL_THREE,
+        packets.as_flattened(),
+    )?;
     assert_locked(&rt, rt.alloc(), &wrong, 12, FIRST, &packets[0])?;
     Ok(())
 }
@@ -90,7 +106,14 @@ fn finds_the_header_behind_a_lost_frame_by_the_search(rt: HostRuntime) -> Result
     let packets = four_packets();
     let lost = three_frames(rt.alloc(), [0, 31, 12])?;
     assert_locked(&rt, rt.alloc(), &lost, 30, OUTER, &packets[0])?;
-    assert_locked(&rt, rt.alloc(), &lost, 31, ALL_THREE, packets.as_flattened())?;
+    assert_locked(
+        &rt,
+        rt.alloc(),
+        &lost,
+        31,
+        ALL_THREE,
+        packets.as_flattened(),
+    )?;
     let both = three_frames(rt.alloc(), [0, 31, 13])?;
     assert_locked(&rt, rt.alloc(), &both, 30, FIRST, &packets[0])?;
     Ok(())
@@ -122,7 +145,8 @@ fn with_dummies(alloc: Global, wrong: usize) -> Result<Sample, Fail> {
 #[test]
 fn finds_headers_right_behind_dummy_frames(rt: HostRuntime) -> Result<(), Fail> {
     let packets = two_packets();
-    let both = "frame 1 at 0 sole fixed 0\nframe 2 at 11520 sole fixed 0\nend frames 2 delivered 2 packets 2 bad 0\n";
+    let both =
+        "frame 1 at 0 sole fixed 0\nframe 2 at 11520 sole fixed 0\nend frames 2 delivered 2 packets 2 bad 0\n";
     let sample = with_dummies(rt.alloc(), 30)?;
     assert_locked(&rt, rt.alloc(), &sample, 30, both, packets.as_flattened())?;
     assert_locked(&rt, rt.alloc(), &sample, 29, FIRST, &packets[0])?;

@@ -71,7 +71,12 @@ fn first_found(mode: Mode, symbols: &[Symbol]) -> (Found, usize) {
 }
 
 /// What a header with so many of its symbols negated is right behind a frame, with a lock, and what it is elsewhere.
-fn found_with(rt: &HostRuntime, mode: Mode, wrong: usize, lock: u32) -> Result<Option<(Found, Found)>, Fail> {
+fn found_with(
+    rt: &HostRuntime,
+    mode: Mode,
+    wrong: usize,
+    lock: u32,
+) -> Result<Option<(Found, Found)>, Fail> {
     let frame = negated(rt, mode, wrong)?;
     let mut search = Search::new(mode);
     let mut elsewhere = Found::Nothing;

@@ -1,5 +1,5 @@
 //! A receiver on a made-up link: frames of 100 symbols, whose fields of 100 bytes are zeros.
-ghost use Rattle.std.specs.Prelude.{◌≡◌, ◌≤◌, ◌∷◌, [], min, length, IfOk};
+ghost use Rattle.std.specs.Prelude.{◌≡◌, ◌≤◌, ◌-◌, ◌∷◌, [], min, length, drop, IfOk};
 ghost use Rattle.s2_mode.specs.Symbols.{symbol_at};
 ghost use Rattle.s2_receive.specs.Receiving.{begun};
 ghost use Rattle.s2_link_tests.specs.Toy.{ends_at, last_tells, place_for, decision_for};
@@ -41,7 +41,7 @@ fn ends_at(symbol: Symbol) -> Found
 impl Search for LastSearch {
     ghost finds = { λ _ _. last_tells };
 
-    ghost saw = { λ s seen. (s.count ≡ min (length seen) 90) × (90 ≤ length seen → s.last ≡ last_tells seen) };
+    ghost saw = { λ s seen. (s.count ≡ min (length seen) 90) × (90 ≤ length seen → s.last ≡ last_tells (drop (length seen - 90) seen)) };
 
     fn feed(&mut self, symbol: Symbol) -> Found {
         if self.count < 90 {
@@ -151,9 +151,9 @@ fn toy(alloc: Global, limit: u64) -> Result<Toy, AllocError>
     Receiver::new(
         alloc,
         LastSearch {
-        count: 0,
-        last: Found::Nothing,
-    },
+            count: 0,
+            last: Found::Nothing,
+        },
         decider,
         Letters {},
         100,
