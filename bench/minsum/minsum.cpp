@@ -1,4 +1,5 @@
 // Layered min-sum in lanes, group by group, with the same rule and the same order of layers; times rounds.
+// minsum GROUP GROUPS Q FACTOR ROWS NAME
 #include <algorithm>
 #include <chrono>
 #include <cstdint>
@@ -35,11 +36,18 @@ static void track(i16 *__restrict first, i16 *__restrict second, i16 *__restrict
     }
 }
 
-static void send(i16 *__restrict input, i16 *__restrict message, const i16 *__restrict first, const i16 *__restrict second, const i16 *__restrict signs, int n) {
+// The sizes of messages to those that are not the least, and to those that are, once a check.
+static void reduce(i16 *__restrict low, i16 *__restrict high, const i16 *__restrict first, const i16 *__restrict second, i16 lacks, int n) {
     for (int i = 0; i < n; i++) {
-        i16 v = input[i], size = size_of(v), one = first[i], other = second[i], before = message[i];
-        i16 least = size == one ? other : one;
-        i16 reduced = (i16)(least - (least >> 2));
+        low[i] = (i16)(first[i] - ((i16)(first[i] * lacks) >> 4));
+        high[i] = (i16)(second[i] - ((i16)(second[i] * lacks) >> 4));
+    }
+}
+
+static void send(i16 *__restrict input, i16 *__restrict message, const i16 *__restrict first, const i16 *__restrict low, const i16 *__restrict high, const i16 *__restrict signs, int n) {
+    for (int i = 0; i < n; i++) {
+        i16 v = input[i], size = size_of(v), before = message[i];
+        i16 reduced = size == first[i] ? high[i] : low[i];
         i16 mask = (i16)((i16)(signs[i] ^ v) >> 15);
         i16 sent = (i16)((reduced ^ mask) - mask);
         input[i] = (i16)(sent - before);
@@ -49,11 +57,13 @@ static void send(i16 *__restrict input, i16 *__restrict message, const i16 *__re
 
 struct Decoder {
     int group, groups, q;
+    i16 lacks;
     std::vector<std::vector<Entry>> layers;
-    std::vector<i16> soft, posteriors, messages, inputs, first, second, signs;
+    std::vector<i16> soft, posteriors, messages, inputs, first, second, signs, low, high;
     std::vector<size_t> begins;
 
-    Decoder(int group, int groups, int q, const std::vector<std::vector<int>> &rows) : group(group), groups(groups), q(q), layers(q) {
+    Decoder(int group, int groups, int q, int factor, const std::vector<std::vector<int>> &rows)
+        : group(group), groups(groups), q(q), lacks((i16)(16 - factor)), layers(q) {
         for (int g = 0; g < groups; g++)
             for (int x : rows[g]) layers[x % q].push_back({g, x / q});
         size_t all = 0, most = 0;
@@ -68,7 +78,7 @@ struct Decoder {
         messages.assign(all * group, 0);
         inputs.assign(most * group, 0);
         first.assign(group, 0);
-        second = signs = first;
+        second = signs = low = high = first;
     }
 
     size_t edges() const { return messages.size() - 1; }
@@ -89,7 +99,8 @@ struct Decoder {
         std::fill(second.begin(), second.end(), CAP);
         std::fill(signs.begin(), signs.end(), 0);
         for (int e = 0; e < count; e++) track(first.data(), second.data(), signs.data(), &inputs[(size_t)e * n], n);
-        for (int e = 0; e < count; e++) send(&inputs[(size_t)e * n], sent + (size_t)e * n, first.data(), second.data(), signs.data(), n);
+        reduce(low.data(), high.data(), first.data(), second.data(), lacks, n);
+        for (int e = 0; e < count; e++) send(&inputs[(size_t)e * n], sent + (size_t)e * n, first.data(), low.data(), high.data(), signs.data(), n);
         if (r == 0) inputs[(size_t)(count - 1) * n] = 0;
         for (int e = 0; e < count; e++) {
             i16 *row = &posteriors[(size_t)entries[e].row * n];
@@ -103,9 +114,9 @@ struct Decoder {
 };
 
 int main(int argc, char **argv) {
-    if (argc != 6) return 1;
-    int group = atoi(argv[1]), groups = atoi(argv[2]), q = atoi(argv[3]);
-    std::ifstream in(argv[4]);
+    if (argc != 7) return 1;
+    int group = atoi(argv[1]), groups = atoi(argv[2]), q = atoi(argv[3]), factor = atoi(argv[4]);
+    std::ifstream in(argv[5]);
     std::vector<std::vector<int>> rows;
     for (std::string line; std::getline(in, line);) {
         std::istringstream words(line);
@@ -114,7 +125,7 @@ int main(int argc, char **argv) {
         if (!row.empty()) rows.push_back(row);
     }
     if ((int)rows.size() != groups) return 1;
-    Decoder decoder(group, groups, q, rows);
+    Decoder decoder(group, groups, q, factor, rows);
     uint32_t state = 1;
     // Values as a receiver has them: about 224, some wrong.
     for (int b = 0; b < group * (groups + q); b++) {
@@ -134,5 +145,5 @@ int main(int argc, char **argv) {
     }
     long check = 0;
     for (i16 v : decoder.posteriors) check += v;
-    printf("%s least %.0f mean %.0f posteriors %ld\n", argv[5], least, sum / 200, check);
+    printf("%s_%d least %.0f mean %.0f posteriors %ld\n", argv[6], factor, least, sum / 200, check);
 }

@@ -16,6 +16,6 @@ returns-then-held-size-clause-ends g c = λ err other.
     let all : c.in_ok-full.full ≡ true = search rules in
     let kept = c.in_ok-full.ensures.held in
     let count = c.in_ok-full.ensures.full all in
-    let far : c.args.limit < now.at + size = omega (arith, kept.0, count, long, c.min-wanted.ensures, c.if-held-size.true) in
+    let far : c.args.limit < now.at + size = omega (arith, kept.0, count, long, c.min-wanted.ensures) in
     before_ends finds size c.args.limit (met_with finds old c.args.frame.now r) (met_with finds now c.fill.new.frame r') (c.in_ok-full.ensures.met finds)
     (held_ends finds size c.args.limit now c.fill.new.frame r' long far)
