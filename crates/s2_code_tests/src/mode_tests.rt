@@ -1,8 +1,8 @@
 //! Modes and shapes of the standard, and readers and writers at concrete types.
 use s2_mode::{
-    ByOne, Counted, CountedRead, Counting, Endless, FailAt, FileFault, InMemory, Mode, ReadFault,
-    Shape, StreamFault, Symbol, WriteFault, read_all, read_full, read_symbol, write_full,
-    write_symbol,
+    ByOne, Counted, CountedRead, CountedWrite, Counting, Endless, FailAt, FileFault, InMemory,
+    Mode, ReadFault, Shape, StreamFault, Symbol, WriteFault, read_all, read_full, read_symbol,
+    write_full, write_symbol,
 };
 use std::io::Read;
 use std::test::Fail;
@@ -179,6 +179,18 @@ fn counts_a_write_that_takes_nothing(rt: HostRuntime) {
 }
 
 #[test]
+fn counts_no_empty_write(rt: HostRuntime) {
+    let mut room = [0; 2];
+    let mut writer = Counting::new(room.as_mut_slice());
+    assert_eq!(rt; writer.write(&[]), Ok(0));
+    assert_eq!(rt; writer.write(b"ab"), Ok(2));
+    assert_eq!(rt; writer.write(&[]), Ok(0));
+    assert_eq!(rt; writer.count(), 0);
+    assert_eq!(rt; writer.write(b"c"), Err(WriteFault));
+    assert_eq!(rt; writer.count(), 1);
+}
+
+#[test]
 fn says_what_failed(rt: HostRuntime) -> Result<(), Fail> {
     let texts = [
         (format!(in rt.alloc(); "{}", ReadFault)?, "cannot read"),
@@ -215,6 +227,17 @@ fn reads_from_memory(rt: HostRuntime) -> Result<(), Fail> {
     let mut reader = InMemory::new(b"abc");
     let all = read_all(rt.alloc(), &mut reader, 4)?;
     assert_eq!(rt; all.as_slice(), b"abc".as_slice());
+    Ok(())
+}
+
+/// The most that a command reads of a file.
+const MOST_BYTES: usize = 16_777_216;
+
+#[test]
+fn has_room_for_the_longest_file(rt: HostRuntime) -> Result<(), Fail> {
+    let bytes = vec![in rt.alloc(); b'a'; MOST_BYTES]?;
+    let all = read_all(rt.alloc(), &mut InMemory::new(&bytes), MOST_BYTES)?;
+    assert_eq!(rt; all.len(), MOST_BYTES);
     Ok(())
 }
 

@@ -10,7 +10,8 @@ use s2_bits::Bits;
 use s2_check::{CertView, Certificate, sole};
 use s2_matrix::Matrix;
 use s2_minsum::Decoder;
-use s2_mode::{Counting, Mode};
+use s2_mode::{Counting, Mode, Shape};
+use s2_rows::read_rows;
 use s2_settle::Settler;
 use s2_split::Maker;
 use std::alloc::{AllocError, Global};
@@ -170,5 +171,36 @@ fn certificates_have_room_for_every_code(rt: HostRuntime) -> Result<(), Fail> {
             }
         }
     }
+    Ok(())
+}
+
+/// Asserts that all that is made of a code has room.
+fn assert_all_have_room<R: Abort>(rt: &R, alloc: Global, matrix: &Matrix) -> Result<(), Fail> {
+    assert_have_room(rt, alloc, matrix)?;
+    assert_certificates_have_room(rt, alloc, matrix)
+}
+
+#[test]
+fn have_room_for_the_heaviest_rows(rt: HostRuntime) -> Result<(), Fail> {
+    let mode = Mode::of(11, false, false).ok_or("no mode")?;
+    let matrix = made_matrix(rt.alloc(), mode.shape(), 24)?;
+    assert_all_have_room(&rt, rt.alloc(), &matrix)
+}
+
+/// The rows of a small code behind a comment of so many bytes.
+fn behind_a_comment(alloc: Global, size: usize) -> Result<Vec<u8>, AllocError> {
+    let mut text = vec![in alloc; b'#'; size]?;
+    text.extend_from_slice(b"\n0 4 8\n0 1 2\n")?;
+    Ok(text)
+}
+
+#[test]
+fn rows_have_room_behind_a_long_comment(rt: HostRuntime) -> Result<(), Fail> {
+    let toy = Shape::new(4, 2, 3).ok_or("no shape")?;
+    let text = behind_a_comment(rt.alloc(), 70_000)?;
+    let rows = read_rows(rt.alloc(), &text, toy)?;
+    assert!(rt; rows.shape().groups() == 2);
+    assert_eq!(rt; rows.row(0), [0, 4, 8].as_slice());
+    assert_eq!(rt; rows.row(1), [0, 1, 2].as_slice());
     Ok(())
 }

@@ -339,6 +339,15 @@ fn stops_at_its_limit(rt: HostRuntime) -> Result<(), Fail> {
 }
 
 #[test]
+fn has_room_within_any_limit(rt: HostRuntime) -> Result<(), Fail> {
+    for limit in 0..101u64 {
+        let receiver = toy(rt.alloc(), limit)?;
+        assert_eq!(rt; receiver.totals(), totals(0, 0, 0));
+    }
+    Ok(())
+}
+
+#[test]
 fn tells_a_failed_write(rt: HostRuntime) -> Result<(), Fail> {
     let mut bytes = Vec::new(rt.alloc());
     put_frame(&mut bytes, 1)?;
