@@ -259,6 +259,11 @@ def among_pilots(two, dummies):
         sent(2 * PACKET, "packets 2 frames 2\n", one + dummies[0] + other + dummies[0], f"{words} --dummy 1 made"),
         *(received(one + each + other + each, 0, report, 2 * PACKET, f"{words} made") for each in dummies),
         run(f"{words} --dummy 1 --seed 1 --level 0 made", 0, report, 2 * PACKET),
+        # every word of the command, but that no passes are made of what stays uncertified
+        *(
+            run(f"{words} --ro 2 --dummy 1 --rounds 200 --divisor 65536 --factor 13 --lock 30 {last} --seed 1 --level 0 made", 0, report, 2 * PACKET)
+            for last in ("--passes 96 --tuned --strict --quiet", "--uncertified --tuned --strict --quiet")
+        ),
     ]
 
 
