@@ -15,6 +15,7 @@
 //! ```
 #![tactic(auto)]
 
+mod disk;
 mod opened;
 mod opener;
 mod output;
@@ -22,6 +23,7 @@ mod standard;
 mod target;
 mod uses;
 
+pub use disk::Disk;
 pub use opened::Opened;
 pub use opener::{MOST_FILES, Opener, PlainReader, Reader};
 pub use output::Output;

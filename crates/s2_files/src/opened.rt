@@ -21,6 +21,10 @@ impl<F: OpenFile, S> Opened<F, S> {
 }
 
 impl<F: Read, S: Read> Read for Opened<F, S> {
+    ghost use Rattle.s2_files.specs.Known.{known_of};
+
+    ghost remaining = { known_of F.remaining S.remaining };
+
     fn read(&mut self, buf: &mut [u8]) -> io::Result<usize> {
         match self {
             Opened::File(file) => file.read(buf),
@@ -30,6 +34,10 @@ impl<F: Read, S: Read> Read for Opened<F, S> {
 }
 
 impl<F: Write, S: Write> Write for Opened<F, S> {
+    ghost use Rattle.s2_files.specs.Known.{known_of};
+
+    ghost contents = { known_of F.contents S.contents };
+
     fn write(&mut self, buf: &[u8]) -> io::Result<usize> {
         match self {
             Opened::File(file) => file.write(buf),

@@ -1,21 +1,23 @@
 //! Files opened, each once.
 ghost use Rattle.std.specs.Prelude.{◌≡◌, ◌⊎◌, ◌+◌, ◌<◌, ◌≤◌, [], ◌∷◌, ◌++◌, false, true, IfOk, IfErr, OnErr, OnOk, IsOk, ◌↔◌, length};
+ghost use Rattle.std.specs.Io.Buffered.{reader_remaining};
+ghost use Rattle.s2_files.specs.Known.{known_of};
 ghost use Rattle.s2_files.specs.Names.{NamesStandard};
 ghost use Rattle.s2_files.specs.Uses.{clashes_any, Takes};
 
+use crate::disk::Disk;
 use crate::opened::Opened;
-use crate::standard::{StandardStreams, is_standard, standard_path};
+use crate::standard::{is_standard, standard_path};
 use crate::target::Target;
 use crate::uses::{Node, Role, Use, clashes_any};
 use arrayvec::ArrayVec;
 use s2_console::Fault;
 use s2_mode::Counting;
-use std::fs::{Metadata, OpenFile, OpenOptions};
+use std::fs;
+use std::fs::{Metadata, OpenFile};
 use std::io::BufReader;
 use std::marker::Model;
 use std::os::unix::fs::{FileTypeExt, MetadataExt};
-use std::rt::Files;
-use std::{fs, io};
 
 /// The most files of a command.
 pub const MOST_FILES: usize = 4;
@@ -46,13 +48,6 @@ fn length_of<F: OpenFile>(file: &F) -> Option<u64> {
     }
 }
 
-/// Opens a file that is written, without cutting it; makes it where there is none.
-fn open_whole<R: Files>(rt: &R, name: &str) -> io::Result<R::File> {
-    let mut options = OpenOptions::new();
-    options.write(true).create(true);
-    options.open(rt, name)
-}
-
 /// Opens files, each once. To contracts it is how each file that was opened is used, in order.
 pub struct Opener<'r, R> {
     rt: &'r R,
@@ -79,7 +74,7 @@ impl<'r, R> Model for Opener<'r, R> {
     ghost view = { λ o. o.uses.items };
 }
 
-impl<'r, R: Files + StandardStreams> Opener<'r, R> {
+impl<'r, R: Disk> Opener<'r, R> {
     /// Nothing is open so far.
     pub fn new(rt: &'r R) -> Opener<'r, R>
         ensures { result ≡ [] }
@@ -171,6 +166,7 @@ impl<'r, R: Files + StandardStreams> Opener<'r, R> {
     pub fn read<'a>(&mut self, name: &'a str) -> Result<PlainReader<R::File, R::Input>, Fault<'a>>
         requires room { length self.old < 4 }
         ensures fresh { IfOk result (λ file. file.failed ≡ 0) }
+        ensures holds { IfOk result (λ file. known_of R.File.remaining R.Input.remaining file.inner ≡ R.holds Role.Input name.entry.now) }
         ensures standard { NamesStandard Role.Input name.entry.now → OnOk result (Takes Role.Input true self.old self.new) }
         ensures named { (NamesStandard Role.Input name.entry.now → ⊥) → OnOk result (Takes Role.Input false self.old self.new) }
         ensures kept { OnErr result (self.new ≡ self.old) }
@@ -180,9 +176,9 @@ impl<'r, R: Files + StandardStreams> Opener<'r, R> {
         if is_standard(Role::Input, name) {
             self.take_standard(Role::Input, name)?;
             self.length = None;
-            return Ok(Counting::new(Opened::Standard(self.rt.input())));
+            return Ok(Counting::new(Opened::Standard(self.rt.standard_input())));
         }
-        let Ok(file) = fs::open(self.rt, name) else {
+        let Ok(file) = self.rt.open_input(name) else {
             return Err(Fault::Open(name));
         };
         self.take_file(Role::Input, name, &file)?;
@@ -194,6 +190,7 @@ impl<'r, R: Files + StandardStreams> Opener<'r, R> {
     pub fn write<'a>(&mut self, name: &'a str) -> Result<Target<R::File, R::Output>, Fault<'a>>
         requires room { length self.old < 4 }
         ensures fresh { IfOk result (λ file. file.failed ≡ 0) }
+        ensures holds { IfOk result (λ file. known_of R.File.contents R.Output.contents file.to ≡ R.holds Role.Output name.entry.now) }
         ensures standard { NamesStandard Role.Output name.entry.now → OnOk result (Takes Role.Output true self.old self.new) }
         ensures named { (NamesStandard Role.Output name.entry.now → ⊥) → OnOk result (Takes Role.Output false self.old self.new) }
         ensures kept { OnErr result (self.new ≡ self.old) }
@@ -202,9 +199,9 @@ impl<'r, R: Files + StandardStreams> Opener<'r, R> {
     {
         if is_standard(Role::Output, name) {
             self.take_standard(Role::Output, name)?;
-            return Ok(Target::new(Opened::Standard(self.rt.output()), false));
+            return Ok(Target::new(Opened::Standard(self.rt.standard_output()), false));
         }
-        let Ok(file) = open_whole(self.rt, name) else {
+        let Ok(file) = self.rt.open_output(name) else {
             return Err(Fault::Open(name));
         };
         let holds = self.take_file(Role::Output, name, &file)?;
@@ -212,7 +209,7 @@ impl<'r, R: Files + StandardStreams> Opener<'r, R> {
     }
 }
 
-impl<'r, R: Files + StandardStreams + AllocGlobal> Opener<'r, R> {
+impl<'r, R: Disk + AllocGlobal> Opener<'r, R> {
     /// Opens an input behind a buffer.
     pub fn read_buffered<'a>(
         &mut self,
@@ -220,6 +217,7 @@ impl<'r, R: Files + StandardStreams + AllocGlobal> Opener<'r, R> {
     ) -> Result<Reader<R::File, R::Input>, Fault<'a>>
         requires room { length self.old < 4 }
         ensures fresh { IfOk result (λ file. file.failed ≡ 0) }
+        ensures holds { IfOk result (λ file. reader_remaining (known_of R.File.remaining R.Input.remaining) file.inner ≡ R.holds Role.Input name.entry.now) }
         ensures standard { NamesStandard Role.Input name.entry.now → OnOk result (Takes Role.Input true self.old self.new) }
         ensures named { (NamesStandard Role.Input name.entry.now → ⊥) → OnOk result (Takes Role.Input false self.old self.new) }
         ensures count { OnOk result (length self.new ≡ length self.old + 1) }

@@ -1,5 +1,7 @@
 //! Outputs that are whole until they are begun.
 ghost use Rattle.std.specs.Prelude.{◌≡◌, ◌≢◌, ◌⊎◌, IfOk, IfErr, IsOk};
+ghost use Rattle.std.specs.Io.Buffered.{writer_contents};
+ghost use Rattle.s2_files.specs.Known.{known_of};
 
 use crate::opened::Opened;
 use crate::output::Output;
@@ -24,6 +26,7 @@ impl<F, S> Target<F, S> {
     /// `holds` tells that it is a regular file, which may hold something.
     pub(crate) fn new(to: Opened<F, S>, holds: bool) -> Target<F, S>
         ensures fresh { result.failed ≡ 0 }
+        ensures to { result.to ≡ to }
     {
         Target {
             to,
@@ -37,6 +40,7 @@ impl<F: Write + OpenFile + Drop, S: Write + Drop> Target<F, S> {
     /// Begins it, behind a buffer. Where there is no memory for the buffer, nothing is cut.
     pub fn begin_buffered(self, alloc: Global) -> Result<Writer<F, S>, Fault<'static>>
         ensures fresh { IfOk result (λ writer. writer.failed ≡ 0) }
+        ensures contents { IfOk result (λ writer. writer_contents (known_of F.contents S.contents) writer.inner ≡ known_of F.contents S.contents self.to) }
         ensures fault { IfErr result (λ fault. (fault ≡ Fault.NoMemory) ⊎ (fault ≡ Fault.Write)) }
     {
         let Target {
@@ -63,9 +67,9 @@ impl<F, S> Counted for Target<F, S> {
 }
 
 impl<F: Write, S: Write> CountedWrite for Target<F, S> {
-    ghost use Rattle.std.specs.Prelude.{None};
+    ghost use Rattle.s2_files.specs.Known.{known_of};
 
-    ghost contents = { λ _. None };
+    ghost contents = { λ t. known_of F.contents S.contents t.to };
 
     fn write(&mut self, buf: &[u8]) -> Result<usize, WriteFault> {
         match self.to.write(buf) {

@@ -7,31 +7,23 @@ use Rattle.s2_console.specs.declared.exit.Exit.{Exit}
 use Rattle.s2_console.specs.declared.exit.Exit.TheVariants as exits
 use Rattle.s2_words.specs.declared.request.Request.{Request}
 use Rattle.s2_console.specs.Screens.{Screen}
-use Rattle.s2_tool.specs.Serving.{Answers, Explains, SomeServed}
-
-explained : (kind : ErrorKind) (exit : Exit) (old new : Screen) → Explains kind exit old new → new.output ≡ old.output
-explained kind exit old new (inl (out, fault, output, failed, told)) = output
-explained kind exit old new (inr (other, ends, same)) = ap (λ s. s.output) same
-
--- some request was served, or the output is as it was
-pub some_served : (asked : Result Request Error) (input : Option (List ℕ)) (exit : Exit) (old new : Screen) → Answers asked input exit old new → SomeServed input exit old new
-some_served (Ok request) input exit old new h = inr (request, h)
-some_served (Err error) input exit old new h = inl (explained (kind_of error) exit old new h)
+use Rattle.s2_files.specs.Known.{Holdings}
+use Rattle.s2_tool.specs.Serving.{Answers, Explains}
 
 explained_whole : (kind : ErrorKind) (exit : Exit) (old new : Screen) → Explains kind exit old new → exit ≢ exits.Fault → new.output_failed ≡ old.output_failed
 explained_whole kind exit old new (inl (out, fault, output, failed, told)) fine = failed
 explained_whole kind exit old new (inr (other, ends, same)) fine = ap (λ s. s.output_failed) same
 
 -- the output failed only where a fault is told
-pub is_whole : (asked : Result Request Error) (input : Option (List ℕ)) (exit : Exit) (old new : Screen) → Answers asked input exit old new → exit ≢ exits.Fault → new.output_failed ≡ old.output_failed
-is_whole (Ok request) input exit old new h fine = h.whole fine
-is_whole (Err error) input exit old new h fine = explained_whole (kind_of error) exit old new h fine
+pub is_whole : (holds : Holdings) (asked : Result Request Error) (input : Option (List ℕ)) (exit : Exit) (old new : Screen) → Answers holds asked input exit old new → exit ≢ exits.Fault → new.output_failed ≡ old.output_failed
+is_whole holds (Ok request) input exit old new h fine = h.whole fine
+is_whole holds (Err error) input exit old new h fine = explained_whole (kind_of error) exit old new h fine
 
 explained_quiet : (kind : ErrorKind) (exit : Exit) (old new : Screen) → Explains kind exit old new → exit ≢ exits.Fault → new.errors_failed ≡ old.errors_failed
 explained_quiet kind exit old new (inl (out, fault, output, failed, told)) fine = absurd (fine fault)
 explained_quiet kind exit old new (inr (other, ends, same)) fine = ap (λ s. s.errors_failed) same
 
 -- nor did the errors
-pub is_quiet : (asked : Result Request Error) (input : Option (List ℕ)) (exit : Exit) (old new : Screen) → Answers asked input exit old new → exit ≢ exits.Fault → new.errors_failed ≡ old.errors_failed
-is_quiet (Ok request) input exit old new h fine = h.quiet fine
-is_quiet (Err error) input exit old new h fine = explained_quiet (kind_of error) exit old new h fine
+pub is_quiet : (holds : Holdings) (asked : Result Request Error) (input : Option (List ℕ)) (exit : Exit) (old new : Screen) → Answers holds asked input exit old new → exit ≢ exits.Fault → new.errors_failed ≡ old.errors_failed
+is_quiet holds (Ok request) input exit old new h fine = h.quiet fine
+is_quiet holds (Err error) input exit old new h fine = explained_quiet (kind_of error) exit old new h fine

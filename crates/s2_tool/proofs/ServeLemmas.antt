@@ -1,87 +1,61 @@
 -- What is reported of a request.
-use Rattle.std.proofs.Common.{◌≡◌, ◌≢◌, ℕ, List, ◌∷◌, Option, None, Result, Ok, Err, ◌∙◌, sym, subst, refl, ap, inl, inr, true, false, [], Bool}
-use Rattle.std.specs.Prelude.{◌⊎◌, ⊤, if◌then◌else◌}
-use Rattle.std.specs.Borrow.{Bor}
-use Rattle.s2_mode.specs.Mode.{Mode}
+use Rattle.std.proofs.Common.{◌≡◌, ◌≢◌, ◌↔◌, ℕ, List, ◌∷◌, Option, None, Result, Ok, Err, ◌∙◌, sym, subst, refl, ap, inl, inr, []}
+use Rattle.std.specs.Prelude.{⊤, ◌⊎◌, IsSome, IsOk, IfOk, IfErr}
+use Rattle.s2_mode.specs.Shape.{Shape}
+use Rattle.s2_files.specs.Known.{Holdings}
+use Rattle.s2_files.specs.declared.uses.Role.TheVariants as roles
+use Rattle.s2_evidence.specs.Files.{JudgeFiles}
+use Rattle.s2_evidence.specs.Inputs.{AreInputs}
+use Rattle.s2_evidence.specs.Judging.{IsJudged}
+use Rattle.s2_evidence.specs.Certifying.{Certifies}
 use Rattle.s2_link.specs.declared.setup.Setup.{Setup}
 use Rattle.s2_console.specs.declared.exit.Exit.{Exit}
 use Rattle.s2_console.specs.declared.fault.Fault.{Fault}
-use Rattle.s2_console.specs.Screens.{Screen, screen_of, report_in, SameBeside}
-use Rattle.s2_console.specs.Exits.{exit_of, Complains}
+use Rattle.s2_console.specs.declared.fault.Fault.TheVariants as faults
+use Rattle.s2_console.specs.Screens.{Screen, screen_of, report_in, report_failed, SameBeside}
+use Rattle.s2_console.specs.Exits.{exit_of, CommandRuns, Complains}
 use Rattle.s2_console.specs.Notes.{Remarks}
 use Rattle.s2_console.specs.declared.exit.Exit.TheVariants as exits
 use Rattle.s2_console.specs.declared.place.Place.{Place}
 use Rattle.s2_console.specs.declared.place.Place.TheVariants as places
 use Rattle.s2_words.specs.declared.request.Request.{Request}
 use Rattle.s2_words.specs.declared.request.Request.TheVariants as requests
-use Rattle.s2_words.specs.declared.request.LinkWords.{LinkWords}
+use Rattle.s2_words.specs.declared.request.JudgeWords.{JudgeWords}
 use Rattle.s2_words.specs.declared.request.NoteWords.{NoteWords}
+use Rattle.s2_words.specs.declared.request.NoiseWords.{NoiseWords}
+use Rattle.s2_words.specs.declared.request.ChannelWords.{ChannelWords}
+use Rattle.s2_tool.specs.Spoiling.{piped, Spoils}
 use Rattle.s2_mode.specs.Streams.{Streams}
 use Rattle.s2_receive.specs.declared.report.Received.{Received}
 use Rattle.s2_tool.specs.Losses.{Answered}
-use Rattle.s2_tool.specs.Links.{Deed, OnLink, CannotOpen}
-use Rattle.s2_table.specs.Wanted.{fault_note}
-use Rattle.s2_tool.specs.Serving.{Reports, Receipts, Began, Served, Serves, IsPlaced, asked_setup, no_mode}
-
--- a file that could not be opened has no note
-cannot_open : (m : Mode) (name : Bor (List ℕ)) (f : Fault) → CannotOpen name f → fault_note m f ≡ []
-cannot_open m name f (inl is) = ap (fault_note m) is
-cannot_open m name f (inr (inl is)) = ap (fault_note m) is
-cannot_open m name f (inr (inr is)) = ap (fault_note m) is
-
-none_opened : (m : Mode) (rows from to : Bor (List ℕ)) (f : Fault) → CannotOpen rows f ⊎ (CannotOpen from f ⊎ CannotOpen to f) → fault_note m f ≡ []
-none_opened m rows from to f (inl h) = cannot_open m rows f h
-none_opened m rows from to f (inr (inl h)) = cannot_open m from f h
-none_opened m rows from to f (inr (inr h)) = cannot_open m to f h
-
-unnoted : (quiet : Bool) (notes : List ℕ) → notes ≡ [] → [] ≡ (if quiet then [] else notes)
-unnoted true notes e = refl
-unnoted false notes e = sym e
-
-pub unopened : (quiet : Bool) (m : Mode) (rows from to : Bor (List ℕ)) (f : Fault) → CannotOpen rows f ⊎ (CannotOpen from f ⊎ CannotOpen to f) → [] ≡ (if quiet then [] else fault_note m f)
-unopened quiet m rows from to f h = unnoted quiet (fault_note m f) (none_opened m rows from to f h)
-
-pub no_mode_noted : (quiet : Bool) (m : Mode) → [] ≡ (if quiet then [] else fault_note m no_mode)
-no_mode_noted quiet m = unnoted quiet (fault_note m no_mode) refl
-
--- of a command that could not be begun
-pub unbegun : {T : Type 0} (Does : Deed T) (setup : Setup) (f : Fault) (out : Option (List ℕ)) → Reports Does setup (Err f) out out
-unbegun {T} Does setup f out =
-    record {
-      link = Err f;
-      before = record { taken = None; given = None; out = out; reads = 0; writes = 0 };
-      behind = record { taken = None; given = None; out = out; reads = 1; writes = 0 };
-      setup_kept = tt;
-      does = (refl, λ e. refl, refl, refl, refl);
-      out = refl;
-      out_new = refl;
-    }
+use Rattle.s2_tool.specs.Links.{Ends, Deed, OnLink, streams_at}
+use Rattle.s2_tool.specs.Serving.{Reports, Receipts, Judges, Channels, Began, Served, Serves, IsPlaced, asked_shape}
 
 -- what a command of files says does not ask for standard input
-filed : (request : Request) (input : Option (List ℕ)) (notes : List ℕ) (ended : Result Exit Fault) (old new : Option (List ℕ)) → request ≢ requests.Own
-    → Serves request None notes ended old new → Serves request input notes ended old new
-filed requests.Own input notes ended old new other h = absurd (other refl)
-filed (requests.Modes words) input notes ended old new other h = h
-filed (requests.Rows words) input notes ended old new other h = h
-filed (requests.Table words) input notes ended old new other h = h
-filed (requests.Judge words) input notes ended old new other h = h
-filed (requests.Check words) input notes ended old new other h = h
-filed (requests.Mod words) input notes ended old new other h = h
-filed (requests.Noise words) input notes ended old new other h = h
-filed (requests.Demod words) input notes ended old new other h = h
-filed (requests.Run words) input notes ended old new other h = h
+filed : (holds : Holdings) (request : Request) (input : Option (List ℕ)) (notes : List ℕ) (ended : Result Exit Fault) (old new : Option (List ℕ)) → request ≢ requests.Own
+    → Serves holds request None notes ended old new → Serves holds request input notes ended old new
+filed holds requests.Own input notes ended old new other h = absurd (other refl)
+filed holds (requests.Modes words) input notes ended old new other h = h
+filed holds (requests.Rows words) input notes ended old new other h = h
+filed holds (requests.Table words) input notes ended old new other h = h
+filed holds (requests.Judge words) input notes ended old new other h = h
+filed holds (requests.Check words) input notes ended old new other h = h
+filed holds (requests.Mod words) input notes ended old new other h = h
+filed holds (requests.Noise words) input notes ended old new other h = h
+filed holds (requests.Demod words) input notes ended old new other h = h
+filed holds (requests.Run words) input notes ended old new other h = h
 
 -- what a command did on the files that it was asked for serves the request
-pub served_filed : (request asked : Request) (input : Option (List ℕ)) (begun made : Result Exit Fault) (exit : Exit) (old new shown : Screen)
-    → asked ≢ requests.Own → request ≡ asked → begun ≡ made → begun ≡ Ok exit → shown ≡ new → Began asked None made old new → Served request input exit old shown
-served_filed request asked input begun made exit old new shown other is_asked is ended shows h =
-    let P : Result Exit Fault → Type 0 = λ r. Began asked None r old new in
-    let Q : Request → Type 0 = λ r. Served r input exit old shown in
-    let R : Screen → Type 0 = λ s. Served asked input exit old s in
-    let s : Served asked None exit old new = subst P (sym is ∙ ended) h in
+pub served_filed : (holds : Holdings) (request asked : Request) (input : Option (List ℕ)) (begun made : Result Exit Fault) (exit : Exit) (old new shown : Screen)
+    → asked ≢ requests.Own → request ≡ asked → begun ≡ made → begun ≡ Ok exit → shown ≡ new → Began holds asked None made old new → Served holds request input exit old shown
+served_filed holds request asked input begun made exit old new shown other is_asked is ended shows h =
+    let P : Result Exit Fault → Type 0 = λ r. Began holds asked None r old new in
+    let Q : Request → Type 0 = λ r. Served holds r input exit old shown in
+    let R : Screen → Type 0 = λ s. Served holds asked input exit old s in
+    let s : Served holds asked None exit old new = subst P (sym is ∙ ended) h in
     subst Q (sym is_asked)
     (subst R (sym shows)
-    (record { ended = s.ended; notes = s.notes; place = s.place; shown = s.shown; placed = s.placed; exit_is = s.exit_is; prints = filed asked input s.notes s.ended (report_in s.place old) (report_in s.place s.shown) other s.prints; concludes = s.concludes; whole = s.whole; quiet = s.quiet }))
+    (record { ended = s.ended; notes = s.notes; place = s.place; shown = s.shown; placed = s.placed; exit_is = s.exit_is; prints = filed holds asked input s.notes s.ended (report_in s.place old) (report_in s.place s.shown) other s.prints; concludes = s.concludes; whole = s.whole; quiet = s.quiet }))
 
 -- what is told on the errors, whatever stands in the output
 told_beside : (notes : List ℕ) (ended : Result Exit Fault) (out : Option (List ℕ)) (failed : ℕ) (old new : Screen)
@@ -92,10 +66,10 @@ told_beside (byte ∷ notes) (Ok exit) out failed old new h = h
 told_beside (byte ∷ notes) (Err f) out failed old new h = h
 
 -- a command that reports on the output
-pub served_plainly : (request : Request) (input : Option (List ℕ)) (notes : List ℕ) (ended : Result Exit Fault) (exit : Exit) (old new : Screen)
-    → IsPlaced request places.Output → exit ≡ exit_of ended → Serves request input notes ended old.output new.output → Remarks notes ended old new
-    → (exit ≢ exits.Fault → new.output_failed ≡ old.output_failed) → (exit ≢ exits.Fault → new.errors_failed ≡ old.errors_failed) → Served request input exit old new
-served_plainly request input notes ended exit old new placed is prints told whole quiet =
+pub served_plainly : (holds : Holdings) (request : Request) (input : Option (List ℕ)) (notes : List ℕ) (ended : Result Exit Fault) (exit : Exit) (old new : Screen)
+    → IsPlaced request places.Output → exit ≡ exit_of ended → Serves holds request input notes ended old.output new.output → Remarks notes ended old new
+    → (exit ≢ exits.Fault → new.output_failed ≡ old.output_failed) → (exit ≢ exits.Fault → new.errors_failed ≡ old.errors_failed) → Served holds request input exit old new
+served_plainly holds request input notes ended exit old new placed is prints told whole quiet =
     record {
       ended = ended;
       notes = notes;
@@ -109,31 +83,41 @@ served_plainly request input notes ended exit old new placed is prints told whol
       quiet = quiet;
     }
 
--- what a command said on a link of the setup that was asked for
-pub reports : {T : Type 0} (Does : Deed T) (setup asked : Setup) (rows : Option (List ℕ)) (old new : Streams) (ended : Result T Fault) → setup ≡ asked
-    → OnLink Does setup rows old new ended → Reports Does asked ended old.out new.out
-reports {T} Does setup asked rows old new ended is h =
-    let P : Setup → Type 0 = λ s. Reports Does s ended old.out new.out in
-    subst P is (record { link = h.link; before = old; behind = new; setup_kept = h.setup_kept; does = h.does; out = refl; out_new = refl })
+-- what a command said on a link of the setup and the files that were asked for
+pub reports : {T : Type 0} (Does : Deed T) (setup asked : Setup) (files opened : Ends) (place : Place) (old : Screen) (behind : Streams) (ended : Result T Fault) → setup ≡ asked → files ≡ opened
+    → OnLink Does setup files.rows (streams_at place files old) behind ended → Reports Does asked opened ended (report_in place old) behind.out
+reports {T} Does setup asked files opened place old behind ended is opens h =
+    let P : Setup → Type 0 = λ s. Reports Does s opened ended (report_in place old) behind.out in
+    let Q : Ends → Type 0 = λ e. OnLink Does setup e.rows (streams_at place e old) behind ended in
+    subst P is (report_failed place old, behind, subst Q opens h, refl)
 
 -- and where it received, its notes
-pub receipts : (words : NoteWords) (link : LinkWords) (Does : Deed Received) (setup : Setup) (rows : Option (List ℕ)) (old new : Streams) (heard : Result Received Fault) (ended : Result Exit Fault) (notes : List ℕ)
-    → setup ≡ asked_setup link → OnLink Does setup rows old new heard → Answered words setup.mode heard ended notes → Receipts words link Does notes ended old.out new.out
-receipts words link Does setup rows old new heard ended notes is h answers =
+pub receipts : (words : NoteWords) (Does : Deed Received) (setup asked : Setup) (files opened : Ends) (place : Place) (old : Screen) (behind : Streams) (heard : Result Received Fault) (ended : Result Exit Fault) (notes : List ℕ)
+    → setup ≡ asked → files ≡ opened → OnLink Does setup files.rows (streams_at place files old) behind heard → Answered words setup.mode heard ended notes
+    → Receipts words asked opened Does notes ended (report_in place old) behind.out
+receipts words Does setup asked files opened place old behind heard ended notes is opens h answers =
     let P : Setup → Type 0 = λ s. Answered words s.mode heard ended notes in
-    (heard, reports Does setup (asked_setup link) rows old new heard is h, subst P is answers)
+    (heard, reports Does setup asked files opened place old behind heard is opens h, subst P is answers)
+
+-- a verdict on the files that were asked for
+pub judges : (words : JudgeWords) (shape : Shape) (files opened behind : JudgeFiles) (ended : Result Exit Fault) (old new : Option (List ℕ)) → shape ≡ asked_shape words.shape → files ≡ opened
+    → CommandRuns (IsJudged words.tuning) (AreInputs shape files.rows files.soft) ended old new
+    → Certifies words.tuning (AreInputs shape files.rows files.soft) ended files.certificate behind.certificate → Judges words opened ended old new
+judges words shape files opened behind ended old new is opens runs certifies =
+    let P : Shape → JudgeFiles → Type 0 = λ s f. CommandRuns (IsJudged words.tuning) (AreInputs s f.rows f.soft) ended old new × Certifies words.tuning (AreInputs s f.rows f.soft) ended f.certificate behind.certificate in
+    (behind, subst (P (asked_shape words.shape)) opens (subst (λ s. P s files) is (runs, certifies)))
 
 -- a command that is begun at once, and ends
-abbrev done : Request → Option (List ℕ) → Result Exit Fault → Screen → Screen → Type 0
-done request input (Ok exit) old new = Served request input exit old new
-done request input (Err f) old new = ⊤
+abbrev done : Holdings → Request → Option (List ℕ) → Result Exit Fault → Screen → Screen → Type 0
+done holds request input (Ok exit) old new = Served holds request input exit old new
+done holds request input (Err f) old new = ⊤
 
-pub served_at_once : (request asked : Request) (input : Option (List ℕ)) (begun : Result Exit Fault) (made exit : Exit) (old new shown : Screen)
-    → request ≡ asked → begun ≡ Ok made → begun ≡ Ok exit → shown ≡ new → Served asked input made old new → Served request input exit old shown
-served_at_once request asked input begun made exit old new shown is_asked is ended shows h =
-    let P : Result Exit Fault → Type 0 = λ r. done asked input r old new in
-    let Q : Request → Type 0 = λ r. Served r input exit old shown in
-    let R : Screen → Type 0 = λ s. Served asked input exit old s in
+pub served_at_once : (holds : Holdings) (request asked : Request) (input : Option (List ℕ)) (begun : Result Exit Fault) (made exit : Exit) (old new shown : Screen)
+    → request ≡ asked → begun ≡ Ok made → begun ≡ Ok exit → shown ≡ new → Served holds asked input made old new → Served holds request input exit old shown
+served_at_once holds request asked input begun made exit old new shown is_asked is ended shows h =
+    let P : Result Exit Fault → Type 0 = λ r. done holds asked input r old new in
+    let Q : Request → Type 0 = λ r. Served holds r input exit old shown in
+    let R : Screen → Type 0 = λ s. Served holds asked input exit old s in
     subst Q (sym is_asked) (subst R (sym shows) (subst P (sym is ∙ ended) h))
 
 -- it is always begun
@@ -148,15 +132,15 @@ same_beside : (place : Place) (s : Screen) → SameBeside place s s
 same_beside places.Output s = (refl, refl)
 same_beside places.Errors s = (refl, refl)
 
-pub served_unbegun : (request asked : Request) (input : Option (List ℕ)) (begun made : Result Exit Fault) (f : Fault) (exit : Exit) (old mid console new : Screen)
-    → asked ≢ requests.Own → request ≡ asked → begun ≡ made → begun ≡ Err f → console ≡ mid → Began asked None made old mid
-    → exit ≡ exits.Fault → new.output ≡ console.output → new.output_failed ≡ console.output_failed → Complains (Err f) console new → Served request input exit old new
-served_unbegun request asked input begun made f exit old mid console new other is_asked is failed shows h fault out out_failed told =
-    let P : Result Exit Fault → Type 0 = λ r. Began asked None r old mid in
-    let none : Began asked None (Err f) old mid = subst P (sym is ∙ failed) h in
+pub served_unbegun : (holds : Holdings) (request asked : Request) (input : Option (List ℕ)) (begun made : Result Exit Fault) (f : Fault) (exit : Exit) (old mid console new : Screen)
+    → asked ≢ requests.Own → request ≡ asked → begun ≡ made → begun ≡ Err f → console ≡ mid → Began holds asked None made old mid
+    → exit ≡ exits.Fault → new.output ≡ console.output → new.output_failed ≡ console.output_failed → Complains (Err f) console new → Served holds request input exit old new
+served_unbegun holds request asked input begun made f exit old mid console new other is_asked is failed shows h fault out out_failed told =
+    let P : Result Exit Fault → Type 0 = λ r. Began holds asked None r old mid in
+    let none : Began holds asked None (Err f) old mid = subst P (sym is ∙ failed) h in
     let C : Screen → Type 0 = λ s. (new.output ≡ s.output) × (new.output_failed ≡ s.output_failed) × Complains (Err f) s new in
     let behind : C old = subst C (shows ∙ none.1) (out, out_failed, told) in
-    let Q : Request → Type 0 = λ r. Served r input exit old new in
+    let Q : Request → Type 0 = λ r. Served holds r input exit old new in
     subst Q (sym is_asked)
     (record {
       ended = Err f;
@@ -165,8 +149,78 @@ served_unbegun request asked input begun made f exit old mid console new other i
       shown = old;
       placed = none.0.1;
       exit_is = fault;
-      prints = filed asked input [] (Err f) (report_in none.0.0 old) (report_in none.0.0 old) other none.0.2;
+      prints = filed holds asked input [] (Err f) (report_in none.0.0 old) (report_in none.0.0 old) other none.0.2;
       concludes = (same_beside none.0.0 old, behind.0, behind.1, behind.2);
       whole = λ fine. absurd (fine fault);
       quiet = λ fine. absurd (fine fault);
     })
+
+-- a command that could not be begun
+pub not_begun : (holds : Holdings) (request : Request) (place : Place) (f : Fault) (old : Screen) → IsPlaced request place
+    → Serves holds request None [] (Err f) (report_in place old) (report_in place old) → Began holds request None (Err f) old old
+not_begun holds request place f old placed serves = ((place, placed, serves), refl)
+
+-- what is not there, and is there exactly where something holds
+none_there : {T : Type 0} → IsSome {T = T} None → ⊥
+none_there e = cc
+
+pub not_some : {T P : Type 0} → (o : Option T) → o ≡ None → (IsSome o ↔ P) → P → ⊥
+not_some {T} {P} o none found p =
+    let Q : Option T → Type 0 = λ x. IsSome x in
+    none_there (subst Q none (found.1 p))
+
+-- ---- noise
+
+same_screen : (old new : Screen) → new.output ≡ old.output → new.output_failed ≡ old.output_failed → new.errors ≡ old.errors → new.errors_failed ≡ old.errors_failed → new ≡ old
+same_screen old new output output_failed errors errors_failed =
+    let is : screen_of new.output new.output_failed new.errors new.errors_failed ≡ screen_of old.output old.output_failed old.errors old.errors_failed = rw (output, output_failed, errors, errors_failed) refl in
+    is
+
+-- what ended well
+not_fine : exits.Fault ≡ exits.Fine → ⊥
+not_fine e = cc
+
+ok_of : Exit → Result Exit Fault
+ok_of exit = Ok exit
+
+err_of : Fault → Result Exit Fault
+err_of f = Err f
+
+ended_well : (spoilt : Result Exit Fault) → exit_of spoilt ≡ exits.Fine → spoilt ≡ Ok exits.Fine
+ended_well (Ok exit) e = ap ok_of e
+ended_well (Err f) e = absurd (not_fine e)
+
+-- only behind a command that ended well a fault is told of what its buffer still held
+not_ok : (f : Fault) → IsOk {T = Exit} {E = Fault} (Err f) → ⊥
+not_ok f e = cc
+
+fine_where_refused : (exit : Exit) (f : Fault) → (exit ≢ exits.Fine → IsOk {T = Exit} {E = Fault} (Err f)) → exit ≡ exits.Fine
+fine_where_refused exits.Fine f told = refl
+fine_where_refused exits.Fault f told = absurd (not_ok f (told (λ e. cc)))
+fine_where_refused exits.No f told = absurd (not_ok f (told (λ e. cc)))
+
+channelled : (channel : ChannelWords) (taken given from to : Option (List ℕ)) (reads writes : ℕ) (behind : Streams) (spoilt ended : Result Exit Fault)
+    → taken ≡ from → given ≡ to → reads ≡ 0 → writes ≡ 0 → Spoils channel (piped taken given reads writes) behind spoilt
+    → ((ended ≡ spoilt) ⊎ ((spoilt ≡ Ok exits.Fine) × (ended ≡ Err faults.Write))) → Channels channel from to ended
+channelled channel taken given from to reads writes behind spoilt ended is_taken is_given none_read none_written h ends =
+    let P : Streams → Type 0 = λ s. Spoils channel s behind spoilt in
+    let same : piped taken given reads writes ≡ piped from to 0 0 = rw (is_taken, is_given, none_read, none_written) refl in
+    (spoilt, behind, subst P same h, ends)
+
+pub spoilt_served : (holds : Holdings) (words : NoiseWords) (taken given : Option (List ℕ)) (reads writes : ℕ) (behind : Streams) (spoilt : Result Exit Fault) (exit : Exit) (result : Result Exit Fault) (old new : Screen)
+    → taken ≡ holds roles.Input words.from.now → given ≡ holds roles.Output words.to.now → reads ≡ 0 → writes ≡ 0
+    → Spoils words.channel (piped taken given reads writes) behind spoilt → exit ≡ exit_of spoilt → Complains spoilt old new
+    → new.output ≡ old.output → new.output_failed ≡ old.output_failed → (exit ≢ exits.Fault → new.errors_failed ≡ old.errors_failed)
+    → IfOk result (λ ended. ended ≡ exit) → IfErr result (λ f. f ≡ faults.Write) → (exit ≢ exits.Fine → IsOk result) → Began holds (requests.Noise words) None result old new
+spoilt_served holds words taken given reads writes behind spoilt exit (Ok ended) old new is_taken is_given none_read none_written h is told output output_failed quiet same fault refused =
+    let P : Exit → Type 0 = λ e. Served holds (requests.Noise words) None e old new in
+    subst P (sym same)
+    (served_plainly holds (requests.Noise words) None [] spoilt exit old new refl is
+    (refl, output, inl (channelled words.channel taken given _ _ reads writes behind spoilt spoilt is_taken is_given none_read none_written h (inl refl))) told (λ e. output_failed) quiet)
+spoilt_served holds words taken given reads writes behind spoilt exit (Err f) old new is_taken is_given none_read none_written h is told output output_failed quiet same fault refused =
+    let fine : exit ≡ exits.Fine = fine_where_refused exit f refused in
+    let well : spoilt ≡ Ok exits.Fine = ended_well spoilt (sym is ∙ fine) in
+    let C : Result Exit Fault → Type 0 = λ r. Complains r old new in
+    let silent : C (Ok exits.Fine) = subst C well told in
+    ((places.Output, refl, (refl, refl, inl (channelled words.channel taken given _ _ reads writes behind spoilt (Err f) is_taken is_given none_read none_written h (inr (well, ap err_of fault)))))
+    , same_screen old new output output_failed silent.1 silent.0)

@@ -14,6 +14,8 @@ use Rattle.s2_console.specs.Exits.{Follows}
 use Rattle.s2_console.specs.Screens.{Screen, report_in, report_failed}
 use Rattle.s2_console.specs.declared.place.Place.{Place}
 use Rattle.s2_evidence.specs.Inputs.{rows_in}
+use Rattle.s2_files.specs.Known.{Holdings}
+use Rattle.s2_files.specs.declared.uses.Role.TheVariants as roles
 
 -- ---- the files
 
@@ -30,6 +32,11 @@ pub record Ends : Type 0 where
 -- no call has failed so far
 abbrev pub NoneFailed : Ends → Type 0
 NoneFailed ends = (ends.rows_failed ≡ 0) × (ends.taken_failed ≡ 0) × (ends.given_failed ≡ 0)
+
+-- the files of these names when they are opened: a row file, one that is read behind it, and one that is written
+abbrev pub ends_of : Holdings → Bor (List ℕ) → Bor (List ℕ) → Bor (List ℕ) → Ends
+ends_of holds rows from to =
+    record { rows = holds roles.Input rows.now; taken = holds roles.Input from.now; given = holds roles.Output to.now; rows_failed = 0; taken_failed = 0; given_failed = 0 }
 
 -- one more failed call of each can be counted
 abbrev pub CanFail : Ends → Type 0
@@ -53,6 +60,10 @@ Causes old new ended =
 -- why a file of this name could not be opened
 abbrev pub CannotOpen : Bor (List ℕ) → Fault → Type 0
 CannotOpen name fault = (fault ≡ faults.Open name) ⊎ ((fault ≡ faults.UsedTwice name) ⊎ (fault ≡ faults.NoMemory))
+
+-- why one of three files could not be opened
+abbrev pub CannotOpenOne : Bor (List ℕ) → Bor (List ℕ) → Bor (List ℕ) → Fault → Type 0
+CannotOpenOne first second third fault = CannotOpen first fault ⊎ (CannotOpen second fault ⊎ CannotOpen third fault)
 
 -- ---- the link
 

@@ -1,14 +1,13 @@
 -- What the program prints for a request.
-use Rattle.std.specs.Prelude.{◌≡◌, ◌≢◌, ℕ, false, List, [], Option, Some, None, Result, Ok, Err, IfOk, codes, ⊤, ◌⊎◌, ◌↔◌}
+use Rattle.std.specs.Prelude.{◌≡◌, ◌≢◌, ℕ, false, List, [], Option, Some, None, Result, Ok, Err, codes, ◌⊎◌, ◌↔◌}
 use Rattle.std.specs.Borrow.{Bor}
 use Rattle.clap.specs.Words.{kind_of}
 use Rattle.clap.specs.declared.error.Error.{Error}
 use Rattle.clap.specs.declared.error.kind.ErrorKind.{ErrorKind}
 use Rattle.clap.specs.declared.error.kind.ErrorKind.TheVariants as kinds
-use Rattle.s2_mode.specs.Mode.{mode_of}
+use Rattle.s2_mode.specs.Mode.{Mode, IsMode, mode_of, shape_in}
 use Rattle.s2_mode.specs.Shape.{IsShape, Shape, shape_of}
 use Rattle.s2_mode.specs.Streams.{Streams}
-use Rattle.s2_link.specs.Link.{Link}
 use Rattle.s2_link.specs.declared.setup.Setup.{Setup}
 use Rattle.s2_console.specs.declared.exit.Exit.{Exit}
 use Rattle.s2_console.specs.declared.exit.Exit.TheVariants as exits
@@ -19,24 +18,33 @@ use Rattle.s2_console.specs.Notes.{Concludes}
 use Rattle.s2_console.specs.Screens.{Screen, report_in}
 use Rattle.s2_console.specs.declared.place.Place.{Place}
 use Rattle.s2_console.specs.declared.place.Place.TheVariants as places
+use Rattle.s2_files.specs.Known.{Holdings}
 use Rattle.s2_files.specs.Names.{NamesStandard}
 use Rattle.s2_files.specs.declared.uses.Role.TheVariants as roles
 use Rattle.s2_modes.specs.ModeLines.{IsListed, IsAsked}
 use Rattle.s2_words.specs.declared.request.Request.{Request}
 use Rattle.s2_words.specs.declared.request.Request.TheVariants as requests
 use Rattle.s2_words.specs.declared.request.LinkWords.{LinkWords}
+use Rattle.s2_words.specs.declared.request.TableWords.{TableWords}
+use Rattle.s2_words.specs.declared.request.JudgeWords.{JudgeWords}
+use Rattle.s2_words.specs.declared.request.CheckWords.{CheckWords}
+use Rattle.s2_words.specs.declared.request.NoiseWords.{NoiseWords}
+use Rattle.s2_words.specs.declared.request.ChannelWords.{ChannelWords}
 use Rattle.s2_words.specs.declared.request.NoteWords.{NoteWords}
 use Rattle.s2_receive.specs.declared.report.Received.{Received}
 use Rattle.s2_words.specs.declared.request.RowsWords.{RowsWords}
 use Rattle.s2_words.specs.declared.request.ShapeWords.{ShapeWords}
+use Rattle.s2_evidence.specs.Files.{Written, JudgeFiles, CheckFiles}
 use Rattle.s2_evidence.specs.Inputs.{AreInputs}
+use Rattle.s2_evidence.specs.Certifying.{Certifies}
 use Rattle.s2_evidence.specs.Judging.{IsJudged, IsOwn}
-use Rattle.s2_evidence.specs.Checking.{IsAnswered}
-use Rattle.s2_table.specs.Tables.{IsTold}
+use Rattle.s2_evidence.specs.Checking.{AreCheckInputs, IsAnswered}
+use Rattle.s2_table.specs.Tables.{AreRowsIn, IsTold}
 use Rattle.s2_table.specs.Wanted.{notes_on}
-use Rattle.s2_tool.specs.Links.{Deed, DoesOn}
+use Rattle.s2_tool.specs.Links.{Ends, ends_of, streams_with, CannotOpen, CannotOpenOne, Deed, OnLink}
 use Rattle.s2_tool.specs.Making.{IsRowFile, rows_made}
 use Rattle.s2_tool.specs.Sending.{Sends}
+use Rattle.s2_tool.specs.Spoiling.{piped, Spoils}
 use Rattle.s2_tool.specs.Receptions.{Hears}
 use Rattle.s2_tool.specs.Looping.{Loops}
 use Rattle.s2_tool.specs.Losses.{Answered}
@@ -52,6 +60,10 @@ no_mode = faults.Told (codes "no such mode")
 abbrev pub asked_setup : LinkWords → Setup
 asked_setup words = record { mode = mode_of words.modcod words.short words.pilots; number = words.number; roll_off = words.roll_off }
 
+-- the mode that a code's words ask for
+abbrev pub table_mode : TableWords → Mode
+table_mode words = mode_of words.modcod words.short false
+
 abbrev pub asked_shape : ShapeWords → Shape
 asked_shape words = shape_of words.group words.groups words.q
 
@@ -61,40 +73,99 @@ AreAskedRows words said =
     (IsShape (asked_shape words.shape) × (rows_made (asked_shape words.shape) words.weight words.seed ≡ said))
     ⊎ ((IsShape (asked_shape words.shape) → ⊥) × (said ≡ Err no_shape))
 
--- what stands in files that a request names: anything, since no contract can say what a file gives
-abbrev pub Anything : {I : Type 0} → Result I Fault → Type 0
-Anything said = ⊤
+-- ---- the files that a request names, as they are when they are opened
 
--- The output of a command on some link of this setup, for some of what its files hold. Where it could
--- not be begun nothing is printed.
-pub record Reports {T : Type 0} (Does : Deed T) (setup : Setup) (ended : Result T Fault) (old new : Option (List ℕ)) : Type 0 where
-  pub link : Result Link Fault
-  pub before : Streams
-  pub behind : Streams
-  pub setup_kept : IfOk link (λ l. l.setup ≡ setup)
-  pub does : DoesOn Does link before behind ended
-  pub out : before.out ≡ old
-  pub out_new : behind.out ≡ new
+-- one that is written, where it is asked for
+abbrev pub asked_file : Holdings → Option (Bor (List ℕ)) → Option Written
+asked_file holds (Some name) = Some (record { contents = holds roles.Output name.now; failed = 0 })
+asked_file holds None = None
+
+abbrev pub judge_files : Holdings → JudgeWords → JudgeFiles
+judge_files holds words =
+    record { rows = holds roles.Input words.rows.now; soft = holds roles.Input words.soft.now; rows_failed = 0; soft_failed = 0; certificate = asked_file holds words.certificate }
+
+abbrev pub check_files : Holdings → CheckWords → CheckFiles
+check_files holds words =
+    record { rows = holds roles.Input words.rows.now; certificate = holds roles.Input words.certificate.now; rows_failed = 0; certificate_failed = 0 }
+
+-- ---- why a request that names files could not be begun
+
+-- one that may be asked for could not be opened
+abbrev pub CannotOpenAsked : Option (Bor (List ℕ)) → Fault → Type 0
+CannotOpenAsked (Some name) f = CannotOpen name f
+CannotOpenAsked None f = ⊥
+
+-- words of no mode; of a mode, a file that could not be opened
+abbrev pub NotOn : Mode → (Fault → Type 0) → Fault → Type 0
+NotOn mode CannotBegin f = ((IsMode mode → ⊥) × (f ≡ no_mode)) ⊎ (IsMode mode × CannotBegin f)
+
+-- words of no shape; of a shape, the certificate's file, the rows or the soft values could not be opened
+abbrev pub NotJudged : JudgeWords → Fault → Type 0
+NotJudged words f =
+    ((IsShape (asked_shape words.shape) → ⊥) × (f ≡ no_shape))
+    ⊎ (IsShape (asked_shape words.shape) × (CannotOpenAsked words.certificate f ⊎ (CannotOpen words.rows f ⊎ CannotOpen words.soft f)))
+
+-- the symbols could not be opened, or what is written not be opened or cut
+abbrev pub NotSpoilt : NoiseWords → Fault → Type 0
+NotSpoilt words f = CannotOpen words.from f ⊎ (CannotOpen words.to f ⊎ (f ≡ faults.Write))
+
+-- a command that could not be begun, for such a fault: nothing is printed, and nothing noted
+abbrev pub NotBegun : (Fault → Type 0) → List ℕ → Result Exit Fault → Option (List ℕ) → Option (List ℕ) → Type 0
+NotBegun Why notes (Ok exit) old new = ⊥
+NotBegun Why notes (Err f) old new = Why f × (notes ≡ []) × (new ≡ old)
+
+-- ---- what is said of a request
+
+-- The output of a command on a link of this setup and these files, and how it ended: what the command does of them.
+abbrev pub Reports : {T : Type 0} → Deed T → Setup → Ends → Result T Fault → Option (List ℕ) → Option (List ℕ) → Type 0
+Reports {T} Does setup files ended old new =
+    (failed : ℕ) × (behind : Streams) × OnLink Does setup files.rows (streams_with files old failed) behind ended × (behind.out ≡ new)
 
 -- The output of a command that receives so, its notes, and how it ended.
-abbrev pub Receipts : NoteWords → LinkWords → Deed Received → List ℕ → Result Exit Fault → Option (List ℕ) → Option (List ℕ) → Type 0
-Receipts words link Does notes ended old new =
-    (heard : Result Received Fault) × Reports Does (asked_setup link) heard old new × Answered words (asked_setup link).mode heard ended notes
+abbrev pub Receipts : NoteWords → Setup → Ends → Deed Received → List ℕ → Result Exit Fault → Option (List ℕ) → Option (List ℕ) → Type 0
+Receipts words setup files Does notes ended old new =
+    (heard : Result Received Fault) × Reports Does setup files heard old new × Answered words setup.mode heard ended notes
 
--- What a request's output says, with which notes and how it ended. Only the commands on a link have notes. A request that names no file prints what its words and the input determine.
--- One that names files prints what their command says of some rows, soft values, certificate, packets or symbols; where a file
--- cannot be opened, nothing.
-abbrev pub Serves : Request → Option (List ℕ) → List ℕ → Result Exit Fault → Option (List ℕ) → Option (List ℕ) → Type 0
-Serves requests.Own input notes ended old new = (notes ≡ []) × CommandRuns IsOwn (AreInputs (shape_of 4 2 3) (Some (codes "0 4 8\n0 1 2\n")) input) ended old new
-Serves (requests.Modes words) input notes ended old new = (notes ≡ []) × CommandRuns IsListed (IsAsked words.rate) ended old new
-Serves (requests.Rows words) input notes ended old new = (notes ≡ []) × CommandRuns IsRowFile (AreAskedRows words) ended old new
-Serves (requests.Table words) input notes ended old new = (notes ≡ notes_on words.quiet (mode_of words.modcod words.short false) ended) × CommandRuns (IsTold (mode_of words.modcod words.short false)) Anything ended old new
-Serves (requests.Judge words) input notes ended old new = (notes ≡ []) × CommandRuns (IsJudged words.tuning) Anything ended old new
-Serves (requests.Check words) input notes ended old new = (notes ≡ []) × CommandRuns IsAnswered Anything ended old new
-Serves (requests.Mod words) input notes ended old new = (notes ≡ notes_on words.quiet (asked_setup words.link).mode ended) × Reports (Sends words.dummy) (asked_setup words.link) ended old new
-Serves (requests.Noise words) input notes ended old new = (notes ≡ []) × (new ≡ old)
-Serves (requests.Demod words) input notes ended old new = Receipts words.notes words.link (Hears words.tuning) notes ended old new
-Serves (requests.Run words) input notes ended old new = Receipts words.notes words.link (Loops words) notes ended old new
+-- The verdict on soft values of a file by the tuning of the words, and their certificate in the file that was asked for.
+abbrev pub Judges : JudgeWords → JudgeFiles → Result Exit Fault → Option (List ℕ) → Option (List ℕ) → Type 0
+Judges words files ended old new =
+    (behind : JudgeFiles) × CommandRuns (IsJudged words.tuning) (AreInputs (asked_shape words.shape) files.rows files.soft) ended old new
+    × Certifies words.tuning (AreInputs (asked_shape words.shape) files.rows files.soft) ended files.certificate behind.certificate
+
+-- Symbols are spoilt by the channel of the words; what is left in the buffer at the end may not be written.
+abbrev pub Channels : ChannelWords → Option (List ℕ) → Option (List ℕ) → Result Exit Fault → Type 0
+Channels channel from to ended =
+    (spoilt : Result Exit Fault) × (behind : Streams) × Spoils channel (piped from to 0 0) behind spoilt
+    × ((ended ≡ spoilt) ⊎ ((spoilt ≡ Ok exits.Fine) × (ended ≡ Err faults.Write)))
+
+-- What a request's output says, with which notes and how it ended. A request that names no file prints what its words and the
+-- input determine; one that names files what its command says of what they hold, each in its role, or it could not be begun.
+abbrev pub Serves : Holdings → Request → Option (List ℕ) → List ℕ → Result Exit Fault → Option (List ℕ) → Option (List ℕ) → Type 0
+Serves holds requests.Own input notes ended old new = (notes ≡ []) × CommandRuns IsOwn (AreInputs (shape_of 4 2 3) (Some (codes "0 4 8\n0 1 2\n")) input) ended old new
+Serves holds (requests.Modes words) input notes ended old new = (notes ≡ []) × CommandRuns IsListed (IsAsked words.rate) ended old new
+Serves holds (requests.Rows words) input notes ended old new = (notes ≡ []) × CommandRuns IsRowFile (AreAskedRows words) ended old new
+Serves holds (requests.Table words) input notes ended old new =
+    ((notes ≡ notes_on words.quiet (table_mode words) ended)
+    × CommandRuns (IsTold (table_mode words)) (AreRowsIn (shape_in (table_mode words)) (holds roles.Input words.rows.now)) ended old new)
+    ⊎ NotBegun (NotOn (table_mode words) (CannotOpen words.rows)) notes ended old new
+Serves holds (requests.Judge words) input notes ended old new =
+    ((notes ≡ []) × Judges words (judge_files holds words) ended old new) ⊎ NotBegun (NotJudged words) notes ended old new
+Serves holds (requests.Check words) input notes ended old new =
+    ((notes ≡ []) × CommandRuns IsAnswered (AreCheckInputs (holds roles.Input words.rows.now) (holds roles.Input words.certificate.now)) ended old new)
+    ⊎ NotBegun (λ f. CannotOpen words.rows f ⊎ CannotOpen words.certificate f) notes ended old new
+Serves holds (requests.Mod words) input notes ended old new =
+    ((notes ≡ notes_on words.quiet (asked_setup words.link).mode ended)
+    × Reports (Sends words.dummy) (asked_setup words.link) (ends_of holds words.rows words.packets words.symbols) ended old new)
+    ⊎ NotBegun (NotOn (asked_setup words.link).mode (CannotOpenOne words.rows words.packets words.symbols)) notes ended old new
+Serves holds (requests.Noise words) input notes ended old new =
+    (notes ≡ []) × (new ≡ old)
+    × (Channels words.channel (holds roles.Input words.from.now) (holds roles.Output words.to.now) ended ⊎ NotBegun (NotSpoilt words) notes ended old new)
+Serves holds (requests.Demod words) input notes ended old new =
+    Receipts words.notes (asked_setup words.link) (ends_of holds words.rows words.symbols words.packets) (Hears words.tuning) notes ended old new
+    ⊎ NotBegun (NotOn (asked_setup words.link).mode (CannotOpenOne words.rows words.symbols words.packets)) notes ended old new
+Serves holds (requests.Run words) input notes ended old new =
+    Receipts words.notes (asked_setup words.link) (ends_of holds words.rows words.packets words.to) (Loops words) notes ended old new
+    ⊎ NotBegun (NotOn (asked_setup words.link).mode (CannotOpenOne words.rows words.packets words.to)) notes ended old new
 
 -- where a report goes beside an output of this name, or beside none
 abbrev pub IsPlacedFor : Option (Bor (List ℕ)) → Place → Type 0
@@ -111,7 +182,7 @@ IsPlaced request place = place ≡ places.Output
 
 -- A request was served with this exit: how it ended decides the exit, the report and what is told behind it. What a file gets that
 -- is standard output stands there beside the console.
-pub record Served (request : Request) (input : Option (List ℕ)) (exit : Exit) (old new : Screen) : Type 0 where
+pub record Served (holds : Holdings) (request : Request) (input : Option (List ℕ)) (exit : Exit) (old new : Screen) : Type 0 where
   pub ended : Result Exit Fault
   pub notes : List ℕ
   pub place : Place
@@ -119,20 +190,20 @@ pub record Served (request : Request) (input : Option (List ℕ)) (exit : Exit) 
   pub shown : Screen
   pub placed : IsPlaced request place
   pub exit_is : exit ≡ exit_of ended
-  pub prints : Serves request input notes ended (report_in place old) (report_in place shown)
+  pub prints : Serves holds request input notes ended (report_in place old) (report_in place shown)
   pub concludes : Concludes place notes ended old shown new
   -- only where a fault is told may a call of the output or of the errors have failed
   pub whole : exit ≢ exits.Fault → new.output_failed ≡ old.output_failed
   pub quiet : exit ≢ exits.Fault → new.errors_failed ≡ old.errors_failed
 
 -- nothing is reported of a command that could not be begun
-abbrev pub Unbegun : Request → Option (List ℕ) → Fault → Screen → Type 0
-Unbegun request input f old = (place : Place) × IsPlaced request place × Serves request input [] (Err f) (report_in place old) (report_in place old)
+abbrev pub Unbegun : Holdings → Request → Option (List ℕ) → Fault → Screen → Type 0
+Unbegun holds request input f old = (place : Place) × IsPlaced request place × Serves holds request input [] (Err f) (report_in place old) (report_in place old)
 
 -- A command was begun and ended so, or it could not be begun and did nothing.
-abbrev pub Began : Request → Option (List ℕ) → Result Exit Fault → Screen → Screen → Type 0
-Began request input (Ok exit) old new = Served request input exit old new
-Began request input (Err f) old new = Unbegun request input f old × (new ≡ old)
+abbrev pub Began : Holdings → Request → Option (List ℕ) → Result Exit Fault → Screen → Screen → Type 0
+Began holds request input (Ok exit) old new = Served holds request input exit old new
+Began holds request input (Err f) old new = Unbegun holds request input f old × (new ≡ old)
 
 -- how the program ends where the parser's own text was to be printed: well only behind help or the version
 abbrev pub IsExplained : ErrorKind → Exit → Type 0
@@ -147,10 +218,12 @@ Explains kind exit old new =
     ⊎ ((kind ≢ kinds.OutOfMemory) × IsExplained kind exit × (new ≡ old))
 
 -- what was asked for is served, or why nothing was is explained
-abbrev pub Answers : Result Request Error → Option (List ℕ) → Exit → Screen → Screen → Type 0
-Answers (Ok request) input exit old new = Served request input exit old new
-Answers (Err error) input exit old new = Explains (kind_of error) exit old new
+abbrev pub Answers : Holdings → Result Request Error → Option (List ℕ) → Exit → Screen → Screen → Type 0
+Answers holds (Ok request) input exit old new = Served holds request input exit old new
+Answers holds (Err error) input exit old new = Explains (kind_of error) exit old new
 
--- a request was served, or there was none and the output is as it was
-abbrev pub SomeServed : Option (List ℕ) → Exit → Screen → Screen → Type 0
-SomeServed input exit old new = (new.output ≡ old.output) ⊎ ((request : Request) × Served request input exit old new)
+-- what the words ask for is answered, or there was no memory for them
+abbrev pub AnswersWords : Holdings → Option (Result Request Error) → Option (List ℕ) → Exit → Screen → Screen → Type 0
+AnswersWords holds (Some asked) input exit old new = Answers holds asked input exit old new
+AnswersWords holds None input exit old new =
+    (exit ≡ exits.Fault) × (new.output ≡ old.output) × (new.output_failed ≡ old.output_failed) × Complains (Err faults.NoMemory) old new

@@ -1,18 +1,21 @@
 //! Files opened.
 ghost use Rattle.std.specs.Prelude.{◌≡◌, ◌⊎◌, ◌≤◌, [], IfOk, IfErr, IfSome, OnOk, length};
-ghost use Rattle.s2_evidence.specs.Files.{failed_in};
-ghost use Rattle.s2_tool.specs.Links.{CannotOpen, NoneFailed};
+ghost use Rattle.std.specs.Io.Buffered.{reader_remaining, writer_contents};
+ghost use Rattle.s2_files.specs.Known.{known_of};
+ghost use Rattle.s2_files.specs.declared.uses.Role.TheVariants as roles;
+ghost use Rattle.s2_evidence.specs.Files.{failed_in, written};
+ghost use Rattle.s2_tool.specs.Links.{CannotOpen, CannotOpenOne, NoneFailed, ends_of};
+ghost use Rattle.s2_tool.specs.Serving.{asked_file, judge_files, check_files, CannotOpenAsked};
 
 use crate::link_files::LinkFiles;
 use s2_console::Fault;
 use s2_evidence::{CheckFiles, JudgeFiles};
-use s2_files::{Opener, PlainReader, Reader, StandardStreams, Target, Writer};
+use s2_files::{Disk, Opener, PlainReader, Reader, Target, Writer};
 use s2_words::{CheckWords, JudgeWords, NoiseWords};
-use std::rt::Files;
 
 /// Opens the files of a command on a link: the row file, then the one that is read behind it. The one that is
 /// written is opened once both are open, and stays whole. How many bytes the second has, where that is known, stands beside them.
-pub(crate) fn open_link<'a, R: Files + StandardStreams + AllocGlobal>(
+pub(crate) fn open_link<'a, R: Disk + AllocGlobal>(
     rt: &R,
     rows: &'a str,
     from: &'a str,
@@ -25,7 +28,8 @@ pub(crate) fn open_link<'a, R: Files + StandardStreams + AllocGlobal>(
     Fault<'a>,
 >
     ensures fresh { IfOk result (λ opened. NoneFailed opened.0) }
-    ensures fault { IfErr result (λ fault. CannotOpen rows.entry fault ⊎ (CannotOpen from.entry fault ⊎ CannotOpen to.entry fault)) }
+    ensures files { IfOk result (λ opened. opened.0 ≡ ends_of R.holds rows.entry from.entry to.entry) }
+    ensures fault { IfErr result (λ fault. CannotOpenOne rows.entry from.entry to.entry fault) }
 {
     let mut opener = Opener::new(rt);
     let rows = opener.read_buffered(rows)?;
@@ -36,7 +40,7 @@ pub(crate) fn open_link<'a, R: Files + StandardStreams + AllocGlobal>(
 }
 
 /// The same for who reads many bytes of the second file at a time, which has no buffer.
-pub(crate) fn open_whole<'a, R: Files + StandardStreams + AllocGlobal>(
+pub(crate) fn open_whole<'a, R: Disk + AllocGlobal>(
     rt: &R,
     rows: &'a str,
     from: &'a str,
@@ -53,7 +57,8 @@ pub(crate) fn open_whole<'a, R: Files + StandardStreams + AllocGlobal>(
     Fault<'a>,
 >
     ensures fresh { IfOk result (λ opened. NoneFailed opened.0) }
-    ensures fault { IfErr result (λ fault. CannotOpen rows.entry fault ⊎ (CannotOpen from.entry fault ⊎ CannotOpen to.entry fault)) }
+    ensures files { IfOk result (λ opened. opened.0 ≡ ends_of R.holds rows.entry from.entry to.entry) }
+    ensures fault { IfErr result (λ fault. CannotOpenOne rows.entry from.entry to.entry fault) }
 {
     let mut opener = Opener::new(rt);
     let rows = opener.read_buffered(rows)?;
@@ -64,14 +69,15 @@ pub(crate) fn open_whole<'a, R: Files + StandardStreams + AllocGlobal>(
 }
 
 /// Opens an output where a name is given.
-fn write_named<'a, R: Files + StandardStreams>(
+fn write_named<'a, R: Disk>(
     opener: &mut Opener<'_, R>,
     name: Option<&'a str>,
 ) -> Result<Option<Target<R::File, R::Output>>, Fault<'a>>
     requires room { opener.old ≡ [] }
     ensures room { OnOk result (length opener.new ≤ 1) }
     ensures fresh { IfOk result (λ made. IfSome made (λ file. file.failed ≡ 0)) }
-    ensures fault { IfErr result (λ fault. IfSome name.entry (λ given. CannotOpen given fault)) }
+    ensures files { IfOk result (λ made. written (λ file. known_of R.File.contents R.Output.contents file.to) (λ file. file.failed) made ≡ asked_file R.holds name.entry) }
+    ensures fault { IfErr result (λ fault. CannotOpenAsked name.entry fault) }
 {
     match name {
         Some(name) => Ok(Some(opener.write(name)?)),
@@ -80,7 +86,7 @@ fn write_named<'a, R: Files + StandardStreams>(
 }
 
 /// Opens the files of `judge`: that of the certificate, which stays whole, before the others.
-pub(crate) fn open_judge<'a, R: Files + StandardStreams + AllocGlobal>(
+pub(crate) fn open_judge<'a, R: Disk + AllocGlobal>(
     rt: &R,
     words: &JudgeWords<'a>,
 ) -> Result<
@@ -89,6 +95,8 @@ pub(crate) fn open_judge<'a, R: Files + StandardStreams + AllocGlobal>(
 >
     ensures fresh { IfOk result (λ files. (files.rows_failed ≡ 0) × (files.soft_failed ≡ 0)) }
     ensures certificate { IfOk result (λ files. failed_in files.certificate ≡ 0) }
+    ensures files { IfOk result (λ files. files ≡ judge_files R.holds words.now) }
+    ensures fault { IfErr result (λ fault. CannotOpenAsked words.now.certificate fault ⊎ (CannotOpen words.now.rows fault ⊎ CannotOpen words.now.soft fault)) }
 {
     let mut opener = Opener::new(rt);
     let certificate = write_named(&mut opener, words.certificate)?;
@@ -102,11 +110,12 @@ pub(crate) fn open_judge<'a, R: Files + StandardStreams + AllocGlobal>(
 }
 
 /// Opens the files of `check`.
-pub(crate) fn open_check<'a, R: Files + StandardStreams + AllocGlobal>(
+pub(crate) fn open_check<'a, R: Disk + AllocGlobal>(
     rt: &R,
     words: &CheckWords<'a>,
 ) -> Result<CheckFiles<Reader<R::File, R::Input>, Reader<R::File, R::Input>>, Fault<'a>>
     ensures fresh { IfOk result (λ files. (files.rows_failed ≡ 0) × (files.certificate_failed ≡ 0)) }
+    ensures files { IfOk result (λ files. files ≡ check_files R.holds words.now) }
     ensures fault { IfErr result (λ fault. CannotOpen words.now.rows fault ⊎ CannotOpen words.now.certificate fault) }
 {
     let mut opener = Opener::new(rt);
@@ -116,11 +125,12 @@ pub(crate) fn open_check<'a, R: Files + StandardStreams + AllocGlobal>(
 }
 
 /// Opens a row file.
-pub(crate) fn open_rows<'a, R: Files + StandardStreams + AllocGlobal>(
+pub(crate) fn open_rows<'a, R: Disk + AllocGlobal>(
     rt: &R,
     rows: &'a str,
 ) -> Result<Reader<R::File, R::Input>, Fault<'a>>
     ensures fresh { IfOk result (λ file. file.failed ≡ 0) }
+    ensures rows { IfOk result (λ file. reader_remaining (known_of R.File.remaining R.Input.remaining) file.inner ≡ R.holds roles.Input rows.entry.now) }
     ensures fault { IfErr result (λ fault. CannotOpen rows.entry fault) }
 {
     let mut opener = Opener::new(rt);
@@ -129,7 +139,7 @@ pub(crate) fn open_rows<'a, R: Files + StandardStreams + AllocGlobal>(
 
 /// Opens the files of `noise`, and begins the one that is written, behind a buffer. How many bytes the other has, where that is known,
 /// stands beside them.
-pub(crate) fn open_noise<'a, R: Files + StandardStreams + AllocGlobal>(
+pub(crate) fn open_noise<'a, R: Disk + AllocGlobal>(
     rt: &R,
     words: &NoiseWords<'a>,
 ) -> Result<
@@ -142,6 +152,8 @@ pub(crate) fn open_noise<'a, R: Files + StandardStreams + AllocGlobal>(
 >
     ensures from { IfOk result (λ files. files.0.failed ≡ 0) }
     ensures to { IfOk result (λ files. files.1.failed ≡ 0) }
+    ensures read { IfOk result (λ files. reader_remaining (known_of R.File.remaining R.Input.remaining) files.0.inner ≡ R.holds roles.Input words.now.from.now) }
+    ensures written { IfOk result (λ files. writer_contents (known_of R.File.contents R.Output.contents) files.1.inner ≡ R.holds roles.Output words.now.to.now) }
     ensures fault { IfErr result (λ fault. CannotOpen words.now.from fault ⊎ (CannotOpen words.now.to fault ⊎ (fault ≡ Fault.Write))) }
 {
     let mut opener = Opener::new(rt);

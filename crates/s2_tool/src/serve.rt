@@ -16,7 +16,7 @@ use crate::rows::rows_command;
 use crate::run::run_command;
 use s2_console::{Console, Exit, Fault, Place};
 use s2_evidence::{check_command, judge_command, self_command};
-use s2_files::{StandardStreams, finish, place_of};
+use s2_files::{Disk, StandardStreams, finish, place_of};
 use s2_link::LinkSetup;
 use s2_mode::{CountedRead, CountedWrite, Counting, FaultText, Mode, Shape};
 use s2_modes::modes_command;
@@ -26,7 +26,6 @@ use s2_words::{
     CheckWords, DemodWords, JudgeWords, LinkWords, ModWords, NoiseWords, Progress, Request,
     RowsWords, RunWords, ShapeWords, TableWords,
 };
-use std::rt::Files;
 use std::time::Clock;
 
 /// The shape of three words.
@@ -55,12 +54,7 @@ fn setup_of(words: &LinkWords) -> Option<LinkSetup>
 }
 
 /// Serves a request.
-pub fn serve<
-    R: Files + StandardStreams + Clock + AllocGlobal,
-    S: CountedRead,
-    O: CountedWrite,
-    E: CountedWrite,
->(
+pub fn serve<R: Disk + Clock + AllocGlobal, S: CountedRead, O: CountedWrite, E: CountedWrite>(
     rt: &R,
     terminal: &Terminal<'_, R>,
     request: &Request<'_>,
@@ -69,7 +63,7 @@ pub fn serve<
 ) -> Exit
     requires input { CanCount (S.count input.old) }
     requires console { CanTell console.old }
-    ensures served { Served request.now (S.remaining input.old) result console.old console.new }
+    ensures served { Served R.holds request.now (S.remaining input.old) result console.old console.new }
 {
     let begun = match request {
         Request::Own => Ok(self_command(rt.alloc(), input, console)),
@@ -104,13 +98,13 @@ fn no_mode() -> Fault<'static>
 }
 
 /// Prints made rows.
-fn serve_rows<R: AllocGlobal, O: CountedWrite, E: CountedWrite>(
+fn serve_rows<R: Disk + AllocGlobal, O: CountedWrite, E: CountedWrite>(
     rt: &R,
     words: &RowsWords,
     console: &mut Console<O, E>,
 ) -> Result<Exit, Fault<'static>>
     requires { CanShow console.old }
-    ensures { Began (Request.Rows words.now) None result console.old console.new }
+    ensures { Began R.holds (Request.Rows words.now) None result console.old console.new }
 {
     let Some(shape) = shape_of(words.shape) else {
         return Err(no_shape());
@@ -148,13 +142,13 @@ fn notes_of<R: StandardStreams>(rt: &R) -> Counting<R::Errors>
 }
 
 /// Tells whether rows are the standard's.
-fn serve_table<'a, R: Files + StandardStreams + AllocGlobal, O: CountedWrite, E: CountedWrite>(
+fn serve_table<'a, R: Disk + AllocGlobal, O: CountedWrite, E: CountedWrite>(
     rt: &R,
     words: &TableWords<'a>,
     console: &mut Console<O, E>,
 ) -> Result<Exit, Fault<'a>>
     requires { CanTell console.old }
-    ensures { Began (Request.Table words.now) None result console.old console.new }
+    ensures { Began R.holds (Request.Table words.now) None result console.old console.new }
 {
     let Some(mode) = Mode::of(words.modcod, words.short, false) else {
         return Err(no_mode());
@@ -175,13 +169,13 @@ fn place_beside(name: Option<&str>) -> Place
 
 /// Judges soft values. The certificate's file is opened before the others, and the verdict stands beside standard output where
 /// that is it.
-fn serve_judge<'a, R: Files + StandardStreams + AllocGlobal, O: CountedWrite, E: CountedWrite>(
+fn serve_judge<'a, R: Disk + AllocGlobal, O: CountedWrite, E: CountedWrite>(
     rt: &R,
     words: &JudgeWords<'a>,
     console: &mut Console<O, E>,
 ) -> Result<Exit, Fault<'a>>
     requires { CanTell console.old }
-    ensures { Began (Request.Judge words.now) None result console.old console.new }
+    ensures { Began R.holds (Request.Judge words.now) None result console.old console.new }
 {
     let place = place_beside(words.certificate);
     let Some(shape) = shape_of(words.shape) else {
@@ -193,32 +187,27 @@ fn serve_judge<'a, R: Files + StandardStreams + AllocGlobal, O: CountedWrite, E:
 }
 
 /// Checks a certificate.
-fn serve_check<'a, R: Files + StandardStreams + AllocGlobal, O: CountedWrite, E: CountedWrite>(
+fn serve_check<'a, R: Disk + AllocGlobal, O: CountedWrite, E: CountedWrite>(
     rt: &R,
     words: &CheckWords<'a>,
     console: &mut Console<O, E>,
 ) -> Result<Exit, Fault<'a>>
     requires { CanShow console.old }
-    ensures { Began (Request.Check words.now) None result console.old console.new }
+    ensures { Began R.holds (Request.Check words.now) None result console.old console.new }
 {
     let mut files = open_check(rt, words)?;
     Ok(check_command(rt.alloc(), &mut files, console))
 }
 
 /// Sends packets. The symbol file is opened once the others are, and the counts stand beside standard output where that is it.
-fn serve_mod<
-    'a,
-    R: Files + StandardStreams + Clock + AllocGlobal,
-    O: CountedWrite,
-    E: CountedWrite,
->(
+fn serve_mod<'a, R: Disk + Clock + AllocGlobal, O: CountedWrite, E: CountedWrite>(
     rt: &R,
     terminal: &Terminal<'_, R>,
     words: &ModWords<'a>,
     console: &mut Console<O, E>,
 ) -> Result<Exit, Fault<'a>>
     requires { CanTell console.old }
-    ensures { Began (Request.Mod words.now) None result console.old console.new }
+    ensures { Began R.holds (Request.Mod words.now) None result console.old console.new }
 {
     let place = place_of(words.symbols);
     let Some(setup) = setup_of(&words.link) else {
@@ -245,25 +234,20 @@ fn serve_mod<
 
 /// Adds noise to symbols. What its buffer still holds at the end is written before the command has
 /// ended well; after a fault nothing more is.
-fn serve_noise<
-    'a,
-    R: Files + StandardStreams + Clock + AllocGlobal,
-    O: CountedWrite,
-    E: CountedWrite,
->(
+fn serve_noise<'a, R: Disk + Clock + AllocGlobal, O: CountedWrite, E: CountedWrite>(
     rt: &R,
     terminal: &Terminal<'_, R>,
     words: &NoiseWords<'a>,
     console: &mut Console<O, E>,
 ) -> Result<Exit, Fault<'a>>
     requires { CanShow console.old }
-    ensures { Began (Request.Noise words.now) None result console.old console.new }
+    ensures { Began R.holds (Request.Noise words.now) None result console.old console.new }
 {
     let show = show_on(terminal, Pace::Spoiling, words.progress);
-    let (from, to, length) = open_noise(rt, words)?;
-    show.expect(length);
-    let mut from = Watched::new(from, &show);
-    let mut to = Watched::new(to, &show);
+    let opened = open_noise(rt, words)?;
+    show.expect(opened.2);
+    let mut from = Watched::new(opened.0, &show);
+    let mut to = Watched::new(opened.1, &show);
     let exit = noise_command(words.channel, &mut from, &mut to, console);
     show.finish();
     finish(exit, to.into_inner())
@@ -271,19 +255,14 @@ fn serve_noise<
 
 /// Receives symbols. The packet file is opened once the others are, and the report stands beside standard output where that
 /// is it.
-fn serve_demod<
-    'a,
-    R: Files + StandardStreams + Clock + AllocGlobal,
-    O: CountedWrite,
-    E: CountedWrite,
->(
+fn serve_demod<'a, R: Disk + Clock + AllocGlobal, O: CountedWrite, E: CountedWrite>(
     rt: &R,
     terminal: &Terminal<'_, R>,
     words: &DemodWords<'a>,
     console: &mut Console<O, E>,
 ) -> Result<Exit, Fault<'a>>
     requires { CanTell console.old }
-    ensures { Began (Request.Demod words.now) None result console.old console.new }
+    ensures { Began R.holds (Request.Demod words.now) None result console.old console.new }
 {
     let place = place_of(words.packets);
     let Some(setup) = setup_of(&words.link) else {
@@ -310,19 +289,14 @@ fn serve_demod<
 
 /// Sends, spoils and receives packets. The file of what is received is opened once the others are, and the report stands beside
 /// standard output where that is it.
-fn serve_run<
-    'a,
-    R: Files + StandardStreams + Clock + AllocGlobal,
-    O: CountedWrite,
-    E: CountedWrite,
->(
+fn serve_run<'a, R: Disk + Clock + AllocGlobal, O: CountedWrite, E: CountedWrite>(
     rt: &R,
     terminal: &Terminal<'_, R>,
     words: &RunWords<'a>,
     console: &mut Console<O, E>,
 ) -> Result<Exit, Fault<'a>>
     requires { CanTell console.old }
-    ensures { Began (Request.Run words.now) None result console.old console.new }
+    ensures { Began R.holds (Request.Run words.now) None result console.old console.new }
 {
     let place = place_of(words.to);
     let Some(setup) = setup_of(&words.link) else {

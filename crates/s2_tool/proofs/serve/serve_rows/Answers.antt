@@ -6,5 +6,5 @@ use Rattle.s2_tool.proofs.serve.serve_rows.Goals as goal
 pub returns : goal.returns
 returns g c =
     let run = c.rows_command.ensures.run in
-    served_plainly (requests.Rows c.args.words.now) None [] run.0 c.rows_command.result c.args.console.now c.rows_command.new.console refl run.1
+    served_plainly g.R.Disk.holds (requests.Rows c.args.words.now) None [] run.0 c.rows_command.result c.args.console.now c.rows_command.new.console refl run.1
     (refl, search rules) run.4 c.rows_command.ensures.whole c.rows_command.ensures.quiet
