@@ -105,7 +105,8 @@ pub judges : (words : JudgeWords) (shape : Shape) (files opened behind : JudgeFi
     → Certifies words.tuning (AreInputs shape files.rows files.soft) ended files.certificate behind.certificate → Judges words opened ended old new
 judges words shape files opened behind ended old new is opens runs certifies =
     let P : Shape → JudgeFiles → Type 0 = λ s f. CommandRuns (IsJudged words.tuning) (AreInputs s f.rows f.soft) ended old new × Certifies words.tuning (AreInputs s f.rows f.soft) ended f.certificate behind.certificate in
-    (behind, subst (P (asked_shape words.shape)) opens (subst (λ s. P s files) is (runs, certifies)))
+    let both = subst (P (asked_shape words.shape)) opens (subst (λ s. P s files) is (runs, certifies)) in
+    (behind, both.0, both.1)
 
 -- a command that is begun at once, and ends
 abbrev done : Holdings → Request → Option (List ℕ) → Result Exit Fault → Screen → Screen → Type 0
@@ -161,13 +162,13 @@ pub not_begun : (holds : Holdings) (request : Request) (place : Place) (f : Faul
 not_begun holds request place f old placed serves = ((place, placed, serves), refl)
 
 -- what is not there, and is there exactly where something holds
-none_there : {T : Type 0} → IsSome {T = T} None → ⊥
-none_there e = cc
+none_there : (T : Type 0) → IsSome {T = T} None → ⊥
+none_there T e = cc
 
 pub not_some : {T P : Type 0} → (o : Option T) → o ≡ None → (IsSome o ↔ P) → P → ⊥
 not_some {T} {P} o none found p =
     let Q : Option T → Type 0 = λ x. IsSome x in
-    none_there (subst Q none (found.1 p))
+    none_there T (subst Q none (found.1 p))
 
 -- ---- noise
 
@@ -187,6 +188,7 @@ err_of : Fault → Result Exit Fault
 err_of f = Err f
 
 ended_well : (spoilt : Result Exit Fault) → exit_of spoilt ≡ exits.Fine → spoilt ≡ Ok exits.Fine
+unfolding ok_of
 ended_well (Ok exit) e = ap ok_of e
 ended_well (Err f) e = absurd (not_fine e)
 
@@ -212,6 +214,7 @@ pub spoilt_served : (holds : Holdings) (words : NoiseWords) (taken given : Optio
     → Spoils words.channel (piped taken given reads writes) behind spoilt → exit ≡ exit_of spoilt → Complains spoilt old new
     → new.output ≡ old.output → new.output_failed ≡ old.output_failed → (exit ≢ exits.Fault → new.errors_failed ≡ old.errors_failed)
     → IfOk result (λ ended. ended ≡ exit) → IfErr result (λ f. f ≡ faults.Write) → (exit ≢ exits.Fine → IsOk result) → Began holds (requests.Noise words) None result old new
+unfolding err_of
 spoilt_served holds words taken given reads writes behind spoilt exit (Ok ended) old new is_taken is_given none_read none_written h is told output output_failed quiet same fault refused =
     let P : Exit → Type 0 = λ e. Served holds (requests.Noise words) None e old new in
     subst P (sym same)
@@ -221,6 +224,7 @@ spoilt_served holds words taken given reads writes behind spoilt exit (Err f) ol
     let fine : exit ≡ exits.Fine = fine_where_refused exit f refused in
     let well : spoilt ≡ Ok exits.Fine = ended_well spoilt (sym is ∙ fine) in
     let C : Result Exit Fault → Type 0 = λ r. Complains r old new in
-    let silent : C (Ok exits.Fine) = subst C well told in
-    ((places.Output, refl, (refl, refl, inl (channelled words.channel taken given _ _ reads writes behind spoilt (Err f) is_taken is_given none_read none_written h (inr (well, ap err_of fault)))))
-    , same_screen old new output output_failed silent.1 silent.0)
+    let silent : C (Ok exits.Fine) = subst C well told in (
+      (places.Output, refl, (refl, refl, inl (channelled words.channel taken given _ _ reads writes behind spoilt (Err f) is_taken is_given none_read none_written h (inr (well, ap err_of fault))))),
+      same_screen old new output output_failed silent.1 silent.0,
+    )
