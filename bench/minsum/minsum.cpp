@@ -46,8 +46,8 @@ static void reduce(i16 *__restrict low, i16 *__restrict high, const i16 *__restr
 
 static void send(i16 *__restrict input, i16 *__restrict message, const i16 *__restrict first, const i16 *__restrict low, const i16 *__restrict high, const i16 *__restrict signs, int n) {
     for (int i = 0; i < n; i++) {
-        i16 v = input[i], size = size_of(v), before = message[i];
-        i16 reduced = size == first[i] ? high[i] : low[i];
+        i16 v = input[i], size = size_of(v), one = first[i], less = low[i], more = high[i], before = message[i];
+        i16 reduced = size == one ? more : less;
         i16 mask = (i16)((i16)(signs[i] ^ v) >> 15);
         i16 sent = (i16)((reduced ^ mask) - mask);
         input[i] = (i16)(sent - before);
