@@ -1,5 +1,5 @@
 -- What follows from the definitions alone.
-use Rattle.std.specs.Prelude.{Bool, true, nat_lt, nat_eq, ◌&&◌, ◌≡◌, ℕ, ◌+◌, ◌-◌, ◌<◌, ◌≤◌, false, if◌then◌else◌, List, [], ◌∷◌, ◌++◌, length, take, drop, All, Option, Some, Ok, ⊤}
+use Rattle.std.specs.Prelude.{Bool, true, nat_lt, nat_eq, ◌&&◌, ◌≡◌, ℕ, ◌+◌, ◌-◌, ◌<◌, ◌≤◌, false, if◌then◌else◌, List, [], ◌∷◌, ◌++◌, length, take, drop, All, Option, Some, None, Ok, ⊤}
 use Rattle.std.specs.List.{flat_map}
 use Rattle.s2_mode.specs.declared.symbols.Symbol.{Symbol}
 use Rattle.s2_bbframe.specs.declared.header.Header.{Header}
@@ -11,7 +11,8 @@ use Rattle.s2_bbframe.specs.DataStream.{IsPacket, stream_of, fields_of, header_a
 use Rattle.s2_bbframe.specs.Joining.{Event, gap, joining, torn, closed_in}
 use Rattle.s2_receive.specs.declared.stretch.Stretch.{Stretch}
 use Rattle.s2_receive.specs.Meeting.{Met, frame, cut, ended, nothing_over, is_over, begins, met_from, passed}
-use Rattle.s2_receive.specs.Receiving.{Rules, Decision, Standing, State, Went, StepAnswers, RunsOut, begun, delivery, at_start, after_all, all_packets, all_lines}
+use Rattle.s2_receive.specs.Receiving.{Rules, Decision, Standing, State, Went, StepAnswers, RunsOut, RunsTo, begun, delivery, at_start, after_all, all_packets, all_lines, all_well}
+use Rattle.s2_mode.specs.Streams.{Streams}
 use Rattle.s2_receive.specs.declared.report.Step.{Step}
 use Rattle.s2_receive.specs.declared.report.Totals.{Totals}
 use Rattle.s2_mode.specs.Symbols.{symbols_of}
@@ -109,16 +110,21 @@ ReceptionLaw =
     → header_symbols ≤ rules.size → packet_bytes ≤ size → All IsPacket packets → fields ++ later ≡ fields_of size (stream_of packets) → AreReceived rules roll_off false 0 pieces fields
     → Gives rules packets fields later pieces rest
 
+-- bytes that are known, and that spell these symbols
+abbrev pub Spells : Option (List ℕ) → List Symbol → Type 0
+Spells None symbols = ⊥
+Spells (Some bytes) symbols = symbols_of bytes ≡ symbols
+
 -- What a receiver wrote when it had met as many things as so many coded frames that were received as sent, the first ones of a
 -- stream that is known: the packets whose closing CRC-8 lies in the fields of these frames, and nothing else.
 abbrev pub FrontLaw : Type 0
 FrontLaw =
-    (rules : Rules) (roll_off size : ℕ) (packets fields later : List (List ℕ)) (pieces : List Piece) (rest : List Symbol) (bytes : List ℕ)
-    (mid : State) (left packets_old packets_new report_old report_new : Option (List ℕ)) (met : List Met)
+    (rules : Rules) (roll_off size : ℕ) (packets fields later : List (List ℕ)) (pieces : List Piece) (rest : List Symbol)
+    (mid : State) (before behind : Streams) (met : List Met)
     → header_symbols ≤ rules.size → packet_bytes ≤ size → All IsPacket packets → fields ++ later ≡ fields_of size (stream_of packets) → AreReceived rules roll_off false 0 pieces fields
-    → symbols_of bytes ≡ stream_symbols pieces ++ rest → length met ≡ length fields
-    → Went rules begun mid (Some bytes) left packets_old packets_new report_old report_new met
-    → (met ≡ frames_at rules.size 0 pieces) × Appends packets_old packets_new (joined (take (closed_in (length (joined fields))) packets))
+    → Spells before.taken (stream_symbols pieces ++ rest) → length met ≡ length fields
+    → Went rules begun mid before behind met
+    → (met ≡ frames_at rules.size 0 pieces) × Appends before.given behind.given (joined (take (closed_in (length (joined fields))) packets))
 
 -- whether a frame ended right before symbol n, where one did before the first or not
 abbrev pub behind_at : Bool → ℕ → Bool
@@ -148,25 +154,35 @@ SearchLaw = (finds : Bool → List Symbol → Found) (size at : ℕ) (behind : B
 -- ---- one stream of symbols, read in two ways
 
 -- from one state to another this was met: it stands so, and its packets and its lines were written
-pub record HasGiven (rules : Rules) (old new : State) (packets_old packets_new report_old report_new : Option (List ℕ)) (met : List Met) : Type 0 where
+pub record HasGiven (rules : Rules) (old new : State) (before behind : Streams) (met : List Met) : Type 0 where
   pub standing : new.standing ≡ after_all rules old.standing met
-  pub packets : Appends packets_old packets_new (all_packets rules old.standing met)
-  pub lines : Appends report_old report_new (all_lines rules old.standing met)
+  pub packets : Appends before.given behind.given (all_packets rules old.standing met)
+  pub lines : Appends before.out behind.out (all_lines rules old.standing met)
 
 -- However a reader cuts the bytes, and whatever bytes are left over: two runs from one state to the end, over bytes that spell the
 -- same symbols, met the same, so they wrote the same packets and lines and came to the same totals.
 abbrev pub SameRunLaw : Type 0
 SameRunLaw =
-    (rules : Rules) (old first second : State) (bytes other : List ℕ) (left other_left p p' q q' w w' v v' : Option (List ℕ))
-    → symbols_of bytes ≡ symbols_of other
-    → RunsOut rules old first (Some bytes) left p p' w w' → RunsOut rules old second (Some other) other_left q q' v v'
-    → (met : List Met) × HasGiven rules old first p p' w w' met × HasGiven rules old second q q' v v' met
+    (rules : Rules) (old first second : State) (symbols : List Symbol) (before behind other_before other_behind : Streams)
+    → Spells before.taken symbols → Spells other_before.taken symbols → RunsOut rules old first before behind → RunsOut rules old second other_before other_behind
+    → (met : List Met) × HasGiven rules old first before behind met × HasGiven rules old second other_before other_behind met
 
 -- and so does a single step
 abbrev pub SameStepLaw : Type 0
 SameStepLaw =
-    (rules : Rules) (old first second : State) (bytes other : List ℕ) (left other_left p p' q q' w w' v v' : Option (List ℕ)) (step other_step : Step)
-    → symbols_of bytes ≡ symbols_of other
-    → StepAnswers rules old first (Some bytes) left p p' w w' (Ok step) → StepAnswers rules old second (Some other) other_left q q' v v' (Ok other_step)
+    (rules : Rules) (old first second : State) (symbols : List Symbol) (before behind other_before other_behind : Streams) (step other_step : Step)
+    → Spells before.taken symbols → Spells other_before.taken symbols
+    → StepAnswers rules old first before behind (Ok step) → StepAnswers rules old second other_before other_behind (Ok other_step)
     → (step ≡ other_step) × (first.phase ≡ second.phase) × (first.standing ≡ second.standing)
-    × ((met : List Met) × HasGiven rules old first p p' w w' met × HasGiven rules old second q q' v v' met)
+    × ((met : List Met) × HasGiven rules old first before behind met × HasGiven rules old second other_before other_behind met)
+
+-- ---- two runs in a row
+
+-- Two runs in a row are one run: what was met on the one and then on the other was met on both together; and where the second came to the
+-- end, both together did.
+pub record GoOn (rules : Rules) (old mid new : State) (before between behind : Streams) (met : List Met) : Type 0 where
+  pub further : (later : List Met) → Went rules mid new between behind later → Went rules old new before behind (met ++ later)
+  pub to_the_end : (well : Bool) → RunsTo rules mid new between behind well → RunsTo rules old new before behind (all_well rules old.standing met && well)
+
+abbrev pub TwoRunsLaw : Type 0
+TwoRunsLaw = (rules : Rules) (old mid new : State) (before between behind : Streams) (met : List Met) → Went rules old mid before between met → GoOn rules old mid new before between behind met

@@ -1,20 +1,24 @@
 -- What a receiver does with what it meets.
-use Rattle.std.specs.Prelude.{◌≡◌, ℕ, ℤ, ◌+◌, Bool, true, false, ◌&&◌, nat_eq, nat_lt, if◌then◌else◌, List, [], ◌∷◌, ◌++◌, length, Option, Some, None, Result, Ok, Err, ⊤}
+use Rattle.std.specs.Prelude.{◌≡◌, ◌≢◌, ℕ, ℤ, ◌+◌, ◌/◌, Bool, true, false, ◌&&◌, nat_eq, nat_lt, if◌then◌else◌, List, [], ◌∷◌, ◌++◌, length, Option, Some, None, Result, Ok, Err, ⊤}
 use Rattle.std.specs.List.{flat_map}
-use Rattle.std.specs.Io.KnownBytes.{Appends}
+use Rattle.std.specs.Io.KnownBytes.{Appends, Consumes}
 use Rattle.s2_mode.specs.declared.symbols.Symbol.{Symbol}
 use Rattle.s2_plframe.specs.declared.receive.found.Found.{Found}
 use Rattle.s2_bbframe.specs.declared.header.Header.{Header}
 use Rattle.s2_mode.specs.Limits.{header_symbols}
+use Rattle.s2_mode.specs.Mode.{Mode, symbols_in}
+use Rattle.s2_mode.specs.Streams.{Streams}
 use Rattle.s2_bbframe.specs.Joining.{Event, field, gap, Joined, step, begun_body, torn_in}
 use Rattle.s2_receive.specs.declared.stretch.Stretch.{Stretch}
 use Rattle.s2_receive.specs.Meeting.{Met, frame, cut, ended, nothing_over, is_over, met_in}
-use Rattle.s2_receive.specs.Finding.{YieldsSymbols, Meets}
+use Rattle.s2_receive.specs.Finding.{YieldsSymbols, Meets, Reaches, EndsBehind, met_of, met_after, place_after}
+use Rattle.s2_receive.specs.Windows.{found_as}
+use Rattle.s2_receive.specs.ReportLines.{frame_line, cut_line, end_line}
 use Rattle.s2_receive.specs.Stepping.{FailsIn}
 use Rattle.s2_check.specs.declared.verdict.Verdict.{Verdict}
 use Rattle.s2_check.specs.Verdicts.{is_certified}
 use Rattle.s2_check.specs.Views.{View}
-use Rattle.s2_mode.specs.declared.counts.WriteFault.{WriteFault}
+use Rattle.s2_receive.specs.declared.finding.Next.{Next}
 use Rattle.s2_receive.specs.declared.report.Outcome.{Outcome}
 use Rattle.s2_receive.specs.declared.report.Outcome.TheVariants as outcomes
 use Rattle.s2_receive.specs.declared.report.Report.{Report}
@@ -48,9 +52,6 @@ pub record Rules : Type 0 where
   pub finds : Bool → List Symbol → Found
   pub size : ℕ
   pub decide : List Symbol → Decision
-  pub frame_line : Report → List ℕ
-  pub cut_line : ℕ → ℕ → List ℕ
-  pub end_line : Totals → List ℕ
   -- how many symbols it takes at most
   pub limit : ℕ
 
@@ -124,9 +125,9 @@ packets_of rules s met = []
 
 -- its line of the report
 abbrev pub line_of : Rules → Standing → Met → List ℕ
-line_of rules s (frame at over symbols) = rules.frame_line (report_of rules s.totals at symbols)
-line_of rules s (cut at over count) = rules.cut_line at count
-line_of rules s (ended over) = rules.end_line (passes s.totals (at_end over))
+line_of rules s (frame at over symbols) = frame_line (report_of rules s.totals at symbols)
+line_of rules s (cut at over count) = cut_line at count
+line_of rules s (ended over) = end_line (passes s.totals (at_end over))
 
 -- the answer
 abbrev pub step_of : Rules → Standing → Met → Step
@@ -169,15 +170,21 @@ pub record State : Type 0 where
   pub at : ℕ
   pub standing : Standing
 
--- a receiver: what it is made of, the symbols of the frame that it found last, how many symbols it takes at most, and where it
--- stands
-pub record Receiver (S D L : Type 0) : Type 0 where
-  pub search : S
+-- a receiver: the mode of its frames, how many bits of a header may be wrong right behind a frame, what decides its frames, how many
+-- symbols it takes at most, and where it stands
+pub record Receiver (D : Type 0) : Type 0 where
+  pub mode : Mode
+  pub lock : ℕ
   pub decider : D
-  pub lines : L
-  pub frame : List Symbol
   pub limit : ℕ
   pub state : State
+
+-- its rules, by what its decider decides
+abbrev pub rules_of : {D : Type 0} → (D → List Symbol → Decision) → Receiver D → Rules
+rules_of decide r = record { finds = found_as r.mode r.lock; size = symbols_in r.mode; decide = decide r.decider; limit = r.limit }
+
+abbrev pub state_of : Phase → ℕ → Option (List ℕ) → Totals → State
+state_of phase at held totals = record { phase = phase; at = at; standing = record { held = held; totals = totals } }
 
 abbrev pub begun : State
 begun = record { phase = phases.Searching; at = 0; standing = at_start }
@@ -186,6 +193,7 @@ begun = record { phase = phases.Searching; at = 0; standing = at_start }
 abbrev pub IsLive : Phase → Type 0
 IsLive phases.Searching = ⊤
 IsLive phases.Closing = ⊤
+IsLive (phases.Met next) = ⊥
 IsLive phases.Ended = ⊥
 IsLive phases.Failed = ⊥
 
@@ -198,6 +206,7 @@ phase_after (ended over) = phases.Ended
 abbrev pub rank : Phase → ℕ
 rank phases.Searching = 0
 rank phases.Closing = 1
+rank (phases.Met next) = 2
 rank phases.Ended = 2
 rank phases.Failed = 2
 
@@ -205,64 +214,88 @@ rank phases.Failed = 2
 abbrev pub met_left : Rules → Phase → ℕ → Option (List ℕ) → Option (List Met)
 met_left rules phases.Searching at bytes = met_in rules.finds rules.size at 0 (nat_lt 0 at) nothing_over [] bytes
 met_left rules phases.Closing at bytes = Some (ended nothing_over ∷ [])
+met_left rules (phases.Met next) at bytes = Some []
 met_left rules phases.Ended at bytes = Some []
 met_left rules phases.Failed at bytes = Some []
 
--- where a receiver stands when this was told, up to a place of the stream
-abbrev pub state_after : Rules → State → Met → ℕ → State
-state_after rules old met to = record { phase = phase_after met; at = to; standing = after rules old.standing met }
-
--- What was found was told: its packets and its line were written, and it stands so.
-pub record Told (rules : Rules) (old new : State) (met : Met) (to : ℕ) (packets_old packets_new report_old report_new : Option (List ℕ)) (step : Step) : Type 0 where
-  pub step_is : step ≡ step_of rules old.standing met
-  pub state : new ≡ state_after rules old met to
-  pub packets : Appends packets_old packets_new (packets_of rules old.standing met)
-  pub line : Appends report_old report_new (line_of rules old.standing met)
-
--- or a write failed on the way
-abbrev pub Tells : Rules → State → State → Met → ℕ → (packets_old packets_new report_old report_new : Option (List ℕ)) → Result Step WriteFault → Type 0
-Tells rules old new met to p p' w w' (Ok step) = Told rules old new met to p p' w w' step
-Tells rules old new met to p p' w w' (Err fault) = (new.phase ≡ old.phase) × FailsIn (packets_of rules old.standing met) (line_of rules old.standing met) p p' w w'
+-- ---- the halves of a step
 
 -- where it was a frame, what is decided of its symbols was decided last
 abbrev pub IsDecided : Rules → Met → Decision → Type 0
 IsDecided rules (frame at over symbols) last = last ≡ rules.decide symbols
 IsDecided rules met last = ⊤
 
+-- This was met: it is what known bytes spell next, its symbols and no others were read, a frame is decided, and the step is its. Of it
+-- nothing is written yet.
+pub record Finds (rules : Rules) (old new : State) (reader_old reader_new : Option (List ℕ)) (last : Decision) (step : Step) : Type 0 where
+  pub next : Next
+  pub symbols : List Symbol
+  pub state : new ≡ record old { phase = phases.Met next }
+  pub step_is : step ≡ step_of rules old.standing (met_of next symbols)
+  pub met : Meets (met_left rules old.phase old.at reader_old) (met_after rules.finds rules.size next reader_new) (met_of next symbols ∷ [])
+  pub taken : Reaches (place_after rules.size next) old.at reader_old reader_new
+  pub decided : IsDecided rules (met_of next symbols) last
+
+-- Nothing could be met, since a read failed, or else since as many symbols were taken as may be: the receiver was searching, and the next
+-- frame, where known bytes spell one, ends behind what was read.
+pub record Stops (rules : Rules) (old : State) (reader_old reader_new : Option (List ℕ)) (reads_old reads_new : ℕ) : Type 0 where
+  pub searching : old.phase ≡ phases.Searching
+  pub bytes : List ℕ
+  pub read : Consumes reader_old reader_new bytes
+  pub short : EndsBehind rules.size (old.at + length bytes / 4) (met_left rules old.phase old.at reader_old)
+  pub cause : reads_new ≢ reads_old + 1 → (reads_new ≡ reads_old) × Reaches rules.limit old.at reader_old reader_new
+
+-- where a receiver stands when this was told, up to a place of the stream
+abbrev pub state_after : Rules → State → Met → ℕ → State
+state_after rules old met to = record { phase = phase_after met; at = to; standing = after rules old.standing met }
+
+-- What was met was told: its packets and its line were written, and the receiver stands so.
+pub record Told (rules : Rules) (old new : State) (met : Met) (to : ℕ) (packets_old packets_new report_old report_new : Option (List ℕ)) : Type 0 where
+  pub state : new ≡ state_after rules old met to
+  pub packets : Appends packets_old packets_new (packets_of rules old.standing met)
+  pub line : Appends report_old report_new (line_of rules old.standing met)
+
+-- or a write failed on the way
+abbrev pub Tells : {E : Type 0} → Rules → State → State → Met → ℕ → (packets_old packets_new report_old report_new : Option (List ℕ)) → Result ⊤ E → Type 0
+Tells rules old new met to p p' w w' (Ok told) = Told rules old new met to p p' w w'
+Tells rules old new met to p p' w w' (Err fault) = (new.phase ≡ phases.Failed) × FailsIn (packets_of rules old.standing met) (line_of rules old.standing met) p p' w w'
+
+-- ---- steps
+
 -- From one state to another this was met: it is what known bytes spell next, its symbols and no others were read, its packets
 -- and its lines were written and nothing else.
-pub record Went (rules : Rules) (old new : State) (reader_old reader_new packets_old packets_new report_old report_new : Option (List ℕ)) (met : List Met) : Type 0 where
-  pub left : Meets (met_left rules old.phase old.at reader_old) (met_left rules new.phase new.at reader_new) met
+pub record Went (rules : Rules) (old new : State) (before behind : Streams) (met : List Met) : Type 0 where
+  pub left : Meets (met_left rules old.phase old.at before.taken) (met_left rules new.phase new.at behind.taken) met
   pub front : List Symbol
-  pub read : YieldsSymbols reader_old reader_new front
+  pub read : YieldsSymbols before.taken behind.taken front
   pub taken : old.at + length front ≡ new.at
   pub standing : new.standing ≡ after_all rules old.standing met
-  pub packets : Appends packets_old packets_new (all_packets rules old.standing met)
-  pub lines : Appends report_old report_new (all_lines rules old.standing met)
+  pub packets : Appends before.given behind.given (all_packets rules old.standing met)
+  pub lines : Appends before.out behind.out (all_lines rules old.standing met)
 
 -- The frame of this report was met, what is decided of its symbols was decided last, and the report tells that.
-pub record MetFrame (rules : Rules) (old new : State) (reader_old reader_new packets_old packets_new report_old report_new : Option (List ℕ)) (report : Report) (last : Decision) : Type 0 where
+pub record MetFrame (rules : Rules) (old new : State) (before behind : Streams) (report : Report) (last : Decision) : Type 0 where
   pub over : Stretch
   pub symbols : List Symbol
-  pub went : Went rules old new reader_old reader_new packets_old packets_new report_old report_new (frame report.at over symbols ∷ [])
+  pub went : Went rules old new before behind (frame report.at over symbols ∷ [])
   pub is_last : last ≡ rules.decide symbols
   pub told : report ≡ report_for last old.standing.totals report.at
 
 -- A write failed when this was to be written, the next thing in known bytes: of its packets a part was written and not all;
 -- or its packets whole, and of its line a part and not all.
-pub record BreaksOff (rules : Rules) (old : State) (reader_old packets_old packets_new report_old report_new : Option (List ℕ)) : Type 0 where
+pub record BreaksOff (rules : Rules) (old : State) (before behind : Streams) : Type 0 where
   pub met : Met
   pub later : Option (List Met)
-  pub next : Meets (met_left rules old.phase old.at reader_old) later (met ∷ [])
-  pub part : FailsIn (packets_of rules old.standing met) (line_of rules old.standing met) packets_old packets_new report_old report_new
+  pub next : Meets (met_left rules old.phase old.at before.taken) later (met ∷ [])
+  pub part : FailsIn (packets_of rules old.standing met) (line_of rules old.standing met) before.given behind.given before.out behind.out
 
 -- what a call answers where more could be met
-abbrev pub StepAnswers : Rules → State → State → (reader_old reader_new packets_old packets_new report_old report_new : Option (List ℕ)) → Result Step Fault → Type 0
-StepAnswers rules old new r r' p p' w w' (Ok step) =
-    (met : Met) × (step ≡ step_of rules old.standing met) × (new.phase ≡ phase_after met) × Went rules old new r r' p p' w w' (met ∷ [])
-StepAnswers rules old new r r' p p' w w' (Err faults.Read) = new.phase ≡ phases.Failed
-StepAnswers rules old new r r' p p' w w' (Err faults.Write) = (new.phase ≡ phases.Failed) × BreaksOff rules old r p p' w w'
-StepAnswers rules old new r r' p p' w w' (Err faults.Failed) = ⊥
+abbrev pub StepAnswers : Rules → State → State → (before behind : Streams) → Result Step Fault → Type 0
+StepAnswers rules old new before behind (Ok step) =
+    (met : Met) × (step ≡ step_of rules old.standing met) × (new.phase ≡ phase_after met) × Went rules old new before behind (met ∷ [])
+StepAnswers rules old new before behind (Err faults.Read) = (new.phase ≡ phases.Failed) × Stops rules old before.taken behind.taken before.reads behind.reads
+StepAnswers rules old new before behind (Err faults.Write) = (new.phase ≡ phases.Failed) × BreaksOff rules old before behind
+StepAnswers rules old new before behind (Err faults.Failed) = ⊥
 
 -- how many symbols were taken after a step: up to the frame's end, or to the end of what there is of a cut one
 abbrev pub StandsBehind : {E : Type 0} → ℕ → ℕ → Result Step E → Type 0
@@ -270,42 +303,37 @@ StandsBehind size at (Ok (steps.Frame report)) = at ≡ report.at + size
 StandsBehind size at (Ok (steps.Cut place count)) = at ≡ place + count
 StandsBehind size at result = ⊤
 
-abbrev pub rules_of : (Bool → List Symbol → Found) → ℕ → (List Symbol → Decision) → (Report → List ℕ) → (ℕ → ℕ → List ℕ) → (Totals → List ℕ) → ℕ → Rules
-rules_of finds size decide frame_line cut_line end_line limit =
-    record { finds = finds; size = size; decide = decide; frame_line = frame_line; cut_line = cut_line; end_line = end_line; limit = limit }
-
--- by what its search, its decider and its lines do
-abbrev pub rules_in : {S D L : Type 0} → (S → Bool → List Symbol → Found) → (D → List Symbol → Decision) → (L → Report → List ℕ) → (L → ℕ → ℕ → List ℕ) → (L → Totals → List ℕ) → Receiver S D L → Rules
-rules_in finds decide frame_line cut_line end_line r =
-    rules_of (finds r.search) (length r.frame) (decide r.decider) (frame_line r.lines) (cut_line r.lines) (end_line r.lines) r.limit
-
-abbrev pub state_of : Phase → ℕ → Option (List ℕ) → Totals → State
-state_of phase at held totals = record { phase = phase; at = at; standing = record { held = held; totals = totals } }
+-- ---- whole runs
 
 -- A run from one state to its end: all that was still to be met was met, and it was met and written as it should be.
-abbrev pub RunsOut : Rules → State → State → (reader_old reader_new packets_old packets_new report_old report_new : Option (List ℕ)) → Type 0
-RunsOut rules old new r r' p p' w w' = (new.phase ≡ phases.Ended) × ((met : List Met) × Went rules old new r r' p p' w w' met)
+abbrev pub RunsOut : Rules → State → State → (before behind : Streams) → Type 0
+RunsOut rules old new before behind = (new.phase ≡ phases.Ended) × ((met : List Met) × Went rules old new before behind met)
 
 -- and whether all of it was well
-pub record RunsTo (rules : Rules) (old new : State) (reader_old reader_new packets_old packets_new report_old report_new : Option (List ℕ)) (well : Bool) : Type 0 where
-  pub runs_out : RunsOut rules old new reader_old reader_new packets_old packets_new report_old report_new
+pub record RunsTo (rules : Rules) (old new : State) (before behind : Streams) (well : Bool) : Type 0 where
+  pub runs_out : RunsOut rules old new before behind
   pub is_well : well ≡ all_well rules old.standing runs_out.1.0
 
 -- A run from one state on to where a read failed or no more symbols are taken: what was met before is written, and nothing else,
--- and more could be met.
-pub record StopsAfter (rules : Rules) (old : State) (reader_old packets_old packets_new report_old report_new : Option (List ℕ)) : Type 0 where
+-- and no frame more ends in what was read.
+pub record StopsAfter (rules : Rules) (old : State) (before behind : Streams) : Type 0 where
   pub met : List Met
   pub mid : State
-  pub reader : Option (List ℕ)
-  pub went : Went rules old mid reader_old reader packets_old packets_new report_old report_new met
-  pub live : IsLive mid.phase
+  pub between : Streams
+  pub went : Went rules old mid before between met
+  pub stops : Stops rules mid between.taken behind.taken between.reads behind.reads
+  pub no_read : between.reads ≡ before.reads
+  pub packets : behind.given ≡ between.given
+  pub lines : behind.out ≡ between.out
 
 -- A run from one state on to where a write failed: what was met before is written, and of the next thing a part.
-pub record BreaksAfter (rules : Rules) (old : State) (reader_old packets_old packets_new report_old report_new : Option (List ℕ)) : Type 0 where
+pub record BreaksAfter (rules : Rules) (old : State) (before behind : Streams) : Type 0 where
   pub met : List Met
   pub mid : State
-  pub reader : Option (List ℕ)
-  pub packets : Option (List ℕ)
-  pub report : Option (List ℕ)
-  pub went : Went rules old mid reader_old reader packets_old packets report_old report met
-  pub breaks : BreaksOff rules mid reader packets packets_new report report_new
+  pub between : Streams
+  pub went : Went rules old mid before between met
+  pub breaks : BreaksOff rules mid between behind
+
+-- A read failed, or else as many symbols were taken from a place on as may be.
+abbrev pub MayStop : ℕ → ℕ → (before behind : Streams) → Type 0
+MayStop limit at before behind = behind.reads ≢ before.reads + 1 → (behind.reads ≡ before.reads) × Reaches limit at before.taken behind.taken

@@ -2,14 +2,9 @@
 use Rattle.std.specs.Prelude.{ℕ, Bool, List, map, if◌then◌else◌}
 use Rattle.s2_mode.specs.Mode.{Mode}
 use Rattle.s2_mode.specs.declared.symbols.Symbol.{Symbol}
-use Rattle.s2_plframe.specs.Search.{Search, decision, found, found_behind}
+use Rattle.s2_plframe.specs.Search.{decision, found, found_behind}
 use Rattle.s2_plframe.specs.declared.receive.found.Found.{Found}
 
 -- the header of a coded frame of the mode, that of a dummy frame, or nothing; right behind a frame so many bits of it may be wrong
 unfoldable pub found_as : Mode → ℕ → Bool → List Symbol → Found
 found_as m lock behind symbols = if behind then found_behind m lock (map decision symbols) else found m (map decision symbols)
-
--- the search for a mode's frames, and how many bits of a header may be wrong right behind a frame
-pub record Locked : Type 0 where
-  pub search : Search
-  pub lock : ℕ
