@@ -2,9 +2,7 @@
 use super::hearing::{Heard, Steps, assert_reported, hear};
 use super::modem_tests::frame;
 use super::plframe_tests::header_of;
-use super::streams::{
-    ALL, Sample, Source, put_symbol, send_with_dummies, two_frames, two_packets,
-};
+use super::streams::{ALL, Sample, Source, put_symbol, send_with_dummies, two_frames, two_packets};
 use s2_mode::{ByOne, Endless, MOST_SYMBOLS, Symbol};
 use s2_receive::{Fault, Step};
 use std::alloc::{AllocError, Global};

@@ -1,7 +1,5 @@
 //! The two halves of a receiver's step, in any order of calls, on made-up frames.
-use super::streams::{
-    ALL, Reader, Source, Writer, packet_of_zeros, reader_of, taken, writer_of,
-};
+use super::streams::{ALL, Reader, Source, Writer, packet_of_zeros, reader_of, taken, writer_of};
 use super::toy::{
     FRAME, Toy, deliver, frame, lost, meet, put_dummy, put_frame, put_symbols, step, totals, toy,
 };
@@ -139,7 +137,10 @@ fn assert_called<A: Abort>(
 ) {
     assert_eq!(rt; called.answers.as_slice(), answers);
     assert_eq!(rt; called.report.as_slice(), LINES[lines.min(3)].as_bytes());
-    assert_eq!(rt; called.packets.as_slice(), &packet_of_zeros()[..packets.min(188)]);
+    assert_eq!(rt;
+        called.packets.as_slice(),
+        &packet_of_zeros()[..packets.min(188)]
+    );
 }
 
 /// The two parts of a packet.
@@ -181,7 +182,13 @@ fn assert_all_kinds<A: Abort>(rt: &A, called: &Called) {
         at: 19810,
         symbols: FRAME - 1,
     };
-    let want = [frame(1, 3330), frame(2, 8820), lost(3, 14320), cut, Step::End];
+    let want = [
+        frame(1, 3330),
+        frame(2, 8820),
+        lost(3, 14320),
+        cut,
+        Step::End,
+    ];
     let mut steps = 0usize;
     for answer in &called.answers {
         if *answer != DELIVERED {
@@ -260,7 +267,15 @@ fn assert_answers<A: Abort>(
     packets: usize,
 ) -> Result<(), Fail> {
     let bytes = two_parts(alloc)?;
-    assert_answers_on(rt, alloc, Source::Slice(&bytes), passes, calls, lines, packets)
+    assert_answers_on(
+        rt,
+        alloc,
+        Source::Slice(&bytes),
+        passes,
+        calls,
+        lines,
+        packets,
+    )
 }
 
 /// The same on what is read.

@@ -38,7 +38,10 @@ fn assert_three<A: Abort>(rt: &A, alloc: Global, source: Source<'_>) -> Result<(
     let taken = take(alloc, source)?;
     let end = Ok(Step::End);
     let third = Ok(frame(3, 2 * FRAME + 10));
-    assert_eq!(rt; taken.steps, [Ok(frame(1, 0)), Ok(frame(2, FRAME)), third, end, end]);
+    assert_eq!(rt;
+        taken.steps,
+        [Ok(frame(1, 0)), Ok(frame(2, FRAME)), third, end, end]
+    );
     let report =
         "frame 1 at 0 most-likely fixed 0\nframe 2 at 5490 most-likely fixed 0\nframe 3 at 10990 most-likely fixed 0\nend frames 3 delivered 3 packets 0 bad 0\n";
     assert_eq!(rt; taken.report.as_slice(), report.as_bytes());
@@ -54,12 +57,7 @@ fn takes_frames_and_the_end_byte_by_byte(rt: HostRuntime) -> Result<(), Fail> {
 }
 
 /// Frames that bring these, with so many symbols before the last one.
-fn frames_of(
-    alloc: Global,
-    firsts: &[i16],
-    passed: u32,
-    last: i16,
-) -> Result<Vec<u8>, AllocError> {
+fn frames_of(alloc: Global, firsts: &[i16], passed: u32, last: i16) -> Result<Vec<u8>, AllocError> {
     let mut bytes = Vec::new(alloc);
     for first in firsts {
         put_frame(&mut bytes, *first)?;
@@ -160,7 +158,10 @@ fn assert_stops<A: Abort>(rt: &A, alloc: Global, limit: u64, bytes: &[u8]) -> Re
     let taken = take_within(alloc, limit, Source::Slice(bytes))?;
     let failed = Err(Fault::Failed);
     let read = Err(Fault::Read);
-    assert_eq!(rt; taken.steps, [Ok(frame(1, 0)), read, failed, failed, failed]);
+    assert_eq!(rt;
+        taken.steps,
+        [Ok(frame(1, 0)), read, failed, failed, failed]
+    );
     assert_eq!(rt; taken.report.as_slice(), FIRST.as_bytes());
     Ok(())
 }
@@ -225,7 +226,10 @@ const LINES: [&str; 4] = [
 fn assert_parts<A: Abort>(rt: &A, alloc: Global, bytes: &[u8]) -> Result<(), Fail> {
     let taken = take(alloc, Source::Bytes(ByOne::new(bytes)))?;
     let end = Ok(Step::End);
-    assert_eq!(rt; taken.steps, [Ok(frame(1, DUMMY)), Ok(frame(2, SECOND)), end, end, end]);
+    assert_eq!(rt;
+        taken.steps,
+        [Ok(frame(1, DUMMY)), Ok(frame(2, SECOND)), end, end, end]
+    );
     assert_eq!(rt; taken.report.as_slice(), LINES[3].as_bytes());
     assert_eq!(rt; taken.packets.as_slice(), packet_of_zeros().as_slice());
     assert_eq!(rt; taken.totals, totals(2, 2, 1));
