@@ -225,6 +225,10 @@ abbrev pub IsDecided : Rules → Met → Decision → Type 0
 IsDecided rules (frame at over symbols) last = last ≡ rules.decide symbols
 IsDecided rules met last = ⊤
 
+-- the rules of which this is what is decided of any frame
+abbrev pub deciding : Decision → Rules → Rules
+deciding last rules = record rules { decide = λ symbols. last }
+
 -- This was met: it is what known bytes spell next, its symbols and no others were read, a frame is decided, and the step is its. Of it
 -- nothing is written yet.
 pub record Finds (rules : Rules) (old new : State) (reader_old reader_new : Option (List ℕ)) (last : Decision) (step : Step) : Type 0 where
