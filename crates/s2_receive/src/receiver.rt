@@ -189,6 +189,7 @@ impl<D: Decide> Receiver<D> {
         requires closing { self.old.state.phase ≡ phases.Closing }
         ensures rules { rules_of D.decide self.new ≡ rules_of D.decide self.old }
         ensures same { (self.new.mode ≡ self.old.mode) × (self.new.lock ≡ self.old.lock) × (self.new.limit ≡ self.old.limit) }
+        ensures at { self.new.state.at ≡ self.old.state.at }
         ensures finds { (bytes : Option (List ℕ)) → Finds (rules_of D.decide self.old) self.old.state self.new.state bytes bytes (D.last self.new.decider) result }
     {
         self.place.phase = Phase::Met(Next::End {

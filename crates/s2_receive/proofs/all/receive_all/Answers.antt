@@ -4,7 +4,7 @@ use Rattle.s2_mode.specs.declared.stream_fault.StreamFault.TheVariants as stream
 use Rattle.s2_receive.specs.Faults.{fault_of}
 use Rattle.s2_receive.specs.declared.report.Fault.TheVariants as faults
 use Rattle.s2_receive.specs.Receiving.{Rules, State, StepAnswers, rules_of}
-use Rattle.s2_receive.proofs.RunLemmas.{Came, went_none, goes, finishes, stops, breaks, may_stop, rank_most, none_failed, same_failed}
+use Rattle.s2_receive.proofs.RunLemmas.{Came, went_none, goes, finishes, may_stop}
 use Rattle.s2_receive.proofs.all.receive_all.Goals as goal
 
 pub steps-init : goal.steps-init
