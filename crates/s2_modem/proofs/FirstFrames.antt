@@ -100,7 +100,7 @@ one_stream_law link tuning limit old first second symbols before behind other_be
     let one = a.runs_out.1.1 in
     let two = b.runs_out.1.1 in
     let same : b.runs_out.1.0 ≡ a.runs_out.1.0 =
-    same_met rules old first second symbols before behind other_before other_behind a.runs_out.1.0 b.runs_out.1.0 spelt other_spelt a.runs_out.0 b.runs_out.0 one.left two.left in
+    same_met rules old first second symbols before.taken other_before.taken behind.taken other_behind.taken a.runs_out.1.0 b.runs_out.1.0 spelt other_spelt a.runs_out.0 b.runs_out.0 one.left two.left in
     record {
       totals = ap (λ s. s.totals) (one.standing ∙ ap (after_all rules old.standing) (sym same) ∙ sym two.standing);
       answer = a.is_well ∙ ap (all_well rules old.standing) (sym same) ∙ sym b.is_well;

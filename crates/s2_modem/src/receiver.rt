@@ -169,6 +169,7 @@ impl<'a> Receiver<'a> {
         ensures both_codes { IfOk result (Corrects self.old self.new.last (R.remaining reader.old)) }
         ensures stops { IsErrOf result faults.Read → (self.new.state ≡ record self.old.state { phase = phases.Failed })
             × Stops (rules_for self.old) self.old.state (R.remaining reader.old) (R.remaining reader.new) (R.count reader.old) (R.count reader.new) }
+        ensures bounded { self.new.state.at ≤ self.old.limit }
         ensures no_read { result ≢ Err faults.Read → R.count reader.new ≡ R.count reader.old }
         ensures no_write { result ≢ Err faults.Write }
         ensures ended { self.old.state.phase ≡ phases.Ended → result ≡ Ok steps.End }
@@ -197,6 +198,7 @@ impl<'a> Receiver<'a> {
             → IsDecided (rules_for self.old) (met_of next symbols) self.old.last
             → Tells (rules_for self.old) self.old.state self.new.state (met_of next symbols) (place_after (symbols_in self.old.link.setup.mode) next)
                 (P.contents packets.old) (P.contents packets.new) (W.contents report.old) (W.contents report.new) result }
+        ensures bounded { self.new.state.at ≤ self.old.limit }
         ensures write { IsErrOf result faults.Write → OneFailed (P.count packets.old) (P.count packets.new) (W.count report.old) (W.count report.new) }
         ensures no_write { result ≢ Err faults.Write → NoneFailed (P.count packets.old) (P.count packets.new) (W.count report.old) (W.count report.new) }
         ensures no_read { result ≢ Err faults.Read }
