@@ -2,7 +2,7 @@ use Rattle.std.proofs.Common.{◌∷◌, ◌++◌, [], ap, ◌∙◌}
 use Rattle.s2_plframe.specs.Search.{decision, found, recent}
 use Rattle.s2_receive.specs.Windows.{Locked}
 use Rattle.s2_receive.proofs.HeaderWindows.{fed}
-use Rattle.s2_receive.proofs.header.HeaderSearchSearch.feed.Goals as goal
+use Rattle.s2_receive.proofs.header.HeaderSearch.feed.Goals as goal
 
 pub returns-clause-header : goal.returns-clause-header
 returns-clause-header c = λ seen saw.

@@ -2,7 +2,7 @@ use Rattle.std.proofs.Common.{length, ap, ◌∙◌}
 use Rattle.s2_plframe.specs.Search.{found_behind}
 use Rattle.s2_receive.specs.Windows.{Locked}
 use Rattle.s2_receive.proofs.HeaderWindows.{met_behind}
-use Rattle.s2_receive.proofs.header.HeaderSearchSearch.behind.Goals as goal
+use Rattle.s2_receive.proofs.header.HeaderSearch.behind.Goals as goal
 
 pub returns : goal.returns
 returns c = λ seen saw many.
