@@ -72,5 +72,5 @@ JudgeEnds tuning shape place files files_after old new exit =
     × CommandRuns (IsJudged tuning) (AreInputs shape files.rows files.soft) ended (report_in place old) (report_in place shown)
     × Certifies tuning (AreInputs shape files.rows files.soft) ended files.certificate files_after.certificate
     × CommandCounts ended (files.rows_failed + files.soft_failed) (files_after.rows_failed + files_after.soft_failed)
-        (failed_in files.certificate + report_failed place old) (failed_in files_after.certificate + report_failed place shown)
+    (failed_in files.certificate + report_failed place old) (failed_in files_after.certificate + report_failed place shown)
     × Concludes place [] ended old shown new

@@ -120,10 +120,10 @@ front_of all None met ys l h e k = absurd h
 front_of all (Some later) met ys l h e k = same_front met ys later l k (sym h ∙ e)
 
 -- known bytes that spell these symbols
-met_spelt : (finds : Bool → List Symbol → Found) (size : ℕ) (known : Option (List ℕ)) (symbols : List Symbol) (later : Option (List Met)) (met : List Met) → Spells known symbols
-    → Meets (met_in finds size 0 0 false nothing_over [] known) later met → Meets (Some (met_from finds size 0 0 false nothing_over symbols)) later met
-met_spelt finds size None symbols later met spelt meets = absurd spelt
-met_spelt finds size (Some bytes) symbols later met spelt meets = subst (λ l. Meets (Some (met_from finds size 0 0 false nothing_over l)) later met) spelt meets
+met_spelt : (finds : Bool → List Symbol → Found) (long : ℕ) (known : Option (List ℕ)) (symbols : List Symbol) (later : Option (List Met)) (met : List Met) → Spells known symbols
+    → Meets (met_in finds long 0 0 false nothing_over [] known) later met → Meets (Some (met_from finds long 0 0 false nothing_over symbols)) later met
+met_spelt finds long None symbols later met spelt meets = absurd spelt
+met_spelt finds long (Some bytes) symbols later met spelt meets = subst (λ l. Meets (Some (met_from finds long 0 0 false nothing_over l)) later met) spelt meets
 
 pub front : FrontLaw
 front rules roll_off size packets fields later pieces rest mid before behind met large room each cut_so received spelt count went =

@@ -1,4 +1,4 @@
-use Rattle.std.proofs.Common.{◌≡◌, ◌+◌, ◌&&◌, [], refl, sym, ap, ◌∙◌, subst, arith, Ok, Err, rules as common}
+use Rattle.std.proofs.Common.{◌≡◌, ◌&&◌, [], refl, sym, ap, ◌∙◌, subst, Err, rules as common}
 use Rattle.s2_mode.specs.Streams.{Streams, streams_by}
 use Rattle.s2_mode.specs.declared.stream_fault.StreamFault.TheVariants as stream_faults
 use Rattle.s2_receive.specs.Faults.{fault_of}

@@ -18,7 +18,7 @@ invariant-steps g l =
       live : IsLive l.receiver.state.phase;
       reads : g.R.Counted.count l.reader ≡ g.R.Counted.count l.fn.reader;
       writes : g.P.Counted.count l.packets ≡ g.P.Counted.count l.fn.packets;
-      prints : g.W.Counted.count l.report ≡ g.W.Counted.count l.fn.report
+      prints : g.W.Counted.count l.report ≡ g.W.Counted.count l.fn.report;
     }
 
 -- how many frames, and the end, may still be met at most

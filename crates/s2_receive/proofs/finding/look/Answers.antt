@@ -1,4 +1,4 @@
-use Rattle.std.proofs.Common.{refl, ◌≡◌, ◌+◌, ◌-◌, ◌<◌, ℕ, length, true, rules, arith}
+use Rattle.std.proofs.Common.{refl, ◌≡◌, ℕ, length, true, rules, arith}
 use Rattle.s2_receive.specs.Finding.{place_with}
 use Rattle.s2_receive.specs.Windows.{finds_of}
 use Rattle.s2_receive.specs.declared.finding.Held.{Held}

@@ -70,7 +70,7 @@ look-preserved c =
       subst (Saw c.restart-in-Dummy.new.self) (seen_none symbols next) c.restart-in-Dummy.ensures.saw,
       subst (Looked finds symbols c.args.from c.args.inside c.args.behind c.args.over next next true) (sym c.passed-over.ensures) there,
       same_on c.args.search.now c.look.search c.restart-in-Dummy.new.self c.look.invariant.2
-      (same_on c.look.search c.found_with-found.new.search c.restart-in-Dummy.new.self c.found_with-found.ensures.same c.restart-in-Dummy.ensures.same),
+          (same_on c.look.search c.found_with-found.new.search c.restart-in-Dummy.new.self c.found_with-found.ensures.same c.restart-in-Dummy.ensures.same),
     )
 
 pub returns-clause-scans : goal.returns-clause-scans

@@ -43,7 +43,7 @@ returns-clause-frame g c = λ report is.
     let behind : Streams = ends c.meet.new.reader c.deliver.new.packets c.deliver.new.report in
     let step = c.in_ok-step.step in
     let this : step ≡ steps.Frame report = cc in
-    let found = c.in_ok-step.ensures.finds (live_at old.state.phase step report c.in_ok-step.ensures.ended c.in_ok-step.ensures.failed.1 this) in
+    let found = c.in_ok-step.ensures.finds (live_at old.state.phase (Ok step) report c.in_ok-step.ensures.ended c.in_ok-step.ensures.failed.1 is) in
     let told = as_found g.D.Decide.decide g.D.Decide.last old mid new before behind step c.meet.ensures.rules found (Ok c.in_ok-deliver.field-0) c.in_ok-deliver.ensures.tells in
     subst (MetFrame (rules_of g.D.Decide.decide old) old.state new before behind report) (sym c.deliver.ensures.last)
     (frame_met (rules_of g.D.Decide.decide old) old.state mid.state new before behind (g.D.Decide.last mid.decider) step (symbols_least old.mode) found told report this)
