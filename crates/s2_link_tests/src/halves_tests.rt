@@ -127,20 +127,22 @@ fn called_within(
     }
 }
 
-/// Asserts what a new receiver answers and writes: the first lines, and the packet or nothing.
-fn assert_called<A: Abort>(
-    rt: &A,
-    called: &Called,
-    answers: &[Answer],
-    lines: usize,
-    packets: usize,
-) {
-    assert_eq!(rt; called.answers.as_slice(), answers);
+/// A call, and what it is to answer.
+type Line = (Call, Answer);
+
+/// Asserts the answers.
+fn assert_script<A: Abort>(rt: &A, called: &Called, script: &[Line]) {
+    assert_eq!(rt; called.answers.len(), script.len());
+    for (answer, line) in called.answers.iter().zip(script.iter()) {
+        assert_eq!(rt; *answer, line.1);
+    }
+}
+
+/// Asserts what is written: so many lines, and so many bytes of the packet.
+fn assert_written<A: Abort>(rt: &A, called: &Called, lines: usize, packets: usize) {
+    let packet = packet_of_zeros();
     assert_eq!(rt; called.report.as_slice(), LINES[lines.min(3)].as_bytes());
-    assert_eq!(rt;
-        called.packets.as_slice(),
-        &packet_of_zeros()[..packets.min(188)]
-    );
+    assert_eq!(rt; called.packets.as_slice(), &packet[..packets.min(188)]);
 }
 
 /// The two parts of a packet.
@@ -151,7 +153,7 @@ fn two_parts(alloc: Global) -> Result<Vec<u8>, AllocError> {
     Ok(bytes)
 }
 
-/// The first lines of their report: none, one, two, and all.
+/// The first lines of the report of the two parts: none, one, two, and all.
 const LINES: [&str; 4] = [
     "",
     "frame 1 at 0 most-likely fixed 0\n",
@@ -176,27 +178,35 @@ fn all_kinds(alloc: Global) -> Result<Vec<u8>, AllocError> {
 const ALL_KINDS: &str =
     "frame 1 at 3330 most-likely fixed 0\nframe 2 at 8820 most-likely fixed 0\nframe 3 at 14320 broken lost\ncut at 19810 symbols 5489\nend frames 3 delivered 2 packets 1 bad 0\n";
 
-/// Asserts what calls that take steps answer and write, those that deliver aside.
-fn assert_all_kinds<A: Abort>(rt: &A, called: &Called) {
+/// What steps answer on these.
+fn steps_of_all_kinds() -> [Step; 5] {
     let cut = Step::Cut {
         at: 19810,
         symbols: FRAME - 1,
     };
-    let want = [
+    [
         frame(1, 3330),
         frame(2, 8820),
         lost(3, 14320),
         cut,
         Step::End,
-    ];
+    ]
+}
+
+/// Asserts what calls answer on these, those that deliver aside.
+fn assert_met<A: Abort>(rt: &A, called: &Called, want: &[Step]) {
     let mut steps = 0usize;
     for answer in &called.answers {
         if *answer != DELIVERED {
-            assert!(rt; steps < 5 && *answer == Ok(Some(want[steps])));
+            assert!(rt; steps < want.len() && *answer == Ok(Some(want[steps])));
             steps += 1;
         }
     }
-    assert_eq!(rt; steps, 5);
+    assert_eq!(rt; steps, want.len());
+}
+
+/// Asserts what they write.
+fn assert_told<A: Abort>(rt: &A, called: &Called) {
     assert_eq!(rt; called.report.as_slice(), ALL_KINDS.as_bytes());
     assert_eq!(rt; called.packets.as_slice(), packet_of_zeros().as_slice());
 }
@@ -208,8 +218,9 @@ fn assert_steps<A: Abort>(
     source: Source<'_>,
     calls: &[Call],
 ) -> Result<Totals, Fail> {
-    let called = called_within(alloc, MOST_SYMBOLS, source, [ALL, ALL, ALL], calls)?;
-    assert_all_kinds(rt, &called);
+    let called = called_within(alloc, MOST_SYMBOLS, source, PASSES, calls)?;
+    assert_met(rt, &called, &steps_of_all_kinds());
+    assert_told(rt, &called);
     Ok(called.totals)
 }
 
@@ -256,52 +267,61 @@ fn halves_come_to_what_steps_do(rt: HostRuntime) -> Result<(), Fail> {
     assert_halves(&rt, rt.alloc(), Source::Bytes(ByOne::new(&bytes)))
 }
 
-/// Asserts what these calls on the two parts of a packet answer, how many lines they write, and how many bytes of the
-/// packet.
-fn assert_answers<A: Abort>(
-    rt: &A,
-    alloc: Global,
-    passes: [u64; 3],
-    calls: &[(Call, Answer)],
-    lines: usize,
-    packets: usize,
-) -> Result<(), Fail> {
-    let bytes = two_parts(alloc)?;
-    assert_answers_on(
-        rt,
-        alloc,
-        Source::Slice(&bytes),
-        passes,
-        calls,
-        lines,
-        packets,
-    )
+/// The calls of a script.
+fn calls_of(alloc: Global, script: &[Line]) -> Result<Vec<Call>, AllocError> {
+    let mut calls = Vec::new(alloc);
+    for line in script {
+        calls.push(line.0)?;
+    }
+    Ok(calls)
 }
 
-/// The same on what is read.
+/// What comes of them.
+fn called_by_script(
+    alloc: Global,
+    limit: u64,
+    source: Source<'_>,
+    passes: [u64; 3],
+    script: &[Line],
+) -> Result<Called, Fail> {
+    let calls = calls_of(alloc, script)?;
+    called_within(alloc, limit, source, passes, &calls)
+}
+
+/// Asserts what the calls of a script answer on what is read, how many lines they write, and how many bytes of the
+/// packet.
 fn assert_answers_on<A: Abort>(
     rt: &A,
     alloc: Global,
     source: Source<'_>,
     passes: [u64; 3],
-    calls: &[(Call, Answer)],
-    lines: usize,
-    packets: usize,
+    script: &[Line],
+    written: [usize; 2],
 ) -> Result<(), Fail> {
-    let mut made = Vec::new(alloc);
-    let mut wanted = Vec::new(alloc);
-    for (call, answer) in calls {
-        made.push(*call)?;
-        wanted.push(*answer)?;
-    }
-    let called = called_within(alloc, MOST_SYMBOLS, source, passes, &made)?;
-    assert_called(rt, &called, &wanted, lines, packets);
+    let called = called_by_script(alloc, MOST_SYMBOLS, source, passes, script)?;
+    assert_script(rt, &called, script);
+    assert_written(rt, &called, written[0], written[1]);
     Ok(())
 }
 
-#[test]
-fn delivers_nothing_that_was_not_met(rt: HostRuntime) -> Result<(), Fail> {
-    let calls = [
+/// The same on the two parts of a packet.
+fn assert_answers<A: Abort>(
+    rt: &A,
+    alloc: Global,
+    passes: [u64; 3],
+    script: &[Line],
+    written: [usize; 2],
+) -> Result<(), Fail> {
+    let bytes = two_parts(alloc)?;
+    assert_answers_on(rt, alloc, Source::Slice(&bytes), passes, script, written)
+}
+
+/// Where no call of a device fails.
+const PASSES: [u64; 3] = [ALL, ALL, ALL];
+
+/// Halves that are not due: what is delivered was not met.
+fn nothing_met() -> [Line; 7] {
+    [
         (Call::Deliver, FAILED),
         (Call::Meet, met(1, 0)),
         (Call::Deliver, DELIVERED),
@@ -309,15 +329,21 @@ fn delivers_nothing_that_was_not_met(rt: HostRuntime) -> Result<(), Fail> {
         (Call::Next, met(2, FRAME)),
         (Call::Deliver, FAILED),
         (Call::Next, END),
-    ];
-    assert_answers(&rt, rt.alloc(), [ALL, ALL, ALL], &calls, 3, 188)?;
-    assert_answers(&rt, rt.alloc(), [ALL, ALL, ALL], &calls[..1], 0, 0)?;
-    assert_answers(&rt, rt.alloc(), [ALL, ALL, ALL], &calls[..4], 1, 0)
+    ]
 }
 
 #[test]
-fn meets_nothing_before_it_delivers(rt: HostRuntime) -> Result<(), Fail> {
-    let calls = [
+fn delivers_nothing_that_was_not_met(rt: HostRuntime) -> Result<(), Fail> {
+    let script = nothing_met();
+    for (calls, written) in [(1, [0, 0]), (4, [1, 0]), (7, [3, 188])] {
+        assert_answers(&rt, rt.alloc(), PASSES, &script[..calls], written)?;
+    }
+    Ok(())
+}
+
+/// Halves that are not due: what was met is still to be delivered.
+fn still_to_deliver() -> [Line; 11] {
+    [
         (Call::Meet, met(1, 0)),
         (Call::Meet, FAILED),
         (Call::Next, FAILED),
@@ -329,16 +355,21 @@ fn meets_nothing_before_it_delivers(rt: HostRuntime) -> Result<(), Fail> {
         (Call::Meet, END),
         (Call::Meet, FAILED),
         (Call::Deliver, DELIVERED),
-    ];
-    assert_answers(&rt, rt.alloc(), [ALL, ALL, ALL], &calls, 3, 188)?;
-    assert_answers(&rt, rt.alloc(), [ALL, ALL, ALL], &calls[..3], 0, 0)?;
-    assert_answers(&rt, rt.alloc(), [ALL, ALL, ALL], &calls[..7], 1, 0)?;
-    assert_answers(&rt, rt.alloc(), [ALL, ALL, ALL], &calls[..10], 2, 188)
+    ]
 }
 
 #[test]
-fn writes_nothing_after_the_end(rt: HostRuntime) -> Result<(), Fail> {
-    let calls = [
+fn meets_nothing_before_it_delivers(rt: HostRuntime) -> Result<(), Fail> {
+    let script = still_to_deliver();
+    for (calls, written) in [(3, [0, 0]), (7, [1, 0]), (10, [2, 188]), (11, [3, 188])] {
+        assert_answers(&rt, rt.alloc(), PASSES, &script[..calls], written)?;
+    }
+    Ok(())
+}
+
+/// Calls behind the end.
+fn behind_the_end() -> [Line; 8] {
+    [
         (Call::Next, met(1, 0)),
         (Call::Next, met(2, FRAME)),
         (Call::Next, END),
@@ -347,22 +378,30 @@ fn writes_nothing_after_the_end(rt: HostRuntime) -> Result<(), Fail> {
         (Call::Deliver, DELIVERED),
         (Call::Next, END),
         (Call::Deliver, DELIVERED),
-    ];
-    assert_answers(&rt, rt.alloc(), [ALL, ALL, ALL], &calls, 3, 188)
+    ]
+}
+
+#[test]
+fn writes_nothing_after_the_end(rt: HostRuntime) -> Result<(), Fail> {
+    assert_answers(&rt, rt.alloc(), PASSES, &behind_the_end(), [3, 188])
+}
+
+/// The totals of so many halves of steps.
+fn totals_of_halves(alloc: Global, source: Source<'_>, halves: usize) -> Result<Totals, Fail> {
+    let calls = &HALVES[..halves.min(10)];
+    Ok(called_within(alloc, MOST_SYMBOLS, source, PASSES, calls)?.totals)
 }
 
 /// Asserts that nothing is counted before it is delivered.
 fn assert_counted<A: Abort>(rt: &A, alloc: Global, source: Source<'_>) -> Result<(), Fail> {
-    for (calls, want) in [
+    for (halves, want) in [
         (0, totals(0, 0, 0)),
         (1, totals(0, 0, 0)),
         (2, totals(1, 1, 0)),
         (3, totals(1, 1, 0)),
         (4, totals(2, 2, 1)),
     ] {
-        let calls = &HALVES[..calls];
-        let called = called_within(alloc, MOST_SYMBOLS, source, [ALL, ALL, ALL], calls)?;
-        assert_eq!(rt; called.totals, want);
+        assert_eq!(rt; totals_of_halves(alloc, source, halves)?, want);
     }
     Ok(())
 }
@@ -373,54 +412,81 @@ fn counts_what_it_delivered(rt: HostRuntime) -> Result<(), Fail> {
     assert_counted(&rt, rt.alloc(), Source::Slice(&bytes))
 }
 
-/// A failed write of the packet, and of each line; from then on nothing is met and nothing delivered.
-#[test]
-fn tells_a_write_that_fails_as_it_delivers(rt: HostRuntime) -> Result<(), Fail> {
-    let write = Err(Fault::Write);
-    let calls = [
+/// A fault of writing.
+const WRITE: Answer = Err(Fault::Write);
+
+/// Calls of which a write fails as the second frame is delivered; from then on nothing is met and nothing delivered.
+fn second_fails() -> [Line; 7] {
+    [
         (Call::Meet, met(1, 0)),
         (Call::Deliver, DELIVERED),
         (Call::Meet, met(2, FRAME)),
-        (Call::Deliver, write),
+        (Call::Deliver, WRITE),
         (Call::Deliver, FAILED),
         (Call::Meet, FAILED),
         (Call::Next, FAILED),
-    ];
-    assert_answers(&rt, rt.alloc(), [ALL, 0, ALL], &calls, 1, 0)?;
-    assert_answers(&rt, rt.alloc(), [ALL, ALL, 1], &calls, 1, 188)?;
-    let first = [
+    ]
+}
+
+/// The packet's write, and that of its frame's line.
+#[test]
+fn tells_a_write_that_fails_as_it_delivers(rt: HostRuntime) -> Result<(), Fail> {
+    let script = second_fails();
+    assert_answers(&rt, rt.alloc(), [ALL, 0, ALL], &script, [1, 0])?;
+    assert_answers(&rt, rt.alloc(), [ALL, ALL, 1], &script, [1, 188])
+}
+
+/// The same of the first frame, and of the end.
+fn first_fails() -> [Line; 4] {
+    [
         (Call::Meet, met(1, 0)),
-        (Call::Deliver, write),
+        (Call::Deliver, WRITE),
         (Call::Deliver, FAILED),
         (Call::Meet, FAILED),
-    ];
-    assert_answers(&rt, rt.alloc(), [ALL, ALL, 0], &first, 0, 0)?;
-    let end = [
+    ]
+}
+
+fn end_fails() -> [Line; 5] {
+    [
         (Call::Next, met(1, 0)),
         (Call::Next, met(2, FRAME)),
         (Call::Meet, END),
-        (Call::Deliver, write),
+        (Call::Deliver, WRITE),
         (Call::Meet, FAILED),
-    ];
-    assert_answers(&rt, rt.alloc(), [ALL, ALL, 2], &end, 2, 188)
+    ]
+}
+
+#[test]
+fn tells_a_line_that_fails_as_it_delivers(rt: HostRuntime) -> Result<(), Fail> {
+    assert_answers(&rt, rt.alloc(), [ALL, ALL, 0], &first_fails(), [0, 0])?;
+    assert_answers(&rt, rt.alloc(), [ALL, ALL, 2], &end_fails(), [2, 188])
 }
 
 /// The bytes of a frame.
 const SIZE: u64 = 4 * FRAME;
 
-/// Asserts what is answered where the read of a byte fails: at a frame's start, within its header, and before its last byte.
-fn assert_read_fails<A: Abort>(rt: &A, alloc: Global, source: Source<'_>) -> Result<(), Fail> {
-    let calls = [
+/// A fault of reading.
+const READ: Answer = Err(Fault::Read);
+
+/// Calls of which a read fails as the second frame is met; from then on nothing is met and nothing delivered.
+fn second_is_not_met() -> [Line; 6] {
+    [
         (Call::Meet, met(1, 0)),
         (Call::Deliver, DELIVERED),
-        (Call::Meet, Err(Fault::Read)),
+        (Call::Meet, READ),
         (Call::Deliver, FAILED),
         (Call::Meet, FAILED),
         (Call::Next, FAILED),
-    ];
+    ]
+}
+
+/// Asserts what is answered where the read of a byte fails: at a frame's start, within its header, and before its last byte.
+fn assert_read_fails<A: Abort>(rt: &A, alloc: Global, source: Source<'_>) -> Result<(), Fail> {
+    let script = second_is_not_met();
     for at in [0, 1, 359, 360, SIZE / 2, SIZE - 1] {
-        assert_answers_on(rt, alloc, source, [at, ALL, ALL], &calls[2..], 0, 0)?;
-        assert_answers_on(rt, alloc, source, [SIZE + at, ALL, ALL], &calls, 1, 0)?;
+        let (first, second) = ([at, ALL, ALL], [SIZE + at, ALL, ALL]);
+        assert_answers_on(rt, alloc, source, first, &script[2..], [0, 0])?;
+        assert_answers_on(rt, alloc, source, second, &script, [1, 0])?;
     }
     Ok(())
 }
@@ -438,18 +504,23 @@ fn assert_limited<A: Abort>(
     source: Source<'_>,
     limit: u64,
 ) -> Result<(), Fail> {
-    let calls = [Call::Meet, Call::Deliver, Call::Meet, Call::Deliver];
-    let called = called_within(alloc, limit, source, [ALL, ALL, ALL], &calls)?;
-    let want = [met(1, 0), DELIVERED, Err(Fault::Read), FAILED];
-    assert_called(rt, &called, &want, 1, 0);
+    let script = second_is_not_met();
+    let called = called_by_script(alloc, limit, source, PASSES, &script)?;
+    assert_script(rt, &called, &script);
+    assert_written(rt, &called, 1, 0);
+    Ok(())
+}
+
+/// Asserts it up to the second frame's last symbol.
+fn assert_each_limited<A: Abort>(rt: &A, alloc: Global, source: Source<'_>) -> Result<(), Fail> {
+    for limit in [FRAME, FRAME + 90, 2 * FRAME - 1] {
+        assert_limited(rt, alloc, source, limit)?;
+    }
     Ok(())
 }
 
 #[test]
 fn meets_nothing_behind_its_limit(rt: HostRuntime) -> Result<(), Fail> {
     let bytes = two_parts(rt.alloc())?;
-    for limit in [FRAME, FRAME + 90, 2 * FRAME - 1] {
-        assert_limited(&rt, rt.alloc(), Source::Slice(&bytes), limit)?;
-    }
-    Ok(())
+    assert_each_limited(&rt, rt.alloc(), Source::Slice(&bytes))
 }

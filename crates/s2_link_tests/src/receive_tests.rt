@@ -1,10 +1,11 @@
 //! A receiver's way through a stream, on made-up frames.
-use super::streams::{Source, packet_of_zeros};
+use super::hearing::Steps;
+use super::streams::{ALL, Source, packet_of_zeros};
 use super::toy::{
-    DUMMY, FRAME, frame, lost, put_dummy, put_frame, put_header, put_symbols, receive,
-    receive_in_bytes, receive_within, take, take_within, totals, toy,
+    DUMMY, FRAME, InBytes, Taken, Whole, frame, lost, put_dummy, put_frame, put_header,
+    put_symbols, receive, receive_in_bytes, receive_within, take, take_within, totals, toy,
 };
-use s2_mode::{ByOne, MOST_SYMBOLS, StreamFault, WriteFault};
+use s2_mode::{ByOne, StreamFault, WriteFault};
 use s2_receive::{Fault, Received, Step, Totals, laws};
 use std::alloc::{AllocError, Global};
 use std::process::Abort;
@@ -21,6 +22,27 @@ fn losing(totals: Totals, passed: u64, first: u64, torn: u64) -> Totals {
     }
 }
 
+/// Asserts what five calls answered, and the report.
+fn assert_steps<A: Abort>(rt: &A, taken: &Taken, steps: Steps, report: &str) {
+    assert_eq!(rt; taken.steps, steps);
+    assert_eq!(rt; taken.report.as_slice(), report.as_bytes());
+}
+
+/// Asserts which packets were written, and the totals.
+fn assert_came<A: Abort>(rt: &A, taken: &Taken, packets: &[u8], totals: Totals) {
+    assert_eq!(rt; taken.packets.as_slice(), packets);
+    assert_eq!(rt; taken.totals, totals);
+}
+
+/// What five calls answer where these come, and then the end.
+fn steps_of(met: &[Step]) -> Steps {
+    let mut steps = [Ok(Step::End); 5];
+    for (step, met) in steps.iter_mut().zip(met.iter()) {
+        *step = Ok(*met);
+    }
+    steps
+}
+
 /// Two frames, a third one behind ten symbols, and 40 symbols and a byte.
 fn three_frames(alloc: Global) -> Result<Vec<u8>, AllocError> {
     let mut bytes = Vec::new(alloc);
@@ -33,19 +55,20 @@ fn three_frames(alloc: Global) -> Result<Vec<u8>, AllocError> {
     Ok(bytes)
 }
 
+/// What five calls answer on these.
+fn three_steps() -> Steps {
+    steps_of(&[frame(1, 0), frame(2, FRAME), frame(3, 2 * FRAME + 10)])
+}
+
+/// Their report.
+const THREE: &str =
+    "frame 1 at 0 most-likely fixed 0\nframe 2 at 5490 most-likely fixed 0\nframe 3 at 10990 most-likely fixed 0\nend frames 3 delivered 3 packets 0 bad 0\n";
+
 /// Asserts what comes of three frames.
 fn assert_three<A: Abort>(rt: &A, alloc: Global, source: Source<'_>) -> Result<(), Fail> {
     let taken = take(alloc, source)?;
-    let end = Ok(Step::End);
-    let third = Ok(frame(3, 2 * FRAME + 10));
-    assert_eq!(rt;
-        taken.steps,
-        [Ok(frame(1, 0)), Ok(frame(2, FRAME)), third, end, end]
-    );
-    let report =
-        "frame 1 at 0 most-likely fixed 0\nframe 2 at 5490 most-likely fixed 0\nframe 3 at 10990 most-likely fixed 0\nend frames 3 delivered 3 packets 0 bad 0\n";
-    assert_eq!(rt; taken.report.as_slice(), report.as_bytes());
-    assert_eq!(rt; taken.totals, losing(totals(3, 3, 0), 10, 2 * FRAME, 2));
+    assert_steps(rt, &taken, three_steps(), THREE);
+    assert_came(rt, &taken, &[], losing(totals(3, 3, 0), 10, 2 * FRAME, 2));
     Ok(())
 }
 
@@ -91,16 +114,20 @@ fn joins_the_parts_of_a_packet_and_none_across_a_gap(rt: HostRuntime) -> Result<
     Ok(())
 }
 
-/// Asserts what is written of both parts of a packet behind a frame that is lost.
+/// What five calls answer on a frame that is lost and the two parts of a packet.
+fn lost_and_joined() -> Steps {
+    steps_of(&[lost(1, 0), frame(2, FRAME), frame(3, 2 * FRAME)])
+}
+
+/// Their report.
+const LOST_AND_JOINED: &str =
+    "frame 1 at 0 broken lost\nframe 2 at 5490 most-likely fixed 0\nframe 3 at 10980 most-likely fixed 0\nend frames 3 delivered 2 packets 1 bad 0\n";
+
+/// Asserts what comes of these.
 fn assert_joined<A: Abort>(rt: &A, alloc: Global, bytes: &[u8]) -> Result<(), Fail> {
     let taken = take(alloc, Source::Slice(bytes))?;
-    let end = Ok(Step::End);
-    let frames = [Ok(lost(1, 0)), Ok(frame(2, FRAME)), Ok(frame(3, 2 * FRAME))];
-    assert_eq!(rt; taken.steps, [frames[0], frames[1], frames[2], end, end]);
-    let report =
-        "frame 1 at 0 broken lost\nframe 2 at 5490 most-likely fixed 0\nframe 3 at 10980 most-likely fixed 0\nend frames 3 delivered 2 packets 1 bad 0\n";
-    assert_eq!(rt; taken.report.as_slice(), report.as_bytes());
-    assert_eq!(rt; taken.packets.as_slice(), packet_of_zeros().as_slice());
+    assert_steps(rt, &taken, lost_and_joined(), LOST_AND_JOINED);
+    assert_came(rt, &taken, &packet_of_zeros(), totals(3, 2, 1));
     Ok(())
 }
 
@@ -130,17 +157,19 @@ fn cut_frame(alloc: Global) -> Result<Vec<u8>, AllocError> {
     Ok(bytes)
 }
 
+/// What five calls answer on it.
+fn cut_steps() -> Steps {
+    steps_of(&[Step::Cut {
+        at: 1100,
+        symbols: FRAME - 1,
+    }])
+}
+
 /// Asserts what comes of it.
 fn assert_cut<A: Abort>(rt: &A, alloc: Global, bytes: &[u8]) -> Result<(), Fail> {
     let taken = take(alloc, Source::Slice(bytes))?;
-    let cut = Ok(Step::Cut {
-        at: 1100,
-        symbols: FRAME - 1,
-    });
-    let end = Ok(Step::End);
-    assert_eq!(rt; taken.steps, [cut, end, end, end, end]);
     let report = "cut at 1100 symbols 5489\nend frames 0 delivered 0 packets 0 bad 0\n";
-    assert_eq!(rt; taken.report.as_slice(), report.as_bytes());
+    assert_steps(rt, &taken, cut_steps(), report);
     Ok(())
 }
 
@@ -153,26 +182,33 @@ fn cuts_a_frame_and_ends(rt: HostRuntime) -> Result<(), Fail> {
 /// The line of a frame at the start.
 const FIRST: &str = "frame 1 at 0 most-likely fixed 0\n";
 
-/// Asserts that of two frames just the first comes within so many symbols; after a fault no call helps.
+/// What five calls answer where the second finds no frame within the limit: after a fault no call helps.
+fn stopped() -> Steps {
+    let mut steps = [Err(Fault::Failed); 5];
+    steps[0] = Ok(frame(1, 0));
+    steps[1] = Err(Fault::Read);
+    steps
+}
+
+/// Asserts that of two frames just the first comes within so many symbols.
 fn assert_stops<A: Abort>(rt: &A, alloc: Global, limit: u64, bytes: &[u8]) -> Result<(), Fail> {
     let taken = take_within(alloc, limit, Source::Slice(bytes))?;
-    let failed = Err(Fault::Failed);
-    let read = Err(Fault::Read);
-    assert_eq!(rt;
-        taken.steps,
-        [Ok(frame(1, 0)), read, failed, failed, failed]
-    );
-    assert_eq!(rt; taken.report.as_slice(), FIRST.as_bytes());
+    assert_steps(rt, &taken, stopped(), FIRST);
+    Ok(())
+}
+
+/// The same within each number up to the second frame's last symbol.
+fn assert_each_stops<A: Abort>(rt: &A, alloc: Global, bytes: &[u8]) -> Result<(), Fail> {
+    for limit in [FRAME, FRAME + 1, FRAME + 90, 2 * FRAME - 1] {
+        assert_stops(rt, alloc, limit, bytes)?;
+    }
     Ok(())
 }
 
 #[test]
 fn stops_at_its_limit(rt: HostRuntime) -> Result<(), Fail> {
     let bytes = frames_of(rt.alloc(), &[1], 0, 1)?;
-    for limit in [FRAME, FRAME + 1, FRAME + 90, 2 * FRAME - 1] {
-        assert_stops(&rt, rt.alloc(), limit, &bytes)?;
-    }
-    Ok(())
+    assert_each_stops(&rt, rt.alloc(), &bytes)
 }
 
 #[test]
@@ -185,11 +221,16 @@ fn has_room_within_any_limit(rt: HostRuntime) -> Result<(), Fail> {
 }
 
 /// Asserts that a failed write of packets is told.
-fn assert_write_fails<A: Abort>(rt: &A, alloc: Global, bytes: &[u8]) -> Result<(), Fail> {
-    let received = receive_in_bytes(alloc, bytes, [0, u64::MAX])?;
+fn assert_told<A: Abort>(rt: &A, received: &InBytes) {
     assert_eq!(rt; received.answer, Err(WriteFault));
     assert!(rt; received.packets.is_empty());
     assert_eq!(rt; received.report.as_slice(), FIRST.as_bytes());
+}
+
+/// Asserts it of bytes in memory.
+fn assert_write_fails<A: Abort>(rt: &A, alloc: Global, bytes: &[u8]) -> Result<(), Fail> {
+    let received = receive_in_bytes(alloc, bytes, [0, ALL])?;
+    assert_told(rt, &received);
     Ok(())
 }
 
@@ -222,38 +263,47 @@ const LINES: [&str; 4] = [
     "frame 1 at 3330 most-likely fixed 0\nframe 2 at 15480 most-likely fixed 0\nend frames 2 delivered 2 packets 1 bad 0\n",
 ];
 
+/// What five calls answer on the two parts.
+fn parts_steps() -> Steps {
+    steps_of(&[frame(1, DUMMY), frame(2, SECOND)])
+}
+
 /// Asserts what comes of the two parts.
 fn assert_parts<A: Abort>(rt: &A, alloc: Global, bytes: &[u8]) -> Result<(), Fail> {
     let taken = take(alloc, Source::Bytes(ByOne::new(bytes)))?;
-    let end = Ok(Step::End);
-    assert_eq!(rt;
-        taken.steps,
-        [Ok(frame(1, DUMMY)), Ok(frame(2, SECOND)), end, end, end]
-    );
-    assert_eq!(rt; taken.report.as_slice(), LINES[3].as_bytes());
-    assert_eq!(rt; taken.packets.as_slice(), packet_of_zeros().as_slice());
-    assert_eq!(rt; taken.totals, totals(2, 2, 1));
+    assert_steps(rt, &taken, parts_steps(), LINES[3]);
+    assert_came(rt, &taken, &packet_of_zeros(), totals(2, 2, 1));
     Ok(())
+}
+
+/// The same where the last dummy frame has so many symbols.
+fn assert_parts_with<A: Abort>(rt: &A, alloc: Global, last: u32) -> Result<(), Fail> {
+    let bytes = parts(alloc, last)?;
+    assert_parts(rt, alloc, &bytes)
 }
 
 #[test]
 fn joins_across_dummy_frames_byte_by_byte(rt: HostRuntime) -> Result<(), Fail> {
     for last in [3330, 3329, 100, 90] {
-        let bytes = parts(rt.alloc(), last)?;
-        assert_parts(&rt, rt.alloc(), &bytes)?;
+        assert_parts_with(&rt, rt.alloc(), last)?;
     }
     Ok(())
 }
 
-/// The totals of the two parts of a packet with a dummy frame between them, before and behind which stand so many
-/// symbols.
-fn totals_around(alloc: Global, before: u32, behind: u32) -> Result<Totals, Fail> {
+/// The two parts of a packet with a dummy frame between them, before and behind which stand so many symbols.
+fn parts_around(alloc: Global, before: u32, behind: u32) -> Result<Vec<u8>, AllocError> {
     let mut bytes = Vec::new(alloc);
     put_frame(&mut bytes, 1)?;
     put_symbols(&mut bytes, before)?;
     put_dummy(&mut bytes, 3330)?;
     put_symbols(&mut bytes, behind)?;
     put_frame(&mut bytes, 2)?;
+    Ok(bytes)
+}
+
+/// Their totals.
+fn totals_around(alloc: Global, before: u32, behind: u32) -> Result<Totals, Fail> {
+    let bytes = parts_around(alloc, before, behind)?;
     Ok(receive(alloc, &bytes)?.totals)
 }
 
@@ -280,14 +330,24 @@ fn hidden_frame(alloc: Global) -> Result<Vec<u8>, AllocError> {
     Ok(bytes)
 }
 
+/// Where the first part stands.
+const BEHIND_HIDDEN: u64 = 20 + 1000 + FRAME + 70;
+
+/// What five calls answer on these.
+fn found_steps() -> Steps {
+    steps_of(&[frame(1, BEHIND_HIDDEN), frame(2, BEHIND_HIDDEN + FRAME)])
+}
+
+/// Their report.
+const FOUND: &str =
+    "frame 1 at 6580 most-likely fixed 0\nframe 2 at 12070 most-likely fixed 0\nend frames 2 delivered 2 packets 1 bad 0\n";
+
 /// Asserts what comes of these: what of the hidden frame stands behind the dummy frame's end is passed over.
 fn assert_found<A: Abort>(rt: &A, alloc: Global, bytes: &[u8]) -> Result<(), Fail> {
     let taken = take(alloc, Source::Slice(bytes))?;
-    let first = 20 + 1000 + FRAME + 70;
-    let end = Ok(Step::End);
-    let frames = [Ok(frame(1, first)), Ok(frame(2, first + FRAME))];
-    assert_eq!(rt; taken.steps, [frames[0], frames[1], end, end, end]);
-    assert_eq!(rt; taken.totals, losing(totals(2, 2, 1), first - DUMMY, 0, 0));
+    assert_steps(rt, &taken, found_steps(), FOUND);
+    let want = losing(totals(2, 2, 1), BEHIND_HIDDEN - DUMMY, 0, 0);
+    assert_came(rt, &taken, &packet_of_zeros(), want);
     Ok(())
 }
 
@@ -306,20 +366,31 @@ fn dummies(alloc: Global, count: u32) -> Result<Vec<u8>, AllocError> {
     Ok(bytes)
 }
 
+/// What comes of them.
+fn received_of_dummies(alloc: Global, count: u32) -> Result<Received, Fail> {
+    let bytes = dummies(alloc, count)?;
+    receive(alloc, &bytes)
+}
+
 #[test]
 fn ends_behind_dummy_frames_alone(rt: HostRuntime) -> Result<(), Fail> {
-    let bytes = dummies(rt.alloc(), 30)?;
-    let received = receive(rt.alloc(), &bytes)?;
+    let received = received_of_dummies(rt.alloc(), 30)?;
     assert_eq!(rt; received.totals, totals(0, 0, 0));
     assert!(rt; received.well);
     Ok(())
 }
 
-/// The totals of a frame and so many symbols behind it.
-fn totals_behind(alloc: Global, passed: u32) -> Result<Totals, Fail> {
+/// A frame, and so many symbols behind it.
+fn frame_before(alloc: Global, passed: u32) -> Result<Vec<u8>, AllocError> {
     let mut bytes = Vec::new(alloc);
     put_frame(&mut bytes, 1)?;
     put_symbols(&mut bytes, passed)?;
+    Ok(bytes)
+}
+
+/// Their totals.
+fn totals_behind(alloc: Global, passed: u32) -> Result<Totals, Fail> {
+    let bytes = frame_before(alloc, passed)?;
     Ok(receive(alloc, &bytes)?.totals)
 }
 
@@ -340,15 +411,26 @@ fn header_alone(alloc: Global) -> Result<Vec<u8>, AllocError> {
     Ok(bytes)
 }
 
+/// Their totals.
+fn totals_of_header(alloc: Global) -> Result<Totals, Fail> {
+    let bytes = header_alone(alloc)?;
+    Ok(receive(alloc, &bytes)?.totals)
+}
+
 #[test]
 fn counts_what_is_passed_over_before_a_cut_frame(rt: HostRuntime) -> Result<(), Fail> {
-    let bytes = header_alone(rt.alloc())?;
     let want = Totals {
         cut: true,
         ..losing(totals(1, 1, 0), 3, FRAME, 1)
     };
-    assert_eq!(rt; receive(rt.alloc(), &bytes)?.totals, want);
+    assert_eq!(rt; totals_of_header(rt.alloc())?, want);
     Ok(())
+}
+
+/// Asserts that a run stopped, and its report.
+fn assert_stopped<A: Abort>(rt: &A, whole: &Whole, report: &str) {
+    assert_eq!(rt; whole.answer, Err(StreamFault::Read));
+    assert_eq!(rt; whole.report.as_slice(), report.as_bytes());
 }
 
 /// Asserts that so many lines come within so many symbols.
@@ -360,14 +442,12 @@ fn assert_limited<A: Abort>(
     lines: usize,
 ) -> Result<(), Fail> {
     let whole = receive_within(alloc, limit, bytes)?;
-    assert_eq!(rt; whole.answer, Err(StreamFault::Read));
-    assert_eq!(rt; whole.report.as_slice(), LINES[lines.min(3)].as_bytes());
+    assert_stopped(rt, &whole, LINES[lines.min(3)]);
     Ok(())
 }
 
-#[test]
-fn stops_at_its_limit_inside_a_dummy_frame(rt: HostRuntime) -> Result<(), Fail> {
-    let bytes = parts(rt.alloc(), 3330)?;
+/// Asserts it within each of these.
+fn assert_each_limited<A: Abort>(rt: &A, alloc: Global, bytes: &[u8]) -> Result<(), Fail> {
     for (limit, lines) in [
         (DUMMY - 1, 0),
         (DUMMY + FRAME - 1, 0),
@@ -378,16 +458,13 @@ fn stops_at_its_limit_inside_a_dummy_frame(rt: HostRuntime) -> Result<(), Fail> 
         (SECOND + FRAME, 2),
         (SECOND + FRAME + DUMMY - 1, 2),
     ] {
-        assert_limited(&rt, rt.alloc(), &bytes, limit, lines)?;
+        assert_limited(rt, alloc, bytes, limit, lines)?;
     }
     Ok(())
 }
 
 #[test]
-fn comes_to_its_end_within_its_limit(rt: HostRuntime) -> Result<(), Fail> {
+fn stops_at_its_limit_inside_a_dummy_frame(rt: HostRuntime) -> Result<(), Fail> {
     let bytes = parts(rt.alloc(), 3330)?;
-    let whole = receive_within(rt.alloc(), MOST_SYMBOLS, &bytes)?;
-    assert!(rt; whole.answer.is_ok());
-    assert_eq!(rt; whole.report.as_slice(), LINES[3].as_bytes());
-    Ok(())
+    assert_each_limited(&rt, rt.alloc(), &bytes)
 }
