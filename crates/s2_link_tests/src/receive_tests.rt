@@ -5,7 +5,7 @@ use super::toy::{
     DUMMY, FRAME, InBytes, Taken, Whole, frame, lost, put_dummy, put_frame, put_header,
     put_symbols, receive, receive_in_bytes, receive_within, take, take_within, totals, toy,
 };
-use s2_mode::{ByOne, StreamFault, WriteFault};
+use s2_mode::{ByOne, MOST_SYMBOLS, StreamFault, WriteFault};
 use s2_receive::{Fault, Received, Step, Totals, laws};
 use std::alloc::{AllocError, Global};
 use std::process::Abort;
@@ -211,11 +211,19 @@ fn stops_at_its_limit(rt: HostRuntime) -> Result<(), Fail> {
     assert_each_stops(&rt, rt.alloc(), &bytes)
 }
 
+/// The totals of a new receiver that takes at most so many symbols.
+fn totals_before(alloc: Global, limit: u64) -> Result<Totals, Fail> {
+    let receiver = toy(alloc, limit.min(MOST_SYMBOLS))?;
+    Ok(receiver.totals())
+}
+
 #[test]
 fn has_room_within_any_limit(rt: HostRuntime) -> Result<(), Fail> {
-    for limit in 0..FRAME + 1 {
-        let receiver = toy(rt.alloc(), limit)?;
-        assert_eq!(rt; receiver.totals(), totals(0, 0, 0));
+    for limit in 0..101u64 {
+        assert_eq!(rt; totals_before(rt.alloc(), limit)?, totals(0, 0, 0));
+    }
+    for limit in [FRAME - 1, FRAME, FRAME + 1] {
+        assert_eq!(rt; totals_before(rt.alloc(), limit)?, totals(0, 0, 0));
     }
     Ok(())
 }
