@@ -47,6 +47,6 @@ returns-in-Err-clause-read g c = λ is.
     let so = c.steps.invariant in
     let told : c.of_stream.result ≡ stream_faults.Read = cc in
     let answer = subst (λ f. StepAnswers (rules_of g.D.Decide.decide c.steps.receiver) c.steps.receiver.state c.next.new.self.state (ends c.steps.reader c.steps.packets c.steps.report)
-        (ends c.next.new.reader c.next.new.packets c.next.new.report) (Err f)) (sym c.of_stream.ensures ∙ ap fault_of told) (c.in-Err.ensures.live so.live) in
+    (ends c.next.new.reader c.next.new.packets c.next.new.report) (Err f)) (sym c.of_stream.ensures ∙ ap fault_of told) (c.in-Err.ensures.live so.live) in
     may_stop (rules_of g.D.Decide.decide c.args.receiver.now) (rules_of g.D.Decide.decide c.steps.receiver) c.args.receiver.now.state c.steps.receiver.state c.next.new.self.state
     (ends c.args.reader.now c.args.packets.now c.args.report.now) (ends c.steps.reader c.steps.packets c.steps.report) (ends c.next.new.reader c.next.new.packets c.next.new.report) so.rules c.steps.well so.came answer so.counts.0

@@ -16,7 +16,7 @@ invariant-steps g l =
       live : IsLive l.receiver.state.phase;
       counts :
           (g.R.Counted.count l.reader ≡ g.R.Counted.count l.fn.reader) × (g.P.Counted.count l.packets ≡ g.P.Counted.count l.fn.packets)
-          × (g.W.Counted.count l.report ≡ g.W.Counted.count l.fn.report)
+          × (g.W.Counted.count l.report ≡ g.W.Counted.count l.fn.report);
     }
 
 -- how many frames, and the end, may still be met at most
