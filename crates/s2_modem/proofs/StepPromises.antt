@@ -133,7 +133,7 @@ unfolding frame_decision
 frame_soft_is link tuning symbols =
     decision_soft link.setup.mode (frame_soft link tuning symbols) (decided link.rows tuning (frame_soft link tuning symbols)) _
 
-pub record IsPromised {E : Type 0} (old : Receiver) (last : Decision) (bytes : Option (List ℕ)) (result : Result Step E) : Type 0 where
+pub record IsPromised (old : Receiver) (last : Decision) (bytes : Option (List ℕ)) (result : Result Step Fault) : Type 0 where
   pub as_likely : OnFrame result (λ r. IsAsLikely (code_of old.link.rows) last.soft r.verdict last.bits)
   pub certified : OnFrame result (λ r. IsCertifiedBy old.link.rows r.verdict last)
   pub within : OnFrame result (λ r. IsCorrected old.link.setup.mode last r.outcome)
@@ -142,24 +142,24 @@ pub record IsPromised {E : Type 0} (old : Receiver) (last : Decision) (bytes : O
 
 module _ (old : Receiver) (last : Decision) (bytes : Option (List ℕ)) (all : Promises old.link old.tuning) where
   -- what holds of each decision of the link holds of the last one, as it is reported
-  on_frame : {E : Type 0} (P : Verdict → Outcome → Decision → Type 0) (step : Step) → ((symbols : List Symbol) → P (frame_decision old.link old.tuning symbols).verdict (frame_decision old.link old.tuning symbols).outcome (frame_decision old.link old.tuning symbols))
-      → TellsLast (rules_for old) old.state.standing.totals last step → OnFrame {E} (Ok step) (λ r. P r.verdict r.outcome last)
-  on_frame P (steps.Frame r) each tells =
+  on_frame : (E : Type 0) (P : Verdict → Outcome → Decision → Type 0) (step : Step) → ((symbols : List Symbol) → P (frame_decision old.link old.tuning symbols).verdict (frame_decision old.link old.tuning symbols).outcome (frame_decision old.link old.tuning symbols))
+      → TellsLast (rules_for old) old.state.standing.totals last step → OnFrame {E = E} (Ok step) (λ r. P r.verdict r.outcome last)
+  on_frame E P (steps.Frame r) each tells =
       let told = tells r refl in
       subst (λ (x : Report). P x.verdict x.outcome last) (sym told.2) (subst (λ (d : Decision). P d.verdict d.outcome d) (sym told.1) (each told.0))
-  on_frame P (steps.Cut at count) each tells = tt
-  on_frame P steps.End each tells = tt
+  on_frame E P (steps.Cut at count) each tells = tt
+  on_frame E P steps.End each tells = tt
 
-  pub promised : {E : Type 0} (result : Result Step E) → IfOk result (Shows (rules_for old) old.state bytes last) → IsPromised old last bytes result
+  promised : (result : Result Step Fault) → IfOk result (Shows (rules_for old) old.state bytes last) → IsPromised old last bytes result
   promised (Err fault) shows = record { as_likely = tt; certified = tt; within = tt; heard = tt; both_codes = tt }
   promised (Ok step) shows =
       let m = old.link.setup.mode in
       let code = code_of old.link.rows in
       record {
-        as_likely = on_frame (λ v o d. IsAsLikely code d.soft v d.bits) step
+        as_likely = on_frame Fault (λ v o d. IsAsLikely code d.soft v d.bits) step
             (λ symbols. (let d = frame_decision old.link old.tuning symbols in subst (λ soft. IsAsLikely code soft d.verdict d.bits) (sym (frame_soft_is old.link old.tuning symbols)) (all.as_likely symbols))) shows.0;
-        certified = on_frame (λ v o d. IsCertifiedBy old.link.rows v d) step (λ symbols. (all.told symbols).certified) shows.0;
-        within = on_frame (λ v o d. IsCorrected m d o) step (λ symbols. (all.told symbols).within) shows.0;
+        certified = on_frame Fault (λ v o d. IsCertifiedBy old.link.rows v d) step (λ symbols. (all.told symbols).certified) shows.0;
+        within = on_frame Fault (λ v o d. IsCorrected m d o) step (λ symbols. (all.told symbols).within) shows.0;
         heard = λ at field codeword symbols sent clear stands.
             (let h = all.heard.clear (nat_lt 0 old.state.at) at field codeword symbols sent clear in
             let there = shows.1 symbols stands.rest stands.searching stands.spelt h.0.0 h.0.1 in
@@ -170,3 +170,18 @@ module _ (old : Receiver) (last : Decision) (bytes : Option (List ℕ)) (all : P
             let few' = subst (λ (d : Decision). differences (k_of m) (received_word m d.bits) word ≤ t_of m) there.1 few in
             (there.0, subst (λ (d : Decision). IsDelivered d (differences (k_of m) (received_word m d.bits) word) (message_of m word) (header_at old.link.setup.roll_off at field) field) (sym there.1) (all.heard.corrected at symbols field codeword sent few')));
       }
+
+module _ (v w : Receiver) (new : State) (last : Decision) (result : Result Step Fault) (is : v ≡ w) (all : Promises v.link v.tuning) (rules : Rules) (same : rules ≡ rules_for v) where
+  shown : (bytes : Option (List ℕ)) → IfOk result (Shows rules v.state bytes last) → IsPromised w last bytes result
+  shown bytes shows = subst (λ (x : Receiver). IsPromised x last bytes result) is (promised v last bytes all result (subst (λ (x : Rules). IfOk result (Shows x v.state bytes last)) same shows))
+
+  large : 90 ≤ rules.size
+  large = subst (λ (x : Rules). 90 ≤ x.size) (sym same) all.heard.least
+
+  pub meet_promised : (r r' : Option (List ℕ)) → IfOk result (λ step. IsLive v.state.phase → Finds rules v.state new r r' last step) → (v.state.phase ≡ phases.Ended → result ≡ Ok steps.End)
+      → IsErrOf result faults.Failed ↔ ((IsLive v.state.phase → ⊥) × (v.state.phase ≢ phases.Ended)) → IsPromised w last r result
+  meet_promised r r' finds ends fails = shown r (meet_shows rules large v.state new last r r' result finds ends fails.1)
+
+  pub next_promised : (before behind : Streams) → (IsLive v.state.phase → StepAnswers rules v.state new before behind result)
+      → ((r : Report) → result ≡ Ok (steps.Frame r) → MetFrame rules v.state new before behind r last) → IsPromised w last before.taken result
+  next_promised before behind answers frames = shown before.taken (next_shows rules large v.state new last before behind result answers frames)
