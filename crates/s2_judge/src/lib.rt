@@ -22,6 +22,7 @@ mod certifier;
 mod ground;
 mod judge;
 pub mod laws;
+mod mending;
 mod steps;
 
 pub use judge::Judge;

@@ -1,7 +1,7 @@
 -- The packets that are written, and the events that come to the joiner.
-use Rattle.std.proofs.Common.{◌≡◌, ℕ, ◌+◌, true, false, cond, List, [], ◌∷◌, ◌++◌, Option, None, length, refl, sym, ap, ◌∙◌, append_assoc, append-nil, length-append, arith}
+use Rattle.std.proofs.Common.{◌≡◌, ◌+◌, true, false, cond, List, [], ◌∷◌, ◌++◌, None, length, refl, sym, ap, ◌∙◌, length-append, arith}
 use Rattle.std.proofs.lemmas.List.Concat.{flat_map-append}
-use Rattle.s2_bbframe.specs.Joining.{Event, gap, Joined, step, still, begun_body, torn_in, torn, and_then, joining}
+use Rattle.s2_bbframe.specs.Joining.{gap, Joined, step, still, begun_body, torn_in, torn, and_then, joining}
 use Rattle.s2_bbframe.proofs.Events.{none-and_then, joining-append, joining-one, torn-append}
 use Rattle.s2_receive.specs.Meeting.{Met, frame, cut, ended, is_over}
 use Rattle.s2_receive.specs.Receiving.{Rules, Standing, after, all_packets, packets_of, delivery, joined_after}

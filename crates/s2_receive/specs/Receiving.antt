@@ -262,7 +262,8 @@ pub record Told (rules : Rules) (old new : State) (met : Met) (to : ℕ) (packet
 -- or a write failed on the way
 abbrev pub Tells : {E : Type 0} → Rules → State → State → Met → ℕ → (packets_old packets_new report_old report_new : Option (List ℕ)) → Result ⊤ E → Type 0
 Tells rules old new met to p p' w w' (Ok told) = Told rules old new met to p p' w w'
-Tells rules old new met to p p' w w' (Err fault) = (new.phase ≡ phases.Failed) × FailsIn (packets_of rules old.standing met) (line_of rules old.standing met) p p' w w'
+Tells rules old new met to p p' w w' (Err fault) =
+    (new.phase ≡ phases.Failed) × FailsIn (packets_of rules old.standing met) (line_of rules old.standing met) p p' w w' × (new.at ≡ old.at)
 
 -- ---- steps
 

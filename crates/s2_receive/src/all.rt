@@ -85,7 +85,7 @@ pub fn receive_bytes<D: Decide, P: CountedWrite, W: CountedWrite>(
     requires limit { length bytes.now < 4 * receiver.old.limit }
     ensures all { let ends = streams_by (λ b. Some b) (λ b. 0) P.contents P.count W.contents W.count in
         OnOk result ((left : Option (List ℕ)) × RunsOut (rules_of D.decide receiver.old) begun receiver.new.state
-            (ends bytes.now packets.old report.old) (record (ends bytes.now packets.new report.new) { taken = left })) }
+        (ends bytes.now packets.old report.old) (record (ends bytes.now packets.new report.new) { taken = left })) }
     ensures totals { IfOk result (λ totals. totals ≡ receiver.new.state.standing.totals) }
     ensures breaks { let ends = streams_by (λ b. Some b) (λ b. 0) P.contents P.count W.contents W.count in
         OnErr result (BreaksAfter (rules_of D.decide receiver.old) begun (ends bytes.now packets.old report.old) (ends bytes.now packets.new report.new)) }

@@ -1,7 +1,7 @@
 //! What finds the frames of one mode.
 ghost use Rattle.std.specs.Prelude.{◌≡◌, ◌≤◌, [], IfOk, OnErr, length, nat_lt};
 ghost use Rattle.s2_mode.specs.Counts.{CanCount};
-ghost use Rattle.s2_mode.specs.Limits.{most_symbols};
+ghost use Rattle.s2_mode.specs.Limits.{header_symbols, most_symbols};
 ghost use Rattle.s2_mode.specs.Mode.{symbols_in};
 ghost use Rattle.s2_receive.specs.Finding.{FindsNext, StopsShort};
 ghost use Rattle.s2_receive.specs.Meeting.{met_in, nothing_over};
@@ -89,6 +89,7 @@ impl Finder {
     pub(crate) fn frame(&self) -> &[Symbol]
         ensures is { result.now ≡ self.now.frame }
         ensures size { length self.now.frame ≡ symbols_in self.now.mode }
+        ensures least { header_symbols ≤ symbols_in self.now.mode }
     {
         &self.frame
     }

@@ -138,6 +138,7 @@ impl<D: Decide> Receiver<D> {
             → Finds (rules_of D.decide self.old) self.old.state self.new.state (R.remaining reader.old) (R.remaining reader.new) (D.last self.new.decider) step) }
         ensures stops { IsErrOf result Fault.Read → (self.new.state ≡ record self.old.state { phase = phases.Failed })
             × Stops (rules_of D.decide self.old) self.old.state (R.remaining reader.old) (R.remaining reader.new) (R.count reader.old) (R.count reader.new) }
+        ensures bounded { self.new.state.at ≤ self.old.limit }
         ensures no_read { result ≢ Err Fault.Read → R.count reader.new ≡ R.count reader.old }
         ensures no_write { result ≢ Err Fault.Write }
         ensures ended { self.old.state.phase ≡ phases.Ended → result ≡ Ok Step.End }
@@ -188,6 +189,7 @@ impl<D: Decide> Receiver<D> {
         requires closing { self.old.state.phase ≡ phases.Closing }
         ensures rules { rules_of D.decide self.new ≡ rules_of D.decide self.old }
         ensures same { (self.new.mode ≡ self.old.mode) × (self.new.lock ≡ self.old.lock) × (self.new.limit ≡ self.old.limit) }
+        ensures at { self.new.state.at ≡ self.old.state.at }
         ensures finds { (bytes : Option (List ℕ)) → Finds (rules_of D.decide self.old) self.old.state self.new.state bytes bytes (D.last self.new.decider) result }
     {
         self.place.phase = Phase::Met(Next::End {
@@ -202,7 +204,11 @@ impl<D: Decide> Receiver<D> {
     ///
     /// `Write` tells that one of the two writers failed, which then has a part of the packets or of the line; the receiver counts as
     /// failed from then on. After the end it writes nothing. Where nothing was met it answers `Failed` and writes nothing.
-    pub fn deliver<P: CountedWrite, W: CountedWrite>(&mut self, packets: &mut P, report: &mut W) -> Result<(), Fault>
+    pub fn deliver<P: CountedWrite, W: CountedWrite>(
+        &mut self,
+        packets: &mut P,
+        report: &mut W,
+    ) -> Result<(), Fault>
         requires packets { CanCount (P.count packets.old) }
         requires report { CanCount (W.count report.old) }
         ensures rules { rules_of D.decide self.new ≡ rules_of D.decide self.old }
@@ -211,7 +217,8 @@ impl<D: Decide> Receiver<D> {
         ensures tells { (next : NextValue) (symbols : List SymbolValue) → self.old.state.phase ≡ phases.Met next
             → IsDecided (rules_of D.decide self.old) (met_of next symbols) (D.last self.old.decider)
             → Tells (rules_of D.decide self.old) self.old.state self.new.state (met_of next symbols) (place_after (symbols_in self.old.mode) next)
-                (P.contents packets.old) (P.contents packets.new) (W.contents report.old) (W.contents report.new) result }
+            (P.contents packets.old) (P.contents packets.new) (W.contents report.old) (W.contents report.new) result }
+        ensures bounded { self.new.state.at ≤ self.old.limit }
         ensures write { IsErrOf result Fault.Write → OneFailed (P.count packets.old) (P.count packets.new) (W.count report.old) (W.count report.new) }
         ensures no_write { result ≢ Err Fault.Write → NoneFailed (P.count packets.old) (P.count packets.new) (W.count report.old) (W.count report.new) }
         ensures no_read { result ≢ Err Fault.Read }
@@ -246,10 +253,10 @@ impl<D: Decide> Receiver<D> {
         ensures same { (self.new.mode ≡ self.old.mode) × (self.new.lock ≡ self.old.lock) × (self.new.limit ≡ self.old.limit) }
         ensures live { let ends = streams_by R.remaining R.count P.contents P.count W.contents W.count in
             IsLive self.old.state.phase → StepAnswers (rules_of D.decide self.old) self.old.state self.new.state
-                (ends reader.old packets.old report.old) (ends reader.new packets.new report.new) result }
+            (ends reader.old packets.old report.old) (ends reader.new packets.new report.new) result }
         ensures frame { let ends = streams_by R.remaining R.count P.contents P.count W.contents W.count in
             (r : ReportValue) → result ≡ Ok (Step.Frame r) → MetFrame (rules_of D.decide self.old) self.old.state self.new.state
-                (ends reader.old packets.old report.old) (ends reader.new packets.new report.new) r (D.last self.new.decider) }
+            (ends reader.old packets.old report.old) (ends reader.new packets.new report.new) r (D.last self.new.decider) }
         ensures taken { StandsBehind (symbols_in self.old.mode) self.new.state.at result }
         ensures bounded { self.new.state.at ≤ self.old.limit }
         ensures ended { self.old.state.phase ≡ phases.Ended → result ≡ Ok Step.End }
