@@ -1,7 +1,7 @@
 -- What a step promises of its answer.
 use Rattle.std.proofs.Common.{◌≡◌, ◌≢◌, ℕ, ◌<◌, ◌≤◌, List, [], ◌∷◌, ◌++◌, length, take, ℤ, Option, Some, None, Bool, Result, Ok, Err, IfOk, refl, sym, ap, subst, ◌∙◌}
 use Rattle.std.specs.Prelude.{nat_lt, ◌↔◌, IsErrOf}
-use Rattle.s2_mode.specs.Mode.{Mode, k_of, t_of}
+use Rattle.s2_mode.specs.Mode.{k_of, t_of}
 use Rattle.s2_mode.specs.Streams.{Streams}
 use Rattle.s2_mode.specs.declared.symbols.Symbol.{Symbol}
 use Rattle.s2_bits.specs.Bits.{differences}
@@ -9,7 +9,6 @@ use Rattle.s2_matrix.specs.Code.{code_of}
 use Rattle.s2_plframe.specs.declared.receive.found.Found.TheVariants as founds
 use Rattle.s2_bbframe.specs.DataStream.{header_at}
 use Rattle.s2_check.specs.declared.verdict.Verdict.{Verdict}
-use Rattle.s2_judge.specs.Deciding.{Decided, decided}
 use Rattle.s2_receive.specs.Meeting.{Met, frame, cut, ended, nothing_over, met_from}
 use Rattle.s2_receive.specs.Finding.{Meets, met_of}
 use Rattle.s2_receive.specs.Laws.{Spells}
@@ -24,13 +23,12 @@ use Rattle.s2_receive.specs.declared.report.Step.{Step}
 use Rattle.s2_receive.specs.declared.report.Step.TheVariants as steps
 use Rattle.s2_receive.specs.declared.report.Totals.{Totals}
 use Rattle.s2_receive.proofs.MetLemmas.{whole_frame}
-use Rattle.s2_link.specs.Link.{Link}
-use Rattle.s2_link.specs.Tuning.{Tuning}
-use Rattle.s2_modem.specs.Reports.{frame_soft, received_word, message_of, decision_by, frame_decision}
+use Rattle.s2_modem.specs.Reports.{received_word, message_of, frame_decision}
 use Rattle.s2_modem.specs.Both.{IsDelivered, IsDeliveredCertified}
 use Rattle.s2_modem.specs.Reception.{Receiver, IsAsLikely, IsCertifiedBy, IsCorrected, rules_for}
 use Rattle.s2_modem.specs.Steps.{OnFrame, IsFrameAt, Heard, Corrects}
 use Rattle.s2_modem.specs.Promise.{Promises}
+use Rattle.s2_modem.proofs.CleanFrames.{frame_is}
 
 -- ---- what was met
 
@@ -124,15 +122,6 @@ module _ (rules : Rules) (large : 90 ≤ rules.size) (old new : State) (last : D
 
 -- ---- what is promised of it
 
-decision_soft : (m : Mode) (soft : List ℤ) (d : Decided) (o : Option (List Bool)) → (decision_by m soft d o).soft ≡ soft
-decision_soft m soft d (Some word) = refl
-decision_soft m soft d None = refl
-
-frame_soft_is : (link : Link) (tuning : Tuning) (symbols : List Symbol) → (frame_decision link tuning symbols).soft ≡ frame_soft link tuning symbols
-unfolding frame_decision
-frame_soft_is link tuning symbols =
-    decision_soft link.setup.mode (frame_soft link tuning symbols) (decided link.rows tuning (frame_soft link tuning symbols)) _
-
 pub record IsPromised (old : Receiver) (last : Decision) (bytes : Option (List ℕ)) (result : Result Step Fault) : Type 0 where
   pub as_likely : OnFrame result (λ r. IsAsLikely (code_of old.link.rows) last.soft r.verdict last.bits)
   pub certified : OnFrame result (λ r. IsCertifiedBy old.link.rows r.verdict last)
@@ -157,7 +146,7 @@ module _ (old : Receiver) (last : Decision) (bytes : Option (List ℕ)) (all : P
       let code = code_of old.link.rows in
       record {
         as_likely = on_frame Fault (λ v o d. IsAsLikely code d.soft v d.bits) step
-            (λ symbols. (let d = frame_decision old.link old.tuning symbols in subst (λ soft. IsAsLikely code soft d.verdict d.bits) (sym (frame_soft_is old.link old.tuning symbols)) (all.as_likely symbols))) shows.0;
+            (λ symbols. (let d = frame_decision old.link old.tuning symbols in subst (λ soft. IsAsLikely code soft d.verdict d.bits) (sym (frame_is old.link old.tuning symbols).soft_is) (all.as_likely symbols))) shows.0;
         certified = on_frame Fault (λ v o d. IsCertifiedBy old.link.rows v d) step (λ symbols. (all.told symbols).certified) shows.0;
         within = on_frame Fault (λ v o d. IsCorrected m d o) step (λ symbols. (all.told symbols).within) shows.0;
         heard = λ at field codeword symbols sent clear stands.
