@@ -1,5 +1,5 @@
--- What the repair holds at some places.
-use Rattle.std.proofs.Common.{◌≡◌, ℕ, ◌+◌, ◌<◌, Bool, false, cond, List, [], ◌∷◌, get_or, count_by, All, ℤ, refl, sym, ap, ap₂, ◌∙◌, arith}
+-- How many ones lists by a rule hold at some places.
+use Rattle.std.proofs.Common.{◌≡◌, ℕ, ◌+◌, ◌<◌, Bool, false, cond, List, [], ◌∷◌, get_or, map, count_by, All, ℤ, refl, sym, ap, ap₂, ◌∙◌, arith}
 use Rattle.std.proofs.lemmas.List.{get_or-map}
 use Rattle.std.proofs.lemmas.List.Elements.{All-head, All-tail}
 use Rattle.std.proofs.lemmas.List.Sums.{sum_by-cons}
@@ -21,13 +21,16 @@ count_same p q (x ∷ xs) same =
     let tail = count_same p q xs (All-tail (λ y. p y ≡ q y) x xs same) in
     count_cons p x xs ∙ ap₂ (λ (b : Bool) (n : ℕ). cond b 1 0 + n) here tail ∙ sym (count_cons q x xs)
 
-pub bit_repaired : (code : Code) (soft : List ℤ) (i : ℕ) → i < code.bits → bit_at (repaired code soft) i ≡ repaired_bit code (hard_decision soft) i
-bit_repaired code soft i low =
-    let f = repaired_bit code (hard_decision soft) in
-    let n = code.bits in
+-- a list that holds what f gives of each number below n
+bit_mapped : (f : ℕ → Bool) (n i : ℕ) → i < n → bit_at (map f (upto n)) i ≡ f i
+bit_mapped f n i low =
     let place : get_or (upto n) i 0 ≡ i = get_or-range_with_len 0 n i 0 low ∙ omega arith in
     get_or-map f (upto n) i 0 false (omega (arith, length-range_with_len 0 n)) ∙ ap f place
 
+pub ones_mapped : (f : ℕ → Bool) (n : ℕ) (places : List ℕ) → All (λ i. i < n) places → count_by f places ≡ count_by (bit_at (map f (upto n))) places
+ones_mapped f n places below =
+    count_same f (bit_at (map f (upto n))) places (λ k d within. sym (bit_mapped f n (get_or places k d) (below k d within)))
+
 pub ones_repaired : (code : Code) (soft : List ℤ) (places : List ℕ) → All (λ i. i < code.bits) places → count_by (repaired_bit code (hard_decision soft)) places ≡ count_by (bit_at (repaired code soft)) places
 ones_repaired code soft places below =
-    count_same (repaired_bit code (hard_decision soft)) (bit_at (repaired code soft)) places (λ k d within. sym (bit_repaired code soft (get_or places k d) (below k d within)))
+    ones_mapped (repaired_bit code (hard_decision soft)) code.bits places below

@@ -23,6 +23,7 @@ mod ground;
 mod judge;
 pub mod laws;
 mod mending;
+mod odd;
 mod steps;
 
 pub use judge::Judge;

@@ -8,10 +8,8 @@ ghost use Rattle.s2_check.specs.Hard.{hard_decision};
 ghost use Rattle.s2_split.specs.Scattered.{repaired};
 ghost use Rattle.s2_judge.specs.Mending.{repaired_bit};
 
+use crate::odd::FIRST_CHECKS;
 use s2_matrix::Matrix;
-
-/// How many checks are looked at.
-const FIRST_CHECKS: usize = 64;
 
 /// Whether an odd number of these places hold a one.
 fn is_odd(word: &[bool], places: &[u32]) -> bool

@@ -1,6 +1,8 @@
 //! The four steps of a decision.
 ghost use Rattle.std.specs.Prelude.{◌≡◌, ◌≢◌, ◌≤◌, All, IsTrue, IfSome, Some, None, if◌then◌else◌, false, length};
 ghost use Rattle.s2_matrix.specs.Code.{code_of};
+ghost use Rattle.s2_minsum.specs.Plain.{decision};
+ghost use Rattle.s2_minsum.specs.Decoding.{decoded};
 ghost use Rattle.s2_check.specs.Hard.{hard_decision};
 ghost use Rattle.s2_check.specs.Views.{IsSoft};
 ghost use Rattle.s2_split.specs.Making.{shared_view, shared_views};
@@ -11,6 +13,7 @@ ghost use Rattle.s2_judge.specs.Judging.{shown_by, IsGround};
 use crate::certifier::Certifier;
 use crate::ground::Ground;
 use crate::mending::mends_nothing;
+use crate::odd::has_odd_check;
 use s2_bits::Bits;
 use s2_check::{judge_unsplit, none_is_zero};
 use s2_link::Tuning;
@@ -51,6 +54,22 @@ fn try_repair(
     }
 }
 
+/// Whether a decoder's hard decision satisfies every check. If so it is written; where a few checks show that it does
+/// not, it is not.
+fn is_decoded(matrix: &Matrix, decoder: &Decoder<'_>, bits: &mut Bits) -> bool
+    requires decoder { decoder.now.rows ≡ matrix.now }
+    requires bits { length bits.old ≡ (code_of matrix.now).bits }
+    ensures test { satisfies (code_of matrix.now) (decision (code_of decoder.now.rows) (decoded decoder.now)) ≡ result }
+    ensures bits { IsTrue result → bits.new ≡ decision (code_of decoder.now.rows) (decoded decoder.now) }
+    ensures long { length bits.new ≡ (code_of matrix.now).bits }
+{
+    if has_odd_check(matrix, decoder) {
+        return false;
+    }
+    decoder.hard_into(bits);
+    matrix.satisfied(bits)
+}
+
 /// Runs min-sum by a factor, at most so many rounds, until its hard decision satisfies every check: whether it
 /// does. The bits are its last hard decision.
 fn decode(
@@ -74,11 +93,11 @@ fn decode(
     decoder.load(soft);
     'decoding: for round in 0..rounds {
         decoder.round(factor);
-        decoder.hard_into(bits);
-        if matrix.satisfied(bits) {
+        if is_decoded(matrix, decoder, bits) {
             return true;
         }
     }
+    decoder.hard_into(bits);
     false
 }
 
