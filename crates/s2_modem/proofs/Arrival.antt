@@ -181,14 +181,7 @@ all_met rules symbols new (Some bytes) left met spelt phase h =
     ap (met_from rules.finds rules.size 0 0 false nothing_over) (sym spelt) ∙ whole ∙ append-nil met
 
 same_totals : (t : Totals) (counts : Counts) → t.frames ≡ counts.frames → t.delivered ≡ counts.frames → t.packets ≡ counts.packets → t.bad ≡ 0 → t.torn ≡ 0 → t.cut ≡ false → PassedNone t → t ≡ totals_of counts
-same_totals t counts a b c d torn e over =
-    ap (λ n. record t { frames = n }) a ∙ ap (λ n. record t { frames = counts.frames; delivered = n }) b ∙ ap (λ n. record t { frames = counts.frames; delivered = counts.frames; packets = n }) c
-    ∙ ap (λ n. record t { frames = counts.frames; delivered = counts.frames; packets = counts.packets; bad = n }) d
-    ∙ ap (λ n. record t { frames = counts.frames; delivered = counts.frames; packets = counts.packets; bad = 0; torn = n }) torn
-    ∙ ap (λ x. record t { frames = counts.frames; delivered = counts.frames; packets = counts.packets; bad = 0; torn = 0; cut = x }) e
-    ∙ ap (λ n. record (totals_of counts) { passed = n; places = t.places; first = t.first }) over.0
-    ∙ ap (λ n. record (totals_of counts) { places = n; first = t.first }) over.1
-    ∙ ap (λ n. record (totals_of counts) { first = n }) over.2
+same_totals t counts a b c d torn e over = λ i. record { frames = a i; delivered = b i; packets = c i; bad = d i; torn = torn i; cut = e i; passed = over.0 i; places = over.1 i; first = over.2 i }
 
 -- the end adds nothing where nothing was passed over before it
 passed_at_end : (t : Totals) → PassedNone t → PassedNone (passes t nothing_over)

@@ -1,7 +1,7 @@
 -- What a step promises of its answer.
 use Rattle.std.proofs.Common.{◌≡◌, ◌≢◌, ℕ, ◌<◌, ◌≤◌, List, [], ◌∷◌, ◌++◌, length, take, ℤ, Option, Some, None, Bool, Result, Ok, Err, IfOk, refl, sym, ap, subst, ◌∙◌}
 use Rattle.std.specs.Prelude.{nat_lt, ◌↔◌, IsErrOf}
-use Rattle.s2_mode.specs.Mode.{Mode, k_of, t_of}
+use Rattle.s2_mode.specs.Mode.{k_of, t_of}
 use Rattle.s2_mode.specs.Streams.{Streams}
 use Rattle.s2_mode.specs.declared.symbols.Symbol.{Symbol}
 use Rattle.s2_bits.specs.Bits.{differences}
@@ -9,7 +9,6 @@ use Rattle.s2_matrix.specs.Code.{code_of}
 use Rattle.s2_plframe.specs.declared.receive.found.Found.TheVariants as founds
 use Rattle.s2_bbframe.specs.DataStream.{header_at}
 use Rattle.s2_check.specs.declared.verdict.Verdict.{Verdict}
-use Rattle.s2_judge.specs.Deciding.{Decided, decided}
 use Rattle.s2_receive.specs.Meeting.{Met, frame, cut, ended, nothing_over, met_from}
 use Rattle.s2_receive.specs.Finding.{Meets, met_of}
 use Rattle.s2_receive.specs.Laws.{Spells}
@@ -24,13 +23,12 @@ use Rattle.s2_receive.specs.declared.report.Step.{Step}
 use Rattle.s2_receive.specs.declared.report.Step.TheVariants as steps
 use Rattle.s2_receive.specs.declared.report.Totals.{Totals}
 use Rattle.s2_receive.proofs.MetLemmas.{whole_frame}
-use Rattle.s2_link.specs.Link.{Link}
-use Rattle.s2_link.specs.Tuning.{Tuning}
-use Rattle.s2_modem.specs.Reports.{frame_soft, received_word, message_of, decision_by, frame_decision}
+use Rattle.s2_modem.specs.Reports.{received_word, message_of, frame_decision}
 use Rattle.s2_modem.specs.Both.{IsDelivered, IsDeliveredCertified}
 use Rattle.s2_modem.specs.Reception.{Receiver, IsAsLikely, IsCertifiedBy, IsCorrected, rules_for}
 use Rattle.s2_modem.specs.Steps.{OnFrame, IsFrameAt, Heard, Corrects}
 use Rattle.s2_modem.specs.Promise.{Promises}
+use Rattle.s2_modem.proofs.CleanFrames.{frame_is}
 
 -- ---- what was met
 
@@ -124,16 +122,7 @@ module _ (rules : Rules) (large : 90 ≤ rules.size) (old new : State) (last : D
 
 -- ---- what is promised of it
 
-decision_soft : (m : Mode) (soft : List ℤ) (d : Decided) (o : Option (List Bool)) → (decision_by m soft d o).soft ≡ soft
-decision_soft m soft d (Some word) = refl
-decision_soft m soft d None = refl
-
-frame_soft_is : (link : Link) (tuning : Tuning) (symbols : List Symbol) → (frame_decision link tuning symbols).soft ≡ frame_soft link tuning symbols
-unfolding frame_decision
-frame_soft_is link tuning symbols =
-    decision_soft link.setup.mode (frame_soft link tuning symbols) (decided link.rows tuning (frame_soft link tuning symbols)) _
-
-pub record IsPromised {E : Type 0} (old : Receiver) (last : Decision) (bytes : Option (List ℕ)) (result : Result Step E) : Type 0 where
+pub record IsPromised (old : Receiver) (last : Decision) (bytes : Option (List ℕ)) (result : Result Step Fault) : Type 0 where
   pub as_likely : OnFrame result (λ r. IsAsLikely (code_of old.link.rows) last.soft r.verdict last.bits)
   pub certified : OnFrame result (λ r. IsCertifiedBy old.link.rows r.verdict last)
   pub within : OnFrame result (λ r. IsCorrected old.link.setup.mode last r.outcome)
@@ -142,24 +131,24 @@ pub record IsPromised {E : Type 0} (old : Receiver) (last : Decision) (bytes : O
 
 module _ (old : Receiver) (last : Decision) (bytes : Option (List ℕ)) (all : Promises old.link old.tuning) where
   -- what holds of each decision of the link holds of the last one, as it is reported
-  on_frame : {E : Type 0} (P : Verdict → Outcome → Decision → Type 0) (step : Step) → ((symbols : List Symbol) → P (frame_decision old.link old.tuning symbols).verdict (frame_decision old.link old.tuning symbols).outcome (frame_decision old.link old.tuning symbols))
-      → TellsLast (rules_for old) old.state.standing.totals last step → OnFrame {E} (Ok step) (λ r. P r.verdict r.outcome last)
-  on_frame P (steps.Frame r) each tells =
+  on_frame : (E : Type 0) (P : Verdict → Outcome → Decision → Type 0) (step : Step) → ((symbols : List Symbol) → P (frame_decision old.link old.tuning symbols).verdict (frame_decision old.link old.tuning symbols).outcome (frame_decision old.link old.tuning symbols))
+      → TellsLast (rules_for old) old.state.standing.totals last step → OnFrame {E = E} (Ok step) (λ r. P r.verdict r.outcome last)
+  on_frame E P (steps.Frame r) each tells =
       let told = tells r refl in
       subst (λ (x : Report). P x.verdict x.outcome last) (sym told.2) (subst (λ (d : Decision). P d.verdict d.outcome d) (sym told.1) (each told.0))
-  on_frame P (steps.Cut at count) each tells = tt
-  on_frame P steps.End each tells = tt
+  on_frame E P (steps.Cut at count) each tells = tt
+  on_frame E P steps.End each tells = tt
 
-  pub promised : {E : Type 0} (result : Result Step E) → IfOk result (Shows (rules_for old) old.state bytes last) → IsPromised old last bytes result
+  promised : (result : Result Step Fault) → IfOk result (Shows (rules_for old) old.state bytes last) → IsPromised old last bytes result
   promised (Err fault) shows = record { as_likely = tt; certified = tt; within = tt; heard = tt; both_codes = tt }
   promised (Ok step) shows =
       let m = old.link.setup.mode in
       let code = code_of old.link.rows in
       record {
-        as_likely = on_frame (λ v o d. IsAsLikely code d.soft v d.bits) step
-            (λ symbols. (let d = frame_decision old.link old.tuning symbols in subst (λ soft. IsAsLikely code soft d.verdict d.bits) (sym (frame_soft_is old.link old.tuning symbols)) (all.as_likely symbols))) shows.0;
-        certified = on_frame (λ v o d. IsCertifiedBy old.link.rows v d) step (λ symbols. (all.told symbols).certified) shows.0;
-        within = on_frame (λ v o d. IsCorrected m d o) step (λ symbols. (all.told symbols).within) shows.0;
+        as_likely = on_frame Fault (λ v o d. IsAsLikely code d.soft v d.bits) step
+            (λ symbols. (let d = frame_decision old.link old.tuning symbols in subst (λ soft. IsAsLikely code soft d.verdict d.bits) (sym (frame_is old.link old.tuning symbols).soft_is) (all.as_likely symbols))) shows.0;
+        certified = on_frame Fault (λ v o d. IsCertifiedBy old.link.rows v d) step (λ symbols. (all.told symbols).certified) shows.0;
+        within = on_frame Fault (λ v o d. IsCorrected m d o) step (λ symbols. (all.told symbols).within) shows.0;
         heard = λ at field codeword symbols sent clear stands.
             (let h = all.heard.clear (nat_lt 0 old.state.at) at field codeword symbols sent clear in
             let there = shows.1 symbols stands.rest stands.searching stands.spelt h.0.0 h.0.1 in
@@ -170,3 +159,18 @@ module _ (old : Receiver) (last : Decision) (bytes : Option (List ℕ)) (all : P
             let few' = subst (λ (d : Decision). differences (k_of m) (received_word m d.bits) word ≤ t_of m) there.1 few in
             (there.0, subst (λ (d : Decision). IsDelivered d (differences (k_of m) (received_word m d.bits) word) (message_of m word) (header_at old.link.setup.roll_off at field) field) (sym there.1) (all.heard.corrected at symbols field codeword sent few')));
       }
+
+module _ (v w : Receiver) (new : State) (last : Decision) (result : Result Step Fault) (is : v ≡ w) (all : Promises v.link v.tuning) (rules : Rules) (same : rules ≡ rules_for v) where
+  shown : (bytes : Option (List ℕ)) → IfOk result (Shows rules v.state bytes last) → IsPromised w last bytes result
+  shown bytes shows = subst (λ (x : Receiver). IsPromised x last bytes result) is (promised v last bytes all result (subst (λ (x : Rules). IfOk result (Shows x v.state bytes last)) same shows))
+
+  large : 90 ≤ rules.size
+  large = subst (λ (x : Rules). 90 ≤ x.size) (sym same) all.heard.least
+
+  pub meet_promised : (r r' : Option (List ℕ)) → IfOk result (λ step. IsLive v.state.phase → Finds rules v.state new r r' last step) → (v.state.phase ≡ phases.Ended → result ≡ Ok steps.End)
+      → IsErrOf result faults.Failed ↔ ((IsLive v.state.phase → ⊥) × (v.state.phase ≢ phases.Ended)) → IsPromised w last r result
+  meet_promised r r' finds ends fails = shown r (meet_shows rules large v.state new last r r' result finds ends fails.1)
+
+  pub next_promised : (before behind : Streams) → (IsLive v.state.phase → StepAnswers rules v.state new before behind result)
+      → ((r : Report) → result ≡ Ok (steps.Frame r) → MetFrame rules v.state new before behind r last) → IsPromised w last before.taken result
+  next_promised before behind answers frames = shown before.taken (next_shows rules large v.state new last before behind result answers frames)

@@ -9,7 +9,7 @@ returns-in-Ok-receive_bytes-clause-headline g c =
     let made = c.in-Ok.ensures in
     let run = c.receive_bytes.new in
     let all = c.in-Ok-receive_bytes.ensures.all in
-    let ends = streams_by (λ (b : List ℕ). Some b) (λ b. 0) g.P.CountedWrite.contents g.P.CountedWrite.count g.W.CountedWrite.contents g.W.CountedWrite.count in
+    let ends = streams_by (λ (b : List ℕ). Some b) (λ b. 0) g.P.CountedWrite.contents g.P.Counted.count g.W.CountedWrite.contents g.W.Counted.count in
     let before = ends c.args.bytes.now c.args.packets.now c.args.report.now in
     let behind = record (ends c.args.bytes.now run.packets run.report) { taken = all.0 } in
     made.promises.headline most_symbols run.receiver.state before behind (subst (λ (rules : Rules). RunsOut rules begun run.receiver.state before behind) made.rules all.1)

@@ -14,7 +14,7 @@ pub returns-clause-headline : goal.returns-clause-headline
 returns-clause-headline g c =
     let inner = c.self.inside.inner in
     let run = c.receive_all in
-    let ends = streams_by g.R.CountedRead.remaining g.R.CountedRead.count g.P.CountedWrite.contents g.P.CountedWrite.count g.W.CountedWrite.contents g.W.CountedWrite.count in
+    let ends = streams_by g.R.CountedRead.remaining g.R.Counted.count g.P.CountedWrite.contents g.P.Counted.count g.W.CountedWrite.contents g.W.Counted.count in
     let before = ends c.args.reader.now c.args.packets.now c.args.report.now in
     let behind = ends run.new.reader run.new.packets run.new.report in
     let new = run.new.receiver.state in
