@@ -4,7 +4,6 @@ use Rattle.s2_link.specs.Link.{Link}
 use Rattle.s2_plframe.specs.Payload.{received_payload}
 use Rattle.s2_soft.specs.Soft.{soft_values}
 use Rattle.s2_receive.specs.Parts.{delivered_of}
-use Rattle.s2_receive.specs.Receiving.{Decision}
 use Rattle.s2_judge.specs.Deciding.{decided}
 use Rattle.s2_modem.specs.Reports.{frame_soft, frame_decision, received_word}
 use Rattle.s2_modem.specs.Listening.{FindsWord, Reads, Listening}
@@ -40,12 +39,3 @@ returns-clause-last c =
     (was.bits ∙ ap (λ xs. (decided rows d.judge.tuning xs).bits) (sym was.soft))
     (was.certificate ∙ ap (λ xs. (decided rows d.judge.tuning xs).certificate) (sym was.soft)) finds reads
     ∙ ap (λ (l : Listening). frame_decision l.link l.tuning c.args.symbols.now) c.self.view_is
-
-pub returns-clause-verdict : goal.returns-clause-verdict
-returns-clause-verdict c = ap (λ (x : Decision). x.verdict) (returns-clause-last c)
-
-pub returns-clause-outcome : goal.returns-clause-outcome
-returns-clause-outcome c = ap (λ (x : Decision). x.outcome) (returns-clause-last c)
-
-pub returns-clause-delivered : goal.returns-clause-delivered
-returns-clause-delivered c = ap (λ (x : Decision). x.delivered) (returns-clause-last c)
