@@ -197,7 +197,7 @@ impl<'a> Receiver<'a> {
         ensures tells { (next : NextValue) (symbols : List SymbolValue) → self.old.state.phase ≡ phases.Met next
             → IsDecided (rules_for self.old) (met_of next symbols) self.old.last
             → Tells (rules_for self.old) self.old.state self.new.state (met_of next symbols) (place_after (symbols_in self.old.link.setup.mode) next)
-                (P.contents packets.old) (P.contents packets.new) (W.contents report.old) (W.contents report.new) result }
+            (P.contents packets.old) (P.contents packets.new) (W.contents report.old) (W.contents report.new) result }
         ensures bounded { self.new.state.at ≤ self.old.limit }
         ensures write { IsErrOf result faults.Write → OneFailed (P.count packets.old) (P.count packets.new) (W.count report.old) (W.count report.new) }
         ensures no_write { result ≢ Err faults.Write → NoneFailed (P.count packets.old) (P.count packets.new) (W.count report.old) (W.count report.new) }
@@ -225,10 +225,10 @@ impl<'a> Receiver<'a> {
         requires report { CanCount (W.count report.old) }
         ensures live { let ends = streams_by R.remaining R.count P.contents P.count W.contents W.count in
             IsLive self.old.state.phase → StepAnswers (rules_for self.old) self.old.state self.new.state
-                (ends reader.old packets.old report.old) (ends reader.new packets.new report.new) result }
+            (ends reader.old packets.old report.old) (ends reader.new packets.new report.new) result }
         ensures frame { let ends = streams_by R.remaining R.count P.contents P.count W.contents W.count in
             (r : ReportValue) → result ≡ Ok (steps.Frame r) → MetFrame (rules_for self.old) self.old.state self.new.state
-                (ends reader.old packets.old report.old) (ends reader.new packets.new report.new) r self.new.last }
+            (ends reader.old packets.old report.old) (ends reader.new packets.new report.new) r self.new.last }
         ensures as_likely { OnFrame result (λ r. IsAsLikely (code_of self.old.link.rows) self.new.last.soft r.verdict self.new.last.bits) }
         ensures certified { OnFrame result (λ r. IsCertifiedBy self.old.link.rows r.verdict self.new.last) }
         ensures within { OnFrame result (λ r. IsCorrected self.old.link.setup.mode self.new.last r.outcome) }
@@ -243,7 +243,7 @@ impl<'a> Receiver<'a> {
         ensures unwritten { IsErrOf result faults.Read → (packets.new ≡ packets.old) × (report.new ≡ report.old) }
         ensures counts { let ends = streams_by R.remaining R.count P.contents P.count W.contents W.count in
             OnlyFailed (result ≡ Err faults.Read) (result ≡ Err faults.Write)
-                (ends reader.old packets.old report.old) (ends reader.new packets.new report.new) }
+            (ends reader.old packets.old report.old) (ends reader.new packets.new report.new) }
         ensures same { (self.new.link ≡ self.old.link) × (self.new.tuning ≡ self.old.tuning) × (self.new.limit ≡ self.old.limit) }
     {
         self.inner.next(reader, packets, report)
@@ -268,26 +268,26 @@ impl<'a> Receiver<'a> {
         requires live { IsLive self.old.state.phase }
         ensures all { let ends = streams_by R.remaining R.count P.contents P.count W.contents W.count in
             IfOk result (λ received. RunsTo (rules_for self.old) self.old.state self.new.state
-                (ends reader.old packets.old report.old) (ends reader.new packets.new report.new) received.well) }
+            (ends reader.old packets.old report.old) (ends reader.new packets.new report.new) received.well) }
         ensures totals { IfOk result (λ received. received.totals ≡ self.new.state.standing.totals) }
         ensures symbols { IfOk result (λ received. received.symbols ≡ self.new.state.at) }
         ensures bounded { self.new.state.at ≤ self.old.limit }
         ensures headline { let ends = streams_by R.remaining R.count P.contents P.count W.contents W.count in
             IfOk result (λ _. self.old.state ≡ begun → IsHeadline self.old.link self.old.tuning
-                (ends reader.old packets.old report.old) (ends reader.new packets.new report.new)) }
+            (ends reader.old packets.old report.old) (ends reader.new packets.new report.new)) }
         ensures as_likely { AllAsLikely self.old.link self.old.tuning }
         ensures stops { let ends = streams_by R.remaining R.count P.contents P.count W.contents W.count in
             IsErrOf result stream_faults.Read → StopsAfter (rules_for self.old) self.old.state
-                (ends reader.old packets.old report.old) (ends reader.new packets.new report.new) }
+            (ends reader.old packets.old report.old) (ends reader.new packets.new report.new) }
         ensures breaks { let ends = streams_by R.remaining R.count P.contents P.count W.contents W.count in
             IsErrOf result stream_faults.Write → BreaksAfter (rules_for self.old) self.old.state
-                (ends reader.old packets.old report.old) (ends reader.new packets.new report.new) }
+            (ends reader.old packets.old report.old) (ends reader.new packets.new report.new) }
         ensures read { let ends = streams_by R.remaining R.count P.contents P.count W.contents W.count in
             IsErrOf result stream_faults.Read → MayStop self.old.limit self.old.state.at
-                (ends reader.old packets.old report.old) (ends reader.new packets.new report.new) }
+            (ends reader.old packets.old report.old) (ends reader.new packets.new report.new) }
         ensures counts { let ends = streams_by R.remaining R.count P.contents P.count W.contents W.count in
             OnlyFailed (result ≡ Err stream_faults.Read) (result ≡ Err stream_faults.Write)
-                (ends reader.old packets.old report.old) (ends reader.new packets.new report.new) }
+            (ends reader.old packets.old report.old) (ends reader.new packets.new report.new) }
         ensures same { (self.new.link ≡ self.old.link) × (self.new.tuning ≡ self.old.tuning) × (self.new.limit ≡ self.old.limit) }
     {
         receive_all(&mut self.inner, reader, packets, report)

@@ -40,7 +40,6 @@ pub fn receive_all<D: Decide, R: CountedRead, P: CountedWrite, W: CountedWrite>(
         IfOk result (λ received. RunsTo (rules_of D.decide receiver.old) receiver.old.state receiver.new.state (ends reader.old packets.old report.old) (ends reader.new packets.new report.new) received.well) }
     ensures totals { IfOk result (λ received. received.totals ≡ receiver.new.state.standing.totals) }
     ensures symbols { IfOk result (λ received. received.symbols ≡ receiver.new.state.at) }
-    ensures bounded { receiver.new.state.at ≤ receiver.old.limit }
     ensures stops { let ends = streams_by R.remaining R.count P.contents P.count W.contents W.count in
         IsErrOf result StreamFault.Read → StopsAfter (rules_of D.decide receiver.old) receiver.old.state (ends reader.old packets.old report.old) (ends reader.new packets.new report.new) }
     ensures breaks { let ends = streams_by R.remaining R.count P.contents P.count W.contents W.count in

@@ -12,11 +12,11 @@ pub returns-clause-rules : goal.returns-clause-rules
 returns-clause-rules c =
     let d = c.in_ok-decider.ensures in
     IfOk-weaker c.new-2.result _ _ (λ r e.
-        (let mode = e.0 ∙ c.mode-mode.ensures.is in
-        let lock = e.1 ∙ c.lock.ensures.is in
-        let link = ap (λ (x : Listening). x.link) e.2 ∙ d.link in
-        let tuning = ap (λ (x : Listening). x.tuning) e.2 ∙ d.tuning in
-        λ i. record { finds = found_as (mode i) (lock i); size = symbols_in (mode i); decide = frame_decision (link i) (tuning i); limit = e.3 i })) c.new-2.ensures.parts
+    (let mode = e.0 ∙ c.mode-mode.ensures.is in
+    let lock = e.1 ∙ c.lock.ensures.is in
+    let link = ap (λ (x : Listening). x.link) e.2 ∙ d.link in
+    let tuning = ap (λ (x : Listening). x.tuning) e.2 ∙ d.tuning in
+    λ i. record { finds = found_as (mode i) (lock i); size = symbols_in (mode i); decide = frame_decision (link i) (tuning i); limit = e.3 i })) c.new-2.ensures.parts
 
 pub returns-clause-promises : goal.returns-clause-promises
 returns-clause-promises c =
