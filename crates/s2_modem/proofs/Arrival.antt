@@ -1,6 +1,6 @@
 -- What is sent arrives.
 use Rattle.std.specs.Prelude.{⊤, nat_eq, if◌then◌else◌}
-use Rattle.std.proofs.Common.{◌≡◌, ℕ, zero, suc, ◌+◌, ◌*◌, ◌<◌, ◌≤◌, IsTrue, Bool, true, false, List, [], ◌∷◌, ◌++◌, All, Option, Some, None, Ok, length, take, drop, map, refl, sym, ap, ap₂, ◌∙◌, subst, append_assoc, append-nil, length-append, length-take, arith}
+use Rattle.std.proofs.Common.{◌≡◌, ℕ, ◌+◌, ◌*◌, ◌<◌, ◌≤◌, IsTrue, Bool, true, false, List, [], ◌∷◌, ◌++◌, All, Option, Some, None, Ok, length, map, refl, sym, ap, ap₂, ◌∙◌, subst, append_assoc, append-nil, length-append, arith}
 use Rattle.std.specs.List.{range_with_len}
 use Rattle.std.proofs.lemmas.List.Elements.{All-nil, All-cons, All-head, All-tail}
 use Rattle.std.proofs.lemmas.List.FromFn.{length-map-range_with_len}
@@ -9,7 +9,7 @@ use Rattle.s2_mode.specs.Mode.{symbols_in}
 use Rattle.s2_mode.specs.Symbols.{symbols_of, symbol_bytes, bytes_of_symbols}
 use Rattle.s2_mode.specs.Streams.{Streams}
 use Rattle.s2_mode.specs.declared.symbols.Symbol.{Symbol}
-use Rattle.s2_bbframe.specs.DataStream.{header_at, to_place, field_bytes, stream_of, cuts, fields_of}
+use Rattle.s2_bbframe.specs.DataStream.{header_at, to_place, field_bytes, stream_of, fields_of}
 use Rattle.s2_map.specs.Mapping.{payload_of}
 use Rattle.s2_plframe.specs.Frame.{frame_symbol}
 use Rattle.s2_plframe.specs.Dummy.{dummy_frame}
@@ -35,32 +35,26 @@ use Rattle.s2_receive.specs.declared.report.Outcome.{Outcome}
 use Rattle.s2_receive.proofs.Reception.{gives}
 use Rattle.s2_receive.proofs.RunLemmas.{after-append, packets-append, lines-append}
 use Rattle.s2_mode.proofs.SymbolLists.{symbols-append}
-use Rattle.s2_receive.proofs.FieldPlaces.{placed_fields}
 use Rattle.s2_modem.specs.Both.{AreBytes, Hears, certified_lines, run_places, totals_of, sent_symbols}
 use Rattle.s2_modem.specs.Streams.{places_in}
 use Rattle.s2_modem.proofs.SymbolsBack.{frame_read, dummy_read}
 use Rattle.s2_modem.proofs.Dummies.{length_dummy}
-use Rattle.s2_modem.proofs.ByteStreams.{stream_bytes, cut_bytes}
+use Rattle.s2_modem.proofs.ByteStreams.{front_fields}
 
 length_bytes : (symbols : List Symbol) → length (bytes_of_symbols symbols) ≡ 4 * length symbols
 length_bytes [] = refl
 length_bytes (s ∷ symbols) = omega (arith, length-append (symbol_bytes s) (bytes_of_symbols symbols), length_bytes symbols)
-
--- the lengths of cuts
-pub short_cuts : (size n : ℕ) (stream : List ℕ) → All (λ field. length field ≤ size) (cuts size n stream)
-short_cuts size zero stream = All-nil (λ field. length field ≤ size)
-short_cuts size (suc n) stream = All-cons (λ field. length field ≤ size) (take size stream) (cuts size n (drop size stream)) (omega (arith, length-take size stream)) (short_cuts size n (drop size stream))
 
 -- a frame that is delivered certified, with no place changed
 pub record IsCertifiedFrame (rules : Rules) (symbols : List Symbol) : Type 0 where
   pub verdict : IsTrue (is_certified (rules.decide symbols).verdict)
   pub outcome : (rules.decide symbols).outcome ≡ Delivered 0
 
--- each coded one is
-abbrev pub AreCertified : Rules → List Piece → Type 0
-AreCertified rules [] = ⊤
-AreCertified rules (coded symbols ∷ pieces) = IsCertifiedFrame rules symbols × AreCertified rules pieces
-AreCertified rules (dummy symbols ∷ pieces) = AreCertified rules pieces
+-- what holds of each coded frame
+abbrev pub AllCoded : (List Symbol → Type 0) → List Piece → Type 0
+AllCoded holds [] = ⊤
+AllCoded holds (coded symbols ∷ pieces) = holds symbols × AllCoded holds pieces
+AllCoded holds (dummy symbols ∷ pieces) = AllCoded holds pieces
 
 module _ (t : Transmitter) (rules : Rules) (hears : Hears t.link rules) where
   abbrev link : Link
@@ -81,7 +75,7 @@ module _ (t : Transmitter) (rules : Rules) (hears : Hears t.link rules) where
   are_behind true k pieces fields h = λ b. (hears.dummies b, h true)
   are_behind false k pieces fields h = h
 
-  certified_behind : (due : Bool) (pieces : List Piece) → AreCertified rules pieces → AreCertified rules (behind due pieces)
+  certified_behind : (due : Bool) (pieces : List Piece) → AllCoded (IsCertifiedFrame rules) pieces → AllCoded (IsCertifiedFrame rules) (behind due pieces)
   certified_behind true pieces h = h
   certified_behind false pieces h = h
 
@@ -103,7 +97,7 @@ module _ (t : Transmitter) (rules : Rules) (hears : Hears t.link rules) where
   record Heard (number at : ℕ) (fields units : List (List ℕ)) : Type 0 where
     pieces : List Piece
     are : (b : Bool) → AreReceived rules link.setup.roll_off b at pieces fields
-    certified : AreCertified rules pieces
+    certified : AllCoded (IsCertifiedFrame rules) pieces
     places : (place : ℕ) → places_in rules place pieces ≡ run_places rules.size t.dummy_every number place (length fields)
     symbols : (rest : List ℕ) → symbols_of (bytes_joined units ++ rest) ≡ stream_symbols pieces ++ symbols_of rest
 
@@ -144,7 +138,7 @@ module _ (t : Transmitter) (rules : Rules) (hears : Hears t.link rules) where
 
 module _ (rules : Rules) (roll_off : ℕ) where
   -- their lines
-  pub lines_frames : (b : Bool) (at k : ℕ) (pieces : List Piece) (fields : List (List ℕ)) (s : Standing) → AreReceived rules roll_off b k pieces fields → AreCertified rules pieces
+  pub lines_frames : (b : Bool) (at k : ℕ) (pieces : List Piece) (fields : List (List ℕ)) (s : Standing) → AreReceived rules roll_off b k pieces fields → AllCoded (IsCertifiedFrame rules) pieces
       → all_lines rules s (frames_at rules.size at pieces) ≡ certified_lines s.totals.frames (places_in rules at pieces)
   lines_frames b at k [] [] t h c = refl
   lines_frames b at k [] (f ∷ fs) t h c = absurd h
@@ -160,7 +154,7 @@ module _ (rules : Rules) (roll_off : ℕ) where
   lines_frames b at k (dummy s ∷ ps) fs t h c = lines_frames true (at + 3330) k ps fs t h.1 c
 
 -- and what they are called
-pub all_certified : (rules : Rules) (at : ℕ) (pieces : List Piece) → AreCertified rules pieces → All (λ (place : ℕ × Verdict). IsTrue (is_certified place.1)) (places_in rules at pieces)
+pub all_certified : (rules : Rules) (at : ℕ) (pieces : List Piece) → AllCoded (IsCertifiedFrame rules) pieces → All (λ (place : ℕ × Verdict). IsTrue (is_certified place.1)) (places_in rules at pieces)
 all_certified rules at [] c = All-nil (λ (place : ℕ × Verdict). IsTrue (is_certified place.1))
 all_certified rules at (coded s ∷ ps) c =
     All-cons (λ (place : ℕ × Verdict). IsTrue (is_certified place.1)) (at, (rules.decide s).verdict) (places_in rules (at + rules.size) ps) c.0.verdict (all_certified rules (at + rules.size) ps c.1)
@@ -204,12 +198,11 @@ arrives t rules count_old count_new source written counts new source_left before
     let framed : counts.frames ≡ length runs.fields = runs.outcome.4 in
     let from : source ≡ bytes_joined runs.packets = all_read source (bytes_joined runs.packets ++ runs.rest) source_left runs.read runs.ends ∙ ap (λ l. bytes_joined runs.packets ++ l) none ∙ append-nil (bytes_joined runs.packets) in
     let sent : written ≡ bytes_joined runs.units ++ [] = runs.written ∙ ap (λ l. bytes_joined runs.units ++ l) runs.begins in
-    let placed : Placed 0 runs.fields = subst (Placed 0) (sym fields_are) (placed_fields size hears.field_least runs.packets runs.each_is_packet) in
-    let short : All (λ field. length field ≤ size) runs.fields = subst (All (λ field. length field ≤ size)) (sym fields_are) (short_cuts size _ (stream_of runs.packets)) in
-    let bytes : All AreBytes runs.fields = subst (All AreBytes) (sym fields_are) (cut_bytes size _ (stream_of runs.packets) (stream_bytes runs.packets (subst AreBytes from are_bytes))) in
+    let all_fields = append-nil runs.fields ∙ fields_are in
+    let (bytes, placed, short) = front_fields size runs.packets runs.fields [] hears.field_least runs.each_is_packet (subst AreBytes from are_bytes) all_fields in
     let h = heard t rules hears 1 0 runs.fields runs.units bytes placed short runs.are_units in
     let places = run_places rules.size t.dummy_every 1 0 in
-    let g = gives rules link.setup.roll_off size runs.packets runs.fields [] h.pieces [] hears.least hears.field_least runs.each_is_packet (append-nil runs.fields ∙ fields_are) (h.are false) in
+    let g = gives rules link.setup.roll_off size runs.packets runs.fields [] h.pieces [] hears.least hears.field_least runs.each_is_packet all_fields (h.are false) in
     let just = frames_at rules.size 0 h.pieces in
     let met_is : met ≡ just ++ ended nothing_over ∷ [] = sym (all_met rules (symbols_of written) new before.taken behind.taken met spelt out.0 went.left) ∙ ap (met_from rules.finds rules.size 0 0 false nothing_over) (ap symbols_of sent ∙ h.symbols []) ∙ g.met in
     let end = after_all rules at_start just in

@@ -6,9 +6,9 @@ use Rattle.std.proofs.lemmas.Bool.{le-leb, eq-eqb}
 use Rattle.std.proofs.lemmas.List.{length-map, ext_get_or, get_or-take, get_or-drop, get_or-append_right, take_at, drop_at, take_all}
 use Rattle.std.proofs.lemmas.List.FromFn.{fill_by_all, length-map-range_with_len}
 use Rattle.std.proofs.lemmas.List.Elements.{All-nil, All-cons, All-head, All-tail, All-append}
-use Rattle.s2_mode.specs.Mode.{Mode, IsMode, HasCodeSizes, k_of, kbch_of, n_of, t_of, symbols_in}
+use Rattle.s2_mode.specs.Mode.{Mode, IsMode, HasCodeSizes, k_of, kbch_of, n_of, t_of, slots_of, symbols_in}
 use Rattle.s2_mode.specs.declared.symbols.Symbol.{Symbol}
-use Rattle.s2_mode.proofs.Modes.{frame_sizes}
+use Rattle.s2_receive.proofs.StepLemmas.{symbols_least}
 use Rattle.s2_plframe.specs.declared.receive.found.Found.TheVariants as founds
 use Rattle.s2_rows.specs.Rows.{Rows}
 use Rattle.s2_bits.specs.Bits.{bit_at, bits_of_byte, bits_of_bytes, byte_at, byte_of, bytes_from, differences, number, xor}
@@ -30,25 +30,29 @@ use Rattle.s2_scramble.proofs.Blocks.{scrambled-scrambled}
 use Rattle.s2_bch.specs.Codes.{IsBchWordOf, IsWithin}
 use Rattle.s2_bch.specs.Decoding.{nearest}
 use Rattle.s2_bch.proofs.NearestWords.{within_is_nearest, nearest_is_within, no_nearest}
-use Rattle.s2_map.specs.Mapping.{payload_of}
-use Rattle.s2_plframe.specs.Frame.{frame_symbol}
+use Rattle.s2_map.specs.Mapping.{payload_symbol, payload_of}
+use Rattle.s2_plframe.specs.Frame.{frame_symbol, frame_symbols}
 use Rattle.s2_plframe.specs.Search.{decision, found}
 use Rattle.s2_plframe.proofs.HeadersBehind.{clean_behind}
 use Rattle.s2_soft.specs.Divisors.{IsDivisor}
-use Rattle.s2_soft.specs.Soft.{soft_bit}
+use Rattle.s2_soft.specs.Soft.{soft_bit, soft_values}
+use Rattle.s2_soft.specs.Clean.{Says}
+use Rattle.s2_soft.proofs.Clean.{clean_says}
+use Rattle.s2_plframe.proofs.Payloads.{payload_again}
+use Rattle.s2_plframe.proofs.HeaderFacts.{clean_passes}
+use Rattle.s2_modem.specs.Front.{IsCleanFrame}
 use Rattle.s2_receive.specs.Laws.{IsReceived}
 use Rattle.s2_link.specs.Link.{Link, HasShape}
 use Rattle.s2_send.specs.Frames.{padded_bits, baseband_frame, IsCodewordFor}
 use Rattle.s2_receive.specs.Windows.{found_as}
 use Rattle.s2_judge.specs.Deciding.{Decided, decided, IsShown}
 use Rattle.s2_link.specs.Tuning.{Tuning}
-use Rattle.s2_modem.specs.Reports.{frame_soft, received_word, message_of, header_in, field_in, outcome_by, delivered_by, decision_by, decision_on, frame_decision}
+use Rattle.s2_modem.specs.Reports.{frame_soft, received_word, message_of, header_in, field_in, outcome_by, delivered_by, decision_by, frame_decision}
 use Rattle.s2_modem.specs.Reception.{AllAsLikely, AllTold, IsCertifiedBy, IsCorrected, link_rules}
 use Rattle.s2_send.specs.Laws.{IsLinkOf}
 use Rattle.s2_modem.specs.Both.{IsByte, AreBytes, sent_symbols, IsDelivered, IsDeliveredCertified, Hears}
-use Rattle.s2_modem.specs.Headline.{IsSent, HearsLaw, ArrivalLaw, LikelyFrameLaw, SoleFrameLaw}
+use Rattle.s2_modem.specs.Headline.{HearsLaw, ArrivalLaw, ScatteredFrameLaw, BothCodesLaw}
 use Rattle.s2_check.specs.Cost.{IsMostLikely}
-use Rattle.s2_split.specs.Scattered.{IsScattered}
 use Rattle.s2_mode.specs.Limits.{most_symbols}
 use Rattle.s2_plframe.specs.Payload.{received_payload}
 use Rattle.s2_check.specs.declared.verdict.Verdict.TheVariants.{Sole}
@@ -59,7 +63,18 @@ use Rattle.s2_judge.proofs.DecidedLengths.{decided_long}
 use Rattle.s2_modem.proofs.DecisionLemmas.{code_is}
 use Rattle.s2_send.proofs.OnlyFrames.{length-baseband_frame, length-bch_word}
 use Rattle.s2_modem.proofs.Dummies.{dummy_is}
-use Rattle.s2_modem.proofs.Points.{received}
+use Rattle.s2_modem.proofs.SymbolsBack.{at_back, payload_back}
+
+-- ---- from the mapper to the soft values
+
+pub received : (divisor : ℕ) (m : Mode) (number : ℕ) (word : List Bool) → IsDivisor divisor → IsMode m → length word ≡ n_of m → IsCleanFrame divisor m number word
+received divisor m number word known is long =
+    let sized : length (payload_of m word) ≡ 90 * slots_of m = length-map-range_with_len (payload_symbol m word) 0 (90 * slots_of m) in
+    let again : received_payload m number (frame_symbols m number (payload_of m word)) ≡ payload_of m word = payload_again m number (payload_of m word) is sized (λ s lt. at_back (payload_of m word) s (payload_back m word)) in
+    record {
+      header = clean_passes m number (payload_of m word) is;
+      soft = subst (λ p. Says (soft_values divisor m p) word) (sym again) (clean_says divisor known m word is long);
+    }
 
 -- ---- bytes out of their bits
 
@@ -265,9 +280,6 @@ module _ (link : Link) (valid : IsMode link.setup.mode) (sizes : HasCodeSizes li
     length_sent : (codeword : List Bool) → length (sent_symbols link codeword) ≡ symbols_in m
     length_sent codeword = length-map-range_with_len (frame_symbol m link.setup.number (payload_of m codeword)) 0 (symbols_in m)
 
-    least_symbols : 90 ≤ symbols_in m
-    least_symbols = omega (arith, (frame_sizes m valid).symbols)
-
     found_sent : (codeword : List Bool) → found m (map decision (take 90 (sent_symbols link codeword))) ≡ founds.Coded
         → (behind : Bool) → found_as m tuning.lock behind (take 90 (sent_symbols link codeword)) ≡ founds.Coded
     unfolding found_as
@@ -299,7 +311,7 @@ module _ (link : Link) (valid : IsMode link.setup.mode) (sizes : HasCodeSizes li
     pub hears : Hears link (link_rules link tuning limit)
     hears = record {
       size = refl;
-      least = least_symbols;
+      least = symbols_least m;
       field_least = omega (arith, sizes.field_least);
       dummies = dummy_is m tuning.lock link.setup.number valid;
       frames = hears_frame;
@@ -327,12 +339,6 @@ module _ (m : Mode) (valid : IsMode m) (sizes : HasCodeSizes m) where
         sole = λ verdict. subst (IsSole (code_of link.rows) soft) (sym f.bits) (sole_lem link.rows tuning soft long (sym f.verdict ∙ verdict));
       }
 
-  pub likely_law : LikelyFrameLaw m
-  likely_law link tuning symbols linked verdict = (all_as_likely link tuning linked symbols).likely verdict
-
-  pub sole_law : SoleFrameLaw m
-  sole_law link tuning symbols linked verdict = (all_as_likely link tuning linked symbols).sole verdict
-
   pub all_told : (link : Link) (tuning : Tuning) → IsLinkOf m link → AllTold link tuning
   all_told link tuning linked = λ symbols.
       let valid' = subst IsMode (sym linked.0) valid in
@@ -343,20 +349,16 @@ module _ (m : Mode) (valid : IsMode m) (sizes : HasCodeSizes m) where
         within = frame_corrected link valid' sizes' linked.1 tuning symbols;
       }
 
-  module _ (link : Link) (tuning : Tuning) (at : ℕ) (symbols : List Symbol) (field : List ℕ) (codeword : List Bool) (sent : IsSent m link at field codeword) where
-    pub scattered_law : IsScattered (code_of link.rows) (frame_soft link tuning symbols) codeword
-        → IsDeliveredCertified (frame_decision link tuning symbols) codeword (message_of link.setup.mode sent.codeword_is.bch_word) (header_at link.setup.roll_off at field) field
-    scattered_law scattered =
-        let same = sent.linked.0 in
-        let sure = scattered_lem link.rows tuning (frame_soft link tuning symbols) codeword scattered in
-        record {
-          verdict = ap is_certified (frame_is link tuning symbols).verdict ∙ sure.0;
-          bits = (frame_is link tuning symbols).bits ∙ sure.1;
-          delivered = codeword_delivers link (subst IsMode (sym same) valid) (subst HasCodeSizes (sym same) sizes) sent.linked.1 tuning at symbols field codeword sent.roll_off sent.bytes sent.place sent.fits sent.codeword_is sure.1;
-        }
+  pub scattered_law : ScatteredFrameLaw m
+  scattered_law link tuning at symbols field codeword sent scattered =
+      let same = sent.linked.0 in
+      let sure = scattered_lem link.rows tuning (frame_soft link tuning symbols) codeword scattered in
+      record {
+        verdict = ap is_certified (frame_is link tuning symbols).verdict ∙ sure.0;
+        bits = (frame_is link tuning symbols).bits ∙ sure.1;
+        delivered = codeword_delivers link (subst IsMode (sym same) valid) (subst HasCodeSizes (sym same) sizes) sent.linked.1 tuning at symbols field codeword sent.roll_off sent.bytes sent.place sent.fits sent.codeword_is sure.1;
+      }
 
-    pub both_codes_law : differences (k_of link.setup.mode) (received_word link.setup.mode (frame_decision link tuning symbols).bits) sent.codeword_is.bch_word ≤ t_of link.setup.mode
-        → IsDelivered (frame_decision link tuning symbols) (differences (k_of link.setup.mode) (received_word link.setup.mode (frame_decision link tuning symbols).bits) sent.codeword_is.bch_word)
-        (message_of link.setup.mode sent.codeword_is.bch_word) (header_at link.setup.roll_off at field) field
-    both_codes_law few =
-        both_codes link (subst IsMode (sym sent.linked.0) valid) (subst HasCodeSizes (sym sent.linked.0) sizes) sent.linked.1 tuning at symbols field codeword sent.roll_off sent.bytes sent.place sent.fits sent.codeword_is few
+  pub both_codes_law : BothCodesLaw m
+  both_codes_law link tuning at symbols field codeword sent few =
+      both_codes link (subst IsMode (sym sent.linked.0) valid) (subst HasCodeSizes (sym sent.linked.0) sizes) sent.linked.1 tuning at symbols field codeword sent.roll_off sent.bytes sent.place sent.fits sent.codeword_is few

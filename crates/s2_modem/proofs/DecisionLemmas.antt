@@ -1,7 +1,7 @@
 -- What a decider finds is what is decided of a frame.
-use Rattle.std.proofs.Common.{◌≡◌, ℕ, ◌+◌, ◌-◌, ◌*◌, ◌/◌, ◌%◌, ◌<◌, ◌≤◌, ◌⊎◌, Bool, true, false, List, length, take, Option, Some, None, IfSome, IfNone, Result, Ok, Err, refl, sym, ap, subst, ◌∙◌, arith, inl, inr, length-take, ℤ}
-use Rattle.std.specs.Prelude.{◌||◌, replicate, pos}
-use Rattle.std.proofs.lemmas.Bool.{cases_Bool, leb-true, eqb-true}
+use Rattle.std.proofs.Common.{◌≡◌, ℕ, ◌+◌, ◌-◌, ◌*◌, ◌/◌, ◌%◌, ◌<◌, ◌≤◌, Bool, true, false, List, length, take, Option, Some, None, IfSome, IfNone, Result, Ok, refl, sym, ap, subst, ◌∙◌, arith, inl, inr, length-take, ℤ}
+use Rattle.std.specs.Prelude.{replicate, pos}
+use Rattle.std.proofs.lemmas.Bool.{cases_Bool, or_cases, leb-true, eqb-true}
 use Rattle.std.proofs.lemmas.List.{ext_get_or, get_or-take, take_all, take-replicate}
 use Rattle.s2_bbframe.specs.DataStream.{field_bytes}
 use Rattle.s2_mode.specs.Mode.{Mode, HasCodeSizes, k_of, kbch_of, t_of, n_of, shape_in}
@@ -28,7 +28,6 @@ use Rattle.s2_judge.specs.Deciding.{Decided, decided}
 use Rattle.s2_link.specs.Tuning.{Tuning}
 use Rattle.s2_modem.specs.Reports.{frame_soft, frame_decision, received_word, message_of, header_in, outcome_by, delivered_by, decision_on, decision_by, IsUndecided}
 use Rattle.s2_scramble.specs.Baseband.{scrambled}
-use Rattle.s2_receive.specs.declared.report.Outcome.TheVariants.{NoWord}
 use Rattle.s2_modem.specs.Listening.{FindsWord, Reads, decision_held}
 
 -- a list over which the first bits of another were written, as many as it has
@@ -77,10 +76,6 @@ message_fits m sizes =
 pub code_is : (m : Mode) (rows : Rows) → HasCodeSizes m → rows.shape ≡ shape_in m → (code_of rows).bits ≡ n_of m
 code_is m rows sizes shape = ap code_bits shape ∙ omega (arith, sizes.groups, sizes.checks)
 
-either : (a b : Bool) → (a || b) ≡ true → (a ≡ true) ⊎ (b ≡ true)
-either true b e = inl refl
-either false b e = inr e
-
 -- the joiner can take its data field
 pub has_place : (m : Mode) (h : Header) (field : List ℕ) → HasCodeSizes m → has_valid_lengths m h ≡ true → length field ≡ h.dfl / 8 → HasPlace field h
 has_place m h field sizes valid long =
@@ -90,9 +85,9 @@ has_place m h field sizes valid long =
     let most : h.dfl ≤ kbch_of m - 80 = leb-true _ _ b.0 in
     let room = sizes.field_most in (
       omega (arith, long, most, room),
-      elim (either _ _ b.1) [
+      elim (or_cases _ _ b.1) [
         | inl none ↦ let e : h.dfl ≡ 0 = eqb-true _ _ none in inl (omega (arith, long, e))
-        | inr some ↦ inr (elim (either _ _ some) [
+        | inr some ↦ inr (elim (or_cases _ _ some) [
           | inl no_place ↦ inl (eqb-true _ _ no_place)
           | inr place ↦
               let p = both _ _ place in

@@ -1,16 +1,14 @@
 -- The first frames of a stream arrive, and one stream gives the same however it is read.
-use Rattle.std.proofs.Common.{◌≡◌, Bool, true, false, ℕ, ◌+◌, ◌<◌, ◌≤◌, inl, inr, List, [], ◌∷◌, ◌++◌, All, length, refl, sym, ap, ◌∙◌, subst}
-use Rattle.std.proofs.lemmas.List.{take_at}
-use Rattle.std.proofs.lemmas.List.Elements.{All-head, All-tail, All-take}
+use Rattle.std.proofs.Common.{◌≡◌, Bool, true, false, ℕ, ◌+◌, ◌<◌, ◌≤◌, inl, inr, List, [], ◌∷◌, All, length, refl, sym, ap, ◌∙◌, subst}
+use Rattle.std.proofs.lemmas.List.Elements.{All-head, All-tail}
 use Rattle.std.specs.Io.KnownBytes.{Appends}
 use Rattle.s2_mode.specs.Mode.{Mode, IsMode, HasCodeSizes}
 use Rattle.s2_mode.specs.declared.symbols.Symbol.{Symbol}
-use Rattle.s2_bbframe.specs.DataStream.{stream_of, header_at, to_place, field_bytes}
+use Rattle.s2_bbframe.specs.DataStream.{header_at, to_place, field_bytes}
 use Rattle.s2_bbframe.specs.Joining.{Placed}
 use Rattle.s2_receive.specs.Receiving.{Rules, at_start, after_all, all_packets, all_lines, all_well}
 use Rattle.s2_receive.specs.Laws.{Piece, coded, dummy, IsReceived, AreReceived}
 use Rattle.s2_receive.proofs.Reception.{gives, front}
-use Rattle.s2_receive.proofs.FieldPlaces.{placed_fields, placed_front}
 use Rattle.s2_receive.proofs.SameSymbols.{same_met}
 use Rattle.s2_soft.specs.Divisors.{IsDivisor}
 use Rattle.s2_link.specs.Tuning.{Tuning}
@@ -20,15 +18,11 @@ use Rattle.s2_modem.specs.Reports.{message_of, frame_decision}
 use Rattle.s2_modem.specs.Reception.{link_rules}
 use Rattle.s2_modem.specs.Both.{AreBytes, IsDeliveredCertified}
 use Rattle.s2_modem.specs.Headline.{IsSent}
-use Rattle.s2_modem.specs.Streams.{IsWholeFrame, IsClear, IsHeard, AreHeard, FirstFramesLaw, OneStreamLaw}
+use Rattle.s2_modem.specs.Streams.{IsWholeFrame, IsClear, IsHeard, AreEach, FirstFramesLaw, OneStreamLaw}
 use Rattle.s2_modem.specs.Steps.{AllHeard}
-use Rattle.s2_modem.proofs.ByteStreams.{stream_bytes, cut_bytes}
-use Rattle.s2_modem.proofs.Arrival.{IsCertifiedFrame, AreCertified, short_cuts, lines_frames, all_certified}
+use Rattle.s2_modem.proofs.ByteStreams.{front_fields}
+use Rattle.s2_modem.proofs.Arrival.{IsCertifiedFrame, AllCoded, lines_frames, all_certified}
 use Rattle.s2_modem.proofs.CleanFrames.{hears_law, scattered_law, both_codes_law}
-
--- what holds of a whole list holds of its front
-pub all_front : {X : Type 0} → (P : X → Type 0) (xs ys : List X) → All P (xs ++ ys) → All P xs
-all_front P xs ys h = subst (All P) (take_at xs ys (length xs) refl) (All-take P (length xs) (xs ++ ys) h)
 
 module _ (m : Mode) (valid : IsMode m) (sizes : HasCodeSizes m) (link : Link) (tuning : Tuning) (limit : ℕ) (linked : IsLinkOf m link) (ro : link.setup.roll_off ≤ 2) (known : IsDivisor tuning.divisor) where
   abbrev rules : Rules
@@ -50,18 +44,23 @@ module _ (m : Mode) (valid : IsMode m) (sizes : HasCodeSizes m) (link : Link) (t
       let h = clear_one behind at field codeword symbols (record { linked = linked; roll_off = ro; bytes = bytes; place = place; fits = fits; codeword_is = is }) clear in
       ((h.0.0, h.0.1, h.1.delivered.delivered), record { verdict = h.1.verdict; outcome = h.1.delivered.outcome })
 
-  heard_all : (behind : Bool) (at : ℕ) (pieces : List Piece) (fields : List (List ℕ)) → All AreBytes fields → Placed at fields → All (λ field. length field ≤ field_bytes link.setup.mode) fields → AreHeard link tuning behind at pieces fields
-      → AreReceived rules link.setup.roll_off behind at pieces fields × AreCertified rules pieces
-  heard_all behind at [] [] bytes placed short h = (tt, tt)
-  heard_all behind at [] (f ∷ fs) bytes placed short h = absurd h
-  heard_all behind at (coded s ∷ ps) [] bytes placed short h = absurd h
-  heard_all behind at (coded s ∷ ps) (f ∷ fs) bytes placed short h =
-      let one = heard_one behind at f s (All-head AreBytes f fs bytes) placed.0 (All-head (λ field. length field ≤ field_bytes link.setup.mode) f fs short) h.0 in
-      let more = heard_all true (at + length f) ps fs (All-tail AreBytes f fs bytes) placed.1 (All-tail (λ field. length field ≤ field_bytes link.setup.mode) f fs short) h.1 in
-      ((one.0, more.0), (one.1, more.1))
-  heard_all behind at (dummy s ∷ ps) fs bytes placed short h =
-      let more = heard_all true at ps fs bytes placed short h.1 in
-      ((h.0, more.0), more.1)
+-- what is received and called so one by one is so all together
+pub received_each : (holds : Bool → ℕ → List ℕ → List Symbol → Type 0) (called : List Symbol → Type 0) (by : Rules) (roll_off size : ℕ)
+    → ((behind : Bool) (at : ℕ) (field : List ℕ) (symbols : List Symbol) → AreBytes field → to_place at < length field → length field ≤ size → holds behind at field symbols
+    → IsReceived by behind (header_at roll_off at field) field symbols × called symbols)
+    → (behind : Bool) (at : ℕ) (pieces : List Piece) (fields : List (List ℕ)) → All AreBytes fields → Placed at fields → All (λ field. length field ≤ size) fields → AreEach holds by.finds behind at pieces fields
+    → AreReceived by roll_off behind at pieces fields × AllCoded called pieces
+received_each holds called by roll_off size one behind at [] [] bytes placed short h = (tt, tt)
+received_each holds called by roll_off size one behind at [] (f ∷ fs) bytes placed short h = absurd h
+received_each holds called by roll_off size one behind at (coded s ∷ ps) [] bytes placed short h = absurd h
+received_each holds called by roll_off size one behind at (coded s ∷ ps) (f ∷ fs) bytes placed short h =
+    let within : List ℕ → Type 0 = λ field. length field ≤ size in
+    let here = one behind at f s (All-head AreBytes f fs bytes) placed.0 (All-head within f fs short) h.0 in
+    let more = received_each holds called by roll_off size one true (at + length f) ps fs (All-tail AreBytes f fs bytes) placed.1 (All-tail within f fs short) h.1 in
+    ((here.0, more.0), (here.1, more.1))
+received_each holds called by roll_off size one behind at (dummy s ∷ ps) fs bytes placed short h =
+    let more = received_each holds called by roll_off size one true at ps fs bytes placed short h.1 in
+    ((h.0, more.0), more.1)
 
 -- and so of each such frame of the link
 pub all_heard : (m : Mode) → IsMode m → HasCodeSizes m → (link : Link) (tuning : Tuning) → IsLinkOf m link → link.setup.roll_off ≤ 2 → IsDivisor tuning.divisor → AllHeard link tuning
@@ -70,9 +69,8 @@ all_heard m valid sizes link tuning linked ro known =
     let valid' = subst IsMode (sym linked.0) valid in
     let sizes' = subst HasCodeSizes (sym linked.0) sizes in
     record {
-      least = (hears_law m valid sizes link tuning 0 linked ro known).least;
       clear = clear_one mode valid' sizes' link tuning 0 (refl, linked.1) ro known;
-      corrected = λ at symbols field codeword sent. both_codes_law mode valid' sizes' link tuning at symbols field codeword sent;
+      corrected = both_codes_law mode valid' sizes' link tuning;
     }
 
 pub first_frames_law : (m : Mode) → IsMode m → HasCodeSizes m → FirstFramesLaw m
@@ -80,11 +78,8 @@ first_frames_law m valid sizes = λ link tuning limit packets fields later piece
     let size = field_bytes link.setup.mode in
     let rules = link_rules link tuning limit in
     let hears = hears_law m valid sizes link tuning limit linked ro known in
-    let within : List ℕ → Type 0 = λ field. length field ≤ field_bytes link.setup.mode in
-    let whole : All AreBytes (fields ++ later) = subst (All AreBytes) (sym cut_so) (cut_bytes size _ (stream_of packets) (stream_bytes packets are_bytes)) in
-    let short : All within (fields ++ later) = subst (All within) (sym cut_so) (short_cuts size _ (stream_of packets)) in
-    let placed : Placed 0 fields = placed_front fields later 0 (subst (Placed 0) (sym cut_so) (placed_fields size hears.field_least packets each)) in
-    let h = heard_all m valid sizes link tuning limit linked ro known false 0 pieces fields (all_front AreBytes fields later whole) placed (all_front within fields later short) heard in
+    let (bytes, placed, short) = front_fields size packets fields later hears.field_least each are_bytes cut_so in
+    let h = received_each (IsHeard link tuning) (IsCertifiedFrame rules) rules link.setup.roll_off size (heard_one m valid sizes link tuning limit linked ro known) false 0 pieces fields bytes placed short heard in
     let f = front rules link.setup.roll_off size packets fields later pieces rest mid before behind met hears.least hears.field_least each cut_so h.0 spelt count went in
     let g = gives rules link.setup.roll_off size packets fields later pieces rest hears.least hears.field_least each cut_so h.0 in
     record {

@@ -1,5 +1,5 @@
 -- What a step promises of its answer.
-use Rattle.std.proofs.Common.{◌≡◌, ◌≢◌, ℕ, ◌<◌, ◌≤◌, List, [], ◌∷◌, ◌++◌, length, take, ℤ, Option, Some, None, Bool, Result, Ok, Err, IfOk, refl, sym, ap, subst, ◌∙◌}
+use Rattle.std.proofs.Common.{◌≡◌, ◌≢◌, ℕ, ◌≤◌, List, [], ◌∷◌, ◌++◌, length, take, Option, Some, None, Result, Ok, Err, IfOk, refl, sym, ap, subst, ◌∙◌}
 use Rattle.std.specs.Prelude.{nat_lt, ◌↔◌, IsErrOf}
 use Rattle.s2_mode.specs.Mode.{k_of, t_of}
 use Rattle.s2_mode.specs.Streams.{Streams}
@@ -23,6 +23,7 @@ use Rattle.s2_receive.specs.declared.report.Step.{Step}
 use Rattle.s2_receive.specs.declared.report.Step.TheVariants as steps
 use Rattle.s2_receive.specs.declared.report.Totals.{Totals}
 use Rattle.s2_receive.proofs.MetLemmas.{whole_frame}
+use Rattle.s2_receive.proofs.StepLemmas.{symbols_least}
 use Rattle.s2_modem.specs.Reports.{received_word, message_of, frame_decision}
 use Rattle.s2_modem.specs.Both.{IsDelivered, IsDeliveredCertified}
 use Rattle.s2_modem.specs.Reception.{Receiver, IsAsLikely, IsCertifiedBy, IsCorrected, rules_for}
@@ -60,16 +61,9 @@ module _ (rules : Rules) (large : 90 ≤ rules.size) (old new : State) (last : D
       (subst (λ l. Meets (Some l) later (met ∷ [])) all (subst (λ p. Meets (met_left rules p old.at (Some bytes)) later (met ∷ [])) searching meets))
 
   answered : (step : Step) (symbols : List Symbol) → step ≡ steps.Frame (report_of rules old.standing.totals old.at symbols) → last ≡ rules.decide symbols → IsFrameAt old.at last step × (last ≡ rules.decide symbols)
-  answered step symbols is decided = (
-    record {
-      report = report_of rules old.standing.totals old.at symbols;
-      step_is = is;
-      place = refl;
-      verdict = ap (λ (d : Decision). d.verdict) (sym decided);
-      outcome = ap (λ (d : Decision). d.outcome) (sym decided);
-    },
-    decided,
-  )
+  answered step symbols is decided =
+      let report = report_of rules old.standing.totals old.at symbols in
+      (record { report = report; step_is = is; place = refl; verdict = ap (λ (d : Decision). d.verdict) (sym decided); outcome = ap (λ (d : Decision). d.outcome) (sym decided) }, decided)
 
   tells : (met : Met) (r : Report) → IsDecided rules met last → step_of rules old.standing met ≡ steps.Frame r → (symbols : List Symbol) × (last ≡ rules.decide symbols) × (r ≡ report_for last old.standing.totals r.at)
   tells (frame at over symbols) r decided is =
@@ -165,7 +159,7 @@ module _ (v w : Receiver) (new : State) (last : Decision) (result : Result Step 
   shown bytes shows = subst (λ (x : Receiver). IsPromised x last bytes result) is (promised v last bytes all result (subst (λ (x : Rules). IfOk result (Shows x v.state bytes last)) same shows))
 
   large : 90 ≤ rules.size
-  large = subst (λ (x : Rules). 90 ≤ x.size) (sym same) all.heard.least
+  large = subst (λ (x : Rules). 90 ≤ x.size) (sym same) (symbols_least v.link.setup.mode)
 
   pub meet_promised : (r r' : Option (List ℕ)) → IfOk result (λ step. IsLive v.state.phase → Finds rules v.state new r r' last step) → (v.state.phase ≡ phases.Ended → result ≡ Ok steps.End)
       → IsErrOf result faults.Failed ↔ ((IsLive v.state.phase → ⊥) × (v.state.phase ≢ phases.Ended)) → IsPromised w last r result

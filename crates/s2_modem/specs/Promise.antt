@@ -1,5 +1,5 @@
 -- The headline: what a receiver of a link promises of a stream of symbols, and of the packets and the report that it writes of it.
-use Rattle.std.specs.Prelude.{◌≡◌, ℕ, ◌+◌, ◌≤◌, ◌⊎◌, Bool, true, false, List, [], ◌∷◌, ◌++◌, All, length, take, drop, IfSome, ⊤}
+use Rattle.std.specs.Prelude.{◌≡◌, ℕ, ◌+◌, ◌≤◌, ◌⊎◌, Bool, false, List, [], ◌++◌, All, length, take, drop, IfSome}
 use Rattle.std.specs.List.{flat_map}
 use Rattle.std.specs.Io.KnownBytes.{Appends}
 use Rattle.s2_mode.specs.Mode.{Mode, k_of, t_of, symbols_in}
@@ -19,13 +19,13 @@ use Rattle.s2_send.specs.Laws.{IsLinkOf}
 use Rattle.s2_receive.specs.Windows.{found_as}
 use Rattle.s2_receive.specs.ReportLines.{frame_line, cut_line, end_line}
 use Rattle.s2_receive.specs.Receiving.{State, Decision, RunsOut, begun}
-use Rattle.s2_receive.specs.Laws.{Piece, coded, dummy, IsDummy, joined, stream_symbols}
+use Rattle.s2_receive.specs.Laws.{Piece, joined, stream_symbols}
 use Rattle.s2_receive.specs.declared.report.Report.{Report}
 use Rattle.s2_receive.specs.declared.report.Totals.{Totals}
 use Rattle.s2_modem.specs.Reports.{frame_soft, frame_decision, received_word}
 use Rattle.s2_modem.specs.Reception.{IsAsLikely, AllAsLikely, IsCorrected, AllTold, link_rules}
 use Rattle.s2_modem.specs.Both.{AreBytes}
-use Rattle.s2_modem.specs.Streams.{IsWholeFrame, IsClear}
+use Rattle.s2_modem.specs.Streams.{IsWholeFrame, IsClear, AreEach}
 use Rattle.s2_modem.specs.Steps.{AllHeard}
 
 -- the symbols of the frame that begins at this one of a stream, and what is decided of them
@@ -54,15 +54,9 @@ IsReadable link tuning behind at field symbols =
     ⊎ (IsWholeFrame link tuning behind symbols
     × (differences (k_of link.setup.mode) (received_word link.setup.mode (frame_decision link tuning symbols).bits) sent.bch_word ≤ t_of link.setup.mode)))
 
--- those of consecutive data fields, and dummy frames among them, each whole and behind a header that passes where it stands: right behind
--- a frame, but for the first
+-- those of consecutive data fields, and dummy frames among them
 abbrev pub AreReadable : Link → Tuning → Bool → ℕ → List Piece → List (List ℕ) → Type 0
-AreReadable link tuning behind at [] [] = ⊤
-AreReadable link tuning behind at [] (field ∷ fields) = ⊥
-AreReadable link tuning behind at (coded symbols ∷ pieces) [] = ⊥
-AreReadable link tuning behind at (coded symbols ∷ pieces) (field ∷ fields) =
-    IsReadable link tuning behind at field symbols × AreReadable link tuning true (at + length field) pieces fields
-AreReadable link tuning behind at (dummy symbols ∷ pieces) fields = IsDummy (found_as link.setup.mode tuning.lock) behind symbols × AreReadable link tuning true at pieces fields
+AreReadable link tuning = AreEach (IsReadable link tuning) (found_as link.setup.mode tuning.lock)
 
 -- the first data fields of these packets, and the frames that a transmitter of the link makes of them, as they come
 pub record Arriving (link : Link) (tuning : Tuning) (packets fields later : List (List ℕ)) (pieces : List Piece) : Type 0 where

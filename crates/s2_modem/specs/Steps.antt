@@ -1,7 +1,6 @@
 -- What a step answers where the search stands at a frame that was sent.
 use Rattle.std.specs.Prelude.{◌≡◌, ℕ, ◌≤◌, nat_lt, Bool, List, ◌++◌, Option, Result, Ok, Err, ⊤}
-use Rattle.s2_mode.specs.Limits.{header_symbols}
-use Rattle.s2_mode.specs.Mode.{k_of, t_of, symbols_in}
+use Rattle.s2_mode.specs.Mode.{k_of, t_of}
 use Rattle.s2_mode.specs.declared.symbols.Symbol.{Symbol}
 use Rattle.s2_bits.specs.Bits.{differences}
 use Rattle.s2_bbframe.specs.DataStream.{header_at}
@@ -63,7 +62,6 @@ Corrects old last bytes step =
 
 -- what is decided of the symbols of each such frame of a link
 pub record AllHeard (link : Link) (tuning : Tuning) : Type 0 where
-  pub least : header_symbols ≤ symbols_in link.setup.mode
   pub clear : (behind : Bool) (at : ℕ) (field : List ℕ) (codeword : List Bool) (symbols : List Symbol) (sent : IsSent link.setup.mode link at field codeword)
       → IsClear link tuning behind codeword symbols
       → IsWholeFrame link tuning behind symbols

@@ -5,6 +5,7 @@ use Rattle.s2_mode.specs.Limits.{header_symbols, dummy_symbols}
 use Rattle.s2_mode.specs.Mode.{Mode, symbols_in}
 use Rattle.s2_mode.specs.Streams.{Streams}
 use Rattle.s2_mode.specs.declared.symbols.Symbol.{Symbol}
+use Rattle.s2_plframe.specs.declared.receive.found.Found.{Found}
 use Rattle.s2_plframe.specs.declared.receive.found.Found.TheVariants as founds
 use Rattle.s2_matrix.specs.Code.{code_of}
 use Rattle.s2_split.specs.Scattered.{IsScattered}
@@ -41,14 +42,17 @@ abbrev pub IsHeard : Link → Tuning → Bool → ℕ → List ℕ → List Symb
 IsHeard link tuning behind at field symbols =
     (codeword : List Bool) × IsCodewordFor link.setup.mode link.rows (header_at link.setup.roll_off at field) field codeword × IsClear link tuning behind codeword symbols
 
--- those of consecutive data fields, and dummy frames among them, each whole and behind a header that is found there: that of the first by
--- one test, those of all others, which stand right behind a frame, by that of the lock
+-- the frames of consecutive data fields, each of which holds what is asked of it where it stands, and dummy frames among them, each whole and
+-- behind a header that is found there: that of the first by one test, those of all others, which stand right behind a frame, by that of the lock
+abbrev pub AreEach : (Bool → ℕ → List ℕ → List Symbol → Type 0) → (Bool → List Symbol → Found) → Bool → ℕ → List Piece → List (List ℕ) → Type 0
+AreEach holds finds behind at [] [] = ⊤
+AreEach holds finds behind at [] (field ∷ fields) = ⊥
+AreEach holds finds behind at (coded symbols ∷ pieces) [] = ⊥
+AreEach holds finds behind at (coded symbols ∷ pieces) (field ∷ fields) = holds behind at field symbols × AreEach holds finds true (at + length field) pieces fields
+AreEach holds finds behind at (dummy symbols ∷ pieces) fields = IsDummy finds behind symbols × AreEach holds finds true at pieces fields
+
 abbrev pub AreHeard : Link → Tuning → Bool → ℕ → List Piece → List (List ℕ) → Type 0
-AreHeard link tuning behind at [] [] = ⊤
-AreHeard link tuning behind at [] (field ∷ fields) = ⊥
-AreHeard link tuning behind at (coded symbols ∷ pieces) [] = ⊥
-AreHeard link tuning behind at (coded symbols ∷ pieces) (field ∷ fields) = IsHeard link tuning behind at field symbols × AreHeard link tuning true (at + length field) pieces fields
-AreHeard link tuning behind at (dummy symbols ∷ pieces) fields = IsDummy (found_as link.setup.mode tuning.lock) behind symbols × AreHeard link tuning true at pieces fields
+AreHeard link tuning = AreEach (IsHeard link tuning) (found_as link.setup.mode tuning.lock)
 
 -- where the coded ones begin, from a position on, and what these rules call them
 abbrev pub places_in : Rules → ℕ → List Piece → List (ℕ × Verdict)

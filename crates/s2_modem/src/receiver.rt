@@ -1,5 +1,5 @@
 //! The receiver of one link.
-ghost use Rattle.std.specs.Prelude.{◌≡◌, ◌≢◌, ◌↔◌, ◌+◌, ◌-◌, ◌^◌, ◌<◌, ◌≤◌, Ok, Err, IfOk, IsErrOf, List};
+ghost use Rattle.std.specs.Prelude.{◌≡◌, ◌≢◌, ◌↔◌, ◌≤◌, Ok, Err, IfOk, IsErrOf, List};
 ghost use Rattle.s2_mode.specs.Counts.{CanCount};
 ghost use Rattle.s2_mode.specs.Limits.{most_symbols};
 ghost use Rattle.s2_mode.specs.Mode.{symbols_in};
@@ -161,14 +161,16 @@ impl<'a> Receiver<'a> {
     pub fn meet<R: CountedRead>(&mut self, reader: &mut R) -> Result<Step, Fault>
         requires reader { CanCount (R.count reader.old) }
         ensures finds { IfOk result (λ step. IsLive self.old.state.phase
-            → Finds (rules_for self.old) self.old.state self.new.state (R.remaining reader.old) (R.remaining reader.new) self.new.last step) }
+            → Finds (rules_for self.old) self.old.state self.new.state
+            (R.remaining reader.old) (R.remaining reader.new) self.new.last step) }
         ensures as_likely { OnFrame result (λ r. IsAsLikely (code_of self.old.link.rows) self.new.last.soft r.verdict self.new.last.bits) }
         ensures certified { OnFrame result (λ r. IsCertifiedBy self.old.link.rows r.verdict self.new.last) }
         ensures within { OnFrame result (λ r. IsCorrected self.old.link.setup.mode self.new.last r.outcome) }
         ensures heard { IfOk result (Heard self.old self.new.last (R.remaining reader.old)) }
         ensures both_codes { IfOk result (Corrects self.old self.new.last (R.remaining reader.old)) }
         ensures stops { IsErrOf result faults.Read → (self.new.state ≡ record self.old.state { phase = phases.Failed })
-            × Stops (rules_for self.old) self.old.state (R.remaining reader.old) (R.remaining reader.new) (R.count reader.old) (R.count reader.new) }
+            × Stops (rules_for self.old) self.old.state
+            (R.remaining reader.old) (R.remaining reader.new) (R.count reader.old) (R.count reader.new) }
         ensures bounded { self.new.state.at ≤ self.old.limit }
         ensures no_read { result ≢ Err faults.Read → R.count reader.new ≡ R.count reader.old }
         ensures no_write { result ≢ Err faults.Write }
@@ -196,14 +198,18 @@ impl<'a> Receiver<'a> {
         ensures last { self.new.last ≡ self.old.last }
         ensures tells { (next : NextValue) (symbols : List SymbolValue) → self.old.state.phase ≡ phases.Met next
             → IsDecided (rules_for self.old) (met_of next symbols) self.old.last
-            → Tells (rules_for self.old) self.old.state self.new.state (met_of next symbols) (place_after (symbols_in self.old.link.setup.mode) next)
+            → Tells (rules_for self.old) self.old.state self.new.state
+            (met_of next symbols) (place_after (symbols_in self.old.link.setup.mode) next)
             (P.contents packets.old) (P.contents packets.new) (W.contents report.old) (W.contents report.new) result }
         ensures bounded { self.new.state.at ≤ self.old.limit }
-        ensures write { IsErrOf result faults.Write → OneFailed (P.count packets.old) (P.count packets.new) (W.count report.old) (W.count report.new) }
-        ensures no_write { result ≢ Err faults.Write → NoneFailed (P.count packets.old) (P.count packets.new) (W.count report.old) (W.count report.new) }
+        ensures write { IsErrOf result faults.Write
+            → OneFailed (P.count packets.old) (P.count packets.new) (W.count report.old) (W.count report.new) }
+        ensures no_write { result ≢ Err faults.Write
+            → NoneFailed (P.count packets.old) (P.count packets.new) (W.count report.old) (W.count report.new) }
         ensures no_read { result ≢ Err faults.Read }
         ensures ended { self.old.state.phase ≡ phases.Ended → result ≡ Ok tt }
-        ensures failed { IsErrOf result faults.Failed ↔ (((next : NextValue) → self.old.state.phase ≢ phases.Met next) × (self.old.state.phase ≢ phases.Ended)) }
+        ensures failed { IsErrOf result faults.Failed
+            ↔ (((next : NextValue) → self.old.state.phase ≢ phases.Met next) × (self.old.state.phase ≢ phases.Ended)) }
         ensures nothing { ((next : NextValue) → self.old.state.phase ≢ phases.Met next)
             → (self.new ≡ self.old) × (packets.new ≡ packets.old) × (report.new ≡ report.old) }
         ensures same { (self.new.link ≡ self.old.link) × (self.new.tuning ≡ self.old.tuning) × (self.new.limit ≡ self.old.limit) }

@@ -1,5 +1,5 @@
 //! A whole stream of symbols in memory.
-ghost use Rattle.std.specs.Prelude.{◌≡◌, ◌+◌, ◌-◌, ◌*◌, ◌^◌, ◌<◌, Some, Err, IfOk, length};
+ghost use Rattle.std.specs.Prelude.{◌≡◌, ◌^◌, ◌<◌, Some, Err, IfOk, length};
 ghost use Rattle.s2_mode.specs.Counts.{CanCount};
 ghost use Rattle.s2_mode.specs.Streams.{streams_by, OnlyFailed};
 ghost use Rattle.s2_link.specs.Link.{link_of};
@@ -39,12 +39,15 @@ fn demodulate_link<P: CountedWrite, W: CountedWrite>(
     requires report { CanCount (W.count report.old) }
     requires few { length bytes.now < 2 ^ 42 }
     ensures demodulates { let ends = streams_by (λ b. Some b) (λ b. 0) P.contents P.count W.contents W.count in
-        DemodulatesOn link.now tuning (ends bytes.now packets.old report.old) (ends bytes.now packets.new report.new) result }
+        DemodulatesOn link.now tuning
+        (ends bytes.now packets.old report.old) (ends bytes.now packets.new report.new) result }
     ensures as_likely { AreAsLikely link.now tuning result }
     ensures headline { let ends = streams_by (λ b. Some b) (λ b. 0) P.contents P.count W.contents W.count in
-        IfOk result (λ _. IsHeadline link.now tuning (ends bytes.now packets.old report.old) (ends bytes.now packets.new report.new)) }
+        IfOk result (λ _. IsHeadline link.now tuning
+        (ends bytes.now packets.old report.old) (ends bytes.now packets.new report.new)) }
     ensures counts { let ends = streams_by (λ b. Some b) (λ b. 0) P.contents P.count W.contents W.count in
-        OnlyFailed ⊥ (result ≡ Err DemodFault.Write) (ends bytes.now packets.old report.old) (ends bytes.now packets.new report.new) }
+        OnlyFailed ⊥ (result ≡ Err DemodFault.Write)
+        (ends bytes.now packets.old report.old) (ends bytes.now packets.new report.new) }
 {
     let Ok(mut receiver) = tune(alloc, link, tuning) else {
         return Err(DemodFault::Setup(SetupFault::NoMemory));
@@ -74,12 +77,15 @@ pub fn demodulate<P: CountedWrite, W: CountedWrite>(
     requires report { CanCount (W.count report.old) }
     requires few { length bytes.now < 2 ^ 42 }
     ensures demodulates { let ends = streams_by (λ b. Some b) (λ b. 0) P.contents P.count W.contents W.count in
-        Demodulates setup matrix.now (tuning_of rounds passes) (ends bytes.now packets.old report.old) (ends bytes.now packets.new report.new) result }
+        Demodulates setup matrix.now (tuning_of rounds passes)
+        (ends bytes.now packets.old report.old) (ends bytes.now packets.new report.new) result }
     ensures as_likely { AreAsLikely (link_of setup matrix.now) (tuning_of rounds passes) result }
     ensures headline { let ends = streams_by (λ b. Some b) (λ b. 0) P.contents P.count W.contents W.count in
-        IfOk result (λ _. IsHeadline (link_of setup matrix.now) (tuning_of rounds passes) (ends bytes.now packets.old report.old) (ends bytes.now packets.new report.new)) }
+        IfOk result (λ _. IsHeadline (link_of setup matrix.now) (tuning_of rounds passes)
+        (ends bytes.now packets.old report.old) (ends bytes.now packets.new report.new)) }
     ensures counts { let ends = streams_by (λ b. Some b) (λ b. 0) P.contents P.count W.contents W.count in
-        OnlyFailed ⊥ (result ≡ Err DemodFault.Write) (ends bytes.now packets.old report.old) (ends bytes.now packets.new report.new) }
+        OnlyFailed ⊥ (result ≡ Err DemodFault.Write)
+        (ends bytes.now packets.old report.old) (ends bytes.now packets.new report.new) }
 {
     let link = match Link::new(setup, matrix) {
         Ok(link) => link,

@@ -1,9 +1,8 @@
-use Rattle.std.proofs.Common.{◌≡◌, ◌/◌, ◌*◌, ◌+◌, ◌≤◌, true, length, take, sym, ap, ◌∙◌, arith}
+use Rattle.std.proofs.Common.{◌≡◌, ◌/◌, true, length, take, sym, ap, ◌∙◌, arith}
 use Rattle.s2_mode.specs.Mode.{kbch_of}
 use Rattle.s2_bits.specs.Bits.{bytes_from}
 use Rattle.s2_scramble.specs.Baseband.{scrambled}
 use Rattle.s2_bbframe.specs.Headers.{header_of_bytes, has_valid_lengths}
-use Rattle.s2_bbframe.specs.DataStream.{field_bytes}
 use Rattle.s2_modem.specs.Reports.{message_of, header_in}
 use Rattle.s2_modem.proofs.DecisionLemmas.{frame_read, header_read, accepted_valid, field_fits}
 use Rattle.s2_modem.proofs.message.read_message.Goals as goal

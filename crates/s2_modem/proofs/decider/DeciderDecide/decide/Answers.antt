@@ -20,9 +20,7 @@ returns-clause-last c =
     let written : List ℤ = c.find_soft.new.soft in
     let values = refilled (length before) written before refl (c.find_soft.auto.soft ∙ ap length c.soft_mut.ensures.is) in
     let soft_is : written ≡ frame_soft link d.judge.tuning c.args.symbols.now =
-    c.find_soft.ensures.is
-    ∙ ap (λ x. soft_values d.demodulator.divisor x (received_payload x d.demodulator.number c.args.symbols.now)) c.self.invariant.demodulator
-    ∙ ap (λ x. soft_values x m (received_payload m d.demodulator.number c.args.symbols.now)) c.self.invariant.divisor in
+    c.find_soft.ensures.is ∙ (let so = c.self.invariant in λ i. soft_values (so.divisor i) (so.demodulator i) (received_payload (so.demodulator i) d.demodulator.number c.args.symbols.now)) in
     let was = c.decide-verdict.ensures in
     let held : List ℤ = c.decide-verdict.new.self.soft in
     let soft_held : held ≡ frame_soft link d.judge.tuning c.args.symbols.now = was.soft ∙ values ∙ soft_is in
