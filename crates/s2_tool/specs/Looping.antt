@@ -14,7 +14,7 @@ use Rattle.s2_console.specs.declared.fault.Fault.{Fault}
 use Rattle.s2_console.specs.declared.fault.Fault.TheVariants as faults
 use Rattle.s2_words.specs.declared.request.ChannelWords.{ChannelWords}
 use Rattle.s2_words.specs.declared.request.RunWords.{RunWords}
-use Rattle.s2_tool.specs.Links.{Deed, OnLink}
+use Rattle.s2_tool.specs.Links.{Ends, Deed, OnLink}
 use Rattle.s2_tool.specs.Sending.{Runs, transmitter_on, refusal_fault}
 use Rattle.s2_tool.specs.Spoiling.{piped, Spoils}
 use Rattle.s2_tool.specs.Receptions.{Receives}
@@ -59,6 +59,6 @@ LoopsBy t rules channel old new ended =
 abbrev pub Loops : RunWords → Deed Received
 Loops words link old new ended = LoopsBy (transmitter_on link words.dummy) (link_rules link words.tuning most_symbols) words.channel old new ended
 
--- `run` on a setup, these words and a row file
-abbrev pub LoopsBack : Setup → RunWords → Option (List ℕ) → Streams → Streams → Result Received Fault → Type 0
-LoopsBack setup words rows old new ended = OnLink (Loops words) setup rows old new ended
+-- `run` on a setup, these words and these files
+abbrev pub LoopsBack : Setup → RunWords → Ends → Ends → Streams → Streams → Result Received Fault → Type 0
+LoopsBack setup words files left old new ended = OnLink (Loops words) setup files left old new ended

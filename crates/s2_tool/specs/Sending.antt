@@ -14,7 +14,7 @@ use Rattle.s2_console.specs.declared.exit.Exit.TheVariants as exits
 use Rattle.s2_console.specs.declared.fault.Fault.{Fault}
 use Rattle.s2_console.specs.declared.fault.Fault.TheVariants as faults
 use Rattle.s2_console.specs.Exits.{Prints}
-use Rattle.s2_tool.specs.Links.{Deed, OnLink}
+use Rattle.s2_tool.specs.Links.{Ends, Deed, OnLink}
 
 abbrev pub sent_line : Counts → List ℕ
 sent_line counts = codes "packets " ++ decimal counts.packets ++ codes " frames " ++ decimal counts.frames ++ codes "\n"
@@ -49,6 +49,6 @@ transmitter_on link dummy = record (new_transmitter link) { dummy_every = dummy 
 abbrev pub Sends : ℕ → Deed Exit
 Sends dummy link old new ended = SendsBy (transmitter_on link dummy) old new ended
 
--- `mod` on a setup, with dummy frames, and a row file
-abbrev pub Modulates : Setup → ℕ → Option (List ℕ) → Streams → Streams → Result Exit Fault → Type 0
-Modulates setup dummy rows old new ended = OnLink (Sends dummy) setup rows old new ended
+-- `mod` on a setup, with dummy frames, and these files
+abbrev pub Modulates : Setup → ℕ → Ends → Ends → Streams → Streams → Result Exit Fault → Type 0
+Modulates setup dummy files left old new ended = OnLink (Sends dummy) setup files left old new ended

@@ -1,10 +1,11 @@
 //! `rows`: rows made.
-ghost use Rattle.std.specs.Prelude.{◌≡◌, ◌≢◌, Result, Err, IfOk, IsOk, IsOkUnless};
+ghost use Rattle.std.specs.Prelude.{◌≡◌, ◌≢◌, Result, Err, IfOk, IsOk, IsErrOf, IsOkUnless, IsTrue};
 ghost use Rattle.s2_mode.specs.Counts.{CanCount};
+ghost use Rattle.s2_rows.specs.MadeRows.{is_weight};
 ghost use Rattle.s2_rows.specs.RowTexts.{rows_text};
-ghost use Rattle.s2_console.specs.Exits.{exit_of, Complains, Follows, CommandRuns, CommandCounts};
+ghost use Rattle.s2_console.specs.Exits.{exit_of, Complains, Follows, CommandCounts};
 ghost use Rattle.s2_console.specs.Screens.{CanShow};
-ghost use Rattle.s2_tool.specs.Making.{rows_made, AreMadeRows, IsRowFile};
+ghost use Rattle.s2_tool.specs.Making.{rows_made, MakesRows};
 
 use s2_console::{Console, Exit, Fault, print};
 use s2_mode::{CountedWrite, Counting, Shape};
@@ -26,6 +27,7 @@ fn row_file(alloc: Global, rows: &Rows) -> Result<Vec<u8>, Fault<'static>>
 /// Makes rows.
 fn made_rows(alloc: Global, shape: Shape, weight: usize, seed: u64) -> Result<Rows, Fault<'static>>
     ensures made { Follows (λ rows. rows.rows) result (rows_made shape weight seed) }
+    ensures memory { IsErrOf result Fault.NoMemory → IsTrue (is_weight shape weight) }
     ensures read { result ≢ Err Fault.Read }
     ensures write { result ≢ Err Fault.Write }
 {
@@ -46,7 +48,7 @@ fn print_rows<O: CountedWrite>(
 ) -> Result<Exit, Fault<'static>>
     requires { CanCount (O.count out.old) }
     ensures whole { IsOk result → O.count out.new ≡ O.count out.old }
-    ensures run { CommandRuns IsRowFile (AreMadeRows shape weight seed) result (O.contents out.old) (O.contents out.new) }
+    ensures run { MakesRows shape weight seed result (O.contents out.old) (O.contents out.new) }
     ensures causes { CommandCounts result 0 0 (O.count out.old) (O.count out.new) }
 {
     let rows = made_rows(alloc, shape, weight, seed)?;
@@ -66,7 +68,7 @@ pub fn rows_command<O: CountedWrite, E: CountedWrite>(
     ensures quiet { result ≢ Exit.Fault → console.new.errors_failed ≡ console.old.errors_failed }
     ensures whole { result ≢ Exit.Fault → console.new.output_failed ≡ console.old.output_failed }
     ensures run { (ended : Result Exit Fault) × (result ≡ exit_of ended)
-        × CommandRuns IsRowFile (AreMadeRows shape weight seed) ended console.old.output console.new.output
+        × MakesRows shape weight seed ended console.old.output console.new.output
         × CommandCounts ended 0 0 console.old.output_failed console.new.output_failed
         × Complains ended console.old console.new }
 {
