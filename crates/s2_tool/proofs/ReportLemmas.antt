@@ -2,6 +2,8 @@
 use Rattle.std.proofs.Common.{◌≡◌, ◌≢◌, ℕ, ◌+◌, ◌≤◌, List, Option, Result, Ok, Err, IsOk, inl, inr, arith}
 use Rattle.s2_mode.specs.Counts.{CanCount}
 use Rattle.s2_mode.specs.Streams.{OneFailed}
+use Rattle.s2_console.specs.declared.exit.Exit.{Exit}
+use Rattle.s2_console.specs.declared.exit.Exit.TheVariants as exits
 use Rattle.s2_console.specs.declared.fault.Fault.{Fault}
 use Rattle.s2_console.specs.declared.fault.Fault.TheVariants as faults
 use Rattle.s2_console.specs.declared.place.Place.{Place}
@@ -30,7 +32,7 @@ module _ {T : Type 0} (files left : Ends) (old shown : Screen) where
   can_tell place ended causes beside room = omega (arith, few place ended causes beside, room.1)
 
   -- where the command ended well, no call of the console failed
-  pub unfailed : (place : Place) (ended : Result T Fault) → Causes (streams_at place files old) (streams_at place left shown) ended → SameBeside place old shown → IsOk ended
-      → (shown.output_failed ≡ old.output_failed) × (shown.errors_failed ≡ old.errors_failed)
-  unfailed places.Output ended causes beside ok = ((causes.no_write (not_told ended faults.Write ok)).1, beside.1)
-  unfailed places.Errors ended causes beside ok = (beside.1, (causes.no_write (not_told ended faults.Write ok)).1)
+  pub unfailed : (place : Place) (ended : Result T Fault) (exit : Exit) → Causes (streams_at place files old) (streams_at place left shown) ended → SameBeside place old shown
+      → (exit ≢ exits.Fault → IsOk ended) → exit ≢ exits.Fault → (shown.output_failed ≡ old.output_failed) × (shown.errors_failed ≡ old.errors_failed)
+  unfailed places.Output ended exit causes beside well fine = ((causes.no_write (not_told ended faults.Write (well fine))).1, beside.1)
+  unfailed places.Errors ended exit causes beside well fine = (beside.1, (causes.no_write (not_told ended faults.Write (well fine))).1)

@@ -10,10 +10,10 @@ conclude_heard-requires g c =
 pub returns : goal.returns
 returns g c =
     let at = c.receive_at-heard.ensures in
-    let told = c.conclude_heard.ensures.answered in
-    let well = λ fine. unfailed c.args.files.now c.receive_at-heard.new.files c.args.console.now c.receive_at-heard.new.console c.args.place c.receive_at-heard.result at.run.causes at.beside (c.conclude_heard.ensures.fine fine) in
+    let end = c.conclude_heard.ensures in
+    let well = unfailed c.args.files.now c.receive_at-heard.new.files c.args.console.now c.receive_at-heard.new.console c.args.place c.receive_at-heard.result c.conclude_heard.result at.run.causes at.beside end.fine in
     record {
-      quiet = λ fine. c.conclude_heard.ensures.quiet fine ∙ (well fine).1;
-      whole = λ fine. c.conclude_heard.ensures.output.1 ∙ (well fine).0;
-      run = (c.receive_at-heard.result, c.receive_at-heard.new.console, at.run, record { ended = told.0; notes = told.1; exit_is = told.2; answered = told.3; concludes = (at.beside, c.conclude_heard.ensures.output.0, c.conclude_heard.ensures.output.1, told.4) });
+      quiet = λ fine. end.quiet fine ∙ (well fine).1;
+      whole = λ fine. end.output.1 ∙ (well fine).0;
+      run = (c.receive_at-heard.result, c.receive_at-heard.new.console, at.run, record { ended = end.answered.0; notes = end.answered.1; exit_is = end.answered.2; answered = end.answered.3; concludes = (at.beside, end.output.0, end.output.1, end.answered.4) });
     }

@@ -11,7 +11,7 @@ pub returns : goal.returns
 returns g c =
     let at = c.send_at-ended.ensures in
     let end = c.conclude_noted.ensures in
-    let well = λ fine. unfailed c.args.files.now c.send_at-ended.new.files c.args.console.now c.send_at-ended.new.console c.args.place c.send_at-ended.result at.run.causes at.beside (end.fine fine) in
+    let well = unfailed c.args.files.now c.send_at-ended.new.files c.args.console.now c.send_at-ended.new.console c.args.place c.send_at-ended.result c.conclude_noted.result at.run.causes at.beside end.fine in
     record {
       quiet = λ fine. end.quiet fine ∙ (well fine).1;
       whole = λ fine. end.output.1 ∙ (well fine).0;
