@@ -1,8 +1,8 @@
 //! The bytes of a run of packets: body, CRC-8, body, CRC-8 and so on.
-ghost use Rattle.std.specs.Prelude.{◌≡◌, ◌+◌, ◌-◌, ◌^◌, ◌<◌, ◌≤◌, ◌∷◌, List, IfOk, OnOk, OnErr, length, take};
+ghost use Rattle.std.specs.Prelude.{◌≡◌, ◌+◌, ◌≤◌, ◌∷◌, List, IfOk, OnOk, OnErr, length, take};
 ghost use Rattle.std.specs.List.{flat_map};
 ghost use Rattle.std.specs.Io.KnownBytes.{Appends};
-ghost use Rattle.s2_mode.specs.Counts.{CountsFault};
+ghost use Rattle.s2_mode.specs.Counts.{CanCount, CountsFault};
 ghost use Rattle.s2_mode.specs.Pieces.{AppendsPart};
 ghost use Rattle.s2_bbframe.specs.Limits.{body_bytes, sync};
 ghost use Rattle.s2_bbframe.specs.Joining.{run_of};
@@ -31,7 +31,7 @@ fn packet_of(body: &[u8]) -> [u8; PACKET_BYTES]
 
 // writes the packet of this body, in one piece
 fn write_packet<W: CountedWrite>(body: &[u8], out: &mut W) -> Result<(), WriteFault>
-    requires count { W.count out.old < 2 ^ 64 - 1 }
+    requires count { CanCount (W.count out.old) }
     requires body { length body.now ≡ body_bytes }
     ensures bytes { OnOk result (Appends (W.contents out.old) (W.contents out.new) (sync ∷ body.now)) }
     ensures part { OnErr result (AppendsPart (sync ∷ body.now) (W.contents out.old) (W.contents out.new)) }
@@ -47,7 +47,7 @@ pub(crate) fn read_bodies<W: CountedWrite>(
     bytes: &[u8],
     out: &mut W,
 ) -> Result<Bodies, WriteFault>
-    requires count { W.count out.old < 2 ^ 64 - 1 }
+    requires count { CanCount (W.count out.old) }
     requires body { length body.old ≡ body_bytes }
     requires start { start ≤ body_bytes }
     ensures held { IfOk result (λ r. (r.held ≤ body_bytes) × (take r.held body.new ≡ (run_of (take start body.old) bytes.now).body)) }

@@ -1,8 +1,8 @@
 //! Packets out of delivered data fields.
-ghost use Rattle.std.specs.Prelude.{ℕ, List, nat_lt, ◌≡◌, ◌+◌, ◌-◌, ◌*◌, ◌/◌, ◌%◌, ◌^◌, ◌<◌, ◌≤◌, ◌⊎◌, None, Some, IfOk, IfSome, OnOk, OnErr, drop, length, take, if◌then◌else◌};
+ghost use Rattle.std.specs.Prelude.{ℕ, List, nat_lt, ◌≡◌, ◌+◌, ◌-◌, ◌*◌, ◌/◌, ◌%◌, ◌<◌, ◌≤◌, ◌⊎◌, None, Some, IfOk, IfSome, OnOk, OnErr, drop, length, take, if◌then◌else◌};
 ghost use Rattle.std.specs.List.{flat_map};
 ghost use Rattle.std.specs.Io.KnownBytes.{Appends};
-ghost use Rattle.s2_mode.specs.Counts.{CountsFault};
+ghost use Rattle.s2_mode.specs.Counts.{CanCount, CountsFault};
 ghost use Rattle.s2_mode.specs.Pieces.{AppendsPart};
 ghost use Rattle.s2_bbframe.specs.Limits.{body_bytes, no_place};
 ghost use Rattle.s2_bbframe.specs.Joining.{fed, still, inside, run_of, begun_body, torn_by};
@@ -147,7 +147,7 @@ impl Joiner {
         field: &[u8],
         out: &mut W,
     ) -> Result<Fed, WriteFault>
-        requires count { W.count out.old < 2 ^ 64 - 1 }
+        requires count { CanCount (W.count out.old) }
         requires syncd { (length field.now ≡ 0) ⊎ ((header.now.syncd ≡ no_place) ⊎ (header.now.syncd / 8 < length field.now)) }
         ensures held { OnOk result (self.new ≡ (fed self.old header.now.syncd field.now).held) }
         ensures good { IfOk result (λ r. r.good ≡ length (fed self.old header.now.syncd field.now).good) }

@@ -1,42 +1,32 @@
 -- One symbol more of a stream.
-use Rattle.std.proofs.Common.{◌≡◌, ℕ, suc, ◌+◌, ◌≤◌, List, [], ◌∷◌, ◌++◌, length, take, Option, Some, None, IfSome, refl, sym, ap, subst, ◌∙◌, append_assoc, append-nil, length-append, arith}
-use Rattle.std.proofs.Math.Seq.{take-append_seam}
-use Rattle.std.specs.Io.KnownBytes.{Appends}
-use Rattle.std.proofs.KnownBytes.{Appends-trans}
+use Rattle.std.proofs.Common.{◌≡◌, ℕ, suc, ◌+◌, ◌<◌, ◌≤◌, List, [], ◌∷◌, ◌++◌, length, take, Option, Some, None, IfSome, refl, sym, ap, subst, ◌∙◌, append_assoc, append-nil, length-append, length-take, arith}
+use Rattle.std.proofs.Math.Seq.{take-append-add}
+use Rattle.std.specs.Io.KnownBytes.{Appends, Consumes, IsAtEnd}
+use Rattle.std.proofs.KnownBytes.{Appends-trans, Consumes-trans}
 use Rattle.rand_pcg.specs.Lcg.{Lcg}
 use Rattle.s2_mode.specs.declared.symbols.Symbol.{Symbol}
+use Rattle.s2_mode.specs.Limits.{most_symbols}
+use Rattle.s2_mode.specs.Pieces.{ConsumesPart, AppendsPart}
 use Rattle.s2_mode.specs.Symbols.{symbols_of, symbol_bytes, YieldsSymbol}
-use Rattle.s2_channel.specs.Noise.{draw, add, drawn_for, noisy, AppendsFront}
+use Rattle.s2_channel.specs.Noise.{draw, add, drawn_for, noisy, PassesOn, PassesPart}
 
--- of known bytes these symbols are done: what is written, what is left, and what the rest will be written as
-pub record Passed (old : List ℕ) (taken : ℕ) (reader writer_old writer_new : Option (List ℕ)) (first_level level : ℕ) (first now : Lcg) : Type 0 where
-  pub left : List ℕ
-  pub known : reader ≡ Some left
-  pub done : List Symbol
-  pub count : length done ≡ taken
-  pub split : symbols_of old ≡ done ++ symbols_of left
-  pub written : Appends writer_old writer_new (noisy first_level first done)
+-- the bytes of some whole symbols were read, these symbols are written, and what comes will be written behind them
+pub record Passed (taken : ℕ) (r r' w w' : Option (List ℕ)) (first_level level : ℕ) (first now : Lcg) : Type 0 where
+  pub bytes : List ℕ
+  pub read : Consumes r r' bytes
+  pub whole : (more : List ℕ) → symbols_of (bytes ++ more) ≡ symbols_of bytes ++ symbols_of more
+  pub count : length (symbols_of bytes) ≡ taken
+  pub written : Appends w w' (noisy first_level first (symbols_of bytes))
   pub drawn : now ≡ drawn_for taken first
-  pub goes_on : (more : List Symbol) → noisy first_level first (done ++ more) ≡ noisy first_level first done ++ noisy level now more
+  pub goes_on : (more : List Symbol) → noisy first_level first (symbols_of bytes ++ more) ≡ noisy first_level first (symbols_of bytes) ++ noisy level now more
 
-yields : (old new : Option (List ℕ)) (s : Symbol) (ys : List ℕ) → old ≡ Some ys → YieldsSymbol old new (Some s) → (zs : List ℕ) × (new ≡ Some zs) × (symbols_of ys ≡ s ∷ symbols_of zs)
-yields None new s ys e y = cc
-yields (Some xs) None s ys e y = absurd y
-yields (Some xs) (Some zs) s ys e y = let same : ys ≡ xs = cc in (zs, refl, ap symbols_of same ∙ y)
-
-ends : (old new : Option (List ℕ)) (ys : List ℕ) → old ≡ Some ys → YieldsSymbol old new None → symbols_of ys ≡ []
-ends None new ys e y = cc
-ends (Some xs) None ys e y = absurd y
-ends (Some xs) (Some zs) ys e y = let same : ys ≡ xs = cc in ap symbols_of same ∙ y.0
-
-pub passes_none : (old : List ℕ) (reader writer : Option (List ℕ)) (l : ℕ) (g : Lcg) → reader ≡ Some old → Appends writer writer [] → Passed old 0 reader writer writer l l g g
-passes_none old reader writer l g known same = record {
-  left = old;
-  known = known;
-  done = [];
+pub passes_none : (r w : Option (List ℕ)) (l : ℕ) (g : Lcg) → Consumes r r [] → Appends w w [] → Passed 0 r r w w l l g g
+passes_none r w l g read written = record {
+  bytes = [];
+  read = read;
+  whole = λ more. refl;
   count = refl;
-  split = refl;
-  written = same;
+  written = written;
   drawn = refl;
   goes_on = λ more. refl;
 }
@@ -45,45 +35,125 @@ one_more : (level : ℕ) (g g' : Lcg) (s t : Symbol) → (t, g') ≡ add level g
 unfolding add
 one_more level g g' s t e = ap (λ p. p.1) e
 
-pub passes_on : (old : List ℕ) (taken : ℕ) (r r' w w' w'' : Option (List ℕ)) (l k k' : ℕ) (g h h' : Lcg) (s t : Symbol) → Passed old taken r w w' l k g h → YieldsSymbol r r' (Some s) → (t, h') ≡ add k h s → k' ≡ k → Appends w' w'' (symbol_bytes t) → Passed old (taken + 1) r' w w'' l k' g h'
-passes_on old taken r r' w w' w'' l k k' g h h' s t p next drawn same more =
-    let (zs, known, symbols) = yields r r' s p.left p.known next in
+-- four bytes, and what stands behind them
+four_apart : (four more : List ℕ) → length four ≡ 4 → symbols_of (four ++ more) ≡ symbols_of four ++ symbols_of more
+four_apart [] more e = absurd (omega (arith, e))
+four_apart (a ∷ []) more e = absurd (omega (arith, e))
+four_apart (a ∷ b ∷ []) more e = absurd (omega (arith, e))
+four_apart (a ∷ b ∷ c ∷ []) more e = absurd (omega (arith, e))
+four_apart (a ∷ b ∷ c ∷ d ∷ []) more e = refl
+four_apart (a ∷ b ∷ c ∷ d ∷ x ∷ rest) more e = absurd (omega (arith, e))
+
+short : (bytes : List ℕ) → length bytes < 4 → symbols_of bytes ≡ []
+short [] h = refl
+short (a ∷ []) h = refl
+short (a ∷ b ∷ []) h = refl
+short (a ∷ b ∷ c ∷ []) h = refl
+short (a ∷ b ∷ c ∷ d ∷ bytes) h = absurd (omega arith)
+
+-- what one symbol more, with its noise, is written as
+one_noisy : (l k : ℕ) (g h h' : Lcg) (s t : Symbol) (done : List Symbol) → ((more : List Symbol) → noisy l g (done ++ more) ≡ noisy l g done ++ noisy k h more)
+    → (t, h') ≡ add k h s → (more : List Symbol) → noisy l g (done ++ s ∷ more) ≡ (noisy l g done ++ symbol_bytes t) ++ noisy k h' more
+one_noisy l k g h h' s t done goes_on drawn more =
+    goes_on (s ∷ more) ∙ ap (λ b. noisy l g done ++ b) (ap (λ a. symbol_bytes a.0 ++ noisy k a.1 more) (sym drawn))
+    ∙ sym (append_assoc (noisy l g done) (symbol_bytes t) (noisy k h' more))
+
+one_last : (l k : ℕ) (g h h' : Lcg) (s t : Symbol) (done : List Symbol) → ((more : List Symbol) → noisy l g (done ++ more) ≡ noisy l g done ++ noisy k h more)
+    → (t, h') ≡ add k h s → noisy l g (done ++ s ∷ []) ≡ noisy l g done ++ symbol_bytes t
+one_last l k g h h' s t done goes_on drawn = one_noisy l k g h h' s t done goes_on drawn [] ∙ append-nil (noisy l g done ++ symbol_bytes t)
+
+pub passes_on : (taken : ℕ) (r r' r'' w w' w'' : Option (List ℕ)) (l k k' : ℕ) (g h h' : Lcg) (s t : Symbol) → Passed taken r r' w w' l k g h → YieldsSymbol r' r'' (Some s) → (t, h') ≡ add k h s → k' ≡ k → Appends w' w'' (symbol_bytes t) → Passed (taken + 1) r r'' w w'' l k' g h'
+passes_on taken r r' r'' w w' w'' l k k' g h h' s t p (four, long, spelt, read) drawn same more =
     let next_count : suc taken ≡ taken + 1 = omega arith in
-    let one : (rest : List Symbol) → noisy k h (s ∷ rest) ≡ symbol_bytes t ++ noisy k' h' rest = λ rest.
-    ap (λ a. symbol_bytes a.0 ++ noisy k a.1 rest) (sym drawn) ∙ ap (λ n. symbol_bytes t ++ noisy n h' rest) (sym same) in
-    let last : noisy l g (p.done ++ s ∷ []) ≡ noisy l g p.done ++ symbol_bytes t =
-    p.goes_on (s ∷ []) ∙ ap (λ b. noisy l g p.done ++ b) (one [] ∙ append-nil (symbol_bytes t)) in
+    let now : symbols_of (p.bytes ++ four) ≡ symbols_of p.bytes ++ s ∷ [] = p.whole four ∙ ap (λ ss. symbols_of p.bytes ++ ss) spelt in
+    let last = one_last l k g h h' s t (symbols_of p.bytes) p.goes_on drawn in
+    let all : noisy l g (symbols_of (p.bytes ++ four)) ≡ noisy l g (symbols_of p.bytes) ++ symbol_bytes t = ap (noisy l g) now ∙ last in
     record {
-      left = zs;
-      known = known;
-      done = p.done ++ s ∷ [];
-      count = length-append p.done (s ∷ []) ∙ ap (λ n. n + 1) p.count;
-      split = p.split ∙ ap (λ rest. p.done ++ rest) symbols ∙ sym (append_assoc p.done (s ∷ []) (symbols_of zs));
-      written = subst (Appends w w'') (sym last) (Appends-trans _ _ _ _ _ p.written more);
+      bytes = p.bytes ++ four;
+      read = Consumes-trans _ _ _ _ _ p.read read;
+      whole = λ rest. ap symbols_of (append_assoc p.bytes four rest) ∙ p.whole (four ++ rest) ∙ ap (λ ss. symbols_of p.bytes ++ ss) (four_apart four rest long)
+          ∙ sym (append_assoc (symbols_of p.bytes) (symbols_of four) (symbols_of rest)) ∙ ap (λ ss. ss ++ symbols_of rest) (sym (p.whole four));
+      count = ap length now ∙ length-append (symbols_of p.bytes) (s ∷ []) ∙ ap (λ n. n + 1) p.count;
+      written = subst (Appends w w'') (sym all) (Appends-trans _ _ _ _ _ p.written more);
       drawn = one_more k h h' s t drawn ∙ ap (λ x. (draw (draw x).1).1) p.drawn ∙ ap (λ n. drawn_for n g) next_count;
-      goes_on = λ rest. ap (noisy l g) (append_assoc p.done (s ∷ []) rest) ∙ p.goes_on (s ∷ rest) ∙ ap (λ b. noisy l g p.done ++ b) (one rest)
-          ∙ sym (append_assoc (noisy l g p.done) (symbol_bytes t) (noisy k' h' rest)) ∙ ap (λ b. b ++ noisy k' h' rest) (sym last);
+      goes_on = λ rest. ap (λ ss. noisy l g (ss ++ rest)) now ∙ ap (noisy l g) (append_assoc (symbols_of p.bytes) (s ∷ []) rest)
+          ∙ one_noisy l k g h h' s t (symbols_of p.bytes) p.goes_on drawn rest ∙ ap (λ n. (noisy l g (symbols_of p.bytes) ++ symbol_bytes t) ++ noisy n h' rest) (sym same)
+          ∙ ap (λ b. b ++ noisy k' h' rest) (sym all);
     }
 
-pub passed_all : (old : List ℕ) (taken : ℕ) (r r' w w' : Option (List ℕ)) (l k : ℕ) (g h : Lcg) → Passed old taken r w w' l k g h → YieldsSymbol r r' None → Appends w w' (noisy l g (symbols_of old))
-passed_all old taken r r' w w' l k g h p end =
-    let whole : symbols_of old ≡ p.done = p.split ∙ ap (λ rest. p.done ++ rest) (ends r r' p.left p.known end) ∙ append-nil p.done in
+-- bytes of a symbol that is not whole say nothing more
+no_more : (bytes part : List ℕ) → ((more : List ℕ) → symbols_of (bytes ++ more) ≡ symbols_of bytes ++ symbols_of more) → length part < 4 → symbols_of (bytes ++ part) ≡ symbols_of bytes
+no_more bytes part whole few = whole part ∙ ap (λ ss. symbols_of bytes ++ ss) (short part few) ∙ append-nil (symbols_of bytes)
+
+-- a read failed within a symbol
+pub passes_cut : (taken : ℕ) (r r' r'' w w' : Option (List ℕ)) (l k : ℕ) (g h : Lcg) (reads reads_now : ℕ) → Passed taken r r' w w' l k g h
+    → (four : List ℕ) × (length four ≡ 4) × ConsumesPart four r' r'' → reads_now ≡ reads + 1 → PassesOn l g r r'' w w' reads reads_now
+passes_cut taken r r' r'' w w' l k g h reads reads_now p (four, long, (n, few, read)) rose =
+    let part = take n four in
+    let short_part : length part < 4 = let cut = length-take n four in omega (arith, cut, few, long) in
+    let same = no_more p.bytes part p.whole short_part in
+    record {
+      bytes = p.bytes ++ part;
+      read = Consumes-trans _ _ _ _ _ p.read read;
+      written = subst (λ ss. Appends w w' (noisy l g ss)) (sym same) p.written;
+      bound = λ kept. absurd (omega (arith, kept, rose));
+    }
+
+-- as many symbols were read as one call takes
+pub passes_most : (taken : ℕ) (r r' w w' : Option (List ℕ)) (l k : ℕ) (g h : Lcg) (reads reads_now : ℕ) → Passed taken r r' w w' l k g h
+    → taken ≡ most_symbols → PassesOn l g r r' w w' reads reads_now
+passes_most taken r r' w w' l k g h reads reads_now p all = record {
+  bytes = p.bytes;
+  read = p.read;
+  written = p.written;
+  bound = λ kept. p.count ∙ all;
+}
+
+-- a write failed within a symbol
+pub passes_part : (taken : ℕ) (r r' r'' w w' w'' : Option (List ℕ)) (l k : ℕ) (g h h' : Lcg) (s t : Symbol) → Passed taken r r' w w' l k g h → YieldsSymbol r' r'' (Some s) → (t, h') ≡ add k h s
+    → AppendsPart (symbol_bytes t) w' w'' → PassesPart l g r r'' w w''
+passes_part taken r r' r'' w w' w'' l k g h h' s t p (four, long, spelt, read) drawn (n, few, part) =
+    let done = noisy l g (symbols_of p.bytes) in
+    let all : noisy l g (symbols_of (p.bytes ++ four)) ≡ done ++ symbol_bytes t =
+    ap (noisy l g) (p.whole four ∙ ap (λ ss. symbols_of p.bytes ++ ss) spelt) ∙ one_last l k g h h' s t (symbols_of p.bytes) p.goes_on drawn in
+    let lengths = ap length all ∙ length-append done (symbol_bytes t) in
+    let front : take (length done + n) (noisy l g (symbols_of (p.bytes ++ four))) ≡ done ++ take n (symbol_bytes t) = ap (take (length done + n)) all ∙ take-append-add done (symbol_bytes t) n in
+    (p.bytes ++ four, Consumes-trans _ _ _ _ _ p.read read, (length done + n, omega (arith, few, lengths), subst (Appends w w'') (sym front) (Appends-trans _ _ _ _ _ p.written part)))
+
+-- of known bytes, those that were read and those that are left
+split : (old new : Option (List ℕ)) (bytes xs : List ℕ) → old ≡ Some xs → Consumes old new bytes → (left : List ℕ) × (new ≡ Some left) × (xs ≡ bytes ++ left)
+split None new bytes xs known read = cc
+split (Some x) None bytes xs known read = absurd read
+split (Some x) (Some y) bytes xs known read = let same : xs ≡ x = cc in (y, refl, same ∙ read)
+
+ended : (old : Option (List ℕ)) (ys : List ℕ) → old ≡ Some ys → IsAtEnd old → ys ≡ []
+ended None ys known end = cc
+ended (Some y) ys known end = let same : ys ≡ y = cc in same ∙ end
+
+-- the reader was at its end, so the symbols that were read are all
+all_read : (taken : ℕ) (r r' r'' w w' : Option (List ℕ)) (l k : ℕ) (g h : Lcg) (xs : List ℕ) → r ≡ Some xs → YieldsSymbol r' r'' None
+    → (p : Passed taken r r' w w' l k g h) → symbols_of xs ≡ symbols_of p.bytes
+all_read taken r r' r'' w w' l k g h xs known (part, few, read, end) p =
+    let (left, left_known, all) = split r r' p.bytes xs known p.read in
+    let (rest, rest_known, parted) = split r' r'' part left left_known read in
+    let none = ended r'' rest rest_known end in
+    let last : left ≡ part = parted ∙ ap (λ l. part ++ l) none ∙ append-nil part in
+    ap symbols_of (all ∙ ap (λ l. p.bytes ++ l) last) ∙ no_more p.bytes part p.whole few
+
+pub passed_all : (taken : ℕ) (r r' r'' w w' : Option (List ℕ)) (l k : ℕ) (g h : Lcg) (xs : List ℕ) → r ≡ Some xs → Passed taken r r' w w' l k g h → YieldsSymbol r' r'' None → Appends w w' (noisy l g (symbols_of xs))
+passed_all taken r r' r'' w w' l k g h xs known p end =
+    let whole = all_read taken r r' r'' w w' l k g h xs known end p in
     subst (λ ss. Appends w w' (noisy l g ss)) (sym whole) p.written
 
-pub drawn_all : (old : List ℕ) (taken : ℕ) (r r' w w' : Option (List ℕ)) (l k : ℕ) (g h : Lcg) → Passed old taken r w w' l k g h → YieldsSymbol r r' None → h ≡ drawn_for (length (symbols_of old)) g
-drawn_all old taken r r' w w' l k g h p end =
-    let whole : symbols_of old ≡ p.done = p.split ∙ ap (λ rest. p.done ++ rest) (ends r r' p.left p.known end) ∙ append-nil p.done in
+pub drawn_all : (taken : ℕ) (r r' r'' w w' : Option (List ℕ)) (l k : ℕ) (g h : Lcg) (xs : List ℕ) → r ≡ Some xs → Passed taken r r' w w' l k g h → YieldsSymbol r' r'' None → h ≡ drawn_for (length (symbols_of xs)) g
+drawn_all taken r r' r'' w w' l k g h xs known p end =
+    let whole = all_read taken r r' r'' w w' l k g h xs known end p in
     p.drawn ∙ ap (λ n. drawn_for n g) (sym (ap length whole ∙ p.count))
 
-pub passed_front : (old : List ℕ) (taken : ℕ) (r w w' : Option (List ℕ)) (l k : ℕ) (g h : Lcg) → Passed old taken r w w' l k g h → AppendsFront l g (symbols_of old) w w'
-passed_front old taken r w w' l k g h p =
-    let front : take (length p.done) (symbols_of old) ≡ p.done = ap (take (length p.done)) p.split ∙ take-append_seam p.done (symbols_of p.left) in
-    let long = ap length p.split ∙ length-append p.done (symbols_of p.left) in
-    (length p.done, omega (arith, long), subst (λ ss. Appends w w' (noisy l g ss)) (sym front) p.written)
-
-pub passed_many : (old : List ℕ) (taken : ℕ) (r w w' : Option (List ℕ)) (l k : ℕ) (g h : Lcg) → Passed old taken r w w' l k g h → taken ≤ length (symbols_of old)
-passed_many old taken r w w' l k g h p =
-    let long = ap length p.split ∙ length-append p.done (symbols_of p.left) in
+pub passed_many : (taken : ℕ) (r r' w w' : Option (List ℕ)) (l k : ℕ) (g h : Lcg) (xs : List ℕ) → r ≡ Some xs → Passed taken r r' w w' l k g h → taken ≤ length (symbols_of xs)
+passed_many taken r r' w w' l k g h xs known p =
+    let (left, left_known, all) = split r r' p.bytes xs known p.read in
+    let long = ap (λ bs. length (symbols_of bs)) all ∙ ap length (p.whole left) ∙ length-append (symbols_of p.bytes) (symbols_of left) in
     omega (arith, long, p.count)
 
 pub if_known : {X : Type 0} (o : Option X) (P : X → Type 0) → ((x : X) → o ≡ Some x → P x) → IfSome o P

@@ -1,10 +1,12 @@
 -- Noise (this project's own): what a symbol gains, as a function of the level and the generator's state.
-use Rattle.std.specs.Prelude.{List, [], ◌∷◌, ◌++◌, Option, ℕ, zero, suc, ℤ, pos, negsuc, ◌+◌, ◌≤◌, ◌+ℤ◌, ◌-ℤ◌, ◌*ℤ◌, int_div, length, take, sum}
+use Rattle.std.specs.Prelude.{◌≡◌, List, [], ◌∷◌, ◌++◌, Option, ℕ, zero, suc, ℤ, pos, negsuc, ◌+◌, ◌+ℤ◌, ◌-ℤ◌, ◌*ℤ◌, int_div, length, sum}
 use Rattle.std.specs.Int.{w32, int_min, int_max, to_le_bytes}
-use Rattle.std.specs.Io.KnownBytes.{Appends}
+use Rattle.std.specs.Io.KnownBytes.{Appends, Consumes}
 use Rattle.rand_pcg.specs.Lcg.{Lcg}
 use Rattle.rand_pcg.specs.Pcg.{pcg32}
-use Rattle.s2_mode.specs.Symbols.{symbol_bytes}
+use Rattle.s2_mode.specs.Limits.{most_symbols}
+use Rattle.s2_mode.specs.Pieces.{AppendsPart}
+use Rattle.s2_mode.specs.Symbols.{symbol_bytes, symbols_of}
 use Rattle.s2_mode.specs.declared.symbols.Symbol.{Symbol}
 
 -- the sum of the four bytes of a word of 32 bits
@@ -37,7 +39,15 @@ abbrev pub noisy : ℕ → Lcg → List Symbol → List ℕ
 noisy level g [] = []
 noisy level g (s ∷ ss) = symbol_bytes (add level g s).0 ++ noisy level (add level g s).1 ss
 
--- a writer gained the noisy symbols of some of these, from the first one on, and nothing else
-abbrev pub AppendsFront : ℕ → Lcg → List Symbol → Option (List ℕ) → Option (List ℕ) → Type 0
-AppendsFront level g symbols old new =
-    (n : ℕ) × (n ≤ length symbols) × Appends old new (noisy level g (take n symbols))
+-- What a failed read leaves: the reader gave some bytes, and the writer gained the noisy symbols that just these spell, and
+-- nothing else. If no read failed, they were as many symbols as one call takes.
+pub record PassesOn (level : ℕ) (g : Lcg) (taken left given gained : Option (List ℕ)) (reads reads_now : ℕ) : Type 0 where
+  pub bytes : List ℕ
+  pub read : Consumes taken left bytes
+  pub written : Appends given gained (noisy level g (symbols_of bytes))
+  pub bound : reads_now ≡ reads → length (symbols_of bytes) ≡ most_symbols
+
+-- what a failed write leaves: the writer gained a first part of the noisy symbols that the bytes read spell, and not all
+abbrev pub PassesPart : ℕ → Lcg → Option (List ℕ) → Option (List ℕ) → Option (List ℕ) → Option (List ℕ) → Type 0
+PassesPart level g taken left given gained =
+    (bytes : List ℕ) × Consumes taken left bytes × AppendsPart (noisy level g (symbols_of bytes)) given gained

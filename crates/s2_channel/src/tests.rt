@@ -69,7 +69,7 @@ fn passes_a_stream_on_without_its_last_bytes(rt: HostRuntime) -> Result<(), Fail
 fn says_which_call_failed(rt: HostRuntime) -> Result<(), Fail> {
     let bytes = [2, 188, 253, 68, 2, 188, 253, 68];
     for passes in 0..3u64 {
-        let mut reader = Counting::new(FailAt::new(bytes.as_slice(), passes));
+        let mut reader = FailAt::new(InMemory::new(&bytes), passes);
         let mut writer = Counting::new(Vec::new(rt.alloc()));
         let outcome = add_to_all(&mut Noise::new(1, 0), &mut reader, &mut writer);
         assert_eq!(rt; outcome, Err(StreamFault::Read), "{passes}");
@@ -78,7 +78,7 @@ fn says_which_call_failed(rt: HostRuntime) -> Result<(), Fail> {
     }
     for passes in 0..2u64 {
         let mut reader = InMemory::new(&bytes);
-        let mut writer = Counting::new(FailAt::new(Vec::new(rt.alloc()), passes));
+        let mut writer = FailAt::new(Counting::new(Vec::new(rt.alloc())), passes);
         let outcome = add_to_all(&mut Noise::new(1, 0), &mut reader, &mut writer);
         assert_eq!(rt; outcome, Err(StreamFault::Write), "{passes}");
     }

@@ -1,24 +1,26 @@
 //! Noise on a whole stream of symbols.
-ghost use Rattle.std.specs.Prelude.{◌≡◌, ◌≢◌, ◌+◌, ◌-◌, ◌^◌, ◌<◌, ◌≤◌, OnOk, IfSome, Err, IsErrOf, Some, length};
+ghost use Rattle.std.specs.Prelude.{◌≡◌, ◌≢◌, ◌+◌, ◌≤◌, OnOk, IfSome, Err, IsErrOf, Some, length};
 ghost use Rattle.std.specs.Io.KnownBytes.{Appends};
+ghost use Rattle.s2_mode.specs.Counts.{CanCount};
 ghost use Rattle.s2_mode.specs.Limits.{most_symbols};
 ghost use Rattle.s2_mode.specs.Symbols.{symbols_of};
-ghost use Rattle.s2_channel.specs.Noise.{drawn_for, noisy, AppendsFront};
+ghost use Rattle.s2_channel.specs.Noise.{drawn_for, noisy, PassesOn, PassesPart};
 
 use crate::noise::Noise;
 use s2_mode::{CountedRead, CountedWrite, MOST_SYMBOLS, StreamFault, read_symbol, write_symbol};
 
 /// Writes each symbol of a stream with its noise, up to the reader's end, where one to three bytes that
 /// are left over are dropped. `Read` where a read failed, or where [`MOST_SYMBOLS`] symbols came: then the
-/// writer has gained the noisy symbols of those that were read, each whole. `Write` where a write failed.
-/// Behind the end the noise goes on where the last symbol's ended.
+/// writer has gained just the symbols whose four bytes were read, each whole and with its noise. `Write`
+/// where a write failed: then it has gained a part of these, and not all. Behind the end the noise goes on
+/// where the last symbol's ended.
 pub fn add_to_all<R: CountedRead, W: CountedWrite>(
     noise: &mut Noise,
     reader: &mut R,
     writer: &mut W,
 ) -> Result<(), StreamFault>
-    requires reader { R.count reader.old < 2 ^ 64 - 1 }
-    requires writer { W.count writer.old < 2 ^ 64 - 1 }
+    requires reader { CanCount (R.count reader.old) }
+    requires writer { CanCount (W.count writer.old) }
     ensures written { OnOk result (IfSome (R.remaining reader.old) (λ xs.
         Appends (W.contents writer.old) (W.contents writer.new) (noisy noise.old.level noise.old.generator (symbols_of xs)))) }
     ensures drawn { OnOk result (IfSome (R.remaining reader.old) (λ xs.
@@ -28,8 +30,11 @@ pub fn add_to_all<R: CountedRead, W: CountedWrite>(
     ensures read { IsErrOf result StreamFault.Read → R.count reader.new ≡ R.count reader.old →
         IfSome (R.remaining reader.old) (λ xs. most_symbols ≤ length (symbols_of xs)) }
     ensures no_read { result ≢ Err StreamFault.Read → R.count reader.new ≡ R.count reader.old }
-    ensures front { IsErrOf result StreamFault.Read → IfSome (R.remaining reader.old) (λ xs.
-        AppendsFront noise.old.level noise.old.generator (symbols_of xs) (W.contents writer.old) (W.contents writer.new)) }
+    ensures front { IsErrOf result StreamFault.Read → PassesOn noise.old.level noise.old.generator
+        (R.remaining reader.old) (R.remaining reader.new) (W.contents writer.old) (W.contents writer.new)
+        (R.count reader.old) (R.count reader.new) }
+    ensures part { IsErrOf result StreamFault.Write → PassesPart noise.old.level noise.old.generator
+        (R.remaining reader.old) (R.remaining reader.new) (W.contents writer.old) (W.contents writer.new) }
     ensures level { noise.new.level ≡ noise.old.level }
 {
     for _taken in 0..MOST_SYMBOLS {

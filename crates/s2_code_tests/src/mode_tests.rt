@@ -4,7 +4,8 @@ use s2_mode::{
     Mode, ReadFault, Shape, StreamFault, Symbol, WriteFault, read_all, read_full, read_symbol,
     write_full, write_symbol,
 };
-use std::io::Read;
+use std::io;
+use std::io::{ErrorKind, Read, Write};
 use std::test::Fail;
 
 // Kbch, k, t and q of normal frames, and Kbch, k and q of short ones (tables 5a and 5b).
@@ -146,7 +147,7 @@ fn writes_what_is_read(rt: HostRuntime) -> Result<(), Fail> {
 
 #[test]
 fn counts_a_failed_read(rt: HostRuntime) {
-    let mut reader = Counting::new(FailAt::new(ByOne::new(b"abcde"), 4));
+    let mut reader = FailAt::new(Counting::new(ByOne::new(b"abcde")), 4);
     let mut buf = [0; 3];
     assert_eq!(rt; read_full(&mut reader, &mut buf), Ok(3));
     assert_eq!(rt; reader.count(), 0);
@@ -163,7 +164,7 @@ fn counts_a_failed_read(rt: HostRuntime) {
 
 #[test]
 fn keeps_what_came_before_a_failed_read(rt: HostRuntime) {
-    let mut reader = Counting::new(FailAt::new(ByOne::new(b"abc"), 2));
+    let mut reader = FailAt::new(Counting::new(ByOne::new(b"abc")), 2);
     let mut buf = [0; 3];
     assert_eq!(rt; read_full(&mut reader, &mut buf), Err(ReadFault));
     assert_eq!(rt; buf, *b"ab\0");
@@ -188,6 +189,82 @@ fn counts_no_empty_write(rt: HostRuntime) {
     assert_eq!(rt; writer.count(), 0);
     assert_eq!(rt; writer.write(b"c"), Err(WriteFault));
     assert_eq!(rt; writer.count(), 1);
+}
+
+#[test]
+fn reads_long_and_empty_buffers(rt: HostRuntime) -> Result<(), Fail> {
+    let bytes = vec![in rt.alloc(); 7u8; 70_000]?;
+    let mut room = vec![in rt.alloc(); 0u8; 100_000]?;
+    let mut reader = Counting::new(bytes.as_slice());
+    assert_eq!(rt; reader.read(&mut []), Ok(0));
+    assert_eq!(rt; reader.read(&mut room), Ok(70_000));
+    assert_eq!(rt; reader.read(&mut []), Ok(0));
+    assert_eq!(rt; reader.read(&mut room), Ok(0));
+    assert_eq!(rt; reader.count(), 0);
+    assert_eq!(rt; &room[..70_000], bytes.as_slice());
+    Ok(())
+}
+
+#[test]
+fn writes_long_and_empty_slices(rt: HostRuntime) -> Result<(), Fail> {
+    let bytes = vec![in rt.alloc(); 7u8; 100_000]?;
+    let mut writer = Counting::new(Vec::with_capacity(rt.alloc(), 100_000)?);
+    assert_eq!(rt; writer.write(&[]), Ok(0));
+    assert_eq!(rt; writer.write(&bytes), Ok(100_000));
+    assert_eq!(rt; writer.write(&[]), Ok(0));
+    assert_eq!(rt; writer.count(), 0);
+    let written = writer.into_inner();
+    assert_eq!(rt; written.as_slice(), bytes.as_slice());
+    Ok(())
+}
+
+/// Fails each call.
+#[derive(Clone, Copy)]
+struct Broken;
+
+impl Read for Broken {
+    fn read(&mut self, _buf: &mut [u8]) -> io::Result<usize> {
+        Err(io::Error::from(ErrorKind::Other))
+    }
+}
+
+impl Write for Broken {
+    fn write(&mut self, _buf: &[u8]) -> io::Result<usize> {
+        Err(io::Error::from(ErrorKind::Other))
+    }
+
+    fn flush(&mut self) -> io::Result<()> {
+        Err(io::Error::from(ErrorKind::Other))
+    }
+}
+
+#[test]
+fn counts_a_read_that_failed_inside(rt: HostRuntime) {
+    let mut reader = Counting::new(Broken);
+    let mut room = [0; 2];
+    assert_eq!(rt; reader.read(&mut []), Ok(0));
+    assert_eq!(rt; reader.count(), 0);
+    assert_eq!(rt; reader.read(&mut room), Err(ReadFault));
+    assert_eq!(rt; reader.count(), 1);
+}
+
+#[test]
+fn counts_a_write_that_failed_inside(rt: HostRuntime) {
+    let mut writer = Counting::new(Broken);
+    assert_eq!(rt; writer.write(&[]), Ok(0));
+    assert_eq!(rt; writer.count(), 0);
+    assert_eq!(rt; writer.write(b"ab"), Err(WriteFault));
+    assert_eq!(rt; writer.count(), 1);
+}
+
+#[test]
+fn tells_a_fault_inside_while_calls_pass(rt: HostRuntime) {
+    let mut reader = FailAt::new(Counting::new(Broken), 1);
+    let mut room = [0; 2];
+    assert_eq!(rt; reader.read(&mut room), Err(ReadFault));
+    assert_eq!(rt; reader.read(&mut room), Err(ReadFault));
+    assert_eq!(rt; reader.count(), 2);
+    assert_eq!(rt; reader.into_inner().count(), 1);
 }
 
 #[test]
@@ -249,8 +326,20 @@ fn gives_up_on_an_endless_reader(rt: HostRuntime) {
 }
 
 #[test]
+fn reads_a_file_just_as_long_as_it_may_be(rt: HostRuntime) -> Result<(), Fail> {
+    let bytes = vec![in rt.alloc(); b'a'; 5000]?;
+    let all = read_all(rt.alloc(), &mut InMemory::new(&bytes), 5000)?;
+    assert_eq!(rt; all.len(), 5000);
+    for most in [0, 1, 4095, 4096, 4999usize] {
+        let all = read_all(rt.alloc(), &mut InMemory::new(&bytes), most);
+        assert_eq!(rt; all.err(), Some(FileFault::TooLong), "{most}");
+    }
+    Ok(())
+}
+
+#[test]
 fn counts_a_failed_write(rt: HostRuntime) -> Result<(), Fail> {
-    let mut writer = Counting::new(FailAt::new(Vec::new(rt.alloc()), 1));
+    let mut writer = FailAt::new(Counting::new(Vec::new(rt.alloc())), 1);
     write_full(&mut writer, b"ab")?;
     assert_eq!(rt; writer.count(), 0);
     assert!(rt; writer.count() < 1);

@@ -1,7 +1,8 @@
 -- How a run of the program ends.
-use Rattle.std.specs.Prelude.{◌≡◌, ◌⊎◌, ℕ, ◌+◌, List, ⊤, Option, Result, Ok, Err}
+use Rattle.std.specs.Prelude.{◌≡◌, ◌⊎◌, ℕ, ◌+◌, List, ⊤, Option, None, Result, Ok, Err}
 use Rattle.std.specs.Io.KnownBytes.{Appends}
 use Rattle.s2_mode.specs.Pieces.{AppendsPart}
+use Rattle.s2_mode.specs.Streams.{Streams, OnlyFailed}
 use Rattle.s2_console.specs.declared.printed.Printed.{Printed}
 use Rattle.s2_console.specs.declared.exit.Exit.{Exit}
 use Rattle.s2_console.specs.declared.exit.Exit.TheVariants as exits
@@ -43,11 +44,14 @@ CommandRuns Says IsInput (Err faults.Read) old new = new ≡ old
 CommandRuns Says IsInput (Err faults.NoMemory) old new = new ≡ old
 CommandRuns Says IsInput (Err f) old new = IsInput (Err f) × (new ≡ old)
 
--- The causes of a failed device: the count of failed reads rose, or that of failed writes.
-abbrev pub CommandCounts : Result Exit Fault → ℕ → ℕ → ℕ → ℕ → Type 0
-CommandCounts (Err faults.Read) reads reads_after writes writes_after = (reads_after ≡ reads + 1) × (writes_after ≡ writes)
-CommandCounts (Err faults.Write) reads reads_after writes writes_after = (reads_after ≡ reads) × (writes_after ≡ writes + 1)
-CommandCounts ended reads reads_after writes writes_after = (reads_after ≡ reads) × (writes_after ≡ writes)
+-- how many reads have failed, and how many writes
+abbrev pub counted : ℕ → ℕ → Streams
+counted reads prints = record { taken = None; given = None; out = None; reads = reads; writes = 0; prints = prints }
+
+-- Only what failed was counted, and where a read is told, one failed.
+pub record CommandCounts (ended : Result Exit Fault) (reads reads_after prints prints_after : ℕ) : Type 0 where
+  pub only : OnlyFailed (ended ≡ Err faults.Read) (ended ≡ Err faults.Write) (counted reads prints) (counted reads_after prints_after)
+  pub read : ended ≡ Err faults.Read → reads_after ≡ reads + 1
 
 abbrev pub exit_of : Result Exit Fault → Exit
 exit_of (Ok exit) = exit
@@ -58,6 +62,13 @@ exit_of (Err f) = exits.Fault
 abbrev pub Complains : Result Exit Fault → Screen → Screen → Type 0
 Complains (Ok exit) old new = (new.errors_failed ≡ old.errors_failed) × (new.errors ≡ old.errors)
 Complains (Err f) old new = new.errors_failed ≡ old.errors_failed → Appends old.errors new.errors (fault_line f)
+
+-- A command that holds its output back, and tells how it ended: so it ran on an input, only what failed was counted, of so many failed reads
+-- before and behind, and of a fault the line stands on the errors.
+abbrev pub CommandEnds : {I : Type 0} → (I → Exit → List ℕ → Type 0) → (Result I Fault → Type 0) → ℕ → ℕ → Screen → Screen → Exit → Type 0
+CommandEnds Says IsInput reads reads_after old new exit =
+    (ended : Result Exit Fault) × (exit ≡ exit_of ended) × CommandRuns Says IsInput ended old.output new.output
+    × CommandCounts ended reads reads_after old.output_failed new.output_failed × Complains ended old new
 
 -- the number that the program ends with
 abbrev pub status_of : Exit → ℕ

@@ -1,5 +1,5 @@
 -- What `judge` writes to its certificate's file, where one is asked for.
-use Rattle.std.specs.Prelude.{◌≡◌, ◌⊎◌, ℕ, ◌+◌, ℤ, List, Option, Some, None, Result, Ok, Err}
+use Rattle.std.specs.Prelude.{◌≡◌, ◌⊎◌, ℕ, ◌+◌, ℤ, List, [], Option, Some, None, Result, Ok, Err}
 use Rattle.std.specs.Io.KnownBytes.{Appends}
 use Rattle.s2_mode.specs.Pieces.{AppendsPart}
 use Rattle.s2_rows.specs.Rows.{Rows}
@@ -11,8 +11,14 @@ use Rattle.s2_console.specs.declared.exit.Exit.{Exit}
 use Rattle.s2_console.specs.declared.fault.Fault.{Fault}
 use Rattle.s2_console.specs.declared.fault.Fault.TheVariants as faults
 use Rattle.s2_console.specs.declared.printed.Printed.{Printed}
-use Rattle.s2_evidence.specs.Files.{Written, contents_in, failed_in}
-use Rattle.s2_evidence.specs.Judging.{SaysDecided, exit_on}
+use Rattle.s2_console.specs.declared.place.Place.{Place}
+use Rattle.s2_console.specs.Exits.{exit_of, CommandRuns, CommandCounts}
+use Rattle.s2_console.specs.Notes.{Concludes}
+use Rattle.s2_console.specs.Screens.{Screen, report_in, report_failed}
+use Rattle.s2_mode.specs.Shape.{Shape}
+use Rattle.s2_evidence.specs.Files.{Written, JudgeFiles, contents_in, failed_in}
+use Rattle.s2_evidence.specs.Inputs.{AreInputs}
+use Rattle.s2_evidence.specs.Judging.{IsJudged, SaysDecided, exit_on}
 
 -- a certificate's bytes are written, or nothing where there is none
 abbrev pub Writes : Option View → Option (List ℕ) → Option (List ℕ) → Type 0
@@ -57,3 +63,14 @@ Certifies tuning IsInput (Err faults.Write) old new =
     (input : Rows × List ℤ) × IsInput (Ok input) × (((failed_in new ≡ failed_in old) × ((exit : Exit) × Wrote tuning input exit (contents_in old) (contents_in new)))
     ⊎ ((failed_in new ≡ failed_in old + 1) × WrotePart tuning input (contents_in old) (contents_in new)))
 Certifies tuning IsInput (Err f) old new = contents_in new ≡ contents_in old
+
+-- `judge` has ended: of its files' input the verdict is printed, and the certificate written before it, only what failed was counted, and of
+-- a fault the line stands on the errors, behind the report where it is printed there.
+abbrev pub JudgeEnds : Tuning → Shape → Place → JudgeFiles → JudgeFiles → Screen → Screen → Exit → Type 0
+JudgeEnds tuning shape place files files_after old new exit =
+    (ended : Result Exit Fault) × (shown : Screen) × (exit ≡ exit_of ended)
+    × CommandRuns (IsJudged tuning) (AreInputs shape files.rows files.soft) ended (report_in place old) (report_in place shown)
+    × Certifies tuning (AreInputs shape files.rows files.soft) ended files.certificate files_after.certificate
+    × CommandCounts ended (files.rows_failed + files.soft_failed) (files_after.rows_failed + files_after.soft_failed)
+    (failed_in files.certificate + report_failed place old) (failed_in files_after.certificate + report_failed place shown)
+    × Concludes place [] ended old shown new

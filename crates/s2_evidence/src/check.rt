@@ -3,7 +3,7 @@ ghost use Rattle.std.specs.Prelude.{◌≡◌, ◌≢◌, ◌+◌, Result, Err, 
 ghost use Rattle.s2_mode.specs.Counts.{CanCount};
 ghost use Rattle.s2_file.specs.Format.{file_of_bytes};
 ghost use Rattle.s2_console.specs.Screens.{CanShow};
-ghost use Rattle.s2_console.specs.Exits.{exit_of, Follows, CommandAnswers, CommandRuns, CommandCounts, Complains};
+ghost use Rattle.s2_console.specs.Exits.{Follows, CommandAnswers, CommandRuns, CommandCounts, CommandEnds};
 ghost use Rattle.s2_evidence.specs.Files.{CanCheck};
 ghost use Rattle.s2_evidence.specs.Checking.{certificate_said, AreRowsBeside, ArePartsIn, AreCheckInputs, answer_exit, SaysAnswer, IsAnswered};
 
@@ -131,11 +131,8 @@ pub fn check_command<R: CountedRead, S: CountedRead, O: CountedWrite, E: Counted
     requires console { CanShow console.old }
     ensures quiet { result ≢ Exit.Fault → console.new.errors_failed ≡ console.old.errors_failed }
     ensures whole { result ≢ Exit.Fault → console.new.output_failed ≡ console.old.output_failed }
-    ensures run { (ended : Result Exit Fault) × (result ≡ exit_of ended)
-        × CommandRuns IsAnswered (AreCheckInputs files.old.rows files.old.certificate) ended console.old.output console.new.output
-        × CommandCounts ended (files.old.rows_failed + files.old.certificate_failed) (files.new.rows_failed + files.new.certificate_failed)
-        console.old.output_failed console.new.output_failed
-        × Complains ended console.old console.new }
+    ensures run { CommandEnds IsAnswered (AreCheckInputs files.old.rows files.old.certificate) (files.old.rows_failed + files.old.certificate_failed)
+        (files.new.rows_failed + files.new.certificate_failed) console.old console.new result }
 {
     let ended = print_check(alloc, files, &mut console.output);
     console.conclude(ended)

@@ -4,12 +4,11 @@ ghost use Rattle.s2_mode.specs.Counts.{CanCount};
 ghost use Rattle.s2_matrix.specs.Code.{code_of};
 ghost use Rattle.s2_check.specs.Views.{IsSoft};
 ghost use Rattle.s2_console.specs.Screens.{Screen, CanTell, SameBeside, report_in, report_failed};
-ghost use Rattle.s2_console.specs.Exits.{exit_of, CommandAnswers, CommandRuns, CommandCounts};
-ghost use Rattle.s2_console.specs.Notes.{Concludes};
+ghost use Rattle.s2_console.specs.Exits.{CommandAnswers, CommandRuns, CommandCounts};
 ghost use Rattle.s2_evidence.specs.Files.{written, contents_in, failed_in, SameAsked, CanJudge};
 ghost use Rattle.s2_evidence.specs.Inputs.{AreInputs, IsOnly};
 ghost use Rattle.s2_evidence.specs.Judging.{IsJudged};
-ghost use Rattle.s2_evidence.specs.Certifying.{Certifies, IsCertified};
+ghost use Rattle.s2_evidence.specs.Certifying.{Certifies, IsCertified, JudgeEnds};
 
 use crate::decision::decide_by;
 use crate::files::JudgeFiles;
@@ -166,13 +165,7 @@ pub fn judge_command<R: CountedRead, S: CountedRead, C: Output, O: CountedWrite,
     ensures quiet { result ≢ Exit.Fault → console.new.errors_failed ≡ console.old.errors_failed }
     ensures whole { result ≢ Exit.Fault → console.new.output_failed ≡ console.old.output_failed }
     ensures asked { SameAsked files.old.certificate files.new.certificate }
-    ensures run { (ended : Result Exit Fault) × (shown : Screen) × (result ≡ exit_of ended)
-        × CommandRuns (IsJudged tuning) (AreInputs shape files.old.rows files.old.soft) ended (report_in place console.old) (report_in place shown)
-        × Certifies tuning (AreInputs shape files.old.rows files.old.soft) ended
-        files.old.certificate files.new.certificate
-        × CommandCounts ended (files.old.rows_failed + files.old.soft_failed) (files.new.rows_failed + files.new.soft_failed)
-        (failed_in files.old.certificate + report_failed place console.old) (failed_in files.new.certificate + report_failed place shown)
-        × Concludes place [] ended console.old shown console.new }
+    ensures run { JudgeEnds tuning shape place files.old files.new console.old console.new result }
 {
     let ended = judge_at(alloc, shape, tuning, files, place, console);
     console.conclude(ended)

@@ -7,7 +7,7 @@ ghost use Rattle.s2_check.specs.Views.{IsSoft};
 ghost use Rattle.s2_link.specs.Limits.{default_rounds};
 ghost use Rattle.s2_link.specs.Tuning.{tuning_of};
 ghost use Rattle.s2_console.specs.Screens.{CanShow};
-ghost use Rattle.s2_console.specs.Exits.{exit_of, CommandAnswers, CommandRuns, CommandCounts, Complains};
+ghost use Rattle.s2_console.specs.Exits.{CommandAnswers, CommandRuns, CommandCounts, CommandEnds};
 ghost use Rattle.s2_evidence.specs.Inputs.{AreInputs, IsOnly};
 ghost use Rattle.s2_evidence.specs.Judging.{IsOwn};
 
@@ -89,10 +89,8 @@ pub fn self_command<S: CountedRead, O: CountedWrite, E: CountedWrite>(
     requires console { CanShow console.old }
     ensures quiet { result ≢ Exit.Fault → console.new.errors_failed ≡ console.old.errors_failed }
     ensures whole { result ≢ Exit.Fault → console.new.output_failed ≡ console.old.output_failed }
-    ensures run { (ended : Result Exit Fault) × (result ≡ exit_of ended)
-        × CommandRuns IsOwn (AreInputs (shape_of 4 2 3) (Some (codes "0 4 8\n0 1 2\n")) (S.remaining soft.old)) ended console.old.output console.new.output
-        × CommandCounts ended (S.count soft.old) (S.count soft.new) console.old.output_failed console.new.output_failed
-        × Complains ended console.old console.new }
+    ensures run { CommandEnds IsOwn (AreInputs (shape_of 4 2 3) (Some (codes "0 4 8\n0 1 2\n")) (S.remaining soft.old)) (S.count soft.old) (S.count soft.new)
+        console.old console.new result }
 {
     let ended = print_own(alloc, soft, &mut console.output);
     console.conclude(ended)

@@ -1,8 +1,8 @@
 //! A page of bytes on their way to a writer. After a failed write the writer has gained a first part of
 //! what waited in the page and of the bytes behind it, and not all.
-ghost use Rattle.std.specs.Prelude.{◌-◌, ◌^◌, ◌<◌, OnOk, [], ◌∷◌};
+ghost use Rattle.std.specs.Prelude.{◌<◌, OnOk, [], ◌∷◌};
 ghost use Rattle.arrayvec.specs.ArrayVec.{array_vec_len};
-ghost use Rattle.s2_mode.specs.Counts.{CountsFault};
+ghost use Rattle.s2_mode.specs.Counts.{CanCount, CountsFault};
 ghost use Rattle.s2_file.specs.Pages.{PutsThrough};
 
 use arrayvec::ArrayVec;
@@ -13,7 +13,7 @@ pub type Page = ArrayVec<u8, 4096>;
 
 /// Makes room for a byte: writes the page where it is full.
 fn make_room<W: CountedWrite>(out: &mut W, page: &mut Page) -> Result<(), WriteFault>
-    requires { W.count out.old < 2 ^ 64 - 1 }
+    requires { CanCount (W.count out.old) }
     ensures room { OnOk result (array_vec_len page.new < 4096) }
     ensures bytes { PutsThrough [] (W.contents out.old) (W.contents out.new) page.old.items page.new.items result }
     ensures cause { CountsFault (W.count out.old) (W.count out.new) result }
@@ -28,7 +28,7 @@ fn make_room<W: CountedWrite>(out: &mut W, page: &mut Page) -> Result<(), WriteF
 
 /// Puts a byte into the page, and writes the page first where it is full.
 pub(crate) fn put<W: CountedWrite>(out: &mut W, page: &mut Page, byte: u8) -> Result<(), WriteFault>
-    requires { W.count out.old < 2 ^ 64 - 1 }
+    requires { CanCount (W.count out.old) }
     ensures bytes { PutsThrough (byte ∷ []) (W.contents out.old) (W.contents out.new) page.old.items page.new.items result }
     ensures cause { CountsFault (W.count out.old) (W.count out.new) result }
 {
@@ -43,7 +43,7 @@ pub(crate) fn put_all<W: CountedWrite>(
     page: &mut Page,
     bytes: &[u8],
 ) -> Result<(), WriteFault>
-    requires { W.count out.old < 2 ^ 64 - 1 }
+    requires { CanCount (W.count out.old) }
     ensures bytes { PutsThrough bytes.now (W.contents out.old) (W.contents out.new) page.old.items page.new.items result }
     ensures cause { CountsFault (W.count out.old) (W.count out.new) result }
 {

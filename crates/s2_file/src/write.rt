@@ -1,10 +1,10 @@
 //! The parts of a certificate file, each put behind what was put before into a page, which is written
 //! whenever it is full. After a failed write the writer has gained a first part of what waited in the
 //! page and of the bytes behind it, and not all.
-ghost use Rattle.std.specs.Prelude.{◌≡◌, ◌-◌, ◌^◌, ◌<◌, ◌≤◌, All, length};
+ghost use Rattle.std.specs.Prelude.{◌≡◌, ◌≤◌, All, length};
 ghost use Rattle.std.specs.List.{flat_map};
 ghost use Rattle.s2_mode.specs.Limits.{most_bits};
-ghost use Rattle.s2_mode.specs.Counts.{CountsFault};
+ghost use Rattle.s2_mode.specs.Counts.{CanCount, CountsFault};
 ghost use Rattle.s2_file.specs.Limits.{most_shares};
 ghost use Rattle.s2_file.specs.Pages.{PutsThrough};
 ghost use Rattle.s2_file.specs.Field.{bytes_of_bits};
@@ -34,7 +34,7 @@ fn write_front<W: CountedWrite>(
     page: &mut Page,
     header: &Header,
 ) -> Result<(), WriteFault>
-    requires { W.count out.old < 2 ^ 64 - 1 }
+    requires { CanCount (W.count out.old) }
     ensures bytes { PutsThrough (front_bytes header.now) (W.contents out.old) (W.contents out.new) page.old.items page.new.items result }
     ensures cause { CountsFault (W.count out.old) (W.count out.new) result }
 {
@@ -59,7 +59,7 @@ fn write_count<W: CountedWrite>(
     version: Version,
     count: u32,
 ) -> Result<(), WriteFault>
-    requires { W.count out.old < 2 ^ 64 - 1 }
+    requires { CanCount (W.count out.old) }
     ensures bytes { PutsThrough (count_bytes version count) (W.contents out.old) (W.contents out.new) page.old.items page.new.items result }
     ensures cause { CountsFault (W.count out.old) (W.count out.new) result }
 {
@@ -75,7 +75,7 @@ pub fn write_header<W: CountedWrite>(
     page: &mut Page,
     header: &Header,
 ) -> Result<(), WriteFault>
-    requires count { W.count out.old < 2 ^ 64 - 1 }
+    requires count { CanCount (W.count out.old) }
     requires few { header.now.count ≤ most_shares }
     ensures bytes { PutsThrough (header_bytes header.now) (W.contents out.old) (W.contents out.new) page.old.items page.new.items result }
     ensures cause { CountsFault (W.count out.old) (W.count out.new) result }
@@ -86,7 +86,7 @@ pub fn write_header<W: CountedWrite>(
 
 /// Writes a soft value.
 fn put_soft<W: CountedWrite>(out: &mut W, page: &mut Page, value: i16) -> Result<(), WriteFault>
-    requires count { W.count out.old < 2 ^ 64 - 1 }
+    requires count { CanCount (W.count out.old) }
     requires range { IsSoft value }
     ensures bytes { PutsThrough (soft.bytes value) (W.contents out.old) (W.contents out.new) page.old.items page.new.items result }
     ensures cause { CountsFault (W.count out.old) (W.count out.new) result }
@@ -100,7 +100,7 @@ pub fn write_soft<W: CountedWrite>(
     page: &mut Page,
     values: &[i16],
 ) -> Result<(), WriteFault>
-    requires count { W.count out.old < 2 ^ 64 - 1 }
+    requires count { CanCount (W.count out.old) }
     requires range { All IsSoft values.now }
     ensures bytes { PutsThrough (flat_map soft.bytes values.now) (W.contents out.old) (W.contents out.new) page.old.items page.new.items result }
     ensures cause { CountsFault (W.count out.old) (W.count out.new) result }
@@ -117,7 +117,7 @@ pub fn write_word<W: CountedWrite>(
     page: &mut Page,
     word: &Bits,
 ) -> Result<(), WriteFault>
-    requires count { W.count out.old < 2 ^ 64 - 1 }
+    requires count { CanCount (W.count out.old) }
     requires few { length word.now ≤ most_bits }
     ensures bytes { PutsThrough (bytes_of_bits word.now) (W.contents out.old) (W.contents out.new) page.old.items page.new.items result }
     ensures cause { CountsFault (W.count out.old) (W.count out.new) result }
@@ -134,7 +134,7 @@ pub fn write_share<W: CountedWrite>(
     page: &mut Page,
     value: i32,
 ) -> Result<(), WriteFault>
-    requires { W.count out.old < 2 ^ 64 - 1 }
+    requires { CanCount (W.count out.old) }
     ensures bytes { PutsThrough (share.bytes value) (W.contents out.old) (W.contents out.new) page.old.items page.new.items result }
     ensures cause { CountsFault (W.count out.old) (W.count out.new) result }
 {
@@ -147,7 +147,7 @@ pub fn write_move<W: CountedWrite>(
     page: &mut Page,
     value: Move,
 ) -> Result<(), WriteFault>
-    requires { W.count out.old < 2 ^ 64 - 1 }
+    requires { CanCount (W.count out.old) }
     ensures bytes { PutsThrough (move.bytes value) (W.contents out.old) (W.contents out.new) page.old.items page.new.items result }
     ensures cause { CountsFault (W.count out.old) (W.count out.new) result }
 {

@@ -1,6 +1,6 @@
 //! Writers in front of which something may stand.
-ghost use Rattle.std.specs.Prelude.{◌≡◌, ◌-◌, ◌^◌, ◌<◌};
-ghost use Rattle.s2_mode.specs.Counts.{CountsFault};
+ghost use Rattle.std.specs.Prelude.{◌≡◌};
+ghost use Rattle.s2_mode.specs.Counts.{CanCount, CountsFault};
 
 use s2_mode::{CountedWrite, Counting, WriteFault};
 use std::io::Write;
@@ -9,7 +9,7 @@ use std::io::Write;
 pub trait Output: CountedWrite {
     /// Cuts off what stood in the file before. It is called once, before the first write; what the writer has taken is as it was.
     fn begin(&mut self) -> Result<(), WriteFault>
-        requires { Self.count self.old < 2 ^ 64 - 1 }
+        requires { CanCount (Self.count self.old) }
         ensures kept { Self.contents self.new ≡ Self.contents self.old }
         ensures cause { CountsFault (Self.count self.old) (Self.count self.new) result };
 }

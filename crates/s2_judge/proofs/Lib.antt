@@ -4,3 +4,4 @@ pub mod DecidingLemmas
 pub mod Scattering
 pub mod DecidedLengths
 mod Grounds
+mod Mends

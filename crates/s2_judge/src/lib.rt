@@ -22,6 +22,8 @@ mod certifier;
 mod ground;
 mod judge;
 pub mod laws;
+mod mending;
+mod odd;
 mod steps;
 
 pub use judge::Judge;

@@ -1,40 +1,73 @@
 //! The four steps of a decision.
 ghost use Rattle.std.specs.Prelude.{◌≡◌, ◌≢◌, ◌≤◌, All, IsTrue, IfSome, Some, None, if◌then◌else◌, false, length};
 ghost use Rattle.s2_matrix.specs.Code.{code_of};
+ghost use Rattle.s2_minsum.specs.Plain.{decision};
+ghost use Rattle.s2_minsum.specs.Decoding.{decoded};
+ghost use Rattle.s2_check.specs.Hard.{hard_decision};
 ghost use Rattle.s2_check.specs.Views.{IsSoft};
 ghost use Rattle.s2_split.specs.Making.{shared_view, shared_views};
 ghost use Rattle.s2_split.specs.Scattered.{repaired};
-ghost use Rattle.s2_judge.specs.Deciding.{is_strict, decoded_bits, first_codeword, repair_view, by_min_sum, decided};
+ghost use Rattle.s2_judge.specs.Deciding.{is_strict, satisfies, decoded_bits, first_codeword, repair_view, by_min_sum, decided};
 ghost use Rattle.s2_judge.specs.Judging.{shown_by, IsGround};
 
 use crate::certifier::Certifier;
 use crate::ground::Ground;
+use crate::mending::mends_nothing;
+use crate::odd::has_odd_check;
 use s2_bits::Bits;
 use s2_check::{judge_unsplit, none_is_zero};
 use s2_link::Tuning;
 use s2_matrix::Matrix;
 use s2_minsum::{Decoder, Factor};
 
-/// Writes the repair and, if it satisfies every check, looks for its certificate: whether there is one.
-fn try_repair(certifier: &mut Certifier<'_>, soft: &[i16], repair: &mut Bits) -> bool
+/// Looks for a certificate of the repair: whether there is one, and whether the repair satisfies every check, where it
+/// is written. Where a few checks of the hard decision show that it does not, it is not made.
+fn try_repair(
+    certifier: &mut Certifier<'_>,
+    soft: &[i16],
+    hard: &Bits,
+    repair: &mut Bits,
+) -> (bool, bool)
     requires soft { length soft.now ≡ (code_of certifier.old.rows).bits }
     requires range { All IsSoft soft.now }
+    requires hard { hard.now ≡ hard_decision soft.now }
     requires repair { length repair.old ≡ (code_of certifier.old.rows).bits }
     ensures rows { certifier.new.rows ≡ certifier.old.rows }
     ensures passes { certifier.new.passes ≡ certifier.old.passes }
-    ensures repair { repair.new ≡ repaired (code_of certifier.old.rows) soft.now }
+    ensures even { satisfies (code_of certifier.old.rows) (repaired (code_of certifier.old.rows) soft.now) ≡ result.1 }
+    ensures repair { IsTrue result.1 → repair.new ≡ repaired (code_of certifier.old.rows) soft.now }
     ensures long { length repair.new ≡ (code_of certifier.old.rows).bits }
-    ensures word { IsTrue result → certifier.new.word ≡ repair.new }
-    ensures found { IsTrue result → certifier.new.found ≢ None }
-    ensures strict { IsTrue result → IfSome certifier.new.found (λ s. is_strict certifier.old.rows (shared_view certifier.old.rows soft.now repair.new s) ≡ certifier.new.strict) }
-    ensures view { repair_view certifier.old.rows certifier.old.passes soft.now ≡ (if result then shared_views certifier.old.rows soft.now repair.new certifier.new.found else None) }
+    ensures both { IsTrue result.0 → IsTrue result.1 }
+    ensures word { IsTrue result.0 → certifier.new.word ≡ repair.new }
+    ensures found { IsTrue result.0 → certifier.new.found ≢ None }
+    ensures strict { IsTrue result.0 → IfSome certifier.new.found (λ s. is_strict certifier.old.rows (shared_view certifier.old.rows soft.now repair.new s) ≡ certifier.new.strict) }
+    ensures view { repair_view certifier.old.rows certifier.old.passes soft.now ≡ (if result.0 then shared_views certifier.old.rows soft.now repair.new certifier.new.found else None) }
 {
+    if mends_nothing(certifier.matrix(), hard.truths()) {
+        return (false, false);
+    }
     certifier.repair_into(soft, repair);
     if certifier.matrix().satisfied(repair) {
-        certifier.certify(soft, repair)
+        (certifier.certify(soft, repair), true)
     } else {
-        false
+        (false, false)
     }
+}
+
+/// Whether a decoder's hard decision satisfies every check. If so it is written; where a few checks show that it does
+/// not, it is not.
+fn is_decoded(matrix: &Matrix, decoder: &Decoder<'_>, bits: &mut Bits) -> bool
+    requires decoder { decoder.now.rows ≡ matrix.now }
+    requires bits { length bits.old ≡ (code_of matrix.now).bits }
+    ensures test { satisfies (code_of matrix.now) (decision (code_of decoder.now.rows) (decoded decoder.now)) ≡ result }
+    ensures bits { IsTrue result → bits.new ≡ decision (code_of decoder.now.rows) (decoded decoder.now) }
+    ensures long { length bits.new ≡ (code_of matrix.now).bits }
+{
+    if has_odd_check(matrix, decoder) {
+        return false;
+    }
+    decoder.hard_into(bits);
+    matrix.satisfied(bits)
 }
 
 /// Runs min-sum by a factor, at most so many rounds, until its hard decision satisfies every check: whether it
@@ -60,20 +93,21 @@ fn decode(
     decoder.load(soft);
     'decoding: for round in 0..rounds {
         decoder.round(factor);
-        decoder.hard_into(bits);
-        if matrix.satisfied(bits) {
+        if is_decoded(matrix, decoder, bits) {
             return true;
         }
     }
+    decoder.hard_into(bits);
     false
 }
 
-/// Steps 3 and 4, where there is no certificate for the repair.
+/// Steps 3 and 4, where there is no certificate for the repair. It is told whether the repair satisfies every check.
 fn decide_by_min_sum(
     certifier: &mut Certifier<'_>,
     decoder: &mut Decoder<'_>,
     soft: &[i16],
     tuning: Tuning,
+    is_even: bool,
     repair: &Bits,
     bits: &mut Bits,
 ) -> Ground
@@ -81,7 +115,8 @@ fn decide_by_min_sum(
     requires soft { length soft.now ≡ (code_of certifier.old.rows).bits }
     requires range { All IsSoft soft.now }
     requires passes { certifier.old.passes ≡ tuning.passes }
-    requires repair { repair.now ≡ repaired (code_of certifier.old.rows) soft.now }
+    requires even { satisfies (code_of certifier.old.rows) (repaired (code_of certifier.old.rows) soft.now) ≡ is_even }
+    requires repair { IsTrue is_even → repair.now ≡ repaired (code_of certifier.old.rows) soft.now }
     requires bits { length bits.old ≡ (code_of certifier.old.rows).bits }
     ensures certifier { certifier.new.rows ≡ certifier.old.rows }
     ensures passes { certifier.new.passes ≡ certifier.old.passes }
@@ -100,7 +135,7 @@ fn decide_by_min_sum(
         }
         return Ground::Checks;
     }
-    if certifier.matrix().satisfied(repair) {
+    if is_even {
         bits.copy_prefix(repair, repair.len());
         return Ground::Checks;
     }
@@ -133,9 +168,10 @@ pub(crate) fn decide(
     if judge_unsplit(certifier.matrix(), soft, bits) {
         return Ground::HardDecision(none_is_zero(soft));
     }
-    if try_repair(certifier, soft, repair) {
+    let (is_certified, is_even) = try_repair(certifier, soft, bits, repair);
+    if is_certified {
         bits.copy_prefix(repair, repair.len());
         return Ground::Found(certifier.is_strict());
     }
-    decide_by_min_sum(certifier, decoder, soft, tuning, repair, bits)
+    decide_by_min_sum(certifier, decoder, soft, tuning, is_even, repair, bits)
 }

@@ -353,7 +353,7 @@ fn tells_a_failed_write(rt: HostRuntime) -> Result<(), Fail> {
     put_frame(&mut bytes, 1)?;
     put_frame(&mut bytes, 2)?;
     let mut receiver = toy(rt.alloc(), MOST_SYMBOLS)?;
-    let mut packets = Counting::new(FailAt::new(Vec::new(rt.alloc()), 0));
+    let mut packets = FailAt::new(Counting::new(Vec::new(rt.alloc())), 0);
     let mut report = Counting::new(Vec::new(rt.alloc()));
     assert!(rt; bytes.len() < 1000);
     let fault = receive_bytes(&mut receiver, &bytes, &mut packets, &mut report);

@@ -128,17 +128,17 @@ impl Read for Source<'_> {
 }
 
 /// A reader of which so many reads pass.
-pub(crate) type Reader<'a> = Counting<FailAt<Source<'a>>>;
+pub(crate) type Reader<'a> = FailAt<Counting<Source<'a>>>;
 
 /// A writer of which so many writes pass.
-pub(crate) type Writer = Counting<FailAt<Vec<u8>>>;
+pub(crate) type Writer = FailAt<Counting<Vec<u8>>>;
 
 pub(crate) fn reader_of(source: Source<'_>, passes: u64) -> Reader<'_> {
-    Counting::new(FailAt::new(source, passes))
+    FailAt::new(Counting::new(source), passes)
 }
 
 pub(crate) fn writer_of(alloc: Global, passes: u64) -> Writer {
-    Counting::new(FailAt::new(Vec::new(alloc), passes))
+    FailAt::new(Counting::new(Vec::new(alloc)), passes)
 }
 
 /// What a writer has taken.

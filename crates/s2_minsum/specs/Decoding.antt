@@ -56,10 +56,10 @@ abbrev pub HasRoom : Rows → ℕ → Type 0
 HasRoom rows words =
     (r : ℕ) → r < rows.shape.q → (entry_count rows r + 3) * rows.shape.group ≤ words
 
--- so many words are enough for a decoder's work on each layer: a row more, for least sizes reduced
+-- so many words are enough for a decoder's work on each layer: a row for each of its entries
 abbrev pub HasDecoderRoom : Rows → ℕ → Type 0
 HasDecoderRoom rows words =
-    (r : ℕ) → r < rows.shape.q → (entry_count rows r + 4) * rows.shape.group ≤ words
+    (r : ℕ) → r < rows.shape.q → entry_count rows r * rows.shape.group ≤ words
 
 -- what holds of a decoder
 pub record IsDecoder (rows layered : Rows) (soft : List ℤ) (messages posteriors : List ℕ) (scratch : ℕ) : Type 0 where

@@ -52,9 +52,9 @@ pub fn scratch_len(matrix: &Matrix) -> usize
     (most_entries(matrix) + 3) * matrix.shape().group()
 }
 
-/// How many words a decoder works in: a row more, for least sizes reduced.
+/// How many words a decoder works in at most: a row for each entry of a layer.
 pub(crate) fn decoder_len(matrix: &Matrix) -> usize
     ensures { HasDecoderRoom matrix.now result }
 {
-    (most_entries(matrix) + 4) * matrix.shape().group()
+    most_entries(matrix) * matrix.shape().group()
 }

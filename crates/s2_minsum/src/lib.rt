@@ -29,6 +29,7 @@
 mod decoder;
 mod edge;
 mod entries;
+mod exchange;
 mod factor;
 mod hard;
 mod lacking;

@@ -9,8 +9,19 @@ ghost use Rattle.s2_minsum.specs.Layout.{bit_of};
 use crate::layout::{first_bit, step_of};
 use s2_matrix::Matrix;
 
-/// Writes the soft values that stand `step` places apart.
-fn put_row(row: &mut [u16], soft: &[i16], first: usize, step: usize)
+/// Writes the soft values that follow one another from a place on.
+fn put_near(row: &mut [u16], soft: &[i16], first: usize)
+    requires few { length soft.now ≤ most_bits }
+    requires within { (c : ℕ) → c < length row.old → first + c < length soft.now }
+    ensures { EachIndex row.new (λ c. signed16 (slice_index row.new c) ≡ get_or soft.now (first + c) (pos 0)) }
+{
+    for lane in 0..row.len() {
+        row[lane] = soft[first + lane].cast_unsigned();
+    }
+}
+
+/// Writes the soft values that stand `step` places apart, one by one.
+fn put_apart(row: &mut [u16], soft: &[i16], first: usize, step: usize)
     requires few { length soft.now ≤ most_bits }
     requires lanes { length row.old ≤ most_group }
     requires step { step ≤ most_bits }
@@ -19,6 +30,21 @@ fn put_row(row: &mut [u16], soft: &[i16], first: usize, step: usize)
 {
     for lane in 0..row.len() {
         row[lane] = soft[first + lane * step].cast_unsigned();
+    }
+}
+
+/// Writes the soft values that stand `step` places apart.
+fn put_row(row: &mut [u16], soft: &[i16], first: usize, step: usize)
+    requires few { length soft.now ≤ most_bits }
+    requires lanes { length row.old ≤ most_group }
+    requires step { step ≤ most_bits }
+    requires within { (c : ℕ) → c < length row.old → first + c * step < length soft.now }
+    ensures { EachIndex row.new (λ c. signed16 (slice_index row.new c) ≡ get_or soft.now (first + c * step) (pos 0)) }
+{
+    if step == 1 {
+        put_near(row, soft, first);
+    } else {
+        put_apart(row, soft, first, step);
     }
 }
 

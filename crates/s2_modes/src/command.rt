@@ -1,7 +1,7 @@
 //! `modes`: the modes listed.
 ghost use Rattle.std.specs.Prelude.{◌≡◌, ◌≢◌, Result, Ok, IsOk};
 ghost use Rattle.s2_mode.specs.Counts.{CanCount};
-ghost use Rattle.s2_console.specs.Exits.{exit_of, Complains, CommandRuns, CommandCounts};
+ghost use Rattle.s2_console.specs.Exits.{CommandRuns, CommandCounts, CommandEnds};
 ghost use Rattle.s2_console.specs.Screens.{CanShow};
 ghost use Rattle.s2_modes.specs.ModeLines.{IsListed, IsAsked};
 
@@ -37,10 +37,7 @@ pub fn modes_command<O: CountedWrite, E: CountedWrite>(
     requires console { CanShow console.old }
     ensures quiet { result ≢ Exit.Fault → console.new.errors_failed ≡ console.old.errors_failed }
     ensures whole { result ≢ Exit.Fault → console.new.output_failed ≡ console.old.output_failed }
-    ensures run { (ended : Result Exit Fault) × (result ≡ exit_of ended)
-        × CommandRuns IsListed (IsAsked rate.now) ended console.old.output console.new.output
-        × CommandCounts ended 0 0 console.old.output_failed console.new.output_failed
-        × Complains ended console.old console.new }
+    ensures run { CommandEnds IsListed (IsAsked rate.now) 0 0 console.old console.new result }
 {
     let ended = print_modes(alloc, rate, &mut console.output);
     console.conclude(ended)

@@ -289,15 +289,14 @@ fn tells_what_has_passed(rt: HostRuntime) -> Result<(), Fail> {
 #[test]
 fn tells_nothing_of_a_failed_call(rt: HostRuntime) {
     let tally = Tally::new();
-    let bytes = b"packets";
-    let failing = FailAt::new(bytes.as_slice(), 1);
-    let mut reader = Watched::new(Counting::new(failing), &tally);
+    let failing = FailAt::new(InMemory::new(b"packets"), 1);
+    let mut reader = Watched::new(failing, &tally);
     let mut buf = [0u8; 4];
     assert_eq!(rt; reader.read(&mut buf), Ok(4));
     assert_eq!(rt; reader.read(&mut buf), Err(ReadFault));
     assert_eq!(rt; reader.count(), 1);
-    let failing = FailAt::new(Vec::new(rt.alloc()), 0);
-    let mut writer = Watched::new(Counting::new(failing), &tally);
+    let failing = FailAt::new(Counting::new(Vec::new(rt.alloc())), 0);
+    let mut writer = Watched::new(failing, &tally);
     assert_eq!(rt; writer.write(b"symbols"), Err(WriteFault));
     assert_eq!(rt; writer.count(), 1);
     let mut output = Watched::new(Stuck { failed: 0 }, &tally);

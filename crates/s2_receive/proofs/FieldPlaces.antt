@@ -7,14 +7,11 @@ use Rattle.std.proofs.lemmas.Bool.{cases_lt}
 use Rattle.std.proofs.lemmas.List.{take_all, nil_from_length}
 use Rattle.std.proofs.lemmas.List.Elements.{All-head, All-tail}
 use Rattle.std.specs.List.{flat_map}
-use Rattle.s2_bbframe.specs.Crc.{crc8}
 use Rattle.s2_bbframe.specs.DataStream.{IsPacket, closed_body, stream_of, cuts, fields_of}
 use Rattle.s2_bbframe.specs.Joining.{Placed}
+use Rattle.s2_bbframe.proofs.Runs.{length_closed}
 use Rattle.s2_receive.specs.Laws.{joined}
 use Rattle.s2_bbframe.specs.Joining.{closed_in}
-
-length_closed : (p : List ℕ) → IsPacket p → length (closed_body p) ≡ 188
-length_closed p h = omega (arith, length-append (drop 1 p) (crc8 (drop 1 p) ∷ []), length-drop 1 p, h.0)
 
 length_bodies : (ps : List (List ℕ)) → All IsPacket ps → length (flat_map closed_body ps) ≡ 188 * length ps
 length_bodies [] h = refl

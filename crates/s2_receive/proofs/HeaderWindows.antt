@@ -11,7 +11,7 @@ use Rattle.s2_plframe.specs.HeaderLaws.{seen_of}
 use Rattle.s2_plframe.specs.declared.receive.found.Found.TheVariants as founds
 use Rattle.s2_plframe.proofs.HeaderFacts.{seen_more, seen_last}
 use Rattle.s2_receive.specs.Finding.{found_last}
-use Rattle.s2_receive.specs.Windows.{found_as}
+use Rattle.s2_receive.specs.Windows.{Locked, FindsSame, found_as, finds_of}
 
 pub fed : (m : Mode) (lock : ℕ) (seen : List Symbol) (held : List Decision) (next : Symbol) → held ≡ seen_of seen
     → (recent (held ++ decision next ∷ []) ≡ seen_of (seen ++ next ∷ []))
@@ -41,3 +41,10 @@ met_behind m lock seen held is many =
     let same : held ≡ map decision (drop (length seen - 90) seen) = is ∙ seen_last seen in
     let long : length held ≡ length (drop (length seen - 90) seen) = ap length same ∙ length-map (drop (length seen - 90) seen) decision in
     (omega (arith, long, length-drop (length seen - 90) seen), ap (found_behind m lock) same)
+
+-- searches for the same
+pub same_finds : (old new : Locked) → FindsSame old new → finds_of new ≡ finds_of old
+same_finds old new same = ap (λ m. found_as m new.lock) same.0 ∙ ap (found_as old.search.mode) same.1
+
+pub same_on : (old mid new : Locked) → FindsSame old mid → FindsSame mid new → FindsSame old new
+same_on old mid new first second = (second.0 ∙ first.0, second.1 ∙ first.1)

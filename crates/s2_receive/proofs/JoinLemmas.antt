@@ -1,37 +1,11 @@
 -- The packets that are written, and the events that come to the joiner.
-use Rattle.std.proofs.Common.{◌≡◌, ℕ, ◌+◌, true, false, cond, List, [], ◌∷◌, ◌++◌, Option, None, length, refl, sym, ap, ◌∙◌, append_assoc, append-nil, length-append, arith}
+use Rattle.std.proofs.Common.{◌≡◌, ◌+◌, true, false, cond, List, [], ◌∷◌, ◌++◌, None, length, refl, sym, ap, ◌∙◌, length-append, arith}
 use Rattle.std.proofs.lemmas.List.Concat.{flat_map-append}
-use Rattle.s2_bbframe.specs.Joining.{Event, gap, Joined, step, still, begun_body, torn_in, torn, and_then, joining}
+use Rattle.s2_bbframe.specs.Joining.{gap, Joined, step, still, begun_body, torn_in, torn, and_then, joining}
+use Rattle.s2_bbframe.proofs.Events.{none-and_then, joining-append, joining-one, torn-append}
 use Rattle.s2_receive.specs.Meeting.{Met, frame, cut, ended, is_over}
 use Rattle.s2_receive.specs.Receiving.{Rules, Standing, after, all_packets, packets_of, delivery, joined_after}
 use Rattle.s2_receive.specs.Laws.{joined, met_events, events_of, IsJoined}
-
-and_then-assoc : (a b c : Joined) → and_then (and_then a b) c ≡ and_then a (and_then b c)
-and_then-assoc a b c =
-    let e : (a.bad + b.bad) + c.bad ≡ a.bad + (b.bad + c.bad) = omega arith in
-    let join : List (List ℕ) → ℕ → Joined = λ g n. record { held = c.held; good = g; bad = n } in
-    ap (λ n. join ((a.good ++ b.good) ++ c.good) n) e ∙ ap (λ g. join g (a.bad + (b.bad + c.bad))) (append_assoc a.good b.good c.good)
-
-none-and_then : (held : Option (List ℕ)) (j : Joined) → and_then (still held) j ≡ j
-none-and_then held j =
-    let e : 0 + j.bad ≡ j.bad = omega arith in
-    let join : ℕ → Joined = λ n. record { held = j.held; good = j.good; bad = n } in
-    ap join e
-
-and_then-none : (j : Joined) → and_then j (still j.held) ≡ j
-and_then-none j =
-    let e : j.bad + 0 ≡ j.bad = omega arith in
-    let join : List (List ℕ) → ℕ → Joined = λ g n. record { held = j.held; good = g; bad = n } in
-    ap (λ n. join (j.good ++ []) n) e ∙ ap (λ g. join g j.bad) (append-nil j.good)
-
-pub joining-append : (xs ys : List Event) (held : Option (List ℕ)) → joining held (xs ++ ys) ≡ and_then (joining held xs) (joining (joining held xs).held ys)
-joining-append [] ys held = sym (none-and_then held (joining held ys))
-joining-append (e ∷ xs) ys held =
-    ap (and_then (step held e)) (joining-append xs ys (step held e).held)
-    ∙ sym (and_then-assoc (step held e) (joining (step held e).held xs) (joining (joining (step held e).held xs).held ys))
-
-joining-one : (held : Option (List ℕ)) (e : Event) → joining held (e ∷ []) ≡ step held e
-joining-one held e = and_then-none (step held e)
 
 -- what something met gives
 abbrev gained : Rules → Standing → Met → Joined
@@ -68,10 +42,6 @@ gained-bad : (rules : Rules) (s : Standing) (met : Met) → (after rules s met).
 gained-bad rules s (frame at over symbols) = refl
 gained-bad rules s (cut at over count) = omega arith
 gained-bad rules s (ended over) = omega arith
-
-torn-append : (xs ys : List Event) (held : Option (List ℕ)) → torn held (xs ++ ys) ≡ torn held xs + torn (joining held xs).held ys
-torn-append [] ys held = omega arith
-torn-append (e ∷ xs) ys held = omega (arith, torn-append xs ys (step held e).held)
 
 gained-torn : (rules : Rules) (s : Standing) (met : Met) → (after rules s met).totals.torn ≡ s.totals.torn + torn s.held (met_events rules.decide met)
 gained-torn rules s (frame at over symbols) =

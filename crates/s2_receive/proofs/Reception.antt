@@ -7,12 +7,12 @@ use Rattle.s2_bbframe.specs.DataStream.{IsPacket, stream_of, fields_of, header_a
 use Rattle.std.specs.Prelude.{nat_eq}
 use Rattle.s2_bbframe.specs.Joining.{field, joining, torn, events_from, Placed}
 use Rattle.s2_bbframe.proofs.RoundTrips.{round_trip}
-use Rattle.s2_receive.specs.Meeting.{Met, frame, nothing_over, met_from}
-use Rattle.s2_receive.specs.Receiving.{Rules, Standing, at_start, after_all, all_packets, delivery, count_of}
-use Rattle.s2_receive.specs.Laws.{Piece, coded, dummy, joined, stream_symbols, events_of, AreReceived, frames_at, PassedNone, Gives, FrontLaw}
+use Rattle.s2_receive.specs.Meeting.{Met, frame, nothing_over, met_from, met_in}
+use Rattle.s2_receive.specs.Receiving.{Rules, Standing, at_start, met_left, after_all, all_packets, delivery, count_of}
+use Rattle.s2_receive.specs.Laws.{Piece, coded, dummy, joined, stream_symbols, events_of, AreReceived, frames_at, PassedNone, Gives, FrontLaw, Spells}
 use Rattle.s2_bbframe.specs.Joining.{closed_in}
 use Rattle.s2_receive.specs.Finding.{Meets}
-use Rattle.s2_mode.specs.Symbols.{symbols_of}
+use Rattle.s2_plframe.specs.declared.receive.found.Found.{Found}
 use Rattle.std.specs.Io.KnownBytes.{Appends}
 use Rattle.s2_receive.proofs.MetLemmas.{behind_of, behind_true, behind_some, behind_taken, whole_frame, whole_dummy}
 use Rattle.s2_receive.proofs.JoinLemmas.{all_joined}
@@ -119,11 +119,18 @@ front_of : (all : List Met) (later : Option (List Met)) (met ys l : List Met) �
 front_of all None met ys l h e k = absurd h
 front_of all (Some later) met ys l h e k = same_front met ys later l k (sym h ∙ e)
 
+-- known bytes that spell these symbols
+met_spelt : (finds : Bool → List Symbol → Found) (long : ℕ) (known : Option (List ℕ)) (symbols : List Symbol) (later : Option (List Met)) (met : List Met) → Spells known symbols
+    → Meets (met_in finds long 0 0 false nothing_over [] known) later met → Meets (Some (met_from finds long 0 0 false nothing_over symbols)) later met
+met_spelt finds long None symbols later met spelt meets = absurd spelt
+met_spelt finds long (Some bytes) symbols later met spelt meets = subst (λ l. Meets (Some (met_from finds long 0 0 false nothing_over l)) later met) spelt meets
+
 pub front : FrontLaw
-front rules roll_off size packets fields later pieces rest bytes mid left p p' w w' met large room each cut_so received spelt count went =
+front rules roll_off size packets fields later pieces rest mid before behind met large room each cut_so received spelt count went =
     let g = gives rules roll_off size packets fields later pieces rest large room each cut_so received in
     let just = frames_at rules.size 0 pieces in
-    let whole = ap (met_from rules.finds rules.size 0 0 false nothing_over) spelt ∙ g.met in
+    let symbols = stream_symbols pieces ++ rest in
     let many : length met ≡ length just = count ∙ sym (length_frames rules roll_off large false 0 0 pieces fields received) in
-    let same : met ≡ just = front_of (met_from rules.finds rules.size 0 0 false nothing_over (symbols_of bytes)) _ met just _ went.left whole many in
-    (same, subst (Appends p p') (ap (all_packets rules at_start) same ∙ g.written) went.packets)
+    let known = met_spelt rules.finds rules.size before.taken symbols (met_left rules mid.phase mid.at behind.taken) met spelt went.left in
+    let same : met ≡ just = front_of (met_from rules.finds rules.size 0 0 false nothing_over symbols) _ met just _ known g.met many in
+    (same, subst (Appends before.given behind.given) (ap (all_packets rules at_start) same ∙ g.written) went.packets)

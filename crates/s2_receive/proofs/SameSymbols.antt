@@ -1,27 +1,28 @@
 -- What known bytes spell determines what is met.
 use Rattle.std.proofs.Common.{◌≡◌, ℕ, List, [], ◌∷◌, ◌++◌, Option, Some, None, refl, sym, ap, ◌∙◌, subst, append-nil}
 use Rattle.std.specs.Prelude.{nat_lt}
-use Rattle.s2_mode.specs.Symbols.{symbols_of}
-use Rattle.s2_receive.specs.Meeting.{Met, ended, nothing_over, met_from}
+use Rattle.s2_mode.specs.Streams.{Streams}
+use Rattle.s2_mode.specs.declared.symbols.Symbol.{Symbol}
+use Rattle.s2_receive.specs.Meeting.{Met, ended, nothing_over, met_from, met_in}
 use Rattle.s2_receive.specs.Finding.{Meets}
 use Rattle.s2_receive.specs.Receiving.{Rules, State, Went, met_left, after, step_of, phase_after}
-use Rattle.s2_receive.specs.Laws.{HasGiven, SameRunLaw, SameStepLaw}
+use Rattle.s2_receive.specs.Laws.{HasGiven, SameRunLaw, SameStepLaw, Spells}
 use Rattle.s2_receive.specs.declared.report.Phase.{Phase}
 use Rattle.s2_receive.specs.declared.report.Phase.TheVariants as phases
 
 module _ (rules : Rules) where
-  -- in known bytes it is known what is left
-  spelled : (phase : Phase) (at : ℕ) (bytes : List ℕ) → (left : List Met) × (met_left rules phase at (Some bytes) ≡ Some left)
-  spelled phases.Searching at bytes = (met_from rules.finds rules.size at 0 (nat_lt 0 at) nothing_over (symbols_of bytes), refl)
-  spelled phases.Closing at bytes = (ended nothing_over ∷ [], refl)
-  spelled phases.Ended at bytes = ([], refl)
-  spelled phases.Failed at bytes = ([], refl)
+  spelled_in : (at : ℕ) (symbols : List Symbol) (known : Option (List ℕ)) → Spells known symbols
+      → met_in rules.finds rules.size at 0 (nat_lt 0 at) nothing_over [] known ≡ Some (met_from rules.finds rules.size at 0 (nat_lt 0 at) nothing_over symbols)
+  spelled_in at symbols None spelt = absurd spelt
+  spelled_in at symbols (Some bytes) spelt = ap (λ l. Some (met_from rules.finds rules.size at 0 (nat_lt 0 at) nothing_over l)) spelt
 
-  same_left : (phase : Phase) (at : ℕ) (bytes other : List ℕ) → symbols_of bytes ≡ symbols_of other → met_left rules phase at (Some bytes) ≡ met_left rules phase at (Some other)
-  same_left phases.Searching at bytes other e = ap (λ symbols. Some (met_from rules.finds rules.size at 0 (nat_lt 0 at) nothing_over symbols)) e
-  same_left phases.Closing at bytes other e = refl
-  same_left phases.Ended at bytes other e = refl
-  same_left phases.Failed at bytes other e = refl
+  -- in known bytes it is known what is left
+  spelled : (phase : Phase) (at : ℕ) (symbols : List Symbol) → (all : List Met) × ((known : Option (List ℕ)) → Spells known symbols → met_left rules phase at known ≡ Some all)
+  spelled phases.Searching at symbols = (met_from rules.finds rules.size at 0 (nat_lt 0 at) nothing_over symbols, spelled_in at symbols)
+  spelled phases.Closing at symbols = (ended nothing_over ∷ [], λ known spelt. refl)
+  spelled (phases.Met next) at symbols = ([], λ known spelt. refl)
+  spelled phases.Ended at symbols = ([], λ known spelt. refl)
+  spelled phases.Failed at symbols = ([], λ known spelt. refl)
 
   -- a run to the end meets all of it
   meets_all : (old new : State) (known left : Option (List ℕ)) (all met : List Met) → met_left rules old.phase old.at known ≡ Some all → new.phase ≡ phases.Ended
@@ -32,36 +33,32 @@ module _ (rules : Rules) where
       sym (whole ∙ append-nil met)
 
   -- a step meets the first of it
-  meets_first : (all : List Met) (later : Option (List Met)) (met : Met) → Meets (Some all) later (met ∷ []) → (rest : List Met) × (all ≡ met ∷ rest)
-  meets_first all None met meets = absurd meets
-  meets_first all (Some rest) met meets = (rest, meets)
+  meets_first : (known later : Option (List Met)) (all : List Met) (met : Met) → known ≡ Some all → Meets known later (met ∷ []) → (rest : List Met) × (all ≡ met ∷ rest)
+  meets_first known None all met e meets = absurd (subst (λ a. Meets a None (met ∷ [])) e meets)
+  meets_first known (Some rest) all met e meets = (rest, subst (λ a. Meets a (Some rest) (met ∷ [])) e meets)
 
-  given : (old new : State) (r r' p p' w w' : Option (List ℕ)) (met : List Met) → Went rules old new r r' p p' w w' met → HasGiven rules old new p p' w w' met
-  given old new r r' p p' w w' met went = record { standing = went.standing; packets = went.packets; lines = went.lines }
+  given : (old new : State) (before behind : Streams) (met : List Met) → Went rules old new before behind met → HasGiven rules old new before behind met
+  given old new before behind met went = record { standing = went.standing; packets = went.packets; lines = went.lines }
 
 -- two runs to the end meet the same
-pub same_met : (rules : Rules) (old first second : State) (bytes other : List ℕ) (left other_left : Option (List ℕ)) (met met' : List Met) → symbols_of bytes ≡ symbols_of other
+pub same_met : (rules : Rules) (old first second : State) (symbols : List Symbol) (known other left other_left : Option (List ℕ)) (met met' : List Met) → Spells known symbols → Spells other symbols
     → first.phase ≡ phases.Ended → second.phase ≡ phases.Ended
-    → Meets (met_left rules old.phase old.at (Some bytes)) (met_left rules first.phase first.at left) met
-    → Meets (met_left rules old.phase old.at (Some other)) (met_left rules second.phase second.at other_left) met' → met' ≡ met
-same_met rules old first second bytes other left other_left met met' e end end' meets meets' =
-    let all = spelled rules old.phase old.at bytes in
-    let one : met ≡ all.0 = meets_all rules old first (Some bytes) left all.0 met all.1 end meets in
-    let known : met_left rules old.phase old.at (Some other) ≡ Some all.0 = sym (same_left rules old.phase old.at bytes other e) ∙ all.1 in
-    let two : met' ≡ all.0 = meets_all rules old second (Some other) other_left all.0 met' known end' meets' in
-    two ∙ sym one
+    → Meets (met_left rules old.phase old.at known) (met_left rules first.phase first.at left) met
+    → Meets (met_left rules old.phase old.at other) (met_left rules second.phase second.at other_left) met' → met' ≡ met
+same_met rules old first second symbols known other left other_left met met' spelt other_spelt end end' meets meets' =
+    let (all, is) = spelled rules old.phase old.at symbols in
+    meets_all rules old second other other_left all met' (is other other_spelt) end' meets' ∙ sym (meets_all rules old first known left all met (is known spelt) end meets)
 
 pub same_run : SameRunLaw
-same_run rules old first second bytes other left other_left p p' q q' w w' v v' e (end, (met, went)) (end', (met', went')) =
-    let same : met' ≡ met = same_met rules old first second bytes other left other_left met met' e end end' went.left went'.left in
-    (met, given rules old first (Some bytes) left p p' w w' met went, subst (HasGiven rules old second q q' v v') same (given rules old second (Some other) other_left q q' v v' met' went'))
+same_run rules old first second symbols before behind other_before other_behind spelt other_spelt (end, (met, went)) (end', (met', went')) =
+    let same : met' ≡ met = same_met rules old first second symbols before.taken other_before.taken behind.taken other_behind.taken met met' spelt other_spelt end end' went.left went'.left in
+    (met, given rules old first before behind met went, subst (HasGiven rules old second other_before other_behind) same (given rules old second other_before other_behind met' went'))
 
 pub same_step : SameStepLaw
-same_step rules old first second bytes other left other_left p p' q q' w w' v v' step other_step e (met, is, phase, went) (met', is', phase', went') =
-    let all = spelled rules old.phase old.at bytes in
-    let known : met_left rules old.phase old.at (Some other) ≡ Some all.0 = sym (same_left rules old.phase old.at bytes other e) ∙ all.1 in
-    let one = meets_first rules all.0 (met_left rules first.phase first.at left) met (subst (λ a. Meets a (met_left rules first.phase first.at left) (met ∷ [])) all.1 went.left) in
-    let two = meets_first rules all.0 (met_left rules second.phase second.at other_left) met' (subst (λ a. Meets a (met_left rules second.phase second.at other_left) (met' ∷ [])) known went'.left) in
+same_step rules old first second symbols before behind other_before other_behind step other_step spelt other_spelt (met, is, phase, went) (met', is', phase', went') =
+    let (all, known) = spelled rules old.phase old.at symbols in
+    let one = meets_first rules (met_left rules old.phase old.at before.taken) (met_left rules first.phase first.at behind.taken) all met (known before.taken spelt) went.left in
+    let two = meets_first rules (met_left rules old.phase old.at other_before.taken) (met_left rules second.phase second.at other_behind.taken) all met' (known other_before.taken other_spelt) went'.left in
     let whole : met ∷ one.0 ≡ met' ∷ two.0 = sym one.1 ∙ two.1 in
     let same : met' ≡ met = cc in (
       is ∙ ap (step_of rules old.standing) (sym same) ∙ sym is',
@@ -69,7 +66,7 @@ same_step rules old first second bytes other left other_left p p' q q' w w' v v'
       went.standing ∙ ap (after rules old.standing) (sym same) ∙ sym went'.standing,
       (
         met ∷ [],
-        given rules old first (Some bytes) left p p' w w' (met ∷ []) went,
-        subst (λ m. HasGiven rules old second q q' v v' (m ∷ [])) same (given rules old second (Some other) other_left q q' v v' (met' ∷ []) went'),
+        given rules old first before behind (met ∷ []) went,
+        subst (λ m. HasGiven rules old second other_before other_behind (m ∷ [])) same (given rules old second other_before other_behind (met' ∷ []) went'),
       ),
     )

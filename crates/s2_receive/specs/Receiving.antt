@@ -225,6 +225,10 @@ abbrev pub IsDecided : Rules → Met → Decision → Type 0
 IsDecided rules (frame at over symbols) last = last ≡ rules.decide symbols
 IsDecided rules met last = ⊤
 
+-- the rules of which this is what is decided of any frame
+abbrev pub deciding : Decision → Rules → Rules
+deciding last rules = record rules { decide = λ symbols. last }
+
 -- This was met: it is what known bytes spell next, its symbols and no others were read, a frame is decided, and the step is its. Of it
 -- nothing is written yet.
 pub record Finds (rules : Rules) (old new : State) (reader_old reader_new : Option (List ℕ)) (last : Decision) (step : Step) : Type 0 where
@@ -258,7 +262,8 @@ pub record Told (rules : Rules) (old new : State) (met : Met) (to : ℕ) (packet
 -- or a write failed on the way
 abbrev pub Tells : {E : Type 0} → Rules → State → State → Met → ℕ → (packets_old packets_new report_old report_new : Option (List ℕ)) → Result ⊤ E → Type 0
 Tells rules old new met to p p' w w' (Ok told) = Told rules old new met to p p' w w'
-Tells rules old new met to p p' w w' (Err fault) = (new.phase ≡ phases.Failed) × FailsIn (packets_of rules old.standing met) (line_of rules old.standing met) p p' w w'
+Tells rules old new met to p p' w w' (Err fault) =
+    (new.phase ≡ phases.Failed) × FailsIn (packets_of rules old.standing met) (line_of rules old.standing met) p p' w w' × (new.at ≡ old.at)
 
 -- ---- steps
 

@@ -1,21 +1,22 @@
 //! The next frame of a reader's symbols.
-ghost use Rattle.std.specs.Prelude.{◌≡◌, ◌≢◌, ◌+◌, ◌-◌, ◌*◌, ◌^◌, ◌<◌, ◌≤◌, ◌∷◌, [], ℕ, List, Option, IfOk, IsErr, length, nat_lt, Bool, true, false};
+ghost use Rattle.std.specs.Prelude.{◌≡◌, ◌+◌, ◌-◌, ◌*◌, ◌^◌, ◌<◌, ◌≤◌, ◌∷◌, [], ℕ, List, Option, IfOk, OnErr, length, nat_lt, Bool, true, false};
 ghost use Rattle.std.specs.Io.KnownBytes.{IsAtEnd};
-ghost use Rattle.s2_mode.specs.Counts.{CountsFault};
+ghost use Rattle.s2_mode.specs.Counts.{CanCount, CountsFault};
 ghost use Rattle.s2_mode.specs.Limits.{header_symbols, most_symbols};
 ghost use Rattle.s2_plframe.specs.declared.receive.found.Found.{Found};
 ghost use Rattle.s2_receive.specs.Meeting.{met_in, nothing_over, frame as met_frame};
-ghost use Rattle.s2_receive.specs.Finding.{Reaches, Meets, EndsBehind, Looks, LiesWithin, IsBehind, met_with, place_with, met_of, met_after, place_after};
+ghost use Rattle.s2_receive.specs.Finding.{FindsNext, StopsShort, Reaches, ReadsBytes, ReadsPart, Meets, Looks, IsBehind, met_with, place_with, met_of, met_after, place_after};
+ghost use Rattle.s2_receive.specs.Windows.{FindsSame, finds_of};
 
+use crate::header::HeaderSearch;
 use crate::reading::read_symbols;
 use crate::scanning::look_through;
-use crate::search::Search;
 use crate::stretch::Stretch;
 use s2_mode::{CountedRead, ReadFault, Symbol};
 
 /// What comes next in the stream; positions count symbols from 0.
 #[derive(Clone, Copy)]
-pub(crate) enum Next {
+pub enum Next {
     /// A coded frame that has all its symbols, and what was passed over before it.
     Frame { at: u64, over: Stretch },
     /// A frame that has so many symbols and lacks the others, and what was passed over before it.
@@ -47,14 +48,16 @@ fn fill<R: CountedRead>(
     held: &mut Held,
     wanted: usize,
 ) -> Result<bool, ReadFault>
-    requires count { R.count reader.old < 2 ^ 64 - 1 }
+    requires count { CanCount (R.count reader.old) }
     requires bytes { length bytes.old ≡ 4 * length frame.old }
     requires room { held.old.count + wanted ≤ length frame.old }
     ensures met { IfOk result (λ _. (finds : Bool → List Symbol → Found) → Meets (met_with finds held.old frame.old (R.remaining reader.old)) (met_with finds held.new frame.new (R.remaining reader.new)) []) }
     ensures taken { IfOk result (λ _. Reaches (place_with held.new) (place_with held.old) (R.remaining reader.old) (R.remaining reader.new)) }
     ensures held { IfOk result (λ _. (held.new.at ≡ held.old.at) × (held.new.over ≡ held.old.over) × (held.new.inside ≡ held.old.inside) × (held.new.behind ≡ held.old.behind)) }
     ensures full { IfOk result (λ full. full ≡ true → held.new.count ≡ held.old.count + wanted) }
+    ensures read { IfOk result (λ full. full ≡ true → ReadsBytes (4 * wanted) (R.remaining reader.old) (R.remaining reader.new)) }
     ensures end { IfOk result (λ full. full ≡ false → (held.new.count < held.old.count + wanted) × IsAtEnd (R.remaining reader.new)) }
+    ensures part { OnErr result (ReadsPart (4 * wanted) (R.remaining reader.old) (R.remaining reader.new)) }
     ensures cause { CountsFault (R.count reader.old) (R.count reader.new) result }
 {
     let behind = held.count;
@@ -64,15 +67,15 @@ fn fill<R: CountedRead>(
 }
 
 /// What is met at the stream's end, where fewer symbols are held than a frame has.
-fn meet_last<S: Search>(search: &mut S, frame: &[Symbol], held: Held) -> Next
+fn meet_last(search: &mut HeaderSearch, frame: &[Symbol], held: Held) -> Next
     requires few { held.count < length frame.now }
     requires size { length frame.now ≤ 2 ^ 32 }
     requires place { place_with held ≤ most_symbols }
     requires over { held.over.symbols ≤ held.at }
-    ensures met { (bytes : Option (List ℕ)) → IsAtEnd bytes → Meets (met_with (S.finds search.old) held frame.now bytes) (met_after (S.finds search.old) (length frame.now) result bytes) (met_of result frame.now ∷ []) }
+    ensures met { (bytes : Option (List ℕ)) → IsAtEnd bytes → Meets (met_with (finds_of search.old) held frame.now bytes) (met_after (finds_of search.old) (length frame.now) result bytes) (met_of result frame.now ∷ []) }
     ensures place { place_after (length frame.now) result ≡ place_with held }
     ensures behind { IsBehind held.at held.over result }
-    ensures same { S.finds search.new ≡ S.finds search.old }
+    ensures same { FindsSame search.old search.new }
 {
     let scan = look_through(
         search,
@@ -99,18 +102,18 @@ fn meet_last<S: Search>(search: &mut S, frame: &[Symbol], held: Held) -> Next
 /// Moves to the front of a full buffer what may begin a frame: what begins at the first coded frame's header, or else
 /// what lies behind the last dummy frame, at most 89 symbols. Whether symbols left the buffer so: if not it is a
 /// frame.
-fn pass_over<S: Search>(search: &mut S, frame: &mut [Symbol], held: &mut Held) -> bool
+fn pass_over(search: &mut HeaderSearch, frame: &mut [Symbol], held: &mut Held) -> bool
     requires size { (header_symbols ≤ length frame.old) × (length frame.old ≤ 2 ^ 32) }
     requires full { held.old.count ≡ length frame.old }
     requires place { place_with held.old ≤ most_symbols }
     requires over { held.old.over.symbols ≤ held.old.at }
-    ensures stands { result ≡ false → (bytes : Option (List ℕ)) → Meets (met_with (S.finds search.old) held.old frame.old bytes)
-        (met_in (S.finds search.old) (length frame.old) (place_with held.old) 0 true nothing_over [] bytes) (met_frame held.new.at held.new.over frame.new ∷ []) }
+    ensures stands { result ≡ false → (bytes : Option (List ℕ)) → Meets (met_with (finds_of search.old) held.old frame.old bytes)
+        (met_in (finds_of search.old) (length frame.old) (place_with held.old) 0 true nothing_over [] bytes) (met_frame held.new.at held.new.over frame.new ∷ []) }
     ensures held { result ≡ false → (held.new.at ≡ held.old.at) × (held.new.over.symbols ≤ held.old.over.symbols) }
-    ensures passed { result ≡ true → (bytes : Option (List ℕ)) → Meets (met_with (S.finds search.old) held.old frame.old bytes) (met_with (S.finds search.old) held.new frame.new bytes) [] }
+    ensures passed { result ≡ true → (bytes : Option (List ℕ)) → Meets (met_with (finds_of search.old) held.old frame.old bytes) (met_with (finds_of search.old) held.new frame.new bytes) [] }
     ensures further { result ≡ true → (held.old.at < held.new.at) × (place_with held.new ≡ place_with held.old) }
     ensures over { result ≡ true → held.old.at + held.new.over.symbols ≤ held.new.at + held.old.over.symbols }
-    ensures same { S.finds search.new ≡ S.finds search.old }
+    ensures same { FindsSame search.old search.new }
 {
     let size = frame.len();
     let scan = look_through(search, frame, held.at, held.inside, held.behind, held.over);
@@ -132,26 +135,26 @@ fn pass_over<S: Search>(search: &mut S, frame: &mut [Symbol], held: &mut Held) -
 
 /// Fills the buffer and looks for a frame in it: what is found, or nothing where symbols only left it. It
 /// fails where a read does, and where as many symbols were taken as may be.
-fn look<S: Search, R: CountedRead>(
-    search: &mut S,
+fn look<R: CountedRead>(
+    search: &mut HeaderSearch,
     reader: &mut R,
     bytes: &mut [u8],
     frame: &mut [Symbol],
     held: &mut Held,
     limit: u64,
 ) -> Result<Option<Next>, ReadFault>
-    requires count { R.count reader.old < 2 ^ 64 - 1 }
+    requires count { CanCount (R.count reader.old) }
     requires size { (header_symbols ≤ length frame.old) × (length frame.old ≤ 2 ^ 32) }
     requires bytes { length bytes.old ≡ 4 * length frame.old }
     requires held { held.old.count < length frame.old }
     requires place { place_with held.old ≤ limit }
     requires over { held.old.over.symbols ≤ held.old.at }
     requires limit { limit ≤ most_symbols }
-    ensures looks { IfOk result (Looks (S.finds search.old) limit held.old held.new frame.old frame.new (R.remaining reader.old) (R.remaining reader.new)) }
+    ensures looks { IfOk result (Looks (finds_of search.old) limit held.old held.new frame.old frame.new (R.remaining reader.old) (R.remaining reader.new)) }
     ensures count { IfOk result (λ _. R.count reader.new ≡ R.count reader.old) }
-    ensures cause { IsErr result → R.count reader.new ≢ R.count reader.old + 1 → (R.count reader.new ≡ R.count reader.old) × Reaches limit (place_with held.old) (R.remaining reader.old) (R.remaining reader.new) }
-    ensures ends { IsErr result → R.count reader.new ≢ R.count reader.old + 1 → EndsBehind (length frame.old) limit (met_with (S.finds search.old) held.old frame.old (R.remaining reader.old)) }
-    ensures same { S.finds search.new ≡ S.finds search.old }
+    ensures short { OnErr result (StopsShort (length frame.old) (place_with held.old) limit (met_with (finds_of search.old) held.old frame.old (R.remaining reader.old))
+        (R.remaining reader.old) (R.remaining reader.new) (R.count reader.old) (R.count reader.new)) }
+    ensures same { FindsSame search.old search.new }
 {
     let size = frame.len();
     let left = limit - held.at - held.count as u64;
@@ -178,28 +181,25 @@ fn look<S: Search, R: CountedRead>(
 /// first symbol. A whole frame's room is read at once and searched there; then what begins at the header, or the last
 /// 89 symbols, moves to the front, and nothing where a dummy frame reaches past them. So nothing behind the frame is
 /// read, and no symbol is kept between two calls.
-pub(crate) fn find_frame<S: Search, R: CountedRead>(
-    search: &mut S,
+pub(crate) fn find_frame<R: CountedRead>(
+    search: &mut HeaderSearch,
     reader: &mut R,
     bytes: &mut [u8],
     frame: &mut [Symbol],
     start: u64,
     limit: u64,
 ) -> Result<Next, ReadFault>
-    requires count { R.count reader.old < 2 ^ 64 - 1 }
+    requires count { CanCount (R.count reader.old) }
     requires size { (header_symbols ≤ length frame.old) × (length frame.old ≤ 2 ^ 32) }
     requires bytes { length bytes.old ≡ 4 * length frame.old }
     requires start { start ≤ limit }
     requires limit { limit ≤ most_symbols }
-    ensures met { IfOk result (λ found. Meets (met_in (S.finds search.old) (length frame.old) start 0 (nat_lt 0 start) nothing_over [] (R.remaining reader.old))
-        (met_after (S.finds search.old) (length frame.old) found (R.remaining reader.new)) (met_of found frame.new ∷ [])) }
-    ensures taken { IfOk result (λ found. Reaches (place_after (length frame.old) found) start (R.remaining reader.old) (R.remaining reader.new)) }
-    ensures within { IfOk result (LiesWithin (length frame.old) start limit) }
+    ensures found { IfOk result (FindsNext (finds_of search.old) (length frame.old) start limit (R.remaining reader.old) (R.remaining reader.new) frame.new) }
     ensures count { IfOk result (λ _. R.count reader.new ≡ R.count reader.old) }
-    ensures cause { IsErr result → R.count reader.new ≢ R.count reader.old + 1 → (R.count reader.new ≡ R.count reader.old) × Reaches limit start (R.remaining reader.old) (R.remaining reader.new) }
-    ensures ends { IsErr result → R.count reader.new ≢ R.count reader.old + 1
-        → EndsBehind (length frame.old) limit (met_in (S.finds search.old) (length frame.old) start 0 (nat_lt 0 start) nothing_over [] (R.remaining reader.old)) }
-    ensures same { S.finds search.new ≡ S.finds search.old }
+    ensures short { OnErr result (StopsShort (length frame.old) start limit
+        (met_in (finds_of search.old) (length frame.old) start 0 (nat_lt 0 start) nothing_over [] (R.remaining reader.old))
+        (R.remaining reader.old) (R.remaining reader.new) (R.count reader.old) (R.count reader.new)) }
+    ensures same { FindsSame search.old search.new }
 {
     let mut held = Held {
         at: start,

@@ -1,5 +1,5 @@
 //! What follows from the definitions alone: each a call that does nothing, whose clause is the law.
-ghost use Rattle.s2_receive.specs.Laws.{JoiningLaw, ReceptionLaw, FrontLaw, SearchLaw, SameRunLaw, SameStepLaw};
+ghost use Rattle.s2_receive.specs.Laws.{JoiningLaw, ReceptionLaw, FrontLaw, SearchLaw, SameRunLaw, SameStepLaw, TwoRunsLaw};
 
 /// The packets that are written are those of all fields and gaps that came to the joiner, one after
 /// another, and the totals count them.
@@ -32,4 +32,9 @@ pub fn searching()
 pub fn same_bytes()
     ensures runs { SameRunLaw }
     ensures steps { SameStepLaw }
+{}
+
+/// Two runs in a row are one run: so whoever takes step after step comes to what a run to the end comes to.
+pub fn two_runs()
+    ensures { TwoRunsLaw }
 {}

@@ -1,9 +1,11 @@
 //! The lines of a receiver's report.
-ghost use Rattle.std.specs.Prelude.{◌≡◌, ◌+◌, ◌≤◌, ◌++◌, length};
+ghost use Rattle.std.specs.Prelude.{◌≡◌, ◌+◌, ◌≤◌, ◌++◌, OnOk, OnErr, length};
+ghost use Rattle.std.specs.Io.KnownBytes.{Appends};
+ghost use Rattle.s2_mode.specs.Counts.{CanCount, CountsFault};
+ghost use Rattle.s2_mode.specs.Pieces.{AppendsPart};
 ghost use Rattle.s2_console.specs.Lines.{line_room};
 ghost use Rattle.s2_receive.specs.ReportLines.{outcome_words, frame_line, cut_line, frames_words, delivered_words, packets_words, end_line};
 
-use crate::parts::Lines;
 use crate::report::{Outcome, Report, Totals};
 use s2_console::Line;
 use s2_mode::{CountedWrite, WriteFault, write_full};
@@ -85,31 +87,36 @@ fn line_of_end(totals: Totals) -> Line
     line
 }
 
-/// Writes the lines of a report, each by one write where the writer takes it whole.
-#[derive(Drop)]
-pub struct ReportLines {}
+/// Writes the line of a frame, by one write where the writer takes it whole. After a fault a part of it has been written.
+pub(crate) fn write_frame<W: CountedWrite>(report: Report, out: &mut W) -> Result<(), WriteFault>
+    requires { CanCount (W.count out.old) }
+    ensures bytes { OnOk result (Appends (W.contents out.old) (W.contents out.new) (frame_line report)) }
+    ensures part { OnErr result (AppendsPart (frame_line report) (W.contents out.old) (W.contents out.new)) }
+    ensures cause { CountsFault (W.count out.old) (W.count out.new) result }
+{
+    write_full(out, line_of_frame(report).as_bytes())
+}
 
-impl Lines for ReportLines {
-    ghost frame_line = { λ _. frame_line };
+/// That of a frame that begins at a symbol and has so many.
+pub(crate) fn write_cut<W: CountedWrite>(
+    at: u64,
+    symbols: u64,
+    out: &mut W,
+) -> Result<(), WriteFault>
+    requires { CanCount (W.count out.old) }
+    ensures bytes { OnOk result (Appends (W.contents out.old) (W.contents out.new) (cut_line at symbols)) }
+    ensures part { OnErr result (AppendsPart (cut_line at symbols) (W.contents out.old) (W.contents out.new)) }
+    ensures cause { CountsFault (W.count out.old) (W.count out.new) result }
+{
+    write_full(out, line_of_cut(at, symbols).as_bytes())
+}
 
-    ghost cut_line = { λ _. cut_line };
-
-    ghost end_line = { λ _. end_line };
-
-    fn write_frame<W: CountedWrite>(&self, report: Report, out: &mut W) -> Result<(), WriteFault> {
-        write_full(out, line_of_frame(report).as_bytes())
-    }
-
-    fn write_cut<W: CountedWrite>(
-        &self,
-        at: u64,
-        symbols: u64,
-        out: &mut W,
-    ) -> Result<(), WriteFault> {
-        write_full(out, line_of_cut(at, symbols).as_bytes())
-    }
-
-    fn write_end<W: CountedWrite>(&self, totals: Totals, out: &mut W) -> Result<(), WriteFault> {
-        write_full(out, line_of_end(totals).as_bytes())
-    }
+/// The last line.
+pub(crate) fn write_end<W: CountedWrite>(totals: Totals, out: &mut W) -> Result<(), WriteFault>
+    requires { CanCount (W.count out.old) }
+    ensures bytes { OnOk result (Appends (W.contents out.old) (W.contents out.new) (end_line totals)) }
+    ensures part { OnErr result (AppendsPart (end_line totals) (W.contents out.old) (W.contents out.new)) }
+    ensures cause { CountsFault (W.count out.old) (W.count out.new) result }
+{
+    write_full(out, line_of_end(totals).as_bytes())
 }

@@ -1,5 +1,5 @@
 //! The receiver between two steps.
-ghost use Rattle.std.specs.Prelude.{◌≡◌, ◌≢◌, ◌+◌, ◌^◌, ◌<◌, ◌≤◌, ◌∷◌, [], ⊤, Ok, Err, IfOk, IsErrOf, length};
+ghost use Rattle.std.specs.Prelude.{◌≡◌, ◌≢◌, ◌↔◌, ◌+◌, ◌^◌, ◌<◌, ◌≤◌, ℕ, List, Option, Ok, Err, IfOk, OnErr, IsErrOf};
 ghost use Rattle.s2_mode.specs.Counts.{CanCount};
 ghost use Rattle.s2_mode.specs.Limits.{most_symbols};
 ghost use Rattle.s2_mode.specs.Mode.{symbols_in};
@@ -12,7 +12,64 @@ ghost use Rattle.s2_receive.specs.Finding.{met_of, place_after};
 ghost use Rattle.s2_receive.specs.Stepping.{place_of};
 ghost use Rattle.s2_receive.specs.Receiving.{IsLive, IsDecided, Finds, Stops, Tells, StepAnswers, MetFrame, StandsBehind, begun, rules_of};
 
-    // fields: finder (search, buffers), decider, joiner, place, limit
+use crate::finder::Finder;
+use crate::finding::Next;
+use crate::parts::Decide;
+use crate::report::{Fault, Phase, Step, Totals};
+use crate::stretch::Stretch;
+use s2_bbframe::Joiner;
+use s2_mode::{CountedRead, CountedWrite, Mode, ReadFault, WriteFault};
+use s2_plframe::Lock;
+use std::alloc::{AllocError, Global};
+use std::marker::Model;
+
+/// Where a receiver stands: how many symbols it took, and what came so far.
+#[derive(Clone, Copy)]
+pub(crate) struct Place {
+    pub(crate) phase: Phase,
+    pub(crate) at: u64,
+    pub(crate) totals: Totals,
+}
+
+/// Takes a stream of symbols frame by frame (EN 302 307-1, 5.5.2).
+///
+/// To contracts a receiver is what it was made of, how many symbols it takes at most, and where it stands.
+pub struct Receiver<D: Decide> {
+    pub(crate) finder: Finder,
+    pub(crate) decider: D,
+    pub(crate) joiner: Joiner,
+    pub(crate) place: Place,
+    limit: u64,
+}
+
+impl<D: Decide + Drop> Drop for Receiver<D> {
+    fn drop(self) {
+        let Receiver {
+            finder: _,
+            decider: _,
+            joiner: _,
+            place: _,
+            limit: _,
+        } = self;
+    }
+}
+
+impl<D: Decide> Model for Receiver<D> {
+    ghost use Rattle.s2_receive.specs.Receiving.{Receiver as ReceiverValue, state_of};
+    ghost use Rattle.s2_receive.specs.Stepping.{IsSound};
+
+    ghost Value = { ReceiverValue D };
+
+    ghost view = { λ r. record {
+      mode = r.finder.mode;
+      lock = r.finder.lock;
+      decider = r.decider;
+      limit = r.limit;
+      state = state_of r.place.phase r.place.at r.joiner r.place.totals;
+    } };
+
+    ghost invariant = { λ r. IsSound r.finder.mode (D.size r.decider) r.limit r.place.phase r.place.at r.place.totals };
+}
 
 impl<D: Decide> Receiver<D> {
     /// A receiver of the frames of a mode that takes at most `limit` symbols in all, with the memory that
@@ -30,19 +87,41 @@ impl<D: Decide> Receiver<D> {
         requires limit { limit ≤ most_symbols }
         ensures parts { IfOk result (λ r. (r.mode ≡ mode) × (r.lock ≡ lock) × (r.decider ≡ decider) × (r.limit ≡ limit)) }
         ensures begun { IfOk result (λ r. r.state ≡ begun) }
+    {
+        Ok(Receiver {
+            finder: Finder::new(alloc, mode, lock)?,
+            decider,
+            joiner: Joiner::new(),
+            place: Place {
+                phase: Phase::Searching,
+                at: 0,
+                totals: Totals::none(),
+            },
+            limit,
+        })
+    }
 
     /// What came so far, the frames that were not delivered among them; a cut one is no frame.
     pub fn totals(&self) -> Totals
         ensures { result ≡ self.now.state.standing.totals }
+    {
+        self.place.totals
+    }
 
     /// Takes at most so many symbols in all, of which it has not taken more yet.
     pub fn limit(&mut self, symbols: u64)
         requires { (place_of (symbols_in self.old.mode) self.old.state.phase self.old.state.at ≤ symbols) × (symbols ≤ most_symbols) }
         ensures { self.new ≡ record self.old { limit = symbols } }
+    {
+        self.limit = symbols;
+    }
 
     /// What decides its frames.
     pub fn decider(&self) -> &D
         ensures { result.now ≡ self.now.decider }
+    {
+        &self.decider
+    }
 
     /// The first half of a step: finds what comes next, a frame, one that lacks symbols, or the end, and decides a
     /// frame. Nothing is written: [`Receiver::deliver`] does that, and what was decided can be looked at before.
@@ -54,36 +133,110 @@ impl<D: Decide> Receiver<D> {
     pub fn meet<R: CountedRead>(&mut self, reader: &mut R) -> Result<Step, Fault>
         requires reader { CanCount (R.count reader.old) }
         ensures rules { rules_of D.decide self.new ≡ rules_of D.decide self.old }
+        ensures same { (self.new.mode ≡ self.old.mode) × (self.new.lock ≡ self.old.lock) × (self.new.limit ≡ self.old.limit) }
         ensures finds { IfOk result (λ step. IsLive self.old.state.phase
             → Finds (rules_of D.decide self.old) self.old.state self.new.state (R.remaining reader.old) (R.remaining reader.new) (D.last self.new.decider) step) }
         ensures stops { IsErrOf result Fault.Read → (self.new.state ≡ record self.old.state { phase = phases.Failed })
             × Stops (rules_of D.decide self.old) self.old.state (R.remaining reader.old) (R.remaining reader.new) (R.count reader.old) (R.count reader.new) }
+        ensures bounded { self.new.state.at ≤ self.old.limit }
         ensures no_read { result ≢ Err Fault.Read → R.count reader.new ≡ R.count reader.old }
         ensures no_write { result ≢ Err Fault.Write }
         ensures ended { self.old.state.phase ≡ phases.Ended → result ≡ Ok Step.End }
         ensures failed { IsErrOf result Fault.Failed ↔ ((IsLive self.old.state.phase → ⊥) × (self.old.state.phase ≢ phases.Ended)) }
         ensures nothing { (IsLive self.old.state.phase → ⊥) → (self.new ≡ self.old) × (reader.new ≡ reader.old) }
+    {
+        match self.place.phase {
+            Phase::Searching => {
+                let Ok(step) = self.search(reader) else {
+                    return Err(Fault::Read);
+                };
+                Ok(step)
+            }
+            Phase::Closing => Ok(self.close()),
+            Phase::Ended => Ok(Step::End),
+            Phase::Met(_) | Phase::Failed => Err(Fault::Failed),
+        }
+    }
+
+    /// Finds the next frame, or the end, and decides a frame.
+    fn search<R: CountedRead>(&mut self, reader: &mut R) -> Result<Step, ReadFault>
+        requires reader { CanCount (R.count reader.old) }
+        requires searching { self.old.state.phase ≡ phases.Searching }
+        ensures rules { rules_of D.decide self.new ≡ rules_of D.decide self.old }
+        ensures same { (self.new.mode ≡ self.old.mode) × (self.new.lock ≡ self.old.lock) × (self.new.limit ≡ self.old.limit) }
+        ensures finds { IfOk result (Finds (rules_of D.decide self.old) self.old.state self.new.state (R.remaining reader.old) (R.remaining reader.new) (D.last self.new.decider)) }
+        ensures stops { OnErr result ((self.new.state ≡ record self.old.state { phase = phases.Failed })
+            × Stops (rules_of D.decide self.old) self.old.state (R.remaining reader.old) (R.remaining reader.new) (R.count reader.old) (R.count reader.new)) }
+        ensures count { IfOk result (λ _. R.count reader.new ≡ R.count reader.old) }
+    {
+        let Ok(next) = self.finder.find(reader, self.place.at, self.limit) else {
+            self.place.phase = Phase::Failed;
+            return Err(ReadFault);
+        };
+        self.place.phase = Phase::Met(next);
+        match next {
+            Next::Frame { at, over: _ } => {
+                self.decider.decide(self.finder.frame());
+                Ok(Step::Frame(self.report_of(at)))
+            }
+            Next::Cut { at, over: _, count } => Ok(Step::Cut { at, symbols: count }),
+            Next::End { at: _, over: _ } => Ok(Step::End),
+        }
+    }
+
+    /// Behind a cut frame there is the end alone.
+    fn close(&mut self) -> Step
+        requires closing { self.old.state.phase ≡ phases.Closing }
+        ensures rules { rules_of D.decide self.new ≡ rules_of D.decide self.old }
+        ensures same { (self.new.mode ≡ self.old.mode) × (self.new.lock ≡ self.old.lock) × (self.new.limit ≡ self.old.limit) }
+        ensures at { self.new.state.at ≡ self.old.state.at }
+        ensures finds { (bytes : Option (List ℕ)) → Finds (rules_of D.decide self.old) self.old.state self.new.state bytes bytes (D.last self.new.decider) result }
+    {
+        self.place.phase = Phase::Met(Next::End {
+            at: self.place.at,
+            over: Stretch::none(),
+        });
+        Step::End
+    }
 
     /// The second half of a step: writes the packets of what was met, and then its line of the report. The joiner has a gap
     /// where symbols were passed over that are no dummy frame's, where a frame isn't delivered, and after a cut.
     ///
     /// `Write` tells that one of the two writers failed, which then has a part of the packets or of the line; the receiver counts as
     /// failed from then on. After the end it writes nothing. Where nothing was met it answers `Failed` and writes nothing.
-    pub fn deliver<P: CountedWrite, W: CountedWrite>(&mut self, packets: &mut P, report: &mut W) -> Result<(), Fault>
+    pub fn deliver<P: CountedWrite, W: CountedWrite>(
+        &mut self,
+        packets: &mut P,
+        report: &mut W,
+    ) -> Result<(), Fault>
         requires packets { CanCount (P.count packets.old) }
         requires report { CanCount (W.count report.old) }
         ensures rules { rules_of D.decide self.new ≡ rules_of D.decide self.old }
+        ensures same { (self.new.mode ≡ self.old.mode) × (self.new.lock ≡ self.old.lock) × (self.new.limit ≡ self.old.limit) }
         ensures last { D.last self.new.decider ≡ D.last self.old.decider }
         ensures tells { (next : NextValue) (symbols : List SymbolValue) → self.old.state.phase ≡ phases.Met next
             → IsDecided (rules_of D.decide self.old) (met_of next symbols) (D.last self.old.decider)
             → Tells (rules_of D.decide self.old) self.old.state self.new.state (met_of next symbols) (place_after (symbols_in self.old.mode) next)
-                (P.contents packets.old) (P.contents packets.new) (W.contents report.old) (W.contents report.new) result }
+            (P.contents packets.old) (P.contents packets.new) (W.contents report.old) (W.contents report.new) result }
+        ensures bounded { self.new.state.at ≤ self.old.limit }
         ensures write { IsErrOf result Fault.Write → OneFailed (P.count packets.old) (P.count packets.new) (W.count report.old) (W.count report.new) }
         ensures no_write { result ≢ Err Fault.Write → NoneFailed (P.count packets.old) (P.count packets.new) (W.count report.old) (W.count report.new) }
         ensures no_read { result ≢ Err Fault.Read }
-        // nothing met: Ok after the end, else Failed, and nothing changes
-        ensures nothing { ((next : NextValue) → self.old.state.phase ≢ phases.Met next) → (self.new ≡ self.old) × (packets.new ≡ packets.old) × (report.new ≡ report.old)
-            × (self.old.state.phase ≡ phases.Ended → result ≡ Ok tt) × (self.old.state.phase ≢ phases.Ended → result ≡ Err Fault.Failed) }
+        ensures ended { self.old.state.phase ≡ phases.Ended → result ≡ Ok tt }
+        ensures failed { IsErrOf result Fault.Failed ↔ (((next : NextValue) → self.old.state.phase ≢ phases.Met next) × (self.old.state.phase ≢ phases.Ended)) }
+        ensures nothing { ((next : NextValue) → self.old.state.phase ≢ phases.Met next) → (self.new ≡ self.old) × (packets.new ≡ packets.old) × (report.new ≡ report.old) }
+    {
+        let next = match self.place.phase {
+            Phase::Met(next) => next,
+            Phase::Ended => return Ok(()),
+            Phase::Searching | Phase::Closing | Phase::Failed => return Err(Fault::Failed),
+        };
+        self.place.phase = Phase::Failed;
+        match self.tell(next, packets, report) {
+            Ok(()) => Ok(()),
+            Err(WriteFault) => Err(Fault::Write),
+        }
+    }
 
     /// Takes one step: [`Receiver::meet`] and then [`Receiver::deliver`]. After `Cut` comes `End`, after `End` comes `End` and nothing is written.
     /// From a fault on every call answers `Failed` and reads and writes nothing.
@@ -97,12 +250,13 @@ impl<D: Decide> Receiver<D> {
         requires packets { CanCount (P.count packets.old) }
         requires report { CanCount (W.count report.old) }
         ensures rules { rules_of D.decide self.new ≡ rules_of D.decide self.old }
+        ensures same { (self.new.mode ≡ self.old.mode) × (self.new.lock ≡ self.old.lock) × (self.new.limit ≡ self.old.limit) }
         ensures live { let ends = streams_by R.remaining R.count P.contents P.count W.contents W.count in
             IsLive self.old.state.phase → StepAnswers (rules_of D.decide self.old) self.old.state self.new.state
-                (ends reader.old packets.old report.old) (ends reader.new packets.new report.new) result }
+            (ends reader.old packets.old report.old) (ends reader.new packets.new report.new) result }
         ensures frame { let ends = streams_by R.remaining R.count P.contents P.count W.contents W.count in
             (r : ReportValue) → result ≡ Ok (Step.Frame r) → MetFrame (rules_of D.decide self.old) self.old.state self.new.state
-                (ends reader.old packets.old report.old) (ends reader.new packets.new report.new) r (D.last self.new.decider) }
+            (ends reader.old packets.old report.old) (ends reader.new packets.new report.new) r (D.last self.new.decider) }
         ensures taken { StandsBehind (symbols_in self.old.mode) self.new.state.at result }
         ensures bounded { self.new.state.at ≤ self.old.limit }
         ensures ended { self.old.state.phase ≡ phases.Ended → result ≡ Ok Step.End }
@@ -111,4 +265,9 @@ impl<D: Decide> Receiver<D> {
         ensures unwritten { IsErrOf result Fault.Read → (packets.new ≡ packets.old) × (report.new ≡ report.old) }
         ensures counts { let ends = streams_by R.remaining R.count P.contents P.count W.contents W.count in
             OnlyFailed (result ≡ Err Fault.Read) (result ≡ Err Fault.Write) (ends reader.old packets.old report.old) (ends reader.new packets.new report.new) }
+    {
+        let step = self.meet(reader)?;
+        self.deliver(packets, report)?;
+        Ok(step)
+    }
 }

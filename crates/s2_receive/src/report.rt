@@ -1,8 +1,9 @@
 //! What a receiver answers and counts.
-ghost use Rattle.std.specs.Prelude.{◌≡◌, ◌+◌, ◌^◌, ◌<◌, ◌≤◌};
+ghost use Rattle.std.specs.Prelude.{◌≡◌, ◌≢◌, ◌+◌, ◌^◌, ◌<◌, ◌≤◌};
 ghost use Rattle.s2_receive.specs.Faults.{fault_of};
 ghost use Rattle.s2_receive.specs.Receiving.{at_start, passes, cut_totals};
 
+use crate::finding::Next;
 use crate::stretch::Stretch;
 use s2_bbframe::HeaderFault;
 use s2_check::Verdict;
@@ -149,23 +150,28 @@ pub enum Fault {
     Failed,
 }
 
-impl From<StreamFault> for Fault {
-    ghost from_gives = { λ fault answered. answered ≡ fault_of fault };
-
-    fn from(fault: StreamFault) -> Fault {
-        match fault {
-            StreamFault::Read => Fault::Read,
-            StreamFault::Write => Fault::Write,
+impl Fault {
+    /// The fault of a stream that it is, where no call came after an earlier one.
+    pub(crate) fn of_stream(self) -> StreamFault
+        requires { self ≢ Fault.Failed }
+        ensures { fault_of result ≡ self }
+    {
+        match self {
+            Fault::Read => StreamFault::Read,
+            Fault::Write => StreamFault::Write,
+            Fault::Failed => unreachable!(),
         }
     }
 }
 
 /// What a receiver will do next.
-#[derive(Clone, Copy, Debug, PartialEq, Eq)]
+#[derive(Clone, Copy)]
 pub enum Phase {
     Searching,
     /// A cut frame came, and the last line is still to be written.
     Closing,
+    /// This was met, and is still to be told.
+    Met(Next),
     Ended,
     Failed,
 }

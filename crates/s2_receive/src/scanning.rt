@@ -3,8 +3,9 @@ ghost use Rattle.std.specs.Prelude.{◌≡◌, ◌+◌, ◌^◌, ◌≤◌, ◌&
 ghost use Rattle.s2_mode.specs.declared.symbols.Symbol.{Symbol as SymbolValue};
 ghost use Rattle.s2_mode.specs.Limits.{header_symbols, most_symbols};
 ghost use Rattle.s2_receive.specs.Finding.{Scans, found_last};
+ghost use Rattle.s2_receive.specs.Windows.{FindsSame, Saw, finds_of};
 
-use crate::search::Search;
+use crate::header::HeaderSearch;
 use crate::stretch::Stretch;
 use s2_mode::{DUMMY_SYMBOLS, HEADER_SYMBOLS, Symbol};
 use s2_plframe::Found;
@@ -31,10 +32,10 @@ fn is_first(behind: bool, place: usize, start: usize) -> bool
 }
 
 /// Takes a symbol, and says what the last 90 are, where they stand right behind a frame (`first`) or elsewhere.
-fn found_with<S: Search>(search: &mut S, symbol: Symbol, first: bool) -> Found
-    ensures header { (seen : List SymbolValue) → S.saw search.old seen → (first ≡ true → header_symbols ≤ length (seen ++ symbol ∷ []))
-        → S.saw search.new (seen ++ symbol ∷ []) × (result ≡ found_last (S.finds search.old first) (seen ++ symbol ∷ [])) }
-    ensures same { S.finds search.new ≡ S.finds search.old }
+fn found_with(search: &mut HeaderSearch, symbol: Symbol, first: bool) -> Found
+    ensures header { (seen : List SymbolValue) → Saw search.old seen → (first ≡ true → header_symbols ≤ length (seen ++ symbol ∷ []))
+        → Saw search.new (seen ++ symbol ∷ []) × (result ≡ found_last (finds_of search.old first) (seen ++ symbol ∷ [])) }
+    ensures same { FindsSame search.old search.new }
 {
     let found = search.feed(symbol);
     if first {
@@ -47,8 +48,8 @@ fn found_with<S: Search>(search: &mut S, symbol: Symbol, first: bool) -> Found
 /// frames are passed without a look, and so are so many of the first ones; those at which nothing begins are passed over.
 /// Right behind those that are passed, and at the first one where none are and `behind` says so, a header passes as the
 /// search says of one behind a frame.
-pub(crate) fn look_through<S: Search>(
-    search: &mut S,
+pub(crate) fn look_through(
+    search: &mut HeaderSearch,
     symbols: &[Symbol],
     from: u64,
     inside: usize,
@@ -58,8 +59,8 @@ pub(crate) fn look_through<S: Search>(
     requires size { length symbols.now ≤ 2 ^ 32 }
     requires place { from + length symbols.now ≤ most_symbols }
     requires over { over.symbols ≤ from }
-    ensures scans { Scans (S.finds search.old) symbols.now from inside behind over result }
-    ensures same { S.finds search.new ≡ S.finds search.old }
+    ensures scans { Scans (finds_of search.old) symbols.now from inside behind over result }
+    ensures same { FindsSame search.old search.new }
 {
     let mut over = over;
     let mut start = inside;

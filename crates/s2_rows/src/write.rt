@@ -1,7 +1,7 @@
 //! Row files written.
-ghost use Rattle.std.specs.Prelude.{◌≡◌, ◌-◌, ◌^◌, ◌<◌, Ok, OnOk};
+ghost use Rattle.std.specs.Prelude.{◌≡◌, Ok, OnOk};
 ghost use Rattle.std.specs.Io.KnownBytes.{Appends};
-ghost use Rattle.s2_mode.specs.Counts.{CountsFault};
+ghost use Rattle.s2_mode.specs.Counts.{CanCount, CountsFault};
 ghost use Rattle.s2_rows.specs.RowFiles.{rows_of_text};
 ghost use Rattle.s2_rows.specs.RowTexts.{after_address, row_text, rows_text};
 
@@ -18,7 +18,7 @@ fn after_address(others: &[u32]) -> &'static [u8]
 
 /// Writes the line of a row.
 fn write_row<W: CountedWrite>(row: &[u32], out: &mut W) -> Result<(), WriteFault>
-    requires { W.count out.old < 2 ^ 64 - 1 }
+    requires { CanCount (W.count out.old) }
     ensures line { OnOk result (Appends (W.contents out.old) (W.contents out.new) (row_text row.now)) }
     ensures cause { CountsFault (W.count out.old) (W.count out.new) result }
 {
@@ -36,7 +36,7 @@ fn write_row<W: CountedWrite>(row: &[u32], out: &mut W) -> Result<(), WriteFault
 ///
 /// [`read_rows`]: crate::read_rows
 pub fn write_rows<W: CountedWrite>(rows: &Rows, out: &mut W) -> Result<(), WriteFault>
-    requires { W.count out.old < 2 ^ 64 - 1 }
+    requires { CanCount (W.count out.old) }
     ensures lines { OnOk result (Appends (W.contents out.old) (W.contents out.new) (rows_text rows.now.rows)) }
     ensures read_back { OnOk result (rows_of_text (rows_text rows.now.rows) rows.now.shape ≡ Ok rows.now.rows) }
     ensures cause { CountsFault (W.count out.old) (W.count out.new) result }

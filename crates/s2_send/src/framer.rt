@@ -1,7 +1,7 @@
 //! Makes frames of data fields.
-ghost use Rattle.std.specs.Prelude.{◌≡◌, ◌-◌, ◌^◌, ◌<◌, ◌≤◌, ℕ, List, IfOk, OnOk, OnErr, length};
+ghost use Rattle.std.specs.Prelude.{◌≡◌, ◌≤◌, ℕ, List, IfOk, OnOk, OnErr, length};
 ghost use Rattle.std.specs.Io.KnownBytes.{Appends};
-ghost use Rattle.s2_mode.specs.Counts.{CountsFault};
+ghost use Rattle.s2_mode.specs.Counts.{CanCount, CountsFault};
 ghost use Rattle.s2_mode.specs.Pieces.{AppendsPart};
 ghost use Rattle.s2_bbframe.specs.DataStream.{field_bytes};
 ghost use Rattle.s2_link.specs.Limits.{most_roll_off};
@@ -75,7 +75,7 @@ impl<'a> Framer<'a> {
         field: &[u8],
         writer: &mut W,
     ) -> Result<(), WriteFault>
-        requires count { W.count writer.old < 2 ^ 64 - 1 }
+        requires count { CanCount (W.count writer.old) }
         requires roll_off { header.now.roll_off ≤ 3 }
         requires size { length field.now ≤ field_bytes self.old.setup.mode }
         ensures frame { (frame : List ℕ) × IsFrameOf self.old header.now field.now frame
@@ -91,7 +91,7 @@ impl<'a> Framer<'a> {
 
     /// Writes a dummy frame, or where a write fails a part of it. It takes no memory.
     pub fn write_dummy<W: CountedWrite>(&self, writer: &mut W) -> Result<(), WriteFault>
-        requires count { W.count writer.old < 2 ^ 64 - 1 }
+        requires count { CanCount (W.count writer.old) }
         ensures bytes { OnOk result (Appends (W.contents writer.old) (W.contents writer.new) (dummy_bytes self.now.setup.number)) }
         ensures part { OnErr result (AppendsPart (dummy_bytes self.now.setup.number) (W.contents writer.old) (W.contents writer.new)) }
         ensures cause { CountsFault (W.count writer.old) (W.count writer.new) result }
@@ -108,7 +108,7 @@ impl<'a> Framer<'a> {
         due: bool,
         writer: &mut W,
     ) -> Result<(), WriteFault>
-        requires count { W.count writer.old < 2 ^ 64 - 1 }
+        requires count { CanCount (W.count writer.old) }
         requires roll_off { header.now.roll_off ≤ 3 }
         requires size { length field.now ≤ field_bytes self.old.setup.mode }
         ensures unit { (unit : List ℕ) × IsUnitOf self.old due header.now field.now unit

@@ -1,6 +1,6 @@
 //! The loop that sends.
 ghost use Rattle.std.specs.Prelude.{◌≡◌, ◌≢◌, ◌+◌, ◌-◌, ◌^◌, ◌<◌, ◌≤◌, ◌⊎◌, Err, IsErrOf, IfOk, OnErr, false, length};
-ghost use Rattle.s2_mode.specs.Counts.{CountsFault};
+ghost use Rattle.s2_mode.specs.Counts.{CanCount, CountsFault};
 ghost use Rattle.s2_bbframe.specs.Limits.{packet_bytes};
 ghost use Rattle.s2_bbframe.specs.DataStream.{field_bytes};
 ghost use Rattle.s2_send.specs.Sending.{TransmitterRuns, AcceptsNext, SendsNext, FailsToSend, is_due};
@@ -35,7 +35,7 @@ fn accept_next<R: CountedRead>(
     packets: u64,
     reader: &mut R,
 ) -> Result<bool, SendFault>
-    requires reader { R.count reader.old < 2 ^ 64 - 1 }
+    requires reader { CanCount (R.count reader.old) }
     requires number { packets < 2 ^ 64 - 1 }
     requires not_ready { length slicer.old.waiting < slicer.old.size }
     requires not_closed { slicer.old.closed ≡ false }
@@ -73,7 +73,7 @@ fn send_ready<W: CountedWrite>(
     due: bool,
     writer: &mut W,
 ) -> Result<bool, WriteFault>
-    requires count { W.count writer.old < 2 ^ 64 - 1 }
+    requires count { CanCount (W.count writer.old) }
     requires field { length field.old ≡ slicer.old.size }
     requires size { slicer.old.size ≡ field_bytes framer.old.setup.mode }
     ensures sends { IfOk result (SendsNext framer.old due slicer.old slicer.new (W.contents writer.old) (W.contents writer.new)) }
@@ -99,8 +99,8 @@ pub(crate) fn send_all<R: CountedRead, W: CountedWrite>(
     reader: &mut R,
     writer: &mut W,
 ) -> Result<Counts, SendFault>
-    requires reader { R.count reader.old < 2 ^ 64 - 1 }
-    requires writer { W.count writer.old < 2 ^ 64 - 1 }
+    requires reader { CanCount (R.count reader.old) }
+    requires writer { CanCount (W.count writer.old) }
     requires field { length field.old ≡ slicer.old.size }
     requires size { slicer.old.size ≡ field_bytes framer.old.setup.mode }
     requires packet { packet_bytes < slicer.old.size }

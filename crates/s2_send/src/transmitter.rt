@@ -1,5 +1,6 @@
 //! The transmitter: packets in, symbols out.
-ghost use Rattle.std.specs.Prelude.{◌≡◌, ◌≢◌, ◌+◌, ◌-◌, ◌^◌, ◌<◌, ◌≤◌, ◌⊎◌, Err, IfOk, IsErrOf};
+ghost use Rattle.std.specs.Prelude.{◌≡◌, ◌≢◌, ◌+◌, ◌<◌, ◌≤◌, ◌⊎◌, Err, IfOk, IsErrOf};
+ghost use Rattle.s2_mode.specs.Counts.{CanCount};
 ghost use Rattle.s2_send.specs.Limits.{most_packets};
 ghost use Rattle.s2_send.specs.Transmitter.{TransmitterAnswers, new_transmitter};
 ghost use Rattle.s2_send.specs.Sending.{TransmitterRuns};
@@ -118,8 +119,8 @@ impl<'a> Transmitter<'a> {
         reader: &mut R,
         writer: &mut W,
     ) -> Result<Counts, SendFault>
-        requires reader { R.count reader.old < 2 ^ 64 - 1 }
-        requires writer { W.count writer.old < 2 ^ 64 - 1 }
+        requires reader { CanCount (R.count reader.old) }
+        requires writer { CanCount (W.count writer.old) }
         ensures runs { TransmitterRuns self.old
             (λ packets. (R.count reader.new ≡ R.count reader.old + 1) ⊎ ((R.count reader.new ≡ R.count reader.old) × (packets ≡ self.old.limit)))
             (R.remaining reader.old) (R.remaining reader.new) (W.contents writer.old) (W.contents writer.new) result }

@@ -1,11 +1,15 @@
 -- The note of rows that are refused.
-use Rattle.std.specs.Prelude.{ℕ, Bool, if◌then◌else◌, List, [], ◌++◌, codes, decimal, Result, Ok, Err}
+use Rattle.std.specs.Prelude.{◌≡◌, ℕ, Bool, if◌then◌else◌, Option, List, [], ◌++◌, codes, decimal, Result, Ok, Err}
 use Rattle.s2_mode.specs.Mode.{Mode, shape_in}
 use Rattle.s2_mode.specs.Shape.{Shape, check_count}
 use Rattle.s2_modes.specs.Names.{mode_words}
 use Rattle.s2_console.specs.declared.exit.Exit.{Exit}
 use Rattle.s2_console.specs.declared.fault.Fault.{Fault}
 use Rattle.s2_console.specs.declared.fault.Fault.TheVariants as faults
+use Rattle.s2_console.specs.Exits.{exit_of, CommandRuns, CommandCounts}
+use Rattle.s2_console.specs.Notes.{Remarks}
+use Rattle.s2_console.specs.Screens.{Screen}
+use Rattle.s2_table.specs.Tables.{AreRowsIn, IsTold}
 
 -- how many rows, of addresses below which number
 unfoldable pub wanted_end : ℕ → ℕ → List ℕ
@@ -24,3 +28,10 @@ fault_note m f = []
 abbrev pub notes_on : Bool → Mode → Result Exit Fault → List ℕ
 notes_on quiet m (Ok exit) = []
 notes_on quiet m (Err f) = if quiet then [] else fault_note m f
+
+-- `table` has ended: of the rows in its file the answer is printed, only what failed was counted, of so many failed reads before and
+-- behind, and the note and of a fault the line stand on the errors.
+abbrev pub TableEnds : Mode → Bool → Option (List ℕ) → ℕ → ℕ → Screen → Screen → Exit → Type 0
+TableEnds m quiet rows reads reads_after old new exit =
+    (ended : Result Exit Fault) × (exit ≡ exit_of ended) × CommandRuns (IsTold m) (AreRowsIn (shape_in m) rows) ended old.output new.output
+    × CommandCounts ended reads reads_after old.output_failed new.output_failed × Remarks (notes_on quiet m ended) ended old new

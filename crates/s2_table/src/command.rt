@@ -2,10 +2,9 @@
 ghost use Rattle.std.specs.Prelude.{◌≡◌, ◌≢◌, ◌+◌, Result, Err, IsOk};
 ghost use Rattle.s2_mode.specs.Counts.{CanCount};
 ghost use Rattle.s2_mode.specs.Mode.{shape_in};
-ghost use Rattle.s2_console.specs.Exits.{exit_of, CommandAnswers, CommandRuns, CommandCounts};
-ghost use Rattle.s2_console.specs.Notes.{Remarks};
+ghost use Rattle.s2_console.specs.Exits.{CommandAnswers, CommandRuns, CommandCounts};
 ghost use Rattle.s2_console.specs.Screens.{CanTell};
-ghost use Rattle.s2_table.specs.Wanted.{notes_on};
+ghost use Rattle.s2_table.specs.Wanted.{TableEnds};
 ghost use Rattle.s2_table.specs.Tables.{AreRowsIn, IsTold, answer_line, answer_exit};
 
 use crate::standard::is_standard;
@@ -88,10 +87,7 @@ pub fn table_command<R: CountedRead, O: CountedWrite, E: CountedWrite>(
     requires console { CanTell console.old }
     ensures quiet { result ≢ Exit.Fault → console.new.errors_failed ≡ console.old.errors_failed }
     ensures whole { result ≢ Exit.Fault → console.new.output_failed ≡ console.old.output_failed }
-    ensures run { (ended : Result Exit Fault) × (result ≡ exit_of ended)
-        × CommandRuns (IsTold mode.now) (AreRowsIn (shape_in mode.now) (R.remaining rows.old)) ended console.old.output console.new.output
-        × CommandCounts ended (R.count rows.old) (R.count rows.new) console.old.output_failed console.new.output_failed
-        × Remarks (notes_on quiet mode.now ended) ended console.old console.new }
+    ensures run { TableEnds mode.now quiet (R.remaining rows.old) (R.count rows.old) (R.count rows.new) console.old console.new result }
 {
     let ended = print_table(alloc, mode, rows, &mut console.output);
     conclude_noted(quiet, mode, ended, console)

@@ -3,9 +3,9 @@ ghost use Rattle.std.specs.Prelude.{◌≡◌, ◌≢◌, Result, Err, IfOk, IsO
 ghost use Rattle.s2_mode.specs.Counts.{CanCount};
 ghost use Rattle.s2_rows.specs.MadeRows.{is_weight};
 ghost use Rattle.s2_rows.specs.RowTexts.{rows_text};
-ghost use Rattle.s2_console.specs.Exits.{exit_of, Complains, Follows, CommandCounts};
+ghost use Rattle.s2_console.specs.Exits.{Follows, CommandCounts};
 ghost use Rattle.s2_console.specs.Screens.{CanShow};
-ghost use Rattle.s2_tool.specs.Making.{rows_made, MakesRows};
+ghost use Rattle.s2_tool.specs.Making.{rows_made, MakesRows, RowsEnds};
 
 use s2_console::{Console, Exit, Fault, print};
 use s2_mode::{CountedWrite, Counting, Shape};
@@ -67,10 +67,7 @@ pub fn rows_command<O: CountedWrite, E: CountedWrite>(
     requires console { CanShow console.old }
     ensures quiet { result ≢ Exit.Fault → console.new.errors_failed ≡ console.old.errors_failed }
     ensures whole { result ≢ Exit.Fault → console.new.output_failed ≡ console.old.output_failed }
-    ensures run { (ended : Result Exit Fault) × (result ≡ exit_of ended)
-        × MakesRows shape weight seed ended console.old.output console.new.output
-        × CommandCounts ended 0 0 console.old.output_failed console.new.output_failed
-        × Complains ended console.old console.new }
+    ensures run { RowsEnds shape weight seed console.old console.new result }
 {
     let ended = print_rows(alloc, shape, weight, seed, &mut console.output);
     console.conclude(ended)

@@ -1,12 +1,11 @@
-use Rattle.std.proofs.Common.{◌≡◌, ℕ, List, Some}
+use Rattle.std.proofs.Common.{◌≡◌}
 use Rattle.s2_channel.proofs.Streams.{Passed}
 use Rattle.s2_channel.proofs.whole.add_to_all.Given as goal
 
 -- what is written is the noisy symbols that were read, and what is left will follow them
 abbrev pub invariant-loop-taken : goal.invariant-loop-taken
 invariant-loop-taken g l = record {
-  passed : (xs : List ℕ) → g.R.CountedRead.remaining l.initial.reader ≡ Some xs
-      → Passed xs l._taken (g.R.CountedRead.remaining l.reader) (g.W.CountedWrite.contents l.initial.writer) (g.W.CountedWrite.contents l.writer) l.initial.noise.level l.noise.level l.initial.noise.generator l.noise.generator;
+  passed : Passed l._taken (g.R.CountedRead.remaining l.initial.reader) (g.R.CountedRead.remaining l.reader) (g.W.CountedWrite.contents l.initial.writer) (g.W.CountedWrite.contents l.writer) l.initial.noise.level l.noise.level l.initial.noise.generator l.noise.generator;
   level : l.noise.level ≡ l.initial.noise.level;
   reads : g.R.Counted.count l.reader ≡ g.R.Counted.count l.initial.reader;
   writes : g.W.Counted.count l.writer ≡ g.W.Counted.count l.initial.writer;

@@ -1,6 +1,5 @@
 use Rattle.std.proofs.Common.{◌≡◌, Bool, None, IfSome, cond, length, sym, ap, subst, ◌∙◌, arith}
 use Rattle.std.proofs.lemmas.List.{length-map}
-use Rattle.s2_matrix.specs.Code.{code_of}
 use Rattle.s2_check.specs.Hard.{hard_decision}
 use Rattle.s2_split.specs.Making.{shared_view, shared_views}
 use Rattle.s2_split.proofs.Held.{copied}
@@ -19,38 +18,38 @@ returns-then-judge_unsplit-clause-decided c =
 pub copy_prefix-requires-clause-mine : goal.copy_prefix-requires-clause-mine
 copy_prefix-requires-clause-mine c =
     let long = ap length c.judge_unsplit.ensures.word ∙ length-map c.args.soft.now _ ∙ c.requires.soft in
-    omega (arith, c.len.ensures, long, c.try_repair.ensures.long)
+    omega (arith, c.len.ensures, long, c.try_repair-is_certified.ensures.long)
 
-pub returns-then-try_repair-clause-ground : goal.returns-then-try_repair-clause-ground
-returns-then-try_repair-clause-ground c =
+pub returns-then-is_certified-clause-ground : goal.returns-then-is_certified-clause-ground
+returns-then-is_certified-clause-ground c =
     let r = c.args.certifier.now.rows in
     let soft = c.args.soft.now in
-    let word = c.try_repair.new.repair in
+    let word = c.try_repair-is_certified.new.repair in
     let long = ap length c.judge_unsplit.ensures.word ∙ length-map soft _ ∙ c.requires.soft in
-    let same = copied word c.judge_unsplit.new.word c.copy_prefix.new.self c.len.result c.len.ensures (long ∙ sym c.try_repair.ensures.long) c.copy_prefix.ensures in
-    (c.requires.range, c.try_repair.ensures.word c.if-try_repair.true ∙ sym same)
+    let same = copied word c.judge_unsplit.new.word c.copy_prefix.new.self c.len.result c.len.ensures (long ∙ sym c.try_repair-is_certified.ensures.long) c.copy_prefix.ensures in
+    (c.requires.range, c.try_repair-is_certified.ensures.word c.if-is_certified.true ∙ sym same)
 
-pub returns-then-try_repair-clause-decided : goal.returns-then-try_repair-clause-decided
-returns-then-try_repair-clause-decided c =
+pub returns-then-is_certified-clause-decided : goal.returns-then-is_certified-clause-decided
+returns-then-is_certified-clause-decided c =
     let r = c.args.certifier.now.rows in
     let soft = c.args.soft.now in
-    let try = c.try_repair in
+    let try = c.try_repair-is_certified in
     let word = try.new.repair in
     let found = try.new.certifier.found in
     let long = ap length c.judge_unsplit.ensures.word ∙ length-map soft _ ∙ c.requires.soft in
     let same = copied word c.judge_unsplit.new.word c.copy_prefix.new.self c.len.result c.len.ensures (long ∙ sym try.ensures.long) c.copy_prefix.ensures in
     let odd = test_in r c.matrix.result.now (hard_decision soft) c.judge_unsplit.result c.matrix.ensures (length-map soft _ ∙ c.requires.soft) c.judge_unsplit.ensures.codeword ∙ c.if-judge_unsplit.false in
-    let strict = subst (λ (b : Bool). IfSome found (λ s. is_strict r (shared_view r soft word s) ≡ b)) (sym c.is_strict.ensures) (try.ensures.strict c.if-try_repair.true) in
-    let view = sym (ap (λ p. repair_view r p soft) c.requires.passes) ∙ try.ensures.view ∙ ap (λ b. cond b (shared_views r soft word found) None) c.if-try_repair.true in
-    step_two r c.args.tuning soft c.copy_prefix.new.self word found c.is_strict.result odd try.ensures.repair same (try.ensures.found c.if-try_repair.true) view strict
+    let strict = subst (λ (b : Bool). IfSome found (λ s. is_strict r (shared_view r soft word s) ≡ b)) (sym c.is_strict.ensures) (try.ensures.strict c.if-is_certified.true) in
+    let view = sym (ap (λ p. repair_view r p soft) c.requires.passes) ∙ try.ensures.view ∙ ap (λ b. cond b (shared_views r soft word found) None) c.if-is_certified.true in
+    step_two r c.args.tuning soft c.copy_prefix.new.self word found c.is_strict.result odd (try.ensures.repair (try.ensures.both c.if-is_certified.true)) same (try.ensures.found c.if-is_certified.true) view strict
 
 pub returns-clause-decided : goal.returns-clause-decided
 returns-clause-decided c =
     let r = c.args.certifier.now.rows in
     let soft = c.args.soft.now in
-    let try = c.try_repair in
+    let try = c.try_repair-is_certified in
     let by = c.decide_by_min_sum in
     let odd = test_in r c.matrix.result.now (hard_decision soft) c.judge_unsplit.result c.matrix.ensures (length-map soft _ ∙ c.requires.soft) c.judge_unsplit.ensures.codeword ∙ c.if-judge_unsplit.false in
-    let none = sym (ap (λ p. repair_view r p soft) c.requires.passes) ∙ try.ensures.view ∙ ap (λ b. cond b (shared_views r soft try.new.repair try.new.certifier.found) None) c.if-try_repair.false in
+    let none = sym (ap (λ p. repair_view r p soft) c.requires.passes) ∙ try.ensures.view ∙ ap (λ b. cond b (shared_views r soft try.new.repair try.new.certifier.found) None) c.if-is_certified.false in
     past_two r c.args.tuning soft odd none
     ∙ by_same r try.new.certifier.rows c.args.tuning soft by.new.bits by.new.certifier.found by.result try.ensures.rows by.ensures.decided

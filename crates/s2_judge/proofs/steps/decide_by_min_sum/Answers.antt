@@ -1,12 +1,12 @@
-use Rattle.std.proofs.Common.{◌≡◌, Bool, Some, None, IfSome, cond, length, sym, ap, subst, ◌∙◌}
+use Rattle.std.proofs.Common.{◌≡◌, Bool, Some, None, IfSome, cond, length, sym, ap, subst, ◌∙◌, arith}
 use Rattle.s2_rows.specs.Rows.{Rows}
 use Rattle.s2_matrix.specs.Code.{code_of}
 use Rattle.s2_split.specs.Making.{shared_view}
 use Rattle.s2_split.proofs.Held.{copied}
 use Rattle.s2_split.proofs.Repairs.{length-repaired}
-use Rattle.s2_judge.specs.Deciding.{is_strict, satisfies, decoded_bits, first_codeword, with_made, view_for}
+use Rattle.s2_judge.specs.Deciding.{is_strict, decoded_bits, first_codeword, with_made, view_for}
 use Rattle.s2_judge.proofs.Certificates.{found_nothing}
-use Rattle.s2_judge.proofs.Decisions.{found_codeword, test_in}
+use Rattle.s2_judge.proofs.Decisions.{found_codeword}
 use Rattle.s2_judge.proofs.Grounds.{with_found, with_none, step_three, step_four, step_none}
 use Rattle.s2_judge.proofs.steps.decide_by_min_sum.Goals as goal
 
@@ -17,9 +17,11 @@ certify-requires-clause-codeword c =
     let bits = c.decode.new.bits in
     found_codeword r c.args.tuning.factor c.args.tuning.rounds soft bits (sym (λ i. first_codeword (c.matrix.ensures i) (c.factor-factor.ensures.is i) (c.rounds-rounds.ensures.is i) soft) ∙ c.decode.ensures.first ∙ ap (λ b. cond b (Some bits) None) c.if-decode.true)
 
-pub satisfied-requires : goal.satisfied-requires
-satisfied-requires c =
-    ap length c.requires.repair ∙ length-repaired (code_of c.args.certifier.now.rows) c.args.soft.now ∙ sym (ap (λ (q : Rows). (code_of q).bits) c.matrix-2.ensures)
+pub copy_prefix-requires-clause-mine : goal.copy_prefix-requires-clause-mine
+copy_prefix-requires-clause-mine c =
+    let whole = ap length (c.requires.repair c.if-is_even.true) ∙ length-repaired (code_of c.args.certifier.now.rows) c.args.soft.now in
+    let long = c.decode.ensures.long ∙ ap (λ (q : Rows). (code_of q).bits) c.matrix.ensures in
+    omega (arith, c.len.ensures, long, whole)
 
 pub returns-then-is_uncertified-clause-decided : goal.returns-then-is_uncertified-clause-decided
 returns-then-is_uncertified-clause-decided c =
@@ -57,29 +59,26 @@ returns-then-decode-clause-decided c =
     let looked = sym c.is_uncertified.ensures ∙ c.if-is_uncertified.false in
     step_three r tuning soft bits _ first (ap (with_made r bits) (ap (λ b. cond b None (view_for r tuning.passes soft bits)) looked) ∙ shown)
 
-pub returns-then-satisfied-clause-decided : goal.returns-then-satisfied-clause-decided
-returns-then-satisfied-clause-decided c =
+pub returns-then-is_even-clause-decided : goal.returns-then-is_even-clause-decided
+returns-then-is_even-clause-decided c =
     let r = c.args.certifier.now.rows in
     let soft = c.args.soft.now in
     let tuning = c.args.tuning in
     let repair = c.args.repair.now in
     let bits = c.decode.new.bits in
     let none = sym (λ i. first_codeword (c.matrix.ensures i) (c.factor-factor.ensures.is i) (c.rounds-rounds.ensures.is i) soft) ∙ c.decode.ensures.first ∙ ap (λ b. cond b (Some bits) None) c.if-decode.false in
-    let whole = ap length c.requires.repair ∙ length-repaired (code_of r) soft in
+    let is = c.requires.repair c.if-is_even.true in
+    let whole = ap length is ∙ length-repaired (code_of r) soft in
     let long = c.decode.ensures.long ∙ ap (λ (q : Rows). (code_of q).bits) c.matrix.ensures in
-    let even = sym (ap (satisfies (code_of r)) c.requires.repair) ∙ test_in r c.matrix-2.result.now repair c.satisfied.result c.matrix-2.ensures whole c.satisfied.ensures ∙ c.if-satisfied.true in
     let same = copied repair bits c.copy_prefix.new.self c.len.result c.len.ensures (long ∙ sym whole) c.copy_prefix.ensures in
-    step_four r tuning soft c.copy_prefix.new.self c.args.certifier.now.found none even (same ∙ c.requires.repair)
+    step_four r tuning soft c.copy_prefix.new.self c.args.certifier.now.found none (c.requires.even ∙ c.if-is_even.true) (same ∙ is)
 
 pub returns-clause-decided : goal.returns-clause-decided
 returns-clause-decided c =
     let r = c.args.certifier.now.rows in
     let soft = c.args.soft.now in
     let tuning = c.args.tuning in
-    let repair = c.args.repair.now in
     let bits = c.decode.new.bits in
     let none = sym (λ i. first_codeword (c.matrix.ensures i) (c.factor-factor.ensures.is i) (c.rounds-rounds.ensures.is i) soft) ∙ c.decode.ensures.first ∙ ap (λ b. cond b (Some bits) None) c.if-decode.false in
-    let whole = ap length c.requires.repair ∙ length-repaired (code_of r) soft in
-    let odd = sym (ap (satisfies (code_of r)) c.requires.repair) ∙ test_in r c.matrix-2.result.now repair c.satisfied.result c.matrix-2.ensures whole c.satisfied.ensures ∙ c.if-satisfied.false in
     let last = c.decode.ensures.last c.if-decode.false ∙ (λ i. decoded_bits (c.matrix.ensures i) (c.factor-factor.ensures.is i) soft (c.rounds-rounds.ensures.is i)) in
-    step_none r tuning soft bits c.args.certifier.now.found none odd last
+    step_none r tuning soft bits c.args.certifier.now.found none (c.requires.even ∙ c.if-is_even.false) last

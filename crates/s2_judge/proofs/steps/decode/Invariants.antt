@@ -1,7 +1,7 @@
-use Rattle.std.proofs.Common.{◌≡◌, ℕ, ◌+◌, ◌≤◌, length}
+use Rattle.std.proofs.Common.{◌≡◌, ℕ, ◌+◌, length}
 use Rattle.s2_matrix.specs.Code.{code_of}
 use Rattle.s2_minsum.specs.Decoding.{decoded}
-use Rattle.s2_judge.specs.Deciding.{after_rounds, decoded_bits, first_codeword}
+use Rattle.s2_judge.specs.Deciding.{after_rounds, first_codeword}
 use Rattle.s2_judge.proofs.Decisions.{first_from}
 use Rattle.s2_judge.proofs.steps.decode.Given as goal
 
@@ -11,5 +11,4 @@ invariant-decoding l = record {
   state : decoded l.decoder ≡ after_rounds l.matrix l.factor l.soft l.round;
   first : (n : ℕ) → n + l.round ≡ l.rounds → first_codeword l.matrix l.factor l.rounds l.soft ≡ first_from l.matrix l.factor l.soft l.round n;
   long : length l.bits ≡ (code_of l.matrix).bits;
-  last : 1 ≤ l.round → l.bits ≡ decoded_bits l.matrix l.factor l.soft l.round;
 }

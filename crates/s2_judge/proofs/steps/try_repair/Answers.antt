@@ -1,18 +1,37 @@
 use Rattle.std.proofs.Common.{◌≡◌, IfSome, length, sym, ap, subst, ◌∙◌}
+use Rattle.std.proofs.lemmas.Bool.{false_from_ne_true}
+use Rattle.std.proofs.lemmas.List.{length-map}
 use Rattle.s2_rows.specs.Rows.{Rows}
-use Rattle.s2_matrix.specs.Code.{code_of}
+use Rattle.s2_matrix.specs.Code.{code_of, IsCodeword}
 use Rattle.s2_split.specs.Making.{shared_view}
+use Rattle.s2_split.specs.Scattered.{repaired}
 use Rattle.s2_split.proofs.Repairs.{length-repaired}
 use Rattle.s2_link.specs.Tuning.{tuning_of}
 use Rattle.s2_judge.specs.Deciding.{is_strict, satisfies}
 use Rattle.s2_judge.specs.Certifying.{Certifying}
 use Rattle.s2_judge.proofs.Certificates.{found_or_none, view_by_certifier}
-use Rattle.s2_judge.proofs.Decisions.{repair_made, repair_odd, test_in}
+use Rattle.s2_judge.proofs.Decisions.{repair_made, repair_odd, satisfied_codeword, test_in}
 use Rattle.s2_judge.proofs.steps.try_repair.Goals as goal
+
+pub mends_nothing-requires : goal.mends_nothing-requires
+mends_nothing-requires c =
+    ap length c.truths.ensures ∙ ap length c.requires.hard ∙ length-map c.args.soft.now _ ∙ c.requires.soft ∙ sym (ap (λ (q : Rows). (code_of q).bits) c.matrix.ensures)
+
+pub returns-then-mends_nothing-clause-even : goal.returns-then-mends_nothing-clause-even
+returns-then-mends_nothing-clause-even c =
+    let r = c.args.certifier.now.rows in
+    let soft = c.args.soft.now in
+    false_from_ne_true (satisfies (code_of r) (repaired (code_of r) soft)) (λ even. c.mends_nothing.ensures c.if-mends_nothing.true soft (c.truths.ensures ∙ c.requires.hard) (subst (λ (q : Rows). IsCodeword (code_of q) (repaired (code_of q) soft)) (sym c.matrix.ensures) (satisfied_codeword (code_of r) (repaired (code_of r) soft) (length-repaired (code_of r) soft) even)))
+
+pub returns-then-mends_nothing-clause-view : goal.returns-then-mends_nothing-clause-view
+returns-then-mends_nothing-clause-view c =
+    let r = c.args.certifier.now.rows in
+    let soft = c.args.soft.now in
+    repair_odd r (tuning_of 0 c.args.certifier.now.passes) soft (false_from_ne_true (satisfies (code_of r) (repaired (code_of r) soft)) (λ even. c.mends_nothing.ensures c.if-mends_nothing.true soft (c.truths.ensures ∙ c.requires.hard) (subst (λ (q : Rows). IsCodeword (code_of q) (repaired (code_of q) soft)) (sym c.matrix.ensures) (satisfied_codeword (code_of r) (repaired (code_of r) soft) (length-repaired (code_of r) soft) even))))
 
 pub satisfied-requires : goal.satisfied-requires
 satisfied-requires c =
-    let rows = c.matrix.ensures ∙ ap (λ (m : Certifying). m.rows) c.repair_into.ensures.same in
+    let rows = c.matrix-2.ensures ∙ ap (λ (m : Certifying). m.rows) c.repair_into.ensures.same in
     ap length c.repair_into.ensures.word ∙ length-repaired (code_of c.args.certifier.now.rows) c.args.soft.now ∙ sym (ap (λ (q : Rows). (code_of q).bits) rows)
 
 pub returns-then-satisfied-clause-long : goal.returns-then-satisfied-clause-long
@@ -23,6 +42,22 @@ pub returns-else-satisfied-clause-long : goal.returns-else-satisfied-clause-long
 returns-else-satisfied-clause-long c =
     ap length c.repair_into.ensures.word ∙ length-repaired (code_of c.args.certifier.now.rows) c.args.soft.now
 
+pub returns-then-satisfied-clause-even : goal.returns-then-satisfied-clause-even
+returns-then-satisfied-clause-even c =
+    let r = c.args.certifier.now.rows in
+    let soft = c.args.soft.now in
+    let rep = c.repair_into.ensures.word in
+    let rows = c.matrix-2.ensures ∙ ap (λ (m : Certifying). m.rows) c.repair_into.ensures.same in
+    ap (satisfies (code_of r)) (sym rep) ∙ test_in r c.matrix-2.result.now c.repair_into.new.word c.satisfied.result rows (ap length rep ∙ length-repaired (code_of r) soft) c.satisfied.ensures ∙ c.if-satisfied.true
+
+pub returns-else-satisfied-clause-even : goal.returns-else-satisfied-clause-even
+returns-else-satisfied-clause-even c =
+    let r = c.args.certifier.now.rows in
+    let soft = c.args.soft.now in
+    let rep = c.repair_into.ensures.word in
+    let rows = c.matrix-2.ensures ∙ ap (λ (m : Certifying). m.rows) c.repair_into.ensures.same in
+    ap (satisfies (code_of r)) (sym rep) ∙ test_in r c.matrix-2.result.now c.repair_into.new.word c.satisfied.result rows (ap length rep ∙ length-repaired (code_of r) soft) c.satisfied.ensures ∙ c.if-satisfied.false
+
 pub returns-then-satisfied-clause-view : goal.returns-then-satisfied-clause-view
 returns-then-satisfied-clause-view c =
     let r = c.args.certifier.now.rows in
@@ -31,8 +66,8 @@ returns-then-satisfied-clause-view c =
     let word = c.repair_into.new.word in
     let same = c.repair_into.ensures.same in
     let rep = c.repair_into.ensures.word in
-    let rows = c.matrix.ensures ∙ ap (λ (m : Certifying). m.rows) same in
-    let even = ap (satisfies (code_of r)) (sym rep) ∙ test_in r c.matrix.result.now word c.satisfied.result rows (ap length rep ∙ length-repaired (code_of r) soft) c.satisfied.ensures ∙ c.if-satisfied.true in
+    let rows = c.matrix-2.ensures ∙ ap (λ (m : Certifying). m.rows) same in
+    let even = ap (satisfies (code_of r)) (sym rep) ∙ test_in r c.matrix-2.result.now word c.satisfied.result rows (ap length rep ∙ length-repaired (code_of r) soft) c.satisfied.ensures ∙ c.if-satisfied.true in
     repair_made r (tuning_of 0 passes) soft even
     ∙ view_by_certifier soft word c.repair_into.new.self c.args.certifier.now c.certify.new.self.found rep same c.certify.ensures.view
     ∙ found_or_none r soft word c.certify.new.self.found c.certify.result c.certify.ensures.found
@@ -43,8 +78,8 @@ returns-else-satisfied-clause-view c =
     let soft = c.args.soft.now in
     let word = c.repair_into.new.word in
     let rep = c.repair_into.ensures.word in
-    let rows = c.matrix.ensures ∙ ap (λ (m : Certifying). m.rows) c.repair_into.ensures.same in
-    let odd = ap (satisfies (code_of r)) (sym rep) ∙ test_in r c.matrix.result.now word c.satisfied.result rows (ap length rep ∙ length-repaired (code_of r) soft) c.satisfied.ensures ∙ c.if-satisfied.false in
+    let rows = c.matrix-2.ensures ∙ ap (λ (m : Certifying). m.rows) c.repair_into.ensures.same in
+    let odd = ap (satisfies (code_of r)) (sym rep) ∙ test_in r c.matrix-2.result.now word c.satisfied.result rows (ap length rep ∙ length-repaired (code_of r) soft) c.satisfied.ensures ∙ c.if-satisfied.false in
     repair_odd r (tuning_of 0 c.args.certifier.now.passes) soft odd
 
 pub returns-then-satisfied-clause-strict : goal.returns-then-satisfied-clause-strict

@@ -1,4 +1,4 @@
-use Rattle.std.proofs.Common.{◌≡◌, ◌+◌, ◌*◌, ◌≤◌, ap, ◌∙◌, arith}
+use Rattle.std.proofs.Common.{◌≡◌, ◌*◌, ◌≤◌, ap, ◌∙◌, arith}
 use Rattle.std.proofs.Math.Nat.{mul-le-mul_right}
 use Rattle.s2_mode.specs.Shape.{Shape}
 use Rattle.s2_minsum.specs.Layout.{entry_count}
@@ -9,6 +9,6 @@ returns c = λ r lt.
     let rows = c.args.matrix.now in
     let most = c.most_entries.result in
     let g = c.group.ensures.is ∙ ap (λ (s : Shape). s.group) c.shape.ensures.is in
-    let same : (most + 4) * c.group.result ≡ (most + 4) * rows.shape.group = ap (λ x. (most + 4) * x) g in
-    let one : (entry_count rows r + 4) * rows.shape.group ≤ (most + 4) * rows.shape.group = mul-le-mul_right rows.shape.group (omega (arith, c.most_entries.ensures.most r lt)) in
+    let same : most * c.group.result ≡ most * rows.shape.group = ap (λ x. most * x) g in
+    let one : entry_count rows r * rows.shape.group ≤ most * rows.shape.group = mul-le-mul_right rows.shape.group (c.most_entries.ensures.most r lt) in
     omega (arith, one, same)

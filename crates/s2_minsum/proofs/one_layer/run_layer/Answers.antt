@@ -1,4 +1,4 @@
-use Rattle.std.proofs.Common.{◌≡◌, ◌+◌, ◌*◌, ◌≤◌, List, length, ap, sym, subst, ◌∙◌, arith}
+use Rattle.std.proofs.Common.{◌≡◌, ◌*◌, ◌≤◌, List, length, ap, sym, subst, ◌∙◌, arith}
 use Rattle.std.proofs.Math.Nat.{mul-le-mul_right}
 use Rattle.s2_mode.specs.Shape.{Shape}
 use Rattle.s2_rows.specs.Rows.{Rows}
@@ -43,7 +43,7 @@ run-requires-clause-room c =
     let g = c.group-n.ensures.is ∙ ap (λ (s : Shape). s.group) c.shape-shape.ensures.is in
     let es_is = c.entries-entries.ensures.are ∙ ap (λ (x : Rows). entries_of x c.args.r) c.requires.layers in
     let count = ap (λ (es : List Entry). length es) es_is ∙ length-entries rows c.args.r in
-    let product : (length c.entries-entries.result.now + 4) * c.group-n.result ≡ (entry_count rows c.args.r + 4) * rows.shape.group = λ i. (count i + 4) * g i in
+    let product : length c.entries-entries.result.now * c.group-n.result ≡ entry_count rows c.args.r * rows.shape.group = λ i. count i * g i in
     omega (arith, product, c.requires.room c.args.r c.requires.layer)
 
 pub run-requires-clause-entries : goal.run-requires-clause-entries

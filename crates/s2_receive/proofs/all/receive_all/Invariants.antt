@@ -1,27 +1,25 @@
-use Rattle.std.proofs.Common.{◌≡◌, ◌+◌, ◌-◌, List}
+use Rattle.std.proofs.Common.{◌≡◌, ◌+◌, ◌-◌}
 use Rattle.s2_mode.specs.Limits.{most_symbols}
-use Rattle.s2_receive.specs.Meeting.{Met}
-use Rattle.s2_receive.specs.Receiving.{Went, IsLive, rank, all_well, rules_in}
+use Rattle.s2_mode.specs.Streams.{streams_by}
+use Rattle.s2_receive.specs.Receiving.{IsLive, rank, rules_of}
+use Rattle.s2_receive.proofs.RunLemmas.{Came}
 use Rattle.s2_receive.proofs.all.receive_all.Given as goal
 
--- what was met so far, and no more, is written, and whether all of it was well
+-- what was met so far, and no more, is written, and whether all of it was well; no call failed
 abbrev pub invariant-steps : goal.invariant-steps
 invariant-steps g l =
-    ((met : List Met) × Went
-    (rules_in g.S.Search.finds g.D.Decide.decide g.L.Lines.frame_line g.L.Lines.cut_line g.L.Lines.end_line l.fn.receiver)
-    l.fn.receiver.state
-    l.receiver.state
-    (g.R.CountedRead.remaining l.fn.reader) (g.R.CountedRead.remaining l.reader) (g.P.CountedWrite.contents l.fn.packets) (g.P.CountedWrite.contents l.packets)
-    (g.W.CountedWrite.contents l.fn.report) (g.W.CountedWrite.contents l.report) met
-    × (l.well ≡ all_well
-    (rules_in g.S.Search.finds g.D.Decide.decide g.L.Lines.frame_line g.L.Lines.cut_line g.L.Lines.end_line l.fn.receiver)
-    l.fn.receiver.state.standing met))
-    × (rules_in g.S.Search.finds g.D.Decide.decide g.L.Lines.frame_line g.L.Lines.cut_line g.L.Lines.end_line l.receiver
-    ≡ rules_in g.S.Search.finds g.D.Decide.decide g.L.Lines.frame_line g.L.Lines.cut_line g.L.Lines.end_line l.fn.receiver)
-    × IsLive l.receiver.state.phase
-    × (g.R.Counted.count l.reader ≡ g.R.Counted.count l.fn.reader)
-    × (g.P.Counted.count l.packets ≡ g.P.Counted.count l.fn.packets)
-    × (g.W.Counted.count l.report ≡ g.W.Counted.count l.fn.report)
+    let ends = streams_by g.R.CountedRead.remaining g.R.Counted.count g.P.CountedWrite.contents g.P.Counted.count g.W.CountedWrite.contents g.W.Counted.count in
+    record {
+      came : Came (rules_of g.D.Decide.decide l.fn.receiver) l.fn.receiver.state l.receiver.state (ends l.fn.reader l.fn.packets l.fn.report) (ends l.reader l.packets l.report) l.well;
+      rules : rules_of g.D.Decide.decide l.receiver ≡ rules_of g.D.Decide.decide l.fn.receiver;
+      mode : l.receiver.mode ≡ l.fn.receiver.mode;
+      lock : l.receiver.lock ≡ l.fn.receiver.lock;
+      limit : l.receiver.limit ≡ l.fn.receiver.limit;
+      live : IsLive l.receiver.state.phase;
+      reads : g.R.Counted.count l.reader ≡ g.R.Counted.count l.fn.reader;
+      writes : g.P.Counted.count l.packets ≡ g.P.Counted.count l.fn.packets;
+      prints : g.W.Counted.count l.report ≡ g.W.Counted.count l.fn.report;
+    }
 
 -- how many frames, and the end, may still be met at most
 abbrev pub decreases-steps : goal.decreases-steps

@@ -1,28 +1,29 @@
 use Rattle.std.proofs.Common.{◌+◌, ◌-◌, [], ◌∷◌, Some, length-take-le, ap, sym, subst, ◌∙◌, arith}
 use Rattle.s2_receive.specs.Meeting.{ended}
 use Rattle.s2_receive.specs.Finding.{Meets, met_with}
+use Rattle.s2_receive.specs.Windows.{finds_of}
 use Rattle.s2_receive.proofs.MetLemmas.{passed-symbols}
 use Rattle.s2_receive.proofs.FindSteps.{last_cut, last_end}
 use Rattle.s2_receive.proofs.finding.meet_last.Goals as goal
 
 pub returns-then-scan-clause-met : goal.returns-then-scan-clause-met
-returns-then-scan-clause-met g c = λ bytes end. last_cut (g.S.Search.finds c.args.search.now) c.args.held c.args.frame.now bytes c.look_through-scan.result c.requires.few end c.look_through-scan.ensures.scans c.if-scan.true
+returns-then-scan-clause-met c = λ bytes end. last_cut (finds_of c.args.search.now) c.args.held c.args.frame.now bytes c.look_through-scan.result c.requires.few end c.look_through-scan.ensures.scans c.if-scan.true
 
 pub returns-else-scan-clause-met : goal.returns-else-scan-clause-met
-returns-else-scan-clause-met g c = λ bytes end.
-    let finds = g.S.Search.finds c.args.search.now in
+returns-else-scan-clause-met c = λ bytes end.
+    let finds = finds_of c.args.search.now in
     subst (λ over. Meets (met_with finds c.args.held c.args.frame.now bytes) (Some []) (ended over ∷ [])) (sym c.passed.ensures)
     (last_end finds c.args.held c.args.frame.now bytes c.look_through-scan.result c.requires.few end c.look_through-scan.ensures.scans c.if-scan.false)
 
 pub returns-then-scan-clause-behind : goal.returns-then-scan-clause-behind
-returns-then-scan-clause-behind g c =
+returns-then-scan-clause-behind c =
     let scans = c.look_through-scan.ensures.scans in
     let header = scans.header c.if-scan.true in
     let long = length-take-le c.args.held.count c.args.frame.now (omega (arith, c.requires.few)) in
     (omega (arith, scans.within.0), omega (arith, header.0, long))
 
 pub returns-else-scan-clause-behind : goal.returns-else-scan-clause-behind
-returns-else-scan-clause-behind g c =
+returns-else-scan-clause-behind c =
     let scan = c.look_through-scan.result in
     let scans = c.look_through-scan.ensures.scans in
     let long = length-take-le c.args.held.count c.args.frame.now (omega (arith, c.requires.few)) in

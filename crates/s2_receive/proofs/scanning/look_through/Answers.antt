@@ -3,13 +3,15 @@ use Rattle.std.specs.Prelude.{◌||◌, nat_lt, max}
 use Rattle.s2_mode.specs.Symbols.{symbol_at}
 use Rattle.s2_plframe.specs.declared.receive.found.Found.TheVariants as founds
 use Rattle.s2_receive.specs.Finding.{Scans}
+use Rattle.s2_receive.specs.Windows.{Saw, finds_of}
+use Rattle.s2_receive.proofs.HeaderWindows.{same_finds, same_on}
 use Rattle.s2_receive.proofs.Headers.{Looked, begun, seen_none, seen_more, found_now, many_seen, nothing_more, coded_there, dummy_there, none_left}
 use Rattle.s2_receive.proofs.MetLemmas.{behind_or}
 use Rattle.s2_receive.proofs.scanning.look_through.Goals.{then-behind, else-behind}
 use Rattle.s2_receive.proofs.scanning.look_through.Goals as goal
 
 pub look-init : goal.look-init
-look-init g c =
+look-init c =
     let symbols = c.args.symbols.now in
     let inside : ℕ = c.args.inside in
     let some : Bool = nat_lt 0 inside in
@@ -17,63 +19,64 @@ look-init g c =
       | then-behind w ↦ w.behind-is ∙ w.if-behind.true ∙ sym (ap (λ b. b || some) w.if-behind.true)
       | else-behind w ↦ w.behind-is ∙ sym (ap (λ b. b || some) w.if-behind.false)
     ] in (
-      subst (g.S.Search.saw c.restart.new.self) (seen_none symbols inside) c.restart.ensures.saw,
-      begun (g.S.Search.finds c.args.search.now) symbols c.args.from inside c.args.behind c.args.over c.if-behind.behind (first ∙ sym (behind_or inside c.args.behind)),
+      subst (Saw c.restart.new.self) (seen_none symbols inside) c.restart.ensures.saw,
+      begun (finds_of c.args.search.now) symbols c.args.from inside c.args.behind c.args.over c.if-behind.behind (first ∙ sym (behind_or inside c.args.behind)),
       c.restart.ensures.same,
     )
 
 pub look-preserved-in-Nothing : goal.look-preserved-in-Nothing
-look-preserved-in-Nothing g c =
+look-preserved-in-Nothing c =
     let symbols = c.args.symbols.now in
-    let finds = g.S.Search.finds c.args.search.now in
+    let finds = finds_of c.args.search.now in
     let start : ℕ = c.look.start in
     let at : ℕ = c.look.at in
     let first : Bool = c.is_first-first.result in
     let looked = c.look.invariant.1 in
     let now = seen_more symbols start at looked.order c.look-test.true in
     let fed = c.found_with-found.ensures.header (drop start (take at symbols)) c.look.invariant.0 (many_seen symbols start at c.look.behind first c.is_first-first.ensures looked.order c.look-test.true) in
-    let none = found_now (finds first) symbols (g.S.Search.finds c.look.search first) start at (drop start (take at symbols) ++ symbol_at symbols at ∷ []) founds.Nothing c.found_with-found.result (ap (λ f. f first) c.look.invariant.2) now fed.1 c.in-Nothing.is in (
-      subst (g.S.Search.saw c.found_with-found.new.search) now fed.0,
+    let none = found_now (finds first) symbols (finds_of c.look.search first) start at (drop start (take at symbols) ++ symbol_at symbols at ∷ []) founds.Nothing c.found_with-found.result (ap (λ f. f first) (same_finds c.args.search.now c.look.search c.look.invariant.2)) now fed.1 c.in-Nothing.is in (
+      subst (Saw c.found_with-found.new.search) now fed.0,
       nothing_more finds symbols c.args.from c.args.inside c.args.behind c.args.over start at c.look.behind c.look.over looked first c.is_first-first.ensures c.look-test.true none,
-      c.found_with-found.ensures.same ∙ c.look.invariant.2,
+      same_on c.args.search.now c.look.search c.found_with-found.new.search c.look.invariant.2 c.found_with-found.ensures.same,
     )
 
 pub returns-in-Coded-clause-scans : goal.returns-in-Coded-clause-scans
-returns-in-Coded-clause-scans g c =
+returns-in-Coded-clause-scans c =
     let symbols = c.args.symbols.now in
-    let finds = g.S.Search.finds c.args.search.now in
+    let finds = finds_of c.args.search.now in
     let start : ℕ = c.look.start in
     let at : ℕ = c.look.at in
     let first : Bool = c.is_first-first.result in
     let looked = c.look.invariant.1 in
     let now = seen_more symbols start at looked.order c.look-test.true in
     let fed = c.found_with-found.ensures.header (drop start (take at symbols)) c.look.invariant.0 (many_seen symbols start at c.look.behind first c.is_first-first.ensures looked.order c.look-test.true) in
-    let coded = found_now (finds first) symbols (g.S.Search.finds c.look.search first) start at (drop start (take at symbols) ++ symbol_at symbols at ∷ []) founds.Coded c.found_with-found.result (ap (λ f. f first) c.look.invariant.2) now fed.1 c.in-Coded.is in
+    let coded = found_now (finds first) symbols (finds_of c.look.search first) start at (drop start (take at symbols) ++ symbol_at symbols at ∷ []) founds.Coded c.found_with-found.result (ap (λ f. f first) (same_finds c.args.search.now c.look.search c.look.invariant.2)) now fed.1 c.in-Coded.is in
     let scans = (coded_there finds symbols c.args.from c.args.inside c.args.behind c.args.over start at c.look.behind c.look.over looked first c.is_first-first.ensures c.look-test.true coded).1 in
     subst (λ over. Scans finds symbols c.args.from c.args.inside c.args.behind c.args.over (record { place = at + 1 - 90; over = over; behind = first; coded = true })) (sym c.passed.ensures) scans
 
 pub look-preserved : goal.look-preserved
-look-preserved g c =
+look-preserved c =
     let symbols = c.args.symbols.now in
-    let finds = g.S.Search.finds c.args.search.now in
+    let finds = finds_of c.args.search.now in
     let start : ℕ = c.look.start in
     let at : ℕ = c.look.at in
     let first : Bool = c.is_first-first.result in
     let looked = c.look.invariant.1 in
     let now = seen_more symbols start at looked.order c.look-test.true in
     let fed = c.found_with-found.ensures.header (drop start (take at symbols)) c.look.invariant.0 (many_seen symbols start at c.look.behind first c.is_first-first.ensures looked.order c.look-test.true) in
-    let dummy = found_now (finds first) symbols (g.S.Search.finds c.look.search first) start at (drop start (take at symbols) ++ symbol_at symbols at ∷ []) founds.Dummy c.found_with-found.result (ap (λ f. f first) c.look.invariant.2) now fed.1 c.in-Dummy.is in
+    let dummy = found_now (finds first) symbols (finds_of c.look.search first) start at (drop start (take at symbols) ++ symbol_at symbols at ∷ []) founds.Dummy c.found_with-found.result (ap (λ f. f first) (same_finds c.args.search.now c.look.search c.look.invariant.2)) now fed.1 c.in-Dummy.is in
     let there = (dummy_there finds symbols c.args.from c.args.inside c.args.behind c.args.over start at c.look.behind c.look.over looked first c.is_first-first.ensures c.look-test.true dummy).1 in
     let next : ℕ = at + 1 - 90 + 3330 in (
-      subst (g.S.Search.saw c.restart-in-Dummy.new.self) (seen_none symbols next) c.restart-in-Dummy.ensures.saw,
+      subst (Saw c.restart-in-Dummy.new.self) (seen_none symbols next) c.restart-in-Dummy.ensures.saw,
       subst (Looked finds symbols c.args.from c.args.inside c.args.behind c.args.over next next true) (sym c.passed-over.ensures) there,
-      c.restart-in-Dummy.ensures.same ∙ c.found_with-found.ensures.same ∙ c.look.invariant.2,
+      same_on c.args.search.now c.look.search c.restart-in-Dummy.new.self c.look.invariant.2
+          (same_on c.look.search c.found_with-found.new.search c.restart-in-Dummy.new.self c.found_with-found.ensures.same c.restart-in-Dummy.ensures.same),
     )
 
 pub returns-clause-scans : goal.returns-clause-scans
-returns-clause-scans g c =
+returns-clause-scans c =
     let symbols = c.args.symbols.now in
-    let finds = g.S.Search.finds c.args.search.now in
+    let finds = finds_of c.args.search.now in
     let start : ℕ = c.look.start in
     let at : ℕ = c.look.at in
     let place : ℕ = c.max-place.result in
@@ -81,3 +84,29 @@ returns-clause-scans g c =
     let is : place ≡ max start (length symbols - 89) = c.max-place.ensures ∙ ap (max start) c.saturating_sub.ensures in
     let scans = none_left finds symbols c.args.from c.args.inside c.args.behind c.args.over start at c.look.behind c.look.over c.look.invariant.1 place there c.is_first.ensures c.look-test.false is in
     subst (λ over. Scans finds symbols c.args.from c.args.inside c.args.behind c.args.over (record { place = place; over = over; behind = there; coded = false })) (sym c.passed-2.ensures) scans
+
+pub overflow_sub-place : goal.overflow_sub-place
+overflow_sub-place c =
+    let symbols = c.args.symbols.now in
+    let finds = finds_of c.args.search.now in
+    let start : ℕ = c.look.start in
+    let at : ℕ = c.look.at in
+    let first : Bool = c.is_first-first.result in
+    let looked = c.look.invariant.1 in
+    let now = seen_more symbols start at looked.order c.look-test.true in
+    let fed = c.found_with-found.ensures.header (drop start (take at symbols)) c.look.invariant.0 (many_seen symbols start at c.look.behind first c.is_first-first.ensures looked.order c.look-test.true) in
+    let found = found_now (finds first) symbols (finds_of c.look.search first) start at (drop start (take at symbols) ++ symbol_at symbols at ∷ []) founds.Coded c.found_with-found.result (ap (λ f. f first) (same_finds c.args.search.now c.look.search c.look.invariant.2)) now fed.1 c.in-Coded.is in
+    (coded_there finds symbols c.args.from c.args.inside c.args.behind c.args.over start at c.look.behind c.look.over looked first c.is_first-first.ensures c.look-test.true found).0
+
+pub overflow_sub-place-in-Dummy : goal.overflow_sub-place-in-Dummy
+overflow_sub-place-in-Dummy c =
+    let symbols = c.args.symbols.now in
+    let finds = finds_of c.args.search.now in
+    let start : ℕ = c.look.start in
+    let at : ℕ = c.look.at in
+    let first : Bool = c.is_first-first.result in
+    let looked = c.look.invariant.1 in
+    let now = seen_more symbols start at looked.order c.look-test.true in
+    let fed = c.found_with-found.ensures.header (drop start (take at symbols)) c.look.invariant.0 (many_seen symbols start at c.look.behind first c.is_first-first.ensures looked.order c.look-test.true) in
+    let found = found_now (finds first) symbols (finds_of c.look.search first) start at (drop start (take at symbols) ++ symbol_at symbols at ∷ []) founds.Dummy c.found_with-found.result (ap (λ f. f first) (same_finds c.args.search.now c.look.search c.look.invariant.2)) now fed.1 c.in-Dummy.is in
+    (dummy_there finds symbols c.args.from c.args.inside c.args.behind c.args.over start at c.look.behind c.look.over looked first c.is_first-first.ensures c.look-test.true found).0

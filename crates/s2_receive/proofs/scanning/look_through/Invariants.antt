@@ -1,13 +1,14 @@
-use Rattle.std.proofs.Common.{◌≡◌, ◌-◌, length, take, drop}
+use Rattle.std.proofs.Common.{◌-◌, length, take, drop}
+use Rattle.s2_receive.specs.Windows.{FindsSame, Saw, finds_of}
 use Rattle.s2_receive.proofs.Headers.{Looked}
 use Rattle.s2_receive.proofs.scanning.look_through.Given as goal
 
 -- no coded frame begins in the symbols so far, and those behind the last dummy frame were seen
 abbrev pub invariant-look : goal.invariant-look
-invariant-look g l =
-    g.S.Search.saw l.search (drop l.start (take l.at l.symbols))
-    × Looked (g.S.Search.finds l.fn.search) l.symbols l.from l.inside l.fn.behind l.fn.over l.start l.at l.behind l.over
-    × (g.S.Search.finds l.search ≡ g.S.Search.finds l.fn.search)
+invariant-look l =
+    Saw l.search (drop l.start (take l.at l.symbols))
+    × Looked (finds_of l.fn.search) l.symbols l.from l.inside l.fn.behind l.fn.over l.start l.at l.behind l.over
+    × FindsSame l.fn.search l.search
 
 abbrev pub decreases-look : goal.decreases-look
-decreases-look g l = length l.symbols - l.at
+decreases-look l = length l.symbols - l.at

@@ -1,0 +1,6 @@
+use Rattle.std.proofs.Common.{◌*◌}
+use Rattle.s2_minsum.specs.Exchange.{AreExchanged}
+use Rattle.s2_minsum.proofs.exchange.exchange_blocks.Given as goal
+
+abbrev pub invariant-loop-block : goal.invariant-loop-block
+invariant-loop-block l = AreExchanged l.factor l.n l.count 0 (8 * l.block) l.initial.inputs l.initial.messages l.inputs l.messages
