@@ -9,7 +9,12 @@ use Rattle.s2_modem.specs.Reception.{link_rules}
 use Rattle.s2_receive.specs.declared.report.Received.{Received}
 use Rattle.s2_console.specs.declared.fault.Fault.{Fault}
 use Rattle.s2_console.specs.declared.fault.Fault.TheVariants as faults
-use Rattle.s2_tool.specs.Links.{Ends, Deed, OnLink}
+use Rattle.s2_console.specs.declared.exit.Exit.{Exit}
+use Rattle.s2_console.specs.declared.place.Place.{Place}
+use Rattle.s2_console.specs.Screens.{Screen}
+use Rattle.s2_words.specs.declared.request.DemodWords.{DemodWords}
+use Rattle.s2_tool.specs.Links.{Ends, Deed, OnLink, streams_at}
+use Rattle.s2_tool.specs.Losses.{Finishes}
 
 -- All was received to the end: the packets of each frame and its line are written, then the end line. Or a read failed: what was
 -- met before is written, and nothing else. Or a write failed: of the next thing a part is written.
@@ -27,3 +32,9 @@ Hears tuning link old new ended = Receives (link_rules link tuning most_symbols)
 -- `demod` on a setup, a tuning and these files
 abbrev pub Demodulates : Setup → Tuning → Ends → Ends → Streams → Streams → Result Received Fault → Type 0
 Demodulates setup tuning files left old new ended = OnLink (Hears tuning) setup files left old new ended
+
+-- `demod` has ended: so it received, with its report at this place, and so it tells that
+abbrev pub DemodEnds : Setup → DemodWords → Place → Ends → Ends → Screen → Screen → Exit → Type 0
+DemodEnds setup words place files left old new exit =
+    (heard : Result Received Fault) × (shown : Screen) × Demodulates setup words.tuning files left (streams_at place files old) (streams_at place left shown) heard
+    × Finishes words.notes setup.mode heard place exit old shown new

@@ -1,14 +1,11 @@
 //! `mod`: packets sent.
-ghost use Rattle.std.specs.Prelude.{◌≡◌, ◌≢◌, ◌⊎◌, Result};
+ghost use Rattle.std.specs.Prelude.{◌≡◌, ◌≢◌, ◌⊎◌};
 ghost use Rattle.s2_mode.specs.Counts.{CanCount};
 ghost use Rattle.s2_mode.specs.Streams.{streams_by};
 ghost use Rattle.s2_link.specs.Link.{setup_of};
-ghost use Rattle.s2_console.specs.Exits.{exit_of};
-ghost use Rattle.s2_console.specs.Notes.{Concludes};
-ghost use Rattle.s2_console.specs.Screens.{Screen, CanTell, SameBeside};
+ghost use Rattle.s2_console.specs.Screens.{CanTell, SameBeside};
 ghost use Rattle.s2_tool.specs.Links.{CanFail, Causes, Tries, Undone, streams_at, streams_to};
-ghost use Rattle.s2_table.specs.Wanted.{notes_on};
-ghost use Rattle.s2_tool.specs.Sending.{sent_line, refusal_fault, SendsBy, Sends, Modulates};
+ghost use Rattle.s2_tool.specs.Sending.{sent_line, refusal_fault, SendsBy, Sends, Modulates, ModEnds};
 
 use crate::link_files::LinkFiles;
 use s2_console::{Console, Exit, Fault, Line, Place, print};
@@ -187,9 +184,7 @@ pub fn mod_command<
     requires notes { CanCount (N.count notes.old) }
     ensures quiet { result ≢ Exit.Fault → console.new.errors_failed ≡ console.old.errors_failed }
     ensures whole { result ≢ Exit.Fault → console.new.output_failed ≡ console.old.output_failed }
-    ensures run { let ends = streams_at place in (ended : Result Exit Fault) × (shown : Screen) × (result ≡ exit_of ended)
-        × Modulates (setup_of setup) words.now.dummy files.old files.new (ends files.old console.old) (ends files.new shown) ended
-        × Concludes place (notes_on words.now.quiet setup.mode ended) ended console.old shown console.new }
+    ensures run { ModEnds (setup_of setup) words.now place files.old files.new console.old console.new result }
 {
     let ended = send_at(alloc, setup, words, files, place, console, notes);
     conclude_noted(words.quiet, &setup.mode, ended, console)

@@ -1,15 +1,13 @@
 //! `run`: packets sent, spoilt and received, with the symbols in memory.
-ghost use Rattle.std.specs.Prelude.{◌≡◌, ◌≢◌, ◌⊎◌, Result, Some};
+ghost use Rattle.std.specs.Prelude.{◌≡◌, ◌≢◌, ◌⊎◌, Some};
 ghost use Rattle.s2_mode.specs.Counts.{CanCount};
 ghost use Rattle.s2_mode.specs.Streams.{streams_by};
 ghost use Rattle.s2_link.specs.Link.{setup_of};
 ghost use Rattle.s2_receive.specs.Receiving.{begun};
 ghost use Rattle.s2_modem.specs.Reception.{rules_for};
-ghost use Rattle.s2_console.specs.Screens.{Screen, CanTell, SameBeside};
+ghost use Rattle.s2_console.specs.Screens.{CanTell, SameBeside};
 ghost use Rattle.s2_tool.specs.Links.{CanFail, Causes, Tries, Undone, streams_at, streams_to};
-ghost use Rattle.s2_tool.specs.Losses.{Finishes};
-ghost use Rattle.s2_receive.specs.declared.report.Received.{Received as ReceivedValue};
-ghost use Rattle.s2_tool.specs.Looping.{kept_fault, Passes, LoopsBy, Loops, LoopsBack};
+ghost use Rattle.s2_tool.specs.Looping.{kept_fault, Passes, LoopsBy, Loops, LoopsBack, RunEnds};
 
 use crate::demod::receive_frames;
 use crate::link_files::LinkFiles;
@@ -236,9 +234,7 @@ pub fn run_command<
     requires notes { CanCount (N.count notes.old) }
     ensures quiet { result ≢ Exit.Fault → console.new.errors_failed ≡ console.old.errors_failed }
     ensures whole { result ≢ Exit.Fault → console.new.output_failed ≡ console.old.output_failed }
-    ensures run { let ends = streams_at place in (heard : Result ReceivedValue Fault) × (shown : Screen)
-        × LoopsBack (setup_of setup) words.now files.old files.new (ends files.old console.old) (ends files.new shown) heard
-        × Finishes words.now.notes setup.mode heard place result console.old shown console.new }
+    ensures run { RunEnds (setup_of setup) words.now place files.old files.new console.old console.new result }
 {
     let heard = loop_at(alloc, setup, words, files, place, console, notes);
     conclude_heard(words.notes, &setup.mode, heard, console)
