@@ -1,22 +1,12 @@
--- A made-up link of the tests: frames of 100 symbols, whose header ends in a symbol with a negative I; that of a dummy frame ends in
--- one with an I above 1. The first symbol's Q tells what a frame brings: below 0 nothing, below 2 the first part of a packet, else
--- the rest of it.
+-- What a made-up decider of the tests decides. The Q of the first symbol behind a frame's header tells what the frame brings: below 0
+-- nothing, below 2 the first part of a packet, else the rest of it.
 use Rattle.std.specs.Prelude.{ℕ, ℤ, pos, int_lt, if◌then◌else◌, List, [], Option, Some, None}
+use Rattle.s2_mode.specs.Limits.{header_symbols}
 use Rattle.s2_mode.specs.Symbols.{symbol_at}
 use Rattle.s2_mode.specs.declared.symbols.Symbol.{Symbol}
-use Rattle.s2_plframe.specs.declared.receive.found.Found.{Found}
-use Rattle.s2_plframe.specs.declared.receive.found.Found.TheVariants as founds
 use Rattle.s2_receive.specs.Receiving.{Decision}
 use Rattle.s2_check.specs.declared.verdict.Verdict.TheVariants.{MostLikely, Broken}
 use Rattle.s2_receive.specs.declared.report.Outcome.TheVariants.{Delivered, NoWord}
-
--- what ends in this symbol
-abbrev pub ends_at : Symbol → Found
-ends_at symbol = if int_lt symbol.i (pos 0) then founds.Coded else (if int_lt (pos 1) symbol.i then founds.Dummy else founds.Nothing)
-
--- by the last of 90 symbols
-abbrev pub last_tells : List Symbol → Found
-last_tells symbols = ends_at (symbol_at symbols 89)
 
 -- which place the header names, in a frame that brings a field
 abbrev pub place_for : ℤ → Option ℕ
@@ -27,3 +17,7 @@ abbrev pub decision_for : List ℕ → Option ℕ → Decision
 decision_for bytes (Some place) =
     record { soft = []; bits = []; verdict = MostLikely; certificate = None; message = []; outcome = Delivered 0; delivered = Some (record { roll_off = 0; second = 0; dfl = 800; syncd = place }, bytes) }
 decision_for bytes None = record { soft = []; bits = []; verdict = Broken; certificate = None; message = []; outcome = NoWord; delivered = None }
+
+-- what a frame's symbols tell
+abbrev pub told_by : List Symbol → ℤ
+told_by symbols = (symbol_at symbols header_symbols).q

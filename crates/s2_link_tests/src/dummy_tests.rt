@@ -2,7 +2,7 @@
 use super::hearing::{Heard, Steps, assert_reported, hear};
 use super::modem_tests::frame;
 use super::plframe_tests::header_of;
-use super::streams::{ALL, Sample, Source, send_with_dummies, two_frames, two_packets};
+use super::streams::{ALL, Sample, Source, put_symbol, send_with_dummies, two_frames, two_packets};
 use s2_mode::{ByOne, Endless, MOST_SYMBOLS, Symbol};
 use s2_receive::{Fault, Step};
 use std::alloc::{AllocError, Global};
@@ -23,18 +23,13 @@ const CODES: [u64; 4] = [
     0xDB37_2963_F9E8_8750,
 ];
 
-fn put(bytes: &mut Vec<u8>, symbol: Symbol) -> Result<(), AllocError> {
-    bytes.extend_from_slice(&symbol.i.to_be_bytes())?;
-    bytes.extend_from_slice(&symbol.q.to_be_bytes())
-}
-
 /// A dummy frame with a header of this TYPE.
 fn put_dummy(bytes: &mut Vec<u8>, code: u64) -> Result<(), AllocError> {
     for symbol in header_of(code) {
-        put(bytes, symbol)?;
+        put_symbol(bytes, symbol)?;
     }
     for _ in 0..3240u32 {
-        put(bytes, Symbol { i: 700, q: 700 })?;
+        put_symbol(bytes, Symbol { i: 700, q: 700 })?;
     }
     Ok(())
 }

@@ -7,7 +7,9 @@ use super::streams::{
     ALL, ROUNDS, Reader, Sample, Sides, Source, Writer, reader_of, taken, writer_of,
 };
 use s2_bits::Bits;
+use s2_check::{Answer, check};
 use s2_link::{Link, Tuning};
+use s2_matrix::Matrix;
 use s2_mode::{Counted, MOST_SYMBOLS, StreamFault};
 use s2_modem::{DemodFault, Receiver, SetupFault, demodulate};
 use s2_plframe::Lock;
@@ -205,6 +207,38 @@ fn step(
     receiver.next(reader, packets, report)
 }
 
+/// The first half of a step.
+fn meet(receiver: &mut Receiver<'_>, reader: &mut Reader<'_>) -> Result<Step, Fault> {
+    if reader.count() == u64::MAX {
+        return Err(Fault::Failed);
+    }
+    receiver.meet(reader)
+}
+
+/// The second half of a step.
+fn deliver(
+    receiver: &mut Receiver<'_>,
+    packets: &mut Writer,
+    report: &mut Writer,
+) -> Result<(), Fault> {
+    if packets.count() == u64::MAX || report.count() == u64::MAX {
+        return Err(Fault::Failed);
+    }
+    receiver.deliver(packets, report)
+}
+
+/// A step in its two halves.
+fn two_halves(
+    receiver: &mut Receiver<'_>,
+    reader: &mut Reader<'_>,
+    packets: &mut Writer,
+    report: &mut Writer,
+) -> Result<Step, Fault> {
+    let step = meet(receiver, reader)?;
+    deliver(receiver, packets, report)?;
+    Ok(step)
+}
+
 /// What five calls of a receiver answer.
 pub(crate) type Steps = [Result<Step, Fault>; 5];
 
@@ -217,6 +251,20 @@ fn five_steps(
     let mut steps = [Err(Fault::Failed); 5];
     for answer in steps.iter_mut() {
         *answer = step(receiver, reader, packets, report);
+    }
+    steps
+}
+
+/// The same of five steps in halves.
+fn five_in_halves(
+    receiver: &mut Receiver<'_>,
+    reader: &mut Reader<'_>,
+    packets: &mut Writer,
+    report: &mut Writer,
+) -> Steps {
+    let mut steps = [Err(Fault::Failed); 5];
+    for answer in steps.iter_mut() {
+        *answer = two_halves(receiver, reader, packets, report);
     }
     steps
 }
@@ -252,6 +300,37 @@ fn heard_by(
         steps,
         packets: taken(packets),
         report: taken(report),
+    }
+}
+
+/// The same of five steps in halves.
+fn heard_in_halves(
+    alloc: Global,
+    receiver: &mut Receiver<'_>,
+    source: Source<'_>,
+    passes: [u64; 3],
+) -> Heard {
+    let mut reader = reader_of(source, passes[0]);
+    let mut packets = writer_of(alloc, passes[1]);
+    let mut report = writer_of(alloc, passes[2]);
+    let steps = five_in_halves(receiver, &mut reader, &mut packets, &mut report);
+    Heard {
+        steps,
+        packets: taken(packets),
+        report: taken(report),
+    }
+}
+
+/// Takes five steps of a new receiver in halves, where so many reads, writes of packets and writes of lines pass.
+pub(crate) fn hear_in_halves(
+    alloc: Global,
+    link: &Sides,
+    source: Source<'_>,
+    passes: [u64; 3],
+) -> Result<Heard, SetupFault> {
+    match receiver_of(alloc, link, ROUNDS, 0) {
+        Ok(mut receiver) => Ok(heard_in_halves(alloc, &mut receiver, source, passes)),
+        Err(fault) => Err(fault),
     }
 }
 
@@ -331,6 +410,8 @@ pub(crate) struct Shown {
     /// The word's first 32 bits.
     pub(crate) word: [u8; 4],
     pub(crate) message: Vec<bool>,
+    /// What the checker answers of its certificate, where there is one.
+    pub(crate) answer: Option<Answer>,
 }
 
 impl Drop for Shown {
@@ -339,11 +420,20 @@ impl Drop for Shown {
             soft: _,
             word: _,
             message: _,
+            answer: _,
         } = self;
     }
 }
 
-fn shown_by(alloc: Global, receiver: &Receiver<'_>) -> Result<Shown, AllocError> {
+/// What the checker answers of the certificate that a receiver shows.
+fn answer_on(matrix: &Matrix, receiver: &Receiver<'_>) -> Option<Answer> {
+    match receiver.certificate() {
+        Some(view) => Some(check(matrix, &view)),
+        None => None,
+    }
+}
+
+fn shown_by(alloc: Global, link: &Sides, receiver: &Receiver<'_>) -> Result<Shown, AllocError> {
     let mut soft = Vec::new(alloc);
     soft.extend_from_slice(receiver.soft())?;
     let mut message = Vec::new(alloc);
@@ -352,6 +442,7 @@ fn shown_by(alloc: Global, receiver: &Receiver<'_>) -> Result<Shown, AllocError>
         soft,
         word: first_bytes(receiver.word()),
         message,
+        answer: answer_on(&link.matrix, receiver),
     })
 }
 
@@ -364,15 +455,28 @@ fn step_over(alloc: Global, receiver: &mut Receiver<'_>, symbols: &[u8]) -> Resu
 }
 
 /// The same after one more call.
-fn shown_after(alloc: Global, receiver: &mut Receiver<'_>, symbols: &[u8]) -> Result<Shown, Fail> {
+fn shown_after(
+    alloc: Global,
+    link: &Sides,
+    receiver: &mut Receiver<'_>,
+    symbols: &[u8],
+) -> Result<Shown, Fail> {
     let _step = step_over(alloc, receiver, symbols)?;
-    Ok(shown_by(alloc, receiver)?)
+    Ok(shown_by(alloc, link, receiver)?)
+}
+
+/// What a receiver shows before its first call.
+pub(crate) fn show_nothing(alloc: Global, link: &Sides) -> Result<Shown, Fail> {
+    match receiver_of(alloc, link, ROUNDS, 0) {
+        Ok(receiver) => Ok(shown_by(alloc, link, &receiver)?),
+        Err(fault) => Err(Fail::from(fault)),
+    }
 }
 
 /// What a receiver shows after its first call.
 pub(crate) fn show(alloc: Global, link: &Sides, symbols: &[u8]) -> Result<Shown, Fail> {
     match receiver_of(alloc, link, ROUNDS, 0) {
-        Ok(mut receiver) => shown_after(alloc, &mut receiver, symbols),
+        Ok(mut receiver) => shown_after(alloc, link, &mut receiver, symbols),
         Err(fault) => Err(Fail::from(fault)),
     }
 }
@@ -385,7 +489,67 @@ pub(crate) fn show_by(
     symbols: &[u8],
 ) -> Result<Shown, Fail> {
     match receiver_by(alloc, link, divisor) {
-        Ok(mut receiver) => shown_after(alloc, &mut receiver, symbols),
+        Ok(mut receiver) => shown_after(alloc, link, &mut receiver, symbols),
         Err(fault) => Err(fault),
+    }
+}
+
+/// Finds what comes first in symbols in memory.
+fn meet_over(receiver: &mut Receiver<'_>, symbols: &[u8]) -> Result<Step, Fault> {
+    let mut reader = reader_of(Source::Slice(symbols), ALL);
+    meet(receiver, &mut reader)
+}
+
+/// What was delivered.
+pub(crate) struct Delivered {
+    pub(crate) packets: Vec<u8>,
+    pub(crate) report: Vec<u8>,
+}
+
+impl Drop for Delivered {
+    fn drop(self) {
+        let Delivered {
+            packets: _,
+            report: _,
+        } = self;
+    }
+}
+
+/// Delivers what a receiver met.
+fn deliver_met(alloc: Global, receiver: &mut Receiver<'_>) -> Result<Delivered, Fault> {
+    let mut packets = writer_of(alloc, ALL);
+    let mut report = writer_of(alloc, ALL);
+    let answer = deliver(receiver, &mut packets, &mut report);
+    let delivered = Delivered {
+        packets: taken(packets),
+        report: taken(report),
+    };
+    match answer {
+        Ok(()) => Ok(delivered),
+        Err(fault) => Err(fault),
+    }
+}
+
+/// What a receiver shows between the halves of its first step, and what it then delivers.
+fn shown_between(
+    alloc: Global,
+    link: &Sides,
+    receiver: &mut Receiver<'_>,
+    symbols: &[u8],
+) -> Result<(Shown, Delivered), Fail> {
+    let _step = meet_over(receiver, symbols)?;
+    let shown = shown_by(alloc, link, receiver)?;
+    Ok((shown, deliver_met(alloc, receiver)?))
+}
+
+/// The same of a new receiver.
+pub(crate) fn show_between(
+    alloc: Global,
+    link: &Sides,
+    symbols: &[u8],
+) -> Result<(Shown, Delivered), Fail> {
+    match receiver_of(alloc, link, ROUNDS, 0) {
+        Ok(mut receiver) => shown_between(alloc, link, &mut receiver, symbols),
+        Err(fault) => Err(Fail::from(fault)),
     }
 }

@@ -2,7 +2,7 @@
 //! numbers of the standard.
 //!
 //! Each crate's tests stand in a module of its name. What several need stands in `streams` (small links, and what is
-//! sent on them) and in `hearing` (what is received of it).
+//! sent on them), in `hearing` (what is received of it) and in `toy` (a receiver of made-up frames).
 #![tactic(auto)]
 
 #[cfg(test)]
@@ -13,6 +13,8 @@ mod bbframe_tests;
 mod divisor_tests;
 #[cfg(test)]
 mod dummy_tests;
+#[cfg(test)]
+mod halves_tests;
 #[cfg(test)]
 mod hearing;
 #[cfg(test)]
@@ -35,3 +37,5 @@ mod send_tests;
 mod streams;
 #[cfg(test)]
 mod threshold_tests;
+#[cfg(test)]
+mod toy;

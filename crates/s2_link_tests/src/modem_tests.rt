@@ -1,6 +1,7 @@
 //! Whole streams through a receiver.
 use super::hearing::{
-    Shown, assert_reported, assert_sample, hear, received, received_whole, receiver_of, show,
+    Shown, assert_reported, assert_sample, hear, hear_in_halves, received, received_whole,
+    receiver_of, show, show_between, show_nothing,
 };
 use super::streams::{
     ALL, Sample, Sides, Source, bch_word_of, frame_of_word, link_of, one_frame, other_link,
@@ -8,7 +9,7 @@ use super::streams::{
 };
 use s2_bbframe::Header;
 use s2_bits::Bits;
-use s2_check::Verdict;
+use s2_check::{Answer, Verdict};
 use s2_mode::{ByOne, MOST_SYMBOLS};
 use s2_modem::{DemodFault, MOST_PASSES, SetupFault};
 use s2_receive::{Outcome, Report, Step, Totals};
@@ -126,9 +127,10 @@ fn assert_clean<A: Abort>(rt: &A, soft: &[i16]) {
     }
 }
 
-/// Asserts what is shown of the frame of a packet of zeros.
+/// Asserts what is shown of the frame of a packet of zeros, whose certificate the checker accepts.
 fn assert_shown<A: Abort>(rt: &A, shown: &Shown) {
     assert_clean(rt, &shown.soft);
+    assert_eq!(rt; shown.answer, Some(Answer::Yes));
     assert_eq!(rt; shown.word, [0xf3, 0xf6, 0x0d, 0xd4]);
     assert_eq!(rt; shown.message.len(), 16008);
     let begins = [true, true, true, true, false, false, true, true];
@@ -146,6 +148,67 @@ fn assert_sample_shown<A: Abort>(rt: &A, alloc: Global, sample: &Sample) -> Resu
 fn shows_the_last_frame(rt: HostRuntime) -> Result<(), Fail> {
     let sample = one_frame(rt.alloc())?;
     assert_sample_shown(&rt, rt.alloc(), &sample)
+}
+
+/// Asserts what a receiver shows of a sample between the halves of a step, and what it then delivers.
+fn assert_shown_between<A: Abort>(rt: &A, alloc: Global, sample: &Sample) -> Result<(), Fail> {
+    let (shown, delivered) = show_between(alloc, &sample.link, &sample.symbols)?;
+    assert_shown(rt, &shown);
+    let line = "frame 1 at 0 sole fixed 0\n";
+    assert_eq!(rt; delivered.report.as_slice(), line.as_bytes());
+    assert_eq!(rt; delivered.packets.as_slice(), packet_of_zeros().as_slice());
+    Ok(())
+}
+
+#[test]
+fn shows_a_frame_before_it_is_delivered(rt: HostRuntime) -> Result<(), Fail> {
+    let sample = one_frame(rt.alloc())?;
+    assert_shown_between(&rt, rt.alloc(), &sample)
+}
+
+/// Asserts that a new receiver shows zeros, and no certificate.
+fn assert_nothing_shown<A: Abort>(rt: &A, alloc: Global, link: &Sides) -> Result<(), Fail> {
+    let shown = show_nothing(alloc, link)?;
+    assert_eq!(rt; shown.soft.len(), 16200);
+    for value in &shown.soft {
+        assert_eq!(rt; *value, 0);
+    }
+    assert_eq!(rt; shown.word, [0; 4]);
+    assert_eq!(rt; shown.answer, None);
+    assert!(rt; shown.message.len() == 3072 && !shown.message.contains(&true));
+    Ok(())
+}
+
+#[test]
+fn shows_nothing_before_the_first_frame(rt: HostRuntime) -> Result<(), Fail> {
+    let link = link_of(rt.alloc(), 1, true)?;
+    assert_nothing_shown(&rt, rt.alloc(), &link)
+}
+
+/// Asserts that five steps in halves answer and write what whole ones do.
+fn assert_halves<A: Abort>(
+    rt: &A,
+    alloc: Global,
+    sample: &Sample,
+    passes: [u64; 3],
+) -> Result<(), Fail> {
+    let source = Source::Slice(&sample.symbols);
+    let whole = hear(alloc, &sample.link, MOST_SYMBOLS, source, passes)?;
+    let halves = hear_in_halves(alloc, &sample.link, source, passes)?;
+    assert_eq!(rt; halves.steps, whole.steps);
+    assert_eq!(rt; halves.packets.as_slice(), whole.packets.as_slice());
+    assert_eq!(rt; halves.report.as_slice(), whole.report.as_slice());
+    Ok(())
+}
+
+/// Also where a read, a write of packets or a write of a line fails.
+#[test]
+fn halves_are_whole_steps(rt: HostRuntime) -> Result<(), Fail> {
+    let sample = two_frames(rt.alloc())?;
+    for passes in [[ALL, ALL, ALL], [1, ALL, ALL], [ALL, 1, ALL], [ALL, ALL, 1]] {
+        assert_halves(&rt, rt.alloc(), &sample, passes)?;
+    }
+    Ok(())
 }
 
 /// Asserts what a run with so many passes tells of a packet's frame, and of the same without its last byte.

@@ -1,217 +1,17 @@
-//! A receiver on a made-up link: frames of 100 symbols, whose fields of 100 bytes are zeros.
-ghost use Rattle.std.specs.Prelude.{◌≡◌, ◌≤◌, ◌-◌, ◌∷◌, [], min, length, drop, IfOk};
-ghost use Rattle.s2_mode.specs.Symbols.{symbol_at};
-ghost use Rattle.s2_receive.specs.Receiving.{begun};
-ghost use Rattle.s2_link_tests.specs.Toy.{ends_at, last_tells, place_for, decision_for};
-
-use s2_bbframe::Header;
-use s2_check::Verdict;
-use s2_mode::{
-    ByOne, CountedWrite, Counting, FailAt, InMemory, MOST_SYMBOLS, StreamFault, Symbol, WriteFault,
-    write_full,
+//! A receiver's way through a stream, on made-up frames.
+use super::hearing::Steps;
+use super::streams::{ALL, Source, packet_of_zeros};
+use super::toy::{
+    DUMMY, FRAME, InBytes, Taken, Whole, frame, lost, put_dummy, put_frame, put_header,
+    put_symbols, receive, receive_in_bytes, receive_within, take, take_within, totals, toy,
 };
-use s2_plframe::Found;
-use s2_receive::{
-    Decide, Decided, Fault, Lines, Outcome, Received, Receiver, Report, Search, Step, Totals, laws,
-    receive_all, receive_bytes,
-};
+use s2_mode::{ByOne, MOST_SYMBOLS, StreamFault, WriteFault};
+use s2_receive::{Fault, Received, Step, Totals, laws};
 use std::alloc::{AllocError, Global};
+use std::process::Abort;
 use std::test::Fail;
 
-/// A header ends in a symbol with a negative I, that of a dummy frame in one with an I above 1.
-#[derive(Drop)]
-struct LastSearch {
-    count: u64,
-    last: Found,
-}
-
-/// What ends in a symbol.
-fn ends_at(symbol: Symbol) -> Found
-    ensures { result ≡ ends_at symbol }
-{
-    if symbol.i < 0 {
-        Found::Coded
-    } else if symbol.i > 1 {
-        Found::Dummy
-    } else {
-        Found::Nothing
-    }
-}
-
-impl Search for LastSearch {
-    ghost finds = { λ _ _. last_tells };
-
-    ghost saw = { λ s seen. (s.count ≡ min (length seen) 90) × (90 ≤ length seen → s.last ≡ last_tells (drop (length seen - 90) seen)) };
-
-    fn feed(&mut self, symbol: Symbol) -> Found {
-        if self.count < 90 {
-            self.count += 1;
-        }
-        self.last = ends_at(symbol);
-        if self.count < 90 {
-            return Found::Nothing;
-        }
-        self.last
-    }
-
-    fn behind(&self) -> Found {
-        self.last
-    }
-
-    fn restart(&mut self) {
-        self.count = 0;
-    }
-}
-
-/// Decides by the first symbol's Q: nothing below 0, else a field that goes to the place named.
-#[derive(Drop)]
-struct HalfPackets {
-    field: [u8; 100],
-    place: Option<u16>,
-}
-
-impl Decide for HalfPackets {
-    ghost size = { λ _. 100 };
-
-    ghost decide = { λ d symbols. decision_for d.field (place_for (symbol_at symbols 0).q) };
-
-    ghost field = { λ d. d.field };
-
-    ghost last = { λ d. decision_for d.field d.place };
-
-    fn decide(&mut self, symbols: &[Symbol]) -> Decided {
-        let first = symbols[0].q;
-        if first < 0 {
-            self.place = None;
-            return Decided {
-                verdict: Verdict::Broken,
-                outcome: Outcome::NoWord,
-                header: None,
-            };
-        }
-        let syncd = if first < 2 { 0 } else { 704 };
-        self.place = Some(syncd);
-        Decided {
-            verdict: Verdict::MostLikely,
-            outcome: Outcome::Delivered { fixed: 0 },
-            header: Some(Header {
-                roll_off: 0,
-                second: 0,
-                dfl: 800,
-                syncd,
-            }),
-        }
-    }
-
-    fn field(&self) -> &[u8] {
-        &self.field
-    }
-}
-
-/// One letter a line.
-#[derive(Drop)]
-struct Letters {}
-
-impl Lines for Letters {
-    ghost frame_line = { λ _ _. 70 ∷ [] };
-
-    ghost cut_line = { λ _ _ _. 67 ∷ [] };
-
-    ghost end_line = { λ _ _. 69 ∷ [] };
-
-    fn write_frame<W: CountedWrite>(&self, _report: Report, out: &mut W) -> Result<(), WriteFault> {
-        write_full(out, b"F")
-    }
-
-    fn write_cut<W: CountedWrite>(
-        &self,
-        _at: u64,
-        _symbols: u64,
-        out: &mut W,
-    ) -> Result<(), WriteFault> {
-        write_full(out, b"C")
-    }
-
-    fn write_end<W: CountedWrite>(&self, _totals: Totals, out: &mut W) -> Result<(), WriteFault> {
-        write_full(out, b"E")
-    }
-}
-
-type Toy = Receiver<LastSearch, HalfPackets, Letters>;
-
-fn toy(alloc: Global, limit: u64) -> Result<Toy, AllocError>
-    requires { limit ≤ MOST_SYMBOLS }
-    ensures limit { IfOk result (λ r. r.limit ≡ limit) }
-    ensures begun { IfOk result (λ r. r.state ≡ begun) }
-{
-    let decider = HalfPackets {
-        field: [0; 100],
-        place: None,
-    };
-    Receiver::new(
-        alloc,
-        LastSearch {
-            count: 0,
-            last: Found::Nothing,
-        },
-        decider,
-        Letters {},
-        100,
-        limit,
-    )
-}
-
-fn put_symbol(bytes: &mut Vec<u8>, i: i16, q: i16) -> Result<(), AllocError> {
-    bytes.extend_from_slice(&i.to_be_bytes())?;
-    bytes.extend_from_slice(&q.to_be_bytes())
-}
-
-fn put_symbols(bytes: &mut Vec<u8>, count: u32) -> Result<(), AllocError> {
-    for _ in 0..count {
-        put_symbol(bytes, 1, 1)?;
-    }
-    Ok(())
-}
-
-/// A frame whose first symbol has this Q.
-fn put_frame(bytes: &mut Vec<u8>, first: i16) -> Result<(), AllocError> {
-    put_symbol(bytes, 1, first)?;
-    put_symbols(bytes, 88)?;
-    put_symbol(bytes, -1, 1)?;
-    put_symbols(bytes, 10)
-}
-
-/// A dummy frame, or the first symbols of one.
-fn put_dummy(bytes: &mut Vec<u8>, symbols: u32) -> Result<(), AllocError> {
-    put_symbols(bytes, 89)?;
-    put_symbol(bytes, 2, 1)?;
-    put_symbols(bytes, symbols.saturating_sub(90))
-}
-
-fn frame(number: u64, at: u64) -> Step {
-    Step::Frame(Report {
-        number,
-        at,
-        verdict: Verdict::MostLikely,
-        outcome: Outcome::Delivered { fixed: 0 },
-    })
-}
-
-fn totals(frames: u64, delivered: u64, packets: u64) -> Totals {
-    Totals {
-        frames,
-        delivered,
-        packets,
-        bad: 0,
-        torn: 0,
-        cut: false,
-        passed: 0,
-        places: 0,
-        first: 0,
-    }
-}
-
-/// The same with so many symbols passed over in one place, which begins there, and so many packets torn.
+/// Totals with so many symbols passed over in one place, which begins there, and so many packets torn.
 fn losing(totals: Totals, passed: u64, first: u64, torn: u64) -> Totals {
     Totals {
         passed,
@@ -222,287 +22,457 @@ fn losing(totals: Totals, passed: u64, first: u64, torn: u64) -> Totals {
     }
 }
 
-#[test]
-fn takes_frames_and_the_end_byte_by_byte(rt: HostRuntime) -> Result<(), Fail> {
-    let mut bytes = Vec::new(rt.alloc());
+/// Asserts what five calls answered, and the report.
+fn assert_steps<A: Abort>(rt: &A, taken: &Taken, steps: Steps, report: &str) {
+    assert_eq!(rt; taken.steps, steps);
+    assert_eq!(rt; taken.report.as_slice(), report.as_bytes());
+}
+
+/// Asserts which packets were written, and the totals.
+fn assert_came<A: Abort>(rt: &A, taken: &Taken, packets: &[u8], totals: Totals) {
+    assert_eq!(rt; taken.packets.as_slice(), packets);
+    assert_eq!(rt; taken.totals, totals);
+}
+
+/// What five calls answer where these come, and then the end.
+fn steps_of(met: &[Step]) -> Steps {
+    let mut steps = [Ok(Step::End); 5];
+    for (step, met) in steps.iter_mut().zip(met.iter()) {
+        *step = Ok(*met);
+    }
+    steps
+}
+
+/// Two frames, a third one behind ten symbols, and 40 symbols and a byte.
+fn three_frames(alloc: Global) -> Result<Vec<u8>, AllocError> {
+    let mut bytes = Vec::new(alloc);
     put_frame(&mut bytes, 1)?;
     put_frame(&mut bytes, 1)?;
     put_symbols(&mut bytes, 10)?;
     put_frame(&mut bytes, 1)?;
     put_symbols(&mut bytes, 40)?;
     bytes.push(1)?;
-    let mut receiver = toy(rt.alloc(), MOST_SYMBOLS)?;
-    let mut reader = Counting::new(ByOne::new(&bytes));
-    let mut packets = Counting::new(Vec::new(rt.alloc()));
-    let mut report = Counting::new(Vec::new(rt.alloc()));
-    let step = receiver.next(&mut reader, &mut packets, &mut report)?;
-    assert_eq!(rt; step, frame(1, 0));
-    let step = receiver.next(&mut reader, &mut packets, &mut report)?;
-    assert_eq!(rt; step, frame(2, 100));
-    let step = receiver.next(&mut reader, &mut packets, &mut report)?;
-    assert_eq!(rt; step, frame(3, 210));
-    let step = receiver.next(&mut reader, &mut packets, &mut report)?;
-    assert_eq!(rt; step, Step::End);
-    let step = receiver.next(&mut reader, &mut packets, &mut report)?;
-    assert_eq!(rt; step, Step::End);
-    assert_eq!(rt; report.into_inner().as_slice(), b"FFFE".as_slice());
-    assert_eq!(rt; receiver.totals(), losing(totals(3, 3, 0), 10, 200, 2));
+    Ok(bytes)
+}
+
+/// What five calls answer on these.
+fn three_steps() -> Steps {
+    steps_of(&[frame(1, 0), frame(2, FRAME), frame(3, 2 * FRAME + 10)])
+}
+
+/// Their report.
+const THREE: &str =
+    "frame 1 at 0 most-likely fixed 0\nframe 2 at 5490 most-likely fixed 0\nframe 3 at 10990 most-likely fixed 0\nend frames 3 delivered 3 packets 0 bad 0\n";
+
+/// Asserts what comes of three frames.
+fn assert_three<A: Abort>(rt: &A, alloc: Global, source: Source<'_>) -> Result<(), Fail> {
+    let taken = take(alloc, source)?;
+    assert_steps(rt, &taken, three_steps(), THREE);
+    assert_came(rt, &taken, &[], losing(totals(3, 3, 0), 10, 2 * FRAME, 2));
     Ok(())
 }
 
-/// What comes of frames whose first symbols have these Qs, with so many symbols before the last one.
-fn received(rt: &HostRuntime, firsts: &[i16], passed: u32, last: i16) -> Result<Received, Fail> {
-    let mut bytes = Vec::new(rt.alloc());
+#[test]
+fn takes_frames_and_the_end_byte_by_byte(rt: HostRuntime) -> Result<(), Fail> {
+    let bytes = three_frames(rt.alloc())?;
+    assert_three(&rt, rt.alloc(), Source::Bytes(ByOne::new(&bytes)))?;
+    assert_three(&rt, rt.alloc(), Source::Slice(&bytes))
+}
+
+/// Frames that bring these, with so many symbols before the last one.
+fn frames_of(alloc: Global, firsts: &[i16], passed: u32, last: i16) -> Result<Vec<u8>, AllocError> {
+    let mut bytes = Vec::new(alloc);
     for first in firsts {
         put_frame(&mut bytes, *first)?;
     }
     put_symbols(&mut bytes, passed)?;
     put_frame(&mut bytes, last)?;
-    let mut receiver = toy(rt.alloc(), MOST_SYMBOLS)?;
-    let mut reader = InMemory::new(&bytes);
-    let mut packets = Counting::new(Vec::new(rt.alloc()));
-    let mut report = Counting::new(Vec::new(rt.alloc()));
-    Ok(receive_all(&mut receiver, &mut reader, &mut packets, &mut report)?)
+    Ok(bytes)
+}
+
+/// What comes of these.
+fn received(alloc: Global, firsts: &[i16], passed: u32, last: i16) -> Result<Received, Fail> {
+    let bytes = frames_of(alloc, firsts, passed, last)?;
+    receive(alloc, &bytes)
 }
 
 #[test]
 fn joins_the_parts_of_a_packet_and_none_across_a_gap(rt: HostRuntime) -> Result<(), Fail> {
-    let joined = received(&rt, &[1], 0, 2)?;
+    let joined = received(rt.alloc(), &[1], 0, 2)?;
     assert_eq!(rt; joined.totals, totals(2, 2, 1));
     assert!(rt; joined.well);
-    let lost = received(&rt, &[1, -1], 0, 2)?;
+    let parted = received(rt.alloc(), &[1, -1], 0, 2)?;
     let torn = Totals {
         torn: 1,
         ..totals(3, 2, 0)
     };
-    assert_eq!(rt; lost.totals, torn);
-    assert!(rt; !lost.well);
-    let passed = received(&rt, &[1], 1, 2)?;
-    assert_eq!(rt; passed.totals, losing(totals(2, 2, 0), 1, 100, 1));
-    assert!(rt; passed.well && passed.symbols == 201);
+    assert_eq!(rt; parted.totals, torn);
+    assert!(rt; !parted.well);
+    let passed = received(rt.alloc(), &[1], 1, 2)?;
+    assert_eq!(rt; passed.totals, losing(totals(2, 2, 0), 1, FRAME, 1));
+    assert!(rt; passed.well && passed.symbols == 2 * FRAME + 1);
+    Ok(())
+}
+
+/// What five calls answer on a frame that is lost and the two parts of a packet.
+fn lost_and_joined() -> Steps {
+    steps_of(&[lost(1, 0), frame(2, FRAME), frame(3, 2 * FRAME)])
+}
+
+/// Their report.
+const LOST_AND_JOINED: &str =
+    "frame 1 at 0 broken lost\nframe 2 at 5490 most-likely fixed 0\nframe 3 at 10980 most-likely fixed 0\nend frames 3 delivered 2 packets 1 bad 0\n";
+
+/// Asserts what comes of these.
+fn assert_joined<A: Abort>(rt: &A, alloc: Global, bytes: &[u8]) -> Result<(), Fail> {
+    let taken = take(alloc, Source::Slice(bytes))?;
+    assert_steps(rt, &taken, lost_and_joined(), LOST_AND_JOINED);
+    assert_came(rt, &taken, &packet_of_zeros(), totals(3, 2, 1));
+    Ok(())
+}
+
+#[test]
+fn writes_a_packet_and_a_line_of_each_frame(rt: HostRuntime) -> Result<(), Fail> {
+    let bytes = frames_of(rt.alloc(), &[-1, 1], 0, 2)?;
+    assert_joined(&rt, rt.alloc(), &bytes)
+}
+
+#[test]
+fn keeps_its_laws(_rt: HostRuntime) -> Result<(), Fail> {
     laws::joining();
     laws::reception();
     laws::front();
     laws::searching();
     laws::same_bytes();
+    laws::two_runs();
+    Ok(())
+}
+
+/// A frame behind 1100 symbols that lacks its last byte.
+fn cut_frame(alloc: Global) -> Result<Vec<u8>, AllocError> {
+    let mut bytes = Vec::new(alloc);
+    put_symbols(&mut bytes, 1100)?;
+    put_frame(&mut bytes, 1)?;
+    let _lost = bytes.pop();
+    Ok(bytes)
+}
+
+/// What five calls answer on it.
+fn cut_steps() -> Steps {
+    steps_of(&[Step::Cut {
+        at: 1100,
+        symbols: FRAME - 1,
+    }])
+}
+
+/// Asserts what comes of it.
+fn assert_cut<A: Abort>(rt: &A, alloc: Global, bytes: &[u8]) -> Result<(), Fail> {
+    let taken = take(alloc, Source::Slice(bytes))?;
+    let report = "cut at 1100 symbols 5489\nend frames 0 delivered 0 packets 0 bad 0\n";
+    assert_steps(rt, &taken, cut_steps(), report);
     Ok(())
 }
 
 #[test]
 fn cuts_a_frame_and_ends(rt: HostRuntime) -> Result<(), Fail> {
-    let mut bytes = Vec::new(rt.alloc());
-    put_symbols(&mut bytes, 1100)?;
-    put_frame(&mut bytes, 1)?;
-    let _lost = bytes.pop();
-    let mut receiver = toy(rt.alloc(), MOST_SYMBOLS)?;
-    let mut reader = InMemory::new(&bytes);
-    let mut packets = Counting::new(Vec::new(rt.alloc()));
-    let mut report = Counting::new(Vec::new(rt.alloc()));
-    let cut = Step::Cut {
-        at: 1100,
-        symbols: 99,
-    };
-    let step = receiver.next(&mut reader, &mut packets, &mut report)?;
-    assert_eq!(rt; step, cut);
-    let step = receiver.next(&mut reader, &mut packets, &mut report)?;
-    assert_eq!(rt; step, Step::End);
-    let step = receiver.next(&mut reader, &mut packets, &mut report)?;
-    assert_eq!(rt; step, Step::End);
-    assert_eq!(rt; report.into_inner().as_slice(), b"CE".as_slice());
+    let bytes = cut_frame(rt.alloc())?;
+    assert_cut(&rt, rt.alloc(), &bytes)
+}
+
+/// The line of a frame at the start.
+const FIRST: &str = "frame 1 at 0 most-likely fixed 0\n";
+
+/// What five calls answer where the second finds no frame within the limit: after a fault no call helps.
+fn stopped() -> Steps {
+    let mut steps = [Err(Fault::Failed); 5];
+    steps[0] = Ok(frame(1, 0));
+    steps[1] = Err(Fault::Read);
+    steps
+}
+
+/// Asserts that of two frames just the first comes within so many symbols.
+fn assert_stops<A: Abort>(rt: &A, alloc: Global, limit: u64, bytes: &[u8]) -> Result<(), Fail> {
+    let taken = take_within(alloc, limit, Source::Slice(bytes))?;
+    assert_steps(rt, &taken, stopped(), FIRST);
     Ok(())
 }
 
-/// After a fault no reader and no writer helps.
-fn is_failed(rt: &HostRuntime, receiver: &mut Toy) -> bool {
-    let mut reader = InMemory::new(&[]);
-    let mut packets = Counting::new(Vec::new(rt.alloc()));
-    let mut report = Counting::new(Vec::new(rt.alloc()));
-    receiver.next(&mut reader, &mut packets, &mut report) == Err(Fault::Failed)
+/// The same within each number up to the second frame's last symbol.
+fn assert_each_stops<A: Abort>(rt: &A, alloc: Global, bytes: &[u8]) -> Result<(), Fail> {
+    for limit in [FRAME, FRAME + 1, FRAME + 90, 2 * FRAME - 1] {
+        assert_stops(rt, alloc, limit, bytes)?;
+    }
+    Ok(())
 }
 
 #[test]
 fn stops_at_its_limit(rt: HostRuntime) -> Result<(), Fail> {
-    let mut bytes = Vec::new(rt.alloc());
-    put_frame(&mut bytes, 1)?;
-    put_frame(&mut bytes, 1)?;
-    let mut receiver = toy(rt.alloc(), 150)?;
-    let mut reader = InMemory::new(&bytes);
-    let mut packets = Counting::new(Vec::new(rt.alloc()));
-    let mut report = Counting::new(Vec::new(rt.alloc()));
-    let step = receiver.next(&mut reader, &mut packets, &mut report)?;
-    assert_eq!(rt; step, frame(1, 0));
-    let fault = receiver.next(&mut reader, &mut packets, &mut report);
-    assert_eq!(rt; fault, Err(Fault::Read));
-    assert!(rt; is_failed(&rt, &mut receiver));
-    assert_eq!(rt; report.into_inner().as_slice(), b"F".as_slice());
-    Ok(())
+    let bytes = frames_of(rt.alloc(), &[1], 0, 1)?;
+    assert_each_stops(&rt, rt.alloc(), &bytes)
+}
+
+/// The totals of a new receiver that takes at most so many symbols.
+fn totals_before(alloc: Global, limit: u64) -> Result<Totals, Fail> {
+    let receiver = toy(alloc, limit.min(MOST_SYMBOLS))?;
+    Ok(receiver.totals())
 }
 
 #[test]
 fn has_room_within_any_limit(rt: HostRuntime) -> Result<(), Fail> {
     for limit in 0..101u64 {
-        let receiver = toy(rt.alloc(), limit)?;
-        assert_eq!(rt; receiver.totals(), totals(0, 0, 0));
+        assert_eq!(rt; totals_before(rt.alloc(), limit)?, totals(0, 0, 0));
     }
+    for limit in [FRAME - 1, FRAME, FRAME + 1] {
+        assert_eq!(rt; totals_before(rt.alloc(), limit)?, totals(0, 0, 0));
+    }
+    Ok(())
+}
+
+/// Asserts that a failed write of packets is told.
+fn assert_told<A: Abort>(rt: &A, received: &InBytes) {
+    assert_eq!(rt; received.answer, Err(WriteFault));
+    assert!(rt; received.packets.is_empty());
+    assert_eq!(rt; received.report.as_slice(), FIRST.as_bytes());
+}
+
+/// Asserts it of bytes in memory.
+fn assert_write_fails<A: Abort>(rt: &A, alloc: Global, bytes: &[u8]) -> Result<(), Fail> {
+    let received = receive_in_bytes(alloc, bytes, [0, ALL])?;
+    assert_told(rt, &received);
     Ok(())
 }
 
 #[test]
 fn tells_a_failed_write(rt: HostRuntime) -> Result<(), Fail> {
-    let mut bytes = Vec::new(rt.alloc());
-    put_frame(&mut bytes, 1)?;
-    put_frame(&mut bytes, 2)?;
-    let mut receiver = toy(rt.alloc(), MOST_SYMBOLS)?;
-    let mut packets = FailAt::new(Counting::new(Vec::new(rt.alloc())), 0);
-    let mut report = Counting::new(Vec::new(rt.alloc()));
-    assert!(rt; bytes.len() < 1000);
-    let fault = receive_bytes(&mut receiver, &bytes, &mut packets, &mut report);
-    assert_eq!(rt; fault, Err(WriteFault));
-    assert!(rt; packets.into_inner().into_inner().is_empty());
-    assert_eq!(rt; report.into_inner().as_slice(), b"F".as_slice());
-    Ok(())
+    let bytes = frames_of(rt.alloc(), &[1], 0, 2)?;
+    assert_write_fails(&rt, rt.alloc(), &bytes)
 }
 
 /// The two parts of a packet, with dummy frames before, between and behind them.
-fn put_parts(bytes: &mut Vec<u8>, last: u32) -> Result<(), AllocError> {
-    put_dummy(bytes, 3330)?;
-    put_frame(bytes, 1)?;
-    put_dummy(bytes, 3330)?;
-    put_dummy(bytes, 3330)?;
-    put_frame(bytes, 2)?;
-    put_dummy(bytes, last)
+fn parts(alloc: Global, last: u32) -> Result<Vec<u8>, AllocError> {
+    let mut bytes = Vec::new(alloc);
+    put_dummy(&mut bytes, 3330)?;
+    put_frame(&mut bytes, 1)?;
+    put_dummy(&mut bytes, 3330)?;
+    put_dummy(&mut bytes, 3330)?;
+    put_frame(&mut bytes, 2)?;
+    put_dummy(&mut bytes, last)?;
+    Ok(bytes)
+}
+
+/// Where the second part stands.
+const SECOND: u64 = FRAME + 3 * DUMMY;
+
+/// The first lines of the report of the two parts.
+const LINES: [&str; 4] = [
+    "",
+    "frame 1 at 3330 most-likely fixed 0\n",
+    "frame 1 at 3330 most-likely fixed 0\nframe 2 at 15480 most-likely fixed 0\n",
+    "frame 1 at 3330 most-likely fixed 0\nframe 2 at 15480 most-likely fixed 0\nend frames 2 delivered 2 packets 1 bad 0\n",
+];
+
+/// What five calls answer on the two parts.
+fn parts_steps() -> Steps {
+    steps_of(&[frame(1, DUMMY), frame(2, SECOND)])
+}
+
+/// Asserts what comes of the two parts.
+fn assert_parts<A: Abort>(rt: &A, alloc: Global, bytes: &[u8]) -> Result<(), Fail> {
+    let taken = take(alloc, Source::Bytes(ByOne::new(bytes)))?;
+    assert_steps(rt, &taken, parts_steps(), LINES[3]);
+    assert_came(rt, &taken, &packet_of_zeros(), totals(2, 2, 1));
+    Ok(())
+}
+
+/// The same where the last dummy frame has so many symbols.
+fn assert_parts_with<A: Abort>(rt: &A, alloc: Global, last: u32) -> Result<(), Fail> {
+    let bytes = parts(alloc, last)?;
+    assert_parts(rt, alloc, &bytes)
 }
 
 #[test]
 fn joins_across_dummy_frames_byte_by_byte(rt: HostRuntime) -> Result<(), Fail> {
     for last in [3330, 3329, 100, 90] {
-        let mut bytes = Vec::new(rt.alloc());
-        put_parts(&mut bytes, last)?;
-        let mut receiver = toy(rt.alloc(), MOST_SYMBOLS)?;
-        let mut reader = Counting::new(ByOne::new(&bytes));
-        let mut packets = Counting::new(Vec::new(rt.alloc()));
-        let mut report = Counting::new(Vec::new(rt.alloc()));
-        let step = receiver.next(&mut reader, &mut packets, &mut report)?;
-        assert_eq!(rt; step, frame(1, 3330));
-        let step = receiver.next(&mut reader, &mut packets, &mut report)?;
-        assert_eq!(rt; step, frame(2, 10090));
-        let step = receiver.next(&mut reader, &mut packets, &mut report)?;
-        assert_eq!(rt; step, Step::End);
-        assert_eq!(rt; report.into_inner().as_slice(), b"FFE".as_slice());
-        assert_eq!(rt; receiver.totals(), totals(2, 2, 1));
+        assert_parts_with(&rt, rt.alloc(), last)?;
     }
     Ok(())
 }
 
-/// What comes of these bytes.
-fn received_of(rt: &HostRuntime, bytes: &[u8]) -> Result<Received, Fail> {
-    let mut receiver = toy(rt.alloc(), MOST_SYMBOLS)?;
-    let mut reader = InMemory::new(bytes);
-    let mut packets = Counting::new(Vec::new(rt.alloc()));
-    let mut report = Counting::new(Vec::new(rt.alloc()));
-    Ok(receive_all(&mut receiver, &mut reader, &mut packets, &mut report)?)
+/// The two parts of a packet with a dummy frame between them, before and behind which stand so many symbols.
+fn parts_around(alloc: Global, before: u32, behind: u32) -> Result<Vec<u8>, AllocError> {
+    let mut bytes = Vec::new(alloc);
+    put_frame(&mut bytes, 1)?;
+    put_symbols(&mut bytes, before)?;
+    put_dummy(&mut bytes, 3330)?;
+    put_symbols(&mut bytes, behind)?;
+    put_frame(&mut bytes, 2)?;
+    Ok(bytes)
+}
+
+/// Their totals.
+fn totals_around(alloc: Global, before: u32, behind: u32) -> Result<Totals, Fail> {
+    let bytes = parts_around(alloc, before, behind)?;
+    Ok(receive(alloc, &bytes)?.totals)
 }
 
 #[test]
 fn keeps_a_gap_across_a_dummy_frame(rt: HostRuntime) -> Result<(), Fail> {
-    for (before, behind, first) in [(1, 0, 100), (0, 1, 3430), (89, 0, 100)] {
-        let mut bytes = Vec::new(rt.alloc());
-        put_frame(&mut bytes, 1)?;
-        put_symbols(&mut bytes, before)?;
-        put_dummy(&mut bytes, 3330)?;
-        put_symbols(&mut bytes, behind)?;
-        put_frame(&mut bytes, 2)?;
+    for (before, behind, first) in [(1, 0, FRAME), (0, 1, FRAME + DUMMY), (89, 0, FRAME)] {
         let passed = u64::from(before + behind);
-        assert_eq!(rt;
-            received_of(&rt, &bytes)?.totals,
-            losing(totals(2, 2, 0), passed, first, 1)
-        );
+        let want = losing(totals(2, 2, 0), passed, first, 1);
+        assert_eq!(rt; totals_around(rt.alloc(), before, behind)?, want);
     }
+    Ok(())
+}
+
+/// Behind 20 symbols a false header of a dummy frame, 1000 symbols before a frame, which it hides; and behind 70
+/// symbols the two parts of a packet.
+fn hidden_frame(alloc: Global) -> Result<Vec<u8>, AllocError> {
+    let mut bytes = Vec::new(alloc);
+    put_symbols(&mut bytes, 20)?;
+    put_dummy(&mut bytes, 1000)?;
+    put_frame(&mut bytes, 1)?;
+    put_symbols(&mut bytes, 70)?;
+    put_frame(&mut bytes, 1)?;
+    put_frame(&mut bytes, 2)?;
+    Ok(bytes)
+}
+
+/// Where the first part stands.
+const BEHIND_HIDDEN: u64 = 20 + 1000 + FRAME + 70;
+
+/// What five calls answer on these.
+fn found_steps() -> Steps {
+    steps_of(&[frame(1, BEHIND_HIDDEN), frame(2, BEHIND_HIDDEN + FRAME)])
+}
+
+/// Their report.
+const FOUND: &str =
+    "frame 1 at 6580 most-likely fixed 0\nframe 2 at 12070 most-likely fixed 0\nend frames 2 delivered 2 packets 1 bad 0\n";
+
+/// Asserts what comes of these: what of the hidden frame stands behind the dummy frame's end is passed over.
+fn assert_found<A: Abort>(rt: &A, alloc: Global, bytes: &[u8]) -> Result<(), Fail> {
+    let taken = take(alloc, Source::Slice(bytes))?;
+    assert_steps(rt, &taken, found_steps(), FOUND);
+    let want = losing(totals(2, 2, 1), BEHIND_HIDDEN - DUMMY, 0, 0);
+    assert_came(rt, &taken, &packet_of_zeros(), want);
     Ok(())
 }
 
 #[test]
 fn finds_a_frame_behind_a_false_dummy_header(rt: HostRuntime) -> Result<(), Fail> {
-    let mut bytes = Vec::new(rt.alloc());
-    put_symbols(&mut bytes, 20)?;
-    put_dummy(&mut bytes, 1000)?;
-    put_frame(&mut bytes, 1)?;
-    put_symbols(&mut bytes, 2300)?;
-    put_frame(&mut bytes, 1)?;
-    put_frame(&mut bytes, 2)?;
-    let mut receiver = toy(rt.alloc(), MOST_SYMBOLS)?;
-    let mut reader = InMemory::new(&bytes);
-    let mut packets = Counting::new(Vec::new(rt.alloc()));
-    let mut report = Counting::new(Vec::new(rt.alloc()));
-    let step = receiver.next(&mut reader, &mut packets, &mut report)?;
-    assert_eq!(rt; step, frame(1, 3420));
-    let step = receiver.next(&mut reader, &mut packets, &mut report)?;
-    assert_eq!(rt; step, frame(2, 3520));
-    assert_eq!(rt; receiver.totals(), losing(totals(2, 2, 1), 90, 0, 0));
-    Ok(())
+    let bytes = hidden_frame(rt.alloc())?;
+    assert_found(&rt, rt.alloc(), &bytes)
+}
+
+/// Whole dummy frames, so many.
+fn dummies(alloc: Global, count: u32) -> Result<Vec<u8>, AllocError> {
+    let mut bytes = Vec::new(alloc);
+    for _ in 0..count {
+        put_dummy(&mut bytes, 3330)?;
+    }
+    Ok(bytes)
+}
+
+/// What comes of them.
+fn received_of_dummies(alloc: Global, count: u32) -> Result<Received, Fail> {
+    let bytes = dummies(alloc, count)?;
+    receive(alloc, &bytes)
 }
 
 #[test]
 fn ends_behind_dummy_frames_alone(rt: HostRuntime) -> Result<(), Fail> {
-    let mut bytes = Vec::new(rt.alloc());
-    for _ in 0..30u32 {
-        put_dummy(&mut bytes, 3330)?;
-    }
-    let received = received_of(&rt, &bytes)?;
+    let received = received_of_dummies(rt.alloc(), 30)?;
     assert_eq!(rt; received.totals, totals(0, 0, 0));
     assert!(rt; received.well);
     Ok(())
 }
 
+/// A frame, and so many symbols behind it.
+fn frame_before(alloc: Global, passed: u32) -> Result<Vec<u8>, AllocError> {
+    let mut bytes = Vec::new(alloc);
+    put_frame(&mut bytes, 1)?;
+    put_symbols(&mut bytes, passed)?;
+    Ok(bytes)
+}
+
+/// Their totals.
+fn totals_behind(alloc: Global, passed: u32) -> Result<Totals, Fail> {
+    let bytes = frame_before(alloc, passed)?;
+    Ok(receive(alloc, &bytes)?.totals)
+}
+
 #[test]
 fn counts_what_is_passed_over_at_the_end(rt: HostRuntime) -> Result<(), Fail> {
-    for (passed, want) in [
-        (89, totals(1, 1, 0)),
-        (90, losing(totals(1, 1, 0), 90, 100, 0)),
-    ] {
-        let mut bytes = Vec::new(rt.alloc());
-        put_frame(&mut bytes, 1)?;
-        put_symbols(&mut bytes, passed)?;
-        assert_eq!(rt; received_of(&rt, &bytes)?.totals, want);
-    }
+    let one = totals(1, 1, 0);
+    assert_eq!(rt; totals_behind(rt.alloc(), 89)?, one);
+    assert_eq!(rt; totals_behind(rt.alloc(), 90)?, losing(one, 90, FRAME, 0));
     Ok(())
+}
+
+/// A frame, and behind three symbols the header of another.
+fn header_alone(alloc: Global) -> Result<Vec<u8>, AllocError> {
+    let mut bytes = Vec::new(alloc);
+    put_frame(&mut bytes, 1)?;
+    put_symbols(&mut bytes, 3)?;
+    put_header(&mut bytes)?;
+    Ok(bytes)
+}
+
+/// Their totals.
+fn totals_of_header(alloc: Global) -> Result<Totals, Fail> {
+    let bytes = header_alone(alloc)?;
+    Ok(receive(alloc, &bytes)?.totals)
 }
 
 #[test]
 fn counts_what_is_passed_over_before_a_cut_frame(rt: HostRuntime) -> Result<(), Fail> {
-    let mut bytes = Vec::new(rt.alloc());
-    put_frame(&mut bytes, 1)?;
-    put_symbols(&mut bytes, 3)?;
-    put_symbols(&mut bytes, 89)?;
-    put_symbol(&mut bytes, -1, 1)?;
     let want = Totals {
         cut: true,
-        ..losing(totals(1, 1, 0), 3, 100, 1)
+        ..losing(totals(1, 1, 0), 3, FRAME, 1)
     };
-    assert_eq!(rt; received_of(&rt, &bytes)?.totals, want);
+    assert_eq!(rt; totals_of_header(rt.alloc())?, want);
+    Ok(())
+}
+
+/// Asserts that a run stopped, and its report.
+fn assert_stopped<A: Abort>(rt: &A, whole: &Whole, report: &str) {
+    assert_eq!(rt; whole.answer, Err(StreamFault::Read));
+    assert_eq!(rt; whole.report.as_slice(), report.as_bytes());
+}
+
+/// Asserts that so many lines come within so many symbols.
+fn assert_limited<A: Abort>(
+    rt: &A,
+    alloc: Global,
+    bytes: &[u8],
+    limit: u64,
+    lines: usize,
+) -> Result<(), Fail> {
+    let whole = receive_within(alloc, limit, bytes)?;
+    assert_stopped(rt, &whole, LINES[lines.min(3)]);
+    Ok(())
+}
+
+/// Asserts it within each of these.
+fn assert_each_limited<A: Abort>(rt: &A, alloc: Global, bytes: &[u8]) -> Result<(), Fail> {
+    for (limit, lines) in [
+        (DUMMY - 1, 0),
+        (DUMMY + FRAME - 1, 0),
+        (DUMMY + FRAME, 1),
+        (DUMMY + FRAME + 1, 1),
+        (DUMMY + FRAME + 1570, 1),
+        (SECOND + FRAME - 1, 1),
+        (SECOND + FRAME, 2),
+        (SECOND + FRAME + DUMMY - 1, 2),
+    ] {
+        assert_limited(rt, alloc, bytes, limit, lines)?;
+    }
     Ok(())
 }
 
 #[test]
 fn stops_at_its_limit_inside_a_dummy_frame(rt: HostRuntime) -> Result<(), Fail> {
-    let mut bytes = Vec::new(rt.alloc());
-    put_parts(&mut bytes, 3330)?;
-    for (limit, lines) in [
-        (3329, b"".as_slice()),
-        (3430, b"F".as_slice()),
-        (3431, b"F".as_slice()),
-        (5000, b"F".as_slice()),
-        (10189, b"F".as_slice()),
-        (10190, b"FF".as_slice()),
-        (13519, b"FF".as_slice()),
-    ] {
-        let mut receiver = toy(rt.alloc(), limit)?;
-        let mut reader = InMemory::new(&bytes);
-        let mut packets = Counting::new(Vec::new(rt.alloc()));
-        let mut report = Counting::new(Vec::new(rt.alloc()));
-        let answer = receive_all(&mut receiver, &mut reader, &mut packets, &mut report);
-        assert_eq!(rt; answer, Err(StreamFault::Read));
-        assert_eq!(rt; report.into_inner().as_slice(), lines);
-    }
-    Ok(())
+    let bytes = parts(rt.alloc(), 3330)?;
+    assert_each_limited(&rt, rt.alloc(), &bytes)
 }

@@ -237,6 +237,12 @@ pub(crate) fn send_with_dummies(
     }
 }
 
+/// Appends the bytes of a symbol.
+pub(crate) fn put_symbol(bytes: &mut Vec<u8>, symbol: Symbol) -> Result<(), AllocError> {
+    bytes.extend_from_slice(&symbol.i.to_be_bytes())?;
+    bytes.extend_from_slice(&symbol.q.to_be_bytes())
+}
+
 /// The bytes of a dummy frame under a scrambling number.
 pub(crate) fn dummy_of(alloc: Global, number: u32) -> Result<Vec<u8>, Fail> {
     let gold = Gold::new(alloc, number)?;

@@ -6,9 +6,9 @@ use Rattle.std.proofs.lemmas.Bool.{le-leb, eq-eqb}
 use Rattle.std.proofs.lemmas.List.{length-map, ext_get_or, get_or-take, get_or-drop, get_or-append_right, take_at, drop_at, take_all}
 use Rattle.std.proofs.lemmas.List.FromFn.{fill_by_all, length-map-range_with_len}
 use Rattle.std.proofs.lemmas.List.Elements.{All-nil, All-cons, All-head, All-tail, All-append}
-use Rattle.s2_mode.specs.Mode.{Mode, IsMode, HasCodeSizes, k_of, kbch_of, n_of, t_of, symbols_in}
+use Rattle.s2_mode.specs.Mode.{Mode, IsMode, HasCodeSizes, k_of, kbch_of, n_of, t_of, slots_of, symbols_in}
 use Rattle.s2_mode.specs.declared.symbols.Symbol.{Symbol}
-use Rattle.s2_mode.proofs.Modes.{frame_sizes}
+use Rattle.s2_receive.proofs.StepLemmas.{symbols_least}
 use Rattle.s2_plframe.specs.declared.receive.found.Found.TheVariants as founds
 use Rattle.s2_rows.specs.Rows.{Rows}
 use Rattle.s2_bits.specs.Bits.{bit_at, bits_of_byte, bits_of_bytes, byte_at, byte_of, bytes_from, differences, number, xor}
@@ -30,25 +30,29 @@ use Rattle.s2_scramble.proofs.Blocks.{scrambled-scrambled}
 use Rattle.s2_bch.specs.Codes.{IsBchWordOf, IsWithin}
 use Rattle.s2_bch.specs.Decoding.{nearest}
 use Rattle.s2_bch.proofs.NearestWords.{within_is_nearest, nearest_is_within, no_nearest}
-use Rattle.s2_map.specs.Mapping.{payload_of}
-use Rattle.s2_plframe.specs.Frame.{frame_symbol}
+use Rattle.s2_map.specs.Mapping.{payload_symbol, payload_of}
+use Rattle.s2_plframe.specs.Frame.{frame_symbol, frame_symbols}
 use Rattle.s2_plframe.specs.Search.{decision, found}
 use Rattle.s2_plframe.proofs.HeadersBehind.{clean_behind}
 use Rattle.s2_soft.specs.Divisors.{IsDivisor}
-use Rattle.s2_soft.specs.Soft.{soft_bit}
+use Rattle.s2_soft.specs.Soft.{soft_bit, soft_values}
+use Rattle.s2_soft.specs.Clean.{Says}
+use Rattle.s2_soft.proofs.Clean.{clean_says}
+use Rattle.s2_plframe.proofs.Payloads.{payload_again}
+use Rattle.s2_plframe.proofs.HeaderFacts.{clean_passes}
+use Rattle.s2_modem.specs.Front.{IsCleanFrame}
 use Rattle.s2_receive.specs.Laws.{IsReceived}
 use Rattle.s2_link.specs.Link.{Link, HasShape}
 use Rattle.s2_send.specs.Frames.{padded_bits, baseband_frame, IsCodewordFor}
 use Rattle.s2_receive.specs.Windows.{found_as}
 use Rattle.s2_judge.specs.Deciding.{Decided, decided, IsShown}
 use Rattle.s2_link.specs.Tuning.{Tuning}
-use Rattle.s2_modem.specs.Reports.{frame_soft, received_word, message_of, header_in, field_in, outcome_by, delivered_by, decision_by, decision_on, frame_decision}
+use Rattle.s2_modem.specs.Reports.{frame_soft, received_word, message_of, header_in, field_in, outcome_by, delivered_by, decision_by, frame_decision}
 use Rattle.s2_modem.specs.Reception.{AllAsLikely, AllTold, IsCertifiedBy, IsCorrected, link_rules}
 use Rattle.s2_send.specs.Laws.{IsLinkOf}
-use Rattle.s2_modem.specs.Both.{IsByte, AreBytes, sent_symbols, IsCertifiedFrame, Hears}
-use Rattle.s2_modem.specs.Headline.{IsDelivered, IsSent, IsDeliveredCertified, HearsLaw, ArrivalLaw, LikelyFrameLaw, SoleFrameLaw}
+use Rattle.s2_modem.specs.Both.{IsByte, AreBytes, sent_symbols, IsDelivered, IsDeliveredCertified, Hears}
+use Rattle.s2_modem.specs.Headline.{HearsLaw, ArrivalLaw, ScatteredFrameLaw, BothCodesLaw}
 use Rattle.s2_check.specs.Cost.{IsMostLikely}
-use Rattle.s2_split.specs.Scattered.{IsScattered}
 use Rattle.s2_mode.specs.Limits.{most_symbols}
 use Rattle.s2_plframe.specs.Payload.{received_payload}
 use Rattle.s2_check.specs.declared.verdict.Verdict.TheVariants.{Sole}
@@ -59,7 +63,18 @@ use Rattle.s2_judge.proofs.DecidedLengths.{decided_long}
 use Rattle.s2_modem.proofs.DecisionLemmas.{code_is}
 use Rattle.s2_send.proofs.OnlyFrames.{length-baseband_frame, length-bch_word}
 use Rattle.s2_modem.proofs.Dummies.{dummy_is}
-use Rattle.s2_modem.proofs.Points.{received}
+use Rattle.s2_modem.proofs.SymbolsBack.{at_back, payload_back}
+
+-- ---- from the mapper to the soft values
+
+pub received : (divisor : ℕ) (m : Mode) (number : ℕ) (word : List Bool) → IsDivisor divisor → IsMode m → length word ≡ n_of m → IsCleanFrame divisor m number word
+received divisor m number word known is long =
+    let sized : length (payload_of m word) ≡ 90 * slots_of m = length-map-range_with_len (payload_symbol m word) 0 (90 * slots_of m) in
+    let again : received_payload m number (frame_symbols m number (payload_of m word)) ≡ payload_of m word = payload_again m number (payload_of m word) is sized (λ s lt. at_back (payload_of m word) s (payload_back m word)) in
+    record {
+      header = clean_passes m number (payload_of m word) is;
+      soft = subst (λ p. Says (soft_values divisor m p) word) (sym again) (clean_says divisor known m word is long);
+    }
 
 -- ---- bytes out of their bits
 
@@ -130,18 +145,6 @@ differences_none (suc n) a = ap (λ d. d + number (xor (bit_at a n) (bit_at a n)
     none true = refl
     none false = refl
 
--- a word that BCH decoding finds gives what its message says
-pub decision_of_word : (m : Mode) (soft : List ℤ) (d : Decided) (word : List Bool) (header : Header) → nearest m (received_word m d.bits) ≡ Some word
-    → header_of_bytes m (header_in (scrambled (message_of m word))) ≡ Ok header
-    → IsDelivered (decision_on m soft d) (differences (k_of m) (received_word m d.bits) word) header (field_in header (scrambled (message_of m word)))
-decision_of_word m soft d word header near read =
-    let is = ap (decision_by m soft d) near in
-    let n = differences (k_of m) (received_word m d.bits) word in
-    record {
-      outcome = ap (λ x. x.outcome) is ∙ ap (outcome_by n) read;
-      delivered = ap (λ x. x.delivered) is ∙ ap (delivered_by (scrambled (message_of m word))) read;
-    }
-
 module _ (m : Mode) (valid : IsMode m) (sizes : HasCodeSizes m) (h : Header) (field : List ℕ) (fits : length field ≤ field_bytes m) (bytes : AreBytes (header_bytes h ++ field)) (dfl : h.dfl ≡ 8 * length field) where
   -- the message of a BCH word of a baseband frame says its header and its field
   message_back : (word : List Bool) → IsBchWordOf m (baseband_frame m h field) word → scrambled (message_of m word) ≡ padded_bits (kbch_of m) (header_bytes h) field
@@ -189,30 +192,20 @@ decision_corrected m valid sizes soft d (Some word) long near =
     read_corrected m (decision_by m soft d (Some word)) word (header_of_bytes m (header_in (scrambled (message_of m word)))) (nearest_is_within m valid sizes (received_word m d.bits) long word near) refl
 decision_corrected m valid sizes soft d None long near = no_nearest m valid sizes (received_word m d.bits) long near
 
-decision_verdict : (m : Mode) (soft : List ℤ) (d : Decided) (o : Option (List Bool)) → (decision_by m soft d o).verdict ≡ d.verdict
-decision_verdict m soft d (Some word) = refl
-decision_verdict m soft d None = refl
+-- a decision on these soft values has what was decided on them
+pub record IsOf (r : Rows) (soft : List ℤ) (d : Decided) (x : Decision) : Type 0 where
+  pub soft_is : x.soft ≡ soft
+  pub verdict : x.verdict ≡ d.verdict
+  pub bits : x.bits ≡ d.bits
+  pub certified : IsShown r soft d → IsCertifiedBy r x.verdict x
 
-decision_bits : (m : Mode) (soft : List ℤ) (d : Decided) (o : Option (List Bool)) → (decision_by m soft d o).bits ≡ d.bits
-decision_bits m soft d (Some word) = refl
-decision_bits m soft d None = refl
+decision_is_of : (r : Rows) (m : Mode) (soft : List ℤ) (d : Decided) (o : Option (List Bool)) → IsOf r soft d (decision_by m soft d o)
+decision_is_of r m soft d (Some word) = record { soft_is = refl; verdict = refl; bits = refl; certified = λ h. record { some = h.some; only = h.only; certified = h.certified; strict = h.strict } }
+decision_is_of r m soft d None = record { soft_is = refl; verdict = refl; bits = refl; certified = λ h. record { some = h.some; only = h.only; certified = h.certified; strict = h.strict } }
 
-decision_certified : (r : Rows) (m : Mode) (soft : List ℤ) (d : Decided) (o : Option (List Bool)) → IsShown r soft d → IsCertifiedBy r (decision_by m soft d o).verdict (decision_by m soft d o)
-decision_certified r m soft d (Some word) shown = record { some = shown.some; only = shown.only; certified = shown.certified; strict = shown.strict }
-decision_certified r m soft d None shown = record { some = shown.some; only = shown.only; certified = shown.certified; strict = shown.strict }
-
-module _ (link : Link) (tuning : Tuning) (symbols : List Symbol) where
-  pub frame_certified : IsShown link.rows (frame_soft link tuning symbols) (decided link.rows tuning (frame_soft link tuning symbols)) → IsCertifiedBy link.rows (frame_decision link tuning symbols).verdict (frame_decision link tuning symbols)
-  unfolding frame_decision
-  frame_certified = decision_certified link.rows link.setup.mode (frame_soft link tuning symbols) (decided link.rows tuning (frame_soft link tuning symbols)) _
-
-  pub frame_verdict : (frame_decision link tuning symbols).verdict ≡ (decided link.rows tuning (frame_soft link tuning symbols)).verdict
-  unfolding frame_decision
-  frame_verdict = decision_verdict link.setup.mode (frame_soft link tuning symbols) (decided link.rows tuning (frame_soft link tuning symbols)) _
-
-  pub frame_bits : (frame_decision link tuning symbols).bits ≡ (decided link.rows tuning (frame_soft link tuning symbols)).bits
-  unfolding frame_decision
-  frame_bits = decision_bits link.setup.mode (frame_soft link tuning symbols) (decided link.rows tuning (frame_soft link tuning symbols)) _
+pub frame_is : (link : Link) (tuning : Tuning) (symbols : List Symbol) → IsOf link.rows (frame_soft link tuning symbols) (decided link.rows tuning (frame_soft link tuning symbols)) (frame_decision link tuning symbols)
+unfolding frame_decision
+frame_is link tuning symbols = decision_is_of link.rows link.setup.mode (frame_soft link tuning symbols) (decided link.rows tuning (frame_soft link tuning symbols)) _
 
 module _ (link : Link) (valid : IsMode link.setup.mode) (sizes : HasCodeSizes link.setup.mode) (shape : HasShape link.setup link.rows) where
   abbrev m : Mode
@@ -237,6 +230,9 @@ module _ (link : Link) (valid : IsMode link.setup.mode) (sizes : HasCodeSizes li
     abbrev header : Header
     header = header_at link.setup.roll_off at field
 
+    abbrev message : List Bool
+    message = message_of m c.bch_word
+
     all_bytes : AreBytes (header_bytes header ++ field)
     all_bytes = All-append IsByte (header_bytes header) field (header_is_bytes link.setup.roll_off at field ro) bytes
 
@@ -247,40 +243,42 @@ module _ (link : Link) (valid : IsMode link.setup.mode) (sizes : HasCodeSizes li
 
     -- where the sent word is the nearest one
     near_delivers : nearest m (received_word m (decided link.rows tuning (frame_soft link tuning symbols)).bits) ≡ Some c.bch_word
-        → IsDelivered (frame_decision link tuning symbols) (differences (k_of m) (received_word m (decided link.rows tuning (frame_soft link tuning symbols)).bits) c.bch_word) header field
+        → IsDelivered (frame_decision link tuning symbols) (differences (k_of m) (received_word m (decided link.rows tuning (frame_soft link tuning symbols)).bits) c.bch_word) message header field
     unfolding frame_decision
     near_delivers near =
-        let d = decision_of_word m (frame_soft link tuning symbols) (decided link.rows tuning (frame_soft link tuning symbols)) c.bch_word header near read_back in
-        record { outcome = d.outcome; delivered = d.delivered ∙ ap (λ f. Some (header, f)) (says_field m valid sizes header field fits all_bytes refl c.bch_word c.is_bch_word) }
+        let d = decided link.rows tuning (frame_soft link tuning symbols) in
+        let is = ap (decision_by m (frame_soft link tuning symbols) d) near in
+        record {
+          outcome = ap (λ x. x.outcome) is ∙ ap (outcome_by (differences (k_of m) (received_word m d.bits) c.bch_word)) read_back;
+          message_is = ap (λ x. x.message) is;
+          delivered = ap (λ x. x.delivered) is ∙ ap (delivered_by (scrambled message)) read_back ∙ ap (λ f. Some (header, f)) (says_field m valid sizes header field fits all_bytes refl c.bch_word c.is_bch_word);
+        }
 
     pub both_codes : differences (k_of m) (received_word m (frame_decision link tuning symbols).bits) c.bch_word ≤ t_of m
-        → IsDelivered (frame_decision link tuning symbols) (differences (k_of m) (received_word m (frame_decision link tuning symbols).bits) c.bch_word) header field
+        → IsDelivered (frame_decision link tuning symbols) (differences (k_of m) (received_word m (frame_decision link tuning symbols).bits) c.bch_word) message header field
     both_codes few =
         let bits = (decided link.rows tuning (frame_soft link tuning symbols)).bits in
-        let e : received_word m (frame_decision link tuning symbols).bits ≡ received_word m bits = ap (received_word m) (frame_bits link tuning symbols) in
+        let e : received_word m (frame_decision link tuning symbols).bits ≡ received_word m bits = ap (received_word m) (frame_is link tuning symbols).bits in
         let word = length-bch_word m sizes (baseband_frame m header field) c.bch_word (length-baseband_frame m header field sizes fits) c.is_bch_word in
         let long = length_received tuning symbols in
         let near : differences (length (received_word m bits)) (received_word m bits) c.bch_word ≤ t_of m =
         subst (λ n. differences n (received_word m bits) c.bch_word ≤ t_of m) (sym long) (subst (λ r. differences (k_of m) r c.bch_word ≤ t_of m) e few) in
-        subst (λ r. IsDelivered (frame_decision link tuning symbols) (differences (k_of m) r c.bch_word) header field) (sym e)
+        subst (λ r. IsDelivered (frame_decision link tuning symbols) (differences (k_of m) r c.bch_word) message header field) (sym e)
         (near_delivers (within_is_nearest m valid sizes (received_word m bits) long c.bch_word (record { word = record { size = word; multiple = c.is_bch_word.multiple }; near = near })))
 
     -- where the codeword that was sent was decided
-    pub codeword_delivers : (decided link.rows tuning (frame_soft link tuning symbols)).bits ≡ codeword → IsDelivered (frame_decision link tuning symbols) 0 header field
+    pub codeword_delivers : (decided link.rows tuning (frame_soft link tuning symbols)).bits ≡ codeword → IsDelivered (frame_decision link tuning symbols) 0 message header field
     codeword_delivers bits =
         let whole : length codeword ≡ n_of m = c.is_codeword.in_code.long ∙ code_is m link.rows sizes shape in
         let enough : k_of m ≤ length codeword = omega (arith, whole, sizes.checks) in
         let e : received_word m (decided link.rows tuning (frame_soft link tuning symbols)).bits ≡ c.bch_word = ap (received_word m) bits ∙ first_bits m link.rows header field codeword c sizes fits enough in
         let none : differences (k_of m) (received_word m (decided link.rows tuning (frame_soft link tuning symbols)).bits) c.bch_word ≡ 0 = ap (λ r. differences (k_of m) r c.bch_word) e ∙ differences_none (k_of m) c.bch_word in
-        subst (λ n. IsDelivered (frame_decision link tuning symbols) n header field) none
+        subst (λ n. IsDelivered (frame_decision link tuning symbols) n message header field) none
         (near_delivers (ap (nearest m) e ∙ nearest_itself m valid sizes header field fits all_bytes refl c.bch_word c.is_bch_word))
 
   module _ (ro : link.setup.roll_off ≤ 2) (tuning : Tuning) (known : IsDivisor tuning.divisor) (limit : ℕ) where
     length_sent : (codeword : List Bool) → length (sent_symbols link codeword) ≡ symbols_in m
     length_sent codeword = length-map-range_with_len (frame_symbol m link.setup.number (payload_of m codeword)) 0 (symbols_in m)
-
-    least_symbols : 90 ≤ symbols_in m
-    least_symbols = omega (arith, (frame_sizes m valid).symbols)
 
     found_sent : (codeword : List Bool) → found m (map decision (take 90 (sent_symbols link codeword))) ≡ founds.Coded
         → (behind : Bool) → found_as m tuning.lock behind (take 90 (sent_symbols link codeword)) ≡ founds.Coded
@@ -289,9 +287,9 @@ module _ (link : Link) (valid : IsMode link.setup.mode) (sizes : HasCodeSizes li
     found_sent codeword coded false = coded
 
     hears_frame : (at : ℕ) (field : List ℕ) (codeword : List Bool) → AreBytes field → to_place at < length field → length field ≤ field_bytes m
-        → IsCodewordFor m link.rows (header_at link.setup.roll_off at field) field codeword
+        → (is : IsCodewordFor m link.rows (header_at link.setup.roll_off at field) field codeword)
         → ((behind : Bool) → IsReceived (link_rules link tuning limit) behind (header_at link.setup.roll_off at field) field (sent_symbols link codeword))
-        × IsCertifiedFrame (link_rules link tuning limit) (sent_symbols link codeword)
+        × IsDeliveredCertified (frame_decision link tuning (sent_symbols link codeword)) codeword (message_of m is.bch_word) (header_at link.setup.roll_off at field) field
         × ((frame_decision link tuning (sent_symbols link codeword)).verdict ≡ Sole)
     hears_frame at field codeword bytes place fits c =
         let symbols = sent_symbols link codeword in
@@ -301,18 +299,19 @@ module _ (link : Link) (valid : IsMode link.setup.mode) (sizes : HasCodeSizes li
         let hard : hard_decision soft ≡ codeword = heard.soft.decided in
         let is : IsCodeword (code_of link.rows) (hard_decision soft) = subst (IsCodeword (code_of link.rows)) (sym hard) c.is_codeword.in_code in
         let sure = clean_lem link.rows tuning soft is in
-        let given = codeword_delivers tuning at symbols field codeword ro bytes place fits c (ap (λ d. d.bits) sure.0 ∙ hard) in
+        let bits = ap (λ d. d.bits) sure.0 ∙ hard in
+        let given = codeword_delivers tuning at symbols field codeword ro bytes place fits c bits in
         let some : NoneIsZero soft = λ i low. heard.soft.some i (omega (arith, low, ap length hard, length-map soft (λ v. int_lt v (pos 0)))) in
-        let verdict = frame_verdict link tuning symbols ∙ sure.1.1 some in (
+        let verdict = (frame_is link tuning symbols).verdict ∙ sure.1.1 some in (
           λ behind. (length_sent codeword, found_sent codeword heard.header behind, given.delivered),
-          record { verdict = ap is_certified verdict; outcome = given.outcome },
+          record { verdict = ap is_certified verdict; bits = (frame_is link tuning symbols).bits ∙ bits; delivered = given },
           verdict,
         )
 
     pub hears : Hears link (link_rules link tuning limit)
     hears = record {
       size = refl;
-      least = least_symbols;
+      least = symbols_least m;
       field_least = omega (arith, sizes.field_least);
       dummies = dummy_is m tuning.lock link.setup.number valid;
       frames = hears_frame;
@@ -325,24 +324,20 @@ module _ (m : Mode) (valid : IsMode m) (sizes : HasCodeSizes m) where
   hears_law link tuning limit linked ro known = hears link (subst IsMode (sym linked.0) valid) (subst HasCodeSizes (sym linked.0) sizes) linked.1 ro tuning known limit
 
   pub arrival_law : ArrivalLaw m
-  arrival_law t tuning count_old count_new source symbols counts totals source_left p p' w w' linked ro known bytes runs got =
-      let a = arrives t (link_rules t.link tuning most_symbols) count_old count_new source symbols counts got.state source_left got.left p p' w w' (hears_law t.link tuning most_symbols linked ro known) bytes runs got.runs_out in
-      record { packets = a.packets; totals_are = got.totals_are ∙ a.totals; lines = a.lines }
-
-  pub likely_law : LikelyFrameLaw m
-  likely_law link tuning symbols linked verdict =
-      let soft = frame_soft link tuning symbols in
-      let long = length_soft link (subst IsMode (sym linked.0) valid) (subst HasCodeSizes (sym linked.0) sizes) linked.1 tuning symbols in
-      subst (IsMostLikely (code_of link.rows) soft) (sym (frame_bits link tuning symbols)) (likely_lem link.rows tuning soft long (sym (ap is_certified (frame_verdict link tuning symbols)) ∙ verdict))
-
-  pub sole_law : SoleFrameLaw m
-  sole_law link tuning symbols linked verdict =
-      let soft = frame_soft link tuning symbols in
-      let long = length_soft link (subst IsMode (sym linked.0) valid) (subst HasCodeSizes (sym linked.0) sizes) linked.1 tuning symbols in
-      subst (IsSole (code_of link.rows) soft) (sym (frame_bits link tuning symbols)) (sole_lem link.rows tuning soft long (sym (frame_verdict link tuning symbols) ∙ verdict))
+  arrival_law t tuning count_old count_new source written counts totals source_left before behind linked ro known bytes runs spelt got =
+      let hears = hears_law t.link tuning most_symbols linked ro known in
+      let a = arrives t (link_rules t.link tuning most_symbols) count_old count_new source written counts got.state source_left before (record behind { taken = got.left }) hears bytes runs spelt got.runs_out in
+      record { packets = a.0; totals_are = got.totals_are ∙ a.1; lines = a.2 }
 
   pub all_as_likely : (link : Link) (tuning : Tuning) → IsLinkOf m link → AllAsLikely link tuning
-  all_as_likely link tuning linked = λ symbols. record { likely = likely_law link tuning symbols linked; sole = sole_law link tuning symbols linked }
+  all_as_likely link tuning linked = λ symbols.
+      let soft = frame_soft link tuning symbols in
+      let f = frame_is link tuning symbols in
+      let long = length_soft link (subst IsMode (sym linked.0) valid) (subst HasCodeSizes (sym linked.0) sizes) linked.1 tuning symbols in
+      record {
+        likely = λ verdict. subst (IsMostLikely (code_of link.rows) soft) (sym f.bits) (likely_lem link.rows tuning soft long (sym (ap is_certified f.verdict) ∙ verdict));
+        sole = λ verdict. subst (IsSole (code_of link.rows) soft) (sym f.bits) (sole_lem link.rows tuning soft long (sym f.verdict ∙ verdict));
+      }
 
   pub all_told : (link : Link) (tuning : Tuning) → IsLinkOf m link → AllTold link tuning
   all_told link tuning linked = λ symbols.
@@ -350,22 +345,20 @@ module _ (m : Mode) (valid : IsMode m) (sizes : HasCodeSizes m) where
       let sizes' = subst HasCodeSizes (sym linked.0) sizes in
       let long = length_soft link valid' sizes' linked.1 tuning symbols in
       record {
-        certified = frame_certified link tuning symbols (certified_lem link.rows tuning (frame_soft link tuning symbols) long);
+        certified = (frame_is link tuning symbols).certified (certified_lem link.rows tuning (frame_soft link tuning symbols) long);
         within = frame_corrected link valid' sizes' linked.1 tuning symbols;
       }
 
-  module _ (link : Link) (tuning : Tuning) (at : ℕ) (symbols : List Symbol) (field : List ℕ) (codeword : List Bool) (sent : IsSent m link at field codeword) where
-    pub scattered_law : IsScattered (code_of link.rows) (frame_soft link tuning symbols) codeword → IsDeliveredCertified (frame_decision link tuning symbols) codeword (header_at link.setup.roll_off at field) field
-    scattered_law scattered =
-        let same = sent.linked.0 in
-        let sure = scattered_lem link.rows tuning (frame_soft link tuning symbols) codeword scattered in
-        record {
-          verdict = ap is_certified (frame_verdict link tuning symbols) ∙ sure.0;
-          bits = frame_bits link tuning symbols ∙ sure.1;
-          delivered = codeword_delivers link (subst IsMode (sym same) valid) (subst HasCodeSizes (sym same) sizes) sent.linked.1 tuning at symbols field codeword sent.roll_off sent.bytes sent.place sent.fits sent.codeword_is sure.1;
-        }
+  pub scattered_law : ScatteredFrameLaw m
+  scattered_law link tuning at symbols field codeword sent scattered =
+      let same = sent.linked.0 in
+      let sure = scattered_lem link.rows tuning (frame_soft link tuning symbols) codeword scattered in
+      record {
+        verdict = ap is_certified (frame_is link tuning symbols).verdict ∙ sure.0;
+        bits = (frame_is link tuning symbols).bits ∙ sure.1;
+        delivered = codeword_delivers link (subst IsMode (sym same) valid) (subst HasCodeSizes (sym same) sizes) sent.linked.1 tuning at symbols field codeword sent.roll_off sent.bytes sent.place sent.fits sent.codeword_is sure.1;
+      }
 
-    pub both_codes_law : differences (k_of link.setup.mode) (received_word link.setup.mode (frame_decision link tuning symbols).bits) sent.codeword_is.bch_word ≤ t_of link.setup.mode
-        → IsDelivered (frame_decision link tuning symbols) (differences (k_of link.setup.mode) (received_word link.setup.mode (frame_decision link tuning symbols).bits) sent.codeword_is.bch_word) (header_at link.setup.roll_off at field) field
-    both_codes_law few =
-        both_codes link (subst IsMode (sym sent.linked.0) valid) (subst HasCodeSizes (sym sent.linked.0) sizes) sent.linked.1 tuning at symbols field codeword sent.roll_off sent.bytes sent.place sent.fits sent.codeword_is few
+  pub both_codes_law : BothCodesLaw m
+  both_codes_law link tuning at symbols field codeword sent few =
+      both_codes link (subst IsMode (sym sent.linked.0) valid) (subst HasCodeSizes (sym sent.linked.0) sizes) sent.linked.1 tuning at symbols field codeword sent.roll_off sent.bytes sent.place sent.fits sent.codeword_is few

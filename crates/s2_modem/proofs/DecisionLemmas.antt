@@ -1,7 +1,7 @@
 -- What a decider finds is what is decided of a frame.
-use Rattle.std.proofs.Common.{◌≡◌, ℕ, ◌+◌, ◌-◌, ◌*◌, ◌/◌, ◌%◌, ◌<◌, ◌≤◌, ◌⊎◌, Bool, true, false, List, length, take, Option, Some, None, IfSome, IfNone, Result, Ok, Err, refl, sym, ap, subst, ◌∙◌, arith, inl, inr, length-take, ℤ}
-use Rattle.std.specs.Prelude.{◌||◌, replicate, pos}
-use Rattle.std.proofs.lemmas.Bool.{cases_Bool, leb-true, eqb-true}
+use Rattle.std.proofs.Common.{◌≡◌, ℕ, ◌+◌, ◌-◌, ◌*◌, ◌/◌, ◌%◌, ◌<◌, ◌≤◌, Bool, true, false, List, length, take, Option, Some, None, IfSome, IfNone, Result, Ok, refl, sym, ap, subst, ◌∙◌, arith, inl, inr, length-take, ℤ}
+use Rattle.std.specs.Prelude.{replicate, pos}
+use Rattle.std.proofs.lemmas.Bool.{cases_Bool, or_cases, leb-true, eqb-true}
 use Rattle.std.proofs.lemmas.List.{ext_get_or, get_or-take, take_all, take-replicate}
 use Rattle.s2_bbframe.specs.DataStream.{field_bytes}
 use Rattle.s2_mode.specs.Mode.{Mode, HasCodeSizes, k_of, kbch_of, t_of, n_of, shape_in}
@@ -28,7 +28,6 @@ use Rattle.s2_judge.specs.Deciding.{Decided, decided}
 use Rattle.s2_link.specs.Tuning.{Tuning}
 use Rattle.s2_modem.specs.Reports.{frame_soft, frame_decision, received_word, message_of, header_in, outcome_by, delivered_by, decision_on, decision_by, IsUndecided}
 use Rattle.s2_scramble.specs.Baseband.{scrambled}
-use Rattle.s2_receive.specs.declared.report.Outcome.TheVariants.{NoWord}
 use Rattle.s2_modem.specs.Listening.{FindsWord, Reads, decision_held}
 
 -- a list over which the first bits of another were written, as many as it has
@@ -52,26 +51,12 @@ found_long m received word (Some c) long some same = some.0.word.size
 found_long m received word None long some same = ap length same ∙ long
 
 -- a header that is accepted has lengths of the mode
-abbrev header_or : Header → Result Header HeaderFault → Header
-header_or d (Ok x) = x
-header_or d (Err f) = d
-
-abbrev is_ok : Result Header HeaderFault → Bool
-is_ok (Ok x) = true
-is_ok (Err f) = false
-
-not_ok : (r : Result Header HeaderFault) (h : Header) → is_ok r ≡ false → r ≡ Ok h → ⊥
-not_ok r h fails e = differ (sym fails ∙ ap is_ok e)
-  where
-    differ : false ≡ true → ⊥
-    differ e = cc
-
 by_tests : (m : Mode) (bytes : List ℕ) (h : Header) (whole ours valid : Bool) → is_whole bytes ≡ whole → is_packet_stream bytes ≡ ours → has_valid_lengths m (header_of bytes) ≡ valid
     → header_of_bytes m bytes ≡ Ok h → has_valid_lengths m h ≡ true
-by_tests m bytes h false ours valid a b c ok = absurd (not_ok (header_of_bytes m bytes) h (ap is_ok (header_of_bytes-bad_crc m bytes a)) ok)
-by_tests m bytes h true false valid a b c ok = absurd (not_ok (header_of_bytes m bytes) h (ap is_ok (header_of_bytes-other m bytes a b)) ok)
-by_tests m bytes h true true false a b c ok = absurd (not_ok (header_of_bytes m bytes) h (ap is_ok (header_of_bytes-bad_lengths m bytes a b c)) ok)
-by_tests m bytes h true true true a b c ok = subst (λ x. has_valid_lengths m x ≡ true) (ap (header_or h) (sym (header_of_bytes-accepted m bytes a b c) ∙ ok)) c
+by_tests m bytes h false ours valid a b c ok = let bad = header_of_bytes-bad_crc m bytes a in cc
+by_tests m bytes h true false valid a b c ok = let bad = header_of_bytes-other m bytes a b in cc
+by_tests m bytes h true true false a b c ok = let bad = header_of_bytes-bad_lengths m bytes a b c in cc
+by_tests m bytes h true true true a b c ok = let is = header_of_bytes-accepted m bytes a b c in let same : header_of bytes ≡ h = cc in subst (λ x. has_valid_lengths m x ≡ true) same c
 
 pub accepted_valid : (m : Mode) (bytes : List ℕ) (h : Header) → header_of_bytes m bytes ≡ Ok h → has_valid_lengths m h ≡ true
 accepted_valid m bytes h ok = by_tests m bytes h (is_whole bytes) (is_packet_stream bytes) (has_valid_lengths m (header_of bytes)) refl refl refl ok
@@ -91,10 +76,6 @@ message_fits m sizes =
 pub code_is : (m : Mode) (rows : Rows) → HasCodeSizes m → rows.shape ≡ shape_in m → (code_of rows).bits ≡ n_of m
 code_is m rows sizes shape = ap code_bits shape ∙ omega (arith, sizes.groups, sizes.checks)
 
-either : (a b : Bool) → (a || b) ≡ true → (a ≡ true) ⊎ (b ≡ true)
-either true b e = inl refl
-either false b e = inr e
-
 -- the joiner can take its data field
 pub has_place : (m : Mode) (h : Header) (field : List ℕ) → HasCodeSizes m → has_valid_lengths m h ≡ true → length field ≡ h.dfl / 8 → HasPlace field h
 has_place m h field sizes valid long =
@@ -104,9 +85,9 @@ has_place m h field sizes valid long =
     let most : h.dfl ≤ kbch_of m - 80 = leb-true _ _ b.0 in
     let room = sizes.field_most in (
       omega (arith, long, most, room),
-      elim (either _ _ b.1) [
+      elim (or_cases _ _ b.1) [
         | inl none ↦ let e : h.dfl ≡ 0 = eqb-true _ _ none in inl (omega (arith, long, e))
-        | inr some ↦ inr (elim (either _ _ some) [
+        | inr some ↦ inr (elim (or_cases _ _ some) [
           | inl no_place ↦ inl (eqb-true _ _ no_place)
           | inr place ↦
               let p = both _ _ place in
@@ -118,28 +99,20 @@ has_place m h field sizes valid long =
       ],
     )
 
-abbrev made : Mode → List ℤ → Decided → List Bool → Outcome → Option (Header × List ℕ) → Decision
-made m soft d word outcome delivered = record { soft = soft; bits = d.bits; verdict = d.verdict; certificate = d.certificate; message = message_of m word; outcome = outcome; delivered = delivered }
-
 abbrev pub shown : Mode → List ℤ → List Bool → Verdict → Option View → List Bool → Outcome → Option (Header × List ℕ) → Decision
 shown m soft bits verdict certificate word outcome delivered =
     record { soft = soft; bits = bits; verdict = verdict; certificate = certificate; message = message_of m word; outcome = outcome; delivered = delivered }
 
 -- what was found and read is what is decided
 pub decision_is : (m : Mode) (soft : List ℤ) (d : Decided) (word : List Bool) (found : Option ℕ) (outcome : Outcome) (delivered : Option (Header × List ℕ))
-    → FindsWord m (received_word m d.bits) word found → Reads m word found outcome delivered → made m soft d word outcome delivered ≡ decision_on m soft d
+    → FindsWord m (received_word m d.bits) word found → Reads m word found outcome delivered → shown m soft d.bits d.verdict d.certificate word outcome delivered ≡ decision_on m soft d
 decision_is m soft d word (Some fixed) outcome delivered finds reads =
     let frame = scrambled (message_of m word) in
     let read : Result Header HeaderFault = header_of_bytes m (header_in frame) in
-    ap (λ o. made m soft d word o delivered) reads.0
-    ∙ ap (λ x. made m soft d word (outcome_by fixed read) x) reads.1
-    ∙ ap (λ n. made m soft d word (outcome_by n read) (delivered_by frame read)) finds.1
-    ∙ ap (decision_by m soft d) (sym finds.0)
+    (λ i. shown m soft d.bits d.verdict d.certificate word (reads.0 i) (reads.1 i))
+    ∙ ap (λ n. shown m soft d.bits d.verdict d.certificate word (outcome_by n read) (delivered_by frame read)) finds.1 ∙ ap (decision_by m soft d) (sym finds.0)
 decision_is m soft d word None outcome delivered finds reads =
-    ap (λ o. made m soft d word o delivered) reads.0
-    ∙ ap (λ x. made m soft d word NoWord x) reads.1
-    ∙ ap (λ w. made m soft d w NoWord None) finds.1
-    ∙ ap (decision_by m soft d) (sym finds.0)
+    (λ i. shown m soft d.bits d.verdict d.certificate (finds.1 i) (reads.0 i) (reads.1 i)) ∙ ap (decision_by m soft d) (sym finds.0)
 
 -- the parts that a decider finds are what is decided of a frame
 pub frame_decided : (link : Link) (tuning : Tuning) (symbols : List Symbol) (soft : List ℤ) (bits : List Bool) (verdict : Verdict) (certificate : Option View) (word : List Bool) (found : Option ℕ) (outcome : Outcome) (delivered : Option (Header × List ℕ))
@@ -150,9 +123,7 @@ unfolding frame_decision
 frame_decided link tuning symbols soft bits verdict certificate word found outcome delivered soft_is verdict_is bits_are certificate_is finds reads =
     let m = link.setup.mode in
     let d : Decided = decided link.rows tuning soft in
-    ap (λ v. shown m soft bits v certificate word outcome delivered) verdict_is
-    ∙ ap (λ b. shown m soft b d.verdict certificate word outcome delivered) bits_are
-    ∙ ap (λ x. shown m soft d.bits d.verdict x word outcome delivered) certificate_is
+    (λ i. shown m soft (bits_are i) (verdict_is i) (certificate_is i) word outcome delivered)
     ∙ decision_is m soft d word found outcome delivered (subst (λ b. FindsWord m (received_word m b) word found) bits_are finds) reads
     ∙ ap (λ s. decision_on m s (decided link.rows tuning s)) soft_is
 

@@ -1,16 +1,18 @@
 -- The headline holds.
 use Rattle.std.proofs.Common.{◌≡◌, ℕ, zero, suc, ◌+◌, ◌-◌, ◌<◌, ◌≤◌, Bool, true, false, cond, List, [], ◌∷◌, ◌++◌, All, Option, Some, None, length, take, drop, inl, inr, refl, sym, ap, ◌∙◌, subst, append_assoc, append-nil}
-use Rattle.std.specs.Prelude.{nat_le, nat_lt}
+use Rattle.std.specs.Prelude.{⊤, nat_le, nat_lt, IfSome}
+use Rattle.std.specs.Io.KnownBytes.{Appends}
 use Rattle.std.specs.List.{flat_map}
 use Rattle.std.proofs.lemmas.List.{drop-drop}
-use Rattle.std.proofs.lemmas.List.Elements.{All-nil, All-cons, All-head, All-tail, All-weaker}
+use Rattle.std.proofs.lemmas.List.Elements.{All-nil, All-cons, All-weaker}
 use Rattle.s2_mode.specs.Mode.{Mode, IsMode, HasCodeSizes, symbols_in}
 use Rattle.s2_mode.specs.Symbols.{symbols_of}
+use Rattle.s2_mode.specs.Streams.{Streams}
 use Rattle.s2_mode.specs.declared.symbols.Symbol.{Symbol}
 use Rattle.s2_matrix.specs.Code.{code_of}
 use Rattle.s2_check.specs.declared.verdict.Verdict.{Verdict}
-use Rattle.s2_bbframe.specs.DataStream.{stream_of, header_at, to_place, field_bytes}
-use Rattle.s2_bbframe.specs.Joining.{Placed, closed_in}
+use Rattle.s2_bbframe.specs.DataStream.{header_at, to_place, field_bytes}
+use Rattle.s2_bbframe.specs.Joining.{closed_in}
 use Rattle.s2_soft.specs.Divisors.{IsDivisor}
 use Rattle.s2_plframe.specs.declared.receive.found.Found.{Found}
 use Rattle.s2_plframe.specs.declared.receive.found.Found.TheVariants as founds
@@ -22,20 +24,19 @@ use Rattle.s2_receive.specs.declared.report.Report.{Report}
 use Rattle.s2_receive.specs.declared.report.Outcome.{Outcome}
 use Rattle.s2_receive.specs.ReportLines.{frame_line, cut_line, end_line}
 use Rattle.s2_receive.specs.Meeting.{Met, frame, cut, ended, nothing_over, passed, begins, by_found, met_from}
-use Rattle.s2_receive.specs.Receiving.{Rules, State, Standing, at_start, at_end, passes, report_of, after, after_all, all_packets, all_lines, begun, RunsOut, RunsTo}
-use Rattle.s2_receive.specs.Laws.{Piece, coded, dummy, joined, stream_symbols, IsReceived, AreReceived, frames_at}
+use Rattle.s2_receive.specs.Receiving.{Rules, State, Standing, at_start, at_end, passes, report_of, after, after_all, all_packets, all_lines, begun, RunsOut}
+use Rattle.s2_receive.specs.Laws.{Piece, joined, stream_symbols, Spells, IsReceived, AreReceived, frames_at}
 use Rattle.s2_receive.proofs.Reception.{gives}
 use Rattle.s2_receive.proofs.RunLemmas.{packets-append}
-use Rattle.s2_receive.proofs.FieldPlaces.{placed_fields, placed_front}
 use Rattle.s2_modem.specs.Reports.{frame_soft, frame_decision}
 use Rattle.s2_modem.specs.Reception.{IsAsLikely, IsCorrected, link_rules}
 use Rattle.s2_modem.specs.Both.{AreBytes}
 use Rattle.s2_modem.specs.Headline.{IsSent}
-use Rattle.s2_modem.specs.Promise.{frame_from, decision_from, IsReport, IsReadable, AreReadable, Arriving, BeginsWith, Headline, IsHeadline, KeepsHeadline}
-use Rattle.s2_modem.proofs.ByteStreams.{stream_bytes, cut_bytes}
-use Rattle.s2_modem.proofs.Arrival.{short_cuts, all_met}
+use Rattle.s2_modem.specs.Promise.{frame_from, decision_from, IsReport, IsReadable, Arriving, BeginsWith, Headline, KeepsHeadline, Promises}
+use Rattle.s2_modem.proofs.ByteStreams.{front_fields}
+use Rattle.s2_modem.proofs.Arrival.{all_met}
 use Rattle.s2_modem.proofs.CleanFrames.{all_as_likely, all_told, hears_law, both_codes_law}
-use Rattle.s2_modem.proofs.FirstFrames.{all_front, heard_one}
+use Rattle.s2_modem.proofs.FirstFrames.{received_each, heard_one, all_heard}
 
 -- ---- what stands at a frame's place
 
@@ -93,25 +94,14 @@ module _ (link : Link) (tuning : Tuning) (stream : List Symbol) where
         let more = tell later (after rules s (frame at over symbols)) h.1 in
         record {
           frames = r ∷ more.frames;
-          lines = record {
-            last = more.lines.last;
-            closing = more.lines.closing;
-            lines = ap (λ l. frame_line r ++ l) more.lines.lines ∙ sym (append_assoc (frame_line r) (flat_map frame_line more.frames) more.lines.last);
-          };
+          lines = record { last = more.lines.last; closing = more.lines.closing; lines = ap (λ l. frame_line r ++ l) more.lines.lines ∙ sym (append_assoc (frame_line r) (flat_map frame_line more.frames) more.lines.last) };
           told = All-cons Tells r more.frames (ap (λ l. (frame_decision link tuning l).verdict) h.0, ap (λ l. (frame_decision link tuning l).outcome) h.0) more.told;
         }
     tell (cut at over count ∷ later) s h =
         let t = after rules s (cut at over count) in
         let totals = passes t.totals (at_end h.0) in
-        record {
-          frames = [];
-          lines = record {
-            last = cut_line at count ++ end_line totals;
-            closing = inr (at, count, totals, refl);
-            lines = ap (λ l. cut_line at count ++ l) (ap (all_lines rules t) h.1 ∙ tell_end h.0 [] t refl);
-          };
-          told = All-nil Tells;
-        }
+        let lines = ap (λ l. cut_line at count ++ l) (ap (all_lines rules t) h.1 ∙ tell_end h.0 [] t refl) in
+        record { frames = []; lines = record { last = cut_line at count ++ end_line totals; closing = inr (at, count, totals, refl); lines = lines }; told = All-nil Tells }
     tell (ended over ∷ later) s h =
         let totals = passes s.totals (at_end over) in
         record { frames = []; lines = record { last = end_line totals; closing = inl (totals, refl); lines = tell_end over later s h }; told = All-nil Tells }
@@ -127,30 +117,16 @@ module _ (m : Mode) (valid : IsMode m) (sizes : HasCodeSizes m) (link : Link) (t
         → IsReceived by behind (header_at link.setup.roll_off at field) field symbols
     read_one behind at field symbols bytes place fits (codeword, is, inl clear) =
         (heard_one m valid sizes link tuning limit linked ro known behind at field symbols bytes place fits (codeword, is, clear)).0
-    read_one behind at field symbols bytes place fits (codeword, is, inr (long, header, few)) =
+    read_one behind at field symbols bytes place fits (codeword, is, inr (whole, few)) =
         let sent : IsSent m link at field codeword = record { linked = linked; roll_off = ro; bytes = bytes; place = place; fits = fits; codeword_is = is } in
-        (long, header, (both_codes_law m valid sizes link tuning at symbols field codeword sent few).delivered)
-
-    read_all : (behind : Bool) (at : ℕ) (pieces : List Piece) (fields : List (List ℕ)) → All AreBytes fields → Placed at fields → All (λ field. length field ≤ field_bytes link.setup.mode) fields
-        → AreReadable link tuning behind at pieces fields → AreReceived by link.setup.roll_off behind at pieces fields
-    read_all behind at [] [] bytes placed short h = tt
-    read_all behind at [] (f ∷ fs) bytes placed short h = absurd h
-    read_all behind at (coded s ∷ ps) [] bytes placed short h = absurd h
-    read_all behind at (coded s ∷ ps) (f ∷ fs) bytes placed short h = (
-      read_one behind at f s (All-head AreBytes f fs bytes) placed.0 (All-head (λ field. length field ≤ field_bytes link.setup.mode) f fs short) h.0,
-      read_all true (at + length f) ps fs (All-tail AreBytes f fs bytes) placed.1 (All-tail (λ field. length field ≤ field_bytes link.setup.mode) f fs short) h.1,
-    )
-    read_all behind at (dummy s ∷ ps) fs bytes placed short h = (h.0, read_all true at ps fs bytes placed short h.1)
+        (whole.0, whole.1, (both_codes_law m valid sizes link tuning at symbols field codeword sent few).delivered)
 
     received : (packets fields later : List (List ℕ)) (pieces : List Piece) → Arriving link tuning packets fields later pieces → AreReceived by link.setup.roll_off false 0 pieces fields
     received packets fields later pieces a =
         let size = field_bytes link.setup.mode in
         let hears = hears_law m valid sizes link tuning limit linked ro known in
-        let within : List ℕ → Type 0 = λ field. length field ≤ field_bytes link.setup.mode in
-        let whole : All AreBytes (fields ++ later) = subst (All AreBytes) (sym a.fields_are) (cut_bytes size _ (stream_of packets) (stream_bytes packets a.bytes)) in
-        let short : All within (fields ++ later) = subst (All within) (sym a.fields_are) (short_cuts size _ (stream_of packets)) in
-        let placed : Placed 0 fields = placed_front fields later 0 (subst (Placed 0) (sym a.fields_are) (placed_fields size hears.field_least packets a.each)) in
-        read_all false 0 pieces fields (all_front AreBytes fields later whole) placed (all_front within fields later short) a.frames
+        let (bytes, placed, short) = front_fields size packets fields later hears.field_least a.each a.bytes a.fields_are in
+        (received_each (IsReadable link tuning) (λ symbols. ⊤) by link.setup.roll_off size (λ behind at field symbols b p f h. (read_one behind at field symbols b p f h, tt)) false 0 pieces fields bytes placed short a.frames).0
 
     abbrev met_on : List Symbol → List Met
     met_on symbols = met_from by.finds by.size 0 0 false nothing_over symbols
@@ -184,22 +160,29 @@ module _ (m : Mode) (valid : IsMode m) (sizes : HasCodeSizes m) (link : Link) (t
           heard = heard symbols;
         }
 
-  pub keeps_headline : link.setup.roll_off ≤ 2 → IsDivisor tuning.divisor → KeepsHeadline link tuning
-  keeps_headline ro known limit state bytes left p p' w w' out =
-      let rules = link_rules link tuning limit in
-      let met = out.1.0 in
-      let went = out.1.1 in
-      let is = all_met rules bytes state left met out.0 went.left in (
-        all_packets rules at_start met,
-        all_lines rules at_start met,
-        went.packets,
-        went.lines,
-        subst (λ l. Headline link tuning (symbols_of bytes) (all_packets rules at_start l) (all_lines rules at_start l)) is (headline ro known limit (symbols_of bytes)),
-      )
+    -- of bytes that are known
+    known_bytes : (state : State) (before behind : Streams) (taken : Option (List ℕ)) → before.taken ≡ taken → RunsOut by begun state before behind
+        → IfSome taken (λ bytes. (packets : List ℕ) × (report : List ℕ) × Appends before.given behind.given packets × Appends before.out behind.out report × Headline link tuning (symbols_of bytes) packets report)
+    known_bytes state before behind None e out = tt
+    known_bytes state before behind (Some bytes) e out =
+        let met = out.1.0 in
+        let went = out.1.1 in
+        let spelt : Spells before.taken (symbols_of bytes) = subst (λ t. Spells t (symbols_of bytes)) (sym e) refl in
+        let is = all_met by (symbols_of bytes) state before.taken behind.taken met spelt out.0 went.left in (
+          all_packets by at_start met,
+          all_lines by at_start met,
+          went.packets,
+          went.lines,
+          subst (λ l. Headline link tuning (symbols_of bytes) (all_packets by at_start l) (all_lines by at_start l)) is (headline (symbols_of bytes)),
+        )
 
--- of a run from the beginning, where the bytes are known
-pub run_headline : (link : Link) (tuning : Tuning) (limit : ℕ) (old new : State) (r r' p p' w w' : Option (List ℕ)) (well : Bool) → KeepsHeadline link tuning → old ≡ begun
-    → RunsTo (link_rules link tuning limit) old new r r' p p' w w' well → IsHeadline link tuning r p p' w w'
-run_headline link tuning limit old new None r' p p' w w' well keeps fresh to = tt
-run_headline link tuning limit old new (Some bytes) r' p p' w w' well keeps fresh to =
-    keeps limit new bytes r' p p' w w' (subst (λ (s : State). RunsOut (link_rules link tuning limit) s new (Some bytes) r' p p' w w') fresh to.runs_out)
+  pub keeps_headline : link.setup.roll_off ≤ 2 → IsDivisor tuning.divisor → KeepsHeadline link tuning
+  keeps_headline ro known limit state before behind out = known_bytes ro known limit state before behind before.taken refl out
+
+  pub promises : link.setup.roll_off ≤ 2 → IsDivisor tuning.divisor → Promises link tuning
+  promises ro known = record {
+    as_likely = all_as_likely m valid sizes link tuning linked;
+    told = all_told m valid sizes link tuning linked;
+    heard = all_heard m valid sizes link tuning linked ro known;
+    headline = keeps_headline ro known;
+  }

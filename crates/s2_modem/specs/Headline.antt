@@ -2,19 +2,19 @@
 use Rattle.std.specs.Prelude.{◌≡◌, ℕ, ◌<◌, ◌≤◌, IsTrue, Bool, List, [], ◌++◌, length, Option, Some, Ok}
 use Rattle.std.specs.Io.KnownBytes.{Appends}
 use Rattle.s2_mode.specs.Mode.{Mode, k_of, t_of, symbols_in}
+use Rattle.s2_mode.specs.Streams.{Streams}
+use Rattle.s2_mode.specs.Symbols.{symbols_of}
 use Rattle.s2_mode.specs.declared.symbols.Symbol.{Symbol}
 use Rattle.s2_bits.specs.Bits.{differences}
 use Rattle.s2_matrix.specs.Code.{code_of}
 use Rattle.s2_check.specs.Cost.{IsMostLikely}
 use Rattle.s2_split.specs.Scattered.{IsScattered}
-use Rattle.s2_bbframe.specs.declared.header.Header.{Header}
 use Rattle.s2_bbframe.specs.DataStream.{header_at, to_place, field_bytes}
-use Rattle.s2_receive.specs.Receiving.{Decision}
+use Rattle.s2_receive.specs.Laws.{Spells}
 use Rattle.s2_receive.specs.declared.report.Totals.{Totals}
 use Rattle.s2_check.specs.Strict.{IsSole}
 use Rattle.s2_check.specs.Verdicts.{is_certified}
 use Rattle.s2_check.specs.declared.verdict.Verdict.TheVariants.{Sole}
-use Rattle.s2_receive.specs.declared.report.Outcome.TheVariants.{Delivered}
 use Rattle.s2_mode.specs.Limits.{most_symbols}
 use Rattle.s2_soft.specs.Divisors.{IsDivisor}
 use Rattle.s2_link.specs.Limits.{most_roll_off}
@@ -25,10 +25,10 @@ use Rattle.s2_send.specs.Laws.{IsLinkOf, ReadFails}
 use Rattle.s2_send.specs.Transmitter.{Transmitter}
 use Rattle.s2_send.specs.Sending.{TransmitterRuns}
 use Rattle.s2_send.specs.Frames.{IsCodewordFor}
-use Rattle.s2_modem.specs.Reports.{frame_soft, received_word, frame_decision}
+use Rattle.s2_modem.specs.Reports.{frame_soft, received_word, message_of, frame_decision}
 use Rattle.s2_receive.specs.ReportLines.{end_line}
 use Rattle.s2_modem.specs.Reception.{link_rules, Receives}
-use Rattle.s2_modem.specs.Both.{AreBytes, Hears, certified_lines, run_places, totals_of}
+use Rattle.s2_modem.specs.Both.{AreBytes, IsDelivered, IsDeliveredCertified, Hears, certified_lines, run_places, totals_of}
 
 -- a frame that has a certificate: no codeword costs less under its soft values than its bits
 abbrev pub LikelyFrameLaw : Mode → Type 0
@@ -42,11 +42,6 @@ SoleFrameLaw m =
     (link : Link) (tuning : Tuning) (symbols : List Symbol) → IsLinkOf m link → (frame_decision link tuning symbols).verdict ≡ Sole
     → IsSole (code_of link.rows) (frame_soft link tuning symbols) (frame_decision link tuning symbols).bits
 
--- a frame that delivers this data field with this header, after so many changes by BCH decoding
-pub record IsDelivered (d : Decision) (fixed : ℕ) (header : Header) (field : List ℕ) : Type 0 where
-  pub outcome : d.outcome ≡ Delivered fixed
-  pub delivered : d.delivered ≡ Some (header, field)
-
 -- the codeword that was sent for a data field of bytes, which begins at this byte of its stream and holds a sync place
 pub record IsSent (m : Mode) (link : Link) (at : ℕ) (field : List ℕ) (codeword : List Bool) : Type 0 where
   pub linked : IsLinkOf m link
@@ -56,26 +51,24 @@ pub record IsSent (m : Mode) (link : Link) (at : ℕ) (field : List ℕ) (codewo
   pub fits : length field ≤ field_bytes link.setup.mode
   pub codeword_is : IsCodewordFor link.setup.mode link.rows (header_at link.setup.roll_off at field) field codeword
 
--- Both codes together: where the first Nbch decided bits differ from the sent BCH word in at most t places, the field that was
--- sent is delivered, and the report tells in how many.
-abbrev pub BothCodesLaw : Mode → Type 0
-BothCodesLaw m =
-    (link : Link) (tuning : Tuning) (at : ℕ) (symbols : List Symbol) (field : List ℕ) (codeword : List Bool) (sent : IsSent m link at field codeword)
+-- Both codes together: where the first Nbch decided bits differ from the sent BCH word in at most t places, the message and the field
+-- that were sent are delivered, and the report tells in how many.
+abbrev pub AllCorrected : Mode → Link → Tuning → Type 0
+AllCorrected m link tuning =
+    (at : ℕ) (symbols : List Symbol) (field : List ℕ) (codeword : List Bool) (sent : IsSent m link at field codeword)
     → differences (k_of link.setup.mode) (received_word link.setup.mode (frame_decision link tuning symbols).bits) sent.codeword_is.bch_word ≤ t_of link.setup.mode
-    → IsDelivered (frame_decision link tuning symbols) (differences (k_of link.setup.mode) (received_word link.setup.mode (frame_decision link tuning symbols).bits) sent.codeword_is.bch_word) (header_at link.setup.roll_off at field) field
+    → IsDelivered (frame_decision link tuning symbols) (differences (k_of link.setup.mode) (received_word link.setup.mode (frame_decision link tuning symbols).bits) sent.codeword_is.bch_word)
+    (message_of link.setup.mode sent.codeword_is.bch_word) (header_at link.setup.roll_off at field) field
 
--- a frame that is certified, with no bit changed
-pub record IsDeliveredCertified (d : Decision) (codeword : List Bool) (header : Header) (field : List ℕ) : Type 0 where
-  pub verdict : IsTrue (is_certified d.verdict)
-  pub bits : d.bits ≡ codeword
-  pub delivered : IsDelivered d 0 header field
+abbrev pub BothCodesLaw : Mode → Type 0
+BothCodesLaw m = (link : Link) (tuning : Tuning) → AllCorrected m link tuning
 
 -- a frame whose soft values are scattered about the codeword that was sent
 abbrev pub ScatteredFrameLaw : Mode → Type 0
 ScatteredFrameLaw m =
-    (link : Link) (tuning : Tuning) (at : ℕ) (symbols : List Symbol) (field : List ℕ) (codeword : List Bool) → IsSent m link at field codeword
+    (link : Link) (tuning : Tuning) (at : ℕ) (symbols : List Symbol) (field : List ℕ) (codeword : List Bool) (sent : IsSent m link at field codeword)
     → IsScattered (code_of link.rows) (frame_soft link tuning symbols) codeword
-    → IsDeliveredCertified (frame_decision link tuning symbols) codeword (header_at link.setup.roll_off at field) field
+    → IsDeliveredCertified (frame_decision link tuning symbols) codeword (message_of link.setup.mode sent.codeword_is.bch_word) (header_at link.setup.roll_off at field) field
 
 -- each frame of a link is received as it was sent, by each divisor
 abbrev pub HearsLaw : Mode → Type 0
@@ -83,15 +76,14 @@ HearsLaw m =
     (link : Link) (tuning : Tuning) (limit : ℕ) → IsLinkOf m link → link.setup.roll_off ≤ most_roll_off → IsDivisor tuning.divisor → Hears link (link_rules link tuning limit)
 
 -- all packets, a line for each frame, sole, and the end's
-pub record AllArrives (t : Transmitter) (tuning : Tuning) (source : List ℕ) (counts : Counts) (totals : Totals) (packets_old packets_new report_old report_new : Option (List ℕ)) : Type 0 where
-  pub packets : Appends packets_old packets_new source
+pub record AllArrives (t : Transmitter) (source : List ℕ) (counts : Counts) (totals : Totals) (before behind : Streams) : Type 0 where
+  pub packets : Appends before.given behind.given source
   pub totals_are : totals ≡ totals_of counts
-  pub lines : Appends report_old report_new (certified_lines (link_rules t.link tuning most_symbols) 0 (run_places (symbols_in t.link.setup.mode) t.dummy_every 1 0 counts.frames) ++ end_line (totals_of counts))
+  pub lines : Appends before.out behind.out (certified_lines 0 (run_places (symbols_in t.link.setup.mode) t.dummy_every 1 0 counts.frames) ++ end_line (totals_of counts))
 
 -- what a run of the transmitter writes, the frames and the dummy frames among them, received whole, by each divisor
 abbrev pub ArrivalLaw : Mode → Type 0
 ArrivalLaw m =
-    (t : Transmitter) (tuning : Tuning) (count_old count_new : ℕ) (source symbols : List ℕ) (counts : Counts) (totals : Totals) (source_left packets_old packets_new report_old report_new : Option (List ℕ))
-    → IsLinkOf m t.link → t.link.setup.roll_off ≤ most_roll_off → IsDivisor tuning.divisor → AreBytes source → TransmitterRuns t (ReadFails t.limit count_old count_new) (Some source) source_left (Some []) (Some symbols) (Ok counts)
-    → Receives (link_rules t.link tuning most_symbols) symbols packets_old packets_new report_old report_new totals
-    → AllArrives t tuning source counts totals packets_old packets_new report_old report_new
+    (t : Transmitter) (tuning : Tuning) (count_old count_new : ℕ) (source written : List ℕ) (counts : Counts) (totals : Totals) (source_left : Option (List ℕ)) (before behind : Streams)
+    → IsLinkOf m t.link → t.link.setup.roll_off ≤ most_roll_off → IsDivisor tuning.divisor → AreBytes source → TransmitterRuns t (ReadFails t.limit count_old count_new) (Some source) source_left (Some []) (Some written) (Ok counts)
+    → Spells before.taken (symbols_of written) → Receives (link_rules t.link tuning most_symbols) before behind totals → AllArrives t source counts totals before behind

@@ -1,13 +1,14 @@
 -- What the parts of a receiver hold.
-use Rattle.std.specs.Prelude.{◌≡◌, ℕ, Bool, List, Option, Some, None, ℤ}
+use Rattle.std.specs.Prelude.{◌≡◌, ℕ, Bool, List, Option, Some, None, IfSome, ℤ}
 use Rattle.s2_mode.specs.Mode.{Mode, k_of, shape_in, HasCodeSizes}
+use Rattle.s2_mode.specs.declared.symbols.Symbol.{Symbol}
 use Rattle.s2_rows.specs.Rows.{Rows}
 use Rattle.s2_bits.specs.Bits.{differences}
 use Rattle.s2_check.specs.Views.{View}
 use Rattle.s2_bbframe.specs.declared.header.Header.{Header}
 use Rattle.s2_bbframe.specs.Headers.{header_of_bytes}
 use Rattle.s2_scramble.specs.Baseband.{scrambled}
-use Rattle.s2_receive.specs.Parts.{delivered_of}
+use Rattle.s2_receive.specs.Parts.{delivered_of, HasPlace}
 use Rattle.s2_receive.specs.Receiving.{Decision}
 use Rattle.s2_receive.specs.declared.parts.Decided.{Decided}
 use Rattle.s2_receive.specs.declared.report.Outcome.{Outcome}
@@ -15,7 +16,7 @@ use Rattle.s2_receive.specs.declared.report.Outcome.TheVariants.{NoWord}
 use Rattle.s2_link.specs.Link.{Link}
 use Rattle.s2_link.specs.Tuning.{Tuning}
 use Rattle.s2_bch.specs.Decoding.{nearest}
-use Rattle.s2_modem.specs.Reports.{message_of, header_in, outcome_by, delivered_by}
+use Rattle.s2_modem.specs.Reports.{message_of, header_in, outcome_by, delivered_by, frame_decision}
 
 -- what BCH decoding answers of some bits, and the bits that it leaves
 abbrev pub FindsWord : Mode → List Bool → List Bool → Option ℕ → Type 0
@@ -35,6 +36,10 @@ pub record Listening : Type 0 where
   pub tuning : Tuning
   pub last : Decision
   pub field : List ℕ
+
+-- what it decides of a frame's symbols
+abbrev pub decides : Listening → List Symbol → Decision
+decides d = frame_decision d.link d.tuning
 
 -- what its stages hold: a mode, what soft values are divided by, and a scrambling number
 pub record Demodulating : Type 0 where
@@ -64,11 +69,12 @@ decision_held m soft bits certificate bch_word d field = record {
   delivered = delivered_of d.header field;
 }
 
--- the stages of a decider are of its mode, and the divisor is that of its tuning
-pub record IsListening (mode : Mode) (rows : Rows) (tuning : Tuning) (demodulates : Demodulating) (corrects reads : Mode) : Type 0 where
+-- the stages of a decider are of its mode, the divisor is that of its tuning, and the joiner can take what was delivered last
+pub record IsListening (mode : Mode) (rows : Rows) (tuning : Tuning) (demodulates : Demodulating) (corrects : Mode) (reads : Reading) (last : Decided) : Type 0 where
   pub sizes : HasCodeSizes mode
   pub shape : rows.shape ≡ shape_in mode
   pub demodulator : demodulates.mode ≡ mode
   pub divisor : demodulates.divisor ≡ tuning.divisor
   pub corrector : corrects ≡ mode
-  pub reader : reads ≡ mode
+  pub reader : reads.mode ≡ mode
+  pub place : IfSome last.header (HasPlace reads.field)

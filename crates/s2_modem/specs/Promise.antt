@@ -1,29 +1,32 @@
 -- The headline: what a receiver of a link promises of a stream of symbols, and of the packets and the report that it writes of it.
-use Rattle.std.specs.Prelude.{◌≡◌, ℕ, ◌+◌, ◌≤◌, ◌⊎◌, Bool, true, false, List, [], ◌∷◌, ◌++◌, All, length, take, drop, Option, Some, None, ⊤}
+use Rattle.std.specs.Prelude.{◌≡◌, ℕ, ◌+◌, ◌≤◌, ◌⊎◌, Bool, false, List, [], ◌++◌, All, length, take, drop, IfSome}
 use Rattle.std.specs.List.{flat_map}
 use Rattle.std.specs.Io.KnownBytes.{Appends}
-use Rattle.s2_mode.specs.Limits.{header_symbols}
-use Rattle.s2_mode.specs.Mode.{k_of, t_of, symbols_in}
+use Rattle.s2_mode.specs.Mode.{Mode, k_of, t_of, symbols_in}
+use Rattle.s2_mode.specs.Streams.{Streams}
 use Rattle.s2_mode.specs.Symbols.{symbols_of}
 use Rattle.s2_mode.specs.declared.symbols.Symbol.{Symbol}
 use Rattle.s2_bits.specs.Bits.{differences}
 use Rattle.s2_matrix.specs.Code.{code_of}
 use Rattle.s2_bbframe.specs.DataStream.{IsPacket, stream_of, fields_of, field_bytes, header_at}
 use Rattle.s2_bbframe.specs.Joining.{closed_in}
-use Rattle.s2_plframe.specs.declared.receive.found.Found.TheVariants as founds
+use Rattle.s2_soft.specs.Divisors.{IsDivisor}
 use Rattle.s2_link.specs.Tuning.{Tuning}
 use Rattle.s2_link.specs.Link.{Link}
+use Rattle.s2_link.specs.Limits.{most_roll_off}
 use Rattle.s2_send.specs.Frames.{IsCodewordFor}
+use Rattle.s2_send.specs.Laws.{IsLinkOf}
 use Rattle.s2_receive.specs.Windows.{found_as}
 use Rattle.s2_receive.specs.ReportLines.{frame_line, cut_line, end_line}
 use Rattle.s2_receive.specs.Receiving.{State, Decision, RunsOut, begun}
-use Rattle.s2_receive.specs.Laws.{Piece, coded, dummy, IsDummy, joined, stream_symbols}
+use Rattle.s2_receive.specs.Laws.{Piece, joined, stream_symbols}
 use Rattle.s2_receive.specs.declared.report.Report.{Report}
 use Rattle.s2_receive.specs.declared.report.Totals.{Totals}
 use Rattle.s2_modem.specs.Reports.{frame_soft, frame_decision, received_word}
-use Rattle.s2_modem.specs.Reception.{IsAsLikely, IsCorrected, link_rules}
+use Rattle.s2_modem.specs.Reception.{IsAsLikely, AllAsLikely, IsCorrected, AllTold, link_rules}
 use Rattle.s2_modem.specs.Both.{AreBytes}
-use Rattle.s2_modem.specs.Streams.{IsClear}
+use Rattle.s2_modem.specs.Streams.{IsWholeFrame, IsClear, AreEach}
+use Rattle.s2_modem.specs.Steps.{AllHeard}
 
 -- the symbols of the frame that begins at this one of a stream, and what is decided of them
 abbrev pub frame_from : Link → List Symbol → ℕ → List Symbol
@@ -48,18 +51,12 @@ abbrev pub IsReadable : Link → Tuning → Bool → ℕ → List ℕ → List S
 IsReadable link tuning behind at field symbols =
     (codeword : List Bool) × (sent : IsCodewordFor link.setup.mode link.rows (header_at link.setup.roll_off at field) field codeword)
     × (IsClear link tuning behind codeword symbols
-    ⊎ ((length symbols ≡ symbols_in link.setup.mode) × (found_as link.setup.mode tuning.lock behind (take header_symbols symbols) ≡ founds.Coded)
+    ⊎ (IsWholeFrame link tuning behind symbols
     × (differences (k_of link.setup.mode) (received_word link.setup.mode (frame_decision link tuning symbols).bits) sent.bch_word ≤ t_of link.setup.mode)))
 
--- those of consecutive data fields, and dummy frames among them, each whole and behind a header that passes where it stands: right behind
--- a frame, but for the first
+-- those of consecutive data fields, and dummy frames among them
 abbrev pub AreReadable : Link → Tuning → Bool → ℕ → List Piece → List (List ℕ) → Type 0
-AreReadable link tuning behind at [] [] = ⊤
-AreReadable link tuning behind at [] (field ∷ fields) = ⊥
-AreReadable link tuning behind at (coded symbols ∷ pieces) [] = ⊥
-AreReadable link tuning behind at (coded symbols ∷ pieces) (field ∷ fields) =
-    IsReadable link tuning behind at field symbols × AreReadable link tuning true (at + length field) pieces fields
-AreReadable link tuning behind at (dummy symbols ∷ pieces) fields = IsDummy (found_as link.setup.mode tuning.lock) behind symbols × AreReadable link tuning true at pieces fields
+AreReadable link tuning = AreEach (IsReadable link tuning) (found_as link.setup.mode tuning.lock)
 
 -- the first data fields of these packets, and the frames that a transmitter of the link makes of them, as they come
 pub record Arriving (link : Link) (tuning : Tuning) (packets fields later : List (List ℕ)) (pieces : List Piece) : Type 0 where
@@ -89,14 +86,21 @@ pub record Headline (link : Link) (tuning : Tuning) (symbols : List Symbol) (pac
       → BeginsWith packets (joined (take (closed_in (length (joined fields))) sent)) × (later ≡ [] → BeginsWith packets (joined sent))
 
 -- the same of known bytes, and of what writers took
-abbrev pub IsHeadline : Link → Tuning → Option (List ℕ) → (packets_old packets_new report_old report_new : Option (List ℕ)) → Type 0
-IsHeadline link tuning None p p' w w' = ⊤
-IsHeadline link tuning (Some bytes) p p' w w' =
-    (packets : List ℕ) × (report : List ℕ) × Appends p p' packets × Appends w w' report × Headline link tuning (symbols_of bytes) packets report
+abbrev pub IsHeadline : Link → Tuning → (before behind : Streams) → Type 0
+IsHeadline link tuning before behind =
+    IfSome before.taken (λ bytes. (packets : List ℕ) × (report : List ℕ) × Appends before.given behind.given packets × Appends before.out behind.out report × Headline link tuning (symbols_of bytes) packets report)
 
 -- it holds of whoever goes by the link's rules from the beginning to the end
 abbrev pub KeepsHeadline : Link → Tuning → Type 0
 KeepsHeadline link tuning =
-    (limit : ℕ) (state : State) (bytes : List ℕ) (left packets_old packets_new report_old report_new : Option (List ℕ))
-    → RunsOut (link_rules link tuning limit) begun state (Some bytes) left packets_old packets_new report_old report_new
-    → IsHeadline link tuning (Some bytes) packets_old packets_new report_old report_new
+    (limit : ℕ) (state : State) (before behind : Streams) → RunsOut (link_rules link tuning limit) begun state before behind → IsHeadline link tuning before behind
+
+abbrev pub HeadlineLaw : Mode → Type 0
+HeadlineLaw m = (link : Link) (tuning : Tuning) → IsLinkOf m link → link.setup.roll_off ≤ most_roll_off → IsDivisor tuning.divisor → KeepsHeadline link tuning
+
+-- what a receiver promises of all frames and all streams of its link
+pub record Promises (link : Link) (tuning : Tuning) : Type 0 where
+  pub as_likely : AllAsLikely link tuning
+  pub told : AllTold link tuning
+  pub heard : AllHeard link tuning
+  pub headline : KeepsHeadline link tuning

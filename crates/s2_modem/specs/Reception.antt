@@ -1,6 +1,7 @@
 -- What a receiver of a link reads, reports and writes, and which setups it refuses.
-use Rattle.std.specs.Prelude.{◌≡◌, IsTrue, ℕ, ℤ, Bool, List, Option, Some, Result, Ok, Err, ⊤}
+use Rattle.std.specs.Prelude.{◌≡◌, IsTrue, ℕ, ℤ, Bool, List, Option, Result, Ok, Err, ⊤}
 use Rattle.s2_mode.specs.Mode.{Mode, k_of, symbols_in}
+use Rattle.s2_mode.specs.Streams.{Streams}
 use Rattle.s2_mode.specs.declared.symbols.Symbol.{Symbol}
 use Rattle.s2_rows.specs.Rows.{Rows}
 use Rattle.s2_matrix.specs.Code.{Code, code_of}
@@ -9,7 +10,7 @@ use Rattle.s2_check.specs.Strict.{IsSole}
 use Rattle.s2_check.specs.Verdicts.{is_certified}
 use Rattle.s2_check.specs.declared.verdict.Verdict.{Verdict}
 use Rattle.s2_check.specs.declared.verdict.Verdict.TheVariants.{Sole}
-use Rattle.s2_receive.specs.Receiving.{Rules, State, Decision, begun, rules_of, RunsOut, BreaksAfter}
+use Rattle.s2_receive.specs.Receiving.{Rules, State, Decision, begun, RunsOut, BreaksAfter}
 use Rattle.s2_receive.specs.declared.report.Totals.{Totals}
 use Rattle.s2_mode.specs.Limits.{most_symbols}
 use Rattle.s2_link.specs.declared.setup.Setup.{Setup}
@@ -26,12 +27,10 @@ use Rattle.s2_bch.specs.Codes.{IsWithin}
 use Rattle.s2_receive.specs.declared.report.Outcome.{Outcome}
 use Rattle.s2_receive.specs.declared.report.Outcome.TheVariants.{Delivered, NoWord, BadHeader}
 use Rattle.s2_modem.specs.Reports.{frame_soft, frame_decision, received_word, message_of, IsUndecided}
-use Rattle.s2_receive.specs.ReportLines.{frame_line, cut_line, end_line}
 
--- a link's rules: its header, its frames, what is decided of them, the lines of the report, and how many symbols are taken
+-- a link's rules: its header, its frames, what is decided of them, and how many symbols are taken
 abbrev pub link_rules : Link → Tuning → ℕ → Rules
-link_rules link tuning limit =
-    rules_of (found_as link.setup.mode tuning.lock) (symbols_in link.setup.mode) (frame_decision link tuning) frame_line cut_line end_line limit
+link_rules link tuning limit = record { finds = found_as link.setup.mode tuning.lock; size = symbols_in link.setup.mode; decide = frame_decision link tuning; limit = limit }
 
 -- a receiver: its link, how it is tuned, how many symbols it takes at most, where it stands, and what it decided last
 pub record Receiver : Type 0 where
@@ -99,27 +98,27 @@ Makes setup rows tuning (Err fault) = Refuses setup rows tuning fault
 
 -- ---- whole streams in memory
 
--- all of these bytes' symbols were received to the end, and the totals are theirs
-pub record Receives (rules : Rules) (bytes : List ℕ) (packets_old packets_new report_old report_new : Option (List ℕ)) (totals : Totals) : Type 0 where
+-- all of the symbols of bytes in memory were received to the end, and the totals are theirs
+pub record Receives (rules : Rules) (before behind : Streams) (totals : Totals) : Type 0 where
   pub state : State
   pub left : Option (List ℕ)
-  pub runs_out : RunsOut rules begun state (Some bytes) left packets_old packets_new report_old report_new
+  pub runs_out : RunsOut rules begun state before (record behind { taken = left })
   pub totals_are : totals ≡ state.standing.totals
 
 -- the answer for bytes on a link: all that they spell, or the beginning of it up to a write that failed, or nothing since there
 -- is no memory
-abbrev pub DemodulatesOn : Link → Tuning → List ℕ → (packets_old packets_new report_old report_new : Option (List ℕ)) → Result Totals DemodFault → Type 0
-DemodulatesOn link tuning bytes p p' w w' (Ok totals) = Receives (link_rules link tuning most_symbols) bytes p p' w w' totals
-DemodulatesOn link tuning bytes p p' w w' (Err demod_faults.Write) = BreaksAfter (link_rules link tuning most_symbols) begun (Some bytes) p p' w w'
-DemodulatesOn link tuning bytes p p' w w' (Err (demod_faults.Setup fault)) = (fault ≡ faults.NoMemory) × (p' ≡ p) × (w' ≡ w)
+abbrev pub DemodulatesOn : Link → Tuning → (before behind : Streams) → Result Totals DemodFault → Type 0
+DemodulatesOn link tuning before behind (Ok totals) = Receives (link_rules link tuning most_symbols) before behind totals
+DemodulatesOn link tuning before behind (Err demod_faults.Write) = BreaksAfter (link_rules link tuning most_symbols) begun before behind
+DemodulatesOn link tuning before behind (Err (demod_faults.Setup fault)) = (fault ≡ faults.NoMemory) × (behind.given ≡ before.given) × (behind.out ≡ before.out)
 
 -- the answer for bytes: all that they spell, or the beginning of it up to a write that failed, or a refusal that writes nothing
-abbrev pub Demodulates : Setup → Rows → Tuning → List ℕ → (packets_old packets_new report_old report_new : Option (List ℕ)) → Result Totals DemodFault → Type 0
-Demodulates setup rows tuning bytes p p' w w' (Ok totals) =
-    IsSetUp setup rows × IsTuning tuning × Receives (link_rules (link_of setup rows) tuning most_symbols) bytes p p' w w' totals
-Demodulates setup rows tuning bytes p p' w w' (Err demod_faults.Write) =
-    IsSetUp setup rows × IsTuning tuning × BreaksAfter (link_rules (link_of setup rows) tuning most_symbols) begun (Some bytes) p p' w w'
-Demodulates setup rows tuning bytes p p' w w' (Err (demod_faults.Setup fault)) = Refuses setup rows tuning fault × (p' ≡ p) × (w' ≡ w)
+abbrev pub Demodulates : Setup → Rows → Tuning → (before behind : Streams) → Result Totals DemodFault → Type 0
+Demodulates setup rows tuning before behind (Ok totals) =
+    IsSetUp setup rows × IsTuning tuning × Receives (link_rules (link_of setup rows) tuning most_symbols) before behind totals
+Demodulates setup rows tuning before behind (Err demod_faults.Write) =
+    IsSetUp setup rows × IsTuning tuning × BreaksAfter (link_rules (link_of setup rows) tuning most_symbols) begun before behind
+Demodulates setup rows tuning before behind (Err (demod_faults.Setup fault)) = Refuses setup rows tuning fault × (behind.given ≡ before.given) × (behind.out ≡ before.out)
 
 -- where symbols were received, all bits that were reported are as likely as their verdicts say
 abbrev pub AreAsLikely : Link → Tuning → Result Totals DemodFault → Type 0

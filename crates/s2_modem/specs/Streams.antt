@@ -1,10 +1,11 @@
 -- What holds of a stream of symbols: of its first frames, and where it is read in two ways.
-use Rattle.std.specs.Prelude.{◌≡◌, ℕ, ◌+◌, ◌≤◌, ◌⊎◌, IsTrue, Bool, true, false, List, [], ◌∷◌, ◌++◌, All, length, take, Option, Some, ⊤}
+use Rattle.std.specs.Prelude.{◌≡◌, ℕ, ◌+◌, ◌≤◌, ◌⊎◌, IsTrue, Bool, true, false, List, [], ◌∷◌, ◌++◌, All, length, take, ⊤}
 use Rattle.std.specs.Io.KnownBytes.{Appends}
 use Rattle.s2_mode.specs.Limits.{header_symbols, dummy_symbols}
 use Rattle.s2_mode.specs.Mode.{Mode, symbols_in}
-use Rattle.s2_mode.specs.Symbols.{symbols_of}
+use Rattle.s2_mode.specs.Streams.{Streams}
 use Rattle.s2_mode.specs.declared.symbols.Symbol.{Symbol}
+use Rattle.s2_plframe.specs.declared.receive.found.Found.{Found}
 use Rattle.s2_plframe.specs.declared.receive.found.Found.TheVariants as founds
 use Rattle.s2_matrix.specs.Code.{code_of}
 use Rattle.s2_split.specs.Scattered.{IsScattered}
@@ -12,7 +13,7 @@ use Rattle.s2_bbframe.specs.DataStream.{IsPacket, stream_of, fields_of, field_by
 use Rattle.s2_bbframe.specs.Joining.{closed_in}
 use Rattle.s2_receive.specs.Meeting.{Met}
 use Rattle.s2_receive.specs.Receiving.{Rules, State, Went, RunsTo, begun}
-use Rattle.s2_receive.specs.Laws.{Piece, coded, dummy, IsDummy, joined, stream_symbols}
+use Rattle.s2_receive.specs.Laws.{Piece, coded, dummy, IsDummy, Spells, joined, stream_symbols}
 use Rattle.s2_check.specs.Verdicts.{is_certified}
 use Rattle.s2_check.specs.declared.verdict.Verdict.{Verdict}
 use Rattle.s2_soft.specs.Divisors.{IsDivisor}
@@ -26,26 +27,32 @@ use Rattle.s2_modem.specs.Reports.{frame_soft}
 use Rattle.s2_modem.specs.Reception.{link_rules}
 use Rattle.s2_modem.specs.Both.{AreBytes, sent_symbols, certified_lines}
 
--- a frame's symbols as they were sent; or some behind a header that is found there, right behind a frame or not, whose soft values are
--- scattered about the codeword
+-- symbols of a whole frame of the link, behind a header that passes there, right behind a frame or not
+abbrev pub IsWholeFrame : Link → Tuning → Bool → List Symbol → Type 0
+IsWholeFrame link tuning behind symbols =
+    (length symbols ≡ symbols_in link.setup.mode) × (found_as link.setup.mode tuning.lock behind (take header_symbols symbols) ≡ founds.Coded)
+
+-- a frame's symbols as they were sent; or a whole frame's, whose soft values are scattered about the codeword
 abbrev pub IsClear : Link → Tuning → Bool → List Bool → List Symbol → Type 0
 IsClear link tuning behind codeword symbols =
-    (symbols ≡ sent_symbols link codeword)
-    ⊎ ((length symbols ≡ symbols_in link.setup.mode) × (found_as link.setup.mode tuning.lock behind (take header_symbols symbols) ≡ founds.Coded) × IsScattered (code_of link.rows) (frame_soft link tuning symbols) codeword)
+    (symbols ≡ sent_symbols link codeword) ⊎ (IsWholeFrame link tuning behind symbols × IsScattered (code_of link.rows) (frame_soft link tuning symbols) codeword)
 
 -- those of the frame that was sent for a data field, which begins at this byte of the stream
 abbrev pub IsHeard : Link → Tuning → Bool → ℕ → List ℕ → List Symbol → Type 0
 IsHeard link tuning behind at field symbols =
     (codeword : List Bool) × IsCodewordFor link.setup.mode link.rows (header_at link.setup.roll_off at field) field codeword × IsClear link tuning behind codeword symbols
 
--- those of consecutive data fields, and dummy frames among them, each whole and behind a header that is found there: that of the first by
--- one test, those of all others, which stand right behind a frame, by that of the lock
+-- the frames of consecutive data fields, each of which holds what is asked of it where it stands, and dummy frames among them, each whole and
+-- behind a header that is found there: that of the first by one test, those of all others, which stand right behind a frame, by that of the lock
+abbrev pub AreEach : (Bool → ℕ → List ℕ → List Symbol → Type 0) → (Bool → List Symbol → Found) → Bool → ℕ → List Piece → List (List ℕ) → Type 0
+AreEach holds finds behind at [] [] = ⊤
+AreEach holds finds behind at [] (field ∷ fields) = ⊥
+AreEach holds finds behind at (coded symbols ∷ pieces) [] = ⊥
+AreEach holds finds behind at (coded symbols ∷ pieces) (field ∷ fields) = holds behind at field symbols × AreEach holds finds true (at + length field) pieces fields
+AreEach holds finds behind at (dummy symbols ∷ pieces) fields = IsDummy finds behind symbols × AreEach holds finds true at pieces fields
+
 abbrev pub AreHeard : Link → Tuning → Bool → ℕ → List Piece → List (List ℕ) → Type 0
-AreHeard link tuning behind at [] [] = ⊤
-AreHeard link tuning behind at [] (field ∷ fields) = ⊥
-AreHeard link tuning behind at (coded symbols ∷ pieces) [] = ⊥
-AreHeard link tuning behind at (coded symbols ∷ pieces) (field ∷ fields) = IsHeard link tuning behind at field symbols × AreHeard link tuning true (at + length field) pieces fields
-AreHeard link tuning behind at (dummy symbols ∷ pieces) fields = IsDummy (found_as link.setup.mode tuning.lock) behind symbols × AreHeard link tuning true at pieces fields
+AreHeard link tuning = AreEach (IsHeard link tuning) (found_as link.setup.mode tuning.lock)
 
 -- where the coded ones begin, from a position on, and what these rules call them
 abbrev pub places_in : Rules → ℕ → List Piece → List (ℕ × Verdict)
@@ -55,9 +62,9 @@ places_in rules at (dummy symbols ∷ pieces) = places_in rules (at + dummy_symb
 
 -- Each of the first coded frames is reported as certified, and just those packets are written whose closing CRC-8 lies in their data
 -- fields; all packets, where these are all fields.
-pub record FrontArrives (link : Link) (tuning : Tuning) (limit : ℕ) (packets fields later : List (List ℕ)) (pieces : List Piece) (packets_old packets_new report_old report_new : Option (List ℕ)) : Type 0 where
-  pub written : Appends packets_old packets_new (joined (take (closed_in (length (joined fields))) packets))
-  pub lines : Appends report_old report_new (certified_lines (link_rules link tuning limit) 0 (places_in (link_rules link tuning limit) 0 pieces))
+pub record FrontArrives (link : Link) (tuning : Tuning) (limit : ℕ) (packets fields later : List (List ℕ)) (pieces : List Piece) (before behind : Streams) : Type 0 where
+  pub written : Appends before.given behind.given (joined (take (closed_in (length (joined fields))) packets))
+  pub lines : Appends before.out behind.out (certified_lines 0 (places_in (link_rules link tuning limit) 0 pieces))
   pub certified : All (λ (place : ℕ × Verdict). IsTrue (is_certified place.1)) (places_in (link_rules link tuning limit) 0 pieces)
   pub all : later ≡ [] → take (closed_in (length (joined fields))) packets ≡ packets
 
@@ -65,26 +72,24 @@ pub record FrontArrives (link : Link) (tuning : Tuning) (limit : ℕ) (packets f
 -- whatever comes behind them, and whatever dummy frames stand among them.
 abbrev pub FirstFramesLaw : Mode → Type 0
 FirstFramesLaw m =
-    (link : Link) (tuning : Tuning) (limit : ℕ) (packets fields later : List (List ℕ)) (pieces : List Piece) (rest : List Symbol) (bytes : List ℕ)
-    (mid : State) (left packets_old packets_new report_old report_new : Option (List ℕ)) (met : List Met)
+    (link : Link) (tuning : Tuning) (limit : ℕ) (packets fields later : List (List ℕ)) (pieces : List Piece) (rest : List Symbol) (mid : State) (before behind : Streams) (met : List Met)
     → IsLinkOf m link → link.setup.roll_off ≤ most_roll_off → IsDivisor tuning.divisor → All IsPacket packets → AreBytes (joined packets)
     → fields ++ later ≡ fields_of (field_bytes link.setup.mode) (stream_of packets) → AreHeard link tuning false 0 pieces fields
-    → symbols_of bytes ≡ stream_symbols pieces ++ rest → length met ≡ length fields
-    → Went (link_rules link tuning limit) begun mid (Some bytes) left packets_old packets_new report_old report_new met
-    → FrontArrives link tuning limit packets fields later pieces packets_old packets_new report_old report_new
+    → Spells before.taken (stream_symbols pieces ++ rest) → length met ≡ length fields → Went (link_rules link tuning limit) begun mid before behind met
+    → FrontArrives link tuning limit packets fields later pieces before behind
 
 -- two runs came to the same totals and the same answer, and wrote the same
-pub record GiveTheSame (first second : State) (well other_well : Bool) (p p' q q' w w' v v' : Option (List ℕ)) : Type 0 where
+pub record GiveTheSame (first second : State) (well other_well : Bool) (before behind other_before other_behind : Streams) : Type 0 where
   pub totals : first.standing.totals ≡ second.standing.totals
   pub answer : well ≡ other_well
-  pub packets : (gained : List ℕ) × Appends p p' gained × Appends q q' gained
-  pub lines : (gained : List ℕ) × Appends w w' gained × Appends v v' gained
+  pub packets : (gained : List ℕ) × Appends before.given behind.given gained × Appends other_before.given other_behind.given gained
+  pub lines : (gained : List ℕ) × Appends before.out behind.out gained × Appends other_before.out other_behind.out gained
 
 -- Two receivers of a link that stand alike and run to the end, over bytes that spell the same symbols, however their readers cut
 -- them and whatever bytes are left over, give the same.
 abbrev pub OneStreamLaw : Type 0
 OneStreamLaw =
-    (link : Link) (tuning : Tuning) (limit : ℕ) (old first second : State) (bytes other : List ℕ) (left other_left p p' q q' w w' v v' : Option (List ℕ)) (well other_well : Bool)
-    → symbols_of bytes ≡ symbols_of other
-    → RunsTo (link_rules link tuning limit) old first (Some bytes) left p p' w w' well → RunsTo (link_rules link tuning limit) old second (Some other) other_left q q' v v' other_well
-    → GiveTheSame first second well other_well p p' q q' w w' v v'
+    (link : Link) (tuning : Tuning) (limit : ℕ) (old first second : State) (symbols : List Symbol) (before behind other_before other_behind : Streams) (well other_well : Bool)
+    → Spells before.taken symbols → Spells other_before.taken symbols
+    → RunsTo (link_rules link tuning limit) old first before behind well → RunsTo (link_rules link tuning limit) old second other_before other_behind other_well
+    → GiveTheSame first second well other_well before behind other_before other_behind

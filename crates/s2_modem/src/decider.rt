@@ -52,7 +52,7 @@ impl<'a> Model for Decider<'a> {
       field = d.reader.field;
     } };
 
-    ghost invariant = { λ d. IsListening d.mode d.judge.rows d.judge.tuning d.demodulator d.corrector.mode d.reader.mode };
+    ghost invariant = { λ d. IsListening d.mode d.judge.rows d.judge.tuning d.demodulator d.corrector.mode d.reader d.last };
 }
 
 impl<'a> Decider<'a> {
@@ -119,21 +119,24 @@ impl<'a> Decider<'a> {
 
 impl<'a> Decide for Decider<'a> {
     ghost use Rattle.s2_mode.specs.Mode.{symbols_in};
-    ghost use Rattle.s2_modem.specs.Reports.{frame_decision};
+    ghost use Rattle.s2_modem.specs.Listening.{decides};
 
     ghost size = { λ d. symbols_in d.link.setup.mode };
 
-    ghost decide = { λ d. frame_decision d.link d.tuning };
+    ghost decide = { decides };
 
     ghost field = { λ d. d.field };
 
     ghost last = { λ d. d.last };
 
-    fn decide(&mut self, symbols: &[Symbol]) -> Decided {
+    fn decide(&mut self, symbols: &[Symbol]) {
         self.demodulator.find_soft(symbols, self.judge.soft_mut());
         let verdict = self.judge.decide();
         let found = self.corrector.correct(self.judge.word());
         self.last = self.reader.decide(verdict, found, self.corrector.word());
+    }
+
+    fn decided(&self) -> Decided {
         self.last
     }
 

@@ -2,6 +2,7 @@
 ghost use Rattle.s2_modem.specs.Front.{CleanFrameLaw};
 ghost use Rattle.s2_modem.specs.Headline.{LikelyFrameLaw, SoleFrameLaw, BothCodesLaw, ScatteredFrameLaw, HearsLaw, ArrivalLaw};
 ghost use Rattle.s2_modem.specs.Streams.{FirstFramesLaw, OneStreamLaw};
+ghost use Rattle.s2_modem.specs.Promise.{HeadlineLaw};
 
 use s2_mode::Mode;
 pub use s2_send::laws::{no_dummies, one_frame, one_run};
@@ -23,7 +24,7 @@ pub fn sole_frame(mode: Mode)
 }
 
 /// Both codes together: where the decided bits of the BCH word differ from those sent in at most t
-/// places, the data field that was sent is delivered, and the report tells in how many.
+/// places, the message and the data field that were sent are delivered, and the report tells in how many.
 pub fn both_codes(mode: Mode)
     ensures { BothCodesLaw mode }
 {
@@ -45,7 +46,8 @@ pub fn clean_frame()
 {}
 
 /// A frame without noise is found where it begins, right behind a frame and elsewhere, and delivered, sole, with no bit
-/// changed, by each divisor and with each lock; a dummy frame without noise is found as one.
+/// changed: its codeword, message and data field as they were sent, by each divisor and with each lock; a dummy frame
+/// without noise is found as one.
 pub fn hears(mode: Mode)
     ensures { HearsLaw mode }
 {
@@ -66,6 +68,14 @@ pub fn arrival(mode: Mode)
 /// in their data fields, and each is reported as certified, whatever symbols follow.
 pub fn first_frames(mode: Mode)
     ensures { FirstFramesLaw mode }
+{
+    let _ = mode.k();
+}
+
+/// Of each run by the rules of a link of the mode, from the beginning of a stream whose bytes are known to its end, the
+/// headline holds: also where it is made step by step ([`s2_receive::laws::two_runs`]).
+pub fn headline(mode: Mode)
+    ensures { HeadlineLaw mode }
 {
     let _ = mode.k();
 }

@@ -1,22 +1,25 @@
 //! The receiver of one link.
-ghost use Rattle.std.specs.Prelude.{◌≡◌, ◌≢◌, ◌+◌, ◌-◌, ◌^◌, ◌<◌, ◌≤◌, ◌⊎◌, Ok, Err, IfOk, IsErrOf, length};
-ghost use Rattle.s2_mode.specs.Mode.{symbols_in};
-ghost use Rattle.s2_matrix.specs.Code.{code_of};
+ghost use Rattle.std.specs.Prelude.{◌≡◌, ◌≢◌, ◌↔◌, ◌≤◌, Ok, Err, IfOk, IsErrOf, List};
+ghost use Rattle.s2_mode.specs.Counts.{CanCount};
 ghost use Rattle.s2_mode.specs.Limits.{most_symbols};
+ghost use Rattle.s2_mode.specs.Mode.{symbols_in};
+ghost use Rattle.s2_mode.specs.Streams.{streams_by, OnlyFailed, NoneFailed, OneFailed};
 ghost use Rattle.s2_mode.specs.declared.stream_fault.StreamFault.TheVariants as stream_faults;
+ghost use Rattle.s2_mode.specs.declared.symbols.Symbol.{Symbol as SymbolValue};
+ghost use Rattle.s2_matrix.specs.Code.{code_of};
+ghost use Rattle.s2_receive.specs.declared.finding.Next.{Next as NextValue};
 ghost use Rattle.s2_receive.specs.declared.report.Report.{Report as ReportValue};
 ghost use Rattle.s2_receive.specs.declared.report.Phase.TheVariants as phases;
 ghost use Rattle.s2_receive.specs.declared.report.Step.TheVariants as steps;
 ghost use Rattle.s2_receive.specs.declared.report.Fault.TheVariants as faults;
-ghost use Rattle.s2_receive.specs.Finding.{Reaches, EndsBehind};
-ghost use Rattle.s2_receive.specs.Windows.{found_as};
-ghost use Rattle.s2_receive.specs.ReportLines.{frame_line, cut_line, end_line};
-ghost use Rattle.s2_receive.specs.Receiving.{IsLive, StepAnswers, MetFrame, RunsTo, StandsBehind, StopsAfter, BreaksAfter, begun, met_left, rules_of};
+ghost use Rattle.s2_receive.specs.Finding.{met_of, place_after};
+ghost use Rattle.s2_receive.specs.Receiving.{IsLive, IsDecided, Finds, Stops, Tells, StepAnswers, MetFrame, RunsTo, StandsBehind, StopsAfter, BreaksAfter, MayStop, begun, rules_of};
 ghost use Rattle.s2_link.specs.Tuning.{tuning_of};
-ghost use Rattle.s2_link.specs.Link.{link_of, setup_of};
-ghost use Rattle.s2_modem.specs.Reports.{frame_decision, IsUndecided};
-ghost use Rattle.s2_modem.specs.Reception.{AllAsLikely, AllTold, IsAsLikely, IsCertifiedBy, IsCorrected, link_rules, rules_for, IsNew, Makes};
-ghost use Rattle.s2_modem.specs.Promise.{IsHeadline, KeepsHeadline};
+ghost use Rattle.s2_modem.specs.Reports.{IsUndecided};
+ghost use Rattle.s2_modem.specs.Listening.{decides};
+ghost use Rattle.s2_modem.specs.Reception.{AllAsLikely, IsAsLikely, IsCertifiedBy, IsCorrected, link_rules, rules_for, IsNew, Makes};
+ghost use Rattle.s2_modem.specs.Steps.{OnFrame, Heard, Corrects};
+ghost use Rattle.s2_modem.specs.Promise.{IsHeadline, Promises};
 
 use crate::decider::Decider;
 use s2_bits::Bits;
@@ -24,12 +27,12 @@ use s2_check::CertView;
 use s2_link::{Link, LinkSetup, Setup, SetupFault, Tuning};
 use s2_matrix::Matrix;
 use s2_mode::{CountedRead, CountedWrite, MOST_SYMBOLS, StreamFault};
-use s2_receive::{Fault, HeaderSearch, Received, ReportLines, Step, receive_all};
+use s2_receive::{Fault, Received, Step, receive_all};
 use std::alloc::{AllocError, Global};
 use std::marker::Model;
 
 /// A receiver over the parts of a link.
-pub(crate) type Inner<'a> = s2_receive::Receiver<HeaderSearch, Decider<'a>, ReportLines>;
+pub(crate) type Inner<'a> = s2_receive::Receiver<Decider<'a>>;
 
 /// Makes the parts of a receiver.
 pub(crate) fn tune<'a>(
@@ -37,13 +40,10 @@ pub(crate) fn tune<'a>(
     link: &Link<'a>,
     tuning: Tuning,
 ) -> Result<Inner<'a>, AllocError>
-    ensures rules { IfOk result (λ r. rules_of (found_as r.search.search.mode r.search.lock) (length r.frame) (frame_decision r.decider.link r.decider.tuning) frame_line cut_line end_line r.limit
-        ≡ link_rules link.now tuning most_symbols) }
+    ensures rules { IfOk result (λ r. rules_of decides r ≡ link_rules link.now tuning most_symbols) }
     ensures limit { IfOk result (λ r. r.limit ≡ most_symbols) }
     ensures begun { IfOk result (λ r. r.state ≡ begun) }
-    ensures as_likely { IfOk result (λ _. AllAsLikely link.now tuning) }
-    ensures told { IfOk result (λ _. AllTold link.now tuning) }
-    ensures headline { IfOk result (λ _. KeepsHeadline link.now tuning) }
+    ensures promises { IfOk result (λ _. Promises link.now tuning) }
     ensures undecided { IfOk result (λ r. IsUndecided link.now.setup.mode r.decider.last) }
 {
     let mode = link.mode();
@@ -52,15 +52,7 @@ pub(crate) fn tune<'a>(
     let _roll_off = link.roll_off();
     let _divisor = tuning.divisor();
     let decider = Decider::new(alloc, link, tuning)?;
-    let search = HeaderSearch::new(mode, tuning.lock());
-    s2_receive::Receiver::new(
-        alloc,
-        search,
-        decider,
-        ReportLines {},
-        mode.symbols(),
-        MOST_SYMBOLS,
-    )
+    s2_receive::Receiver::new(alloc, mode, tuning.lock(), decider, MOST_SYMBOLS)
 }
 
 /// Receives the frames of one link, and writes the packets that they carry.
@@ -83,14 +75,12 @@ impl<'a> Drop for Receiver<'a> {
 }
 
 impl<'a> Model for Receiver<'a> {
-    ghost use Rattle.std.specs.Prelude.{◌≡◌, length};
+    ghost use Rattle.std.specs.Prelude.{◌≡◌};
     ghost use Rattle.s2_receive.specs.Receiving.{rules_of};
-    ghost use Rattle.s2_receive.specs.Windows.{found_as};
-    ghost use Rattle.s2_receive.specs.ReportLines.{frame_line, cut_line, end_line};
     ghost use Rattle.s2_link.specs.Link.{link_of, setup_of};
-    ghost use Rattle.s2_modem.specs.Reports.{frame_decision};
-    ghost use Rattle.s2_modem.specs.Reception.{Receiver as ReceiverValue, AllAsLikely, AllTold, link_rules};
-    ghost use Rattle.s2_modem.specs.Promise.{KeepsHeadline};
+    ghost use Rattle.s2_modem.specs.Listening.{decides};
+    ghost use Rattle.s2_modem.specs.Reception.{Receiver as ReceiverValue, link_rules};
+    ghost use Rattle.s2_modem.specs.Promise.{Promises};
 
     ghost Value = { ReceiverValue };
 
@@ -102,9 +92,8 @@ impl<'a> Model for Receiver<'a> {
       last = r.inner.decider.last;
     } };
 
-    ghost invariant = { λ r. (rules_of (found_as r.inner.search.search.mode r.inner.search.lock) (length r.inner.frame) (frame_decision r.inner.decider.link r.inner.decider.tuning) frame_line cut_line end_line r.inner.limit
-        ≡ link_rules (link_of (setup_of r.setup) r.matrix.now) r.tuning r.inner.limit) × AllAsLikely (link_of (setup_of r.setup) r.matrix.now) r.tuning
-        × AllTold (link_of (setup_of r.setup) r.matrix.now) r.tuning × KeepsHeadline (link_of (setup_of r.setup) r.matrix.now) r.tuning };
+    ghost invariant = { λ r. (rules_of decides r.inner ≡ link_rules (link_of (setup_of r.setup) r.matrix.now) r.tuning r.inner.limit)
+        × Promises (link_of (setup_of r.setup) r.matrix.now) r.tuning };
 }
 
 impl<'a> Receiver<'a> {
@@ -147,7 +136,7 @@ impl<'a> Receiver<'a> {
     }
 
     /// Lets the receiver take at most so many symbols in all, 1 to [`MOST_SYMBOLS`], before the first
-    /// call of [`Receiver::next`].
+    /// step.
     pub fn limit(&mut self, symbols: u64)
         requires range { (1 ≤ symbols) × (symbols ≤ most_symbols) }
         requires first { self.old.state ≡ begun }
@@ -156,44 +145,111 @@ impl<'a> Receiver<'a> {
         self.inner.limit(symbols);
     }
 
-    /// The next frame, a cut one, or the end. The bits of a frame are as likely as its verdict says, by
-    /// the certificate that [`Receiver::certificate`] lends. Just the
-    /// symbols up to the end of what is answered are read. Dummy frames before it, known by a header of any TYPE, are passed, and so is what there is of
-    /// a last one that lacks symbols: of them nothing is told, and they are no gap. A frame's packets are
-    /// written, and then its line of the report; the end has its line once. It takes no memory.
+    /// The first half of a step: finds what comes next, the next frame, a cut one, or the end, and decides a frame. Just the
+    /// symbols up to the end of what is answered are read, and nothing is written: [`Receiver::deliver`] does that. Between
+    /// the two soft values, bits, certificate and message can be looked at.
     ///
-    /// `Read`, which never comes after a cut frame, tells that a read failed, or that as many symbols were taken as the
-    /// receiver takes, and the next frame would end behind them; `Write` that a write failed. After either each further call answers `Failed`,
-    /// and after `End` each answers `End`; such calls read and write nothing.
+    /// Dummy frames before it, known by a header of any TYPE, are passed, and so is what there is of a last one that lacks
+    /// symbols: of them nothing is told, and they are no gap. The bits of a frame are as likely as its verdict says, by the
+    /// certificate that [`Receiver::certificate`] lends. Where the search stands at a frame that was sent, and that came
+    /// without noise, or scattered behind a header that passes, that frame is answered, certified, with no bit changed; with
+    /// at most t wrong bits of the outer code's word, just these are corrected.
+    ///
+    /// `Read` comes, never after a cut frame, where a read failed or where the limit was reached and the next frame would
+    /// end behind it; then the receiver counts as failed. After the end it answers `End` and reads nothing. After a fault, and
+    /// before what was met is delivered, it answers `Failed` and reads nothing. It takes no memory.
+    pub fn meet<R: CountedRead>(&mut self, reader: &mut R) -> Result<Step, Fault>
+        requires reader { CanCount (R.count reader.old) }
+        ensures finds { IfOk result (λ step. IsLive self.old.state.phase
+            → Finds (rules_for self.old) self.old.state self.new.state
+            (R.remaining reader.old) (R.remaining reader.new) self.new.last step) }
+        ensures as_likely { OnFrame result (λ r. IsAsLikely (code_of self.old.link.rows) self.new.last.soft r.verdict self.new.last.bits) }
+        ensures certified { OnFrame result (λ r. IsCertifiedBy self.old.link.rows r.verdict self.new.last) }
+        ensures within { OnFrame result (λ r. IsCorrected self.old.link.setup.mode self.new.last r.outcome) }
+        ensures heard { IfOk result (Heard self.old self.new.last (R.remaining reader.old)) }
+        ensures both_codes { IfOk result (Corrects self.old self.new.last (R.remaining reader.old)) }
+        ensures stops { IsErrOf result faults.Read → (self.new.state ≡ record self.old.state { phase = phases.Failed })
+            × Stops (rules_for self.old) self.old.state
+            (R.remaining reader.old) (R.remaining reader.new) (R.count reader.old) (R.count reader.new) }
+        ensures bounded { self.new.state.at ≤ self.old.limit }
+        ensures no_read { result ≢ Err faults.Read → R.count reader.new ≡ R.count reader.old }
+        ensures no_write { result ≢ Err faults.Write }
+        ensures ended { self.old.state.phase ≡ phases.Ended → result ≡ Ok steps.End }
+        ensures failed { IsErrOf result faults.Failed ↔ ((IsLive self.old.state.phase → ⊥) × (self.old.state.phase ≢ phases.Ended)) }
+        ensures nothing { (IsLive self.old.state.phase → ⊥) → (self.new ≡ self.old) × (reader.new ≡ reader.old) }
+        ensures same { (self.new.link ≡ self.old.link) × (self.new.tuning ≡ self.old.tuning) × (self.new.limit ≡ self.old.limit) }
+    {
+        self.inner.meet(reader)
+    }
+
+    /// The second half of a step: writes the packets of what was met, those of a frame in stream order, then its line of
+    /// the report.
+    ///
+    /// `Write` tells that one of the two writers failed, which then has a part of the packets or of the line; the receiver
+    /// counts as failed from then on. After the end it writes nothing. Where nothing was met it answers `Failed` and writes
+    /// nothing. It takes no memory.
+    pub fn deliver<P: CountedWrite, W: CountedWrite>(
+        &mut self,
+        packets: &mut P,
+        report: &mut W,
+    ) -> Result<(), Fault>
+        requires packets { CanCount (P.count packets.old) }
+        requires report { CanCount (W.count report.old) }
+        ensures last { self.new.last ≡ self.old.last }
+        ensures tells { (next : NextValue) (symbols : List SymbolValue) → self.old.state.phase ≡ phases.Met next
+            → IsDecided (rules_for self.old) (met_of next symbols) self.old.last
+            → Tells (rules_for self.old) self.old.state self.new.state
+            (met_of next symbols) (place_after (symbols_in self.old.link.setup.mode) next)
+            (P.contents packets.old) (P.contents packets.new) (W.contents report.old) (W.contents report.new) result }
+        ensures bounded { self.new.state.at ≤ self.old.limit }
+        ensures write { IsErrOf result faults.Write
+            → OneFailed (P.count packets.old) (P.count packets.new) (W.count report.old) (W.count report.new) }
+        ensures no_write { result ≢ Err faults.Write
+            → NoneFailed (P.count packets.old) (P.count packets.new) (W.count report.old) (W.count report.new) }
+        ensures no_read { result ≢ Err faults.Read }
+        ensures ended { self.old.state.phase ≡ phases.Ended → result ≡ Ok tt }
+        ensures failed { IsErrOf result faults.Failed
+            ↔ (((next : NextValue) → self.old.state.phase ≢ phases.Met next) × (self.old.state.phase ≢ phases.Ended)) }
+        ensures nothing { ((next : NextValue) → self.old.state.phase ≢ phases.Met next)
+            → (self.new ≡ self.old) × (packets.new ≡ packets.old) × (report.new ≡ report.old) }
+        ensures same { (self.new.link ≡ self.old.link) × (self.new.tuning ≡ self.old.tuning) × (self.new.limit ≡ self.old.limit) }
+    {
+        self.inner.deliver(packets, report)
+    }
+
+    /// Takes one step: [`Receiver::meet`] and then [`Receiver::deliver`]. After a cut frame comes the end, or a fault; after
+    /// `End` comes `End` and nothing is written. From a fault on every call answers `Failed` and reads and writes nothing. It
+    /// takes no memory.
     pub fn next<R: CountedRead, P: CountedWrite, W: CountedWrite>(
         &mut self,
         reader: &mut R,
         packets: &mut P,
         report: &mut W,
     ) -> Result<Step, Fault>
-        requires reader { R.count reader.old < 2 ^ 64 - 1 }
-        requires packets { P.count packets.old < 2 ^ 64 - 1 }
-        requires report { W.count report.old < 2 ^ 64 - 1 }
-        ensures live { IsLive self.old.state.phase → StepAnswers (rules_for self.old) self.old.state self.new.state (R.remaining reader.old) (R.remaining reader.new)
-            (P.contents packets.old) (P.contents packets.new) (W.contents report.old) (W.contents report.new) result }
-        ensures frame { (r : ReportValue) → result ≡ Ok (steps.Frame r) → MetFrame (rules_for self.old) self.old.state self.new.state (R.remaining reader.old) (R.remaining reader.new)
-            (P.contents packets.old) (P.contents packets.new) (W.contents report.old) (W.contents report.new) r self.new.last }
-        ensures as_likely { (r : ReportValue) → result ≡ Ok (steps.Frame r) → IsAsLikely (code_of self.old.link.rows) self.new.last.soft r.verdict self.new.last.bits }
-        ensures certified { (r : ReportValue) → result ≡ Ok (steps.Frame r) → IsCertifiedBy self.old.link.rows r.verdict self.new.last }
-        ensures within { (r : ReportValue) → result ≡ Ok (steps.Frame r) → IsCorrected self.old.link.setup.mode self.new.last r.outcome }
+        requires reader { CanCount (R.count reader.old) }
+        requires packets { CanCount (P.count packets.old) }
+        requires report { CanCount (W.count report.old) }
+        ensures live { let ends = streams_by R.remaining R.count P.contents P.count W.contents W.count in
+            IsLive self.old.state.phase → StepAnswers (rules_for self.old) self.old.state self.new.state
+            (ends reader.old packets.old report.old) (ends reader.new packets.new report.new) result }
+        ensures frame { let ends = streams_by R.remaining R.count P.contents P.count W.contents W.count in
+            (r : ReportValue) → result ≡ Ok (steps.Frame r) → MetFrame (rules_for self.old) self.old.state self.new.state
+            (ends reader.old packets.old report.old) (ends reader.new packets.new report.new) r self.new.last }
+        ensures as_likely { OnFrame result (λ r. IsAsLikely (code_of self.old.link.rows) self.new.last.soft r.verdict self.new.last.bits) }
+        ensures certified { OnFrame result (λ r. IsCertifiedBy self.old.link.rows r.verdict self.new.last) }
+        ensures within { OnFrame result (λ r. IsCorrected self.old.link.setup.mode self.new.last r.outcome) }
+        ensures heard { IfOk result (Heard self.old self.new.last (R.remaining reader.old)) }
+        ensures both_codes { IfOk result (Corrects self.old self.new.last (R.remaining reader.old)) }
         ensures taken { StandsBehind (symbols_in self.old.link.setup.mode) self.new.state.at result }
+        ensures bounded { self.new.state.at ≤ self.old.limit }
         ensures ended { self.old.state.phase ≡ phases.Ended → result ≡ Ok steps.End }
         ensures failed { self.old.state.phase ≡ phases.Failed → result ≡ Err faults.Failed }
-        ensures nothing { (IsLive self.old.state.phase → ⊥) → (self.new.state ≡ self.old.state) × (reader.new ≡ reader.old) × (packets.new ≡ packets.old) × (report.new ≡ report.old) }
-        ensures read { IsErrOf result faults.Read → (packets.new ≡ packets.old) × (report.new ≡ report.old)
-            × (R.count reader.new ≢ R.count reader.old + 1 → (R.count reader.new ≡ R.count reader.old) × Reaches self.old.limit self.old.state.at (R.remaining reader.old) (R.remaining reader.new)) }
-        ensures searching { IsErrOf result faults.Read → self.old.state.phase ≡ phases.Searching }
-        ensures ends { IsErrOf result faults.Read → R.count reader.new ≢ R.count reader.old + 1
-            → EndsBehind (symbols_in self.old.link.setup.mode) self.old.limit (met_left (rules_for self.old) self.old.state.phase self.old.state.at (R.remaining reader.old)) }
-        ensures no_read { result ≢ Err faults.Read → R.count reader.new ≡ R.count reader.old }
-        ensures write { IsErrOf result faults.Write → ((P.count packets.new ≡ P.count packets.old + 1) × (W.count report.new ≡ W.count report.old))
-            ⊎ ((P.count packets.new ≡ P.count packets.old) × (W.count report.new ≡ W.count report.old + 1)) }
-        ensures no_write { result ≢ Err faults.Write → (P.count packets.new ≡ P.count packets.old) × (W.count report.new ≡ W.count report.old) }
+        ensures nothing { (IsLive self.old.state.phase → ⊥)
+            → (self.new ≡ self.old) × (reader.new ≡ reader.old) × (packets.new ≡ packets.old) × (report.new ≡ report.old) }
+        ensures unwritten { IsErrOf result faults.Read → (packets.new ≡ packets.old) × (report.new ≡ report.old) }
+        ensures counts { let ends = streams_by R.remaining R.count P.contents P.count W.contents W.count in
+            OnlyFailed (result ≡ Err faults.Read) (result ≡ Err faults.Write)
+            (ends reader.old packets.old report.old) (ends reader.new packets.new report.new) }
         ensures same { (self.new.link ≡ self.old.link) × (self.new.tuning ≡ self.old.tuning) × (self.new.limit ≡ self.old.limit) }
     {
         self.inner.next(reader, packets, report)
@@ -201,41 +257,49 @@ impl<'a> Receiver<'a> {
 
     /// Takes all steps that are left, up to the end line, and answers the totals and whether each frame
     /// was delivered with bits that are most likely and none was cut. Of a new receiver, which takes a whole stream,
-    /// the headline holds. Not to be called after the end or a fault. It takes no memory.
+    /// the headline holds. Not to be called after the end or a fault, nor where what was met is not delivered yet. It takes
+    /// no memory.
     ///
     /// After a fault what was met before it is written whole: after `Read`, which comes as in
-    /// [`Receiver::next`], nothing else is, after `Write` a part of the next packets or line is.
+    /// [`Receiver::meet`], nothing else is, after `Write` a part of the next packets or line is.
     pub fn run<R: CountedRead, P: CountedWrite, W: CountedWrite>(
         &mut self,
         reader: &mut R,
         packets: &mut P,
         report: &mut W,
     ) -> Result<Received, StreamFault>
-        requires reader { R.count reader.old < 2 ^ 64 - 1 }
-        requires packets { P.count packets.old < 2 ^ 64 - 1 }
-        requires report { W.count report.old < 2 ^ 64 - 1 }
+        requires reader { CanCount (R.count reader.old) }
+        requires packets { CanCount (P.count packets.old) }
+        requires report { CanCount (W.count report.old) }
         requires live { IsLive self.old.state.phase }
-        ensures all { IfOk result (λ received. RunsTo (rules_for self.old) self.old.state self.new.state (R.remaining reader.old) (R.remaining reader.new)
-            (P.contents packets.old) (P.contents packets.new) (W.contents report.old) (W.contents report.new) received.well) }
+        ensures all { let ends = streams_by R.remaining R.count P.contents P.count W.contents W.count in
+            IfOk result (λ received. RunsTo (rules_for self.old) self.old.state self.new.state
+            (ends reader.old packets.old report.old) (ends reader.new packets.new report.new) received.well) }
         ensures totals { IfOk result (λ received. received.totals ≡ self.new.state.standing.totals) }
         ensures symbols { IfOk result (λ received. received.symbols ≡ self.new.state.at) }
-        ensures headline { IfOk result (λ _. self.old.state ≡ begun → IsHeadline self.old.link self.old.tuning (R.remaining reader.old) (P.contents packets.old) (P.contents packets.new) (W.contents report.old) (W.contents report.new)) }
+        ensures bounded { self.new.state.at ≤ self.old.limit }
+        ensures headline { let ends = streams_by R.remaining R.count P.contents P.count W.contents W.count in
+            IfOk result (λ _. self.old.state ≡ begun → IsHeadline self.old.link self.old.tuning
+            (ends reader.old packets.old report.old) (ends reader.new packets.new report.new)) }
         ensures as_likely { AllAsLikely self.old.link self.old.tuning }
-        ensures stops { IsErrOf result stream_faults.Read → StopsAfter (rules_for self.old) self.old.state (R.remaining reader.old)
-            (P.contents packets.old) (P.contents packets.new) (W.contents report.old) (W.contents report.new) }
-        ensures breaks { IsErrOf result stream_faults.Write → BreaksAfter (rules_for self.old) self.old.state (R.remaining reader.old)
-            (P.contents packets.old) (P.contents packets.new) (W.contents report.old) (W.contents report.new) }
-        ensures read { IsErrOf result stream_faults.Read → R.count reader.new ≢ R.count reader.old + 1 → (R.count reader.new ≡ R.count reader.old) × Reaches self.old.limit self.old.state.at (R.remaining reader.old) (R.remaining reader.new) }
-        ensures no_read { result ≢ Err stream_faults.Read → R.count reader.new ≡ R.count reader.old }
-        ensures write { IsErrOf result stream_faults.Write → ((P.count packets.new ≡ P.count packets.old + 1) × (W.count report.new ≡ W.count report.old))
-            ⊎ ((P.count packets.new ≡ P.count packets.old) × (W.count report.new ≡ W.count report.old + 1)) }
-        ensures no_write { result ≢ Err stream_faults.Write → (P.count packets.new ≡ P.count packets.old) × (W.count report.new ≡ W.count report.old) }
+        ensures stops { let ends = streams_by R.remaining R.count P.contents P.count W.contents W.count in
+            IsErrOf result stream_faults.Read → StopsAfter (rules_for self.old) self.old.state
+            (ends reader.old packets.old report.old) (ends reader.new packets.new report.new) }
+        ensures breaks { let ends = streams_by R.remaining R.count P.contents P.count W.contents W.count in
+            IsErrOf result stream_faults.Write → BreaksAfter (rules_for self.old) self.old.state
+            (ends reader.old packets.old report.old) (ends reader.new packets.new report.new) }
+        ensures read { let ends = streams_by R.remaining R.count P.contents P.count W.contents W.count in
+            IsErrOf result stream_faults.Read → MayStop self.old.limit self.old.state.at
+            (ends reader.old packets.old report.old) (ends reader.new packets.new report.new) }
+        ensures counts { let ends = streams_by R.remaining R.count P.contents P.count W.contents W.count in
+            OnlyFailed (result ≡ Err stream_faults.Read) (result ≡ Err stream_faults.Write)
+            (ends reader.old packets.old report.old) (ends reader.new packets.new report.new) }
         ensures same { (self.new.link ≡ self.old.link) × (self.new.tuning ≡ self.old.tuning) × (self.new.limit ≡ self.old.limit) }
     {
         receive_all(&mut self.inner, reader, packets, report)
     }
 
-    /// The soft values of the last frame's codeword, where the last call of [`Receiver::next`]
+    /// The soft values of the last frame's codeword, where the last call of [`Receiver::meet`] or [`Receiver::next`]
     /// answered a frame; zeros before the first.
     pub fn soft(&self) -> &[i16]
         ensures { result.now ≡ self.now.last.soft }

@@ -1,5 +1,7 @@
 //! A whole stream of symbols in memory.
-ghost use Rattle.std.specs.Prelude.{◌≡◌, ◌≢◌, ◌+◌, ◌-◌, ◌*◌, ◌^◌, ◌<◌, ◌⊎◌, Some, Err, IfOk, IsErrOf, length};
+ghost use Rattle.std.specs.Prelude.{◌≡◌, ◌^◌, ◌<◌, Some, Err, IfOk, length};
+ghost use Rattle.s2_mode.specs.Counts.{CanCount};
+ghost use Rattle.s2_mode.specs.Streams.{streams_by, OnlyFailed};
 ghost use Rattle.s2_link.specs.Link.{link_of};
 ghost use Rattle.s2_link.specs.Tuning.{tuning_of};
 ghost use Rattle.s2_modem.specs.Reception.{AreAsLikely, Demodulates, DemodulatesOn};
@@ -33,15 +35,19 @@ fn demodulate_link<P: CountedWrite, W: CountedWrite>(
     packets: &mut P,
     report: &mut W,
 ) -> Result<Totals, DemodFault>
-    requires packets { P.count packets.old < 2 ^ 64 - 1 }
-    requires report { W.count report.old < 2 ^ 64 - 1 }
+    requires packets { CanCount (P.count packets.old) }
+    requires report { CanCount (W.count report.old) }
     requires few { length bytes.now < 2 ^ 42 }
-    ensures demodulates { DemodulatesOn link.now tuning bytes.now (P.contents packets.old) (P.contents packets.new) (W.contents report.old) (W.contents report.new) result }
+    ensures demodulates { let ends = streams_by (λ b. Some b) (λ b. 0) P.contents P.count W.contents W.count in
+        DemodulatesOn link.now tuning
+        (ends bytes.now packets.old report.old) (ends bytes.now packets.new report.new) result }
     ensures as_likely { AreAsLikely link.now tuning result }
-    ensures headline { IfOk result (λ _. IsHeadline link.now tuning (Some bytes.now) (P.contents packets.old) (P.contents packets.new) (W.contents report.old) (W.contents report.new)) }
-    ensures write { IsErrOf result DemodFault.Write → ((P.count packets.new ≡ P.count packets.old + 1) × (W.count report.new ≡ W.count report.old))
-        ⊎ ((P.count packets.new ≡ P.count packets.old) × (W.count report.new ≡ W.count report.old + 1)) }
-    ensures no_write { result ≢ Err DemodFault.Write → (P.count packets.new ≡ P.count packets.old) × (W.count report.new ≡ W.count report.old) }
+    ensures headline { let ends = streams_by (λ b. Some b) (λ b. 0) P.contents P.count W.contents W.count in
+        IfOk result (λ _. IsHeadline link.now tuning
+        (ends bytes.now packets.old report.old) (ends bytes.now packets.new report.new)) }
+    ensures counts { let ends = streams_by (λ b. Some b) (λ b. 0) P.contents P.count W.contents W.count in
+        OnlyFailed ⊥ (result ≡ Err DemodFault.Write)
+        (ends bytes.now packets.old report.old) (ends bytes.now packets.new report.new) }
 {
     let Ok(mut receiver) = tune(alloc, link, tuning) else {
         return Err(DemodFault::Setup(SetupFault::NoMemory));
@@ -67,15 +73,19 @@ pub fn demodulate<P: CountedWrite, W: CountedWrite>(
     packets: &mut P,
     report: &mut W,
 ) -> Result<Totals, DemodFault>
-    requires packets { P.count packets.old < 2 ^ 64 - 1 }
-    requires report { W.count report.old < 2 ^ 64 - 1 }
+    requires packets { CanCount (P.count packets.old) }
+    requires report { CanCount (W.count report.old) }
     requires few { length bytes.now < 2 ^ 42 }
-    ensures demodulates { Demodulates setup matrix.now (tuning_of rounds passes) bytes.now (P.contents packets.old) (P.contents packets.new) (W.contents report.old) (W.contents report.new) result }
+    ensures demodulates { let ends = streams_by (λ b. Some b) (λ b. 0) P.contents P.count W.contents W.count in
+        Demodulates setup matrix.now (tuning_of rounds passes)
+        (ends bytes.now packets.old report.old) (ends bytes.now packets.new report.new) result }
     ensures as_likely { AreAsLikely (link_of setup matrix.now) (tuning_of rounds passes) result }
-    ensures headline { IfOk result (λ _. IsHeadline (link_of setup matrix.now) (tuning_of rounds passes) (Some bytes.now) (P.contents packets.old) (P.contents packets.new) (W.contents report.old) (W.contents report.new)) }
-    ensures write { IsErrOf result DemodFault.Write → ((P.count packets.new ≡ P.count packets.old + 1) × (W.count report.new ≡ W.count report.old))
-        ⊎ ((P.count packets.new ≡ P.count packets.old) × (W.count report.new ≡ W.count report.old + 1)) }
-    ensures no_write { result ≢ Err DemodFault.Write → (P.count packets.new ≡ P.count packets.old) × (W.count report.new ≡ W.count report.old) }
+    ensures headline { let ends = streams_by (λ b. Some b) (λ b. 0) P.contents P.count W.contents W.count in
+        IfOk result (λ _. IsHeadline (link_of setup matrix.now) (tuning_of rounds passes)
+        (ends bytes.now packets.old report.old) (ends bytes.now packets.new report.new)) }
+    ensures counts { let ends = streams_by (λ b. Some b) (λ b. 0) P.contents P.count W.contents W.count in
+        OnlyFailed ⊥ (result ≡ Err DemodFault.Write)
+        (ends bytes.now packets.old report.old) (ends bytes.now packets.new report.new) }
 {
     let link = match Link::new(setup, matrix) {
         Ok(link) => link,

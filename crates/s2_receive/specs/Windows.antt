@@ -20,7 +20,7 @@ abbrev pub finds_of : Locked → Bool → List Symbol → Found
 finds_of s = found_as s.search.mode s.lock
 
 -- just these symbols came to it since its start
-abbrev pub Saw : Locked → List Symbol → Type 0
+unfoldable pub Saw : Locked → List Symbol → Type 0
 Saw s symbols = s.search.seen ≡ seen_of symbols
 
 -- it looks for the same

@@ -48,6 +48,7 @@ pub fn receive_all<D: Decide, R: CountedRead, P: CountedWrite, W: CountedWrite>(
         IsErrOf result StreamFault.Read → MayStop receiver.old.limit receiver.old.state.at (ends reader.old packets.old report.old) (ends reader.new packets.new report.new) }
     ensures counts { let ends = streams_by R.remaining R.count P.contents P.count W.contents W.count in
         OnlyFailed (result ≡ Err StreamFault.Read) (result ≡ Err StreamFault.Write) (ends reader.old packets.old report.old) (ends reader.new packets.new report.new) }
+    ensures bounded { receiver.new.state.at ≤ receiver.old.limit }
     ensures rules { rules_of D.decide receiver.new ≡ rules_of D.decide receiver.old }
     ensures same { (receiver.new.mode ≡ receiver.old.mode) × (receiver.new.lock ≡ receiver.old.lock) × (receiver.new.limit ≡ receiver.old.limit) }
 {

@@ -56,6 +56,7 @@ impl HeaderSearch {
     }
 
     /// Forgets all symbols.
+    #[tactic(auto, unfolding(crate::specs::Windows::Saw))]
     pub(crate) fn restart(&mut self)
         ensures saw { Saw self.new [] }
         ensures same { FindsSame self.old self.new }

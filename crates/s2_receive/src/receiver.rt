@@ -6,8 +6,10 @@ ghost use Rattle.s2_mode.specs.Mode.{symbols_in};
 ghost use Rattle.s2_mode.specs.Streams.{streams_by, OnlyFailed, NoneFailed, OneFailed};
 ghost use Rattle.s2_mode.specs.declared.symbols.Symbol.{Symbol as SymbolValue};
 ghost use Rattle.s2_receive.specs.declared.finding.Next.{Next as NextValue};
+ghost use Rattle.s2_receive.specs.declared.finding.Next.TheVariants as next;
 ghost use Rattle.s2_receive.specs.declared.report.Report.{Report as ReportValue};
 ghost use Rattle.s2_receive.specs.declared.report.Phase.TheVariants as phases;
+ghost use Rattle.s2_receive.specs.Meeting.{nothing_over};
 ghost use Rattle.s2_receive.specs.Finding.{met_of, place_after};
 ghost use Rattle.s2_receive.specs.Stepping.{place_of};
 ghost use Rattle.s2_receive.specs.Receiving.{IsLive, IsDecided, Finds, Stops, Tells, StepAnswers, MetFrame, StandsBehind, begun, rules_of};
@@ -189,8 +191,8 @@ impl<D: Decide> Receiver<D> {
         requires closing { self.old.state.phase ≡ phases.Closing }
         ensures rules { rules_of D.decide self.new ≡ rules_of D.decide self.old }
         ensures same { (self.new.mode ≡ self.old.mode) × (self.new.lock ≡ self.old.lock) × (self.new.limit ≡ self.old.limit) }
-        ensures at { self.new.state.at ≡ self.old.state.at }
-        ensures finds { (bytes : Option (List ℕ)) → Finds (rules_of D.decide self.old) self.old.state self.new.state bytes bytes (D.last self.new.decider) result }
+        ensures state { self.new.state ≡ record self.old.state { phase = phases.Met (next.End self.old.state.at nothing_over) } }
+        ensures end { result ≡ Step.End }
     {
         self.place.phase = Phase::Met(Next::End {
             at: self.place.at,
@@ -231,10 +233,12 @@ impl<D: Decide> Receiver<D> {
             Phase::Ended => return Ok(()),
             Phase::Searching | Phase::Closing | Phase::Failed => return Err(Fault::Failed),
         };
-        self.place.phase = Phase::Failed;
         match self.tell(next, packets, report) {
             Ok(()) => Ok(()),
-            Err(WriteFault) => Err(Fault::Write),
+            Err(WriteFault) => {
+                self.place.phase = Phase::Failed;
+                Err(Fault::Write)
+            }
         }
     }
 

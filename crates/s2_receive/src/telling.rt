@@ -6,8 +6,7 @@ ghost use Rattle.s2_mode.specs.Mode.{symbols_in};
 ghost use Rattle.s2_mode.specs.Streams.{NoneFailed, OneFailed};
 ghost use Rattle.s2_receive.specs.Meeting.{frame, cut, ended};
 ghost use Rattle.s2_receive.specs.Finding.{LiesWithin, met_of, place_after};
-ghost use Rattle.s2_receive.specs.Receiving.{Tells, deciding, report_for, rules_of};
-ghost use Rattle.s2_receive.specs.declared.report.Phase.TheVariants as phases;
+ghost use Rattle.s2_receive.specs.Receiving.{Writes, deciding, report_for, rules_of};
 
 use crate::delivering::give_packets;
 use crate::finding::Next;
@@ -43,13 +42,12 @@ impl<D: Decide> Receiver<D> {
     ) -> Result<(), WriteFault>
         requires packets { CanCount (P.count packets.old) }
         requires report { CanCount (W.count report.old) }
-        requires failed { self.old.state.phase ≡ phases.Failed }
         requires start { self.old.state.at + over.symbols ≤ at }
         requires room { at + symbols_in self.old.mode ≤ self.old.limit }
         ensures rules { rules_of D.decide self.new ≡ rules_of D.decide self.old }
         ensures same { (self.new.mode ≡ self.old.mode) × (self.new.lock ≡ self.old.lock) × (self.new.limit ≡ self.old.limit) }
         ensures last { D.last self.new.decider ≡ D.last self.old.decider }
-        ensures tells { Tells (deciding (D.last self.old.decider) (rules_of D.decide self.old)) self.old.state self.new.state (frame at over []) (at + symbols_in self.old.mode)
+        ensures tells { Writes (deciding (D.last self.old.decider) (rules_of D.decide self.old)) self.old.state self.new.state (frame at over []) (at + symbols_in self.old.mode)
             (P.contents packets.old) (P.contents packets.new) (W.contents report.old) (W.contents report.new) result }
         ensures write { OnErr result (OneFailed (P.count packets.old) (P.count packets.new) (W.count report.old) (W.count report.new)) }
         ensures no_write { OnOk result (NoneFailed (P.count packets.old) (P.count packets.new) (W.count report.old) (W.count report.new)) }
@@ -81,14 +79,13 @@ impl<D: Decide> Receiver<D> {
         report: &mut W,
     ) -> Result<(), WriteFault>
         requires report { CanCount (W.count report.old) }
-        requires failed { self.old.state.phase ≡ phases.Failed }
         requires start { self.old.state.at + over.symbols ≤ at }
         requires some { header_symbols ≤ count }
         requires room { at + count ≤ self.old.limit }
         ensures rules { rules_of D.decide self.new ≡ rules_of D.decide self.old }
         ensures same { (self.new.mode ≡ self.old.mode) × (self.new.lock ≡ self.old.lock) × (self.new.limit ≡ self.old.limit) }
         ensures last { D.last self.new.decider ≡ D.last self.old.decider }
-        ensures tells { (packets : Option (List ℕ)) → Tells (deciding (D.last self.old.decider) (rules_of D.decide self.old)) self.old.state self.new.state (cut at over count) (at + count)
+        ensures tells { (packets : Option (List ℕ)) → Writes (deciding (D.last self.old.decider) (rules_of D.decide self.old)) self.old.state self.new.state (cut at over count) (at + count)
             packets packets (W.contents report.old) (W.contents report.new) result }
         ensures cause { CountsFault (W.count report.old) (W.count report.new) result }
     {
@@ -110,13 +107,12 @@ impl<D: Decide> Receiver<D> {
         report: &mut W,
     ) -> Result<(), WriteFault>
         requires report { CanCount (W.count report.old) }
-        requires failed { self.old.state.phase ≡ phases.Failed }
         requires start { self.old.state.at + over.symbols ≤ at }
         requires room { at ≤ self.old.limit }
         ensures rules { rules_of D.decide self.new ≡ rules_of D.decide self.old }
         ensures same { (self.new.mode ≡ self.old.mode) × (self.new.lock ≡ self.old.lock) × (self.new.limit ≡ self.old.limit) }
         ensures last { D.last self.new.decider ≡ D.last self.old.decider }
-        ensures tells { (packets : Option (List ℕ)) → Tells (deciding (D.last self.old.decider) (rules_of D.decide self.old)) self.old.state self.new.state (ended over) at
+        ensures tells { (packets : Option (List ℕ)) → Writes (deciding (D.last self.old.decider) (rules_of D.decide self.old)) self.old.state self.new.state (ended over) at
             packets packets (W.contents report.old) (W.contents report.new) result }
         ensures cause { CountsFault (W.count report.old) (W.count report.new) result }
     {
@@ -140,12 +136,11 @@ impl<D: Decide> Receiver<D> {
     ) -> Result<(), WriteFault>
         requires packets { CanCount (P.count packets.old) }
         requires report { CanCount (W.count report.old) }
-        requires failed { self.old.state.phase ≡ phases.Failed }
         requires within { LiesWithin (symbols_in self.old.mode) self.old.state.at self.old.limit next }
         ensures rules { rules_of D.decide self.new ≡ rules_of D.decide self.old }
         ensures same { (self.new.mode ≡ self.old.mode) × (self.new.lock ≡ self.old.lock) × (self.new.limit ≡ self.old.limit) }
         ensures last { D.last self.new.decider ≡ D.last self.old.decider }
-        ensures tells { Tells (deciding (D.last self.old.decider) (rules_of D.decide self.old)) self.old.state self.new.state (met_of next []) (place_after (symbols_in self.old.mode) next)
+        ensures tells { Writes (deciding (D.last self.old.decider) (rules_of D.decide self.old)) self.old.state self.new.state (met_of next []) (place_after (symbols_in self.old.mode) next)
             (P.contents packets.old) (P.contents packets.new) (W.contents report.old) (W.contents report.new) result }
         ensures write { OnErr result (OneFailed (P.count packets.old) (P.count packets.new) (W.count report.old) (W.count report.new)) }
         ensures no_write { OnOk result (NoneFailed (P.count packets.old) (P.count packets.new) (W.count report.old) (W.count report.new)) }

@@ -82,6 +82,13 @@ judges words shape files opened behind ended old new is opens runs certifies =
     let both = subst (P (asked_shape words.shape)) opens (subst (λ s. P s files) is (runs, certifies)) in
     (behind, both.0, both.1)
 
+-- a command that was asked for was begun, or could not be
+pub begun : (holds : Holdings) (request asked : Request) (input : Option (List ℕ)) (begins : Result Exit Fault) (old new : Screen) → request ≡ asked
+    → Began holds asked input begins old new → Began holds request input begins old new
+begun holds request asked input begins old new is h =
+    let P : Request → Type 0 = λ r. Began holds r input begins old new in
+    subst P (sym is) h
+
 -- of a command that could not be begun its fault is told
 same_beside : (place : Place) (s : Screen) → SameBeside place s s
 same_beside places.Output s = (refl, refl)

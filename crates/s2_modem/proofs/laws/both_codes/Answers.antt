@@ -2,4 +2,4 @@ use Rattle.s2_modem.proofs.CleanFrames.{both_codes_law}
 use Rattle.s2_modem.proofs.laws.both_codes.Goals as goal
 
 pub returns : goal.returns
-returns c = λ link tuning at symbols field codeword sent. both_codes_law c.args.mode c.k.ensures.valid c.k.ensures.sizes link tuning at symbols field codeword sent
+returns c = both_codes_law c.args.mode c.k.ensures.valid c.k.ensures.sizes

@@ -1,5 +1,5 @@
-use Rattle.s2_modem.proofs.CleanFrames.{sole_law}
+use Rattle.s2_modem.proofs.CleanFrames.{all_as_likely}
 use Rattle.s2_modem.proofs.laws.sole_frame.Goals as goal
 
 pub returns : goal.returns
-returns c = sole_law c.args.mode c.k.ensures.valid c.k.ensures.sizes
+returns c = λ link tuning symbols linked. (all_as_likely c.args.mode c.k.ensures.valid c.k.ensures.sizes link tuning linked symbols).sole

@@ -1,5 +1,6 @@
-use Rattle.std.proofs.Common.{Some, subst}
+use Rattle.std.proofs.Common.{ℕ, List, Some, subst}
 use Rattle.s2_mode.specs.Limits.{most_symbols}
+use Rattle.s2_mode.specs.Streams.{streams_by}
 use Rattle.s2_receive.specs.Receiving.{Rules, RunsOut, begun}
 use Rattle.s2_modem.proofs.whole.demodulate_link.Goals as goal
 
@@ -8,9 +9,7 @@ returns-in-Ok-receive_bytes-clause-headline g c =
     let made = c.in-Ok.ensures in
     let run = c.receive_bytes.new in
     let all = c.in-Ok-receive_bytes.ensures.all in
-    let p = g.P.CountedWrite.contents c.args.packets.now in
-    let p' = g.P.CountedWrite.contents run.packets in
-    let w = g.W.CountedWrite.contents c.args.report.now in
-    let w' = g.W.CountedWrite.contents run.report in
-    made.headline most_symbols run.receiver.state c.args.bytes.now all.0 p p' w w'
-    (subst (λ (rules : Rules). RunsOut rules begun run.receiver.state (Some c.args.bytes.now) all.0 p p' w w') made.rules all.1)
+    let ends = streams_by (λ (b : List ℕ). Some b) (λ b. 0) g.P.CountedWrite.contents g.P.Counted.count g.W.CountedWrite.contents g.W.Counted.count in
+    let before = ends c.args.bytes.now c.args.packets.now c.args.report.now in
+    let behind = record (ends c.args.bytes.now run.packets run.report) { taken = all.0 } in
+    made.promises.headline most_symbols run.receiver.state before behind (subst (λ (rules : Rules). RunsOut rules begun run.receiver.state before behind) made.rules all.1)

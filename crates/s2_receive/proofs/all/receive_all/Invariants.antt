@@ -12,13 +12,11 @@ invariant-steps g l =
     record {
       came : Came (rules_of g.D.Decide.decide l.fn.receiver) l.fn.receiver.state l.receiver.state (ends l.fn.reader l.fn.packets l.fn.report) (ends l.reader l.packets l.report) l.well;
       rules : rules_of g.D.Decide.decide l.receiver ≡ rules_of g.D.Decide.decide l.fn.receiver;
-      mode : l.receiver.mode ≡ l.fn.receiver.mode;
-      lock : l.receiver.lock ≡ l.fn.receiver.lock;
-      limit : l.receiver.limit ≡ l.fn.receiver.limit;
+      parts : (l.receiver.mode ≡ l.fn.receiver.mode) × (l.receiver.lock ≡ l.fn.receiver.lock) × (l.receiver.limit ≡ l.fn.receiver.limit);
       live : IsLive l.receiver.state.phase;
-      reads : g.R.Counted.count l.reader ≡ g.R.Counted.count l.fn.reader;
-      writes : g.P.Counted.count l.packets ≡ g.P.Counted.count l.fn.packets;
-      prints : g.W.Counted.count l.report ≡ g.W.Counted.count l.fn.report;
+      counts :
+          (g.R.Counted.count l.reader ≡ g.R.Counted.count l.fn.reader) × (g.P.Counted.count l.packets ≡ g.P.Counted.count l.fn.packets)
+          × (g.W.Counted.count l.report ≡ g.W.Counted.count l.fn.report);
     }
 
 -- how many frames, and the end, may still be met at most

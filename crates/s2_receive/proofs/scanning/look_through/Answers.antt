@@ -84,29 +84,3 @@ returns-clause-scans c =
     let is : place ≡ max start (length symbols - 89) = c.max-place.ensures ∙ ap (max start) c.saturating_sub.ensures in
     let scans = none_left finds symbols c.args.from c.args.inside c.args.behind c.args.over start at c.look.behind c.look.over c.look.invariant.1 place there c.is_first.ensures c.look-test.false is in
     subst (λ over. Scans finds symbols c.args.from c.args.inside c.args.behind c.args.over (record { place = place; over = over; behind = there; coded = false })) (sym c.passed-2.ensures) scans
-
-pub overflow_sub-place : goal.overflow_sub-place
-overflow_sub-place c =
-    let symbols = c.args.symbols.now in
-    let finds = finds_of c.args.search.now in
-    let start : ℕ = c.look.start in
-    let at : ℕ = c.look.at in
-    let first : Bool = c.is_first-first.result in
-    let looked = c.look.invariant.1 in
-    let now = seen_more symbols start at looked.order c.look-test.true in
-    let fed = c.found_with-found.ensures.header (drop start (take at symbols)) c.look.invariant.0 (many_seen symbols start at c.look.behind first c.is_first-first.ensures looked.order c.look-test.true) in
-    let found = found_now (finds first) symbols (finds_of c.look.search first) start at (drop start (take at symbols) ++ symbol_at symbols at ∷ []) founds.Coded c.found_with-found.result (ap (λ f. f first) (same_finds c.args.search.now c.look.search c.look.invariant.2)) now fed.1 c.in-Coded.is in
-    (coded_there finds symbols c.args.from c.args.inside c.args.behind c.args.over start at c.look.behind c.look.over looked first c.is_first-first.ensures c.look-test.true found).0
-
-pub overflow_sub-place-in-Dummy : goal.overflow_sub-place-in-Dummy
-overflow_sub-place-in-Dummy c =
-    let symbols = c.args.symbols.now in
-    let finds = finds_of c.args.search.now in
-    let start : ℕ = c.look.start in
-    let at : ℕ = c.look.at in
-    let first : Bool = c.is_first-first.result in
-    let looked = c.look.invariant.1 in
-    let now = seen_more symbols start at looked.order c.look-test.true in
-    let fed = c.found_with-found.ensures.header (drop start (take at symbols)) c.look.invariant.0 (many_seen symbols start at c.look.behind first c.is_first-first.ensures looked.order c.look-test.true) in
-    let found = found_now (finds first) symbols (finds_of c.look.search first) start at (drop start (take at symbols) ++ symbol_at symbols at ∷ []) founds.Dummy c.found_with-found.result (ap (λ f. f first) (same_finds c.args.search.now c.look.search c.look.invariant.2)) now fed.1 c.in-Dummy.is in
-    (dummy_there finds symbols c.args.from c.args.inside c.args.behind c.args.over start at c.look.behind c.look.over looked first c.is_first-first.ensures c.look-test.true found).0

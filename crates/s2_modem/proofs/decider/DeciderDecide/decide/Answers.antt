@@ -4,7 +4,6 @@ use Rattle.s2_link.specs.Link.{Link}
 use Rattle.s2_plframe.specs.Payload.{received_payload}
 use Rattle.s2_soft.specs.Soft.{soft_values}
 use Rattle.s2_receive.specs.Parts.{delivered_of}
-use Rattle.s2_receive.specs.Receiving.{Decision}
 use Rattle.s2_judge.specs.Deciding.{decided}
 use Rattle.s2_modem.specs.Reports.{frame_soft, frame_decision, received_word}
 use Rattle.s2_modem.specs.Listening.{FindsWord, Reads, Listening}
@@ -21,9 +20,7 @@ returns-clause-last c =
     let written : List ℤ = c.find_soft.new.soft in
     let values = refilled (length before) written before refl (c.find_soft.auto.soft ∙ ap length c.soft_mut.ensures.is) in
     let soft_is : written ≡ frame_soft link d.judge.tuning c.args.symbols.now =
-    c.find_soft.ensures.is
-    ∙ ap (λ x. soft_values d.demodulator.divisor x (received_payload x d.demodulator.number c.args.symbols.now)) c.self.invariant.demodulator
-    ∙ ap (λ x. soft_values x m (received_payload m d.demodulator.number c.args.symbols.now)) c.self.invariant.divisor in
+    c.find_soft.ensures.is ∙ (let so = c.self.invariant in λ i. soft_values (so.divisor i) (so.demodulator i) (received_payload (so.demodulator i) d.demodulator.number c.args.symbols.now)) in
     let was = c.decide-verdict.ensures in
     let held : List ℤ = c.decide-verdict.new.self.soft in
     let soft_held : held ≡ frame_soft link d.judge.tuning c.args.symbols.now = was.soft ∙ values ∙ soft_is in
@@ -40,12 +37,3 @@ returns-clause-last c =
     (was.bits ∙ ap (λ xs. (decided rows d.judge.tuning xs).bits) (sym was.soft))
     (was.certificate ∙ ap (λ xs. (decided rows d.judge.tuning xs).certificate) (sym was.soft)) finds reads
     ∙ ap (λ (l : Listening). frame_decision l.link l.tuning c.args.symbols.now) c.self.view_is
-
-pub returns-clause-verdict : goal.returns-clause-verdict
-returns-clause-verdict c = ap (λ (x : Decision). x.verdict) (returns-clause-last c)
-
-pub returns-clause-outcome : goal.returns-clause-outcome
-returns-clause-outcome c = ap (λ (x : Decision). x.outcome) (returns-clause-last c)
-
-pub returns-clause-delivered : goal.returns-clause-delivered
-returns-clause-delivered c = ap (λ (x : Decision). x.delivered) (returns-clause-last c)

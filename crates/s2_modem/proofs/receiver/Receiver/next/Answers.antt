@@ -1,34 +1,24 @@
-use Rattle.std.proofs.Common.{ap, subst, ◌∙◌}
-use Rattle.s2_matrix.specs.Code.{code_of}
-use Rattle.s2_receive.specs.Receiving.{Rules}
-use Rattle.s2_link.specs.Link.{link_of, setup_of}
-use Rattle.s2_modem.specs.Reception.{Receiver, IsAsLikely, IsCertifiedBy, IsCorrected}
-use Rattle.s2_modem.proofs.Likelihoods.{last_as_likely, last_told}
+use Rattle.s2_modem.proofs.StepPromises.{IsPromised, next_promised}
+use Rattle.s2_modem.proofs.receiver.Receiver.next.Given.{Over}
 use Rattle.s2_modem.proofs.receiver.Receiver.next.Goals as goal
+use Rattle.s2_modem.proofs.receiver.Receiver.next.Goals.{After-next}
+
+promise : (g : Over) (c : After-next g) → IsPromised c.args.self.now c.next.new.self.decider.last (g.R.CountedRead.remaining c.args.reader.now) c.next.result
+promise g c =
+    let n = c.next in
+    next_promised _ _ n.new.self.state n.new.self.decider.last n.result c.self.view_is c.self.invariant.1 _ c.self.invariant.0 _ _ n.ensures.live n.ensures.frame
 
 pub returns-clause-as_likely : goal.returns-clause-as_likely
-returns-clause-as_likely g c = λ r frame.
-    let met = c.next.ensures.frame r frame in
-    let inside = c.self.inside in
-    let last = c.next.new.self.decider.last in
-    let decided = met.is_last ∙ ap (λ (rules : Rules). rules.decide met.symbols) c.self.invariant.0 in
-    subst (λ (v : Receiver). IsAsLikely (code_of v.link.rows) last.soft r.verdict last.bits) c.self.view_is
-    (last_as_likely (link_of (setup_of inside.setup) inside.matrix.now) inside.tuning met.symbols last inside.inner.state.standing.totals r c.self.invariant.1 decided met.told)
+returns-clause-as_likely g c = (promise g (goal.at.returns-clause-as_likely g c).After-next).as_likely
 
 pub returns-clause-certified : goal.returns-clause-certified
-returns-clause-certified g c = λ r frame.
-    let met = c.next.ensures.frame r frame in
-    let inside = c.self.inside in
-    let last = c.next.new.self.decider.last in
-    let decided = met.is_last ∙ ap (λ (rules : Rules). rules.decide met.symbols) c.self.invariant.0 in
-    let told = last_told (link_of (setup_of inside.setup) inside.matrix.now) inside.tuning met.symbols last inside.inner.state.standing.totals r c.self.invariant.2 decided met.told in
-    subst (λ (v : Receiver). IsCertifiedBy v.link.rows r.verdict last) c.self.view_is told.certified
+returns-clause-certified g c = (promise g (goal.at.returns-clause-certified g c).After-next).certified
 
 pub returns-clause-within : goal.returns-clause-within
-returns-clause-within g c = λ r frame.
-    let met = c.next.ensures.frame r frame in
-    let inside = c.self.inside in
-    let last = c.next.new.self.decider.last in
-    let decided = met.is_last ∙ ap (λ (rules : Rules). rules.decide met.symbols) c.self.invariant.0 in
-    let told = last_told (link_of (setup_of inside.setup) inside.matrix.now) inside.tuning met.symbols last inside.inner.state.standing.totals r c.self.invariant.2 decided met.told in
-    subst (λ (v : Receiver). IsCorrected v.link.setup.mode last r.outcome) c.self.view_is told.within
+returns-clause-within g c = (promise g (goal.at.returns-clause-within g c).After-next).within
+
+pub returns-clause-heard : goal.returns-clause-heard
+returns-clause-heard g c = (promise g (goal.at.returns-clause-heard g c).After-next).heard
+
+pub returns-clause-both_codes : goal.returns-clause-both_codes
+returns-clause-both_codes g c = (promise g (goal.at.returns-clause-both_codes g c).After-next).both_codes

@@ -1,15 +1,11 @@
 use Rattle.std.proofs.Common.{◌≡◌, sym, subst, ◌∙◌}
 use Rattle.s2_link.specs.Link.{Link, link_of, setup_of}
-use Rattle.s2_modem.specs.Reception.{AllAsLikely, AllTold, link_rules}
-use Rattle.s2_modem.specs.Promise.{KeepsHeadline}
+use Rattle.s2_modem.specs.Reception.{link_rules}
+use Rattle.s2_modem.specs.Promise.{Promises}
 use Rattle.s2_modem.proofs.receiver.Receiver.on_link.Goals as goal
 
 pub invariant_of-result : goal.invariant_of-result
 invariant_of-result c =
     let made = c.in_ok-inner.ensures in
-    let same : c.args.link.now ≡ link_of (setup_of c.setup.result) c.matrix.result.now = sym (λ i. link_of (c.setup.ensures i) (c.matrix.ensures.is i)) in (
-      made.rules ∙ (λ i. link_rules (same i) c.args.tuning (sym made.limit i)),
-      subst (λ (l : Link). AllAsLikely l c.args.tuning) same made.as_likely,
-      subst (λ (l : Link). AllTold l c.args.tuning) same made.told,
-      subst (λ (l : Link). KeepsHeadline l c.args.tuning) same made.headline,
-    )
+    let same : c.args.link.now ≡ link_of (setup_of c.setup.result) c.matrix.result.now = sym (λ i. link_of (c.setup.ensures i) (c.matrix.ensures.is i)) in
+    (made.rules ∙ (λ i. link_rules (same i) c.args.tuning (sym made.limit i)), subst (λ (l : Link). Promises l c.args.tuning) same made.promises)

@@ -1,10 +1,11 @@
 use Rattle.std.proofs.Common.{length, ap, ◌∙◌}
 use Rattle.s2_plframe.specs.Search.{found_behind}
-use Rattle.s2_receive.specs.Windows.{Locked}
+use Rattle.s2_receive.specs.Windows.{Locked, Saw}
 use Rattle.s2_receive.proofs.HeaderWindows.{met_behind}
 use Rattle.s2_receive.proofs.header.HeaderSearch.behind.Goals as goal
 
 pub returns : goal.returns
+unfolding Saw
 returns c = λ seen saw many.
     let now : Locked = c.args.self.now in
     let told = met_behind now.search.mode now.lock seen now.search.seen saw many in

@@ -1,10 +1,11 @@
 use Rattle.std.proofs.Common.{◌∷◌, ◌++◌, [], ap, ◌∙◌}
 use Rattle.s2_plframe.specs.Search.{decision, found, recent}
-use Rattle.s2_receive.specs.Windows.{Locked}
+use Rattle.s2_receive.specs.Windows.{Locked, Saw}
 use Rattle.s2_receive.proofs.HeaderWindows.{fed}
 use Rattle.s2_receive.proofs.header.HeaderSearch.feed.Goals as goal
 
 pub returns-clause-header : goal.returns-clause-header
+unfolding Saw
 returns-clause-header c = λ seen saw.
     let old : Locked = c.args.self.now in
     let told = fed old.search.mode old.lock seen old.search.seen c.args.symbol saw in
