@@ -113,7 +113,14 @@ fn receive_files<R: CountedRead, S: CountedRead, W: Output, O: CountedWrite, N: 
         notes,
     )?;
     let link = Link::of(setup, &matrix);
-    receive_link(alloc, &link, words.tuning, &mut files.from, &mut files.to, out)
+    receive_link(
+        alloc,
+        &link,
+        words.tuning,
+        &mut files.from,
+        &mut files.to,
+        out,
+    )
 }
 
 /// The same with the report at a place of a console.

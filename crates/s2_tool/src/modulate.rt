@@ -127,7 +127,14 @@ fn send_files<R: CountedRead, S: CountedRead, W: Output, O: CountedWrite, N: Cou
 {
     let matrix = read_noted(alloc, &setup.mode, &mut files.rows, words.quiet, notes)?;
     let link = Link::of(setup, &matrix);
-    send_link(alloc, &link, words.dummy, &mut files.from, &mut files.to, out)
+    send_link(
+        alloc,
+        &link,
+        words.dummy,
+        &mut files.from,
+        &mut files.to,
+        out,
+    )
 }
 
 /// The same with the report at a place of a console.

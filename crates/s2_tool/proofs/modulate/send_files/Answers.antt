@@ -12,5 +12,7 @@ returns-in_err-matrix g c =
 
 pub returns : goal.returns
 returns g c =
-    record { run = rw (sym c.files.view_is) (tried (Sends c.args.words.now.dummy) (setup_of c.args.setup) _ _ c.in_ok-matrix.matrix c.of-link.result _ _ c.send_link.result c.in_ok-matrix.ensures.rows
-    c.of-link.ensures (c.in_ok-matrix.ensures.no_other (never c.in_ok-matrix.matrix)) c.send_link.ensures.sends c.send_link.ensures.causes) }
+    record {
+      run = rw (sym c.files.view_is) (tried (Sends c.args.words.now.dummy) (setup_of c.args.setup) _ _ c.in_ok-matrix.matrix c.of-link.result _ _ c.send_link.result c.in_ok-matrix.ensures.rows
+          c.of-link.ensures (c.in_ok-matrix.ensures.no_other (never c.in_ok-matrix.matrix)) c.send_link.ensures.sends c.send_link.ensures.causes);
+    }

@@ -7,16 +7,20 @@ pub returns-in-Own : goal.returns-in-Own
 returns-in-Own g c =
     let input = g.S.CountedRead.remaining c.args.input.now in
     let run = c.self_command.ensures.run in
-    record { began = begun g.R.Disk.holds c.args.request.now requests.Own input (Ok c.self_command.result) c.args.console.now c.self_command.new.console c.in-Own.is
-    (served_plainly g.R.Disk.holds requests.Own input [] run.0 c.self_command.result c.args.console.now c.self_command.new.console refl run.1 (refl, run.2) run.4 c.self_command.ensures.whole c.self_command.ensures.quiet) }
+    record {
+      began = begun g.R.Disk.holds c.args.request.now requests.Own input (Ok c.self_command.result) c.args.console.now c.self_command.new.console c.in-Own.is
+          (served_plainly g.R.Disk.holds requests.Own input [] run.0 c.self_command.result c.args.console.now c.self_command.new.console refl run.1 (refl, run.2) run.4 c.self_command.ensures.whole c.self_command.ensures.quiet);
+    }
 
 pub returns-in-Modes : goal.returns-in-Modes
 returns-in-Modes g c =
     let input = g.S.CountedRead.remaining c.args.input.now in
     let run = c.modes_command.ensures.run in
     let asked = requests.Modes c.in-Modes.words in
-    record { began = begun g.R.Disk.holds c.args.request.now asked input (Ok c.modes_command.result) c.args.console.now c.modes_command.new.console c.in-Modes.is
-    (served_plainly g.R.Disk.holds asked input [] run.0 c.modes_command.result c.args.console.now c.modes_command.new.console refl run.1 (refl, run.2) run.4 c.modes_command.ensures.whole c.modes_command.ensures.quiet) }
+    record {
+      began = begun g.R.Disk.holds c.args.request.now asked input (Ok c.modes_command.result) c.args.console.now c.modes_command.new.console c.in-Modes.is
+          (served_plainly g.R.Disk.holds asked input [] run.0 c.modes_command.result c.args.console.now c.modes_command.new.console refl run.1 (refl, run.2) run.4 c.modes_command.ensures.whole c.modes_command.ensures.quiet);
+    }
 
 pub returns-in-Rows : goal.returns-in-Rows
 returns-in-Rows g c = record { began = begun g.R.Disk.holds c.args.request.now (requests.Rows c.in-Rows.words) _ c.serve_rows.result c.args.console.now c.serve_rows.new.console c.in-Rows.is (c.serve_rows.ensures _) }
