@@ -42,10 +42,17 @@ ends_of holds rows from to =
 abbrev pub CanFail : Ends → Type 0
 CanFail ends = CanCount ends.rows_failed × CanCount ends.taken_failed × CanCount ends.given_failed
 
--- what is read behind the rows and what is written, and an output in which this stands and of which so many calls have failed
+-- what is read behind the rows and what is written, and an output in which this stands, of which so many calls have failed
 abbrev pub streams_with : Ends → Option (List ℕ) → ℕ → Streams
 streams_with ends out failed =
-    record { taken = ends.taken; given = ends.given; out = out; reads = ends.taken_failed; writes = ends.given_failed; prints = failed }
+    record {
+      taken = ends.taken;
+      given = ends.given;
+      out = out;
+      reads = ends.taken_failed;
+      writes = ends.given_failed;
+      prints = failed;
+    }
 
 -- the same, and a writer that takes the report
 abbrev pub streams_to : {O : Type 0} → (O → Option (List ℕ)) → (O → ℕ) → Ends → O → Streams
@@ -96,8 +103,8 @@ abbrev pub DoesOn : {T : Type 0} → Deed T → Result Link Fault → Streams �
 DoesOn Does (Ok link) old new ended = Tries Does link old new ended
 DoesOn Does (Err f) old new ended = (f ≢ faults.Write) × (ended ≡ Err f) × (new ≡ old)
 
--- A command on a setup and on these files, of which so much is left. What the row file says decides whether there is a link, unless
--- memory ran out or a read of it failed, which was counted.
+-- A command on a setup and on these files, of which so much is left. What the row file says decides whether there is a link,
+-- unless memory ran out or a read of it failed, which was counted.
 pub record OnLink {T : Type 0} (Does : Deed T) (setup : Setup) (files left : Ends) (old new : Streams) (ended : Result T Fault) : Type 0 where
   pub link : Result Link Fault
   pub linked : IfSome files.rows (λ text. Follows (λ l. l) link (link_in setup text))

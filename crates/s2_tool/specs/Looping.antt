@@ -69,5 +69,6 @@ LoopsBack setup words files left old new ended = OnLink (Loops words) setup file
 -- `run` has ended: so it received what it sent, with its report at this place, and so it tells that
 abbrev pub RunEnds : Setup → RunWords → Place → Ends → Ends → Screen → Screen → Exit → Type 0
 RunEnds setup words place files left old new exit =
-    (heard : Result Received Fault) × (shown : Screen) × LoopsBack setup words files left (streams_at place files old) (streams_at place left shown) heard
+    (heard : Result Received Fault) × (shown : Screen)
+    × LoopsBack setup words files left (streams_at place files old) (streams_at place left shown) heard
     × Finishes words.notes setup.mode heard place exit old shown new

@@ -58,8 +58,8 @@ abbrev pub Answered : NoteWords → Mode → Result Received Fault → Result Ex
 Answered words m (Ok r) ended notes = (notes ≡ (if words.quiet then [] else notes_of m r)) × ((ended ≡ Ok (exit_by words.strict r)) ⊎ (ended ≡ Err faults.Write))
 Answered words m (Err f) ended notes = (notes ≡ (if words.quiet then [] else fault_note m f)) × (ended ≡ Err f)
 
--- How a command ends that received so, with which exit: its report was made at this place, and behind it stand its notes, and of a
--- fault its line.
+-- How a command ends that received so, with which exit: its report was made at this place, and behind it stand its notes, and
+-- of a fault its line.
 pub record Finishes (words : NoteWords) (m : Mode) (heard : Result Received Fault) (place : Place) (exit : Exit) (old shown new : Screen) : Type 0 where
   pub ended : Result Exit Fault
   pub notes : List ℕ

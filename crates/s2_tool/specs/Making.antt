@@ -27,7 +27,8 @@ IsRowFile rows exit text = (exit ≡ exits.Fine) × (text ≡ rows_text rows)
 -- `rows` of a shape, a weight and a seed. Want of memory is told only where this is a weight.
 abbrev pub MakesRows : Shape → ℕ → ℕ → Result Exit Fault → Option (List ℕ) → Option (List ℕ) → Type 0
 MakesRows shape weight seed ended old new =
-    CommandRuns IsRowFile (AreMadeRows shape weight seed) ended old new × (ended ≡ Err faults.NoMemory → IsTrue (is_weight shape weight))
+    CommandRuns IsRowFile (AreMadeRows shape weight seed) ended old new
+    × (ended ≡ Err faults.NoMemory → IsTrue (is_weight shape weight))
 
 -- `rows` has ended so: only what failed was counted, and of a fault the line stands on the errors
 abbrev pub RowsEnds : Shape → ℕ → ℕ → Screen → Screen → Exit → Type 0

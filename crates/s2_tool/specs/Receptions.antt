@@ -20,7 +20,8 @@ use Rattle.s2_tool.specs.Losses.{Finishes}
 -- met before is written, and nothing else. Or a write failed: of the next thing a part is written.
 abbrev pub Receives : Rules → Streams → Streams → Result Received Fault → Type 0
 Receives rules old new (Ok received) =
-    (state : State) × RunsTo rules begun state old new received.well × (received.totals ≡ state.standing.totals) × (received.symbols ≡ state.at)
+    (state : State) × RunsTo rules begun state old new received.well
+    × (received.totals ≡ state.standing.totals) × (received.symbols ≡ state.at)
 Receives rules old new (Err faults.Read) = StopsAfter rules begun old new × MayStop rules.limit 0 old new
 Receives rules old new (Err faults.Write) = BreaksAfter rules begun old new
 Receives rules old new (Err f) = ⊥
@@ -36,5 +37,6 @@ Demodulates setup tuning files left old new ended = OnLink (Hears tuning) setup 
 -- `demod` has ended: so it received, with its report at this place, and so it tells that
 abbrev pub DemodEnds : Setup → DemodWords → Place → Ends → Ends → Screen → Screen → Exit → Type 0
 DemodEnds setup words place files left old new exit =
-    (heard : Result Received Fault) × (shown : Screen) × Demodulates setup words.tuning files left (streams_at place files old) (streams_at place left shown) heard
+    (heard : Result Received Fault) × (shown : Screen)
+    × Demodulates setup words.tuning files left (streams_at place files old) (streams_at place left shown) heard
     × Finishes words.notes setup.mode heard place exit old shown new

@@ -61,5 +61,6 @@ Modulates setup dummy files left old new ended = OnLink (Sends dummy) setup file
 -- `mod` has ended: so it sent, with its counts at this place, and behind them stand the note and of a fault the line
 abbrev pub ModEnds : Setup → ModWords → Place → Ends → Ends → Screen → Screen → Exit → Type 0
 ModEnds setup words place files left old new exit =
-    (ended : Result Exit Fault) × (shown : Screen) × (exit ≡ exit_of ended) × Modulates setup words.dummy files left (streams_at place files old) (streams_at place left shown) ended
+    (ended : Result Exit Fault) × (shown : Screen) × (exit ≡ exit_of ended)
+    × Modulates setup words.dummy files left (streams_at place files old) (streams_at place left shown) ended
     × Concludes place (notes_on words.quiet setup.mode ended) ended old shown new

@@ -115,7 +115,8 @@ NotBegun Why notes (Err f) old new = Why f × (notes ≡ []) × (new ≡ old)
 -- The output of a command on a link of this setup and these files, and how it ended: what the command does of them.
 abbrev pub Reports : {T : Type 0} → Deed T → Setup → Ends → Result T Fault → Option (List ℕ) → Option (List ℕ) → Type 0
 Reports {T} Does setup files ended old new =
-    (failed : ℕ) × (left : Ends) × (behind : Streams) × OnLink Does setup files left (streams_with files old failed) behind ended × (behind.out ≡ new)
+    (failed : ℕ) × (left : Ends) × (behind : Streams)
+    × OnLink Does setup files left (streams_with files old failed) behind ended × (behind.out ≡ new)
 
 -- The output of a command that receives so, its notes, and how it ended.
 abbrev pub Receipts : NoteWords → Setup → Ends → Deed Received → List ℕ → Result Exit Fault → Option (List ℕ) → Option (List ℕ) → Type 0
@@ -135,13 +136,14 @@ Channels channel from to ended =
     × ((ended ≡ spoilt) ⊎ ((spoilt ≡ Ok exits.Fine) × (ended ≡ Err faults.Write)))
 
 -- What a request's output says, with which notes and how it ended. A request that names no file prints what its words and the
--- input determine; one that names files what its command says of what they hold, each in its role, or it could not be begun. Where its
--- words have no mode or no shape, just that is told, and want of memory not in its place.
+-- input determine; one that names files what its command says of what they hold, each in its role, or it could not be begun.
+-- Where its words have no mode or no shape, just that is told, and want of memory not in its place.
 abbrev pub Serves : Holdings → Request → Option (List ℕ) → List ℕ → Result Exit Fault → Option (List ℕ) → Option (List ℕ) → Type 0
 Serves holds requests.Own input notes ended old new = (notes ≡ []) × CommandRuns IsOwn (AreInputs (shape_of 4 2 3) (Some (codes "0 4 8\n0 1 2\n")) input) ended old new
 Serves holds (requests.Modes words) input notes ended old new = (notes ≡ []) × CommandRuns IsListed (IsAsked words.rate) ended old new
 Serves holds (requests.Rows words) input notes ended old new =
-    (IsShape (asked_shape words.shape) × (notes ≡ []) × MakesRows (asked_shape words.shape) words.weight words.seed ended old new)
+    (IsShape (asked_shape words.shape) × (notes ≡ [])
+    × MakesRows (asked_shape words.shape) words.weight words.seed ended old new)
     ⊎ NotBegun (NotOf (asked_shape words.shape) (λ f. ⊥)) notes ended old new
 Serves holds (requests.Table words) input notes ended old new =
     (IsMode (table_mode words) × (notes ≡ notes_on words.quiet (table_mode words) ended)

@@ -13,11 +13,12 @@ use Rattle.s2_console.specs.declared.fault.Fault.TheVariants as faults
 use Rattle.s2_words.specs.declared.request.ChannelWords.{ChannelWords}
 use Rattle.s2_tool.specs.Links.{Causes}
 
--- All symbols that were read, each with its noise. Where a read failed, or as many came as one run takes, those that came before; where a
--- write failed, a part of those that were read, and not all.
+-- All symbols that were read, each with its noise. Where a read failed, or as many came as one run takes, those that came before;
+-- where a write failed, a part of those that were read, and not all.
 abbrev pub IsSpoilt : ChannelWords → Streams → Streams → Result Exit Fault → Type 0
 IsSpoilt channel old new (Ok exit) =
-    (exit ≡ exits.Fine) × IfSome old.taken (λ xs. Appends old.given new.given (noisy channel.level (pcg32_of_seed (pcg32_seed 16 channel.seed)) (symbols_of xs)))
+    (exit ≡ exits.Fine)
+    × IfSome old.taken (λ xs. Appends old.given new.given (noisy channel.level (pcg32_of_seed (pcg32_seed 16 channel.seed)) (symbols_of xs)))
 IsSpoilt channel old new (Err faults.Read) =
     PassesOn channel.level (pcg32_of_seed (pcg32_seed 16 channel.seed)) old.taken new.taken old.given new.given old.reads new.reads
 IsSpoilt channel old new (Err faults.Write) =
@@ -26,7 +27,8 @@ IsSpoilt channel old new (Err f) = ⊥
 
 -- the streams of a command that prints nothing
 abbrev pub piped : Option (List ℕ) → Option (List ℕ) → ℕ → ℕ → Streams
-piped taken given reads writes = record { taken = taken; given = given; out = None; reads = reads; writes = writes; prints = 0 }
+piped taken given reads writes =
+    record { taken = taken; given = given; out = None; reads = reads; writes = writes; prints = 0 }
 
 -- those of a reader and a writer
 abbrev pub piped_by : {R W : Type 0} → (R → Option (List ℕ)) → (R → ℕ) → (W → Option (List ℕ)) → (W → ℕ) → R → W → Streams

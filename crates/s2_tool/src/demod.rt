@@ -33,7 +33,8 @@ pub(crate) fn receive_frames<S: CountedRead, P: CountedWrite, O: CountedWrite>(
     requires out { CanCount (O.count out.old) }
     requires begun { receiver.old.state ≡ begun }
     ensures receives { let ends = streams_by S.remaining S.count P.contents P.count O.contents O.count in
-        Receives (rules_for receiver.old) (ends symbols.old packets.old out.old) (ends symbols.new packets.new out.new) result }
+        Receives (rules_for receiver.old)
+        (ends symbols.old packets.old out.old) (ends symbols.new packets.new out.new) result }
     ensures causes { let ends = streams_by S.remaining S.count P.contents P.count O.contents O.count in
         Causes (ends symbols.old packets.old out.old) (ends symbols.new packets.new out.new) result }
 {
@@ -56,7 +57,8 @@ fn receive_begun<S: CountedRead, W: Output, O: CountedWrite>(
     requires out { CanCount (O.count out.old) }
     requires begun { receiver.old.state ≡ begun }
     ensures receives { let ends = streams_by S.remaining S.count W.contents W.count O.contents O.count in
-        Receives (rules_for receiver.old) (ends symbols.old packets.old out.old) (ends symbols.new packets.new out.new) result
+        Receives (rules_for receiver.old)
+        (ends symbols.old packets.old out.old) (ends symbols.new packets.new out.new) result
         ⊎ Undone (ends symbols.old packets.old out.old) (ends symbols.new packets.new out.new) result }
     ensures causes { let ends = streams_by S.remaining S.count W.contents W.count O.contents O.count in
         Causes (ends symbols.old packets.old out.old) (ends symbols.new packets.new out.new) result }
@@ -103,7 +105,8 @@ fn receive_files<R: CountedRead, S: CountedRead, W: Output, O: CountedWrite, N: 
     requires out { CanCount (O.count out.old) }
     requires notes { CanCount (N.count notes.old) }
     ensures run { let ends = streams_to O.contents O.count in
-        Demodulates (setup_of setup) words.now.tuning files.old files.new (ends files.old out.old) (ends files.new out.new) result }
+        Demodulates (setup_of setup) words.now.tuning files.old files.new
+        (ends files.old out.old) (ends files.new out.new) result }
 {
     let matrix = read_noted(
         alloc,
@@ -145,7 +148,8 @@ fn receive_at<
     requires notes { CanCount (N.count notes.old) }
     ensures beside { SameBeside place console.old console.new }
     ensures run { let ends = streams_at place in
-        Demodulates (setup_of setup) words.now.tuning files.old files.new (ends files.old console.old) (ends files.new console.new) result }
+        Demodulates (setup_of setup) words.now.tuning files.old files.new
+        (ends files.old console.old) (ends files.new console.new) result }
 {
     match place {
         Place::Output => receive_files(alloc, setup, words, files, &mut console.output, notes),

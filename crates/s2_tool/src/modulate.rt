@@ -123,7 +123,8 @@ fn send_files<R: CountedRead, S: CountedRead, W: Output, O: CountedWrite, N: Cou
     requires out { CanCount (O.count out.old) }
     requires notes { CanCount (N.count notes.old) }
     ensures run { let ends = streams_to O.contents O.count in
-        Modulates (setup_of setup) words.now.dummy files.old files.new (ends files.old out.old) (ends files.new out.new) result }
+        Modulates (setup_of setup) words.now.dummy files.old files.new
+        (ends files.old out.old) (ends files.new out.new) result }
 {
     let matrix = read_noted(alloc, &setup.mode, &mut files.rows, words.quiet, notes)?;
     let link = Link::of(setup, &matrix);
@@ -159,7 +160,8 @@ fn send_at<
     requires notes { CanCount (N.count notes.old) }
     ensures beside { SameBeside place console.old console.new }
     ensures run { let ends = streams_at place in
-        Modulates (setup_of setup) words.now.dummy files.old files.new (ends files.old console.old) (ends files.new console.new) result }
+        Modulates (setup_of setup) words.now.dummy files.old files.new
+        (ends files.old console.old) (ends files.new console.new) result }
 {
     match place {
         Place::Output => send_files(alloc, setup, words, files, &mut console.output, notes),

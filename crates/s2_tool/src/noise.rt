@@ -42,8 +42,9 @@ pub fn noise_command<R: CountedRead, W: CountedWrite, O: CountedWrite, E: Counte
     ensures quiet { result ≢ Exit.Fault → console.new.errors_failed ≡ console.old.errors_failed }
     ensures output { console.new.output ≡ console.old.output }
     ensures whole { console.new.output_failed ≡ console.old.output_failed }
-    ensures run { let ends = piped_by R.remaining R.count W.contents W.count in (ended : Result Exit Fault) × (result ≡ exit_of ended)
-        × Spoils channel (ends from.old to.old) (ends from.new to.new) ended × Complains ended console.old console.new }
+    ensures run { let ends = piped_by R.remaining R.count W.contents W.count in (ended : Result Exit Fault)
+        × (result ≡ exit_of ended) × Spoils channel (ends from.old to.old) (ends from.new to.new) ended
+        × Complains ended console.old console.new }
 {
     let ended = spoil(channel, from, to);
     console.conclude(ended)

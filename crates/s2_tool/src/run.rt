@@ -48,7 +48,8 @@ fn receive_spoilt<P: CountedWrite, O: CountedWrite>(
     requires out { CanCount (O.count out.old) }
     requires begun { receiver.old.state ≡ begun }
     ensures passes { let ends = streams_by (λ b. Some b) (λ b. 0) P.contents P.count O.contents O.count in
-        Passes (rules_for receiver.old) channel symbols.now (ends symbols.now packets.old out.old) (ends symbols.now packets.new out.new) result }
+        Passes (rules_for receiver.old) channel symbols.now
+        (ends symbols.now packets.old out.old) (ends symbols.now packets.new out.new) result }
     ensures causes { let ends = streams_by (λ b. Some b) (λ b. 0) P.contents P.count O.contents O.count in
         Causes (ends symbols.now packets.old out.old) (ends symbols.now packets.new out.new) result }
 {
@@ -79,7 +80,8 @@ fn loop_packets<S: CountedRead, W: Output, O: CountedWrite>(
     requires out { CanCount (O.count out.old) }
     requires begun { receiver.old.state ≡ begun }
     ensures loops { let ends = streams_by S.remaining S.count W.contents W.count O.contents O.count in
-        LoopsBy transmitter.old (rules_for receiver.old) channel (ends from.old to.old out.old) (ends from.new to.new out.new) result }
+        LoopsBy transmitter.old (rules_for receiver.old) channel
+        (ends from.old to.old out.old) (ends from.new to.new out.new) result }
     ensures causes { let ends = streams_by S.remaining S.count W.contents W.count O.contents O.count in
         Causes (ends from.old to.old out.old) (ends from.new to.new out.new) result }
 {
@@ -108,7 +110,8 @@ fn loop_begun<S: CountedRead, W: Output, O: CountedWrite>(
     requires out { CanCount (O.count out.old) }
     requires begun { receiver.old.state ≡ begun }
     ensures loops { let ends = streams_by S.remaining S.count W.contents W.count O.contents O.count in
-        LoopsBy transmitter.old (rules_for receiver.old) channel (ends from.old to.old out.old) (ends from.new to.new out.new) result
+        LoopsBy transmitter.old (rules_for receiver.old) channel
+        (ends from.old to.old out.old) (ends from.new to.new out.new) result
         ⊎ Undone (ends from.old to.old out.old) (ends from.new to.new out.new) result }
     ensures causes { let ends = streams_by S.remaining S.count W.contents W.count O.contents O.count in
         Causes (ends from.old to.old out.old) (ends from.new to.new out.new) result }
@@ -202,7 +205,8 @@ fn loop_at<
     requires notes { CanCount (N.count notes.old) }
     ensures beside { SameBeside place console.old console.new }
     ensures run { let ends = streams_at place in
-        LoopsBack (setup_of setup) words.now files.old files.new (ends files.old console.old) (ends files.new console.new) result }
+        LoopsBack (setup_of setup) words.now files.old files.new
+        (ends files.old console.old) (ends files.new console.new) result }
 {
     match place {
         Place::Output => loop_files(alloc, setup, words, files, &mut console.output, notes),
