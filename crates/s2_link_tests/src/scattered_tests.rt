@@ -1,7 +1,8 @@
 //! A frame whose wrong decisions are scattered.
-use super::hearing::assert_reported;
-use super::streams::{Sides, matrix_of, packet_of_zeros, setup_of, symbols_of};
+use super::hearing::{assert_reported, hear};
+use super::streams::{ALL, Sides, Source, matrix_of, packet_of_zeros, setup_of, symbols_of};
 use s2_matrix::Matrix;
+use s2_mode::{ByOne, MOST_SYMBOLS};
 use std::alloc::{AllocError, Global};
 use std::process::Abort;
 use std::test::Fail;
@@ -96,26 +97,57 @@ fn link(alloc: Global) -> Result<Sides, Fail> {
     Ok(Sides { setup, matrix })
 }
 
-/// The symbols of a packet of zeros, of which three are negated.
-fn three_negated(alloc: Global, link: &Sides) -> Result<Vec<u8>, Fail> {
+/// The report of a packet's frame whose wrong bits were repaired.
+const REPAIRED: &str =
+    "frame 1 at 0 most-likely fixed 0\nend frames 1 delivered 1 packets 1 bad 0\n";
+
+/// The symbols of a packet of zeros, of which so many of three are negated.
+fn negated(alloc: Global, link: &Sides, count: usize) -> Result<Vec<u8>, Fail> {
     let wrong = three_symbols(alloc, &link.matrix)?;
     let mut symbols = symbols_of(alloc, link, &packet_of_zeros())?;
-    for symbol in wrong {
-        negate_symbol(&mut symbols, symbol);
+    for symbol in &wrong[..count.min(3)] {
+        negate_symbol(&mut symbols, *symbol);
     }
     Ok(symbols)
 }
 
 /// Asserts that the packet arrives.
-fn assert_repaired<A: Abort>(rt: &A, alloc: Global, link: &Sides) -> Result<(), Fail> {
-    let symbols = three_negated(alloc, link)?;
-    let report = "frame 1 at 0 most-likely fixed 0\nend frames 1 delivered 1 packets 1 bad 0\n";
-    assert_reported(rt, alloc, link, &symbols, report, &packet_of_zeros());
+fn assert_repaired<A: Abort>(
+    rt: &A,
+    alloc: Global,
+    link: &Sides,
+    count: usize,
+) -> Result<(), Fail> {
+    let symbols = negated(alloc, link, count)?;
+    assert_reported(rt, alloc, link, &symbols, REPAIRED, &packet_of_zeros());
+    Ok(())
+}
+
+/// Asserts that it arrives where the symbols are read byte by byte.
+fn assert_repaired_by_one<A: Abort>(
+    rt: &A,
+    alloc: Global,
+    link: &Sides,
+    count: usize,
+) -> Result<(), Fail> {
+    let symbols = negated(alloc, link, count)?;
+    let source = Source::Bytes(ByOne::new(&symbols));
+    let heard = hear(alloc, link, MOST_SYMBOLS, source, [ALL, ALL, ALL])?;
+    assert_eq!(rt; heard.packets.as_slice(), packet_of_zeros().as_slice());
+    assert_eq!(rt; heard.report.as_slice(), REPAIRED.as_bytes());
     Ok(())
 }
 
 #[test]
-fn three_negated_symbols_are_repaired(rt: HostRuntime) -> Result<(), Fail> {
+fn negated_symbols_are_repaired(rt: HostRuntime) -> Result<(), Fail> {
     let link = link(rt.alloc())?;
-    assert_repaired(&rt, rt.alloc(), &link)
+    assert_repaired(&rt, rt.alloc(), &link, 1)?;
+    assert_repaired(&rt, rt.alloc(), &link, 3)
+}
+
+#[test]
+fn negated_symbols_are_repaired_byte_by_byte(rt: HostRuntime) -> Result<(), Fail> {
+    let link = link(rt.alloc())?;
+    assert_repaired_by_one(&rt, rt.alloc(), &link, 1)?;
+    assert_repaired_by_one(&rt, rt.alloc(), &link, 3)
 }

@@ -6,12 +6,12 @@ use Rattle.std.proofs.lemmas.List.{length-map}
 use Rattle.s2_mode.specs.Mode.{Mode}
 use Rattle.s2_mode.specs.declared.symbols.Symbol.{Symbol}
 use Rattle.s2_plframe.specs.Header.{header_bit}
-use Rattle.s2_plframe.specs.Search.{Decision, decision, passes, passes_dummy, found, found_behind, recent}
+use Rattle.s2_plframe.specs.Search.{Search, search_of, Decision, decision, passes, passes_dummy, found, found_behind, recent}
 use Rattle.s2_plframe.specs.HeaderLaws.{seen_of}
 use Rattle.s2_plframe.specs.declared.receive.found.Found.TheVariants as founds
 use Rattle.s2_plframe.proofs.HeaderFacts.{seen_more, seen_last}
 use Rattle.s2_receive.specs.Finding.{found_last}
-use Rattle.s2_receive.specs.Windows.{Locked, FindsSame, found_as, finds_of}
+use Rattle.s2_receive.specs.Windows.{Saw, found_as}
 
 pub fed : (m : Mode) (lock : ℕ) (seen : List Symbol) (held : List Decision) (next : Symbol) → held ≡ seen_of seen
     → (recent (held ++ decision next ∷ []) ≡ seen_of (seen ++ next ∷ []))
@@ -42,9 +42,7 @@ met_behind m lock seen held is many =
     let long : length held ≡ length (drop (length seen - 90) seen) = ap length same ∙ length-map (drop (length seen - 90) seen) decision in
     (omega (arith, long, length-drop (length seen - 90) seen), ap (found_behind m lock) same)
 
--- searches for the same
-pub same_finds : (old new : Locked) → FindsSame old new → finds_of new ≡ finds_of old
-same_finds old new same = ap (λ m. found_as m new.lock) same.0 ∙ ap (found_as old.search.mode) same.1
-
-pub same_on : (old mid new : Locked) → FindsSame old mid → FindsSame mid new → FindsSame old new
-same_on old mid new first second = (second.0 ∙ first.0, second.1 ∙ first.1)
+-- no symbol came since
+pub restarted : (new : Search) (m : Mode) → new ≡ search_of m [] → Saw new [] × (new.mode ≡ m)
+unfolding Saw
+restarted new m is = (ap (λ s. s.seen) is, ap (λ s. s.mode) is)

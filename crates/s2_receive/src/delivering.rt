@@ -30,8 +30,8 @@ fn gap_before(joiner: &mut Joiner, over: Stretch) -> usize
     if over.is_over() { joiner.gap() } else { 0 }
 }
 
-/// Joins the data field of a frame on, and writes the packets that are whole with it. A gap comes before it where symbols
-/// were passed over, and in its place where nothing was delivered.
+/// Joins the data field of a frame on, and writes the packets that are whole with it. A gap comes before it where
+/// symbols were passed over, and in its place where nothing was delivered.
 pub(crate) fn give_packets<P: CountedWrite>(
     joiner: &mut Joiner,
     decided: Decided,

@@ -8,15 +8,15 @@ ghost use Rattle.s2_receive.specs.Meeting.{met_in, nothing_over};
 ghost use Rattle.s2_receive.specs.Windows.{found_as};
 
 use crate::finding::{Next, find_frame};
-use crate::header::HeaderSearch;
 use s2_mode::{CountedRead, Mode, ReadFault, Symbol};
-use s2_plframe::Lock;
+use s2_plframe::{Lock, Search};
 use std::alloc::{AllocError, Global};
 use std::marker::Model;
 
 /// Finds the frames of a mode in a stream of symbols, in buffers of its own.
 pub(crate) struct Finder {
-    search: HeaderSearch,
+    search: Search,
+    lock: Lock,
     frame: Vec<Symbol>,
     bytes: Vec<u8>,
 }
@@ -25,6 +25,7 @@ impl Drop for Finder {
     fn drop(self) {
         let Finder {
             search: _,
+            lock: _,
             frame: _,
             bytes: _,
         } = self;
@@ -37,9 +38,9 @@ impl Model for Finder {
 
     ghost Value = { FinderValue };
 
-    ghost view = { λ f. record { mode = f.search.search.mode; lock = f.search.lock; frame = f.frame.items } };
+    ghost view = { λ f. record { mode = f.search.mode; lock = f.lock; frame = f.frame.items } };
 
-    ghost invariant = { λ f. HoldsFrame f.search.search.mode (length f.frame.items) (length f.bytes.items) };
+    ghost invariant = { λ f. HoldsFrame f.search.mode (length f.frame.items) (length f.bytes.items) };
 }
 
 impl Finder {
@@ -51,7 +52,8 @@ impl Finder {
         let frame = vec![in alloc; Symbol { i: 0, q: 0 }; size]?;
         let bytes = vec![in alloc; 0u8; 4 * size]?;
         Ok(Finder {
-            search: HeaderSearch::new(mode, lock),
+            search: Search::new(mode),
+            lock,
             frame,
             bytes,
         })
@@ -77,6 +79,7 @@ impl Finder {
     {
         find_frame(
             &mut self.search,
+            self.lock,
             reader,
             &mut self.bytes,
             &mut self.frame,

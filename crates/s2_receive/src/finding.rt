@@ -6,13 +6,13 @@ ghost use Rattle.s2_mode.specs.Limits.{header_symbols, most_symbols};
 ghost use Rattle.s2_plframe.specs.declared.receive.found.Found.{Found};
 ghost use Rattle.s2_receive.specs.Meeting.{met_in, nothing_over, frame as met_frame};
 ghost use Rattle.s2_receive.specs.Finding.{FindsNext, StopsShort, Reaches, ReadsBytes, ReadsPart, Meets, Looks, IsBehind, met_with, place_with, met_of, met_after, place_after};
-ghost use Rattle.s2_receive.specs.Windows.{FindsSame, finds_of};
+ghost use Rattle.s2_receive.specs.Windows.{found_as};
 
-use crate::header::HeaderSearch;
 use crate::reading::read_symbols;
 use crate::scanning::look_through;
 use crate::stretch::Stretch;
 use s2_mode::{CountedRead, ReadFault, Symbol};
+use s2_plframe::{Lock, Search};
 
 /// What comes next in the stream; positions count symbols from 0.
 #[derive(Clone, Copy)]
@@ -67,18 +67,19 @@ fn fill<R: CountedRead>(
 }
 
 /// What is met at the stream's end, where fewer symbols are held than a frame has.
-fn meet_last(search: &mut HeaderSearch, frame: &[Symbol], held: Held) -> Next
+fn meet_last(search: &mut Search, lock: Lock, frame: &[Symbol], held: Held) -> Next
     requires few { held.count < length frame.now }
     requires size { length frame.now ≤ 2 ^ 32 }
     requires place { place_with held ≤ most_symbols }
     requires over { held.over.symbols ≤ held.at }
-    ensures met { (bytes : Option (List ℕ)) → IsAtEnd bytes → Meets (met_with (finds_of search.old) held frame.now bytes) (met_after (finds_of search.old) (length frame.now) result bytes) (met_of result frame.now ∷ []) }
+    ensures met { (bytes : Option (List ℕ)) → IsAtEnd bytes → Meets (met_with (found_as search.old.mode lock) held frame.now bytes) (met_after (found_as search.old.mode lock) (length frame.now) result bytes) (met_of result frame.now ∷ []) }
     ensures place { place_after (length frame.now) result ≡ place_with held }
     ensures behind { IsBehind held.at held.over result }
-    ensures same { FindsSame search.old search.new }
+    ensures same { search.new.mode ≡ search.old.mode }
 {
     let scan = look_through(
         search,
+        lock,
         &frame[..held.count],
         held.at,
         held.inside,
@@ -102,21 +103,29 @@ fn meet_last(search: &mut HeaderSearch, frame: &[Symbol], held: Held) -> Next
 /// Moves to the front of a full buffer what may begin a frame: what begins at the first coded frame's header, or else
 /// what lies behind the last dummy frame, at most 89 symbols. Whether symbols left the buffer so: if not it is a
 /// frame.
-fn pass_over(search: &mut HeaderSearch, frame: &mut [Symbol], held: &mut Held) -> bool
+fn pass_over(search: &mut Search, lock: Lock, frame: &mut [Symbol], held: &mut Held) -> bool
     requires size { (header_symbols ≤ length frame.old) × (length frame.old ≤ 2 ^ 32) }
     requires full { held.old.count ≡ length frame.old }
     requires place { place_with held.old ≤ most_symbols }
     requires over { held.old.over.symbols ≤ held.old.at }
-    ensures stands { result ≡ false → (bytes : Option (List ℕ)) → Meets (met_with (finds_of search.old) held.old frame.old bytes)
-        (met_in (finds_of search.old) (length frame.old) (place_with held.old) 0 true nothing_over [] bytes) (met_frame held.new.at held.new.over frame.new ∷ []) }
+    ensures stands { result ≡ false → (bytes : Option (List ℕ)) → Meets (met_with (found_as search.old.mode lock) held.old frame.old bytes)
+        (met_in (found_as search.old.mode lock) (length frame.old) (place_with held.old) 0 true nothing_over [] bytes) (met_frame held.new.at held.new.over frame.new ∷ []) }
     ensures held { result ≡ false → (held.new.at ≡ held.old.at) × (held.new.over.symbols ≤ held.old.over.symbols) }
-    ensures passed { result ≡ true → (bytes : Option (List ℕ)) → Meets (met_with (finds_of search.old) held.old frame.old bytes) (met_with (finds_of search.old) held.new frame.new bytes) [] }
+    ensures passed { result ≡ true → (bytes : Option (List ℕ)) → Meets (met_with (found_as search.old.mode lock) held.old frame.old bytes) (met_with (found_as search.old.mode lock) held.new frame.new bytes) [] }
     ensures further { result ≡ true → (held.old.at < held.new.at) × (place_with held.new ≡ place_with held.old) }
     ensures over { result ≡ true → held.old.at + held.new.over.symbols ≤ held.new.at + held.old.over.symbols }
-    ensures same { FindsSame search.old search.new }
+    ensures same { search.new.mode ≡ search.old.mode }
 {
     let size = frame.len();
-    let scan = look_through(search, frame, held.at, held.inside, held.behind, held.over);
+    let scan = look_through(
+        search,
+        lock,
+        frame,
+        held.at,
+        held.inside,
+        held.behind,
+        held.over,
+    );
     if scan.place == 0 {
         held.over = scan.over;
         return false;
@@ -136,7 +145,8 @@ fn pass_over(search: &mut HeaderSearch, frame: &mut [Symbol], held: &mut Held) -
 /// Fills the buffer and looks for a frame in it: what is found, or nothing where symbols only left it. It
 /// fails where a read does, and where as many symbols were taken as may be.
 fn look<R: CountedRead>(
-    search: &mut HeaderSearch,
+    search: &mut Search,
+    lock: Lock,
     reader: &mut R,
     bytes: &mut [u8],
     frame: &mut [Symbol],
@@ -150,23 +160,23 @@ fn look<R: CountedRead>(
     requires place { place_with held.old ≤ limit }
     requires over { held.old.over.symbols ≤ held.old.at }
     requires limit { limit ≤ most_symbols }
-    ensures looks { IfOk result (Looks (finds_of search.old) limit held.old held.new frame.old frame.new (R.remaining reader.old) (R.remaining reader.new)) }
+    ensures looks { IfOk result (Looks (found_as search.old.mode lock) limit held.old held.new frame.old frame.new (R.remaining reader.old) (R.remaining reader.new)) }
     ensures count { IfOk result (λ _. R.count reader.new ≡ R.count reader.old) }
-    ensures short { OnErr result (StopsShort (length frame.old) (place_with held.old) limit (met_with (finds_of search.old) held.old frame.old (R.remaining reader.old))
+    ensures short { OnErr result (StopsShort (length frame.old) (place_with held.old) limit (met_with (found_as search.old.mode lock) held.old frame.old (R.remaining reader.old))
         (R.remaining reader.old) (R.remaining reader.new) (R.count reader.old) (R.count reader.new)) }
-    ensures same { FindsSame search.old search.new }
+    ensures same { search.new.mode ≡ search.old.mode }
 {
     let size = frame.len();
     let left = limit - held.at - held.count as u64;
     let wanted = left.min((size - held.count) as u64) as usize;
     let full = fill(reader, bytes, frame, held, wanted)?;
     if !full {
-        return Ok(Some(meet_last(search, frame, *held)));
+        return Ok(Some(meet_last(search, lock, frame, *held)));
     }
     if held.count < size {
         return Err(ReadFault);
     }
-    if pass_over(search, frame, held) {
+    if pass_over(search, lock, frame, held) {
         return Ok(None);
     }
     Ok(Some(Next::Frame {
@@ -182,7 +192,8 @@ fn look<R: CountedRead>(
 /// 89 symbols, moves to the front, and nothing where a dummy frame reaches past them. So nothing behind the frame is
 /// read, and no symbol is kept between two calls.
 pub(crate) fn find_frame<R: CountedRead>(
-    search: &mut HeaderSearch,
+    search: &mut Search,
+    lock: Lock,
     reader: &mut R,
     bytes: &mut [u8],
     frame: &mut [Symbol],
@@ -194,12 +205,12 @@ pub(crate) fn find_frame<R: CountedRead>(
     requires bytes { length bytes.old ≡ 4 * length frame.old }
     requires start { start ≤ limit }
     requires limit { limit ≤ most_symbols }
-    ensures found { IfOk result (FindsNext (finds_of search.old) (length frame.old) start limit (R.remaining reader.old) (R.remaining reader.new) frame.new) }
+    ensures found { IfOk result (FindsNext (found_as search.old.mode lock) (length frame.old) start limit (R.remaining reader.old) (R.remaining reader.new) frame.new) }
     ensures count { IfOk result (λ _. R.count reader.new ≡ R.count reader.old) }
     ensures short { OnErr result (StopsShort (length frame.old) start limit
-        (met_in (finds_of search.old) (length frame.old) start 0 (nat_lt 0 start) nothing_over [] (R.remaining reader.old))
+        (met_in (found_as search.old.mode lock) (length frame.old) start 0 (nat_lt 0 start) nothing_over [] (R.remaining reader.old))
         (R.remaining reader.old) (R.remaining reader.new) (R.count reader.old) (R.count reader.new)) }
-    ensures same { FindsSame search.old search.new }
+    ensures same { search.new.mode ≡ search.old.mode }
 {
     let mut held = Held {
         at: start,
@@ -209,7 +220,7 @@ pub(crate) fn find_frame<R: CountedRead>(
         behind: start > 0,
     };
     'looking: loop {
-        match look(search, reader, bytes, frame, &mut held, limit)? {
+        match look(search, lock, reader, bytes, frame, &mut held, limit)? {
             Some(found) => return Ok(found),
             None => {}
         }

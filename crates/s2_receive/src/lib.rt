@@ -25,7 +25,6 @@ mod all;
 mod delivering;
 mod finder;
 mod finding;
-mod header;
 pub mod laws;
 mod lines;
 mod parts;

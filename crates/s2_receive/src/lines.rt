@@ -87,7 +87,8 @@ fn line_of_end(totals: Totals) -> Line
     line
 }
 
-/// Writes the line of a frame, by one write where the writer takes it whole. After a fault a part of it has been written.
+/// Writes the line of a frame, by one write where the writer takes it whole. After a fault a part of it has been
+/// written.
 pub(crate) fn write_frame<W: CountedWrite>(report: Report, out: &mut W) -> Result<(), WriteFault>
     requires { CanCount (W.count out.old) }
     ensures bytes { OnOk result (Appends (W.contents out.old) (W.contents out.new) (frame_line report)) }

@@ -75,7 +75,8 @@ impl<D: Decide> Model for Receiver<D> {
 
 impl<D: Decide> Receiver<D> {
     /// A receiver of the frames of a mode that takes at most `limit` symbols in all, with the memory that
-    /// its steps use. Right behind a frame so many bits of a header may be wrong as the lock says. `AllocError` only where a growth was refused.
+    /// its steps use. Right behind a frame so many bits of a header may be wrong as the lock says. `AllocError`
+    /// only where a growth was refused.
     pub fn new(
         alloc: Global,
         mode: Mode,
@@ -130,8 +131,9 @@ impl<D: Decide> Receiver<D> {
     ///
     /// A frame stands where the first coded frame's header begins, not before the last frame's end and in no
     /// dummy frame: of these the symbols are passed, and nothing is told. After the end it answers `End` and reads
-    /// nothing. `Read` comes, never after a cut frame, where a read failed or where the limit was reached and the next frame
-    /// would end behind it. After a fault, and before what was met is delivered, it answers `Failed` and reads nothing.
+    /// nothing. `Read` comes, never after a cut frame, where a read failed or where the limit was reached and the
+    /// next frame would end behind it. After a fault, and before what was met is delivered, it answers `Failed` and
+    /// reads nothing.
     pub fn meet<R: CountedRead>(&mut self, reader: &mut R) -> Result<Step, Fault>
         requires reader { CanCount (R.count reader.old) }
         ensures rules { rules_of D.decide self.new ≡ rules_of D.decide self.old }
@@ -201,11 +203,13 @@ impl<D: Decide> Receiver<D> {
         Step::End
     }
 
-    /// The second half of a step: writes the packets of what was met, and then its line of the report. The joiner has a gap
-    /// where symbols were passed over that are no dummy frame's, where a frame isn't delivered, and after a cut.
+    /// The second half of a step: writes the packets of what was met, and then its line of the report. The joiner
+    /// has a gap where symbols were passed over that are no dummy frame's, where a frame isn't delivered, and after
+    /// a cut.
     ///
-    /// `Write` tells that one of the two writers failed, which then has a part of the packets or of the line; the receiver counts as
-    /// failed from then on. After the end it writes nothing. Where nothing was met it answers `Failed` and writes nothing.
+    /// `Write` tells that one of the two writers failed, which then has a part of the packets or of the line; the
+    /// receiver counts as failed from then on. After the end it writes nothing. Where nothing was met it answers
+    /// `Failed` and writes nothing.
     pub fn deliver<P: CountedWrite, W: CountedWrite>(
         &mut self,
         packets: &mut P,
@@ -242,8 +246,8 @@ impl<D: Decide> Receiver<D> {
         }
     }
 
-    /// Takes one step: [`Receiver::meet`] and then [`Receiver::deliver`]. After `Cut` comes `End`, after `End` comes `End` and nothing is written.
-    /// From a fault on every call answers `Failed` and reads and writes nothing.
+    /// Takes one step: [`Receiver::meet`] and then [`Receiver::deliver`]. After `Cut` comes `End`, after `End` comes
+    /// `End` and nothing is written. From a fault on every call answers `Failed` and reads and writes nothing.
     pub fn next<R: CountedRead, P: CountedWrite, W: CountedWrite>(
         &mut self,
         reader: &mut R,

@@ -3,12 +3,11 @@ ghost use Rattle.std.specs.Prelude.{◌≡◌, ◌+◌, ◌^◌, ◌≤◌, ◌&
 ghost use Rattle.s2_mode.specs.declared.symbols.Symbol.{Symbol as SymbolValue};
 ghost use Rattle.s2_mode.specs.Limits.{header_symbols, most_symbols};
 ghost use Rattle.s2_receive.specs.Finding.{Scans, found_last};
-ghost use Rattle.s2_receive.specs.Windows.{FindsSame, Saw, finds_of};
+ghost use Rattle.s2_receive.specs.Windows.{Saw, found_as};
 
-use crate::header::HeaderSearch;
 use crate::stretch::Stretch;
 use s2_mode::{DUMMY_SYMBOLS, HEADER_SYMBOLS, Symbol};
-use s2_plframe::Found;
+use s2_plframe::{Found, Lock, Search};
 
 /// Where a search came to in some symbols.
 #[derive(Clone, Copy)]
@@ -32,14 +31,14 @@ fn is_first(behind: bool, place: usize, start: usize) -> bool
 }
 
 /// Takes a symbol, and says what the last 90 are, where they stand right behind a frame (`first`) or elsewhere.
-fn found_with(search: &mut HeaderSearch, symbol: Symbol, first: bool) -> Found
+fn found_with(search: &mut Search, lock: Lock, symbol: Symbol, first: bool) -> Found
     ensures header { (seen : List SymbolValue) → Saw search.old seen → (first ≡ true → header_symbols ≤ length (seen ++ symbol ∷ []))
-        → Saw search.new (seen ++ symbol ∷ []) × (result ≡ found_last (finds_of search.old first) (seen ++ symbol ∷ [])) }
-    ensures same { FindsSame search.old search.new }
+        → Saw search.new (seen ++ symbol ∷ []) × (result ≡ found_last (found_as search.old.mode lock first) (seen ++ symbol ∷ [])) }
+    ensures same { search.new.mode ≡ search.old.mode }
 {
     let found = search.feed(symbol);
     if first {
-        return search.behind();
+        return search.behind(lock);
     }
     found
 }
@@ -49,7 +48,8 @@ fn found_with(search: &mut HeaderSearch, symbol: Symbol, first: bool) -> Found
 /// Right behind those that are passed, and at the first one where none are and `behind` says so, a header passes as the
 /// search says of one behind a frame.
 pub(crate) fn look_through(
-    search: &mut HeaderSearch,
+    search: &mut Search,
+    lock: Lock,
     symbols: &[Symbol],
     from: u64,
     inside: usize,
@@ -59,8 +59,8 @@ pub(crate) fn look_through(
     requires size { length symbols.now ≤ 2 ^ 32 }
     requires place { from + length symbols.now ≤ most_symbols }
     requires over { over.symbols ≤ from }
-    ensures scans { Scans (finds_of search.old) symbols.now from inside behind over result }
-    ensures same { FindsSame search.old search.new }
+    ensures scans { Scans (found_as search.old.mode lock) symbols.now from inside behind over result }
+    ensures same { search.new.mode ≡ search.old.mode }
 {
     let mut over = over;
     let mut start = inside;
@@ -69,7 +69,7 @@ pub(crate) fn look_through(
     search.restart();
     'look: while at < symbols.len() {
         let first = is_first(behind, at + 1, start + HEADER_SYMBOLS);
-        let found = found_with(search, symbols[at], first);
+        let found = found_with(search, lock, symbols[at], first);
         at += 1;
         match found {
             Found::Nothing => {}

@@ -31,8 +31,8 @@ impl<D: Decide> Receiver<D> {
         }
     }
 
-    /// Writes the packets of the frame at this symbol, which was decided last, then its line. The totals change only where
-    /// both were written.
+    /// Writes the packets of the frame at this symbol, which was decided last, then its line. The totals change only
+    /// where both were written.
     fn tell_frame<P: CountedWrite, W: CountedWrite>(
         &mut self,
         at: u64,

@@ -1,6 +1,6 @@
 pub mod AnswerLemmas
 pub mod LinkLemmas
-pub mod SendLemmas
+pub mod ReportLemmas
 pub mod LoopLemmas
 pub mod ServeLemmas
 pub mod NoteLemmas

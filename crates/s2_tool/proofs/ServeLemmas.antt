@@ -1,6 +1,6 @@
 -- What is reported of a request.
-use Rattle.std.proofs.Common.{◌≡◌, ◌≢◌, ◌↔◌, ℕ, List, ◌∷◌, Option, None, Result, Ok, Err, ◌∙◌, sym, subst, refl, ap, inl, inr, []}
-use Rattle.std.specs.Prelude.{⊤, ◌⊎◌, IsSome, IsOk, IfOk, IfErr}
+use Rattle.std.proofs.Common.{◌≡◌, ◌≢◌, ℕ, List, ◌∷◌, Option, Result, Ok, Err, ◌∙◌, sym, subst, refl, ap, inl, inr, []}
+use Rattle.std.specs.Prelude.{◌⊎◌, IsOk, IfOk, IfErr}
 use Rattle.s2_mode.specs.Shape.{Shape}
 use Rattle.s2_files.specs.Known.{Holdings}
 use Rattle.s2_files.specs.declared.uses.Role.TheVariants as roles
@@ -31,32 +31,6 @@ use Rattle.s2_tool.specs.Losses.{Answered}
 use Rattle.s2_tool.specs.Links.{Ends, Deed, OnLink, streams_at}
 use Rattle.s2_tool.specs.Serving.{Reports, Receipts, Judges, Channels, Began, Served, Serves, IsPlaced, asked_shape}
 
--- what a command of files says does not ask for standard input
-filed : (holds : Holdings) (request : Request) (input : Option (List ℕ)) (notes : List ℕ) (ended : Result Exit Fault) (old new : Option (List ℕ)) → request ≢ requests.Own
-    → Serves holds request None notes ended old new → Serves holds request input notes ended old new
-filed holds requests.Own input notes ended old new other h = absurd (other refl)
-filed holds (requests.Modes words) input notes ended old new other h = h
-filed holds (requests.Rows words) input notes ended old new other h = h
-filed holds (requests.Table words) input notes ended old new other h = h
-filed holds (requests.Judge words) input notes ended old new other h = h
-filed holds (requests.Check words) input notes ended old new other h = h
-filed holds (requests.Mod words) input notes ended old new other h = h
-filed holds (requests.Noise words) input notes ended old new other h = h
-filed holds (requests.Demod words) input notes ended old new other h = h
-filed holds (requests.Run words) input notes ended old new other h = h
-
--- what a command did on the files that it was asked for serves the request
-pub served_filed : (holds : Holdings) (request asked : Request) (input : Option (List ℕ)) (begun made : Result Exit Fault) (exit : Exit) (old new shown : Screen)
-    → asked ≢ requests.Own → request ≡ asked → begun ≡ made → begun ≡ Ok exit → shown ≡ new → Began holds asked None made old new → Served holds request input exit old shown
-served_filed holds request asked input begun made exit old new shown other is_asked is ended shows h =
-    let P : Result Exit Fault → Type 0 = λ r. Began holds asked None r old new in
-    let Q : Request → Type 0 = λ r. Served holds r input exit old shown in
-    let R : Screen → Type 0 = λ s. Served holds asked input exit old s in
-    let s : Served holds asked None exit old new = subst P (sym is ∙ ended) h in
-    subst Q (sym is_asked)
-    (subst R (sym shows)
-    (record { ended = s.ended; notes = s.notes; place = s.place; shown = s.shown; placed = s.placed; exit_is = s.exit_is; prints = filed holds asked input s.notes s.ended (report_in s.place old) (report_in s.place s.shown) other s.prints; concludes = s.concludes; whole = s.whole; quiet = s.quiet }))
-
 -- what is told on the errors, whatever stands in the output
 told_beside : (notes : List ℕ) (ended : Result Exit Fault) (out : Option (List ℕ)) (failed : ℕ) (old new : Screen)
     → Remarks notes ended old new → Remarks notes ended (screen_of out failed old.errors old.errors_failed) new
@@ -84,20 +58,20 @@ served_plainly holds request input notes ended exit old new placed is prints tol
     }
 
 -- what a command said on a link of the setup and the files that were asked for
-pub reports : {T : Type 0} (Does : Deed T) (setup asked : Setup) (files opened : Ends) (place : Place) (old : Screen) (behind : Streams) (ended : Result T Fault) → setup ≡ asked → files ≡ opened
-    → OnLink Does setup files.rows (streams_at place files old) behind ended → Reports Does asked opened ended (report_in place old) behind.out
-reports {T} Does setup asked files opened place old behind ended is opens h =
+pub reports : {T : Type 0} (Does : Deed T) (setup asked : Setup) (files opened left : Ends) (place : Place) (old : Screen) (behind : Streams) (ended : Result T Fault) → setup ≡ asked → files ≡ opened
+    → OnLink Does setup files left (streams_at place files old) behind ended → Reports Does asked opened ended (report_in place old) behind.out
+reports {T} Does setup asked files opened left place old behind ended is opens h =
     let P : Setup → Type 0 = λ s. Reports Does s opened ended (report_in place old) behind.out in
-    let Q : Ends → Type 0 = λ e. OnLink Does setup e.rows (streams_at place e old) behind ended in
-    subst P is (report_failed place old, behind, subst Q opens h, refl)
+    let Q : Ends → Type 0 = λ e. OnLink Does setup e left (streams_at place e old) behind ended in
+    subst P is (report_failed place old, left, behind, subst Q opens h, refl)
 
 -- and where it received, its notes
-pub receipts : (words : NoteWords) (Does : Deed Received) (setup asked : Setup) (files opened : Ends) (place : Place) (old : Screen) (behind : Streams) (heard : Result Received Fault) (ended : Result Exit Fault) (notes : List ℕ)
-    → setup ≡ asked → files ≡ opened → OnLink Does setup files.rows (streams_at place files old) behind heard → Answered words setup.mode heard ended notes
+pub receipts : (words : NoteWords) (Does : Deed Received) (setup asked : Setup) (files opened left : Ends) (place : Place) (old : Screen) (behind : Streams) (heard : Result Received Fault) (ended : Result Exit Fault) (notes : List ℕ)
+    → setup ≡ asked → files ≡ opened → OnLink Does setup files left (streams_at place files old) behind heard → Answered words setup.mode heard ended notes
     → Receipts words asked opened Does notes ended (report_in place old) behind.out
-receipts words Does setup asked files opened place old behind heard ended notes is opens h answers =
+receipts words Does setup asked files opened left place old behind heard ended notes is opens h answers =
     let P : Setup → Type 0 = λ s. Answered words s.mode heard ended notes in
-    (heard, reports Does setup asked files opened place old behind heard is opens h, subst P is answers)
+    (heard, reports Does setup asked files opened left place old behind heard is opens h, subst P is answers)
 
 -- a verdict on the files that were asked for
 pub judges : (words : JudgeWords) (shape : Shape) (files opened behind : JudgeFiles) (ended : Result Exit Fault) (old new : Option (List ℕ)) → shape ≡ asked_shape words.shape → files ≡ opened
@@ -108,67 +82,35 @@ judges words shape files opened behind ended old new is opens runs certifies =
     let both = subst (P (asked_shape words.shape)) opens (subst (λ s. P s files) is (runs, certifies)) in
     (behind, both.0, both.1)
 
--- a command that is begun at once, and ends
-abbrev done : Holdings → Request → Option (List ℕ) → Result Exit Fault → Screen → Screen → Type 0
-done holds request input (Ok exit) old new = Served holds request input exit old new
-done holds request input (Err f) old new = ⊤
-
-pub served_at_once : (holds : Holdings) (request asked : Request) (input : Option (List ℕ)) (begun : Result Exit Fault) (made exit : Exit) (old new shown : Screen)
-    → request ≡ asked → begun ≡ Ok made → begun ≡ Ok exit → shown ≡ new → Served holds asked input made old new → Served holds request input exit old shown
-served_at_once holds request asked input begun made exit old new shown is_asked is ended shows h =
-    let P : Result Exit Fault → Type 0 = λ r. done holds asked input r old new in
-    let Q : Request → Type 0 = λ r. Served holds r input exit old shown in
-    let R : Screen → Type 0 = λ s. Served holds asked input exit old s in
-    subst Q (sym is_asked) (subst R (sym shows) (subst P (sym is ∙ ended) h))
-
--- it is always begun
-clash : (exit : Exit) (f : Fault) → ◌≡◌ {A = Result Exit Fault} (Ok exit) (Err f) → ⊥
-clash exit f e = cc
-
-pub always_begun : {X : Type 0} (begun : Result Exit Fault) (exit : Exit) (f : Fault) → begun ≡ Ok exit → begun ≡ Err f → X
-always_begun begun exit f is failed = absurd (clash exit f (sym is ∙ failed))
+-- a command that was asked for was begun, or could not be
+pub begun : (holds : Holdings) (request asked : Request) (input : Option (List ℕ)) (begins : Result Exit Fault) (old new : Screen) → request ≡ asked
+    → Began holds asked input begins old new → Began holds request input begins old new
+begun holds request asked input begins old new is h =
+    let P : Request → Type 0 = λ r. Began holds r input begins old new in
+    subst P (sym is) h
 
 -- of a command that could not be begun its fault is told
 same_beside : (place : Place) (s : Screen) → SameBeside place s s
 same_beside places.Output s = (refl, refl)
 same_beside places.Errors s = (refl, refl)
 
-pub served_unbegun : (holds : Holdings) (request asked : Request) (input : Option (List ℕ)) (begun made : Result Exit Fault) (f : Fault) (exit : Exit) (old mid console new : Screen)
-    → asked ≢ requests.Own → request ≡ asked → begun ≡ made → begun ≡ Err f → console ≡ mid → Began holds asked None made old mid
-    → exit ≡ exits.Fault → new.output ≡ console.output → new.output_failed ≡ console.output_failed → Complains (Err f) console new → Served holds request input exit old new
-served_unbegun holds request asked input begun made f exit old mid console new other is_asked is failed shows h fault out out_failed told =
-    let P : Result Exit Fault → Type 0 = λ r. Began holds asked None r old mid in
-    let none : Began holds asked None (Err f) old mid = subst P (sym is ∙ failed) h in
+pub served_unbegun : (holds : Holdings) (request : Request) (input : Option (List ℕ)) (f : Fault) (exit : Exit) (old mid new : Screen)
+    → Began holds request input (Err f) old mid → exit ≡ exits.Fault → new.output ≡ mid.output → new.output_failed ≡ mid.output_failed → Complains (Err f) mid new → Served holds request input exit old new
+served_unbegun holds request input f exit old mid new ((place, placed, serves), same) fault out out_failed told =
     let C : Screen → Type 0 = λ s. (new.output ≡ s.output) × (new.output_failed ≡ s.output_failed) × Complains (Err f) s new in
-    let behind : C old = subst C (shows ∙ none.1) (out, out_failed, told) in
-    let Q : Request → Type 0 = λ r. Served holds r input exit old new in
-    subst Q (sym is_asked)
-    (record {
+    let behind : C old = subst C same (out, out_failed, told) in
+    record {
       ended = Err f;
       notes = [];
-      place = none.0.0;
+      place = place;
       shown = old;
-      placed = none.0.1;
+      placed = placed;
       exit_is = fault;
-      prints = filed holds asked input [] (Err f) (report_in none.0.0 old) (report_in none.0.0 old) other none.0.2;
-      concludes = (same_beside none.0.0 old, behind.0, behind.1, behind.2);
+      prints = serves;
+      concludes = (same_beside place old, behind.0, behind.1, behind.2);
       whole = λ fine. absurd (fine fault);
       quiet = λ fine. absurd (fine fault);
-    })
-
--- a command that could not be begun
-pub not_begun : (holds : Holdings) (request : Request) (place : Place) (f : Fault) (old : Screen) → IsPlaced request place
-    → Serves holds request None [] (Err f) (report_in place old) (report_in place old) → Began holds request None (Err f) old old
-not_begun holds request place f old placed serves = ((place, placed, serves), refl)
-
--- what is not there, and is there exactly where something holds
-none_there : (T : Type 0) → IsSome {T = T} None → ⊥
-none_there T e = cc
-
-pub not_some : {T P : Type 0} → (o : Option T) → o ≡ None → (IsSome o ↔ P) → P → ⊥
-not_some {T} {P} o none found p =
-    let Q : Option T → Type 0 = λ x. IsSome x in
-    none_there T (subst Q none (found.1 p))
+    }
 
 -- ---- noise
 
@@ -213,14 +155,14 @@ pub spoilt_served : (holds : Holdings) (words : NoiseWords) (taken given : Optio
     → taken ≡ holds roles.Input words.from.now → given ≡ holds roles.Output words.to.now → reads ≡ 0 → writes ≡ 0
     → Spoils words.channel (piped taken given reads writes) behind spoilt → exit ≡ exit_of spoilt → Complains spoilt old new
     → new.output ≡ old.output → new.output_failed ≡ old.output_failed → (exit ≢ exits.Fault → new.errors_failed ≡ old.errors_failed)
-    → IfOk result (λ ended. ended ≡ exit) → IfErr result (λ f. f ≡ faults.Write) → (exit ≢ exits.Fine → IsOk result) → Began holds (requests.Noise words) None result old new
+    → IfOk result (λ ended. ended ≡ exit) → IfErr result (λ f. f ≡ faults.Write) → (exit ≢ exits.Fine → IsOk result) → (input : Option (List ℕ)) → Began holds (requests.Noise words) input result old new
 unfolding err_of
-spoilt_served holds words taken given reads writes behind spoilt exit (Ok ended) old new is_taken is_given none_read none_written h is told output output_failed quiet same fault refused =
-    let P : Exit → Type 0 = λ e. Served holds (requests.Noise words) None e old new in
+spoilt_served holds words taken given reads writes behind spoilt exit (Ok ended) old new is_taken is_given none_read none_written h is told output output_failed quiet same fault refused input =
+    let P : Exit → Type 0 = λ e. Served holds (requests.Noise words) input e old new in
     subst P (sym same)
-    (served_plainly holds (requests.Noise words) None [] spoilt exit old new refl is
+    (served_plainly holds (requests.Noise words) input [] spoilt exit old new refl is
     (refl, output, inl (channelled words.channel taken given _ _ reads writes behind spoilt spoilt is_taken is_given none_read none_written h (inl refl))) told (λ e. output_failed) quiet)
-spoilt_served holds words taken given reads writes behind spoilt exit (Err f) old new is_taken is_given none_read none_written h is told output output_failed quiet same fault refused =
+spoilt_served holds words taken given reads writes behind spoilt exit (Err f) old new is_taken is_given none_read none_written h is told output output_failed quiet same fault refused input =
     let fine : exit ≡ exits.Fine = fine_where_refused exit f refused in
     let well : spoilt ≡ Ok exits.Fine = ended_well spoilt (sym is ∙ fine) in
     let C : Result Exit Fault → Type 0 = λ r. Complains r old new in

@@ -3,7 +3,7 @@ use Rattle.std.specs.Prelude.{◌≡◌, ◌≢◌, ◌⊎◌, ℕ, ◌+◌, Lis
 use Rattle.std.specs.Borrow.{Bor}
 use Rattle.s2_mode.specs.Counts.{CanCount}
 use Rattle.s2_mode.specs.Mode.{shape_in}
-use Rattle.s2_mode.specs.Streams.{Streams}
+use Rattle.s2_mode.specs.Streams.{Streams, OnlyFailed}
 use Rattle.s2_rows.specs.Rows.{Rows}
 use Rattle.s2_link.specs.Link.{Link, link_of}
 use Rattle.s2_link.specs.declared.setup.Setup.{Setup}
@@ -30,8 +30,8 @@ pub record Ends : Type 0 where
   pub given_failed : ℕ
 
 -- no call has failed so far
-abbrev pub NoneFailed : Ends → Type 0
-NoneFailed ends = (ends.rows_failed ≡ 0) × (ends.taken_failed ≡ 0) × (ends.given_failed ≡ 0)
+abbrev pub IsUntouched : Ends → Type 0
+IsUntouched ends = (ends.rows_failed ≡ 0) × (ends.taken_failed ≡ 0) × (ends.given_failed ≡ 0)
 
 -- the files of these names when they are opened: a row file, one that is read behind it, and one that is written
 abbrev pub ends_of : Holdings → Bor (List ℕ) → Bor (List ℕ) → Bor (List ℕ) → Ends
@@ -42,20 +42,22 @@ ends_of holds rows from to =
 abbrev pub CanFail : Ends → Type 0
 CanFail ends = CanCount ends.rows_failed × CanCount ends.taken_failed × CanCount ends.given_failed
 
--- these files, and an output in which this stands and of which so many calls have failed
+-- what is read behind the rows and what is written, and an output in which this stands and of which so many calls have failed
 abbrev pub streams_with : Ends → Option (List ℕ) → ℕ → Streams
 streams_with ends out failed =
-    record { taken = ends.taken; given = ends.given; out = out; reads = ends.rows_failed + ends.taken_failed; writes = ends.given_failed + failed }
+    record { taken = ends.taken; given = ends.given; out = out; reads = ends.taken_failed; writes = ends.given_failed; prints = failed }
 
--- these files, and a console that takes the report at this place
+-- the same, and a writer that takes the report
+abbrev pub streams_to : {O : Type 0} → (O → Option (List ℕ)) → (O → ℕ) → Ends → O → Streams
+streams_to contents count ends out = streams_with ends (contents out) (count out)
+
+-- the same, and a console that takes the report at this place
 abbrev pub streams_at : Place → Ends → Screen → Streams
 streams_at place ends screen = streams_with ends (report_in place screen) (report_failed place screen)
 
--- The causes of a failed device: where a read is told no write failed, where a write is told the count of failed writes rose, and
--- where neither is told neither count rose.
+-- only what failed was counted, where a command ended so
 abbrev pub Causes : {T : Type 0} → Streams → Streams → Result T Fault → Type 0
-Causes old new ended =
-    (ended ≢ Err faults.Read → new.reads ≡ old.reads) × (ended ≡ Err faults.Write → new.writes ≡ old.writes + 1) × (ended ≢ Err faults.Write → new.writes ≡ old.writes)
+Causes old new ended = OnlyFailed (ended ≡ Err faults.Read) (ended ≡ Err faults.Write) old new
 
 -- why a file of this name could not be opened
 abbrev pub CannotOpen : Bor (List ℕ) → Fault → Type 0
@@ -80,26 +82,27 @@ link_in setup text = link_on setup (rows_in (shape_in setup.mode) text)
 abbrev pub Deed : Type 0 → Type 1
 Deed T = Link → Streams → Streams → Result T Fault → Type 0
 
--- Without a link its fault is told, nothing is read behind the rows and nothing written.
-abbrev pub DoesOn : {T : Type 0} → Deed T → Result Link Fault → Streams → Streams → Result T Fault → Type 0
-DoesOn Does (Ok link) old new ended = Does link old new ended
-DoesOn Does (Err f) old new ended =
-    (ended ≡ Err f) × (f ≡ faults.Read → new.reads ≡ old.reads + 1) × (new.taken ≡ old.taken) × (new.given ≡ old.given) × (new.out ≡ old.out)
-
 -- nothing was done, since memory ran out, or since the file that is to be written could not be cut
 abbrev pub Undone : {T : Type 0} → Streams → Streams → Result T Fault → Type 0
 Undone old new ended =
     ((ended ≡ Err faults.NoMemory) × (new ≡ old)) ⊎ ((ended ≡ Err faults.Write) × (new ≡ record old { writes = old.writes + 1 }))
 
--- what a command did on a link, or nothing
+-- a command did on a link what it does, or nothing
 abbrev pub Tries : {T : Type 0} → Deed T → Deed T
 Tries Does link old new ended = Does link old new ended ⊎ Undone old new ended
 
--- a command on a setup and a row file
-pub record OnLink {T : Type 0} (Does : Deed T) (setup : Setup) (rows : Option (List ℕ)) (old new : Streams) (ended : Result T Fault) : Type 0 where
-  -- what the row file says, unless memory ran out or a read failed
+-- Without a link its fault is told: nothing is read behind the rows, and nothing written.
+abbrev pub DoesOn : {T : Type 0} → Deed T → Result Link Fault → Streams → Streams → Result T Fault → Type 0
+DoesOn Does (Ok link) old new ended = Tries Does link old new ended
+DoesOn Does (Err f) old new ended = (f ≢ faults.Write) × (ended ≡ Err f) × (new ≡ old)
+
+-- A command on a setup and on these files, of which so much is left. What the row file says decides whether there is a link, unless
+-- memory ran out or a read of it failed, which was counted.
+pub record OnLink {T : Type 0} (Does : Deed T) (setup : Setup) (files left : Ends) (old new : Streams) (ended : Result T Fault) : Type 0 where
   pub link : Result Link Fault
-  pub linked : IfSome rows (λ text. Follows (λ l. l) link (link_in setup text))
+  pub linked : IfSome files.rows (λ text. Follows (λ l. l) link (link_in setup text))
   pub setup_kept : IfOk link (λ l. l.setup ≡ setup)
+  pub rows_read : link ≡ Err faults.Read → left.rows_failed ≡ files.rows_failed + 1
+  pub rows_whole : link ≢ Err faults.Read → left.rows_failed ≡ files.rows_failed
   pub does : DoesOn Does link old new ended
   pub causes : Causes old new ended

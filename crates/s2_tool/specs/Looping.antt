@@ -14,7 +14,10 @@ use Rattle.s2_console.specs.declared.fault.Fault.{Fault}
 use Rattle.s2_console.specs.declared.fault.Fault.TheVariants as faults
 use Rattle.s2_words.specs.declared.request.ChannelWords.{ChannelWords}
 use Rattle.s2_words.specs.declared.request.RunWords.{RunWords}
-use Rattle.s2_tool.specs.Links.{Deed, OnLink}
+use Rattle.s2_console.specs.declared.place.Place.{Place}
+use Rattle.s2_console.specs.Screens.{Screen}
+use Rattle.s2_tool.specs.Links.{Ends, Deed, OnLink, streams_at}
+use Rattle.s2_tool.specs.Losses.{Finishes}
 use Rattle.s2_tool.specs.Sending.{Runs, transmitter_on, refusal_fault}
 use Rattle.s2_tool.specs.Spoiling.{piped, Spoils}
 use Rattle.s2_tool.specs.Receptions.{Receives}
@@ -59,6 +62,12 @@ LoopsBy t rules channel old new ended =
 abbrev pub Loops : RunWords → Deed Received
 Loops words link old new ended = LoopsBy (transmitter_on link words.dummy) (link_rules link words.tuning most_symbols) words.channel old new ended
 
--- `run` on a setup, these words and a row file
-abbrev pub LoopsBack : Setup → RunWords → Option (List ℕ) → Streams → Streams → Result Received Fault → Type 0
-LoopsBack setup words rows old new ended = OnLink (Loops words) setup rows old new ended
+-- `run` on a setup, these words and these files
+abbrev pub LoopsBack : Setup → RunWords → Ends → Ends → Streams → Streams → Result Received Fault → Type 0
+LoopsBack setup words files left old new ended = OnLink (Loops words) setup files left old new ended
+
+-- `run` has ended: so it received what it sent, with its report at this place, and so it tells that
+abbrev pub RunEnds : Setup → RunWords → Place → Ends → Ends → Screen → Screen → Exit → Type 0
+RunEnds setup words place files left old new exit =
+    (heard : Result Received Fault) × (shown : Screen) × LoopsBack setup words files left (streams_at place files old) (streams_at place left shown) heard
+    × Finishes words.notes setup.mode heard place exit old shown new

@@ -11,6 +11,10 @@ use Rattle.s2_console.specs.declared.exit.Exit.{Exit}
 use Rattle.s2_console.specs.declared.exit.Exit.TheVariants as exits
 use Rattle.s2_console.specs.declared.fault.Fault.{Fault}
 use Rattle.s2_console.specs.declared.fault.Fault.TheVariants as faults
+use Rattle.s2_console.specs.declared.place.Place.{Place}
+use Rattle.s2_console.specs.Exits.{exit_of}
+use Rattle.s2_console.specs.Notes.{Concludes}
+use Rattle.s2_console.specs.Screens.{Screen}
 
 -- no frame was found, nor a cut one, in enough symbols for a header
 abbrev pub is_deaf : Received → Bool
@@ -53,3 +57,12 @@ notes_of m r = note_if (not (nat_eq r.totals.passed 0)) (passed_note r.totals) +
 abbrev pub Answered : NoteWords → Mode → Result Received Fault → Result Exit Fault → List ℕ → Type 0
 Answered words m (Ok r) ended notes = (notes ≡ (if words.quiet then [] else notes_of m r)) × ((ended ≡ Ok (exit_by words.strict r)) ⊎ (ended ≡ Err faults.Write))
 Answered words m (Err f) ended notes = (notes ≡ (if words.quiet then [] else fault_note m f)) × (ended ≡ Err f)
+
+-- How a command ends that received so, with which exit: its report was made at this place, and behind it stand its notes, and of a
+-- fault its line.
+pub record Finishes (words : NoteWords) (m : Mode) (heard : Result Received Fault) (place : Place) (exit : Exit) (old shown new : Screen) : Type 0 where
+  pub ended : Result Exit Fault
+  pub notes : List ℕ
+  pub exit_is : exit ≡ exit_of ended
+  pub answered : Answered words m heard ended notes
+  pub concludes : Concludes place notes ended old shown new

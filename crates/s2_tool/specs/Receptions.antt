@@ -1,35 +1,40 @@
 -- What `demod` receives, writes and reports.
-use Rattle.std.specs.Prelude.{◌≡◌, ◌≢◌, ℕ, ◌+◌, List, Option, Result, Ok, Err}
+use Rattle.std.specs.Prelude.{◌≡◌, Result, Ok, Err}
 use Rattle.s2_mode.specs.Limits.{most_symbols}
 use Rattle.s2_mode.specs.Streams.{Streams}
 use Rattle.s2_link.specs.Tuning.{Tuning}
 use Rattle.s2_link.specs.declared.setup.Setup.{Setup}
-use Rattle.s2_receive.specs.Finding.{Reaches}
-use Rattle.s2_receive.specs.Receiving.{Rules, State, begun, RunsTo, StopsAfter, BreaksAfter}
+use Rattle.s2_receive.specs.Receiving.{Rules, State, begun, RunsTo, StopsAfter, BreaksAfter, MayStop}
 use Rattle.s2_modem.specs.Reception.{link_rules}
 use Rattle.s2_receive.specs.declared.report.Received.{Received}
 use Rattle.s2_console.specs.declared.fault.Fault.{Fault}
 use Rattle.s2_console.specs.declared.fault.Fault.TheVariants as faults
-use Rattle.s2_tool.specs.Links.{Deed, OnLink}
-
--- a read failed, or as many symbols came as a receiver takes
-abbrev pub MayStop : ℕ → Streams → Streams → Type 0
-MayStop limit old new = new.reads ≢ old.reads + 1 → (new.reads ≡ old.reads) × Reaches limit 0 old.taken new.taken
+use Rattle.s2_console.specs.declared.exit.Exit.{Exit}
+use Rattle.s2_console.specs.declared.place.Place.{Place}
+use Rattle.s2_console.specs.Screens.{Screen}
+use Rattle.s2_words.specs.declared.request.DemodWords.{DemodWords}
+use Rattle.s2_tool.specs.Links.{Ends, Deed, OnLink, streams_at}
+use Rattle.s2_tool.specs.Losses.{Finishes}
 
 -- All was received to the end: the packets of each frame and its line are written, then the end line. Or a read failed: what was
 -- met before is written, and nothing else. Or a write failed: of the next thing a part is written.
 abbrev pub Receives : Rules → Streams → Streams → Result Received Fault → Type 0
 Receives rules old new (Ok received) =
-    (state : State) × RunsTo rules begun state old.taken new.taken old.given new.given old.out new.out received.well
-    × (received.totals ≡ state.standing.totals) × (received.symbols ≡ state.at)
-Receives rules old new (Err faults.Read) = StopsAfter rules begun old.taken old.given new.given old.out new.out × MayStop rules.limit old new
-Receives rules old new (Err faults.Write) = BreaksAfter rules begun old.taken old.given new.given old.out new.out
+    (state : State) × RunsTo rules begun state old new received.well × (received.totals ≡ state.standing.totals) × (received.symbols ≡ state.at)
+Receives rules old new (Err faults.Read) = StopsAfter rules begun old new × MayStop rules.limit 0 old new
+Receives rules old new (Err faults.Write) = BreaksAfter rules begun old new
 Receives rules old new (Err f) = ⊥
 
 -- `demod` on a link: what a new receiver makes of the symbols
 abbrev pub Hears : Tuning → Deed Received
 Hears tuning link old new ended = Receives (link_rules link tuning most_symbols) old new ended
 
--- `demod` on a setup, a tuning and a row file
-abbrev pub Demodulates : Setup → Tuning → Option (List ℕ) → Streams → Streams → Result Received Fault → Type 0
-Demodulates setup tuning rows old new ended = OnLink (Hears tuning) setup rows old new ended
+-- `demod` on a setup, a tuning and these files
+abbrev pub Demodulates : Setup → Tuning → Ends → Ends → Streams → Streams → Result Received Fault → Type 0
+Demodulates setup tuning files left old new ended = OnLink (Hears tuning) setup files left old new ended
+
+-- `demod` has ended: so it received, with its report at this place, and so it tells that
+abbrev pub DemodEnds : Setup → DemodWords → Place → Ends → Ends → Screen → Screen → Exit → Type 0
+DemodEnds setup words place files left old new exit =
+    (heard : Result Received Fault) × (shown : Screen) × Demodulates setup words.tuning files left (streams_at place files old) (streams_at place left shown) heard
+    × Finishes words.notes setup.mode heard place exit old shown new

@@ -13,8 +13,13 @@ use Rattle.s2_console.specs.declared.exit.Exit.{Exit}
 use Rattle.s2_console.specs.declared.exit.Exit.TheVariants as exits
 use Rattle.s2_console.specs.declared.fault.Fault.{Fault}
 use Rattle.s2_console.specs.declared.fault.Fault.TheVariants as faults
-use Rattle.s2_console.specs.Exits.{Prints}
-use Rattle.s2_tool.specs.Links.{Deed, OnLink}
+use Rattle.s2_console.specs.Exits.{Prints, exit_of}
+use Rattle.s2_console.specs.Notes.{Concludes}
+use Rattle.s2_console.specs.Screens.{Screen}
+use Rattle.s2_console.specs.declared.place.Place.{Place}
+use Rattle.s2_table.specs.Wanted.{notes_on}
+use Rattle.s2_words.specs.declared.request.ModWords.{ModWords}
+use Rattle.s2_tool.specs.Links.{Ends, Deed, OnLink, streams_at}
 
 abbrev pub sent_line : Counts → List ℕ
 sent_line counts = codes "packets " ++ decimal counts.packets ++ codes " frames " ++ decimal counts.frames ++ codes "\n"
@@ -49,6 +54,12 @@ transmitter_on link dummy = record (new_transmitter link) { dummy_every = dummy 
 abbrev pub Sends : ℕ → Deed Exit
 Sends dummy link old new ended = SendsBy (transmitter_on link dummy) old new ended
 
--- `mod` on a setup, with dummy frames, and a row file
-abbrev pub Modulates : Setup → ℕ → Option (List ℕ) → Streams → Streams → Result Exit Fault → Type 0
-Modulates setup dummy rows old new ended = OnLink (Sends dummy) setup rows old new ended
+-- `mod` on a setup, with dummy frames, and these files
+abbrev pub Modulates : Setup → ℕ → Ends → Ends → Streams → Streams → Result Exit Fault → Type 0
+Modulates setup dummy files left old new ended = OnLink (Sends dummy) setup files left old new ended
+
+-- `mod` has ended: so it sent, with its counts at this place, and behind them stand the note and of a fault the line
+abbrev pub ModEnds : Setup → ModWords → Place → Ends → Ends → Screen → Screen → Exit → Type 0
+ModEnds setup words place files left old new exit =
+    (ended : Result Exit Fault) × (shown : Screen) × (exit ≡ exit_of ended) × Modulates setup words.dummy files left (streams_at place files old) (streams_at place left shown) ended
+    × Concludes place (notes_on words.quiet setup.mode ended) ended old shown new

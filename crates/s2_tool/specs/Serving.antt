@@ -42,7 +42,7 @@ use Rattle.s2_evidence.specs.Checking.{AreCheckInputs, IsAnswered}
 use Rattle.s2_table.specs.Tables.{AreRowsIn, IsTold}
 use Rattle.s2_table.specs.Wanted.{notes_on}
 use Rattle.s2_tool.specs.Links.{Ends, ends_of, streams_with, CannotOpen, CannotOpenOne, Deed, OnLink}
-use Rattle.s2_tool.specs.Making.{IsRowFile, rows_made}
+use Rattle.s2_tool.specs.Making.{MakesRows}
 use Rattle.s2_tool.specs.Sending.{Sends}
 use Rattle.s2_tool.specs.Spoiling.{piped, Spoils}
 use Rattle.s2_tool.specs.Receptions.{Hears}
@@ -66,12 +66,6 @@ table_mode words = mode_of words.modcod words.short false
 
 abbrev pub asked_shape : ShapeWords → Shape
 asked_shape words = shape_of words.group words.groups words.q
-
--- the made rows of the words' shape, weight and seed, where there is such a shape
-abbrev pub AreAskedRows : RowsWords → Result (List (List ℕ)) Fault → Type 0
-AreAskedRows words said =
-    (IsShape (asked_shape words.shape) × (rows_made (asked_shape words.shape) words.weight words.seed ≡ said))
-    ⊎ ((IsShape (asked_shape words.shape) → ⊥) × (said ≡ Err no_shape))
 
 -- ---- the files that a request names, as they are when they are opened
 
@@ -99,11 +93,13 @@ CannotOpenAsked None f = ⊥
 abbrev pub NotOn : Mode → (Fault → Type 0) → Fault → Type 0
 NotOn mode CannotBegin f = ((IsMode mode → ⊥) × (f ≡ no_mode)) ⊎ (IsMode mode × CannotBegin f)
 
--- words of no shape; of a shape, the certificate's file, the rows or the soft values could not be opened
+-- the same of a shape
+abbrev pub NotOf : Shape → (Fault → Type 0) → Fault → Type 0
+NotOf shape CannotBegin f = ((IsShape shape → ⊥) × (f ≡ no_shape)) ⊎ (IsShape shape × CannotBegin f)
+
+-- the certificate's file, the rows or the soft values could not be opened
 abbrev pub NotJudged : JudgeWords → Fault → Type 0
-NotJudged words f =
-    ((IsShape (asked_shape words.shape) → ⊥) × (f ≡ no_shape))
-    ⊎ (IsShape (asked_shape words.shape) × (CannotOpenAsked words.certificate f ⊎ (CannotOpen words.rows f ⊎ CannotOpen words.soft f)))
+NotJudged words f = CannotOpenAsked words.certificate f ⊎ (CannotOpen words.rows f ⊎ CannotOpen words.soft f)
 
 -- the symbols could not be opened, or what is written not be opened or cut
 abbrev pub NotSpoilt : NoiseWords → Fault → Type 0
@@ -119,7 +115,7 @@ NotBegun Why notes (Err f) old new = Why f × (notes ≡ []) × (new ≡ old)
 -- The output of a command on a link of this setup and these files, and how it ended: what the command does of them.
 abbrev pub Reports : {T : Type 0} → Deed T → Setup → Ends → Result T Fault → Option (List ℕ) → Option (List ℕ) → Type 0
 Reports {T} Does setup files ended old new =
-    (failed : ℕ) × (behind : Streams) × OnLink Does setup files.rows (streams_with files old failed) behind ended × (behind.out ≡ new)
+    (failed : ℕ) × (left : Ends) × (behind : Streams) × OnLink Does setup files left (streams_with files old failed) behind ended × (behind.out ≡ new)
 
 -- The output of a command that receives so, its notes, and how it ended.
 abbrev pub Receipts : NoteWords → Setup → Ends → Deed Received → List ℕ → Result Exit Fault → Option (List ℕ) → Option (List ℕ) → Type 0
@@ -139,32 +135,38 @@ Channels channel from to ended =
     × ((ended ≡ spoilt) ⊎ ((spoilt ≡ Ok exits.Fine) × (ended ≡ Err faults.Write)))
 
 -- What a request's output says, with which notes and how it ended. A request that names no file prints what its words and the
--- input determine; one that names files what its command says of what they hold, each in its role, or it could not be begun.
+-- input determine; one that names files what its command says of what they hold, each in its role, or it could not be begun. Where its
+-- words have no mode or no shape, just that is told, and want of memory not in its place.
 abbrev pub Serves : Holdings → Request → Option (List ℕ) → List ℕ → Result Exit Fault → Option (List ℕ) → Option (List ℕ) → Type 0
 Serves holds requests.Own input notes ended old new = (notes ≡ []) × CommandRuns IsOwn (AreInputs (shape_of 4 2 3) (Some (codes "0 4 8\n0 1 2\n")) input) ended old new
 Serves holds (requests.Modes words) input notes ended old new = (notes ≡ []) × CommandRuns IsListed (IsAsked words.rate) ended old new
-Serves holds (requests.Rows words) input notes ended old new = (notes ≡ []) × CommandRuns IsRowFile (AreAskedRows words) ended old new
+Serves holds (requests.Rows words) input notes ended old new =
+    (IsShape (asked_shape words.shape) × (notes ≡ []) × MakesRows (asked_shape words.shape) words.weight words.seed ended old new)
+    ⊎ NotBegun (NotOf (asked_shape words.shape) (λ f. ⊥)) notes ended old new
 Serves holds (requests.Table words) input notes ended old new =
-    ((notes ≡ notes_on words.quiet (table_mode words) ended)
+    (IsMode (table_mode words) × (notes ≡ notes_on words.quiet (table_mode words) ended)
     × CommandRuns (IsTold (table_mode words)) (AreRowsIn (shape_in (table_mode words)) (holds roles.Input words.rows.now)) ended old new)
     ⊎ NotBegun (NotOn (table_mode words) (CannotOpen words.rows)) notes ended old new
 Serves holds (requests.Judge words) input notes ended old new =
-    ((notes ≡ []) × Judges words (judge_files holds words) ended old new) ⊎ NotBegun (NotJudged words) notes ended old new
+    (IsShape (asked_shape words.shape) × (notes ≡ []) × Judges words (judge_files holds words) ended old new)
+    ⊎ NotBegun (NotOf (asked_shape words.shape) (NotJudged words)) notes ended old new
 Serves holds (requests.Check words) input notes ended old new =
     ((notes ≡ []) × CommandRuns IsAnswered (AreCheckInputs (holds roles.Input words.rows.now) (holds roles.Input words.certificate.now)) ended old new)
     ⊎ NotBegun (λ f. CannotOpen words.rows f ⊎ CannotOpen words.certificate f) notes ended old new
 Serves holds (requests.Mod words) input notes ended old new =
-    ((notes ≡ notes_on words.quiet (asked_setup words.link).mode ended)
+    (IsMode (asked_setup words.link).mode × (notes ≡ notes_on words.quiet (asked_setup words.link).mode ended)
     × Reports (Sends words.dummy) (asked_setup words.link) (ends_of holds words.rows words.packets words.symbols) ended old new)
     ⊎ NotBegun (NotOn (asked_setup words.link).mode (CannotOpenOne words.rows words.packets words.symbols)) notes ended old new
 Serves holds (requests.Noise words) input notes ended old new =
     (notes ≡ []) × (new ≡ old)
     × (Channels words.channel (holds roles.Input words.from.now) (holds roles.Output words.to.now) ended ⊎ NotBegun (NotSpoilt words) notes ended old new)
 Serves holds (requests.Demod words) input notes ended old new =
-    Receipts words.notes (asked_setup words.link) (ends_of holds words.rows words.symbols words.packets) (Hears words.tuning) notes ended old new
+    (IsMode (asked_setup words.link).mode
+    × Receipts words.notes (asked_setup words.link) (ends_of holds words.rows words.symbols words.packets) (Hears words.tuning) notes ended old new)
     ⊎ NotBegun (NotOn (asked_setup words.link).mode (CannotOpenOne words.rows words.symbols words.packets)) notes ended old new
 Serves holds (requests.Run words) input notes ended old new =
-    Receipts words.notes (asked_setup words.link) (ends_of holds words.rows words.packets words.to) (Loops words) notes ended old new
+    (IsMode (asked_setup words.link).mode
+    × Receipts words.notes (asked_setup words.link) (ends_of holds words.rows words.packets words.to) (Loops words) notes ended old new)
     ⊎ NotBegun (NotOn (asked_setup words.link).mode (CannotOpenOne words.rows words.packets words.to)) notes ended old new
 
 -- where a report goes beside an output of this name, or beside none

@@ -1,16 +1,13 @@
 //! `demod`: symbols received.
-ghost use Rattle.std.specs.Prelude.{◌≡◌, ◌≢◌, ◌≤◌, ◌⊎◌, ◌+◌, ℕ, List, IsOk, Result};
+ghost use Rattle.std.specs.Prelude.{◌≡◌, ◌≢◌, ◌⊎◌};
 ghost use Rattle.s2_mode.specs.Counts.{CanCount};
+ghost use Rattle.s2_mode.specs.Streams.{streams_by};
 ghost use Rattle.s2_link.specs.Link.{setup_of};
 ghost use Rattle.s2_receive.specs.Receiving.{begun};
 ghost use Rattle.s2_modem.specs.Reception.{rules_for};
-ghost use Rattle.s2_console.specs.Exits.{exit_of};
-ghost use Rattle.s2_console.specs.Notes.{Concludes};
-ghost use Rattle.s2_console.specs.Screens.{Screen, CanTell, SameBeside};
-ghost use Rattle.s2_tool.specs.Links.{CanFail, Causes, Tries, Undone, streams_at, streams_with};
-ghost use Rattle.s2_tool.specs.Receptions.{Receives, Hears, Demodulates};
-ghost use Rattle.s2_tool.specs.Losses.{Answered};
-ghost use Rattle.s2_receive.specs.declared.report.Received.{Received as ReceivedValue};
+ghost use Rattle.s2_console.specs.Screens.{CanTell, SameBeside};
+ghost use Rattle.s2_tool.specs.Links.{CanFail, Causes, Tries, Undone, streams_at, streams_to};
+ghost use Rattle.s2_tool.specs.Receptions.{Receives, Hears, Demodulates, DemodEnds};
 
 use crate::link_files::LinkFiles;
 use crate::losses::conclude_heard;
@@ -35,16 +32,10 @@ pub(crate) fn receive_frames<S: CountedRead, P: CountedWrite, O: CountedWrite>(
     requires packets { CanCount (P.count packets.old) }
     requires out { CanCount (O.count out.old) }
     requires begun { receiver.old.state ≡ begun }
-    ensures whole { IsOk result → O.count out.new ≡ O.count out.old }
-    ensures few { O.count out.new ≤ O.count out.old + 1 }
-    ensures receives { Receives (rules_for receiver.old)
-        (record { taken = S.remaining symbols.old; given = P.contents packets.old; out = O.contents out.old; reads = S.count symbols.old; writes = P.count packets.old + O.count out.old })
-        (record { taken = S.remaining symbols.new; given = P.contents packets.new; out = O.contents out.new; reads = S.count symbols.new; writes = P.count packets.new + O.count out.new })
-        result }
-    ensures causes { Causes
-        (record { taken = S.remaining symbols.old; given = P.contents packets.old; out = O.contents out.old; reads = S.count symbols.old; writes = P.count packets.old + O.count out.old })
-        (record { taken = S.remaining symbols.new; given = P.contents packets.new; out = O.contents out.new; reads = S.count symbols.new; writes = P.count packets.new + O.count out.new })
-        result }
+    ensures receives { let ends = streams_by S.remaining S.count P.contents P.count O.contents O.count in
+        Receives (rules_for receiver.old) (ends symbols.old packets.old out.old) (ends symbols.new packets.new out.new) result }
+    ensures causes { let ends = streams_by S.remaining S.count P.contents P.count O.contents O.count in
+        Causes (ends symbols.old packets.old out.old) (ends symbols.new packets.new out.new) result }
 {
     match receiver.run(symbols, packets, out) {
         Ok(received) => Ok(received),
@@ -54,43 +45,47 @@ pub(crate) fn receive_frames<S: CountedRead, P: CountedWrite, O: CountedWrite>(
 }
 
 /// Begins the file that is written, and receives.
-fn receive_begun<R: CountedRead, S: CountedRead, W: Output, O: CountedWrite>(
+fn receive_begun<S: CountedRead, W: Output, O: CountedWrite>(
     receiver: &mut Receiver<'_>,
-    files: &mut LinkFiles<R, S, W>,
+    symbols: &mut S,
+    packets: &mut W,
     out: &mut O,
 ) -> Result<Received, Fault<'static>>
-    requires files { CanFail files.old }
+    requires symbols { CanCount (S.count symbols.old) }
+    requires packets { CanCount (W.count packets.old) }
     requires out { CanCount (O.count out.old) }
     requires begun { receiver.old.state ≡ begun }
-    ensures whole { IsOk result → O.count out.new ≡ O.count out.old }
-    ensures few { O.count out.new ≤ O.count out.old + 1 }
-    ensures receives { Receives (rules_for receiver.old) (streams_with files.old (O.contents out.old) (O.count out.old)) (streams_with files.new (O.contents out.new) (O.count out.new)) result
-        ⊎ Undone (streams_with files.old (O.contents out.old) (O.count out.old)) (streams_with files.new (O.contents out.new) (O.count out.new)) result }
-    ensures causes { Causes (streams_with files.old (O.contents out.old) (O.count out.old)) (streams_with files.new (O.contents out.new) (O.count out.new)) result }
+    ensures receives { let ends = streams_by S.remaining S.count W.contents W.count O.contents O.count in
+        Receives (rules_for receiver.old) (ends symbols.old packets.old out.old) (ends symbols.new packets.new out.new) result
+        ⊎ Undone (ends symbols.old packets.old out.old) (ends symbols.new packets.new out.new) result }
+    ensures causes { let ends = streams_by S.remaining S.count W.contents W.count O.contents O.count in
+        Causes (ends symbols.old packets.old out.old) (ends symbols.new packets.new out.new) result }
 {
-    match files.to.begin() {
-        Ok(()) => receive_frames(receiver, &mut files.from, &mut files.to, out),
+    match packets.begin() {
+        Ok(()) => receive_frames(receiver, symbols, packets, out),
         Err(_) => Err(Fault::Write),
     }
 }
 
 /// Receives on a link.
-fn receive_link<R: CountedRead, S: CountedRead, W: Output, O: CountedWrite>(
+fn receive_link<S: CountedRead, W: Output, O: CountedWrite>(
     alloc: Global,
     link: &Link<'_>,
     tuning: Tuning,
-    files: &mut LinkFiles<R, S, W>,
+    symbols: &mut S,
+    packets: &mut W,
     out: &mut O,
 ) -> Result<Received, Fault<'static>>
-    requires files { CanFail files.old }
+    requires symbols { CanCount (S.count symbols.old) }
+    requires packets { CanCount (W.count packets.old) }
     requires out { CanCount (O.count out.old) }
-    ensures whole { IsOk result → O.count out.new ≡ O.count out.old }
-    ensures few { O.count out.new ≤ O.count out.old + 1 }
-    ensures hears { Tries (Hears tuning) link.now (streams_with files.old (O.contents out.old) (O.count out.old)) (streams_with files.new (O.contents out.new) (O.count out.new)) result }
-    ensures causes { Causes (streams_with files.old (O.contents out.old) (O.count out.old)) (streams_with files.new (O.contents out.new) (O.count out.new)) result }
+    ensures hears { let ends = streams_by S.remaining S.count W.contents W.count O.contents O.count in
+        Tries (Hears tuning) link.now (ends symbols.old packets.old out.old) (ends symbols.new packets.new out.new) result }
+    ensures causes { let ends = streams_by S.remaining S.count W.contents W.count O.contents O.count in
+        Causes (ends symbols.old packets.old out.old) (ends symbols.new packets.new out.new) result }
 {
     match Receiver::on_link(alloc, link, tuning) {
-        Ok(mut receiver) => receive_begun(&mut receiver, files, out),
+        Ok(mut receiver) => receive_begun(&mut receiver, symbols, packets, out),
         Err(_) => Err(Fault::NoMemory),
     }
 }
@@ -107,9 +102,8 @@ fn receive_files<R: CountedRead, S: CountedRead, W: Output, O: CountedWrite, N: 
     requires files { CanFail files.old }
     requires out { CanCount (O.count out.old) }
     requires notes { CanCount (N.count notes.old) }
-    ensures whole { IsOk result → O.count out.new ≡ O.count out.old }
-    ensures few { O.count out.new ≤ O.count out.old + 1 }
-    ensures run { Demodulates (setup_of setup) words.now.tuning files.old.rows (streams_with files.old (O.contents out.old) (O.count out.old)) (streams_with files.new (O.contents out.new) (O.count out.new)) result }
+    ensures run { let ends = streams_to O.contents O.count in
+        Demodulates (setup_of setup) words.now.tuning files.old files.new (ends files.old out.old) (ends files.new out.new) result }
 {
     let matrix = read_noted(
         alloc,
@@ -118,7 +112,15 @@ fn receive_files<R: CountedRead, S: CountedRead, W: Output, O: CountedWrite, N: 
         words.notes.quiet,
         notes,
     )?;
-    receive_link(alloc, &Link::of(setup, &matrix), words.tuning, files, out)
+    let link = Link::of(setup, &matrix);
+    receive_link(
+        alloc,
+        &link,
+        words.tuning,
+        &mut files.from,
+        &mut files.to,
+        out,
+    )
 }
 
 /// The same with the report at a place of a console.
@@ -141,11 +143,9 @@ fn receive_at<
     requires files { CanFail files.old }
     requires console { CanTell console.old }
     requires notes { CanCount (N.count notes.old) }
-    ensures whole { IsOk result → console.new.output_failed ≡ console.old.output_failed }
-    ensures quiet { IsOk result → console.new.errors_failed ≡ console.old.errors_failed }
-    ensures few { console.new.errors_failed ≤ console.old.errors_failed + 1 }
     ensures beside { SameBeside place console.old console.new }
-    ensures run { Demodulates (setup_of setup) words.now.tuning files.old.rows (streams_at place files.old console.old) (streams_at place files.new console.new) result }
+    ensures run { let ends = streams_at place in
+        Demodulates (setup_of setup) words.now.tuning files.old files.new (ends files.old console.old) (ends files.new console.new) result }
 {
     match place {
         Place::Output => receive_files(alloc, setup, words, files, &mut console.output, notes),
@@ -179,10 +179,7 @@ pub fn demod_command<
     requires notes { CanCount (N.count notes.old) }
     ensures quiet { result ≢ Exit.Fault → console.new.errors_failed ≡ console.old.errors_failed }
     ensures whole { result ≢ Exit.Fault → console.new.output_failed ≡ console.old.output_failed }
-    ensures run { (ended : Result Exit Fault) × (shown : Screen) × (result ≡ exit_of ended)
-        × (heard : Result ReceivedValue Fault) × (notes : List ℕ)
-        × Demodulates (setup_of setup) words.now.tuning files.old.rows (streams_at place files.old console.old) (streams_at place files.new shown) heard
-        × Answered words.now.notes setup.mode heard ended notes × Concludes place notes ended console.old shown console.new }
+    ensures run { DemodEnds (setup_of setup) words.now place files.old files.new console.old console.new result }
 {
     let heard = receive_at(alloc, setup, words, files, place, console, notes);
     conclude_heard(words.notes, &setup.mode, heard, console)

@@ -1,5 +1,5 @@
 //! What was lost of a stream that was received: notes behind the report, and the exit of a strict command.
-ghost use Rattle.std.specs.Prelude.{◌≡◌, ◌≢◌, ◌+◌, ℕ, List, [], Result, OnOk, not, nat_eq};
+ghost use Rattle.std.specs.Prelude.{◌≡◌, ◌≢◌, ◌+◌, ℕ, List, [], Result, IsOk, OnOk, not, nat_eq};
 ghost use Rattle.std.specs.Io.KnownBytes.{Appends};
 ghost use Rattle.s2_mode.specs.Counts.{CanCount, CountsFault};
 ghost use Rattle.s2_console.specs.Exits.{exit_of};
@@ -150,6 +150,7 @@ pub(crate) fn conclude_heard<O: CountedWrite, E: CountedWrite>(
     console: &mut Console<O, E>,
 ) -> Exit
     requires { CanCount (console.old.errors_failed + 1) }
+    ensures fine { result ≢ Exit.Fault → IsOk heard.entry }
     ensures quiet { result ≢ Exit.Fault → console.new.errors_failed ≡ console.old.errors_failed }
     ensures output { (console.new.output ≡ console.old.output) × (console.new.output_failed ≡ console.old.output_failed) }
     ensures answered { (ended : Result Exit Fault) × (notes : List ℕ) × (result ≡ exit_of ended)

@@ -1,13 +1,11 @@
 //! `mod`: packets sent.
-ghost use Rattle.std.specs.Prelude.{◌≡◌, ◌≢◌, ◌≤◌, ◌+◌, ◌⊎◌, IsOk, Result};
+ghost use Rattle.std.specs.Prelude.{◌≡◌, ◌≢◌, ◌⊎◌};
 ghost use Rattle.s2_mode.specs.Counts.{CanCount};
+ghost use Rattle.s2_mode.specs.Streams.{streams_by};
 ghost use Rattle.s2_link.specs.Link.{setup_of};
-ghost use Rattle.s2_console.specs.Exits.{exit_of};
-ghost use Rattle.s2_console.specs.Notes.{Concludes};
-ghost use Rattle.s2_console.specs.Screens.{Screen, CanTell, SameBeside};
-ghost use Rattle.s2_tool.specs.Links.{CanFail, Causes, Tries, Undone, streams_at, streams_with};
-ghost use Rattle.s2_table.specs.Wanted.{notes_on};
-ghost use Rattle.s2_tool.specs.Sending.{sent_line, refusal_fault, SendsBy, Sends, Modulates};
+ghost use Rattle.s2_console.specs.Screens.{CanTell, SameBeside};
+ghost use Rattle.s2_tool.specs.Links.{CanFail, Causes, Tries, Undone, streams_at, streams_to};
+ghost use Rattle.s2_tool.specs.Sending.{sent_line, refusal_fault, SendsBy, Sends, Modulates, ModEnds};
 
 use crate::link_files::LinkFiles;
 use s2_console::{Console, Exit, Fault, Line, Place, print};
@@ -44,63 +42,69 @@ pub(crate) fn fault_of(refusal: SendFault) -> Fault<'static>
 }
 
 /// Sends packets, and prints the counts.
-fn send_packets<R: CountedRead, S: CountedRead, W: Output, O: CountedWrite>(
+fn send_packets<S: CountedRead, W: CountedWrite, O: CountedWrite>(
     transmitter: &mut Transmitter<'_>,
-    files: &mut LinkFiles<R, S, W>,
+    packets: &mut S,
+    symbols: &mut W,
     out: &mut O,
 ) -> Result<Exit, Fault<'static>>
-    requires files { CanFail files.old }
+    requires packets { CanCount (S.count packets.old) }
+    requires symbols { CanCount (W.count symbols.old) }
     requires out { CanCount (O.count out.old) }
-    ensures whole { IsOk result → O.count out.new ≡ O.count out.old }
-    ensures few { O.count out.new ≤ O.count out.old + 1 }
-    ensures sends { SendsBy transmitter.old (streams_with files.old (O.contents out.old) (O.count out.old)) (streams_with files.new (O.contents out.new) (O.count out.new)) result }
-    ensures causes { Causes (streams_with files.old (O.contents out.old) (O.count out.old)) (streams_with files.new (O.contents out.new) (O.count out.new)) result }
+    ensures sends { let ends = streams_by S.remaining S.count W.contents W.count O.contents O.count in
+        SendsBy transmitter.old (ends packets.old symbols.old out.old) (ends packets.new symbols.new out.new) result }
+    ensures causes { let ends = streams_by S.remaining S.count W.contents W.count O.contents O.count in
+        Causes (ends packets.old symbols.old out.old) (ends packets.new symbols.new out.new) result }
 {
-    match transmitter.run(&mut files.from, &mut files.to) {
+    match transmitter.run(packets, symbols) {
         Ok(counts) => print(out, Exit::Fine, sent_line(counts).as_bytes()),
         Err(refusal) => Err(fault_of(refusal)),
     }
 }
 
 /// Begins the file that is written, and sends packets.
-fn send_begun<R: CountedRead, S: CountedRead, W: Output, O: CountedWrite>(
+fn send_begun<S: CountedRead, W: Output, O: CountedWrite>(
     transmitter: &mut Transmitter<'_>,
-    files: &mut LinkFiles<R, S, W>,
+    packets: &mut S,
+    symbols: &mut W,
     out: &mut O,
 ) -> Result<Exit, Fault<'static>>
-    requires files { CanFail files.old }
+    requires packets { CanCount (S.count packets.old) }
+    requires symbols { CanCount (W.count symbols.old) }
     requires out { CanCount (O.count out.old) }
-    ensures whole { IsOk result → O.count out.new ≡ O.count out.old }
-    ensures few { O.count out.new ≤ O.count out.old + 1 }
-    ensures sends { SendsBy transmitter.old (streams_with files.old (O.contents out.old) (O.count out.old)) (streams_with files.new (O.contents out.new) (O.count out.new)) result
-        ⊎ Undone (streams_with files.old (O.contents out.old) (O.count out.old)) (streams_with files.new (O.contents out.new) (O.count out.new)) result }
-    ensures causes { Causes (streams_with files.old (O.contents out.old) (O.count out.old)) (streams_with files.new (O.contents out.new) (O.count out.new)) result }
+    ensures sends { let ends = streams_by S.remaining S.count W.contents W.count O.contents O.count in
+        SendsBy transmitter.old (ends packets.old symbols.old out.old) (ends packets.new symbols.new out.new) result
+        ⊎ Undone (ends packets.old symbols.old out.old) (ends packets.new symbols.new out.new) result }
+    ensures causes { let ends = streams_by S.remaining S.count W.contents W.count O.contents O.count in
+        Causes (ends packets.old symbols.old out.old) (ends packets.new symbols.new out.new) result }
 {
-    match files.to.begin() {
-        Ok(()) => send_packets(transmitter, files, out),
+    match symbols.begin() {
+        Ok(()) => send_packets(transmitter, packets, symbols, out),
         Err(_) => Err(Fault::Write),
     }
 }
 
 /// Sends packets on a link, with a dummy frame behind every so many frames.
-fn send_link<R: CountedRead, S: CountedRead, W: Output, O: CountedWrite>(
+fn send_link<S: CountedRead, W: Output, O: CountedWrite>(
     alloc: Global,
     link: &Link<'_>,
     dummy: u16,
-    files: &mut LinkFiles<R, S, W>,
+    packets: &mut S,
+    symbols: &mut W,
     out: &mut O,
 ) -> Result<Exit, Fault<'static>>
-    requires files { CanFail files.old }
+    requires packets { CanCount (S.count packets.old) }
+    requires symbols { CanCount (W.count symbols.old) }
     requires out { CanCount (O.count out.old) }
-    ensures whole { IsOk result → O.count out.new ≡ O.count out.old }
-    ensures few { O.count out.new ≤ O.count out.old + 1 }
-    ensures sends { Tries (Sends dummy) link.now (streams_with files.old (O.contents out.old) (O.count out.old)) (streams_with files.new (O.contents out.new) (O.count out.new)) result }
-    ensures causes { Causes (streams_with files.old (O.contents out.old) (O.count out.old)) (streams_with files.new (O.contents out.new) (O.count out.new)) result }
+    ensures sends { let ends = streams_by S.remaining S.count W.contents W.count O.contents O.count in
+        Tries (Sends dummy) link.now (ends packets.old symbols.old out.old) (ends packets.new symbols.new out.new) result }
+    ensures causes { let ends = streams_by S.remaining S.count W.contents W.count O.contents O.count in
+        Causes (ends packets.old symbols.old out.old) (ends packets.new symbols.new out.new) result }
 {
     match Transmitter::on_link(alloc, link) {
         Ok(mut transmitter) => {
             transmitter.dummy_every(dummy);
-            send_begun(&mut transmitter, files, out)
+            send_begun(&mut transmitter, packets, symbols, out)
         }
         Err(_) => Err(Fault::NoMemory),
     }
@@ -118,12 +122,19 @@ fn send_files<R: CountedRead, S: CountedRead, W: Output, O: CountedWrite, N: Cou
     requires files { CanFail files.old }
     requires out { CanCount (O.count out.old) }
     requires notes { CanCount (N.count notes.old) }
-    ensures whole { IsOk result → O.count out.new ≡ O.count out.old }
-    ensures few { O.count out.new ≤ O.count out.old + 1 }
-    ensures run { Modulates (setup_of setup) words.now.dummy files.old.rows (streams_with files.old (O.contents out.old) (O.count out.old)) (streams_with files.new (O.contents out.new) (O.count out.new)) result }
+    ensures run { let ends = streams_to O.contents O.count in
+        Modulates (setup_of setup) words.now.dummy files.old files.new (ends files.old out.old) (ends files.new out.new) result }
 {
     let matrix = read_noted(alloc, &setup.mode, &mut files.rows, words.quiet, notes)?;
-    send_link(alloc, &Link::of(setup, &matrix), words.dummy, files, out)
+    let link = Link::of(setup, &matrix);
+    send_link(
+        alloc,
+        &link,
+        words.dummy,
+        &mut files.from,
+        &mut files.to,
+        out,
+    )
 }
 
 /// The same with the report at a place of a console.
@@ -146,11 +157,9 @@ fn send_at<
     requires files { CanFail files.old }
     requires console { CanTell console.old }
     requires notes { CanCount (N.count notes.old) }
-    ensures whole { IsOk result → console.new.output_failed ≡ console.old.output_failed }
-    ensures quiet { IsOk result → console.new.errors_failed ≡ console.old.errors_failed }
-    ensures few { console.new.errors_failed ≤ console.old.errors_failed + 1 }
     ensures beside { SameBeside place console.old console.new }
-    ensures run { Modulates (setup_of setup) words.now.dummy files.old.rows (streams_at place files.old console.old) (streams_at place files.new console.new) result }
+    ensures run { let ends = streams_at place in
+        Modulates (setup_of setup) words.now.dummy files.old files.new (ends files.old console.old) (ends files.new console.new) result }
 {
     match place {
         Place::Output => send_files(alloc, setup, words, files, &mut console.output, notes),
@@ -182,9 +191,7 @@ pub fn mod_command<
     requires notes { CanCount (N.count notes.old) }
     ensures quiet { result ≢ Exit.Fault → console.new.errors_failed ≡ console.old.errors_failed }
     ensures whole { result ≢ Exit.Fault → console.new.output_failed ≡ console.old.output_failed }
-    ensures run { (ended : Result Exit Fault) × (shown : Screen) × (result ≡ exit_of ended)
-        × Modulates (setup_of setup) words.now.dummy files.old.rows (streams_at place files.old console.old) (streams_at place files.new shown) ended
-        × Concludes place (notes_on words.now.quiet setup.mode ended) ended console.old shown console.new }
+    ensures run { ModEnds (setup_of setup) words.now place files.old files.new console.old console.new result }
 {
     let ended = send_at(alloc, setup, words, files, place, console, notes);
     conclude_noted(words.quiet, &setup.mode, ended, console)

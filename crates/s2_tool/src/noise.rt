@@ -2,7 +2,7 @@
 ghost use Rattle.std.specs.Prelude.{◌≡◌, ◌≢◌, Result};
 ghost use Rattle.s2_mode.specs.Counts.{CanCount};
 ghost use Rattle.s2_console.specs.Exits.{exit_of, Complains};
-ghost use Rattle.s2_tool.specs.Spoiling.{piped, Spoils};
+ghost use Rattle.s2_tool.specs.Spoiling.{piped_by, Spoils};
 
 use s2_channel::{Noise, add_to_all};
 use s2_console::{Console, Exit, Fault};
@@ -17,9 +17,8 @@ pub(crate) fn spoil<R: CountedRead, W: CountedWrite>(
 ) -> Result<Exit, Fault<'static>>
     requires from { CanCount (R.count from.old) }
     requires to { CanCount (W.count to.old) }
-    ensures { Spoils channel (piped (R.remaining from.old) (W.contents to.old) (R.count from.old) (W.count to.old))
-        (piped (R.remaining from.new) (W.contents to.new) (R.count from.new) (W.count to.new))
-        result }
+    ensures { let ends = piped_by R.remaining R.count W.contents W.count in
+        Spoils channel (ends from.old to.old) (ends from.new to.new) result }
 {
     let mut noise = Noise::new(channel.seed, channel.level);
     match add_to_all(&mut noise, from, to) {
@@ -43,11 +42,8 @@ pub fn noise_command<R: CountedRead, W: CountedWrite, O: CountedWrite, E: Counte
     ensures quiet { result ≢ Exit.Fault → console.new.errors_failed ≡ console.old.errors_failed }
     ensures output { console.new.output ≡ console.old.output }
     ensures whole { console.new.output_failed ≡ console.old.output_failed }
-    ensures run { (ended : Result Exit Fault) × (result ≡ exit_of ended)
-        × Spoils channel (piped (R.remaining from.old) (W.contents to.old) (R.count from.old) (W.count to.old))
-        (piped (R.remaining from.new) (W.contents to.new) (R.count from.new) (W.count to.new))
-        ended
-        × Complains ended console.old console.new }
+    ensures run { let ends = piped_by R.remaining R.count W.contents W.count in (ended : Result Exit Fault) × (result ≡ exit_of ended)
+        × Spoils channel (ends from.old to.old) (ends from.new to.new) ended × Complains ended console.old console.new }
 {
     let ended = spoil(channel, from, to);
     console.conclude(ended)

@@ -4,7 +4,7 @@ ghost use Rattle.std.specs.Io.Buffered.{reader_remaining, writer_contents};
 ghost use Rattle.s2_files.specs.Known.{known_of};
 ghost use Rattle.s2_files.specs.declared.uses.Role.TheVariants as roles;
 ghost use Rattle.s2_evidence.specs.Files.{failed_in, written};
-ghost use Rattle.s2_tool.specs.Links.{CannotOpen, CannotOpenOne, NoneFailed, ends_of};
+ghost use Rattle.s2_tool.specs.Links.{CannotOpen, CannotOpenOne, IsUntouched, ends_of};
 ghost use Rattle.s2_tool.specs.Serving.{asked_file, judge_files, check_files, CannotOpenAsked};
 
 use crate::link_files::LinkFiles;
@@ -27,7 +27,7 @@ pub(crate) fn open_link<'a, R: Disk + AllocGlobal>(
     ),
     Fault<'a>,
 >
-    ensures fresh { IfOk result (λ opened. NoneFailed opened.0) }
+    ensures fresh { IfOk result (λ opened. IsUntouched opened.0) }
     ensures files { IfOk result (λ opened. opened.0 ≡ ends_of R.holds rows.entry from.entry to.entry) }
     ensures fault { IfErr result (λ fault. CannotOpenOne rows.entry from.entry to.entry fault) }
 {
@@ -56,7 +56,7 @@ pub(crate) fn open_whole<'a, R: Disk + AllocGlobal>(
     ),
     Fault<'a>,
 >
-    ensures fresh { IfOk result (λ opened. NoneFailed opened.0) }
+    ensures fresh { IfOk result (λ opened. IsUntouched opened.0) }
     ensures files { IfOk result (λ opened. opened.0 ≡ ends_of R.holds rows.entry from.entry to.entry) }
     ensures fault { IfErr result (λ fault. CannotOpenOne rows.entry from.entry to.entry fault) }
 {

@@ -1,16 +1,13 @@
 //! `run`: packets sent, spoilt and received, with the symbols in memory.
-ghost use Rattle.std.specs.Prelude.{◌≡◌, ◌≢◌, ◌≤◌, ◌⊎◌, ◌+◌, ℕ, List, None, Result, IsOk};
+ghost use Rattle.std.specs.Prelude.{◌≡◌, ◌≢◌, ◌⊎◌, Some};
 ghost use Rattle.s2_mode.specs.Counts.{CanCount};
+ghost use Rattle.s2_mode.specs.Streams.{streams_by};
 ghost use Rattle.s2_link.specs.Link.{setup_of};
 ghost use Rattle.s2_receive.specs.Receiving.{begun};
 ghost use Rattle.s2_modem.specs.Reception.{rules_for};
-ghost use Rattle.s2_console.specs.Exits.{exit_of};
-ghost use Rattle.s2_console.specs.Notes.{Concludes};
-ghost use Rattle.s2_console.specs.Screens.{Screen, CanTell, SameBeside};
-ghost use Rattle.s2_tool.specs.Links.{CanFail, Causes, Tries, Undone, streams_at, streams_with};
-ghost use Rattle.s2_tool.specs.Losses.{Answered};
-ghost use Rattle.s2_receive.specs.declared.report.Received.{Received as ReceivedValue};
-ghost use Rattle.s2_tool.specs.Looping.{kept_fault, Passes, LoopsBy, Loops, LoopsBack};
+ghost use Rattle.s2_console.specs.Screens.{CanTell, SameBeside};
+ghost use Rattle.s2_tool.specs.Links.{CanFail, Causes, Tries, Undone, streams_at, streams_to};
+ghost use Rattle.s2_tool.specs.Looping.{kept_fault, Passes, LoopsBy, Loops, LoopsBack, RunEnds};
 
 use crate::demod::receive_frames;
 use crate::link_files::LinkFiles;
@@ -50,16 +47,10 @@ fn receive_spoilt<P: CountedWrite, O: CountedWrite>(
     requires packets { CanCount (P.count packets.old) }
     requires out { CanCount (O.count out.old) }
     requires begun { receiver.old.state ≡ begun }
-    ensures whole { IsOk result → O.count out.new ≡ O.count out.old }
-    ensures few { O.count out.new ≤ O.count out.old + 1 }
-    ensures passes { Passes (rules_for receiver.old) channel symbols.now
-        (record { taken = None; given = P.contents packets.old; out = O.contents out.old; reads = 0; writes = P.count packets.old + O.count out.old })
-        (record { taken = None; given = P.contents packets.new; out = O.contents out.new; reads = 0; writes = P.count packets.new + O.count out.new })
-        result }
-    ensures causes { Causes
-        (record { taken = None; given = P.contents packets.old; out = O.contents out.old; reads = 0; writes = P.count packets.old + O.count out.old })
-        (record { taken = None; given = P.contents packets.new; out = O.contents out.new; reads = 0; writes = P.count packets.new + O.count out.new })
-        result }
+    ensures passes { let ends = streams_by (λ b. Some b) (λ b. 0) P.contents P.count O.contents O.count in
+        Passes (rules_for receiver.old) channel symbols.now (ends symbols.now packets.old out.old) (ends symbols.now packets.new out.new) result }
+    ensures causes { let ends = streams_by (λ b. Some b) (λ b. 0) P.contents P.count O.contents O.count in
+        Causes (ends symbols.now packets.old out.old) (ends symbols.now packets.new out.new) result }
 {
     let mut heard = Counting::new(Vec::new(alloc));
     match spoil(channel, &mut InMemory::new(symbols), &mut heard) {
@@ -74,70 +65,76 @@ fn receive_spoilt<P: CountedWrite, O: CountedWrite>(
 }
 
 /// Sends packets, and receives what comes.
-fn loop_packets<R: CountedRead, S: CountedRead, W: Output, O: CountedWrite>(
+fn loop_packets<S: CountedRead, W: Output, O: CountedWrite>(
     alloc: Global,
     transmitter: &mut Transmitter<'_>,
     receiver: &mut Receiver<'_>,
     channel: ChannelWords,
-    files: &mut LinkFiles<R, S, W>,
+    from: &mut S,
+    to: &mut W,
     out: &mut O,
 ) -> Result<Received, Fault<'static>>
-    requires files { CanFail files.old }
+    requires from { CanCount (S.count from.old) }
+    requires to { CanCount (W.count to.old) }
     requires out { CanCount (O.count out.old) }
     requires begun { receiver.old.state ≡ begun }
-    ensures whole { IsOk result → O.count out.new ≡ O.count out.old }
-    ensures few { O.count out.new ≤ O.count out.old + 1 }
-    ensures loops { LoopsBy transmitter.old (rules_for receiver.old) channel (streams_with files.old (O.contents out.old) (O.count out.old)) (streams_with files.new (O.contents out.new) (O.count out.new)) result }
-    ensures causes { Causes (streams_with files.old (O.contents out.old) (O.count out.old)) (streams_with files.new (O.contents out.new) (O.count out.new)) result }
+    ensures loops { let ends = streams_by S.remaining S.count W.contents W.count O.contents O.count in
+        LoopsBy transmitter.old (rules_for receiver.old) channel (ends from.old to.old out.old) (ends from.new to.new out.new) result }
+    ensures causes { let ends = streams_by S.remaining S.count W.contents W.count O.contents O.count in
+        Causes (ends from.old to.old out.old) (ends from.new to.new out.new) result }
 {
     let mut symbols = Counting::new(Vec::new(alloc));
-    match transmitter.run(&mut files.from, &mut symbols) {
+    match transmitter.run(from, &mut symbols) {
         Ok(_) => {
             let symbols = symbols.into_inner();
-            receive_spoilt(alloc, receiver, channel, &symbols, &mut files.to, out)
+            receive_spoilt(alloc, receiver, channel, &symbols, to, out)
         }
         Err(refusal) => Err(kept_fault(fault_of(refusal))),
     }
 }
 
 /// Begins the file that is written, sends packets, and receives what comes.
-fn loop_begun<R: CountedRead, S: CountedRead, W: Output, O: CountedWrite>(
+fn loop_begun<S: CountedRead, W: Output, O: CountedWrite>(
     alloc: Global,
     transmitter: &mut Transmitter<'_>,
     receiver: &mut Receiver<'_>,
     channel: ChannelWords,
-    files: &mut LinkFiles<R, S, W>,
+    from: &mut S,
+    to: &mut W,
     out: &mut O,
 ) -> Result<Received, Fault<'static>>
-    requires files { CanFail files.old }
+    requires from { CanCount (S.count from.old) }
+    requires to { CanCount (W.count to.old) }
     requires out { CanCount (O.count out.old) }
     requires begun { receiver.old.state ≡ begun }
-    ensures whole { IsOk result → O.count out.new ≡ O.count out.old }
-    ensures few { O.count out.new ≤ O.count out.old + 1 }
-    ensures loops { LoopsBy transmitter.old (rules_for receiver.old) channel (streams_with files.old (O.contents out.old) (O.count out.old)) (streams_with files.new (O.contents out.new) (O.count out.new)) result
-        ⊎ Undone (streams_with files.old (O.contents out.old) (O.count out.old)) (streams_with files.new (O.contents out.new) (O.count out.new)) result }
-    ensures causes { Causes (streams_with files.old (O.contents out.old) (O.count out.old)) (streams_with files.new (O.contents out.new) (O.count out.new)) result }
+    ensures loops { let ends = streams_by S.remaining S.count W.contents W.count O.contents O.count in
+        LoopsBy transmitter.old (rules_for receiver.old) channel (ends from.old to.old out.old) (ends from.new to.new out.new) result
+        ⊎ Undone (ends from.old to.old out.old) (ends from.new to.new out.new) result }
+    ensures causes { let ends = streams_by S.remaining S.count W.contents W.count O.contents O.count in
+        Causes (ends from.old to.old out.old) (ends from.new to.new out.new) result }
 {
-    match files.to.begin() {
-        Ok(()) => loop_packets(alloc, transmitter, receiver, channel, files, out),
+    match to.begin() {
+        Ok(()) => loop_packets(alloc, transmitter, receiver, channel, from, to, out),
         Err(_) => Err(Fault::Write),
     }
 }
 
 /// Sends packets on a link as words say, and receives what comes.
-fn loop_link<R: CountedRead, S: CountedRead, W: Output, O: CountedWrite>(
+fn loop_link<S: CountedRead, W: Output, O: CountedWrite>(
     alloc: Global,
     link: &Link<'_>,
     words: &RunWords<'_>,
-    files: &mut LinkFiles<R, S, W>,
+    from: &mut S,
+    to: &mut W,
     out: &mut O,
 ) -> Result<Received, Fault<'static>>
-    requires files { CanFail files.old }
+    requires from { CanCount (S.count from.old) }
+    requires to { CanCount (W.count to.old) }
     requires out { CanCount (O.count out.old) }
-    ensures whole { IsOk result → O.count out.new ≡ O.count out.old }
-    ensures few { O.count out.new ≤ O.count out.old + 1 }
-    ensures loops { Tries (Loops words.now) link.now (streams_with files.old (O.contents out.old) (O.count out.old)) (streams_with files.new (O.contents out.new) (O.count out.new)) result }
-    ensures causes { Causes (streams_with files.old (O.contents out.old) (O.count out.old)) (streams_with files.new (O.contents out.new) (O.count out.new)) result }
+    ensures loops { let ends = streams_by S.remaining S.count W.contents W.count O.contents O.count in
+        Tries (Loops words.now) link.now (ends from.old to.old out.old) (ends from.new to.new out.new) result }
+    ensures causes { let ends = streams_by S.remaining S.count W.contents W.count O.contents O.count in
+        Causes (ends from.old to.old out.old) (ends from.new to.new out.new) result }
 {
     let Ok(mut transmitter) = Transmitter::on_link(alloc, link) else {
         return Err(Fault::NoMemory);
@@ -149,7 +146,8 @@ fn loop_link<R: CountedRead, S: CountedRead, W: Output, O: CountedWrite>(
             &mut transmitter,
             &mut receiver,
             words.channel,
-            files,
+            from,
+            to,
             out,
         ),
         Err(_) => Err(Fault::NoMemory),
@@ -168,9 +166,8 @@ fn loop_files<R: CountedRead, S: CountedRead, W: Output, O: CountedWrite, N: Cou
     requires files { CanFail files.old }
     requires out { CanCount (O.count out.old) }
     requires notes { CanCount (N.count notes.old) }
-    ensures whole { IsOk result → O.count out.new ≡ O.count out.old }
-    ensures few { O.count out.new ≤ O.count out.old + 1 }
-    ensures run { LoopsBack (setup_of setup) words.now files.old.rows (streams_with files.old (O.contents out.old) (O.count out.old)) (streams_with files.new (O.contents out.new) (O.count out.new)) result }
+    ensures run { let ends = streams_to O.contents O.count in
+        LoopsBack (setup_of setup) words.now files.old files.new (ends files.old out.old) (ends files.new out.new) result }
 {
     let matrix = read_noted(
         alloc,
@@ -179,7 +176,8 @@ fn loop_files<R: CountedRead, S: CountedRead, W: Output, O: CountedWrite, N: Cou
         words.notes.quiet,
         notes,
     )?;
-    loop_link(alloc, &Link::of(setup, &matrix), words, files, out)
+    let link = Link::of(setup, &matrix);
+    loop_link(alloc, &link, words, &mut files.from, &mut files.to, out)
 }
 
 /// The same with the report at a place of a console.
@@ -202,11 +200,9 @@ fn loop_at<
     requires files { CanFail files.old }
     requires console { CanTell console.old }
     requires notes { CanCount (N.count notes.old) }
-    ensures whole { IsOk result → console.new.output_failed ≡ console.old.output_failed }
-    ensures quiet { IsOk result → console.new.errors_failed ≡ console.old.errors_failed }
-    ensures few { console.new.errors_failed ≤ console.old.errors_failed + 1 }
     ensures beside { SameBeside place console.old console.new }
-    ensures run { LoopsBack (setup_of setup) words.now files.old.rows (streams_at place files.old console.old) (streams_at place files.new console.new) result }
+    ensures run { let ends = streams_at place in
+        LoopsBack (setup_of setup) words.now files.old files.new (ends files.old console.old) (ends files.new console.new) result }
 {
     match place {
         Place::Output => loop_files(alloc, setup, words, files, &mut console.output, notes),
@@ -238,10 +234,7 @@ pub fn run_command<
     requires notes { CanCount (N.count notes.old) }
     ensures quiet { result ≢ Exit.Fault → console.new.errors_failed ≡ console.old.errors_failed }
     ensures whole { result ≢ Exit.Fault → console.new.output_failed ≡ console.old.output_failed }
-    ensures run { (ended : Result Exit Fault) × (shown : Screen) × (result ≡ exit_of ended)
-        × (heard : Result ReceivedValue Fault) × (notes : List ℕ)
-        × LoopsBack (setup_of setup) words.now files.old.rows (streams_at place files.old console.old) (streams_at place files.new shown) heard
-        × Answered words.now.notes setup.mode heard ended notes × Concludes place notes ended console.old shown console.new }
+    ensures run { RunEnds (setup_of setup) words.now place files.old files.new console.old console.new result }
 {
     let heard = loop_at(alloc, setup, words, files, place, console, notes);
     conclude_heard(words.notes, &setup.mode, heard, console)

@@ -1,5 +1,5 @@
 //! The commands on the files and streams that their words name.
-ghost use Rattle.std.specs.Prelude.{◌≡◌, ◌↔◌, None, IsSome, IfSome, IsTrue, IsFalse};
+ghost use Rattle.std.specs.Prelude.{◌≡◌, ◌↔◌, ℕ, List, Option, IsSome, IfSome, IsTrue, IsFalse};
 ghost use Rattle.s2_mode.specs.Counts.{CanCount};
 ghost use Rattle.s2_mode.specs.Mode.{IsMode, mode_of};
 ghost use Rattle.s2_mode.specs.Shape.{IsShape};
@@ -65,7 +65,25 @@ pub fn serve<R: Disk + Clock + AllocGlobal, S: CountedRead, O: CountedWrite, E: 
     requires console { CanTell console.old }
     ensures served { Served R.holds request.now (S.remaining input.old) result console.old console.new }
 {
-    let begun = match request {
+    match begin(rt, terminal, request, input, console) {
+        Ok(exit) => exit,
+        Err(fault) => console.complain(fault),
+    }
+}
+
+/// Serves a request, unless it cannot be begun.
+fn begin<'a, R: Disk + Clock + AllocGlobal, S: CountedRead, O: CountedWrite, E: CountedWrite>(
+    rt: &R,
+    terminal: &Terminal<'_, R>,
+    request: &Request<'a>,
+    input: &mut S,
+    console: &mut Console<O, E>,
+) -> Result<Exit, Fault<'a>>
+    requires input { CanCount (S.count input.old) }
+    requires console { CanTell console.old }
+    ensures began { Began R.holds request.now (S.remaining input.old) result console.old console.new }
+{
+    match request {
         Request::Own => Ok(self_command(rt.alloc(), input, console)),
         Request::Modes(words) => Ok(modes_command(rt.alloc(), &words.rate, console)),
         Request::Rows(words) => serve_rows(rt, words, console),
@@ -76,10 +94,6 @@ pub fn serve<R: Disk + Clock + AllocGlobal, S: CountedRead, O: CountedWrite, E: 
         Request::Noise(words) => serve_noise(rt, terminal, words, console),
         Request::Demod(words) => serve_demod(rt, terminal, words, console),
         Request::Run(words) => serve_run(rt, terminal, words, console),
-    };
-    match begun {
-        Ok(exit) => exit,
-        Err(fault) => console.complain(fault),
     }
 }
 
@@ -104,7 +118,7 @@ fn serve_rows<R: Disk + AllocGlobal, O: CountedWrite, E: CountedWrite>(
     console: &mut Console<O, E>,
 ) -> Result<Exit, Fault<'static>>
     requires { CanShow console.old }
-    ensures { Began R.holds (Request.Rows words.now) None result console.old console.new }
+    ensures { (input : Option (List ℕ)) → Began R.holds (Request.Rows words.now) input result console.old console.new }
 {
     let Some(shape) = shape_of(words.shape) else {
         return Err(no_shape());
@@ -148,7 +162,7 @@ fn serve_table<'a, R: Disk + AllocGlobal, O: CountedWrite, E: CountedWrite>(
     console: &mut Console<O, E>,
 ) -> Result<Exit, Fault<'a>>
     requires { CanTell console.old }
-    ensures { Began R.holds (Request.Table words.now) None result console.old console.new }
+    ensures { (input : Option (List ℕ)) → Began R.holds (Request.Table words.now) input result console.old console.new }
 {
     let Some(mode) = Mode::of(words.modcod, words.short, false) else {
         return Err(no_mode());
@@ -175,7 +189,7 @@ fn serve_judge<'a, R: Disk + AllocGlobal, O: CountedWrite, E: CountedWrite>(
     console: &mut Console<O, E>,
 ) -> Result<Exit, Fault<'a>>
     requires { CanTell console.old }
-    ensures { Began R.holds (Request.Judge words.now) None result console.old console.new }
+    ensures { (input : Option (List ℕ)) → Began R.holds (Request.Judge words.now) input result console.old console.new }
 {
     let place = place_beside(words.certificate);
     let Some(shape) = shape_of(words.shape) else {
@@ -193,7 +207,7 @@ fn serve_check<'a, R: Disk + AllocGlobal, O: CountedWrite, E: CountedWrite>(
     console: &mut Console<O, E>,
 ) -> Result<Exit, Fault<'a>>
     requires { CanShow console.old }
-    ensures { Began R.holds (Request.Check words.now) None result console.old console.new }
+    ensures { (input : Option (List ℕ)) → Began R.holds (Request.Check words.now) input result console.old console.new }
 {
     let mut files = open_check(rt, words)?;
     Ok(check_command(rt.alloc(), &mut files, console))
@@ -207,7 +221,7 @@ fn serve_mod<'a, R: Disk + Clock + AllocGlobal, O: CountedWrite, E: CountedWrite
     console: &mut Console<O, E>,
 ) -> Result<Exit, Fault<'a>>
     requires { CanTell console.old }
-    ensures { Began R.holds (Request.Mod words.now) None result console.old console.new }
+    ensures { (input : Option (List ℕ)) → Began R.holds (Request.Mod words.now) input result console.old console.new }
 {
     let place = place_of(words.symbols);
     let Some(setup) = setup_of(&words.link) else {
@@ -241,7 +255,7 @@ fn serve_noise<'a, R: Disk + Clock + AllocGlobal, O: CountedWrite, E: CountedWri
     console: &mut Console<O, E>,
 ) -> Result<Exit, Fault<'a>>
     requires { CanShow console.old }
-    ensures { Began R.holds (Request.Noise words.now) None result console.old console.new }
+    ensures { (input : Option (List ℕ)) → Began R.holds (Request.Noise words.now) input result console.old console.new }
 {
     let show = show_on(terminal, Pace::Spoiling, words.progress);
     let opened = open_noise(rt, words)?;
@@ -262,7 +276,7 @@ fn serve_demod<'a, R: Disk + Clock + AllocGlobal, O: CountedWrite, E: CountedWri
     console: &mut Console<O, E>,
 ) -> Result<Exit, Fault<'a>>
     requires { CanTell console.old }
-    ensures { Began R.holds (Request.Demod words.now) None result console.old console.new }
+    ensures { (input : Option (List ℕ)) → Began R.holds (Request.Demod words.now) input result console.old console.new }
 {
     let place = place_of(words.packets);
     let Some(setup) = setup_of(&words.link) else {
@@ -296,7 +310,7 @@ fn serve_run<'a, R: Disk + Clock + AllocGlobal, O: CountedWrite, E: CountedWrite
     console: &mut Console<O, E>,
 ) -> Result<Exit, Fault<'a>>
     requires { CanTell console.old }
-    ensures { Began R.holds (Request.Run words.now) None result console.old console.new }
+    ensures { (input : Option (List ℕ)) → Began R.holds (Request.Run words.now) input result console.old console.new }
 {
     let place = place_of(words.to);
     let Some(setup) = setup_of(&words.link) else {

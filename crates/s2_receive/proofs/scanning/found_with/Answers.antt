@@ -1,24 +1,33 @@
-use Rattle.std.proofs.Common.{◌∷◌, ◌++◌, [], true, List, ap, sym, ◌∙◌}
+use Rattle.std.proofs.Common.{◌≡◌, ◌∷◌, ◌++◌, [], true, List, ap, sym, ◌∙◌}
 use Rattle.s2_mode.specs.declared.symbols.Symbol.{Symbol}
+use Rattle.s2_plframe.specs.HeaderLaws.{seen_of}
+use Rattle.s2_plframe.specs.Search.{Search}
 use Rattle.s2_receive.specs.Finding.{found_last}
-use Rattle.s2_receive.specs.Windows.{finds_of}
-use Rattle.s2_receive.proofs.HeaderWindows.{same_finds}
+use Rattle.s2_receive.specs.Windows.{Saw, found_as}
+use Rattle.s2_receive.proofs.HeaderWindows.{fed, met_behind}
 use Rattle.s2_receive.proofs.Headers.{last_found}
 use Rattle.s2_receive.proofs.scanning.found_with.Goals as goal
 
 pub returns-then-first-clause-header : goal.returns-then-first-clause-header
+unfolding Saw
 returns-then-first-clause-header c = λ seen saw many.
+    let old : Search = c.args.search.now in
+    let new : Search = c.feed-found.new.self in
     let all : List Symbol = seen ++ c.args.symbol ∷ [] in
-    let told = c.feed-found.ensures.header seen saw in
-    let full = many c.if-first.true in (
-      told.0,
-      c.behind.ensures all told.0 full
-          ∙ (last_found (finds_of c.feed-found.new.self true) all full
-          ∙ (ap (λ f. found_last (f true) all) (same_finds c.args.search.now c.feed-found.new.self c.feed-found.ensures.same) ∙ ap (λ b. found_last (finds_of c.args.search.now b) all) (sym c.if-first.true))),
+    let full = many c.if-first.true in
+    let held : new.seen ≡ seen_of all = ap (λ s. s.seen) c.feed-found.ensures.seen ∙ (fed old.mode c.args.lock seen old.seen c.args.symbol saw).0 in
+    let mode : new.mode ≡ old.mode = ap (λ s. s.mode) c.feed-found.ensures.seen in
+    let told = met_behind new.mode c.args.lock all new.seen held full in (
+      held,
+      c.behind.ensures.found told.0 ∙ told.1 ∙ last_found (found_as new.mode c.args.lock true) all full ∙ ap (λ m. found_last (found_as m c.args.lock true) all) mode
+          ∙ ap (λ b. found_last (found_as old.mode c.args.lock b) all) (sym c.if-first.true),
     )
 
 pub returns-clause-header : goal.returns-clause-header
+unfolding Saw
 returns-clause-header c = λ seen saw many.
-    let all : List Symbol = seen ++ c.args.symbol ∷ [] in
-    let told = c.feed-found.ensures.header seen saw in
-    (told.0, told.1 ∙ ap (λ b. found_last (finds_of c.args.search.now b) all) (sym c.if-first.false))
+    let old : Search = c.args.search.now in
+    let told = fed old.mode c.args.lock seen old.seen c.args.symbol saw in (
+      ap (λ s. s.seen) c.feed-found.ensures.seen ∙ told.0,
+      c.feed-found.ensures.found ∙ told.1 ∙ ap (λ b. found_last (found_as old.mode c.args.lock b) (seen ++ c.args.symbol ∷ [])) (sym c.if-first.false),
+    )

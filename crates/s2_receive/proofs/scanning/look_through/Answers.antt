@@ -3,8 +3,8 @@ use Rattle.std.specs.Prelude.{◌||◌, nat_lt, max}
 use Rattle.s2_mode.specs.Symbols.{symbol_at}
 use Rattle.s2_plframe.specs.declared.receive.found.Found.TheVariants as founds
 use Rattle.s2_receive.specs.Finding.{Scans}
-use Rattle.s2_receive.specs.Windows.{Saw, finds_of}
-use Rattle.s2_receive.proofs.HeaderWindows.{same_finds, same_on}
+use Rattle.s2_receive.specs.Windows.{Saw, found_as}
+use Rattle.s2_receive.proofs.HeaderWindows.{restarted}
 use Rattle.s2_receive.proofs.Headers.{Looked, begun, seen_none, seen_more, found_now, many_seen, nothing_more, coded_there, dummy_there, none_left}
 use Rattle.s2_receive.proofs.MetLemmas.{behind_or}
 use Rattle.s2_receive.proofs.scanning.look_through.Goals.{then-behind, else-behind}
@@ -15,68 +15,69 @@ look-init c =
     let symbols = c.args.symbols.now in
     let inside : ℕ = c.args.inside in
     let some : Bool = nat_lt 0 inside in
+    let again = restarted c.restart.new.self c.args.search.now.mode c.restart.ensures in
     let first : c.if-behind.behind ≡ (c.args.behind || some) = elim c.if-behind.branch [
       | then-behind w ↦ w.behind-is ∙ w.if-behind.true ∙ sym (ap (λ b. b || some) w.if-behind.true)
       | else-behind w ↦ w.behind-is ∙ sym (ap (λ b. b || some) w.if-behind.false)
     ] in (
-      subst (Saw c.restart.new.self) (seen_none symbols inside) c.restart.ensures.saw,
-      begun (finds_of c.args.search.now) symbols c.args.from inside c.args.behind c.args.over c.if-behind.behind (first ∙ sym (behind_or inside c.args.behind)),
-      c.restart.ensures.same,
+      subst (Saw c.restart.new.self) (seen_none symbols inside) again.0,
+      begun (found_as c.args.search.now.mode c.args.lock) symbols c.args.from inside c.args.behind c.args.over c.if-behind.behind (first ∙ sym (behind_or inside c.args.behind)),
+      again.1,
     )
 
 pub look-preserved-in-Nothing : goal.look-preserved-in-Nothing
 look-preserved-in-Nothing c =
     let symbols = c.args.symbols.now in
-    let finds = finds_of c.args.search.now in
+    let finds = found_as c.args.search.now.mode c.args.lock in
     let start : ℕ = c.look.start in
     let at : ℕ = c.look.at in
     let first : Bool = c.is_first-first.result in
     let looked = c.look.invariant.1 in
     let now = seen_more symbols start at looked.order c.look-test.true in
     let fed = c.found_with-found.ensures.header (drop start (take at symbols)) c.look.invariant.0 (many_seen symbols start at c.look.behind first c.is_first-first.ensures looked.order c.look-test.true) in
-    let none = found_now (finds first) symbols (finds_of c.look.search first) start at (drop start (take at symbols) ++ symbol_at symbols at ∷ []) founds.Nothing c.found_with-found.result (ap (λ f. f first) (same_finds c.args.search.now c.look.search c.look.invariant.2)) now fed.1 c.in-Nothing.is in (
+    let none = found_now (finds first) symbols (found_as c.look.search.mode c.args.lock first) start at (drop start (take at symbols) ++ symbol_at symbols at ∷ []) founds.Nothing c.found_with-found.result (ap (λ f. f first) (ap (λ m. found_as m c.args.lock) c.look.invariant.2)) now fed.1 c.in-Nothing.is in (
       subst (Saw c.found_with-found.new.search) now fed.0,
       nothing_more finds symbols c.args.from c.args.inside c.args.behind c.args.over start at c.look.behind c.look.over looked first c.is_first-first.ensures c.look-test.true none,
-      same_on c.args.search.now c.look.search c.found_with-found.new.search c.look.invariant.2 c.found_with-found.ensures.same,
+      c.found_with-found.ensures.same ∙ c.look.invariant.2,
     )
 
 pub returns-in-Coded-clause-scans : goal.returns-in-Coded-clause-scans
 returns-in-Coded-clause-scans c =
     let symbols = c.args.symbols.now in
-    let finds = finds_of c.args.search.now in
+    let finds = found_as c.args.search.now.mode c.args.lock in
     let start : ℕ = c.look.start in
     let at : ℕ = c.look.at in
     let first : Bool = c.is_first-first.result in
     let looked = c.look.invariant.1 in
     let now = seen_more symbols start at looked.order c.look-test.true in
     let fed = c.found_with-found.ensures.header (drop start (take at symbols)) c.look.invariant.0 (many_seen symbols start at c.look.behind first c.is_first-first.ensures looked.order c.look-test.true) in
-    let coded = found_now (finds first) symbols (finds_of c.look.search first) start at (drop start (take at symbols) ++ symbol_at symbols at ∷ []) founds.Coded c.found_with-found.result (ap (λ f. f first) (same_finds c.args.search.now c.look.search c.look.invariant.2)) now fed.1 c.in-Coded.is in
+    let coded = found_now (finds first) symbols (found_as c.look.search.mode c.args.lock first) start at (drop start (take at symbols) ++ symbol_at symbols at ∷ []) founds.Coded c.found_with-found.result (ap (λ f. f first) (ap (λ m. found_as m c.args.lock) c.look.invariant.2)) now fed.1 c.in-Coded.is in
     let scans = (coded_there finds symbols c.args.from c.args.inside c.args.behind c.args.over start at c.look.behind c.look.over looked first c.is_first-first.ensures c.look-test.true coded).1 in
     subst (λ over. Scans finds symbols c.args.from c.args.inside c.args.behind c.args.over (record { place = at + 1 - 90; over = over; behind = first; coded = true })) (sym c.passed.ensures) scans
 
 pub look-preserved : goal.look-preserved
 look-preserved c =
     let symbols = c.args.symbols.now in
-    let finds = finds_of c.args.search.now in
+    let finds = found_as c.args.search.now.mode c.args.lock in
     let start : ℕ = c.look.start in
     let at : ℕ = c.look.at in
     let first : Bool = c.is_first-first.result in
     let looked = c.look.invariant.1 in
     let now = seen_more symbols start at looked.order c.look-test.true in
     let fed = c.found_with-found.ensures.header (drop start (take at symbols)) c.look.invariant.0 (many_seen symbols start at c.look.behind first c.is_first-first.ensures looked.order c.look-test.true) in
-    let dummy = found_now (finds first) symbols (finds_of c.look.search first) start at (drop start (take at symbols) ++ symbol_at symbols at ∷ []) founds.Dummy c.found_with-found.result (ap (λ f. f first) (same_finds c.args.search.now c.look.search c.look.invariant.2)) now fed.1 c.in-Dummy.is in
+    let dummy = found_now (finds first) symbols (found_as c.look.search.mode c.args.lock first) start at (drop start (take at symbols) ++ symbol_at symbols at ∷ []) founds.Dummy c.found_with-found.result (ap (λ f. f first) (ap (λ m. found_as m c.args.lock) c.look.invariant.2)) now fed.1 c.in-Dummy.is in
     let there = (dummy_there finds symbols c.args.from c.args.inside c.args.behind c.args.over start at c.look.behind c.look.over looked first c.is_first-first.ensures c.look-test.true dummy).1 in
+    let again = restarted c.restart-in-Dummy.new.self c.found_with-found.new.search.mode c.restart-in-Dummy.ensures in
     let next : ℕ = at + 1 - 90 + 3330 in (
-      subst (Saw c.restart-in-Dummy.new.self) (seen_none symbols next) c.restart-in-Dummy.ensures.saw,
+      subst (Saw c.restart-in-Dummy.new.self) (seen_none symbols next) again.0,
       subst (Looked finds symbols c.args.from c.args.inside c.args.behind c.args.over next next true) (sym c.passed-over.ensures) there,
-      same_on c.args.search.now c.look.search c.restart-in-Dummy.new.self c.look.invariant.2
-          (same_on c.look.search c.found_with-found.new.search c.restart-in-Dummy.new.self c.found_with-found.ensures.same c.restart-in-Dummy.ensures.same),
+      again.1 ∙ c.found_with-found.ensures.same ∙ c.look.invariant.2,
     )
 
 pub returns-clause-scans : goal.returns-clause-scans
 returns-clause-scans c =
     let symbols = c.args.symbols.now in
-    let finds = finds_of c.args.search.now in
+    let finds = found_as c.args.search.now.mode c.args.lock in
     let start : ℕ = c.look.start in
     let at : ℕ = c.look.at in
     let place : ℕ = c.max-place.result in

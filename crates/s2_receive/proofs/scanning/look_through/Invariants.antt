@@ -1,5 +1,5 @@
-use Rattle.std.proofs.Common.{◌-◌, length, take, drop}
-use Rattle.s2_receive.specs.Windows.{FindsSame, Saw, finds_of}
+use Rattle.std.proofs.Common.{◌≡◌, ◌-◌, length, take, drop}
+use Rattle.s2_receive.specs.Windows.{Saw, found_as}
 use Rattle.s2_receive.proofs.Headers.{Looked}
 use Rattle.s2_receive.proofs.scanning.look_through.Given as goal
 
@@ -7,8 +7,8 @@ use Rattle.s2_receive.proofs.scanning.look_through.Given as goal
 abbrev pub invariant-look : goal.invariant-look
 invariant-look l =
     Saw l.search (drop l.start (take l.at l.symbols))
-    × Looked (finds_of l.fn.search) l.symbols l.from l.inside l.fn.behind l.fn.over l.start l.at l.behind l.over
-    × FindsSame l.fn.search l.search
+    × Looked (found_as l.fn.search.mode l.lock) l.symbols l.from l.inside l.fn.behind l.fn.over l.start l.at l.behind l.over
+    × (l.search.mode ≡ l.fn.search.mode)
 
 abbrev pub decreases-look : goal.decreases-look
 decreases-look l = length l.symbols - l.at

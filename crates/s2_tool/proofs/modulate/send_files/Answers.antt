@@ -1,18 +1,18 @@
-use Rattle.std.proofs.Common.{refl, rules, sym}
+use Rattle.std.proofs.Common.{rules, sym}
 use Rattle.std.proofs.lemmas.Result.{err_from_is_err_and}
-use Rattle.s2_mode.specs.Mode.{shape_in}
 use Rattle.s2_link.specs.Link.{setup_of}
 use Rattle.s2_tool.specs.Sending.{Sends}
-use Rattle.s2_tool.proofs.LinkLemmas.{never, refused_rows, tried, rows_read}
+use Rattle.s2_tool.proofs.LinkLemmas.{never, refused_rows, tried}
 use Rattle.s2_tool.proofs.modulate.send_files.Goals as goal
 
-pub returns-in_err-matrix-clause-run : goal.returns-in_err-matrix-clause-run
-returns-in_err-matrix-clause-run g c =
+pub returns-in_err-matrix : goal.returns-in_err-matrix
+returns-in_err-matrix g c =
     let p = err_from_is_err_and c.from_residual.result c.from_residual.ensures.1 in
-    rw (sym c.files.view_is, p.1, p.2) (refused_rows (Sends c.args.words.now.dummy) (setup_of c.args.setup) _ (shape_in c.args.setup.mode) c.in_err-matrix.field-0.0 _ _ refl c.in_err-matrix.ensures.rows
-    (search rules) (search rules) (search rules) refl refl refl refl)
+    record { run = rw (sym c.files.view_is, p.1, p.2) (refused_rows (Sends c.args.words.now.dummy) (setup_of c.args.setup) _ _ c.in_err-matrix.field-0.0 _ c.in_err-matrix.ensures.rows (search rules) (search rules) (search rules)) }
 
-pub returns-clause-run : goal.returns-clause-run
-returns-clause-run g c =
-    rw (sym c.files.view_is) (tried (Sends c.args.words.now.dummy) (setup_of c.args.setup) _ (shape_in c.args.setup.mode) c.in_ok-matrix.matrix c.of.result _ _ _ c.send_link.result refl c.in_ok-matrix.ensures.rows
-    c.of.ensures (rows_read _ _ _ _ _ _ _ (c.in_ok-matrix.ensures.no_other (never c.in_ok-matrix.matrix))) c.send_link.ensures.sends c.send_link.ensures.causes)
+pub returns : goal.returns
+returns g c =
+    record {
+      run = rw (sym c.files.view_is) (tried (Sends c.args.words.now.dummy) (setup_of c.args.setup) _ _ c.in_ok-matrix.matrix c.of-link.result _ _ c.send_link.result c.in_ok-matrix.ensures.rows
+          c.of-link.ensures (c.in_ok-matrix.ensures.no_other (never c.in_ok-matrix.matrix)) c.send_link.ensures.sends c.send_link.ensures.causes);
+    }

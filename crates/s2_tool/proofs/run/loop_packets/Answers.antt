@@ -1,7 +1,6 @@
-use Rattle.std.proofs.Common.{Ok, Err, refl, sym, ap, ◌∙◌}
+use Rattle.std.proofs.Common.{Ok, Err, refl, ap, ◌∙◌}
 use Rattle.s2_modem.specs.Reception.{rules_for}
 use Rattle.s2_tool.specs.Looping.{kept_fault}
-use Rattle.s2_tool.proofs.SendLemmas.{runs}
 use Rattle.s2_tool.proofs.LoopLemmas.{passed}
 use Rattle.s2_tool.proofs.run.loop_packets.Goals as goal
 
@@ -9,19 +8,9 @@ pub returns-in-Ok-clause-loops : goal.returns-in-Ok-clause-loops
 returns-in-Ok-clause-loops g c =
     let sends = rw (c.new-symbols.ensures.inner, c.new.ensures.items) at c.in-Ok.ensures.runs in
     let passes = rw (c.deref.ensures.value, c.into_inner-symbols.ensures) at c.receive_spoilt.ensures.passes in
-    rw (sym c.files.view_is) (
-      Ok c.in-Ok.field-0,
-      c.run.new.writer.inner.items,
-      runs c.args.transmitter.now (g.R.Counted.count c.files.inside.rows) _ _ _ _ _ _ _ _ (Ok c.in-Ok.field-0) refl refl sends,
-      passed (rules_for c.args.receiver.now) c.args.channel c.run.new.writer.inner.items _ _ _ _ _ _ c.receive_spoilt.result passes,
-    )
+    (Ok c.in-Ok.field-0, c.run.new.writer.inner.items, sends, passed (rules_for c.args.receiver.now) c.args.channel c.run.new.writer.inner.items _ _ _ _ _ _ c.receive_spoilt.result passes)
 
 pub returns-clause-loops : goal.returns-clause-loops
 returns-clause-loops g c =
     let sends = rw (c.new-symbols.ensures.inner, c.new.ensures.items) at c.in-Err.ensures.runs in
-    rw (sym c.files.view_is) (
-      Err c.in-Err.refusal,
-      c.run.new.writer.inner.items,
-      runs c.args.transmitter.now (g.R.Counted.count c.files.inside.rows) _ _ _ _ _ _ _ _ (Err c.in-Err.refusal) refl refl sends,
-      (ap Err (c.kept_fault.ensures ∙ ap kept_fault c.fault_of.ensures), refl, refl),
-    )
+    (Err c.in-Err.refusal, c.run.new.writer.inner.items, sends, (ap Err (c.kept_fault.ensures ∙ ap kept_fault c.fault_of.ensures), refl, refl))
