@@ -28,6 +28,8 @@ mod plframe_tests;
 #[cfg(test)]
 mod receive_tests;
 #[cfg(test)]
+mod room_tests;
+#[cfg(test)]
 mod scattered_tests;
 #[cfg(test)]
 mod send_tests;
