@@ -4,8 +4,10 @@ use s2_mode::{
     Mode, ReadFault, Shape, StreamFault, Symbol, WriteFault, read_all, read_full, read_symbol,
     write_full, write_symbol,
 };
+use std::alloc::Global;
 use std::io;
 use std::io::{ErrorKind, Read, Write};
+use std::process::Abort;
 use std::test::Fail;
 
 // Kbch, k, t and q of normal frames, and Kbch, k and q of short ones (tables 5a and 5b).
@@ -191,30 +193,40 @@ fn counts_no_empty_write(rt: HostRuntime) {
     assert_eq!(rt; writer.count(), 1);
 }
 
+/// Asserts that a buffer is filled as far as there are bytes, and that empty ones ask for nothing.
+fn assert_filled<A: Abort>(rt: &A, bytes: &[u8], room: &mut [u8]) {
+    let most = bytes.len().min(room.len());
+    let mut reader = Counting::new(bytes);
+    assert_eq!(rt; reader.read(&mut []), Ok(0));
+    assert_eq!(rt; reader.read(room), Ok(most));
+    assert_eq!(rt; reader.read(&mut []), Ok(0));
+    assert_eq!(rt; reader.count(), 0);
+}
+
 #[test]
 fn reads_long_and_empty_buffers(rt: HostRuntime) -> Result<(), Fail> {
     let bytes = vec![in rt.alloc(); 7u8; 70_000]?;
     let mut room = vec![in rt.alloc(); 0u8; 100_000]?;
-    let mut reader = Counting::new(bytes.as_slice());
-    assert_eq!(rt; reader.read(&mut []), Ok(0));
-    assert_eq!(rt; reader.read(&mut room), Ok(70_000));
-    assert_eq!(rt; reader.read(&mut []), Ok(0));
-    assert_eq!(rt; reader.read(&mut room), Ok(0));
-    assert_eq!(rt; reader.count(), 0);
-    assert_eq!(rt; &room[..70_000], bytes.as_slice());
+    assert_filled(&rt, &bytes, &mut room);
+    assert_eq!(rt; room.get(69_999), Some(&7));
+    assert_eq!(rt; room.get(70_000), Some(&0));
     Ok(())
+}
+
+/// Asserts that a slice is written whole, and that empty ones ask for nothing.
+fn assert_written<A: Abort>(rt: &A, alloc: Global, bytes: &[u8]) {
+    let mut writer = Counting::new(Vec::new(alloc));
+    assert_eq!(rt; writer.write(&[]), Ok(0));
+    assert_eq!(rt; writer.write(bytes), Ok(bytes.len()));
+    assert_eq!(rt; writer.write(&[]), Ok(0));
+    assert_eq!(rt; writer.count(), 0);
+    assert_eq!(rt; writer.into_inner().as_slice(), bytes);
 }
 
 #[test]
 fn writes_long_and_empty_slices(rt: HostRuntime) -> Result<(), Fail> {
     let bytes = vec![in rt.alloc(); 7u8; 100_000]?;
-    let mut writer = Counting::new(Vec::with_capacity(rt.alloc(), 100_000)?);
-    assert_eq!(rt; writer.write(&[]), Ok(0));
-    assert_eq!(rt; writer.write(&bytes), Ok(100_000));
-    assert_eq!(rt; writer.write(&[]), Ok(0));
-    assert_eq!(rt; writer.count(), 0);
-    let written = writer.into_inner();
-    assert_eq!(rt; written.as_slice(), bytes.as_slice());
+    assert_written(&rt, rt.alloc(), &bytes);
     Ok(())
 }
 
@@ -325,14 +337,19 @@ fn gives_up_on_an_endless_reader(rt: HostRuntime) {
     assert_eq!(rt; all.err(), Some(FileFault::TooLong));
 }
 
+/// Asserts that bytes are more than may be read.
+fn assert_too_long<A: Abort>(rt: &A, alloc: Global, bytes: &[u8], most: u16) {
+    let all = read_all(alloc, &mut InMemory::new(bytes), usize::from(most));
+    assert_eq!(rt; all.err(), Some(FileFault::TooLong));
+}
+
 #[test]
 fn reads_a_file_just_as_long_as_it_may_be(rt: HostRuntime) -> Result<(), Fail> {
     let bytes = vec![in rt.alloc(); b'a'; 5000]?;
     let all = read_all(rt.alloc(), &mut InMemory::new(&bytes), 5000)?;
     assert_eq!(rt; all.len(), 5000);
-    for most in [0, 1, 4095, 4096, 4999usize] {
-        let all = read_all(rt.alloc(), &mut InMemory::new(&bytes), most);
-        assert_eq!(rt; all.err(), Some(FileFault::TooLong), "{most}");
+    for most in [0, 1, 4095, 4096, 4999] {
+        assert_too_long(&rt, rt.alloc(), &bytes, most);
     }
     Ok(())
 }
