@@ -1,5 +1,5 @@
 -- The headline: what a receiver of a link promises of a stream of symbols, and of the packets and the report that it writes of it.
-use Rattle.std.specs.Prelude.{◌≡◌, ℕ, ◌+◌, ◌≤◌, ◌⊎◌, Bool, false, List, [], ◌++◌, All, length, take, drop, IfSome}
+use Rattle.std.specs.Prelude.{◌≡◌, ℕ, ◌+◌, ◌≤◌, ◌⊎◌, Bool, false, List, [], ◌++◌, All, length, take, drop, IfSome, Result, OnOk}
 use Rattle.std.specs.List.{flat_map}
 use Rattle.std.specs.Io.KnownBytes.{Appends}
 use Rattle.s2_mode.specs.Mode.{Mode, k_of, t_of, symbols_in}
@@ -23,7 +23,7 @@ use Rattle.s2_receive.specs.Laws.{Piece, joined, stream_symbols}
 use Rattle.s2_receive.specs.declared.report.Report.{Report}
 use Rattle.s2_receive.specs.declared.report.Totals.{Totals}
 use Rattle.s2_modem.specs.Reports.{frame_soft, frame_decision, received_word}
-use Rattle.s2_modem.specs.Reception.{IsAsLikely, AllAsLikely, IsCorrected, AllTold, link_rules}
+use Rattle.s2_modem.specs.Reception.{Receiver, IsAsLikely, AllAsLikely, IsCorrected, AllTold, link_rules}
 use Rattle.s2_modem.specs.Both.{AreBytes}
 use Rattle.s2_modem.specs.Streams.{IsWholeFrame, IsClear, AreEach}
 use Rattle.s2_modem.specs.Steps.{AllHeard}
@@ -89,6 +89,10 @@ pub record Headline (link : Link) (tuning : Tuning) (symbols : List Symbol) (pac
 abbrev pub IsHeadline : Link → Tuning → (before behind : Streams) → Type 0
 IsHeadline link tuning before behind =
     IfSome before.taken (λ bytes. (packets : List ℕ) × (report : List ℕ) × Appends before.given behind.given packets × Appends before.out behind.out report × Headline link tuning (symbols_of bytes) packets report)
+
+-- of a run, which ended, from a new receiver
+abbrev pub RunsHeadline : {T E : Type 0} → Receiver → (before behind : Streams) → Result T E → Type 0
+RunsHeadline r before behind result = OnOk result (r.state ≡ begun → IsHeadline r.link r.tuning before behind)
 
 -- it holds of whoever goes by the link's rules from the beginning to the end
 abbrev pub KeepsHeadline : Link → Tuning → Type 0

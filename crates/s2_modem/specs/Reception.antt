@@ -10,7 +10,8 @@ use Rattle.s2_check.specs.Strict.{IsSole}
 use Rattle.s2_check.specs.Verdicts.{is_certified}
 use Rattle.s2_check.specs.declared.verdict.Verdict.{Verdict}
 use Rattle.s2_check.specs.declared.verdict.Verdict.TheVariants.{Sole}
-use Rattle.s2_receive.specs.Receiving.{Rules, State, Decision, begun, RunsOut, BreaksAfter}
+use Rattle.s2_receive.specs.Receiving.{Rules, State, Decision, begun, BreaksAfter}
+use Rattle.s2_receive.specs.Answers.{ReceivesTo}
 use Rattle.s2_receive.specs.declared.report.Totals.{Totals}
 use Rattle.s2_mode.specs.Limits.{most_symbols}
 use Rattle.s2_link.specs.declared.setup.Setup.{Setup}
@@ -99,11 +100,8 @@ Makes setup rows tuning (Err fault) = Refuses setup rows tuning fault
 -- ---- whole streams in memory
 
 -- all of the symbols of bytes in memory were received to the end, and the totals are theirs
-pub record Receives (rules : Rules) (before behind : Streams) (totals : Totals) : Type 0 where
-  pub state : State
-  pub left : Option (List ℕ)
-  pub runs_out : RunsOut rules begun state before (record behind { taken = left })
-  pub totals_are : totals ≡ state.standing.totals
+abbrev pub Receives : Rules → (before behind : Streams) → Totals → Type 0
+Receives rules before behind totals = (state : State) × ReceivesTo rules state before behind totals
 
 -- the answer for bytes on a link: all that they spell, or the beginning of it up to a write that failed, or nothing since there
 -- is no memory

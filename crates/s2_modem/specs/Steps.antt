@@ -1,29 +1,43 @@
--- What a step answers where the search stands at a frame that was sent.
-use Rattle.std.specs.Prelude.{◌≡◌, ℕ, ◌≤◌, nat_lt, Bool, List, ◌++◌, Option, Result, Ok, Err, ⊤}
+-- What a step answers: what comes next, and where the search stands at a frame that was sent, that one.
+use Rattle.std.specs.Prelude.{◌≡◌, ℕ, ◌≤◌, nat_lt, Bool, List, ◌++◌, Option, Result}
 use Rattle.s2_mode.specs.Mode.{k_of, t_of}
+use Rattle.s2_mode.specs.Streams.{Streams}
+use Rattle.s2_mode.specs.declared.stream_fault.StreamFault.{StreamFault}
 use Rattle.s2_mode.specs.declared.symbols.Symbol.{Symbol}
 use Rattle.s2_bits.specs.Bits.{differences}
 use Rattle.s2_bbframe.specs.DataStream.{header_at}
 use Rattle.s2_link.specs.Link.{Link}
 use Rattle.s2_link.specs.Tuning.{Tuning}
 use Rattle.s2_receive.specs.Laws.{Spells}
-use Rattle.s2_receive.specs.Receiving.{Decision}
+use Rattle.s2_receive.specs.Receiving.{Decision, IsLive, MetFrame, StepAnswers}
+use Rattle.s2_receive.specs.Answers.{OnFrame, RunAnswers}
+use Rattle.s2_receive.specs.declared.report.Fault.{Fault}
 use Rattle.s2_receive.specs.declared.report.Phase.TheVariants as phases
+use Rattle.s2_receive.specs.declared.report.Received.{Received}
 use Rattle.s2_receive.specs.declared.report.Report.{Report}
 use Rattle.s2_receive.specs.declared.report.Step.{Step}
 use Rattle.s2_receive.specs.declared.report.Step.TheVariants as steps
 use Rattle.s2_modem.specs.Reports.{received_word, message_of, frame_decision}
-use Rattle.s2_modem.specs.Reception.{Receiver}
+use Rattle.s2_modem.specs.Reception.{Receiver, rules_for}
 use Rattle.s2_modem.specs.Both.{IsDelivered, IsDeliveredCertified}
 use Rattle.s2_modem.specs.Headline.{IsSent, AllCorrected}
 use Rattle.s2_modem.specs.Streams.{IsWholeFrame, IsClear}
 
--- of the answer, where it is a frame
-abbrev pub OnFrame : {E : Type 0} → Result Step E → (Report → Type 0) → Type 0
-OnFrame (Ok (steps.Frame report)) holds = holds report
-OnFrame (Ok (steps.Cut at count)) holds = ⊤
-OnFrame (Ok steps.End) holds = ⊤
-OnFrame (Err fault) holds = ⊤
+-- ---- the next thing met, or all that is left
+
+-- a step, where more can be met
+abbrev pub Steps : (old new : Receiver) → (before behind : Streams) → Result Step Fault → Type 0
+Steps old new before behind result = IsLive old.state.phase → StepAnswers (rules_for old) old.state new.state before behind result
+
+-- and a frame's
+abbrev pub StepsFrame : (old new : Receiver) → (before behind : Streams) → Result Step Fault → Type 0
+StepsFrame old new before behind result = OnFrame result (λ report. MetFrame (rules_for old) old.state new.state before behind report new.last)
+
+-- a run of all that is left
+abbrev pub Runs : (old new : Receiver) → (before behind : Streams) → Result Received StreamFault → Type 0
+Runs old new before behind result = RunAnswers (rules_for old) old.state new.state before behind result
+
+-- ---- a frame that was sent
 
 -- the search stands at the first of these symbols of known bytes
 pub record StandsAt (r : Receiver) (bytes : Option (List ℕ)) (symbols : List Symbol) : Type 0 where

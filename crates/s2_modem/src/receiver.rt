@@ -1,25 +1,22 @@
 //! The receiver of one link.
-ghost use Rattle.std.specs.Prelude.{◌≡◌, ◌≢◌, ◌↔◌, ◌≤◌, Ok, Err, IfOk, IsErrOf, List};
+ghost use Rattle.std.specs.Prelude.{◌≡◌, ◌≢◌, ◌↔◌, ◌≤◌, Ok, Err, IfOk, IsErrOf};
 ghost use Rattle.s2_mode.specs.Counts.{CanCount};
 ghost use Rattle.s2_mode.specs.Limits.{most_symbols};
 ghost use Rattle.s2_mode.specs.Mode.{symbols_in};
-ghost use Rattle.s2_mode.specs.Streams.{streams_by, OnlyFailed, NoneFailed, OneFailed};
-ghost use Rattle.s2_mode.specs.declared.stream_fault.StreamFault.TheVariants as stream_faults;
-ghost use Rattle.s2_mode.specs.declared.symbols.Symbol.{Symbol as SymbolValue};
+ghost use Rattle.s2_mode.specs.Streams.{streams_by, NoneFailed, OneFailed};
 ghost use Rattle.s2_matrix.specs.Code.{code_of};
 ghost use Rattle.s2_receive.specs.declared.finding.Next.{Next as NextValue};
-ghost use Rattle.s2_receive.specs.declared.report.Report.{Report as ReportValue};
 ghost use Rattle.s2_receive.specs.declared.report.Phase.TheVariants as phases;
 ghost use Rattle.s2_receive.specs.declared.report.Step.TheVariants as steps;
 ghost use Rattle.s2_receive.specs.declared.report.Fault.TheVariants as faults;
-ghost use Rattle.s2_receive.specs.Finding.{met_of, place_after};
-ghost use Rattle.s2_receive.specs.Receiving.{IsLive, IsDecided, Finds, Stops, Tells, StepAnswers, MetFrame, RunsTo, StandsBehind, StopsAfter, BreaksAfter, MayStop, begun, rules_of};
+ghost use Rattle.s2_receive.specs.Receiving.{IsLive, Finds, Stops, StandsBehind, begun, rules_of};
+ghost use Rattle.s2_receive.specs.Answers.{OnFrame, Delivers, OnlyFaults, OnlyStreamFaults};
 ghost use Rattle.s2_link.specs.Tuning.{tuning_of};
 ghost use Rattle.s2_modem.specs.Reports.{IsUndecided};
 ghost use Rattle.s2_modem.specs.Listening.{decides};
 ghost use Rattle.s2_modem.specs.Reception.{AllAsLikely, IsAsLikely, IsCertifiedBy, IsCorrected, link_rules, rules_for, IsNew, Makes};
-ghost use Rattle.s2_modem.specs.Steps.{OnFrame, Heard, Corrects};
-ghost use Rattle.s2_modem.specs.Promise.{IsHeadline, Promises};
+ghost use Rattle.s2_modem.specs.Steps.{Steps, StepsFrame, Runs, Heard, Corrects};
+ghost use Rattle.s2_modem.specs.Promise.{RunsHeadline, Promises};
 
 use crate::decider::Decider;
 use s2_bits::Bits;
@@ -168,8 +165,7 @@ impl<'a> Receiver<'a> {
         ensures within { OnFrame result (λ r. IsCorrected self.old.link.setup.mode self.new.last r.outcome) }
         ensures heard { IfOk result (Heard self.old self.new.last (R.remaining reader.old)) }
         ensures both_codes { IfOk result (Corrects self.old self.new.last (R.remaining reader.old)) }
-        ensures stops { IsErrOf result faults.Read → (self.new.state ≡ record self.old.state { phase = phases.Failed })
-            × Stops (rules_for self.old) self.old.state
+        ensures stops { IsErrOf result faults.Read → Stops (rules_for self.old) self.old.state self.new.state
             (R.remaining reader.old) (R.remaining reader.new) (R.count reader.old) (R.count reader.new) }
         ensures bounded { self.new.state.at ≤ self.old.limit }
         ensures no_read { result ≢ Err faults.Read → R.count reader.new ≡ R.count reader.old }
@@ -196,10 +192,7 @@ impl<'a> Receiver<'a> {
         requires packets { CanCount (P.count packets.old) }
         requires report { CanCount (W.count report.old) }
         ensures last { self.new.last ≡ self.old.last }
-        ensures tells { (next : NextValue) (symbols : List SymbolValue) → self.old.state.phase ≡ phases.Met next
-            → IsDecided (rules_for self.old) (met_of next symbols) self.old.last
-            → Tells (rules_for self.old) self.old.state self.new.state
-            (met_of next symbols) (place_after (symbols_in self.old.link.setup.mode) next)
+        ensures tells { Delivers (rules_for self.old) self.old.state self.new.state self.old.last
             (P.contents packets.old) (P.contents packets.new) (W.contents report.old) (W.contents report.new) result }
         ensures bounded { self.new.state.at ≤ self.old.limit }
         ensures write { IsErrOf result faults.Write
@@ -230,11 +223,9 @@ impl<'a> Receiver<'a> {
         requires packets { CanCount (P.count packets.old) }
         requires report { CanCount (W.count report.old) }
         ensures live { let ends = streams_by R.remaining R.count P.contents P.count W.contents W.count in
-            IsLive self.old.state.phase → StepAnswers (rules_for self.old) self.old.state self.new.state
-            (ends reader.old packets.old report.old) (ends reader.new packets.new report.new) result }
+            Steps self.old self.new (ends reader.old packets.old report.old) (ends reader.new packets.new report.new) result }
         ensures frame { let ends = streams_by R.remaining R.count P.contents P.count W.contents W.count in
-            (r : ReportValue) → result ≡ Ok (steps.Frame r) → MetFrame (rules_for self.old) self.old.state self.new.state
-            (ends reader.old packets.old report.old) (ends reader.new packets.new report.new) r self.new.last }
+            StepsFrame self.old self.new (ends reader.old packets.old report.old) (ends reader.new packets.new report.new) result }
         ensures as_likely { OnFrame result (λ r. IsAsLikely (code_of self.old.link.rows) self.new.last.soft r.verdict self.new.last.bits) }
         ensures certified { OnFrame result (λ r. IsCertifiedBy self.old.link.rows r.verdict self.new.last) }
         ensures within { OnFrame result (λ r. IsCorrected self.old.link.setup.mode self.new.last r.outcome) }
@@ -243,13 +234,12 @@ impl<'a> Receiver<'a> {
         ensures taken { StandsBehind (symbols_in self.old.link.setup.mode) self.new.state.at result }
         ensures bounded { self.new.state.at ≤ self.old.limit }
         ensures ended { self.old.state.phase ≡ phases.Ended → result ≡ Ok steps.End }
-        ensures failed { self.old.state.phase ≡ phases.Failed → result ≡ Err faults.Failed }
+        ensures failed { IsErrOf result faults.Failed ↔ ((IsLive self.old.state.phase → ⊥) × (self.old.state.phase ≢ phases.Ended)) }
         ensures nothing { (IsLive self.old.state.phase → ⊥)
             → (self.new ≡ self.old) × (reader.new ≡ reader.old) × (packets.new ≡ packets.old) × (report.new ≡ report.old) }
         ensures unwritten { IsErrOf result faults.Read → (packets.new ≡ packets.old) × (report.new ≡ report.old) }
         ensures counts { let ends = streams_by R.remaining R.count P.contents P.count W.contents W.count in
-            OnlyFailed (result ≡ Err faults.Read) (result ≡ Err faults.Write)
-            (ends reader.old packets.old report.old) (ends reader.new packets.new report.new) }
+            OnlyFaults result (ends reader.old packets.old report.old) (ends reader.new packets.new report.new) }
         ensures same { (self.new.link ≡ self.old.link) × (self.new.tuning ≡ self.old.tuning) × (self.new.limit ≡ self.old.limit) }
     {
         self.inner.next(reader, packets, report)
@@ -272,28 +262,14 @@ impl<'a> Receiver<'a> {
         requires packets { CanCount (P.count packets.old) }
         requires report { CanCount (W.count report.old) }
         requires live { IsLive self.old.state.phase }
-        ensures all { let ends = streams_by R.remaining R.count P.contents P.count W.contents W.count in
-            IfOk result (λ received. RunsTo (rules_for self.old) self.old.state self.new.state
-            (ends reader.old packets.old report.old) (ends reader.new packets.new report.new) received.well) }
-        ensures totals { IfOk result (λ received. received.totals ≡ self.new.state.standing.totals) }
-        ensures symbols { IfOk result (λ received. received.symbols ≡ self.new.state.at) }
+        ensures runs { let ends = streams_by R.remaining R.count P.contents P.count W.contents W.count in
+            Runs self.old self.new (ends reader.old packets.old report.old) (ends reader.new packets.new report.new) result }
         ensures bounded { self.new.state.at ≤ self.old.limit }
         ensures headline { let ends = streams_by R.remaining R.count P.contents P.count W.contents W.count in
-            IfOk result (λ _. self.old.state ≡ begun → IsHeadline self.old.link self.old.tuning
-            (ends reader.old packets.old report.old) (ends reader.new packets.new report.new)) }
+            RunsHeadline self.old (ends reader.old packets.old report.old) (ends reader.new packets.new report.new) result }
         ensures as_likely { AllAsLikely self.old.link self.old.tuning }
-        ensures stops { let ends = streams_by R.remaining R.count P.contents P.count W.contents W.count in
-            IsErrOf result stream_faults.Read → StopsAfter (rules_for self.old) self.old.state
-            (ends reader.old packets.old report.old) (ends reader.new packets.new report.new) }
-        ensures breaks { let ends = streams_by R.remaining R.count P.contents P.count W.contents W.count in
-            IsErrOf result stream_faults.Write → BreaksAfter (rules_for self.old) self.old.state
-            (ends reader.old packets.old report.old) (ends reader.new packets.new report.new) }
-        ensures read { let ends = streams_by R.remaining R.count P.contents P.count W.contents W.count in
-            IsErrOf result stream_faults.Read → MayStop self.old.limit self.old.state.at
-            (ends reader.old packets.old report.old) (ends reader.new packets.new report.new) }
         ensures counts { let ends = streams_by R.remaining R.count P.contents P.count W.contents W.count in
-            OnlyFailed (result ≡ Err stream_faults.Read) (result ≡ Err stream_faults.Write)
-            (ends reader.old packets.old report.old) (ends reader.new packets.new report.new) }
+            OnlyStreamFaults result (ends reader.old packets.old report.old) (ends reader.new packets.new report.new) }
         ensures same { (self.new.link ≡ self.old.link) × (self.new.tuning ≡ self.old.tuning) × (self.new.limit ≡ self.old.limit) }
     {
         receive_all(&mut self.inner, reader, packets, report)

@@ -1,7 +1,8 @@
 //! A whole stream of symbols in memory.
-ghost use Rattle.std.specs.Prelude.{◌≡◌, ◌^◌, ◌<◌, Some, Err, IfOk, length};
+ghost use Rattle.std.specs.Prelude.{◌≡◌, ◌^◌, ◌<◌, Err, OnOk, length};
 ghost use Rattle.s2_mode.specs.Counts.{CanCount};
-ghost use Rattle.s2_mode.specs.Streams.{streams_by, OnlyFailed};
+ghost use Rattle.s2_mode.specs.Streams.{OnlyFailed};
+ghost use Rattle.s2_receive.specs.Answers.{bytes_by};
 ghost use Rattle.s2_link.specs.Link.{link_of};
 ghost use Rattle.s2_link.specs.Tuning.{tuning_of};
 ghost use Rattle.s2_modem.specs.Reception.{AreAsLikely, Demodulates, DemodulatesOn};
@@ -38,14 +39,13 @@ fn demodulate_link<P: CountedWrite, W: CountedWrite>(
     requires packets { CanCount (P.count packets.old) }
     requires report { CanCount (W.count report.old) }
     requires few { length bytes.now < 2 ^ 42 }
-    ensures demodulates { let ends = streams_by (λ b. Some b) (λ b. 0) P.contents P.count W.contents W.count in
+    ensures demodulates { let ends = bytes_by P.contents P.count W.contents W.count in
         DemodulatesOn link.now tuning
         (ends bytes.now packets.old report.old) (ends bytes.now packets.new report.new) result }
     ensures as_likely { AreAsLikely link.now tuning result }
-    ensures headline { let ends = streams_by (λ b. Some b) (λ b. 0) P.contents P.count W.contents W.count in
-        IfOk result (λ _. IsHeadline link.now tuning
-        (ends bytes.now packets.old report.old) (ends bytes.now packets.new report.new)) }
-    ensures counts { let ends = streams_by (λ b. Some b) (λ b. 0) P.contents P.count W.contents W.count in
+    ensures headline { let ends = bytes_by P.contents P.count W.contents W.count in
+        OnOk result (IsHeadline link.now tuning (ends bytes.now packets.old report.old) (ends bytes.now packets.new report.new)) }
+    ensures counts { let ends = bytes_by P.contents P.count W.contents W.count in
         OnlyFailed ⊥ (result ≡ Err DemodFault.Write)
         (ends bytes.now packets.old report.old) (ends bytes.now packets.new report.new) }
 {
@@ -76,14 +76,14 @@ pub fn demodulate<P: CountedWrite, W: CountedWrite>(
     requires packets { CanCount (P.count packets.old) }
     requires report { CanCount (W.count report.old) }
     requires few { length bytes.now < 2 ^ 42 }
-    ensures demodulates { let ends = streams_by (λ b. Some b) (λ b. 0) P.contents P.count W.contents W.count in
+    ensures demodulates { let ends = bytes_by P.contents P.count W.contents W.count in
         Demodulates setup matrix.now (tuning_of rounds passes)
         (ends bytes.now packets.old report.old) (ends bytes.now packets.new report.new) result }
     ensures as_likely { AreAsLikely (link_of setup matrix.now) (tuning_of rounds passes) result }
-    ensures headline { let ends = streams_by (λ b. Some b) (λ b. 0) P.contents P.count W.contents W.count in
-        IfOk result (λ _. IsHeadline (link_of setup matrix.now) (tuning_of rounds passes)
+    ensures headline { let ends = bytes_by P.contents P.count W.contents W.count in
+        OnOk result (IsHeadline (link_of setup matrix.now) (tuning_of rounds passes)
         (ends bytes.now packets.old report.old) (ends bytes.now packets.new report.new)) }
-    ensures counts { let ends = streams_by (λ b. Some b) (λ b. 0) P.contents P.count W.contents W.count in
+    ensures counts { let ends = bytes_by P.contents P.count W.contents W.count in
         OnlyFailed ⊥ (result ≡ Err DemodFault.Write)
         (ends bytes.now packets.old report.old) (ends bytes.now packets.new report.new) }
 {

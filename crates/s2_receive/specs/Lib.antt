@@ -2,6 +2,7 @@ pub mod Meeting
 pub mod Finding
 pub mod Faults
 pub mod Receiving
+pub mod Answers
 pub mod Parts
 pub mod Stepping
 pub mod Laws

@@ -1,7 +1,7 @@
 -- What a receiver does with what it meets.
 use Rattle.std.specs.Prelude.{◌≡◌, ◌≢◌, ℕ, ℤ, ◌+◌, ◌/◌, Bool, true, false, ◌&&◌, nat_eq, nat_lt, if◌then◌else◌, List, [], ◌∷◌, ◌++◌, length, Option, Some, None, Result, Ok, Err, ⊤}
 use Rattle.std.specs.List.{flat_map}
-use Rattle.std.specs.Io.KnownBytes.{Appends, Consumes}
+use Rattle.std.specs.Io.KnownBytes.{Appends}
 use Rattle.s2_mode.specs.declared.symbols.Symbol.{Symbol}
 use Rattle.s2_plframe.specs.declared.receive.found.Found.{Found}
 use Rattle.s2_bbframe.specs.declared.header.Header.{Header}
@@ -11,7 +11,7 @@ use Rattle.s2_mode.specs.Streams.{Streams}
 use Rattle.s2_bbframe.specs.Joining.{Event, field, gap, Joined, step, begun_body, torn_in}
 use Rattle.s2_receive.specs.declared.stretch.Stretch.{Stretch}
 use Rattle.s2_receive.specs.Meeting.{Met, frame, cut, ended, nothing_over, is_over, met_in}
-use Rattle.s2_receive.specs.Finding.{YieldsSymbols, Meets, Reaches, EndsBehind, met_of, met_after, place_after}
+use Rattle.s2_receive.specs.Finding.{YieldsSymbols, Meets, Reaches, StopsShort, met_of, met_after, place_after}
 use Rattle.s2_receive.specs.Windows.{found_as}
 use Rattle.s2_receive.specs.ReportLines.{frame_line, cut_line, end_line}
 use Rattle.s2_receive.specs.Stepping.{FailsIn}
@@ -240,14 +240,12 @@ pub record Finds (rules : Rules) (old new : State) (reader_old reader_new : Opti
   pub taken : Reaches (place_after rules.size next) old.at reader_old reader_new
   pub decided : IsDecided rules (met_of next symbols) last
 
--- Nothing could be met, since a read failed, or else since as many symbols were taken as may be: the receiver was searching, and the next
--- frame, where known bytes spell one, ends behind what was read.
-pub record Stops (rules : Rules) (old : State) (reader_old reader_new : Option (List ℕ)) (reads_old reads_new : ℕ) : Type 0 where
+-- Nothing could be met, since a read failed, or else since as many symbols were taken as may be: the receiver was searching, and counts as
+-- failed.
+pub record Stops (rules : Rules) (old new : State) (reader_old reader_new : Option (List ℕ)) (reads_old reads_new : ℕ) : Type 0 where
   pub searching : old.phase ≡ phases.Searching
-  pub bytes : List ℕ
-  pub read : Consumes reader_old reader_new bytes
-  pub short : EndsBehind rules.size (old.at + length bytes / 4) (met_left rules old.phase old.at reader_old)
-  pub cause : reads_new ≢ reads_old + 1 → (reads_new ≡ reads_old) × Reaches rules.limit old.at reader_old reader_new
+  pub failed : new ≡ record old { phase = phases.Failed }
+  pub short : StopsShort rules.size old.at rules.limit (met_left rules old.phase old.at reader_old) reader_old reader_new reads_old reads_new
 
 -- where a receiver stands when this was told, up to a place of the stream
 abbrev pub state_after : Rules → State → Met → ℕ → State
@@ -303,7 +301,7 @@ pub record BreaksOff (rules : Rules) (old : State) (before behind : Streams) : T
 abbrev pub StepAnswers : Rules → State → State → (before behind : Streams) → Result Step Fault → Type 0
 StepAnswers rules old new before behind (Ok step) =
     (met : Met) × (step ≡ step_of rules old.standing met) × (new.phase ≡ phase_after met) × Went rules old new before behind (met ∷ [])
-StepAnswers rules old new before behind (Err faults.Read) = (new.phase ≡ phases.Failed) × Stops rules old before.taken behind.taken before.reads behind.reads
+StepAnswers rules old new before behind (Err faults.Read) = Stops rules old new before.taken behind.taken before.reads behind.reads
 StepAnswers rules old new before behind (Err faults.Write) = (new.phase ≡ phases.Failed) × BreaksOff rules old before behind
 StepAnswers rules old new before behind (Err faults.Failed) = ⊥
 
@@ -324,14 +322,19 @@ pub record RunsTo (rules : Rules) (old new : State) (before behind : Streams) (w
   pub runs_out : RunsOut rules old new before behind
   pub is_well : well ≡ all_well rules old.standing runs_out.1.0
 
+-- A read failed, or else as many symbols were taken from a place on as may be.
+abbrev pub MayStop : ℕ → ℕ → (before behind : Streams) → Type 0
+MayStop limit at before behind = behind.reads ≢ before.reads + 1 → (behind.reads ≡ before.reads) × Reaches limit at before.taken behind.taken
+
 -- A run from one state on to where a read failed or no more symbols are taken: what was met before is written, and nothing else,
 -- and no frame more ends in what was read.
-pub record StopsAfter (rules : Rules) (old : State) (before behind : Streams) : Type 0 where
+pub record StopsAfter (rules : Rules) (old new : State) (before behind : Streams) : Type 0 where
   pub met : List Met
   pub mid : State
   pub between : Streams
   pub went : Went rules old mid before between met
-  pub stops : Stops rules mid between.taken behind.taken between.reads behind.reads
+  pub stops : Stops rules mid new between.taken behind.taken between.reads behind.reads
+  pub cause : MayStop rules.limit old.at before behind
   pub no_read : between.reads ≡ before.reads
   pub packets : behind.given ≡ between.given
   pub lines : behind.out ≡ between.out
@@ -343,7 +346,3 @@ pub record BreaksAfter (rules : Rules) (old : State) (before behind : Streams) :
   pub between : Streams
   pub went : Went rules old mid before between met
   pub breaks : BreaksOff rules mid between behind
-
--- A read failed, or else as many symbols were taken from a place on as may be.
-abbrev pub MayStop : ℕ → ℕ → (before behind : Streams) → Type 0
-MayStop limit at before behind = behind.reads ≢ before.reads + 1 → (behind.reads ≡ before.reads) × Reaches limit at before.taken behind.taken

@@ -1,8 +1,9 @@
 //! A receiver's way to the end of its stream.
-ghost use Rattle.std.specs.Prelude.{◌≡◌, ◌+◌, ◌-◌, ◌*◌, ◌^◌, ◌<◌, ◌≤◌, ℕ, List, Option, Some, Ok, Err, IfOk, OnOk, OnErr, IsErrOf, length};
+ghost use Rattle.std.specs.Prelude.{◌≡◌, ◌*◌, ◌<◌, ◌≤◌, OnOk, OnErr, length};
 ghost use Rattle.s2_mode.specs.Counts.{CanCount};
-ghost use Rattle.s2_mode.specs.Streams.{streams_by, OnlyFailed, NoneFailed, OneFailed};
-ghost use Rattle.s2_receive.specs.Receiving.{IsLive, RunsOut, RunsTo, StopsAfter, BreaksAfter, MayStop, begun, is_well, rules_of};
+ghost use Rattle.s2_mode.specs.Streams.{streams_by, NoneFailed, OneFailed};
+ghost use Rattle.s2_receive.specs.Receiving.{IsLive, begun, is_well, rules_of};
+ghost use Rattle.s2_receive.specs.Answers.{Runs, OnlyStreamFaults, BytesAnswers, bytes_by};
 
 use crate::parts::Decide;
 use crate::receiver::Receiver;
@@ -36,18 +37,10 @@ pub fn receive_all<D: Decide, R: CountedRead, P: CountedWrite, W: CountedWrite>(
     requires packets { CanCount (P.count packets.old) }
     requires report { CanCount (W.count report.old) }
     requires live { IsLive receiver.old.state.phase }
-    ensures all { let ends = streams_by R.remaining R.count P.contents P.count W.contents W.count in
-        IfOk result (λ received. RunsTo (rules_of D.decide receiver.old) receiver.old.state receiver.new.state (ends reader.old packets.old report.old) (ends reader.new packets.new report.new) received.well) }
-    ensures totals { IfOk result (λ received. received.totals ≡ receiver.new.state.standing.totals) }
-    ensures symbols { IfOk result (λ received. received.symbols ≡ receiver.new.state.at) }
-    ensures stops { let ends = streams_by R.remaining R.count P.contents P.count W.contents W.count in
-        IsErrOf result StreamFault.Read → StopsAfter (rules_of D.decide receiver.old) receiver.old.state (ends reader.old packets.old report.old) (ends reader.new packets.new report.new) }
-    ensures breaks { let ends = streams_by R.remaining R.count P.contents P.count W.contents W.count in
-        IsErrOf result StreamFault.Write → BreaksAfter (rules_of D.decide receiver.old) receiver.old.state (ends reader.old packets.old report.old) (ends reader.new packets.new report.new) }
-    ensures read { let ends = streams_by R.remaining R.count P.contents P.count W.contents W.count in
-        IsErrOf result StreamFault.Read → MayStop receiver.old.limit receiver.old.state.at (ends reader.old packets.old report.old) (ends reader.new packets.new report.new) }
+    ensures runs { let ends = streams_by R.remaining R.count P.contents P.count W.contents W.count in
+        Runs D.decide receiver.old receiver.new (ends reader.old packets.old report.old) (ends reader.new packets.new report.new) result }
     ensures counts { let ends = streams_by R.remaining R.count P.contents P.count W.contents W.count in
-        OnlyFailed (result ≡ Err StreamFault.Read) (result ≡ Err StreamFault.Write) (ends reader.old packets.old report.old) (ends reader.new packets.new report.new) }
+        OnlyStreamFaults result (ends reader.old packets.old report.old) (ends reader.new packets.new report.new) }
     ensures bounded { receiver.new.state.at ≤ receiver.old.limit }
     ensures rules { rules_of D.decide receiver.new ≡ rules_of D.decide receiver.old }
     ensures same { (receiver.new.mode ≡ receiver.old.mode) × (receiver.new.lock ≡ receiver.old.lock) × (receiver.new.limit ≡ receiver.old.limit) }
@@ -84,12 +77,9 @@ pub fn receive_bytes<D: Decide, P: CountedWrite, W: CountedWrite>(
     requires report { CanCount (W.count report.old) }
     requires begun { receiver.old.state ≡ begun }
     requires limit { length bytes.now < 4 * receiver.old.limit }
-    ensures all { let ends = streams_by (λ b. Some b) (λ b. 0) P.contents P.count W.contents W.count in
-        OnOk result ((left : Option (List ℕ)) × RunsOut (rules_of D.decide receiver.old) begun receiver.new.state
-        (ends bytes.now packets.old report.old) (record (ends bytes.now packets.new report.new) { taken = left })) }
-    ensures totals { IfOk result (λ totals. totals ≡ receiver.new.state.standing.totals) }
-    ensures breaks { let ends = streams_by (λ b. Some b) (λ b. 0) P.contents P.count W.contents W.count in
-        OnErr result (BreaksAfter (rules_of D.decide receiver.old) begun (ends bytes.now packets.old report.old) (ends bytes.now packets.new report.new)) }
+    ensures receives { let ends = bytes_by P.contents P.count W.contents W.count in
+        BytesAnswers (rules_of D.decide receiver.old) receiver.new.state
+        (ends bytes.now packets.old report.old) (ends bytes.now packets.new report.new) result }
     ensures write { OnErr result (OneFailed (P.count packets.old) (P.count packets.new) (W.count report.old) (W.count report.new)) }
     ensures no_write { OnOk result (NoneFailed (P.count packets.old) (P.count packets.new) (W.count report.old) (W.count report.new)) }
 {

@@ -1,18 +1,16 @@
 //! The receiver between two steps.
-ghost use Rattle.std.specs.Prelude.{◌≡◌, ◌≢◌, ◌↔◌, ◌+◌, ◌^◌, ◌<◌, ◌≤◌, ℕ, List, Option, Ok, Err, IfOk, OnErr, IsErrOf};
+ghost use Rattle.std.specs.Prelude.{◌≡◌, ◌≢◌, ◌↔◌, ◌≤◌, Ok, Err, IfOk, OnErr, IsErrOf};
 ghost use Rattle.s2_mode.specs.Counts.{CanCount};
 ghost use Rattle.s2_mode.specs.Limits.{most_symbols};
 ghost use Rattle.s2_mode.specs.Mode.{symbols_in};
-ghost use Rattle.s2_mode.specs.Streams.{streams_by, OnlyFailed, NoneFailed, OneFailed};
-ghost use Rattle.s2_mode.specs.declared.symbols.Symbol.{Symbol as SymbolValue};
+ghost use Rattle.s2_mode.specs.Streams.{streams_by, NoneFailed, OneFailed};
 ghost use Rattle.s2_receive.specs.declared.finding.Next.{Next as NextValue};
 ghost use Rattle.s2_receive.specs.declared.finding.Next.TheVariants as next;
-ghost use Rattle.s2_receive.specs.declared.report.Report.{Report as ReportValue};
 ghost use Rattle.s2_receive.specs.declared.report.Phase.TheVariants as phases;
 ghost use Rattle.s2_receive.specs.Meeting.{nothing_over};
-ghost use Rattle.s2_receive.specs.Finding.{met_of, place_after};
 ghost use Rattle.s2_receive.specs.Stepping.{place_of};
-ghost use Rattle.s2_receive.specs.Receiving.{IsLive, IsDecided, Finds, Stops, Tells, StepAnswers, MetFrame, StandsBehind, begun, rules_of};
+ghost use Rattle.s2_receive.specs.Receiving.{IsLive, Finds, Stops, StandsBehind, begun, rules_of};
+ghost use Rattle.s2_receive.specs.Answers.{Delivers, Steps, StepsFrame, OnlyFaults};
 
 use crate::finder::Finder;
 use crate::finding::Next;
@@ -140,8 +138,8 @@ impl<D: Decide> Receiver<D> {
         ensures same { (self.new.mode ≡ self.old.mode) × (self.new.lock ≡ self.old.lock) × (self.new.limit ≡ self.old.limit) }
         ensures finds { IfOk result (λ step. IsLive self.old.state.phase
             → Finds (rules_of D.decide self.old) self.old.state self.new.state (R.remaining reader.old) (R.remaining reader.new) (D.last self.new.decider) step) }
-        ensures stops { IsErrOf result Fault.Read → (self.new.state ≡ record self.old.state { phase = phases.Failed })
-            × Stops (rules_of D.decide self.old) self.old.state (R.remaining reader.old) (R.remaining reader.new) (R.count reader.old) (R.count reader.new) }
+        ensures stops { IsErrOf result Fault.Read → Stops (rules_of D.decide self.old) self.old.state self.new.state
+            (R.remaining reader.old) (R.remaining reader.new) (R.count reader.old) (R.count reader.new) }
         ensures bounded { self.new.state.at ≤ self.old.limit }
         ensures no_read { result ≢ Err Fault.Read → R.count reader.new ≡ R.count reader.old }
         ensures no_write { result ≢ Err Fault.Write }
@@ -169,8 +167,8 @@ impl<D: Decide> Receiver<D> {
         ensures rules { rules_of D.decide self.new ≡ rules_of D.decide self.old }
         ensures same { (self.new.mode ≡ self.old.mode) × (self.new.lock ≡ self.old.lock) × (self.new.limit ≡ self.old.limit) }
         ensures finds { IfOk result (Finds (rules_of D.decide self.old) self.old.state self.new.state (R.remaining reader.old) (R.remaining reader.new) (D.last self.new.decider)) }
-        ensures stops { OnErr result ((self.new.state ≡ record self.old.state { phase = phases.Failed })
-            × Stops (rules_of D.decide self.old) self.old.state (R.remaining reader.old) (R.remaining reader.new) (R.count reader.old) (R.count reader.new)) }
+        ensures stops { OnErr result (Stops (rules_of D.decide self.old) self.old.state self.new.state
+            (R.remaining reader.old) (R.remaining reader.new) (R.count reader.old) (R.count reader.new)) }
         ensures count { IfOk result (λ _. R.count reader.new ≡ R.count reader.old) }
     {
         let Ok(next) = self.finder.find(reader, self.place.at, self.limit) else {
@@ -220,9 +218,7 @@ impl<D: Decide> Receiver<D> {
         ensures rules { rules_of D.decide self.new ≡ rules_of D.decide self.old }
         ensures same { (self.new.mode ≡ self.old.mode) × (self.new.lock ≡ self.old.lock) × (self.new.limit ≡ self.old.limit) }
         ensures last { D.last self.new.decider ≡ D.last self.old.decider }
-        ensures tells { (next : NextValue) (symbols : List SymbolValue) → self.old.state.phase ≡ phases.Met next
-            → IsDecided (rules_of D.decide self.old) (met_of next symbols) (D.last self.old.decider)
-            → Tells (rules_of D.decide self.old) self.old.state self.new.state (met_of next symbols) (place_after (symbols_in self.old.mode) next)
+        ensures tells { Delivers (rules_of D.decide self.old) self.old.state self.new.state (D.last self.old.decider)
             (P.contents packets.old) (P.contents packets.new) (W.contents report.old) (W.contents report.new) result }
         ensures bounded { self.new.state.at ≤ self.old.limit }
         ensures write { IsErrOf result Fault.Write → OneFailed (P.count packets.old) (P.count packets.new) (W.count report.old) (W.count report.new) }
@@ -260,19 +256,17 @@ impl<D: Decide> Receiver<D> {
         ensures rules { rules_of D.decide self.new ≡ rules_of D.decide self.old }
         ensures same { (self.new.mode ≡ self.old.mode) × (self.new.lock ≡ self.old.lock) × (self.new.limit ≡ self.old.limit) }
         ensures live { let ends = streams_by R.remaining R.count P.contents P.count W.contents W.count in
-            IsLive self.old.state.phase → StepAnswers (rules_of D.decide self.old) self.old.state self.new.state
-            (ends reader.old packets.old report.old) (ends reader.new packets.new report.new) result }
+            Steps D.decide self.old self.new (ends reader.old packets.old report.old) (ends reader.new packets.new report.new) result }
         ensures frame { let ends = streams_by R.remaining R.count P.contents P.count W.contents W.count in
-            (r : ReportValue) → result ≡ Ok (Step.Frame r) → MetFrame (rules_of D.decide self.old) self.old.state self.new.state
-            (ends reader.old packets.old report.old) (ends reader.new packets.new report.new) r (D.last self.new.decider) }
+            StepsFrame D.decide D.last self.old self.new (ends reader.old packets.old report.old) (ends reader.new packets.new report.new) result }
         ensures taken { StandsBehind (symbols_in self.old.mode) self.new.state.at result }
         ensures bounded { self.new.state.at ≤ self.old.limit }
         ensures ended { self.old.state.phase ≡ phases.Ended → result ≡ Ok Step.End }
-        ensures failed { self.old.state.phase ≡ phases.Failed → result ≡ Err Fault.Failed }
+        ensures failed { IsErrOf result Fault.Failed ↔ ((IsLive self.old.state.phase → ⊥) × (self.old.state.phase ≢ phases.Ended)) }
         ensures nothing { (IsLive self.old.state.phase → ⊥) → (self.new ≡ self.old) × (reader.new ≡ reader.old) × (packets.new ≡ packets.old) × (report.new ≡ report.old) }
         ensures unwritten { IsErrOf result Fault.Read → (packets.new ≡ packets.old) × (report.new ≡ report.old) }
         ensures counts { let ends = streams_by R.remaining R.count P.contents P.count W.contents W.count in
-            OnlyFailed (result ≡ Err Fault.Read) (result ≡ Err Fault.Write) (ends reader.old packets.old report.old) (ends reader.new packets.new report.new) }
+            OnlyFaults result (ends reader.old packets.old report.old) (ends reader.new packets.new report.new) }
     {
         let step = self.meet(reader)?;
         self.deliver(packets, report)?;

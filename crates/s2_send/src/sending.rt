@@ -1,8 +1,9 @@
 //! The loop that sends.
-ghost use Rattle.std.specs.Prelude.{◌≡◌, ◌≢◌, ◌+◌, ◌-◌, ◌^◌, ◌<◌, ◌≤◌, ◌⊎◌, Err, IsErrOf, IfOk, OnErr, false, length};
+ghost use Rattle.std.specs.Prelude.{◌≡◌, ◌≢◌, ◌+◌, ◌-◌, ◌^◌, ◌<◌, ◌≤◌, Err, IsErrOf, IfOk, OnErr, false, length};
 ghost use Rattle.s2_mode.specs.Counts.{CanCount, CountsFault};
 ghost use Rattle.s2_bbframe.specs.Limits.{packet_bytes};
 ghost use Rattle.s2_bbframe.specs.DataStream.{field_bytes};
+ghost use Rattle.s2_send.specs.Laws.{ReadFails};
 ghost use Rattle.s2_send.specs.Sending.{TransmitterRuns, AcceptsNext, SendsNext, FailsToSend, is_due};
 
 use crate::framer::Framer;
@@ -105,7 +106,7 @@ pub(crate) fn send_all<R: CountedRead, W: CountedWrite>(
     requires size { slicer.old.size ≡ field_bytes framer.old.setup.mode }
     requires packet { packet_bytes < slicer.old.size }
     ensures runs { TransmitterRuns (record { link = framer.old; limit = plan.limit; dummy_every = plan.dummy_every })
-        (λ packets. (R.count reader.new ≡ R.count reader.old + 1) ⊎ ((R.count reader.new ≡ R.count reader.old) × (packets ≡ plan.limit)))
+        (ReadFails plan.limit (R.count reader.old) (R.count reader.new))
         (R.remaining reader.old) (R.remaining reader.new) (W.contents writer.old) (W.contents writer.new) result }
     ensures no_read { result ≢ Err SendFault.Read → R.count reader.new ≡ R.count reader.old }
     ensures write { IsErrOf result SendFault.Write → W.count writer.new ≡ W.count writer.old + 1 }

@@ -1,9 +1,10 @@
 //! The transmitter: packets in, symbols out.
-ghost use Rattle.std.specs.Prelude.{◌≡◌, ◌≢◌, ◌+◌, ◌<◌, ◌≤◌, ◌⊎◌, Err, IfOk, IsErrOf};
+ghost use Rattle.std.specs.Prelude.{◌≡◌, ◌≢◌, ◌+◌, ◌<◌, ◌≤◌, Err, IfOk, IsErrOf};
 ghost use Rattle.s2_mode.specs.Counts.{CanCount};
 ghost use Rattle.s2_send.specs.Limits.{most_packets};
 ghost use Rattle.s2_send.specs.Transmitter.{TransmitterAnswers, new_transmitter};
 ghost use Rattle.s2_send.specs.Sending.{TransmitterRuns};
+ghost use Rattle.s2_send.specs.Laws.{ReadFails};
 
 use crate::framer::Framer;
 use crate::outcome::{Counts, SendFault};
@@ -121,8 +122,7 @@ impl<'a> Transmitter<'a> {
     ) -> Result<Counts, SendFault>
         requires reader { CanCount (R.count reader.old) }
         requires writer { CanCount (W.count writer.old) }
-        ensures runs { TransmitterRuns self.old
-            (λ packets. (R.count reader.new ≡ R.count reader.old + 1) ⊎ ((R.count reader.new ≡ R.count reader.old) × (packets ≡ self.old.limit)))
+        ensures runs { TransmitterRuns self.old (ReadFails self.old.limit (R.count reader.old) (R.count reader.new))
             (R.remaining reader.old) (R.remaining reader.new) (W.contents writer.old) (W.contents writer.new) result }
         ensures no_read { result ≢ Err SendFault.Read → R.count reader.new ≡ R.count reader.old }
         ensures write { IsErrOf result SendFault.Write → W.count writer.new ≡ W.count writer.old + 1 }

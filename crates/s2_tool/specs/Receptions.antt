@@ -1,10 +1,11 @@
 -- What `demod` receives, writes and reports.
-use Rattle.std.specs.Prelude.{◌≡◌, Result, Ok, Err}
+use Rattle.std.specs.Prelude.{Result, Ok, Err}
 use Rattle.s2_mode.specs.Limits.{most_symbols}
 use Rattle.s2_mode.specs.Streams.{Streams}
 use Rattle.s2_link.specs.Tuning.{Tuning}
 use Rattle.s2_link.specs.declared.setup.Setup.{Setup}
-use Rattle.s2_receive.specs.Receiving.{Rules, State, begun, RunsTo, StopsAfter, BreaksAfter, MayStop}
+use Rattle.s2_receive.specs.Receiving.{Rules, State, begun, StopsAfter, BreaksAfter}
+use Rattle.s2_receive.specs.Answers.{RunAnswers}
 use Rattle.s2_modem.specs.Reception.{link_rules}
 use Rattle.s2_receive.specs.declared.report.Received.{Received}
 use Rattle.s2_console.specs.declared.fault.Fault.{Fault}
@@ -19,10 +20,8 @@ use Rattle.s2_tool.specs.Losses.{Finishes}
 -- All was received to the end: the packets of each frame and its line are written, then the end line. Or a read failed: what was
 -- met before is written, and nothing else. Or a write failed: of the next thing a part is written.
 abbrev pub Receives : Rules → Streams → Streams → Result Received Fault → Type 0
-Receives rules old new (Ok received) =
-    (state : State) × RunsTo rules begun state old new received.well
-    × (received.totals ≡ state.standing.totals) × (received.symbols ≡ state.at)
-Receives rules old new (Err faults.Read) = StopsAfter rules begun old new × MayStop rules.limit 0 old new
+Receives rules old new (Ok received) = (state : State) × RunAnswers rules begun state old new (Ok received)
+Receives rules old new (Err faults.Read) = (state : State) × StopsAfter rules begun state old new
 Receives rules old new (Err faults.Write) = BreaksAfter rules begun old new
 Receives rules old new (Err f) = ⊥
 
