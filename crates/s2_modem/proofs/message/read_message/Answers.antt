@@ -1,9 +1,4 @@
-use Rattle.std.proofs.Common.{◌≡◌, ◌/◌, true, length, take, sym, ap, ◌∙◌, arith}
-use Rattle.s2_mode.specs.Mode.{kbch_of}
-use Rattle.s2_bits.specs.Bits.{bytes_from}
-use Rattle.s2_scramble.specs.Baseband.{scrambled}
-use Rattle.s2_bbframe.specs.Headers.{header_of_bytes, has_valid_lengths}
-use Rattle.s2_modem.specs.Reports.{message_of, header_in}
+use Rattle.s2_modem.proofs.Names.{◌≡◌, ◌/◌, true, length, take, sym, ap, ◌∙◌, arith, kbch_of, bytes_from, scrambled, header_of_bytes, has_valid_lengths, message_of, header_in}
 use Rattle.s2_modem.proofs.DecisionLemmas.{frame_read, header_read, accepted_valid, field_fits}
 use Rattle.s2_modem.proofs.message.read_message.Goals as goal
 use Rattle.s2_modem.proofs.message.read_message.Goals.{After-read, In-Ok}
