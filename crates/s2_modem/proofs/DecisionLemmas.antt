@@ -1,5 +1,5 @@
 -- What a decider finds is what is decided of a frame.
-use Rattle.s2_modem.proofs.Names.{and_parts, ◌≡◌, ℕ, ◌+◌, ◌-◌, ◌*◌, ◌/◌, ◌%◌, ◌<◌, ◌≤◌, Bool, true, false, List, length, take, Option, Some, None, IfSome, IfNone, Result, Ok, refl, sym, ap, subst, ◌∙◌, arith, inl, inr, length-take, ℤ, replicate, pos, cases_Bool, or_cases, leb-true, eqb-true, ext_get_or, get_or-take, take_all, take-replicate, field_bytes, Mode, HasCodeSizes, k_of, kbch_of, t_of, n_of, shape_in, code_bits, Symbol, Rows, code_of, Verdict, View, Link, bit_at, bytes_from, differences, Rewritten, Header, HeaderFault, is_whole, is_packet_stream, header_of, has_valid_lengths, header_of_bytes, header_of_bytes-bad_crc, header_of_bytes-other, header_of_bytes-bad_lengths, header_of_bytes-accepted, IsWithin, nearest, HasPlace, Decision, Answer, Outcome, Decided, decided, Tuning, frame_soft, frame_decision, received_word, message_of, header_in, outcome_by, delivered_by, decision_on, decision_by, IsUndecided, scrambled, FindsWord, Reads, decision_held}
+use Rattle.s2_modem.proofs.Names.{and_parts, ◌≡◌, ℕ, ◌+◌, ◌-◌, ◌*◌, ◌/◌, ◌%◌, ◌<◌, ◌≤◌, Bool, true, false, List, length, take, Option, Some, None, IfSome, IfNone, Result, Ok, refl, sym, ap, subst, ◌∙◌, arith, inl, inr, length-take, ℤ, replicate, pos, cases_Bool, or_cases, leb-true, eqb-true, ext_get_or, get_or-take, take-replicate, field_bytes, Mode, HasCodeSizes, k_of, kbch_of, t_of, n_of, shape_in, code_bits, Symbol, Rows, code_of, Verdict, View, Link, bit_at, differences, Rewritten, Header, HeaderFault, is_whole, is_packet_stream, header_of, has_valid_lengths, header_of_bytes, header_of_bytes-bad_crc, header_of_bytes-other, header_of_bytes-bad_lengths, header_of_bytes-accepted, IsWithin, nearest, HasPlace, Decision, Answer, Outcome, Decided, decided, Tuning, frame_soft, frame_decision, received_word, message_of, header_in, outcome_by, delivered_by, decision_on, decision_by, IsUndecided, scrambled, FindsWord, Reads, decision_held}
 
 -- a list over which the first bits of another were written, as many as it has
 prefix_is : (n : ℕ) (bits old now : List Bool) → Rewritten false n (bit_at bits) old now → length old ≡ n → n ≤ length bits → now ≡ take n bits
@@ -35,11 +35,7 @@ by_tests m bytes h true true true a b c ok = let is = header_of_bytes-accepted m
 pub accepted_valid : (m : Mode) (bytes : List ℕ) (h : Header) → header_of_bytes m bytes ≡ Ok h → has_valid_lengths m h ≡ true
 accepted_valid m bytes h ok = by_tests m bytes h (is_whole bytes) (is_packet_stream bytes) (has_valid_lengths m (header_of bytes)) refl refl refl ok
 
--- a field of these lengths fits in a frame
-pub short_field : (m : Mode) (h : Header) → has_valid_lengths m h ≡ true → h.dfl ≤ kbch_of m - 80
-short_field m h valid = leb-true h.dfl (kbch_of m - 80) (and_parts _ _ (and_parts _ _ valid).1).0
-
-pub message_fits : (m : Mode) → HasCodeSizes m → kbch_of m ≤ k_of m
+message_fits : (m : Mode) → HasCodeSizes m → kbch_of m ≤ k_of m
 message_fits m sizes =
     elim (cases_Bool m.short) [
       | inl short ↦ let e : k_of m ≡ kbch_of m + 14 * t_of m = sizes.short_code short in omega arith
@@ -78,7 +74,7 @@ shown m soft bits verdict certificate word outcome delivered =
     record { soft = soft; bits = bits; verdict = verdict; certificate = certificate; message = message_of m word; outcome = outcome; delivered = delivered }
 
 -- what was found and read is what is decided
-pub decision_is : (m : Mode) (soft : List ℤ) (d : Decided) (word : List Bool) (found : Option ℕ) (outcome : Outcome) (delivered : Option (Header × List ℕ))
+decision_is : (m : Mode) (soft : List ℤ) (d : Decided) (word : List Bool) (found : Option ℕ) (outcome : Outcome) (delivered : Option (Header × List ℕ))
     → FindsWord m (received_word m d.bits) word found → Reads m word found outcome delivered → shown m soft d.bits d.verdict d.certificate word outcome delivered ≡ decision_on m soft d
 decision_is m soft d word (Some fixed) outcome delivered finds reads =
     let frame = scrambled (message_of m word) in
@@ -108,16 +104,10 @@ frame_read m word old copied frame n size sizes long room written is =
     let fits = message_fits m sizes in
     is ∙ ap scrambled (prefix_is n word old copied written (room ∙ sym size) (omega (arith, size, long, fits)) ∙ ap (λ k. take k word) size)
 
--- and its header's bytes
-pub header_read : (m : Mode) (word frame bits : List Bool) (bytes : List ℕ) → frame ≡ scrambled (message_of m word) → bits ≡ frame → take 10 bytes ≡ bytes_from 0 10 bits → length bytes ≡ 10
-    → bytes ≡ header_in (scrambled (message_of m word))
-header_read m word frame bits bytes is same read long =
-    sym (take_all 10 bytes (omega (arith, long))) ∙ (read ∙ ap (bytes_from 0 10) (same ∙ is))
-
 -- the data field's bytes lie in the frame and have room in a field
 pub field_fits : (m : Mode) (h : Header) (n : ℕ) → HasCodeSizes m → has_valid_lengths m h ≡ true → n ≡ h.dfl / 8 → (8 * (10 + n) ≤ kbch_of m) × (n ≤ field_bytes m)
 field_fits m h n sizes valid is =
-    let short = short_field m h valid in
+    let short : h.dfl ≤ kbch_of m - 80 = leb-true _ _ (and_parts _ _ (and_parts _ _ valid).1).0 in
     let whole = sizes.field in
     (omega (arith, is, short, whole), omega (arith, is, short, whole))
 
