@@ -1,5 +1,5 @@
 -- A frame without noise is delivered, certified, with nothing changed.
-use Rattle.s2_modem.proofs.Names.{or_right, ◌≡◌, ℕ, zero, suc, ◌+◌, ◌-◌, ◌*◌, ◌/◌, ◌%◌, ◌<◌, ◌≤◌, Bool, true, false, List, [], ◌∷◌, ◌++◌, length, take, drop, map, get_or, Option, Some, None, Result, Ok, Err, refl, sym, ap, subst, ◌∙◌, arith, length-append, length-take, length-drop, ℤ, pos, int_lt, le-leb, eq-eqb, length-map, ext_get_or, get_or-take, get_or-drop, take_at, drop_at, take_all, fill_by_all, length-map-range_with_len, All-head, All-tail, All-append, All-from_recursion, Mode, IsMode, HasCodeSizes, k_of, kbch_of, n_of, t_of, slots_of, symbols_in, Symbol, symbols_least, Rows, bit_at, bits_of_byte, bits_of_bytes, byte_at, byte_of, bytes_from, differences, byte_back, code_of, IsCodeword, hard_decision, NoneIsZero, is_certified, IsSole, HeaderFault, Decision, header_bytes, has_valid_lengths, header_of_bytes, signalling, header_at, to_place, field_bytes, header_of_bytes-header_bytes, divided, scrambled, scrambled-scrambled, IsWithin, nearest, within_is_nearest, nearest_is_within, no_nearest, payload_symbol, payload_of, frame_symbol, frame_symbols, decision, found, clean_behind, IsDivisor, soft_bit, soft_values, Says, clean_says, payload_again, clean_passes, IsCleanFrame, IsReceived, Link, padded_bits, baseband_frame, IsCodewordFor, found_as, Decided, decided, IsShown, Tuning, frame_soft, received_word, message_of, header_in, field_in, outcome_by, delivered_by, decision_by, frame_decision, AllAsLikely, AllTold, IsCertifiedBy, IsCorrected, link_rules, IsLinkOf, IsByte, AreBytes, sent_symbols, IsDelivered, IsDeliveredCertified, Hears, HearsLaw, ScatteredFrameLaw, BothCodesLaw, IsSent, IsMostLikely, received_payload, Sole, clean_lem, certified_lem, likely_lem, sole_lem, scattered_lem, decided_long, length-baseband_frame, length-bch_word, distance_self, symbol, Header}
+use Rattle.s2_modem.proofs.Names.{ap₂, xor_same, number, or_right, ◌≡◌, ℕ, zero, suc, ◌+◌, ◌-◌, ◌*◌, ◌/◌, ◌%◌, ◌<◌, ◌≤◌, Bool, true, false, List, [], ◌∷◌, ◌++◌, length, take, drop, map, get_or, Option, Some, None, Result, Ok, Err, refl, sym, ap, subst, ◌∙◌, arith, length-append, length-take, length-drop, ℤ, pos, int_lt, le-leb, eq-eqb, length-map, ext_get_or, get_or-take, get_or-drop, take_at, drop_at, take_all, fill_by_all, length-map-range_with_len, All-head, All-tail, All-append, All-from_recursion, Mode, IsMode, HasCodeSizes, k_of, kbch_of, n_of, t_of, slots_of, symbols_in, Symbol, symbols_least, Rows, bit_at, bits_of_byte, bits_of_bytes, byte_at, byte_of, bytes_from, differences, byte_back, code_of, IsCodeword, hard_decision, NoneIsZero, is_certified, IsSole, HeaderFault, Decision, header_bytes, has_valid_lengths, header_of_bytes, signalling, header_at, to_place, field_bytes, header_of_bytes-header_bytes, divided, scrambled, scrambled-scrambled, IsWithin, nearest, within_is_nearest, nearest_is_within, no_nearest, payload_symbol, payload_of, frame_symbol, frame_symbols, decision, found, clean_behind, IsDivisor, soft_bit, soft_values, Says, clean_says, payload_again, clean_passes, IsCleanFrame, IsReceived, Link, padded_bits, baseband_frame, IsCodewordFor, found_as, Decided, decided, IsShown, Tuning, frame_soft, received_word, message_of, header_in, field_in, outcome_by, delivered_by, decision_by, frame_decision, AllAsLikely, AllTold, IsCertifiedBy, IsCorrected, link_rules, IsLinkOf, IsByte, AreBytes, sent_symbols, IsDelivered, IsDeliveredCertified, Hears, HearsLaw, ScatteredFrameLaw, BothCodesLaw, IsSent, IsMostLikely, received_payload, Sole, clean_lem, certified_lem, likely_lem, sole_lem, scattered_lem, decided_long, length-baseband_frame, length-bch_word, symbol, Header}
 use Rattle.s2_modem.proofs.Names.founds
 use Rattle.s2_modem.proofs.DecisionLemmas.{code_is}
 use Rattle.s2_modem.proofs.Dummies.{dummy_is}
@@ -55,6 +55,10 @@ valid_header m roll_off at field sizes place fits =
     rw (eq-eqb _ _ whole, le-leb _ _ most, eq-eqb _ _ step, le-leb _ _ low, le-leb _ _ inside) (or_right _ _ (or_right _ _ refl))
 
 -- ---- decisions
+
+differences_none : (n : ℕ) (a : List Bool) → differences n a a ≡ 0
+differences_none zero a = refl
+differences_none (suc n) a = ap₂ (λ (d : ℕ) (e : ℕ). d + e) (differences_none n a) (ap number (xor_same (bit_at a n)))
 
 -- what is read of the word that BCH decoding finds
 read_corrected : (m : Mode) (d : Decision) (word : List Bool) (h : Result Header HeaderFault) → IsWithin m (received_word m d.bits) word → d.message ≡ message_of m word
@@ -156,7 +160,7 @@ module _ (m : Mode) (valid : IsMode m) (sizes : HasCodeSizes m) (link : Link) (l
     header_back =
         ap (λ b. header_of_bytes mode (header_in b)) message_back
         ∙ ap (header_of_bytes mode) (bytes_back front _ 0 10 front_bytes (omega (arith, long_front)) ∙ take_at (header_bytes header) field 10 refl)
-        ∙ header_of_bytes-header_bytes mode header (omega (arith, sent.roll_off)) (omega (arith, has_sizes.field_most, sent.fits)) (omega arith) (valid_header mode link.setup.roll_off at field has_sizes sent.place fits)
+        ∙ header_of_bytes-header_bytes mode header (omega (arith, sent.roll_off)) (omega (arith, has_sizes.field_most, sent.fits)) (omega arith) (valid_header mode link.setup.roll_off at field has_sizes sent.place sent.fits)
 
     field_back : field_in header (scrambled message) ≡ field
     field_back =
@@ -191,7 +195,7 @@ module _ (m : Mode) (valid : IsMode m) (sizes : HasCodeSizes m) (link : Link) (l
         let first : received_word mode codeword ≡ word =
         ext_get_or false (take k codeword) word (part ∙ sym long_word) (λ i low. get_or-take k codeword i false (omega arith) ∙ sent.codeword_is.is_codeword.begins i (omega (arith, long_word))) in
         let none : differences k (received_word mode (frame_decision link tuning symbols).bits) word ≡ 0 =
-        ap (λ r. differences k r word) (ap (received_word mode) bits ∙ first) ∙ ap (λ n. differences n word word) (sym long_word) ∙ distance_self word in
+        ap (λ r. differences k r word) (ap (received_word mode) bits ∙ first) ∙ differences_none k word in
         subst (λ n. IsDelivered (frame_decision link tuning symbols) n message header field) none (both_codes tuning symbols (omega (arith, none)))
 
   module _ (ro : link.setup.roll_off ≤ 2) (tuning : Tuning) (known : IsDivisor tuning.divisor) (limit : ℕ) where

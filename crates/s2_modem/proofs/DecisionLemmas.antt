@@ -107,7 +107,7 @@ frame_read m word old copied frame n size sizes long room written is =
 -- the data field's bytes lie in the frame and have room in a field
 pub field_fits : (m : Mode) (h : Header) (n : ℕ) → HasCodeSizes m → has_valid_lengths m h ≡ true → n ≡ h.dfl / 8 → (8 * (10 + n) ≤ kbch_of m) × (n ≤ field_bytes m)
 field_fits m h n sizes valid is =
-    let short : h.dfl ≤ kbch_of m - 80 = leb-true _ _ (and_parts _ _ (and_parts _ _ valid).1).0 in
+    let short : h.dfl ≤ kbch_of m - 80 = leb-true h.dfl (kbch_of m - 80) (and_parts _ _ (and_parts _ _ valid).1).0 in
     let whole = sizes.field in
     (omega (arith, is, short, whole), omega (arith, is, short, whole))
 

@@ -18,13 +18,14 @@ pub use Rattle.s2_mode.specs.declared.stream_fault.StreamFault.{StreamFault}
 pub use Rattle.s2_mode.specs.declared.symbols.Symbol.{Symbol}
 pub use Rattle.s2_mode.proofs.SymbolLists.{symbols-append}
 pub use Rattle.s2_mode.proofs.SymbolsBack.{symbols_back}
-pub use Rattle.s2_bits.specs.Bits.{Rewritten, bit_at, bits_of_byte, bits_of_bytes, byte_at, byte_of, bytes_from, differences}
+pub use Rattle.s2_bits.specs.Bits.{Rewritten, bit_at, bits_of_bytes, byte_at, byte_of, bytes_from, differences, number}
+unfoldable pub use Rattle.s2_bits.specs.Bits.{bits_of_byte}
 pub use Rattle.s2_bits.proofs.Spelled.{byte_back}
+pub use Rattle.s2_bits.proofs.Sums.{xor_same}
 pub use Rattle.s2_rows.specs.Rows.{Rows}
 pub use Rattle.s2_matrix.specs.Code.{IsCodeword, code_of}
 pub use Rattle.s2_bch.specs.Codes.{IsWithin}
 pub use Rattle.s2_bch.specs.Decoding.{nearest}
-pub use Rattle.s2_bch.proofs.Distances.{distance_self}
 pub use Rattle.s2_bch.proofs.NearestWords.{nearest_is_within, no_nearest, within_is_nearest}
 pub use Rattle.s2_scramble.specs.Baseband.{scrambled}
 pub use Rattle.s2_scramble.specs.Gold.{quarter_turns}
@@ -39,7 +40,8 @@ pub use Rattle.s2_bbframe.specs.declared.header.HeaderFault.{HeaderFault}
 pub use Rattle.s2_bbframe.proofs.Division.{divided}
 pub use Rattle.s2_bbframe.proofs.Headers.{header_of_bytes-accepted, header_of_bytes-bad_crc, header_of_bytes-bad_lengths, header_of_bytes-header_bytes, header_of_bytes-other}
 pub use Rattle.s2_map.specs.Mapping.{payload_of, payload_symbol, points, psk_points, qpsk_points}
-pub use Rattle.s2_plframe.specs.Dummy.{dummy_frame, dummy_symbol}
+pub use Rattle.s2_plframe.specs.Dummy.{dummy_symbol}
+unfoldable pub use Rattle.s2_plframe.specs.Dummy.{dummy_frame}
 pub use Rattle.s2_plframe.specs.Frame.{frame_symbol, frame_symbols, slot_symbol, spaced_symbol}
 pub use Rattle.s2_plframe.specs.Header.{dummy_mode, header_bit, header_point, header_symbol}
 pub use Rattle.s2_plframe.specs.Payload.{received_payload}
@@ -78,7 +80,7 @@ pub use Rattle.s2_receive.specs.Meeting.{Met, begins, by_found, cut, ended, fram
 pub use Rattle.s2_receive.specs.Parts.{HasPlace, delivered_of}
 pub use Rattle.s2_receive.specs.Receiving.{Decision, Finds, IsDecided, IsLive, MetFrame, Rules, RunsOut, Standing, State, StepAnswers, after, after_all, all_lines, all_packets, all_well, at_end, at_start, begun, met_left, passes, report_for, report_of, step_of}
 pub use Rattle.s2_receive.specs.ReportLines.{cut_line, end_line, frame_line}
-pub use Rattle.s2_receive.specs.Windows.{found_as}
+unfoldable pub use Rattle.s2_receive.specs.Windows.{found_as}
 pub use Rattle.s2_receive.specs.declared.parts.Decided.{Decided as Answer}
 pub use Rattle.s2_receive.specs.declared.report.Fault.{Fault}
 pub use Rattle.s2_receive.specs.declared.report.Outcome.{Outcome}
@@ -100,7 +102,8 @@ pub use Rattle.s2_modem.specs.Headline.{ArrivalLaw, BothCodesLaw, HearsLaw, IsSe
 pub use Rattle.s2_modem.specs.Listening.{FindsWord, Listening, Reads, decision_held}
 pub use Rattle.s2_modem.specs.Promise.{Arriving, BeginsWith, Headline, IsHeadline, IsReadable, IsReport, KeepsHeadline, Promises, RunsHeadline, decision_from, frame_from}
 pub use Rattle.s2_modem.specs.Reception.{AllAsLikely, AllTold, IsAsLikely, IsCertifiedBy, IsCorrected, Receiver, link_rules, rules_for}
-pub use Rattle.s2_modem.specs.Reports.{IsUndecided, decision_by, decision_on, delivered_by, field_in, frame_decision, frame_soft, header_in, message_of, outcome_by, received_word}
+pub use Rattle.s2_modem.specs.Reports.{IsUndecided, decision_by, decision_on, delivered_by, field_in, frame_soft, header_in, message_of, outcome_by, received_word}
+unfoldable pub use Rattle.s2_modem.specs.Reports.{frame_decision}
 pub use Rattle.s2_modem.specs.Steps.{AllHeard, Corrects, Heard, IsFrameAt, StandsAt}
 pub use Rattle.s2_modem.specs.Streams.{AreEach, FirstFramesLaw, IsClear, IsHeard, IsWholeFrame, OneStreamLaw, places_in}
 pub use Rattle.s2_receive.specs.declared.report.Fault.TheVariants as faults
