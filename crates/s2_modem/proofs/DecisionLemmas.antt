@@ -36,11 +36,7 @@ pub accepted_valid : (m : Mode) (bytes : List ℕ) (h : Header) → header_of_by
 accepted_valid m bytes h ok = by_tests m bytes h (is_whole bytes) (is_packet_stream bytes) (has_valid_lengths m (header_of bytes)) refl refl refl ok
 
 message_fits : (m : Mode) → HasCodeSizes m → kbch_of m ≤ k_of m
-message_fits m sizes =
-    elim (cases_Bool m.short) [
-      | inl short ↦ let e : k_of m ≡ kbch_of m + 14 * t_of m = sizes.short_code short in omega arith
-      | inr normal ↦ let e : k_of m ≡ kbch_of m + 16 * t_of m = sizes.normal_code normal in omega arith
-    ]
+message_fits m sizes = grind (arith, sizes.short_code, sizes.normal_code)
 
 -- as many bits as the mode's codewords have
 pub code_is : (m : Mode) (rows : Rows) → HasCodeSizes m → rows.shape ≡ shape_in m → (code_of rows).bits ≡ n_of m
