@@ -1,5 +1,5 @@
 -- What a decider finds is what is decided of a frame.
-use Rattle.s2_modem.proofs.Names.{and_parts, ◌≡◌, ℕ, ◌+◌, ◌-◌, ◌*◌, ◌/◌, ◌%◌, ◌<◌, ◌≤◌, Bool, true, false, List, length, take, Option, Some, None, IfSome, IfNone, Result, Ok, refl, sym, ap, subst, ◌∙◌, arith, inl, inr, length-take, ℤ, replicate, pos, cases_Bool, or_cases, leb-true, eqb-true, ext_get_or, get_or-take, take-replicate, field_bytes, Mode, HasCodeSizes, k_of, kbch_of, t_of, n_of, shape_in, code_bits, Symbol, Rows, code_of, Verdict, View, Link, bit_at, differences, Rewritten, Header, HeaderFault, is_whole, is_packet_stream, header_of, has_valid_lengths, header_of_bytes, header_of_bytes-bad_crc, header_of_bytes-other, header_of_bytes-bad_lengths, header_of_bytes-accepted, IsWithin, nearest, HasPlace, Decision, Answer, Outcome, Decided, decided, Tuning, frame_soft, frame_decision, received_word, message_of, header_in, outcome_by, delivered_by, decision_on, decision_by, IsUndecided, scrambled, FindsWord, Reads, decision_held}
+use Rattle.s2_modem.proofs.Names.{and_parts, ◌≡◌, ℕ, ◌+◌, ◌-◌, ◌*◌, ◌/◌, ◌%◌, ◌<◌, ◌≤◌, Bool, true, false, List, length, take, Option, Some, None, IfSome, IfNone, Result, Ok, refl, sym, ap, subst, ◌∙◌, arith, inl, inr, length-take, ℤ, replicate, pos, or_cases, leb-true, eqb-true, ext_get_or, get_or-take, take-replicate, field_bytes, Mode, HasCodeSizes, k_of, kbch_of, n_of, shape_in, code_bits, Symbol, Rows, code_of, Verdict, View, Link, bit_at, differences, Rewritten, Header, HeaderFault, is_whole, is_packet_stream, header_of, has_valid_lengths, header_of_bytes, header_of_bytes-bad_crc, header_of_bytes-other, header_of_bytes-bad_lengths, header_of_bytes-accepted, IsWithin, nearest, HasPlace, Decision, Answer, Outcome, Decided, decided, Tuning, frame_soft, frame_decision, received_word, message_of, header_in, outcome_by, delivered_by, decision_on, decision_by, IsUndecided, scrambled, FindsWord, Reads, decision_held}
 
 -- a list over which the first bits of another were written, as many as it has
 prefix_is : (n : ℕ) (bits old now : List Bool) → Rewritten false n (bit_at bits) old now → length old ≡ n → n ≤ length bits → now ≡ take n bits

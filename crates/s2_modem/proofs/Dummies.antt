@@ -12,7 +12,7 @@ dummy_front number =
     let long = length_dummy number in
     fill_by_all (header_symbol (dummy_mode false false)) (take 90 (dummy_frame number)) 90 none (length-take-le 90 (dummy_frame number) (omega (arith, long)))
     (λ k lt. (let inside : k < 3330 = omega arith in let here : 0 + k ≡ k = omega arith in
-        get_or-take 90 (dummy_frame number) k none lt ∙ get_or-map-range_with_len (dummy_symbol number) 0 3330 k k none inside here ∙ rw (lt-ltb k 90 lt) refl))
+    get_or-take 90 (dummy_frame number) k none lt ∙ get_or-map-range_with_len (dummy_symbol number) 0 3330 k k none inside here ∙ rw (lt-ltb k 90 lt) refl))
 
 pub dummy_is : (m : Mode) (lock number : ℕ) → IsMode m → (behind : Bool) → IsDummy (found_as m lock) behind (dummy_frame number)
 unfolding found_as

@@ -142,16 +142,16 @@ module _ (m : Mode) (valid : IsMode m) (sizes : HasCodeSizes m) (link : Link) (t
 -- ---- runs of a receiver
 
 -- a run to the end, from a new receiver
-pub run_headline : (v w : Receiver) (rules : Rules) (new : State) (before behind : Streams) (result : Result Received StreamFault) → v ≡ w → rules ≡ rules_for v → Promises v.link v.tuning
-    → RunAnswers rules v.state new before behind result → RunsHeadline w before behind result
-run_headline v w rules new before behind (Err fault) is same all run = tt
-run_headline v w rules new before behind (Ok received) is same all run =
+pub run_headline : (v w : Receiver) (followed : Rules) (new : State) (before behind : Streams) (result : Result Received StreamFault) → v ≡ w → followed ≡ rules_for v → Promises v.link v.tuning
+    → RunAnswers followed v.state new before behind result → RunsHeadline w before behind result
+run_headline v w followed new before behind (Err fault) is same all run = tt
+run_headline v w followed new before behind (Ok received) is same all run =
     subst (λ (x : Receiver). x.state ≡ begun → IsHeadline x.link x.tuning before behind) is
-    (λ fresh. all.headline v.limit new before behind (subst (λ (x : Rules). RunsOut x begun new before behind) same (subst (λ (s : State). RunsOut rules s new before behind) fresh run.0.runs_out)))
+    (λ fresh. all.headline v.limit new before behind (subst (λ (x : Rules). RunsOut x begun new before behind) same (subst (λ (s : State). RunsOut followed s new before behind) fresh run.0.runs_out)))
 
 -- a whole stream in memory
-pub bytes_headline : (link : Link) (tuning : Tuning) (rules : Rules) (new : State) (before behind : Streams) (totals : Totals) → rules ≡ link_rules link tuning most_symbols → KeepsHeadline link tuning
-    → ReceivesTo rules new before behind totals → IsHeadline link tuning before behind
-bytes_headline link tuning rules new before behind totals same keeps got =
+pub bytes_headline : (link : Link) (tuning : Tuning) (followed : Rules) (new : State) (before behind : Streams) (totals : Totals) → followed ≡ link_rules link tuning most_symbols → KeepsHeadline link tuning
+    → ReceivesTo followed new before behind totals → IsHeadline link tuning before behind
+bytes_headline link tuning followed new before behind totals same keeps got =
     let left = record behind { taken = got.left } in
     keeps most_symbols new before left (subst (λ (x : Rules). RunsOut x begun new before left) same got.runs_out)
