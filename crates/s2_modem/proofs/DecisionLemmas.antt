@@ -58,15 +58,15 @@ decision_is m soft d word None outcome delivered finds reads =
     (λ i. shown m soft d.bits d.verdict d.certificate (finds.1 i) (reads.0 i) (reads.1 i)) ∙ ap (decision_by m soft d) (sym finds.0)
 
 -- the parts that a decider finds are what is decided of a frame
-pub frame_decided : (link : Link) (tuning : Tuning) (symbols : List Symbol) (soft : List ℤ) (bits : List Bool) (verdict : Verdict) (certificate : Option View) (word : List Bool) (found : Option ℕ) (outcome : Outcome) (delivered : Option (Header × List ℕ))
-    → soft ≡ frame_soft link tuning symbols → verdict ≡ (decided link.rows tuning soft).verdict → bits ≡ (decided link.rows tuning soft).bits → certificate ≡ (decided link.rows tuning soft).certificate
+pub frame_decided : (link : Link) (tuning : Tuning) (symbols : List Symbol) (held soft : List ℤ) (bits : List Bool) (verdict : Verdict) (certificate : Option View) (word : List Bool) (found : Option ℕ) (outcome : Outcome) (delivered : Option (Header × List ℕ))
+    → held ≡ soft → soft ≡ frame_soft link tuning symbols → verdict ≡ (decided link.rows tuning soft).verdict → bits ≡ (decided link.rows tuning soft).bits → certificate ≡ (decided link.rows tuning soft).certificate
     → FindsWord link.setup.mode (received_word link.setup.mode bits) word found → Reads link.setup.mode word found outcome delivered
-    → shown link.setup.mode soft bits verdict certificate word outcome delivered ≡ frame_decision link tuning symbols
+    → shown link.setup.mode held bits verdict certificate word outcome delivered ≡ frame_decision link tuning symbols
 unfolding frame_decision
-frame_decided link tuning symbols soft bits verdict certificate word found outcome delivered soft_is verdict_is bits_are certificate_is finds reads =
+frame_decided link tuning symbols held soft bits verdict certificate word found outcome delivered held_is soft_is verdict_is bits_are certificate_is finds reads =
     let m = link.setup.mode in
     let d : Decided = decided link.rows tuning soft in
-    (λ i. shown m soft (bits_are i) (verdict_is i) (certificate_is i) word outcome delivered)
+    (λ i. shown m (held_is i) (bits_are i) (verdict_is i) (certificate_is i) word outcome delivered)
     ∙ decision_is m soft d word found outcome delivered (subst (λ b. FindsWord m (received_word m b) word found) bits_are finds) reads
     ∙ ap (λ s. decision_on m s (decided link.rows tuning s)) soft_is
 
