@@ -187,7 +187,7 @@ module _ (m : Mode) (valid : IsMode m) (sizes : HasCodeSizes m) (link : Link) (l
         })
 
     -- and where the codeword that was sent was decided, it differs nowhere
-    pub codeword_delivers : (tuning : Tuning) (symbols : List Symbol) → (frame_decision link tuning symbols).bits ≡ codeword → IsDelivered (frame_decision link tuning symbols) 0 message header field
+    codeword_delivers : (tuning : Tuning) (symbols : List Symbol) → (frame_decision link tuning symbols).bits ≡ codeword → IsDelivered (frame_decision link tuning symbols) 0 message header field
     codeword_delivers tuning symbols bits =
         let k = k_of mode in
         let whole : length codeword ≡ n_of mode = sent.codeword_is.is_codeword.in_code.long ∙ code_is mode link.rows has_sizes linked.1 in

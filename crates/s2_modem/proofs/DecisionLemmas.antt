@@ -1,5 +1,5 @@
 -- What a decider finds is what is decided of a frame.
-use Rattle.s2_modem.proofs.Names.{and_parts, ◌≡◌, ℕ, ◌+◌, ◌-◌, ◌*◌, ◌/◌, ◌%◌, ◌<◌, ◌≤◌, Bool, true, false, List, length, take, Option, Some, None, IfSome, IfNone, Result, Ok, refl, sym, ap, subst, ◌∙◌, arith, inl, inr, length-take, ℤ, replicate, pos, or_cases, leb-true, eqb-true, ext_get_or, get_or-take, take-replicate, field_bytes, Mode, HasCodeSizes, k_of, kbch_of, n_of, shape_in, code_bits, Symbol, Rows, code_of, Verdict, View, Link, bit_at, differences, Rewritten, Header, HeaderFault, is_whole, is_packet_stream, header_of, has_valid_lengths, header_of_bytes, header_of_bytes-bad_crc, header_of_bytes-other, header_of_bytes-bad_lengths, header_of_bytes-accepted, IsWithin, nearest, HasPlace, Decision, Answer, Outcome, Decided, decided, Tuning, frame_soft, frame_decision, received_word, message_of, header_in, outcome_by, delivered_by, decision_on, decision_by, IsUndecided, scrambled, FindsWord, Reads, decision_held}
+use Rattle.s2_modem.proofs.Names.{and_parts, ◌≡◌, ℕ, ◌+◌, ◌-◌, ◌*◌, ◌/◌, ◌≤◌, Bool, true, false, List, length, take, Option, Some, None, IfSome, IfNone, Result, Ok, refl, sym, ap, subst, ◌∙◌, arith, length-take, ℤ, replicate, pos, leb-true, ext_get_or, get_or-take, take-replicate, field_bytes, Mode, HasCodeSizes, k_of, kbch_of, n_of, shape_in, code_bits, Symbol, Rows, code_of, Verdict, View, Link, bit_at, differences, Rewritten, Header, HeaderFault, is_whole, is_packet_stream, header_of, has_valid_lengths, header_of_bytes, header_of_bytes-bad_crc, header_of_bytes-other, header_of_bytes-bad_lengths, header_of_bytes-accepted, IsWithin, nearest, Decision, Answer, Outcome, Decided, decided, Tuning, frame_soft, frame_decision, received_word, message_of, header_in, outcome_by, delivered_by, decision_on, decision_by, IsUndecided, scrambled, FindsWord, Reads, decision_held}
 
 -- a list over which the first bits of another were written, as many as it has
 prefix_is : (n : ℕ) (bits old now : List Bool) → Rewritten false n (bit_at bits) old now → length old ≡ n → n ≤ length bits → now ≡ take n bits
@@ -42,29 +42,6 @@ message_fits m sizes = grind (arith, sizes.short_code, sizes.normal_code)
 pub code_is : (m : Mode) (rows : Rows) → HasCodeSizes m → rows.shape ≡ shape_in m → (code_of rows).bits ≡ n_of m
 code_is m rows sizes shape = ap code_bits shape ∙ omega (arith, sizes.groups, sizes.checks)
 
--- the joiner can take its data field
-pub has_place : (m : Mode) (h : Header) (field : List ℕ) → HasCodeSizes m → has_valid_lengths m h ≡ true → length field ≡ h.dfl / 8 → HasPlace field h
-has_place m h field sizes valid long =
-    let a = and_parts _ _ valid in
-    let b = and_parts _ _ a.1 in
-    let whole : h.dfl % 8 ≡ 0 = eqb-true _ _ a.0 in
-    let most : h.dfl ≤ kbch_of m - 80 = leb-true _ _ b.0 in
-    let room = sizes.field_most in (
-      omega (arith, long, most, room),
-      elim (or_cases _ _ b.1) [
-        | inl none ↦ let e : h.dfl ≡ 0 = eqb-true _ _ none in inl (omega (arith, long, e))
-        | inr some ↦ inr (elim (or_cases _ _ some) [
-          | inl no_place ↦ inl (eqb-true _ _ no_place)
-          | inr place ↦
-              let p = and_parts _ _ place in
-              let q = and_parts _ _ p.1 in
-              let step : h.syncd % 8 ≡ 0 = eqb-true _ _ p.0 in
-              let low : h.syncd < h.dfl = leb-true _ _ q.1 in
-              inr (omega (arith, long, whole, step, low))
-        ])
-      ],
-    )
-
 abbrev pub shown : Mode → List ℤ → List Bool → Verdict → Option View → List Bool → Outcome → Option (Header × List ℕ) → Decision
 shown m soft bits verdict certificate word outcome delivered =
     record { soft = soft; bits = bits; verdict = verdict; certificate = certificate; message = message_of m word; outcome = outcome; delivered = delivered }
@@ -81,15 +58,15 @@ decision_is m soft d word None outcome delivered finds reads =
     (λ i. shown m soft d.bits d.verdict d.certificate (finds.1 i) (reads.0 i) (reads.1 i)) ∙ ap (decision_by m soft d) (sym finds.0)
 
 -- the parts that a decider finds are what is decided of a frame
-pub frame_decided : (link : Link) (tuning : Tuning) (symbols : List Symbol) (soft : List ℤ) (bits : List Bool) (verdict : Verdict) (certificate : Option View) (word : List Bool) (found : Option ℕ) (outcome : Outcome) (delivered : Option (Header × List ℕ))
-    → soft ≡ frame_soft link tuning symbols → verdict ≡ (decided link.rows tuning soft).verdict → bits ≡ (decided link.rows tuning soft).bits → certificate ≡ (decided link.rows tuning soft).certificate
+pub frame_decided : (link : Link) (tuning : Tuning) (symbols : List Symbol) (held soft : List ℤ) (bits : List Bool) (verdict : Verdict) (certificate : Option View) (word : List Bool) (found : Option ℕ) (outcome : Outcome) (delivered : Option (Header × List ℕ))
+    → held ≡ soft → soft ≡ frame_soft link tuning symbols → verdict ≡ (decided link.rows tuning soft).verdict → bits ≡ (decided link.rows tuning soft).bits → certificate ≡ (decided link.rows tuning soft).certificate
     → FindsWord link.setup.mode (received_word link.setup.mode bits) word found → Reads link.setup.mode word found outcome delivered
-    → shown link.setup.mode soft bits verdict certificate word outcome delivered ≡ frame_decision link tuning symbols
+    → shown link.setup.mode held bits verdict certificate word outcome delivered ≡ frame_decision link tuning symbols
 unfolding frame_decision
-frame_decided link tuning symbols soft bits verdict certificate word found outcome delivered soft_is verdict_is bits_are certificate_is finds reads =
+frame_decided link tuning symbols held soft bits verdict certificate word found outcome delivered held_is soft_is verdict_is bits_are certificate_is finds reads =
     let m = link.setup.mode in
     let d : Decided = decided link.rows tuning soft in
-    (λ i. shown m soft (bits_are i) (verdict_is i) (certificate_is i) word outcome delivered)
+    (λ i. shown m (held_is i) (bits_are i) (verdict_is i) (certificate_is i) word outcome delivered)
     ∙ decision_is m soft d word found outcome delivered (subst (λ b. FindsWord m (received_word m b) word found) bits_are finds) reads
     ∙ ap (λ s. decision_on m s (decided link.rows tuning s)) soft_is
 

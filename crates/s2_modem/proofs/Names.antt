@@ -2,8 +2,8 @@
 pub use Rattle.std.specs.Io.KnownBytes.{Appends, Consumes, IsAtEnd}
 pub use Rattle.std.specs.List.{range_with_len}
 pub use Rattle.std.specs.Prelude.{⊤}
-pub use Rattle.std.proofs.Common.{All, Bool, Err, IfNone, IfOk, IfSome, IsErrOf, IsTrue, List, None, Ok, Option, Result, SFits, Some, [], ap, append-nil, append_assoc, ap₂, arith, cond, drop, drop-drop, drop_at, eq-eqb, eqb-true, ext_get_or, false, flat_map, get_or, get_or-drop, get_or-take, if◌then◌else◌, inl, inr, int_lt, le-leb, leb-true, length, length-append, length-drop, length-take, length-take-le, lt-ltb, map, nat_eq, nat_le, nat_lt, neg_ℤ, negsuc, pos, refl, replicate, subst, suc, sym, take, take_all, take_at, true, w16, zero, ℕ, ℤ, ◌%◌, ◌*◌, ◌++◌, ◌+◌, ◌-◌, ◌/◌, ◌<◌, ◌==◌, ◌↔◌, ◌∙◌, ◌∷◌, ◌≡◌, ◌≢◌, ◌≤◌}
-pub use Rattle.std.proofs.lemmas.Bool.{and_parts, cond_both, or_cases, or_right}
+pub use Rattle.std.proofs.Common.{All, Bool, Err, IfNone, IfOk, IfSome, IsErrOf, IsTrue, List, None, Ok, Option, Result, SFits, Some, [], ap, append-nil, append_assoc, ap₂, arith, cond, drop, drop-drop, drop_at, eq-eqb, ext_get_or, false, flat_map, get_or, get_or-drop, get_or-take, if◌then◌else◌, inl, inr, int_lt, le-leb, leb-true, length, length-append, length-drop, length-take, length-take-le, lt-ltb, map, nat_eq, nat_le, nat_lt, neg_ℤ, negsuc, pos, refl, replicate, rules, subst, suc, sym, take, take_all, take_at, true, w16, zero, ℕ, ℤ, ◌%◌, ◌*◌, ◌++◌, ◌+◌, ◌-◌, ◌/◌, ◌<◌, ◌==◌, ◌↔◌, ◌∙◌, ◌∷◌, ◌≡◌, ◌≢◌, ◌≤◌}
+pub use Rattle.std.proofs.lemmas.Bool.{and_parts, cond_both, or_right}
 pub use Rattle.std.proofs.lemmas.Int.{int_min_is, ints}
 pub use Rattle.std.proofs.lemmas.List.{length-map, take-replicate}
 pub use Rattle.std.proofs.lemmas.List.Elements.{All-append, All-cons, All-drop, All-from_recursion, All-head, All-map, All-nil, All-push, All-tail, All-take, All-weaker}
@@ -77,7 +77,7 @@ pub use Rattle.s2_receive.specs.Answers.{OnFrame, ReceivesTo, RunAnswers}
 pub use Rattle.s2_receive.specs.Finding.{Meets, met_after, met_of}
 pub use Rattle.s2_receive.specs.Laws.{AreReceived, IsDummy, IsReceived, PassedNone, Piece, Spells, coded, dummy, frames_at, joined, stream_symbols}
 pub use Rattle.s2_receive.specs.Meeting.{Met, begins, by_found, cut, ended, frame, met_from, nothing_over, passed}
-pub use Rattle.s2_receive.specs.Parts.{HasPlace, delivered_of}
+pub use Rattle.s2_receive.specs.Parts.{delivered_of}
 pub use Rattle.s2_receive.specs.Receiving.{Decision, Finds, IsDecided, IsLive, MetFrame, Rules, RunsOut, Standing, State, StepAnswers, after, after_all, all_lines, all_packets, all_well, at_end, at_start, begun, met_left, passes, report_for, report_of, step_of}
 pub use Rattle.s2_receive.specs.ReportLines.{cut_line, end_line, frame_line}
 unfoldable pub use Rattle.s2_receive.specs.Windows.{found_as}

@@ -1,4 +1,4 @@
-use Rattle.s2_modem.proofs.Names.{take_all, ◌≡◌, ◌/◌, true, length, take, sym, ap, ◌∙◌, arith, kbch_of, bytes_from, scrambled, header_of_bytes, has_valid_lengths, message_of, header_in}
+use Rattle.s2_modem.proofs.Names.{rules, take_all, ◌≡◌, ◌/◌, true, length, take, sym, ap, ◌∙◌, arith, kbch_of, bytes_from, scrambled, header_of_bytes, has_valid_lengths, message_of, header_in}
 use Rattle.s2_modem.proofs.DecisionLemmas.{frame_read, accepted_valid, field_fits}
 use Rattle.s2_modem.proofs.message.read_message.Goals as goal
 use Rattle.s2_modem.proofs.message.read_message.Goals.{After-read, In-Ok}
@@ -18,9 +18,6 @@ valid c = accepted_valid c.args.mode c.bytes_from.new.bytes c.in-Ok.header (sym 
 pub returns-in-Err-clause-header : goal.returns-in-Err-clause-header
 returns-in-Err-clause-header c = sym c.in-Err.is ∙ header_is (goal.at.returns-in-Err-clause-header c).After-read
 
-pub returns-in-Ok-clause-header : goal.returns-in-Ok-clause-header
-returns-in-Ok-clause-header c = sym c.in-Ok.is ∙ header_is (goal.at.returns-in-Ok-clause-header c).After-read
-
 pub bytes_from-requires-in-Ok-clause-bits : goal.bytes_from-requires-in-Ok-clause-bits
 bytes_from-requires-in-Ok-clause-bits c =
     let both = field_fits c.args.mode c.in-Ok.header c.from-filled.result c.kbch.ensures.sizes (valid (goal.at.bytes_from-requires-in-Ok-clause-bits c).In-Ok) c.from-filled.ensures in
@@ -32,15 +29,15 @@ bytes_from-requires-in-Ok-clause-room c =
     let both = field_fits c.args.mode c.in-Ok.header c.from-filled.result c.kbch.ensures.sizes (valid (goal.at.bytes_from-requires-in-Ok-clause-room c).In-Ok) c.from-filled.ensures in
     omega (arith, both.1, c.requires.field)
 
-pub returns-in-Ok-clause-valid : goal.returns-in-Ok-clause-valid
-returns-in-Ok-clause-valid c = valid (goal.at.returns-in-Ok-clause-valid c).In-Ok
-
-pub returns-in-Ok-clause-room : goal.returns-in-Ok-clause-room
-returns-in-Ok-clause-room c =
-    let both = field_fits c.args.mode c.in-Ok.header c.from-filled.result c.kbch.ensures.sizes (valid (goal.at.returns-in-Ok-clause-room c).In-Ok) c.from-filled.ensures in
-    omega (arith, both.1, c.requires.field, c.from-filled.ensures, c.bytes_from-in-Ok.auto.bytes)
-
-pub returns-in-Ok-clause-field : goal.returns-in-Ok-clause-field
-returns-in-Ok-clause-field c =
-    ap (λ n. take n c.bytes_from-in-Ok.new.bytes) (sym c.from-filled.ensures) ∙ c.bytes_from-in-Ok.ensures
-    ∙ ap (λ n. bytes_from 10 n c.truths-bits.result.now) c.from-filled.ensures ∙ ap (bytes_from 10 (c.in-Ok.header.dfl / 8)) (c.truths-bits.ensures ∙ frame_is (goal.at.returns-in-Ok-clause-field c).After-read)
+pub returns-in-Ok : goal.returns-in-Ok
+returns-in-Ok c =
+    let at = goal.at.returns-in-Ok c in
+    let both = field_fits c.args.mode c.in-Ok.header c.from-filled.result c.kbch.ensures.sizes (valid at.In-Ok) c.from-filled.ensures in
+    record {
+      header = sym c.in-Ok.is ∙ header_is at.After-read;
+      field = ap (λ n. take n c.bytes_from-in-Ok.new.bytes) (sym c.from-filled.ensures) ∙ c.bytes_from-in-Ok.ensures
+          ∙ ap (λ n. bytes_from 10 n c.truths-bits.result.now) c.from-filled.ensures ∙ ap (bytes_from 10 (c.in-Ok.header.dfl / 8)) (c.truths-bits.ensures ∙ frame_is at.After-read);
+      valid = valid at.In-Ok;
+      room = omega (arith, both.1, c.requires.field, c.from-filled.ensures, c.bytes_from-in-Ok.auto.bytes);
+      frame = search rules;
+    }
