@@ -1,5 +1,5 @@
 -- A frame without noise is delivered, certified, with nothing changed.
-use Rattle.s2_modem.proofs.Names.{ap₂, xor_same, number, or_right, ◌≡◌, ℕ, zero, suc, ◌+◌, ◌-◌, ◌*◌, ◌/◌, ◌%◌, ◌<◌, ◌≤◌, Bool, true, false, List, [], ◌∷◌, ◌++◌, length, take, drop, map, get_or, Option, Some, None, Result, Ok, Err, refl, sym, ap, subst, ◌∙◌, arith, length-append, length-take, length-drop, ℤ, pos, int_lt, le-leb, eq-eqb, length-map, ext_get_or, get_or-take, get_or-drop, take_at, drop_at, take_all, fill_by_all, length-map-range_with_len, All-head, All-tail, All-append, All-from_recursion, Mode, IsMode, HasCodeSizes, k_of, kbch_of, n_of, t_of, slots_of, symbols_in, Symbol, symbols_least, Rows, bit_at, bits_of_byte, bits_of_bytes, byte_at, byte_of, bytes_from, differences, byte_back, code_of, IsCodeword, hard_decision, NoneIsZero, is_certified, IsSole, HeaderFault, Decision, header_bytes, has_valid_lengths, header_of_bytes, signalling, header_at, to_place, field_bytes, header_of_bytes-header_bytes, divided, scrambled, scrambled-scrambled, IsWithin, nearest, within_is_nearest, nearest_is_within, no_nearest, payload_symbol, payload_of, frame_symbol, frame_symbols, decision, found, clean_behind, IsDivisor, soft_bit, soft_values, Says, clean_says, payload_again, clean_passes, IsCleanFrame, IsReceived, Link, padded_bits, baseband_frame, IsCodewordFor, found_as, Decided, decided, IsShown, Tuning, frame_soft, received_word, message_of, header_in, field_in, outcome_by, delivered_by, decision_by, frame_decision, AllAsLikely, AllTold, IsCertifiedBy, IsCorrected, link_rules, IsLinkOf, IsByte, AreBytes, sent_symbols, IsDelivered, IsDeliveredCertified, Hears, HearsLaw, ScatteredFrameLaw, BothCodesLaw, IsSent, IsMostLikely, received_payload, Sole, clean_lem, certified_lem, likely_lem, sole_lem, scattered_lem, decided_long, length-baseband_frame, length-bch_word, symbol, Header}
+use Rattle.s2_modem.proofs.Names.{ap₂, xor_same, number, or_right, ◌≡◌, ℕ, zero, suc, ◌+◌, ◌-◌, ◌*◌, ◌/◌, ◌%◌, ◌<◌, ◌≤◌, Bool, true, false, List, [], ◌∷◌, ◌++◌, length, take, drop, map, get_or, Option, Some, None, Result, Ok, Err, refl, sym, ap, subst, ◌∙◌, arith, length-append, length-take, length-drop, ℤ, pos, int_lt, le-leb, eq-eqb, length-map, ext_get_or, get_or-take, get_or-drop, take_at, drop_at, take_all, fill_by_all, length-map-range_with_len, All-head, All-tail, All-append, All-from_recursion, Mode, IsMode, HasCodeSizes, k_of, kbch_of, n_of, t_of, slots_of, symbols_in, Symbol, symbols_least, Rows, bit_at, bits_of_byte, bits_of_bytes, byte_at, byte_of, bytes_from, differences, byte_back, code_of, IsCodeword, hard_decision, NoneIsZero, is_certified, IsSole, HeaderFault, Decision, header_bytes, has_valid_lengths, header_of_bytes, signalling, header_at, to_place, field_bytes, header_of_bytes-header_bytes, divided, scrambled, scrambled-scrambled, IsWithin, nearest, within_is_nearest, nearest_is_within, no_nearest, payload_symbol, payload_of, frame_symbol, frame_symbols, decision, found, clean_behind, IsDivisor, soft_bit, soft_values, Says, clean_says, payload_again, clean_passes, IsCleanFrame, IsReceived, Link, padded_bits, baseband_frame, IsCodewordFor, found_as, Decided, decided, IsShown, Tuning, frame_soft, received_word, message_of, header_in, field_in, outcome_by, delivered_by, decision_by, frame_decision, AllAsLikely, AllTold, IsCertifiedBy, IsCorrected, link_rules, IsLinkOf, IsByte, AreBytes, sent_symbols, IsDelivered, IsDeliveredCertified, HearsLaw, ScatteredFrameLaw, BothCodesLaw, IsSent, IsMostLikely, received_payload, Sole, clean_lem, certified_lem, likely_lem, sole_lem, scattered_lem, decided_long, length-baseband_frame, length-bch_word, symbol, Header}
 use Rattle.s2_modem.proofs.Names.founds
 use Rattle.s2_modem.proofs.DecisionLemmas.{code_is}
 use Rattle.s2_modem.proofs.Dummies.{dummy_is}
@@ -93,10 +93,10 @@ module _ (m : Mode) (valid : IsMode m) (sizes : HasCodeSizes m) (link : Link) (l
   abbrev mode : Mode
   mode = link.setup.mode
 
-  is_mode : IsMode mode
+  pub is_mode : IsMode mode
   is_mode = subst IsMode (sym linked.0) valid
 
-  has_sizes : HasCodeSizes mode
+  pub has_sizes : HasCodeSizes mode
   has_sizes = subst HasCodeSizes (sym linked.0) sizes
 
   length_soft : (tuning : Tuning) (symbols : List Symbol) → length (frame_soft link tuning symbols) ≡ (code_of link.rows).bits
@@ -199,9 +199,6 @@ module _ (m : Mode) (valid : IsMode m) (sizes : HasCodeSizes m) (link : Link) (l
         subst (λ n. IsDelivered (frame_decision link tuning symbols) n message header field) none (both_codes tuning symbols (omega (arith, none)))
 
   module _ (ro : link.setup.roll_off ≤ 2) (tuning : Tuning) (known : IsDivisor tuning.divisor) (limit : ℕ) where
-    length_sent : (codeword : List Bool) → length (sent_symbols link codeword) ≡ symbols_in mode
-    length_sent codeword = length-map-range_with_len (frame_symbol mode link.setup.number (payload_of mode codeword)) 0 (symbols_in mode)
-
     found_sent : (codeword : List Bool) → found mode (map decision (take 90 (sent_symbols link codeword))) ≡ founds.Coded
         → (behind : Bool) → found_as mode tuning.lock behind (take 90 (sent_symbols link codeword)) ≡ founds.Coded
     unfolding found_as
@@ -224,25 +221,22 @@ module _ (m : Mode) (valid : IsMode m) (sizes : HasCodeSizes m) (link : Link) (l
         let given = codeword_delivers at field codeword (record { linked = linked; roll_off = ro; bytes = bytes; place = place; fits = fits; codeword_is = c }) tuning symbols bits in
         let some : NoneIsZero soft = λ i low. heard.soft.some i (omega (arith, low, ap length hard, length-map soft (λ v. int_lt v (pos 0)))) in
         let verdict = f.verdict ∙ sure.1.1 some in (
-          λ behind. (length_sent codeword, found_sent codeword heard.header behind, given.delivered),
+          λ behind. (length-map-range_with_len (frame_symbol mode link.setup.number (payload_of mode codeword)) 0 (symbols_in mode), found_sent codeword heard.header behind, given.delivered),
           record { verdict = ap is_certified verdict; bits = bits; delivered = given },
           verdict,
         )
-
-    pub hears : Hears link (link_rules link tuning limit)
-    hears = record {
-      size = refl;
-      least = symbols_least mode;
-      field_least = omega (arith, has_sizes.field_least);
-      dummies = dummy_is mode tuning.lock link.setup.number is_mode;
-      frames = hears_frame;
-    }
 
 -- ---- the laws
 
 module _ (m : Mode) (valid : IsMode m) (sizes : HasCodeSizes m) where
   pub hears_law : HearsLaw m
-  hears_law link tuning limit linked ro known = hears m valid sizes link linked ro tuning known limit
+  hears_law link tuning limit linked ro known = record {
+    size = refl;
+    least = symbols_least link.setup.mode;
+    field_least = omega (arith, (has_sizes m valid sizes link linked).field_least);
+    dummies = dummy_is link.setup.mode tuning.lock link.setup.number (is_mode m valid sizes link linked);
+    frames = hears_frame m valid sizes link linked ro tuning known limit;
+  }
 
   pub scattered_law : ScatteredFrameLaw m
   scattered_law link tuning at symbols field codeword sent scattered =

@@ -1,10 +1,24 @@
-use Rattle.s2_modem.proofs.Names.{rules}
 use Rattle.s2_modem.proofs.StepPromises.{IsPromised, next_promised}
+use Rattle.s2_modem.proofs.receiver.Receiver.next.Given.{Over}
 use Rattle.s2_modem.proofs.receiver.Receiver.next.Goals as goal
+use Rattle.s2_modem.proofs.receiver.Receiver.next.Goals.{After-next}
 
-pub returns : goal.returns
-returns g c =
+promise : (g : Over) (c : After-next g) → IsPromised c.args.self.now c.next.new.self.decider.last (g.R.CountedRead.remaining c.args.reader.now) c.next.result
+promise g c =
     let n = c.next in
-    let promised : IsPromised c.args.self.now n.new.self.decider.last (g.R.CountedRead.remaining c.args.reader.now) n.result =
-    next_promised _ _ n.new.self.decider.last n.result c.self.view_is c.self.invariant.1 _ c.self.invariant.0 n.ensures.ended n.ensures.failed n.new.self.state _ _ n.ensures.live n.ensures.frame in
-    search (rules, promised)
+    next_promised _ _ n.new.self.decider.last n.result c.self.view_is c.self.invariant.1 _ c.self.invariant.0 n.ensures.ended n.ensures.failed n.new.self.state _ _ n.ensures.live n.ensures.frame
+
+pub returns-clause-as_likely : goal.returns-clause-as_likely
+returns-clause-as_likely g c = (promise g (goal.at.returns-clause-as_likely g c).After-next).as_likely
+
+pub returns-clause-certified : goal.returns-clause-certified
+returns-clause-certified g c = (promise g (goal.at.returns-clause-certified g c).After-next).certified
+
+pub returns-clause-within : goal.returns-clause-within
+returns-clause-within g c = (promise g (goal.at.returns-clause-within g c).After-next).within
+
+pub returns-clause-heard : goal.returns-clause-heard
+returns-clause-heard g c = (promise g (goal.at.returns-clause-heard g c).After-next).heard
+
+pub returns-clause-both_codes : goal.returns-clause-both_codes
+returns-clause-both_codes g c = (promise g (goal.at.returns-clause-both_codes g c).After-next).both_codes
