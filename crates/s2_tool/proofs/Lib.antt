@@ -1,4 +1,4 @@
-pub mod AnswerLemmas
+pub mod Names
 pub mod LinkLemmas
 pub mod ReportLemmas
 pub mod LoopLemmas

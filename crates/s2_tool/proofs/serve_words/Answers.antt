@@ -1,10 +1,10 @@
-use Rattle.s2_tool.proofs.AnswerLemmas.{is_whole, is_quiet}
+use Rattle.s2_tool.proofs.ServeLemmas.{is_well}
 use Rattle.s2_tool.proofs.serve_words.Goals as goal
 
 pub returns-in-Some-clause-quiet : goal.returns-in-Some-clause-quiet
-returns-in-Some-clause-quiet g c =
-    is_quiet g.R.Disk.holds _ (g.S.CountedRead.remaining c.args.input.now) c.answer.result _ _ c.answer.ensures.answers
+returns-in-Some-clause-quiet g c = λ fine.
+    (is_well g.R.Disk.holds _ (g.S.CountedRead.remaining c.args.input.now) c.answer.result c.args.console.now c.answer.new.console c.answer.ensures.answers fine).1
 
 pub returns-in-Some-clause-whole : goal.returns-in-Some-clause-whole
-returns-in-Some-clause-whole g c =
-    is_whole g.R.Disk.holds _ (g.S.CountedRead.remaining c.args.input.now) c.answer.result _ _ c.answer.ensures.answers
+returns-in-Some-clause-whole g c = λ fine.
+    (is_well g.R.Disk.holds _ (g.S.CountedRead.remaining c.args.input.now) c.answer.result c.args.console.now c.answer.new.console c.answer.ensures.answers fine).0

@@ -1,5 +1,4 @@
-use Rattle.std.proofs.Common.{rules}
-use Rattle.s2_modem.specs.Reception.{rules_for}
+use Rattle.s2_tool.proofs.Names.{rules, rules_for}
 use Rattle.s2_tool.proofs.LoopLemmas.{looped}
 use Rattle.s2_tool.proofs.run.loop_link.Goals as goal
 

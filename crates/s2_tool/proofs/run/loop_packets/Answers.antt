@@ -1,6 +1,4 @@
-use Rattle.std.proofs.Common.{Ok, Err, refl, ap, ◌∙◌}
-use Rattle.s2_modem.specs.Reception.{rules_for}
-use Rattle.s2_tool.specs.Looping.{kept_fault}
+use Rattle.s2_tool.proofs.Names.{Ok, Err, refl, ap, ◌∙◌, rules_for, kept_fault}
 use Rattle.s2_tool.proofs.LoopLemmas.{passed}
 use Rattle.s2_tool.proofs.run.loop_packets.Goals as goal
 
