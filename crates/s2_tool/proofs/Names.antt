@@ -37,8 +37,5 @@ pub use Rattle.s2_tool.specs.Receptions.{Hears}
 pub use Rattle.s2_tool.specs.Sending.{Sends, transmitter_on}
 pub use Rattle.s2_tool.specs.Serving.{Answers, Began, IsPlaced, Receipts, Reports, Served, Serves, asked_setup}
 pub use Rattle.s2_tool.specs.Spoiling.{NoiseEnds, piped}
-pub use Rattle.s2_console.specs.declared.exit.Exit.TheVariants as exits
 pub use Rattle.s2_console.specs.declared.fault.Fault.TheVariants as faults
 pub use Rattle.s2_console.specs.declared.place.Place.TheVariants as places
-pub use Rattle.s2_words.specs.declared.request.Request.TheVariants as requests
-pub use Rattle.s2_files.specs.declared.uses.Role.TheVariants as roles

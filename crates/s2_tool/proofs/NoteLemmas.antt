@@ -1,11 +1,10 @@
 -- Notes behind a report.
 use Rattle.s2_tool.proofs.Names.{◌≡◌, ℕ, ◌<◌, List, [], ◌∷◌, ◌++◌, Ok, Err, refl, arith, Appends, Exit, Fault, Screen, Remarks}
 
--- where three lists are empty together, each is
-pub each_empty : (xs ys zs : List ℕ) → xs ++ ys ++ zs ≡ [] → (xs ≡ []) × (ys ≡ []) × (zs ≡ [])
-each_empty [] [] zs e = (refl, refl, e)
-each_empty [] (y ∷ ys) zs e = absurd cc
-each_empty (x ∷ xs) ys zs e = absurd cc
+-- where two lists are empty together, each is (the first part shows `grind` which lists are meant)
+pub both_empty : (xs ys : List ℕ) → xs ++ ys ≡ [] → (xs ++ ys ≡ []) × (xs ≡ []) × (ys ≡ [])
+both_empty [] ys e = (e, refl, e)
+both_empty (x ∷ xs) ys e = absurd cc
 
 -- notes without a fault
 pub remarked : (notes : List ℕ) (exit : Exit) (old new : Screen) → new.errors_failed ≡ old.errors_failed → Appends old.errors new.errors notes → (notes ≡ [] → new.errors ≡ old.errors)

@@ -1,17 +1,18 @@
 -- What is reported of a request.
 use Rattle.s2_tool.proofs.Names.{◌≡◌, ◌≢◌, ℕ, List, [], ◌∷◌, Option, Result, Ok, Err, IsOk, IfOk, IfErr, refl, sym, ap, ◌∙◌, inl, inr, Streams, Setup, Received, Exit, Fault, Screen, screen_of, report_in, report_failed, Place, exit_of, Complains, Remarks, Concludes, Holdings, Error, Request, NoteWords, NoiseWords, Ends, Deed, OnLink, streams_at, Finishes, piped, NoiseEnds, SameBeside, Reports, Receipts, Began, Served, Serves, Answers, IsPlaced}
-use Rattle.s2_tool.proofs.Names.exits
+use Rattle.s2_console.specs.declared.exit.Exit.TheVariants as exits
 use Rattle.s2_tool.proofs.Names.faults
 use Rattle.s2_tool.proofs.Names.places
-use Rattle.s2_tool.proofs.Names.requests
-use Rattle.s2_tool.proofs.Names.roles
+use Rattle.s2_words.specs.declared.request.Request.TheVariants as requests
+use Rattle.s2_files.specs.declared.uses.Role.TheVariants as roles
 
 -- what is told on the errors, whatever stands in the output
 told_beside : (notes : List ℕ) (ended : Result Exit Fault) (out : Option (List ℕ)) (failed : ℕ) (old new : Screen)
     → Remarks notes ended old new → Remarks notes ended (screen_of out failed old.errors old.errors_failed) new
 told_beside [] (Ok exit) out failed old new h = h
+told_beside [] (Err f) out failed old new h = h
 told_beside (byte ∷ notes) (Ok exit) out failed old new h = h
-told_beside notes (Err f) out failed old new h = h
+told_beside (byte ∷ notes) (Err f) out failed old new h = h
 
 module _ (holds : Holdings) (request : Request) (input : Option (List ℕ)) (ended : Result Exit Fault) (notes : List ℕ) (exit : Exit) (old new : Screen) where
   -- a command that reported at a place

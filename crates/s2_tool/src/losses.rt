@@ -128,6 +128,7 @@ fn write_torn<W: CountedWrite>(totals: Totals, out: &mut W) -> Result<(), WriteF
 }
 
 /// Writes the notes of a stream that was received to its end.
+#[tactic(auto, using(crate::proofs::NoteLemmas::both_empty))]
 fn write_notes<W: CountedWrite>(
     mode: &Mode,
     received: Received,
