@@ -1,54 +1,28 @@
 -- What a decider finds is what is decided of a frame.
-use Rattle.std.proofs.Common.{◌≡◌, ℕ, ◌+◌, ◌-◌, ◌*◌, ◌/◌, ◌%◌, ◌<◌, ◌≤◌, Bool, true, false, List, length, take, Option, Some, None, IfSome, IfNone, Result, Ok, refl, sym, ap, subst, ◌∙◌, arith, inl, inr, length-take, ℤ}
-use Rattle.std.specs.Prelude.{replicate, pos}
-use Rattle.std.proofs.lemmas.Bool.{cases_Bool, or_cases, leb-true, eqb-true}
-use Rattle.std.proofs.lemmas.List.{ext_get_or, get_or-take, take_all, take-replicate}
-use Rattle.s2_bbframe.specs.DataStream.{field_bytes}
-use Rattle.s2_mode.specs.Mode.{Mode, HasCodeSizes, k_of, kbch_of, t_of, n_of, shape_in}
-use Rattle.s2_mode.specs.Shape.{code_bits}
-use Rattle.s2_mode.specs.declared.symbols.Symbol.{Symbol}
-use Rattle.s2_rows.specs.Rows.{Rows}
-use Rattle.s2_matrix.specs.Code.{code_of}
-use Rattle.s2_check.specs.declared.verdict.Verdict.{Verdict}
-use Rattle.s2_check.specs.Views.{View}
-use Rattle.s2_link.specs.Link.{Link}
-use Rattle.s2_bits.specs.Bits.{bit_at, bytes_from, differences, Rewritten}
-use Rattle.s2_bbframe.specs.declared.header.Header.{Header}
-use Rattle.s2_bbframe.specs.declared.header.HeaderFault.{HeaderFault}
-use Rattle.s2_bbframe.specs.Headers.{is_whole, is_packet_stream, header_of, has_valid_lengths, header_of_bytes}
-use Rattle.s2_bbframe.proofs.Headers.{header_of_bytes-bad_crc, header_of_bytes-other, header_of_bytes-bad_lengths, header_of_bytes-accepted}
-use Rattle.s2_bbframe.proofs.Finite.{both}
-use Rattle.s2_bch.specs.Codes.{IsWithin}
-use Rattle.s2_bch.specs.Decoding.{nearest}
-use Rattle.s2_receive.specs.Parts.{HasPlace}
-use Rattle.s2_receive.specs.Receiving.{Decision}
-use Rattle.s2_receive.specs.declared.parts.Decided.{Decided as Answer}
-use Rattle.s2_receive.specs.declared.report.Outcome.{Outcome}
-use Rattle.s2_judge.specs.Deciding.{Decided, decided}
-use Rattle.s2_link.specs.Tuning.{Tuning}
-use Rattle.s2_modem.specs.Reports.{frame_soft, frame_decision, received_word, message_of, header_in, outcome_by, delivered_by, decision_on, decision_by, IsUndecided}
-use Rattle.s2_scramble.specs.Baseband.{scrambled}
-use Rattle.s2_modem.specs.Listening.{FindsWord, Reads, decision_held}
+use Rattle.s2_modem.proofs.Names.{and_parts, ◌≡◌, ℕ, ◌+◌, ◌-◌, ◌*◌, ◌/◌, ◌%◌, ◌<◌, ◌≤◌, Bool, true, false, List, length, take, Option, Some, None, IfSome, IfNone, Result, Ok, refl, sym, ap, subst, ◌∙◌, arith, inl, inr, length-take, ℤ, replicate, pos, or_cases, leb-true, eqb-true, ext_get_or, get_or-take, take-replicate, field_bytes, Mode, HasCodeSizes, k_of, kbch_of, n_of, shape_in, code_bits, Symbol, Rows, code_of, Verdict, View, Link, bit_at, differences, Rewritten, Header, HeaderFault, is_whole, is_packet_stream, header_of, has_valid_lengths, header_of_bytes, header_of_bytes-bad_crc, header_of_bytes-other, header_of_bytes-bad_lengths, header_of_bytes-accepted, IsWithin, nearest, HasPlace, Decision, Answer, Outcome, Decided, decided, Tuning, frame_soft, frame_decision, received_word, message_of, header_in, outcome_by, delivered_by, decision_on, decision_by, IsUndecided, scrambled, FindsWord, Reads, decision_held}
 
 -- a list over which the first bits of another were written, as many as it has
-pub prefix_is : (n : ℕ) (bits old now : List Bool) → Rewritten false n (bit_at bits) old now → length old ≡ n → n ≤ length bits → now ≡ take n bits
+prefix_is : (n : ℕ) (bits old now : List Bool) → Rewritten false n (bit_at bits) old now → length old ≡ n → n ≤ length bits → now ≡ take n bits
 prefix_is n bits old now r long fits =
     let all : length now ≡ n = r.long ∙ long in
     let part : length (take n bits) ≡ n = omega (arith, length-take n bits) in
     ext_get_or false now (take n bits) (all ∙ sym part) (λ i low. r.done i (omega arith) ∙ sym (get_or-take n bits i false (omega arith)))
 
--- what the decoder answers
-pub found_is : (m : Mode) (received word : List Bool) (found : Option ℕ) → length received ≡ k_of m
+-- what the decoder answers, and how many bits it leaves
+found_is : (m : Mode) (received word : List Bool) (found : Option ℕ) → length received ≡ k_of m
     → IfSome found (λ c. IsWithin m received word × (c ≡ differences (length received) received word)) → IfSome found (λ c. nearest m received ≡ Some word)
-    → IfNone found (nearest m received ≡ None) → IfNone found (word ≡ received) → FindsWord m received word found
-found_is m received word (Some c) long some near none same = (near, some.1 ∙ ap (λ n. differences n received word) long)
-found_is m received word None long some near none same = (none, same)
+    → IfNone found (nearest m received ≡ None) → IfNone found (word ≡ received) → FindsWord m received word found × (length word ≡ k_of m)
+found_is m received word (Some c) long some near none same = ((near, some.1 ∙ ap (λ n. differences n received word) long), some.0.word.size)
+found_is m received word None long some near none same = ((none, same), ap length same ∙ long)
 
--- and how many bits it leaves
-pub found_long : (m : Mode) (received word : List Bool) (found : Option ℕ) → length received ≡ k_of m
-    → IfSome found (λ c. IsWithin m received word × (c ≡ differences (length received) received word)) → IfNone found (word ≡ received) → length word ≡ k_of m
-found_long m received word (Some c) long some same = some.0.word.size
-found_long m received word None long some same = ap length same ∙ long
+-- of the first bits of others
+pub finds_word : (m b : Mode) (n : ℕ) (bits old received word : List Bool) (found : Option ℕ) → b ≡ m → n ≡ k_of m → k_of m ≤ length bits → length old ≡ k_of m → Rewritten false n (bit_at bits) old received
+    → IfSome found (λ c. IsWithin b received word × (c ≡ differences (length received) received word)) → IfSome found (λ c. nearest b received ≡ Some word)
+    → IfNone found (nearest b received ≡ None) → IfNone found (word ≡ received) → FindsWord m (received_word m bits) word found × (length word ≡ k_of m)
+finds_word m b n bits old received word found code size room long written some near none same =
+    let is : received ≡ received_word m bits = prefix_is n bits old received written (long ∙ sym size) (omega (arith, size, room)) ∙ ap (λ k. take k bits) size in
+    let both = found_is b received word found (written.long ∙ long ∙ ap k_of (sym code)) some near none same in
+    (subst (λ r. FindsWord m r word found) is (subst (λ x. FindsWord x received word found) code both.0), both.1 ∙ ap k_of code)
 
 -- a header that is accepted has lengths of the mode
 by_tests : (m : Mode) (bytes : List ℕ) (h : Header) (whole ours valid : Bool) → is_whole bytes ≡ whole → is_packet_stream bytes ≡ ours → has_valid_lengths m (header_of bytes) ≡ valid
@@ -61,16 +35,8 @@ by_tests m bytes h true true true a b c ok = let is = header_of_bytes-accepted m
 pub accepted_valid : (m : Mode) (bytes : List ℕ) (h : Header) → header_of_bytes m bytes ≡ Ok h → has_valid_lengths m h ≡ true
 accepted_valid m bytes h ok = by_tests m bytes h (is_whole bytes) (is_packet_stream bytes) (has_valid_lengths m (header_of bytes)) refl refl refl ok
 
--- a field of these lengths fits in a frame
-pub short_field : (m : Mode) (h : Header) → has_valid_lengths m h ≡ true → h.dfl ≤ kbch_of m - 80
-short_field m h valid = leb-true h.dfl (kbch_of m - 80) (both _ _ (both _ _ valid).1).0
-
-pub message_fits : (m : Mode) → HasCodeSizes m → kbch_of m ≤ k_of m
-message_fits m sizes =
-    elim (cases_Bool m.short) [
-      | inl short ↦ let e : k_of m ≡ kbch_of m + 14 * t_of m = sizes.short_code short in omega arith
-      | inr normal ↦ let e : k_of m ≡ kbch_of m + 16 * t_of m = sizes.normal_code normal in omega arith
-    ]
+message_fits : (m : Mode) → HasCodeSizes m → kbch_of m ≤ k_of m
+message_fits m sizes = grind (arith, sizes.short_code, sizes.normal_code)
 
 -- as many bits as the mode's codewords have
 pub code_is : (m : Mode) (rows : Rows) → HasCodeSizes m → rows.shape ≡ shape_in m → (code_of rows).bits ≡ n_of m
@@ -79,8 +45,8 @@ code_is m rows sizes shape = ap code_bits shape ∙ omega (arith, sizes.groups, 
 -- the joiner can take its data field
 pub has_place : (m : Mode) (h : Header) (field : List ℕ) → HasCodeSizes m → has_valid_lengths m h ≡ true → length field ≡ h.dfl / 8 → HasPlace field h
 has_place m h field sizes valid long =
-    let a = both _ _ valid in
-    let b = both _ _ a.1 in
+    let a = and_parts _ _ valid in
+    let b = and_parts _ _ a.1 in
     let whole : h.dfl % 8 ≡ 0 = eqb-true _ _ a.0 in
     let most : h.dfl ≤ kbch_of m - 80 = leb-true _ _ b.0 in
     let room = sizes.field_most in (
@@ -90,8 +56,8 @@ has_place m h field sizes valid long =
         | inr some ↦ inr (elim (or_cases _ _ some) [
           | inl no_place ↦ inl (eqb-true _ _ no_place)
           | inr place ↦
-              let p = both _ _ place in
-              let q = both _ _ p.1 in
+              let p = and_parts _ _ place in
+              let q = and_parts _ _ p.1 in
               let step : h.syncd % 8 ≡ 0 = eqb-true _ _ p.0 in
               let low : h.syncd < h.dfl = leb-true _ _ q.1 in
               inr (omega (arith, long, whole, step, low))
@@ -104,7 +70,7 @@ shown m soft bits verdict certificate word outcome delivered =
     record { soft = soft; bits = bits; verdict = verdict; certificate = certificate; message = message_of m word; outcome = outcome; delivered = delivered }
 
 -- what was found and read is what is decided
-pub decision_is : (m : Mode) (soft : List ℤ) (d : Decided) (word : List Bool) (found : Option ℕ) (outcome : Outcome) (delivered : Option (Header × List ℕ))
+decision_is : (m : Mode) (soft : List ℤ) (d : Decided) (word : List Bool) (found : Option ℕ) (outcome : Outcome) (delivered : Option (Header × List ℕ))
     → FindsWord m (received_word m d.bits) word found → Reads m word found outcome delivered → shown m soft d.bits d.verdict d.certificate word outcome delivered ≡ decision_on m soft d
 decision_is m soft d word (Some fixed) outcome delivered finds reads =
     let frame = scrambled (message_of m word) in
@@ -134,16 +100,10 @@ frame_read m word old copied frame n size sizes long room written is =
     let fits = message_fits m sizes in
     is ∙ ap scrambled (prefix_is n word old copied written (room ∙ sym size) (omega (arith, size, long, fits)) ∙ ap (λ k. take k word) size)
 
--- and its header's bytes
-pub header_read : (m : Mode) (word frame bits : List Bool) (bytes : List ℕ) → frame ≡ scrambled (message_of m word) → bits ≡ frame → take 10 bytes ≡ bytes_from 0 10 bits → length bytes ≡ 10
-    → bytes ≡ header_in (scrambled (message_of m word))
-header_read m word frame bits bytes is same read long =
-    sym (take_all 10 bytes (omega (arith, long))) ∙ (read ∙ ap (bytes_from 0 10) (same ∙ is))
-
 -- the data field's bytes lie in the frame and have room in a field
 pub field_fits : (m : Mode) (h : Header) (n : ℕ) → HasCodeSizes m → has_valid_lengths m h ≡ true → n ≡ h.dfl / 8 → (8 * (10 + n) ≤ kbch_of m) × (n ≤ field_bytes m)
 field_fits m h n sizes valid is =
-    let short = short_field m h valid in
+    let short : h.dfl ≤ kbch_of m - 80 = leb-true h.dfl (kbch_of m - 80) (and_parts _ _ (and_parts _ _ valid).1).0 in
     let whole = sizes.field in
     (omega (arith, is, short, whole), omega (arith, is, short, whole))
 

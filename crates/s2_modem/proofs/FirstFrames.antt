@@ -1,28 +1,8 @@
 -- The first frames of a stream arrive, and one stream gives the same however it is read.
-use Rattle.std.proofs.Common.{◌≡◌, Bool, true, false, ℕ, ◌+◌, ◌<◌, ◌≤◌, inl, inr, List, [], ◌∷◌, All, length, refl, sym, ap, ◌∙◌, subst}
-use Rattle.std.proofs.lemmas.List.Elements.{All-head, All-tail}
-use Rattle.std.specs.Io.KnownBytes.{Appends}
-use Rattle.s2_mode.specs.Mode.{Mode, IsMode, HasCodeSizes}
-use Rattle.s2_mode.specs.declared.symbols.Symbol.{Symbol}
-use Rattle.s2_bbframe.specs.DataStream.{header_at, to_place, field_bytes}
-use Rattle.s2_bbframe.specs.Joining.{Placed}
-use Rattle.s2_receive.specs.Receiving.{Rules, at_start, after_all, all_packets, all_lines, all_well}
-use Rattle.s2_receive.specs.Laws.{Piece, coded, dummy, IsReceived, AreReceived}
-use Rattle.s2_receive.proofs.Reception.{gives, front}
-use Rattle.s2_receive.proofs.SameSymbols.{same_met}
-use Rattle.s2_soft.specs.Divisors.{IsDivisor}
-use Rattle.s2_link.specs.Tuning.{Tuning}
-use Rattle.s2_link.specs.Link.{Link}
-use Rattle.s2_send.specs.Laws.{IsLinkOf}
-use Rattle.s2_modem.specs.Reports.{message_of, frame_decision}
-use Rattle.s2_modem.specs.Reception.{link_rules}
-use Rattle.s2_modem.specs.Both.{AreBytes, IsDeliveredCertified}
-use Rattle.s2_modem.specs.Headline.{IsSent}
-use Rattle.s2_modem.specs.Streams.{IsWholeFrame, IsClear, IsHeard, AreEach, FirstFramesLaw, OneStreamLaw}
-use Rattle.s2_modem.specs.Steps.{AllHeard}
-use Rattle.s2_modem.proofs.ByteStreams.{front_fields}
-use Rattle.s2_modem.proofs.Arrival.{IsCertifiedFrame, AllCoded, lines_frames, all_certified}
+use Rattle.s2_modem.proofs.Names.{◌≡◌, Bool, true, false, ℕ, ◌+◌, ◌≤◌, inl, inr, List, [], ◌∷◌, length, refl, sym, ap, ◌∙◌, subst, Appends, Mode, IsMode, HasCodeSizes, Symbol, header_at, field_bytes, Rules, at_start, after_all, all_packets, all_lines, all_well, Piece, coded, dummy, IsReceived, AreReceived, gives, front, same_met, IsDivisor, Tuning, Link, IsLinkOf, message_of, frame_decision, link_rules, IsDeliveredCertified, IsSent, IsWholeFrame, IsClear, IsHeard, AreEach, FirstFramesLaw, OneStreamLaw, AllHeard}
 use Rattle.s2_modem.proofs.CleanFrames.{hears_law, scattered_law, both_codes_law}
+use Rattle.s2_modem.proofs.ByteStreams.{IsField, AreFields, front_fields}
+use Rattle.s2_modem.proofs.Arrival.{IsCertifiedFrame, AllCoded, called}
 
 module _ (m : Mode) (valid : IsMode m) (sizes : HasCodeSizes m) (link : Link) (tuning : Tuning) (limit : ℕ) (linked : IsLinkOf m link) (ro : link.setup.roll_off ≤ 2) (known : IsDivisor tuning.divisor) where
   abbrev rules : Rules
@@ -38,29 +18,27 @@ module _ (m : Mode) (valid : IsMode m) (sizes : HasCodeSizes m) (link : Link) (t
       subst (λ l. IsWholeFrame link tuning behind l × IsDeliveredCertified (frame_decision link tuning l) codeword message (header_at link.setup.roll_off at field) field) (sym clean) ((one.0, one.1), h.1)
   clear_one behind at field codeword symbols sent (inr (whole, scattered)) = (whole, scattered_law m valid sizes link tuning at symbols field codeword sent scattered)
 
-  pub heard_one : (behind : Bool) (at : ℕ) (field : List ℕ) (symbols : List Symbol) → AreBytes field → to_place at < length field → length field ≤ field_bytes link.setup.mode → IsHeard link tuning behind at field symbols
+  pub heard_one : (behind : Bool) (at : ℕ) (field : List ℕ) (symbols : List Symbol) → IsField (field_bytes link.setup.mode) at field → IsHeard link tuning behind at field symbols
       → IsReceived rules behind (header_at link.setup.roll_off at field) field symbols × IsCertifiedFrame rules symbols
-  heard_one behind at field symbols bytes place fits (codeword, is, clear) =
+  heard_one behind at field symbols (bytes, place, fits) (codeword, is, clear) =
       let h = clear_one behind at field codeword symbols (record { linked = linked; roll_off = ro; bytes = bytes; place = place; fits = fits; codeword_is = is }) clear in
       ((h.0.0, h.0.1, h.1.delivered.delivered), record { verdict = h.1.verdict; outcome = h.1.delivered.outcome })
 
 -- what is received and called so one by one is so all together
-pub received_each : (holds : Bool → ℕ → List ℕ → List Symbol → Type 0) (called : List Symbol → Type 0) (by : Rules) (roll_off size : ℕ)
-    → ((behind : Bool) (at : ℕ) (field : List ℕ) (symbols : List Symbol) → AreBytes field → to_place at < length field → length field ≤ size → holds behind at field symbols
-    → IsReceived by behind (header_at roll_off at field) field symbols × called symbols)
-    → (behind : Bool) (at : ℕ) (pieces : List Piece) (fields : List (List ℕ)) → All AreBytes fields → Placed at fields → All (λ field. length field ≤ size) fields → AreEach holds by.finds behind at pieces fields
-    → AreReceived by roll_off behind at pieces fields × AllCoded called pieces
-received_each holds called by roll_off size one behind at [] [] bytes placed short h = (tt, tt)
-received_each holds called by roll_off size one behind at [] (f ∷ fs) bytes placed short h = absurd h
-received_each holds called by roll_off size one behind at (coded s ∷ ps) [] bytes placed short h = absurd h
-received_each holds called by roll_off size one behind at (coded s ∷ ps) (f ∷ fs) bytes placed short h =
-    let within : List ℕ → Type 0 = λ field. length field ≤ size in
-    let here = one behind at f s (All-head AreBytes f fs bytes) placed.0 (All-head within f fs short) h.0 in
-    let more = received_each holds called by roll_off size one true (at + length f) ps fs (All-tail AreBytes f fs bytes) placed.1 (All-tail within f fs short) h.1 in
-    ((here.0, more.0), (here.1, more.1))
-received_each holds called by roll_off size one behind at (dummy s ∷ ps) fs bytes placed short h =
-    let more = received_each holds called by roll_off size one true at ps fs bytes placed short h.1 in
-    ((h.0, more.0), more.1)
+module _ (holds : Bool → ℕ → List ℕ → List Symbol → Type 0) (called_so : List Symbol → Type 0) (by : Rules) (roll_off size : ℕ)
+    (one : (behind : Bool) (at : ℕ) (field : List ℕ) (symbols : List Symbol) → IsField size at field → holds behind at field symbols → IsReceived by behind (header_at roll_off at field) field symbols × called_so symbols) where
+  pub received_each : (behind : Bool) (at : ℕ) (pieces : List Piece) (fields : List (List ℕ)) → AreFields size at fields → AreEach holds by.finds behind at pieces fields
+      → AreReceived by roll_off behind at pieces fields × AllCoded called_so pieces
+  received_each behind at [] [] each h = (tt, tt)
+  received_each behind at [] (f ∷ fs) each h = absurd h
+  received_each behind at (coded s ∷ ps) [] each h = absurd h
+  received_each behind at (coded s ∷ ps) (f ∷ fs) each h =
+      let here = one behind at f s each.0 h.0 in
+      let more = received_each true (at + length f) ps fs each.1 h.1 in
+      ((here.0, more.0), (here.1, more.1))
+  received_each behind at (dummy s ∷ ps) fs each h =
+      let more = received_each true at ps fs each h.1 in
+      ((h.0, more.0), more.1)
 
 -- and so of each such frame of the link
 pub all_heard : (m : Mode) → IsMode m → HasCodeSizes m → (link : Link) (tuning : Tuning) → IsLinkOf m link → link.setup.roll_off ≤ 2 → IsDivisor tuning.divisor → AllHeard link tuning
@@ -78,27 +56,27 @@ first_frames_law m valid sizes = λ link tuning limit packets fields later piece
     let size = field_bytes link.setup.mode in
     let rules = link_rules link tuning limit in
     let hears = hears_law m valid sizes link tuning limit linked ro known in
-    let (bytes, placed, short) = front_fields size packets fields later hears.field_least each are_bytes cut_so in
-    let h = received_each (IsHeard link tuning) (IsCertifiedFrame rules) rules link.setup.roll_off size (heard_one m valid sizes link tuning limit linked ro known) false 0 pieces fields bytes placed short heard in
+    let are_fields = front_fields size packets fields later hears.field_least each are_bytes cut_so in
+    let h = received_each (IsHeard link tuning) (IsCertifiedFrame rules) rules link.setup.roll_off size (heard_one m valid sizes link tuning limit linked ro known) false 0 pieces fields are_fields heard in
     let f = front rules link.setup.roll_off size packets fields later pieces rest mid before behind met hears.least hears.field_least each cut_so h.0 spelt count went in
-    let g = gives rules link.setup.roll_off size packets fields later pieces rest hears.least hears.field_least each cut_so h.0 in
+    let lines = called rules 0 pieces at_start h.1 in
     record {
       written = f.1;
-      lines = subst (Appends before.out behind.out) (ap (all_lines rules at_start) f.0 ∙ lines_frames rules link.setup.roll_off false 0 0 pieces fields at_start h.0 h.1) went.lines;
-      certified = all_certified rules 0 pieces h.1;
-      all = g.all;
+      lines = subst (Appends before.out behind.out) (ap (all_lines rules at_start) f.0 ∙ lines.0) went.lines;
+      certified = lines.1;
+      all = (gives rules link.setup.roll_off size packets fields later pieces rest hears.least hears.field_least each cut_so h.0).all;
     }
 
 pub one_stream_law : OneStreamLaw
 one_stream_law link tuning limit old first second symbols before behind other_before other_behind well other_well spelt other_spelt a b =
     let rules = link_rules link tuning limit in
-    let one = a.runs_out.1.1 in
+    let (met, one) = a.runs_out.1 in
     let two = b.runs_out.1.1 in
-    let same : b.runs_out.1.0 ≡ a.runs_out.1.0 =
-    same_met rules old first second symbols before.taken other_before.taken behind.taken other_behind.taken a.runs_out.1.0 b.runs_out.1.0 spelt other_spelt a.runs_out.0 b.runs_out.0 one.left two.left in
+    let same : b.runs_out.1.0 ≡ met =
+    same_met rules old first second symbols before.taken other_before.taken behind.taken other_behind.taken met b.runs_out.1.0 spelt other_spelt a.runs_out.0 b.runs_out.0 one.left two.left in
     record {
       totals = ap (λ s. s.totals) (one.standing ∙ ap (after_all rules old.standing) (sym same) ∙ sym two.standing);
       answer = a.is_well ∙ ap (all_well rules old.standing) (sym same) ∙ sym b.is_well;
-      packets = (all_packets rules old.standing a.runs_out.1.0, one.packets, subst (λ l. Appends other_before.given other_behind.given (all_packets rules old.standing l)) same two.packets);
-      lines = (all_lines rules old.standing a.runs_out.1.0, one.lines, subst (λ l. Appends other_before.out other_behind.out (all_lines rules old.standing l)) same two.lines);
+      packets = (all_packets rules old.standing met, one.packets, subst (λ l. Appends other_before.given other_behind.given (all_packets rules old.standing l)) same two.packets);
+      lines = (all_lines rules old.standing met, one.lines, subst (λ l. Appends other_before.out other_behind.out (all_lines rules old.standing l)) same two.lines);
     }

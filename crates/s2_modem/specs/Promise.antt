@@ -1,5 +1,5 @@
 -- The headline: what a receiver of a link promises of a stream of symbols, and of the packets and the report that it writes of it.
-use Rattle.std.specs.Prelude.{◌≡◌, ℕ, ◌+◌, ◌≤◌, ◌⊎◌, Bool, false, List, [], ◌++◌, All, length, take, drop, IfSome, Result, OnOk}
+use Rattle.std.specs.Prelude.{◌≡◌, ℕ, ◌≤◌, ◌⊎◌, Bool, false, List, [], ◌++◌, All, length, take, drop, IfSome, Result, OnOk}
 use Rattle.std.specs.List.{flat_map}
 use Rattle.std.specs.Io.KnownBytes.{Appends}
 use Rattle.s2_mode.specs.Mode.{Mode, k_of, t_of, symbols_in}

@@ -1,17 +1,5 @@
 -- Fields of a stream of packets: in each lies a sync place.
-use Rattle.std.proofs.Common.{◌≡◌, ℕ, zero, suc, ◌+◌, ◌-◌, ◌*◌, ◌/◌, ◌<◌, ◌≤◌, List, [], ◌∷◌, ◌++◌, All, length, take, drop, refl, sym, ap, ◌∙◌, subst, length-append, length-drop, length-take, take-append-drop, arith, inl, inr}
-use Rattle.std.specs.Prelude.{min}
-use Rattle.std.proofs.Math.Nat.{div-mul-le_self, lt-div-mul-add}
-use Rattle.std.proofs.lemmas.Nat.{div_below}
-use Rattle.std.proofs.lemmas.Bool.{cases_lt}
-use Rattle.std.proofs.lemmas.List.{take_all, nil_from_length}
-use Rattle.std.proofs.lemmas.List.Elements.{All-head, All-tail}
-use Rattle.std.specs.List.{flat_map}
-use Rattle.s2_bbframe.specs.DataStream.{IsPacket, closed_body, stream_of, cuts, fields_of}
-use Rattle.s2_bbframe.specs.Joining.{Placed}
-use Rattle.s2_bbframe.proofs.Runs.{length_closed}
-use Rattle.s2_receive.specs.Laws.{joined}
-use Rattle.s2_bbframe.specs.Joining.{closed_in}
+use Rattle.s2_receive.proofs.Names.{◌≡◌, ℕ, zero, suc, ◌+◌, ◌-◌, ◌*◌, ◌/◌, ◌<◌, ◌≤◌, List, [], ◌∷◌, ◌++◌, All, length, take, drop, refl, sym, ap, ◌∙◌, subst, length-append, length-drop, length-take, take-append-drop, arith, div-mul-le_self, lt-div-mul-add, div_below, take_all, nil_from_length, All-head, All-tail, flat_map, IsPacket, closed_body, stream_of, cuts, fields_of, Placed, length_closed, joined, closed_in}
 
 length_bodies : (ps : List (List ℕ)) → All IsPacket ps → length (flat_map closed_body ps) ≡ 188 * length ps
 length_bodies [] h = refl
@@ -29,28 +17,17 @@ module _ (size : ℕ) (large : 188 ≤ size) where
   -- each cut of a stream that ends at a place holds a place
   placed_cuts : (n at count : ℕ) (stream : List ℕ) → at + length stream ≡ 188 * count + 1 → n * size < length stream + size → Placed at (cuts size n stream)
   placed_cuts zero at count stream e h = tt
-  placed_cuts (suc n) at count stream e h =
-      let more : suc n * size ≡ n * size + size = omega arith in
-      let field = take size stream in
-      let rest = drop size stream in
-      let long : length field ≡ min size (length stream) = length-take size stream in
-      let left : length rest ≡ length stream - size = length-drop size stream in
-      let enough : n * size < length stream = omega (arith, more) in
-      elim (cases_lt (length stream) size) [
-        | inl short ↦ (let last : n ≡ 0 = only_one n (length stream) enough short in
-            (omega (arith, long), subst (λ m. Placed (at + length field) (cuts size m rest)) (sym last) tt))
-        | inr full ↦ (omega (arith, long), placed_cuts n (at + length field) count rest (omega (arith, long, left)) (omega (arith, left)))
-      ]
-    where
-      only_one : (n len : ℕ) → n * size < len → len < size → n ≡ 0
-      only_one zero len h k = refl
-      only_one (suc n) len h k = let more : suc n * size ≡ n * size + size = omega arith in absurd (omega (arith, more))
+  placed_cuts (suc zero) at count stream e h = (omega (arith, length-take size stream), tt)
+  placed_cuts (suc (suc n)) at count stream e h =
+      let more : suc (suc n) * size ≡ suc n * size + size = omega arith in
+      let again : suc n * size ≡ n * size + size = omega arith in
+      let long = length-take size stream in
+      let left = length-drop size stream in
+      (omega (arith, long), placed_cuts (suc n) (at + length (take size stream)) count (drop size stream) (omega (arith, long, left)) (omega (arith, left)))
 
   pub placed_fields : (packets : List (List ℕ)) → All IsPacket packets → Placed 0 (fields_of size (stream_of packets))
   placed_fields [] h =
-      let one : 0 + (size - 1) < 1 * size = omega arith in
-      let few : (0 + (size - 1)) / size < 1 = div_below (0 + (size - 1)) size 1 (omega arith) one in
-      let none : (0 + (size - 1)) / size ≡ 0 = omega (arith, few) in
+      let none : (0 + (size - 1)) / size ≡ 0 = omega (arith, div_below (0 + (size - 1)) size 1 (omega arith) (omega arith)) in
       subst (λ n. Placed 0 (cuts size n [])) (sym none) tt
   placed_fields (p ∷ ps) h =
       let stream = stream_of (p ∷ ps) in

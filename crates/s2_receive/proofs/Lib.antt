@@ -1,3 +1,4 @@
+pub mod Names
 pub mod SymbolLists
 pub mod Headers
 pub mod MetLemmas
@@ -9,4 +10,3 @@ pub mod FieldPlaces
 pub mod Reception
 pub mod SearchWords
 pub mod SameSymbols
-pub mod HeaderWindows

@@ -1,17 +1,9 @@
 -- What known bytes spell determines what is met.
-use Rattle.std.proofs.Common.{◌≡◌, ℕ, List, [], ◌∷◌, ◌++◌, Option, Some, None, refl, sym, ap, ◌∙◌, subst, append-nil}
-use Rattle.std.specs.Prelude.{nat_lt}
-use Rattle.s2_mode.specs.Streams.{Streams}
-use Rattle.s2_mode.specs.declared.symbols.Symbol.{Symbol}
-use Rattle.s2_receive.specs.Meeting.{Met, ended, nothing_over, met_from, met_in}
-use Rattle.s2_receive.specs.Finding.{Meets}
-use Rattle.s2_receive.specs.Receiving.{Rules, State, Went, met_left, after, step_of, phase_after}
-use Rattle.s2_receive.specs.Laws.{HasGiven, SameRunLaw, SameStepLaw, Spells}
-use Rattle.s2_receive.specs.declared.report.Phase.{Phase}
-use Rattle.s2_receive.specs.declared.report.Phase.TheVariants as phases
+use Rattle.s2_receive.proofs.Names.{◌≡◌, ℕ, List, [], ◌∷◌, ◌++◌, Option, Some, None, refl, sym, ap, ◌∙◌, subst, append-nil, nat_lt, Streams, Symbol, Met, ended, nothing_over, met_from, met_in, Meets, Rules, State, Went, met_left, after, step_of, phase_after, HasGiven, SameRunLaw, SameStepLaw, Spells, Phase}
+use Rattle.s2_receive.proofs.Names.phases
 
 module _ (rules : Rules) where
-  spelled_in : (at : ℕ) (symbols : List Symbol) (known : Option (List ℕ)) → Spells known symbols
+  pub spelled_in : (at : ℕ) (symbols : List Symbol) (known : Option (List ℕ)) → Spells known symbols
       → met_in rules.finds rules.size at 0 (nat_lt 0 at) nothing_over [] known ≡ Some (met_from rules.finds rules.size at 0 (nat_lt 0 at) nothing_over symbols)
   spelled_in at symbols None spelt = absurd spelt
   spelled_in at symbols (Some bytes) spelt = ap (λ l. Some (met_from rules.finds rules.size at 0 (nat_lt 0 at) nothing_over l)) spelt

@@ -1,4 +1,4 @@
-use Rattle.s2_modem.proofs.CleanFrames.{arrival_law}
+use Rattle.s2_modem.proofs.Arrival.{arrival_law}
 use Rattle.s2_modem.proofs.laws.arrival.Goals as goal
 
 pub returns : goal.returns

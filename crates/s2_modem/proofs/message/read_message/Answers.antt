@@ -1,10 +1,5 @@
-use Rattle.std.proofs.Common.{◌≡◌, ◌/◌, true, length, take, sym, ap, ◌∙◌, arith}
-use Rattle.s2_mode.specs.Mode.{kbch_of}
-use Rattle.s2_bits.specs.Bits.{bytes_from}
-use Rattle.s2_scramble.specs.Baseband.{scrambled}
-use Rattle.s2_bbframe.specs.Headers.{header_of_bytes, has_valid_lengths}
-use Rattle.s2_modem.specs.Reports.{message_of, header_in}
-use Rattle.s2_modem.proofs.DecisionLemmas.{frame_read, header_read, accepted_valid, field_fits}
+use Rattle.s2_modem.proofs.Names.{take_all, ◌≡◌, ◌/◌, true, length, take, sym, ap, ◌∙◌, arith, kbch_of, bytes_from, scrambled, header_of_bytes, has_valid_lengths, message_of, header_in}
+use Rattle.s2_modem.proofs.DecisionLemmas.{frame_read, accepted_valid, field_fits}
 use Rattle.s2_modem.proofs.message.read_message.Goals as goal
 use Rattle.s2_modem.proofs.message.read_message.Goals.{After-read, In-Ok}
 
@@ -14,7 +9,8 @@ frame_is c =
 
 header_is : (c : After-read) → c.read.result ≡ header_of_bytes c.args.mode (header_in (scrambled (message_of c.args.mode c.args.bch_word.now)))
 header_is c =
-    c.read.ensures ∙ ap (header_of_bytes c.args.mode) (header_read c.args.mode c.args.bch_word.now c.bb_xor_in_place.new.bits c.truths-bits.result.now c.bytes_from.new.bytes (frame_is c) c.truths-bits.ensures c.bytes_from.ensures c.bytes_from.auto.bytes)
+    let bytes = c.bytes_from.new.bytes in
+    c.read.ensures ∙ ap (header_of_bytes c.args.mode) (sym (take_all 10 bytes (omega (arith, c.bytes_from.auto.bytes))) ∙ c.bytes_from.ensures ∙ ap (bytes_from 0 10) (c.truths-bits.ensures ∙ frame_is c))
 
 valid : (c : In-Ok) → has_valid_lengths c.args.mode c.in-Ok.header ≡ true
 valid c = accepted_valid c.args.mode c.bytes_from.new.bytes c.in-Ok.header (sym c.read.ensures ∙ c.in-Ok.is)

@@ -1,10 +1,4 @@
-use Rattle.std.proofs.Common.{◌≤◌, sym, ap, subst, ◌∙◌}
-use Rattle.std.proofs.lemmas.Result.{IfOk-weaker}
-use Rattle.s2_mode.specs.Mode.{shape_in, symbols_in}
-use Rattle.s2_soft.specs.Divisors.{IsDivisor}
-use Rattle.s2_receive.specs.Windows.{found_as}
-use Rattle.s2_modem.specs.Reports.{frame_decision, IsUndecided}
-use Rattle.s2_modem.specs.Listening.{Listening}
+use Rattle.s2_modem.proofs.Names.{◌≤◌, sym, ap, subst, ◌∙◌, IfOk-weaker, shape_in, symbols_in, IsDivisor, found_as, frame_decision, IsUndecided, Listening}
 use Rattle.s2_modem.proofs.HeadlineLemmas.{promises}
 use Rattle.s2_modem.proofs.receiver.tune.Goals as goal
 

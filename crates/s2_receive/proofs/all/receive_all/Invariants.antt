@@ -1,7 +1,4 @@
-use Rattle.std.proofs.Common.{◌≡◌, ◌+◌, ◌-◌}
-use Rattle.s2_mode.specs.Limits.{most_symbols}
-use Rattle.s2_mode.specs.Streams.{streams_by}
-use Rattle.s2_receive.specs.Receiving.{IsLive, rank, rules_of}
+use Rattle.s2_receive.proofs.Names.{◌≡◌, ◌+◌, ◌-◌, most_symbols, streams_by, IsLive, rank, rules_of}
 use Rattle.s2_receive.proofs.RunLemmas.{Came}
 use Rattle.s2_receive.proofs.all.receive_all.Given as goal
 

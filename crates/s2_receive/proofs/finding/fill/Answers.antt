@@ -1,4 +1,4 @@
-use Rattle.std.proofs.Common.{rules, ◌+◌, ◌-◌, arith}
+use Rattle.s2_receive.proofs.Names.{rules, ◌+◌, ◌-◌, arith}
 use Rattle.s2_receive.proofs.FindSteps.{filled}
 use Rattle.s2_receive.proofs.finding.fill.Goals as goal
 

@@ -1,19 +1,14 @@
-use Rattle.std.proofs.Common.{◌+◌, ◌-◌, [], ◌∷◌, Some, length-take-le, ap, sym, subst, ◌∙◌, arith}
-use Rattle.s2_receive.specs.Meeting.{ended}
-use Rattle.s2_receive.specs.Finding.{Meets, met_with}
-use Rattle.s2_receive.specs.Windows.{found_as}
+use Rattle.s2_receive.proofs.Names.{◌+◌, ◌-◌, length-take-le, ap, ◌∙◌, arith, found_as}
 use Rattle.s2_receive.proofs.MetLemmas.{passed-symbols}
 use Rattle.s2_receive.proofs.FindSteps.{last_cut, last_end}
 use Rattle.s2_receive.proofs.finding.meet_last.Goals as goal
 
 pub returns-then-scan-clause-met : goal.returns-then-scan-clause-met
-returns-then-scan-clause-met c = λ bytes end. last_cut (found_as c.args.search.now.mode c.args.lock) c.args.held c.args.frame.now bytes c.look_through-scan.result c.requires.few end c.look_through-scan.ensures.scans c.if-scan.true
+returns-then-scan-clause-met c = last_cut (found_as c.args.search.now.mode c.args.lock) c.args.held c.args.frame.now c.look_through-scan.result c.requires.few c.look_through-scan.ensures.scans c.if-scan.true
 
 pub returns-else-scan-clause-met : goal.returns-else-scan-clause-met
 returns-else-scan-clause-met c = λ bytes end.
-    let finds = found_as c.args.search.now.mode c.args.lock in
-    subst (λ over. Meets (met_with finds c.args.held c.args.frame.now bytes) (Some []) (ended over ∷ [])) (sym c.passed.ensures)
-    (last_end finds c.args.held c.args.frame.now bytes c.look_through-scan.result c.requires.few end c.look_through-scan.ensures.scans c.if-scan.false)
+    rw c.passed.ensures (last_end (found_as c.args.search.now.mode c.args.lock) c.args.held c.args.frame.now c.look_through-scan.result c.requires.few c.look_through-scan.ensures.scans c.if-scan.false bytes end)
 
 pub returns-then-scan-clause-behind : goal.returns-then-scan-clause-behind
 returns-then-scan-clause-behind c =

@@ -1,18 +1,16 @@
-use Rattle.std.proofs.Common.{ℕ, length, refl, arith}
-use Rattle.s2_receive.specs.Windows.{found_as}
+use Rattle.s2_receive.proofs.Names.{refl, arith, found_as}
 use Rattle.s2_receive.proofs.FindSteps.{stands, moved}
 use Rattle.s2_receive.proofs.finding.pass_over.Goals as goal
 
 pub returns-then-scan-eq0-clause-stands : goal.returns-then-scan-eq0-clause-stands
-returns-then-scan-eq0-clause-stands c = λ is bytes.
-    stands (found_as c.args.search.now.mode c.args.lock) c.args.held.now c.args.frame.now bytes c.look_through-scan.result c.requires.full c.requires.size.0 c.look_through-scan.ensures.scans c.if-scan-eq0.true
+returns-then-scan-eq0-clause-stands c = λ is.
+    stands (found_as c.args.search.now.mode c.args.lock) c.args.held.now c.args.frame.now c.look_through-scan.result c.requires.full c.requires.size.0 c.look_through-scan.ensures.scans c.if-scan-eq0.true
 
 pub returns-clause-passed : goal.returns-clause-passed
-returns-clause-passed c = λ is bytes.
-    let symbols = c.args.frame.now in
-    let gone : ℕ = c.min-gone.result in
+returns-clause-passed c = λ is.
     let least = c.min-gone.ensures in
-    moved (found_as c.args.search.now.mode c.args.lock) c.args.held.now symbols bytes c.look_through-scan.result c.requires.full c.requires.size.0 c.look_through-scan.ensures.scans gone c.copy_within.new.self (length symbols) (omega (arith, least)) (omega (arith, least)) (λ far. omega (arith, least, far)) c.copy_within.ensures.after refl c.copy_within.ensures.len
+    moved (found_as c.args.search.now.mode c.args.lock) c.args.held.now c.args.frame.now c.look_through-scan.result c.requires.full c.requires.size.0 c.look_through-scan.ensures.scans c.min-gone.result c.copy_within.new.self
+    (omega (arith, least)) (omega (arith, least)) (λ far. omega (arith, least, far)) c.copy_within.ensures.after c.copy_within.ensures.len
 
 pub returns-then-scan-eq0-clause-held : goal.returns-then-scan-eq0-clause-held
 returns-then-scan-eq0-clause-held c = λ is. (refl, omega (arith, c.look_through-scan.ensures.scans.within.0, c.if-scan-eq0.true))

@@ -1,11 +1,5 @@
-use Rattle.std.proofs.Common.{◌≡◌, ◌∷◌, ◌++◌, [], true, List, ap, sym, ◌∙◌}
-use Rattle.s2_mode.specs.declared.symbols.Symbol.{Symbol}
-use Rattle.s2_plframe.specs.HeaderLaws.{seen_of}
-use Rattle.s2_plframe.specs.Search.{Search}
-use Rattle.s2_receive.specs.Finding.{found_last}
-use Rattle.s2_receive.specs.Windows.{Saw, found_as}
-use Rattle.s2_receive.proofs.HeaderWindows.{fed, met_behind}
-use Rattle.s2_receive.proofs.Headers.{last_found}
+use Rattle.s2_receive.proofs.Names.{◌≡◌, ◌∷◌, ◌++◌, [], true, List, ap, sym, ◌∙◌, Symbol, seen_of, Search, found_last, Saw, found_as}
+use Rattle.s2_receive.proofs.Headers.{fed, met_behind}
 use Rattle.s2_receive.proofs.scanning.found_with.Goals as goal
 
 pub returns-then-first-clause-header : goal.returns-then-first-clause-header
@@ -14,12 +8,11 @@ returns-then-first-clause-header c = λ seen saw many.
     let old : Search = c.args.search.now in
     let new : Search = c.feed-found.new.self in
     let all : List Symbol = seen ++ c.args.symbol ∷ [] in
-    let full = many c.if-first.true in
     let held : new.seen ≡ seen_of all = ap (λ s. s.seen) c.feed-found.ensures.seen ∙ (fed old.mode c.args.lock seen old.seen c.args.symbol saw).0 in
     let mode : new.mode ≡ old.mode = ap (λ s. s.mode) c.feed-found.ensures.seen in
-    let told = met_behind new.mode c.args.lock all new.seen held full in (
+    let told = met_behind new.mode c.args.lock all new.seen held (many c.if-first.true) in (
       held,
-      c.behind.ensures.found told.0 ∙ told.1 ∙ last_found (found_as new.mode c.args.lock true) all full ∙ ap (λ m. found_last (found_as m c.args.lock true) all) mode
+      c.behind.ensures.found told.0 ∙ told.1 ∙ ap (λ m. found_last (found_as m c.args.lock true) all) mode
           ∙ ap (λ b. found_last (found_as old.mode c.args.lock b) all) (sym c.if-first.true),
     )
 

@@ -1,11 +1,5 @@
-use Rattle.std.proofs.Common.{◌≡◌, ◌++◌, ◌∷◌, [], ◌+◌, ◌-◌, ℕ, Bool, false, true, length, sym, ap, take, drop, subst, ◌∙◌}
-use Rattle.std.specs.Prelude.{◌||◌, nat_lt, max}
-use Rattle.s2_mode.specs.Symbols.{symbol_at}
-use Rattle.s2_plframe.specs.declared.receive.found.Found.TheVariants as founds
-use Rattle.s2_receive.specs.Finding.{Scans}
-use Rattle.s2_receive.specs.Windows.{Saw, found_as}
-use Rattle.s2_receive.proofs.HeaderWindows.{restarted}
-use Rattle.s2_receive.proofs.Headers.{Looked, begun, seen_none, seen_more, found_now, many_seen, nothing_more, coded_there, dummy_there, none_left}
+use Rattle.s2_receive.proofs.Names.{◌≡◌, ◌+◌, ◌-◌, ℕ, Bool, length, sym, ap, take, drop, subst, ◌∙◌, ◌||◌, nat_lt, max, Saw, found_as}
+use Rattle.s2_receive.proofs.Headers.{restarted, begun, seen_none, seen_on, nothing_more, coded_there, dummy_there, none_left}
 use Rattle.s2_receive.proofs.MetLemmas.{behind_or}
 use Rattle.s2_receive.proofs.scanning.look_through.Goals.{then-behind, else-behind}
 use Rattle.s2_receive.proofs.scanning.look_through.Goals as goal
@@ -29,48 +23,31 @@ pub look-preserved-in-Nothing : goal.look-preserved-in-Nothing
 look-preserved-in-Nothing c =
     let symbols = c.args.symbols.now in
     let finds = found_as c.args.search.now.mode c.args.lock in
-    let start : ℕ = c.look.start in
-    let at : ℕ = c.look.at in
-    let first : Bool = c.is_first-first.result in
     let looked = c.look.invariant.1 in
-    let now = seen_more symbols start at looked.order c.look-test.true in
-    let fed = c.found_with-found.ensures.header (drop start (take at symbols)) c.look.invariant.0 (many_seen symbols start at c.look.behind first c.is_first-first.ensures looked.order c.look-test.true) in
-    let none = found_now (finds first) symbols (found_as c.look.search.mode c.args.lock first) start at (drop start (take at symbols) ++ symbol_at symbols at ∷ []) founds.Nothing c.found_with-found.result (ap (λ f. f first) (ap (λ m. found_as m c.args.lock) c.look.invariant.2)) now fed.1 c.in-Nothing.is in (
-      subst (Saw c.found_with-found.new.search) now fed.0,
-      nothing_more finds symbols c.args.from c.args.inside c.args.behind c.args.over start at c.look.behind c.look.over looked first c.is_first-first.ensures c.look-test.true none,
-      c.found_with-found.ensures.same ∙ c.look.invariant.2,
-    )
+    let told = seen_on finds (found_as c.look.search.mode c.args.lock) symbols c.look.start c.look.at c.look.behind c.is_first-first.result (Saw c.found_with-found.new.search) c.found_with-found.result
+    (ap (λ m. found_as m c.args.lock) c.look.invariant.2) c.is_first-first.ensures looked.order c.look-test.true (c.found_with-found.ensures.header (drop c.look.start (take c.look.at symbols)) c.look.invariant.0) in
+    (told.0, nothing_more finds symbols looked c.is_first-first.ensures c.look-test.true (told.1 ∙ c.in-Nothing.is), c.found_with-found.ensures.same ∙ c.look.invariant.2)
 
 pub returns-in-Coded-clause-scans : goal.returns-in-Coded-clause-scans
 returns-in-Coded-clause-scans c =
     let symbols = c.args.symbols.now in
     let finds = found_as c.args.search.now.mode c.args.lock in
-    let start : ℕ = c.look.start in
-    let at : ℕ = c.look.at in
-    let first : Bool = c.is_first-first.result in
     let looked = c.look.invariant.1 in
-    let now = seen_more symbols start at looked.order c.look-test.true in
-    let fed = c.found_with-found.ensures.header (drop start (take at symbols)) c.look.invariant.0 (many_seen symbols start at c.look.behind first c.is_first-first.ensures looked.order c.look-test.true) in
-    let coded = found_now (finds first) symbols (found_as c.look.search.mode c.args.lock first) start at (drop start (take at symbols) ++ symbol_at symbols at ∷ []) founds.Coded c.found_with-found.result (ap (λ f. f first) (ap (λ m. found_as m c.args.lock) c.look.invariant.2)) now fed.1 c.in-Coded.is in
-    let scans = (coded_there finds symbols c.args.from c.args.inside c.args.behind c.args.over start at c.look.behind c.look.over looked first c.is_first-first.ensures c.look-test.true coded).1 in
-    subst (λ over. Scans finds symbols c.args.from c.args.inside c.args.behind c.args.over (record { place = at + 1 - 90; over = over; behind = first; coded = true })) (sym c.passed.ensures) scans
+    let told = seen_on finds (found_as c.look.search.mode c.args.lock) symbols c.look.start c.look.at c.look.behind c.is_first-first.result (Saw c.found_with-found.new.search) c.found_with-found.result
+    (ap (λ m. found_as m c.args.lock) c.look.invariant.2) c.is_first-first.ensures looked.order c.look-test.true (c.found_with-found.ensures.header (drop c.look.start (take c.look.at symbols)) c.look.invariant.0) in
+    rw c.passed.ensures (coded_there finds symbols looked c.is_first-first.ensures c.look-test.true (told.1 ∙ c.in-Coded.is))
 
 pub look-preserved : goal.look-preserved
 look-preserved c =
     let symbols = c.args.symbols.now in
     let finds = found_as c.args.search.now.mode c.args.lock in
-    let start : ℕ = c.look.start in
-    let at : ℕ = c.look.at in
-    let first : Bool = c.is_first-first.result in
     let looked = c.look.invariant.1 in
-    let now = seen_more symbols start at looked.order c.look-test.true in
-    let fed = c.found_with-found.ensures.header (drop start (take at symbols)) c.look.invariant.0 (many_seen symbols start at c.look.behind first c.is_first-first.ensures looked.order c.look-test.true) in
-    let dummy = found_now (finds first) symbols (found_as c.look.search.mode c.args.lock first) start at (drop start (take at symbols) ++ symbol_at symbols at ∷ []) founds.Dummy c.found_with-found.result (ap (λ f. f first) (ap (λ m. found_as m c.args.lock) c.look.invariant.2)) now fed.1 c.in-Dummy.is in
-    let there = (dummy_there finds symbols c.args.from c.args.inside c.args.behind c.args.over start at c.look.behind c.look.over looked first c.is_first-first.ensures c.look-test.true dummy).1 in
+    let told = seen_on finds (found_as c.look.search.mode c.args.lock) symbols c.look.start c.look.at c.look.behind c.is_first-first.result (Saw c.found_with-found.new.search) c.found_with-found.result
+    (ap (λ m. found_as m c.args.lock) c.look.invariant.2) c.is_first-first.ensures looked.order c.look-test.true (c.found_with-found.ensures.header (drop c.look.start (take c.look.at symbols)) c.look.invariant.0) in
     let again = restarted c.restart-in-Dummy.new.self c.found_with-found.new.search.mode c.restart-in-Dummy.ensures in
-    let next : ℕ = at + 1 - 90 + 3330 in (
+    let next : ℕ = c.look.at + 1 - 90 + 3330 in (
       subst (Saw c.restart-in-Dummy.new.self) (seen_none symbols next) again.0,
-      subst (Looked finds symbols c.args.from c.args.inside c.args.behind c.args.over next next true) (sym c.passed-over.ensures) there,
+      rw c.passed-over.ensures (dummy_there finds symbols looked c.is_first-first.ensures c.look-test.true (told.1 ∙ c.in-Dummy.is)),
       again.1 ∙ c.found_with-found.ensures.same ∙ c.look.invariant.2,
     )
 
@@ -78,10 +55,6 @@ pub returns-clause-scans : goal.returns-clause-scans
 returns-clause-scans c =
     let symbols = c.args.symbols.now in
     let finds = found_as c.args.search.now.mode c.args.lock in
-    let start : ℕ = c.look.start in
-    let at : ℕ = c.look.at in
     let place : ℕ = c.max-place.result in
-    let there : Bool = c.is_first.result in
-    let is : place ≡ max start (length symbols - 89) = c.max-place.ensures ∙ ap (max start) c.saturating_sub.ensures in
-    let scans = none_left finds symbols c.args.from c.args.inside c.args.behind c.args.over start at c.look.behind c.look.over c.look.invariant.1 place there c.is_first.ensures c.look-test.false is in
-    subst (λ over. Scans finds symbols c.args.from c.args.inside c.args.behind c.args.over (record { place = place; over = over; behind = there; coded = false })) (sym c.passed-2.ensures) scans
+    let is : place ≡ max c.look.start (length symbols - 89) = c.max-place.ensures ∙ ap (max c.look.start) c.saturating_sub.ensures in
+    rw c.passed-2.ensures (none_left finds symbols c.look.invariant.1 place c.is_first.result c.is_first.ensures c.look-test.false is)

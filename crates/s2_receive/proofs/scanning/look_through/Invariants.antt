@@ -1,5 +1,4 @@
-use Rattle.std.proofs.Common.{◌≡◌, ◌-◌, length, take, drop}
-use Rattle.s2_receive.specs.Windows.{Saw, found_as}
+use Rattle.s2_receive.proofs.Names.{◌≡◌, ◌-◌, length, take, drop, Saw, found_as}
 use Rattle.s2_receive.proofs.Headers.{Looked}
 use Rattle.s2_receive.proofs.scanning.look_through.Given as goal
 

@@ -1,12 +1,4 @@
-use Rattle.std.proofs.Common.{◌≡◌, ℤ, List, length, refl, sym, ap, subst, ◌∙◌}
-use Rattle.s2_check.proofs.Lists.{refilled}
-use Rattle.s2_link.specs.Link.{Link}
-use Rattle.s2_plframe.specs.Payload.{received_payload}
-use Rattle.s2_soft.specs.Soft.{soft_values}
-use Rattle.s2_receive.specs.Parts.{delivered_of}
-use Rattle.s2_judge.specs.Deciding.{decided}
-use Rattle.s2_modem.specs.Reports.{frame_soft, frame_decision, received_word}
-use Rattle.s2_modem.specs.Listening.{FindsWord, Reads, Listening}
+use Rattle.s2_modem.proofs.Names.{◌≡◌, ℤ, List, length, refl, sym, ap, subst, ◌∙◌, refilled, Link, received_payload, soft_values, delivered_of, decided, frame_soft, frame_decision, received_word, FindsWord, Reads, Listening}
 use Rattle.s2_modem.proofs.DecisionLemmas.{frame_decided}
 use Rattle.s2_modem.proofs.decider.DeciderDecide.decide.Goals as goal
 

@@ -6,7 +6,7 @@ use Rattle.s2_modem.proofs.receiver.Receiver.meet.Goals.{After-meet}
 promise : (g : Over) (c : After-meet g) → IsPromised c.args.self.now c.meet.new.self.decider.last (g.R.CountedRead.remaining c.args.reader.now) c.meet.result
 promise g c =
     let m = c.meet in
-    meet_promised _ _ m.new.self.state m.new.self.decider.last m.result c.self.view_is c.self.invariant.1 _ c.self.invariant.0 _ (g.R.CountedRead.remaining m.new.reader) m.ensures.finds m.ensures.ended m.ensures.failed
+    meet_promised _ _ m.new.self.decider.last m.result c.self.view_is c.self.invariant.1 _ c.self.invariant.0 m.ensures.ended m.ensures.failed m.new.self.state _ (g.R.CountedRead.remaining m.new.reader) m.ensures.finds
 
 pub returns-clause-as_likely : goal.returns-clause-as_likely
 returns-clause-as_likely g c = (promise g (goal.at.returns-clause-as_likely g c).After-meet).as_likely

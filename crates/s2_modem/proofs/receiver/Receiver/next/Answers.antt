@@ -6,7 +6,7 @@ use Rattle.s2_modem.proofs.receiver.Receiver.next.Goals.{After-next}
 promise : (g : Over) (c : After-next g) → IsPromised c.args.self.now c.next.new.self.decider.last (g.R.CountedRead.remaining c.args.reader.now) c.next.result
 promise g c =
     let n = c.next in
-    next_promised _ _ n.new.self.state n.new.self.decider.last n.result c.self.view_is c.self.invariant.1 _ c.self.invariant.0 _ _ n.ensures.live n.ensures.frame
+    next_promised _ _ n.new.self.decider.last n.result c.self.view_is c.self.invariant.1 _ c.self.invariant.0 n.ensures.ended n.ensures.failed n.new.self.state _ _ n.ensures.live n.ensures.frame
 
 pub returns-clause-as_likely : goal.returns-clause-as_likely
 returns-clause-as_likely g c = (promise g (goal.at.returns-clause-as_likely g c).After-next).as_likely

@@ -1,7 +1,4 @@
-use Rattle.std.proofs.Common.{◌≡◌, sym, subst, ◌∙◌}
-use Rattle.s2_link.specs.Link.{Link, link_of, setup_of}
-use Rattle.s2_modem.specs.Reception.{link_rules}
-use Rattle.s2_modem.specs.Promise.{Promises}
+use Rattle.s2_modem.proofs.Names.{◌≡◌, sym, subst, ◌∙◌, Link, link_of, setup_of, link_rules, Promises}
 use Rattle.s2_modem.proofs.receiver.Receiver.on_link.Goals as goal
 
 pub invariant_of-result : goal.invariant_of-result

@@ -1,0 +1,112 @@
+-- The names that the proofs of this crate cite, passed on from one place. Declares nothing.
+pub use Rattle.std.specs.Io.KnownBytes.{Appends, Consumes, IsAtEnd}
+pub use Rattle.std.specs.List.{range_with_len}
+pub use Rattle.std.specs.Prelude.{⊤}
+pub use Rattle.std.proofs.Common.{All, Bool, Err, IfNone, IfOk, IfSome, IsErrOf, IsTrue, List, None, Ok, Option, Result, SFits, Some, [], ap, append-nil, append_assoc, ap₂, arith, cond, drop, drop-drop, drop_at, eq-eqb, eqb-true, ext_get_or, false, flat_map, get_or, get_or-drop, get_or-take, if◌then◌else◌, inl, inr, int_lt, le-leb, leb-true, length, length-append, length-drop, length-take, length-take-le, lt-ltb, map, nat_eq, nat_le, nat_lt, neg_ℤ, negsuc, pos, refl, replicate, subst, suc, sym, take, take_all, take_at, true, w16, zero, ℕ, ℤ, ◌%◌, ◌*◌, ◌++◌, ◌+◌, ◌-◌, ◌/◌, ◌<◌, ◌==◌, ◌↔◌, ◌∙◌, ◌∷◌, ◌≡◌, ◌≢◌, ◌≤◌}
+pub use Rattle.std.proofs.lemmas.Bool.{and_parts, cond_both, or_cases, or_right}
+pub use Rattle.std.proofs.lemmas.Int.{int_min_is, ints}
+pub use Rattle.std.proofs.lemmas.List.{length-map, take-replicate}
+pub use Rattle.std.proofs.lemmas.List.Elements.{All-append, All-cons, All-drop, All-from_recursion, All-head, All-map, All-nil, All-push, All-tail, All-take, All-weaker}
+pub use Rattle.std.proofs.lemmas.List.FromFn.{fill_by_all, get_or-map-range_with_len, length-map-range_with_len}
+pub use Rattle.std.proofs.lemmas.Result.{IfOk-weaker}
+pub use Rattle.s2_mode.specs.Limits.{most_symbols}
+pub use Rattle.s2_mode.specs.Mode.{HasCodeSizes, IsMode, Mode, is_qpsk, k_of, kbch_of, n_of, shape_in, slots_of, symbols_in, t_of}
+pub use Rattle.s2_mode.specs.Shape.{code_bits}
+pub use Rattle.s2_mode.specs.Streams.{Streams}
+pub use Rattle.s2_mode.specs.Symbols.{IsSymbol, bytes_of_symbols, symbol, symbol_at, symbol_bytes, symbols_of}
+pub use Rattle.s2_mode.specs.declared.stream_fault.StreamFault.{StreamFault}
+pub use Rattle.s2_mode.specs.declared.symbols.Symbol.{Symbol}
+pub use Rattle.s2_mode.proofs.SymbolLists.{symbols-append}
+pub use Rattle.s2_mode.proofs.SymbolsBack.{symbols_back}
+pub use Rattle.s2_bits.specs.Bits.{Rewritten, bit_at, bits_of_bytes, byte_at, byte_of, bytes_from, differences, number}
+unfoldable pub use Rattle.s2_bits.specs.Bits.{bits_of_byte}
+pub use Rattle.s2_bits.proofs.Spelled.{byte_back}
+pub use Rattle.s2_bits.proofs.Sums.{xor_same}
+pub use Rattle.s2_rows.specs.Rows.{Rows}
+pub use Rattle.s2_matrix.specs.Code.{IsCodeword, code_of}
+pub use Rattle.s2_bch.specs.Codes.{IsWithin}
+pub use Rattle.s2_bch.specs.Decoding.{nearest}
+pub use Rattle.s2_bch.proofs.NearestWords.{nearest_is_within, no_nearest, within_is_nearest}
+pub use Rattle.s2_scramble.specs.Baseband.{scrambled}
+pub use Rattle.s2_scramble.specs.Gold.{quarter_turns}
+pub use Rattle.s2_scramble.specs.Turns.{CanTurnBack, HasNegative, negative, turned}
+pub use Rattle.s2_scramble.proofs.Blocks.{scrambled-scrambled}
+pub use Rattle.s2_bbframe.specs.Crc.{crc8}
+pub use Rattle.s2_bbframe.specs.DataStream.{IsPacket, closed_body, cuts, field_bytes, fields_of, header_at, stream_of, to_place}
+pub use Rattle.s2_bbframe.specs.Headers.{has_valid_lengths, header_bytes, header_of, header_of_bytes, is_packet_stream, is_whole, signalling}
+pub use Rattle.s2_bbframe.specs.Joining.{Placed, closed_in}
+pub use Rattle.s2_bbframe.specs.declared.header.Header.{Header}
+pub use Rattle.s2_bbframe.specs.declared.header.HeaderFault.{HeaderFault}
+pub use Rattle.s2_bbframe.proofs.Division.{divided}
+pub use Rattle.s2_bbframe.proofs.Headers.{header_of_bytes-accepted, header_of_bytes-bad_crc, header_of_bytes-bad_lengths, header_of_bytes-header_bytes, header_of_bytes-other}
+pub use Rattle.s2_map.specs.Mapping.{payload_of, payload_symbol, points, psk_points, qpsk_points}
+pub use Rattle.s2_plframe.specs.Dummy.{dummy_symbol}
+unfoldable pub use Rattle.s2_plframe.specs.Dummy.{dummy_frame}
+pub use Rattle.s2_plframe.specs.Frame.{frame_symbol, frame_symbols, slot_symbol, spaced_symbol}
+pub use Rattle.s2_plframe.specs.Header.{dummy_mode, header_bit, header_point, header_symbol}
+pub use Rattle.s2_plframe.specs.Payload.{received_payload}
+pub use Rattle.s2_plframe.specs.Search.{decision, found, found_behind}
+pub use Rattle.s2_plframe.specs.declared.receive.found.Found.{Found}
+pub use Rattle.s2_plframe.proofs.HeaderFacts.{clean_passes, dummy_found}
+pub use Rattle.s2_plframe.proofs.HeadersBehind.{clean_behind, dummy_behind}
+pub use Rattle.s2_plframe.proofs.Payloads.{payload_again}
+pub use Rattle.s2_soft.specs.Clean.{Says}
+pub use Rattle.s2_soft.specs.Divisors.{IsDivisor}
+pub use Rattle.s2_soft.specs.Soft.{soft_bit, soft_values}
+pub use Rattle.s2_soft.proofs.Clean.{clean_says}
+pub use Rattle.s2_check.specs.Cost.{IsMostLikely}
+pub use Rattle.s2_check.specs.Hard.{NoneIsZero, hard_decision}
+pub use Rattle.s2_check.specs.Strict.{IsSole}
+pub use Rattle.s2_check.specs.Verdicts.{is_certified}
+pub use Rattle.s2_check.specs.Views.{View}
+pub use Rattle.s2_check.specs.declared.verdict.Verdict.{Verdict}
+pub use Rattle.s2_check.specs.declared.verdict.Verdict.TheVariants.{Broken, Sole}
+pub use Rattle.s2_check.proofs.Lists.{refilled}
+pub use Rattle.s2_link.specs.Link.{Link, link_of, setup_of}
+pub use Rattle.s2_link.specs.Tuning.{Tuning}
+pub use Rattle.s2_judge.specs.Deciding.{Decided, IsShown, decided}
+pub use Rattle.s2_judge.proofs.DecidedLengths.{decided_long}
+pub use Rattle.s2_judge.proofs.DecidingLemmas.{certified_lem, clean_lem, likely_lem, sole_lem}
+pub use Rattle.s2_judge.proofs.Scattering.{scattered_lem}
+pub use Rattle.s2_send.specs.Frames.{IsCodewordFor, baseband_frame, padded_bits, sent_behind}
+pub use Rattle.s2_send.specs.Laws.{IsLinkOf}
+pub use Rattle.s2_send.specs.Sending.{AreUnits, is_due}
+pub use Rattle.s2_send.specs.Transmitter.{Transmitter}
+pub use Rattle.s2_send.proofs.OnlyFrames.{length-baseband_frame, length-bch_word}
+pub use Rattle.s2_receive.specs.Answers.{OnFrame, ReceivesTo, RunAnswers}
+pub use Rattle.s2_receive.specs.Finding.{Meets, met_after, met_of}
+pub use Rattle.s2_receive.specs.Laws.{AreReceived, IsDummy, IsReceived, PassedNone, Piece, Spells, coded, dummy, frames_at, joined, stream_symbols}
+pub use Rattle.s2_receive.specs.Meeting.{Met, begins, by_found, cut, ended, frame, met_from, nothing_over, passed}
+pub use Rattle.s2_receive.specs.Parts.{HasPlace, delivered_of}
+pub use Rattle.s2_receive.specs.Receiving.{Decision, Finds, IsDecided, IsLive, MetFrame, Rules, RunsOut, Standing, State, StepAnswers, after, after_all, all_lines, all_packets, all_well, at_end, at_start, begun, met_left, passes, report_for, report_of, step_of}
+pub use Rattle.s2_receive.specs.ReportLines.{cut_line, end_line, frame_line}
+unfoldable pub use Rattle.s2_receive.specs.Windows.{found_as}
+pub use Rattle.s2_receive.specs.declared.parts.Decided.{Decided as Answer}
+pub use Rattle.s2_receive.specs.declared.report.Fault.{Fault}
+pub use Rattle.s2_receive.specs.declared.report.Outcome.{Outcome}
+pub use Rattle.s2_receive.specs.declared.report.Outcome.TheVariants.{Delivered, NoWord}
+pub use Rattle.s2_receive.specs.declared.report.Received.{Received}
+pub use Rattle.s2_receive.specs.declared.report.Report.{Report}
+pub use Rattle.s2_receive.specs.declared.report.Step.{Step}
+pub use Rattle.s2_receive.specs.declared.report.Totals.{Totals}
+pub use Rattle.s2_receive.specs.declared.stretch.Stretch.{Stretch}
+pub use Rattle.s2_receive.proofs.FieldPlaces.{placed_fields, placed_front}
+pub use Rattle.s2_receive.proofs.MetLemmas.{whole_frame}
+pub use Rattle.s2_receive.proofs.Reception.{front, gives}
+pub use Rattle.s2_receive.proofs.RunLemmas.{after-append, lines-append, packets-append}
+pub use Rattle.s2_receive.proofs.SameSymbols.{same_met}
+pub use Rattle.s2_receive.proofs.StepLemmas.{live_at, on_frame, symbols_least}
+pub use Rattle.s2_modem.specs.Both.{AreBytes, Hears, IsByte, IsDelivered, IsDeliveredCertified, certified_lines, run_places, sent_symbols, totals_of}
+pub use Rattle.s2_modem.specs.Front.{IsCleanFrame}
+pub use Rattle.s2_modem.specs.Headline.{ArrivalLaw, BothCodesLaw, HearsLaw, IsSent, ScatteredFrameLaw}
+pub use Rattle.s2_modem.specs.Listening.{FindsWord, Listening, Reads, decision_held}
+pub use Rattle.s2_modem.specs.Promise.{Arriving, BeginsWith, Headline, IsHeadline, IsReadable, IsReport, KeepsHeadline, Promises, RunsHeadline, decision_from, frame_from}
+pub use Rattle.s2_modem.specs.Reception.{AllAsLikely, AllTold, IsAsLikely, IsCertifiedBy, IsCorrected, Receiver, link_rules, rules_for}
+pub use Rattle.s2_modem.specs.Reports.{IsUndecided, decision_by, decision_on, delivered_by, field_in, frame_soft, header_in, message_of, outcome_by, received_word}
+unfoldable pub use Rattle.s2_modem.specs.Reports.{frame_decision}
+pub use Rattle.s2_modem.specs.Steps.{AllHeard, Corrects, Heard, IsFrameAt, StandsAt}
+pub use Rattle.s2_modem.specs.Streams.{AreEach, FirstFramesLaw, IsClear, IsHeard, IsWholeFrame, OneStreamLaw, places_in}
+pub use Rattle.s2_receive.specs.declared.report.Fault.TheVariants as faults
+pub use Rattle.s2_plframe.specs.declared.receive.found.Found.TheVariants as founds
+pub use Rattle.s2_receive.specs.declared.report.Phase.TheVariants as phases
+pub use Rattle.s2_receive.specs.declared.report.Step.TheVariants as steps

@@ -1,0 +1,53 @@
+-- The names that the proofs of this crate cite, passed on from one place. Declares nothing.
+pub use Rattle.std.proofs.Common.{◌≡◌, ℕ, zero, suc, ◌+◌, ◌-◌, ◌*◌, ◌/◌, ◌<◌, ◌≤◌, List, [], ◌∷◌, ◌++◌, All, length, take, drop, refl, sym, ap, ◌∙◌, subst, length-append, length-drop, length-take, take-append-drop, arith, inl, inr, ◌≢◌, Bool, true, false, Option, Some, None, Result, Ok, Err, OnErr, length-take-le, append-nil, map, cond, append_assoc, ◌&&◌, ◌||◌, rules, max, pos, nat_le, nat_lt, nat_eq, if◌then◌else◌}
+pub use Rattle.std.proofs.KnownBytes.{Consumes-trans, Appends-nil, Appends-trans}
+pub use Rattle.std.proofs.Math.Bool.{and-true, and_assoc}
+pub use Rattle.std.proofs.Math.Nat.{div-mul-le_self, lt-div-mul-add}
+pub use Rattle.std.proofs.Math.Seq.{take-append-add}
+pub use Rattle.std.proofs.lemmas.Bool.{cases_lt, le-leb, lt-leb, lt-ltb, eqb-true, eq-eqb, ne_eqb, cases_eq, cases_Bool, and_right, and_parts, cond-true, cond-false, cond_both}
+pub use Rattle.std.proofs.lemmas.Bool.Decides.{eqb_tells}
+pub use Rattle.std.proofs.lemmas.List.{take_rest, take_all, nil_from_length, take_at, take-take, length-map, drop-take, drop-drop, drop_all, drop-append-le, take-append-le, take_more, drop_at}
+pub use Rattle.std.proofs.lemmas.List.Concat.{flat_map-append}
+pub use Rattle.std.proofs.lemmas.List.Elements.{All-head, All-tail}
+pub use Rattle.std.proofs.lemmas.Nat.{div_below}
+pub use Rattle.std.specs.Io.KnownBytes.{IsAtEnd, Appends, Consumes}
+pub use Rattle.std.specs.List.{flat_map, copy_within}
+pub use borrow.Rule.Slice.PartMut.{put_mid, post_of}
+pub use Rattle.s2_mode.proofs.SymbolLists.{symbols-append, length-symbols}
+pub use Rattle.s2_mode.specs.Limits.{most_symbols}
+pub use Rattle.s2_mode.specs.Mode.{Mode}
+pub use Rattle.s2_mode.specs.Streams.{Streams, streams_by}
+pub use Rattle.s2_mode.specs.Symbols.{symbols_of, symbol_at}
+pub use Rattle.s2_mode.specs.declared.stream_fault.StreamFault.{StreamFault}
+pub use Rattle.s2_mode.specs.declared.symbols.Symbol.{Symbol}
+pub use Rattle.s2_plframe.proofs.HeaderFacts.{seen_more, seen_last}
+pub use Rattle.s2_plframe.specs.HeaderLaws.{seen_of}
+pub use Rattle.s2_plframe.specs.Search.{Search, search_of, decision, found, found_behind, recent}
+pub use Rattle.s2_plframe.specs.declared.receive.found.Found.{Found}
+pub use Rattle.s2_bbframe.proofs.Events.{none-and_then, joining-append, joining-one, torn-append}
+pub use Rattle.s2_bbframe.proofs.RoundTrips.{round_trip}
+pub use Rattle.s2_bbframe.proofs.Runs.{length_closed}
+pub use Rattle.s2_bbframe.specs.DataStream.{IsPacket, closed_body, stream_of, cuts, fields_of, header_at}
+pub use Rattle.s2_bbframe.specs.Joining.{Placed, closed_in, gap, Joined, step, still, begun_body, torn_in, torn, and_then, joining, field, events_from}
+pub use Rattle.s2_receive.specs.Answers.{RunAnswers, OnFrame, Delivers, bytes_by}
+pub use Rattle.s2_receive.specs.Faults.{fault_of}
+pub use Rattle.s2_receive.specs.Finding.{YieldsSymbols, Meets, EndsBehind, Scans, Reaches, ReadsBytes, StopsShort, FindsNext, Looks, IsBehind, met_with, place_with, met_of, met_after, place_after, found_last, NoHeader, ReadsPart}
+pub use Rattle.s2_receive.specs.Laws.{joined, met_events, events_of, IsJoined, Piece, coded, dummy, stream_symbols, AreReceived, frames_at, PassedNone, Gives, FrontLaw, Spells, GoOn, HasGiven, SameRunLaw, SameStepLaw, NoneBegins, SearchLaw, behind_at}
+pub use Rattle.s2_receive.specs.Meeting.{Met, frame, cut, ended, nothing_over, passed, begins, by_found, met_from, met_in, is_over}
+pub use Rattle.s2_receive.specs.Receiving.{Rules, Standing, after, all_packets, packets_of, delivery, joined_after, at_start, met_left, after_all, count_of, State, Went, StepAnswers, IsLive, all_lines, line_of, step_of, is_well, all_well, rank, RunsTo, Stops, BreaksOff, BreaksAfter, phase_after, Receiver, Decision, Finds, Told, Tells, MetFrame, IsDecided, deciding, begun, report_for, rules_of}
+pub use Rattle.s2_receive.specs.Stepping.{FailsIn}
+unfoldable pub use Rattle.s2_receive.specs.Windows.{Saw, found_as}
+pub use Rattle.s2_receive.specs.declared.finding.Held.{Held}
+pub use Rattle.s2_receive.specs.declared.finding.Next.{Next}
+pub use Rattle.s2_receive.specs.declared.report.Fault.{Fault}
+pub use Rattle.s2_receive.specs.declared.report.Phase.{Phase}
+pub use Rattle.s2_receive.specs.declared.report.Report.{Report}
+pub use Rattle.s2_receive.specs.declared.report.Step.{Step}
+pub use Rattle.s2_receive.specs.declared.scanning.Scan.{Scan}
+pub use Rattle.s2_receive.specs.declared.stretch.Stretch.{Stretch}
+pub use Rattle.s2_plframe.specs.declared.receive.found.Found.TheVariants as founds
+pub use Rattle.s2_receive.specs.declared.finding.Next.TheVariants as next
+pub use Rattle.s2_mode.specs.declared.stream_fault.StreamFault.TheVariants as stream_faults
+pub use Rattle.s2_receive.specs.declared.report.Fault.TheVariants as faults
+pub use Rattle.s2_receive.specs.declared.report.Step.TheVariants as steps
+pub use Rattle.s2_receive.specs.declared.report.Phase.TheVariants as phases
