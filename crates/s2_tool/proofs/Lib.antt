@@ -1,6 +1,4 @@
-pub mod AnswerLemmas
+pub mod Names
 pub mod LinkLemmas
-pub mod ReportLemmas
-pub mod LoopLemmas
 pub mod ServeLemmas
 pub mod NoteLemmas

@@ -1,9 +1,10 @@
 -- What `mod` reads, sends and prints.
-use Rattle.std.specs.Prelude.{◌≡◌, ℕ, ◌+◌, List, ◌++◌, codes, decimal, Option, Result, Ok, Err, ◌⊎◌}
+use Rattle.std.specs.Prelude.{◌≡◌, ℕ, List, ◌++◌, codes, decimal, Option, Result, Ok, Err}
 use Rattle.s2_mode.specs.Streams.{Streams}
 use Rattle.s2_link.specs.Link.{Link}
 use Rattle.s2_link.specs.declared.setup.Setup.{Setup}
 use Rattle.s2_send.specs.FaultTexts.{send_fault_text}
+use Rattle.s2_send.specs.Laws.{ReadFails}
 use Rattle.s2_send.specs.Sending.{TransmitterRuns}
 use Rattle.s2_send.specs.Transmitter.{Transmitter, new_transmitter}
 use Rattle.s2_send.specs.declared.outcome.Counts.{Counts}
@@ -34,13 +35,9 @@ abbrev pub Tells : Result Counts SendFault → Result Exit Fault → Option (Lis
 Tells (Ok counts) ended old new = Prints exits.Fine (sent_line counts) ended old new
 Tells (Err refusal) ended old new = (ended ≡ Err (refusal_fault refusal)) × (new ≡ old)
 
--- a read failed, or as many packets were taken as a run takes at most
-abbrev pub MayFail : ℕ → Streams → Streams → ℕ → Type 0
-MayFail most old new packets = (new.reads ≡ old.reads + 1) ⊎ ((new.reads ≡ old.reads) × (packets ≡ most))
-
--- a transmitter runs, and answers this
+-- a transmitter runs, and answers this; where that is a fault of reading, a read failed, or as many packets were taken as a run takes at most
 abbrev pub Runs : Transmitter → Streams → Streams → Result Counts SendFault → Type 0
-Runs t old new answer = TransmitterRuns t (MayFail t.limit old new) old.taken new.taken old.given new.given answer
+Runs t old new answer = TransmitterRuns t (ReadFails t.limit old.reads new.reads) old.taken new.taken old.given new.given answer
 
 -- a transmitter runs, and its answer is told
 abbrev pub SendsBy : Transmitter → Streams → Streams → Result Exit Fault → Type 0

@@ -32,7 +32,6 @@ use Rattle.s2_words.specs.declared.request.NoiseWords.{NoiseWords}
 use Rattle.s2_words.specs.declared.request.ChannelWords.{ChannelWords}
 use Rattle.s2_words.specs.declared.request.NoteWords.{NoteWords}
 use Rattle.s2_receive.specs.declared.report.Received.{Received}
-use Rattle.s2_words.specs.declared.request.RowsWords.{RowsWords}
 use Rattle.s2_words.specs.declared.request.ShapeWords.{ShapeWords}
 use Rattle.s2_evidence.specs.Files.{Written, JudgeFiles, CheckFiles}
 use Rattle.s2_evidence.specs.Inputs.{AreInputs}

@@ -10,6 +10,8 @@ use Rattle.s2_console.specs.declared.exit.Exit.{Exit}
 use Rattle.s2_console.specs.declared.exit.Exit.TheVariants as exits
 use Rattle.s2_console.specs.declared.fault.Fault.{Fault}
 use Rattle.s2_console.specs.declared.fault.Fault.TheVariants as faults
+use Rattle.s2_console.specs.Exits.{exit_of, Complains}
+use Rattle.s2_console.specs.Screens.{Screen}
 use Rattle.s2_words.specs.declared.request.ChannelWords.{ChannelWords}
 use Rattle.s2_tool.specs.Links.{Causes}
 
@@ -38,3 +40,8 @@ piped_by taken reads given writes r w = piped (taken r) (given w) (reads r) (wri
 pub record Spoils (channel : ChannelWords) (old new : Streams) (ended : Result Exit Fault) : Type 0 where
   pub spoilt : IsSpoilt channel old new ended
   pub causes : Causes old new ended
+
+-- `noise` has ended: so it spoilt, and of a fault the line stands on the errors
+abbrev pub NoiseEnds : ChannelWords → Streams → Streams → Screen → Screen → Exit → Type 0
+NoiseEnds channel old new console_old console_new exit =
+    (ended : Result Exit Fault) × (exit ≡ exit_of ended) × Spoils channel old new ended × Complains ended console_old console_new

@@ -83,6 +83,7 @@ fn write_deaf<W: CountedWrite>(mode: &Mode, symbols: u64, out: &mut W) -> Result
 }
 
 /// Writes the note of symbols that were passed over, where there are such.
+#[tactic(auto, unfolding(crate::specs::Losses::passed_note))]
 fn write_passed<W: CountedWrite>(totals: Totals, out: &mut W) -> Result<(), WriteFault>
     requires { CanCount (W.count out.old) }
     ensures bytes { OnOk result (Appends (W.contents out.old) (W.contents out.new) (note_if (not (nat_eq totals.passed 0)) (passed_note totals))) }
@@ -113,6 +114,7 @@ fn write_deafness<W: CountedWrite>(
 }
 
 /// Writes the note of torn packets, where there are such.
+#[tactic(auto, unfolding(crate::specs::Losses::torn_note))]
 fn write_torn<W: CountedWrite>(totals: Totals, out: &mut W) -> Result<(), WriteFault>
     requires { CanCount (W.count out.old) }
     ensures bytes { OnOk result (Appends (W.contents out.old) (W.contents out.new) (note_if (not (nat_eq totals.torn 0)) (torn_note totals))) }
@@ -126,6 +128,7 @@ fn write_torn<W: CountedWrite>(totals: Totals, out: &mut W) -> Result<(), WriteF
 }
 
 /// Writes the notes of a stream that was received to its end.
+#[tactic(auto, using(crate::proofs::NoteLemmas::both_empty))]
 fn write_notes<W: CountedWrite>(
     mode: &Mode,
     received: Received,

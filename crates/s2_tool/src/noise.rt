@@ -1,8 +1,7 @@
 //! `noise`: symbols spoilt.
-ghost use Rattle.std.specs.Prelude.{◌≡◌, ◌≢◌, Result};
+ghost use Rattle.std.specs.Prelude.{◌≡◌, ◌≢◌};
 ghost use Rattle.s2_mode.specs.Counts.{CanCount};
-ghost use Rattle.s2_console.specs.Exits.{exit_of, Complains};
-ghost use Rattle.s2_tool.specs.Spoiling.{piped_by, Spoils};
+ghost use Rattle.s2_tool.specs.Spoiling.{piped_by, Spoils, NoiseEnds};
 
 use s2_channel::{Noise, add_to_all};
 use s2_console::{Console, Exit, Fault};
@@ -42,9 +41,8 @@ pub fn noise_command<R: CountedRead, W: CountedWrite, O: CountedWrite, E: Counte
     ensures quiet { result ≢ Exit.Fault → console.new.errors_failed ≡ console.old.errors_failed }
     ensures output { console.new.output ≡ console.old.output }
     ensures whole { console.new.output_failed ≡ console.old.output_failed }
-    ensures run { let ends = piped_by R.remaining R.count W.contents W.count in (ended : Result Exit Fault)
-        × (result ≡ exit_of ended) × Spoils channel (ends from.old to.old) (ends from.new to.new) ended
-        × Complains ended console.old console.new }
+    ensures run { let ends = piped_by R.remaining R.count W.contents W.count in
+        NoiseEnds channel (ends from.old to.old) (ends from.new to.new) console.old console.new result }
 {
     let ended = spoil(channel, from, to);
     console.conclude(ended)

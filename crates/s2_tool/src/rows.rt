@@ -1,5 +1,5 @@
 //! `rows`: rows made.
-ghost use Rattle.std.specs.Prelude.{◌≡◌, ◌≢◌, Result, Err, IfOk, IsOk, IsErrOf, IsOkUnless, IsTrue};
+ghost use Rattle.std.specs.Prelude.{◌≡◌, ◌≢◌, Err, IfOk, IsOk, IsErrOf, IsOkUnless, IsTrue};
 ghost use Rattle.s2_mode.specs.Counts.{CanCount};
 ghost use Rattle.s2_rows.specs.MadeRows.{is_weight};
 ghost use Rattle.s2_rows.specs.RowTexts.{rows_text};

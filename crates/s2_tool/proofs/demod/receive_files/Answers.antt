@@ -1,8 +1,5 @@
-use Rattle.std.proofs.Common.{rules, sym}
-use Rattle.std.proofs.lemmas.Result.{err_from_is_err_and}
-use Rattle.s2_link.specs.Link.{setup_of}
-use Rattle.s2_tool.specs.Receptions.{Hears}
-use Rattle.s2_tool.proofs.LinkLemmas.{never, refused_rows, tried}
+use Rattle.s2_tool.proofs.Names.{rules, sym, err_from_is_err_and, setup_of, Hears}
+use Rattle.s2_tool.proofs.LinkLemmas.{refused_rows, tried}
 use Rattle.s2_tool.proofs.demod.receive_files.Goals as goal
 
 pub returns-in_err-matrix : goal.returns-in_err-matrix
@@ -14,5 +11,5 @@ pub returns : goal.returns
 returns g c =
     record {
       run = rw (sym c.files.view_is) (tried (Hears c.args.words.now.tuning) (setup_of c.args.setup) _ _ c.in_ok-matrix.matrix c.of-link.result _ _ c.receive_link.result c.in_ok-matrix.ensures.rows
-          c.of-link.ensures (c.in_ok-matrix.ensures.no_other (never c.in_ok-matrix.matrix)) c.receive_link.ensures.hears c.receive_link.ensures.causes);
+          c.of-link.ensures (c.in_ok-matrix.ensures.no_other (λ e. cc)) c.receive_link.ensures.hears c.receive_link.ensures.causes);
     }

@@ -1,8 +1,8 @@
-use Rattle.std.proofs.Common.{rules}
-use Rattle.s2_modem.specs.Reception.{rules_for}
-use Rattle.s2_tool.proofs.LoopLemmas.{looped}
+use Rattle.s2_tool.proofs.Names.{◌≡◌, rules, most_symbols, link_rules, rules_for, transmitter_on}
 use Rattle.s2_tool.proofs.run.loop_link.Goals as goal
 
 pub returns-in-Ok-on_link-clause-loops : goal.returns-in-Ok-on_link-clause-loops
 returns-in-Ok-on_link-clause-loops g c =
-    looped c.args.words.now c.args.link.now c.dummy_every.new.self (rules_for c.in-Ok-on_link.receiver) _ _ c.loop_begun.result (search rules) (search rules) c.loop_begun.ensures.loops
+    let sends : c.dummy_every.new.self ≡ transmitter_on c.args.link.now c.args.words.now.dummy = search rules in
+    let receives : rules_for c.in-Ok-on_link.receiver ≡ link_rules c.args.link.now c.args.words.now.tuning most_symbols = search rules in
+    rw (sends, receives) at c.loop_begun.ensures.loops

@@ -1,14 +1,5 @@
-use Rattle.std.proofs.Common.{Ok, Err, refl, ap, ◌∙◌}
-use Rattle.s2_modem.specs.Reception.{rules_for}
-use Rattle.s2_tool.specs.Looping.{kept_fault}
-use Rattle.s2_tool.proofs.LoopLemmas.{passed}
+use Rattle.s2_tool.proofs.Names.{Err, refl, ap, ◌∙◌, kept_fault}
 use Rattle.s2_tool.proofs.run.loop_packets.Goals as goal
-
-pub returns-in-Ok-clause-loops : goal.returns-in-Ok-clause-loops
-returns-in-Ok-clause-loops g c =
-    let sends = rw (c.new-symbols.ensures.inner, c.new.ensures.items) at c.in-Ok.ensures.runs in
-    let passes = rw (c.deref.ensures.value, c.into_inner-symbols.ensures) at c.receive_spoilt.ensures.passes in
-    (Ok c.in-Ok.field-0, c.run.new.writer.inner.items, sends, passed (rules_for c.args.receiver.now) c.args.channel c.run.new.writer.inner.items _ _ _ _ _ _ c.receive_spoilt.result passes)
 
 pub returns-clause-loops : goal.returns-clause-loops
 returns-clause-loops g c =

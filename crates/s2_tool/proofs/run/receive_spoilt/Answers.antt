@@ -1,4 +1,4 @@
-use Rattle.std.proofs.Common.{Some, Ok}
+use Rattle.s2_tool.proofs.Names.{Some, Ok}
 use Rattle.s2_tool.proofs.run.receive_spoilt.Goals as goal
 
 pub returns-in-Ok-clause-passes : goal.returns-in-Ok-clause-passes
