@@ -101,7 +101,7 @@ pub use Rattle.s2_modem.specs.Front.{IsCleanFrame}
 pub use Rattle.s2_modem.specs.Headline.{ArrivalLaw, BothCodesLaw, HearsLaw, IsSent, ScatteredFrameLaw}
 pub use Rattle.s2_modem.specs.Listening.{FindsWord, Listening, Reads, decision_held}
 pub use Rattle.s2_modem.specs.Promise.{Arriving, BeginsWith, Headline, IsHeadline, IsReadable, IsReport, KeepsHeadline, Promises, RunsHeadline, decision_from, frame_from}
-pub use Rattle.s2_modem.specs.Reception.{AllAsLikely, AllTold, IsAsLikely, IsCertifiedBy, IsCorrected, Receiver, link_rules, rules_for}
+pub use Rattle.s2_modem.specs.Reception.{AllAsLikely, AllTold, IsAsLikely, IsCertifiedBy, IsCorrected, IsLikelyBy, Receiver, link_rules, rules_for}
 pub use Rattle.s2_modem.specs.Reports.{IsUndecided, decision_by, decision_on, delivered_by, field_in, frame_soft, header_in, message_of, outcome_by, received_word}
 unfoldable pub use Rattle.s2_modem.specs.Reports.{frame_decision}
 pub use Rattle.s2_modem.specs.Steps.{AllHeard, Corrects, Heard, IsFrameAt, StandsAt}

@@ -1,5 +1,5 @@
 -- What a step promises of its answer.
-use Rattle.s2_modem.proofs.Names.{on_frame, ◌≡◌, ◌≢◌, ℕ, ◌+◌, ◌≤◌, true, List, [], ◌∷◌, ◌++◌, length, take, Option, Some, None, Result, Ok, Err, IfOk, refl, sym, ap, subst, ◌∙◌, nat_lt, ◌↔◌, IsErrOf, k_of, t_of, Streams, Symbol, differences, code_of, header_at, Verdict, Met, frame, cut, ended, nothing_over, met_from, Meets, met_of, met_after, Spells, Rules, State, Decision, IsLive, IsDecided, Finds, MetFrame, StepAnswers, met_left, report_for, report_of, step_of, Fault, Outcome, Report, Step, whole_frame, symbols_least, live_at, received_word, message_of, frame_decision, IsDelivered, IsDeliveredCertified, Receiver, IsAsLikely, IsCertifiedBy, IsCorrected, rules_for, IsFrameAt, Heard, Corrects, StandsAt, Promises, OnFrame, IsWholeFrame, IfOk-weaker}
+use Rattle.s2_modem.proofs.Names.{on_frame, ◌≡◌, ◌≢◌, ℕ, ◌+◌, ◌≤◌, true, List, [], ◌∷◌, ◌++◌, length, take, Option, Some, None, Result, Ok, Err, IfOk, refl, sym, ap, subst, ◌∙◌, nat_lt, ◌↔◌, IsErrOf, k_of, t_of, Streams, Symbol, differences, code_of, header_at, Verdict, Met, frame, cut, ended, nothing_over, met_from, Meets, met_of, met_after, Spells, Rules, State, Decision, IsLive, IsDecided, Finds, MetFrame, StepAnswers, met_left, report_for, report_of, step_of, Fault, Outcome, Report, Step, whole_frame, symbols_least, live_at, received_word, message_of, frame_decision, IsDelivered, IsDeliveredCertified, Receiver, IsAsLikely, IsLikelyBy, IsCertifiedBy, IsCorrected, rules_for, IsFrameAt, Heard, Corrects, StandsAt, Promises, OnFrame, IsWholeFrame, IfOk-weaker}
 use Rattle.s2_modem.proofs.Names.faults
 use Rattle.s2_modem.proofs.Names.founds
 use Rattle.s2_modem.proofs.Names.phases
@@ -44,7 +44,7 @@ first_met rules at (Some bytes) (Some more) met symbols rest meets spelt long la
 -- ---- what is promised of it
 
 pub record IsPromised (old : Receiver) (last : Decision) (bytes : Option (List ℕ)) (result : Result Step Fault) : Type 0 where
-  pub as_likely : OnFrame result (λ r. IsAsLikely (code_of old.link.rows) last.soft r.verdict last.bits)
+  pub likely : OnFrame result (λ r. IsLikelyBy old.link.rows r.verdict last)
   pub certified : OnFrame result (λ r. IsCertifiedBy old.link.rows r.verdict last)
   pub within : OnFrame result (λ r. IsCorrected old.link.setup.mode last r.outcome)
   pub heard : IfOk result (Heard old last bytes)
@@ -100,7 +100,7 @@ module _ (old : Receiver) (last : Decision) (bytes : Option (List ℕ)) (all : P
       let m = old.link.setup.mode in
       let code = code_of old.link.rows in
       record {
-        as_likely = reported (λ v o d. IsAsLikely code d.soft v d.bits)
+        likely = reported (λ v o d. IsLikelyBy old.link.rows v d)
             (λ symbols. (let d = frame_decision old.link old.tuning symbols in subst (λ soft. IsAsLikely code soft d.verdict d.bits) (sym (frame_is old.link old.tuning symbols).soft_is) (all.as_likely symbols))) result a;
         certified = reported (λ v o d. IsCertifiedBy old.link.rows v d) (λ symbols. (all.told symbols).certified) result a;
         within = reported (λ v o d. IsCorrected m d o) (λ symbols. (all.told symbols).within) result a;

@@ -49,6 +49,10 @@ pub record IsAsLikely (code : Code) (soft : List ℤ) (verdict : Verdict) (bits 
   pub likely : IsTrue (is_certified verdict) → IsMostLikely code soft bits
   pub sole : verdict ≡ Sole → IsSole code soft bits
 
+-- those that were decided are as likely as this verdict says
+abbrev pub IsLikelyBy : Rows → Verdict → Decision → Type 0
+IsLikelyBy rows verdict d = IsAsLikely (code_of rows) d.soft verdict d.bits
+
 -- and so are those of any frame's symbols
 abbrev pub AllAsLikely : Link → Tuning → Type 0
 AllAsLikely link tuning =

@@ -4,7 +4,6 @@ ghost use Rattle.s2_mode.specs.Counts.{CanCount};
 ghost use Rattle.s2_mode.specs.Limits.{most_symbols};
 ghost use Rattle.s2_mode.specs.Mode.{symbols_in};
 ghost use Rattle.s2_mode.specs.Streams.{streams_by, NoneFailed, OneFailed};
-ghost use Rattle.s2_matrix.specs.Code.{code_of};
 ghost use Rattle.s2_receive.specs.declared.finding.Next.{Next as NextValue};
 ghost use Rattle.s2_receive.specs.declared.report.Phase.TheVariants as phases;
 ghost use Rattle.s2_receive.specs.declared.report.Step.TheVariants as steps;
@@ -14,7 +13,7 @@ ghost use Rattle.s2_receive.specs.Answers.{OnFrame, Delivers, OnlyFaults, OnlySt
 ghost use Rattle.s2_link.specs.Tuning.{tuning_of};
 ghost use Rattle.s2_modem.specs.Reports.{IsUndecided};
 ghost use Rattle.s2_modem.specs.Listening.{decides};
-ghost use Rattle.s2_modem.specs.Reception.{AllAsLikely, IsAsLikely, IsCertifiedBy, IsCorrected, link_rules, rules_for, IsNew, Makes};
+ghost use Rattle.s2_modem.specs.Reception.{AllAsLikely, IsLikelyBy, IsCertifiedBy, IsCorrected, link_rules, rules_for, IsNew, Makes};
 ghost use Rattle.s2_modem.specs.Steps.{Steps, StepsFrame, Runs, Heard, Corrects};
 ghost use Rattle.s2_modem.specs.Promise.{RunsHeadline, Promises};
 
@@ -160,7 +159,7 @@ impl<'a> Receiver<'a> {
         ensures finds { IfOk result (λ step. IsLive self.old.state.phase
             → Finds (rules_for self.old) self.old.state self.new.state
             (R.remaining reader.old) (R.remaining reader.new) self.new.last step) }
-        ensures as_likely { OnFrame result (λ r. IsAsLikely (code_of self.old.link.rows) self.new.last.soft r.verdict self.new.last.bits) }
+        ensures likely { OnFrame result (λ r. IsLikelyBy self.old.link.rows r.verdict self.new.last) }
         ensures certified { OnFrame result (λ r. IsCertifiedBy self.old.link.rows r.verdict self.new.last) }
         ensures within { OnFrame result (λ r. IsCorrected self.old.link.setup.mode self.new.last r.outcome) }
         ensures heard { IfOk result (Heard self.old self.new.last (R.remaining reader.old)) }
@@ -226,7 +225,7 @@ impl<'a> Receiver<'a> {
             Steps self.old self.new (ends reader.old packets.old report.old) (ends reader.new packets.new report.new) result }
         ensures frame { let ends = streams_by R.remaining R.count P.contents P.count W.contents W.count in
             StepsFrame self.old self.new (ends reader.old packets.old report.old) (ends reader.new packets.new report.new) result }
-        ensures as_likely { OnFrame result (λ r. IsAsLikely (code_of self.old.link.rows) self.new.last.soft r.verdict self.new.last.bits) }
+        ensures likely { OnFrame result (λ r. IsLikelyBy self.old.link.rows r.verdict self.new.last) }
         ensures certified { OnFrame result (λ r. IsCertifiedBy self.old.link.rows r.verdict self.new.last) }
         ensures within { OnFrame result (λ r. IsCorrected self.old.link.setup.mode self.new.last r.outcome) }
         ensures heard { IfOk result (Heard self.old self.new.last (R.remaining reader.old)) }

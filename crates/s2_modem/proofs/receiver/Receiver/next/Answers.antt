@@ -8,8 +8,8 @@ promise g c =
     let n = c.next in
     next_promised _ _ n.new.self.decider.last n.result c.self.view_is c.self.invariant.1 _ c.self.invariant.0 n.ensures.ended n.ensures.failed n.new.self.state _ _ n.ensures.live n.ensures.frame
 
-pub returns-clause-as_likely : goal.returns-clause-as_likely
-returns-clause-as_likely g c = (promise g (goal.at.returns-clause-as_likely g c).After-next).as_likely
+pub returns-clause-likely : goal.returns-clause-likely
+returns-clause-likely g c = (promise g (goal.at.returns-clause-likely g c).After-next).likely
 
 pub returns-clause-certified : goal.returns-clause-certified
 returns-clause-certified g c = (promise g (goal.at.returns-clause-certified g c).After-next).certified
