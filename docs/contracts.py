@@ -1,6 +1,7 @@
 """The functions of the crates and their clauses, as they stand in the sources: what docs/cited and docs/clauses look in."""
 import pathlib
 import re
+from typing import NamedTuple
 
 ROOT = pathlib.Path(__file__).resolve().parent.parent
 CODE_LETTERS = re.compile(r"`([^`]*)`")
@@ -9,6 +10,17 @@ COMMENT = re.compile(r"//[^\n]*")
 LITERAL = re.compile(r'"(?:\\.|[^"\\])*"|\'(?:\\.|[^\'\\])\'')
 CLAUSE = re.compile(r"\b(?:(requires|ensures)\*?(?:\s+(\w+))?|ghost\s+\w+\s*[:=])\s*$")
 ITEM = re.compile(r"\b(?:(pub\s+)?fn\s+(\w+)|(impl|pub\s+trait)\b)")
+GHOST = re.compile(r"\bghost\s+(\w+)\s*[:=]\s*(?={)")
+
+
+class Clause(NamedTuple):
+    """`requires`, `ensures` or `ghost`, its name, what it says, and where it begins and ends in its text."""
+
+    kind: str
+    name: str
+    said: str
+    begin: int
+    end: int
 
 
 def closing(text, at):
@@ -22,23 +34,24 @@ def closing(text, at):
 
 
 def head_and_body(text, at):
-    """An item's clauses, its body, and the place behind both. A clause is its kind, its name and what it says."""
+    """An item's clauses, where its body begins and ends, and the place behind both."""
     clauses, parens = [], 0
     while at < len(text):
         c = text[at]
         parens += {"(": 1, "[": 1, ")": -1, "]": -1}.get(c, 0)
         if c == ";" and parens == 0:
-            return clauses, "", at + 1
+            return clauses, (at, at), at + 1
         if c == "{":
             end = closing(text, at)
-            clause = CLAUSE.search(text[max(0, at - 80):at])
+            begin = max(0, at - 80)
+            clause = CLAUSE.search(text[begin:at])
             if not clause:
-                return clauses, text[at + 1:end - 1], end
-            clauses.append((clause[1], clause[2], text[at + 1:end - 1]))
+                return clauses, (at + 1, end - 1), end
+            clauses.append(Clause(clause[1] or "ghost", clause[2], text[at + 1:end - 1], begin + clause.start(), end))
             at = end
         else:
             at += 1
-    return clauses, "", at
+    return clauses, (at, at), at
 
 
 def without_generics(head):
@@ -54,10 +67,11 @@ def owner_of(head):
     return NAME.findall(head.split(" where")[0].split(" for ")[-1].split(":")[0])[-1]
 
 
-def functions(text, owner=None, of_trait=False):
-    """Each function of a text, and each model: its owner's name, its own, whether callers see it, its clauses."""
-    at = 0
-    while found := ITEM.search(text, at):
+def functions(text, owner=None, of_trait=False, within=None):
+    """Each function of a text, and each model: its owner's name, its own, whether callers see it, its clauses. `within` is the part
+    of the text that is looked through, if not all."""
+    at, end = within or (0, len(text))
+    while found := ITEM.search(text, at, end):
         clauses, body, at = head_and_body(text, found.end())
         if found[2]:
             yield owner, found[2], bool(found[1]) or of_trait, clauses
@@ -65,15 +79,15 @@ def functions(text, owner=None, of_trait=False):
         head = without_generics(text[found.end():text.index("{", found.end())]).strip()
         is_trait = found[3] != "impl" or " for " in head
         if is_trait:
-            yield owner_of(head), "model", True, values(body)
+            yield owner_of(head), "model", True, values(text, body)
         if not head.startswith("Model "):
-            yield from functions(body, owner_of(head), is_trait)
+            yield from functions(text, owner_of(head), is_trait, body)
 
 
-def values(body):
-    """What a model or a trait says of values; an invariant speaks of private fields."""
-    found = re.finditer(r"\bghost\s+(?!invariant)\w+\s*[:=]\s*(?={)", body)
-    return [(None, None, body[m.end():closing(body, m.end())]) for m in found]
+def values(text, body):
+    """What a model or a trait says of values."""
+    found = ((m, closing(text, m.end())) for m in GHOST.finditer(text, *body))
+    return [Clause("ghost", m[1], text[m.end():end], m.start(), end) for m, end in found]
 
 
 def file_of(folder, module):
@@ -106,8 +120,9 @@ def sources(folder):
 
 
 def text_of(path):
-    """A source without its comments and literals."""
-    return LITERAL.sub("", COMMENT.sub("", path.read_text(encoding="utf-8")))
+    """A source without its comments and literals, line by line as it stands."""
+    text = COMMENT.sub("", path.read_text(encoding="utf-8"))
+    return LITERAL.sub(lambda found: "\n" * found[0].count("\n"), text)
 
 
 def public_calls(crate):

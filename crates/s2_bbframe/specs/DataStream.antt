@@ -90,6 +90,12 @@ pub record Sliced (packets fields : List (List ℕ)) (s : Slicing) : Type 0 wher
 abbrev pub next_field : Slicing → List ℕ
 next_field s = take s.size s.waiting
 
+-- behind any packets and fields the next field is taken, with the header of its place
+abbrev pub TakesField : ℕ → (old new : Slicing) → Header → Type 0
+TakesField roll_off old new header =
+    (packets fields : List (List ℕ)) → Sliced packets fields old
+    → Sliced packets (fields ++ next_field old ∷ []) new × (header ≡ header_at roll_off (length (flat_map (λ field. field) fields)) (next_field old))
+
 -- the slicer with one packet more
 abbrev pub after_packet : List ℕ → Slicing → Slicing
 after_packet packet s = record { size = s.size; begun = true; phase = s.phase; waiting = s.waiting ++ gained s.begun packet; closed = s.closed }

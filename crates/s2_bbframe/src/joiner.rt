@@ -148,14 +148,17 @@ impl Joiner {
         out: &mut W,
     ) -> Result<Fed, WriteFault>
         requires count { CanCount (W.count out.old) }
-        requires syncd { (length field.now ≡ 0) ⊎ ((header.now.syncd ≡ no_place) ⊎ (header.now.syncd / 8 < length field.now)) }
+        requires syncd { (length field.now ≡ 0) ⊎
+            ((header.now.syncd ≡ no_place) ⊎ (header.now.syncd / 8 < length field.now)) }
         ensures held { OnOk result (self.new ≡ (fed self.old header.now.syncd field.now).held) }
         ensures good { IfOk result (λ r. r.good ≡ length (fed self.old header.now.syncd field.now).good) }
         ensures bad { IfOk result (λ r. r.bad ≡ (fed self.old header.now.syncd field.now).bad) }
         ensures torn { IfOk result (λ r. r.torn ≡ torn_by self.old header.now.syncd field.now) }
-        ensures packets { OnOk result (Appends (W.contents out.old) (W.contents out.new) (flat_map (λ packet. packet) (fed self.old header.now.syncd field.now).good)) }
+        ensures packets { OnOk result (Appends (W.contents out.old) (W.contents out.new)
+            (flat_map (λ packet. packet) (fed self.old header.now.syncd field.now).good)) }
         ensures most { IfOk result (λ r. (r.good + r.bad ≤ length field.now) × (r.torn ≤ 1)) }
-        ensures part { OnErr result (AppendsPart (flat_map (λ packet. packet) (fed self.old header.now.syncd field.now).good) (W.contents out.old) (W.contents out.new)) }
+        ensures part { OnErr result (AppendsPart (flat_map (λ packet. packet)
+            (fed self.old header.now.syncd field.now).good) (W.contents out.old) (W.contents out.new)) }
         ensures lost { OnErr result (self.new ≡ None) }
         ensures cause { CountsFault (W.count out.old) (W.count out.new) result }
     {

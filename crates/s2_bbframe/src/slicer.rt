@@ -1,9 +1,8 @@
 //! The data fields of a stream of packets (EN 302 307-1, 5.1.5).
 ghost use Rattle.std.specs.Prelude.{◌≡◌, ◌<◌, ◌≤◌, ◌+◌, ◌↔◌, ℕ, List, [], ◌∷◌, ◌++◌, false, true, length, take, drop, slice_index, IfOk, OnOk, OnErr, IsOk, IsSome, IfSome, IfNone, IsTrue, vec_capacity};
-ghost use Rattle.std.specs.List.{flat_map};
 ghost use Rattle.s2_mode.specs.Mode.{IsMode};
 ghost use Rattle.s2_bbframe.specs.Limits.{packet_bytes, sync};
-ghost use Rattle.s2_bbframe.specs.DataStream.{closed_body, header_at, next_field, after_packet, after_field, starting, field_bytes, IsReady, Sliced};
+ghost use Rattle.s2_bbframe.specs.DataStream.{closed_body, header_at, next_field, after_packet, after_field, starting, field_bytes, IsReady, Sliced, TakesField};
 
 use crate::crc::crc8;
 use crate::header::Header;
@@ -50,10 +49,11 @@ impl Model for Slicer {
 
     ghost Value = { Slicing };
 
-    ghost view = { λ s. record { size = s.size; begun = s.begun; phase = s.phase; waiting = s.waiting.items; closed = s.closed } };
+    ghost view = { λ s.
+        record { size = s.size; begun = s.begun; phase = s.phase; waiting = s.waiting.items; closed = s.closed } };
 
-    ghost invariant = { λ s. (s.size + packet_bytes ≤ vec_capacity s.waiting) × (s.phase < packet_bytes) × (s.size < 8192) × (packet_bytes ≤ s.size)
-        × EndsAtPlace s.begun s.phase (length s.waiting.items) };
+    ghost invariant = { λ s. (s.size + packet_bytes ≤ vec_capacity s.waiting) × (s.phase < packet_bytes) ×
+        (s.size < 8192) × (packet_bytes ≤ s.size) × EndsAtPlace s.begun s.phase (length s.waiting.items) };
 }
 
 /// The bytes of a full data field of this mode: Kbch less the 80 bits of a header.
@@ -119,7 +119,8 @@ impl Slicer {
         requires not_closed { self.old.closed ≡ false }
         ensures accepts { IsOk result ↔ (slice_index packet.now 0 ≡ sync) }
         ensures packet { OnOk result (self.new ≡ after_packet packet.now self.old) }
-        ensures stream { OnOk result ((packets fields : List (List ℕ)) → Sliced packets fields self.old → Sliced (packets ++ packet.now ∷ []) fields self.new) }
+        ensures stream { OnOk result ((packets fields : List (List ℕ)) → Sliced packets fields self.old →
+            Sliced (packets ++ packet.now ∷ []) fields self.new) }
         ensures refused { OnErr result (self.new ≡ self.old) }
     {
         if packet[0] != SYNC {
@@ -158,12 +159,12 @@ impl Slicer {
         requires { length field.old ≡ self.old.size }
         ensures ready { IsSome result ↔ IsReady self.old }
         ensures header { IfSome result (λ h. h ≡ header_at roll_off self.old.phase (next_field self.old)) }
-        ensures lengths { IfSome result (λ h. (m : ModeValue) → self.old.size ≡ field_bytes m → has_valid_lengths m h ≡ true) }
-        ensures field { IfSome result (λ _. field.new ≡ next_field self.old ++ drop (length (next_field self.old)) field.old) }
+        ensures lengths { IfSome result (λ h. (m : ModeValue) → self.old.size ≡ field_bytes m →
+            has_valid_lengths m h ≡ true) }
+        ensures field { IfSome result
+            (λ _. field.new ≡ next_field self.old ++ drop (length (next_field self.old)) field.old) }
         ensures takes { IfSome result (λ _. self.new ≡ after_field self.old) }
-        ensures stream { IfSome result (λ h. (packets fields : List (List ℕ)) → Sliced packets fields self.old →
-            Sliced packets (fields ++ next_field self.old ∷ []) self.new
-            × (h ≡ header_at roll_off (length (flat_map (λ f. f) fields)) (next_field self.old))) }
+        ensures stream { IfSome result (TakesField roll_off self.old self.new) }
         ensures none { IfNone result (self.new ≡ self.old) }
         ensures untouched { IfNone result (field.new ≡ field.old) }
     {

@@ -54,7 +54,8 @@ impl Model for Bch {
 
     ghost view = { λ b. b.mode };
 
-    ghost invariant = { λ b. IsReady b.mode b.table.items (length b.rest.items) (length b.candidate.items) b.workspace };
+    ghost invariant = { λ b. IsReady b.mode b.table.items (length b.rest.items)
+        (length b.candidate.items) b.workspace };
 }
 
 impl Bch {
@@ -96,7 +97,8 @@ impl Bch {
     pub fn decode_in_place(&mut self, word: &mut Bits) -> Option<u32>
         requires { length word.old ≡ k_of self.old }
         ensures same { self.new ≡ self.old }
-        ensures some { IfSome result (λ c. IsWithin self.old word.old word.new × (c ≡ differences (length word.old) word.old word.new)) }
+        ensures some { IfSome result
+            (λ c. IsWithin self.old word.old word.new × (c ≡ differences (length word.old) word.old word.new)) }
         ensures only { IfSome result (λ c. (v : List Bool) → IsWithin self.old word.old v → v ≡ word.new) }
         ensures none { IfNone result ((v : List Bool) → IsWithin self.old word.old v → ⊥) }
         ensures nearest { IfSome result (λ _. nearest self.old word.old ≡ Some word.new) }

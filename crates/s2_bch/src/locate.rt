@@ -94,9 +94,8 @@ pub fn shortest_locator<F: Field>(
     requires locator_room { length locator.old ≡ length sequence.now + 1 }
     requires auxiliary_room { length auxiliary.old ≡ length sequence.now + 1 }
     requires next_room { length next.old ≡ length sequence.now + 1 }
-    ensures { (b : List F) × (delta : F)
-        × Shortest F.field (length sequence.now) result (take (result + 1) locator.new) b delta
-        (sequence_of F.field.zero sequence.now) }
+    ensures { (b : List F) × (delta : F) × Shortest F.field (length sequence.now) result
+        (take (result + 1) locator.new) b delta (sequence_of F.field.zero sequence.now) }
 {
     locator[0] = F::one();
     let mut degree = 0;

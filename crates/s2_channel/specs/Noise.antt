@@ -47,6 +47,10 @@ pub record PassesOn (level : ℕ) (g : Lcg) (taken left given gained : Option (L
   pub written : Appends given gained (noisy level g (symbols_of bytes))
   pub bound : reads_now ≡ reads → length (symbols_of bytes) ≡ most_symbols
 
+-- the same of a reader and a writer, before and behind, by the reader's bytes and count and the writer's bytes
+abbrev pub PassesOnBy : {R W : Type 0} → (R → Option (List ℕ)) → (R → ℕ) → (W → Option (List ℕ)) → ℕ → Lcg → R → R → W → W → Type 0
+PassesOnBy taken reads given level g r r' w w' = PassesOn level g (taken r) (taken r') (given w) (given w') (reads r) (reads r')
+
 -- what a failed write leaves: the writer gained a first part of the noisy symbols that the bytes read spell, and not all
 abbrev pub PassesPart : ℕ → Lcg → Option (List ℕ) → Option (List ℕ) → Option (List ℕ) → Option (List ℕ) → Type 0
 PassesPart level g taken left given gained =

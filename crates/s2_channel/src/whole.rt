@@ -4,7 +4,7 @@ ghost use Rattle.std.specs.Io.KnownBytes.{Appends};
 ghost use Rattle.s2_mode.specs.Counts.{CanCount};
 ghost use Rattle.s2_mode.specs.Limits.{most_symbols};
 ghost use Rattle.s2_mode.specs.Symbols.{symbols_of};
-ghost use Rattle.s2_channel.specs.Noise.{drawn_for, noisy, PassesOn, PassesPart};
+ghost use Rattle.s2_channel.specs.Noise.{drawn_for, noisy, PassesOnBy, PassesPart};
 
 use crate::noise::Noise;
 use s2_mode::{CountedRead, CountedWrite, MOST_SYMBOLS, StreamFault, read_symbol, write_symbol};
@@ -21,8 +21,8 @@ pub fn add_to_all<R: CountedRead, W: CountedWrite>(
 ) -> Result<(), StreamFault>
     requires reader { CanCount (R.count reader.old) }
     requires writer { CanCount (W.count writer.old) }
-    ensures written { OnOk result (IfSome (R.remaining reader.old) (λ xs.
-        Appends (W.contents writer.old) (W.contents writer.new) (noisy noise.old.level noise.old.generator (symbols_of xs)))) }
+    ensures written { OnOk result (IfSome (R.remaining reader.old) (λ xs. Appends
+        (W.contents writer.old) (W.contents writer.new) (noisy noise.old.level noise.old.generator (symbols_of xs)))) }
     ensures drawn { OnOk result (IfSome (R.remaining reader.old) (λ xs.
         noise.new.generator ≡ drawn_for (length (symbols_of xs)) noise.old.generator)) }
     ensures write { IsErrOf result StreamFault.Write → W.count writer.new ≡ W.count writer.old + 1 }
@@ -30,9 +30,8 @@ pub fn add_to_all<R: CountedRead, W: CountedWrite>(
     ensures read { IsErrOf result StreamFault.Read → R.count reader.new ≡ R.count reader.old →
         IfSome (R.remaining reader.old) (λ xs. most_symbols ≤ length (symbols_of xs)) }
     ensures no_read { result ≢ Err StreamFault.Read → R.count reader.new ≡ R.count reader.old }
-    ensures front { IsErrOf result StreamFault.Read → PassesOn noise.old.level noise.old.generator
-        (R.remaining reader.old) (R.remaining reader.new) (W.contents writer.old) (W.contents writer.new)
-        (R.count reader.old) (R.count reader.new) }
+    ensures front { IsErrOf result StreamFault.Read → PassesOnBy R.remaining R.count W.contents
+        noise.old.level noise.old.generator reader.old reader.new writer.old writer.new }
     ensures part { IsErrOf result StreamFault.Write → PassesPart noise.old.level noise.old.generator
         (R.remaining reader.old) (R.remaining reader.new) (W.contents writer.old) (W.contents writer.new) }
     ensures level { noise.new.level ≡ noise.old.level }

@@ -77,7 +77,8 @@ pub fn write_header<W: CountedWrite>(
 ) -> Result<(), WriteFault>
     requires count { CanCount (W.count out.old) }
     requires few { header.now.count ≤ most_shares }
-    ensures bytes { PutsThrough (header_bytes header.now) (W.contents out.old) (W.contents out.new) page.old.items page.new.items result }
+    ensures bytes { PutsThrough (header_bytes header.now)
+        (W.contents out.old) (W.contents out.new) page.old.items page.new.items result }
     ensures cause { CountsFault (W.count out.old) (W.count out.new) result }
 {
     write_front(out, page, header)?;
@@ -102,7 +103,8 @@ pub fn write_soft<W: CountedWrite>(
 ) -> Result<(), WriteFault>
     requires count { CanCount (W.count out.old) }
     requires range { All IsSoft values.now }
-    ensures bytes { PutsThrough (flat_map soft.bytes values.now) (W.contents out.old) (W.contents out.new) page.old.items page.new.items result }
+    ensures bytes { PutsThrough (flat_map soft.bytes values.now)
+        (W.contents out.old) (W.contents out.new) page.old.items page.new.items result }
     ensures cause { CountsFault (W.count out.old) (W.count out.new) result }
 {
     for value in values {
@@ -119,7 +121,8 @@ pub fn write_word<W: CountedWrite>(
 ) -> Result<(), WriteFault>
     requires count { CanCount (W.count out.old) }
     requires few { length word.now ≤ most_bits }
-    ensures bytes { PutsThrough (bytes_of_bits word.now) (W.contents out.old) (W.contents out.new) page.old.items page.new.items result }
+    ensures bytes { PutsThrough (bytes_of_bits word.now)
+        (W.contents out.old) (W.contents out.new) page.old.items page.new.items result }
     ensures cause { CountsFault (W.count out.old) (W.count out.new) result }
 {
     for k in 0..word.len().div_ceil(8) {
@@ -135,7 +138,8 @@ pub fn write_share<W: CountedWrite>(
     value: i32,
 ) -> Result<(), WriteFault>
     requires { CanCount (W.count out.old) }
-    ensures bytes { PutsThrough (share.bytes value) (W.contents out.old) (W.contents out.new) page.old.items page.new.items result }
+    ensures bytes { PutsThrough (share.bytes value)
+        (W.contents out.old) (W.contents out.new) page.old.items page.new.items result }
     ensures cause { CountsFault (W.count out.old) (W.count out.new) result }
 {
     put_all(out, page, &value.cast_unsigned().to_be_bytes())
@@ -148,7 +152,8 @@ pub fn write_move<W: CountedWrite>(
     value: Move,
 ) -> Result<(), WriteFault>
     requires { CanCount (W.count out.old) }
-    ensures bytes { PutsThrough (move.bytes value) (W.contents out.old) (W.contents out.new) page.old.items page.new.items result }
+    ensures bytes { PutsThrough (move.bytes value)
+        (W.contents out.old) (W.contents out.new) page.old.items page.new.items result }
     ensures cause { CountsFault (W.count out.old) (W.count out.new) result }
 {
     let [p0, p1] = value.place.to_be_bytes();

@@ -68,7 +68,8 @@ impl<'a> Model for Judge<'a> {
 
     ghost Value = { Judging };
 
-    ghost view = { λ j. record { rows = j.certifier.rows; tuning = j.tuning; soft = j.soft.items; bits = j.bits; certificate = view_by j.certifier.rows j.soft.items j.bits j.certifier.found j.ground } };
+    ghost view = { λ j. let held = view_by j.certifier.rows j.soft.items j.bits j.certifier.found j.ground in
+        record { rows = j.certifier.rows; tuning = j.tuning; soft = j.soft.items; bits = j.bits; certificate = held } };
 
     ghost invariant = { λ j. IsJudge j.tuning j.certifier j.decoder j.soft.items j.repair j.bits j.ground };
 }
@@ -130,13 +131,17 @@ impl<'a> Judge<'a> {
         ensures verdict { result ≡ (decided self.old.rows self.old.tuning self.old.soft).verdict }
         ensures bits { self.new.bits ≡ (decided self.old.rows self.old.tuning self.old.soft).bits }
         ensures certificate { self.new.certificate ≡ (decided self.old.rows self.old.tuning self.old.soft).certificate }
-        ensures likely { IsTrue (is_certified result) → IsMostLikely (code_of self.old.rows) self.old.soft self.new.bits }
+        ensures likely { IsTrue (is_certified result) →
+            IsMostLikely (code_of self.old.rows) self.old.soft self.new.bits }
         ensures sole { result ≡ Verdict.Sole → IsSole (code_of self.old.rows) self.old.soft self.new.bits }
-        ensures certified { IsShown self.old.rows self.old.soft (record { verdict = result; bits = self.new.bits; certificate = self.new.certificate }) }
+        ensures certified { IsShown self.old.rows self.old.soft
+            (record { verdict = result; bits = self.new.bits; certificate = self.new.certificate }) }
         ensures codeword { result ≢ Verdict.Broken → IsCodeword (code_of self.old.rows) self.new.bits }
         ensures broken { result ≡ Verdict.Broken → IsCodeword (code_of self.old.rows) self.new.bits → ⊥ }
-        ensures scattered { (sent : List Bool) → IsScattered (code_of self.old.rows) self.old.soft sent → IsTrue (is_certified result) × (self.new.bits ≡ sent) }
-        ensures clean { IsCodeword (code_of self.old.rows) (hard_decision self.old.soft) → IsTrue (is_certified result) × (self.new.bits ≡ hard_decision self.old.soft) × ((result ≡ Verdict.Sole) ↔ NoneIsZero self.old.soft) }
+        ensures scattered { (sent : List Bool) → IsScattered (code_of self.old.rows) self.old.soft sent →
+            IsTrue (is_certified result) × (self.new.bits ≡ sent) }
+        ensures clean { IsCodeword (code_of self.old.rows) (hard_decision self.old.soft) → IsTrue (is_certified result)
+            × (self.new.bits ≡ hard_decision self.old.soft) × ((result ≡ Verdict.Sole) ↔ NoneIsZero self.old.soft) }
     {
         self.ground = decide(
             &mut self.certifier,
@@ -162,11 +167,14 @@ impl<'a> Judge<'a> {
         ensures certificate { self.new.certificate ≡ (decided self.old.rows self.old.tuning soft.now).certificate }
         ensures likely { IsTrue (is_certified result) → IsMostLikely (code_of self.old.rows) soft.now self.new.bits }
         ensures sole { result ≡ Verdict.Sole → IsSole (code_of self.old.rows) soft.now self.new.bits }
-        ensures certified { IsShown self.old.rows soft.now (record { verdict = result; bits = self.new.bits; certificate = self.new.certificate }) }
+        ensures certified { IsShown self.old.rows soft.now
+            (record { verdict = result; bits = self.new.bits; certificate = self.new.certificate }) }
         ensures codeword { result ≢ Verdict.Broken → IsCodeword (code_of self.old.rows) self.new.bits }
         ensures broken { result ≡ Verdict.Broken → IsCodeword (code_of self.old.rows) self.new.bits → ⊥ }
-        ensures scattered { (sent : List Bool) → IsScattered (code_of self.old.rows) soft.now sent → IsTrue (is_certified result) × (self.new.bits ≡ sent) }
-        ensures clean { IsCodeword (code_of self.old.rows) (hard_decision soft.now) → IsTrue (is_certified result) × (self.new.bits ≡ hard_decision soft.now) × ((result ≡ Verdict.Sole) ↔ NoneIsZero soft.now) }
+        ensures scattered { (sent : List Bool) → IsScattered (code_of self.old.rows) soft.now sent →
+            IsTrue (is_certified result) × (self.new.bits ≡ sent) }
+        ensures clean { IsCodeword (code_of self.old.rows) (hard_decision soft.now) → IsTrue (is_certified result)
+            × (self.new.bits ≡ hard_decision soft.now) × ((result ≡ Verdict.Sole) ↔ NoneIsZero soft.now) }
     {
         self.soft_mut().copy_from_slice(soft);
         self.decide()

@@ -80,16 +80,11 @@ impl<'a> Model for Receiver<'a> {
 
     ghost Value = { ReceiverValue };
 
-    ghost view = { λ r. record {
-      link = link_of (setup_of r.setup) r.matrix.now;
-      tuning = r.tuning;
-      limit = r.inner.limit;
-      state = r.inner.state;
-      last = r.inner.decider.last;
-    } };
+    ghost view = { λ r. let link = link_of (setup_of r.setup) r.matrix.now in let last = r.inner.decider.last in
+        record { link = link; tuning = r.tuning; limit = r.inner.limit; state = r.inner.state; last = last } };
 
-    ghost invariant = { λ r. (rules_of decides r.inner ≡ link_rules (link_of (setup_of r.setup) r.matrix.now) r.tuning r.inner.limit)
-        × Promises (link_of (setup_of r.setup) r.matrix.now) r.tuning };
+    ghost invariant = { λ r. (rules_of decides r.inner ≡ link_rules (link_of (setup_of r.setup) r.matrix.now)
+        r.tuning r.inner.limit) × Promises (link_of (setup_of r.setup) r.matrix.now) r.tuning };
 }
 
 impl<'a> Receiver<'a> {
@@ -156,9 +151,8 @@ impl<'a> Receiver<'a> {
     /// before what was met is delivered, it answers `Failed` and reads nothing. It takes no memory.
     pub fn meet<R: CountedRead>(&mut self, reader: &mut R) -> Result<Step, Fault>
         requires reader { CanCount (R.count reader.old) }
-        ensures finds { IfOk result (λ step. IsLive self.old.state.phase
-            → Finds (rules_for self.old) self.old.state self.new.state
-            (R.remaining reader.old) (R.remaining reader.new) self.new.last step) }
+        ensures finds { IfOk result (λ step. IsLive self.old.state.phase → Finds (rules_for self.old)
+            self.old.state self.new.state (R.remaining reader.old) (R.remaining reader.new) self.new.last step) }
         ensures likely { OnFrame result (λ r. IsLikelyBy self.old.link.rows r.verdict self.new.last) }
         ensures certified { OnFrame result (λ r. IsCertifiedBy self.old.link.rows r.verdict self.new.last) }
         ensures within { OnFrame result (λ r. IsCorrected self.old.link.setup.mode self.new.last r.outcome) }
@@ -170,9 +164,11 @@ impl<'a> Receiver<'a> {
         ensures no_read { result ≢ Err faults.Read → R.count reader.new ≡ R.count reader.old }
         ensures no_write { result ≢ Err faults.Write }
         ensures ended { self.old.state.phase ≡ phases.Ended → result ≡ Ok steps.End }
-        ensures failed { IsErrOf result faults.Failed ↔ ((IsLive self.old.state.phase → ⊥) × (self.old.state.phase ≢ phases.Ended)) }
+        ensures failed { IsErrOf result faults.Failed ↔
+            ((IsLive self.old.state.phase → ⊥) × (self.old.state.phase ≢ phases.Ended)) }
         ensures nothing { (IsLive self.old.state.phase → ⊥) → (self.new ≡ self.old) × (reader.new ≡ reader.old) }
-        ensures same { (self.new.link ≡ self.old.link) × (self.new.tuning ≡ self.old.tuning) × (self.new.limit ≡ self.old.limit) }
+        ensures same { (self.new.link ≡ self.old.link) × (self.new.tuning ≡ self.old.tuning) ×
+            (self.new.limit ≡ self.old.limit) }
     {
         self.inner.meet(reader)
     }
@@ -204,7 +200,8 @@ impl<'a> Receiver<'a> {
             ↔ (((next : NextValue) → self.old.state.phase ≢ phases.Met next) × (self.old.state.phase ≢ phases.Ended)) }
         ensures nothing { ((next : NextValue) → self.old.state.phase ≢ phases.Met next)
             → (self.new ≡ self.old) × (packets.new ≡ packets.old) × (report.new ≡ report.old) }
-        ensures same { (self.new.link ≡ self.old.link) × (self.new.tuning ≡ self.old.tuning) × (self.new.limit ≡ self.old.limit) }
+        ensures same { (self.new.link ≡ self.old.link) × (self.new.tuning ≡ self.old.tuning) ×
+            (self.new.limit ≡ self.old.limit) }
     {
         self.inner.deliver(packets, report)
     }
@@ -221,10 +218,10 @@ impl<'a> Receiver<'a> {
         requires reader { CanCount (R.count reader.old) }
         requires packets { CanCount (P.count packets.old) }
         requires report { CanCount (W.count report.old) }
-        ensures live { let ends = streams_by R.remaining R.count P.contents P.count W.contents W.count in
-            Steps self.old self.new (ends reader.old packets.old report.old) (ends reader.new packets.new report.new) result }
-        ensures frame { let ends = streams_by R.remaining R.count P.contents P.count W.contents W.count in
-            StepsFrame self.old self.new (ends reader.old packets.old report.old) (ends reader.new packets.new report.new) result }
+        ensures live { let ends = streams_by R.remaining R.count P.contents P.count W.contents W.count in Steps
+            self.old self.new (ends reader.old packets.old report.old) (ends reader.new packets.new report.new) result }
+        ensures frame { let ends = streams_by R.remaining R.count P.contents P.count W.contents W.count in StepsFrame
+            self.old self.new (ends reader.old packets.old report.old) (ends reader.new packets.new report.new) result }
         ensures likely { OnFrame result (λ r. IsLikelyBy self.old.link.rows r.verdict self.new.last) }
         ensures certified { OnFrame result (λ r. IsCertifiedBy self.old.link.rows r.verdict self.new.last) }
         ensures within { OnFrame result (λ r. IsCorrected self.old.link.setup.mode self.new.last r.outcome) }
@@ -233,13 +230,15 @@ impl<'a> Receiver<'a> {
         ensures taken { StandsBehind (symbols_in self.old.link.setup.mode) self.new.state.at result }
         ensures bounded { self.new.state.at ≤ self.old.limit }
         ensures ended { self.old.state.phase ≡ phases.Ended → result ≡ Ok steps.End }
-        ensures failed { IsErrOf result faults.Failed ↔ ((IsLive self.old.state.phase → ⊥) × (self.old.state.phase ≢ phases.Ended)) }
-        ensures nothing { (IsLive self.old.state.phase → ⊥)
-            → (self.new ≡ self.old) × (reader.new ≡ reader.old) × (packets.new ≡ packets.old) × (report.new ≡ report.old) }
+        ensures failed { IsErrOf result faults.Failed ↔
+            ((IsLive self.old.state.phase → ⊥) × (self.old.state.phase ≢ phases.Ended)) }
+        ensures nothing { (IsLive self.old.state.phase → ⊥) → (self.new ≡ self.old) × (reader.new ≡ reader.old) ×
+            (packets.new ≡ packets.old) × (report.new ≡ report.old) }
         ensures unwritten { IsErrOf result faults.Read → (packets.new ≡ packets.old) × (report.new ≡ report.old) }
         ensures counts { let ends = streams_by R.remaining R.count P.contents P.count W.contents W.count in
             OnlyFaults result (ends reader.old packets.old report.old) (ends reader.new packets.new report.new) }
-        ensures same { (self.new.link ≡ self.old.link) × (self.new.tuning ≡ self.old.tuning) × (self.new.limit ≡ self.old.limit) }
+        ensures same { (self.new.link ≡ self.old.link) × (self.new.tuning ≡ self.old.tuning) ×
+            (self.new.limit ≡ self.old.limit) }
     {
         self.inner.next(reader, packets, report)
     }
@@ -261,15 +260,16 @@ impl<'a> Receiver<'a> {
         requires packets { CanCount (P.count packets.old) }
         requires report { CanCount (W.count report.old) }
         requires live { IsLive self.old.state.phase }
-        ensures runs { let ends = streams_by R.remaining R.count P.contents P.count W.contents W.count in
-            Runs self.old self.new (ends reader.old packets.old report.old) (ends reader.new packets.new report.new) result }
+        ensures runs { let ends = streams_by R.remaining R.count P.contents P.count W.contents W.count in Runs
+            self.old self.new (ends reader.old packets.old report.old) (ends reader.new packets.new report.new) result }
         ensures bounded { self.new.state.at ≤ self.old.limit }
-        ensures headline { let ends = streams_by R.remaining R.count P.contents P.count W.contents W.count in
-            RunsHeadline self.old (ends reader.old packets.old report.old) (ends reader.new packets.new report.new) result }
+        ensures headline { let at = streams_by R.remaining R.count P.contents P.count W.contents W.count in
+            RunsHeadline self.old (at reader.old packets.old report.old) (at reader.new packets.new report.new) result }
         ensures as_likely { AllAsLikely self.old.link self.old.tuning }
         ensures counts { let ends = streams_by R.remaining R.count P.contents P.count W.contents W.count in
             OnlyStreamFaults result (ends reader.old packets.old report.old) (ends reader.new packets.new report.new) }
-        ensures same { (self.new.link ≡ self.old.link) × (self.new.tuning ≡ self.old.tuning) × (self.new.limit ≡ self.old.limit) }
+        ensures same { (self.new.link ≡ self.old.link) × (self.new.tuning ≡ self.old.tuning) ×
+            (self.new.limit ≡ self.old.limit) }
     {
         receive_all(&mut self.inner, reader, packets, report)
     }

@@ -76,16 +76,13 @@ pub fn demodulate<P: CountedWrite, W: CountedWrite>(
     requires packets { CanCount (P.count packets.old) }
     requires report { CanCount (W.count report.old) }
     requires few { length bytes.now < 2 ^ 42 }
-    ensures demodulates { let ends = bytes_by P.contents P.count W.contents W.count in
-        Demodulates setup matrix.now (tuning_of rounds passes)
-        (ends bytes.now packets.old report.old) (ends bytes.now packets.new report.new) result }
+    ensures demodulates { let ends = bytes_by P.contents P.count W.contents W.count bytes.now in Demodulates
+        setup matrix.now (tuning_of rounds passes) (ends packets.old report.old) (ends packets.new report.new) result }
     ensures as_likely { AreAsLikely (link_of setup matrix.now) (tuning_of rounds passes) result }
-    ensures headline { let ends = bytes_by P.contents P.count W.contents W.count in
-        OnOk result (IsHeadline (link_of setup matrix.now) (tuning_of rounds passes)
-        (ends bytes.now packets.old report.old) (ends bytes.now packets.new report.new)) }
-    ensures counts { let ends = bytes_by P.contents P.count W.contents W.count in
-        OnlyFailed ⊥ (result ≡ Err DemodFault.Write)
-        (ends bytes.now packets.old report.old) (ends bytes.now packets.new report.new) }
+    ensures headline { let at = bytes_by P.contents P.count W.contents W.count bytes.now in OnOk result (IsHeadline
+        (link_of setup matrix.now) (tuning_of rounds passes) (at packets.old report.old) (at packets.new report.new)) }
+    ensures counts { let ends = bytes_by P.contents P.count W.contents W.count bytes.now in OnlyFailed ⊥
+        (result ≡ Err DemodFault.Write) (ends packets.old report.old) (ends packets.new report.new) }
 {
     let link = match Link::new(setup, matrix) {
         Ok(link) => link,

@@ -60,7 +60,8 @@ fn is_named(mode: &Mode, case: Case, name: &[u8]) -> bool
 /// mode's.
 pub fn modcod_of(name: &str) -> Option<u8>
     ensures found { IsSome result ↔ IsName name.now }
-    ensures value { IfSome result (λ modcod. IsMode (mode_of modcod false false) × IsNameOf (mode_of modcod false false) name.now) }
+    ensures value { IfSome result
+        (λ modcod. IsMode (mode_of modcod false false) × IsNameOf (mode_of modcod false false) name.now) }
 {
     for modcod in 1..=MOST_MODCOD {
         if let Some(mode) = Mode::of(modcod, false, false) {

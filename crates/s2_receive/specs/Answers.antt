@@ -6,7 +6,7 @@ use Rattle.s2_mode.specs.declared.stream_fault.StreamFault.{StreamFault}
 use Rattle.s2_mode.specs.declared.stream_fault.StreamFault.TheVariants as stream_faults
 use Rattle.s2_mode.specs.declared.counts.WriteFault.{WriteFault}
 use Rattle.s2_receive.specs.Finding.{met_of, place_after}
-use Rattle.s2_receive.specs.Receiving.{Rules, Decision, State, Receiver, IsLive, IsDecided, MetFrame, StepAnswers, Tells, RunsOut, RunsTo, StopsAfter, BreaksAfter, begun, rules_of}
+use Rattle.s2_receive.specs.Receiving.{Rules, Decision, State, Receiver, IsLive, IsDecided, Finds, MetFrame, StepAnswers, Tells, RunsOut, RunsTo, StopsAfter, BreaksAfter, begun, rules_of}
 use Rattle.s2_receive.specs.declared.finding.Next.{Next}
 use Rattle.s2_receive.specs.declared.report.Fault.{Fault}
 use Rattle.s2_receive.specs.declared.report.Fault.TheVariants as faults
@@ -17,6 +17,11 @@ use Rattle.s2_receive.specs.declared.report.Step.{Step}
 use Rattle.s2_receive.specs.declared.report.Step.TheVariants as steps
 use Rattle.s2_receive.specs.declared.report.Totals.{Totals}
 
+-- this holds of the ends of a reader and two writers, before and behind, each by its bytes and its count
+abbrev pub Between : {R P W T : Type 0} → ((before behind : Streams) → T → Type 0) → (R → Option (List ℕ)) → (R → ℕ) → (P → Option (List ℕ)) → (P → ℕ) → (W → Option (List ℕ)) → (W → ℕ) → R → P → W → R → P → W → T → Type 0
+Between holds taken reads given writes out prints r p w r' p' w' =
+    holds (streams_by taken reads given writes out prints r p w) (streams_by taken reads given writes out prints r' p' w')
+
 -- ---- steps
 
 -- of an answer, where it is a frame
@@ -25,6 +30,10 @@ OnFrame (Ok (steps.Frame report)) holds = holds report
 OnFrame (Ok (steps.Cut at count)) holds = ⊤
 OnFrame (Ok steps.End) holds = ⊤
 OnFrame (Err fault) holds = ⊤
+
+-- a step's first half, where more can be met
+abbrev pub FindsStep : {D : Type 0} → (D → List Symbol → Decision) → (D → Decision) → (old new : Receiver D) → (reader_old reader_new : Option (List ℕ)) → Step → Type 0
+FindsStep decide last old new r r' step = IsLive old.state.phase → Finds (rules_of decide old) old.state new.state r r' (last new.decider) step
 
 -- what was met is told, whatever symbols they are of which that was decided last
 abbrev pub Delivers : {E : Type 0} → Rules → (old new : State) → (last : Decision) → (packets_old packets_new report_old report_new : Option (List ℕ)) → Result ⊤ E → Type 0
@@ -79,3 +88,7 @@ pub record ReceivesTo (rules : Rules) (new : State) (before behind : Streams) (t
 abbrev pub BytesAnswers : Rules → (new : State) → (before behind : Streams) → Result Totals WriteFault → Type 0
 BytesAnswers rules new before behind (Ok totals) = ReceivesTo rules new before behind totals
 BytesAnswers rules new before behind (Err fault) = BreaksAfter rules begun before behind
+
+-- so from one receiver to the other
+abbrev pub ReceivesBytes : {D : Type 0} → (D → List Symbol → Decision) → (old new : Receiver D) → (before behind : Streams) → Result Totals WriteFault → Type 0
+ReceivesBytes decide old new before behind result = BytesAnswers (rules_of decide old) new.state before behind result

@@ -3,7 +3,7 @@ ghost use Rattle.std.specs.Prelude.{◌≡◌, ◌*◌, ◌<◌, ◌≤◌, OnOk
 ghost use Rattle.s2_mode.specs.Counts.{CanCount};
 ghost use Rattle.s2_mode.specs.Streams.{streams_by, NoneFailed, OneFailed};
 ghost use Rattle.s2_receive.specs.Receiving.{IsLive, begun, is_well, rules_of};
-ghost use Rattle.s2_receive.specs.Answers.{Runs, OnlyStreamFaults, BytesAnswers, bytes_by};
+ghost use Rattle.s2_receive.specs.Answers.{Between, Runs, OnlyStreamFaults, ReceivesBytes, bytes_by};
 
 use crate::parts::Decide;
 use crate::receiver::Receiver;
@@ -37,13 +37,14 @@ pub fn receive_all<D: Decide, R: CountedRead, P: CountedWrite, W: CountedWrite>(
     requires packets { CanCount (P.count packets.old) }
     requires report { CanCount (W.count report.old) }
     requires live { IsLive receiver.old.state.phase }
-    ensures runs { let ends = streams_by R.remaining R.count P.contents P.count W.contents W.count in
-        Runs D.decide receiver.old receiver.new (ends reader.old packets.old report.old) (ends reader.new packets.new report.new) result }
+    ensures runs { Between (Runs D.decide receiver.old receiver.new) R.remaining R.count P.contents P.count
+        W.contents W.count reader.old packets.old report.old reader.new packets.new report.new result }
     ensures counts { let ends = streams_by R.remaining R.count P.contents P.count W.contents W.count in
         OnlyStreamFaults result (ends reader.old packets.old report.old) (ends reader.new packets.new report.new) }
     ensures bounded { receiver.new.state.at ≤ receiver.old.limit }
     ensures rules { rules_of D.decide receiver.new ≡ rules_of D.decide receiver.old }
-    ensures same { (receiver.new.mode ≡ receiver.old.mode) × (receiver.new.lock ≡ receiver.old.lock) × (receiver.new.limit ≡ receiver.old.limit) }
+    ensures same { (receiver.new.mode ≡ receiver.old.mode) × (receiver.new.lock ≡ receiver.old.lock) ×
+        (receiver.new.limit ≡ receiver.old.limit) }
 {
     let mut well = true;
     'steps: loop {
@@ -77,11 +78,12 @@ pub fn receive_bytes<D: Decide, P: CountedWrite, W: CountedWrite>(
     requires report { CanCount (W.count report.old) }
     requires begun { receiver.old.state ≡ begun }
     requires limit { length bytes.now < 4 * receiver.old.limit }
-    ensures receives { let ends = bytes_by P.contents P.count W.contents W.count in
-        BytesAnswers (rules_of D.decide receiver.old) receiver.new.state
-        (ends bytes.now packets.old report.old) (ends bytes.now packets.new report.new) result }
-    ensures write { OnErr result (OneFailed (P.count packets.old) (P.count packets.new) (W.count report.old) (W.count report.new)) }
-    ensures no_write { OnOk result (NoneFailed (P.count packets.old) (P.count packets.new) (W.count report.old) (W.count report.new)) }
+    ensures receives { let ends = bytes_by P.contents P.count W.contents W.count bytes.now in ReceivesBytes
+        D.decide receiver.old receiver.new (ends packets.old report.old) (ends packets.new report.new) result }
+    ensures write { OnErr result
+        (OneFailed (P.count packets.old) (P.count packets.new) (W.count report.old) (W.count report.new)) }
+    ensures no_write { OnOk result
+        (NoneFailed (P.count packets.old) (P.count packets.new) (W.count report.old) (W.count report.new)) }
 {
     let mut reader = InMemory::new(bytes);
     match receive_all(receiver, &mut reader, packets, report) {

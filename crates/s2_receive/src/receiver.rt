@@ -10,7 +10,7 @@ ghost use Rattle.s2_receive.specs.declared.report.Phase.TheVariants as phases;
 ghost use Rattle.s2_receive.specs.Meeting.{nothing_over};
 ghost use Rattle.s2_receive.specs.Stepping.{place_of};
 ghost use Rattle.s2_receive.specs.Receiving.{IsLive, Finds, Stops, StandsBehind, begun, rules_of};
-ghost use Rattle.s2_receive.specs.Answers.{Delivers, Steps, StepsFrame, OnlyFaults};
+ghost use Rattle.s2_receive.specs.Answers.{Between, Delivers, FindsStep, Steps, StepsFrame, OnlyFaults};
 
 use crate::finder::Finder;
 use crate::finding::Next;
@@ -60,13 +60,8 @@ impl<D: Decide> Model for Receiver<D> {
 
     ghost Value = { ReceiverValue D };
 
-    ghost view = { λ r. record {
-      mode = r.finder.mode;
-      lock = r.finder.lock;
-      decider = r.decider;
-      limit = r.limit;
-      state = state_of r.place.phase r.place.at r.joiner r.place.totals;
-    } };
+    ghost view = { λ r. let state = state_of r.place.phase r.place.at r.joiner r.place.totals in
+        record { mode = r.finder.mode; lock = r.finder.lock; decider = r.decider; limit = r.limit; state = state } };
 
     ghost invariant = { λ r. IsSound r.finder.mode (D.size r.decider) r.limit r.place.phase r.place.at r.place.totals };
 }
@@ -86,7 +81,8 @@ impl<D: Decide> Receiver<D> {
         D: Drop,
         requires takes { symbols_in mode ≡ D.size decider }
         requires limit { limit ≤ most_symbols }
-        ensures parts { IfOk result (λ r. (r.mode ≡ mode) × (r.lock ≡ lock) × (r.decider ≡ decider) × (r.limit ≡ limit)) }
+        ensures parts { IfOk result
+            (λ r. (r.mode ≡ mode) × (r.lock ≡ lock) × (r.decider ≡ decider) × (r.limit ≡ limit)) }
         ensures begun { IfOk result (λ r. r.state ≡ begun) }
     {
         Ok(Receiver {
@@ -111,7 +107,8 @@ impl<D: Decide> Receiver<D> {
 
     /// Takes at most so many symbols in all, of which it has not taken more yet.
     pub fn limit(&mut self, symbols: u64)
-        requires { (place_of (symbols_in self.old.mode) self.old.state.phase self.old.state.at ≤ symbols) × (symbols ≤ most_symbols) }
+        requires { (place_of (symbols_in self.old.mode) self.old.state.phase self.old.state.at ≤ symbols) ×
+            (symbols ≤ most_symbols) }
         ensures { self.new ≡ record self.old { limit = symbols } }
     {
         self.limit = symbols;
@@ -135,16 +132,18 @@ impl<D: Decide> Receiver<D> {
     pub fn meet<R: CountedRead>(&mut self, reader: &mut R) -> Result<Step, Fault>
         requires reader { CanCount (R.count reader.old) }
         ensures rules { rules_of D.decide self.new ≡ rules_of D.decide self.old }
-        ensures same { (self.new.mode ≡ self.old.mode) × (self.new.lock ≡ self.old.lock) × (self.new.limit ≡ self.old.limit) }
-        ensures finds { IfOk result (λ step. IsLive self.old.state.phase
-            → Finds (rules_of D.decide self.old) self.old.state self.new.state (R.remaining reader.old) (R.remaining reader.new) (D.last self.new.decider) step) }
+        ensures same { (self.new.mode ≡ self.old.mode) × (self.new.lock ≡ self.old.lock) ×
+            (self.new.limit ≡ self.old.limit) }
+        ensures finds { IfOk result
+            (FindsStep D.decide D.last self.old self.new (R.remaining reader.old) (R.remaining reader.new)) }
         ensures stops { IsErrOf result Fault.Read → Stops (rules_of D.decide self.old) self.old.state self.new.state
             (R.remaining reader.old) (R.remaining reader.new) (R.count reader.old) (R.count reader.new) }
         ensures bounded { self.new.state.at ≤ self.old.limit }
         ensures no_read { result ≢ Err Fault.Read → R.count reader.new ≡ R.count reader.old }
         ensures no_write { result ≢ Err Fault.Write }
         ensures ended { self.old.state.phase ≡ phases.Ended → result ≡ Ok Step.End }
-        ensures failed { IsErrOf result Fault.Failed ↔ ((IsLive self.old.state.phase → ⊥) × (self.old.state.phase ≢ phases.Ended)) }
+        ensures failed { IsErrOf result Fault.Failed ↔
+            ((IsLive self.old.state.phase → ⊥) × (self.old.state.phase ≢ phases.Ended)) }
         ensures nothing { (IsLive self.old.state.phase → ⊥) → (self.new ≡ self.old) × (reader.new ≡ reader.old) }
     {
         match self.place.phase {
@@ -216,17 +215,22 @@ impl<D: Decide> Receiver<D> {
         requires packets { CanCount (P.count packets.old) }
         requires report { CanCount (W.count report.old) }
         ensures rules { rules_of D.decide self.new ≡ rules_of D.decide self.old }
-        ensures same { (self.new.mode ≡ self.old.mode) × (self.new.lock ≡ self.old.lock) × (self.new.limit ≡ self.old.limit) }
+        ensures same { (self.new.mode ≡ self.old.mode) × (self.new.lock ≡ self.old.lock) ×
+            (self.new.limit ≡ self.old.limit) }
         ensures last { D.last self.new.decider ≡ D.last self.old.decider }
         ensures tells { Delivers (rules_of D.decide self.old) self.old.state self.new.state (D.last self.old.decider)
             (P.contents packets.old) (P.contents packets.new) (W.contents report.old) (W.contents report.new) result }
         ensures bounded { self.new.state.at ≤ self.old.limit }
-        ensures write { IsErrOf result Fault.Write → OneFailed (P.count packets.old) (P.count packets.new) (W.count report.old) (W.count report.new) }
-        ensures no_write { result ≢ Err Fault.Write → NoneFailed (P.count packets.old) (P.count packets.new) (W.count report.old) (W.count report.new) }
+        ensures write { IsErrOf result Fault.Write →
+            OneFailed (P.count packets.old) (P.count packets.new) (W.count report.old) (W.count report.new) }
+        ensures no_write { result ≢ Err Fault.Write →
+            NoneFailed (P.count packets.old) (P.count packets.new) (W.count report.old) (W.count report.new) }
         ensures no_read { result ≢ Err Fault.Read }
         ensures ended { self.old.state.phase ≡ phases.Ended → result ≡ Ok tt }
-        ensures failed { IsErrOf result Fault.Failed ↔ (((next : NextValue) → self.old.state.phase ≢ phases.Met next) × (self.old.state.phase ≢ phases.Ended)) }
-        ensures nothing { ((next : NextValue) → self.old.state.phase ≢ phases.Met next) → (self.new ≡ self.old) × (packets.new ≡ packets.old) × (report.new ≡ report.old) }
+        ensures failed { IsErrOf result Fault.Failed ↔
+            (((next : NextValue) → self.old.state.phase ≢ phases.Met next) × (self.old.state.phase ≢ phases.Ended)) }
+        ensures nothing { ((next : NextValue) → self.old.state.phase ≢ phases.Met next) →
+            (self.new ≡ self.old) × (packets.new ≡ packets.old) × (report.new ≡ report.old) }
     {
         let next = match self.place.phase {
             Phase::Met(next) => next,
@@ -254,16 +258,19 @@ impl<D: Decide> Receiver<D> {
         requires packets { CanCount (P.count packets.old) }
         requires report { CanCount (W.count report.old) }
         ensures rules { rules_of D.decide self.new ≡ rules_of D.decide self.old }
-        ensures same { (self.new.mode ≡ self.old.mode) × (self.new.lock ≡ self.old.lock) × (self.new.limit ≡ self.old.limit) }
-        ensures live { let ends = streams_by R.remaining R.count P.contents P.count W.contents W.count in
-            Steps D.decide self.old self.new (ends reader.old packets.old report.old) (ends reader.new packets.new report.new) result }
-        ensures frame { let ends = streams_by R.remaining R.count P.contents P.count W.contents W.count in
-            StepsFrame D.decide D.last self.old self.new (ends reader.old packets.old report.old) (ends reader.new packets.new report.new) result }
+        ensures same { (self.new.mode ≡ self.old.mode) × (self.new.lock ≡ self.old.lock) ×
+            (self.new.limit ≡ self.old.limit) }
+        ensures live { let ends = streams_by R.remaining R.count P.contents P.count W.contents W.count in Steps D.decide
+            self.old self.new (ends reader.old packets.old report.old) (ends reader.new packets.new report.new) result }
+        ensures frame { Between (StepsFrame D.decide D.last self.old self.new) R.remaining R.count P.contents P.count
+            W.contents W.count reader.old packets.old report.old reader.new packets.new report.new result }
         ensures taken { StandsBehind (symbols_in self.old.mode) self.new.state.at result }
         ensures bounded { self.new.state.at ≤ self.old.limit }
         ensures ended { self.old.state.phase ≡ phases.Ended → result ≡ Ok Step.End }
-        ensures failed { IsErrOf result Fault.Failed ↔ ((IsLive self.old.state.phase → ⊥) × (self.old.state.phase ≢ phases.Ended)) }
-        ensures nothing { (IsLive self.old.state.phase → ⊥) → (self.new ≡ self.old) × (reader.new ≡ reader.old) × (packets.new ≡ packets.old) × (report.new ≡ report.old) }
+        ensures failed { IsErrOf result Fault.Failed ↔
+            ((IsLive self.old.state.phase → ⊥) × (self.old.state.phase ≢ phases.Ended)) }
+        ensures nothing { (IsLive self.old.state.phase → ⊥) → (self.new ≡ self.old) × (reader.new ≡ reader.old) ×
+            (packets.new ≡ packets.old) × (report.new ≡ report.old) }
         ensures unwritten { IsErrOf result Fault.Read → (packets.new ≡ packets.old) × (report.new ≡ report.old) }
         ensures counts { let ends = streams_by R.remaining R.count P.contents P.count W.contents W.count in
             OnlyFaults result (ends reader.old packets.old report.old) (ends reader.new packets.new report.new) }

@@ -1,6 +1,8 @@
 -- The frame of a header and its data field (EN 302 307-1, 5.2 to 5.5), and dummy frames behind it.
-use Rattle.std.specs.Prelude.{◌≡◌, ℕ, ◌-◌, ◌*◌, Bool, false, List, [], ◌++◌, length, replicate, if◌then◌else◌}
+use Rattle.std.specs.Prelude.{◌≡◌, ℕ, ◌-◌, ◌*◌, Bool, false, List, [], ◌++◌, length, replicate, if◌then◌else◌, Option, Result, OnOk, OnErr}
+use Rattle.std.specs.Io.KnownBytes.{Appends}
 use Rattle.s2_mode.specs.Mode.{Mode, kbch_of, k_of, n_of, shape_in, HasCodeSizes}
+use Rattle.s2_mode.specs.Pieces.{AppendsPart}
 use Rattle.s2_mode.specs.Symbols.{bytes_of_symbols}
 use Rattle.s2_bits.specs.Bits.{bits_of_bytes}
 use Rattle.s2_rows.specs.Rows.{Rows}
@@ -52,6 +54,10 @@ pub record IsUnitOf (link : Link) (due : Bool) (header : Header) (field bytes : 
   pub frame : List ℕ
   pub is_frame : IsFrameOf link header field frame
   pub spelt : bytes ≡ frame ++ sent_behind link due
+
+-- bytes of which this holds are written, or where a write fails a part of them
+abbrev pub WritesSome : {T E : Type 0} → (List ℕ → Type 0) → (old new : Option (List ℕ)) → Result T E → Type 0
+WritesSome holds old new result = (bytes : List ℕ) × holds bytes × OnOk result (Appends old new bytes) × OnErr result (AppendsPart bytes old new)
 
 -- ---- what the stages hold
 

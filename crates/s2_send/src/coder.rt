@@ -43,7 +43,8 @@ impl<'a> Model for Coder<'a> {
 
     ghost view = { λ c. record { mode = c.bch; rows = c.matrix.now; codeword = c.codeword } };
 
-    ghost invariant = { λ c. FitsCode (record { mode = c.bch; rows = c.matrix.now; codeword = c.codeword }) c.message c.bch_word };
+    ghost invariant = { λ c. FitsCode
+        (record { mode = c.bch; rows = c.matrix.now; codeword = c.codeword }) c.message c.bch_word };
 }
 
 impl<'a> Coder<'a> {

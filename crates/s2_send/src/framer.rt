@@ -1,11 +1,11 @@
 //! Makes frames of data fields.
-ghost use Rattle.std.specs.Prelude.{◌≡◌, ◌≤◌, ℕ, List, IfOk, OnOk, OnErr, length};
+ghost use Rattle.std.specs.Prelude.{◌≡◌, ◌≤◌, IfOk, OnOk, OnErr, length};
 ghost use Rattle.std.specs.Io.KnownBytes.{Appends};
 ghost use Rattle.s2_mode.specs.Counts.{CanCount, CountsFault};
 ghost use Rattle.s2_mode.specs.Pieces.{AppendsPart};
 ghost use Rattle.s2_bbframe.specs.DataStream.{field_bytes};
 ghost use Rattle.s2_link.specs.Limits.{most_roll_off};
-ghost use Rattle.s2_send.specs.Frames.{IsFrameOf, IsUnitOf, dummy_bytes};
+ghost use Rattle.s2_send.specs.Frames.{IsFrameOf, IsUnitOf, WritesSome, dummy_bytes};
 
 use crate::coder::Coder;
 use crate::modulator::Modulator;
@@ -36,11 +36,12 @@ impl<'a> Drop for Framer<'a> {
 impl<'a> Model for Framer<'a> {
     ghost use Rattle.std.specs.Prelude.{◌≡◌, ◌≤◌};
     ghost use Rattle.s2_link.specs.Limits.{most_roll_off};
-    ghost use Rattle.s2_link.specs.Link.{Link as LinkValue};
+    ghost use Rattle.s2_link.specs.Link.{Link as LinkValue, link_of};
 
     ghost Value = { LinkValue };
 
-    ghost view = { λ f. record { setup = record { mode = f.modulator.mode; number = f.modulator.number; roll_off = f.roll_off }; rows = f.coder.rows } };
+    ghost view = { λ f. link_of
+        (record { mode = f.modulator.mode; number = f.modulator.number; roll_off = f.roll_off }) f.coder.rows };
 
     ghost invariant = { λ f. (f.coder.mode ≡ f.modulator.mode) × (f.roll_off ≤ most_roll_off) };
 }
@@ -78,9 +79,8 @@ impl<'a> Framer<'a> {
         requires count { CanCount (W.count writer.old) }
         requires roll_off { header.now.roll_off ≤ 3 }
         requires size { length field.now ≤ field_bytes self.old.setup.mode }
-        ensures frame { (frame : List ℕ) × IsFrameOf self.old header.now field.now frame
-            × OnOk result (Appends (W.contents writer.old) (W.contents writer.new) frame)
-            × OnErr result (AppendsPart frame (W.contents writer.old) (W.contents writer.new)) }
+        ensures frame { WritesSome (IsFrameOf self.old header.now field.now)
+            (W.contents writer.old) (W.contents writer.new) result }
         ensures cause { CountsFault (W.count writer.old) (W.count writer.new) result }
         ensures same { self.new ≡ self.old }
     {
@@ -92,8 +92,10 @@ impl<'a> Framer<'a> {
     /// Writes a dummy frame, or where a write fails a part of it. It takes no memory.
     pub fn write_dummy<W: CountedWrite>(&self, writer: &mut W) -> Result<(), WriteFault>
         requires count { CanCount (W.count writer.old) }
-        ensures bytes { OnOk result (Appends (W.contents writer.old) (W.contents writer.new) (dummy_bytes self.now.setup.number)) }
-        ensures part { OnErr result (AppendsPart (dummy_bytes self.now.setup.number) (W.contents writer.old) (W.contents writer.new)) }
+        ensures bytes { OnOk result
+            (Appends (W.contents writer.old) (W.contents writer.new) (dummy_bytes self.now.setup.number)) }
+        ensures part { OnErr result
+            (AppendsPart (dummy_bytes self.now.setup.number) (W.contents writer.old) (W.contents writer.new)) }
         ensures cause { CountsFault (W.count writer.old) (W.count writer.new) result }
     {
         write_full(writer, self.modulator.dummy())
@@ -111,9 +113,8 @@ impl<'a> Framer<'a> {
         requires count { CanCount (W.count writer.old) }
         requires roll_off { header.now.roll_off ≤ 3 }
         requires size { length field.now ≤ field_bytes self.old.setup.mode }
-        ensures unit { (unit : List ℕ) × IsUnitOf self.old due header.now field.now unit
-            × OnOk result (Appends (W.contents writer.old) (W.contents writer.new) unit)
-            × OnErr result (AppendsPart unit (W.contents writer.old) (W.contents writer.new)) }
+        ensures unit { WritesSome (IsUnitOf self.old due header.now field.now)
+            (W.contents writer.old) (W.contents writer.new) result }
         ensures cause { CountsFault (W.count writer.old) (W.count writer.new) result }
         ensures same { self.new ≡ self.old }
     {

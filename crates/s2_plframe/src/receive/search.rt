@@ -150,7 +150,8 @@ impl Model for Search {
 
     ghost view = { λ s. search_of s.mode (held_list s.odd s.even s.count) };
 
-    ghost invariant = { λ s. IsSearch s.mode s.headers.coded s.headers.dummy s.headers.dummy_pilots s.headers.dummy_short s.headers.dummy_both s.count };
+    ghost invariant = { λ s. IsSearch s.mode s.headers.coded s.headers.dummy s.headers.dummy_pilots
+        s.headers.dummy_short s.headers.dummy_both s.count };
 }
 
 impl Search {
