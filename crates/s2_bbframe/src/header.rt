@@ -110,8 +110,8 @@ impl Header {
     pub fn write(&self, bytes: &mut [u8; 10])
         requires { self.now.roll_off ≤ 3 }
         ensures bytes { bytes.new ≡ header_bytes self.now }
-        ensures accepted { (m : ModeValue) → has_valid_lengths m self.now ≡ true →
-            header_of_bytes m bytes.new ≡ Ok self.now }
+        ensures accepted { (m : ModeValue) → has_valid_lengths m self.now ≡ true
+            → header_of_bytes m bytes.new ≡ Ok self.now }
     {
         let [length, length_low] = self.dfl.to_be_bytes();
         let [distance, distance_low] = self.syncd.to_be_bytes();

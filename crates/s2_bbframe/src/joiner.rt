@@ -148,8 +148,8 @@ impl Joiner {
         out: &mut W,
     ) -> Result<Fed, WriteFault>
         requires count { CanCount (W.count out.old) }
-        requires syncd { (length field.now ≡ 0) ⊎
-            ((header.now.syncd ≡ no_place) ⊎ (header.now.syncd / 8 < length field.now)) }
+        requires syncd { (length field.now ≡ 0)
+            ⊎ ((header.now.syncd ≡ no_place) ⊎ (header.now.syncd / 8 < length field.now)) }
         ensures held { OnOk result (self.new ≡ (fed self.old header.now.syncd field.now).held) }
         ensures good { IfOk result (λ r. r.good ≡ length (fed self.old header.now.syncd field.now).good) }
         ensures bad { IfOk result (λ r. r.bad ≡ (fed self.old header.now.syncd field.now).bad) }

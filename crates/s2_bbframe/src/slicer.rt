@@ -52,8 +52,8 @@ impl Model for Slicer {
     ghost view = { λ s.
         record { size = s.size; begun = s.begun; phase = s.phase; waiting = s.waiting.items; closed = s.closed } };
 
-    ghost invariant = { λ s. (s.size + packet_bytes ≤ vec_capacity s.waiting) × (s.phase < packet_bytes) ×
-        (s.size < 8192) × (packet_bytes ≤ s.size) × EndsAtPlace s.begun s.phase (length s.waiting.items) };
+    ghost invariant = { λ s. (s.size + packet_bytes ≤ vec_capacity s.waiting) × (s.phase < packet_bytes)
+        × (s.size < 8192) × (packet_bytes ≤ s.size) × EndsAtPlace s.begun s.phase (length s.waiting.items) };
 }
 
 /// The bytes of a full data field of this mode: Kbch less the 80 bits of a header.
@@ -119,8 +119,8 @@ impl Slicer {
         requires not_closed { self.old.closed ≡ false }
         ensures accepts { IsOk result ↔ (slice_index packet.now 0 ≡ sync) }
         ensures packet { OnOk result (self.new ≡ after_packet packet.now self.old) }
-        ensures stream { OnOk result ((packets fields : List (List ℕ)) → Sliced packets fields self.old →
-            Sliced (packets ++ packet.now ∷ []) fields self.new) }
+        ensures stream { OnOk result ((packets fields : List (List ℕ)) → Sliced packets fields self.old
+            → Sliced (packets ++ packet.now ∷ []) fields self.new) }
         ensures refused { OnErr result (self.new ≡ self.old) }
     {
         if packet[0] != SYNC {
@@ -159,8 +159,8 @@ impl Slicer {
         requires { length field.old ≡ self.old.size }
         ensures ready { IsSome result ↔ IsReady self.old }
         ensures header { IfSome result (λ h. h ≡ header_at roll_off self.old.phase (next_field self.old)) }
-        ensures lengths { IfSome result (λ h. (m : ModeValue) → self.old.size ≡ field_bytes m →
-            has_valid_lengths m h ≡ true) }
+        ensures lengths { IfSome result (λ h. (m : ModeValue) → self.old.size ≡ field_bytes m
+            → has_valid_lengths m h ≡ true) }
         ensures field { IfSome result
             (λ _. field.new ≡ next_field self.old ++ drop (length (next_field self.old)) field.old) }
         ensures takes { IfSome result (λ _. self.new ≡ after_field self.old) }

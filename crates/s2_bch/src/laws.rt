@@ -26,8 +26,8 @@ pub fn generators(mode: Mode)
 
 /// A message has no second word of the code.
 pub fn unique(mode: Mode)
-    ensures { (message word other : List Bool) → IsBchWordOf mode message word → IsBchWordOf mode message other →
-        word ≡ other }
+    ensures { (message word other : List Bool) → IsBchWordOf mode message word → IsBchWordOf mode message other
+        → word ≡ other }
 {
     let _ = mode.t();
 }
@@ -54,8 +54,8 @@ pub fn distance(mode: Mode)
 /// from them in at most t places, and it is missing exactly where no word of the code is so near.
 pub fn nearest(mode: Mode)
     ensures some { (r v : List Bool) → length r ≡ k_of mode → (nearest mode r ≡ Some v ↔ IsWithin mode r v) }
-    ensures none { (r : List Bool) → length r ≡ k_of mode →
-        (nearest mode r ≡ None ↔ ((v : List Bool) → IsWithin mode r v → ⊥)) }
+    ensures none { (r : List Bool) → length r ≡ k_of mode
+        → (nearest mode r ≡ None ↔ ((v : List Bool) → IsWithin mode r v → ⊥)) }
 {
     let _ = mode.k();
 }

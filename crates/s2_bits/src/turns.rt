@@ -11,8 +11,8 @@ pub fn add_turned(row: &mut [bool], bits: &[bool], shift: usize)
     requires same { length bits.now ≡ length row.old }
     requires turn { shift ≤ length bits.now }
     ensures long { length row.new ≡ length row.old }
-    ensures added { (k : ℕ) → k < length bits.now →
-        bit_at row.new k ≡ xor (bit_at row.old k) (bit_at bits.now (turned (length bits.now) shift k)) }
+    ensures added { (k : ℕ) → k < length bits.now
+        → bit_at row.new k ≡ xor (bit_at row.old k) (bit_at bits.now (turned (length bits.now) shift k)) }
 {
     let (low, high) = bits.split_at(bits.len() - shift);
     let (first, last) = row.split_at_mut(shift);

@@ -27,8 +27,8 @@ pub fn add_to_all<R: CountedRead, W: CountedWrite>(
         noise.new.generator ≡ drawn_for (length (symbols_of xs)) noise.old.generator)) }
     ensures write { IsErrOf result StreamFault.Write → W.count writer.new ≡ W.count writer.old + 1 }
     ensures wrote { result ≢ Err StreamFault.Write → W.count writer.new ≡ W.count writer.old }
-    ensures read { IsErrOf result StreamFault.Read → R.count reader.new ≡ R.count reader.old →
-        IfSome (R.remaining reader.old) (λ xs. most_symbols ≤ length (symbols_of xs)) }
+    ensures read { IsErrOf result StreamFault.Read → R.count reader.new ≡ R.count reader.old
+        → IfSome (R.remaining reader.old) (λ xs. most_symbols ≤ length (symbols_of xs)) }
     ensures no_read { result ≢ Err StreamFault.Read → R.count reader.new ≡ R.count reader.old }
     ensures front { IsErrOf result StreamFault.Read → PassesOnBy R.remaining R.count W.contents
         noise.old.level noise.old.generator reader.old reader.new writer.old writer.new }

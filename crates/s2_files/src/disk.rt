@@ -24,13 +24,13 @@ pub trait Disk: Files + StandardStreams {
 
     /// Standard input, by each of its names.
     fn standard_input(&self) -> Self::Input
-        ensures { (name : List ℕ) → NamesStandard roles.Input name →
-            Self.Input.remaining result ≡ holds roles.Input name };
+        ensures { (name : List ℕ) → NamesStandard roles.Input name
+            → Self.Input.remaining result ≡ holds roles.Input name };
 
     /// Standard output, by each of its names.
     fn standard_output(&self) -> Self::Output
-        ensures { (name : List ℕ) → NamesStandard roles.Output name →
-            Self.Output.contents result ≡ holds roles.Output name };
+        ensures { (name : List ℕ) → NamesStandard roles.Output name
+            → Self.Output.contents result ≡ holds roles.Output name };
 }
 
 impl Disk for HostRuntime {

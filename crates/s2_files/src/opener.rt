@@ -168,10 +168,10 @@ impl<'r, R: Disk> Opener<'r, R> {
         ensures fresh { IfOk result (λ file. file.failed ≡ 0) }
         ensures holds { IfOk result
             (λ file. known_of R.File.remaining R.Input.remaining file.inner ≡ R.holds Role.Input name.entry.now) }
-        ensures standard { NamesStandard Role.Input name.entry.now →
-            OnOk result (Takes Role.Input true self.old self.new) }
-        ensures named { (NamesStandard Role.Input name.entry.now → ⊥) →
-            OnOk result (Takes Role.Input false self.old self.new) }
+        ensures standard { NamesStandard Role.Input name.entry.now
+            → OnOk result (Takes Role.Input true self.old self.new) }
+        ensures named { (NamesStandard Role.Input name.entry.now → ⊥)
+            → OnOk result (Takes Role.Input false self.old self.new) }
         ensures kept { OnErr result (self.new ≡ self.old) }
         ensures count { OnOk result (length self.new ≡ length self.old + 1) }
         ensures fault { IfErr result (λ fault. (fault ≡ Fault.Open name.entry) ⊎ (fault ≡ Fault.UsedTwice name.entry)) }
@@ -195,10 +195,10 @@ impl<'r, R: Disk> Opener<'r, R> {
         ensures fresh { IfOk result (λ file. file.failed ≡ 0) }
         ensures holds { IfOk result
             (λ file. known_of R.File.contents R.Output.contents file.to ≡ R.holds Role.Output name.entry.now) }
-        ensures standard { NamesStandard Role.Output name.entry.now →
-            OnOk result (Takes Role.Output true self.old self.new) }
-        ensures named { (NamesStandard Role.Output name.entry.now → ⊥) →
-            OnOk result (Takes Role.Output false self.old self.new) }
+        ensures standard { NamesStandard Role.Output name.entry.now
+            → OnOk result (Takes Role.Output true self.old self.new) }
+        ensures named { (NamesStandard Role.Output name.entry.now → ⊥)
+            → OnOk result (Takes Role.Output false self.old self.new) }
         ensures kept { OnErr result (self.new ≡ self.old) }
         ensures count { OnOk result (length self.new ≡ length self.old + 1) }
         ensures fault { IfErr result (λ fault. (fault ≡ Fault.Open name.entry) ⊎ (fault ≡ Fault.UsedTwice name.entry)) }
@@ -223,15 +223,15 @@ impl<'r, R: Disk + AllocGlobal> Opener<'r, R> {
     ) -> Result<Reader<R::File, R::Input>, Fault<'a>>
         requires room { length self.old < 4 }
         ensures fresh { IfOk result (λ file. file.failed ≡ 0) }
-        ensures holds { IfOk result (λ file. reader_remaining (known_of R.File.remaining R.Input.remaining) file.inner ≡
-            R.holds Role.Input name.entry.now) }
-        ensures standard { NamesStandard Role.Input name.entry.now →
-            OnOk result (Takes Role.Input true self.old self.new) }
-        ensures named { (NamesStandard Role.Input name.entry.now → ⊥) →
-            OnOk result (Takes Role.Input false self.old self.new) }
+        ensures holds { IfOk result (λ file. reader_remaining (known_of R.File.remaining R.Input.remaining) file.inner
+            ≡ R.holds Role.Input name.entry.now) }
+        ensures standard { NamesStandard Role.Input name.entry.now
+            → OnOk result (Takes Role.Input true self.old self.new) }
+        ensures named { (NamesStandard Role.Input name.entry.now → ⊥)
+            → OnOk result (Takes Role.Input false self.old self.new) }
         ensures count { OnOk result (length self.new ≡ length self.old + 1) }
-        ensures fault { IfErr result (λ fault. (fault ≡ Fault.Open name.entry) ⊎
-            ((fault ≡ Fault.UsedTwice name.entry) ⊎ (fault ≡ Fault.NoMemory))) }
+        ensures fault { IfErr result (λ fault. (fault ≡ Fault.Open name.entry)
+            ⊎ ((fault ≡ Fault.UsedTwice name.entry) ⊎ (fault ≡ Fault.NoMemory))) }
     {
         let file = self.read(name)?;
         match BufReader::new(self.rt.alloc(), file.into_inner()) {

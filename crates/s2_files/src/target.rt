@@ -40,8 +40,8 @@ impl<F: Write + OpenFile + Drop, S: Write + Drop> Target<F, S> {
     /// Begins it, behind a buffer. Where there is no memory for the buffer, nothing is cut.
     pub fn begin_buffered(self, alloc: Global) -> Result<Writer<F, S>, Fault<'static>>
         ensures fresh { IfOk result (λ writer. writer.failed ≡ 0) }
-        ensures contents { IfOk result (λ writer. writer_contents (known_of F.contents S.contents) writer.inner ≡
-            known_of F.contents S.contents self.to) }
+        ensures contents { IfOk result (λ writer. writer_contents (known_of F.contents S.contents) writer.inner
+            ≡ known_of F.contents S.contents self.to) }
         ensures fault { IfErr result (λ fault. (fault ≡ Fault.NoMemory) ⊎ (fault ≡ Fault.Write)) }
     {
         let Target {

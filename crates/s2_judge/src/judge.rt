@@ -131,15 +131,15 @@ impl<'a> Judge<'a> {
         ensures verdict { result ≡ (decided self.old.rows self.old.tuning self.old.soft).verdict }
         ensures bits { self.new.bits ≡ (decided self.old.rows self.old.tuning self.old.soft).bits }
         ensures certificate { self.new.certificate ≡ (decided self.old.rows self.old.tuning self.old.soft).certificate }
-        ensures likely { IsTrue (is_certified result) →
-            IsMostLikely (code_of self.old.rows) self.old.soft self.new.bits }
+        ensures likely { IsTrue (is_certified result)
+            → IsMostLikely (code_of self.old.rows) self.old.soft self.new.bits }
         ensures sole { result ≡ Verdict.Sole → IsSole (code_of self.old.rows) self.old.soft self.new.bits }
         ensures certified { IsShown self.old.rows self.old.soft
             (record { verdict = result; bits = self.new.bits; certificate = self.new.certificate }) }
         ensures codeword { result ≢ Verdict.Broken → IsCodeword (code_of self.old.rows) self.new.bits }
         ensures broken { result ≡ Verdict.Broken → IsCodeword (code_of self.old.rows) self.new.bits → ⊥ }
-        ensures scattered { (sent : List Bool) → IsScattered (code_of self.old.rows) self.old.soft sent →
-            IsTrue (is_certified result) × (self.new.bits ≡ sent) }
+        ensures scattered { (sent : List Bool) → IsScattered (code_of self.old.rows) self.old.soft sent
+            → IsTrue (is_certified result) × (self.new.bits ≡ sent) }
         ensures clean { IsCodeword (code_of self.old.rows) (hard_decision self.old.soft) → IsTrue (is_certified result)
             × (self.new.bits ≡ hard_decision self.old.soft) × ((result ≡ Verdict.Sole) ↔ NoneIsZero self.old.soft) }
     {
@@ -171,8 +171,8 @@ impl<'a> Judge<'a> {
             (record { verdict = result; bits = self.new.bits; certificate = self.new.certificate }) }
         ensures codeword { result ≢ Verdict.Broken → IsCodeword (code_of self.old.rows) self.new.bits }
         ensures broken { result ≡ Verdict.Broken → IsCodeword (code_of self.old.rows) self.new.bits → ⊥ }
-        ensures scattered { (sent : List Bool) → IsScattered (code_of self.old.rows) soft.now sent →
-            IsTrue (is_certified result) × (self.new.bits ≡ sent) }
+        ensures scattered { (sent : List Bool) → IsScattered (code_of self.old.rows) soft.now sent
+            → IsTrue (is_certified result) × (self.new.bits ≡ sent) }
         ensures clean { IsCodeword (code_of self.old.rows) (hard_decision soft.now) → IsTrue (is_certified result)
             × (self.new.bits ≡ hard_decision soft.now) × ((result ≡ Verdict.Sole) ↔ NoneIsZero soft.now) }
     {

@@ -152,8 +152,8 @@ impl Matrix {
         ensures are { result.now ≡ members (code_of self.now) check }
         ensures below { All (λ i. i < (code_of self.now).bits) result.now }
         ensures short { length result.now ≤ most_bits }
-        ensures within { first_edge (code_of self.now) check + length result.now ≤
-            first_edge (code_of self.now) (code_of self.now).checks }
+        ensures within { first_edge (code_of self.now) check + length result.now
+            ≤ first_edge (code_of self.now) (code_of self.now).checks }
     {
         self.members.row(check)
     }
@@ -184,8 +184,8 @@ impl Matrix {
         requires { check < (code_of self.now).checks }
         ensures is { result ≡ length (members (code_of self.now) check) }
         ensures short { result ≤ most_bits }
-        ensures within { first_edge (code_of self.now) check + result ≤
-            first_edge (code_of self.now) (code_of self.now).checks }
+        ensures within { first_edge (code_of self.now) check + result
+            ≤ first_edge (code_of self.now) (code_of self.now).checks }
     {
         self.members_at(check).len()
     }

@@ -98,8 +98,8 @@ impl Matrix {
         requires info { length info.now ≡ information_bits self.now.shape }
         requires parities { length parities.old ≡ check_count self.now.shape }
         ensures long { length parities.new ≡ length parities.old }
-        ensures are { (j : ℕ) → j < check_count self.now.shape →
-            bit_at parities.new j ≡ parity_bit (code_of self.now) info.now j }
+        ensures are { (j : ℕ) → j < check_count self.now.shape
+            → bit_at parities.new j ≡ parity_bit (code_of self.now) info.now j }
     {
         let shape = self.shape();
         let mut planes = [false; MOST_BITS];
@@ -139,8 +139,8 @@ impl Matrix {
         requires codeword { length codeword.now ≡ (code_of self.now).bits }
         requires odd { length odd.old ≡ (code_of self.now).checks }
         ensures long { length odd.new ≡ length odd.old }
-        ensures are { (j : ℕ) → j < (code_of self.now).checks →
-            bit_at odd.new j ≡ (ones_in (code_of self.now) codeword.now j % 2 == 1) }
+        ensures are { (j : ℕ) → j < (code_of self.now).checks
+            → bit_at odd.new j ≡ (ones_in (code_of self.now) codeword.now j % 2 == 1) }
     {
         let (info, parities) = codeword.split_at(self.shape().k());
         let mut apart = [false; MOST_BITS];

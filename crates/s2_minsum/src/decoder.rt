@@ -95,8 +95,8 @@ impl<'a> Decoder<'a> {
     pub fn layer(&mut self, r: usize, factor: Factor)
         requires { r < self.old.rows.shape.q }
         ensures rows { self.new.rows ≡ self.old.rows }
-        ensures state { decoded self.new ≡
-            after_layer (code_of self.old.rows) self.old.rows.shape.q factor r (decoded self.old) }
+        ensures state { decoded self.new
+            ≡ after_layer (code_of self.old.rows) self.old.rows.shape.q factor r (decoded self.old) }
     {
         run_layer(
             self.matrix,
@@ -113,8 +113,8 @@ impl<'a> Decoder<'a> {
     /// Runs the layers 0 to q - 1, in this order.
     pub fn round(&mut self, factor: Factor)
         ensures rows { self.new.rows ≡ self.old.rows }
-        ensures state { decoded self.new ≡
-            after_round (code_of self.old.rows) self.old.rows.shape.q factor (decoded self.old) }
+        ensures state { decoded self.new
+            ≡ after_round (code_of self.old.rows) self.old.rows.shape.q factor (decoded self.old) }
     {
         let q = self.matrix.shape().q();
         for r in 0..q {
@@ -142,8 +142,8 @@ impl<'a> Decoder<'a> {
     /// the members of a check rising, as those of the matrix.
     pub fn message(&self, edge: usize) -> i16
         requires { edge < first_edge (code_of self.now.rows) (code_of self.now.rows).checks }
-        ensures { (j i : ℕ) → is_edge (code_of self.now.rows) j i ≡ true → edge_of (code_of self.now.rows) j i ≡ edge →
-            result ≡ (decoded self.now).message j i }
+        ensures { (j i : ℕ) → is_edge (code_of self.now.rows) j i ≡ true → edge_of (code_of self.now.rows) j i ≡ edge
+            → result ≡ (decoded self.now).message j i }
     {
         let check = self.matrix.check_of_edge(edge);
         let at = edge - self.matrix.first_edge(check);

@@ -18,8 +18,8 @@ pub fn mask_lacking<T: Copy>(entries: &[Entry], n: usize, last: usize, rows: &mu
     requires some { 1 ≤ n }
     requires few { n ≤ most_group }
     requires long { length rows.old ≡ length entries.now * n }
-    ensures { (e c : ℕ) → e < length entries.now → c < n → slice_index_or rows.new (e * n + c) value ≡
-        (if is_lacking last (entry_at entries.now e) c then value else slice_index_or rows.old (e * n + c) value) }
+    ensures { (e c : ℕ) → e < length entries.now → c < n → slice_index_or rows.new (e * n + c) value
+        ≡ (if is_lacking last (entry_at entries.now e) c then value else slice_index_or rows.old (e * n + c) value) }
 {
     for e in 0..entries.len() {
         let entry = entries[e];

@@ -33,8 +33,8 @@ pub fn words_from(symbols: &[Symbol], at: usize) -> u16x8
 /// The four symbols that have these words.
 #[inline(always)]
 pub fn symbols_from(words: u16x8) -> [Symbol; 4]
-    ensures { (a b c d : Symbol) → IsSymbol a → IsSymbol b → IsSymbol c → IsSymbol d → words ≡ words_of a b c d →
-        result ≡ a ∷ b ∷ c ∷ d ∷ [] }
+    ensures { (a b c d : Symbol) → IsSymbol a → IsSymbol b → IsSymbol c → IsSymbol d → words ≡ words_of a b c d
+        → result ≡ a ∷ b ∷ c ∷ d ∷ [] }
 {
     let [a, b, c, d, e, f, g, h] = words.to_array();
     [

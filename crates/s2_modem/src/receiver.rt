@@ -164,11 +164,11 @@ impl<'a> Receiver<'a> {
         ensures no_read { result ≢ Err faults.Read → R.count reader.new ≡ R.count reader.old }
         ensures no_write { result ≢ Err faults.Write }
         ensures ended { self.old.state.phase ≡ phases.Ended → result ≡ Ok steps.End }
-        ensures failed { IsErrOf result faults.Failed ↔
-            ((IsLive self.old.state.phase → ⊥) × (self.old.state.phase ≢ phases.Ended)) }
+        ensures failed { IsErrOf result faults.Failed
+            ↔ ((IsLive self.old.state.phase → ⊥) × (self.old.state.phase ≢ phases.Ended)) }
         ensures nothing { (IsLive self.old.state.phase → ⊥) → (self.new ≡ self.old) × (reader.new ≡ reader.old) }
-        ensures same { (self.new.link ≡ self.old.link) × (self.new.tuning ≡ self.old.tuning) ×
-            (self.new.limit ≡ self.old.limit) }
+        ensures same { (self.new.link ≡ self.old.link) × (self.new.tuning ≡ self.old.tuning)
+            × (self.new.limit ≡ self.old.limit) }
     {
         self.inner.meet(reader)
     }
@@ -200,8 +200,8 @@ impl<'a> Receiver<'a> {
             ↔ (((next : NextValue) → self.old.state.phase ≢ phases.Met next) × (self.old.state.phase ≢ phases.Ended)) }
         ensures nothing { ((next : NextValue) → self.old.state.phase ≢ phases.Met next)
             → (self.new ≡ self.old) × (packets.new ≡ packets.old) × (report.new ≡ report.old) }
-        ensures same { (self.new.link ≡ self.old.link) × (self.new.tuning ≡ self.old.tuning) ×
-            (self.new.limit ≡ self.old.limit) }
+        ensures same { (self.new.link ≡ self.old.link) × (self.new.tuning ≡ self.old.tuning)
+            × (self.new.limit ≡ self.old.limit) }
     {
         self.inner.deliver(packets, report)
     }
@@ -230,15 +230,15 @@ impl<'a> Receiver<'a> {
         ensures taken { StandsBehind (symbols_in self.old.link.setup.mode) self.new.state.at result }
         ensures bounded { self.new.state.at ≤ self.old.limit }
         ensures ended { self.old.state.phase ≡ phases.Ended → result ≡ Ok steps.End }
-        ensures failed { IsErrOf result faults.Failed ↔
-            ((IsLive self.old.state.phase → ⊥) × (self.old.state.phase ≢ phases.Ended)) }
-        ensures nothing { (IsLive self.old.state.phase → ⊥) → (self.new ≡ self.old) × (reader.new ≡ reader.old) ×
-            (packets.new ≡ packets.old) × (report.new ≡ report.old) }
+        ensures failed { IsErrOf result faults.Failed
+            ↔ ((IsLive self.old.state.phase → ⊥) × (self.old.state.phase ≢ phases.Ended)) }
+        ensures nothing { (IsLive self.old.state.phase → ⊥) → (self.new ≡ self.old) × (reader.new ≡ reader.old)
+            × (packets.new ≡ packets.old) × (report.new ≡ report.old) }
         ensures unwritten { IsErrOf result faults.Read → (packets.new ≡ packets.old) × (report.new ≡ report.old) }
         ensures counts { let ends = streams_by R.remaining R.count P.contents P.count W.contents W.count in
             OnlyFaults result (ends reader.old packets.old report.old) (ends reader.new packets.new report.new) }
-        ensures same { (self.new.link ≡ self.old.link) × (self.new.tuning ≡ self.old.tuning) ×
-            (self.new.limit ≡ self.old.limit) }
+        ensures same { (self.new.link ≡ self.old.link) × (self.new.tuning ≡ self.old.tuning)
+            × (self.new.limit ≡ self.old.limit) }
     {
         self.inner.next(reader, packets, report)
     }
@@ -268,8 +268,8 @@ impl<'a> Receiver<'a> {
         ensures as_likely { AllAsLikely self.old.link self.old.tuning }
         ensures counts { let ends = streams_by R.remaining R.count P.contents P.count W.contents W.count in
             OnlyStreamFaults result (ends reader.old packets.old report.old) (ends reader.new packets.new report.new) }
-        ensures same { (self.new.link ≡ self.old.link) × (self.new.tuning ≡ self.old.tuning) ×
-            (self.new.limit ≡ self.old.limit) }
+        ensures same { (self.new.link ≡ self.old.link) × (self.new.tuning ≡ self.old.tuning)
+            × (self.new.limit ≡ self.old.limit) }
     {
         receive_all(&mut self.inner, reader, packets, report)
     }

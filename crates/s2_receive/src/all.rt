@@ -43,8 +43,8 @@ pub fn receive_all<D: Decide, R: CountedRead, P: CountedWrite, W: CountedWrite>(
         OnlyStreamFaults result (ends reader.old packets.old report.old) (ends reader.new packets.new report.new) }
     ensures bounded { receiver.new.state.at ≤ receiver.old.limit }
     ensures rules { rules_of D.decide receiver.new ≡ rules_of D.decide receiver.old }
-    ensures same { (receiver.new.mode ≡ receiver.old.mode) × (receiver.new.lock ≡ receiver.old.lock) ×
-        (receiver.new.limit ≡ receiver.old.limit) }
+    ensures same { (receiver.new.mode ≡ receiver.old.mode) × (receiver.new.lock ≡ receiver.old.lock)
+        × (receiver.new.limit ≡ receiver.old.limit) }
 {
     let mut well = true;
     'steps: loop {

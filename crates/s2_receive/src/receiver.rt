@@ -107,8 +107,8 @@ impl<D: Decide> Receiver<D> {
 
     /// Takes at most so many symbols in all, of which it has not taken more yet.
     pub fn limit(&mut self, symbols: u64)
-        requires { (place_of (symbols_in self.old.mode) self.old.state.phase self.old.state.at ≤ symbols) ×
-            (symbols ≤ most_symbols) }
+        requires { (place_of (symbols_in self.old.mode) self.old.state.phase self.old.state.at ≤ symbols)
+            × (symbols ≤ most_symbols) }
         ensures { self.new ≡ record self.old { limit = symbols } }
     {
         self.limit = symbols;
@@ -132,8 +132,8 @@ impl<D: Decide> Receiver<D> {
     pub fn meet<R: CountedRead>(&mut self, reader: &mut R) -> Result<Step, Fault>
         requires reader { CanCount (R.count reader.old) }
         ensures rules { rules_of D.decide self.new ≡ rules_of D.decide self.old }
-        ensures same { (self.new.mode ≡ self.old.mode) × (self.new.lock ≡ self.old.lock) ×
-            (self.new.limit ≡ self.old.limit) }
+        ensures same { (self.new.mode ≡ self.old.mode) × (self.new.lock ≡ self.old.lock)
+            × (self.new.limit ≡ self.old.limit) }
         ensures finds { IfOk result
             (FindsStep D.decide D.last self.old self.new (R.remaining reader.old) (R.remaining reader.new)) }
         ensures stops { IsErrOf result Fault.Read → Stops (rules_of D.decide self.old) self.old.state self.new.state
@@ -142,8 +142,8 @@ impl<D: Decide> Receiver<D> {
         ensures no_read { result ≢ Err Fault.Read → R.count reader.new ≡ R.count reader.old }
         ensures no_write { result ≢ Err Fault.Write }
         ensures ended { self.old.state.phase ≡ phases.Ended → result ≡ Ok Step.End }
-        ensures failed { IsErrOf result Fault.Failed ↔
-            ((IsLive self.old.state.phase → ⊥) × (self.old.state.phase ≢ phases.Ended)) }
+        ensures failed { IsErrOf result Fault.Failed
+            ↔ ((IsLive self.old.state.phase → ⊥) × (self.old.state.phase ≢ phases.Ended)) }
         ensures nothing { (IsLive self.old.state.phase → ⊥) → (self.new ≡ self.old) × (reader.new ≡ reader.old) }
     {
         match self.place.phase {
@@ -215,22 +215,22 @@ impl<D: Decide> Receiver<D> {
         requires packets { CanCount (P.count packets.old) }
         requires report { CanCount (W.count report.old) }
         ensures rules { rules_of D.decide self.new ≡ rules_of D.decide self.old }
-        ensures same { (self.new.mode ≡ self.old.mode) × (self.new.lock ≡ self.old.lock) ×
-            (self.new.limit ≡ self.old.limit) }
+        ensures same { (self.new.mode ≡ self.old.mode) × (self.new.lock ≡ self.old.lock)
+            × (self.new.limit ≡ self.old.limit) }
         ensures last { D.last self.new.decider ≡ D.last self.old.decider }
         ensures tells { Delivers (rules_of D.decide self.old) self.old.state self.new.state (D.last self.old.decider)
             (P.contents packets.old) (P.contents packets.new) (W.contents report.old) (W.contents report.new) result }
         ensures bounded { self.new.state.at ≤ self.old.limit }
-        ensures write { IsErrOf result Fault.Write →
-            OneFailed (P.count packets.old) (P.count packets.new) (W.count report.old) (W.count report.new) }
-        ensures no_write { result ≢ Err Fault.Write →
-            NoneFailed (P.count packets.old) (P.count packets.new) (W.count report.old) (W.count report.new) }
+        ensures write { IsErrOf result Fault.Write
+            → OneFailed (P.count packets.old) (P.count packets.new) (W.count report.old) (W.count report.new) }
+        ensures no_write { result ≢ Err Fault.Write
+            → NoneFailed (P.count packets.old) (P.count packets.new) (W.count report.old) (W.count report.new) }
         ensures no_read { result ≢ Err Fault.Read }
         ensures ended { self.old.state.phase ≡ phases.Ended → result ≡ Ok tt }
-        ensures failed { IsErrOf result Fault.Failed ↔
-            (((next : NextValue) → self.old.state.phase ≢ phases.Met next) × (self.old.state.phase ≢ phases.Ended)) }
-        ensures nothing { ((next : NextValue) → self.old.state.phase ≢ phases.Met next) →
-            (self.new ≡ self.old) × (packets.new ≡ packets.old) × (report.new ≡ report.old) }
+        ensures failed { IsErrOf result Fault.Failed
+            ↔ (((next : NextValue) → self.old.state.phase ≢ phases.Met next) × (self.old.state.phase ≢ phases.Ended)) }
+        ensures nothing { ((next : NextValue) → self.old.state.phase ≢ phases.Met next)
+            → (self.new ≡ self.old) × (packets.new ≡ packets.old) × (report.new ≡ report.old) }
     {
         let next = match self.place.phase {
             Phase::Met(next) => next,
@@ -258,8 +258,8 @@ impl<D: Decide> Receiver<D> {
         requires packets { CanCount (P.count packets.old) }
         requires report { CanCount (W.count report.old) }
         ensures rules { rules_of D.decide self.new ≡ rules_of D.decide self.old }
-        ensures same { (self.new.mode ≡ self.old.mode) × (self.new.lock ≡ self.old.lock) ×
-            (self.new.limit ≡ self.old.limit) }
+        ensures same { (self.new.mode ≡ self.old.mode) × (self.new.lock ≡ self.old.lock)
+            × (self.new.limit ≡ self.old.limit) }
         ensures live { let ends = streams_by R.remaining R.count P.contents P.count W.contents W.count in Steps D.decide
             self.old self.new (ends reader.old packets.old report.old) (ends reader.new packets.new report.new) result }
         ensures frame { Between (StepsFrame D.decide D.last self.old self.new) R.remaining R.count P.contents P.count
@@ -267,10 +267,10 @@ impl<D: Decide> Receiver<D> {
         ensures taken { StandsBehind (symbols_in self.old.mode) self.new.state.at result }
         ensures bounded { self.new.state.at ≤ self.old.limit }
         ensures ended { self.old.state.phase ≡ phases.Ended → result ≡ Ok Step.End }
-        ensures failed { IsErrOf result Fault.Failed ↔
-            ((IsLive self.old.state.phase → ⊥) × (self.old.state.phase ≢ phases.Ended)) }
-        ensures nothing { (IsLive self.old.state.phase → ⊥) → (self.new ≡ self.old) × (reader.new ≡ reader.old) ×
-            (packets.new ≡ packets.old) × (report.new ≡ report.old) }
+        ensures failed { IsErrOf result Fault.Failed
+            ↔ ((IsLive self.old.state.phase → ⊥) × (self.old.state.phase ≢ phases.Ended)) }
+        ensures nothing { (IsLive self.old.state.phase → ⊥) → (self.new ≡ self.old) × (reader.new ≡ reader.old)
+            × (packets.new ≡ packets.old) × (report.new ≡ report.old) }
         ensures unwritten { IsErrOf result Fault.Read → (packets.new ≡ packets.old) × (report.new ≡ report.old) }
         ensures counts { let ends = streams_by R.remaining R.count P.contents P.count W.contents W.count in
             OnlyFaults result (ends reader.old packets.old report.old) (ends reader.new packets.new report.new) }

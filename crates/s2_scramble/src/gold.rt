@@ -108,8 +108,8 @@ impl Gold {
     pub fn unturn(&self, i: usize, symbol: Symbol) -> Symbol
         requires { i < most_symbols }
         ensures is { result ≡ turned_back (quarter_turns self.now i) symbol }
-        ensures undoes { (sent : Symbol) → CanTurnBack sent → symbol ≡ turned (quarter_turns self.now i) sent →
-            result ≡ sent }
+        ensures undoes { (sent : Symbol) → CanTurnBack sent → symbol ≡ turned (quarter_turns self.now i) sent
+            → result ≡ sent }
     {
         turned_back(self.quarters[i], symbol)
     }
@@ -118,8 +118,8 @@ impl Gold {
     pub fn turn_into(&self, at: usize, symbols: &[Symbol], out: &mut [Symbol])
         requires same { length out.old ≡ length symbols.now }
         requires within { at + length symbols.now ≤ most_symbols }
-        ensures { (k : ℕ) → k < length symbols.now →
-            symbol_at out.new k ≡ turned (quarter_turns self.now (at + k)) (symbol_at symbols.now k) }
+        ensures { (k : ℕ) → k < length symbols.now
+            → symbol_at out.new k ≡ turned (quarter_turns self.now (at + k)) (symbol_at symbols.now k) }
     {
         let quarters = &self.quarters[at..at + symbols.len()];
         turn_each(quarters, symbols, out);
@@ -129,8 +129,8 @@ impl Gold {
     pub fn unturn_into(&self, at: usize, symbols: &[Symbol], out: &mut [Symbol])
         requires same { length out.old ≡ length symbols.now }
         requires within { at + length symbols.now ≤ most_symbols }
-        ensures { (k : ℕ) → k < length symbols.now →
-            symbol_at out.new k ≡ turned_back (quarter_turns self.now (at + k)) (symbol_at symbols.now k) }
+        ensures { (k : ℕ) → k < length symbols.now
+            → symbol_at out.new k ≡ turned_back (quarter_turns self.now (at + k)) (symbol_at symbols.now k) }
     {
         let quarters = &self.quarters[at..at + symbols.len()];
         turn_each_back(quarters, symbols, out);

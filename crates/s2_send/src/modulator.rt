@@ -55,8 +55,8 @@ impl Model for Modulator {
 
     ghost view = { λ m. record { mode = m.mode; number = m.gold; bytes = m.bytes.items } };
 
-    ghost invariant = { λ m. (length m.payload.items ≡ 90 * slots_of m.mode) × (length m.symbols.items ≡
-        symbols_in m.mode) × (length m.bytes.items ≡ 4 * symbols_in m.mode) × (m.dummy.items ≡ dummy_bytes m.gold) };
+    ghost invariant = { λ m. (length m.payload.items ≡ 90 * slots_of m.mode) × (length m.symbols.items
+        ≡ symbols_in m.mode) × (length m.bytes.items ≡ 4 * symbols_in m.mode) × (m.dummy.items ≡ dummy_bytes m.gold) };
 }
 
 impl Modulator {

@@ -46,8 +46,8 @@ impl<'a> Model for Transmitter<'a> {
 
     ghost view = { λ t. record { link = t.framer; limit = t.plan.limit; dummy_every = t.plan.dummy_every } };
 
-    ghost invariant = { λ t. (t.slicer.size ≡ field_bytes t.framer.setup.mode) ×
-        (length t.field.items ≡ field_bytes t.framer.setup.mode) × (packet_bytes < field_bytes t.framer.setup.mode) };
+    ghost invariant = { λ t. (t.slicer.size ≡ field_bytes t.framer.setup.mode)
+        × (length t.field.items ≡ field_bytes t.framer.setup.mode) × (packet_bytes < field_bytes t.framer.setup.mode) };
 }
 
 impl<'a> Transmitter<'a> {

@@ -83,11 +83,11 @@ impl<'a> Settler<'a> {
         requires range { All IsSoft soft.now }
         requires codeword { IsCodeword (code_of self.old.rows) word.now }
         ensures rows { self.new.rows ≡ self.old.rows }
-        ensures is { settled self.old.rows soft.now word.now passes ≡
-            (if result then Some (view_by self.new soft.now word.now) else None) }
+        ensures is { settled self.old.rows soft.now word.now passes
+            ≡ (if result then Some (view_by self.new soft.now word.now) else None) }
         ensures accepted { IsTrue result → IsCertificate self.old.rows (view_by self.new soft.now word.now) }
-        ensures strict { IsTrue result →
-            (IsTrue self.new.strict ↔ IsStrict self.old.rows (view_by self.new soft.now word.now)) }
+        ensures strict { IsTrue result
+            → (IsTrue self.new.strict ↔ IsStrict self.old.rows (view_by self.new soft.now word.now)) }
     {
         if !find_moves(
             self.matrix,

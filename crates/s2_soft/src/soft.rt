@@ -29,8 +29,8 @@ pub fn soft_into(mode: Mode, divisor: Divisor, payload: &[Symbol], soft: &mut [i
     requires payload { length payload.now ≡ 90 * slots_of mode }
     requires room { length soft.old ≡ n_of mode }
     ensures is { soft.new ≡ soft_values divisor mode payload.now }
-    ensures places { (i : ℕ) → i < n_of mode → value_at soft.new (place_of mode i) ≡
-        soft_value divisor mode (symbol_at payload.now (i / width_of mode)) (i % width_of mode) }
+    ensures places { (i : ℕ) → i < n_of mode → value_at soft.new (place_of mode i)
+        ≡ soft_value divisor mode (symbol_at payload.now (i / width_of mode)) (i % width_of mode) }
     ensures range { (k : ℕ) → InRange (value_at soft.new k) }
 {
     if mode.is_qpsk() {

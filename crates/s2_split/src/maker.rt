@@ -90,8 +90,8 @@ impl<'a> Maker<'a> {
         ensures same { self.new ≡ self.old }
         ensures long { length word.new ≡ length word.old }
         ensures word { word.new ≡ repaired (code_of self.old.rows) soft.now }
-        ensures found { (codeword : List Bool) → IsScattered (code_of self.old.rows) soft.now codeword →
-            word.new ≡ codeword }
+        ensures found { (codeword : List Bool) → IsScattered (code_of self.old.rows) soft.now codeword
+            → word.new ≡ codeword }
     {
         hard_into(soft, word);
         repair(self.matrix, &mut self.odd, word.truths_mut());
@@ -124,8 +124,8 @@ impl<'a> Maker<'a> {
         ensures word { self.new.word ≡ word.now }
         ensures found { IsTrue result ↔ (self.new.made ≢ None) }
         ensures codeword { IsTrue result → IsCodeword (code_of self.old.rows) word.now }
-        ensures made { IsCodeword (code_of self.old.rows) word.now → self.new.made ≡
-            shared (code_of self.old.rows) word.now (made_split (code_of self.old.rows) soft.now word.now) }
+        ensures made { IsCodeword (code_of self.old.rows) word.now → self.new.made
+            ≡ shared (code_of self.old.rows) word.now (made_split (code_of self.old.rows) soft.now word.now) }
         ensures odd { (IsCodeword (code_of self.old.rows) word.now → ⊥) → self.new.made ≡ None }
         ensures rests { HoldsRests self.new soft.now word.now }
     {
@@ -145,8 +145,8 @@ impl<'a> Maker<'a> {
         ensures rows { self.new.rows ≡ self.old.rows }
         ensures word { self.new.word ≡ word.now }
         ensures found { IsTrue result ↔ (self.new.made ≢ None) }
-        ensures made { self.new.made ≡
-            shared (code_of self.old.rows) word.now (made_split (code_of self.old.rows) soft.now word.now) }
+        ensures made { self.new.made
+            ≡ shared (code_of self.old.rows) word.now (made_split (code_of self.old.rows) soft.now word.now) }
         ensures rests { HoldsRests self.new soft.now word.now }
     {
         self.certify_in(Ways::GreedyThenSpreading, soft, word)
@@ -160,8 +160,8 @@ impl<'a> Maker<'a> {
         ensures rows { self.new.rows ≡ self.old.rows }
         ensures word { self.new.word ≡ word.now }
         ensures found { IsTrue result ↔ (self.new.made ≢ None) }
-        ensures made { self.new.made ≡
-            shared (code_of self.old.rows) word.now (greedy_split (code_of self.old.rows) soft.now word.now) }
+        ensures made { self.new.made
+            ≡ shared (code_of self.old.rows) word.now (greedy_split (code_of self.old.rows) soft.now word.now) }
         ensures rests { HoldsRests self.new soft.now word.now }
     {
         self.certify_in(Ways::Greedy, soft, word)

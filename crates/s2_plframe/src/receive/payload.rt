@@ -24,8 +24,8 @@ pub fn payload_of(mode: Mode, gold: &Gold, frame: &[Symbol], payload: &mut [Symb
     requires frame { length frame.now ≡ symbols_in mode }
     requires room { length payload.old ≡ 90 * slots_of mode }
     ensures is { payload.new ≡ received_payload mode gold.now frame.now }
-    ensures undoes { (sent : List Symbol) → length sent ≡ 90 * slots_of mode → AllTurnBack sent →
-        frame.now ≡ frame_symbols mode gold.now sent → payload.new ≡ sent }
+    ensures undoes { (sent : List Symbol) → length sent ≡ 90 * slots_of mode → AllTurnBack sent
+        → frame.now ≡ frame_symbols mode gold.now sent → payload.new ≡ sent }
 {
     let blocks = mode.pilot_blocks();
     read_slots(blocks, gold, &frame[HEADER_SYMBOLS..], payload);
