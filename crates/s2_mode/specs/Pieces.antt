@@ -1,14 +1,10 @@
 -- What a call that failed before its end has read or written.
-use Rattle.std.specs.Prelude.{ℕ, ◌<◌, ◌≤◌, List, length, take, Option}
+use Rattle.std.specs.Prelude.{ℕ, ◌<◌, List, length, take, Option}
 use Rattle.std.specs.Io.KnownBytes.{Consumes, Appends}
 
 -- a reader gave a part of these bytes, from the first one on, and not all
 abbrev pub ConsumesPart : List ℕ → Option (List ℕ) → Option (List ℕ) → Type 0
 ConsumesPart bytes old new = (k : ℕ) × (k < length bytes) × Consumes old new (take k bytes)
-
--- a reader gave some bytes, at most so many
-abbrev pub ConsumesSome : ℕ → Option (List ℕ) → Option (List ℕ) → Type 0
-ConsumesSome most old new = (bytes : List ℕ) × (0 < length bytes) × (length bytes ≤ most) × Consumes old new bytes
 
 -- a writer took a part of these bytes, from the first one on, and not all
 abbrev pub AppendsPart : List ℕ → Option (List ℕ) → Option (List ℕ) → Type 0

@@ -47,5 +47,5 @@ pub use mode::Mode;
 pub use shape::Shape;
 pub use stream_fault::StreamFault;
 pub use symbols::{Symbol, bytes_into, read_symbol, symbols_into, write_symbol};
-pub use whole::{FileFault, read_all};
+pub use whole::{FileFault, read_all, read_into};
 pub use wrapped::Counting;
