@@ -179,6 +179,8 @@ pub(crate) fn read_judged<R: CountedRead, S: CountedRead>(
     ensures no_read { result ≢ Err Fault.Read → R.count rows.new + S.count soft.new ≡ R.count rows.old + S.count soft.old }
     ensures no_memory { result ≡ Err Fault.NoMemory → EachUnreadOrAccepted shape
         (R.remaining rows.old) (R.remaining rows.new) (S.remaining soft.old) (S.remaining soft.new) }
+    ensures accepted { OnOk result (EachUnreadOrAccepted shape
+        (R.remaining rows.old) (R.remaining rows.new) (S.remaining soft.old) (S.remaining soft.new)) }
     ensures write { result ≢ Err Fault.Write }
 {
     let matrix = read_matrix(alloc, rows, shape)?;
