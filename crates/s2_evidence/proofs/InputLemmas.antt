@@ -1,5 +1,5 @@
 -- What files say, put together.
-use Rattle.std.proofs.Common.{◌≡◌, ℕ, ℤ, List, Option, Some, None, Result, Ok, Err, ap, ◌∙◌, subst, sym, refl}
+use Rattle.std.proofs.Common.{◌≡◌, ℕ, ℤ, List, Option, Some, None, Result, Ok, Err, ap, ◌∙◌, subst, sym, refl, inr}
 use Rattle.std.specs.Prelude.{IfSome, IsOk}
 use Rattle.s2_mode.specs.Shape.{Shape}
 use Rattle.s2_rows.specs.Rows.{Rows}
@@ -12,7 +12,7 @@ use Rattle.s2_console.specs.declared.fault.Fault.{Fault}
 use Rattle.s2_console.specs.declared.fault.Fault.TheVariants as faults
 use Rattle.s2_console.specs.Exits.{Follows, CommandAnswers}
 use Rattle.s2_evidence.specs.Inputs.{taken, rows_said, rows_in, values_in, then_values, inputs, AreInputs, IsOnly}
-use Rattle.s2_evidence.specs.Checking.{certificate_said, shape_of_said, with_rows, beside, then_parts, parts_in, ArePartsIn, AreCheckInputs, IsAnswered}
+use Rattle.s2_evidence.specs.Checking.{certificate_said, shape_of_said, with_rows, beside, then_parts, parts_in, ArePartsIn, AreCheckInputs, BothUnreadOrAccepted, IsAnswered}
 use Rattle.s2_console.proofs.CommandLemmas.{answers_moved, told}
 
 -- ---- rows and soft values
@@ -109,7 +109,7 @@ parts_accepted text certificate shape e h =
     let (file, is, parts) = parts_by_shape text certificate shape e in
     subst (λ said. IsOk said) (sym parts) (beside_accepted file (rows_said shape (row_files.rows_of_text text shape)) h)
 
-pub both_taken : (a b : Result (List ℕ) Fault) (rows certificate : List ℕ) → a ≡ Ok rows → b ≡ Ok certificate → then_parts a b ≡ parts_in rows certificate
+both_taken : (a b : Result (List ℕ) Fault) (rows certificate : List ℕ) → a ≡ Ok rows → b ≡ Ok certificate → then_parts a b ≡ parts_in rows certificate
 both_taken a b rows certificate p q = ap (λ x. then_parts x b) p ∙ ap (then_parts (Ok rows)) q
 
 said_of_files : (known_rows known_certificate : Option (List ℕ)) (rows certificate : List ℕ) (said : Result (Rows × File) Fault)
@@ -125,3 +125,12 @@ pub answers_on_files : (known_rows known_certificate : Option (List ℕ)) (rows 
 answers_on_files known_rows known_certificate rows certificate made p q h =
     answers_moved IsAnswered (ArePartsIn rows certificate) (AreCheckInputs known_rows known_certificate) made
     (λ said. said_of_files known_rows known_certificate rows certificate said p q) h
+
+-- where both were read, and what they say is accepted
+pub both_accepted : (rows rows_after certificate certificate_after : Option (List ℕ)) (text file : List ℕ)
+    → IfSome rows (λ xs. taken xs ≡ Ok text) → IfSome certificate (λ ys. taken ys ≡ Ok file) → IsOk (parts_in text file)
+    → BothUnreadOrAccepted rows rows_after certificate certificate_after
+both_accepted None rows_after certificate certificate_after text file p q h = tt
+both_accepted (Some xs) rows_after None certificate_after text file p q h = tt
+both_accepted (Some xs) rows_after (Some ys) certificate_after text file p q h =
+    inr (subst (λ said. IsOk said) (sym (both_taken (taken xs) (taken ys) text file p q)) h)

@@ -2,5 +2,4 @@ pub mod CertifyLemmas
 pub mod InputLemmas
 pub mod JudgeLemmas
 pub mod OwnLemmas
-pub mod RoomLemmas
 pub mod ValueRange

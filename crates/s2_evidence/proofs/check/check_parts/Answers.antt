@@ -5,6 +5,7 @@ use Rattle.s2_rows.specs.Rows.{Rows}
 use Rattle.s2_rows.specs.RowFiles as row_files
 use Rattle.s2_file.specs.File.{File}
 use Rattle.s2_file.specs.Format.{file_of_bytes}
+use Rattle.s2_console.specs.declared.fault.Fault.TheVariants as faults
 use Rattle.s2_console.proofs.CommandLemmas.{refuses}
 use Rattle.s2_evidence.specs.Inputs.{rows_said}
 use Rattle.s2_evidence.specs.Checking.{certificate_said, with_rows, beside, ArePartsIn, IsAnswered}
@@ -26,10 +27,14 @@ returns-in_err-matrix-clause-answers c =
     let said = parts_by_shape text file shape c.in_ok-shape.ensures.says in
     let p = err_from_is_err_and c.from_residual-in_err-matrix.result c.from_residual-in_err-matrix.ensures.1 in
     rw (p.1, p.2) (refuses IsAnswered (ArePartsIn text file) (λ (r : Rows). r) c.in_err-matrix.field-0.0 (rows_said shape (row_files.rows_of_text text shape))
-    (λ e. said.1.1 ∙ ap (beside said.0) e) c.in_err-matrix.ensures.says)
+    (λ e. said.2 ∙ ap (beside said.0) e) c.in_err-matrix.ensures.says)
 
 pub returns-in_err-matrix-clause-no_memory : goal.returns-in_err-matrix-clause-no_memory
-returns-in_err-matrix-clause-no_memory c = ?
+returns-in_err-matrix-clause-no_memory c =
+    let p = err_from_is_err_and c.from_residual-in_err-matrix.result c.from_residual-in_err-matrix.ensures.1 in
+    rw (p.1, p.2) (λ lacking.
+    let told : c.in_err-matrix.field-0.0 ≡ faults.NoMemory = cc in
+    parts_accepted c.args.rows.now c.args.certificate.now c.in_ok-shape.shape c.in_ok-shape.ensures.says (c.in_err-matrix.ensures.no_memory (ap (λ f. Err f) told)))
 
 pub returns-in_err-certificate-clause-answers : goal.returns-in_err-certificate-clause-answers
 returns-in_err-certificate-clause-answers c =
@@ -44,7 +49,8 @@ returns-in_err-certificate-clause-no_memory c =
     λ lacking. parts_accepted c.args.rows.now c.args.certificate.now c.in_ok-shape.shape c.in_ok-shape.ensures.says (ap is_ok c.in_ok-matrix.ensures.says)
 
 pub returns-clause-answers : goal.returns-clause-answers
-returns-clause-answers c =
-    ((c.in_ok-matrix.matrix, c.in_ok-certificate.certificate),
-    parts_said c.args.rows.now c.args.certificate.now c.in_ok-shape.shape c.in_ok-matrix.matrix c.in_ok-certificate.certificate c.in_ok-shape.ensures.says c.in_ok-matrix.ensures.says c.in_ok-certificate.ensures.says,
-    c.answered.ensures)
+returns-clause-answers c = (
+  (c.in_ok-matrix.matrix, c.in_ok-certificate.certificate),
+  parts_said c.args.rows.now c.args.certificate.now c.in_ok-shape.shape c.in_ok-matrix.matrix c.in_ok-certificate.certificate c.in_ok-shape.ensures.says c.in_ok-matrix.ensures.says c.in_ok-certificate.ensures.says,
+  c.answered.ensures,
+)
