@@ -43,9 +43,21 @@ impl Model for Contents {
 
     ghost Value = { File };
 
-    ghost view = { λ c. record { shape = c.shape; scale = c.scale; soft = c.soft.items; bits = c.word; split = split_in c.held } };
+    ghost view = { λ c. record {
+      shape = c.shape;
+      scale = c.scale;
+      soft = c.soft.items;
+      bits = c.word;
+      split = split_in c.held;
+    } };
 
-    ghost invariant = { λ c. IsFile (record { shape = c.shape; scale = c.scale; soft = c.soft.items; bits = c.word; split = split_in c.held }) };
+    ghost invariant = { λ c. IsFile (record {
+      shape = c.shape;
+      scale = c.scale;
+      soft = c.soft.items;
+      bits = c.word;
+      split = split_in c.held;
+    }) };
 }
 
 /// How many bytes the split has.

@@ -68,8 +68,13 @@ impl<'a> Model for Judge<'a> {
 
     ghost Value = { Judging };
 
-    ghost view = { λ j. let held = view_by j.certifier.rows j.soft.items j.bits j.certifier.found j.ground in
-        record { rows = j.certifier.rows; tuning = j.tuning; soft = j.soft.items; bits = j.bits; certificate = held } };
+    ghost view = { λ j. record {
+      rows = j.certifier.rows;
+      tuning = j.tuning;
+      soft = j.soft.items;
+      bits = j.bits;
+      certificate = view_by j.certifier.rows j.soft.items j.bits j.certifier.found j.ground;
+    } };
 
     ghost invariant = { λ j. IsJudge j.tuning j.certifier j.decoder j.soft.items j.repair j.bits j.ground };
 }

@@ -35,18 +35,36 @@ pub struct Tuning {
 }
 
 impl Model for Tuning {
-    ghost use Rattle.s2_link.specs.Tuning.{Tuning as TuningValue, IsTuning, tuning_of};
+    ghost use Rattle.s2_link.specs.Tuning.{Tuning as TuningValue, IsTuning};
 
     ghost Value = { TuningValue };
 
-    ghost view = { λ t. record (tuning_of t.rounds t.passes)
-        { divisor = t.divisor; factor = t.factor; lock = t.lock; uncertified = t.uncertified } };
+    ghost view = { λ t. record {
+      rounds = t.rounds;
+      passes = t.passes;
+      divisor = t.divisor;
+      factor = t.factor;
+      lock = t.lock;
+      uncertified = t.uncertified;
+    } };
 
-    ghost invariant = { λ t. IsTuning (record (tuning_of t.rounds t.passes)
-        { divisor = t.divisor; factor = t.factor; lock = t.lock; uncertified = t.uncertified }) };
+    ghost invariant = { λ t. IsTuning (record {
+      rounds = t.rounds;
+      passes = t.passes;
+      divisor = t.divisor;
+      factor = t.factor;
+      lock = t.lock;
+      uncertified = t.uncertified;
+    }) };
 
-    ghost inverse = { λ v. let p = v.passes in let d = v.divisor in let u = v.uncertified in
-        record { rounds = v.rounds; passes = p; divisor = d; factor = v.factor; lock = v.lock; uncertified = u } };
+    ghost inverse = { λ v. record {
+      rounds = v.rounds;
+      passes = v.passes;
+      divisor = v.divisor;
+      factor = v.factor;
+      lock = v.lock;
+      uncertified = v.uncertified;
+    } };
 }
 
 impl Tuning {

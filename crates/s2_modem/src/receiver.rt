@@ -80,11 +80,17 @@ impl<'a> Model for Receiver<'a> {
 
     ghost Value = { ReceiverValue };
 
-    ghost view = { λ r. let link = link_of (setup_of r.setup) r.matrix.now in let last = r.inner.decider.last in
-        record { link = link; tuning = r.tuning; limit = r.inner.limit; state = r.inner.state; last = last } };
+    ghost view = { λ r. record {
+      link = link_of (setup_of r.setup) r.matrix.now;
+      tuning = r.tuning;
+      limit = r.inner.limit;
+      state = r.inner.state;
+      last = r.inner.decider.last;
+    } };
 
-    ghost invariant = { λ r. (rules_of decides r.inner ≡ link_rules (link_of (setup_of r.setup) r.matrix.now)
-        r.tuning r.inner.limit) × Promises (link_of (setup_of r.setup) r.matrix.now) r.tuning };
+    ghost invariant = { λ r.
+        (rules_of decides r.inner ≡ link_rules (link_of (setup_of r.setup) r.matrix.now) r.tuning r.inner.limit)
+        × Promises (link_of (setup_of r.setup) r.matrix.now) r.tuning };
 }
 
 impl<'a> Receiver<'a> {

@@ -60,8 +60,13 @@ impl<D: Decide> Model for Receiver<D> {
 
     ghost Value = { ReceiverValue D };
 
-    ghost view = { λ r. let state = state_of r.place.phase r.place.at r.joiner r.place.totals in
-        record { mode = r.finder.mode; lock = r.finder.lock; decider = r.decider; limit = r.limit; state = state } };
+    ghost view = { λ r. record {
+      mode = r.finder.mode;
+      lock = r.finder.lock;
+      decider = r.decider;
+      limit = r.limit;
+      state = state_of r.place.phase r.place.at r.joiner r.place.totals;
+    } };
 
     ghost invariant = { λ r. IsSound r.finder.mode (D.size r.decider) r.limit r.place.phase r.place.at r.place.totals };
 }

@@ -36,12 +36,14 @@ impl<'a> Drop for Framer<'a> {
 impl<'a> Model for Framer<'a> {
     ghost use Rattle.std.specs.Prelude.{◌≡◌, ◌≤◌};
     ghost use Rattle.s2_link.specs.Limits.{most_roll_off};
-    ghost use Rattle.s2_link.specs.Link.{Link as LinkValue, link_of};
+    ghost use Rattle.s2_link.specs.Link.{Link as LinkValue};
 
     ghost Value = { LinkValue };
 
-    ghost view = { λ f. link_of
-        (record { mode = f.modulator.mode; number = f.modulator.number; roll_off = f.roll_off }) f.coder.rows };
+    ghost view = { λ f. record {
+      setup = record { mode = f.modulator.mode; number = f.modulator.number; roll_off = f.roll_off };
+      rows = f.coder.rows;
+    } };
 
     ghost invariant = { λ f. (f.coder.mode ≡ f.modulator.mode) × (f.roll_off ≤ most_roll_off) };
 }
