@@ -57,10 +57,7 @@ fn shape_of(bytes: &[u8]) -> Result<Shape, Fault<'static>>
     ensures memory { result ≢ Err Fault.NoMemory }
     ensures write { result ≢ Err Fault.Write }
 {
-    match Certificate::shape_of(bytes) {
-        Ok(shape) => Ok(shape),
-        Err(fault) => Err(Fault::about("certificate: ", fault.text())),
-    }
+    Certificate::shape_of(bytes).map_err(|fault| Fault::about("certificate: ", fault.text()))
 }
 
 /// The certificate of a file in memory.
