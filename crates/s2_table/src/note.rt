@@ -24,7 +24,8 @@ pub fn write_note<E: CountedWrite>(
     behind: &[u8],
 ) -> Result<(), WriteFault>
     requires { CanCount (E.count errors.old) }
-    ensures line { OnOk result (Appends (E.contents errors.old) (E.contents errors.new) (front.now ++ (mode_words mode.now ++ behind.now))) }
+    ensures line { OnOk result
+        (Appends (E.contents errors.old) (E.contents errors.new) (front.now ++ (mode_words mode.now ++ behind.now))) }
     ensures cause { CountsFault (E.count errors.old) (E.count errors.new) result }
 {
     write_full(errors, front.as_bytes())?;
@@ -57,7 +58,8 @@ fn note_answer<E: CountedWrite>(errors: &mut E, mode: &Mode, standard: bool)
 /// goes on without it.
 pub fn note_rows<E: CountedWrite>(errors: &mut E, mode: &Mode, matrix: &Matrix)
     requires { CanCount (E.count errors.old) }
-    ensures noted { E.count errors.new ≡ E.count errors.old → IsNoted mode.now matrix.now (E.contents errors.old) (E.contents errors.new) }
+    ensures noted { E.count errors.new ≡ E.count errors.old
+        → IsNoted mode.now matrix.now (E.contents errors.old) (E.contents errors.new) }
     ensures few { E.count errors.new ≤ E.count errors.old + 1 }
 {
     note_answer(errors, mode, is_standard(mode, matrix));
@@ -82,7 +84,8 @@ pub fn read_noted<R: CountedRead, E: CountedWrite>(
     ensures no_memory { result ≡ Err Fault.NoMemory
         → UnreadOrAccepted (R.remaining reader.old) (R.remaining reader.new) (rows_in (shape_in mode.now)) }
     ensures write { result ≢ Err Fault.Write }
-    ensures noted { quiet ≡ false → IfOk result (λ m. E.count errors.new ≡ E.count errors.old → IsNoted mode.now m (E.contents errors.old) (E.contents errors.new)) }
+    ensures noted { quiet ≡ false → IfOk result (λ m. E.count errors.new ≡ E.count errors.old
+        → IsNoted mode.now m (E.contents errors.old) (E.contents errors.new)) }
     ensures left_out { quiet ≡ true → errors.new ≡ errors.old }
     ensures silent { OnErr result (errors.new ≡ errors.old) }
 {

@@ -58,8 +58,10 @@ pub fn tell_noted<O: CountedWrite, E: CountedWrite>(
 ) -> Exit
     requires { CanCount (console.old.errors_failed + 1) }
     ensures exit { result ≡ Exit.Fault }
-    ensures output { (console.new.output ≡ console.old.output) × (console.new.output_failed ≡ console.old.output_failed) }
-    ensures told { Remarks (if quiet then [] else fault_note mode.now fault.entry) (Err fault.entry) console.old console.new }
+    ensures output { (console.new.output ≡ console.old.output)
+        × (console.new.output_failed ≡ console.old.output_failed) }
+    ensures told { Remarks (if quiet then [] else fault_note mode.now fault.entry)
+        (Err fault.entry) console.old console.new }
 {
     note_fault(quiet, mode, &fault, &mut console.errors);
     console.complain(fault)
@@ -76,7 +78,8 @@ pub fn conclude_noted<O: CountedWrite, E: CountedWrite>(
     ensures exit { result ≡ exit_of ended.entry }
     ensures fine { result ≢ Exit.Fault → IsOk ended.entry }
     ensures quiet { result ≢ Exit.Fault → console.new.errors_failed ≡ console.old.errors_failed }
-    ensures output { (console.new.output ≡ console.old.output) × (console.new.output_failed ≡ console.old.output_failed) }
+    ensures output { (console.new.output ≡ console.old.output)
+        × (console.new.output_failed ≡ console.old.output_failed) }
     ensures told { Remarks (notes_on quiet mode.now ended.entry) ended.entry console.old console.new }
 {
     match ended {
