@@ -1,5 +1,6 @@
 -- What `check` reads, and what it prints of a certificate.
-use Rattle.std.specs.Prelude.{◌≡◌, ◌↔◌, ◌⊎◌, IsTrue, ℕ, List, ◌++◌, Option, IfSome, codes, pos, Result, Ok, Err}
+use Rattle.std.specs.Prelude.{◌≡◌, ◌↔◌, ◌⊎◌, IsTrue, IsOk, ℕ, ◌+◌, List, ◌++◌, Option, Some, IfSome, codes, pos, Result, Ok, Err}
+use Rattle.s2_mode.specs.Shape.{Shape}
 use Rattle.s2_rows.specs.Rows.{Rows}
 use Rattle.s2_rows.specs.RowFiles as row_files
 use Rattle.s2_matrix.specs.Code.{code_of}
@@ -20,6 +21,9 @@ use Rattle.s2_console.specs.declared.exit.Exit.{Exit}
 use Rattle.s2_console.specs.declared.exit.Exit.TheVariants as exits
 use Rattle.s2_console.specs.declared.fault.Fault.{Fault}
 use Rattle.s2_console.specs.declared.fault.Fault.TheVariants as faults
+use Rattle.s2_console.specs.Exits.{CommandEnds}
+use Rattle.s2_console.specs.Screens.{Screen}
+use Rattle.s2_evidence.specs.Files.{CheckFiles}
 use Rattle.s2_evidence.specs.Inputs.{taken, rows_said}
 use Rattle.s2_evidence.specs.Lines.{answer_line, examined_line}
 
@@ -28,6 +32,11 @@ use Rattle.s2_evidence.specs.Lines.{answer_line, examined_line}
 abbrev pub certificate_said : Result File CertFault → Result File Fault
 certificate_said (Ok file) = Ok file
 certificate_said (Err e) = Err (faults.Told (codes "certificate: " ++ certificate_fault_text e))
+
+-- the shape alone
+abbrev pub shape_of_said : Result File Fault → Result Shape Fault
+shape_of_said (Ok file) = Ok file.shape
+shape_of_said (Err f) = Err f
 
 abbrev pub beside : File → Result Rows Fault → Result (Rows × File) Fault
 beside file (Ok rows) = Ok (rows, file)
@@ -51,10 +60,6 @@ then_parts (Ok rows) (Ok certificate) = parts_in rows certificate
 abbrev pub check_inputs : List ℕ → List ℕ → Result (Rows × File) Fault
 check_inputs rows certificate = then_parts (taken rows) (taken certificate)
 
--- what is answered is what a row file in memory says beside a certificate
-abbrev pub AreRowsBeside : List ℕ → File → Result (Rows × File) Fault → Type 0
-AreRowsBeside rows file said = with_rows rows (Ok file) ≡ said
-
 -- what is answered is what two files in memory say
 abbrev pub ArePartsIn : List ℕ → List ℕ → Result (Rows × File) Fault → Type 0
 ArePartsIn rows certificate said = parts_in rows certificate ≡ said
@@ -62,6 +67,11 @@ ArePartsIn rows certificate said = parts_in rows certificate ≡ said
 -- what is answered is what a row file and a certificate say, where their bytes are known
 abbrev pub AreCheckInputs : Option (List ℕ) → Option (List ℕ) → Result (Rows × File) Fault → Type 0
 AreCheckInputs rows certificate said = IfSome rows (λ xs. IfSome certificate (λ ys. check_inputs xs ys ≡ said))
+
+-- Where memory ran out: of two files whose bytes are known nothing was read, or what both say together is accepted.
+abbrev pub BothUnreadOrAccepted : Option (List ℕ) → Option (List ℕ) → Option (List ℕ) → Option (List ℕ) → Type 0
+BothUnreadOrAccepted rows rows_after certificate certificate_after =
+    IfSome rows (λ xs. IfSome certificate (λ ys. ((rows_after ≡ Some xs) × (certificate_after ≡ Some ys)) ⊎ IsOk (check_inputs xs ys)))
 
 -- ---- the answer
 
@@ -90,3 +100,10 @@ pub record SaysNoShape (rows : Rows) (file : File) (exit : Exit) (text : List �
 abbrev pub IsAnswered : Rows × File → Exit → List ℕ → Type 0
 IsAnswered input exit text =
     (Suits input.0 input.1 × SaysAnswer input.0 (view_of input.0 input.1) exit text) ⊎ SaysNoShape input.0 input.1 exit text
+
+-- `check` has ended: so it ran on what its files say, and memory ran out before either was read, or over files that are accepted.
+abbrev pub CheckEnds : CheckFiles → CheckFiles → Screen → Screen → Exit → Type 0
+CheckEnds files files_after old new exit =
+    CommandEnds IsAnswered (AreCheckInputs files.rows files.certificate)
+    (BothUnreadOrAccepted files.rows files_after.rows files.certificate files_after.certificate)
+    (files.rows_failed + files.certificate_failed) (files_after.rows_failed + files_after.certificate_failed) old new exit

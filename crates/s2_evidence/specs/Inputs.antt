@@ -1,5 +1,5 @@
 -- What the files of a command say, or the fault that is told.
-use Rattle.std.specs.Prelude.{◌≡◌, ℕ, ℤ, nat_le, Option, IfSome, List, ◌++◌, codes, length, Result, Ok, Err, if◌then◌else◌}
+use Rattle.std.specs.Prelude.{◌≡◌, ◌⊎◌, ℕ, ℤ, nat_le, Option, Some, IfSome, IsOk, List, ◌++◌, codes, length, Result, Ok, Err, if◌then◌else◌}
 use Rattle.s2_mode.specs.Shape.{Shape, code_bits}
 use Rattle.s2_rows.specs.Rows.{Rows, rows_value}
 use Rattle.s2_rows.specs.RowFiles as row_files
@@ -46,6 +46,15 @@ inputs shape rows soft = then_values (rows_in shape rows) (values_in shape soft)
 -- what is answered is what a row file and a value file say, where their bytes are known
 abbrev pub AreInputs : Shape → Option (List ℕ) → Option (List ℕ) → Result (Rows × List ℤ) Fault → Type 0
 AreInputs shape rows soft said = IfSome rows (λ xs. IfSome soft (λ ys. inputs shape xs ys ≡ said))
+
+-- Where memory ran out: of a file whose bytes are known nothing was read, or what it says is accepted.
+abbrev pub UnreadOrAccepted : {T : Type 0} → Option (List ℕ) → Option (List ℕ) → (List ℕ → Result T Fault) → Type 0
+UnreadOrAccepted old new said = IfSome old (λ xs. (new ≡ Some xs) ⊎ IsOk (said xs))
+
+-- that holds of a row file, and of a value file
+abbrev pub EachUnreadOrAccepted : Shape → Option (List ℕ) → Option (List ℕ) → Option (List ℕ) → Option (List ℕ) → Type 0
+EachUnreadOrAccepted shape rows rows_after soft soft_after =
+    UnreadOrAccepted rows rows_after (rows_in shape) × UnreadOrAccepted soft soft_after (values_in shape)
 
 -- what is answered is this input
 abbrev pub IsOnly : {I : Type 0} → I → Result I Fault → Type 0

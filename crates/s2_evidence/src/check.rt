@@ -3,17 +3,17 @@ ghost use Rattle.std.specs.Prelude.{◌≡◌, ◌≢◌, ◌+◌, Result, Err, 
 ghost use Rattle.s2_mode.specs.Counts.{CanCount};
 ghost use Rattle.s2_file.specs.Format.{file_of_bytes};
 ghost use Rattle.s2_console.specs.Screens.{CanShow};
-ghost use Rattle.s2_console.specs.Exits.{Follows, CommandAnswers, CommandRuns, CommandCounts, CommandEnds};
+ghost use Rattle.s2_console.specs.Exits.{Follows, CommandAnswers, CommandRuns, CommandCounts};
 ghost use Rattle.s2_evidence.specs.Files.{CanCheck};
-ghost use Rattle.s2_evidence.specs.Checking.{certificate_said, AreRowsBeside, ArePartsIn, AreCheckInputs, answer_exit, SaysAnswer, IsAnswered};
+ghost use Rattle.s2_evidence.specs.Checking.{certificate_said, shape_of_said, parts_in, ArePartsIn, AreCheckInputs, BothUnreadOrAccepted, answer_exit, SaysAnswer, IsAnswered, CheckEnds};
 
 use crate::files::CheckFiles;
 use crate::lines::{answer_line, examined_line};
-use crate::reading::{matrix_of, read_bytes};
+use crate::reading::{fill, matrix_of, room};
 use s2_check::{Answer, CertFault, CertView, Certificate, Refusal, examine};
 use s2_console::{Console, Exit, Fault, Printed};
 use s2_matrix::Matrix;
-use s2_mode::{CountedRead, CountedWrite};
+use s2_mode::{CountedRead, CountedWrite, Shape};
 use std::alloc::Global;
 
 /// The exit of an answer.
@@ -50,9 +50,23 @@ fn answered(matrix: &Matrix, certificate: &Certificate) -> Printed
     }
 }
 
+/// The shape of the certificate of a file in memory, or why the file is refused. It takes no memory.
+fn shape_of(bytes: &[u8]) -> Result<Shape, Fault<'static>>
+    ensures says { result ≡ shape_of_said (certificate_said (file_of_bytes bytes.now)) }
+    ensures read { result ≢ Err Fault.Read }
+    ensures memory { result ≢ Err Fault.NoMemory }
+    ensures write { result ≢ Err Fault.Write }
+{
+    match Certificate::shape_of(bytes) {
+        Ok(shape) => Ok(shape),
+        Err(fault) => Err(Fault::about("certificate: ", fault.text())),
+    }
+}
+
 /// The certificate of a file in memory.
 fn certificate_of(alloc: Global, bytes: &[u8]) -> Result<Certificate, Fault<'static>>
     ensures says { Follows (λ c. c) result (certificate_said (file_of_bytes bytes.now)) }
+    ensures no_memory { result ≡ Err Fault.NoMemory → IsOk (certificate_said (file_of_bytes bytes.now)) }
     ensures read { result ≢ Err Fault.Read }
     ensures write { result ≢ Err Fault.Write }
 {
@@ -63,31 +77,20 @@ fn certificate_of(alloc: Global, bytes: &[u8]) -> Result<Certificate, Fault<'sta
     }
 }
 
-/// Checks a certificate by a row file in memory.
-fn check_by(
-    alloc: Global,
-    rows: &[u8],
-    certificate: &Certificate,
-) -> Result<Printed, Fault<'static>>
-    ensures answers { CommandAnswers IsAnswered (AreRowsBeside rows.now certificate.now) result }
-    ensures read { result ≢ Err Fault.Read }
-    ensures write { result ≢ Err Fault.Write }
-{
-    let matrix = matrix_of(alloc, rows, certificate.shape())?;
-    Ok(answered(&matrix, certificate))
-}
-
-/// Takes two files in memory apart, and checks.
+/// Takes two files in memory apart, and checks. Behind the certificate's shape and the rows nothing but memory can lack.
 fn check_parts(alloc: Global, rows: &[u8], certificate: &[u8]) -> Result<Printed, Fault<'static>>
     ensures answers { CommandAnswers IsAnswered (ArePartsIn rows.now certificate.now) result }
+    ensures no_memory { result ≡ Err Fault.NoMemory → IsOk (parts_in rows.now certificate.now) }
     ensures read { result ≢ Err Fault.Read }
     ensures write { result ≢ Err Fault.Write }
 {
+    let shape = shape_of(certificate)?;
+    let matrix = matrix_of(alloc, rows, shape)?;
     let certificate = certificate_of(alloc, certificate)?;
-    check_by(alloc, rows, &certificate)
+    Ok(answered(&matrix, &certificate))
 }
 
-/// Reads rows and a certificate into memory, and checks.
+/// Reads rows and a certificate into memory, and checks. Room for both is taken before the first byte is read.
 fn check_read<R: CountedRead, S: CountedRead>(
     alloc: Global,
     rows: &mut R,
@@ -98,11 +101,15 @@ fn check_read<R: CountedRead, S: CountedRead>(
     ensures answers { CommandAnswers IsAnswered (AreCheckInputs (R.remaining rows.old) (S.remaining certificate.old)) result }
     ensures read { result ≡ Err Fault.Read → R.count rows.new + S.count certificate.new ≡ R.count rows.old + S.count certificate.old + 1 }
     ensures no_read { result ≢ Err Fault.Read → R.count rows.new + S.count certificate.new ≡ R.count rows.old + S.count certificate.old }
+    ensures no_memory { result ≡ Err Fault.NoMemory → BothUnreadOrAccepted (R.remaining rows.old) (R.remaining rows.new)
+        (S.remaining certificate.old) (S.remaining certificate.new) }
     ensures write { result ≢ Err Fault.Write }
 {
-    let rows = read_bytes(alloc, rows)?;
-    let certificate = read_bytes(alloc, certificate)?;
-    check_parts(alloc, &rows, &certificate)
+    let mut row_text = room(alloc)?;
+    let mut file = room(alloc)?;
+    fill(rows, &mut row_text)?;
+    fill(certificate, &mut file)?;
+    check_parts(alloc, &row_text, &file)
 }
 
 /// Reads rows and a certificate, checks, and prints the answer.
@@ -115,13 +122,16 @@ fn print_check<R: CountedRead, S: CountedRead, O: CountedWrite>(
     requires out { CanCount (O.count out.old) }
     ensures whole { IsOk result → O.count out.new ≡ O.count out.old }
     ensures run { CommandRuns IsAnswered (AreCheckInputs files.old.rows files.old.certificate) result (O.contents out.old) (O.contents out.new) }
+    ensures no_memory { result ≡ Err Fault.NoMemory
+        → BothUnreadOrAccepted files.old.rows files.new.rows files.old.certificate files.new.certificate }
     ensures causes { CommandCounts result (files.old.rows_failed + files.old.certificate_failed) (files.new.rows_failed + files.new.certificate_failed)
         (O.count out.old) (O.count out.new) }
 {
     check_read(alloc, &mut files.rows, &mut files.certificate)?.print(out)
 }
 
-/// `check`: whether a certificate shows its word to be sole, or most likely, under the code of a row file.
+/// `check`: whether a certificate shows its word to be sole, or most likely, under the code of a row file. Want of memory is told
+/// before the first byte of either is read, or where both are accepted.
 pub fn check_command<R: CountedRead, S: CountedRead, O: CountedWrite, E: CountedWrite>(
     alloc: Global,
     files: &mut CheckFiles<R, S>,
@@ -131,8 +141,7 @@ pub fn check_command<R: CountedRead, S: CountedRead, O: CountedWrite, E: Counted
     requires console { CanShow console.old }
     ensures quiet { result ≢ Exit.Fault → console.new.errors_failed ≡ console.old.errors_failed }
     ensures whole { result ≢ Exit.Fault → console.new.output_failed ≡ console.old.output_failed }
-    ensures run { CommandEnds IsAnswered (AreCheckInputs files.old.rows files.old.certificate) (files.old.rows_failed + files.old.certificate_failed)
-        (files.new.rows_failed + files.new.certificate_failed) console.old console.new result }
+    ensures run { CheckEnds files.old files.new console.old console.new result }
 {
     let ended = print_check(alloc, files, &mut console.output);
     console.conclude(ended)

@@ -6,7 +6,7 @@ ghost use Rattle.s2_check.specs.Views.{IsSoft};
 ghost use Rattle.s2_console.specs.Screens.{Screen, CanTell, SameBeside, report_in, report_failed};
 ghost use Rattle.s2_console.specs.Exits.{CommandAnswers, CommandRuns, CommandCounts};
 ghost use Rattle.s2_evidence.specs.Files.{written, contents_in, failed_in, SameAsked, CanJudge};
-ghost use Rattle.s2_evidence.specs.Inputs.{AreInputs, IsOnly};
+ghost use Rattle.s2_evidence.specs.Inputs.{AreInputs, IsOnly, EachUnreadOrAccepted};
 ghost use Rattle.s2_evidence.specs.Judging.{IsJudged};
 ghost use Rattle.s2_evidence.specs.Certifying.{Certifies, IsCertified, JudgeEnds};
 
@@ -64,6 +64,8 @@ pub(crate) fn judge_read<R: CountedRead, S: CountedRead, C: Output>(
         (contents_in (written (λ c. C.contents c) (λ c. C.count c) certificate.old)) (contents_in (written (λ c. C.contents c) (λ c. C.count c) certificate.new)) }
     ensures read { result ≡ Err Fault.Read → R.count rows.new + S.count soft.new ≡ R.count rows.old + S.count soft.old + 1 }
     ensures no_read { result ≢ Err Fault.Read → R.count rows.new + S.count soft.new ≡ R.count rows.old + S.count soft.old }
+    ensures no_memory { result ≡ Err Fault.NoMemory → EachUnreadOrAccepted shape
+        (R.remaining rows.old) (R.remaining rows.new) (S.remaining soft.old) (S.remaining soft.new) }
     ensures write { result ≡ Err Fault.Write → failed_in (written (λ c. C.contents c) (λ c. C.count c) certificate.new) ≡ failed_in (written (λ c. C.contents c) (λ c. C.count c) certificate.old) + 1 }
     ensures no_write { result ≢ Err Fault.Write → failed_in (written (λ c. C.contents c) (λ c. C.count c) certificate.new) ≡ failed_in (written (λ c. C.contents c) (λ c. C.count c) certificate.old) }
     ensures asked { SameAsked (written (λ c. C.contents c) (λ c. C.count c) certificate.old) (written (λ c. C.contents c) (λ c. C.count c) certificate.new) }
@@ -84,6 +86,8 @@ fn judge_files<R: CountedRead, S: CountedRead, C: Output>(
     ensures certified { IsCertified tuning (AreInputs shape files.old.rows files.old.soft) result (contents_in files.old.certificate) (contents_in files.new.certificate) }
     ensures read { result ≡ Err Fault.Read → files.new.rows_failed + files.new.soft_failed ≡ files.old.rows_failed + files.old.soft_failed + 1 }
     ensures no_read { result ≢ Err Fault.Read → files.new.rows_failed + files.new.soft_failed ≡ files.old.rows_failed + files.old.soft_failed }
+    ensures no_memory { result ≡ Err Fault.NoMemory
+        → EachUnreadOrAccepted shape files.old.rows files.new.rows files.old.soft files.new.soft }
     ensures write { result ≡ Err Fault.Write → failed_in files.new.certificate ≡ failed_in files.old.certificate + 1 }
     ensures no_write { result ≢ Err Fault.Write → failed_in files.new.certificate ≡ failed_in files.old.certificate }
     ensures asked { SameAsked files.old.certificate files.new.certificate }
@@ -112,6 +116,8 @@ fn print_judgement<R: CountedRead, S: CountedRead, C: Output, O: CountedWrite>(
     ensures few { O.count out.new ≤ O.count out.old + 1 }
     ensures asked { SameAsked files.old.certificate files.new.certificate }
     ensures run { CommandRuns (IsJudged tuning) (AreInputs shape files.old.rows files.old.soft) result (O.contents out.old) (O.contents out.new) }
+    ensures no_memory { result ≡ Err Fault.NoMemory
+        → EachUnreadOrAccepted shape files.old.rows files.new.rows files.old.soft files.new.soft }
     ensures certified { Certifies tuning (AreInputs shape files.old.rows files.old.soft) result
         files.old.certificate files.new.certificate }
     ensures causes { CommandCounts result (files.old.rows_failed + files.old.soft_failed) (files.new.rows_failed + files.new.soft_failed)
@@ -137,6 +143,8 @@ fn judge_at<R: CountedRead, S: CountedRead, C: Output, O: CountedWrite, E: Count
     ensures beside { SameBeside place console.old console.new }
     ensures asked { SameAsked files.old.certificate files.new.certificate }
     ensures run { CommandRuns (IsJudged tuning) (AreInputs shape files.old.rows files.old.soft) result (report_in place console.old) (report_in place console.new) }
+    ensures no_memory { result ≡ Err Fault.NoMemory
+        → EachUnreadOrAccepted shape files.old.rows files.new.rows files.old.soft files.new.soft }
     ensures certified { Certifies tuning (AreInputs shape files.old.rows files.old.soft) result
         files.old.certificate files.new.certificate }
     ensures causes { CommandCounts result (files.old.rows_failed + files.old.soft_failed) (files.new.rows_failed + files.new.soft_failed)
@@ -151,7 +159,7 @@ fn judge_at<R: CountedRead, S: CountedRead, C: Output, O: CountedWrite, E: Count
 /// `judge`: what a receiver that tries so much decides on the soft values of a file under the code of a row
 /// file, and what is known of it. Where a file for it is asked for, the certificate of the decided bits is
 /// written if they are sole or most likely, before the verdict is printed; where its writer fails, a part of it
-/// is written.
+/// is written. Of the row file and the value file want of memory is told before the first byte is read, or where it is accepted.
 pub fn judge_command<R: CountedRead, S: CountedRead, C: Output, O: CountedWrite, E: CountedWrite>(
     alloc: Global,
     shape: Shape,

@@ -7,9 +7,9 @@ ghost use Rattle.s2_check.specs.Views.{IsSoft};
 ghost use Rattle.s2_link.specs.Limits.{default_rounds};
 ghost use Rattle.s2_link.specs.Tuning.{tuning_of};
 ghost use Rattle.s2_console.specs.Screens.{CanShow};
-ghost use Rattle.s2_console.specs.Exits.{CommandAnswers, CommandRuns, CommandCounts, CommandEnds};
-ghost use Rattle.s2_evidence.specs.Inputs.{AreInputs, IsOnly};
-ghost use Rattle.s2_evidence.specs.Judging.{IsOwn};
+ghost use Rattle.s2_console.specs.Exits.{CommandAnswers, CommandRuns, CommandCounts};
+ghost use Rattle.s2_evidence.specs.Inputs.{AreInputs, IsOnly, values_in, UnreadOrAccepted, EachUnreadOrAccepted};
+ghost use Rattle.s2_evidence.specs.Judging.{IsOwn, OwnEnds};
 
 use crate::decision::own_decision;
 use crate::reading::{Judged, read_judged};
@@ -55,6 +55,8 @@ fn own_read<R: CountedRead, S: CountedRead>(
     ensures answers { CommandAnswers IsOwn (AreInputs shape (R.remaining rows.old) (S.remaining soft.old)) result }
     ensures read { result ≡ Err Fault.Read → R.count rows.new + S.count soft.new ≡ R.count rows.old + S.count soft.old + 1 }
     ensures no_read { result ≢ Err Fault.Read → R.count rows.new + S.count soft.new ≡ R.count rows.old + S.count soft.old }
+    ensures no_memory { result ≡ Err Fault.NoMemory → EachUnreadOrAccepted shape
+        (R.remaining rows.old) (R.remaining rows.new) (S.remaining soft.old) (S.remaining soft.new) }
     ensures write { result ≢ Err Fault.Write }
 {
     let judged = read_judged(alloc, rows, soft, shape)?;
@@ -71,6 +73,8 @@ fn print_own<S: CountedRead, O: CountedWrite>(
     requires out { CanCount (O.count out.old) }
     ensures whole { IsOk result → O.count out.new ≡ O.count out.old }
     ensures run { CommandRuns IsOwn (AreInputs (shape_of 4 2 3) (Some (codes "0 4 8\n0 1 2\n")) (S.remaining soft.old)) result (O.contents out.old) (O.contents out.new) }
+    ensures no_memory { result ≡ Err Fault.NoMemory
+        → UnreadOrAccepted (S.remaining soft.old) (S.remaining soft.new) (values_in (shape_of 4 2 3)) }
     ensures causes { CommandCounts result (S.count soft.old) (S.count soft.new) (O.count out.old) (O.count out.new) }
 {
     let shape = Shape::of(4, 2, 3);
@@ -89,7 +93,7 @@ pub fn self_command<S: CountedRead, O: CountedWrite, E: CountedWrite>(
     requires console { CanShow console.old }
     ensures quiet { result ≢ Exit.Fault → console.new.errors_failed ≡ console.old.errors_failed }
     ensures whole { result ≢ Exit.Fault → console.new.output_failed ≡ console.old.output_failed }
-    ensures run { CommandEnds IsOwn (AreInputs (shape_of 4 2 3) (Some (codes "0 4 8\n0 1 2\n")) (S.remaining soft.old)) (S.count soft.old) (S.count soft.new)
+    ensures run { OwnEnds (S.remaining soft.old) (S.remaining soft.new) (S.count soft.old) (S.count soft.new)
         console.old console.new result }
 {
     let ended = print_own(alloc, soft, &mut console.output);

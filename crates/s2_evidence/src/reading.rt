@@ -1,45 +1,75 @@
 //! Row files, their matrices, value files, and what is judged.
-ghost use Rattle.std.specs.Prelude.{◌≡◌, ◌≢◌, ◌+◌, All, Err, IfOk, IfSome, length};
+ghost use Rattle.std.specs.Prelude.{◌≡◌, ◌≢◌, ◌+◌, ◌≤◌, All, Err, IfOk, IfSome, IsOk, OnOk, length, vec_len, vec_capacity};
 ghost use Rattle.s2_check.specs.Views.{IsSoft};
 ghost use Rattle.s2_mode.specs.Counts.{CanCount};
 ghost use Rattle.s2_mode.specs.Shape.{code_bits};
 ghost use Rattle.s2_rows.specs.RowFiles as row_files;
 ghost use Rattle.s2_matrix.specs.Code.{code_of};
 ghost use Rattle.s2_console.specs.Exits.{Follows};
-ghost use Rattle.s2_evidence.specs.Inputs.{taken, rows_said, rows_in, values_in, inputs};
+ghost use Rattle.s2_rows.specs.Values as values;
+ghost use Rattle.s2_evidence.specs.Inputs.{taken, rows_said, rows_in, values_said, values_in, inputs, most_bytes, UnreadOrAccepted, EachUnreadOrAccepted};
 
 use s2_console::Fault;
 use s2_matrix::Matrix;
-use s2_mode::{CountedRead, FileFault, Shape, read_all};
+use s2_mode::{CountedRead, FileFault, Shape, read_into};
 use s2_rows::{RowFault, Rows, ValueFault, read_rows, read_values};
 use std::alloc::Global;
 
 /// The most bytes of a file that is read into memory.
 pub const MOST_BYTES: usize = 16_777_216;
 
-/// The bytes of a file.
-pub(crate) fn read_bytes<R: CountedRead>(
-    alloc: Global,
+/// Room for the bytes of any file.
+pub(crate) fn room(alloc: Global) -> Result<Vec<u8>, Fault<'static>>
+    ensures empty { IfOk result (λ v. vec_len v ≡ 0) }
+    ensures room { IfOk result (λ v. most_bytes ≤ vec_capacity v) }
+    ensures read { result ≢ Err Fault.Read }
+    ensures write { result ≢ Err Fault.Write }
+    ensures told { IsOkUnless result Fault.NoMemory }
+{
+    Vec::with_capacity(alloc, MOST_BYTES).map_err(|_| Fault::NoMemory)
+}
+
+/// Puts the bytes of a file into room for them. It takes no memory.
+pub(crate) fn fill<R: CountedRead>(
     reader: &mut R,
-) -> Result<Vec<u8>, Fault<'static>>
-    requires { CanCount (R.count reader.old) }
-    ensures bytes { IfSome (R.remaining reader.old) (λ xs. Follows (λ v. v.items) result (taken xs)) }
+    bytes: &mut Vec<u8>,
+) -> Result<(), Fault<'static>>
+    requires count { CanCount (R.count reader.old) }
+    requires empty { vec_len bytes.old ≡ 0 }
+    requires room { most_bytes ≤ vec_capacity bytes.old }
+    ensures bytes { IfSome (R.remaining reader.old) (λ xs. Follows (λ _. bytes.new.items) result (taken xs)) }
     ensures read { result ≡ Err Fault.Read → R.count reader.new ≡ R.count reader.old + 1 }
     ensures no_other { result ≢ Err Fault.Read → R.count reader.new ≡ R.count reader.old }
+    ensures memory { result ≢ Err Fault.NoMemory }
     ensures write { result ≢ Err Fault.Write }
 {
-    match read_all(alloc, reader, MOST_BYTES) {
-        Ok(bytes) => Ok(bytes),
+    match read_into(reader, bytes, MOST_BYTES) {
+        Ok(()) => Ok(()),
         Err(FileFault::Read) => Err(Fault::Read),
         Err(FileFault::TooLong) => Err(Fault::TooLong),
         Err(FileFault::NoMemory) => Err(Fault::NoMemory),
     }
 }
 
+/// The bytes of a file. Room for them is taken before the first one is read.
+fn read_bytes<R: CountedRead>(alloc: Global, reader: &mut R) -> Result<Vec<u8>, Fault<'static>>
+    requires { CanCount (R.count reader.old) }
+    ensures bytes { IfSome (R.remaining reader.old) (λ xs. Follows (λ v. v.items) result (taken xs)) }
+    ensures read { result ≡ Err Fault.Read → R.count reader.new ≡ R.count reader.old + 1 }
+    ensures no_other { result ≢ Err Fault.Read → R.count reader.new ≡ R.count reader.old }
+    ensures no_memory { result ≡ Err Fault.NoMemory → reader.new ≡ reader.old }
+    ensures write { result ≢ Err Fault.Write }
+{
+    let mut bytes = room(alloc)?;
+    fill(reader, &mut bytes)?;
+    Ok(bytes)
+}
+
 /// The rows of a row file in memory.
 fn rows_of(alloc: Global, text: &[u8], shape: Shape) -> Result<Rows, Fault<'static>>
     ensures says { Follows (λ r. r) result (rows_said shape (row_files.rows_of_text text.now shape)) }
     ensures shape { IfOk result (λ r. r.shape ≡ shape) }
+    ensures no_memory { result ≡ Err Fault.NoMemory → IsOk (rows_said shape (row_files.rows_of_text text.now shape)) }
     ensures read { result ≢ Err Fault.Read }
     ensures write { result ≢ Err Fault.Write }
 {
@@ -54,6 +84,7 @@ fn rows_of(alloc: Global, text: &[u8], shape: Shape) -> Result<Rows, Fault<'stat
 pub(crate) fn matrix_of(alloc: Global, text: &[u8], shape: Shape) -> Result<Matrix, Fault<'static>>
     ensures says { Follows (λ m. m) result (rows_said shape (row_files.rows_of_text text.now shape)) }
     ensures shape { IfOk result (λ m. m.shape ≡ shape) }
+    ensures no_memory { result ≡ Err Fault.NoMemory → IsOk (rows_said shape (row_files.rows_of_text text.now shape)) }
     ensures read { result ≢ Err Fault.Read }
     ensures write { result ≢ Err Fault.Write }
 {
@@ -64,7 +95,8 @@ pub(crate) fn matrix_of(alloc: Global, text: &[u8], shape: Shape) -> Result<Matr
     }
 }
 
-/// The matrix of the rows of a row file, which is read to its end. Where it is refused, the fault says why.
+/// The matrix of the rows of a row file, which is read to its end. Where it is refused, the fault says why: want of memory is told
+/// before the first byte is read, or of rows that are accepted.
 pub fn read_matrix<R: CountedRead>(
     alloc: Global,
     reader: &mut R,
@@ -75,13 +107,31 @@ pub fn read_matrix<R: CountedRead>(
     ensures shape { IfOk result (λ m. m.shape ≡ shape) }
     ensures read { result ≡ Err Fault.Read → R.count reader.new ≡ R.count reader.old + 1 }
     ensures no_other { result ≢ Err Fault.Read → R.count reader.new ≡ R.count reader.old }
+    ensures no_memory { result ≡ Err Fault.NoMemory
+        → UnreadOrAccepted (R.remaining reader.old) (R.remaining reader.new) (rows_in shape) }
     ensures write { result ≢ Err Fault.Write }
 {
     let text = read_bytes(alloc, reader)?;
     matrix_of(alloc, &text, shape)
 }
 
-/// The values of a value file, as many as a codeword has bits.
+/// The values of a value file in memory, as many as a codeword has bits.
+fn values_of(alloc: Global, text: &[u8], shape: Shape) -> Result<Vec<i16>, Fault<'static>>
+    ensures says { Follows (λ v. v.items) result (values_said (values.values_of_text text.now (code_bits shape))) }
+    ensures long { IfOk result (λ v. length v.items ≡ code_bits shape) }
+    ensures no_memory { result ≡ Err Fault.NoMemory
+        → IsOk (values_said (values.values_of_text text.now (code_bits shape))) }
+    ensures read { result ≢ Err Fault.Read }
+    ensures write { result ≢ Err Fault.Write }
+{
+    match read_values(alloc, text, shape.n()) {
+        Ok(values) => Ok(values),
+        Err(ValueFault::NoMemory) => Err(Fault::NoMemory),
+        Err(fault) => Err(Fault::about("values: ", fault.text())),
+    }
+}
+
+/// The values of a value file.
 fn read_value_file<R: CountedRead>(
     alloc: Global,
     reader: &mut R,
@@ -93,14 +143,12 @@ fn read_value_file<R: CountedRead>(
     ensures range { IfOk result (λ v. All IsSoft v.items) }
     ensures read { result ≡ Err Fault.Read → R.count reader.new ≡ R.count reader.old + 1 }
     ensures no_other { result ≢ Err Fault.Read → R.count reader.new ≡ R.count reader.old }
+    ensures no_memory { result ≡ Err Fault.NoMemory
+        → UnreadOrAccepted (R.remaining reader.old) (R.remaining reader.new) (values_in shape) }
     ensures write { result ≢ Err Fault.Write }
 {
     let text = read_bytes(alloc, reader)?;
-    match read_values(alloc, &text, shape.n()) {
-        Ok(values) => Ok(values),
-        Err(ValueFault::NoMemory) => Err(Fault::NoMemory),
-        Err(fault) => Err(Fault::about("values: ", fault.text())),
-    }
+    values_of(alloc, &text, shape)
 }
 
 /// What is judged: the matrix of rows, and a soft value for each of its bits.
@@ -129,6 +177,8 @@ pub(crate) fn read_judged<R: CountedRead, S: CountedRead>(
     ensures range { IfOk result (λ j. All IsSoft j.soft.items) }
     ensures read { result ≡ Err Fault.Read → R.count rows.new + S.count soft.new ≡ R.count rows.old + S.count soft.old + 1 }
     ensures no_read { result ≢ Err Fault.Read → R.count rows.new + S.count soft.new ≡ R.count rows.old + S.count soft.old }
+    ensures no_memory { result ≡ Err Fault.NoMemory → EachUnreadOrAccepted shape
+        (R.remaining rows.old) (R.remaining rows.new) (S.remaining soft.old) (S.remaining soft.new) }
     ensures write { result ≢ Err Fault.Write }
 {
     let matrix = read_matrix(alloc, rows, shape)?;
