@@ -22,7 +22,7 @@ module _ {T : Type 0} (Does : Deed T) (setup : Setup) (files left : Ends) where
       record {
         link = Err f;
         linked = IfSome_then files.rows h (λ text p. told {V = Rows} {W = Link} (λ r. r) (λ l. l) f (rows_in (shape_in setup.mode) text) (link_in setup text) (λ e. ap (link_on setup) e) p);
-        roomless = λ e. IfSome_then files.rows (roomless cc) (λ text p. unread_or_linked setup text left.rows p);
+        no_memory = λ e. IfSome_then files.rows (roomless cc) (λ text p. unread_or_linked setup text left.rows p);
         setup_kept = tt;
         rows_read = λ e. failed cc;
         rows_whole = λ e. well (λ q. e (ap Err q));
@@ -37,7 +37,7 @@ module _ {T : Type 0} (Does : Deed T) (setup : Setup) (files left : Ends) where
       record {
         link = Ok (link_of setup rows);
         linked = IfSome_then files.rows read (λ text p. ap (link_on setup) p);
-        roomless = λ e. IfSome_then files.rows read (λ text p. inr (rw p refl));
+        no_memory = λ e. IfSome_then files.rows read (λ text p. inr (rw p refl));
         setup_kept = refl;
         rows_read = λ e. cc;
         rows_whole = λ e. whole;

@@ -108,7 +108,7 @@ DoesOn Does (Err f) old new ended = (f ≢ faults.Write) × (ended ≡ Err f) ×
 pub record OnLink {T : Type 0} (Does : Deed T) (setup : Setup) (files left : Ends) (old new : Streams) (ended : Result T Fault) : Type 0 where
   pub link : Result Link Fault
   pub linked : IfSome files.rows (λ text. Follows (λ l. l) link (link_in setup text))
-  pub roomless : ended ≡ Err faults.NoMemory → UnreadOrAccepted files.rows left.rows (link_in setup)
+  pub no_memory : ended ≡ Err faults.NoMemory → UnreadOrAccepted files.rows left.rows (link_in setup)
   pub setup_kept : IfOk link (λ l. l.setup ≡ setup)
   pub rows_read : link ≡ Err faults.Read → left.rows_failed ≡ files.rows_failed + 1
   pub rows_whole : link ≢ Err faults.Read → left.rows_failed ≡ files.rows_failed

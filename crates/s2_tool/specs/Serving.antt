@@ -34,10 +34,10 @@ use Rattle.s2_words.specs.declared.request.NoteWords.{NoteWords}
 use Rattle.s2_receive.specs.declared.report.Received.{Received}
 use Rattle.s2_words.specs.declared.request.ShapeWords.{ShapeWords}
 use Rattle.s2_evidence.specs.Files.{Written, JudgeFiles, CheckFiles}
-use Rattle.s2_evidence.specs.Inputs.{AreInputs, UnreadOrAccepted, rows_in, values_in}
+use Rattle.s2_evidence.specs.Inputs.{AreInputs, UnreadOrAccepted, EachUnreadOrAccepted, rows_in, values_in}
 use Rattle.s2_evidence.specs.Certifying.{Certifies}
 use Rattle.s2_evidence.specs.Judging.{IsJudged, IsOwn}
-use Rattle.s2_evidence.specs.Checking.{AreCheckInputs, IsAnswered}
+use Rattle.s2_evidence.specs.Checking.{AreCheckInputs, BothUnreadOrAccepted, IsAnswered}
 use Rattle.s2_table.specs.Tables.{AreRowsIn, IsTold}
 use Rattle.s2_table.specs.Wanted.{notes_on}
 use Rattle.s2_tool.specs.Links.{Ends, ends_of, streams_with, CannotOpen, CannotOpenOne, Deed, OnLink}
@@ -122,10 +122,23 @@ abbrev pub Receipts : NoteWords → Setup → Ends → Deed Received → List �
 Receipts words setup files Does notes ended old new =
     (heard : Result Received Fault) × Reports Does setup files heard old new × Answered words setup.mode heard ended notes
 
+-- Whether the rows of a file are the standard's for the code of a mode.
+abbrev pub Compares : Mode → Option (List ℕ) → Result Exit Fault → Option (List ℕ) → Option (List ℕ) → Type 0
+Compares mode rows ended old new =
+    (behind : Option (List ℕ)) × CommandRuns (IsTold mode) (AreRowsIn (shape_in mode) rows) ended old new
+    × (ended ≡ Err faults.NoMemory → UnreadOrAccepted rows behind (rows_in (shape_in mode)))
+
+-- What the checker finds of a certificate's file, by a row file.
+abbrev pub Examines : CheckFiles → Result Exit Fault → Option (List ℕ) → Option (List ℕ) → Type 0
+Examines files ended old new =
+    (behind : CheckFiles) × CommandRuns IsAnswered (AreCheckInputs files.rows files.certificate) ended old new
+    × (ended ≡ Err faults.NoMemory → BothUnreadOrAccepted files.rows behind.rows files.certificate behind.certificate)
+
 -- The verdict on soft values of a file by the tuning of the words, and their certificate in the file that was asked for.
 abbrev pub Judges : JudgeWords → JudgeFiles → Result Exit Fault → Option (List ℕ) → Option (List ℕ) → Type 0
 Judges words files ended old new =
     (behind : JudgeFiles) × CommandRuns (IsJudged words.tuning) (AreInputs (asked_shape words.shape) files.rows files.soft) ended old new
+    × (ended ≡ Err faults.NoMemory → EachUnreadOrAccepted (asked_shape words.shape) files.rows behind.rows files.soft behind.soft)
     × Certifies words.tuning (AreInputs (asked_shape words.shape) files.rows files.soft) ended files.certificate behind.certificate
 
 -- Symbols are spoilt by the channel of the words; what is left in the buffer at the end may not be written.
@@ -136,7 +149,8 @@ Channels channel from to ended =
 
 -- What a request's output says, with which notes and how it ended. A request that names no file prints what its words and the
 -- input determine; one that names files what its command says of what they hold, each in its role, or it could not be begun.
--- Where its words have no mode or no shape, just that is told, and want of memory not in its place.
+-- Where its words have no mode or no shape, just that is told, and want of memory not in its place; nor is it told in place of
+-- what a file is refused for that was read. Of standard input so much was there, and so much is left.
 abbrev pub Serves : Holdings → Request → Option (List ℕ) → Option (List ℕ) → List ℕ → Result Exit Fault → Option (List ℕ) → Option (List ℕ) → Type 0
 Serves holds requests.Own input left notes ended old new =
     (notes ≡ []) × CommandRuns IsOwn (AreInputs (shape_of 4 2 3) (Some (codes "0 4 8\n0 1 2\n")) input) ended old new
@@ -148,13 +162,13 @@ Serves holds (requests.Rows words) input left notes ended old new =
     ⊎ NotBegun (NotOf (asked_shape words.shape) (λ f. ⊥)) notes ended old new
 Serves holds (requests.Table words) input left notes ended old new =
     (IsMode (table_mode words) × (notes ≡ notes_on words.quiet (table_mode words) ended)
-    × CommandRuns (IsTold (table_mode words)) (AreRowsIn (shape_in (table_mode words)) (holds roles.Input words.rows.now)) ended old new)
+    × Compares (table_mode words) (holds roles.Input words.rows.now) ended old new)
     ⊎ NotBegun (NotOn (table_mode words) (CannotOpen words.rows)) notes ended old new
 Serves holds (requests.Judge words) input left notes ended old new =
     (IsShape (asked_shape words.shape) × (notes ≡ []) × Judges words (judge_files holds words) ended old new)
     ⊎ NotBegun (NotOf (asked_shape words.shape) (NotJudged words)) notes ended old new
 Serves holds (requests.Check words) input left notes ended old new =
-    ((notes ≡ []) × CommandRuns IsAnswered (AreCheckInputs (holds roles.Input words.rows.now) (holds roles.Input words.certificate.now)) ended old new)
+    ((notes ≡ []) × Examines (check_files holds words) ended old new)
     ⊎ NotBegun (λ f. CannotOpen words.rows f ⊎ CannotOpen words.certificate f) notes ended old new
 Serves holds (requests.Mod words) input left notes ended old new =
     (IsMode (asked_setup words.link).mode × (notes ≡ notes_on words.quiet (asked_setup words.link).mode ended)

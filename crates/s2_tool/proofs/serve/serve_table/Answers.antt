@@ -7,4 +7,4 @@ returns g c = λ input left.
     let end = c.table_command in
     let run = end.ensures.run in
     served_plainly g.R.Disk.holds _ input left run.0 (notes_on c.args.words.now.quiet c.in-Some.mode run.0) end.result c.args.console.now end.new.console end.ensures.whole end.ensures.quiet run.1
-    refl (inl (c.in-Some.ensures.found.0 (search rules), search rules, search rules)) run.4
+    refl (inl (c.in-Some.ensures.found.0 (search rules), search rules, (_, search rules, search rules))) run.5
