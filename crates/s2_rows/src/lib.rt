@@ -3,9 +3,9 @@
 //!
 //! It stands on the shapes of `s2_mode`, and `s2_matrix` builds a code's checks of its `Rows`.
 //! `read_rows` and `read_values` answer exactly what the formats say of every text: what it holds,
-//! or its first fault in reading order. `make_rows` gives the rows that a shape, a weight and a seed
-//! determine ([`laws::made_rows`]), and `write_rows` writes exactly their text, which is read again as the same rows
-//! ([`laws::read_back`]).
+//! or its first fault in reading order. They want memory only for a text that is otherwise accepted.
+//! `make_rows` gives the rows that a shape, a weight and a seed determine ([`laws::made_rows`]), and
+//! `write_rows` writes exactly their text, which is read again as the same rows ([`laws::read_back`]).
 //!
 //! ```text
 //! let shape = Shape::new(4, 2, 3).ok_or(..)?;

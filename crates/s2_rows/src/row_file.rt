@@ -1,12 +1,13 @@
 //! Row files.
-ghost use Rattle.std.specs.Prelude.{◌≡◌, ◌≢◌, ◌+◌, ◌-◌, ◌<◌, ◌≤◌, ◌∷◌, ℕ, List, Ok, Err, map, vec_len, vec_capacity, IfOk, MatchResult};
+ghost use Rattle.std.specs.Prelude.{◌≡◌, ◌≢◌, ◌+◌, ◌-◌, ◌<◌, ◌≤◌, ◌∷◌, ℕ, List, Ok, Err, map, vec_len, vec_capacity, Some, IfOk, IfErr, OnOk, MatchResult};
+ghost use Rattle.std.specs.Result.{result_err};
 ghost use Rattle.s2_mode.specs.Shape.{IsShape, check_count};
 ghost use Rattle.s2_mode.specs.Limits.{most_bits};
 ghost use Rattle.s2_mode.specs.FaultTexts.{said};
 ghost use Rattle.s2_rows.specs.FaultTexts.{row_fault_text};
 ghost use Rattle.s2_rows.specs.Numbers.{natural_of};
 ghost use Rattle.s2_rows.specs.Readings.{after, GoesOn};
-ghost use Rattle.s2_rows.specs.RowFiles.{address_of, with_token, row_in, rows_of, rows_of_text, RowsAnswer};
+ghost use Rattle.s2_rows.specs.RowFiles.{address_of, with_token, row_in, next_row_in, rows_of, rows_of_text, fault_behind, RowsAnswer};
 ghost use Rattle.s2_rows.specs.Text.{tokens_of};
 
 use crate::numbers::natural;
@@ -99,6 +100,19 @@ fn read_row(checks: usize, number: u64, line: &[u8]) -> Result<Row, RowFault>
     Ok(row)
 }
 
+/// The row of a line that is not passed over, behind so many rows.
+fn next_row(count: usize, shape: Shape, number: u64, line: &[u8]) -> Result<Row, RowFault>
+    ensures read { let next = next_row_in (check_count shape) (shape.groups - count) number (tokens_of line.now) in
+        MatchResult result (λ row. next ≡ Ok row.items) (λ e. next ≡ Err e) }
+    ensures room { OnOk result (count < shape.groups) }
+    ensures memory { result ≢ Err RowFault.NoMemory }
+{
+    if count >= shape.groups() {
+        return Err(RowFault::TooManyRows);
+    }
+    read_row(shape.checks(), number, line)
+}
+
 /// Reads a line behind the rows so far.
 fn read_line<A: Allocator>(
     rows: &mut Vec<Row, A>,
@@ -118,11 +132,43 @@ fn read_line<A: Allocator>(
     if is_passed_over(line) {
         return Ok(());
     }
-    if rows.len() >= shape.groups() {
-        return Err(RowFault::TooManyRows);
-    }
-    let row = read_row(shape.checks(), number, line)?;
+    let row = next_row(rows.len(), shape, number, line)?;
     rows.push(row).unwrap();
+    Ok(())
+}
+
+/// How many rows there are with a line, behind so many, none of which is kept.
+fn count_line(count: usize, shape: Shape, number: u64, line: &[u8]) -> Result<usize, RowFault>
+    ensures read { (lines : List (List ℕ)) → IfOk result (λ next.
+        fault_behind shape count number (line.now ∷ lines) ≡ fault_behind shape next (number + 1) lines) }
+    ensures refused { (lines : List (List ℕ)) →
+        IfErr result (λ e. fault_behind shape count number (line.now ∷ lines) ≡ Some e) }
+    ensures memory { result ≢ Err RowFault.NoMemory }
+{
+    if is_passed_over(line) {
+        return Ok(count);
+    }
+    next_row(count, shape, number, line)?;
+    Ok(count + 1)
+}
+
+/// Whether a text is accepted, or its first fault: it keeps no row, and takes no memory.
+fn accept(text: &[u8], shape: Shape) -> Result<(), RowFault>
+    ensures read { result_err result ≡ result_err (rows_of_text text.now shape) }
+    ensures memory { result ≢ Err RowFault.NoMemory }
+{
+    let mut count = 0;
+    let mut rest = text;
+    let mut number = 1u64;
+    while !rest.is_empty() {
+        let (line, after) = cut_line(rest);
+        count = count_line(count, shape, number, line)?;
+        rest = after;
+        number += 1;
+    }
+    if count < shape.groups() {
+        return Err(RowFault::TooFewRows);
+    }
     Ok(())
 }
 
@@ -135,7 +181,13 @@ pub fn read_lines<A: Allocator>(
     ensures read { RowsAnswer (λ v. map (λ row. row.items) v.items) result (rows_of_text text.now shape) }
     ensures valid { IsShape shape }
 {
-    let mut rows = Vec::with_capacity(alloc, shape.groups()).map_err(|_| RowFault::NoMemory)?;
+    let mut rows = match Vec::with_capacity(alloc, shape.groups()) {
+        Ok(rows) => rows,
+        Err(_) => {
+            accept(text, shape)?;
+            return Err(RowFault::NoMemory);
+        }
+    };
     let mut rest = text;
     let mut number = 1u64;
     while !rest.is_empty() {
@@ -153,7 +205,7 @@ pub fn read_lines<A: Allocator>(
 /// The rows that a text holds for a shape, or its first fault in reading order. A line that has no
 /// tokens, or whose first token begins with #, is passed over; each other line is the row of the
 /// next group of information bits. Its tokens, between spaces, tabs and CR, are decimal addresses:
-/// 1 to 24 of them, below n - k, each once. `NoMemory` comes before all other faults.
+/// 1 to 24 of them, below n - k, each once. `NoMemory` comes only for a text that is otherwise accepted.
 pub fn read_rows(alloc: Global, text: &[u8], shape: Shape) -> Result<Rows, RowFault>
     ensures rows { RowsAnswer (λ r. r.rows) result (rows_of_text text.now shape) }
     ensures shape { IfOk result (λ r. r.shape ≡ shape) }
