@@ -14,6 +14,7 @@ pub fn print<O: CountedWrite>(out: &mut O, exit: Exit, bytes: &[u8]) -> Result<E
     ensures prints { Prints exit bytes.now result (O.contents out.old) (O.contents out.new) }
     ensures write { result ≡ Err Fault.Write → O.count out.new ≡ O.count out.old + 1 }
     ensures no_write { result ≢ Err Fault.Write → O.count out.new ≡ O.count out.old }
+    ensures memory { result ≢ Err Fault.NoMemory }
 {
     match write_full(out, bytes) {
         Ok(()) => Ok(exit),
@@ -40,6 +41,7 @@ impl Printed {
         ensures prints { Prints self.exit self.text result (O.contents out.old) (O.contents out.new) }
         ensures write { result ≡ Err Fault.Write → O.count out.new ≡ O.count out.old + 1 }
         ensures no_write { result ≢ Err Fault.Write → O.count out.new ≡ O.count out.old }
+        ensures memory { result ≢ Err Fault.NoMemory }
     {
         print(out, self.exit, self.text.as_bytes())
     }

@@ -1,6 +1,6 @@
 -- What files say, put together.
-use Rattle.std.proofs.Common.{◌≡◌, ℕ, ℤ, List, Option, Some, None, Result, Ok, Err, ap, ◌∙◌, subst, sym}
-use Rattle.std.specs.Prelude.{IfSome}
+use Rattle.std.proofs.Common.{◌≡◌, ℕ, ℤ, List, Option, Some, None, Result, Ok, Err, ap, ◌∙◌, subst, sym, refl, inr}
+use Rattle.std.specs.Prelude.{IfSome, IsOk}
 use Rattle.s2_mode.specs.Shape.{Shape}
 use Rattle.s2_rows.specs.Rows.{Rows}
 use Rattle.s2_rows.specs.RowFiles as row_files
@@ -12,7 +12,7 @@ use Rattle.s2_console.specs.declared.fault.Fault.{Fault}
 use Rattle.s2_console.specs.declared.fault.Fault.TheVariants as faults
 use Rattle.s2_console.specs.Exits.{Follows, CommandAnswers}
 use Rattle.s2_evidence.specs.Inputs.{taken, rows_said, rows_in, values_in, then_values, inputs, AreInputs, IsOnly}
-use Rattle.s2_evidence.specs.Checking.{certificate_said, with_rows, beside, then_parts, parts_in, AreRowsBeside, ArePartsIn, AreCheckInputs, IsAnswered}
+use Rattle.s2_evidence.specs.Checking.{certificate_said, shape_of_said, with_rows, beside, then_parts, parts_in, ArePartsIn, AreCheckInputs, BothUnreadOrAccepted, IsAnswered}
 use Rattle.s2_console.proofs.CommandLemmas.{answers_moved, told}
 
 -- ---- rows and soft values
@@ -63,39 +63,51 @@ on_inputs Says shape known_rows known_soft rows soft made is h =
 
 -- ---- rows and a certificate
 
--- a certificate beside which the rows are refused
-pub rows_beside_refused : (text : List ℕ) (view : File) (f : Fault) → Follows {V = Rows} (λ r. r) (Err f) (rows_said view.shape (row_files.rows_of_text text view.shape))
-    → CommandAnswers IsAnswered (AreRowsBeside text view) (Err f)
-rows_beside_refused text view faults.Read h = tt
-rows_beside_refused text view faults.Write h = tt
-rows_beside_refused text view faults.NoMemory h = tt
-rows_beside_refused text view (faults.Open name) h = ap (beside view) h
-rows_beside_refused text view (faults.UsedTwice name) h = ap (beside view) h
-rows_beside_refused text view faults.TooLong h = ap (beside view) h
-rows_beside_refused text view (faults.Rows words) h = ap (beside view) h
-rows_beside_refused text view (faults.Told words) h = ap (beside view) h
+-- what is refused is answered
+pub is_refused : {I : Type 0} → (Says : I → Exit → List ℕ → Type 0) (IsInput : Result I Fault → Type 0) (f : Fault) → IsInput (Err f) → CommandAnswers Says IsInput (Err f)
+is_refused Says IsInput faults.Read h = tt
+is_refused Says IsInput faults.Write h = tt
+is_refused Says IsInput faults.NoMemory h = tt
+is_refused Says IsInput (faults.Open name) h = h
+is_refused Says IsInput (faults.UsedTwice name) h = h
+is_refused Says IsInput faults.TooLong h = h
+is_refused Says IsInput (faults.Rows words) h = h
+is_refused Says IsInput (faults.Told words) h = h
 
--- a certificate beside which the rows are read
-pub on_rows : (text : List ℕ) (view : File) (rows : Rows) (made : Result Printed Fault) → rows_said view.shape (row_files.rows_of_text text view.shape) ≡ Ok rows
-    → CommandAnswers IsAnswered (IsOnly (rows, view)) made → CommandAnswers IsAnswered (AreRowsBeside text view) made
-on_rows text view rows made p h = answers_moved IsAnswered (IsOnly (rows, view)) (AreRowsBeside text view) made (λ said e. ap (beside view) p ∙ sym e) h
+-- where the shape is refused the certificate is
+pub shape_refused : (said : Result File Fault) (f : Fault) → Err f ≡ shape_of_said said → said ≡ Err f
+shape_refused (Ok file) f e = cc
+shape_refused (Err g) f e = cc
 
--- a certificate that is refused
-pub certificate_refused : (text certificate : List ℕ) (f : Fault) → Follows {V = File} (λ c. c) (Err f) (certificate_said (file_of_bytes certificate))
-    → CommandAnswers IsAnswered (ArePartsIn text certificate) (Err f)
-certificate_refused text certificate faults.Read h = tt
-certificate_refused text certificate faults.Write h = tt
-certificate_refused text certificate faults.NoMemory h = tt
-certificate_refused text certificate (faults.Open name) h = ap (with_rows text) h
-certificate_refused text certificate (faults.UsedTwice name) h = ap (with_rows text) h
-certificate_refused text certificate faults.TooLong h = ap (with_rows text) h
-certificate_refused text certificate (faults.Rows words) h = ap (with_rows text) h
-certificate_refused text certificate (faults.Told words) h = ap (with_rows text) h
+file_of_shape : (said : Result File Fault) (shape : Shape) → Ok shape ≡ shape_of_said said → (file : File) × (said ≡ Ok file) × (file.shape ≡ shape)
+file_of_shape (Ok file) shape e = (file, refl, cc)
+file_of_shape (Err f) shape e = cc
 
--- the rows beside the certificate that the other file says
-pub on_parts : (text certificate : List ℕ) (view : File) (made : Result Printed Fault) → certificate_said (file_of_bytes certificate) ≡ Ok view
-    → CommandAnswers IsAnswered (AreRowsBeside text view) made → CommandAnswers IsAnswered (ArePartsIn text certificate) made
-on_parts text certificate view made p h = answers_moved IsAnswered (AreRowsBeside text view) (ArePartsIn text certificate) made (λ said e. ap (with_rows text) p ∙ e) h
+-- what two files in memory say, where the certificate's has this shape
+pub parts_by_shape : (text certificate : List ℕ) (shape : Shape) → Ok shape ≡ shape_of_said (certificate_said (file_of_bytes certificate))
+    → (file : File) × (certificate_said (file_of_bytes certificate) ≡ Ok file) × (parts_in text certificate ≡ beside file (rows_said shape (row_files.rows_of_text text shape)))
+parts_by_shape text certificate shape e =
+    let (file, is, same) = file_of_shape (certificate_said (file_of_bytes certificate)) shape e in
+    (file, is, ap (with_rows text) is ∙ ap (λ s. beside file (rows_said s (row_files.rows_of_text text s))) same)
+
+-- they say these rows and this certificate
+pub parts_said : (text certificate : List ℕ) (shape : Shape) (rows : Rows) (file : File) → Ok shape ≡ shape_of_said (certificate_said (file_of_bytes certificate))
+    → rows_said shape (row_files.rows_of_text text shape) ≡ Ok rows → certificate_said (file_of_bytes certificate) ≡ Ok file → parts_in text certificate ≡ Ok (rows, file)
+parts_said text certificate shape rows file e p q =
+    let (other, is, parts) = parts_by_shape text certificate shape e in
+    let same : other ≡ file = cc in
+    parts ∙ (ap (beside other) p ∙ ap (λ f. Ok (rows, f)) same)
+
+beside_accepted : (file : File) (rows : Result Rows Fault) → IsOk rows → IsOk (beside file rows)
+beside_accepted file (Ok rows) h = refl
+beside_accepted file (Err f) h = cc
+
+-- they are accepted
+pub parts_accepted : (text certificate : List ℕ) (shape : Shape) → Ok shape ≡ shape_of_said (certificate_said (file_of_bytes certificate))
+    → IsOk (rows_said shape (row_files.rows_of_text text shape)) → IsOk (parts_in text certificate)
+parts_accepted text certificate shape e h =
+    let (file, is, parts) = parts_by_shape text certificate shape e in
+    subst (λ said. IsOk said) (sym parts) (beside_accepted file (rows_said shape (row_files.rows_of_text text shape)) h)
 
 both_taken : (a b : Result (List ℕ) Fault) (rows certificate : List ℕ) → a ≡ Ok rows → b ≡ Ok certificate → then_parts a b ≡ parts_in rows certificate
 both_taken a b rows certificate p q = ap (λ x. then_parts x b) p ∙ ap (then_parts (Ok rows)) q
@@ -113,3 +125,12 @@ pub answers_on_files : (known_rows known_certificate : Option (List ℕ)) (rows 
 answers_on_files known_rows known_certificate rows certificate made p q h =
     answers_moved IsAnswered (ArePartsIn rows certificate) (AreCheckInputs known_rows known_certificate) made
     (λ said. said_of_files known_rows known_certificate rows certificate said p q) h
+
+-- where both were read, and what they say is accepted
+pub both_accepted : (rows rows_after certificate certificate_after : Option (List ℕ)) (text file : List ℕ)
+    → IfSome rows (λ xs. taken xs ≡ Ok text) → IfSome certificate (λ ys. taken ys ≡ Ok file) → IsOk (parts_in text file)
+    → BothUnreadOrAccepted rows rows_after certificate certificate_after
+both_accepted None rows_after certificate certificate_after text file p q h = tt
+both_accepted (Some xs) rows_after None certificate_after text file p q h = tt
+both_accepted (Some xs) rows_after (Some ys) certificate_after text file p q h =
+    inr (subst (λ said. IsOk said) (sym (both_taken (taken xs) (taken ys) text file p q)) h)

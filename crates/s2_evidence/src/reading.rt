@@ -1,5 +1,5 @@
 //! Row files, their matrices, value files, and what is judged.
-ghost use Rattle.std.specs.Prelude.{◌≡◌, ◌≢◌, ◌+◌, ◌≤◌, All, Err, IfOk, IfSome, IsOk, OnOk, length, vec_len, vec_capacity};
+ghost use Rattle.std.specs.Prelude.{◌≡◌, ◌≢◌, ◌+◌, ◌≤◌, All, Err, IfOk, IfSome, IsOk, IsOkUnless, OnOk, length, vec_len, vec_capacity};
 ghost use Rattle.s2_check.specs.Views.{IsSoft};
 ghost use Rattle.s2_mode.specs.Counts.{CanCount};
 ghost use Rattle.s2_mode.specs.Shape.{code_bits};
@@ -22,8 +22,6 @@ pub const MOST_BYTES: usize = 16_777_216;
 pub(crate) fn room(alloc: Global) -> Result<Vec<u8>, Fault<'static>>
     ensures empty { IfOk result (λ v. vec_len v ≡ 0) }
     ensures room { IfOk result (λ v. most_bytes ≤ vec_capacity v) }
-    ensures read { result ≢ Err Fault.Read }
-    ensures write { result ≢ Err Fault.Write }
     ensures told { IsOkUnless result Fault.NoMemory }
 {
     Vec::with_capacity(alloc, MOST_BYTES).map_err(|_| Fault::NoMemory)
@@ -119,6 +117,7 @@ pub fn read_matrix<R: CountedRead>(
 fn values_of(alloc: Global, text: &[u8], shape: Shape) -> Result<Vec<i16>, Fault<'static>>
     ensures says { Follows (λ v. v.items) result (values_said (values.values_of_text text.now (code_bits shape))) }
     ensures long { IfOk result (λ v. length v.items ≡ code_bits shape) }
+    ensures range { IfOk result (λ v. All IsSoft v.items) }
     ensures no_memory { result ≡ Err Fault.NoMemory
         → IsOk (values_said (values.values_of_text text.now (code_bits shape))) }
     ensures read { result ≢ Err Fault.Read }
@@ -179,6 +178,8 @@ pub(crate) fn read_judged<R: CountedRead, S: CountedRead>(
     ensures no_read { result ≢ Err Fault.Read → R.count rows.new + S.count soft.new ≡ R.count rows.old + S.count soft.old }
     ensures no_memory { result ≡ Err Fault.NoMemory → EachUnreadOrAccepted shape
         (R.remaining rows.old) (R.remaining rows.new) (S.remaining soft.old) (S.remaining soft.new) }
+    ensures accepted { OnOk result (EachUnreadOrAccepted shape
+        (R.remaining rows.old) (R.remaining rows.new) (S.remaining soft.old) (S.remaining soft.new)) }
     ensures write { result ≢ Err Fault.Write }
 {
     let matrix = read_matrix(alloc, rows, shape)?;
