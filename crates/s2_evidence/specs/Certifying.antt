@@ -64,9 +64,9 @@ Certifies tuning IsInput (Err faults.Write) old new =
     ⊎ ((failed_in new ≡ failed_in old + 1) × WrotePart tuning input (contents_in old) (contents_in new)))
 Certifies tuning IsInput (Err f) old new = contents_in new ≡ contents_in old
 
--- `judge` has ended: of its files' input the verdict is printed, and the certificate written before it, memory ran out before a file was read,
--- or over one that is accepted, only what failed was counted, and of a fault the line stands on the errors, behind the report where it is
--- printed there.
+-- `judge` has ended: of its files' input the verdict is printed, and the certificate written before it, memory ran out before a
+-- file was read, or over one that is accepted, only what failed was counted, and of a fault the line stands on the errors, behind
+-- the report where it is printed there.
 abbrev pub JudgeEnds : Tuning → Shape → Place → JudgeFiles → JudgeFiles → Screen → Screen → Exit → Type 0
 JudgeEnds tuning shape place files files_after old new exit =
     (ended : Result Exit Fault) × (shown : Screen) × (exit ≡ exit_of ended)

@@ -71,7 +71,8 @@ AreCheckInputs rows certificate said = IfSome rows (λ xs. IfSome certificate (�
 -- Where memory ran out: of two files whose bytes are known nothing was read, or what both say together is accepted.
 abbrev pub BothUnreadOrAccepted : Option (List ℕ) → Option (List ℕ) → Option (List ℕ) → Option (List ℕ) → Type 0
 BothUnreadOrAccepted rows rows_after certificate certificate_after =
-    IfSome rows (λ xs. IfSome certificate (λ ys. ((rows_after ≡ Some xs) × (certificate_after ≡ Some ys)) ⊎ IsOk (check_inputs xs ys)))
+    IfSome rows (λ xs. IfSome certificate (λ ys.
+    ((rows_after ≡ Some xs) × (certificate_after ≡ Some ys)) ⊎ IsOk (check_inputs xs ys)))
 
 -- ---- the answer
 
@@ -101,7 +102,8 @@ abbrev pub IsAnswered : Rows × File → Exit → List ℕ → Type 0
 IsAnswered input exit text =
     (Suits input.0 input.1 × SaysAnswer input.0 (view_of input.0 input.1) exit text) ⊎ SaysNoShape input.0 input.1 exit text
 
--- `check` has ended: so it ran on what its files say, and memory ran out before either was read, or over files that are accepted.
+-- `check` has ended: so it ran on what its files say, and memory ran out before either was read, or over files that are
+-- accepted.
 abbrev pub CheckEnds : CheckFiles → CheckFiles → Screen → Screen → Exit → Type 0
 CheckEnds files files_after old new exit =
     CommandEnds IsAnswered (AreCheckInputs files.rows files.certificate)

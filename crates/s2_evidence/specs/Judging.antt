@@ -78,8 +78,8 @@ SaysOwn d rows soft exit text = Says (own_verdict d.verdict) rows soft d.bits ex
 abbrev pub IsOwn : Rows × List ℤ → Exit → List ℕ → Type 0
 IsOwn input exit text = SaysOwn (decided input.0 (tuning_of default_rounds 0) input.1) input.0 input.1 exit text
 
--- The program without words has ended: so it ran on the values of its input under the toy rows, and memory ran out before the input was
--- read, or over one that is accepted.
+-- The program without words has ended: so it ran on the values of its input under the toy rows, and memory ran out before the
+-- input was read, or over one that is accepted.
 abbrev pub OwnEnds : Option (List ℕ) → Option (List ℕ) → ℕ → ℕ → Screen → Screen → Exit → Type 0
 OwnEnds soft soft_after reads reads_after old new exit =
     CommandEnds IsOwn (AreInputs (shape_of 4 2 3) (Some (codes "0 4 8\n0 1 2\n")) soft)

@@ -57,10 +57,7 @@ fn shape_of(bytes: &[u8]) -> Result<Shape, Fault<'static>>
     ensures memory { result ≢ Err Fault.NoMemory }
     ensures write { result ≢ Err Fault.Write }
 {
-    match Certificate::shape_of(bytes) {
-        Ok(shape) => Ok(shape),
-        Err(fault) => Err(Fault::about("certificate: ", fault.text())),
-    }
+    Certificate::shape_of(bytes).map_err(|fault| Fault::about("certificate: ", fault.text()))
 }
 
 /// The certificate of a file in memory.
@@ -77,7 +74,8 @@ fn certificate_of(alloc: Global, bytes: &[u8]) -> Result<Certificate, Fault<'sta
     }
 }
 
-/// Takes two files in memory apart, and checks. Behind the certificate's shape and the rows nothing but memory can lack.
+/// Takes two files in memory apart, and checks: the shape of the certificate, then the rows, and then the certificate, which
+/// can want memory alone.
 fn check_parts(alloc: Global, rows: &[u8], certificate: &[u8]) -> Result<Printed, Fault<'static>>
     ensures answers { CommandAnswers IsAnswered (ArePartsIn rows.now certificate.now) result }
     ensures no_memory { result ≡ Err Fault.NoMemory → IsOk (parts_in rows.now certificate.now) }
@@ -130,8 +128,8 @@ fn print_check<R: CountedRead, S: CountedRead, O: CountedWrite>(
     check_read(alloc, &mut files.rows, &mut files.certificate)?.print(out)
 }
 
-/// `check`: whether a certificate shows its word to be sole, or most likely, under the code of a row file. Want of memory is told
-/// before the first byte of either is read, or where both are accepted.
+/// `check`: whether a certificate shows its word to be sole, or most likely, under the code of a row file. Want of memory is
+/// told before the first byte of either is read, or where both are accepted.
 pub fn check_command<R: CountedRead, S: CountedRead, O: CountedWrite, E: CountedWrite>(
     alloc: Global,
     files: &mut CheckFiles<R, S>,

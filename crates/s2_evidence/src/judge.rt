@@ -159,7 +159,8 @@ fn judge_at<R: CountedRead, S: CountedRead, C: Output, O: CountedWrite, E: Count
 /// `judge`: what a receiver that tries so much decides on the soft values of a file under the code of a row
 /// file, and what is known of it. Where a file for it is asked for, the certificate of the decided bits is
 /// written if they are sole or most likely, before the verdict is printed; where its writer fails, a part of it
-/// is written. Of the row file and the value file want of memory is told before the first byte is read, or where it is accepted.
+/// is written. Of the row file, and of the value file, want of memory is told before its first byte is read, or where it
+/// is accepted.
 pub fn judge_command<R: CountedRead, S: CountedRead, C: Output, O: CountedWrite, E: CountedWrite>(
     alloc: Global,
     shape: Shape,

@@ -83,7 +83,7 @@ fn print_own<S: CountedRead, O: CountedWrite>(
 }
 
 /// The program without words: `judge` of its input under the toy rows, but a word that is sole is called most
-/// likely, as it also is.
+/// likely, as it also is. Want of memory is told before the first byte is read, or of values that are accepted.
 pub fn self_command<S: CountedRead, O: CountedWrite, E: CountedWrite>(
     alloc: Global,
     soft: &mut S,

@@ -93,8 +93,8 @@ pub(crate) fn matrix_of(alloc: Global, text: &[u8], shape: Shape) -> Result<Matr
     }
 }
 
-/// The matrix of the rows of a row file, which is read to its end. Where it is refused, the fault says why: want of memory is told
-/// before the first byte is read, or of rows that are accepted.
+/// The matrix of the rows of a row file, which is read to its end. Where it is refused, the fault says why: want of memory is
+/// told before the first byte is read, or of rows that are accepted.
 pub fn read_matrix<R: CountedRead>(
     alloc: Global,
     reader: &mut R,

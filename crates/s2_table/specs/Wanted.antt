@@ -30,9 +30,9 @@ abbrev pub notes_on : Bool → Mode → Result Exit Fault → List ℕ
 notes_on quiet m (Ok exit) = []
 notes_on quiet m (Err f) = if quiet then [] else fault_note m f
 
--- `table` has ended: of the rows in its file the answer is printed, memory ran out before the file was read, or over rows that are
--- accepted, only what failed was counted, of so many failed reads before and behind, and the note and of a fault the line stand on the
--- errors.
+-- `table` has ended: of the rows in its file the answer is printed, memory ran out before the file was read, or over rows that
+-- are accepted, only what failed was counted, of so many failed reads before and behind, and the note and of a fault the line
+-- stand on the errors.
 abbrev pub TableEnds : Mode → Bool → Option (List ℕ) → Option (List ℕ) → ℕ → ℕ → Screen → Screen → Exit → Type 0
 TableEnds m quiet rows rows_after reads reads_after old new exit =
     (ended : Result Exit Fault) × (exit ≡ exit_of ended) × CommandRuns (IsTold m) (AreRowsIn (shape_in m) rows) ended old.output new.output

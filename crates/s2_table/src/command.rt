@@ -80,8 +80,8 @@ fn print_table<R: CountedRead, O: CountedWrite>(
 }
 
 /// `table`: whether the rows of a file are the standard's for the code of a mode, whatever the order within each row. Of rows that
-/// are refused it is noted which ones the mode wants, unless notes are left out. Want of memory is told before the first byte of the
-/// file is read, or of rows that are accepted.
+/// are refused it is noted which ones the mode wants, unless notes are left out. Want of memory is told before the first byte
+/// is read, or of rows that are accepted.
 pub fn table_command<R: CountedRead, O: CountedWrite, E: CountedWrite>(
     alloc: Global,
     mode: &Mode,

@@ -64,8 +64,8 @@ pub fn note_rows<E: CountedWrite>(errors: &mut E, mode: &Mode, matrix: &Matrix)
 }
 
 /// The matrix of the rows of a mode's row file, which is read to its end, with the note where it belongs, unless notes are to be left
-/// out. Where the file is refused, the fault says why, and nothing is noted: want of memory is told before the first byte is read, or of
-/// rows that are accepted.
+/// out. Where the file is refused, the fault says why, and nothing is noted: want of memory is told before the first byte is
+/// read, or of rows that are accepted.
 pub fn read_noted<R: CountedRead, E: CountedWrite>(
     alloc: Global,
     mode: &Mode,
