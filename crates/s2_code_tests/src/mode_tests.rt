@@ -1,8 +1,8 @@
 //! Modes and shapes of the standard, and readers and writers at concrete types.
 use s2_mode::{
     ByOne, Counted, CountedRead, CountedWrite, Counting, Endless, FailAt, FileFault, InMemory,
-    Mode, ReadFault, Shape, StreamFault, Symbol, WriteFault, read_all, read_full, read_symbol,
-    write_full, write_symbol,
+    Mode, ReadFault, Shape, StreamFault, Symbol, WriteFault, read_all, read_full, read_into,
+    read_symbol, write_full, write_symbol,
 };
 use std::alloc::Global;
 use std::io;
@@ -315,6 +315,35 @@ fn says_what_failed(rt: HostRuntime) -> Result<(), Fail> {
 fn reads_from_memory(rt: HostRuntime) -> Result<(), Fail> {
     let mut reader = InMemory::new(b"abc");
     let all = read_all(rt.alloc(), &mut reader, 4)?;
+    assert_eq!(rt; all.as_slice(), b"abc".as_slice());
+    Ok(())
+}
+
+#[test]
+fn reads_into_the_room_that_is_there(rt: HostRuntime) -> Result<(), Fail> {
+    let mut bytes = Vec::with_capacity(rt.alloc(), 5)?;
+    let mut reader = Counting::new(ByOne::new(b"abcde"));
+    assert_eq!(rt; read_into(&mut reader, &mut bytes, 5), Ok(()));
+    assert_eq!(rt; bytes.as_slice(), b"abcde".as_slice());
+    let mut bytes = Vec::with_capacity(rt.alloc(), 5)?;
+    let mut reader = InMemory::new(b"abcdef");
+    let read = read_into(&mut reader, &mut bytes, 5);
+    assert_eq!(rt; read, Err(FileFault::TooLong));
+    Ok(())
+}
+
+/// All bytes of a file. Where memory is refused none of them was read, and they come when they are asked for again.
+fn all_again(alloc: Global, bytes: &[u8]) -> Result<Vec<u8>, FileFault> {
+    let mut reader = InMemory::new(bytes);
+    match read_all(alloc, &mut reader, 9) {
+        Err(FileFault::NoMemory) => read_all(alloc, &mut reader, 9),
+        read => read,
+    }
+}
+
+#[test]
+fn asks_again_where_memory_is_refused(rt: HostRuntime) -> Result<(), Fail> {
+    let all = all_again(rt.alloc(), b"abc")?;
     assert_eq!(rt; all.as_slice(), b"abc".as_slice());
     Ok(())
 }
