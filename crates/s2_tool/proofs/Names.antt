@@ -1,5 +1,5 @@
 -- The names that the proofs of this crate cite, passed on from one place. Declares nothing.
-pub use Rattle.std.proofs.Common.{◌≡◌, ℕ, ◌+◌, ◌<◌, ◌≢◌, List, [], ◌∷◌, ◌++◌, IfSome, Some, Ok, Err, Option, Result, sym, refl, ap, ◌∙◌, inl, inr, arith, rules}
+pub use Rattle.std.proofs.Common.{◌≡◌, ℕ, ◌+◌, ◌<◌, ◌≢◌, ◌⊎◌, List, [], ◌∷◌, ◌++◌, IfSome, IsOk, Some, Ok, Err, Option, Result, sym, refl, ap, ◌∙◌, inl, inr, arith, rules}
 pub use Rattle.std.proofs.lemmas.Option.{IfSome_then}
 pub use Rattle.std.proofs.lemmas.Result.{err_from_is_err_and}
 pub use Rattle.std.specs.Io.KnownBytes.{Appends}
@@ -20,7 +20,7 @@ pub use Rattle.s2_link.specs.declared.setup.Setup.{Setup}
 pub use Rattle.s2_words.specs.declared.request.NoteWords.{NoteWords}
 pub use Rattle.s2_words.specs.declared.request.Request.{Request}
 pub use Rattle.s2_receive.specs.declared.report.Received.{Received}
-pub use Rattle.s2_evidence.specs.Inputs.{rows_in}
+pub use Rattle.s2_evidence.specs.Inputs.{rows_in, UnreadOrAccepted}
 pub use Rattle.s2_table.specs.Wanted.{notes_on}
 pub use Rattle.s2_modem.specs.Reception.{link_rules, rules_for}
 pub use Rattle.s2_tool.specs.Links.{Causes, Deed, Ends, OnLink, Tries, link_in, link_on, streams_at}

@@ -34,10 +34,10 @@ use Rattle.s2_words.specs.declared.request.NoteWords.{NoteWords}
 use Rattle.s2_receive.specs.declared.report.Received.{Received}
 use Rattle.s2_words.specs.declared.request.ShapeWords.{ShapeWords}
 use Rattle.s2_evidence.specs.Files.{Written, JudgeFiles, CheckFiles}
-use Rattle.s2_evidence.specs.Inputs.{AreInputs}
+use Rattle.s2_evidence.specs.Inputs.{AreInputs, UnreadOrAccepted, EachUnreadOrAccepted, rows_in, values_in}
 use Rattle.s2_evidence.specs.Certifying.{Certifies}
 use Rattle.s2_evidence.specs.Judging.{IsJudged, IsOwn}
-use Rattle.s2_evidence.specs.Checking.{AreCheckInputs, IsAnswered}
+use Rattle.s2_evidence.specs.Checking.{AreCheckInputs, BothUnreadOrAccepted, IsAnswered}
 use Rattle.s2_table.specs.Tables.{AreRowsIn, IsTold}
 use Rattle.s2_table.specs.Wanted.{notes_on}
 use Rattle.s2_tool.specs.Links.{Ends, ends_of, streams_with, CannotOpen, CannotOpenOne, Deed, OnLink}
@@ -122,10 +122,23 @@ abbrev pub Receipts : NoteWords → Setup → Ends → Deed Received → List �
 Receipts words setup files Does notes ended old new =
     (heard : Result Received Fault) × Reports Does setup files heard old new × Answered words setup.mode heard ended notes
 
+-- Whether the rows of a file are the standard's for the code of a mode.
+abbrev pub Compares : Mode → Option (List ℕ) → Result Exit Fault → Option (List ℕ) → Option (List ℕ) → Type 0
+Compares mode rows ended old new =
+    (behind : Option (List ℕ)) × CommandRuns (IsTold mode) (AreRowsIn (shape_in mode) rows) ended old new
+    × (ended ≡ Err faults.NoMemory → UnreadOrAccepted rows behind (rows_in (shape_in mode)))
+
+-- What the checker finds of a certificate's file, by a row file.
+abbrev pub Examines : CheckFiles → Result Exit Fault → Option (List ℕ) → Option (List ℕ) → Type 0
+Examines files ended old new =
+    (behind : CheckFiles) × CommandRuns IsAnswered (AreCheckInputs files.rows files.certificate) ended old new
+    × (ended ≡ Err faults.NoMemory → BothUnreadOrAccepted files.rows behind.rows files.certificate behind.certificate)
+
 -- The verdict on soft values of a file by the tuning of the words, and their certificate in the file that was asked for.
 abbrev pub Judges : JudgeWords → JudgeFiles → Result Exit Fault → Option (List ℕ) → Option (List ℕ) → Type 0
 Judges words files ended old new =
     (behind : JudgeFiles) × CommandRuns (IsJudged words.tuning) (AreInputs (asked_shape words.shape) files.rows files.soft) ended old new
+    × (ended ≡ Err faults.NoMemory → EachUnreadOrAccepted (asked_shape words.shape) files.rows behind.rows files.soft behind.soft)
     × Certifies words.tuning (AreInputs (asked_shape words.shape) files.rows files.soft) ended files.certificate behind.certificate
 
 -- Symbols are spoilt by the channel of the words; what is left in the buffer at the end may not be written.
@@ -136,36 +149,39 @@ Channels channel from to ended =
 
 -- What a request's output says, with which notes and how it ended. A request that names no file prints what its words and the
 -- input determine; one that names files what its command says of what they hold, each in its role, or it could not be begun.
--- Where its words have no mode or no shape, just that is told, and want of memory not in its place.
-abbrev pub Serves : Holdings → Request → Option (List ℕ) → List ℕ → Result Exit Fault → Option (List ℕ) → Option (List ℕ) → Type 0
-Serves holds requests.Own input notes ended old new = (notes ≡ []) × CommandRuns IsOwn (AreInputs (shape_of 4 2 3) (Some (codes "0 4 8\n0 1 2\n")) input) ended old new
-Serves holds (requests.Modes words) input notes ended old new = (notes ≡ []) × CommandRuns IsListed (IsAsked words.rate) ended old new
-Serves holds (requests.Rows words) input notes ended old new =
+-- Where its words have no mode or no shape, just that is told, and want of memory not in its place. Nor is it told in place of
+-- what standard input is refused for, of which `left` is left; of files, as their commands say, which alone see what is left.
+abbrev pub Serves : Holdings → Request → Option (List ℕ) → Option (List ℕ) → List ℕ → Result Exit Fault → Option (List ℕ) → Option (List ℕ) → Type 0
+Serves holds requests.Own input left notes ended old new =
+    (notes ≡ []) × CommandRuns IsOwn (AreInputs (shape_of 4 2 3) (Some (codes "0 4 8\n0 1 2\n")) input) ended old new
+    × (ended ≡ Err faults.NoMemory → UnreadOrAccepted input left (values_in (shape_of 4 2 3)))
+Serves holds (requests.Modes words) input left notes ended old new = (notes ≡ []) × CommandRuns IsListed (IsAsked words.rate) ended old new
+Serves holds (requests.Rows words) input left notes ended old new =
     (IsShape (asked_shape words.shape) × (notes ≡ [])
     × MakesRows (asked_shape words.shape) words.weight words.seed ended old new)
     ⊎ NotBegun (NotOf (asked_shape words.shape) (λ f. ⊥)) notes ended old new
-Serves holds (requests.Table words) input notes ended old new =
+Serves holds (requests.Table words) input left notes ended old new =
     (IsMode (table_mode words) × (notes ≡ notes_on words.quiet (table_mode words) ended)
-    × CommandRuns (IsTold (table_mode words)) (AreRowsIn (shape_in (table_mode words)) (holds roles.Input words.rows.now)) ended old new)
+    × Compares (table_mode words) (holds roles.Input words.rows.now) ended old new)
     ⊎ NotBegun (NotOn (table_mode words) (CannotOpen words.rows)) notes ended old new
-Serves holds (requests.Judge words) input notes ended old new =
+Serves holds (requests.Judge words) input left notes ended old new =
     (IsShape (asked_shape words.shape) × (notes ≡ []) × Judges words (judge_files holds words) ended old new)
     ⊎ NotBegun (NotOf (asked_shape words.shape) (NotJudged words)) notes ended old new
-Serves holds (requests.Check words) input notes ended old new =
-    ((notes ≡ []) × CommandRuns IsAnswered (AreCheckInputs (holds roles.Input words.rows.now) (holds roles.Input words.certificate.now)) ended old new)
+Serves holds (requests.Check words) input left notes ended old new =
+    ((notes ≡ []) × Examines (check_files holds words) ended old new)
     ⊎ NotBegun (λ f. CannotOpen words.rows f ⊎ CannotOpen words.certificate f) notes ended old new
-Serves holds (requests.Mod words) input notes ended old new =
+Serves holds (requests.Mod words) input left notes ended old new =
     (IsMode (asked_setup words.link).mode × (notes ≡ notes_on words.quiet (asked_setup words.link).mode ended)
     × Reports (Sends words.dummy) (asked_setup words.link) (ends_of holds words.rows words.packets words.symbols) ended old new)
     ⊎ NotBegun (NotOn (asked_setup words.link).mode (CannotOpenOne words.rows words.packets words.symbols)) notes ended old new
-Serves holds (requests.Noise words) input notes ended old new =
+Serves holds (requests.Noise words) input left notes ended old new =
     (notes ≡ []) × (new ≡ old)
     × (Channels words.channel (holds roles.Input words.from.now) (holds roles.Output words.to.now) ended ⊎ NotBegun (NotSpoilt words) notes ended old new)
-Serves holds (requests.Demod words) input notes ended old new =
+Serves holds (requests.Demod words) input left notes ended old new =
     (IsMode (asked_setup words.link).mode
     × Receipts words.notes (asked_setup words.link) (ends_of holds words.rows words.symbols words.packets) (Hears words.tuning) notes ended old new)
     ⊎ NotBegun (NotOn (asked_setup words.link).mode (CannotOpenOne words.rows words.symbols words.packets)) notes ended old new
-Serves holds (requests.Run words) input notes ended old new =
+Serves holds (requests.Run words) input left notes ended old new =
     (IsMode (asked_setup words.link).mode
     × Receipts words.notes (asked_setup words.link) (ends_of holds words.rows words.packets words.to) (Loops words) notes ended old new)
     ⊎ NotBegun (NotOn (asked_setup words.link).mode (CannotOpenOne words.rows words.packets words.to)) notes ended old new
@@ -185,7 +201,7 @@ IsPlaced request place = place ≡ places.Output
 
 -- A request was served with this exit: how it ended decides the exit, the report and what is told behind it. What a file gets that
 -- is standard output stands there beside the console.
-pub record Served (holds : Holdings) (request : Request) (input : Option (List ℕ)) (exit : Exit) (old new : Screen) : Type 0 where
+pub record Served (holds : Holdings) (request : Request) (input left : Option (List ℕ)) (exit : Exit) (old new : Screen) : Type 0 where
   pub ended : Result Exit Fault
   pub notes : List ℕ
   pub place : Place
@@ -193,20 +209,20 @@ pub record Served (holds : Holdings) (request : Request) (input : Option (List �
   pub shown : Screen
   pub placed : IsPlaced request place
   pub exit_is : exit ≡ exit_of ended
-  pub prints : Serves holds request input notes ended (report_in place old) (report_in place shown)
+  pub prints : Serves holds request input left notes ended (report_in place old) (report_in place shown)
   pub concludes : Concludes place notes ended old shown new
   -- only where a fault is told may a call of the output or of the errors have failed
   pub whole : exit ≢ exits.Fault → new.output_failed ≡ old.output_failed
   pub quiet : exit ≢ exits.Fault → new.errors_failed ≡ old.errors_failed
 
 -- nothing is reported of a command that could not be begun
-abbrev pub Unbegun : Holdings → Request → Option (List ℕ) → Fault → Screen → Type 0
-Unbegun holds request input f old = (place : Place) × IsPlaced request place × Serves holds request input [] (Err f) (report_in place old) (report_in place old)
+abbrev pub Unbegun : Holdings → Request → Option (List ℕ) → Option (List ℕ) → Fault → Screen → Type 0
+Unbegun holds request input left f old = (place : Place) × IsPlaced request place × Serves holds request input left [] (Err f) (report_in place old) (report_in place old)
 
 -- A command was begun and ended so, or it could not be begun and did nothing.
-abbrev pub Began : Holdings → Request → Option (List ℕ) → Result Exit Fault → Screen → Screen → Type 0
-Began holds request input (Ok exit) old new = Served holds request input exit old new
-Began holds request input (Err f) old new = Unbegun holds request input f old × (new ≡ old)
+abbrev pub Began : Holdings → Request → Option (List ℕ) → Option (List ℕ) → Result Exit Fault → Screen → Screen → Type 0
+Began holds request input left (Ok exit) old new = Served holds request input left exit old new
+Began holds request input left (Err f) old new = Unbegun holds request input left f old × (new ≡ old)
 
 -- how the program ends where the parser's own text was to be printed: well only behind help or the version
 abbrev pub IsExplained : ErrorKind → Exit → Type 0
@@ -221,12 +237,12 @@ Explains kind exit old new =
     ⊎ ((kind ≢ kinds.OutOfMemory) × IsExplained kind exit × (new ≡ old))
 
 -- what was asked for is served, or why nothing was is explained
-abbrev pub Answers : Holdings → Result Request Error → Option (List ℕ) → Exit → Screen → Screen → Type 0
-Answers holds (Ok request) input exit old new = Served holds request input exit old new
-Answers holds (Err error) input exit old new = Explains (kind_of error) exit old new
+abbrev pub Answers : Holdings → Result Request Error → Option (List ℕ) → Option (List ℕ) → Exit → Screen → Screen → Type 0
+Answers holds (Ok request) input left exit old new = Served holds request input left exit old new
+Answers holds (Err error) input left exit old new = Explains (kind_of error) exit old new
 
 -- what the words ask for is answered, or there was no memory for them
-abbrev pub AnswersWords : Holdings → Option (Result Request Error) → Option (List ℕ) → Exit → Screen → Screen → Type 0
-AnswersWords holds (Some asked) input exit old new = Answers holds asked input exit old new
-AnswersWords holds None input exit old new =
+abbrev pub AnswersWords : Holdings → Option (Result Request Error) → Option (List ℕ) → Option (List ℕ) → Exit → Screen → Screen → Type 0
+AnswersWords holds (Some asked) input left exit old new = Answers holds asked input left exit old new
+AnswersWords holds None input left exit old new =
     (exit ≡ exits.Fault) × (new.output ≡ old.output) × (new.output_failed ≡ old.output_failed) × Complains (Err faults.NoMemory) old new

@@ -63,7 +63,8 @@ pub fn serve<R: Disk + Clock + AllocGlobal, S: CountedRead, O: CountedWrite, E: 
 ) -> Exit
     requires input { CanCount (S.count input.old) }
     requires console { CanTell console.old }
-    ensures served { Served R.holds request.now (S.remaining input.old) result console.old console.new }
+    ensures served { Served R.holds request.now (S.remaining input.old) (S.remaining input.new) result
+        console.old console.new }
 {
     match begin(rt, terminal, request, input, console) {
         Ok(exit) => exit,
@@ -81,7 +82,8 @@ fn begin<'a, R: Disk + Clock + AllocGlobal, S: CountedRead, O: CountedWrite, E: 
 ) -> Result<Exit, Fault<'a>>
     requires input { CanCount (S.count input.old) }
     requires console { CanTell console.old }
-    ensures began { Began R.holds request.now (S.remaining input.old) result console.old console.new }
+    ensures began { Began R.holds request.now (S.remaining input.old) (S.remaining input.new) result
+        console.old console.new }
 {
     match request {
         Request::Own => Ok(self_command(rt.alloc(), input, console)),
@@ -118,7 +120,8 @@ fn serve_rows<R: Disk + AllocGlobal, O: CountedWrite, E: CountedWrite>(
     console: &mut Console<O, E>,
 ) -> Result<Exit, Fault<'static>>
     requires { CanShow console.old }
-    ensures { (input : Option (List ℕ)) → Began R.holds (Request.Rows words.now) input result console.old console.new }
+    ensures { (input left : Option (List ℕ)) →
+        Began R.holds (Request.Rows words.now) input left result console.old console.new }
 {
     let Some(shape) = shape_of(words.shape) else {
         return Err(no_shape());
@@ -162,7 +165,8 @@ fn serve_table<'a, R: Disk + AllocGlobal, O: CountedWrite, E: CountedWrite>(
     console: &mut Console<O, E>,
 ) -> Result<Exit, Fault<'a>>
     requires { CanTell console.old }
-    ensures { (input : Option (List ℕ)) → Began R.holds (Request.Table words.now) input result console.old console.new }
+    ensures { (input left : Option (List ℕ)) →
+        Began R.holds (Request.Table words.now) input left result console.old console.new }
 {
     let Some(mode) = Mode::of(words.modcod, words.short, false) else {
         return Err(no_mode());
@@ -189,7 +193,8 @@ fn serve_judge<'a, R: Disk + AllocGlobal, O: CountedWrite, E: CountedWrite>(
     console: &mut Console<O, E>,
 ) -> Result<Exit, Fault<'a>>
     requires { CanTell console.old }
-    ensures { (input : Option (List ℕ)) → Began R.holds (Request.Judge words.now) input result console.old console.new }
+    ensures { (input left : Option (List ℕ)) →
+        Began R.holds (Request.Judge words.now) input left result console.old console.new }
 {
     let place = place_beside(words.certificate);
     let Some(shape) = shape_of(words.shape) else {
@@ -207,7 +212,8 @@ fn serve_check<'a, R: Disk + AllocGlobal, O: CountedWrite, E: CountedWrite>(
     console: &mut Console<O, E>,
 ) -> Result<Exit, Fault<'a>>
     requires { CanShow console.old }
-    ensures { (input : Option (List ℕ)) → Began R.holds (Request.Check words.now) input result console.old console.new }
+    ensures { (input left : Option (List ℕ)) →
+        Began R.holds (Request.Check words.now) input left result console.old console.new }
 {
     let mut files = open_check(rt, words)?;
     Ok(check_command(rt.alloc(), &mut files, console))
@@ -221,7 +227,8 @@ fn serve_mod<'a, R: Disk + Clock + AllocGlobal, O: CountedWrite, E: CountedWrite
     console: &mut Console<O, E>,
 ) -> Result<Exit, Fault<'a>>
     requires { CanTell console.old }
-    ensures { (input : Option (List ℕ)) → Began R.holds (Request.Mod words.now) input result console.old console.new }
+    ensures { (input left : Option (List ℕ)) →
+        Began R.holds (Request.Mod words.now) input left result console.old console.new }
 {
     let place = place_of(words.symbols);
     let Some(setup) = setup_of(&words.link) else {
@@ -255,7 +262,8 @@ fn serve_noise<'a, R: Disk + Clock + AllocGlobal, O: CountedWrite, E: CountedWri
     console: &mut Console<O, E>,
 ) -> Result<Exit, Fault<'a>>
     requires { CanShow console.old }
-    ensures { (input : Option (List ℕ)) → Began R.holds (Request.Noise words.now) input result console.old console.new }
+    ensures { (input left : Option (List ℕ)) →
+        Began R.holds (Request.Noise words.now) input left result console.old console.new }
 {
     let show = show_on(terminal, Pace::Spoiling, words.progress);
     let opened = open_noise(rt, words)?;
@@ -276,7 +284,8 @@ fn serve_demod<'a, R: Disk + Clock + AllocGlobal, O: CountedWrite, E: CountedWri
     console: &mut Console<O, E>,
 ) -> Result<Exit, Fault<'a>>
     requires { CanTell console.old }
-    ensures { (input : Option (List ℕ)) → Began R.holds (Request.Demod words.now) input result console.old console.new }
+    ensures { (input left : Option (List ℕ)) →
+        Began R.holds (Request.Demod words.now) input left result console.old console.new }
 {
     let place = place_of(words.packets);
     let Some(setup) = setup_of(&words.link) else {
@@ -310,7 +319,8 @@ fn serve_run<'a, R: Disk + Clock + AllocGlobal, O: CountedWrite, E: CountedWrite
     console: &mut Console<O, E>,
 ) -> Result<Exit, Fault<'a>>
     requires { CanTell console.old }
-    ensures { (input : Option (List ℕ)) → Began R.holds (Request.Run words.now) input result console.old console.new }
+    ensures { (input left : Option (List ℕ)) →
+        Began R.holds (Request.Run words.now) input left result console.old console.new }
 {
     let place = place_of(words.to);
     let Some(setup) = setup_of(&words.link) else {

@@ -5,7 +5,7 @@ use Rattle.s2_tool.proofs.modulate.send_files.Goals as goal
 pub returns-in_err-matrix : goal.returns-in_err-matrix
 returns-in_err-matrix g c =
     let p = err_from_is_err_and c.from_residual.result c.from_residual.ensures.1 in
-    record { run = rw (sym c.files.view_is, p.1, p.2) (refused_rows (Sends c.args.words.now.dummy) (setup_of c.args.setup) _ _ c.in_err-matrix.field-0.0 _ c.in_err-matrix.ensures.rows (search rules) (search rules) (search rules)) }
+    record { run = rw (sym c.files.view_is, p.1, p.2) (refused_rows (Sends c.args.words.now.dummy) (setup_of c.args.setup) _ _ c.in_err-matrix.field-0.0 _ c.in_err-matrix.ensures.rows (search rules) (search rules) (search rules) (search rules)) }
 
 pub returns : goal.returns
 returns g c =
