@@ -149,8 +149,8 @@ Channels channel from to ended =
 
 -- What a request's output says, with which notes and how it ended. A request that names no file prints what its words and the
 -- input determine; one that names files what its command says of what they hold, each in its role, or it could not be begun.
--- Where its words have no mode or no shape, just that is told, and want of memory not in its place; nor is it told in place of
--- what a file is refused for that was read. Of standard input so much was there, and so much is left.
+-- Where its words have no mode or no shape, just that is told, and want of memory not in its place. Nor is it told in place of
+-- what standard input is refused for, of which `left` is left; of files, as their commands say, which alone see what is left.
 abbrev pub Serves : Holdings → Request → Option (List ℕ) → Option (List ℕ) → List ℕ → Result Exit Fault → Option (List ℕ) → Option (List ℕ) → Type 0
 Serves holds requests.Own input left notes ended old new =
     (notes ≡ []) × CommandRuns IsOwn (AreInputs (shape_of 4 2 3) (Some (codes "0 4 8\n0 1 2\n")) input) ended old new
