@@ -35,6 +35,12 @@ OnFrame (Err fault) holds = ⊤
 abbrev pub FindsStep : {D : Type 0} → (D → List Symbol → Decision) → (D → Decision) → (old new : Receiver D) → (reader_old reader_new : Option (List ℕ)) → Step → Type 0
 FindsStep decide last old new r r' step = IsLive old.state.phase → Finds (rules_of decide old) old.state new.state r r' (last new.decider) step
 
+-- where the answer is no frame, what was decided last stays: that of the frame before
+abbrev pub KeepsLast : Result Step Fault → (old new : Decision) → Type 0
+KeepsLast (Ok (steps.Frame report)) old new = ⊤
+KeepsLast (Ok step) old new = new ≡ old
+KeepsLast (Err fault) old new = new ≡ old
+
 -- what was met is told, whatever symbols they are of which that was decided last
 abbrev pub Delivers : {E : Type 0} → Rules → (old new : State) → (last : Decision) → (packets_old packets_new report_old report_new : Option (List ℕ)) → Result ⊤ E → Type 0
 Delivers rules old new last p p' w w' result =
@@ -84,10 +90,14 @@ pub record ReceivesTo (rules : Rules) (new : State) (before behind : Streams) (t
   pub runs_out : RunsOut rules begun new before (record behind { taken = left })
   pub totals_are : totals ≡ new.standing.totals
 
--- or what was met before a write that failed is written, and a part of the next thing
+-- or those of some of them, up to a write that failed: what was met before is written, and a part of the next thing
+abbrev pub BreaksIn : Rules → (before behind : Streams) → Type 0
+BreaksIn rules before behind = (left : Option (List ℕ)) × BreaksAfter rules begun before (record behind { taken = left })
+
+-- the answer
 abbrev pub BytesAnswers : Rules → (new : State) → (before behind : Streams) → Result Totals WriteFault → Type 0
 BytesAnswers rules new before behind (Ok totals) = ReceivesTo rules new before behind totals
-BytesAnswers rules new before behind (Err fault) = BreaksAfter rules begun before behind
+BytesAnswers rules new before behind (Err fault) = BreaksIn rules before behind
 
 -- so from one receiver to the other
 abbrev pub ReceivesBytes : {D : Type 0} → (D → List Symbol → Decision) → (old new : Receiver D) → (before behind : Streams) → Result Totals WriteFault → Type 0

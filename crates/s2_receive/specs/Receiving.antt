@@ -1,5 +1,5 @@
 -- What a receiver does with what it meets.
-use Rattle.std.specs.Prelude.{◌≡◌, ◌≢◌, ℕ, ℤ, ◌+◌, Bool, true, false, ◌&&◌, nat_eq, nat_lt, if◌then◌else◌, List, [], ◌∷◌, ◌++◌, length, Option, Some, None, Result, Ok, Err, ⊤}
+use Rattle.std.specs.Prelude.{◌≡◌, ◌≢◌, ℕ, ℤ, ◌+◌, ◌≤◌, Bool, true, false, ◌&&◌, nat_eq, nat_lt, if◌then◌else◌, List, [], ◌∷◌, ◌++◌, length, Option, Some, None, Result, Ok, Err, ⊤}
 use Rattle.std.specs.List.{flat_map}
 use Rattle.std.specs.Io.KnownBytes.{Appends}
 use Rattle.s2_mode.specs.declared.symbols.Symbol.{Symbol}
@@ -229,8 +229,8 @@ IsDecided rules met last = ⊤
 abbrev pub deciding : Decision → Rules → Rules
 deciding last rules = record rules { decide = λ symbols. last }
 
--- This was met: it is what known bytes spell next, its symbols and no others were read, a frame is decided, and the step is its. Of it
--- nothing is written yet.
+-- This was met: it is what known bytes spell next, its symbols and no others were read, no more than may be taken, a frame is decided, and
+-- the step is its. Of it nothing is written yet.
 pub record Finds (rules : Rules) (old new : State) (reader_old reader_new : Option (List ℕ)) (last : Decision) (step : Step) : Type 0 where
   pub next : Next
   pub symbols : List Symbol
@@ -238,6 +238,7 @@ pub record Finds (rules : Rules) (old new : State) (reader_old reader_new : Opti
   pub step_is : step ≡ step_of rules old.standing (met_of next symbols)
   pub met : Meets (met_left rules old.phase old.at reader_old) (met_after rules.finds rules.size next reader_new) (met_of next symbols ∷ [])
   pub taken : Reaches (place_after rules.size next) old.at reader_old reader_new
+  pub within : place_after rules.size next ≤ rules.limit
   pub decided : IsDecided rules (met_of next symbols) last
 
 -- Nothing could be met, since a read failed, or else since as many symbols were taken as may be: the receiver was searching, and counts as
@@ -289,13 +290,16 @@ pub record MetFrame (rules : Rules) (old new : State) (before behind : Streams) 
   pub is_last : last ≡ rules.decide symbols
   pub told : report ≡ report_for last old.standing.totals report.at
 
--- A write failed when this was to be written, the next thing in known bytes: of its packets a part was written and not all;
--- or its packets whole, and of its line a part and not all.
+-- A write failed when this was to be written, which was met: it is what known bytes spell next, and its symbols and no others were read, no
+-- more than may be taken. Of its packets a part was written and not all; or its packets whole, and of its line a part and not all.
 pub record BreaksOff (rules : Rules) (old : State) (before behind : Streams) : Type 0 where
-  pub met : Met
-  pub later : Option (List Met)
-  pub next : Meets (met_left rules old.phase old.at before.taken) later (met ∷ [])
-  pub part : FailsIn (packets_of rules old.standing met) (line_of rules old.standing met) before.given behind.given before.out behind.out
+  pub next : Next
+  pub symbols : List Symbol
+  pub met : Meets (met_left rules old.phase old.at before.taken) (met_after rules.finds rules.size next behind.taken) (met_of next symbols ∷ [])
+  pub taken : Reaches (place_after rules.size next) old.at before.taken behind.taken
+  pub within : place_after rules.size next ≤ rules.limit
+  pub part :
+      FailsIn (packets_of rules old.standing (met_of next symbols)) (line_of rules old.standing (met_of next symbols)) before.given behind.given before.out behind.out
 
 -- what a call answers where more could be met
 abbrev pub StepAnswers : Rules → State → State → (before behind : Streams) → Result Step Fault → Type 0

@@ -10,7 +10,7 @@ ghost use Rattle.s2_receive.specs.declared.report.Phase.TheVariants as phases;
 ghost use Rattle.s2_receive.specs.Meeting.{nothing_over};
 ghost use Rattle.s2_receive.specs.Stepping.{place_of};
 ghost use Rattle.s2_receive.specs.Receiving.{IsLive, Finds, Stops, StandsBehind, begun, rules_of};
-ghost use Rattle.s2_receive.specs.Answers.{Between, Delivers, FindsStep, Steps, StepsFrame, OnlyFaults};
+ghost use Rattle.s2_receive.specs.Answers.{Between, Delivers, FindsStep, KeepsLast, Steps, StepsFrame, OnlyFaults};
 
 use crate::finder::Finder;
 use crate::finding::Next;
@@ -133,7 +133,7 @@ impl<D: Decide> Receiver<D> {
     /// dummy frame: of these the symbols are passed, and nothing is told. After the end it answers `End` and reads
     /// nothing. `Read` comes, never after a cut frame, where a read failed or where the limit was reached and the
     /// next frame would end behind it. After a fault, and before what was met is delivered, it answers `Failed` and
-    /// reads nothing.
+    /// reads nothing. Where no frame comes, what was decided last stays.
     pub fn meet<R: CountedRead>(&mut self, reader: &mut R) -> Result<Step, Fault>
         requires reader { CanCount (R.count reader.old) }
         ensures rules { rules_of D.decide self.new ≡ rules_of D.decide self.old }
@@ -141,6 +141,7 @@ impl<D: Decide> Receiver<D> {
             × (self.new.limit ≡ self.old.limit) }
         ensures finds { IfOk result
             (FindsStep D.decide D.last self.old self.new (R.remaining reader.old) (R.remaining reader.new)) }
+        ensures kept { KeepsLast result (D.last self.old.decider) (D.last self.new.decider) }
         ensures stops { IsErrOf result Fault.Read → Stops (rules_of D.decide self.old) self.old.state self.new.state
             (R.remaining reader.old) (R.remaining reader.new) (R.count reader.old) (R.count reader.new) }
         ensures bounded { self.new.state.at ≤ self.old.limit }
@@ -174,6 +175,8 @@ impl<D: Decide> Receiver<D> {
         ensures stops { OnErr result (Stops (rules_of D.decide self.old) self.old.state self.new.state
             (R.remaining reader.old) (R.remaining reader.new) (R.count reader.old) (R.count reader.new)) }
         ensures count { IfOk result (λ _. R.count reader.new ≡ R.count reader.old) }
+        ensures kept { IfOk result (λ step. KeepsLast (Ok step) (D.last self.old.decider) (D.last self.new.decider)) }
+        ensures undecided { OnErr result (D.last self.new.decider ≡ D.last self.old.decider) }
     {
         let Ok(next) = self.finder.find(reader, self.place.at, self.limit) else {
             self.place.phase = Phase::Failed;
@@ -196,6 +199,7 @@ impl<D: Decide> Receiver<D> {
         ensures rules { rules_of D.decide self.new ≡ rules_of D.decide self.old }
         ensures same { (self.new.mode ≡ self.old.mode) × (self.new.lock ≡ self.old.lock) × (self.new.limit ≡ self.old.limit) }
         ensures state { self.new.state ≡ record self.old.state { phase = phases.Met (next.End self.old.state.at nothing_over) } }
+        ensures last { D.last self.new.decider ≡ D.last self.old.decider }
         ensures end { result ≡ Step.End }
     {
         self.place.phase = Phase::Met(Next::End {
@@ -252,7 +256,8 @@ impl<D: Decide> Receiver<D> {
     }
 
     /// Takes one step: [`Receiver::meet`] and then [`Receiver::deliver`]. After `Cut` comes `End`, after `End` comes
-    /// `End` and nothing is written. From a fault on every call answers `Failed` and reads and writes nothing.
+    /// `End` and nothing is written. From a fault on every call answers `Failed` and reads and writes nothing, and so it
+    /// does before what was met is delivered. Where no frame comes and no write fails, what was decided last stays.
     pub fn next<R: CountedRead, P: CountedWrite, W: CountedWrite>(
         &mut self,
         reader: &mut R,
@@ -269,6 +274,8 @@ impl<D: Decide> Receiver<D> {
             self.old self.new (ends reader.old packets.old report.old) (ends reader.new packets.new report.new) result }
         ensures frame { Between (StepsFrame D.decide D.last self.old self.new) R.remaining R.count P.contents P.count
             W.contents W.count reader.old packets.old report.old reader.new packets.new report.new result }
+        ensures kept { result ≢ Err Fault.Write
+            → KeepsLast result (D.last self.old.decider) (D.last self.new.decider) }
         ensures taken { StandsBehind (symbols_in self.old.mode) self.new.state.at result }
         ensures bounded { self.new.state.at ≤ self.old.limit }
         ensures ended { self.old.state.phase ≡ phases.Ended → result ≡ Ok Step.End }

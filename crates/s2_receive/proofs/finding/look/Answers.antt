@@ -18,4 +18,4 @@ returns-then-held-size-clause-short g c =
     let room : c.args.held.now.count + 4 * wanted / 4 < length c.args.frame.now = omega (arith, count, long) in
     let last : place_with c.fill.new.held ≡ c.args.limit = omega (arith, kept.0, count, long, c.min-wanted.ensures) in
     stops_here (found_as c.args.search.now.mode c.args.lock) _ _ c.args.held.now c.args.frame.now _ _ _ _ (4 * wanted) refl room (c.in_ok-full.ensures.read all)
-    (λ other. (c.in_ok-full.ensures.cause, rw last at c.in_ok-full.ensures.taken, omega (arith, kept.0, count, long, last)))
+    (λ other. (c.in_ok-full.ensures.cause, rw last at c.in_ok-full.ensures.taken, omega (arith, kept.0, count, last), omega (arith, kept.0, count, long, last)))
