@@ -10,8 +10,8 @@ use Rattle.s2_check.specs.Strict.{IsSole}
 use Rattle.s2_check.specs.Verdicts.{is_certified}
 use Rattle.s2_check.specs.declared.verdict.Verdict.{Verdict}
 use Rattle.s2_check.specs.declared.verdict.Verdict.TheVariants.{Sole}
-use Rattle.s2_receive.specs.Receiving.{Rules, State, Decision, begun, BreaksAfter}
-use Rattle.s2_receive.specs.Answers.{ReceivesTo}
+use Rattle.s2_receive.specs.Receiving.{Rules, State, Decision, begun}
+use Rattle.s2_receive.specs.Answers.{ReceivesTo, BreaksIn}
 use Rattle.s2_receive.specs.declared.report.Totals.{Totals}
 use Rattle.s2_mode.specs.Limits.{most_symbols}
 use Rattle.s2_link.specs.declared.setup.Setup.{Setup}
@@ -111,7 +111,7 @@ Receives rules before behind totals = (state : State) × ReceivesTo rules state 
 -- is no memory
 abbrev pub DemodulatesOn : Link → Tuning → (before behind : Streams) → Result Totals DemodFault → Type 0
 DemodulatesOn link tuning before behind (Ok totals) = Receives (link_rules link tuning most_symbols) before behind totals
-DemodulatesOn link tuning before behind (Err demod_faults.Write) = BreaksAfter (link_rules link tuning most_symbols) begun before behind
+DemodulatesOn link tuning before behind (Err demod_faults.Write) = BreaksIn (link_rules link tuning most_symbols) before behind
 DemodulatesOn link tuning before behind (Err (demod_faults.Setup fault)) = (fault ≡ faults.NoMemory) × (behind.given ≡ before.given) × (behind.out ≡ before.out)
 
 -- the answer for bytes: all that they spell, or the beginning of it up to a write that failed, or a refusal that writes nothing
@@ -119,7 +119,7 @@ abbrev pub Demodulates : Setup → Rows → Tuning → (before behind : Streams)
 Demodulates setup rows tuning before behind (Ok totals) =
     IsSetUp setup rows × IsTuning tuning × Receives (link_rules (link_of setup rows) tuning most_symbols) before behind totals
 Demodulates setup rows tuning before behind (Err demod_faults.Write) =
-    IsSetUp setup rows × IsTuning tuning × BreaksAfter (link_rules (link_of setup rows) tuning most_symbols) begun before behind
+    IsSetUp setup rows × IsTuning tuning × BreaksIn (link_rules (link_of setup rows) tuning most_symbols) before behind
 Demodulates setup rows tuning before behind (Err (demod_faults.Setup fault)) = Refuses setup rows tuning fault × (behind.given ≡ before.given) × (behind.out ≡ before.out)
 
 -- where symbols were received, all bits that were reported are as likely as their verdicts say

@@ -9,7 +9,7 @@ ghost use Rattle.s2_receive.specs.declared.report.Phase.TheVariants as phases;
 ghost use Rattle.s2_receive.specs.declared.report.Step.TheVariants as steps;
 ghost use Rattle.s2_receive.specs.declared.report.Fault.TheVariants as faults;
 ghost use Rattle.s2_receive.specs.Receiving.{IsLive, Finds, Stops, StandsBehind, begun, rules_of};
-ghost use Rattle.s2_receive.specs.Answers.{OnFrame, Delivers, OnlyFaults, OnlyStreamFaults};
+ghost use Rattle.s2_receive.specs.Answers.{OnFrame, Delivers, KeepsLast, OnlyFaults, OnlyStreamFaults};
 ghost use Rattle.s2_link.specs.Tuning.{tuning_of};
 ghost use Rattle.s2_modem.specs.Reports.{IsUndecided};
 ghost use Rattle.s2_modem.specs.Listening.{decides};
@@ -154,11 +154,13 @@ impl<'a> Receiver<'a> {
     ///
     /// `Read` comes, never after a cut frame, where a read failed or where the limit was reached and the next frame would
     /// end behind it; then the receiver counts as failed. After the end it answers `End` and reads nothing. After a fault, and
-    /// before what was met is delivered, it answers `Failed` and reads nothing. It takes no memory.
+    /// before what was met is delivered, it answers `Failed` and reads nothing. Where no frame comes, what was decided last
+    /// stays. It takes no memory.
     pub fn meet<R: CountedRead>(&mut self, reader: &mut R) -> Result<Step, Fault>
         requires reader { CanCount (R.count reader.old) }
         ensures finds { IfOk result (λ step. IsLive self.old.state.phase → Finds (rules_for self.old)
             self.old.state self.new.state (R.remaining reader.old) (R.remaining reader.new) self.new.last step) }
+        ensures kept { KeepsLast result self.old.last self.new.last }
         ensures likely { OnFrame result (λ r. IsLikelyBy self.old.link.rows r.verdict self.new.last) }
         ensures certified { OnFrame result (λ r. IsCertifiedBy self.old.link.rows r.verdict self.new.last) }
         ensures within { OnFrame result (λ r. IsCorrected self.old.link.setup.mode self.new.last r.outcome) }
@@ -213,7 +215,8 @@ impl<'a> Receiver<'a> {
     }
 
     /// Takes one step: [`Receiver::meet`] and then [`Receiver::deliver`]. After a cut frame comes the end, or a fault; after
-    /// `End` comes `End` and nothing is written. From a fault on every call answers `Failed` and reads and writes nothing. It
+    /// `End` comes `End` and nothing is written. From a fault on every call answers `Failed` and reads and writes nothing, and
+    /// so it does before what was met is delivered. Where no frame comes and no write fails, what was decided last stays. It
     /// takes no memory.
     pub fn next<R: CountedRead, P: CountedWrite, W: CountedWrite>(
         &mut self,
@@ -228,6 +231,7 @@ impl<'a> Receiver<'a> {
             self.old self.new (ends reader.old packets.old report.old) (ends reader.new packets.new report.new) result }
         ensures frame { let ends = streams_by R.remaining R.count P.contents P.count W.contents W.count in StepsFrame
             self.old self.new (ends reader.old packets.old report.old) (ends reader.new packets.new report.new) result }
+        ensures kept { result ≢ Err faults.Write → KeepsLast result self.old.last self.new.last }
         ensures likely { OnFrame result (λ r. IsLikelyBy self.old.link.rows r.verdict self.new.last) }
         ensures certified { OnFrame result (λ r. IsCertifiedBy self.old.link.rows r.verdict self.new.last) }
         ensures within { OnFrame result (λ r. IsCorrected self.old.link.setup.mode self.new.last r.outcome) }
@@ -251,8 +255,10 @@ impl<'a> Receiver<'a> {
 
     /// Takes all steps that are left, up to the end line, and answers the totals and whether each frame
     /// was delivered with bits that are most likely and none was cut. Of a new receiver, which takes a whole stream,
-    /// the headline holds. Not to be called after the end or a fault, nor where what was met is not delivered yet. It takes
-    /// no memory.
+    /// the headline holds where the run ends well: also that the first frames that a transmitter of the link sent, clear or
+    /// with at most t wrong bits of the outer code's word, give their packets and each its line, delivered, and certified
+    /// where it is clear. Not to be called after the end or a fault, nor where what was met is not delivered yet. It takes no
+    /// memory.
     ///
     /// After a fault what was met before it is written whole: after `Read`, which comes as in
     /// [`Receiver::meet`], nothing else is, after `Write` a part of the next packets or line is.
@@ -280,15 +286,15 @@ impl<'a> Receiver<'a> {
         receive_all(&mut self.inner, reader, packets, report)
     }
 
-    /// The soft values of the last frame's codeword, where the last call of [`Receiver::meet`] or [`Receiver::next`]
-    /// answered a frame; zeros before the first.
+    /// The soft values of the codeword of the frame that was met last; they stay after a cut frame, the end and a failed
+    /// read. Zeros before the first frame.
     pub fn soft(&self) -> &[i16]
         ensures { result.now ≡ self.now.last.soft }
     {
         self.inner.decider().soft()
     }
 
-    /// The decided bits of the last frame's codeword; zeros before the first frame.
+    /// The decided bits of the last frame's codeword, which stay as its soft values do; zeros before the first frame.
     pub fn word(&self) -> &Bits
         ensures { result.now ≡ self.now.last.bits }
     {
@@ -296,15 +302,15 @@ impl<'a> Receiver<'a> {
     }
 
     /// The certificate of the last frame's decided bits: `Some` exactly where it was reported sole or most likely. It can
-    /// be checked ([`s2_check::check`]), and written to a file; `None` before the first frame.
+    /// be checked ([`s2_check::check`]), and written to a file. It stays as they do; `None` before the first frame.
     pub fn certificate(&self) -> Option<CertView<'_>>
         ensures { result ≡ self.now.last.certificate }
     {
         self.inner.decider().certificate()
     }
 
-    /// The message that BCH decoding left of the last frame's decided bits, Kbch bits, still
-    /// scrambled; zeros before the first frame.
+    /// The message that BCH decoding left of the last frame's decided bits, Kbch bits, still scrambled; it stays as they do.
+    /// Zeros before the first frame.
     pub fn message(&self) -> &[bool]
         ensures { result.now ≡ self.now.last.message }
     {
