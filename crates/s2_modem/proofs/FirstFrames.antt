@@ -9,7 +9,7 @@ module _ (m : Mode) (valid : IsMode m) (sizes : HasCodeSizes m) (link : Link) (t
   rules = link_rules link tuning limit
 
   -- what is decided of a frame that was sent
-  clear_one : (behind : Bool) (at : ℕ) (field : List ℕ) (codeword : List Bool) (symbols : List Symbol) (sent : IsSent m link at field codeword) → IsClear link tuning behind codeword symbols
+  pub clear_one : (behind : Bool) (at : ℕ) (field : List ℕ) (codeword : List Bool) (symbols : List Symbol) (sent : IsSent m link at field codeword) → IsClear link tuning behind codeword symbols
       → IsWholeFrame link tuning behind symbols × IsDeliveredCertified (frame_decision link tuning symbols) codeword (message_of link.setup.mode sent.codeword_is.bch_word) (header_at link.setup.roll_off at field) field
   clear_one behind at field codeword symbols sent (inl clean) =
       let h = (hears_law m valid sizes link tuning limit linked ro known).frames at field codeword sent.bytes sent.place sent.fits sent.codeword_is in

@@ -26,6 +26,10 @@ pub use Rattle.s2_rows.specs.Rows.{Rows}
 pub use Rattle.s2_matrix.specs.Code.{IsCodeword, code_of}
 pub use Rattle.s2_bch.specs.Codes.{IsWithin}
 pub use Rattle.s2_bch.specs.Decoding.{nearest}
+pub use Rattle.s2_bch.specs.Generators.{generator_of}
+pub use Rattle.s2_bch.specs.Words.{IsWordOf}
+pub use Rattle.s2_bch.proofs.GeneratorDegrees.{parity_bits}
+pub use Rattle.s2_bch.proofs.WordFacts.{word-unique}
 pub use Rattle.s2_bch.proofs.NearestWords.{nearest_is_within, no_nearest, within_is_nearest}
 pub use Rattle.s2_scramble.specs.Baseband.{scrambled}
 pub use Rattle.s2_scramble.specs.Gold.{quarter_turns}
@@ -100,7 +104,7 @@ pub use Rattle.s2_modem.specs.Both.{AreBytes, Hears, IsByte, IsDelivered, IsDeli
 pub use Rattle.s2_modem.specs.Front.{IsCleanFrame}
 pub use Rattle.s2_modem.specs.Headline.{ArrivalLaw, BothCodesLaw, HearsLaw, IsSent, ScatteredFrameLaw}
 pub use Rattle.s2_modem.specs.Listening.{FindsWord, Listening, Reads, decision_held}
-pub use Rattle.s2_modem.specs.Promise.{Arriving, BeginsWith, Headline, IsHeadline, IsReadable, IsReport, KeepsHeadline, Promises, RunsHeadline, decision_from, frame_from}
+pub use Rattle.s2_modem.specs.Promise.{AreReadable, AreReported, Arriving, BeginsWith, Headline, IsHeadline, IsReadable, IsReport, IsReported, KeepsHeadline, Promises, RunsHeadline, decision_from, frame_from}
 pub use Rattle.s2_modem.specs.Reception.{AllAsLikely, AllTold, IsAsLikely, IsCertifiedBy, IsCorrected, IsLikelyBy, Receiver, link_rules, rules_for}
 pub use Rattle.s2_modem.specs.Reports.{IsUndecided, decision_by, decision_on, delivered_by, field_in, frame_soft, header_in, message_of, outcome_by, received_word}
 unfoldable pub use Rattle.s2_modem.specs.Reports.{frame_decision}

@@ -1,7 +1,8 @@
 -- The headline: what a receiver of a link promises of a stream of symbols, and of the packets and the report that it writes of it.
-use Rattle.std.specs.Prelude.{◌≡◌, ℕ, ◌≤◌, ◌⊎◌, Bool, false, List, [], ◌++◌, All, length, take, drop, IfSome, Result, OnOk}
+use Rattle.std.specs.Prelude.{◌≡◌, ℕ, ◌+◌, ◌≤◌, ◌⊎◌, IsTrue, Bool, true, false, List, [], ◌∷◌, ◌++◌, All, length, take, drop, IfSome, Result, OnOk, ⊤}
 use Rattle.std.specs.List.{flat_map}
 use Rattle.std.specs.Io.KnownBytes.{Appends}
+use Rattle.s2_mode.specs.Limits.{dummy_symbols}
 use Rattle.s2_mode.specs.Mode.{Mode, k_of, t_of, symbols_in}
 use Rattle.s2_mode.specs.Streams.{Streams}
 use Rattle.s2_mode.specs.Symbols.{symbols_of}
@@ -10,6 +11,7 @@ use Rattle.s2_bits.specs.Bits.{differences}
 use Rattle.s2_matrix.specs.Code.{code_of}
 use Rattle.s2_bbframe.specs.DataStream.{IsPacket, stream_of, fields_of, field_bytes, header_at}
 use Rattle.s2_bbframe.specs.Joining.{closed_in}
+use Rattle.s2_check.specs.Verdicts.{is_certified}
 use Rattle.s2_soft.specs.Divisors.{IsDivisor}
 use Rattle.s2_link.specs.Tuning.{Tuning}
 use Rattle.s2_link.specs.Link.{Link}
@@ -19,7 +21,8 @@ use Rattle.s2_send.specs.Laws.{IsLinkOf}
 use Rattle.s2_receive.specs.Windows.{found_as}
 use Rattle.s2_receive.specs.ReportLines.{frame_line, cut_line, end_line}
 use Rattle.s2_receive.specs.Receiving.{State, Decision, RunsOut, begun}
-use Rattle.s2_receive.specs.Laws.{Piece, joined, stream_symbols}
+use Rattle.s2_receive.specs.Laws.{Piece, coded, dummy, joined, stream_symbols}
+use Rattle.s2_receive.specs.declared.report.Outcome.TheVariants.{Delivered}
 use Rattle.s2_receive.specs.declared.report.Report.{Report}
 use Rattle.s2_receive.specs.declared.report.Totals.{Totals}
 use Rattle.s2_modem.specs.Reports.{frame_soft, frame_decision, received_word}
@@ -58,6 +61,23 @@ IsReadable link tuning behind at field symbols =
 abbrev pub AreReadable : Link → Tuning → Bool → ℕ → List Piece → List (List ℕ) → Type 0
 AreReadable link tuning = AreEach (IsReadable link tuning) (found_as link.setup.mode tuning.lock)
 
+-- What a report tells of the frame that was sent for a data field, whose symbols begin at this one of the stream: it is delivered, with as
+-- many bits changed as its decided bits differ from the BCH word that was sent in; where it came clear it is certified, and none was changed.
+abbrev pub IsReported : Link → Tuning → Bool → (at place : ℕ) → List ℕ → List Symbol → Report → Type 0
+IsReported link tuning behind at place field symbols report =
+    (report.at ≡ place)
+    × ((codeword : List Bool) (sent : IsCodewordFor link.setup.mode link.rows (header_at link.setup.roll_off at field) field codeword)
+    → (report.outcome ≡ Delivered (differences (k_of link.setup.mode) (received_word link.setup.mode (frame_decision link tuning symbols).bits) sent.bch_word))
+    × (IsClear link tuning behind codeword symbols → IsTrue (is_certified report.verdict) × (report.outcome ≡ Delivered 0)))
+
+-- the first of these reports are those of consecutive data fields' frames, in order, each at the symbol where its frame begins
+abbrev pub AreReported : Link → Tuning → Bool → (at place : ℕ) → List Piece → List (List ℕ) → List Report → Type 0
+AreReported link tuning behind at place [] fields reports = ⊤
+AreReported link tuning behind at place (coded symbols ∷ pieces) (field ∷ fields) (report ∷ reports) =
+    IsReported link tuning behind at place field symbols report × AreReported link tuning true (at + length field) (place + symbols_in link.setup.mode) pieces fields reports
+AreReported link tuning behind at place (coded symbols ∷ pieces) fields reports = ⊥
+AreReported link tuning behind at place (dummy symbols ∷ pieces) fields reports = AreReported link tuning true at (place + dummy_symbols) pieces fields reports
+
 -- the first data fields of these packets, and the frames that a transmitter of the link makes of them, as they come
 pub record Arriving (link : Link) (tuning : Tuning) (packets fields later : List (List ℕ)) (pieces : List Piece) : Type 0 where
   pub each : All IsPacket packets
@@ -81,9 +101,11 @@ pub record Headline (link : Link) (tuning : Tuning) (symbols : List Symbol) (pac
   -- word is found none lies within t places.
   pub within : All (λ frame. IsCorrected link.setup.mode (decision_from link tuning symbols frame.at) frame.outcome) frames
   -- Where the symbols begin with the first frames that a transmitter of the link makes of some packets, as they come, the packets that
-  -- were written begin with just those whose closing CRC-8 lies in their data fields; with all, where these are all fields.
+  -- were written begin with just those whose closing CRC-8 lies in their data fields; with all, where these are all fields. And the report
+  -- begins with just these frames, each at its place, delivered, and certified where it came clear.
   pub heard : (sent fields later : List (List ℕ)) (pieces : List Piece) (rest : List Symbol) → Arriving link tuning sent fields later pieces → symbols ≡ stream_symbols pieces ++ rest
       → BeginsWith packets (joined (take (closed_in (length (joined fields))) sent)) × (later ≡ [] → BeginsWith packets (joined sent))
+      × AreReported link tuning false 0 0 pieces fields frames
 
 -- the same of known bytes, and of what writers took
 abbrev pub IsHeadline : Link → Tuning → (before behind : Streams) → Type 0
