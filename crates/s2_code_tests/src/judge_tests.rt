@@ -79,7 +79,7 @@ const ACCEPTED: Examined = Examined {
 };
 
 /// Bits that are right and have a strict certificate.
-const SOLE: Decided = (Verdict::Sole, true, Some(STRICT));
+pub(crate) const SOLE: Decided = (Verdict::Sole, true, Some(STRICT));
 
 /// Bits that are right and have a certificate with a rest of 0.
 pub(crate) const LIKELY: Decided = (Verdict::MostLikely, true, Some(ACCEPTED));
@@ -367,7 +367,7 @@ fn uncertified_leaves_what_min_sum_finds(rt: HostRuntime) -> Result<(), Fail> {
 }
 
 /// What is decided of a clean frame of zeros.
-fn decided_on_zeros(alloc: Global, matrix: &Matrix) -> Result<Decided, Fail> {
+pub(crate) fn decided_on_zeros(alloc: Global, matrix: &Matrix) -> Result<Decided, Fail> {
     let soft = vec![in alloc; 10i16; matrix.bits()]?;
     let zeros = vec![in alloc; false; matrix.bits()]?;
     decided(alloc, matrix, &soft, &zeros)
