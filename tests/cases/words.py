@@ -1,5 +1,5 @@
 """The words of the command line, and the files that they name."""
-from cases.common import DIVISORS, FAULT, LINK, NO, PACKET, PAIR, TOY, TWO, Case, fault, first_line, option, size
+from cases.common import DIVISORS, FAULT, LINK, NO, PACKET, PAIR, STORED, TOY, TWO, Case, fault, first_line, option, size
 
 HELP = """A DVB-S2 modem with maximum-likelihood certificates. \
 Without a command it judges the 20 soft values of standard input under a toy code
@@ -284,6 +284,7 @@ def padded(text, count):
 
 
 LONGEST, TOO_LONG = padded(b"0 4 8\n0 1 2", MOST_BYTES), padded(b"0 4 8\n0 1 2", MOST_BYTES + 1)
+LONGEST_VALUES, TOO_LONG_VALUES = padded(STORED, MOST_BYTES), padded(STORED, MOST_BYTES + 1)
 
 CASES = [
     Case("--version", out="s2 0.1\n"),
@@ -320,6 +321,8 @@ CASES = [
     fault("", "file too long", given="/dev/zero"),
     Case(f"judge {TOY} longest stored", out="sole cost -45\n", reads={"longest": LONGEST}),
     fault(f"judge {TOY} longest stored", "file too long", reads={"longest": TOO_LONG}),
+    Case(f"judge {TOY} toy longest", out="sole cost -45\n", reads={"longest": LONGEST_VALUES}),
+    fault(f"judge {TOY} toy longest", "file too long", reads={"longest": TOO_LONG_VALUES}),
     fault("", "cannot write", to="closed"),
     fault("demod --modcod 1 /dev/null /dev/null /dev/null", "rows: too few rows", WANTED_NORMAL),
     fault(f"{RUN} /dev/null /dev/null /dev/null", "rows: too few rows", WANTED_NORMAL),

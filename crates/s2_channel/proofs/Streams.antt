@@ -1,6 +1,5 @@
 -- One symbol more of a stream.
-use Rattle.std.proofs.Common.{◌≡◌, ℕ, suc, ◌+◌, ◌<◌, ◌≤◌, List, [], ◌∷◌, ◌++◌, length, take, Option, Some, None, IfSome, refl, sym, ap, subst, ◌∙◌, append_assoc, append-nil, length-append, length-take, arith}
-use Rattle.std.proofs.Math.Seq.{take-append-add}
+use Rattle.std.proofs.Common.{◌≡◌, ℕ, suc, ◌+◌, ◌*◌, ◌<◌, ◌≤◌, List, [], ◌∷◌, ◌++◌, length, take, Option, Some, None, IfSome, refl, sym, ap, subst, ◌∙◌, append_assoc, append-nil, length-append, length-take, arith}
 use Rattle.std.specs.Io.KnownBytes.{Appends, Consumes, IsAtEnd}
 use Rattle.std.proofs.KnownBytes.{Appends-trans, Consumes-trans}
 use Rattle.rand_pcg.specs.Lcg.{Lcg}
@@ -14,6 +13,7 @@ use Rattle.s2_channel.specs.Noise.{draw, add, drawn_for, noisy, PassesOn, Passes
 pub record Passed (taken : ℕ) (r r' w w' : Option (List ℕ)) (first_level level : ℕ) (first now : Lcg) : Type 0 where
   pub bytes : List ℕ
   pub read : Consumes r r' bytes
+  pub fours : length bytes ≡ 4 * length (symbols_of bytes)
   pub whole : (more : List ℕ) → symbols_of (bytes ++ more) ≡ symbols_of bytes ++ symbols_of more
   pub count : length (symbols_of bytes) ≡ taken
   pub written : Appends w w' (noisy first_level first (symbols_of bytes))
@@ -24,6 +24,7 @@ pub passes_none : (r w : Option (List ℕ)) (l : ℕ) (g : Lcg) → Consumes r r
 passes_none r w l g read written = record {
   bytes = [];
   read = read;
+  fours = refl;
   whole = λ more. refl;
   count = refl;
   written = written;
@@ -68,9 +69,12 @@ passes_on taken r r' r'' w w' w'' l k k' g h h' s t p (four, long, spelt, read) 
     let now : symbols_of (p.bytes ++ four) ≡ symbols_of p.bytes ++ s ∷ [] = p.whole four ∙ ap (λ ss. symbols_of p.bytes ++ ss) spelt in
     let last = one_last l k g h h' s t (symbols_of p.bytes) p.goes_on drawn in
     let all : noisy l g (symbols_of (p.bytes ++ four)) ≡ noisy l g (symbols_of p.bytes) ++ symbol_bytes t = ap (noisy l g) now ∙ last in
+    let longer = length-append p.bytes four in
+    let one_longer = ap length now ∙ length-append (symbols_of p.bytes) (s ∷ []) in
     record {
       bytes = p.bytes ++ four;
       read = Consumes-trans _ _ _ _ _ p.read read;
+      fours = omega (arith, p.fours, long, longer, one_longer);
       whole = λ rest. ap symbols_of (append_assoc p.bytes four rest) ∙ p.whole (four ++ rest) ∙ ap (λ ss. symbols_of p.bytes ++ ss) (four_apart four rest long)
           ∙ sym (append_assoc (symbols_of p.bytes) (symbols_of four) (symbols_of rest)) ∙ ap (λ ss. ss ++ symbols_of rest) (sym (p.whole four));
       count = ap length now ∙ length-append (symbols_of p.bytes) (s ∷ []) ∙ ap (λ n. n + 1) p.count;
@@ -109,16 +113,28 @@ passes_most taken r r' w w' l k g h reads reads_now p all = record {
   bound = λ kept. p.count ∙ all;
 }
 
+-- what one symbol is written as, behind those for which the noise was drawn
+last_noisy : (l taken : ℕ) (g h h' : Lcg) (s t : Symbol) (done : List Symbol) (four : List ℕ) → length done ≡ taken → h ≡ drawn_for taken g → symbols_of four ≡ s ∷ []
+    → (t, h') ≡ add l h s → noisy l (drawn_for (length done) g) (symbols_of four) ≡ symbol_bytes t
+last_noisy l taken g h h' s t done four count now spelt drawn =
+    let there : drawn_for (length done) g ≡ h = ap (λ n. drawn_for n g) count ∙ sym now in
+    ap (λ x. noisy l x (symbols_of four)) there ∙ ap (noisy l h) spelt ∙ append-nil (symbol_bytes (add l h s).0) ∙ ap (λ a. symbol_bytes a.0) (sym drawn)
+
 -- a write failed within a symbol
-pub passes_part : (taken : ℕ) (r r' r'' w w' w'' : Option (List ℕ)) (l k : ℕ) (g h h' : Lcg) (s t : Symbol) → Passed taken r r' w w' l k g h → YieldsSymbol r' r'' (Some s) → (t, h') ≡ add k h s
+pub passes_part : (taken : ℕ) (r r' r'' w w' w'' : Option (List ℕ)) (l k : ℕ) (g h h' : Lcg) (s t : Symbol) → Passed taken r r' w w' l k g h → k ≡ l → YieldsSymbol r' r'' (Some s) → (t, h') ≡ add k h s
     → AppendsPart (symbol_bytes t) w' w'' → PassesPart l g r r'' w w''
-passes_part taken r r' r'' w w' w'' l k g h h' s t p (four, long, spelt, read) drawn (n, few, part) =
-    let done = noisy l g (symbols_of p.bytes) in
-    let all : noisy l g (symbols_of (p.bytes ++ four)) ≡ done ++ symbol_bytes t =
-    ap (noisy l g) (p.whole four ∙ ap (λ ss. symbols_of p.bytes ++ ss) spelt) ∙ one_last l k g h h' s t (symbols_of p.bytes) p.goes_on drawn in
-    let lengths = ap length all ∙ length-append done (symbol_bytes t) in
-    let front : take (length done + n) (noisy l g (symbols_of (p.bytes ++ four))) ≡ done ++ take n (symbol_bytes t) = ap (take (length done + n)) all ∙ take-append-add done (symbol_bytes t) n in
-    (p.bytes ++ four, Consumes-trans _ _ _ _ _ p.read read, (length done + n, omega (arith, few, lengths), subst (Appends w w'') (sym front) (Appends-trans _ _ _ _ _ p.written part)))
+passes_part taken r r' r'' w w' w'' l k g h h' s t p same (four, long, spelt, read) drawn part =
+    let noise = last_noisy l taken g h h' s t (symbols_of p.bytes) four p.count p.drawn spelt (drawn ∙ ap (λ n. add n h s) same) in
+    record {
+      bytes = p.bytes;
+      last = four;
+      between = w';
+      read = Consumes-trans _ _ _ _ _ p.read read;
+      whole = p.fours;
+      one = long;
+      written = p.written;
+      part = subst (λ b. AppendsPart b w' w'') (sym noise) part;
+    }
 
 -- of known bytes, those that were read and those that are left
 split : (old new : Option (List ℕ)) (bytes xs : List ℕ) → old ≡ Some xs → Consumes old new bytes → (left : List ℕ) × (new ≡ Some left) × (xs ≡ bytes ++ left)

@@ -1,5 +1,5 @@
 -- Noise (this project's own): what a symbol gains, as a function of the level and the generator's state.
-use Rattle.std.specs.Prelude.{◌≡◌, List, [], ◌∷◌, ◌++◌, Option, ℕ, zero, suc, ℤ, pos, negsuc, ◌+◌, ◌+ℤ◌, ◌-ℤ◌, ◌*ℤ◌, int_div, length, sum}
+use Rattle.std.specs.Prelude.{◌≡◌, List, [], ◌∷◌, ◌++◌, Option, ℕ, zero, suc, ℤ, pos, negsuc, ◌+◌, ◌*◌, ◌+ℤ◌, ◌-ℤ◌, ◌*ℤ◌, int_div, length, sum}
 use Rattle.std.specs.Int.{w32, int_min, int_max, to_le_bytes}
 use Rattle.std.specs.Io.KnownBytes.{Appends, Consumes}
 use Rattle.rand_pcg.specs.Lcg.{Lcg}
@@ -51,7 +51,14 @@ pub record PassesOn (level : ℕ) (g : Lcg) (taken left given gained : Option (L
 abbrev pub PassesOnBy : {R W : Type 0} → (R → Option (List ℕ)) → (R → ℕ) → (W → Option (List ℕ)) → ℕ → Lcg → R → R → W → W → Type 0
 PassesOnBy taken reads given level g r r' w w' = PassesOn level g (taken r) (taken r') (given w) (given w') (reads r) (reads r')
 
--- what a failed write leaves: the writer gained a first part of the noisy symbols that the bytes read spell, and not all
-abbrev pub PassesPart : ℕ → Lcg → Option (List ℕ) → Option (List ℕ) → Option (List ℕ) → Option (List ℕ) → Type 0
-PassesPart level g taken left given gained =
-    (bytes : List ℕ) × Consumes taken left bytes × AppendsPart (noisy level g (symbols_of bytes)) given gained
+-- What a failed write leaves: the reader gave the bytes of some whole symbols, and of one more behind them. The writer gained the
+-- former, whole and with their noise, and behind them a part of the last one's four bytes with its noise, and not all.
+pub record PassesPart (level : ℕ) (g : Lcg) (taken left given gained : Option (List ℕ)) : Type 0 where
+  pub bytes : List ℕ
+  pub last : List ℕ
+  pub between : Option (List ℕ)
+  pub read : Consumes taken left (bytes ++ last)
+  pub whole : length bytes ≡ 4 * length (symbols_of bytes)
+  pub one : length last ≡ 4
+  pub written : Appends given between (noisy level g (symbols_of bytes))
+  pub part : AppendsPart (noisy level (drawn_for (length (symbols_of bytes)) g) (symbols_of last)) between gained

@@ -12,8 +12,9 @@ use s2_mode::{CountedRead, CountedWrite, MOST_SYMBOLS, StreamFault, read_symbol,
 /// Writes each symbol of a stream with its noise, up to the reader's end, where one to three bytes that
 /// are left over are dropped. `Read` where a read failed, or where [`MOST_SYMBOLS`] symbols came: then the
 /// writer has gained just the symbols whose four bytes were read, each whole and with its noise. `Write`
-/// where a write failed: then it has gained a part of these, and not all. Behind the end the noise goes on
-/// where the last symbol's ended.
+/// where a write failed: then whole symbols were read and no byte more, and the writer has gained all of
+/// them but the last in the same way, and of the last one's four bytes a part and not all. Behind the end
+/// the noise goes on where the last symbol's ended.
 pub fn add_to_all<R: CountedRead, W: CountedWrite>(
     noise: &mut Noise,
     reader: &mut R,

@@ -64,7 +64,7 @@ fn has_word(judge: &Judge<'_>, bits: &[bool]) -> bool {
 
 /// What is decided of some values: the verdict, whether the bits are these, and what the checker finds of
 /// their certificate, where there is one.
-type Decided = (Verdict, bool, Option<Examined>);
+pub(crate) type Decided = (Verdict, bool, Option<Examined>);
 
 /// A certificate all of whose rests are at least 1.
 const STRICT: Examined = Examined {
@@ -79,10 +79,10 @@ const ACCEPTED: Examined = Examined {
 };
 
 /// Bits that are right and have a strict certificate.
-const SOLE: Decided = (Verdict::Sole, true, Some(STRICT));
+pub(crate) const SOLE: Decided = (Verdict::Sole, true, Some(STRICT));
 
 /// Bits that are right and have a certificate with a rest of 0.
-const LIKELY: Decided = (Verdict::MostLikely, true, Some(ACCEPTED));
+pub(crate) const LIKELY: Decided = (Verdict::MostLikely, true, Some(ACCEPTED));
 
 /// Bits that are right and have no certificate.
 const PARITY: Decided = (Verdict::Parity, true, None);
@@ -123,7 +123,12 @@ fn decided_in_passes(
 }
 
 /// What is decided without passes of settling.
-fn decided(alloc: Global, matrix: &Matrix, soft: &[i16], bits: &[bool]) -> Result<Decided, Fail> {
+pub(crate) fn decided(
+    alloc: Global,
+    matrix: &Matrix,
+    soft: &[i16],
+    bits: &[bool],
+) -> Result<Decided, Fail> {
     decided_in_passes(alloc, matrix, soft, bits, 0)
 }
 
@@ -362,7 +367,7 @@ fn uncertified_leaves_what_min_sum_finds(rt: HostRuntime) -> Result<(), Fail> {
 }
 
 /// What is decided of a clean frame of zeros.
-fn decided_on_zeros(alloc: Global, matrix: &Matrix) -> Result<Decided, Fail> {
+pub(crate) fn decided_on_zeros(alloc: Global, matrix: &Matrix) -> Result<Decided, Fail> {
     let soft = vec![in alloc; 10i16; matrix.bits()]?;
     let zeros = vec![in alloc; false; matrix.bits()]?;
     decided(alloc, matrix, &soft, &zeros)

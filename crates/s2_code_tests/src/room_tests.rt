@@ -5,13 +5,14 @@ ghost use Rattle.s2_matrix.specs.Code.{code_of};
 
 use super::check_extremes::are_words;
 use super::codes::made_matrix;
-use super::values::are_soft;
+use super::judge_tests::{LIKELY, SOLE, decided, decided_on_zeros};
+use super::values::{LEAST, are_soft};
 use s2_bits::Bits;
 use s2_check::{CertView, Certificate, sole};
 use s2_matrix::Matrix;
 use s2_minsum::Decoder;
 use s2_mode::{Counting, Mode, Shape};
-use s2_rows::read_rows;
+use s2_rows::{read_rows, read_values};
 use s2_settle::Settler;
 use s2_split::Maker;
 use std::alloc::{AllocError, Global};
@@ -180,11 +181,73 @@ fn assert_all_have_room<R: Abort>(rt: &R, alloc: Global, matrix: &Matrix) -> Res
     assert_certificates_have_room(rt, alloc, matrix)
 }
 
+/// Asserts that a judge has room for a code: a round of min-sum corrects the last bit, which no flipping repairs.
+fn assert_judge_has_room<R: Abort>(rt: &R, alloc: Global, matrix: &Matrix) -> Result<(), Fail> {
+    let mut soft = vec![in alloc; 10i16; matrix.bits()]?;
+    let zeros = vec![in alloc; false; matrix.bits()]?;
+    if let Some(last) = soft.last_mut() {
+        *last = -4;
+    }
+    assert_eq!(rt; decided(alloc, matrix, &soft, &zeros)?, LIKELY);
+    Ok(())
+}
+
 #[test]
 fn have_room_for_the_heaviest_rows(rt: HostRuntime) -> Result<(), Fail> {
     let mode = Mode::of(11, false, false).ok_or("no mode")?;
     let matrix = made_matrix(rt.alloc(), mode.shape(), 24)?;
-    assert_all_have_room(&rt, rt.alloc(), &matrix)
+    assert_all_have_room(&rt, rt.alloc(), &matrix)?;
+    assert_judge_has_room(&rt, rt.alloc(), &matrix)
+}
+
+/// Asserts that a judge has room for a code: it certifies a clean frame.
+fn assert_clean_frame_has_room<R: Abort>(
+    rt: &R,
+    alloc: Global,
+    matrix: &Matrix,
+) -> Result<(), Fail> {
+    assert_eq!(rt; decided_on_zeros(alloc, matrix)?, SOLE);
+    Ok(())
+}
+
+/// Of 64800 bits all but 360 are in 24 checks each.
+#[test]
+fn has_room_for_the_widest_checks(rt: HostRuntime) -> Result<(), Fail> {
+    let shape = Shape::new(360, 179, 1).ok_or("no shape")?;
+    let matrix = made_matrix(rt.alloc(), shape, 24)?;
+    assert_clean_frame_has_room(&rt, rt.alloc(), &matrix)
+}
+
+/// A text of so many least values.
+fn least_values(alloc: Global, count: usize) -> Result<Vec<u8>, AllocError> {
+    let mut text = Vec::new(alloc);
+    for _value in 0..count {
+        text.extend_from_slice(b"-511\n")?;
+    }
+    Ok(text)
+}
+
+/// Asserts that the values of a frame have room.
+fn assert_values_have_room<R: Abort>(rt: &R, alloc: Global, mode: Mode) -> Result<(), Fail> {
+    let text = least_values(alloc, mode.n())?;
+    let values = read_values(alloc, &text, mode.shape().n())?;
+    assert_eq!(rt; values.len(), mode.n());
+    for value in values.iter() {
+        assert_eq!(rt; *value, LEAST);
+    }
+    Ok(())
+}
+
+#[test]
+fn values_have_room_for_every_mode(rt: HostRuntime) -> Result<(), Fail> {
+    for modcod in 1..18u8 {
+        for short in [false, true] {
+            if let Some(mode) = Mode::of(modcod, short, false) {
+                assert_values_have_room(&rt, rt.alloc(), mode)?;
+            }
+        }
+    }
+    Ok(())
 }
 
 /// The rows of a small code behind a comment of so many bytes.

@@ -1,9 +1,9 @@
 //! That memory is enough for each mode, with pilots and without, and for the largest scrambling number: nothing is
 //! refused where it is there.
 use super::hearing::{assert_reported, hear};
-use super::streams::{ALL, Sides, Source, link_in, link_of, transmitter_of};
+use super::streams::{ALL, Sides, Source, link_in, link_of, matrix_of, transmitter_of};
 use s2_bbframe::{Slicer, field_bytes};
-use s2_mode::Mode;
+use s2_mode::{MOST_SYMBOLS, Mode};
 use s2_modem::{Setup, SetupFault};
 use s2_receive::Step;
 use std::alloc::Global;
@@ -114,6 +114,30 @@ fn receivers_of_few_symbols_have_room(rt: HostRuntime) -> Result<(), Fail> {
     let link = link_of(rt.alloc(), 1, true)?;
     for symbols in [1, 89, 90, 8190u64] {
         assert_hears_the_end(&rt, rt.alloc(), &link, symbols)?;
+    }
+    Ok(())
+}
+
+/// The sides of a mode, by the heaviest rows.
+fn heaviest_link(alloc: Global, mode: Mode) -> Result<Sides, Fail> {
+    let matrix = matrix_of(alloc, mode.shape(), 24)?;
+    let setup = largest_setup(mode);
+    Ok(Sides { setup, matrix })
+}
+
+/// Asserts that all that is made for a mode by the heaviest rows has room.
+fn assert_heaviest_has_room<A: Abort>(rt: &A, alloc: Global, mode: Mode) -> Result<(), Fail> {
+    let link = heaviest_link(alloc, mode)?;
+    assert_has_room(rt, alloc, &link)?;
+    assert_hears_the_end(rt, alloc, &link, MOST_SYMBOLS)
+}
+
+/// The code of rate 9/10 has the most rows.
+#[test]
+fn have_room_for_the_heaviest_rows(rt: HostRuntime) -> Result<(), Fail> {
+    for modcod in [11, 17u8] {
+        let mode = Mode::of(modcod, false, true).ok_or("no mode")?;
+        assert_heaviest_has_room(&rt, rt.alloc(), mode)?;
     }
     Ok(())
 }

@@ -16,7 +16,7 @@ use Rattle.s2_words.specs.declared.request.ChannelWords.{ChannelWords}
 use Rattle.s2_tool.specs.Links.{Causes}
 
 -- All symbols that were read, each with its noise. Where a read failed, or as many came as one run takes, those that came before;
--- where a write failed, a part of those that were read, and not all.
+-- where a write failed, those that were read but the last, and of that one's bytes a part and not all.
 abbrev pub IsSpoilt : ChannelWords → Streams → Streams → Result Exit Fault → Type 0
 IsSpoilt channel old new (Ok exit) =
     (exit ≡ exits.Fine)

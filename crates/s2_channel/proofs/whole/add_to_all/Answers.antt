@@ -36,4 +36,4 @@ pub returns-clause-front : goal.returns-clause-front
 returns-clause-front g c = λ e. passes_most _ _ _ _ _ _ _ _ _ _ _ c.loop-taken.invariant.passed (search rules)
 
 pub returns-in_err-map_err-clause-part : goal.returns-in_err-map_err-clause-part
-returns-in_err-map_err-clause-part g c = λ e. passes_part _ _ _ _ _ _ _ _ _ _ _ _ _ _ c.loop-taken.invariant.passed (search rules) c.add.ensures.drawn (search rules)
+returns-in_err-map_err-clause-part g c = λ e. passes_part _ _ _ _ _ _ _ _ _ _ _ _ _ _ c.loop-taken.invariant.passed c.loop-taken.invariant.level (search rules) c.add.ensures.drawn (search rules)
