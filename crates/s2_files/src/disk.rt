@@ -1,6 +1,6 @@
 //! Files by their names.
-ghost use Rattle.std.specs.Prelude.{◌≡◌, ℕ, List, None, IfOk};
-ghost use Rattle.s2_files.specs.Known.{Holdings};
+ghost use Rattle.std.specs.Prelude.{◌≡◌, ℕ, List, None, IfOk, ⊤};
+ghost use Rattle.s2_files.specs.Known.{Holdings, Leavings};
 ghost use Rattle.s2_files.specs.declared.uses.Role.TheVariants as roles;
 ghost use Rattle.s2_files.specs.Names.{NamesStandard};
 
@@ -9,10 +9,15 @@ use std::fs::OpenOptions;
 use std::rt::Files;
 use std::{fs, io};
 
-/// Where files are opened by their names. To contracts it is what a name gives to its reader, and what its writer has taken when it is
-/// opened, where that is known. Of the system's files and streams nothing is known.
+/// Where files are opened by their names, and let go. To contracts it is what a name gives to its reader, and what its writer has taken
+/// when it is opened, and with what a name's file was let go, where that is known. Of the system's files and streams nothing is known.
+///
+/// That a name's file was let go with some bytes is said by a call that lets go a writer which has taken them, and by nothing else. What it
+/// has taken began with what the name holds, about which a body knows nothing, so it is a file that was opened by this name.
 pub trait Disk: Files + StandardStreams {
     ghost holds: { Holdings };
+
+    ghost leaves: { Leavings };
 
     /// Opens a file that is read.
     fn open_input(&self, name: &str) -> io::Result<Self::File>
@@ -31,10 +36,20 @@ pub trait Disk: Files + StandardStreams {
     fn standard_output(&self) -> Self::Output
         ensures { (name : List ℕ) → NamesStandard roles.Output name
             → Self.Output.contents result ≡ holds roles.Output name };
+
+    /// Lets go a file that was opened by this name, and is written.
+    fn leave_file(&self, name: &str, file: Self::File)
+        ensures { leaves name.now (Self.File.contents file) };
+
+    /// Lets go standard output, by one of its names.
+    fn leave_output(&self, name: &str, output: Self::Output)
+        ensures { leaves name.now (Self.Output.contents output) };
 }
 
 impl Disk for HostRuntime {
     ghost holds = { λ _ _. None };
+
+    ghost leaves = { λ _ _. ⊤ };
 
     fn open_input(&self, name: &str) -> io::Result<Self::File> {
         fs::open(self, name)
@@ -53,4 +68,8 @@ impl Disk for HostRuntime {
     fn standard_output(&self) -> Self::Output {
         self.output()
     }
+
+    fn leave_file(&self, _name: &str, _file: Self::File) {}
+
+    fn leave_output(&self, _name: &str, _output: Self::Output) {}
 }

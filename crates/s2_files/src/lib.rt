@@ -1,10 +1,12 @@
-//! The files that a command names: each is opened once, and an output is whole until the command begins to write.
+//! The files that a command names: each is opened once, an output is whole until the command begins to write, and it is let go by its
+//! name.
 //!
 //! An [`Opener`] opens them in the order in which they are asked for. `-` is standard input or standard output, and so are
 //! `/dev/stdin` and `/dev/stdout`. It refuses what is used twice: an output that is also an input, two outputs that are one
 //! file, and a standard stream that is named twice. Files are one where device and number are, whatever they are called;
 //! pipes, sockets and character devices hold nothing that could be lost, and are no such files. An output is opened without being cut: it
-//! is a [`Target`], and [`Output::begin`] cuts it as its command begins to write.
+//! is a [`Target`], and [`Output::begin`] cuts it as its command begins to write. [`leave`], and behind a buffer [`finish`], let it go, and
+//! say what its writer had taken then.
 //!
 //! ```text
 //! let mut opener = Opener::new(rt);
@@ -12,6 +14,8 @@
 //! let mut symbols = opener.write(words.symbols)?;
 //! // the rows are accepted
 //! symbols.begin()?;
+//! // the symbols are written
+//! leave(rt, words.symbols, symbols);
 //! ```
 #![tactic(auto)]
 
@@ -28,5 +32,5 @@ pub use opened::Opened;
 pub use opener::{MOST_FILES, Opener, PlainReader, Reader};
 pub use output::Output;
 pub use standard::{StandardStreams, place_of};
-pub use target::{Target, Writer, finish};
+pub use target::{Target, Writer, finish, leave};
 pub use uses::{Node, Role, Use};

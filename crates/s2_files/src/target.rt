@@ -1,8 +1,9 @@
 //! Outputs that are whole until they are begun.
-ghost use Rattle.std.specs.Prelude.{◌≡◌, ◌≢◌, ◌⊎◌, IfOk, IfErr, IsOk};
+ghost use Rattle.std.specs.Prelude.{◌≡◌, ◌≢◌, ◌⊎◌, Ok, IfOk, IfErr, IsOk};
 ghost use Rattle.std.specs.Io.Buffered.{writer_contents};
-ghost use Rattle.s2_files.specs.Known.{known_of};
+ghost use Rattle.s2_files.specs.Known.{known_of, LeftWhole, LeftPart};
 
+use crate::disk::Disk;
 use crate::opened::Opened;
 use crate::output::Output;
 use s2_console::{Exit, Fault};
@@ -93,22 +94,49 @@ impl<F: Write + OpenFile, S: Write> Output for Target<F, S> {
     }
 }
 
-/// Ends an output behind a buffer: what is still in the buffer is written, also where a fault was told that is none of this
-/// output. Once a write has failed, nothing more is.
-pub fn finish<F: Write + Drop, S: Write + Drop>(
+/// Lets go what was opened by this name.
+fn leave_opened<R: Disk>(rt: &R, name: &str, opened: Opened<R::File, R::Output>)
+    ensures { R.leaves name.now (known_of R.File.contents R.Output.contents opened) }
+{
+    match opened {
+        Opened::File(file) => rt.leave_file(name, file),
+        Opened::Standard(output) => rt.leave_output(name, output),
+    }
+}
+
+/// Lets go an output that was opened by this name.
+pub fn leave<R: Disk>(rt: &R, name: &str, to: Target<R::File, R::Output>)
+    ensures { R.leaves name.now (known_of R.File.contents R.Output.contents to.to) }
+{
+    leave_opened(rt, name, to.to)
+}
+
+/// Ends an output behind a buffer that was opened by this name: what is still in the buffer is written, also where a fault was told that is
+/// none of this output, and then it is let go. Once a write has failed, nothing more is written.
+pub fn finish<R: Disk>(
+    rt: &R,
+    name: &str,
     exit: Exit,
-    to: Writer<F, S>,
+    to: Writer<R::File, R::Output>,
 ) -> Result<Exit, Fault<'static>>
     ensures same { IfOk result (λ ended. ended ≡ exit) }
     ensures fault { IfErr result (λ fault. fault ≡ Fault.Write) }
     ensures told { exit ≢ Exit.Fine → IsOk result }
+    ensures whole { to.failed ≡ 0 → result ≡ Ok Exit.Fine
+        → LeftWhole (R.leaves name.now) (writer_contents (known_of R.File.contents R.Output.contents) to.inner) }
+    ensures part { LeftPart (R.leaves name.now)
+        (writer_contents (known_of R.File.contents R.Output.contents) to.inner) }
 {
     let failed = to.count() > 0;
     let (file, left) = to.into_inner().into_parts();
     if failed {
+        leave_opened(rt, name, file);
         return Ok(exit);
     }
-    match write_full(&mut Counting::new(file), &left) {
+    let mut file = Counting::new(file);
+    let written = write_full(&mut file, &left);
+    leave_opened(rt, name, file.into_inner());
+    match written {
         Err(_) if exit == Exit::Fine => Err(Fault::Write),
         _ => Ok(exit),
     }

@@ -1,5 +1,5 @@
--- What the program prints for a request.
-use Rattle.std.specs.Prelude.{◌≡◌, ◌≢◌, ℕ, false, List, [], Option, Some, None, Result, Ok, Err, codes, ◌⊎◌, ◌↔◌}
+-- What the program prints for a request, and with what it lets its files go.
+use Rattle.std.specs.Prelude.{◌≡◌, ◌≢◌, ℕ, false, List, [], Option, Some, None, Result, Ok, Err, codes, ◌⊎◌, ◌↔◌, ⊤}
 use Rattle.std.specs.Borrow.{Bor}
 use Rattle.clap.specs.Words.{kind_of}
 use Rattle.clap.specs.declared.error.Error.{Error}
@@ -18,7 +18,7 @@ use Rattle.s2_console.specs.Notes.{Concludes}
 use Rattle.s2_console.specs.Screens.{Screen, report_in}
 use Rattle.s2_console.specs.declared.place.Place.{Place}
 use Rattle.s2_console.specs.declared.place.Place.TheVariants as places
-use Rattle.s2_files.specs.Known.{Holdings}
+use Rattle.s2_files.specs.Known.{Holdings, Leavings, LeftWhole, LeftPart}
 use Rattle.s2_files.specs.Names.{NamesStandard}
 use Rattle.s2_files.specs.declared.uses.Role.TheVariants as roles
 use Rattle.s2_modes.specs.ModeLines.{IsListed, IsAsked}
@@ -109,18 +109,19 @@ abbrev pub NotBegun : (Fault → Type 0) → List ℕ → Result Exit Fault → 
 NotBegun Why notes (Ok exit) old new = ⊥
 NotBegun Why notes (Err f) old new = Why f × (notes ≡ []) × (new ≡ old)
 
--- ---- what is said of a request
+-- ---- what is said of a request; `Left` says of the file that it writes with what it was let go
 
--- The output of a command on a link of this setup and these files, and how it ended: what the command does of them.
-abbrev pub Reports : {T : Type 0} → Deed T → Setup → Ends → Result T Fault → Option (List ℕ) → Option (List ℕ) → Type 0
-Reports {T} Does setup files ended old new =
+-- The output of a command on a link of this setup and these files, and how it ended: what the command does of them. The file that is
+-- written was let go with all that its writer had taken.
+abbrev pub Reports : {T : Type 0} → Deed T → Setup → Ends → (Option (List ℕ) → Type 0) → Result T Fault → Option (List ℕ) → Option (List ℕ) → Type 0
+Reports {T} Does setup files Left ended old new =
     (failed : ℕ) × (left : Ends) × (behind : Streams)
-    × OnLink Does setup files left (streams_with files old failed) behind ended × (behind.out ≡ new)
+    × OnLink Does setup files left (streams_with files old failed) behind ended × (behind.out ≡ new) × Left behind.given
 
 -- The output of a command that receives so, its notes, and how it ended.
-abbrev pub Receipts : NoteWords → Setup → Ends → Deed Received → List ℕ → Result Exit Fault → Option (List ℕ) → Option (List ℕ) → Type 0
-Receipts words setup files Does notes ended old new =
-    (heard : Result Received Fault) × Reports Does setup files heard old new × Answered words setup.mode heard ended notes
+abbrev pub Receipts : NoteWords → Setup → Ends → (Option (List ℕ) → Type 0) → Deed Received → List ℕ → Result Exit Fault → Option (List ℕ) → Option (List ℕ) → Type 0
+Receipts words setup files Left Does notes ended old new =
+    (heard : Result Received Fault) × Reports Does setup files Left heard old new × Answered words setup.mode heard ended notes
 
 -- Whether the rows of a file are the standard's for the code of a mode.
 abbrev pub Compares : Mode → Option (List ℕ) → Result Exit Fault → Option (List ℕ) → Option (List ℕ) → Type 0
@@ -134,56 +135,68 @@ Examines files ended old new =
     (behind : CheckFiles) × CommandRuns IsAnswered (AreCheckInputs files.rows files.certificate) ended old new
     × (ended ≡ Err faults.NoMemory → BothUnreadOrAccepted files.rows behind.rows files.certificate behind.certificate)
 
--- The verdict on soft values of a file by the tuning of the words, and their certificate in the file that was asked for.
-abbrev pub Judges : JudgeWords → JudgeFiles → Result Exit Fault → Option (List ℕ) → Option (List ℕ) → Type 0
-Judges words files ended old new =
+-- a file that may be asked for: it was let go with what is said to stand in it
+abbrev pub LeftAsked : Leavings → Option (Bor (List ℕ)) → Option Written → Type 0
+LeftAsked leaves (Some name) (Some file) = leaves name.now file.contents
+LeftAsked leaves None None = ⊤
+LeftAsked leaves (Some name) None = ⊥
+LeftAsked leaves None (Some file) = ⊥
+
+-- The verdict on soft values of a file by the tuning of the words, and their certificate in the file that was asked for, which was
+-- let go with it.
+abbrev pub Judges : JudgeWords → JudgeFiles → Leavings → Result Exit Fault → Option (List ℕ) → Option (List ℕ) → Type 0
+Judges words files leaves ended old new =
     (behind : JudgeFiles) × CommandRuns (IsJudged words.tuning) (AreInputs (asked_shape words.shape) files.rows files.soft) ended old new
     × (ended ≡ Err faults.NoMemory → EachUnreadOrAccepted (asked_shape words.shape) files.rows behind.rows files.soft behind.soft)
     × Certifies words.tuning (AreInputs (asked_shape words.shape) files.rows files.soft) ended files.certificate behind.certificate
+    × LeftAsked leaves words.certificate behind.certificate
 
--- Symbols are spoilt by the channel of the words; what is left in the buffer at the end may not be written.
-abbrev pub Channels : ChannelWords → Option (List ℕ) → Option (List ℕ) → Result Exit Fault → Type 0
-Channels channel from to ended =
+-- Symbols are spoilt by the channel of the words. The file that is written was let go with all of them where the exit is fine, and
+-- else with a first part, since what is left in the buffer at the end may not be written.
+abbrev pub Channels : ChannelWords → Option (List ℕ) → Option (List ℕ) → (Option (List ℕ) → Type 0) → Result Exit Fault → Type 0
+Channels channel from to Left ended =
     (spoilt : Result Exit Fault) × (behind : Streams) × Spoils channel (piped from to 0 0) behind spoilt
     × ((ended ≡ spoilt) ⊎ ((spoilt ≡ Ok exits.Fine) × (ended ≡ Err faults.Write)))
+    × (ended ≡ Ok exits.Fine → LeftWhole Left behind.given) × LeftPart Left behind.given
 
 -- What a request's output says, with which notes and how it ended. A request that names no file prints what its words and the
--- input determine; one that names files what its command says of what they hold, each in its role, or it could not be begun.
+-- input determine; one that names files what its command says of what they hold, each in its role, and the file that it writes was let
+-- go, by its name, with what the command says that its writer took; or it could not be begun.
 -- Where its words have no mode or no shape, just that is told, and want of memory not in its place. Nor is it told in place of
 -- what standard input is refused for, of which `left` is left; of files, as their commands say, which alone see what is left.
-abbrev pub Serves : Holdings → Request → Option (List ℕ) → Option (List ℕ) → List ℕ → Result Exit Fault → Option (List ℕ) → Option (List ℕ) → Type 0
-Serves holds requests.Own input left notes ended old new =
+abbrev pub Serves : Holdings → Leavings → Request → Option (List ℕ) → Option (List ℕ) → List ℕ → Result Exit Fault → Option (List ℕ) → Option (List ℕ) → Type 0
+Serves holds leaves requests.Own input left notes ended old new =
     (notes ≡ []) × CommandRuns IsOwn (AreInputs (shape_of 4 2 3) (Some (codes "0 4 8\n0 1 2\n")) input) ended old new
     × (ended ≡ Err faults.NoMemory → UnreadOrAccepted input left (values_in (shape_of 4 2 3)))
-Serves holds (requests.Modes words) input left notes ended old new = (notes ≡ []) × CommandRuns IsListed (IsAsked words.rate) ended old new
-Serves holds (requests.Rows words) input left notes ended old new =
+Serves holds leaves (requests.Modes words) input left notes ended old new = (notes ≡ []) × CommandRuns IsListed (IsAsked words.rate) ended old new
+Serves holds leaves (requests.Rows words) input left notes ended old new =
     (IsShape (asked_shape words.shape) × (notes ≡ [])
     × MakesRows (asked_shape words.shape) words.weight words.seed ended old new)
     ⊎ NotBegun (NotOf (asked_shape words.shape) (λ f. ⊥)) notes ended old new
-Serves holds (requests.Table words) input left notes ended old new =
+Serves holds leaves (requests.Table words) input left notes ended old new =
     (IsMode (table_mode words) × (notes ≡ notes_on words.quiet (table_mode words) ended)
     × Compares (table_mode words) (holds roles.Input words.rows.now) ended old new)
     ⊎ NotBegun (NotOn (table_mode words) (CannotOpen words.rows)) notes ended old new
-Serves holds (requests.Judge words) input left notes ended old new =
-    (IsShape (asked_shape words.shape) × (notes ≡ []) × Judges words (judge_files holds words) ended old new)
+Serves holds leaves (requests.Judge words) input left notes ended old new =
+    (IsShape (asked_shape words.shape) × (notes ≡ []) × Judges words (judge_files holds words) leaves ended old new)
     ⊎ NotBegun (NotOf (asked_shape words.shape) (NotJudged words)) notes ended old new
-Serves holds (requests.Check words) input left notes ended old new =
+Serves holds leaves (requests.Check words) input left notes ended old new =
     ((notes ≡ []) × Examines (check_files holds words) ended old new)
     ⊎ NotBegun (λ f. CannotOpen words.rows f ⊎ CannotOpen words.certificate f) notes ended old new
-Serves holds (requests.Mod words) input left notes ended old new =
+Serves holds leaves (requests.Mod words) input left notes ended old new =
     (IsMode (asked_setup words.link).mode × (notes ≡ notes_on words.quiet (asked_setup words.link).mode ended)
-    × Reports (Sends words.dummy) (asked_setup words.link) (ends_of holds words.rows words.packets words.symbols) ended old new)
+    × Reports (Sends words.dummy) (asked_setup words.link) (ends_of holds words.rows words.packets words.symbols) (leaves words.symbols.now) ended old new)
     ⊎ NotBegun (NotOn (asked_setup words.link).mode (CannotOpenOne words.rows words.packets words.symbols)) notes ended old new
-Serves holds (requests.Noise words) input left notes ended old new =
+Serves holds leaves (requests.Noise words) input left notes ended old new =
     (notes ≡ []) × (new ≡ old)
-    × (Channels words.channel (holds roles.Input words.from.now) (holds roles.Output words.to.now) ended ⊎ NotBegun (NotSpoilt words) notes ended old new)
-Serves holds (requests.Demod words) input left notes ended old new =
+    × (Channels words.channel (holds roles.Input words.from.now) (holds roles.Output words.to.now) (leaves words.to.now) ended ⊎ NotBegun (NotSpoilt words) notes ended old new)
+Serves holds leaves (requests.Demod words) input left notes ended old new =
     (IsMode (asked_setup words.link).mode
-    × Receipts words.notes (asked_setup words.link) (ends_of holds words.rows words.symbols words.packets) (Hears words.tuning) notes ended old new)
+    × Receipts words.notes (asked_setup words.link) (ends_of holds words.rows words.symbols words.packets) (leaves words.packets.now) (Hears words.tuning) notes ended old new)
     ⊎ NotBegun (NotOn (asked_setup words.link).mode (CannotOpenOne words.rows words.symbols words.packets)) notes ended old new
-Serves holds (requests.Run words) input left notes ended old new =
+Serves holds leaves (requests.Run words) input left notes ended old new =
     (IsMode (asked_setup words.link).mode
-    × Receipts words.notes (asked_setup words.link) (ends_of holds words.rows words.packets words.to) (Loops words) notes ended old new)
+    × Receipts words.notes (asked_setup words.link) (ends_of holds words.rows words.packets words.to) (leaves words.to.now) (Loops words) notes ended old new)
     ⊎ NotBegun (NotOn (asked_setup words.link).mode (CannotOpenOne words.rows words.packets words.to)) notes ended old new
 
 -- where a report goes beside an output of this name, or beside none
@@ -201,7 +214,7 @@ IsPlaced request place = place ≡ places.Output
 
 -- A request was served with this exit: how it ended decides the exit, the report and what is told behind it. What a file gets that
 -- is standard output stands there beside the console.
-pub record Served (holds : Holdings) (request : Request) (input left : Option (List ℕ)) (exit : Exit) (old new : Screen) : Type 0 where
+pub record Served (holds : Holdings) (leaves : Leavings) (request : Request) (input left : Option (List ℕ)) (exit : Exit) (old new : Screen) : Type 0 where
   pub ended : Result Exit Fault
   pub notes : List ℕ
   pub place : Place
@@ -209,20 +222,20 @@ pub record Served (holds : Holdings) (request : Request) (input left : Option (L
   pub shown : Screen
   pub placed : IsPlaced request place
   pub exit_is : exit ≡ exit_of ended
-  pub prints : Serves holds request input left notes ended (report_in place old) (report_in place shown)
+  pub prints : Serves holds leaves request input left notes ended (report_in place old) (report_in place shown)
   pub concludes : Concludes place notes ended old shown new
   -- only where a fault is told may a call of the output or of the errors have failed
   pub whole : exit ≢ exits.Fault → new.output_failed ≡ old.output_failed
   pub quiet : exit ≢ exits.Fault → new.errors_failed ≡ old.errors_failed
 
 -- nothing is reported of a command that could not be begun
-abbrev pub Unbegun : Holdings → Request → Option (List ℕ) → Option (List ℕ) → Fault → Screen → Type 0
-Unbegun holds request input left f old = (place : Place) × IsPlaced request place × Serves holds request input left [] (Err f) (report_in place old) (report_in place old)
+abbrev pub Unbegun : Holdings → Leavings → Request → Option (List ℕ) → Option (List ℕ) → Fault → Screen → Type 0
+Unbegun holds leaves request input left f old = (place : Place) × IsPlaced request place × Serves holds leaves request input left [] (Err f) (report_in place old) (report_in place old)
 
 -- A command was begun and ended so, or it could not be begun and did nothing.
-abbrev pub Began : Holdings → Request → Option (List ℕ) → Option (List ℕ) → Result Exit Fault → Screen → Screen → Type 0
-Began holds request input left (Ok exit) old new = Served holds request input left exit old new
-Began holds request input left (Err f) old new = Unbegun holds request input left f old × (new ≡ old)
+abbrev pub Began : Holdings → Leavings → Request → Option (List ℕ) → Option (List ℕ) → Result Exit Fault → Screen → Screen → Type 0
+Began holds leaves request input left (Ok exit) old new = Served holds leaves request input left exit old new
+Began holds leaves request input left (Err f) old new = Unbegun holds leaves request input left f old × (new ≡ old)
 
 -- how the program ends where the parser's own text was to be printed: well only behind help or the version
 abbrev pub IsExplained : ErrorKind → Exit → Type 0
@@ -237,12 +250,12 @@ Explains kind exit old new =
     ⊎ ((kind ≢ kinds.OutOfMemory) × IsExplained kind exit × (new ≡ old))
 
 -- what was asked for is served, or why nothing was is explained
-abbrev pub Answers : Holdings → Result Request Error → Option (List ℕ) → Option (List ℕ) → Exit → Screen → Screen → Type 0
-Answers holds (Ok request) input left exit old new = Served holds request input left exit old new
-Answers holds (Err error) input left exit old new = Explains (kind_of error) exit old new
+abbrev pub Answers : Holdings → Leavings → Result Request Error → Option (List ℕ) → Option (List ℕ) → Exit → Screen → Screen → Type 0
+Answers holds leaves (Ok request) input left exit old new = Served holds leaves request input left exit old new
+Answers holds leaves (Err error) input left exit old new = Explains (kind_of error) exit old new
 
 -- what the words ask for is answered, or there was no memory for them
-abbrev pub AnswersWords : Holdings → Option (Result Request Error) → Option (List ℕ) → Option (List ℕ) → Exit → Screen → Screen → Type 0
-AnswersWords holds (Some asked) input left exit old new = Answers holds asked input left exit old new
-AnswersWords holds None input left exit old new =
+abbrev pub AnswersWords : Holdings → Leavings → Option (Result Request Error) → Option (List ℕ) → Option (List ℕ) → Exit → Screen → Screen → Type 0
+AnswersWords holds leaves (Some asked) input left exit old new = Answers holds leaves asked input left exit old new
+AnswersWords holds leaves None input left exit old new =
     (exit ≡ exits.Fault) × (new.output ≡ old.output) × (new.output_failed ≡ old.output_failed) × Complains (Err faults.NoMemory) old new

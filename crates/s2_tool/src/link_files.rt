@@ -1,7 +1,7 @@
 //! The files of a command on a link.
 ghost use Rattle.std.specs.Prelude.{◌≡◌};
 
-use s2_files::Output;
+use s2_files::{Disk, Output, Target, leave};
 use s2_mode::{CountedRead, CountedWrite};
 use s2_progress::{Meter, Watched};
 use std::marker::Model;
@@ -56,4 +56,29 @@ impl<R: CountedRead, S: CountedRead, W: Output> LinkFiles<R, S, W> {
             to: Watched::new(to, meter),
         }
     }
+}
+
+impl<R: CountedRead + Drop, S: CountedRead + Drop, W: CountedWrite> LinkFiles<R, S, W> {
+    /// The one that is written. The others are let go.
+    fn into_written(self) -> W
+        ensures { W.contents result ≡ self.given }
+    {
+        let LinkFiles {
+            rows: _,
+            from: _,
+            to,
+        } = self;
+        to
+    }
+}
+
+/// Lets the files of a command on a link go: the two that are read, and then the one that is written, by its name.
+pub(crate) fn leave_link<D: Disk, R: CountedRead + Drop, S: CountedRead + Drop, M: Meter>(
+    rt: &D,
+    name: &str,
+    files: LinkFiles<R, S, Watched<'_, Target<D::File, D::Output>, M>>,
+)
+    ensures { D.leaves name.now files.entry.given }
+{
+    leave(rt, name, files.into_written().into_inner())
 }

@@ -6,17 +6,19 @@ ghost use Rattle.s2_mode.specs.Shape.{IsShape};
 ghost use Rattle.s2_mode.specs.Shape as shapes;
 ghost use Rattle.s2_link.specs.Link as links;
 ghost use Rattle.s2_console.specs.Screens.{CanShow, CanTell};
-ghost use Rattle.s2_tool.specs.Serving.{IsPlacedFor, asked_setup, no_mode, no_shape, Served, Began};
+ghost use Rattle.s2_evidence.specs.Files.{SameAsked};
+ghost use Rattle.s2_tool.specs.Serving.{IsPlacedFor, asked_file, asked_setup, no_mode, no_shape, LeftAsked, Served, Began};
 
 use crate::demod::demod_command;
+use crate::link_files::leave_link;
 use crate::modulate::mod_command;
 use crate::noise::noise_command;
 use crate::opening::{open_check, open_judge, open_link, open_noise, open_rows, open_whole};
 use crate::rows::rows_command;
 use crate::run::run_command;
 use s2_console::{Console, Exit, Fault, Place};
-use s2_evidence::{check_command, judge_command, self_command};
-use s2_files::{Disk, StandardStreams, finish, place_of};
+use s2_evidence::{JudgeFiles, check_command, judge_command, self_command};
+use s2_files::{Disk, Reader, StandardStreams, Target, finish, leave, place_of};
 use s2_link::LinkSetup;
 use s2_mode::{CountedRead, CountedWrite, Counting, FaultText, Mode, Shape};
 use s2_modes::modes_command;
@@ -63,7 +65,7 @@ pub fn serve<R: Disk + Clock + AllocGlobal, S: CountedRead, O: CountedWrite, E: 
 ) -> Exit
     requires input { CanCount (S.count input.old) }
     requires console { CanTell console.old }
-    ensures served { Served R.holds request.now (S.remaining input.old) (S.remaining input.new) result
+    ensures served { Served R.holds R.leaves request.now (S.remaining input.old) (S.remaining input.new) result
         console.old console.new }
 {
     match begin(rt, terminal, request, input, console) {
@@ -82,7 +84,7 @@ fn begin<'a, R: Disk + Clock + AllocGlobal, S: CountedRead, O: CountedWrite, E: 
 ) -> Result<Exit, Fault<'a>>
     requires input { CanCount (S.count input.old) }
     requires console { CanTell console.old }
-    ensures began { Began R.holds request.now (S.remaining input.old) (S.remaining input.new) result
+    ensures began { Began R.holds R.leaves request.now (S.remaining input.old) (S.remaining input.new) result
         console.old console.new }
 {
     match request {
@@ -121,7 +123,7 @@ fn serve_rows<R: Disk + AllocGlobal, O: CountedWrite, E: CountedWrite>(
 ) -> Result<Exit, Fault<'static>>
     requires { CanShow console.old }
     ensures { (input left : Option (List ℕ)) →
-        Began R.holds (Request.Rows words.now) input left result console.old console.new }
+        Began R.holds R.leaves (Request.Rows words.now) input left result console.old console.new }
 {
     let Some(shape) = shape_of(words.shape) else {
         return Err(no_shape());
@@ -166,7 +168,7 @@ fn serve_table<'a, R: Disk + AllocGlobal, O: CountedWrite, E: CountedWrite>(
 ) -> Result<Exit, Fault<'a>>
     requires { CanTell console.old }
     ensures { (input left : Option (List ℕ)) →
-        Began R.holds (Request.Table words.now) input left result console.old console.new }
+        Began R.holds R.leaves (Request.Table words.now) input left result console.old console.new }
 {
     let Some(mode) = Mode::of(words.modcod, words.short, false) else {
         return Err(no_mode());
@@ -185,6 +187,27 @@ fn place_beside(name: Option<&str>) -> Place
     }
 }
 
+/// Lets the files of `judge` go: the two that are read, and then, where it is asked for, that of the certificate, by its name.
+fn leave_judge<R: Disk>(
+    rt: &R,
+    name: Option<&str>,
+    mut files: JudgeFiles<
+        Reader<R::File, R::Input>,
+        Reader<R::File, R::Input>,
+        Target<R::File, R::Output>,
+    >,
+)
+    requires { SameAsked (asked_file R.holds name) files.certificate }
+    ensures { LeftAsked R.leaves name.entry files.certificate }
+{
+    let certificate = files.certificate.take();
+    drop(files);
+    match (name, certificate) {
+        (Some(name), Some(file)) => leave(rt, name, file),
+        _ => {}
+    }
+}
+
 /// Judges soft values. The certificate's file is opened before the others, and the verdict stands beside standard output where
 /// that is it.
 fn serve_judge<'a, R: Disk + AllocGlobal, O: CountedWrite, E: CountedWrite>(
@@ -194,7 +217,7 @@ fn serve_judge<'a, R: Disk + AllocGlobal, O: CountedWrite, E: CountedWrite>(
 ) -> Result<Exit, Fault<'a>>
     requires { CanTell console.old }
     ensures { (input left : Option (List ℕ)) →
-        Began R.holds (Request.Judge words.now) input left result console.old console.new }
+        Began R.holds R.leaves (Request.Judge words.now) input left result console.old console.new }
 {
     let place = place_beside(words.certificate);
     let Some(shape) = shape_of(words.shape) else {
@@ -202,7 +225,9 @@ fn serve_judge<'a, R: Disk + AllocGlobal, O: CountedWrite, E: CountedWrite>(
     };
     let mut files = open_judge(rt, words)?;
     let tuning = words.tuning;
-    Ok(judge_command(rt.alloc(), shape, tuning, &mut files, place, console))
+    let exit = judge_command(rt.alloc(), shape, tuning, &mut files, place, console);
+    leave_judge(rt, words.certificate, files);
+    Ok(exit)
 }
 
 /// Checks a certificate.
@@ -213,7 +238,7 @@ fn serve_check<'a, R: Disk + AllocGlobal, O: CountedWrite, E: CountedWrite>(
 ) -> Result<Exit, Fault<'a>>
     requires { CanShow console.old }
     ensures { (input left : Option (List ℕ)) →
-        Began R.holds (Request.Check words.now) input left result console.old console.new }
+        Began R.holds R.leaves (Request.Check words.now) input left result console.old console.new }
 {
     let mut files = open_check(rt, words)?;
     Ok(check_command(rt.alloc(), &mut files, console))
@@ -228,7 +253,7 @@ fn serve_mod<'a, R: Disk + Clock + AllocGlobal, O: CountedWrite, E: CountedWrite
 ) -> Result<Exit, Fault<'a>>
     requires { CanTell console.old }
     ensures { (input left : Option (List ℕ)) →
-        Began R.holds (Request.Mod words.now) input left result console.old console.new }
+        Began R.holds R.leaves (Request.Mod words.now) input left result console.old console.new }
 {
     let place = place_of(words.symbols);
     let Some(setup) = setup_of(&words.link) else {
@@ -250,6 +275,7 @@ fn serve_mod<'a, R: Disk + Clock + AllocGlobal, O: CountedWrite, E: CountedWrite
         &mut notes,
     );
     show.finish();
+    leave_link(rt, words.symbols, files);
     Ok(exit)
 }
 
@@ -263,7 +289,7 @@ fn serve_noise<'a, R: Disk + Clock + AllocGlobal, O: CountedWrite, E: CountedWri
 ) -> Result<Exit, Fault<'a>>
     requires { CanShow console.old }
     ensures { (input left : Option (List ℕ)) →
-        Began R.holds (Request.Noise words.now) input left result console.old console.new }
+        Began R.holds R.leaves (Request.Noise words.now) input left result console.old console.new }
 {
     let show = show_on(terminal, Pace::Spoiling, words.progress);
     let opened = open_noise(rt, words)?;
@@ -272,7 +298,7 @@ fn serve_noise<'a, R: Disk + Clock + AllocGlobal, O: CountedWrite, E: CountedWri
     let mut to = Watched::new(opened.1, &show);
     let exit = noise_command(words.channel, &mut from, &mut to, console);
     show.finish();
-    finish(exit, to.into_inner())
+    finish(rt, words.to, exit, to.into_inner())
 }
 
 /// Receives symbols. The packet file is opened once the others are, and the report stands beside standard output where that
@@ -285,7 +311,7 @@ fn serve_demod<'a, R: Disk + Clock + AllocGlobal, O: CountedWrite, E: CountedWri
 ) -> Result<Exit, Fault<'a>>
     requires { CanTell console.old }
     ensures { (input left : Option (List ℕ)) →
-        Began R.holds (Request.Demod words.now) input left result console.old console.new }
+        Began R.holds R.leaves (Request.Demod words.now) input left result console.old console.new }
 {
     let place = place_of(words.packets);
     let Some(setup) = setup_of(&words.link) else {
@@ -307,6 +333,7 @@ fn serve_demod<'a, R: Disk + Clock + AllocGlobal, O: CountedWrite, E: CountedWri
         &mut notes,
     );
     show.finish();
+    leave_link(rt, words.packets, files);
     Ok(exit)
 }
 
@@ -320,7 +347,7 @@ fn serve_run<'a, R: Disk + Clock + AllocGlobal, O: CountedWrite, E: CountedWrite
 ) -> Result<Exit, Fault<'a>>
     requires { CanTell console.old }
     ensures { (input left : Option (List ℕ)) →
-        Began R.holds (Request.Run words.now) input left result console.old console.new }
+        Began R.holds R.leaves (Request.Run words.now) input left result console.old console.new }
 {
     let place = place_of(words.to);
     let Some(setup) = setup_of(&words.link) else {
@@ -341,5 +368,6 @@ fn serve_run<'a, R: Disk + Clock + AllocGlobal, O: CountedWrite, E: CountedWrite
         &mut notes,
     );
     show.finish();
+    leave_link(rt, words.to, files);
     Ok(exit)
 }
