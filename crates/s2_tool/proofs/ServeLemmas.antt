@@ -1,9 +1,10 @@
 -- What is reported of a request.
-use Rattle.s2_tool.proofs.Names.{◌≡◌, ◌≢◌, ℕ, List, [], ◌∷◌, Option, Result, Ok, Err, IfOk, IfErr, IsOk, refl, sym, ap, ◌∙◌, inl, inr, Streams, Setup, Received, Exit, Fault, Screen, screen_of, report_in, report_failed, Place, exit_of, Remarks, Concludes, Holdings, Leavings, LeftPart, LeftWhole, Request, ChannelWords, NoiseWords, NoteWords, Ends, Deed, OnLink, streams_at, Finishes, Reports, Receipts, Served, Serves, IsPlaced, Began, Channels, NoiseEnds, Spoils, piped}
+use Rattle.s2_tool.proofs.Names.{◌≡◌, ◌≢◌, ℕ, List, [], ◌∷◌, Option, Result, Ok, Err, IfOk, IfErr, IsOk, refl, sym, ap, ◌∙◌, inl, inr, Streams, Setup, Received, Exit, Fault, Screen, screen_of, report_in, report_failed, Place, exit_of, Remarks, Concludes, Holdings, Leavings, LeftPart, LeftWhole, Request, ChannelWords, NoiseWords, NoteWords, Ends, Deed, OnLink, streams_at, Finishes, Reports, Receipts, Served, Serves, IsPlaced, Began, Unbegun, Channels, NoiseEnds, Spoils, piped}
 use Rattle.s2_console.specs.declared.exit.Exit.TheVariants as exits
 use Rattle.s2_console.specs.declared.fault.Fault.TheVariants as faults
 use Rattle.s2_console.specs.declared.place.Place.TheVariants as places
 use Rattle.s2_console.specs.Exits.{Complains}
+use Rattle.s2_console.specs.Screens.{SameBeside}
 use Rattle.s2_files.specs.declared.uses.Role.TheVariants as roles
 use Rattle.s2_words.specs.declared.request.Request.TheVariants as requests
 
@@ -93,5 +94,21 @@ spoilt holds leaves words input left from to behind exit (Err f) old new reads w
     let fine : end.0 ≡ Ok exits.Fine = fine_of end.0 (sym end.1 ∙ fine_end exit f told) in
     let quiet_so : Complains (Ok exits.Fine) old new = rw fine at end.3 in
     let says : Channels words.channel (holds roles.Input words.from.now) (holds roles.Output words.to.now) (leaves words.to.now) (Err f) =
-        rw (← reads, ← writes) (end.0, behind, end.2, inr (fine, ap Err fault), (λ e. cc), part) in
+    rw (← reads, ← writes) (end.0, behind, end.2, inr (fine, ap Err fault), (λ e. cc), part) in
     ((places.Output, refl, (refl, refl, inl says)), same_screen old new output whole quiet_so.1 quiet_so.0)
+
+-- what stands beside a report is as it is
+beside : (place : Place) (screen : Screen) → SameBeside place screen screen
+beside places.Output screen = (refl, refl)
+beside places.Errors screen = (refl, refl)
+
+-- a command could not be begun, and its fault was told
+pub untold : (holds : Holdings) (leaves : Leavings) (request : Request) (input left : Option (List ℕ)) (f : Fault) (exit : Exit) (old begun new : Screen)
+    → Unbegun holds leaves request input left f old × (begun ≡ old) → exit ≡ exits.Fault → new.output ≡ begun.output → new.output_failed ≡ begun.output_failed
+    → Complains (Err f) begun new → Served holds leaves request input left exit old new
+untold holds leaves request input left f exit old begun new undone is output failed told =
+    let same : begun ≡ old = undone.1 in
+    let outputs : new.output ≡ old.output = output ∙ ap (λ (s : Screen). s.output) same in
+    let fails : new.output_failed ≡ old.output_failed = failed ∙ ap (λ (s : Screen). s.output_failed) same in
+    let complains : Complains (Err f) old new = rw (← same) told in
+    served holds leaves request input left (Err f) [] exit old new (λ e. absurd (e is)) (λ e. absurd (e is)) is undone.0.0 old undone.0.1 undone.0.2 (beside undone.0.0 old, outputs, fails, complains)
