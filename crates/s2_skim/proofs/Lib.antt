@@ -1,0 +1,13 @@
+mod Lists
+mod Paddings
+mod FieldParts
+mod Takings
+mod Starts
+mod NumberBytes
+mod WordBytes
+mod LineBytes
+mod Passing
+mod Skimming
+mod NaturalWords
+mod ValueWords
+mod RowsByWords
