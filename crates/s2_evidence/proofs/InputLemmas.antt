@@ -1,5 +1,5 @@
 -- What files say, put together.
-use Rattle.std.proofs.Common.{◌≡◌, ℕ, ℤ, List, Option, Some, None, Result, Ok, Err, ap, ◌∙◌, subst, sym, refl, inr}
+use Rattle.std.proofs.Common.{◌≡◌, ℕ, ℤ, List, Option, Some, None, Result, Ok, Err, ap, ◌∙◌, subst, sym, refl}
 use Rattle.std.specs.Prelude.{IfSome, IsOk}
 use Rattle.s2_mode.specs.Shape.{Shape}
 use Rattle.s2_rows.specs.Rows.{Rows}
@@ -11,8 +11,8 @@ use Rattle.s2_console.specs.declared.exit.Exit.{Exit}
 use Rattle.s2_console.specs.declared.fault.Fault.{Fault}
 use Rattle.s2_console.specs.declared.fault.Fault.TheVariants as faults
 use Rattle.s2_console.specs.Exits.{Follows, CommandAnswers}
-use Rattle.s2_evidence.specs.Inputs.{taken, rows_said, rows_in, values_in, then_values, inputs, AreInputs, IsOnly}
-use Rattle.s2_evidence.specs.Checking.{certificate_said, shape_of_said, with_rows, beside, then_parts, parts_in, ArePartsIn, AreCheckInputs, BothUnreadOrAccepted, IsAnswered}
+use Rattle.s2_evidence.specs.Inputs.{taken, rows_said, rows_in, values_in, then_values, inputs, AreInputs, IsAccepted, IsOnly}
+use Rattle.s2_evidence.specs.Checking.{certificate_said, shape_of_said, with_rows, beside, then_parts, parts_in, ArePartsIn, AreCheckInputs, AreBothAccepted, IsAnswered}
 use Rattle.s2_console.proofs.CommandLemmas.{answers_moved, told}
 
 -- ---- rows and soft values
@@ -42,6 +42,19 @@ values_refused read values view shape None known_soft rows f p h = tt
 values_refused read values view shape (Some xs) None rows f p h = tt
 values_refused read values view shape (Some xs) (Some ys) rows f p h =
     told values view f (values_in shape ys) (inputs shape xs ys) (λ e. ap (λ r. then_values r (values_in shape ys)) p ∙ ap (then_values (Ok rows)) e) h
+
+-- refused soft values, behind rows that are accepted
+behind_accepted : (a : Result Rows Fault) (b : Result (List ℤ) Fault) (f : Fault) → IsOk a → b ≡ Err f → then_values a b ≡ Err f
+behind_accepted (Ok rows) b f h e = ap (then_values (Ok rows)) e
+behind_accepted (Err g) b f h e = cc
+
+pub values_refused_too : {W : Type 0} → (view : W → Rows × List ℤ) (shape : Shape) (known_rows known_soft : Option (List ℕ)) (f : Fault)
+    → IsAccepted known_rows (rows_in shape) → IfSome known_soft (λ ys. Follows {V = List ℤ} (λ v. v) (Err f) (values_in shape ys))
+    → IfSome known_rows (λ xs. IfSome known_soft (λ ys. Follows view (Err f) (inputs shape xs ys)))
+values_refused_too view shape None known_soft f p h = tt
+values_refused_too view shape (Some xs) None f p h = tt
+values_refused_too view shape (Some xs) (Some ys) f p h =
+    told {V = List ℤ} (λ v. v) view f (values_in shape ys) (inputs shape xs ys) (behind_accepted (rows_in shape xs) (values_in shape ys) f p) h
 
 -- a command on files that are refused
 pub refused_inputs : {W : Type 0} → (Says : Rows × List ℤ → Exit → List ℕ → Type 0) (view : W → Rows × List ℤ) (shape : Shape) (known_rows known_soft : Option (List ℕ)) (f : Fault)
@@ -109,7 +122,7 @@ parts_accepted text certificate shape e h =
     let (file, is, parts) = parts_by_shape text certificate shape e in
     subst (λ said. IsOk said) (sym parts) (beside_accepted file (rows_said shape (row_files.rows_of_text text shape)) h)
 
-both_taken : (a b : Result (List ℕ) Fault) (rows certificate : List ℕ) → a ≡ Ok rows → b ≡ Ok certificate → then_parts a b ≡ parts_in rows certificate
+pub both_taken : (a b : Result (List ℕ) Fault) (rows certificate : List ℕ) → a ≡ Ok rows → b ≡ Ok certificate → then_parts a b ≡ parts_in rows certificate
 both_taken a b rows certificate p q = ap (λ x. then_parts x b) p ∙ ap (then_parts (Ok rows)) q
 
 said_of_files : (known_rows known_certificate : Option (List ℕ)) (rows certificate : List ℕ) (said : Result (Rows × File) Fault)
@@ -127,10 +140,9 @@ answers_on_files known_rows known_certificate rows certificate made p q h =
     (λ said. said_of_files known_rows known_certificate rows certificate said p q) h
 
 -- where both were read, and what they say is accepted
-pub both_accepted : (rows rows_after certificate certificate_after : Option (List ℕ)) (text file : List ℕ)
+pub both_accepted : (rows certificate : Option (List ℕ)) (text file : List ℕ)
     → IfSome rows (λ xs. taken xs ≡ Ok text) → IfSome certificate (λ ys. taken ys ≡ Ok file) → IsOk (parts_in text file)
-    → BothUnreadOrAccepted rows rows_after certificate certificate_after
-both_accepted None rows_after certificate certificate_after text file p q h = tt
-both_accepted (Some xs) rows_after None certificate_after text file p q h = tt
-both_accepted (Some xs) rows_after (Some ys) certificate_after text file p q h =
-    inr (subst (λ said. IsOk said) (sym (both_taken (taken xs) (taken ys) text file p q)) h)
+    → AreBothAccepted rows certificate
+both_accepted None certificate text file p q h = tt
+both_accepted (Some xs) None text file p q h = tt
+both_accepted (Some xs) (Some ys) text file p q h = subst (λ said. IsOk said) (sym (both_taken (taken xs) (taken ys) text file p q)) h

@@ -1,5 +1,6 @@
 pub mod CertifyLemmas
 pub mod InputLemmas
+pub mod LackLemmas
 pub mod JudgeLemmas
 pub mod OwnLemmas
 pub mod ValueRange

@@ -17,7 +17,7 @@ use Rattle.s2_console.specs.Notes.{Concludes}
 use Rattle.s2_console.specs.Screens.{Screen, report_in, report_failed}
 use Rattle.s2_mode.specs.Shape.{Shape}
 use Rattle.s2_evidence.specs.Files.{Written, JudgeFiles, contents_in, failed_in}
-use Rattle.s2_evidence.specs.Inputs.{AreInputs, EachUnreadOrAccepted}
+use Rattle.s2_evidence.specs.Inputs.{AreInputs, AreAccepted}
 use Rattle.s2_evidence.specs.Judging.{IsJudged, SaysDecided, exit_on}
 
 -- a certificate's bytes are written, or nothing where there is none
@@ -64,14 +64,14 @@ Certifies tuning IsInput (Err faults.Write) old new =
     ⊎ ((failed_in new ≡ failed_in old + 1) × WrotePart tuning input (contents_in old) (contents_in new)))
 Certifies tuning IsInput (Err f) old new = contents_in new ≡ contents_in old
 
--- `judge` has ended: of its files' input the verdict is printed, and the certificate written before it, memory ran out before a
--- file was read, or over one that is accepted, only what failed was counted, and of a fault the line stands on the errors, behind
--- the report where it is printed there.
+-- `judge` has ended: of its files' input the verdict is printed, and the certificate written before it, memory ran out
+-- only over files that are accepted, only what failed was counted, and of a fault the line stands on the errors, behind the report
+-- where it is printed there.
 abbrev pub JudgeEnds : Tuning → Shape → Place → JudgeFiles → JudgeFiles → Screen → Screen → Exit → Type 0
 JudgeEnds tuning shape place files files_after old new exit =
     (ended : Result Exit Fault) × (shown : Screen) × (exit ≡ exit_of ended)
     × CommandRuns (IsJudged tuning) (AreInputs shape files.rows files.soft) ended (report_in place old) (report_in place shown)
-    × (ended ≡ Err faults.NoMemory → EachUnreadOrAccepted shape files.rows files_after.rows files.soft files_after.soft)
+    × (ended ≡ Err faults.NoMemory → AreAccepted shape files.rows files.soft)
     × Certifies tuning (AreInputs shape files.rows files.soft) ended files.certificate files_after.certificate
     × CommandCounts ended (files.rows_failed + files.soft_failed) (files_after.rows_failed + files_after.soft_failed)
     (failed_in files.certificate + report_failed place old) (failed_in files_after.certificate + report_failed place shown)

@@ -1,8 +1,9 @@
 -- What `check` reads, and what it prints of a certificate.
-use Rattle.std.specs.Prelude.{◌≡◌, ◌↔◌, ◌⊎◌, IsTrue, IsOk, ℕ, ◌+◌, List, ◌++◌, Option, Some, IfSome, codes, pos, Result, Ok, Err}
+use Rattle.std.specs.Prelude.{◌≡◌, ◌↔◌, ◌⊎◌, IsTrue, IsOk, ℕ, ◌+◌, List, ◌++◌, Option, IfSome, codes, pos, Result, Ok, Err}
 use Rattle.s2_mode.specs.Shape.{Shape}
 use Rattle.s2_rows.specs.Rows.{Rows}
 use Rattle.s2_rows.specs.RowFiles as row_files
+use Rattle.s2_rows.specs.FaultTexts.{row_fault_text}
 use Rattle.s2_matrix.specs.Code.{code_of}
 use Rattle.s2_check.specs.Cost.{cost, IsMostLikely}
 use Rattle.s2_check.specs.Views.{View}
@@ -13,6 +14,8 @@ use Rattle.s2_file.specs.File.{File}
 use Rattle.s2_file.specs.Format.{file_of_bytes}
 use Rattle.s2_file.specs.FaultTexts.{certificate_fault_text}
 use Rattle.s2_file.specs.declared.fault.CertFault.{CertFault}
+use Rattle.s2_skim.specs.declared.check.CheckRefusal.{CheckRefusal}
+use Rattle.s2_skim.specs.declared.check.CheckRefusal.TheVariants as refusals
 use Rattle.s2_check.specs.declared.checker.Answer.{Answer}
 use Rattle.s2_check.specs.declared.checker.Answer.TheVariants as answers
 use Rattle.s2_check.specs.declared.checker.Examined.{Examined}
@@ -68,11 +71,14 @@ ArePartsIn rows certificate said = parts_in rows certificate ≡ said
 abbrev pub AreCheckInputs : Option (List ℕ) → Option (List ℕ) → Result (Rows × File) Fault → Type 0
 AreCheckInputs rows certificate said = IfSome rows (λ xs. IfSome certificate (λ ys. check_inputs xs ys ≡ said))
 
--- Where memory ran out: of two files whose bytes are known nothing was read, or what both say together is accepted.
-abbrev pub BothUnreadOrAccepted : Option (List ℕ) → Option (List ℕ) → Option (List ℕ) → Option (List ℕ) → Type 0
-BothUnreadOrAccepted rows rows_after certificate certificate_after =
-    IfSome rows (λ xs. IfSome certificate (λ ys.
-    ((rows_after ≡ Some xs) × (certificate_after ≡ Some ys)) ⊎ IsOk (check_inputs xs ys)))
+-- what a row file and a certificate say is accepted, where their bytes are known
+abbrev pub AreBothAccepted : Option (List ℕ) → Option (List ℕ) → Type 0
+AreBothAccepted rows certificate = IfSome rows (λ xs. IfSome certificate (λ ys. IsOk (check_inputs xs ys)))
+
+-- why a certificate and its rows are refused
+abbrev pub refusal_said : CheckRefusal → Fault
+refusal_said (refusals.Certificate e) = faults.Told (codes "certificate: " ++ certificate_fault_text e)
+refusal_said (refusals.Rows e) = faults.Rows (codes "rows: " ++ row_fault_text e)
 
 -- ---- the answer
 
@@ -102,10 +108,9 @@ abbrev pub IsAnswered : Rows × File → Exit → List ℕ → Type 0
 IsAnswered input exit text =
     (Suits input.0 input.1 × SaysAnswer input.0 (view_of input.0 input.1) exit text) ⊎ SaysNoShape input.0 input.1 exit text
 
--- `check` has ended: so it ran on what its files say, and memory ran out before either was read, or over files that are
--- accepted.
+-- `check` has ended: so it ran on what its files say, and memory ran out only over files that are accepted.
 abbrev pub CheckEnds : CheckFiles → CheckFiles → Screen → Screen → Exit → Type 0
 CheckEnds files files_after old new exit =
     CommandEnds IsAnswered (AreCheckInputs files.rows files.certificate)
-    (BothUnreadOrAccepted files.rows files_after.rows files.certificate files_after.certificate)
+    (AreBothAccepted files.rows files.certificate)
     (files.rows_failed + files.certificate_failed) (files_after.rows_failed + files_after.certificate_failed) old new exit

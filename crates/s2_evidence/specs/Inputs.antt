@@ -1,6 +1,8 @@
 -- What the files of a command say, or the fault that is told.
-use Rattle.std.specs.Prelude.{◌≡◌, ◌⊎◌, ℕ, ℤ, nat_le, Option, Some, IfSome, IsOk, List, ◌++◌, codes, length, Result, Ok, Err, if◌then◌else◌}
+use Rattle.std.specs.Prelude.{◌≡◌, ℕ, ℤ, nat_le, Option, IfSome, IsOk, List, ◌++◌, codes, length, Result, Ok, Err, if◌then◌else◌}
 use Rattle.s2_mode.specs.Shape.{Shape, code_bits}
+use Rattle.s2_mode.specs.declared.whole.FileFault.{FileFault}
+use Rattle.s2_mode.specs.declared.whole.FileFault.TheVariants as files
 use Rattle.s2_rows.specs.Rows.{Rows, rows_value}
 use Rattle.s2_rows.specs.RowFiles as row_files
 use Rattle.s2_rows.specs.Values as values
@@ -17,6 +19,11 @@ rows_said shape (Err e) = Err (faults.Rows (codes "rows: " ++ row_fault_text e))
 -- the most bytes of a file that is read into memory
 abbrev pub most_bytes : ℕ
 most_bytes = 16777216
+
+abbrev pub fault_of_file : FileFault → Fault
+fault_of_file files.Read = faults.Read
+fault_of_file files.TooLong = faults.TooLong
+fault_of_file files.NoMemory = faults.NoMemory
 
 -- the bytes of a file, at most 16,777,216
 abbrev pub taken : List ℕ → Result (List ℕ) Fault
@@ -47,14 +54,13 @@ inputs shape rows soft = then_values (rows_in shape rows) (values_in shape soft)
 abbrev pub AreInputs : Shape → Option (List ℕ) → Option (List ℕ) → Result (Rows × List ℤ) Fault → Type 0
 AreInputs shape rows soft said = IfSome rows (λ xs. IfSome soft (λ ys. inputs shape xs ys ≡ said))
 
--- Where memory ran out: of a file whose bytes are known nothing was read, or what it says is accepted.
-abbrev pub UnreadOrAccepted : {T : Type 0} → Option (List ℕ) → Option (List ℕ) → (List ℕ → Result T Fault) → Type 0
-UnreadOrAccepted old new said = IfSome old (λ xs. (new ≡ Some xs) ⊎ IsOk (said xs))
+-- what a file says is accepted, where its bytes are known
+abbrev pub IsAccepted : {T : Type 0} → Option (List ℕ) → (List ℕ → Result T Fault) → Type 0
+IsAccepted known said = IfSome known (λ xs. IsOk (said xs))
 
--- that holds of a row file, and of a value file
-abbrev pub EachUnreadOrAccepted : Shape → Option (List ℕ) → Option (List ℕ) → Option (List ℕ) → Option (List ℕ) → Type 0
-EachUnreadOrAccepted shape rows rows_after soft soft_after =
-    UnreadOrAccepted rows rows_after (rows_in shape) × UnreadOrAccepted soft soft_after (values_in shape)
+-- a row file is accepted, and a value file
+abbrev pub AreAccepted : Shape → Option (List ℕ) → Option (List ℕ) → Type 0
+AreAccepted shape rows soft = IsAccepted rows (rows_in shape) × IsAccepted soft (values_in shape)
 
 -- what is answered is this input
 abbrev pub IsOnly : {I : Type 0} → I → Result I Fault → Type 0

@@ -14,7 +14,7 @@ use Rattle.s2_console.specs.declared.exit.Exit.TheVariants as exits
 use Rattle.s2_mode.specs.Shape.{shape_of}
 use Rattle.s2_console.specs.Exits.{CommandEnds}
 use Rattle.s2_console.specs.Screens.{Screen}
-use Rattle.s2_evidence.specs.Inputs.{AreInputs, UnreadOrAccepted, values_in}
+use Rattle.s2_evidence.specs.Inputs.{AreInputs, IsAccepted, values_in}
 use Rattle.s2_evidence.specs.Lines.{sole_line, most_likely_line, parity_line, broken_line}
 
 -- the exit of a verdict
@@ -78,9 +78,9 @@ SaysOwn d rows soft exit text = Says (own_verdict d.verdict) rows soft d.bits ex
 abbrev pub IsOwn : Rows × List ℤ → Exit → List ℕ → Type 0
 IsOwn input exit text = SaysOwn (decided input.0 (tuning_of default_rounds 0) input.1) input.0 input.1 exit text
 
--- The program without words has ended: so it ran on the values of its input under the toy rows, and memory ran out before the
--- input was read, or over one that is accepted.
-abbrev pub OwnEnds : Option (List ℕ) → Option (List ℕ) → ℕ → ℕ → Screen → Screen → Exit → Type 0
-OwnEnds soft soft_after reads reads_after old new exit =
+-- The program without words has ended: so it ran on the values of its input under the toy rows, and memory ran out only over an
+-- input that is accepted.
+abbrev pub OwnEnds : Option (List ℕ) → ℕ → ℕ → Screen → Screen → Exit → Type 0
+OwnEnds soft reads reads_after old new exit =
     CommandEnds IsOwn (AreInputs (shape_of 4 2 3) (Some (codes "0 4 8\n0 1 2\n")) soft)
-    (UnreadOrAccepted soft soft_after (values_in (shape_of 4 2 3))) reads reads_after old new exit
+    (IsAccepted soft (values_in (shape_of 4 2 3))) reads reads_after old new exit

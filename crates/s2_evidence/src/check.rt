@@ -1,19 +1,21 @@
 //! `check`: certificates checked.
-ghost use Rattle.std.specs.Prelude.{◌≡◌, ◌≢◌, ◌+◌, Result, Err, IsOk};
+ghost use Rattle.std.specs.Prelude.{◌≡◌, ◌≢◌, ◌+◌, ◌≤◌, Result, Err, IsOk, vec_len, vec_capacity};
 ghost use Rattle.s2_mode.specs.Counts.{CanCount};
 ghost use Rattle.s2_file.specs.Format.{file_of_bytes};
 ghost use Rattle.s2_console.specs.Screens.{CanShow};
 ghost use Rattle.s2_console.specs.Exits.{Follows, CommandAnswers, CommandRuns, CommandCounts};
 ghost use Rattle.s2_evidence.specs.Files.{CanCheck};
-ghost use Rattle.s2_evidence.specs.Checking.{certificate_said, shape_of_said, parts_in, ArePartsIn, AreCheckInputs, BothUnreadOrAccepted, answer_exit, SaysAnswer, IsAnswered, CheckEnds};
+ghost use Rattle.s2_evidence.specs.Inputs.{most_bytes};
+ghost use Rattle.s2_evidence.specs.Checking.{certificate_said, refusal_said, shape_of_said, parts_in, ArePartsIn, AreCheckInputs, AreBothAccepted, answer_exit, SaysAnswer, IsAnswered, CheckEnds};
 
 use crate::files::CheckFiles;
 use crate::lines::{answer_line, examined_line};
-use crate::reading::{fill, matrix_of, room};
+use crate::reading::{MOST_BYTES, file_fault, fill, matrix_of, room};
 use s2_check::{Answer, CertFault, CertView, Certificate, Refusal, examine};
 use s2_console::{Console, Exit, Fault, Printed};
 use s2_matrix::Matrix;
 use s2_mode::{CountedRead, CountedWrite, Shape};
+use s2_skim::{CheckRefusal, skim_check};
 use std::alloc::Global;
 
 /// The exit of an answer.
@@ -88,7 +90,60 @@ fn check_parts(alloc: Global, rows: &[u8], certificate: &[u8]) -> Result<Printed
     Ok(answered(&matrix, &certificate))
 }
 
-/// Reads rows and a certificate into memory, and checks. Room for both is taken before the first byte is read.
+/// Why a certificate and its rows are refused, as a command's fault.
+fn refused(refusal: CheckRefusal) -> Fault<'static>
+    ensures { result ≡ refusal_said refusal }
+{
+    match refusal {
+        CheckRefusal::Certificate(fault) => Fault::about("certificate: ", fault.text()),
+        CheckRefusal::Rows(fault) => Fault::of_rows(fault.text()),
+    }
+}
+
+/// What is told of rows and a certificate for which there is no room: why they are refused, or want of memory where they are not.
+fn lacking_check<R: CountedRead, S: CountedRead>(
+    rows: &mut R,
+    certificate: &mut S,
+) -> Fault<'static>
+    requires rows { CanCount (R.count rows.old) }
+    requires certificate { CanCount (S.count certificate.old) }
+    ensures answers { CommandAnswers IsAnswered (AreCheckInputs (R.remaining rows.old) (S.remaining certificate.old)) (Err result) }
+    ensures read { result ≡ Fault.Read → R.count rows.new + S.count certificate.new ≡ R.count rows.old + S.count certificate.old + 1 }
+    ensures no_read { result ≢ Fault.Read → R.count rows.new + S.count certificate.new ≡ R.count rows.old + S.count certificate.old }
+    ensures no_memory { result ≡ Fault.NoMemory → AreBothAccepted (R.remaining rows.old) (S.remaining certificate.old) }
+    ensures write { result ≢ Fault.Write }
+{
+    match skim_check(rows, certificate, MOST_BYTES) {
+        Ok(Some(refusal)) => refused(refusal),
+        Ok(None) => Fault::NoMemory,
+        Err(fault) => file_fault(fault),
+    }
+}
+
+/// Reads rows and a certificate into room for them, and checks.
+fn check_kept<R: CountedRead, S: CountedRead>(
+    alloc: Global,
+    rows: &mut R,
+    certificate: &mut S,
+    row_text: &mut Vec<u8>,
+    file: &mut Vec<u8>,
+) -> Result<Printed, Fault<'static>>
+    requires rows { CanCount (R.count rows.old) }
+    requires certificate { CanCount (S.count certificate.old) }
+    requires empty { (vec_len row_text.old ≡ 0) × (vec_len file.old ≡ 0) }
+    requires room { (most_bytes ≤ vec_capacity row_text.old) × (most_bytes ≤ vec_capacity file.old) }
+    ensures answers { CommandAnswers IsAnswered (AreCheckInputs (R.remaining rows.old) (S.remaining certificate.old)) result }
+    ensures read { result ≡ Err Fault.Read → R.count rows.new + S.count certificate.new ≡ R.count rows.old + S.count certificate.old + 1 }
+    ensures no_read { result ≢ Err Fault.Read → R.count rows.new + S.count certificate.new ≡ R.count rows.old + S.count certificate.old }
+    ensures no_memory { result ≡ Err Fault.NoMemory → AreBothAccepted (R.remaining rows.old) (S.remaining certificate.old) }
+    ensures write { result ≢ Err Fault.Write }
+{
+    fill(rows, row_text)?;
+    fill(certificate, file)?;
+    check_parts(alloc, row_text, file)
+}
+
+/// Reads rows and a certificate, and checks.
 fn check_read<R: CountedRead, S: CountedRead>(
     alloc: Global,
     rows: &mut R,
@@ -99,15 +154,15 @@ fn check_read<R: CountedRead, S: CountedRead>(
     ensures answers { CommandAnswers IsAnswered (AreCheckInputs (R.remaining rows.old) (S.remaining certificate.old)) result }
     ensures read { result ≡ Err Fault.Read → R.count rows.new + S.count certificate.new ≡ R.count rows.old + S.count certificate.old + 1 }
     ensures no_read { result ≢ Err Fault.Read → R.count rows.new + S.count certificate.new ≡ R.count rows.old + S.count certificate.old }
-    ensures no_memory { result ≡ Err Fault.NoMemory → BothUnreadOrAccepted (R.remaining rows.old) (R.remaining rows.new)
-        (S.remaining certificate.old) (S.remaining certificate.new) }
+    ensures no_memory { result ≡ Err Fault.NoMemory → AreBothAccepted (R.remaining rows.old) (S.remaining certificate.old) }
     ensures write { result ≢ Err Fault.Write }
 {
-    let mut row_text = room(alloc)?;
-    let mut file = room(alloc)?;
-    fill(rows, &mut row_text)?;
-    fill(certificate, &mut file)?;
-    check_parts(alloc, &row_text, &file)
+    match (room(alloc), room(alloc)) {
+        (Ok(mut row_text), Ok(mut file)) => {
+            check_kept(alloc, rows, certificate, &mut row_text, &mut file)
+        }
+        _ => Err(lacking_check(rows, certificate)),
+    }
 }
 
 /// Reads rows and a certificate, checks, and prints the answer.
@@ -121,7 +176,7 @@ fn print_check<R: CountedRead, S: CountedRead, O: CountedWrite>(
     ensures whole { IsOk result → O.count out.new ≡ O.count out.old }
     ensures run { CommandRuns IsAnswered (AreCheckInputs files.old.rows files.old.certificate) result (O.contents out.old) (O.contents out.new) }
     ensures no_memory { result ≡ Err Fault.NoMemory
-        → BothUnreadOrAccepted files.old.rows files.new.rows files.old.certificate files.new.certificate }
+        → AreBothAccepted files.old.rows files.old.certificate }
     ensures causes { CommandCounts result (files.old.rows_failed + files.old.certificate_failed) (files.new.rows_failed + files.new.certificate_failed)
         (O.count out.old) (O.count out.new) }
 {
@@ -129,7 +184,7 @@ fn print_check<R: CountedRead, S: CountedRead, O: CountedWrite>(
 }
 
 /// `check`: whether a certificate shows its word to be sole, or most likely, under the code of a row file. Want of memory is
-/// told before the first byte of either is read, or where both are accepted.
+/// told only where both files are accepted.
 pub fn check_command<R: CountedRead, S: CountedRead, O: CountedWrite, E: CountedWrite>(
     alloc: Global,
     files: &mut CheckFiles<R, S>,

@@ -6,7 +6,7 @@ ghost use Rattle.s2_check.specs.Views.{IsSoft};
 ghost use Rattle.s2_console.specs.Screens.{Screen, CanTell, SameBeside, report_in, report_failed};
 ghost use Rattle.s2_console.specs.Exits.{CommandAnswers, CommandRuns, CommandCounts};
 ghost use Rattle.s2_evidence.specs.Files.{written, contents_in, failed_in, SameAsked, CanJudge};
-ghost use Rattle.s2_evidence.specs.Inputs.{AreInputs, IsOnly, EachUnreadOrAccepted};
+ghost use Rattle.s2_evidence.specs.Inputs.{AreInputs, IsOnly, AreAccepted};
 ghost use Rattle.s2_evidence.specs.Judging.{IsJudged};
 ghost use Rattle.s2_evidence.specs.Certifying.{Certifies, IsCertified, JudgeEnds};
 
@@ -64,8 +64,8 @@ pub(crate) fn judge_read<R: CountedRead, S: CountedRead, C: Output>(
         (contents_in (written (λ c. C.contents c) (λ c. C.count c) certificate.old)) (contents_in (written (λ c. C.contents c) (λ c. C.count c) certificate.new)) }
     ensures read { result ≡ Err Fault.Read → R.count rows.new + S.count soft.new ≡ R.count rows.old + S.count soft.old + 1 }
     ensures no_read { result ≢ Err Fault.Read → R.count rows.new + S.count soft.new ≡ R.count rows.old + S.count soft.old }
-    ensures no_memory { result ≡ Err Fault.NoMemory → EachUnreadOrAccepted shape
-        (R.remaining rows.old) (R.remaining rows.new) (S.remaining soft.old) (S.remaining soft.new) }
+    ensures no_memory { result ≡ Err Fault.NoMemory → AreAccepted shape
+        (R.remaining rows.old) (S.remaining soft.old) }
     ensures write { result ≡ Err Fault.Write → failed_in (written (λ c. C.contents c) (λ c. C.count c) certificate.new) ≡ failed_in (written (λ c. C.contents c) (λ c. C.count c) certificate.old) + 1 }
     ensures no_write { result ≢ Err Fault.Write → failed_in (written (λ c. C.contents c) (λ c. C.count c) certificate.new) ≡ failed_in (written (λ c. C.contents c) (λ c. C.count c) certificate.old) }
     ensures asked { SameAsked (written (λ c. C.contents c) (λ c. C.count c) certificate.old) (written (λ c. C.contents c) (λ c. C.count c) certificate.new) }
@@ -87,7 +87,7 @@ fn judge_files<R: CountedRead, S: CountedRead, C: Output>(
     ensures read { result ≡ Err Fault.Read → files.new.rows_failed + files.new.soft_failed ≡ files.old.rows_failed + files.old.soft_failed + 1 }
     ensures no_read { result ≢ Err Fault.Read → files.new.rows_failed + files.new.soft_failed ≡ files.old.rows_failed + files.old.soft_failed }
     ensures no_memory { result ≡ Err Fault.NoMemory
-        → EachUnreadOrAccepted shape files.old.rows files.new.rows files.old.soft files.new.soft }
+        → AreAccepted shape files.old.rows files.old.soft }
     ensures write { result ≡ Err Fault.Write → failed_in files.new.certificate ≡ failed_in files.old.certificate + 1 }
     ensures no_write { result ≢ Err Fault.Write → failed_in files.new.certificate ≡ failed_in files.old.certificate }
     ensures asked { SameAsked files.old.certificate files.new.certificate }
@@ -117,7 +117,7 @@ fn print_judgement<R: CountedRead, S: CountedRead, C: Output, O: CountedWrite>(
     ensures asked { SameAsked files.old.certificate files.new.certificate }
     ensures run { CommandRuns (IsJudged tuning) (AreInputs shape files.old.rows files.old.soft) result (O.contents out.old) (O.contents out.new) }
     ensures no_memory { result ≡ Err Fault.NoMemory
-        → EachUnreadOrAccepted shape files.old.rows files.new.rows files.old.soft files.new.soft }
+        → AreAccepted shape files.old.rows files.old.soft }
     ensures certified { Certifies tuning (AreInputs shape files.old.rows files.old.soft) result
         files.old.certificate files.new.certificate }
     ensures causes { CommandCounts result (files.old.rows_failed + files.old.soft_failed) (files.new.rows_failed + files.new.soft_failed)
@@ -144,7 +144,7 @@ fn judge_at<R: CountedRead, S: CountedRead, C: Output, O: CountedWrite, E: Count
     ensures asked { SameAsked files.old.certificate files.new.certificate }
     ensures run { CommandRuns (IsJudged tuning) (AreInputs shape files.old.rows files.old.soft) result (report_in place console.old) (report_in place console.new) }
     ensures no_memory { result ≡ Err Fault.NoMemory
-        → EachUnreadOrAccepted shape files.old.rows files.new.rows files.old.soft files.new.soft }
+        → AreAccepted shape files.old.rows files.old.soft }
     ensures certified { Certifies tuning (AreInputs shape files.old.rows files.old.soft) result
         files.old.certificate files.new.certificate }
     ensures causes { CommandCounts result (files.old.rows_failed + files.old.soft_failed) (files.new.rows_failed + files.new.soft_failed)
@@ -159,8 +159,8 @@ fn judge_at<R: CountedRead, S: CountedRead, C: Output, O: CountedWrite, E: Count
 /// `judge`: what a receiver that tries so much decides on the soft values of a file under the code of a row
 /// file, and what is known of it. Where a file for it is asked for, the certificate of the decided bits is
 /// written if they are sole or most likely, before the verdict is printed; where its writer fails, a part of it
-/// is written. Of the row file, and of the value file, want of memory is told before its first byte is read, or where it
-/// is accepted.
+/// is written. Want of memory is told only where the row file and the value file
+/// are accepted.
 pub fn judge_command<R: CountedRead, S: CountedRead, C: Output, O: CountedWrite, E: CountedWrite>(
     alloc: Global,
     shape: Shape,

@@ -4,8 +4,8 @@
 //! writes their certificate where a file for it is asked for; of a row file and a certificate's file
 //! [`check_command`] prints the checker's answer. The exit is that of the verdict or the answer. A file that is
 //! refused is told by one line on the errors, and so is a reader or a writer that failed; the counts of failed
-//! calls rise just then. Want of memory is told before the first byte of a file is read, or of files that are
-//! accepted. [`self_command`] judges its input under the toy rows, and says most likely also where a
+//! calls rise just then. Want of memory is told only of files that are accepted: where there is no room for them they are
+//! read through without it (`s2_skim`). [`self_command`] judges its input under the toy rows, and says most likely also where a
 //! word is sole. A command's files are one value ([`JudgeFiles`], [`CheckFiles`]), and [`read_matrix`] reads rows
 //! for other commands too.
 //!

@@ -1,5 +1,5 @@
 //! Row files, their matrices, value files, and what is judged.
-ghost use Rattle.std.specs.Prelude.{◌≡◌, ◌≢◌, ◌+◌, ◌≤◌, All, Err, IfOk, IfSome, IsOk, IsOkUnless, OnOk, length, vec_len, vec_capacity};
+ghost use Rattle.std.specs.Prelude.{◌≡◌, ◌≢◌, ◌+◌, ◌≤◌, All, Err, List, ℤ, IfOk, IfSome, IsOk, IsOkUnless, OnOk, length, vec_len, vec_capacity};
 ghost use Rattle.s2_check.specs.Views.{IsSoft};
 ghost use Rattle.s2_mode.specs.Counts.{CanCount};
 ghost use Rattle.s2_mode.specs.Shape.{code_bits};
@@ -7,12 +7,13 @@ ghost use Rattle.s2_rows.specs.RowFiles as row_files;
 ghost use Rattle.s2_matrix.specs.Code.{code_of};
 ghost use Rattle.s2_console.specs.Exits.{Follows};
 ghost use Rattle.s2_rows.specs.Values as values;
-ghost use Rattle.s2_evidence.specs.Inputs.{taken, rows_said, rows_in, values_said, values_in, inputs, most_bytes, UnreadOrAccepted, EachUnreadOrAccepted};
+ghost use Rattle.s2_evidence.specs.Inputs.{taken, fault_of_file, rows_said, rows_in, values_said, values_in, inputs, most_bytes, IsAccepted, AreAccepted};
 
 use s2_console::Fault;
 use s2_matrix::Matrix;
 use s2_mode::{CountedRead, FileFault, Shape, read_into};
 use s2_rows::{RowFault, Rows, ValueFault, read_rows, read_values};
+use s2_skim::{skim_rows, skim_values};
 use std::alloc::Global;
 
 /// The most bytes of a file that is read into memory.
@@ -25,6 +26,17 @@ pub(crate) fn room(alloc: Global) -> Result<Vec<u8>, Fault<'static>>
     ensures told { IsOkUnless result Fault.NoMemory }
 {
     Vec::with_capacity(alloc, MOST_BYTES).map_err(|_| Fault::NoMemory)
+}
+
+/// A fault of a file, as a command's.
+pub(crate) fn file_fault(fault: FileFault) -> Fault<'static>
+    ensures { result ≡ fault_of_file fault }
+{
+    match fault {
+        FileFault::Read => Fault::Read,
+        FileFault::TooLong => Fault::TooLong,
+        FileFault::NoMemory => Fault::NoMemory,
+    }
 }
 
 /// Puts the bytes of a file into room for them. It takes no memory.
@@ -41,12 +53,7 @@ pub(crate) fn fill<R: CountedRead>(
     ensures memory { result ≢ Err Fault.NoMemory }
     ensures write { result ≢ Err Fault.Write }
 {
-    match read_into(reader, bytes, MOST_BYTES) {
-        Ok(()) => Ok(()),
-        Err(FileFault::Read) => Err(Fault::Read),
-        Err(FileFault::TooLong) => Err(Fault::TooLong),
-        Err(FileFault::NoMemory) => Err(Fault::NoMemory),
-    }
+    read_into(reader, bytes, MOST_BYTES).map_err(file_fault)
 }
 
 /// The bytes of a file. Room for them is taken before the first one is read.
@@ -93,8 +100,24 @@ pub(crate) fn matrix_of(alloc: Global, text: &[u8], shape: Shape) -> Result<Matr
     }
 }
 
+/// What is told of a row file for which there is no room: why its rows are refused, or want of memory where they are not.
+fn lacking_rows<R: CountedRead>(reader: &mut R, shape: Shape) -> Fault<'static>
+    requires { CanCount (R.count reader.old) }
+    ensures rows { IfSome (R.remaining reader.old) (λ xs. Follows (λ (r : Rows). r) (Err result) (rows_in shape xs)) }
+    ensures read { result ≡ Fault.Read → R.count reader.new ≡ R.count reader.old + 1 }
+    ensures no_other { result ≢ Fault.Read → R.count reader.new ≡ R.count reader.old }
+    ensures no_memory { result ≡ Fault.NoMemory → IsAccepted (R.remaining reader.old) (rows_in shape) }
+    ensures write { result ≢ Fault.Write }
+{
+    match skim_rows(reader, shape, MOST_BYTES) {
+        Ok(Some(fault)) => Fault::of_rows(fault.text()),
+        Ok(None) => Fault::NoMemory,
+        Err(fault) => file_fault(fault),
+    }
+}
+
 /// The matrix of the rows of a row file, which is read to its end. Where it is refused, the fault says why: want of memory is
-/// told before the first byte is read, or of rows that are accepted.
+/// told only of rows that are accepted.
 pub fn read_matrix<R: CountedRead>(
     alloc: Global,
     reader: &mut R,
@@ -105,12 +128,14 @@ pub fn read_matrix<R: CountedRead>(
     ensures shape { IfOk result (λ m. m.shape ≡ shape) }
     ensures read { result ≡ Err Fault.Read → R.count reader.new ≡ R.count reader.old + 1 }
     ensures no_other { result ≢ Err Fault.Read → R.count reader.new ≡ R.count reader.old }
-    ensures no_memory { result ≡ Err Fault.NoMemory
-        → UnreadOrAccepted (R.remaining reader.old) (R.remaining reader.new) (rows_in shape) }
+    ensures no_memory { result ≡ Err Fault.NoMemory → IsAccepted (R.remaining reader.old) (rows_in shape) }
     ensures write { result ≢ Err Fault.Write }
 {
-    let text = read_bytes(alloc, reader)?;
-    matrix_of(alloc, &text, shape)
+    match read_bytes(alloc, reader) {
+        Ok(text) => matrix_of(alloc, &text, shape),
+        Err(Fault::NoMemory) => Err(lacking_rows(reader, shape)),
+        Err(fault) => Err(fault),
+    }
 }
 
 /// The values of a value file in memory, as many as a codeword has bits.
@@ -130,6 +155,22 @@ fn values_of(alloc: Global, text: &[u8], shape: Shape) -> Result<Vec<i16>, Fault
     }
 }
 
+/// What is told of a value file for which there is no room: why its values are refused, or want of memory where they are not.
+fn lacking_values<R: CountedRead>(reader: &mut R, shape: Shape) -> Fault<'static>
+    requires { CanCount (R.count reader.old) }
+    ensures values { IfSome (R.remaining reader.old) (λ xs. Follows (λ (v : List ℤ). v) (Err result) (values_in shape xs)) }
+    ensures read { result ≡ Fault.Read → R.count reader.new ≡ R.count reader.old + 1 }
+    ensures no_other { result ≢ Fault.Read → R.count reader.new ≡ R.count reader.old }
+    ensures no_memory { result ≡ Fault.NoMemory → IsAccepted (R.remaining reader.old) (values_in shape) }
+    ensures write { result ≢ Fault.Write }
+{
+    match skim_values(reader, shape.n(), MOST_BYTES) {
+        Ok(Some(fault)) => Fault::about("values: ", fault.text()),
+        Ok(None) => Fault::NoMemory,
+        Err(fault) => file_fault(fault),
+    }
+}
+
 /// The values of a value file.
 fn read_value_file<R: CountedRead>(
     alloc: Global,
@@ -142,12 +183,14 @@ fn read_value_file<R: CountedRead>(
     ensures range { IfOk result (λ v. All IsSoft v.items) }
     ensures read { result ≡ Err Fault.Read → R.count reader.new ≡ R.count reader.old + 1 }
     ensures no_other { result ≢ Err Fault.Read → R.count reader.new ≡ R.count reader.old }
-    ensures no_memory { result ≡ Err Fault.NoMemory
-        → UnreadOrAccepted (R.remaining reader.old) (R.remaining reader.new) (values_in shape) }
+    ensures no_memory { result ≡ Err Fault.NoMemory → IsAccepted (R.remaining reader.old) (values_in shape) }
     ensures write { result ≢ Err Fault.Write }
 {
-    let text = read_bytes(alloc, reader)?;
-    values_of(alloc, &text, shape)
+    match read_bytes(alloc, reader) {
+        Ok(text) => values_of(alloc, &text, shape),
+        Err(Fault::NoMemory) => Err(lacking_values(reader, shape)),
+        Err(fault) => Err(fault),
+    }
 }
 
 /// What is judged: the matrix of rows, and a soft value for each of its bits.
@@ -162,7 +205,8 @@ impl Drop for Judged {
     }
 }
 
-/// The rows of a row file and the values of a value file.
+/// The rows of a row file and the values of a value file. Where there is no memory for the rows, the values are read through all the
+/// same: they may be refused.
 pub(crate) fn read_judged<R: CountedRead, S: CountedRead>(
     alloc: Global,
     rows: &mut R,
@@ -176,13 +220,17 @@ pub(crate) fn read_judged<R: CountedRead, S: CountedRead>(
     ensures range { IfOk result (λ j. All IsSoft j.soft.items) }
     ensures read { result ≡ Err Fault.Read → R.count rows.new + S.count soft.new ≡ R.count rows.old + S.count soft.old + 1 }
     ensures no_read { result ≢ Err Fault.Read → R.count rows.new + S.count soft.new ≡ R.count rows.old + S.count soft.old }
-    ensures no_memory { result ≡ Err Fault.NoMemory → EachUnreadOrAccepted shape
-        (R.remaining rows.old) (R.remaining rows.new) (S.remaining soft.old) (S.remaining soft.new) }
-    ensures accepted { OnOk result (EachUnreadOrAccepted shape
-        (R.remaining rows.old) (R.remaining rows.new) (S.remaining soft.old) (S.remaining soft.new)) }
+    ensures no_memory { result ≡ Err Fault.NoMemory
+        → AreAccepted shape (R.remaining rows.old) (S.remaining soft.old) }
+    ensures accepted { OnOk result (AreAccepted shape (R.remaining rows.old) (S.remaining soft.old)) }
     ensures write { result ≢ Err Fault.Write }
 {
-    let matrix = read_matrix(alloc, rows, shape)?;
-    let soft = read_value_file(alloc, soft, shape)?;
-    Ok(Judged { matrix, soft })
+    match read_matrix(alloc, rows, shape) {
+        Ok(matrix) => {
+            let soft = read_value_file(alloc, soft, shape)?;
+            Ok(Judged { matrix, soft })
+        }
+        Err(Fault::NoMemory) => Err(lacking_values(soft, shape)),
+        Err(fault) => Err(fault),
+    }
 }

@@ -4,7 +4,7 @@ ghost use Rattle.std.specs.Io.KnownBytes.{Appends};
 ghost use Rattle.s2_mode.specs.Counts.{CanCount, CountsFault};
 ghost use Rattle.s2_mode.specs.Mode.{shape_in};
 ghost use Rattle.s2_console.specs.Exits.{Follows};
-ghost use Rattle.s2_evidence.specs.Inputs.{rows_in, UnreadOrAccepted};
+ghost use Rattle.s2_evidence.specs.Inputs.{rows_in, IsAccepted};
 ghost use Rattle.s2_modes.specs.Names.{mode_words};
 ghost use Rattle.s2_table.specs.Tables.{note_line, Notes, IsNoted};
 
@@ -66,8 +66,8 @@ pub fn note_rows<E: CountedWrite>(errors: &mut E, mode: &Mode, matrix: &Matrix)
 }
 
 /// The matrix of the rows of a mode's row file, which is read to its end, with the note where it belongs, unless notes are to be left
-/// out. Where the file is refused, the fault says why, and nothing is noted: want of memory is told before the first byte is
-/// read, or of rows that are accepted.
+/// out. Where the file is refused, the fault says why, and nothing is noted: want of memory is told only of rows that
+/// are accepted.
 pub fn read_noted<R: CountedRead, E: CountedWrite>(
     alloc: Global,
     mode: &Mode,
@@ -82,7 +82,7 @@ pub fn read_noted<R: CountedRead, E: CountedWrite>(
     ensures read { result ≡ Err Fault.Read → R.count reader.new ≡ R.count reader.old + 1 }
     ensures no_other { result ≢ Err Fault.Read → R.count reader.new ≡ R.count reader.old }
     ensures no_memory { result ≡ Err Fault.NoMemory
-        → UnreadOrAccepted (R.remaining reader.old) (R.remaining reader.new) (rows_in (shape_in mode.now)) }
+        → IsAccepted (R.remaining reader.old) (rows_in (shape_in mode.now)) }
     ensures write { result ≢ Err Fault.Write }
     ensures noted { quiet ≡ false → IfOk result (λ m. E.count errors.new ≡ E.count errors.old
         → IsNoted mode.now m (E.contents errors.old) (E.contents errors.new)) }

@@ -22,7 +22,7 @@ pub use Rattle.s2_words.specs.declared.request.NoiseWords.{NoiseWords}
 pub use Rattle.s2_words.specs.declared.request.NoteWords.{NoteWords}
 pub use Rattle.s2_words.specs.declared.request.Request.{Request}
 pub use Rattle.s2_receive.specs.declared.report.Received.{Received}
-pub use Rattle.s2_evidence.specs.Inputs.{rows_in, UnreadOrAccepted}
+pub use Rattle.s2_evidence.specs.Inputs.{rows_in, IsAccepted}
 pub use Rattle.s2_table.specs.Wanted.{notes_on}
 pub use Rattle.s2_modem.specs.Reception.{link_rules, rules_for}
 pub use Rattle.s2_tool.specs.Links.{Causes, Deed, Ends, OnLink, Tries, link_in, link_on, streams_at}

@@ -12,7 +12,7 @@ use Rattle.s2_console.specs.declared.fault.Fault.TheVariants as faults
 use Rattle.s2_console.specs.Exits.{Follows}
 use Rattle.s2_console.specs.Screens.{Screen, report_in, report_failed}
 use Rattle.s2_console.specs.declared.place.Place.{Place}
-use Rattle.s2_evidence.specs.Inputs.{rows_in, UnreadOrAccepted}
+use Rattle.s2_evidence.specs.Inputs.{rows_in, IsAccepted}
 use Rattle.s2_files.specs.Known.{Holdings}
 use Rattle.s2_files.specs.declared.uses.Role.TheVariants as roles
 
@@ -103,12 +103,12 @@ DoesOn Does (Ok link) old new ended = Tries Does link old new ended
 DoesOn Does (Err f) old new ended = (f ≢ faults.Write) × (ended ≡ Err f) × (new ≡ old)
 
 -- A command on a setup and on these files, of which so much is left. What the row file says decides whether there is a link,
--- unless memory ran out or a read of it failed, which was counted. Want of memory is told only where no byte of the row file was
--- read, or where it is accepted.
+-- unless memory ran out or a read of it failed, which was counted. Want of memory is told only where the row file
+-- is accepted.
 pub record OnLink {T : Type 0} (Does : Deed T) (setup : Setup) (files left : Ends) (old new : Streams) (ended : Result T Fault) : Type 0 where
   pub link : Result Link Fault
   pub linked : IfSome files.rows (λ text. Follows (λ l. l) link (link_in setup text))
-  pub no_memory : ended ≡ Err faults.NoMemory → UnreadOrAccepted files.rows left.rows (link_in setup)
+  pub no_memory : ended ≡ Err faults.NoMemory → IsAccepted files.rows (link_in setup)
   pub setup_kept : IfOk link (λ l. l.setup ≡ setup)
   pub rows_read : link ≡ Err faults.Read → left.rows_failed ≡ files.rows_failed + 1
   pub rows_whole : link ≢ Err faults.Read → left.rows_failed ≡ files.rows_failed

@@ -34,10 +34,10 @@ use Rattle.s2_words.specs.declared.request.NoteWords.{NoteWords}
 use Rattle.s2_receive.specs.declared.report.Received.{Received}
 use Rattle.s2_words.specs.declared.request.ShapeWords.{ShapeWords}
 use Rattle.s2_evidence.specs.Files.{Written, JudgeFiles, CheckFiles}
-use Rattle.s2_evidence.specs.Inputs.{AreInputs, UnreadOrAccepted, EachUnreadOrAccepted, rows_in, values_in}
+use Rattle.s2_evidence.specs.Inputs.{AreInputs, IsAccepted, AreAccepted, rows_in, values_in}
 use Rattle.s2_evidence.specs.Certifying.{Certifies}
 use Rattle.s2_evidence.specs.Judging.{IsJudged, IsOwn}
-use Rattle.s2_evidence.specs.Checking.{AreCheckInputs, BothUnreadOrAccepted, IsAnswered}
+use Rattle.s2_evidence.specs.Checking.{AreCheckInputs, AreBothAccepted, IsAnswered}
 use Rattle.s2_table.specs.Tables.{AreRowsIn, IsTold}
 use Rattle.s2_table.specs.Wanted.{notes_on}
 use Rattle.s2_tool.specs.Links.{Ends, ends_of, streams_with, CannotOpen, CannotOpenOne, Deed, OnLink}
@@ -126,14 +126,14 @@ Receipts words setup files Left Does notes ended old new =
 -- Whether the rows of a file are the standard's for the code of a mode.
 abbrev pub Compares : Mode → Option (List ℕ) → Result Exit Fault → Option (List ℕ) → Option (List ℕ) → Type 0
 Compares mode rows ended old new =
-    (behind : Option (List ℕ)) × CommandRuns (IsTold mode) (AreRowsIn (shape_in mode) rows) ended old new
-    × (ended ≡ Err faults.NoMemory → UnreadOrAccepted rows behind (rows_in (shape_in mode)))
+    CommandRuns (IsTold mode) (AreRowsIn (shape_in mode) rows) ended old new
+    × (ended ≡ Err faults.NoMemory → IsAccepted rows (rows_in (shape_in mode)))
 
 -- What the checker finds of a certificate's file, by a row file.
 abbrev pub Examines : CheckFiles → Result Exit Fault → Option (List ℕ) → Option (List ℕ) → Type 0
 Examines files ended old new =
-    (behind : CheckFiles) × CommandRuns IsAnswered (AreCheckInputs files.rows files.certificate) ended old new
-    × (ended ≡ Err faults.NoMemory → BothUnreadOrAccepted files.rows behind.rows files.certificate behind.certificate)
+    CommandRuns IsAnswered (AreCheckInputs files.rows files.certificate) ended old new
+    × (ended ≡ Err faults.NoMemory → AreBothAccepted files.rows files.certificate)
 
 -- a file that may be asked for: it was let go with what is said to stand in it
 abbrev pub LeftAsked : Leavings → Option (Bor (List ℕ)) → Option Written → Type 0
@@ -147,7 +147,7 @@ LeftAsked leaves None (Some file) = ⊥
 abbrev pub Judges : JudgeWords → JudgeFiles → Leavings → Result Exit Fault → Option (List ℕ) → Option (List ℕ) → Type 0
 Judges words files leaves ended old new =
     (behind : JudgeFiles) × CommandRuns (IsJudged words.tuning) (AreInputs (asked_shape words.shape) files.rows files.soft) ended old new
-    × (ended ≡ Err faults.NoMemory → EachUnreadOrAccepted (asked_shape words.shape) files.rows behind.rows files.soft behind.soft)
+    × (ended ≡ Err faults.NoMemory → AreAccepted (asked_shape words.shape) files.rows files.soft)
     × Certifies words.tuning (AreInputs (asked_shape words.shape) files.rows files.soft) ended files.certificate behind.certificate
     × LeftAsked leaves words.certificate behind.certificate
 
@@ -163,38 +163,38 @@ Channels channel from to Left ended =
 -- input determine; one that names files what its command says of what they hold, each in its role, and the file that it writes was let
 -- go, by its name, with what the command says that its writer took; or it could not be begun.
 -- Where its words have no mode or no shape, just that is told, and want of memory not in its place. Nor is it told in place of
--- what standard input is refused for, of which `left` is left; of files, as their commands say, which alone see what is left.
-abbrev pub Serves : Holdings → Leavings → Request → Option (List ℕ) → Option (List ℕ) → List ℕ → Result Exit Fault → Option (List ℕ) → Option (List ℕ) → Type 0
-Serves holds leaves requests.Own input left notes ended old new =
+-- what the rows, values or certificate are refused for that standard input or a file holds.
+abbrev pub Serves : Holdings → Leavings → Request → Option (List ℕ) → List ℕ → Result Exit Fault → Option (List ℕ) → Option (List ℕ) → Type 0
+Serves holds leaves requests.Own input notes ended old new =
     (notes ≡ []) × CommandRuns IsOwn (AreInputs (shape_of 4 2 3) (Some (codes "0 4 8\n0 1 2\n")) input) ended old new
-    × (ended ≡ Err faults.NoMemory → UnreadOrAccepted input left (values_in (shape_of 4 2 3)))
-Serves holds leaves (requests.Modes words) input left notes ended old new = (notes ≡ []) × CommandRuns IsListed (IsAsked words.rate) ended old new
-Serves holds leaves (requests.Rows words) input left notes ended old new =
+    × (ended ≡ Err faults.NoMemory → IsAccepted input (values_in (shape_of 4 2 3)))
+Serves holds leaves (requests.Modes words) input notes ended old new = (notes ≡ []) × CommandRuns IsListed (IsAsked words.rate) ended old new
+Serves holds leaves (requests.Rows words) input notes ended old new =
     (IsShape (asked_shape words.shape) × (notes ≡ [])
     × MakesRows (asked_shape words.shape) words.weight words.seed ended old new)
     ⊎ NotBegun (NotOf (asked_shape words.shape) (λ f. ⊥)) notes ended old new
-Serves holds leaves (requests.Table words) input left notes ended old new =
+Serves holds leaves (requests.Table words) input notes ended old new =
     (IsMode (table_mode words) × (notes ≡ notes_on words.quiet (table_mode words) ended)
     × Compares (table_mode words) (holds roles.Input words.rows.now) ended old new)
     ⊎ NotBegun (NotOn (table_mode words) (CannotOpen words.rows)) notes ended old new
-Serves holds leaves (requests.Judge words) input left notes ended old new =
+Serves holds leaves (requests.Judge words) input notes ended old new =
     (IsShape (asked_shape words.shape) × (notes ≡ []) × Judges words (judge_files holds words) leaves ended old new)
     ⊎ NotBegun (NotOf (asked_shape words.shape) (NotJudged words)) notes ended old new
-Serves holds leaves (requests.Check words) input left notes ended old new =
+Serves holds leaves (requests.Check words) input notes ended old new =
     ((notes ≡ []) × Examines (check_files holds words) ended old new)
     ⊎ NotBegun (λ f. CannotOpen words.rows f ⊎ CannotOpen words.certificate f) notes ended old new
-Serves holds leaves (requests.Mod words) input left notes ended old new =
+Serves holds leaves (requests.Mod words) input notes ended old new =
     (IsMode (asked_setup words.link).mode × (notes ≡ notes_on words.quiet (asked_setup words.link).mode ended)
     × Reports (Sends words.dummy) (asked_setup words.link) (ends_of holds words.rows words.packets words.symbols) (leaves words.symbols.now) ended old new)
     ⊎ NotBegun (NotOn (asked_setup words.link).mode (CannotOpenOne words.rows words.packets words.symbols)) notes ended old new
-Serves holds leaves (requests.Noise words) input left notes ended old new =
+Serves holds leaves (requests.Noise words) input notes ended old new =
     (notes ≡ []) × (new ≡ old)
     × (Channels words.channel (holds roles.Input words.from.now) (holds roles.Output words.to.now) (leaves words.to.now) ended ⊎ NotBegun (NotSpoilt words) notes ended old new)
-Serves holds leaves (requests.Demod words) input left notes ended old new =
+Serves holds leaves (requests.Demod words) input notes ended old new =
     (IsMode (asked_setup words.link).mode
     × Receipts words.notes (asked_setup words.link) (ends_of holds words.rows words.symbols words.packets) (leaves words.packets.now) (Hears words.tuning) notes ended old new)
     ⊎ NotBegun (NotOn (asked_setup words.link).mode (CannotOpenOne words.rows words.symbols words.packets)) notes ended old new
-Serves holds leaves (requests.Run words) input left notes ended old new =
+Serves holds leaves (requests.Run words) input notes ended old new =
     (IsMode (asked_setup words.link).mode
     × Receipts words.notes (asked_setup words.link) (ends_of holds words.rows words.packets words.to) (leaves words.to.now) (Loops words) notes ended old new)
     ⊎ NotBegun (NotOn (asked_setup words.link).mode (CannotOpenOne words.rows words.packets words.to)) notes ended old new
@@ -214,7 +214,7 @@ IsPlaced request place = place ≡ places.Output
 
 -- A request was served with this exit: how it ended decides the exit, the report and what is told behind it. What a file gets that
 -- is standard output stands there beside the console.
-pub record Served (holds : Holdings) (leaves : Leavings) (request : Request) (input left : Option (List ℕ)) (exit : Exit) (old new : Screen) : Type 0 where
+pub record Served (holds : Holdings) (leaves : Leavings) (request : Request) (input : Option (List ℕ)) (exit : Exit) (old new : Screen) : Type 0 where
   pub ended : Result Exit Fault
   pub notes : List ℕ
   pub place : Place
@@ -222,20 +222,20 @@ pub record Served (holds : Holdings) (leaves : Leavings) (request : Request) (in
   pub shown : Screen
   pub placed : IsPlaced request place
   pub exit_is : exit ≡ exit_of ended
-  pub prints : Serves holds leaves request input left notes ended (report_in place old) (report_in place shown)
+  pub prints : Serves holds leaves request input notes ended (report_in place old) (report_in place shown)
   pub concludes : Concludes place notes ended old shown new
   -- only where a fault is told may a call of the output or of the errors have failed
   pub whole : exit ≢ exits.Fault → new.output_failed ≡ old.output_failed
   pub quiet : exit ≢ exits.Fault → new.errors_failed ≡ old.errors_failed
 
 -- nothing is reported of a command that could not be begun
-abbrev pub Unbegun : Holdings → Leavings → Request → Option (List ℕ) → Option (List ℕ) → Fault → Screen → Type 0
-Unbegun holds leaves request input left f old = (place : Place) × IsPlaced request place × Serves holds leaves request input left [] (Err f) (report_in place old) (report_in place old)
+abbrev pub Unbegun : Holdings → Leavings → Request → Option (List ℕ) → Fault → Screen → Type 0
+Unbegun holds leaves request input f old = (place : Place) × IsPlaced request place × Serves holds leaves request input [] (Err f) (report_in place old) (report_in place old)
 
 -- A command was begun and ended so, or it could not be begun and did nothing.
-abbrev pub Began : Holdings → Leavings → Request → Option (List ℕ) → Option (List ℕ) → Result Exit Fault → Screen → Screen → Type 0
-Began holds leaves request input left (Ok exit) old new = Served holds leaves request input left exit old new
-Began holds leaves request input left (Err f) old new = Unbegun holds leaves request input left f old × (new ≡ old)
+abbrev pub Began : Holdings → Leavings → Request → Option (List ℕ) → Result Exit Fault → Screen → Screen → Type 0
+Began holds leaves request input (Ok exit) old new = Served holds leaves request input exit old new
+Began holds leaves request input (Err f) old new = Unbegun holds leaves request input f old × (new ≡ old)
 
 -- how the program ends where the parser's own text was to be printed: well only behind help or the version
 abbrev pub IsExplained : ErrorKind → Exit → Type 0
@@ -250,12 +250,12 @@ Explains kind exit old new =
     ⊎ ((kind ≢ kinds.OutOfMemory) × IsExplained kind exit × (new ≡ old))
 
 -- what was asked for is served, or why nothing was is explained
-abbrev pub Answers : Holdings → Leavings → Result Request Error → Option (List ℕ) → Option (List ℕ) → Exit → Screen → Screen → Type 0
-Answers holds leaves (Ok request) input left exit old new = Served holds leaves request input left exit old new
-Answers holds leaves (Err error) input left exit old new = Explains (kind_of error) exit old new
+abbrev pub Answers : Holdings → Leavings → Result Request Error → Option (List ℕ) → Exit → Screen → Screen → Type 0
+Answers holds leaves (Ok request) input exit old new = Served holds leaves request input exit old new
+Answers holds leaves (Err error) input exit old new = Explains (kind_of error) exit old new
 
 -- what the words ask for is answered, or there was no memory for them
-abbrev pub AnswersWords : Holdings → Leavings → Option (Result Request Error) → Option (List ℕ) → Option (List ℕ) → Exit → Screen → Screen → Type 0
-AnswersWords holds leaves (Some asked) input left exit old new = Answers holds leaves asked input left exit old new
-AnswersWords holds leaves None input left exit old new =
+abbrev pub AnswersWords : Holdings → Leavings → Option (Result Request Error) → Option (List ℕ) → Exit → Screen → Screen → Type 0
+AnswersWords holds leaves (Some asked) input exit old new = Answers holds leaves asked input exit old new
+AnswersWords holds leaves None input exit old new =
     (exit ≡ exits.Fault) × (new.output ≡ old.output) × (new.output_failed ≡ old.output_failed) × Complains (Err faults.NoMemory) old new

@@ -161,8 +161,8 @@ fn receive_at<
 /// and prints a line for each frame as it comes, for a cut one, and for the end. Lines and packets are not
 /// held back: after a fault those of the frames before it stand. `No` where a frame was not delivered, was
 /// cut, or its bits are not known to be most likely; where the words are strict, also where something was lost. Notes of what was
-/// lost stand behind the report on the errors, unless they are to be left out. Want of memory is told before the first byte of
-/// the row file is read, or of rows that are accepted; then no symbol is read.
+/// lost stand behind the report on the errors, unless they are to be left out. Want of memory is told only of
+/// rows that are accepted; then no symbol is read.
 pub fn demod_command<
     R: CountedRead,
     S: CountedRead,

@@ -171,8 +171,7 @@ fn send_at<
 
 /// `mod`: sends the packets of a stream on the link of a setup and a row file, with a dummy frame behind every
 /// `dummy` frames (0: none), and prints how many packets were taken and how many frames written, dummy frames
-/// not counted. Want of memory is told before the first byte of the row file is read, or of rows that are accepted; then no
-/// packet is read.
+/// not counted. Want of memory is told only of rows that are accepted; then no packet is read.
 pub fn mod_command<
     R: CountedRead,
     S: CountedRead,

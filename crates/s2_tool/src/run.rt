@@ -217,7 +217,7 @@ fn loop_at<
 /// `run`: sends the packets of a stream on the link of a setup and a row file, with the dummy frames that its words
 /// ask for, adds the noise of a seed and a level to their symbols, and receives these: it prints the report of `demod`, and writes the packets
 /// that come out. The symbols are kept in memory. Where a packet is refused nothing is printed or written. Want of memory is told
-/// before the first byte of the row file is read, or of rows that are accepted; then also while packets come.
+/// only of rows that are accepted, before the first packet is read or while packets come.
 pub fn run_command<
     R: CountedRead,
     S: CountedRead,
