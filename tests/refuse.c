@@ -1,7 +1,8 @@
-/* For LD_PRELOAD: refuses one growth of a program's memory, as where there is no more, and only that one.
+/* For LD_PRELOAD: refuses one growth of a program's memory, as where there is no more, and only that one, or all behind it, too.
 
    A growth is a call of malloc, calloc, realloc, aligned_alloc or posix_memalign; they count from 1, and the one of the number
-   REFUSE_AT is refused. Then the file REFUSE_TOLD is made, so that who started the program knows. */
+   REFUSE_AT is refused, and where REFUSE_ON is set all that follow. As it is refused the file REFUSE_TOLD is made, so that who
+   started the program knows, and gets how many bytes were asked for. */
 #include <errno.h>
 #include <fcntl.h>
 #include <stdlib.h>
@@ -13,35 +14,51 @@ void *__libc_realloc(void *old, size_t size);
 void *__libc_memalign(size_t alignment, size_t size);
 
 static unsigned long growths, refused;
+static int on;
 
 __attribute__((constructor)) static void begin(void) {
     const char *at = getenv("REFUSE_AT");
     growths = 0;
     refused = at ? strtoul(at, 0, 10) : 0;
+    on = getenv("REFUSE_ON") != 0;
 }
 
-static int is_refused(void) {
-    growths += 1;
-    if (growths != refused)
-        return 0;
+/* Tells of the refused growth. It takes no memory, so it spells the number itself. */
+static void tell(size_t size) {
+    char digits[24];
+    int at = sizeof digits;
+    do
+        digits[--at] = '0' + size % 10;
+    while (size /= 10);
     const char *told = getenv("REFUSE_TOLD");
     int file = told ? open(told, O_WRONLY | O_CREAT, 0644) : -1;
-    if (file >= 0)
-        close(file);
+    if (file < 0)
+        return;
+    if (write(file, digits + at, sizeof digits - at) < 0)
+        _exit(99);
+    close(file);
+}
+
+static int is_refused(size_t size) {
+    growths += 1;
+    if (!refused || growths < refused || (growths > refused && !on))
+        return 0;
+    if (growths == refused)
+        tell(size);
     errno = ENOMEM;
     return 1;
 }
 
-void *malloc(size_t size) { return is_refused() ? 0 : __libc_malloc(size); }
+void *malloc(size_t size) { return is_refused(size) ? 0 : __libc_malloc(size); }
 
-void *calloc(size_t count, size_t size) { return is_refused() ? 0 : __libc_calloc(count, size); }
+void *calloc(size_t count, size_t size) { return is_refused(count * size) ? 0 : __libc_calloc(count, size); }
 
-void *realloc(void *old, size_t size) { return is_refused() ? 0 : __libc_realloc(old, size); }
+void *realloc(void *old, size_t size) { return is_refused(size) ? 0 : __libc_realloc(old, size); }
 
-void *aligned_alloc(size_t alignment, size_t size) { return is_refused() ? 0 : __libc_memalign(alignment, size); }
+void *aligned_alloc(size_t alignment, size_t size) { return is_refused(size) ? 0 : __libc_memalign(alignment, size); }
 
 int posix_memalign(void **made, size_t alignment, size_t size) {
-    void *found = is_refused() ? 0 : __libc_memalign(alignment, size);
+    void *found = is_refused(size) ? 0 : __libc_memalign(alignment, size);
     if (!found)
         return ENOMEM;
     *made = found;
