@@ -2,7 +2,7 @@
 
    A growth is a call of malloc, calloc, realloc, aligned_alloc or posix_memalign; they count from 1, and the one of the number
    REFUSE_AT is refused, and where REFUSE_ON is set all that follow. As it is refused the file REFUSE_TOLD is made, so that who
-   started the program knows, and gets how many bytes were asked for. */
+   started the program knows. */
 #include <errno.h>
 #include <fcntl.h>
 #include <stdlib.h>
@@ -23,42 +23,28 @@ __attribute__((constructor)) static void begin(void) {
     on = getenv("REFUSE_ON") != 0;
 }
 
-/* Tells of the refused growth. It takes no memory, so it spells the number itself. */
-static void tell(size_t size) {
-    char digits[24];
-    int at = sizeof digits;
-    do
-        digits[--at] = '0' + size % 10;
-    while (size /= 10);
-    const char *told = getenv("REFUSE_TOLD");
-    int file = told ? open(told, O_WRONLY | O_CREAT, 0644) : -1;
-    if (file < 0)
-        return;
-    if (write(file, digits + at, sizeof digits - at) < 0)
-        _exit(99);
-    close(file);
-}
-
-static int is_refused(size_t size) {
+static int is_refused(void) {
     growths += 1;
     if (!refused || growths < refused || (growths > refused && !on))
         return 0;
-    if (growths == refused)
-        tell(size);
+    const char *told = growths == refused ? getenv("REFUSE_TOLD") : 0;
+    int file = told ? open(told, O_WRONLY | O_CREAT, 0644) : -1;
+    if (file >= 0)
+        close(file);
     errno = ENOMEM;
     return 1;
 }
 
-void *malloc(size_t size) { return is_refused(size) ? 0 : __libc_malloc(size); }
+void *malloc(size_t size) { return is_refused() ? 0 : __libc_malloc(size); }
 
-void *calloc(size_t count, size_t size) { return is_refused(count * size) ? 0 : __libc_calloc(count, size); }
+void *calloc(size_t count, size_t size) { return is_refused() ? 0 : __libc_calloc(count, size); }
 
-void *realloc(void *old, size_t size) { return is_refused(size) ? 0 : __libc_realloc(old, size); }
+void *realloc(void *old, size_t size) { return is_refused() ? 0 : __libc_realloc(old, size); }
 
-void *aligned_alloc(size_t alignment, size_t size) { return is_refused(size) ? 0 : __libc_memalign(alignment, size); }
+void *aligned_alloc(size_t alignment, size_t size) { return is_refused() ? 0 : __libc_memalign(alignment, size); }
 
 int posix_memalign(void **made, size_t alignment, size_t size) {
-    void *found = is_refused(size) ? 0 : __libc_memalign(alignment, size);
+    void *found = is_refused() ? 0 : __libc_memalign(alignment, size);
     if (!found)
         return ENOMEM;
     *made = found;

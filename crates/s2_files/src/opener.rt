@@ -1,7 +1,6 @@
 //! Files opened, each once.
 ghost use Rattle.std.specs.Prelude.{◌≡◌, ◌⊎◌, ◌+◌, ◌<◌, ◌≤◌, [], ◌∷◌, ◌++◌, false, true, IfOk, IfErr, OnErr, OnOk, IsOk, ◌↔◌, length};
-ghost use Rattle.std.specs.Io.Buffered.{reader_remaining};
-ghost use Rattle.s2_files.specs.Known.{known_of};
+ghost use Rattle.s2_files.specs.Known.{buffered_of, known_of};
 ghost use Rattle.s2_files.specs.Names.{NamesStandard};
 ghost use Rattle.s2_files.specs.Uses.{clashes_any, Takes};
 
@@ -11,6 +10,7 @@ use crate::standard::{is_standard, standard_path};
 use crate::target::Target;
 use crate::uses::{Node, Role, Use, clashes_any};
 use arrayvec::ArrayVec;
+use either::{Either, Left, Right};
 use s2_console::Fault;
 use s2_mode::Counting;
 use std::fs;
@@ -22,8 +22,8 @@ use std::os::unix::fs::{FileTypeExt, MetadataExt};
 /// The most files of a command.
 pub const MOST_FILES: usize = 4;
 
-/// An input behind a buffer, with its failed calls counted.
-pub type Reader<F, S> = Counting<BufReader<Opened<F, S>>>;
+/// An input behind a buffer, or without one where there was no memory for it, with its failed calls counted.
+pub type Reader<F, S> = Counting<Either<BufReader<Opened<F, S>>, Opened<F, S>>>;
 
 /// An input without a buffer, with its failed calls counted.
 pub type PlainReader<F, S> = Counting<Opened<F, S>>;
@@ -215,28 +215,43 @@ impl<'r, R: Disk> Opener<'r, R> {
     }
 }
 
+/// Puts an input behind a buffer, where there is memory for it. The buffer is made around standard input, since without memory what it is
+/// made around is dropped.
+fn buffered<R: Disk + AllocGlobal>(
+    rt: &R,
+    file: Opened<R::File, R::Input>,
+) -> Either<BufReader<Opened<R::File, R::Input>>, Opened<R::File, R::Input>>
+    ensures { buffered_of (known_of R.File.remaining R.Input.remaining) result
+        ≡ known_of R.File.remaining R.Input.remaining file }
+{
+    match BufReader::new(rt.alloc(), Opened::Standard(rt.standard_input())) {
+        Ok(mut buffer) => {
+            *buffer.get_mut() = file;
+            Left(buffer)
+        }
+        Err(_) => Right(file),
+    }
+}
+
 impl<'r, R: Disk + AllocGlobal> Opener<'r, R> {
-    /// Opens an input behind a buffer.
+    /// Opens an input behind a buffer; without one where there is no memory for it.
     pub fn read_buffered<'a>(
         &mut self,
         name: &'a str,
     ) -> Result<Reader<R::File, R::Input>, Fault<'a>>
         requires room { length self.old < 4 }
         ensures fresh { IfOk result (λ file. file.failed ≡ 0) }
-        ensures holds { IfOk result (λ file. reader_remaining (known_of R.File.remaining R.Input.remaining) file.inner
+        ensures holds { IfOk result (λ file. buffered_of (known_of R.File.remaining R.Input.remaining) file.inner
             ≡ R.holds Role.Input name.entry.now) }
         ensures standard { NamesStandard Role.Input name.entry.now
             → OnOk result (Takes Role.Input true self.old self.new) }
         ensures named { (NamesStandard Role.Input name.entry.now → ⊥)
             → OnOk result (Takes Role.Input false self.old self.new) }
+        ensures kept { OnErr result (self.new ≡ self.old) }
         ensures count { OnOk result (length self.new ≡ length self.old + 1) }
-        ensures fault { IfErr result (λ fault. (fault ≡ Fault.Open name.entry)
-            ⊎ ((fault ≡ Fault.UsedTwice name.entry) ⊎ (fault ≡ Fault.NoMemory))) }
+        ensures fault { IfErr result (λ fault. (fault ≡ Fault.Open name.entry) ⊎ (fault ≡ Fault.UsedTwice name.entry)) }
     {
         let file = self.read(name)?;
-        match BufReader::new(self.rt.alloc(), file.into_inner()) {
-            Ok(buffered) => Ok(Counting::new(buffered)),
-            Err(_) => Err(Fault::NoMemory),
-        }
+        Ok(Counting::new(buffered(self.rt, file.into_inner())))
     }
 }

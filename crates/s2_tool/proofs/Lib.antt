@@ -1,4 +1,5 @@
 pub mod Names
 pub mod LinkLemmas
+pub mod LoopLemmas
 pub mod ServeLemmas
 pub mod NoteLemmas

@@ -1,5 +1,5 @@
 -- The names that the proofs of this crate cite, passed on from one place. Declares nothing.
-pub use Rattle.std.proofs.Common.{◌≡◌, ℕ, ◌+◌, ◌<◌, ◌≢◌, ◌⊎◌, List, [], ◌∷◌, ◌++◌, IfSome, IfOk, IfErr, IsOk, Some, Ok, Err, Option, Result, sym, refl, ap, ◌∙◌, inl, inr, arith, rules}
+pub use Rattle.std.proofs.Common.{◌≡◌, ℕ, ◌+◌, ◌<◌, ◌≢◌, ◌⊎◌, List, [], ◌∷◌, ◌++◌, IfSome, IfOk, IfErr, IsOk, Some, None, Ok, Err, Option, Result, sym, refl, ap, ◌∙◌, inl, inr, arith, rules}
 pub use Rattle.std.proofs.lemmas.Option.{IfSome_then}
 pub use Rattle.std.proofs.lemmas.Result.{err_from_is_err_and}
 pub use Rattle.std.specs.Io.KnownBytes.{Appends}
@@ -25,7 +25,7 @@ pub use Rattle.s2_receive.specs.declared.report.Received.{Received}
 pub use Rattle.s2_evidence.specs.Inputs.{rows_in, IsAccepted}
 pub use Rattle.s2_table.specs.Wanted.{notes_on}
 pub use Rattle.s2_modem.specs.Reception.{link_rules, rules_for}
-pub use Rattle.s2_tool.specs.Links.{Causes, Deed, Ends, OnLink, Tries, link_in, link_on, streams_at}
+pub use Rattle.s2_tool.specs.Links.{Causes, Deed, DoesOn, Ends, OnLink, Tries, link_in, link_on, streams_at}
 pub use Rattle.s2_tool.specs.Looping.{Loops, kept_fault}
 pub use Rattle.s2_tool.specs.Losses.{Finishes, exit_by, notes_of}
 pub use Rattle.s2_tool.specs.Receptions.{Hears}

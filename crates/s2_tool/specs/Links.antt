@@ -1,5 +1,5 @@
 -- The link that a command works on, and its files.
-use Rattle.std.specs.Prelude.{◌≡◌, ◌≢◌, ◌⊎◌, ℕ, ◌+◌, List, Option, IfSome, Result, Ok, Err, IfOk}
+use Rattle.std.specs.Prelude.{◌≡◌, ◌≢◌, ◌⊎◌, ℕ, ◌+◌, List, Option, Some, None, IfSome, Result, Ok, Err, IfOk}
 use Rattle.std.specs.Borrow.{Bor}
 use Rattle.s2_mode.specs.Counts.{CanCount}
 use Rattle.s2_mode.specs.Mode.{shape_in}
@@ -67,7 +67,7 @@ Causes old new ended = OnlyFailed (ended ≡ Err faults.Read) (ended ≡ Err fau
 
 -- why a file of this name could not be opened
 abbrev pub CannotOpen : Bor (List ℕ) → Fault → Type 0
-CannotOpen name fault = (fault ≡ faults.Open name) ⊎ ((fault ≡ faults.UsedTwice name) ⊎ (fault ≡ faults.NoMemory))
+CannotOpen name fault = (fault ≡ faults.Open name) ⊎ (fault ≡ faults.UsedTwice name)
 
 -- why one of three files could not be opened
 abbrev pub CannotOpenOne : Bor (List ℕ) → Bor (List ℕ) → Bor (List ℕ) → Fault → Type 0
@@ -84,31 +84,32 @@ link_on setup (Ok rows) = Ok (link_of setup rows)
 abbrev pub link_in : Setup → List ℕ → Result Link Fault
 link_in setup text = link_on setup (rows_in (shape_in setup.mode) text)
 
--- what a command does on a link, and what it answers
+-- what a command does on a link, or on none, where there was no memory for all that it needs, and what it answers
 abbrev pub Deed : Type 0 → Type 1
-Deed T = Link → Streams → Streams → Result T Fault → Type 0
+Deed T = Option Link → Streams → Streams → Result T Fault → Type 0
 
--- nothing was done, since memory ran out, or since the file that is to be written could not be cut
-abbrev pub Undone : {T : Type 0} → Streams → Streams → Result T Fault → Type 0
-Undone old new ended =
-    ((ended ≡ Err faults.NoMemory) × (new ≡ old)) ⊎ ((ended ≡ Err faults.Write) × (new ≡ record old { writes = old.writes + 1 }))
+-- nothing was done, since the file that is to be written could not be cut
+abbrev pub Uncut : {T : Type 0} → Streams → Streams → Result T Fault → Type 0
+Uncut old new ended = (ended ≡ Err faults.Write) × (new ≡ record old { writes = old.writes + 1 })
 
--- a command did on a link what it does, or nothing
-abbrev pub Tries : {T : Type 0} → Deed T → Deed T
-Tries Does link old new ended = Does link old new ended ⊎ Undone old new ended
+-- a command did on a link what it does, or what it does without memory, or nothing
+abbrev pub Tries : {T : Type 0} → Deed T → Link → Streams → Streams → Result T Fault → Type 0
+Tries Does link old new ended = Does (Some link) old new ended ⊎ (Does None old new ended ⊎ Uncut old new ended)
 
--- Without a link its fault is told: nothing is read behind the rows, and nothing written.
+-- Without a link its fault is told: nothing is read behind the rows, and nothing written. Where it is want of memory the command does what
+-- it does without.
 abbrev pub DoesOn : {T : Type 0} → Deed T → Result Link Fault → Streams → Streams → Result T Fault → Type 0
 DoesOn Does (Ok link) old new ended = Tries Does link old new ended
-DoesOn Does (Err f) old new ended = (f ≢ faults.Write) × (ended ≡ Err f) × (new ≡ old)
+DoesOn Does (Err f) old new ended =
+    (f ≢ faults.Write) × (f ≡ faults.NoMemory → Does None old new ended) × (f ≢ faults.NoMemory → (ended ≡ Err f) × (new ≡ old))
 
 -- A command on a setup and on these files, of which so much is left. What the row file says decides whether there is a link,
--- unless memory ran out or a read of it failed, which was counted. Want of memory is told only where the row file
--- is accepted.
+-- unless memory ran out or a read of it failed, which was counted. Only where the row file is accepted is there no memory for it, and
+-- only there is want of memory told.
 pub record OnLink {T : Type 0} (Does : Deed T) (setup : Setup) (files left : Ends) (old new : Streams) (ended : Result T Fault) : Type 0 where
   pub link : Result Link Fault
   pub linked : IfSome files.rows (λ text. Follows (λ l. l) link (link_in setup text))
-  pub no_memory : ended ≡ Err faults.NoMemory → IsAccepted files.rows (link_in setup)
+  pub no_memory : (link ≡ Err faults.NoMemory) ⊎ (ended ≡ Err faults.NoMemory) → IsAccepted files.rows (link_in setup)
   pub setup_kept : IfOk link (λ l. l.setup ≡ setup)
   pub rows_read : link ≡ Err faults.Read → left.rows_failed ≡ files.rows_failed + 1
   pub rows_whole : link ≢ Err faults.Read → left.rows_failed ≡ files.rows_failed

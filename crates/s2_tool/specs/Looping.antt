@@ -1,8 +1,9 @@
--- What `run` does: `mod`, `noise` and `demod`, with the symbols in memory.
-use Rattle.std.specs.Prelude.{◌≡◌, ℕ, List, [], Option, Some, Result, Ok, Err}
+-- What `run` does: `mod`, `noise` and `demod`, with the packets and their symbols in memory.
+use Rattle.std.specs.Prelude.{◌≡◌, ◌⊎◌, ℕ, List, [], Option, Some, None, Result, Ok, Err}
 use Rattle.s2_mode.specs.Limits.{most_symbols}
 use Rattle.s2_mode.specs.Streams.{Streams}
 use Rattle.s2_link.specs.declared.setup.Setup.{Setup}
+use Rattle.s2_send.specs.Sending.{joined}
 use Rattle.s2_send.specs.Transmitter.{Transmitter}
 use Rattle.s2_send.specs.declared.outcome.Counts.{Counts}
 use Rattle.s2_send.specs.declared.outcome.SendFault.{SendFault}
@@ -18,7 +19,7 @@ use Rattle.s2_console.specs.declared.place.Place.{Place}
 use Rattle.s2_console.specs.Screens.{Screen}
 use Rattle.s2_tool.specs.Links.{Ends, Deed, OnLink, streams_at}
 use Rattle.s2_tool.specs.Losses.{Finishes}
-use Rattle.s2_tool.specs.Sending.{Runs, transmitter_on, refusal_fault}
+use Rattle.s2_tool.specs.Sending.{Reads, ReadsThrough, Runs, transmitter_on, refusal_fault}
 use Rattle.s2_tool.specs.Spoiling.{piped, Spoils}
 use Rattle.s2_tool.specs.Receptions.{Receives}
 
@@ -33,13 +34,13 @@ in_memory taken given writes = piped (Some taken) (Some given) 0 writes
 
 -- a part that ended in a fault ends all: nothing is written, and nothing printed
 abbrev pub EndsAll : Fault → Streams → Streams → Result Received Fault → Type 0
-EndsAll f old new ended = (ended ≡ Err (kept_fault f)) × (new.given ≡ old.given) × (new.out ≡ old.out)
+EndsAll f old new ended = (ended ≡ Err f) × (new.given ≡ old.given) × (new.out ≡ old.out)
 
 -- what came through the channel is received from memory
 abbrev pub HearsAll : Rules → List ℕ → Result Exit Fault → Streams → Streams → Result Received Fault → Type 0
 HearsAll rules heard (Ok exit) old new ended =
     (left : Option (List ℕ)) × Receives rules (record old { taken = Some heard; reads = 0 }) (record new { taken = left; reads = 0 }) ended
-HearsAll rules heard (Err f) old new ended = EndsAll f old new ended
+HearsAll rules heard (Err f) old new ended = EndsAll (kept_fault f) old new ended
 
 -- symbols in memory are spoilt, and what comes is received
 abbrev pub Passes : Rules → ChannelWords → List ℕ → Streams → Streams → Result Received Fault → Type 0
@@ -47,20 +48,26 @@ Passes rules channel symbols old new ended =
     (spoilt : Result Exit Fault) × (left heard : List ℕ) × (failed : ℕ)
     × Spoils channel (in_memory symbols [] 0) (in_memory left heard failed) spoilt × HearsAll rules heard spoilt old new ended
 
--- the same where the transmitter may refuse
-abbrev pub PassesAll : Rules → ChannelWords → List ℕ → Result Counts SendFault → Streams → Streams → Result Received Fault → Type 0
-PassesAll rules channel symbols (Ok counts) old new ended = Passes rules channel symbols old new ended
-PassesAll rules channel symbols (Err refusal) old new ended = EndsAll (refusal_fault refusal) old new ended
+-- a transmitter sends packets from memory into memory, and what becomes of their symbols is received
+abbrev pub Returns : Transmitter → Rules → ChannelWords → List (List ℕ) → Streams → Streams → Result Received Fault → Type 0
+Returns t rules channel packets old new ended =
+    (counts : Counts) × (left symbols : List ℕ)
+    × Runs t (in_memory (joined packets) [] 0) (in_memory left symbols 0) (Ok counts) × Passes rules channel symbols old new ended
 
--- a transmitter sends packets into memory, and what becomes of their symbols is received by these rules
+-- Packets that are all accepted are sent and come back, or there is no memory for them or for their symbols. Else what is refused is told.
+abbrev pub ReturnsAll : Transmitter → Rules → ChannelWords → List (List ℕ) → Option SendFault → Streams → Streams → Result Received Fault → Type 0
+ReturnsAll t rules channel packets None old new ended = Returns t rules channel packets old new ended ⊎ EndsAll faults.NoMemory old new ended
+ReturnsAll t rules channel packets (Some refusal) old new ended = EndsAll (refusal_fault refusal) old new ended
+
+-- packets are read to their end, and then sent, spoilt and received by these rules
 abbrev pub LoopsBy : Transmitter → Rules → ChannelWords → Streams → Streams → Result Received Fault → Type 0
 LoopsBy t rules channel old new ended =
-    (answer : Result Counts SendFault) × (symbols : List ℕ)
-    × Runs t (record old { given = Some [] }) (record new { given = Some symbols }) answer × PassesAll rules channel symbols answer old new ended
+    (packets : List (List ℕ)) × (refusal : Option SendFault) × Reads old new packets refusal × ReturnsAll t rules channel packets refusal old new ended
 
 -- `run` on a link, with the dummy frames, the tuning and the channel of its words
 abbrev pub Loops : RunWords → Deed Received
-Loops words link old new ended = LoopsBy (transmitter_on link words.dummy) (link_rules link words.tuning most_symbols) words.channel old new ended
+Loops words (Some link) old new ended = LoopsBy (transmitter_on link words.dummy) (link_rules link words.tuning most_symbols) words.channel old new ended
+Loops words None old new ended = ReadsThrough old new ended
 
 -- `run` on a setup, these words and these files
 abbrev pub LoopsBack : Setup → RunWords → Ends → Ends → Streams → Streams → Result Received Fault → Type 0

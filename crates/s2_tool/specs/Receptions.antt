@@ -1,5 +1,5 @@
 -- What `demod` receives, writes and reports.
-use Rattle.std.specs.Prelude.{Result, Ok, Err}
+use Rattle.std.specs.Prelude.{◌≡◌, Some, None, Result, Ok, Err}
 use Rattle.s2_mode.specs.Limits.{most_symbols}
 use Rattle.s2_mode.specs.Streams.{Streams}
 use Rattle.s2_link.specs.Tuning.{Tuning}
@@ -25,9 +25,10 @@ Receives rules old new (Err faults.Read) = (state : State) × StopsAfter rules b
 Receives rules old new (Err faults.Write) = BreaksAfter rules begun old new
 Receives rules old new (Err f) = ⊥
 
--- `demod` on a link: what a new receiver makes of the symbols
+-- `demod` on a link: what a new receiver makes of the symbols. Without memory it does nothing: no symbols are ever refused.
 abbrev pub Hears : Tuning → Deed Received
-Hears tuning link old new ended = Receives (link_rules link tuning most_symbols) old new ended
+Hears tuning (Some link) old new ended = Receives (link_rules link tuning most_symbols) old new ended
+Hears tuning None old new ended = (ended ≡ Err faults.NoMemory) × (new ≡ old)
 
 -- `demod` on a setup, a tuning and these files
 abbrev pub Demodulates : Setup → Tuning → Ends → Ends → Streams → Streams → Result Received Fault → Type 0

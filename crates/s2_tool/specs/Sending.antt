@@ -1,5 +1,5 @@
 -- What `mod` reads, sends and prints.
-use Rattle.std.specs.Prelude.{◌≡◌, ℕ, List, ◌++◌, codes, decimal, Option, Result, Ok, Err}
+use Rattle.std.specs.Prelude.{◌≡◌, ℕ, List, ◌++◌, codes, decimal, Option, Some, None, Result, Ok, Err}
 use Rattle.s2_mode.specs.Streams.{Streams}
 use Rattle.s2_link.specs.Link.{Link}
 use Rattle.s2_link.specs.declared.setup.Setup.{Setup}
@@ -7,6 +7,7 @@ use Rattle.s2_send.specs.FaultTexts.{send_fault_text}
 use Rattle.s2_send.specs.Laws.{ReadFails}
 use Rattle.s2_send.specs.Sending.{TransmitterRuns}
 use Rattle.s2_send.specs.Transmitter.{Transmitter, new_transmitter}
+use Rattle.s2_packets.specs.Taking.{TakesPackets}
 use Rattle.s2_send.specs.declared.outcome.Counts.{Counts}
 use Rattle.s2_send.specs.declared.outcome.SendFault.{SendFault}
 use Rattle.s2_send.specs.declared.outcome.SendFault.TheVariants as refusals
@@ -47,9 +48,25 @@ SendsBy t old new ended = (answer : Result Counts SendFault) × Runs t old new a
 abbrev pub transmitter_on : Link → ℕ → Transmitter
 transmitter_on link dummy = record (new_transmitter link) { dummy_every = dummy }
 
+-- these packets were read, and this refused behind them, or nothing
+abbrev pub Reads : Streams → Streams → List (List ℕ) → Option SendFault → Type 0
+Reads old new packets refusal = TakesPackets old.reads new.reads old.taken new.taken packets refusal
+
+-- what is told without memory: what packets are refused for, or else want of memory
+abbrev pub roomless_fault : Option SendFault → Fault
+roomless_fault None = faults.NoMemory
+roomless_fault (Some refusal) = refusal_fault refusal
+
+-- Without memory packets are read to their end all the same. Nothing is written, and nothing printed.
+abbrev pub ReadsThrough : {T : Type 0} → Streams → Streams → Result T Fault → Type 0
+ReadsThrough old new ended =
+    (packets : List (List ℕ)) × (refusal : Option SendFault) × Reads old new packets refusal
+    × (ended ≡ Err (roomless_fault refusal)) × (new.given ≡ old.given) × (new.out ≡ old.out)
+
 -- `mod` on a link, with dummy frames
 abbrev pub Sends : ℕ → Deed Exit
-Sends dummy link old new ended = SendsBy (transmitter_on link dummy) old new ended
+Sends dummy (Some link) old new ended = SendsBy (transmitter_on link dummy) old new ended
+Sends dummy None old new ended = ReadsThrough old new ended
 
 -- `mod` on a setup, with dummy frames, and these files
 abbrev pub Modulates : Setup → ℕ → Ends → Ends → Streams → Streams → Result Exit Fault → Type 0

@@ -1,17 +1,20 @@
 //! `mod`: packets sent.
-ghost use Rattle.std.specs.Prelude.{◌≡◌, ◌≢◌, ◌⊎◌};
+ghost use Rattle.std.specs.Prelude.{◌≡◌, ◌≢◌, ◌⊎◌, ℕ, List, Result, ⊤};
+ghost use Rattle.std.specs.Result.{result_err};
 ghost use Rattle.s2_mode.specs.Counts.{CanCount};
 ghost use Rattle.s2_mode.specs.Streams.{streams_by};
 ghost use Rattle.s2_link.specs.Link.{setup_of};
 ghost use Rattle.s2_console.specs.Screens.{CanTell, SameBeside};
-ghost use Rattle.s2_tool.specs.Links.{CanFail, Causes, Tries, Undone, streams_at, streams_to};
-ghost use Rattle.s2_tool.specs.Sending.{sent_line, refusal_fault, SendsBy, Sends, Modulates, ModEnds};
+ghost use Rattle.s2_packets.specs.Taking.{Takes};
+ghost use Rattle.s2_tool.specs.Links.{CanFail, Causes, Tries, Uncut, streams_at, streams_to};
+ghost use Rattle.s2_tool.specs.Sending.{sent_line, refusal_fault, roomless_fault, SendsBy, Sends, Modulates, ModEnds};
 
 use crate::link_files::LinkFiles;
 use s2_console::{Console, Exit, Fault, Line, Place, print};
 use s2_files::Output;
 use s2_link::{Link, LinkSetup};
 use s2_mode::{CountedRead, CountedWrite};
+use s2_packets::skim_packets;
 use s2_send::{Counts, SendFault, Transmitter};
 use s2_table::{conclude_noted, read_noted};
 use s2_words::ModWords;
@@ -38,6 +41,40 @@ pub(crate) fn fault_of(refusal: SendFault) -> Fault<'static>
         SendFault::NotWholePacket | SendFault::NoSync { .. } => {
             Fault::about("packets: ", refusal.text())
         }
+    }
+}
+
+/// What is told where there is no memory to send packets with: they are read to their end all the same, and what they are refused for
+/// comes before want of memory.
+pub(crate) fn roomless_fault<S: CountedRead>(packets: &mut S) -> Fault<'static>
+    requires { CanCount (S.count packets.old) }
+    ensures read { (taken : List (List ℕ)) × (answer : Result ⊤ SendFault)
+        × Takes S.count S.remaining packets.old packets.new taken answer × (result ≡ roomless_fault (result_err answer)) }
+    ensures no_read { result ≢ Fault.Read → S.count packets.new ≡ S.count packets.old }
+    ensures no_write { result ≢ Fault.Write }
+{
+    match skim_packets(packets) {
+        Ok(()) => Fault::NoMemory,
+        Err(refusal) => fault_of(refusal),
+    }
+}
+
+/// What is told where there are no rows, for a fault: that, or without memory for them what [`roomless_fault`] tells.
+pub(crate) fn rowless_fault<S: CountedRead>(
+    fault: Fault<'static>,
+    packets: &mut S,
+) -> Fault<'static>
+    requires { CanCount (S.count packets.old) }
+    ensures read { fault.entry ≡ Fault.NoMemory → (taken : List (List ℕ)) × (answer : Result ⊤ SendFault)
+        × Takes S.count S.remaining packets.old packets.new taken answer × (result ≡ roomless_fault (result_err answer)) }
+    ensures other { fault.entry ≢ Fault.NoMemory → (result ≡ fault.entry) × (packets.new ≡ packets.old) }
+    ensures memory { result ≡ Fault.NoMemory → fault.entry ≡ Fault.NoMemory }
+    ensures no_read { result ≢ Fault.Read → S.count packets.new ≡ S.count packets.old }
+    ensures no_write { fault.entry ≢ Fault.Write → result ≢ Fault.Write }
+{
+    match fault {
+        Fault::NoMemory => roomless_fault(packets),
+        other => other,
     }
 }
 
@@ -74,7 +111,7 @@ fn send_begun<S: CountedRead, W: Output, O: CountedWrite>(
     requires out { CanCount (O.count out.old) }
     ensures sends { let ends = streams_by S.remaining S.count W.contents W.count O.contents O.count in
         SendsBy transmitter.old (ends packets.old symbols.old out.old) (ends packets.new symbols.new out.new) result
-        ⊎ Undone (ends packets.old symbols.old out.old) (ends packets.new symbols.new out.new) result }
+        ⊎ Uncut (ends packets.old symbols.old out.old) (ends packets.new symbols.new out.new) result }
     ensures causes { let ends = streams_by S.remaining S.count W.contents W.count O.contents O.count in
         Causes (ends packets.old symbols.old out.old) (ends packets.new symbols.new out.new) result }
 {
@@ -106,7 +143,7 @@ fn send_link<S: CountedRead, W: Output, O: CountedWrite>(
             transmitter.dummy_every(dummy);
             send_begun(&mut transmitter, packets, symbols, out)
         }
-        Err(_) => Err(Fault::NoMemory),
+        Err(_) => Err(roomless_fault(packets)),
     }
 }
 
@@ -126,7 +163,10 @@ fn send_files<R: CountedRead, S: CountedRead, W: Output, O: CountedWrite, N: Cou
         Modulates (setup_of setup) words.now.dummy files.old files.new
         (ends files.old out.old) (ends files.new out.new) result }
 {
-    let matrix = read_noted(alloc, &setup.mode, &mut files.rows, words.quiet, notes)?;
+    let matrix = match read_noted(alloc, &setup.mode, &mut files.rows, words.quiet, notes) {
+        Ok(matrix) => matrix,
+        Err(fault) => return Err(rowless_fault(fault, &mut files.from)),
+    };
     let link = Link::of(setup, &matrix);
     send_link(
         alloc,
@@ -171,7 +211,8 @@ fn send_at<
 
 /// `mod`: sends the packets of a stream on the link of a setup and a row file, with a dummy frame behind every
 /// `dummy` frames (0: none), and prints how many packets were taken and how many frames written, dummy frames
-/// not counted. Want of memory is told only of rows that are accepted; then no packet is read.
+/// not counted. Want of memory is told only of rows and packets that are accepted: without memory the packets are read
+/// to their end all the same.
 pub fn mod_command<
     R: CountedRead,
     S: CountedRead,

@@ -1,7 +1,7 @@
 //! Files opened.
 ghost use Rattle.std.specs.Prelude.{◌≡◌, ◌⊎◌, ◌≤◌, [], IfOk, IfErr, IfSome, OnOk, length};
-ghost use Rattle.std.specs.Io.Buffered.{reader_remaining, writer_contents};
-ghost use Rattle.s2_files.specs.Known.{known_of};
+ghost use Rattle.std.specs.Io.Buffered.{writer_contents};
+ghost use Rattle.s2_files.specs.Known.{buffered_of, known_of};
 ghost use Rattle.s2_files.specs.declared.uses.Role.TheVariants as roles;
 ghost use Rattle.s2_evidence.specs.Files.{failed_in, written};
 ghost use Rattle.s2_tool.specs.Links.{CannotOpen, CannotOpenOne, IsUntouched, ends_of};
@@ -22,7 +22,11 @@ pub(crate) fn open_link<'a, R: Disk + AllocGlobal>(
     to: &'a str,
 ) -> Result<
     (
-        LinkFiles<Reader<R::File, R::Input>, Reader<R::File, R::Input>, Target<R::File, R::Output>>,
+        LinkFiles<
+            PlainReader<R::File, R::Input>,
+            Reader<R::File, R::Input>,
+            Target<R::File, R::Output>,
+        >,
         Option<u64>,
     ),
     Fault<'a>,
@@ -32,7 +36,7 @@ pub(crate) fn open_link<'a, R: Disk + AllocGlobal>(
     ensures fault { IfErr result (λ fault. CannotOpenOne rows.entry from.entry to.entry fault) }
 {
     let mut opener = Opener::new(rt);
-    let rows = opener.read_buffered(rows)?;
+    let rows = opener.read(rows)?;
     let from = opener.read_buffered(from)?;
     let length = opener.last_length();
     let to = opener.write(to)?;
@@ -40,7 +44,7 @@ pub(crate) fn open_link<'a, R: Disk + AllocGlobal>(
 }
 
 /// The same for who reads many bytes of the second file at a time, which has no buffer.
-pub(crate) fn open_whole<'a, R: Disk + AllocGlobal>(
+pub(crate) fn open_whole<'a, R: Disk>(
     rt: &R,
     rows: &'a str,
     from: &'a str,
@@ -48,7 +52,7 @@ pub(crate) fn open_whole<'a, R: Disk + AllocGlobal>(
 ) -> Result<
     (
         LinkFiles<
-            Reader<R::File, R::Input>,
+            PlainReader<R::File, R::Input>,
             PlainReader<R::File, R::Input>,
             Target<R::File, R::Output>,
         >,
@@ -61,7 +65,7 @@ pub(crate) fn open_whole<'a, R: Disk + AllocGlobal>(
     ensures fault { IfErr result (λ fault. CannotOpenOne rows.entry from.entry to.entry fault) }
 {
     let mut opener = Opener::new(rt);
-    let rows = opener.read_buffered(rows)?;
+    let rows = opener.read(rows)?;
     let from = opener.read(from)?;
     let length = opener.last_length();
     let to = opener.write(to)?;
@@ -86,11 +90,15 @@ fn write_named<'a, R: Disk>(
 }
 
 /// Opens the files of `judge`: that of the certificate, which stays whole, before the others.
-pub(crate) fn open_judge<'a, R: Disk + AllocGlobal>(
+pub(crate) fn open_judge<'a, R: Disk>(
     rt: &R,
     words: &JudgeWords<'a>,
 ) -> Result<
-    JudgeFiles<Reader<R::File, R::Input>, Reader<R::File, R::Input>, Target<R::File, R::Output>>,
+    JudgeFiles<
+        PlainReader<R::File, R::Input>,
+        PlainReader<R::File, R::Input>,
+        Target<R::File, R::Output>,
+    >,
     Fault<'a>,
 >
     ensures fresh { IfOk result (λ files. (files.rows_failed ≡ 0) × (files.soft_failed ≡ 0)) }
@@ -100,8 +108,8 @@ pub(crate) fn open_judge<'a, R: Disk + AllocGlobal>(
 {
     let mut opener = Opener::new(rt);
     let certificate = write_named(&mut opener, words.certificate)?;
-    let rows = opener.read_buffered(words.rows)?;
-    let soft = opener.read_buffered(words.soft)?;
+    let rows = opener.read(words.rows)?;
+    let soft = opener.read(words.soft)?;
     Ok(JudgeFiles {
         rows,
         soft,
@@ -110,31 +118,31 @@ pub(crate) fn open_judge<'a, R: Disk + AllocGlobal>(
 }
 
 /// Opens the files of `check`.
-pub(crate) fn open_check<'a, R: Disk + AllocGlobal>(
+pub(crate) fn open_check<'a, R: Disk>(
     rt: &R,
     words: &CheckWords<'a>,
-) -> Result<CheckFiles<Reader<R::File, R::Input>, Reader<R::File, R::Input>>, Fault<'a>>
+) -> Result<CheckFiles<PlainReader<R::File, R::Input>, PlainReader<R::File, R::Input>>, Fault<'a>>
     ensures fresh { IfOk result (λ files. (files.rows_failed ≡ 0) × (files.certificate_failed ≡ 0)) }
     ensures files { IfOk result (λ files. files ≡ check_files R.holds words.now) }
     ensures fault { IfErr result (λ fault. CannotOpen words.now.rows fault ⊎ CannotOpen words.now.certificate fault) }
 {
     let mut opener = Opener::new(rt);
-    let rows = opener.read_buffered(words.rows)?;
-    let certificate = opener.read_buffered(words.certificate)?;
+    let rows = opener.read(words.rows)?;
+    let certificate = opener.read(words.certificate)?;
     Ok(CheckFiles { rows, certificate })
 }
 
 /// Opens a row file.
-pub(crate) fn open_rows<'a, R: Disk + AllocGlobal>(
+pub(crate) fn open_rows<'a, R: Disk>(
     rt: &R,
     rows: &'a str,
-) -> Result<Reader<R::File, R::Input>, Fault<'a>>
+) -> Result<PlainReader<R::File, R::Input>, Fault<'a>>
     ensures fresh { IfOk result (λ file. file.failed ≡ 0) }
-    ensures rows { IfOk result (λ file. reader_remaining (known_of R.File.remaining R.Input.remaining) file.inner ≡ R.holds roles.Input rows.entry.now) }
+    ensures rows { IfOk result (λ file. known_of R.File.remaining R.Input.remaining file.inner ≡ R.holds roles.Input rows.entry.now) }
     ensures fault { IfErr result (λ fault. CannotOpen rows.entry fault) }
 {
     let mut opener = Opener::new(rt);
-    opener.read_buffered(rows)
+    opener.read(rows)
 }
 
 /// Opens the files of `noise`, and begins the one that is written, behind a buffer. How many bytes the other has, where that is known,
@@ -152,9 +160,9 @@ pub(crate) fn open_noise<'a, R: Disk + AllocGlobal>(
 >
     ensures from { IfOk result (λ files. files.0.failed ≡ 0) }
     ensures to { IfOk result (λ files. files.1.failed ≡ 0) }
-    ensures read { IfOk result (λ files. reader_remaining (known_of R.File.remaining R.Input.remaining) files.0.inner ≡ R.holds roles.Input words.now.from.now) }
+    ensures read { IfOk result (λ files. buffered_of (known_of R.File.remaining R.Input.remaining) files.0.inner ≡ R.holds roles.Input words.now.from.now) }
     ensures written { IfOk result (λ files. writer_contents (known_of R.File.contents R.Output.contents) files.1.inner ≡ R.holds roles.Output words.now.to.now) }
-    ensures fault { IfErr result (λ fault. CannotOpen words.now.from fault ⊎ (CannotOpen words.now.to fault ⊎ (fault ≡ Fault.Write))) }
+    ensures fault { IfErr result (λ fault. CannotOpen words.now.from fault ⊎ (CannotOpen words.now.to fault ⊎ ((fault ≡ Fault.Write) ⊎ (fault ≡ Fault.NoMemory)))) }
 {
     let mut opener = Opener::new(rt);
     let from = opener.read_buffered(words.from)?;

@@ -1,24 +1,28 @@
-//! `run`: packets sent, spoilt and received, with the symbols in memory.
-ghost use Rattle.std.specs.Prelude.{◌≡◌, ◌≢◌, ◌⊎◌, Some};
+//! `run`: packets sent, spoilt and received, with all of them in memory, and then their symbols.
+ghost use Rattle.std.specs.Prelude.{◌≡◌, ◌≢◌, ◌⊎◌, [], ℕ, List, Ok, Some, IfSome};
 ghost use Rattle.s2_mode.specs.Counts.{CanCount};
 ghost use Rattle.s2_mode.specs.Streams.{streams_by};
 ghost use Rattle.s2_link.specs.Link.{setup_of};
 ghost use Rattle.s2_receive.specs.Receiving.{begun};
 ghost use Rattle.s2_modem.specs.Reception.{rules_for};
 ghost use Rattle.s2_console.specs.Screens.{CanTell, SameBeside};
-ghost use Rattle.s2_tool.specs.Links.{CanFail, Causes, Tries, Undone, streams_at, streams_to};
-ghost use Rattle.s2_tool.specs.Looping.{kept_fault, Passes, LoopsBy, Loops, LoopsBack, RunEnds};
+ghost use Rattle.s2_send.specs.declared.outcome.Counts.{Counts};
+ghost use Rattle.s2_send.specs.Sending.{joined};
+ghost use Rattle.s2_tool.specs.Links.{CanFail, Causes, Tries, Uncut, streams_at, streams_to};
+ghost use Rattle.s2_tool.specs.Looping.{kept_fault, in_memory, EndsAll, Passes, Returns, LoopsBy, Loops, LoopsBack, RunEnds};
+ghost use Rattle.s2_tool.specs.Sending.{Runs};
 
 use crate::demod::receive_frames;
 use crate::link_files::LinkFiles;
 use crate::losses::conclude_heard;
-use crate::modulate::fault_of;
+use crate::modulate::{fault_of, roomless_fault, rowless_fault};
 use crate::noise::spoil;
 use s2_console::{Console, Exit, Fault, Place};
 use s2_files::Output;
 use s2_link::{Link, LinkSetup};
 use s2_mode::{CountedRead, CountedWrite, Counting, InMemory};
 use s2_modem::Receiver;
+use s2_packets::take_packets;
 use s2_receive::Received;
 use s2_send::Transmitter;
 use s2_table::read_noted;
@@ -65,7 +69,48 @@ fn receive_spoilt<P: CountedWrite, O: CountedWrite>(
     }
 }
 
-/// Sends packets, and receives what comes.
+/// The symbols of packets in memory, where there is memory for them. The packets are let go.
+fn symbols_of(alloc: Global, transmitter: &mut Transmitter<'_>, packets: Vec<u8>) -> Option<Vec<u8>>
+    ensures { IfSome result (λ symbols. (counts : Counts) × (left : List ℕ)
+        × Runs transmitter.old (in_memory packets.items [] 0) (in_memory left symbols.items 0) (Ok counts)) }
+{
+    let mut symbols = Counting::new(Vec::new(alloc));
+    match transmitter.run(&mut InMemory::new(&packets), &mut symbols) {
+        Ok(_) => Some(symbols.into_inner()),
+        Err(_) => None,
+    }
+}
+
+/// Sends packets that were taken, and receives what comes, where there is memory for it.
+fn loop_taken<P: CountedWrite, O: CountedWrite>(
+    alloc: Global,
+    transmitter: &mut Transmitter<'_>,
+    receiver: &mut Receiver<'_>,
+    channel: ChannelWords,
+    packets: Option<Vec<u8>>,
+    to: &mut P,
+    out: &mut O,
+) -> Result<Received, Fault<'static>>
+    requires to { CanCount (P.count to.old) }
+    requires out { CanCount (O.count out.old) }
+    requires begun { receiver.old.state ≡ begun }
+    ensures returns { let ends = streams_by (λ b. Some b) (λ b. 0) P.contents P.count O.contents O.count in
+        (taken : List (List ℕ)) → IfSome packets (λ bytes. bytes.items ≡ joined taken)
+        → Returns transmitter.old (rules_for receiver.old) channel taken (ends [] to.old out.old) (ends [] to.new out.new) result
+        ⊎ EndsAll Fault.NoMemory (ends [] to.old out.old) (ends [] to.new out.new) result }
+    ensures causes { let ends = streams_by (λ b. Some b) (λ b. 0) P.contents P.count O.contents O.count in
+        Causes (ends [] to.old out.old) (ends [] to.new out.new) result }
+{
+    let Some(packets) = packets else {
+        return Err(Fault::NoMemory);
+    };
+    match symbols_of(alloc, transmitter, packets) {
+        Some(symbols) => receive_spoilt(alloc, receiver, channel, &symbols, to, out),
+        None => Err(Fault::NoMemory),
+    }
+}
+
+/// Takes packets, sends them, and receives what comes.
 fn loop_packets<S: CountedRead, W: Output, O: CountedWrite>(
     alloc: Global,
     transmitter: &mut Transmitter<'_>,
@@ -85,13 +130,9 @@ fn loop_packets<S: CountedRead, W: Output, O: CountedWrite>(
     ensures causes { let ends = streams_by S.remaining S.count W.contents W.count O.contents O.count in
         Causes (ends from.old to.old out.old) (ends from.new to.new out.new) result }
 {
-    let mut symbols = Counting::new(Vec::new(alloc));
-    match transmitter.run(from, &mut symbols) {
-        Ok(_) => {
-            let symbols = symbols.into_inner();
-            receive_spoilt(alloc, receiver, channel, &symbols, to, out)
-        }
-        Err(refusal) => Err(kept_fault(fault_of(refusal))),
+    match take_packets(alloc, from) {
+        Ok(packets) => loop_taken(alloc, transmitter, receiver, channel, packets, to, out),
+        Err(refusal) => Err(fault_of(refusal)),
     }
 }
 
@@ -112,7 +153,7 @@ fn loop_begun<S: CountedRead, W: Output, O: CountedWrite>(
     ensures loops { let ends = streams_by S.remaining S.count W.contents W.count O.contents O.count in
         LoopsBy transmitter.old (rules_for receiver.old) channel
         (ends from.old to.old out.old) (ends from.new to.new out.new) result
-        ⊎ Undone (ends from.old to.old out.old) (ends from.new to.new out.new) result }
+        ⊎ Uncut (ends from.old to.old out.old) (ends from.new to.new out.new) result }
     ensures causes { let ends = streams_by S.remaining S.count W.contents W.count O.contents O.count in
         Causes (ends from.old to.old out.old) (ends from.new to.new out.new) result }
 {
@@ -140,7 +181,7 @@ fn loop_link<S: CountedRead, W: Output, O: CountedWrite>(
         Causes (ends from.old to.old out.old) (ends from.new to.new out.new) result }
 {
     let Ok(mut transmitter) = Transmitter::on_link(alloc, link) else {
-        return Err(Fault::NoMemory);
+        return Err(roomless_fault(from));
     };
     transmitter.dummy_every(words.dummy);
     match Receiver::on_link(alloc, link, words.tuning) {
@@ -153,7 +194,7 @@ fn loop_link<S: CountedRead, W: Output, O: CountedWrite>(
             to,
             out,
         ),
-        Err(_) => Err(Fault::NoMemory),
+        Err(_) => Err(roomless_fault(from)),
     }
 }
 
@@ -172,13 +213,11 @@ fn loop_files<R: CountedRead, S: CountedRead, W: Output, O: CountedWrite, N: Cou
     ensures run { let ends = streams_to O.contents O.count in
         LoopsBack (setup_of setup) words.now files.old files.new (ends files.old out.old) (ends files.new out.new) result }
 {
-    let matrix = read_noted(
-        alloc,
-        &setup.mode,
-        &mut files.rows,
-        words.notes.quiet,
-        notes,
-    )?;
+    let quiet = words.notes.quiet;
+    let matrix = match read_noted(alloc, &setup.mode, &mut files.rows, quiet, notes) {
+        Ok(matrix) => matrix,
+        Err(fault) => return Err(rowless_fault(fault, &mut files.from)),
+    };
     let link = Link::of(setup, &matrix);
     loop_link(alloc, &link, words, &mut files.from, &mut files.to, out)
 }
@@ -216,8 +255,8 @@ fn loop_at<
 
 /// `run`: sends the packets of a stream on the link of a setup and a row file, with the dummy frames that its words
 /// ask for, adds the noise of a seed and a level to their symbols, and receives these: it prints the report of `demod`, and writes the packets
-/// that come out. The symbols are kept in memory. Where a packet is refused nothing is printed or written. Want of memory is told
-/// only of rows that are accepted, before the first packet is read or while packets come.
+/// that come out. The packets are taken into memory, and then their symbols. Where a packet is refused nothing is printed or written. Want
+/// of memory is told only of rows and packets that are accepted: without memory the packets are read to their end all the same.
 pub fn run_command<
     R: CountedRead,
     S: CountedRead,

@@ -18,7 +18,7 @@ use crate::rows::rows_command;
 use crate::run::run_command;
 use s2_console::{Console, Exit, Fault, Place};
 use s2_evidence::{JudgeFiles, check_command, judge_command, self_command};
-use s2_files::{Disk, Reader, StandardStreams, Target, finish, leave, place_of};
+use s2_files::{Disk, PlainReader, StandardStreams, Target, finish, leave, place_of};
 use s2_link::LinkSetup;
 use s2_mode::{CountedRead, CountedWrite, Counting, FaultText, Mode, Shape};
 use s2_modes::modes_command;
@@ -192,8 +192,8 @@ fn leave_judge<R: Disk>(
     rt: &R,
     name: Option<&str>,
     mut files: JudgeFiles<
-        Reader<R::File, R::Input>,
-        Reader<R::File, R::Input>,
+        PlainReader<R::File, R::Input>,
+        PlainReader<R::File, R::Input>,
         Target<R::File, R::Output>,
     >,
 )

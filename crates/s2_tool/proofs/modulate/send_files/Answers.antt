@@ -1,15 +1,21 @@
-use Rattle.s2_tool.proofs.Names.{rules, sym, err_from_is_err_and, setup_of, Sends}
-use Rattle.s2_tool.proofs.LinkLemmas.{refused_rows, tried}
+use Rattle.std.specs.Result.{result_err}
+use Rattle.s2_tool.proofs.Names.{rules, sym, ap, refl, Err, setup_of, Sends}
+use Rattle.s2_tool.proofs.LinkLemmas.{rowless, tried}
 use Rattle.s2_tool.proofs.modulate.send_files.Goals as goal
 
-pub returns-in_err-matrix : goal.returns-in_err-matrix
-returns-in_err-matrix g c =
-    let p = err_from_is_err_and c.from_residual.result c.from_residual.ensures.1 in
-    record { run = rw (sym c.files.view_is, p.1, p.2) (refused_rows (Sends c.args.words.now.dummy) (setup_of c.args.setup) _ _ c.in_err-matrix.field-0.0 _ c.in_err-matrix.ensures.rows (search rules) (search rules) (search rules) (search rules)) }
+pub returns-in-Err : goal.returns-in-Err
+returns-in-Err g c =
+    let said = c.in-Err.ensures in
+    let told = c.rowless_fault.ensures in
+    record {
+      run = rw (sym c.files.view_is) (rowless (Sends c.args.words.now.dummy) (setup_of c.args.setup) _ _ c.in-Err.fault c.rowless_fault.result _ _ _ said.rows (search rules) (search rules) (search rules)
+          told.memory ((search rules), (λ e. let read = told.read e in (read.0, result_err read.1, read.2, ap Err read.3, refl, refl)), (λ e. let other = told.other e in (ap Err other.0, rw other.1 refl)))
+          told.no_read (told.no_write (search rules)));
+    }
 
 pub returns : goal.returns
 returns g c =
     record {
-      run = rw (sym c.files.view_is) (tried (Sends c.args.words.now.dummy) (setup_of c.args.setup) _ _ c.in_ok-matrix.matrix c.of-link.result _ _ c.send_link.result c.in_ok-matrix.ensures.rows
-          c.of-link.ensures (c.in_ok-matrix.ensures.no_other (λ e. cc)) c.send_link.ensures.sends c.send_link.ensures.causes);
+      run = rw (sym c.files.view_is) (tried (Sends c.args.words.now.dummy) (setup_of c.args.setup) _ _ c.in-Ok.matrix c.of-link.result _ _ c.send_link.result c.in-Ok.ensures.rows
+          c.of-link.ensures (c.in-Ok.ensures.no_other (λ e. cc)) c.send_link.ensures.sends c.send_link.ensures.causes);
     }
