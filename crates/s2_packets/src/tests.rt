@@ -12,6 +12,9 @@ use std::test::Fail;
 /// How many bytes three packets have.
 const THREE: usize = 3 * PACKET_BYTES;
 
+/// How many times three packets are many: 16 MB.
+const MANY: usize = 30_000;
+
 /// Why a bad second packet is refused.
 const NO_SYNC: SendFault = SendFault::NoSync { packet: 2 };
 
@@ -89,6 +92,20 @@ fn takes_whole_packets(rt: HostRuntime) -> Result<(), Fail> {
     for n in [0, PACKET_BYTES, THREE] {
         assert_taken(&rt, rt.alloc(), &bytes[..n])?;
     }
+    Ok(())
+}
+
+#[test]
+fn takes_many_packets(rt: HostRuntime) -> Result<(), Fail> {
+    let three = packets();
+    let mut bytes = Vec::new(rt.alloc());
+    for _ in 0..MANY {
+        bytes.extend_from_slice(&three)?;
+    }
+    assert_kept(&rt, rt.alloc(), &mut InMemory::new(&bytes), &bytes)?;
+    bytes.push(SYNC)?;
+    let refused = take_packets(rt.alloc(), &mut InMemory::new(&bytes));
+    assert_eq!(rt; refused.err(), Some(SendFault::NotWholePacket));
     Ok(())
 }
 

@@ -96,16 +96,16 @@ Uncut old new ended = (ended ≡ Err faults.Write) × (new ≡ record old { writ
 abbrev pub Tries : {T : Type 0} → Deed T → Link → Streams → Streams → Result T Fault → Type 0
 Tries Does link old new ended = Does (Some link) old new ended ⊎ (Does None old new ended ⊎ Uncut old new ended)
 
--- Without a link its fault is told: nothing is read behind the rows, and nothing written. Where it is want of memory the command does what
--- it does without.
+-- Without a link its fault is told: nothing is read behind the rows, and nothing written. But where there is no memory for the rows the
+-- command does what it does on none.
 abbrev pub DoesOn : {T : Type 0} → Deed T → Result Link Fault → Streams → Streams → Result T Fault → Type 0
 DoesOn Does (Ok link) old new ended = Tries Does link old new ended
 DoesOn Does (Err f) old new ended =
     (f ≢ faults.Write) × (f ≡ faults.NoMemory → Does None old new ended) × (f ≢ faults.NoMemory → (ended ≡ Err f) × (new ≡ old))
 
 -- A command on a setup and on these files, of which so much is left. What the row file says decides whether there is a link,
--- unless memory ran out or a read of it failed, which was counted. Only where the row file is accepted is there no memory for it, and
--- only there is want of memory told.
+-- unless memory ran out or a read of it failed, which was counted. Memory runs out, and want of it is told, only where the row file
+-- is accepted.
 pub record OnLink {T : Type 0} (Does : Deed T) (setup : Setup) (files left : Ends) (old new : Streams) (ended : Result T Fault) : Type 0 where
   pub link : Result Link Fault
   pub linked : IfSome files.rows (λ text. Follows (λ l. l) link (link_in setup text))

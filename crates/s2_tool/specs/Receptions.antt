@@ -25,7 +25,8 @@ Receives rules old new (Err faults.Read) = (state : State) × StopsAfter rules b
 Receives rules old new (Err faults.Write) = BreaksAfter rules begun old new
 Receives rules old new (Err f) = ⊥
 
--- `demod` on a link: what a new receiver makes of the symbols. Without memory it does nothing: no symbols are ever refused.
+-- `demod` on a link: what a new receiver makes of the symbols. Without memory it does nothing: symbols are refused for nothing but their
+-- number.
 abbrev pub Hears : Tuning → Deed Received
 Hears tuning (Some link) old new ended = Receives (link_rules link tuning most_symbols) old new ended
 Hears tuning None old new ended = (ended ≡ Err faults.NoMemory) × (new ≡ old)

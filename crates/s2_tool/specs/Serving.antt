@@ -100,7 +100,7 @@ NotOf shape CannotBegin f = ((IsShape shape → ⊥) × (f ≡ no_shape)) ⊎ (I
 abbrev pub NotJudged : JudgeWords → Fault → Type 0
 NotJudged words f = CannotOpenAsked words.certificate f ⊎ (CannotOpen words.rows f ⊎ CannotOpen words.soft f)
 
--- the symbols could not be opened, or what is written not be opened or cut, or there was no memory for a buffer; no symbols are ever refused
+-- the symbols could not be opened, or what is written not be opened or cut, or there was no memory for its buffer
 abbrev pub NotSpoilt : NoiseWords → Fault → Type 0
 NotSpoilt words f = CannotOpen words.from f ⊎ (CannotOpen words.to f ⊎ ((f ≡ faults.Write) ⊎ (f ≡ faults.NoMemory)))
 
@@ -163,7 +163,7 @@ Channels channel from to Left ended =
 -- input determine; one that names files what its command says of what they hold, each in its role, and the file that it writes was let
 -- go, by its name, with what the command says that its writer took; or it could not be begun.
 -- Where its words have no mode or no shape, just that is told, and want of memory not in its place. Nor is it told in place of
--- what the rows, values, certificate or packets are refused for that standard input or a file holds, or of a file that cannot be opened.
+-- what the rows, values, certificate or packets are refused for that standard input or a file holds.
 abbrev pub Serves : Holdings → Leavings → Request → Option (List ℕ) → List ℕ → Result Exit Fault → Option (List ℕ) → Option (List ℕ) → Type 0
 Serves holds leaves requests.Own input notes ended old new =
     (notes ≡ []) × CommandRuns IsOwn (AreInputs (shape_of 4 2 3) (Some (codes "0 4 8\n0 1 2\n")) input) ended old new
