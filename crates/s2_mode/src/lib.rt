@@ -6,7 +6,8 @@
 //! [`Mode::shape`] is the shape of its LDPC code. [`Shape::new`] makes any other shape of at most 64800
 //! bits. A call that reads or writes takes what is [`Counted`]: over memory its contract names the
 //! bytes, and a failed call raises the count, so no fault is answered where nothing failed.
-//! [`Counting`] counts for any reader or writer of std, [`InMemory`] reads a slice. A [`Symbol`] has four
+//! [`Counting`] counts for any [`Source`] and [`Sink`], which each reader and each writer of std is, and fails only
+//! where a call into it failed; [`InMemory`] reads a slice. A [`Symbol`] has four
 //! bytes in a file, and what is written is read back ([`laws::symbols_back`]); [`bytes_into`] writes those of
 //! many into a slice, and [`symbols_into`] reads them. Four symbols fill a vector's lanes ([`words_from`], [`symbols_from`], [`put_four`]).
 //! What a fault of any crate says is a [`FaultText`]; a stream that was not passed on to its end ends by a [`StreamFault`].
@@ -19,6 +20,7 @@
 #![tactic(auto)]
 
 mod counts;
+mod device;
 mod fakes;
 mod fault_text;
 mod lanes;
@@ -36,6 +38,7 @@ mod wrapped;
 pub use counts::{
     Counted, CountedRead, CountedWrite, ReadFault, WriteFault, read_full, write_full,
 };
+pub use device::{Sink, Source};
 pub use fakes::{ByOne, Endless, FailAt};
 pub use fault_text::FaultText;
 pub use lanes::{put_four, symbols_from, words_from};
