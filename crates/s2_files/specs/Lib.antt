@@ -1,3 +1,4 @@
 pub mod Uses
 pub mod Names
 pub mod Known
+pub mod Opening

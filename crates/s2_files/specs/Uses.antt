@@ -1,5 +1,5 @@
 -- Which uses of files go together.
-use Rattle.std.specs.Prelude.{◌≡◌, ◌++◌, Bool, false, ◌&&◌, ◌||◌, List, [], ◌∷◌, Option, None, Some, ◌==◌}
+use Rattle.std.specs.Prelude.{Bool, false, ◌&&◌, ◌||◌, List, Option, None, Some, ◌==◌}
 use Rattle.std.specs.List.{list_any}
 use Rattle.s2_files.specs.declared.uses.Node.{Node}
 use Rattle.s2_files.specs.declared.uses.Role.{Role}
@@ -25,9 +25,3 @@ clashes a b = clash_of a.role b.role (a.standard && b.standard) (same_node a.nod
 -- a use that doesn't go together with one of these
 abbrev pub clashes_any : List Use → Use → Bool
 clashes_any before new = list_any (λ u. clashes u new) before
-
--- one use more was taken up, of this role, and of a standard stream or not, which goes together with all before it
-abbrev pub Takes : Role → Bool → List Use → List Use → Type 0
-Takes role standard old new =
-    (node : Option Node) × (new ≡ old ++ (record { role = role; standard = standard; node = node } ∷ []))
-    × (clashes_any old (record { role = role; standard = standard; node = node }) ≡ false)

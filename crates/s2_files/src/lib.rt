@@ -10,7 +10,8 @@
 //!
 //! ```text
 //! let mut opener = Opener::new(rt);
-//! let rows = opener.read_buffered(words.rows)?;
+//! let mut rows = opener.read(words.rows)?;
+//! let mut packets = opener.read_buffered(words.packets)?;
 //! let mut symbols = opener.write(words.symbols)?;
 //! // the rows are accepted
 //! symbols.begin()?;
@@ -33,4 +34,4 @@ pub use opener::{MOST_FILES, Opener, PlainReader, Reader};
 pub use output::Output;
 pub use standard::{StandardStreams, place_of};
 pub use target::{Target, Writer, finish, leave};
-pub use uses::{Node, Role, Use};
+pub use uses::{Node, Role, Stat, Use};

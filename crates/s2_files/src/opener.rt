@@ -1,23 +1,21 @@
 //! Files opened, each once.
-ghost use Rattle.std.specs.Prelude.{◌≡◌, ◌⊎◌, ◌+◌, ◌<◌, ◌≤◌, [], ◌∷◌, ◌++◌, false, true, IfOk, IfErr, OnErr, OnOk, IsOk, ◌↔◌, length};
+ghost use Rattle.std.specs.Prelude.{◌≡◌, ◌+◌, ◌<◌, ◌≤◌, [], ◌∷◌, ◌++◌, false, true, IfOk, IfErr, OnErr, OnOk, length};
 ghost use Rattle.s2_files.specs.Known.{buffered_of, known_of};
 ghost use Rattle.s2_files.specs.Names.{NamesStandard};
-ghost use Rattle.s2_files.specs.Uses.{clashes_any, Takes};
+ghost use Rattle.s2_files.specs.Opening.{CannotOpen, Takes};
+ghost use Rattle.s2_files.specs.Uses.{clashes_any};
 
 use crate::disk::Disk;
 use crate::opened::Opened;
-use crate::standard::{is_standard, standard_path};
+use crate::standard::is_standard;
 use crate::target::Target;
-use crate::uses::{Node, Role, Use, clashes_any};
+use crate::uses::{Role, Use, clashes_any};
 use arrayvec::ArrayVec;
 use either::{Either, Left, Right};
 use s2_console::Fault;
 use s2_mode::Counting;
-use std::fs;
-use std::fs::{Metadata, OpenFile};
 use std::io::BufReader;
 use std::marker::Model;
-use std::os::unix::fs::{FileTypeExt, MetadataExt};
 
 /// The most files of a command.
 pub const MOST_FILES: usize = 4;
@@ -27,26 +25,6 @@ pub type Reader<F, S> = Counting<Either<BufReader<Opened<F, S>>, Opened<F, S>>>;
 
 /// An input without a buffer, with its failed calls counted.
 pub type PlainReader<F, S> = Counting<Opened<F, S>>;
-
-/// By what a file system knows a file that holds bytes.
-fn node_of(file: &Metadata) -> Option<Node> {
-    if file.is_file() || file.file_type().is_block_device() {
-        Some(Node {
-            device: file.dev(),
-            number: file.ino(),
-        })
-    } else {
-        None
-    }
-}
-
-/// The length of a regular file.
-fn length_of<F: OpenFile>(file: &F) -> Option<u64> {
-    match file.metadata() {
-        Ok(metadata) if metadata.is_file() => Some(metadata.len()),
-        _ => None,
-    }
-}
 
 /// Opens files, each once. To contracts it is how each file that was opened is used, in order.
 pub struct Opener<'r, R> {
@@ -94,11 +72,10 @@ impl<'r, R: Disk> Opener<'r, R> {
     /// Takes up a new use of this name, where it goes together with those before it.
     fn take<'a>(&mut self, name: &'a str, new: Use) -> Result<(), Fault<'a>>
         requires room { length self.old < 4 }
-        ensures refused { IsOk result ↔ (clashes_any self.old new ≡ false) }
-        ensures taken { OnOk result (self.new ≡ self.old ++ new ∷ []) }
+        ensures taken { OnOk result ((self.new ≡ self.old ++ new ∷ []) × (clashes_any self.old new ≡ false)) }
         ensures kept { OnErr result (self.new ≡ self.old) }
         ensures count { OnOk result (length self.new ≡ length self.old + 1) }
-        ensures fault { IfErr result (λ fault. fault ≡ Fault.UsedTwice name.entry) }
+        ensures fault { IfErr result (λ fault. (fault ≡ Fault.UsedTwice name.entry) × (clashes_any self.old new ≡ true)) }
     {
         if clashes_any(self.uses.as_slice(), new) {
             return Err(Fault::UsedTwice(name));
@@ -107,23 +84,16 @@ impl<'r, R: Disk> Opener<'r, R> {
         Ok(())
     }
 
-    /// By what the file system knows a standard stream, where it is a file that holds bytes.
-    fn standard_node(&self, role: Role) -> Option<Node> {
-        match fs::metadata(self.rt, standard_path(role)) {
-            Ok(metadata) => node_of(&metadata),
-            Err(_) => None,
-        }
-    }
-
     /// Takes up a standard stream by one of its names.
     fn take_standard<'a>(&mut self, role: Role, name: &'a str) -> Result<(), Fault<'a>>
         requires room { length self.old < 4 }
-        ensures taken { OnOk result (Takes role true self.old self.new) }
+        requires standard { NamesStandard role name.now }
+        ensures takes { OnOk result (Takes R.tells role name.entry.now self.old self.new) }
         ensures kept { OnErr result (self.new ≡ self.old) }
         ensures count { OnOk result (length self.new ≡ length self.old + 1) }
-        ensures fault { IfErr result (λ fault. fault ≡ Fault.UsedTwice name.entry) }
+        ensures fault { IfErr result (CannotOpen R.tells role name.entry self.old) }
     {
-        let node = self.standard_node(role);
+        let node = self.rt.standard_node(role);
         self.take(
             name,
             Use {
@@ -134,32 +104,32 @@ impl<'r, R: Disk> Opener<'r, R> {
         )
     }
 
-    /// Takes up an open file by its name. Answers whether it is a regular file.
+    /// Takes up an open file by its name. Answers its length, where it is a regular file.
     fn take_file<'a>(
         &mut self,
         role: Role,
         name: &'a str,
         file: &R::File,
-    ) -> Result<bool, Fault<'a>>
+    ) -> Result<Option<u64>, Fault<'a>>
         requires room { length self.old < 4 }
-        ensures taken { OnOk result (Takes role false self.old self.new) }
+        requires named { NamesStandard role name.now → ⊥ }
+        ensures takes { OnOk result (Takes R.tells role name.entry.now self.old self.new) }
         ensures kept { OnErr result (self.new ≡ self.old) }
         ensures count { OnOk result (length self.new ≡ length self.old + 1) }
-        ensures fault { IfErr result (λ fault. (fault ≡ Fault.Open name.entry) ⊎ (fault ≡ Fault.UsedTwice name.entry)) }
+        ensures fault { IfErr result (CannotOpen R.tells role name.entry self.old) }
     {
-        let Ok(metadata) = file.metadata() else {
+        let Ok(stat) = self.rt.stat(role, name, file) else {
             return Err(Fault::Open(name));
         };
-        let node = node_of(&metadata);
         self.take(
             name,
             Use {
                 role,
                 standard: false,
-                node,
+                node: stat.node,
             },
         )?;
-        Ok(metadata.is_file())
+        Ok(stat.length)
     }
 
     /// Opens an input.
@@ -168,13 +138,10 @@ impl<'r, R: Disk> Opener<'r, R> {
         ensures fresh { IfOk result (λ file. file.failed ≡ 0) }
         ensures holds { IfOk result
             (λ file. known_of R.File.remaining R.Input.remaining file.inner ≡ R.holds Role.Input name.entry.now) }
-        ensures standard { NamesStandard Role.Input name.entry.now
-            → OnOk result (Takes Role.Input true self.old self.new) }
-        ensures named { (NamesStandard Role.Input name.entry.now → ⊥)
-            → OnOk result (Takes Role.Input false self.old self.new) }
+        ensures takes { OnOk result (Takes R.tells Role.Input name.entry.now self.old self.new) }
         ensures kept { OnErr result (self.new ≡ self.old) }
         ensures count { OnOk result (length self.new ≡ length self.old + 1) }
-        ensures fault { IfErr result (λ fault. (fault ≡ Fault.Open name.entry) ⊎ (fault ≡ Fault.UsedTwice name.entry)) }
+        ensures fault { IfErr result (CannotOpen R.tells Role.Input name.entry self.old) }
     {
         if is_standard(Role::Input, name) {
             self.take_standard(Role::Input, name)?;
@@ -184,8 +151,7 @@ impl<'r, R: Disk> Opener<'r, R> {
         let Ok(file) = self.rt.open_input(name) else {
             return Err(Fault::Open(name));
         };
-        self.take_file(Role::Input, name, &file)?;
-        self.length = length_of(&file);
+        self.length = self.take_file(Role::Input, name, &file)?;
         Ok(Counting::new(Opened::File(file)))
     }
 
@@ -195,13 +161,10 @@ impl<'r, R: Disk> Opener<'r, R> {
         ensures fresh { IfOk result (λ file. file.failed ≡ 0) }
         ensures holds { IfOk result
             (λ file. known_of R.File.contents R.Output.contents file.to ≡ R.holds Role.Output name.entry.now) }
-        ensures standard { NamesStandard Role.Output name.entry.now
-            → OnOk result (Takes Role.Output true self.old self.new) }
-        ensures named { (NamesStandard Role.Output name.entry.now → ⊥)
-            → OnOk result (Takes Role.Output false self.old self.new) }
+        ensures takes { OnOk result (Takes R.tells Role.Output name.entry.now self.old self.new) }
         ensures kept { OnErr result (self.new ≡ self.old) }
         ensures count { OnOk result (length self.new ≡ length self.old + 1) }
-        ensures fault { IfErr result (λ fault. (fault ≡ Fault.Open name.entry) ⊎ (fault ≡ Fault.UsedTwice name.entry)) }
+        ensures fault { IfErr result (CannotOpen R.tells Role.Output name.entry self.old) }
     {
         if is_standard(Role::Output, name) {
             self.take_standard(Role::Output, name)?;
@@ -210,8 +173,8 @@ impl<'r, R: Disk> Opener<'r, R> {
         let Ok(file) = self.rt.open_output(name) else {
             return Err(Fault::Open(name));
         };
-        let holds = self.take_file(Role::Output, name, &file)?;
-        Ok(Target::new(Opened::File(file), holds))
+        let length = self.take_file(Role::Output, name, &file)?;
+        Ok(Target::new(Opened::File(file), length.is_some()))
     }
 }
 
@@ -243,13 +206,10 @@ impl<'r, R: Disk + AllocGlobal> Opener<'r, R> {
         ensures fresh { IfOk result (λ file. file.failed ≡ 0) }
         ensures holds { IfOk result (λ file. buffered_of (known_of R.File.remaining R.Input.remaining) file.inner
             ≡ R.holds Role.Input name.entry.now) }
-        ensures standard { NamesStandard Role.Input name.entry.now
-            → OnOk result (Takes Role.Input true self.old self.new) }
-        ensures named { (NamesStandard Role.Input name.entry.now → ⊥)
-            → OnOk result (Takes Role.Input false self.old self.new) }
+        ensures takes { OnOk result (Takes R.tells Role.Input name.entry.now self.old self.new) }
         ensures kept { OnErr result (self.new ≡ self.old) }
         ensures count { OnOk result (length self.new ≡ length self.old + 1) }
-        ensures fault { IfErr result (λ fault. (fault ≡ Fault.Open name.entry) ⊎ (fault ≡ Fault.UsedTwice name.entry)) }
+        ensures fault { IfErr result (CannotOpen R.tells Role.Input name.entry self.old) }
     {
         let file = self.read(name)?;
         Ok(Counting::new(buffered(self.rt, file.into_inner())))

@@ -1,13 +1,15 @@
 //! Outputs that are whole until they are begun.
-ghost use Rattle.std.specs.Prelude.{◌≡◌, ◌≢◌, ◌⊎◌, Ok, IfOk, IfErr, IsOk};
+ghost use Rattle.std.specs.Prelude.{◌≡◌, ◌≢◌, ◌⊎◌, ◌<◌, ◌≤◌, Ok, IfOk, IfErr, IsOk, length};
 ghost use Rattle.std.specs.Io.Buffered.{writer_contents};
+ghost use Rattle.std.specs.Io.KnownBytes.{WriteAppends};
+ghost use Rattle.s2_mode.specs.Counts.{CanCount, CountsFault};
 ghost use Rattle.s2_files.specs.Known.{known_of, LeftWhole, LeftPart};
 
 use crate::disk::Disk;
 use crate::opened::Opened;
 use crate::output::Output;
 use s2_console::{Exit, Fault};
-use s2_mode::{Counted, CountedWrite, Counting, WriteFault, write_full};
+use s2_mode::{Counted, CountedWrite, Counting, Sink, WriteFault, write_full};
 use std::alloc::Global;
 use std::fs::OpenFile;
 use std::io::{BufWriter, Write};
@@ -73,14 +75,24 @@ impl<F: Write, S: Write> CountedWrite for Target<F, S> {
 
     ghost contents = { λ t. known_of F.contents S.contents t.to };
 
-    fn write(&mut self, buf: &[u8]) -> Result<usize, WriteFault> {
-        match self.to.write(buf) {
-            Ok(n) if n > 0 || buf.is_empty() => Ok(n),
-            _ => {
-                self.failed = self.failed.saturating_add(1);
-                Err(WriteFault)
-            }
+    /// Writes once. Of no bytes nothing is asked of the file, so nothing can fail.
+    fn write(&mut self, buf: &[u8]) -> Result<usize, WriteFault>
+        requires { CanCount self.old.failed }
+        ensures bound { IfOk result (λ n. n ≤ length buf.now) }
+        ensures progress { IfOk result (λ n. 0 < length buf.now → 0 < n) }
+        ensures bytes { WriteAppends (known_of F.contents S.contents self.old.to)
+            (known_of F.contents S.contents self.new.to) result buf.now }
+        ensures cause { CountsFault self.old.failed self.new.failed result }
+        ensures empty { length buf.now ≡ 0 → (result ≡ Ok 0) × (self.new ≡ self.old) }
+    {
+        if buf.is_empty() {
+            return Ok(0);
         }
+        let answer = self.to.write_once(buf);
+        if answer.is_err() {
+            self.failed = self.failed.saturating_add(1);
+        }
+        answer
     }
 }
 

@@ -9,6 +9,13 @@ pub struct Node {
     pub number: u64,
 }
 
+/// What the file system tells of an open file: which one it is, where it holds bytes, and how many it holds, where it is a regular one.
+#[derive(Clone, Copy, Debug, PartialEq, Eq)]
+pub struct Stat {
+    pub node: Option<Node>,
+    pub length: Option<u64>,
+}
+
 /// Whether a file is read or written.
 #[derive(Clone, Copy, Debug, PartialEq, Eq)]
 pub enum Role {

@@ -3,3 +3,4 @@ pub mod LinkLemmas
 pub mod LoopLemmas
 pub mod ServeLemmas
 pub mod NoteLemmas
+pub mod OpeningLemmas

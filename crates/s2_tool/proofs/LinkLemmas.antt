@@ -1,5 +1,5 @@
 -- A command on a link, or on none: a setup, and its row file that is read by this shape.
-use Rattle.s2_tool.proofs.Names.{◌≡◌, ◌≢◌, ◌+◌, List, ℕ, Option, Result, Ok, Err, IfSome, IfSome_then, IsOk, ap, refl, inl, inr, shape_in, Streams, Rows, Link, link_of, Setup, Fault, Follows, told, rows_in, IsAccepted, Ends, Causes, link_on, link_in, Deed, DoesOn, Tries, OnLink}
+use Rattle.s2_tool.proofs.Names.{◌≡◌, ◌≢◌, ◌+◌, List, ℕ, Option, Result, Ok, Err, IfSome, IfSome_then, IsOk, ap, refl, inl, inr, shape_in, Streams, Rows, Link, link_of, Setup, Fault, Follows, told, rows_in, IsAccepted, Ends, Causes, link_on, link_in, LinkCommand, DoesOn, Tries, OnLink}
 use Rattle.s2_tool.proofs.Names.faults
 
 -- on rows that are accepted there is a link
@@ -7,15 +7,15 @@ linked : (setup : Setup) (said : Result Rows Fault) → IsOk said → IsOk (link
 linked setup (Ok rows) h = refl
 linked setup (Err f) h = h
 
-module _ {T : Type 0} (Does : Deed T) (setup : Setup) (files left : Ends) where
+module _ {T : Type 0} (Does : LinkCommand T) (setup : Setup) (files left : Ends) where
   -- there are no rows, for this fault, and this is told
-  pub rowless : (f told_fault : Fault) (old : Streams) (taken : Option (List ℕ)) (reads : ℕ) → IfSome files.rows (λ text. Follows {V = Rows} (λ r. r) (Err f) (rows_in (shape_in setup.mode) text))
+  pub without_rows : (f told_fault : Fault) (old : Streams) (taken : Option (List ℕ)) (reads : ℕ) → IfSome files.rows (λ text. Follows {V = Rows} (λ r. r) (Err f) (rows_in (shape_in setup.mode) text))
       → (f ≡ faults.NoMemory → IsAccepted files.rows (rows_in (shape_in setup.mode)))
       → (f ≡ faults.Read → left.rows_failed ≡ files.rows_failed + 1) → (f ≢ faults.Read → left.rows_failed ≡ files.rows_failed)
       → (told_fault ≡ faults.NoMemory → f ≡ faults.NoMemory) → DoesOn Does (Err f) old (record old { taken = taken; reads = reads }) (Err told_fault)
       → (told_fault ≢ faults.Read → reads ≡ old.reads) → told_fault ≢ faults.Write → OnLink Does setup files left old (record old { taken = taken; reads = reads }) (Err told_fault)
-  rowless f told_fault old taken reads h roomless failed well lacking does no_read no_write =
-      let accepted : f ≡ faults.NoMemory → IsAccepted files.rows (link_in setup) = λ e. IfSome_then files.rows (roomless e) (λ text p. linked setup (rows_in (shape_in setup.mode) text) p) in
+  without_rows f told_fault old taken reads h no_memory failed well lacking does no_read no_write =
+      let accepted : f ≡ faults.NoMemory → IsAccepted files.rows (link_in setup) = λ e. IfSome_then files.rows (no_memory e) (λ text p. linked setup (rows_in (shape_in setup.mode) text) p) in
       record {
         link = Err f;
         linked = IfSome_then files.rows h (λ text p. told {V = Rows} {W = Link} (λ r. r) (λ l. l) f (rows_in (shape_in setup.mode) text) (link_in setup text) (λ e. ap (link_on setup) e) p);

@@ -14,6 +14,7 @@ pub use Rattle.s2_console.specs.declared.exit.Exit.{Exit}
 pub use Rattle.s2_console.specs.declared.fault.Fault.{Fault}
 pub use Rattle.s2_console.specs.declared.place.Place.{Place}
 pub use Rattle.s2_files.specs.Known.{Holdings, Leavings, LeftPart, LeftWhole}
+pub use Rattle.s2_files.specs.Opening.{Asked, CannotOpenOne, Opens, OpensAll, Takes, Tells}
 pub use Rattle.s2_rows.specs.Rows.{Rows}
 pub use Rattle.s2_link.specs.Link.{Link, link_of, setup_of}
 pub use Rattle.s2_link.specs.declared.setup.Setup.{Setup}
@@ -25,11 +26,11 @@ pub use Rattle.s2_receive.specs.declared.report.Received.{Received}
 pub use Rattle.s2_evidence.specs.Inputs.{rows_in, IsAccepted}
 pub use Rattle.s2_table.specs.Wanted.{notes_on}
 pub use Rattle.s2_modem.specs.Reception.{link_rules, rules_for}
-pub use Rattle.s2_tool.specs.Links.{Causes, Deed, DoesOn, Ends, OnLink, Tries, link_in, link_on, streams_at}
+pub use Rattle.s2_tool.specs.Links.{Causes, LinkCommand, DoesOn, Ends, OnLink, Tries, link_in, link_on, streams_at}
 pub use Rattle.s2_tool.specs.Looping.{Loops, kept_fault}
 pub use Rattle.s2_tool.specs.Losses.{Finishes, exit_by, notes_of}
 pub use Rattle.s2_tool.specs.Receptions.{Hears}
 pub use Rattle.s2_tool.specs.Sending.{Sends, transmitter_on}
-pub use Rattle.s2_tool.specs.Serving.{Began, Channels, IsPlaced, Receipts, Reports, Served, Serves, Unbegun, asked_setup}
+pub use Rattle.s2_tool.specs.Serving.{Began, Channels, IsPlaced, Receipts, Reports, Served, Serves, Unbegun, asked_setup, noise_asked, written_first}
 pub use Rattle.s2_tool.specs.Spoiling.{NoiseEnds, Spoils, piped}
 pub use Rattle.s2_console.specs.declared.fault.Fault.TheVariants as faults

@@ -1,5 +1,5 @@
 -- The link that a command works on, and its files.
-use Rattle.std.specs.Prelude.{◌≡◌, ◌≢◌, ◌⊎◌, ℕ, ◌+◌, List, Option, Some, None, IfSome, Result, Ok, Err, IfOk}
+use Rattle.std.specs.Prelude.{◌≡◌, ◌≢◌, ◌⊎◌, ℕ, ◌+◌, List, [], ◌∷◌, Option, Some, None, IfSome, Result, Ok, Err, IfOk}
 use Rattle.std.specs.Borrow.{Bor}
 use Rattle.s2_mode.specs.Counts.{CanCount}
 use Rattle.s2_mode.specs.Mode.{shape_in}
@@ -14,6 +14,7 @@ use Rattle.s2_console.specs.Screens.{Screen, report_in, report_failed}
 use Rattle.s2_console.specs.declared.place.Place.{Place}
 use Rattle.s2_evidence.specs.Inputs.{rows_in, IsAccepted}
 use Rattle.s2_files.specs.Known.{Holdings}
+use Rattle.s2_files.specs.Opening.{Asked}
 use Rattle.s2_files.specs.declared.uses.Role.TheVariants as roles
 
 -- ---- the files
@@ -36,6 +37,10 @@ IsUntouched ends = (ends.rows_failed ≡ 0) × (ends.taken_failed ≡ 0) × (end
 abbrev pub ends_of : Holdings → Bor (List ℕ) → Bor (List ℕ) → Bor (List ℕ) → Ends
 ends_of holds rows from to =
     record { rows = holds roles.Input rows.now; taken = holds roles.Input from.now; given = holds roles.Output to.now; rows_failed = 0; taken_failed = 0; given_failed = 0 }
+
+-- these files in the order in which they are opened
+abbrev pub asked_of : Bor (List ℕ) → Bor (List ℕ) → Bor (List ℕ) → Asked
+asked_of rows from to = (roles.Input, rows) ∷ (roles.Input, from) ∷ (roles.Output, to) ∷ []
 
 -- one more failed call of each can be counted
 abbrev pub CanFail : Ends → Type 0
@@ -65,14 +70,6 @@ streams_at place ends screen = streams_with ends (report_in place screen) (repor
 abbrev pub Causes : {T : Type 0} → Streams → Streams → Result T Fault → Type 0
 Causes old new ended = OnlyFailed (ended ≡ Err faults.Read) (ended ≡ Err faults.Write) old new
 
--- why a file of this name could not be opened
-abbrev pub CannotOpen : Bor (List ℕ) → Fault → Type 0
-CannotOpen name fault = (fault ≡ faults.Open name) ⊎ (fault ≡ faults.UsedTwice name)
-
--- why one of three files could not be opened
-abbrev pub CannotOpenOne : Bor (List ℕ) → Bor (List ℕ) → Bor (List ℕ) → Fault → Type 0
-CannotOpenOne first second third fault = CannotOpen first fault ⊎ (CannotOpen second fault ⊎ CannotOpen third fault)
-
 -- ---- the link
 
 -- a link on these rows, or why there are none
@@ -85,20 +82,20 @@ abbrev pub link_in : Setup → List ℕ → Result Link Fault
 link_in setup text = link_on setup (rows_in (shape_in setup.mode) text)
 
 -- what a command does on a link, or on none, where there was no memory for all that it needs, and what it answers
-abbrev pub Deed : Type 0 → Type 1
-Deed T = Option Link → Streams → Streams → Result T Fault → Type 0
+abbrev pub LinkCommand : Type 0 → Type 1
+LinkCommand T = Option Link → Streams → Streams → Result T Fault → Type 0
 
 -- nothing was done, since the file that is to be written could not be cut
-abbrev pub Uncut : {T : Type 0} → Streams → Streams → Result T Fault → Type 0
-Uncut old new ended = (ended ≡ Err faults.Write) × (new ≡ record old { writes = old.writes + 1 })
+abbrev pub NotCut : {T : Type 0} → Streams → Streams → Result T Fault → Type 0
+NotCut old new ended = (ended ≡ Err faults.Write) × (new ≡ record old { writes = old.writes + 1 })
 
 -- a command did on a link what it does, or what it does without memory, or nothing
-abbrev pub Tries : {T : Type 0} → Deed T → Link → Streams → Streams → Result T Fault → Type 0
-Tries Does link old new ended = Does (Some link) old new ended ⊎ (Does None old new ended ⊎ Uncut old new ended)
+abbrev pub Tries : {T : Type 0} → LinkCommand T → Link → Streams → Streams → Result T Fault → Type 0
+Tries Does link old new ended = Does (Some link) old new ended ⊎ (Does None old new ended ⊎ NotCut old new ended)
 
 -- Without a link its fault is told: nothing is read behind the rows, and nothing written. But where there is no memory for the rows the
 -- command does what it does on none.
-abbrev pub DoesOn : {T : Type 0} → Deed T → Result Link Fault → Streams → Streams → Result T Fault → Type 0
+abbrev pub DoesOn : {T : Type 0} → LinkCommand T → Result Link Fault → Streams → Streams → Result T Fault → Type 0
 DoesOn Does (Ok link) old new ended = Tries Does link old new ended
 DoesOn Does (Err f) old new ended =
     (f ≢ faults.Write) × (f ≡ faults.NoMemory → Does None old new ended) × (f ≢ faults.NoMemory → (ended ≡ Err f) × (new ≡ old))
@@ -106,7 +103,7 @@ DoesOn Does (Err f) old new ended =
 -- A command on a setup and on these files, of which so much is left. What the row file says decides whether there is a link,
 -- unless memory ran out or a read of it failed, which was counted. Memory runs out, and want of it is told, only where the row file
 -- is accepted.
-pub record OnLink {T : Type 0} (Does : Deed T) (setup : Setup) (files left : Ends) (old new : Streams) (ended : Result T Fault) : Type 0 where
+pub record OnLink {T : Type 0} (Does : LinkCommand T) (setup : Setup) (files left : Ends) (old new : Streams) (ended : Result T Fault) : Type 0 where
   pub link : Result Link Fault
   pub linked : IfSome files.rows (λ text. Follows (λ l. l) link (link_in setup text))
   pub no_memory : (link ≡ Err faults.NoMemory) ⊎ (ended ≡ Err faults.NoMemory) → IsAccepted files.rows (link_in setup)

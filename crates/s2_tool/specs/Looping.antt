@@ -17,7 +17,7 @@ use Rattle.s2_words.specs.declared.request.ChannelWords.{ChannelWords}
 use Rattle.s2_words.specs.declared.request.RunWords.{RunWords}
 use Rattle.s2_console.specs.declared.place.Place.{Place}
 use Rattle.s2_console.specs.Screens.{Screen}
-use Rattle.s2_tool.specs.Links.{Ends, Deed, OnLink, streams_at}
+use Rattle.s2_tool.specs.Links.{Ends, LinkCommand, OnLink, streams_at}
 use Rattle.s2_tool.specs.Losses.{Finishes}
 use Rattle.s2_tool.specs.Sending.{Reads, ReadsThrough, Runs, transmitter_on, refusal_fault}
 use Rattle.s2_tool.specs.Spoiling.{piped, Spoils}
@@ -65,7 +65,7 @@ LoopsBy t rules channel old new ended =
     (packets : List (List ℕ)) × (refusal : Option SendFault) × Reads old new packets refusal × ReturnsAll t rules channel packets refusal old new ended
 
 -- `run` on a link, with the dummy frames, the tuning and the channel of its words
-abbrev pub Loops : RunWords → Deed Received
+abbrev pub Loops : RunWords → LinkCommand Received
 Loops words (Some link) old new ended = LoopsBy (transmitter_on link words.dummy) (link_rules link words.tuning most_symbols) words.channel old new ended
 Loops words None old new ended = ReadsThrough old new ended
 

@@ -14,7 +14,7 @@ use Rattle.s2_console.specs.declared.exit.Exit.{Exit}
 use Rattle.s2_console.specs.declared.place.Place.{Place}
 use Rattle.s2_console.specs.Screens.{Screen}
 use Rattle.s2_words.specs.declared.request.DemodWords.{DemodWords}
-use Rattle.s2_tool.specs.Links.{Ends, Deed, OnLink, streams_at}
+use Rattle.s2_tool.specs.Links.{Ends, LinkCommand, OnLink, streams_at}
 use Rattle.s2_tool.specs.Losses.{Finishes}
 
 -- All was received to the end: the packets of each frame and its line are written, then the end line. Or a read failed: what was
@@ -27,7 +27,7 @@ Receives rules old new (Err f) = ⊥
 
 -- `demod` on a link: what a new receiver makes of the symbols. Without memory it does nothing: symbols are refused for nothing but their
 -- number.
-abbrev pub Hears : Tuning → Deed Received
+abbrev pub Hears : Tuning → LinkCommand Received
 Hears tuning (Some link) old new ended = Receives (link_rules link tuning most_symbols) old new ended
 Hears tuning None old new ended = (ended ≡ Err faults.NoMemory) × (new ≡ old)
 

@@ -21,7 +21,7 @@ use Rattle.s2_console.specs.Screens.{Screen}
 use Rattle.s2_console.specs.declared.place.Place.{Place}
 use Rattle.s2_table.specs.Wanted.{notes_on}
 use Rattle.s2_words.specs.declared.request.ModWords.{ModWords}
-use Rattle.s2_tool.specs.Links.{Ends, Deed, OnLink, streams_at}
+use Rattle.s2_tool.specs.Links.{Ends, LinkCommand, OnLink, streams_at}
 
 abbrev pub sent_line : Counts → List ℕ
 sent_line counts = codes "packets " ++ decimal counts.packets ++ codes " frames " ++ decimal counts.frames ++ codes "\n"
@@ -53,18 +53,18 @@ abbrev pub Reads : Streams → Streams → List (List ℕ) → Option SendFault 
 Reads old new packets refusal = TakesPackets old.reads new.reads old.taken new.taken packets refusal
 
 -- what is told without memory: what packets are refused for, or else want of memory
-abbrev pub roomless_fault : Option SendFault → Fault
-roomless_fault None = faults.NoMemory
-roomless_fault (Some refusal) = refusal_fault refusal
+abbrev pub fault_without_memory : Option SendFault → Fault
+fault_without_memory None = faults.NoMemory
+fault_without_memory (Some refusal) = refusal_fault refusal
 
 -- Without memory packets are read to their end all the same. Nothing is written, and nothing printed.
 abbrev pub ReadsThrough : {T : Type 0} → Streams → Streams → Result T Fault → Type 0
 ReadsThrough old new ended =
     (packets : List (List ℕ)) × (refusal : Option SendFault) × Reads old new packets refusal
-    × (ended ≡ Err (roomless_fault refusal)) × (new.given ≡ old.given) × (new.out ≡ old.out)
+    × (ended ≡ Err (fault_without_memory refusal)) × (new.given ≡ old.given) × (new.out ≡ old.out)
 
 -- `mod` on a link, with dummy frames
-abbrev pub Sends : ℕ → Deed Exit
+abbrev pub Sends : ℕ → LinkCommand Exit
 Sends dummy (Some link) old new ended = SendsBy (transmitter_on link dummy) old new ended
 Sends dummy None old new ended = ReadsThrough old new ended
 

@@ -1,5 +1,5 @@
 -- What the program prints for a request, and with what it lets its files go.
-use Rattle.std.specs.Prelude.{◌≡◌, ◌≢◌, ℕ, false, List, [], Option, Some, None, Result, Ok, Err, codes, ◌⊎◌, ◌↔◌, ⊤}
+use Rattle.std.specs.Prelude.{◌≡◌, ◌≢◌, ℕ, false, List, [], ◌∷◌, Option, Some, None, Result, Ok, Err, codes, ◌⊎◌, ◌↔◌, ⊤}
 use Rattle.std.specs.Borrow.{Bor}
 use Rattle.clap.specs.Words.{kind_of}
 use Rattle.clap.specs.declared.error.Error.{Error}
@@ -19,6 +19,7 @@ use Rattle.s2_console.specs.Screens.{Screen, report_in}
 use Rattle.s2_console.specs.declared.place.Place.{Place}
 use Rattle.s2_console.specs.declared.place.Place.TheVariants as places
 use Rattle.s2_files.specs.Known.{Holdings, Leavings, LeftWhole, LeftPart}
+use Rattle.s2_files.specs.Opening.{Tells, Asked, OpensAll, CannotOpenOne}
 use Rattle.s2_files.specs.Names.{NamesStandard}
 use Rattle.s2_files.specs.declared.uses.Role.TheVariants as roles
 use Rattle.s2_modes.specs.ModeLines.{IsListed, IsAsked}
@@ -40,7 +41,7 @@ use Rattle.s2_evidence.specs.Judging.{IsJudged, IsOwn}
 use Rattle.s2_evidence.specs.Checking.{AreCheckInputs, AreBothAccepted, IsAnswered}
 use Rattle.s2_table.specs.Tables.{AreRowsIn, IsTold}
 use Rattle.s2_table.specs.Wanted.{notes_on}
-use Rattle.s2_tool.specs.Links.{Ends, ends_of, streams_with, CannotOpen, CannotOpenOne, Deed, OnLink}
+use Rattle.s2_tool.specs.Links.{Ends, ends_of, asked_of, streams_with, LinkCommand, OnLink}
 use Rattle.s2_tool.specs.Making.{MakesRows}
 use Rattle.s2_tool.specs.Sending.{Sends}
 use Rattle.s2_tool.specs.Spoiling.{piped, Spoils}
@@ -81,12 +82,24 @@ abbrev pub check_files : Holdings → CheckWords → CheckFiles
 check_files holds words =
     record { rows = holds roles.Input words.rows.now; certificate = holds roles.Input words.certificate.now; rows_failed = 0; certificate_failed = 0 }
 
--- ---- why a request that names files could not be begun
+-- in the order in which they are opened: one that is written, where it is asked for, before these
+abbrev pub written_first : Option (Bor (List ℕ)) → Asked → Asked
+written_first (Some name) later = (roles.Output, name) ∷ later
+written_first None later = later
 
--- one that may be asked for could not be opened
-abbrev pub CannotOpenAsked : Option (Bor (List ℕ)) → Fault → Type 0
-CannotOpenAsked (Some name) f = CannotOpen name f
-CannotOpenAsked None f = ⊥
+abbrev pub judge_asked : JudgeWords → Asked
+judge_asked words = written_first words.certificate ((roles.Input, words.rows) ∷ (roles.Input, words.soft) ∷ [])
+
+abbrev pub check_asked : CheckWords → Asked
+check_asked words = (roles.Input, words.rows) ∷ (roles.Input, words.certificate) ∷ []
+
+abbrev pub rows_asked : Bor (List ℕ) → Asked
+rows_asked rows = (roles.Input, rows) ∷ []
+
+abbrev pub noise_asked : NoiseWords → Asked
+noise_asked words = (roles.Input, words.from) ∷ (roles.Output, words.to) ∷ []
+
+-- ---- why a request that names files could not be begun
 
 -- words of no mode; of a mode, a file that could not be opened
 abbrev pub NotOn : Mode → (Fault → Type 0) → Fault → Type 0
@@ -96,13 +109,10 @@ NotOn mode CannotBegin f = ((IsMode mode → ⊥) × (f ≡ no_mode)) ⊎ (IsMod
 abbrev pub NotOf : Shape → (Fault → Type 0) → Fault → Type 0
 NotOf shape CannotBegin f = ((IsShape shape → ⊥) × (f ≡ no_shape)) ⊎ (IsShape shape × CannotBegin f)
 
--- the certificate's file, the rows or the soft values could not be opened
-abbrev pub NotJudged : JudgeWords → Fault → Type 0
-NotJudged words f = CannotOpenAsked words.certificate f ⊎ (CannotOpen words.rows f ⊎ CannotOpen words.soft f)
-
--- the symbols could not be opened, or what is written not be opened or cut, or there was no memory for its buffer
-abbrev pub NotSpoilt : NoiseWords → Fault → Type 0
-NotSpoilt words f = CannotOpen words.from f ⊎ (CannotOpen words.to f ⊎ ((f ≡ faults.Write) ⊎ (f ≡ faults.NoMemory)))
+-- one of the files could not be opened; or there was no memory for the buffer of what is written, or it could not be cut
+abbrev pub NotSpoilt : Tells → NoiseWords → Fault → Type 0
+NotSpoilt tells words f =
+    CannotOpenOne tells (noise_asked words) [] f ⊎ (OpensAll tells (noise_asked words) × ((f ≡ faults.NoMemory) ⊎ (f ≡ faults.Write)))
 
 -- a command that could not be begun, for such a fault: nothing is printed, and nothing noted
 abbrev pub NotBegun : (Fault → Type 0) → List ℕ → Result Exit Fault → Option (List ℕ) → Option (List ℕ) → Type 0
@@ -113,13 +123,13 @@ NotBegun Why notes (Err f) old new = Why f × (notes ≡ []) × (new ≡ old)
 
 -- The output of a command on a link of this setup and these files, and how it ended: what the command does of them. The file that is
 -- written was let go with all that its writer had taken.
-abbrev pub Reports : {T : Type 0} → Deed T → Setup → Ends → (Option (List ℕ) → Type 0) → Result T Fault → Option (List ℕ) → Option (List ℕ) → Type 0
+abbrev pub Reports : {T : Type 0} → LinkCommand T → Setup → Ends → (Option (List ℕ) → Type 0) → Result T Fault → Option (List ℕ) → Option (List ℕ) → Type 0
 Reports {T} Does setup files Left ended old new =
     (failed : ℕ) × (left : Ends) × (behind : Streams)
     × OnLink Does setup files left (streams_with files old failed) behind ended × (behind.out ≡ new) × Left behind.given
 
 -- The output of a command that receives so, its notes, and how it ended.
-abbrev pub Receipts : NoteWords → Setup → Ends → (Option (List ℕ) → Type 0) → Deed Received → List ℕ → Result Exit Fault → Option (List ℕ) → Option (List ℕ) → Type 0
+abbrev pub Receipts : NoteWords → Setup → Ends → (Option (List ℕ) → Type 0) → LinkCommand Received → List ℕ → Result Exit Fault → Option (List ℕ) → Option (List ℕ) → Type 0
 Receipts words setup files Left Does notes ended old new =
     (heard : Result Received Fault) × Reports Does setup files Left heard old new × Answered words setup.mode heard ended notes
 
@@ -160,44 +170,48 @@ Channels channel from to Left ended =
     × (ended ≡ Ok exits.Fine → LeftWhole Left behind.given) × LeftPart Left behind.given
 
 -- What a request's output says, with which notes and how it ended. A request that names no file prints what its words and the
--- input determine; one that names files what its command says of what they hold, each in its role, and the file that it writes was let
--- go, by its name, with what the command says that its writer took; or it could not be begun.
+-- input determine; one that names files what its command says of what they hold, each in its role, once all are open, and the file
+-- that it writes was let go, by its name, with what the command says that its writer took; or it could not be begun.
 -- Where its words have no mode or no shape, just that is told, and want of memory not in its place. Nor is it told in place of
 -- what the rows, values, certificate or packets are refused for that standard input or a file holds.
-abbrev pub Serves : Holdings → Leavings → Request → Option (List ℕ) → List ℕ → Result Exit Fault → Option (List ℕ) → Option (List ℕ) → Type 0
-Serves holds leaves requests.Own input notes ended old new =
+abbrev pub Serves : Holdings → Tells → Leavings → Request → Option (List ℕ) → List ℕ → Result Exit Fault → Option (List ℕ) → Option (List ℕ) → Type 0
+Serves holds tells leaves requests.Own input notes ended old new =
     (notes ≡ []) × CommandRuns IsOwn (AreInputs (shape_of 4 2 3) (Some (codes "0 4 8\n0 1 2\n")) input) ended old new
     × (ended ≡ Err faults.NoMemory → IsAccepted input (values_in (shape_of 4 2 3)))
-Serves holds leaves (requests.Modes words) input notes ended old new = (notes ≡ []) × CommandRuns IsListed (IsAsked words.rate) ended old new
-Serves holds leaves (requests.Rows words) input notes ended old new =
+Serves holds tells leaves (requests.Modes words) input notes ended old new = (notes ≡ []) × CommandRuns IsListed (IsAsked words.rate) ended old new
+Serves holds tells leaves (requests.Rows words) input notes ended old new =
     (IsShape (asked_shape words.shape) × (notes ≡ [])
     × MakesRows (asked_shape words.shape) words.weight words.seed ended old new)
     ⊎ NotBegun (NotOf (asked_shape words.shape) (λ f. ⊥)) notes ended old new
-Serves holds leaves (requests.Table words) input notes ended old new =
-    (IsMode (table_mode words) × (notes ≡ notes_on words.quiet (table_mode words) ended)
+Serves holds tells leaves (requests.Table words) input notes ended old new =
+    (IsMode (table_mode words) × OpensAll tells (rows_asked words.rows) × (notes ≡ notes_on words.quiet (table_mode words) ended)
     × Compares (table_mode words) (holds roles.Input words.rows.now) ended old new)
-    ⊎ NotBegun (NotOn (table_mode words) (CannotOpen words.rows)) notes ended old new
-Serves holds leaves (requests.Judge words) input notes ended old new =
-    (IsShape (asked_shape words.shape) × (notes ≡ []) × Judges words (judge_files holds words) leaves ended old new)
-    ⊎ NotBegun (NotOf (asked_shape words.shape) (NotJudged words)) notes ended old new
-Serves holds leaves (requests.Check words) input notes ended old new =
-    ((notes ≡ []) × Examines (check_files holds words) ended old new)
-    ⊎ NotBegun (λ f. CannotOpen words.rows f ⊎ CannotOpen words.certificate f) notes ended old new
-Serves holds leaves (requests.Mod words) input notes ended old new =
-    (IsMode (asked_setup words.link).mode × (notes ≡ notes_on words.quiet (asked_setup words.link).mode ended)
+    ⊎ NotBegun (NotOn (table_mode words) (CannotOpenOne tells (rows_asked words.rows) [])) notes ended old new
+Serves holds tells leaves (requests.Judge words) input notes ended old new =
+    (IsShape (asked_shape words.shape) × OpensAll tells (judge_asked words) × (notes ≡ [])
+    × Judges words (judge_files holds words) leaves ended old new)
+    ⊎ NotBegun (NotOf (asked_shape words.shape) (CannotOpenOne tells (judge_asked words) [])) notes ended old new
+Serves holds tells leaves (requests.Check words) input notes ended old new =
+    (OpensAll tells (check_asked words) × (notes ≡ []) × Examines (check_files holds words) ended old new)
+    ⊎ NotBegun (CannotOpenOne tells (check_asked words) []) notes ended old new
+Serves holds tells leaves (requests.Mod words) input notes ended old new =
+    (IsMode (asked_setup words.link).mode × OpensAll tells (asked_of words.rows words.packets words.symbols)
+    × (notes ≡ notes_on words.quiet (asked_setup words.link).mode ended)
     × Reports (Sends words.dummy) (asked_setup words.link) (ends_of holds words.rows words.packets words.symbols) (leaves words.symbols.now) ended old new)
-    ⊎ NotBegun (NotOn (asked_setup words.link).mode (CannotOpenOne words.rows words.packets words.symbols)) notes ended old new
-Serves holds leaves (requests.Noise words) input notes ended old new =
+    ⊎ NotBegun (NotOn (asked_setup words.link).mode (CannotOpenOne tells (asked_of words.rows words.packets words.symbols) [])) notes ended old new
+Serves holds tells leaves (requests.Noise words) input notes ended old new =
     (notes ≡ []) × (new ≡ old)
-    × (Channels words.channel (holds roles.Input words.from.now) (holds roles.Output words.to.now) (leaves words.to.now) ended ⊎ NotBegun (NotSpoilt words) notes ended old new)
-Serves holds leaves (requests.Demod words) input notes ended old new =
-    (IsMode (asked_setup words.link).mode
+    × ((OpensAll tells (noise_asked words)
+    × Channels words.channel (holds roles.Input words.from.now) (holds roles.Output words.to.now) (leaves words.to.now) ended)
+    ⊎ NotBegun (NotSpoilt tells words) notes ended old new)
+Serves holds tells leaves (requests.Demod words) input notes ended old new =
+    (IsMode (asked_setup words.link).mode × OpensAll tells (asked_of words.rows words.symbols words.packets)
     × Receipts words.notes (asked_setup words.link) (ends_of holds words.rows words.symbols words.packets) (leaves words.packets.now) (Hears words.tuning) notes ended old new)
-    ⊎ NotBegun (NotOn (asked_setup words.link).mode (CannotOpenOne words.rows words.symbols words.packets)) notes ended old new
-Serves holds leaves (requests.Run words) input notes ended old new =
-    (IsMode (asked_setup words.link).mode
+    ⊎ NotBegun (NotOn (asked_setup words.link).mode (CannotOpenOne tells (asked_of words.rows words.symbols words.packets) [])) notes ended old new
+Serves holds tells leaves (requests.Run words) input notes ended old new =
+    (IsMode (asked_setup words.link).mode × OpensAll tells (asked_of words.rows words.packets words.to)
     × Receipts words.notes (asked_setup words.link) (ends_of holds words.rows words.packets words.to) (leaves words.to.now) (Loops words) notes ended old new)
-    ⊎ NotBegun (NotOn (asked_setup words.link).mode (CannotOpenOne words.rows words.packets words.to)) notes ended old new
+    ⊎ NotBegun (NotOn (asked_setup words.link).mode (CannotOpenOne tells (asked_of words.rows words.packets words.to) [])) notes ended old new
 
 -- where a report goes beside an output of this name, or beside none
 abbrev pub IsPlacedFor : Option (Bor (List ℕ)) → Place → Type 0
@@ -214,7 +228,7 @@ IsPlaced request place = place ≡ places.Output
 
 -- A request was served with this exit: how it ended decides the exit, the report and what is told behind it. What a file gets that
 -- is standard output stands there beside the console.
-pub record Served (holds : Holdings) (leaves : Leavings) (request : Request) (input : Option (List ℕ)) (exit : Exit) (old new : Screen) : Type 0 where
+pub record Served (holds : Holdings) (tells : Tells) (leaves : Leavings) (request : Request) (input : Option (List ℕ)) (exit : Exit) (old new : Screen) : Type 0 where
   pub ended : Result Exit Fault
   pub notes : List ℕ
   pub place : Place
@@ -222,20 +236,20 @@ pub record Served (holds : Holdings) (leaves : Leavings) (request : Request) (in
   pub shown : Screen
   pub placed : IsPlaced request place
   pub exit_is : exit ≡ exit_of ended
-  pub prints : Serves holds leaves request input notes ended (report_in place old) (report_in place shown)
+  pub prints : Serves holds tells leaves request input notes ended (report_in place old) (report_in place shown)
   pub concludes : Concludes place notes ended old shown new
   -- only where a fault is told may a call of the output or of the errors have failed
   pub whole : exit ≢ exits.Fault → new.output_failed ≡ old.output_failed
   pub quiet : exit ≢ exits.Fault → new.errors_failed ≡ old.errors_failed
 
 -- nothing is reported of a command that could not be begun
-abbrev pub Unbegun : Holdings → Leavings → Request → Option (List ℕ) → Fault → Screen → Type 0
-Unbegun holds leaves request input f old = (place : Place) × IsPlaced request place × Serves holds leaves request input [] (Err f) (report_in place old) (report_in place old)
+abbrev pub Unbegun : Holdings → Tells → Leavings → Request → Option (List ℕ) → Fault → Screen → Type 0
+Unbegun holds tells leaves request input f old = (place : Place) × IsPlaced request place × Serves holds tells leaves request input [] (Err f) (report_in place old) (report_in place old)
 
 -- A command was begun and ended so, or it could not be begun and did nothing.
-abbrev pub Began : Holdings → Leavings → Request → Option (List ℕ) → Result Exit Fault → Screen → Screen → Type 0
-Began holds leaves request input (Ok exit) old new = Served holds leaves request input exit old new
-Began holds leaves request input (Err f) old new = Unbegun holds leaves request input f old × (new ≡ old)
+abbrev pub Began : Holdings → Tells → Leavings → Request → Option (List ℕ) → Result Exit Fault → Screen → Screen → Type 0
+Began holds tells leaves request input (Ok exit) old new = Served holds tells leaves request input exit old new
+Began holds tells leaves request input (Err f) old new = Unbegun holds tells leaves request input f old × (new ≡ old)
 
 -- how the program ends where the parser's own text was to be printed: well only behind help or the version
 abbrev pub IsExplained : ErrorKind → Exit → Type 0
@@ -250,12 +264,12 @@ Explains kind exit old new =
     ⊎ ((kind ≢ kinds.OutOfMemory) × IsExplained kind exit × (new ≡ old))
 
 -- what was asked for is served, or why nothing was is explained
-abbrev pub Answers : Holdings → Leavings → Result Request Error → Option (List ℕ) → Exit → Screen → Screen → Type 0
-Answers holds leaves (Ok request) input exit old new = Served holds leaves request input exit old new
-Answers holds leaves (Err error) input exit old new = Explains (kind_of error) exit old new
+abbrev pub Answers : Holdings → Tells → Leavings → Result Request Error → Option (List ℕ) → Exit → Screen → Screen → Type 0
+Answers holds tells leaves (Ok request) input exit old new = Served holds tells leaves request input exit old new
+Answers holds tells leaves (Err error) input exit old new = Explains (kind_of error) exit old new
 
 -- what the words ask for is answered, or there was no memory for them
-abbrev pub AnswersWords : Holdings → Leavings → Option (Result Request Error) → Option (List ℕ) → Exit → Screen → Screen → Type 0
-AnswersWords holds leaves (Some asked) input exit old new = Answers holds leaves asked input exit old new
-AnswersWords holds leaves None input exit old new =
+abbrev pub AnswersWords : Holdings → Tells → Leavings → Option (Result Request Error) → Option (List ℕ) → Exit → Screen → Screen → Type 0
+AnswersWords holds tells leaves (Some asked) input exit old new = Answers holds tells leaves asked input exit old new
+AnswersWords holds tells leaves None input exit old new =
     (exit ≡ exits.Fault) × (new.output ≡ old.output) × (new.output_failed ≡ old.output_failed) × Complains (Err faults.NoMemory) old new

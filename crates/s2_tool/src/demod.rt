@@ -6,7 +6,7 @@ ghost use Rattle.s2_link.specs.Link.{setup_of};
 ghost use Rattle.s2_receive.specs.Receiving.{begun};
 ghost use Rattle.s2_modem.specs.Reception.{rules_for};
 ghost use Rattle.s2_console.specs.Screens.{CanTell, SameBeside};
-ghost use Rattle.s2_tool.specs.Links.{CanFail, Causes, Tries, Uncut, streams_at, streams_to};
+ghost use Rattle.s2_tool.specs.Links.{CanFail, Causes, Tries, NotCut, streams_at, streams_to};
 ghost use Rattle.s2_tool.specs.Receptions.{Receives, Hears, Demodulates, DemodEnds};
 
 use crate::link_files::LinkFiles;
@@ -59,7 +59,7 @@ fn receive_begun<S: CountedRead, W: Output, O: CountedWrite>(
     ensures receives { let ends = streams_by S.remaining S.count W.contents W.count O.contents O.count in
         Receives (rules_for receiver.old)
         (ends symbols.old packets.old out.old) (ends symbols.new packets.new out.new) result
-        ⊎ Uncut (ends symbols.old packets.old out.old) (ends symbols.new packets.new out.new) result }
+        ⊎ NotCut (ends symbols.old packets.old out.old) (ends symbols.new packets.new out.new) result }
     ensures causes { let ends = streams_by S.remaining S.count W.contents W.count O.contents O.count in
         Causes (ends symbols.old packets.old out.old) (ends symbols.new packets.new out.new) result }
 {

@@ -66,7 +66,7 @@ fn serve_words<
     requires console { CanTell console.old }
     ensures quiet { result ≢ Exit.Fault → console.new.errors_failed ≡ console.old.errors_failed }
     ensures whole { result ≢ Exit.Fault → console.new.output_failed ≡ console.old.output_failed }
-    ensures served { AnswersWords R.holds R.leaves asked.entry (S.remaining input.old) result
+    ensures served { AnswersWords R.holds R.tells R.leaves asked.entry (S.remaining input.old) result
         console.old console.new }
 {
     match asked {
@@ -91,7 +91,7 @@ fn answer<
 ) -> Exit
     requires input { CanCount (S.count input.old) }
     requires console { CanTell console.old }
-    ensures answers { Answers R.holds R.leaves asked.entry (S.remaining input.old) result
+    ensures answers { Answers R.holds R.tells R.leaves asked.entry (S.remaining input.old) result
         console.old console.new }
     ensures untouched { IsErr asked.entry → input.new ≡ input.old }
 {

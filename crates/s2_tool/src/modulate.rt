@@ -6,8 +6,8 @@ ghost use Rattle.s2_mode.specs.Streams.{streams_by};
 ghost use Rattle.s2_link.specs.Link.{setup_of};
 ghost use Rattle.s2_console.specs.Screens.{CanTell, SameBeside};
 ghost use Rattle.s2_packets.specs.Taking.{Takes};
-ghost use Rattle.s2_tool.specs.Links.{CanFail, Causes, Tries, Uncut, streams_at, streams_to};
-ghost use Rattle.s2_tool.specs.Sending.{sent_line, refusal_fault, roomless_fault, SendsBy, Sends, Modulates, ModEnds};
+ghost use Rattle.s2_tool.specs.Links.{CanFail, Causes, Tries, NotCut, streams_at, streams_to};
+ghost use Rattle.s2_tool.specs.Sending.{sent_line, refusal_fault, fault_without_memory, SendsBy, Sends, Modulates, ModEnds};
 
 use crate::link_files::LinkFiles;
 use s2_console::{Console, Exit, Fault, Line, Place, print};
@@ -46,10 +46,10 @@ pub(crate) fn fault_of(refusal: SendFault) -> Fault<'static>
 
 /// What is told where there is no memory to send packets with: they are read to their end all the same, and what they are refused for
 /// comes before want of memory.
-pub(crate) fn roomless_fault<S: CountedRead>(packets: &mut S) -> Fault<'static>
+pub(crate) fn fault_without_memory<S: CountedRead>(packets: &mut S) -> Fault<'static>
     requires { CanCount (S.count packets.old) }
     ensures read { (taken : List (List ℕ)) × (answer : Result ⊤ SendFault)
-        × Takes S.count S.remaining packets.old packets.new taken answer × (result ≡ roomless_fault (result_err answer)) }
+        × Takes S.count S.remaining packets.old packets.new taken answer × (result ≡ fault_without_memory (result_err answer)) }
     ensures no_read { result ≢ Fault.Read → S.count packets.new ≡ S.count packets.old }
     ensures no_write { result ≢ Fault.Write }
 {
@@ -59,21 +59,21 @@ pub(crate) fn roomless_fault<S: CountedRead>(packets: &mut S) -> Fault<'static>
     }
 }
 
-/// What is told where there are no rows, for a fault: that, or without memory for them what [`roomless_fault`] tells.
-pub(crate) fn rowless_fault<S: CountedRead>(
+/// What is told where there are no rows, for a fault: that, or without memory for them what [`fault_without_memory`] tells.
+pub(crate) fn fault_without_rows<S: CountedRead>(
     fault: Fault<'static>,
     packets: &mut S,
 ) -> Fault<'static>
     requires { CanCount (S.count packets.old) }
     ensures read { fault.entry ≡ Fault.NoMemory → (taken : List (List ℕ)) × (answer : Result ⊤ SendFault)
-        × Takes S.count S.remaining packets.old packets.new taken answer × (result ≡ roomless_fault (result_err answer)) }
+        × Takes S.count S.remaining packets.old packets.new taken answer × (result ≡ fault_without_memory (result_err answer)) }
     ensures other { fault.entry ≢ Fault.NoMemory → (result ≡ fault.entry) × (packets.new ≡ packets.old) }
     ensures memory { result ≡ Fault.NoMemory → fault.entry ≡ Fault.NoMemory }
     ensures no_read { result ≢ Fault.Read → S.count packets.new ≡ S.count packets.old }
     ensures no_write { fault.entry ≢ Fault.Write → result ≢ Fault.Write }
 {
     match fault {
-        Fault::NoMemory => roomless_fault(packets),
+        Fault::NoMemory => fault_without_memory(packets),
         other => other,
     }
 }
@@ -111,7 +111,7 @@ fn send_begun<S: CountedRead, W: Output, O: CountedWrite>(
     requires out { CanCount (O.count out.old) }
     ensures sends { let ends = streams_by S.remaining S.count W.contents W.count O.contents O.count in
         SendsBy transmitter.old (ends packets.old symbols.old out.old) (ends packets.new symbols.new out.new) result
-        ⊎ Uncut (ends packets.old symbols.old out.old) (ends packets.new symbols.new out.new) result }
+        ⊎ NotCut (ends packets.old symbols.old out.old) (ends packets.new symbols.new out.new) result }
     ensures causes { let ends = streams_by S.remaining S.count W.contents W.count O.contents O.count in
         Causes (ends packets.old symbols.old out.old) (ends packets.new symbols.new out.new) result }
 {
@@ -143,7 +143,7 @@ fn send_link<S: CountedRead, W: Output, O: CountedWrite>(
             transmitter.dummy_every(dummy);
             send_begun(&mut transmitter, packets, symbols, out)
         }
-        Err(_) => Err(roomless_fault(packets)),
+        Err(_) => Err(fault_without_memory(packets)),
     }
 }
 
@@ -165,7 +165,7 @@ fn send_files<R: CountedRead, S: CountedRead, W: Output, O: CountedWrite, N: Cou
 {
     let matrix = match read_noted(alloc, &setup.mode, &mut files.rows, words.quiet, notes) {
         Ok(matrix) => matrix,
-        Err(fault) => return Err(rowless_fault(fault, &mut files.from)),
+        Err(fault) => return Err(fault_without_rows(fault, &mut files.from)),
     };
     let link = Link::of(setup, &matrix);
     send_link(

@@ -1,11 +1,12 @@
 //! Files opened.
-ghost use Rattle.std.specs.Prelude.{◌≡◌, ◌⊎◌, ◌≤◌, [], IfOk, IfErr, IfSome, OnOk, length};
+ghost use Rattle.std.specs.Prelude.{◌≡◌, ◌≤◌, [], IfOk, IfErr, IfSome, OnOk, length};
 ghost use Rattle.std.specs.Io.Buffered.{writer_contents};
 ghost use Rattle.s2_files.specs.Known.{buffered_of, known_of};
 ghost use Rattle.s2_files.specs.declared.uses.Role.TheVariants as roles;
 ghost use Rattle.s2_evidence.specs.Files.{failed_in, written};
-ghost use Rattle.s2_tool.specs.Links.{CannotOpen, CannotOpenOne, IsUntouched, ends_of};
-ghost use Rattle.s2_tool.specs.Serving.{asked_file, judge_files, check_files, CannotOpenAsked};
+ghost use Rattle.s2_files.specs.Opening.{CannotOpenOne, Opens, OpensAll};
+ghost use Rattle.s2_tool.specs.Links.{IsUntouched, asked_of, ends_of};
+ghost use Rattle.s2_tool.specs.Serving.{asked_file, judge_files, judge_asked, check_files, check_asked, rows_asked, noise_asked, written_first, NotSpoilt};
 
 use crate::link_files::LinkFiles;
 use s2_console::Fault;
@@ -33,7 +34,8 @@ pub(crate) fn open_link<'a, R: Disk + AllocGlobal>(
 >
     ensures fresh { IfOk result (λ opened. IsUntouched opened.0) }
     ensures files { IfOk result (λ opened. opened.0 ≡ ends_of R.holds rows.entry from.entry to.entry) }
-    ensures fault { IfErr result (λ fault. CannotOpenOne rows.entry from.entry to.entry fault) }
+    ensures opened { OnOk result (OpensAll R.tells (asked_of rows.entry from.entry to.entry)) }
+    ensures fault { IfErr result (CannotOpenOne R.tells (asked_of rows.entry from.entry to.entry) []) }
 {
     let mut opener = Opener::new(rt);
     let rows = opener.read(rows)?;
@@ -62,7 +64,8 @@ pub(crate) fn open_whole<'a, R: Disk>(
 >
     ensures fresh { IfOk result (λ opened. IsUntouched opened.0) }
     ensures files { IfOk result (λ opened. opened.0 ≡ ends_of R.holds rows.entry from.entry to.entry) }
-    ensures fault { IfErr result (λ fault. CannotOpenOne rows.entry from.entry to.entry fault) }
+    ensures opened { OnOk result (OpensAll R.tells (asked_of rows.entry from.entry to.entry)) }
+    ensures fault { IfErr result (CannotOpenOne R.tells (asked_of rows.entry from.entry to.entry) []) }
 {
     let mut opener = Opener::new(rt);
     let rows = opener.read(rows)?;
@@ -81,7 +84,8 @@ fn write_named<'a, R: Disk>(
     ensures room { OnOk result (length opener.new ≤ 1) }
     ensures fresh { IfOk result (λ made. IfSome made (λ file. file.failed ≡ 0)) }
     ensures files { IfOk result (λ made. written (λ file. known_of R.File.contents R.Output.contents file.to) (λ file. file.failed) made ≡ asked_file R.holds name.entry) }
-    ensures fault { IfErr result (λ fault. CannotOpenAsked name.entry fault) }
+    ensures opened { OnOk result (Opens R.tells (written_first name.entry []) [] opener.new) }
+    ensures fault { IfErr result (CannotOpenOne R.tells (written_first name.entry []) []) }
 {
     match name {
         Some(name) => Ok(Some(opener.write(name)?)),
@@ -104,7 +108,8 @@ pub(crate) fn open_judge<'a, R: Disk>(
     ensures fresh { IfOk result (λ files. (files.rows_failed ≡ 0) × (files.soft_failed ≡ 0)) }
     ensures certificate { IfOk result (λ files. failed_in files.certificate ≡ 0) }
     ensures files { IfOk result (λ files. files ≡ judge_files R.holds words.now) }
-    ensures fault { IfErr result (λ fault. CannotOpenAsked words.now.certificate fault ⊎ (CannotOpen words.now.rows fault ⊎ CannotOpen words.now.soft fault)) }
+    ensures opened { OnOk result (OpensAll R.tells (judge_asked words.now)) }
+    ensures fault { IfErr result (CannotOpenOne R.tells (judge_asked words.now) []) }
 {
     let mut opener = Opener::new(rt);
     let certificate = write_named(&mut opener, words.certificate)?;
@@ -124,7 +129,8 @@ pub(crate) fn open_check<'a, R: Disk>(
 ) -> Result<CheckFiles<PlainReader<R::File, R::Input>, PlainReader<R::File, R::Input>>, Fault<'a>>
     ensures fresh { IfOk result (λ files. (files.rows_failed ≡ 0) × (files.certificate_failed ≡ 0)) }
     ensures files { IfOk result (λ files. files ≡ check_files R.holds words.now) }
-    ensures fault { IfErr result (λ fault. CannotOpen words.now.rows fault ⊎ CannotOpen words.now.certificate fault) }
+    ensures opened { OnOk result (OpensAll R.tells (check_asked words.now)) }
+    ensures fault { IfErr result (CannotOpenOne R.tells (check_asked words.now) []) }
 {
     let mut opener = Opener::new(rt);
     let rows = opener.read(words.rows)?;
@@ -139,7 +145,8 @@ pub(crate) fn open_rows<'a, R: Disk>(
 ) -> Result<PlainReader<R::File, R::Input>, Fault<'a>>
     ensures fresh { IfOk result (λ file. file.failed ≡ 0) }
     ensures rows { IfOk result (λ file. known_of R.File.remaining R.Input.remaining file.inner ≡ R.holds roles.Input rows.entry.now) }
-    ensures fault { IfErr result (λ fault. CannotOpen rows.entry fault) }
+    ensures opened { OnOk result (OpensAll R.tells (rows_asked rows.entry)) }
+    ensures fault { IfErr result (CannotOpenOne R.tells (rows_asked rows.entry) []) }
 {
     let mut opener = Opener::new(rt);
     opener.read(rows)
@@ -162,7 +169,8 @@ pub(crate) fn open_noise<'a, R: Disk + AllocGlobal>(
     ensures to { IfOk result (λ files. files.1.failed ≡ 0) }
     ensures read { IfOk result (λ files. buffered_of (known_of R.File.remaining R.Input.remaining) files.0.inner ≡ R.holds roles.Input words.now.from.now) }
     ensures written { IfOk result (λ files. writer_contents (known_of R.File.contents R.Output.contents) files.1.inner ≡ R.holds roles.Output words.now.to.now) }
-    ensures fault { IfErr result (λ fault. CannotOpen words.now.from fault ⊎ (CannotOpen words.now.to fault ⊎ ((fault ≡ Fault.Write) ⊎ (fault ≡ Fault.NoMemory)))) }
+    ensures opened { OnOk result (OpensAll R.tells (noise_asked words.now)) }
+    ensures fault { IfErr result (NotSpoilt R.tells words.now) }
 {
     let mut opener = Opener::new(rt);
     let from = opener.read_buffered(words.from)?;

@@ -8,14 +8,14 @@ ghost use Rattle.s2_modem.specs.Reception.{rules_for};
 ghost use Rattle.s2_console.specs.Screens.{CanTell, SameBeside};
 ghost use Rattle.s2_send.specs.declared.outcome.Counts.{Counts};
 ghost use Rattle.s2_send.specs.Sending.{joined};
-ghost use Rattle.s2_tool.specs.Links.{CanFail, Causes, Tries, Uncut, streams_at, streams_to};
+ghost use Rattle.s2_tool.specs.Links.{CanFail, Causes, Tries, NotCut, streams_at, streams_to};
 ghost use Rattle.s2_tool.specs.Looping.{kept_fault, in_memory, EndsAll, Passes, Returns, LoopsBy, Loops, LoopsBack, RunEnds};
 ghost use Rattle.s2_tool.specs.Sending.{Runs};
 
 use crate::demod::receive_frames;
 use crate::link_files::LinkFiles;
 use crate::losses::conclude_heard;
-use crate::modulate::{fault_of, roomless_fault, rowless_fault};
+use crate::modulate::{fault_of, fault_without_memory, fault_without_rows};
 use crate::noise::spoil;
 use s2_console::{Console, Exit, Fault, Place};
 use s2_files::Output;
@@ -153,7 +153,7 @@ fn loop_begun<S: CountedRead, W: Output, O: CountedWrite>(
     ensures loops { let ends = streams_by S.remaining S.count W.contents W.count O.contents O.count in
         LoopsBy transmitter.old (rules_for receiver.old) channel
         (ends from.old to.old out.old) (ends from.new to.new out.new) result
-        ⊎ Uncut (ends from.old to.old out.old) (ends from.new to.new out.new) result }
+        ⊎ NotCut (ends from.old to.old out.old) (ends from.new to.new out.new) result }
     ensures causes { let ends = streams_by S.remaining S.count W.contents W.count O.contents O.count in
         Causes (ends from.old to.old out.old) (ends from.new to.new out.new) result }
 {
@@ -181,7 +181,7 @@ fn loop_link<S: CountedRead, W: Output, O: CountedWrite>(
         Causes (ends from.old to.old out.old) (ends from.new to.new out.new) result }
 {
     let Ok(mut transmitter) = Transmitter::on_link(alloc, link) else {
-        return Err(roomless_fault(from));
+        return Err(fault_without_memory(from));
     };
     transmitter.dummy_every(words.dummy);
     match Receiver::on_link(alloc, link, words.tuning) {
@@ -194,7 +194,7 @@ fn loop_link<S: CountedRead, W: Output, O: CountedWrite>(
             to,
             out,
         ),
-        Err(_) => Err(roomless_fault(from)),
+        Err(_) => Err(fault_without_memory(from)),
     }
 }
 
@@ -216,7 +216,7 @@ fn loop_files<R: CountedRead, S: CountedRead, W: Output, O: CountedWrite, N: Cou
     let quiet = words.notes.quiet;
     let matrix = match read_noted(alloc, &setup.mode, &mut files.rows, quiet, notes) {
         Ok(matrix) => matrix,
-        Err(fault) => return Err(rowless_fault(fault, &mut files.from)),
+        Err(fault) => return Err(fault_without_rows(fault, &mut files.from)),
     };
     let link = Link::of(setup, &matrix);
     loop_link(alloc, &link, words, &mut files.from, &mut files.to, out)

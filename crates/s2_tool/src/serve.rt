@@ -65,7 +65,7 @@ pub fn serve<R: Disk + Clock + AllocGlobal, S: CountedRead, O: CountedWrite, E: 
 ) -> Exit
     requires input { CanCount (S.count input.old) }
     requires console { CanTell console.old }
-    ensures served { Served R.holds R.leaves request.now (S.remaining input.old) result
+    ensures served { Served R.holds R.tells R.leaves request.now (S.remaining input.old) result
         console.old console.new }
 {
     match begin(rt, terminal, request, input, console) {
@@ -84,7 +84,7 @@ fn begin<'a, R: Disk + Clock + AllocGlobal, S: CountedRead, O: CountedWrite, E: 
 ) -> Result<Exit, Fault<'a>>
     requires input { CanCount (S.count input.old) }
     requires console { CanTell console.old }
-    ensures began { Began R.holds R.leaves request.now (S.remaining input.old) result
+    ensures began { Began R.holds R.tells R.leaves request.now (S.remaining input.old) result
         console.old console.new }
 {
     match request {
@@ -123,7 +123,7 @@ fn serve_rows<R: Disk + AllocGlobal, O: CountedWrite, E: CountedWrite>(
 ) -> Result<Exit, Fault<'static>>
     requires { CanShow console.old }
     ensures { (input : Option (List ℕ)) →
-        Began R.holds R.leaves (Request.Rows words.now) input result console.old console.new }
+        Began R.holds R.tells R.leaves (Request.Rows words.now) input result console.old console.new }
 {
     let Some(shape) = shape_of(words.shape) else {
         return Err(no_shape());
@@ -168,7 +168,7 @@ fn serve_table<'a, R: Disk + AllocGlobal, O: CountedWrite, E: CountedWrite>(
 ) -> Result<Exit, Fault<'a>>
     requires { CanTell console.old }
     ensures { (input : Option (List ℕ)) →
-        Began R.holds R.leaves (Request.Table words.now) input result console.old console.new }
+        Began R.holds R.tells R.leaves (Request.Table words.now) input result console.old console.new }
 {
     let Some(mode) = Mode::of(words.modcod, words.short, false) else {
         return Err(no_mode());
@@ -217,7 +217,7 @@ fn serve_judge<'a, R: Disk + AllocGlobal, O: CountedWrite, E: CountedWrite>(
 ) -> Result<Exit, Fault<'a>>
     requires { CanTell console.old }
     ensures { (input : Option (List ℕ)) →
-        Began R.holds R.leaves (Request.Judge words.now) input result console.old console.new }
+        Began R.holds R.tells R.leaves (Request.Judge words.now) input result console.old console.new }
 {
     let place = place_beside(words.certificate);
     let Some(shape) = shape_of(words.shape) else {
@@ -238,7 +238,7 @@ fn serve_check<'a, R: Disk + AllocGlobal, O: CountedWrite, E: CountedWrite>(
 ) -> Result<Exit, Fault<'a>>
     requires { CanShow console.old }
     ensures { (input : Option (List ℕ)) →
-        Began R.holds R.leaves (Request.Check words.now) input result console.old console.new }
+        Began R.holds R.tells R.leaves (Request.Check words.now) input result console.old console.new }
 {
     let mut files = open_check(rt, words)?;
     Ok(check_command(rt.alloc(), &mut files, console))
@@ -253,7 +253,7 @@ fn serve_mod<'a, R: Disk + Clock + AllocGlobal, O: CountedWrite, E: CountedWrite
 ) -> Result<Exit, Fault<'a>>
     requires { CanTell console.old }
     ensures { (input : Option (List ℕ)) →
-        Began R.holds R.leaves (Request.Mod words.now) input result console.old console.new }
+        Began R.holds R.tells R.leaves (Request.Mod words.now) input result console.old console.new }
 {
     let place = place_of(words.symbols);
     let Some(setup) = setup_of(&words.link) else {
@@ -289,7 +289,7 @@ fn serve_noise<'a, R: Disk + Clock + AllocGlobal, O: CountedWrite, E: CountedWri
 ) -> Result<Exit, Fault<'a>>
     requires { CanShow console.old }
     ensures { (input : Option (List ℕ)) →
-        Began R.holds R.leaves (Request.Noise words.now) input result console.old console.new }
+        Began R.holds R.tells R.leaves (Request.Noise words.now) input result console.old console.new }
 {
     let show = show_on(terminal, Pace::Spoiling, words.progress);
     let opened = open_noise(rt, words)?;
@@ -311,7 +311,7 @@ fn serve_demod<'a, R: Disk + Clock + AllocGlobal, O: CountedWrite, E: CountedWri
 ) -> Result<Exit, Fault<'a>>
     requires { CanTell console.old }
     ensures { (input : Option (List ℕ)) →
-        Began R.holds R.leaves (Request.Demod words.now) input result console.old console.new }
+        Began R.holds R.tells R.leaves (Request.Demod words.now) input result console.old console.new }
 {
     let place = place_of(words.packets);
     let Some(setup) = setup_of(&words.link) else {
@@ -347,7 +347,7 @@ fn serve_run<'a, R: Disk + Clock + AllocGlobal, O: CountedWrite, E: CountedWrite
 ) -> Result<Exit, Fault<'a>>
     requires { CanTell console.old }
     ensures { (input : Option (List ℕ)) →
-        Began R.holds R.leaves (Request.Run words.now) input result console.old console.new }
+        Began R.holds R.tells R.leaves (Request.Run words.now) input result console.old console.new }
 {
     let place = place_of(words.to);
     let Some(setup) = setup_of(&words.link) else {

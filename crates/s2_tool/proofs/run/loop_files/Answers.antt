@@ -1,14 +1,14 @@
 use Rattle.std.specs.Result.{result_err}
 use Rattle.s2_tool.proofs.Names.{rules, sym, ap, refl, Err, setup_of, Loops}
-use Rattle.s2_tool.proofs.LinkLemmas.{rowless, tried}
+use Rattle.s2_tool.proofs.LinkLemmas.{without_rows, tried}
 use Rattle.s2_tool.proofs.run.loop_files.Goals as goal
 
 pub returns-in-Err : goal.returns-in-Err
 returns-in-Err g c =
     let said = c.in-Err.ensures in
-    let told = c.rowless_fault.ensures in
+    let told = c.fault_without_rows.ensures in
     record {
-      run = rw (sym c.files.view_is) (rowless (Loops c.args.words.now) (setup_of c.args.setup) _ _ c.in-Err.fault c.rowless_fault.result _ _ _ said.rows (search rules) (search rules) (search rules)
+      run = rw (sym c.files.view_is) (without_rows (Loops c.args.words.now) (setup_of c.args.setup) _ _ c.in-Err.fault c.fault_without_rows.result _ _ _ said.rows (search rules) (search rules) (search rules)
           told.memory ((search rules), (λ e. let read = told.read e in (read.0, result_err read.1, read.2, ap Err read.3, refl, refl)), (λ e. let other = told.other e in (ap Err other.0, rw other.1 refl)))
           told.no_read (told.no_write (search rules)));
     }

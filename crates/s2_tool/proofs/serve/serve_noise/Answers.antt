@@ -9,5 +9,5 @@ returns g c = λ input.
     let run = rw (c.new-from.ensures, c.new-to.ensures, opened.from, opened.to) at end.ensures.run in
     let whole = rw c.into_inner.ensures at done.whole in
     let part = rw c.into_inner.ensures at done.part in
-    spoilt g.R.Disk.holds g.R.Disk.leaves c.args.words.now input _ _ _ end.result c.finish-2.result c.args.console.now end.new.console
-    opened.read opened.written run end.ensures.output end.ensures.whole end.ensures.quiet done.same done.fault done.told whole part
+    spoilt g.R.Disk.holds g.R.Disk.tells g.R.Disk.leaves c.args.words.now input _ _ _ end.result c.finish-2.result c.args.console.now end.new.console
+    opened.opened opened.read opened.written run end.ensures.output end.ensures.whole end.ensures.quiet done.same done.fault done.told whole part

@@ -6,5 +6,5 @@ pub returns : goal.returns
 returns g c = λ input.
     let end = c.rows_command in
     let run = end.ensures.run in
-    served_plainly g.R.Disk.holds g.R.Disk.leaves _ input run.0 [] end.result c.args.console.now end.new.console end.ensures.whole end.ensures.quiet run.1
+    served_plainly g.R.Disk.holds g.R.Disk.tells g.R.Disk.leaves _ input run.0 [] end.result c.args.console.now end.new.console end.ensures.whole end.ensures.quiet run.1
     refl (inl (c.in-Some.ensures.found.0 (search rules), refl, search rules)) run.4

@@ -7,5 +7,5 @@ returns g c = λ input.
     let end = c.run_command-exit in
     let run = end.ensures.run in
     let words = c.args.words.now in
-    received g.R.Disk.holds g.R.Disk.leaves _ input words.notes (Loops words) (setup_of c.in-Some.setup) (asked_setup words.link) _ _ _ (g.R.Disk.leaves words.to.now) run.0 c.place_of-place.result end.result c.args.console.now run.1 end.new.console
-    c.in-Some.ensures.setup (c.watched-files.ensures ∙ c.in_ok-opened.ensures.files) c.place_of-place.ensures (λ notes ended told. inl (c.in-Some.ensures.found.0 (search rules), told)) run.2 c.leave_link.ensures run.3 end.ensures.whole end.ensures.quiet
+    received g.R.Disk.holds g.R.Disk.tells g.R.Disk.leaves _ input words.notes (Loops words) (setup_of c.in-Some.setup) (asked_setup words.link) _ _ _ (g.R.Disk.leaves words.to.now) run.0 c.place_of-place.result end.result c.args.console.now run.1 end.new.console
+    c.in-Some.ensures.setup (c.watched-files.ensures ∙ c.in_ok-opened.ensures.files) c.place_of-place.ensures (λ notes ended told. inl (c.in-Some.ensures.found.0 (search rules), c.in_ok-opened.ensures.opened, told)) run.2 c.leave_link.ensures run.3 end.ensures.whole end.ensures.quiet

@@ -6,6 +6,6 @@ pub returns : goal.returns
 returns g c = λ input.
     let end = c.table_command in
     let run = end.ensures.run in
-    let roomless = rw (c.in-Some.ensures.value, c.in_ok-rows.ensures.rows) at run.3 in
-    served_plainly g.R.Disk.holds g.R.Disk.leaves _ input run.0 (notes_on c.args.words.now.quiet c.in-Some.mode run.0) end.result c.args.console.now end.new.console end.ensures.whole end.ensures.quiet run.1
-    refl (inl (c.in-Some.ensures.found.0 (search rules), search rules, (search rules, roomless))) run.5
+    let no_memory = rw (c.in-Some.ensures.value, c.in_ok-rows.ensures.rows) at run.3 in
+    served_plainly g.R.Disk.holds g.R.Disk.tells g.R.Disk.leaves _ input run.0 (notes_on c.args.words.now.quiet c.in-Some.mode run.0) end.result c.args.console.now end.new.console end.ensures.whole end.ensures.quiet run.1
+    refl (inl (c.in-Some.ensures.found.0 (search rules), c.in_ok-rows.ensures.opened, search rules, (search rules, no_memory))) run.5
