@@ -34,7 +34,7 @@ pub use Rattle.s2_receive.specs.Faults.{fault_of}
 pub use Rattle.s2_receive.specs.Finding.{YieldsSymbols, Meets, EndsBehind, Scans, Reaches, ReadsBytes, StopsShort, FindsNext, Looks, IsBehind, met_with, place_with, met_of, met_after, place_after, found_last, NoHeader, ReadsPart}
 pub use Rattle.s2_receive.specs.Laws.{joined, met_events, events_of, IsJoined, Piece, coded, dummy, stream_symbols, AreReceived, frames_at, PassedNone, Gives, FrontLaw, Spells, GoOn, HasGiven, SameRunLaw, SameStepLaw, NoneBegins, SearchLaw, behind_at}
 pub use Rattle.s2_receive.specs.Meeting.{Met, frame, cut, ended, nothing_over, passed, begins, by_found, met_from, met_in, is_over}
-pub use Rattle.s2_receive.specs.Receiving.{Rules, Standing, after, all_packets, packets_of, delivery, joined_after, at_start, met_left, after_all, count_of, State, Went, StepAnswers, IsLive, all_lines, line_of, step_of, is_well, all_well, rank, RunsTo, Stops, BreaksOff, BreaksAfter, phase_after, Receiver, Decision, Finds, Told, Tells, MetFrame, IsDecided, deciding, begun, report_for, rules_of}
+pub use Rattle.s2_receive.specs.Receiving.{Rules, Standing, after, all_packets, packets_of, delivery, joined_after, at_start, met_left, after_all, count_of, State, Went, StepAnswers, IsLive, all_lines, line_of, step_of, is_well, all_well, rank, RunsTo, Stops, BreaksOff, BreaksAfter, phase_after, Receiver, Decision, Finds, Told, Tells, MetFrame, IsDecided, begun, report_for, rules_of}
 pub use Rattle.s2_receive.specs.Stepping.{FailsIn}
 unfoldable pub use Rattle.s2_receive.specs.Windows.{Saw, found_as}
 pub use Rattle.s2_receive.specs.declared.finding.Held.{Held}

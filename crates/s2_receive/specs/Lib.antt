@@ -5,6 +5,7 @@ pub mod Receiving
 pub mod Answers
 pub mod Parts
 pub mod Stepping
+pub mod Telling
 pub mod Laws
 pub mod Windows
 pub mod ReportLines

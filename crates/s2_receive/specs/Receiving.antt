@@ -258,12 +258,7 @@ pub record Told (rules : Rules) (old new : State) (met : Met) (to : ℕ) (packet
   pub packets : Appends packets_old packets_new (packets_of rules old.standing met)
   pub line : Appends report_old report_new (line_of rules old.standing met)
 
--- or a write failed on the way
-abbrev pub Writes : {E : Type 0} → Rules → State → State → Met → ℕ → (packets_old packets_new report_old report_new : Option (List ℕ)) → Result ⊤ E → Type 0
-Writes rules old new met to p p' w w' (Ok told) = Told rules old new met to p p' w w'
-Writes rules old new met to p p' w w' (Err fault) = FailsIn (packets_of rules old.standing met) (line_of rules old.standing met) p p' w w' × (new.at ≡ old.at)
-
--- where the receiver counts as failed then
+-- or a write failed on the way, and the receiver counts as failed
 abbrev pub Tells : {E : Type 0} → Rules → State → State → Met → ℕ → (packets_old packets_new report_old report_new : Option (List ℕ)) → Result ⊤ E → Type 0
 Tells rules old new met to p p' w w' (Ok told) = Told rules old new met to p p' w w'
 Tells rules old new met to p p' w w' (Err fault) =

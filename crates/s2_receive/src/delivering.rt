@@ -1,24 +1,42 @@
-//! What a frame gives the joiner, and its packets written.
-ghost use Rattle.std.specs.Prelude.{◌≡◌, ◌+◌, ◌-◌, ◌*◌, ◌^◌, ◌<◌, ◌≤◌, ◌⊎◌, None, IfOk, IfSome, OnOk, OnErr, length};
+//! What was met, given: what comes to the joiner, and the packets that are whole with it.
+ghost use Rattle.std.specs.Prelude.{◌≡◌, ◌+◌, ◌-◌, ◌*◌, ◌^◌, ◌<◌, ◌≤◌, ◌⊎◌, [], None, IfOk, IfSome, OnOk, OnErr, length};
 ghost use Rattle.std.specs.List.{flat_map};
 ghost use Rattle.std.specs.Io.KnownBytes.{Appends};
 ghost use Rattle.s2_mode.specs.Counts.{CanCount, CountsFault};
 ghost use Rattle.s2_mode.specs.Pieces.{AppendsPart};
+ghost use Rattle.s2_receive.specs.Finding.{met_of};
 ghost use Rattle.s2_receive.specs.Parts.{delivered_of, HasPlace};
-ghost use Rattle.s2_receive.specs.Receiving.{held_before, torn_before, joined_after, torn_after, count_of};
+ghost use Rattle.s2_receive.specs.Receiving.{held_before, torn_before, joined_after, torn_after, count_of, deciding, rules_of};
+ghost use Rattle.s2_receive.specs.Telling.{IsFew, GivesPackets};
 
-use crate::parts::Decided;
+use crate::finding::Next;
+use crate::parts::{Decide, Decided};
+use crate::receiver::Receiver;
 use crate::stretch::Stretch;
 use s2_bbframe::Joiner;
 use s2_mode::{CountedWrite, WriteFault};
 
-/// What a frame gave: 1 or 0 delivered messages, packets, bodies with a wrong CRC-8, and torn bodies.
+/// What was met gave this: 1 or 0 delivered messages, packets, bodies with a wrong CRC-8, and torn bodies.
 #[derive(Clone, Copy)]
 pub(crate) struct Given {
     pub(crate) delivered: u64,
     pub(crate) good: u64,
     pub(crate) bad: u64,
     pub(crate) torn: u64,
+}
+
+impl Given {
+    /// Nothing but so many torn bodies.
+    fn torn(bodies: usize) -> Given
+        ensures { result ≡ record { delivered = 0; good = 0; bad = 0; torn = bodies } }
+    {
+        Given {
+            delivered: 0,
+            good: 0,
+            bad: 0,
+            torn: bodies as u64,
+        }
+    }
 }
 
 /// A gap, where symbols were passed over. How many bodies that were begun are dropped.
@@ -32,7 +50,7 @@ fn gap_before(joiner: &mut Joiner, over: Stretch) -> usize
 
 /// Joins the data field of a frame on, and writes the packets that are whole with it. A gap comes before it where
 /// symbols were passed over, and in its place where nothing was delivered.
-pub(crate) fn give_packets<P: CountedWrite>(
+fn give_packets<P: CountedWrite>(
     joiner: &mut Joiner,
     decided: Decided,
     field: &[u8],
@@ -45,7 +63,7 @@ pub(crate) fn give_packets<P: CountedWrite>(
     ensures good { IfOk result (λ given. given.good ≡ length (joined_after joiner.old over (delivered_of decided.header field.now)).good) }
     ensures bad { IfOk result (λ given. given.bad ≡ (joined_after joiner.old over (delivered_of decided.header field.now)).bad) }
     ensures torn { IfOk result (λ given. given.torn ≡ torn_after joiner.old over (delivered_of decided.header field.now)) }
-    ensures few { IfOk result (λ given. (given.delivered ≤ 1) × (given.good + given.bad ≤ 8191) × (given.torn ≤ 2)) }
+    ensures few { IfOk result IsFew }
     ensures held { OnOk result (joiner.new ≡ (joined_after joiner.old over (delivered_of decided.header field.now)).held) }
     ensures packets { OnOk result (Appends (P.contents packets.old) (P.contents packets.new) (flat_map (λ packet. packet) (joined_after joiner.old over (delivered_of decided.header field.now)).good)) }
     ensures part { OnErr result (AppendsPart (flat_map (λ packet. packet) (joined_after joiner.old over (delivered_of decided.header field.now)).good) (P.contents packets.old) (P.contents packets.new)) }
@@ -53,13 +71,7 @@ pub(crate) fn give_packets<P: CountedWrite>(
 {
     let before = gap_before(joiner, over);
     let Some(header) = decided.header else {
-        let torn = joiner.gap();
-        return Ok(Given {
-            delivered: 0,
-            good: 0,
-            bad: 0,
-            torn: (before + torn) as u64,
-        });
+        return Ok(Given::torn(before + joiner.gap()));
     };
     let fed = joiner.feed(&header, field, packets)?;
     Ok(Given {
@@ -68,4 +80,36 @@ pub(crate) fn give_packets<P: CountedWrite>(
         bad: fed.bad as u64,
         torn: (before + fed.torn) as u64,
     })
+}
+
+impl<D: Decide> Receiver<D> {
+    /// Gives what was met: a frame's data field is joined on to what the joiner holds, and the packets that are whole with
+    /// it are written; at a cut frame there is a gap, and at the end nothing. Only the joiner and the packets change.
+    pub(crate) fn give<P: CountedWrite>(
+        &mut self,
+        next: Next,
+        packets: &mut P,
+    ) -> Result<Given, WriteFault>
+        requires packets { CanCount (P.count packets.old) }
+        ensures rules { rules_of D.decide self.new ≡ rules_of D.decide self.old }
+        ensures same { (self.new.mode ≡ self.old.mode) × (self.new.lock ≡ self.old.lock) × (self.new.limit ≡ self.old.limit) }
+        ensures last { D.last self.new.decider ≡ D.last self.old.decider }
+        ensures place { (self.new.state.phase ≡ self.old.state.phase) × (self.new.state.at ≡ self.old.state.at) × (self.new.state.standing.totals ≡ self.old.state.standing.totals) }
+        ensures gives { GivesPackets (deciding (D.last self.old.decider) (rules_of D.decide self.old)) self.old.state.standing self.new.state.standing (met_of next [])
+            (P.contents packets.old) (P.contents packets.new) result }
+        ensures few { IfOk result IsFew }
+        ensures cause { CountsFault (P.count packets.old) (P.count packets.new) result }
+    {
+        match next {
+            Next::Frame { at: _, over } => give_packets(
+                &mut self.joiner,
+                self.decider.decided(),
+                self.decider.field(),
+                over,
+                packets,
+            ),
+            Next::Cut { .. } => Ok(Given::torn(self.joiner.gap())),
+            Next::End { .. } => Ok(Given::torn(0)),
+        }
+    }
 }

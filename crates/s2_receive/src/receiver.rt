@@ -209,9 +209,9 @@ impl<D: Decide> Receiver<D> {
         Step::End
     }
 
-    /// The second half of a step: writes the packets of what was met, and then its line of the report. The joiner
-    /// has a gap where symbols were passed over that are no dummy frame's, where a frame isn't delivered, and after
-    /// a cut.
+    /// The second half of a step: gives what was met, which writes its packets, and then tells it, which writes its line
+    /// of the report. The joiner has a gap where symbols were passed over that are no dummy frame's, where a frame
+    /// isn't delivered, and after a cut.
     ///
     /// `Write` tells that one of the two writers failed, which then has a part of the packets or of the line; the
     /// receiver counts as failed from then on. After the end it writes nothing. Where nothing was met it answers
@@ -246,18 +246,28 @@ impl<D: Decide> Receiver<D> {
             Phase::Ended => return Ok(()),
             Phase::Searching | Phase::Closing | Phase::Failed => return Err(Fault::Failed),
         };
-        match self.tell(next, packets, report) {
+        let Ok(given) = self.give(next, packets) else {
+            return Err(self.fail());
+        };
+        match self.tell(next, given, report) {
             Ok(()) => Ok(()),
-            Err(WriteFault) => {
-                self.place.phase = Phase::Failed;
-                Err(Fault::Write)
-            }
+            Err(WriteFault) => Err(self.fail()),
         }
     }
 
-    /// Takes one step: [`Receiver::meet`] and then [`Receiver::deliver`]. After `Cut` comes `End`, after `End` comes
-    /// `End` and nothing is written. From a fault on every call answers `Failed` and reads and writes nothing, and so it
-    /// does before what was met is delivered. Where no frame comes and no write fails, what was decided last stays.
+    /// Counts as failed from now on, since a write failed.
+    fn fail(&mut self) -> Fault
+        ensures state { self.new ≡ record self.old { state = record self.old.state { phase = phases.Failed } } }
+        ensures write { result ≡ Fault.Write }
+    {
+        self.place.phase = Phase::Failed;
+        Fault::Write
+    }
+
+    /// Takes one step, which finds, decides, gives and tells: [`Receiver::meet`] and then [`Receiver::deliver`]. After
+    /// `Cut` comes `End`, after `End` comes `End` and nothing is written. From a fault on every call answers `Failed`
+    /// and reads and writes nothing, and so it does before what was met is delivered. Where no frame comes and no write
+    /// fails, what was decided last stays.
     pub fn next<R: CountedRead, P: CountedWrite, W: CountedWrite>(
         &mut self,
         reader: &mut R,

@@ -2,7 +2,9 @@
 ghost use Rattle.std.specs.Prelude.{◌≡◌, ◌≢◌, ◌+◌, ◌^◌, ◌<◌, ◌≤◌};
 ghost use Rattle.s2_receive.specs.Faults.{fault_of};
 ghost use Rattle.s2_receive.specs.Receiving.{at_start, passes, cut_totals};
+ghost use Rattle.s2_receive.specs.Telling.{IsFew, frame_totals};
 
+use crate::delivering::Given;
 use crate::finding::Next;
 use crate::stretch::Stretch;
 use s2_bbframe::HeaderFault;
@@ -87,19 +89,20 @@ impl Totals {
         }
     }
 
-    /// With a frame more: so many delivered messages, packets, bodies with a wrong CRC-8, and torn bodies.
-    pub(crate) fn with_frame(self, delivered: u64, good: u64, bad: u64, torn: u64) -> Totals
-        requires frames { (self.frames < 2 ^ 62) × (self.delivered < 2 ^ 62) × (delivered ≤ 1) }
-        requires packets { (self.packets < 2 ^ 62) × (self.bad < 2 ^ 62) × (good + bad ≤ 8191) }
-        requires torn { (self.torn < 2 ^ 62) × (torn ≤ 2) }
-        ensures { result ≡ record self { frames = self.frames + 1; delivered = self.delivered + delivered; packets = self.packets + good; bad = self.bad + bad; torn = self.torn + torn } }
+    /// With a frame more, which gave this.
+    pub(crate) fn with_frame(self, given: Given) -> Totals
+        requires frames { (self.frames < 2 ^ 62) × (self.delivered < 2 ^ 62) }
+        requires packets { (self.packets < 2 ^ 62) × (self.bad < 2 ^ 62) }
+        requires torn { self.torn < 2 ^ 62 }
+        requires few { IsFew given }
+        ensures { result ≡ frame_totals self given }
     {
         Totals {
             frames: self.frames + 1,
-            delivered: self.delivered + delivered,
-            packets: self.packets + good,
-            bad: self.bad + bad,
-            torn: self.torn + torn,
+            delivered: self.delivered + given.delivered,
+            packets: self.packets + given.good,
+            bad: self.bad + given.bad,
+            torn: self.torn + given.torn,
             ..self
         }
     }

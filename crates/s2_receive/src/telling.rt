@@ -1,14 +1,15 @@
-//! What was met, told: its packets and its line.
-ghost use Rattle.std.specs.Prelude.{◌≡◌, ◌+◌, ◌-◌, ℕ, List, [], Option, ◌*◌, ◌^◌, ◌<◌, ◌≤◌, OnOk, OnErr};
+//! What was met, told: its line.
+ghost use Rattle.std.specs.Prelude.{◌≡◌, ◌+◌, ◌-◌, [], ◌*◌, ◌^◌, ◌<◌, ◌≤◌};
 ghost use Rattle.s2_mode.specs.Counts.{CanCount, CountsFault};
 ghost use Rattle.s2_mode.specs.Limits.{header_symbols};
 ghost use Rattle.s2_mode.specs.Mode.{symbols_in};
-ghost use Rattle.s2_mode.specs.Streams.{NoneFailed, OneFailed};
 ghost use Rattle.s2_receive.specs.Meeting.{frame, cut, ended};
 ghost use Rattle.s2_receive.specs.Finding.{LiesWithin, met_of, place_after};
-ghost use Rattle.s2_receive.specs.Receiving.{Writes, deciding, report_for, rules_of};
+ghost use Rattle.s2_receive.specs.Receiving.{deciding, report_for, rules_of};
+ghost use Rattle.s2_receive.specs.Telling.{IsFew, TellsLine};
+ghost use Rattle.s2_receive.specs.declared.delivering.Given.{Given as GivenValue};
 
-use crate::delivering::give_packets;
+use crate::delivering::Given;
 use crate::finding::Next;
 use crate::lines::{write_cut, write_end, write_frame};
 use crate::parts::Decide;
@@ -31,41 +32,31 @@ impl<D: Decide> Receiver<D> {
         }
     }
 
-    /// Writes the packets of the frame at this symbol, which was decided last, then its line. The totals change only
-    /// where both were written.
-    fn tell_frame<P: CountedWrite, W: CountedWrite>(
+    /// Writes the line of the frame at this symbol, which was decided last and gave this.
+    fn tell_frame<W: CountedWrite>(
         &mut self,
         at: u64,
         over: Stretch,
-        packets: &mut P,
+        given: Given,
         report: &mut W,
     ) -> Result<(), WriteFault>
-        requires packets { CanCount (P.count packets.old) }
         requires report { CanCount (W.count report.old) }
         requires start { self.old.state.at + over.symbols ≤ at }
         requires room { at + symbols_in self.old.mode ≤ self.old.limit }
+        requires few { IsFew given }
         ensures rules { rules_of D.decide self.new ≡ rules_of D.decide self.old }
         ensures same { (self.new.mode ≡ self.old.mode) × (self.new.lock ≡ self.old.lock) × (self.new.limit ≡ self.old.limit) }
         ensures last { D.last self.new.decider ≡ D.last self.old.decider }
-        ensures tells { Writes (deciding (D.last self.old.decider) (rules_of D.decide self.old)) self.old.state self.new.state (frame at over []) (at + symbols_in self.old.mode)
-            (P.contents packets.old) (P.contents packets.new) (W.contents report.old) (W.contents report.new) result }
-        ensures write { OnErr result (OneFailed (P.count packets.old) (P.count packets.new) (W.count report.old) (W.count report.new)) }
-        ensures no_write { OnOk result (NoneFailed (P.count packets.old) (P.count packets.new) (W.count report.old) (W.count report.new)) }
+        ensures tells { TellsLine (deciding (D.last self.old.decider) (rules_of D.decide self.old)) self.old.state self.new.state (frame at over []) given (at + symbols_in self.old.mode)
+            (W.contents report.old) (W.contents report.new) result }
+        ensures cause { CountsFault (W.count report.old) (W.count report.new) result }
     {
-        let line = self.report_of(at);
-        let given = give_packets(
-            &mut self.joiner,
-            self.decider.decided(),
-            self.decider.field(),
-            over,
-            packets,
-        )?;
-        write_frame(line, report)?;
+        write_frame(self.report_of(at), report)?;
         let passed = self.place.totals.passes(over);
         self.place = Place {
             phase: Phase::Searching,
             at: at + self.finder.frame().len() as u64,
-            totals: passed.with_frame(given.delivered, given.good, given.bad, given.torn),
+            totals: passed.with_frame(given),
         };
         Ok(())
     }
@@ -76,25 +67,27 @@ impl<D: Decide> Receiver<D> {
         at: u64,
         over: Stretch,
         count: u64,
+        given: Given,
         report: &mut W,
     ) -> Result<(), WriteFault>
         requires report { CanCount (W.count report.old) }
         requires start { self.old.state.at + over.symbols ≤ at }
         requires some { header_symbols ≤ count }
         requires room { at + count ≤ self.old.limit }
+        requires few { IsFew given }
         ensures rules { rules_of D.decide self.new ≡ rules_of D.decide self.old }
         ensures same { (self.new.mode ≡ self.old.mode) × (self.new.lock ≡ self.old.lock) × (self.new.limit ≡ self.old.limit) }
         ensures last { D.last self.new.decider ≡ D.last self.old.decider }
-        ensures tells { (packets : Option (List ℕ)) → Writes (deciding (D.last self.old.decider) (rules_of D.decide self.old)) self.old.state self.new.state (cut at over count) (at + count)
-            packets packets (W.contents report.old) (W.contents report.new) result }
+        ensures tells { TellsLine (deciding (D.last self.old.decider) (rules_of D.decide self.old)) self.old.state self.new.state (cut at over count) given (at + count)
+            (W.contents report.old) (W.contents report.new) result }
         ensures cause { CountsFault (W.count report.old) (W.count report.new) result }
     {
-        let torn = self.joiner.gap();
+        let totals = self.place.totals.passes(over).with_cut(given.torn);
         write_cut(at, count, report)?;
         self.place = Place {
             phase: Phase::Closing,
             at: at + count,
-            totals: self.place.totals.passes(over).with_cut(torn as u64),
+            totals,
         };
         Ok(())
     }
@@ -112,8 +105,8 @@ impl<D: Decide> Receiver<D> {
         ensures rules { rules_of D.decide self.new ≡ rules_of D.decide self.old }
         ensures same { (self.new.mode ≡ self.old.mode) × (self.new.lock ≡ self.old.lock) × (self.new.limit ≡ self.old.limit) }
         ensures last { D.last self.new.decider ≡ D.last self.old.decider }
-        ensures tells { (packets : Option (List ℕ)) → Writes (deciding (D.last self.old.decider) (rules_of D.decide self.old)) self.old.state self.new.state (ended over) at
-            packets packets (W.contents report.old) (W.contents report.new) result }
+        ensures tells { (given : GivenValue) → TellsLine (deciding (D.last self.old.decider) (rules_of D.decide self.old)) self.old.state self.new.state (ended over) given at
+            (W.contents report.old) (W.contents report.new) result }
         ensures cause { CountsFault (W.count report.old) (W.count report.new) result }
     {
         let totals = self.place.totals.passes(over.at_end());
@@ -126,28 +119,27 @@ impl<D: Decide> Receiver<D> {
         Ok(())
     }
 
-    /// Tells what was met: of a frame its packets and its line, of a cut one and of the end its line. Where
-    /// the receiver stands changes only where all of it was written.
-    pub(crate) fn tell<P: CountedWrite, W: CountedWrite>(
+    /// Tells what was met, which gave this: writes its line. Where the receiver stands changes only where that was
+    /// written.
+    pub(crate) fn tell<W: CountedWrite>(
         &mut self,
         next: Next,
-        packets: &mut P,
+        given: Given,
         report: &mut W,
     ) -> Result<(), WriteFault>
-        requires packets { CanCount (P.count packets.old) }
         requires report { CanCount (W.count report.old) }
         requires within { LiesWithin (symbols_in self.old.mode) self.old.state.at self.old.limit next }
+        requires few { IsFew given }
         ensures rules { rules_of D.decide self.new ≡ rules_of D.decide self.old }
         ensures same { (self.new.mode ≡ self.old.mode) × (self.new.lock ≡ self.old.lock) × (self.new.limit ≡ self.old.limit) }
         ensures last { D.last self.new.decider ≡ D.last self.old.decider }
-        ensures tells { Writes (deciding (D.last self.old.decider) (rules_of D.decide self.old)) self.old.state self.new.state (met_of next []) (place_after (symbols_in self.old.mode) next)
-            (P.contents packets.old) (P.contents packets.new) (W.contents report.old) (W.contents report.new) result }
-        ensures write { OnErr result (OneFailed (P.count packets.old) (P.count packets.new) (W.count report.old) (W.count report.new)) }
-        ensures no_write { OnOk result (NoneFailed (P.count packets.old) (P.count packets.new) (W.count report.old) (W.count report.new)) }
+        ensures tells { TellsLine (deciding (D.last self.old.decider) (rules_of D.decide self.old)) self.old.state self.new.state (met_of next []) given (place_after (symbols_in self.old.mode) next)
+            (W.contents report.old) (W.contents report.new) result }
+        ensures cause { CountsFault (W.count report.old) (W.count report.new) result }
     {
         match next {
-            Next::Frame { at, over } => self.tell_frame(at, over, packets, report),
-            Next::Cut { at, over, count } => self.tell_cut(at, over, count, report),
+            Next::Frame { at, over } => self.tell_frame(at, over, given, report),
+            Next::Cut { at, over, count } => self.tell_cut(at, over, count, given, report),
             Next::End { at, over } => self.tell_end(at, over, report),
         }
     }
