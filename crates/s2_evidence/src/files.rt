@@ -1,4 +1,7 @@
 //! The files of a command, as one value.
+ghost use Rattle.std.specs.Prelude.{◌≡◌};
+ghost use Rattle.s2_evidence.specs.Files.{written};
+
 use s2_mode::{CountedRead, CountedWrite};
 use std::marker::Model;
 
@@ -63,4 +66,32 @@ impl<R: CountedRead, S: CountedRead> Model for CheckFiles<R, S> {
       rows_failed = R.count f.rows;
       certificate_failed = S.count f.certificate;
     } };
+}
+
+impl<R: CountedRead, S: CountedRead, C: CountedWrite> JudgeFiles<R, S, C> {
+    /// The row file, the value file, and the file for a certificate, where one is asked for.
+    pub fn into_parts(self) -> (R, S, Option<C>)
+        ensures rows { (R.remaining result.0 ≡ self.rows) × (R.count result.0 ≡ self.rows_failed) }
+        ensures soft { (S.remaining result.1 ≡ self.soft) × (S.count result.1 ≡ self.soft_failed) }
+        ensures certificate { written C.contents C.count result.2 ≡ self.certificate }
+    {
+        let JudgeFiles {
+            rows,
+            soft,
+            certificate,
+        } = self;
+        (rows, soft, certificate)
+    }
+}
+
+impl<R: CountedRead, S: CountedRead> CheckFiles<R, S> {
+    /// The row file, and the certificate's.
+    pub fn into_parts(self) -> (R, S)
+        ensures rows { (R.remaining result.0 ≡ self.rows) × (R.count result.0 ≡ self.rows_failed) }
+        ensures certificate { (S.remaining result.1 ≡ self.certificate)
+            × (S.count result.1 ≡ self.certificate_failed) }
+    {
+        let CheckFiles { rows, certificate } = self;
+        (rows, certificate)
+    }
 }

@@ -11,8 +11,8 @@ taken_with (Some xs) None front back bytes e h = h
 taken_with (Some xs) (Some ys) front back bytes e h = ap (λ l. l ++ back) h ∙ append_assoc xs front back ∙ ap (λ l. xs ++ l) e
 
 -- one that held this, and was to take what was buffered, is let go, whether it took that or failed
-pub part_left : {T E : Type 0} (Left : Option (List ℕ) → Type 0) (held old new : Option (List ℕ)) (buffered bytes : List ℕ) (written : Result T E)
-    → OnOk written (Appends old new bytes) → OnErr written (AppendsPart bytes old new) → old ≡ held → bytes ≡ buffered → Left new → LeftPart Left (append_known held buffered)
-part_left Left held old new buffered bytes (Ok x) all part is bytes_are left = rw (← is, ← bytes_are) (new, [], left, taken_with old new bytes [] bytes (append-nil bytes) all)
-part_left Left held old new buffered bytes (Err e) all part is bytes_are left =
+pub part_left : {T E : Type 0} (Left : Option (List ℕ) → ℕ → Type 0) (held old new : Option (List ℕ)) (buffered bytes : List ℕ) (failed : ℕ) (written : Result T E)
+    → OnOk written (Appends old new bytes) → OnErr written (AppendsPart bytes old new) → old ≡ held → bytes ≡ buffered → Left new failed → LeftPart Left (append_known held buffered) failed
+part_left Left held old new buffered bytes failed (Ok x) all part is bytes_are left = rw (← is, ← bytes_are) (new, [], left, taken_with old new bytes [] bytes (append-nil bytes) all)
+part_left Left held old new buffered bytes failed (Err e) all part is bytes_are left =
     rw (← is, ← bytes_are) (new, drop part.0 bytes, left, taken_with old new (take part.0 bytes) (drop part.0 bytes) bytes (take-append-drop part.0 bytes) part.2)

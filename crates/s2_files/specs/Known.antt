@@ -1,5 +1,5 @@
 -- What is known of a file's bytes.
-use Rattle.std.specs.Prelude.{ℕ, List, Option}
+use Rattle.std.specs.Prelude.{◌≡◌, ◌≤◌, ℕ, ◌+◌, List, Option, Result, Ok, Err}
 use Rattle.std.specs.Io.Buffered.{reader_remaining}
 use Rattle.std.specs.Io.KnownBytes.{Keeps, append_known}
 use Rattle.std.specs.declared.io.buffered.BufReader.{BufReader}
@@ -22,14 +22,20 @@ buffered_of remaining = either (reader_remaining remaining) remaining
 abbrev pub Holdings : Type 0
 Holdings = Role → List ℕ → Option (List ℕ)
 
--- that a file of this name, or standard output by one of its names, was let go when its writer had taken this, where that is known
+-- that the file of this name, or a standard stream by one of its names, was let go when this was left of it to read, or its writer had
+-- taken this, where that is known, and so many of its calls had failed
 abbrev pub Leavings : Type 1
-Leavings = List ℕ → Option (List ℕ) → Type 0
+Leavings = Role → List ℕ → Option (List ℕ) → ℕ → Type 0
 
--- One of which `Left` says so was let go with all of this, where it is known.
-abbrev pub LeftWhole : (Option (List ℕ) → Type 0) → Option (List ℕ) → Type 0
-LeftWhole Left whole = (left : Option (List ℕ)) × Left left × Keeps whole left
+-- One of which `Left` says so was let go with all of this, where it is known, when so many calls had failed.
+abbrev pub LeftWhole : (Option (List ℕ) → ℕ → Type 0) → Option (List ℕ) → ℕ → Type 0
+LeftWhole Left whole failed = (left : Option (List ℕ)) × Left left failed × Keeps whole left
 
 -- It was let go with a first part of this, where it is known: with what is lacking that is all.
-abbrev pub LeftPart : (Option (List ℕ) → Type 0) → Option (List ℕ) → Type 0
-LeftPart Left whole = (left : Option (List ℕ)) × (lacking : List ℕ) × Left left × Keeps whole (append_known left lacking)
+abbrev pub LeftPart : (Option (List ℕ) → ℕ → Type 0) → Option (List ℕ) → ℕ → Type 0
+LeftPart Left whole failed = (left : Option (List ℕ)) × (lacking : List ℕ) × Left left failed × Keeps whole (append_known left lacking)
+
+-- no fewer calls have failed than had, and one more where that is told
+abbrev pub FailedBy : {T E : Type 0} → ℕ → ℕ → Result T E → Type 0
+FailedBy old new (Ok ended) = old ≤ new
+FailedBy old new (Err fault) = new ≡ old + 1

@@ -1,11 +1,13 @@
 //! Files by their names.
 ghost use Rattle.std.specs.Prelude.{◌≡◌, ℕ, List, None, IfOk, IsErr, ⊤};
-ghost use Rattle.s2_files.specs.Known.{Holdings, Leavings};
+ghost use Rattle.s2_files.specs.Known.{Holdings, Leavings, buffered_of, known_of};
 ghost use Rattle.s2_files.specs.Opening.{Tells, Knows, Refuses, silent};
 ghost use Rattle.s2_files.specs.declared.uses.Role.TheVariants as roles;
 ghost use Rattle.s2_files.specs.Names.{NamesStandard};
 
+use crate::opener::{PlainReader, Reader};
 use crate::standard::{StandardStreams, standard_path};
+use crate::target::Target;
 use crate::uses::{Node, Role, Stat};
 use std::fs::{Metadata, OpenFile, OpenOptions};
 use std::os::unix::fs::{FileTypeExt, MetadataExt};
@@ -25,13 +27,15 @@ fn node_of(file: &Metadata) -> Option<Node> {
 }
 
 /// Where files are opened by their names, and let go. To contracts it is what a name gives to its reader, and what its writer has taken
-/// when it is opened, and with what a name's file was let go, where that is known. Of the system's files and streams nothing is known.
+/// when it is opened, and with what a name's file was let go, where that is known, and how many of its calls had failed then. Of the
+/// system's files and streams nothing is known.
 ///
 /// That a name's file could not be opened is told by a call that failed on it, and which file it is by one that looked at it, and by
 /// nothing else.
 ///
-/// That a name's file was let go with some bytes is said by a call that lets go a writer which has taken them, and by nothing else. What it
-/// has taken began with what the name holds, about which a body knows nothing, so it is a file that was opened by this name.
+/// That a name's file was let go with some bytes is said by a call that lets go a writer which has taken them, or a reader which still has
+/// them to give, and by nothing else. What it has taken, or had to give, began with what the name holds, about which a body knows nothing,
+/// so it is a file that was opened by this name; and its count of failed calls is that of the calls that were made of it.
 pub trait Disk: Files + StandardStreams {
     ghost holds: { Holdings };
 
@@ -68,19 +72,26 @@ pub trait Disk: Files + StandardStreams {
         ensures { (name : List ℕ) → NamesStandard roles.Output name
             → Self.Output.contents result ≡ holds roles.Output name };
 
-    /// Lets go a file that was opened by this name, and is written.
-    fn leave_file(&self, name: &str, file: Self::File)
-        ensures { leaves name.now (Self.File.contents file) };
+    /// Lets go an input that was opened by this name.
+    fn leave_input(&self, name: &str, from: PlainReader<Self::File, Self::Input>)
+        ensures { leaves roles.Input name.now
+            (known_of Self.File.remaining Self.Input.remaining from.inner) from.failed };
 
-    /// Lets go standard output, by one of its names.
-    fn leave_output(&self, name: &str, output: Self::Output)
-        ensures { leaves name.now (Self.Output.contents output) };
+    /// Lets go an input that was opened by this name behind a buffer.
+    fn leave_buffered(&self, name: &str, from: Reader<Self::File, Self::Input>)
+        ensures { leaves roles.Input name.now
+            (buffered_of (known_of Self.File.remaining Self.Input.remaining) from.inner) from.failed };
+
+    /// Lets go an output that was opened by this name.
+    fn leave_output(&self, name: &str, to: Target<Self::File, Self::Output>)
+        ensures { leaves roles.Output name.now
+            (known_of Self.File.contents Self.Output.contents to.to) to.failed };
 }
 
 impl Disk for HostRuntime {
     ghost holds = { λ _ _. None };
 
-    ghost leaves = { λ _ _. ⊤ };
+    ghost leaves = { λ _ _ _ _. ⊤ };
 
     ghost tells = { silent };
 
@@ -122,7 +133,15 @@ impl Disk for HostRuntime {
         self.output()
     }
 
-    fn leave_file(&self, _name: &str, _file: Self::File) {}
+    fn leave_input(&self, _name: &str, _from: PlainReader<Self::File, Self::Input>)
+        ensures { ⊤ }
+    {}
 
-    fn leave_output(&self, _name: &str, _output: Self::Output) {}
+    fn leave_buffered(&self, _name: &str, _from: Reader<Self::File, Self::Input>)
+        ensures { ⊤ }
+    {}
+
+    fn leave_output(&self, _name: &str, _to: Target<Self::File, Self::Output>)
+        ensures { ⊤ }
+    {}
 }

@@ -5,8 +5,8 @@
 //! `/dev/stdin` and `/dev/stdout`. It refuses what is used twice: an output that is also an input, two outputs that are one
 //! file, and a standard stream that is named twice. Files are one where device and number are, whatever they are called;
 //! pipes, sockets and character devices hold nothing that could be lost, and are no such files. An output is opened without being cut: it
-//! is a [`Target`], and [`Output::begin`] cuts it as its command begins to write. [`leave`], and behind a buffer [`finish`], let it go, and
-//! say what its writer had taken then.
+//! is a [`Target`], and [`Output::begin`] cuts it as its command begins to write. A [`Disk`] lets each file go by its name
+//! ([`Disk::leave_output`], behind a buffer [`finish`]), and says what was left of it or what its writer had taken then.
 //!
 //! ```text
 //! let mut opener = Opener::new(rt);
@@ -16,7 +16,7 @@
 //! // the rows are accepted
 //! symbols.begin()?;
 //! // the symbols are written
-//! leave(rt, words.symbols, symbols);
+//! rt.leave_output(words.symbols, symbols);
 //! ```
 #![tactic(auto)]
 
@@ -33,5 +33,5 @@ pub use opened::Opened;
 pub use opener::{MOST_FILES, Opener, PlainReader, Reader};
 pub use output::Output;
 pub use standard::{StandardStreams, place_of};
-pub use target::{Target, Writer, finish, leave};
+pub use target::{Target, Writer, finish};
 pub use uses::{Node, Role, Stat, Use};

@@ -1,13 +1,14 @@
 //! Outputs that are whole until they are begun.
-ghost use Rattle.std.specs.Prelude.{◌≡◌, ◌≢◌, ◌⊎◌, ◌<◌, ◌≤◌, Ok, IfOk, IfErr, IsOk, length};
+ghost use Rattle.std.specs.Prelude.{◌≡◌, ◌≢◌, ◌⊎◌, ◌<◌, ◌≤◌, ℕ, Ok, IfOk, IfErr, IsOk, length};
 ghost use Rattle.std.specs.Io.Buffered.{writer_contents};
 ghost use Rattle.std.specs.Io.KnownBytes.{WriteAppends};
 ghost use Rattle.s2_mode.specs.Counts.{CanCount, CountsFault};
-ghost use Rattle.s2_files.specs.Known.{known_of, LeftWhole, LeftPart};
+ghost use Rattle.s2_files.specs.Known.{known_of, FailedBy, LeftWhole, LeftPart};
 
 use crate::disk::Disk;
 use crate::opened::Opened;
 use crate::output::Output;
+use crate::uses::Role;
 use s2_console::{Exit, Fault};
 use s2_mode::{Counted, CountedWrite, Counting, Sink, WriteFault, write_full};
 use std::alloc::Global;
@@ -106,23 +107,6 @@ impl<F: Write + OpenFile, S: Write> Output for Target<F, S> {
     }
 }
 
-/// Lets go what was opened by this name.
-fn leave_opened<R: Disk>(rt: &R, name: &str, opened: Opened<R::File, R::Output>)
-    ensures { R.leaves name.now (known_of R.File.contents R.Output.contents opened) }
-{
-    match opened {
-        Opened::File(file) => rt.leave_file(name, file),
-        Opened::Standard(output) => rt.leave_output(name, output),
-    }
-}
-
-/// Lets go an output that was opened by this name.
-pub fn leave<R: Disk>(rt: &R, name: &str, to: Target<R::File, R::Output>)
-    ensures { R.leaves name.now (known_of R.File.contents R.Output.contents to.to) }
-{
-    leave_opened(rt, name, to.to)
-}
-
 /// Ends an output behind a buffer that was opened by this name: what is still in the buffer is written, also where a fault was told that is
 /// none of this output, and then it is let go. Once a write has failed, nothing more is written.
 pub fn finish<R: Disk>(
@@ -134,20 +118,24 @@ pub fn finish<R: Disk>(
     ensures same { IfOk result (λ ended. ended ≡ exit) }
     ensures fault { IfErr result (λ fault. fault ≡ Fault.Write) }
     ensures told { exit ≢ Exit.Fine → IsOk result }
-    ensures whole { to.failed ≡ 0 → result ≡ Ok Exit.Fine
-        → LeftWhole (R.leaves name.now) (writer_contents (known_of R.File.contents R.Output.contents) to.inner) }
-    ensures part { LeftPart (R.leaves name.now)
-        (writer_contents (known_of R.File.contents R.Output.contents) to.inner) }
+    ensures whole { to.failed ≡ 0 → result ≡ Ok Exit.Fine → LeftWhole (R.leaves Role.Output name.now)
+        (writer_contents (known_of R.File.contents R.Output.contents) to.inner) 0 }
+    ensures part { (failed : ℕ) × LeftPart (R.leaves Role.Output name.now) (writer_contents
+        (known_of R.File.contents R.Output.contents) to.inner) failed × FailedBy to.failed failed result }
 {
-    let failed = to.count() > 0;
+    let failed = to.count();
     let (file, left) = to.into_inner().into_parts();
-    if failed {
-        leave_opened(rt, name, file);
+    let mut to = Target {
+        to: file,
+        holds: false,
+        failed,
+    };
+    if failed > 0 {
+        rt.leave_output(name, to);
         return Ok(exit);
     }
-    let mut file = Counting::new(file);
-    let written = write_full(&mut file, &left);
-    leave_opened(rt, name, file.into_inner());
+    let written = write_full(&mut to, &left);
+    rt.leave_output(name, to);
     match written {
         Err(_) if exit == Exit::Fine => Err(Fault::Write),
         _ => Ok(exit),

@@ -13,7 +13,7 @@ pub use Rattle.s2_console.specs.Screens.{Screen, report_failed, report_in, scree
 pub use Rattle.s2_console.specs.declared.exit.Exit.{Exit}
 pub use Rattle.s2_console.specs.declared.fault.Fault.{Fault}
 pub use Rattle.s2_console.specs.declared.place.Place.{Place}
-pub use Rattle.s2_files.specs.Known.{Holdings, Leavings, LeftPart, LeftWhole}
+pub use Rattle.s2_files.specs.Known.{Holdings, Leavings, FailedBy, LeftPart, LeftWhole}
 pub use Rattle.s2_files.specs.Opening.{Asked, CannotOpenOne, Opens, OpensAll, Takes, Tells}
 pub use Rattle.s2_rows.specs.Rows.{Rows}
 pub use Rattle.s2_link.specs.Link.{Link, link_of, setup_of}
@@ -26,7 +26,7 @@ pub use Rattle.s2_receive.specs.declared.report.Received.{Received}
 pub use Rattle.s2_evidence.specs.Inputs.{rows_in, IsAccepted}
 pub use Rattle.s2_table.specs.Wanted.{notes_on}
 pub use Rattle.s2_modem.specs.Reception.{link_rules, rules_for}
-pub use Rattle.s2_tool.specs.Links.{Causes, LinkCommand, DoesOn, Ends, OnLink, Tries, link_in, link_on, streams_at}
+pub use Rattle.s2_tool.specs.Links.{Causes, LinkCommand, DoesOn, Ends, LeftLink, OnLink, Tries, link_in, link_on, streams_at}
 pub use Rattle.s2_tool.specs.Looping.{Loops, kept_fault}
 pub use Rattle.s2_tool.specs.Losses.{Finishes, exit_by, notes_of}
 pub use Rattle.s2_tool.specs.Receptions.{Hears}

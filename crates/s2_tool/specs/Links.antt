@@ -13,7 +13,7 @@ use Rattle.s2_console.specs.Exits.{Follows}
 use Rattle.s2_console.specs.Screens.{Screen, report_in, report_failed}
 use Rattle.s2_console.specs.declared.place.Place.{Place}
 use Rattle.s2_evidence.specs.Inputs.{rows_in, IsAccepted}
-use Rattle.s2_files.specs.Known.{Holdings}
+use Rattle.s2_files.specs.Known.{Holdings, Leavings}
 use Rattle.s2_files.specs.Opening.{Asked}
 use Rattle.s2_files.specs.declared.uses.Role.TheVariants as roles
 
@@ -41,6 +41,13 @@ ends_of holds rows from to =
 -- these files in the order in which they are opened
 abbrev pub asked_of : Bor (List ℕ) → Bor (List ℕ) → Bor (List ℕ) → Asked
 asked_of rows from to = (roles.Input, rows) ∷ (roles.Input, from) ∷ (roles.Output, to) ∷ []
+
+-- The files of these names were let go, each in its role, when so much was left of the first two and the third had taken so much, and
+-- so many of their calls had failed.
+abbrev pub LeftLink : Leavings → Bor (List ℕ) → Bor (List ℕ) → Bor (List ℕ) → Ends → Type 0
+LeftLink leaves rows from to left =
+    leaves roles.Input rows.now left.rows left.rows_failed × leaves roles.Input from.now left.taken left.taken_failed
+    × leaves roles.Output to.now left.given left.given_failed
 
 -- one more failed call of each can be counted
 abbrev pub CanFail : Ends → Type 0

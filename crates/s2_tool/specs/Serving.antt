@@ -1,5 +1,5 @@
 -- What the program prints for a request, and with what it lets its files go.
-use Rattle.std.specs.Prelude.{◌≡◌, ◌≢◌, ℕ, false, List, [], ◌∷◌, Option, Some, None, Result, Ok, Err, codes, ◌⊎◌, ◌↔◌, ⊤}
+use Rattle.std.specs.Prelude.{◌≡◌, ◌≢◌, ◌≤◌, ℕ, ◌+◌, false, List, [], ◌∷◌, Option, Some, None, Result, Ok, Err, codes, ◌⊎◌, ◌↔◌, ⊤}
 use Rattle.std.specs.Borrow.{Bor}
 use Rattle.clap.specs.Words.{kind_of}
 use Rattle.clap.specs.declared.error.Error.{Error}
@@ -41,7 +41,7 @@ use Rattle.s2_evidence.specs.Judging.{IsJudged, IsOwn}
 use Rattle.s2_evidence.specs.Checking.{AreCheckInputs, AreBothAccepted, IsAnswered}
 use Rattle.s2_table.specs.Tables.{AreRowsIn, IsTold}
 use Rattle.s2_table.specs.Wanted.{notes_on}
-use Rattle.s2_tool.specs.Links.{Ends, ends_of, asked_of, streams_with, LinkCommand, OnLink}
+use Rattle.s2_tool.specs.Links.{Ends, ends_of, LeftLink, asked_of, streams_with, LinkCommand, OnLink}
 use Rattle.s2_tool.specs.Making.{MakesRows}
 use Rattle.s2_tool.specs.Sending.{Sends}
 use Rattle.s2_tool.specs.Spoiling.{piped, Spoils}
@@ -119,59 +119,78 @@ abbrev pub NotBegun : (Fault → Type 0) → List ℕ → Result Exit Fault → 
 NotBegun Why notes (Ok exit) old new = ⊥
 NotBegun Why notes (Err f) old new = Why f × (notes ≡ []) × (new ≡ old)
 
--- ---- what is said of a request; `Left` says of the file that it writes with what it was let go
+-- ---- what is said of a request; `Left` says of its files with what they were let go
 
--- The output of a command on a link of this setup and these files, and how it ended: what the command does of them. The file that is
--- written was let go with all that its writer had taken.
-abbrev pub Reports : {T : Type 0} → LinkCommand T → Setup → Ends → (Option (List ℕ) → Type 0) → Result T Fault → Option (List ℕ) → Option (List ℕ) → Type 0
+-- The output of a command on a link of this setup and these files, and how it ended: what the command does of them. They were let go
+-- with what was left of them then, and with what the writer had taken.
+abbrev pub Reports : {T : Type 0} → LinkCommand T → Setup → Ends → (Ends → Type 0) → Result T Fault → Option (List ℕ) → Option (List ℕ) → Type 0
 Reports {T} Does setup files Left ended old new =
-    (failed : ℕ) × (left : Ends) × (behind : Streams)
-    × OnLink Does setup files left (streams_with files old failed) behind ended × (behind.out ≡ new) × Left behind.given
+    (failed : ℕ) × (later : ℕ) × (left : Ends)
+    × OnLink Does setup files left (streams_with files old failed) (streams_with left new later) ended × Left left
 
 -- The output of a command that receives so, its notes, and how it ended.
-abbrev pub Receipts : NoteWords → Setup → Ends → (Option (List ℕ) → Type 0) → LinkCommand Received → List ℕ → Result Exit Fault → Option (List ℕ) → Option (List ℕ) → Type 0
+abbrev pub Receipts : NoteWords → Setup → Ends → (Ends → Type 0) → LinkCommand Received → List ℕ → Result Exit Fault → Option (List ℕ) → Option (List ℕ) → Type 0
 Receipts words setup files Left Does notes ended old new =
     (heard : Result Received Fault) × Reports Does setup files Left heard old new × Answered words setup.mode heard ended notes
 
+-- a failed read is told only where one failed, of so many
+abbrev pub TellsRead : Result Exit Fault → ℕ → Type 0
+TellsRead ended failed = ended ≡ Err faults.Read → failed ≡ 1
+
 -- Whether the rows of a file are the standard's for the code of a mode.
-abbrev pub Compares : Mode → Option (List ℕ) → Result Exit Fault → Option (List ℕ) → Option (List ℕ) → Type 0
-Compares mode rows ended old new =
+abbrev pub Compares : Mode → Option (List ℕ) → (Option (List ℕ) → ℕ → Type 0) → Result Exit Fault → Option (List ℕ) → Option (List ℕ) → Type 0
+Compares mode rows Left ended old new =
     CommandRuns (IsTold mode) (AreRowsIn (shape_in mode) rows) ended old new
     × (ended ≡ Err faults.NoMemory → IsAccepted rows (rows_in (shape_in mode)))
+    × ((left : Option (List ℕ)) × (failed : ℕ) × Left left failed × TellsRead ended failed)
+
+-- the files of `check` were let go
+abbrev pub LeftChecked : Leavings → CheckWords → CheckFiles → Type 0
+LeftChecked leaves words left =
+    leaves roles.Input words.rows.now left.rows left.rows_failed × leaves roles.Input words.certificate.now left.certificate left.certificate_failed
 
 -- What the checker finds of a certificate's file, by a row file.
-abbrev pub Examines : CheckFiles → Result Exit Fault → Option (List ℕ) → Option (List ℕ) → Type 0
-Examines files ended old new =
+abbrev pub Examines : CheckFiles → (CheckFiles → Type 0) → Result Exit Fault → Option (List ℕ) → Option (List ℕ) → Type 0
+Examines files Left ended old new =
     CommandRuns IsAnswered (AreCheckInputs files.rows files.certificate) ended old new
     × (ended ≡ Err faults.NoMemory → AreBothAccepted files.rows files.certificate)
+    × ((left : CheckFiles) × Left left × TellsRead ended (left.rows_failed + left.certificate_failed))
 
 -- a file that may be asked for: it was let go with what is said to stand in it
 abbrev pub LeftAsked : Leavings → Option (Bor (List ℕ)) → Option Written → Type 0
-LeftAsked leaves (Some name) (Some file) = leaves name.now file.contents
+LeftAsked leaves (Some name) (Some file) = leaves roles.Output name.now file.contents file.failed
 LeftAsked leaves None None = ⊤
 LeftAsked leaves (Some name) None = ⊥
 LeftAsked leaves None (Some file) = ⊥
 
+-- the files of `judge` were let go
+abbrev pub LeftJudged : Leavings → JudgeWords → JudgeFiles → Type 0
+LeftJudged leaves words left =
+    leaves roles.Input words.rows.now left.rows left.rows_failed × leaves roles.Input words.soft.now left.soft left.soft_failed
+    × LeftAsked leaves words.certificate left.certificate
+
 -- The verdict on soft values of a file by the tuning of the words, and their certificate in the file that was asked for, which was
 -- let go with it.
-abbrev pub Judges : JudgeWords → JudgeFiles → Leavings → Result Exit Fault → Option (List ℕ) → Option (List ℕ) → Type 0
-Judges words files leaves ended old new =
-    (behind : JudgeFiles) × CommandRuns (IsJudged words.tuning) (AreInputs (asked_shape words.shape) files.rows files.soft) ended old new
+abbrev pub Judges : JudgeWords → JudgeFiles → (JudgeFiles → Type 0) → Result Exit Fault → Option (List ℕ) → Option (List ℕ) → Type 0
+Judges words files Left ended old new =
+    (left : JudgeFiles) × CommandRuns (IsJudged words.tuning) (AreInputs (asked_shape words.shape) files.rows files.soft) ended old new
     × (ended ≡ Err faults.NoMemory → AreAccepted (asked_shape words.shape) files.rows files.soft)
-    × Certifies words.tuning (AreInputs (asked_shape words.shape) files.rows files.soft) ended files.certificate behind.certificate
-    × LeftAsked leaves words.certificate behind.certificate
+    × Certifies words.tuning (AreInputs (asked_shape words.shape) files.rows files.soft) ended files.certificate left.certificate
+    × Left left × TellsRead ended (left.rows_failed + left.soft_failed)
 
--- Symbols are spoilt by the channel of the words. The file that is written was let go with all of them where the exit is fine, and
--- else with a first part, since what is left in the buffer at the end may not be written.
-abbrev pub Channels : ChannelWords → Option (List ℕ) → Option (List ℕ) → (Option (List ℕ) → Type 0) → Result Exit Fault → Type 0
-Channels channel from to Left ended =
+-- Symbols are spoilt by the channel of the words. The file that is read was let go with what was left of it. The file that is written was
+-- let go with all of them where the exit is fine, and else with a first part, since what is left in the buffer at the end may not be
+-- written.
+abbrev pub Channels : ChannelWords → Option (List ℕ) → Option (List ℕ) → (from to : Option (List ℕ) → ℕ → Type 0) → Result Exit Fault → Type 0
+Channels channel from to LeftFrom LeftTo ended =
     (spoilt : Result Exit Fault) × (behind : Streams) × Spoils channel (piped from to 0 0) behind spoilt
-    × ((ended ≡ spoilt) ⊎ ((spoilt ≡ Ok exits.Fine) × (ended ≡ Err faults.Write)))
-    × (ended ≡ Ok exits.Fine → LeftWhole Left behind.given) × LeftPart Left behind.given
+    × ((ended ≡ spoilt) ⊎ ((spoilt ≡ Ok exits.Fine) × (ended ≡ Err faults.Write))) × LeftFrom behind.taken behind.reads
+    × (ended ≡ Ok exits.Fine → LeftWhole LeftTo behind.given 0)
+    × ((failed : ℕ) × LeftPart LeftTo behind.given failed × (behind.writes ≤ failed) × (ended ≢ spoilt → failed ≡ behind.writes + 1))
 
 -- What a request's output says, with which notes and how it ended. A request that names no file prints what its words and the
--- input determine; one that names files what its command says of what they hold, each in its role, once all are open, and the file
--- that it writes was let go, by its name, with what the command says that its writer took; or it could not be begun.
+-- input determine; one that names files what its command says of what they hold, each in its role, once all are open, and each was let
+-- go, by its name, with what the command says is left of it, or that its writer took; or it could not be begun.
 -- Where its words have no mode or no shape, just that is told, and want of memory not in its place. Nor is it told in place of
 -- what the rows, values, certificate or packets are refused for that standard input or a file holds.
 abbrev pub Serves : Holdings → Tells → Leavings → Request → Option (List ℕ) → List ℕ → Result Exit Fault → Option (List ℕ) → Option (List ℕ) → Type 0
@@ -185,32 +204,32 @@ Serves holds tells leaves (requests.Rows words) input notes ended old new =
     ⊎ NotBegun (NotOf (asked_shape words.shape) (λ f. ⊥)) notes ended old new
 Serves holds tells leaves (requests.Table words) input notes ended old new =
     (IsMode (table_mode words) × OpensAll tells (rows_asked words.rows) × (notes ≡ notes_on words.quiet (table_mode words) ended)
-    × Compares (table_mode words) (holds roles.Input words.rows.now) ended old new)
+    × Compares (table_mode words) (holds roles.Input words.rows.now) (leaves roles.Input words.rows.now) ended old new)
     ⊎ NotBegun (NotOn (table_mode words) (CannotOpenOne tells (rows_asked words.rows) [])) notes ended old new
 Serves holds tells leaves (requests.Judge words) input notes ended old new =
     (IsShape (asked_shape words.shape) × OpensAll tells (judge_asked words) × (notes ≡ [])
-    × Judges words (judge_files holds words) leaves ended old new)
+    × Judges words (judge_files holds words) (LeftJudged leaves words) ended old new)
     ⊎ NotBegun (NotOf (asked_shape words.shape) (CannotOpenOne tells (judge_asked words) [])) notes ended old new
 Serves holds tells leaves (requests.Check words) input notes ended old new =
-    (OpensAll tells (check_asked words) × (notes ≡ []) × Examines (check_files holds words) ended old new)
+    (OpensAll tells (check_asked words) × (notes ≡ []) × Examines (check_files holds words) (LeftChecked leaves words) ended old new)
     ⊎ NotBegun (CannotOpenOne tells (check_asked words) []) notes ended old new
 Serves holds tells leaves (requests.Mod words) input notes ended old new =
     (IsMode (asked_setup words.link).mode × OpensAll tells (asked_of words.rows words.packets words.symbols)
     × (notes ≡ notes_on words.quiet (asked_setup words.link).mode ended)
-    × Reports (Sends words.dummy) (asked_setup words.link) (ends_of holds words.rows words.packets words.symbols) (leaves words.symbols.now) ended old new)
+    × Reports (Sends words.dummy) (asked_setup words.link) (ends_of holds words.rows words.packets words.symbols) (LeftLink leaves words.rows words.packets words.symbols) ended old new)
     ⊎ NotBegun (NotOn (asked_setup words.link).mode (CannotOpenOne tells (asked_of words.rows words.packets words.symbols) [])) notes ended old new
 Serves holds tells leaves (requests.Noise words) input notes ended old new =
     (notes ≡ []) × (new ≡ old)
     × ((OpensAll tells (noise_asked words)
-    × Channels words.channel (holds roles.Input words.from.now) (holds roles.Output words.to.now) (leaves words.to.now) ended)
+    × Channels words.channel (holds roles.Input words.from.now) (holds roles.Output words.to.now) (leaves roles.Input words.from.now) (leaves roles.Output words.to.now) ended)
     ⊎ NotBegun (NotSpoilt tells words) notes ended old new)
 Serves holds tells leaves (requests.Demod words) input notes ended old new =
     (IsMode (asked_setup words.link).mode × OpensAll tells (asked_of words.rows words.symbols words.packets)
-    × Receipts words.notes (asked_setup words.link) (ends_of holds words.rows words.symbols words.packets) (leaves words.packets.now) (Hears words.tuning) notes ended old new)
+    × Receipts words.notes (asked_setup words.link) (ends_of holds words.rows words.symbols words.packets) (LeftLink leaves words.rows words.symbols words.packets) (Hears words.tuning) notes ended old new)
     ⊎ NotBegun (NotOn (asked_setup words.link).mode (CannotOpenOne tells (asked_of words.rows words.symbols words.packets) [])) notes ended old new
 Serves holds tells leaves (requests.Run words) input notes ended old new =
     (IsMode (asked_setup words.link).mode × OpensAll tells (asked_of words.rows words.packets words.to)
-    × Receipts words.notes (asked_setup words.link) (ends_of holds words.rows words.packets words.to) (leaves words.to.now) (Loops words) notes ended old new)
+    × Receipts words.notes (asked_setup words.link) (ends_of holds words.rows words.packets words.to) (LeftLink leaves words.rows words.packets words.to) (Loops words) notes ended old new)
     ⊎ NotBegun (NotOn (asked_setup words.link).mode (CannotOpenOne tells (asked_of words.rows words.packets words.to) [])) notes ended old new
 
 -- where a report goes beside an output of this name, or beside none

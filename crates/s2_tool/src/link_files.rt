@@ -1,7 +1,8 @@
 //! The files of a command on a link.
 ghost use Rattle.std.specs.Prelude.{◌≡◌};
+ghost use Rattle.s2_tool.specs.Links.{LeftLink};
 
-use s2_files::{Disk, Output, Target, leave};
+use s2_files::{Disk, Output, PlainReader, Reader, Target};
 use s2_mode::{CountedRead, CountedWrite};
 use s2_progress::{Meter, Watched};
 use std::marker::Model;
@@ -58,27 +59,54 @@ impl<R: CountedRead, S: CountedRead, W: Output> LinkFiles<R, S, W> {
     }
 }
 
-impl<R: CountedRead + Drop, S: CountedRead + Drop, W: CountedWrite> LinkFiles<R, S, W> {
-    /// The one that is written. The others are let go.
-    fn into_written(self) -> W
-        ensures { W.contents result ≡ self.given }
+impl<R: CountedRead, S: CountedRead, W: CountedWrite> LinkFiles<R, S, W> {
+    /// The three.
+    fn into_parts(self) -> (R, S, W)
+        ensures rows { (R.remaining result.0 ≡ self.rows) × (R.count result.0 ≡ self.rows_failed) }
+        ensures from { (S.remaining result.1 ≡ self.taken) × (S.count result.1 ≡ self.taken_failed) }
+        ensures to { (W.contents result.2 ≡ self.given) × (W.count result.2 ≡ self.given_failed) }
     {
-        let LinkFiles {
-            rows: _,
-            from: _,
-            to,
-        } = self;
-        to
+        let LinkFiles { rows, from, to } = self;
+        (rows, from, to)
     }
 }
 
-/// Lets the files of a command on a link go: the two that are read, and then the one that is written, by its name.
-pub(crate) fn leave_link<D: Disk, R: CountedRead + Drop, S: CountedRead + Drop, M: Meter>(
+/// Lets the files of a command on a link go, each by its name, where the second is behind a buffer.
+pub(crate) fn leave_link<D: Disk, M: Meter>(
     rt: &D,
-    name: &str,
-    files: LinkFiles<R, S, Watched<'_, Target<D::File, D::Output>, M>>,
+    rows: &str,
+    from: &str,
+    to: &str,
+    files: LinkFiles<
+        PlainReader<D::File, D::Input>,
+        Watched<'_, Reader<D::File, D::Input>, M>,
+        Watched<'_, Target<D::File, D::Output>, M>,
+    >,
 )
-    ensures { D.leaves name.now files.entry.given }
+    ensures { LeftLink D.leaves rows.entry from.entry to.entry files.entry }
 {
-    leave(rt, name, files.into_written().into_inner())
+    let (read_rows, read, written) = files.into_parts();
+    rt.leave_input(rows, read_rows);
+    rt.leave_buffered(from, read.into_inner());
+    rt.leave_output(to, written.into_inner());
+}
+
+/// The same where it has no buffer.
+pub(crate) fn leave_whole<D: Disk, M: Meter>(
+    rt: &D,
+    rows: &str,
+    from: &str,
+    to: &str,
+    files: LinkFiles<
+        PlainReader<D::File, D::Input>,
+        Watched<'_, PlainReader<D::File, D::Input>, M>,
+        Watched<'_, Target<D::File, D::Output>, M>,
+    >,
+)
+    ensures { LeftLink D.leaves rows.entry from.entry to.entry files.entry }
+{
+    let (read_rows, read, written) = files.into_parts();
+    rt.leave_input(rows, read_rows);
+    rt.leave_input(from, read.into_inner());
+    rt.leave_output(to, written.into_inner());
 }

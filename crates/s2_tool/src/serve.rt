@@ -7,18 +7,18 @@ ghost use Rattle.s2_mode.specs.Shape as shapes;
 ghost use Rattle.s2_link.specs.Link as links;
 ghost use Rattle.s2_console.specs.Screens.{CanShow, CanTell};
 ghost use Rattle.s2_evidence.specs.Files.{SameAsked};
-ghost use Rattle.s2_tool.specs.Serving.{IsPlacedFor, asked_file, asked_setup, no_mode, no_shape, LeftAsked, Served, Began};
+ghost use Rattle.s2_tool.specs.Serving.{IsPlacedFor, asked_file, asked_setup, no_mode, no_shape, LeftChecked, LeftJudged, Served, Began};
 
 use crate::demod::demod_command;
-use crate::link_files::leave_link;
+use crate::link_files::{leave_link, leave_whole};
 use crate::modulate::mod_command;
 use crate::noise::noise_command;
 use crate::opening::{open_check, open_judge, open_link, open_noise, open_rows, open_whole};
 use crate::rows::rows_command;
 use crate::run::run_command;
 use s2_console::{Console, Exit, Fault, Place};
-use s2_evidence::{JudgeFiles, check_command, judge_command, self_command};
-use s2_files::{Disk, PlainReader, StandardStreams, Target, finish, leave, place_of};
+use s2_evidence::{CheckFiles, JudgeFiles, check_command, judge_command, self_command};
+use s2_files::{Disk, PlainReader, StandardStreams, Target, finish, place_of};
 use s2_link::LinkSetup;
 use s2_mode::{CountedRead, CountedWrite, Counting, FaultText, Mode, Shape};
 use s2_modes::modes_command;
@@ -174,7 +174,9 @@ fn serve_table<'a, R: Disk + AllocGlobal, O: CountedWrite, E: CountedWrite>(
         return Err(no_mode());
     };
     let mut rows = open_rows(rt, words.rows)?;
-    Ok(table_command(rt.alloc(), &mode, words.quiet, &mut rows, console))
+    let exit = table_command(rt.alloc(), &mode, words.quiet, &mut rows, console);
+    rt.leave_input(words.rows, rows);
+    Ok(exit)
 }
 
 /// Where the report goes beside an output that may be asked for.
@@ -187,23 +189,24 @@ fn place_beside(name: Option<&str>) -> Place
     }
 }
 
-/// Lets the files of `judge` go: the two that are read, and then, where it is asked for, that of the certificate, by its name.
+/// Lets the files of `judge` go, each by its name, that of the certificate where it is asked for.
 fn leave_judge<R: Disk>(
     rt: &R,
-    name: Option<&str>,
-    mut files: JudgeFiles<
+    words: &JudgeWords<'_>,
+    files: JudgeFiles<
         PlainReader<R::File, R::Input>,
         PlainReader<R::File, R::Input>,
         Target<R::File, R::Output>,
     >,
 )
-    requires { SameAsked (asked_file R.holds name) files.certificate }
-    ensures { LeftAsked R.leaves name.entry files.certificate }
+    requires { SameAsked (asked_file R.holds words.now.certificate) files.certificate }
+    ensures { LeftJudged R.leaves words.now files }
 {
-    let certificate = files.certificate.take();
-    drop(files);
-    match (name, certificate) {
-        (Some(name), Some(file)) => leave(rt, name, file),
+    let (rows, soft, certificate) = files.into_parts();
+    rt.leave_input(words.rows, rows);
+    rt.leave_input(words.soft, soft);
+    match (words.certificate, certificate) {
+        (Some(name), Some(file)) => rt.leave_output(name, file),
         _ => {}
     }
 }
@@ -226,8 +229,21 @@ fn serve_judge<'a, R: Disk + AllocGlobal, O: CountedWrite, E: CountedWrite>(
     let mut files = open_judge(rt, words)?;
     let tuning = words.tuning;
     let exit = judge_command(rt.alloc(), shape, tuning, &mut files, place, console);
-    leave_judge(rt, words.certificate, files);
+    leave_judge(rt, words, files);
     Ok(exit)
+}
+
+/// Lets the files of `check` go, each by its name.
+fn leave_check<R: Disk>(
+    rt: &R,
+    words: &CheckWords<'_>,
+    files: CheckFiles<PlainReader<R::File, R::Input>, PlainReader<R::File, R::Input>>,
+)
+    ensures { LeftChecked R.leaves words.now files }
+{
+    let (rows, certificate) = files.into_parts();
+    rt.leave_input(words.rows, rows);
+    rt.leave_input(words.certificate, certificate);
 }
 
 /// Checks a certificate.
@@ -241,7 +257,9 @@ fn serve_check<'a, R: Disk + AllocGlobal, O: CountedWrite, E: CountedWrite>(
         Began R.holds R.tells R.leaves (Request.Check words.now) input result console.old console.new }
 {
     let mut files = open_check(rt, words)?;
-    Ok(check_command(rt.alloc(), &mut files, console))
+    let exit = check_command(rt.alloc(), &mut files, console);
+    leave_check(rt, words, files);
+    Ok(exit)
 }
 
 /// Sends packets. The symbol file is opened once the others are, and the counts stand beside standard output where that is it.
@@ -275,7 +293,7 @@ fn serve_mod<'a, R: Disk + Clock + AllocGlobal, O: CountedWrite, E: CountedWrite
         &mut notes,
     );
     show.finish();
-    leave_link(rt, words.symbols, files);
+    leave_link(rt, words.rows, words.packets, words.symbols, files);
     Ok(exit)
 }
 
@@ -298,6 +316,7 @@ fn serve_noise<'a, R: Disk + Clock + AllocGlobal, O: CountedWrite, E: CountedWri
     let mut to = Watched::new(opened.1, &show);
     let exit = noise_command(words.channel, &mut from, &mut to, console);
     show.finish();
+    rt.leave_buffered(words.from, from.into_inner());
     finish(rt, words.to, exit, to.into_inner())
 }
 
@@ -333,7 +352,7 @@ fn serve_demod<'a, R: Disk + Clock + AllocGlobal, O: CountedWrite, E: CountedWri
         &mut notes,
     );
     show.finish();
-    leave_link(rt, words.packets, files);
+    leave_whole(rt, words.rows, words.symbols, words.packets, files);
     Ok(exit)
 }
 
@@ -368,6 +387,6 @@ fn serve_run<'a, R: Disk + Clock + AllocGlobal, O: CountedWrite, E: CountedWrite
         &mut notes,
     );
     show.finish();
-    leave_link(rt, words.to, files);
+    leave_link(rt, words.rows, words.packets, words.to, files);
     Ok(exit)
 }

@@ -1,4 +1,4 @@
-use Rattle.std.proofs.Common.{[], refl, inl, inr}
+use Rattle.std.proofs.Common.{refl, inl, inr}
 use Rattle.std.proofs.lemmas.Result.{err_from_is_err_and}
 use Rattle.s2_tool.proofs.OpeningLemmas.{opens_behind, first_stuck, stuck_behind}
 use Rattle.s2_tool.proofs.opening.open_judge.Goals as goal
