@@ -481,6 +481,31 @@ pub(crate) fn show(alloc: Global, link: &Sides, symbols: &[u8]) -> Result<Shown,
     }
 }
 
+/// What a receiver shows after a call on these symbols and one on further ones.
+fn shown_behind(
+    alloc: Global,
+    link: &Sides,
+    receiver: &mut Receiver<'_>,
+    symbols: &[u8],
+    further: &[u8],
+) -> Result<Shown, Fail> {
+    let _step = step_over(alloc, receiver, symbols)?;
+    shown_after(alloc, link, receiver, further)
+}
+
+/// The same of a new receiver.
+pub(crate) fn show_behind(
+    alloc: Global,
+    link: &Sides,
+    symbols: &[u8],
+    further: &[u8],
+) -> Result<Shown, Fail> {
+    match receiver_of(alloc, link, ROUNDS, 0) {
+        Ok(mut receiver) => shown_behind(alloc, link, &mut receiver, symbols, further),
+        Err(fault) => Err(Fail::from(fault)),
+    }
+}
+
 /// What a receiver by this divisor shows after its first call.
 pub(crate) fn show_by(
     alloc: Global,

@@ -1,7 +1,7 @@
 //! Whole streams through a receiver.
 use super::hearing::{
     Shown, assert_reported, assert_sample, hear, hear_in_halves, received, received_whole,
-    receiver_of, show, show_between, show_nothing,
+    receiver_of, show, show_behind, show_between, show_nothing,
 };
 use super::streams::{
     ALL, Sample, Sides, Source, bch_word_of, frame_of_word, link_of, one_frame, other_link,
@@ -127,10 +127,10 @@ fn assert_clean<A: Abort>(rt: &A, soft: &[i16]) {
     }
 }
 
-/// Asserts what is shown of the frame of a packet of zeros, whose certificate the checker accepts.
-fn assert_shown<A: Abort>(rt: &A, shown: &Shown) {
+/// Asserts what is shown of the frame of a packet of zeros, and what the checker answers of its certificate.
+fn assert_shown<A: Abort>(rt: &A, shown: &Shown, answer: Option<Answer>) {
     assert_clean(rt, &shown.soft);
-    assert_eq!(rt; shown.answer, Some(Answer::Yes));
+    assert_eq!(rt; shown.answer, answer);
     assert_eq!(rt; shown.word, [0xf3, 0xf6, 0x0d, 0xd4]);
     assert_eq!(rt; shown.message.len(), 16008);
     let begins = [true, true, true, true, false, false, true, true];
@@ -140,7 +140,7 @@ fn assert_shown<A: Abort>(rt: &A, shown: &Shown) {
 /// Asserts what a receiver shows of a sample.
 fn assert_sample_shown<A: Abort>(rt: &A, alloc: Global, sample: &Sample) -> Result<(), Fail> {
     let shown = show(alloc, &sample.link, &sample.symbols)?;
-    assert_shown(rt, &shown);
+    assert_shown(rt, &shown, Some(Answer::Yes));
     Ok(())
 }
 
@@ -150,10 +150,35 @@ fn shows_the_last_frame(rt: HostRuntime) -> Result<(), Fail> {
     assert_sample_shown(&rt, rt.alloc(), &sample)
 }
 
+/// Asserts that after a step that came to no frame a receiver shows the last one, and no certificate.
+fn assert_uncertified<A: Abort>(
+    rt: &A,
+    alloc: Global,
+    sample: &Sample,
+    further: usize,
+) -> Result<(), Fail> {
+    let symbols = sample.symbols.as_slice();
+    let shown = show_behind(alloc, &sample.link, symbols, &symbols[..further])?;
+    assert_shown(rt, &shown, None);
+    Ok(())
+}
+
+#[test]
+fn shows_no_certificate_behind_the_end(rt: HostRuntime) -> Result<(), Fail> {
+    let sample = one_frame(rt.alloc())?;
+    assert_uncertified(&rt, rt.alloc(), &sample, 0)
+}
+
+#[test]
+fn shows_no_certificate_behind_a_cut_frame(rt: HostRuntime) -> Result<(), Fail> {
+    let sample = one_frame(rt.alloc())?;
+    assert_uncertified(&rt, rt.alloc(), &sample, 4 * 90)
+}
+
 /// Asserts what a receiver shows of a sample between the halves of a step, and what it then delivers.
 fn assert_shown_between<A: Abort>(rt: &A, alloc: Global, sample: &Sample) -> Result<(), Fail> {
     let (shown, delivered) = show_between(alloc, &sample.link, &sample.symbols)?;
-    assert_shown(rt, &shown);
+    assert_shown(rt, &shown, Some(Answer::Yes));
     let line = "frame 1 at 0 sole fixed 0\n";
     assert_eq!(rt; delivered.report.as_slice(), line.as_bytes());
     assert_eq!(rt; delivered.packets.as_slice(), packet_of_zeros().as_slice());

@@ -23,7 +23,7 @@ unfoldable pub use Rattle.s2_bits.specs.Bits.{bits_of_byte}
 pub use Rattle.s2_bits.proofs.Spelled.{byte_back}
 pub use Rattle.s2_bits.proofs.Sums.{xor_same}
 pub use Rattle.s2_rows.specs.Rows.{Rows}
-pub use Rattle.s2_matrix.specs.Code.{IsCodeword, code_of}
+pub use Rattle.s2_matrix.specs.Code.{Code, IsCodeword, code_of}
 pub use Rattle.s2_bch.specs.Codes.{IsWithin}
 pub use Rattle.s2_bch.specs.Decoding.{nearest}
 pub use Rattle.s2_bch.specs.Generators.{generator_of}
@@ -82,12 +82,15 @@ pub use Rattle.s2_receive.specs.Finding.{Meets, met_after, met_of}
 pub use Rattle.s2_receive.specs.Laws.{AreReceived, IsDummy, IsReceived, PassedNone, Piece, Spells, coded, dummy, frames_at, joined, stream_symbols}
 pub use Rattle.s2_receive.specs.Meeting.{Met, begins, by_found, cut, ended, frame, met_from, nothing_over, passed}
 pub use Rattle.s2_receive.specs.Parts.{delivered_of}
-pub use Rattle.s2_receive.specs.Receiving.{Decision, Finds, IsDecided, IsLive, MetFrame, Rules, RunsOut, Standing, State, StepAnswers, after, after_all, all_lines, all_packets, all_well, at_end, at_start, begun, met_left, passes, report_for, report_of, step_of}
+pub use Rattle.s2_receive.specs.Receiving.{Decision, Finds, IsDecided, IsLive, MetFrame, Rules, RunsOut, Standing, State, StepAnswers, Stops, after, after_all, all_lines, all_packets, all_well, at_end, at_start, begun, is_at_frame, met_left, passes, phase_after, report_for, report_of, step_of}
 pub use Rattle.s2_receive.specs.ReportLines.{cut_line, end_line, frame_line}
 unfoldable pub use Rattle.s2_receive.specs.Windows.{found_as}
 pub use Rattle.s2_receive.specs.declared.parts.Decided.{Decided as Answer}
 pub use Rattle.s2_receive.specs.declared.report.Fault.{Fault}
+pub use Rattle.s2_receive.specs.declared.finding.Next.{Next}
+pub use Rattle.s2_receive.specs.declared.finding.Next.TheVariants as nexts
 pub use Rattle.s2_receive.specs.declared.report.Outcome.{Outcome}
+pub use Rattle.s2_receive.specs.declared.report.Phase.{Phase}
 pub use Rattle.s2_receive.specs.declared.report.Outcome.TheVariants.{Delivered, NoWord}
 pub use Rattle.s2_receive.specs.declared.report.Received.{Received}
 pub use Rattle.s2_receive.specs.declared.report.Report.{Report}
@@ -103,9 +106,9 @@ pub use Rattle.s2_receive.proofs.StepLemmas.{live_at, on_frame, symbols_least}
 pub use Rattle.s2_modem.specs.Both.{AreBytes, Hears, IsByte, IsDelivered, IsDeliveredCertified, certified_lines, run_places, sent_symbols, totals_of}
 pub use Rattle.s2_modem.specs.Front.{IsCleanFrame}
 pub use Rattle.s2_modem.specs.Headline.{ArrivalLaw, BothCodesLaw, HearsLaw, IsSent, ScatteredFrameLaw}
-pub use Rattle.s2_modem.specs.Listening.{FindsWord, Listening, Reads, decision_held}
+pub use Rattle.s2_modem.specs.Listening.{FindsWord, Listening, Reads, decides, decision_held}
 pub use Rattle.s2_modem.specs.Promise.{AreReadable, AreReported, Arriving, BeginsWith, Headline, IsHeadline, IsReadable, IsReport, IsReported, KeepsHeadline, Promises, RunsHeadline, decision_from, frame_from}
-pub use Rattle.s2_modem.specs.Reception.{AllAsLikely, AllTold, IsAsLikely, IsCertifiedBy, IsCorrected, IsLikelyBy, Receiver, link_rules, rules_for}
+pub use Rattle.s2_modem.specs.Reception.{AllAsLikely, AllTold, Certifies, IsAsLikely, IsCertifiedBy, IsCorrected, IsLikelyBy, Receiver, link_rules, rules_for}
 pub use Rattle.s2_modem.specs.Reports.{IsUndecided, decision_by, decision_on, delivered_by, field_in, frame_soft, header_in, message_of, outcome_by, received_word}
 unfoldable pub use Rattle.s2_modem.specs.Reports.{frame_decision}
 pub use Rattle.s2_modem.specs.Steps.{AllHeard, Corrects, Heard, IsFrameAt, StandsAt}

@@ -1,7 +1,8 @@
 -- What a step promises of its answer.
-use Rattle.s2_modem.proofs.Names.{on_frame, ◌≡◌, ◌≢◌, ℕ, ◌+◌, ◌≤◌, true, List, [], ◌∷◌, ◌++◌, length, take, Option, Some, None, Result, Ok, Err, IfOk, refl, sym, ap, subst, ◌∙◌, nat_lt, ◌↔◌, IsErrOf, k_of, t_of, Streams, Symbol, differences, code_of, header_at, Verdict, Met, frame, cut, ended, nothing_over, met_from, Meets, met_of, met_after, Spells, Rules, State, Decision, IsLive, IsDecided, Finds, MetFrame, StepAnswers, met_left, report_for, report_of, step_of, Fault, Outcome, Report, Step, whole_frame, symbols_least, live_at, received_word, message_of, frame_decision, IsDelivered, IsDeliveredCertified, Receiver, IsAsLikely, IsLikelyBy, IsCertifiedBy, IsCorrected, rules_for, IsFrameAt, Heard, Corrects, StandsAt, Promises, OnFrame, IsWholeFrame, IfOk-weaker}
+use Rattle.s2_modem.proofs.Names.{on_frame, ◌≡◌, ◌≢◌, ℕ, ◌+◌, ◌≤◌, true, false, if◌then◌else◌, ⊤, List, [], ◌∷◌, ◌++◌, length, take, Option, Some, None, Result, Ok, Err, IfOk, refl, sym, ap, subst, ◌∙◌, nat_lt, ◌↔◌, IsErrOf, k_of, t_of, Streams, Symbol, differences, code_of, header_at, Verdict, Met, frame, cut, ended, nothing_over, met_from, Meets, met_of, met_after, Spells, Rules, State, Decision, IsLive, IsDecided, Finds, Stops, Standing, Next, Phase, Rows, IsShown, MetFrame, StepAnswers, met_left, phase_after, is_at_frame, report_for, report_of, step_of, Fault, Outcome, Report, Step, whole_frame, symbols_least, live_at, received_word, message_of, frame_decision, IsDelivered, IsDeliveredCertified, Receiver, IsAsLikely, IsLikelyBy, IsCertifiedBy, Certifies, IsCorrected, rules_for, IsFrameAt, Heard, Corrects, StandsAt, Promises, OnFrame, IsWholeFrame, IfOk-weaker}
 use Rattle.s2_modem.proofs.Names.faults
 use Rattle.s2_modem.proofs.Names.founds
+use Rattle.s2_modem.proofs.Names.nexts
 use Rattle.s2_modem.proofs.Names.phases
 use Rattle.s2_modem.proofs.Names.steps
 use Rattle.s2_modem.proofs.CleanFrames.{frame_is}
@@ -41,11 +42,55 @@ first_met rules at (Some bytes) (Some more) met symbols rest meets spelt long la
     let both : met ∷ more ≡ frame at nothing_over symbols ∷ met_from rules.finds rules.size (at + rules.size) 0 true nothing_over rest = sym meets ∙ ap (met_from rules.finds rules.size at 0 (nat_lt 0 at) nothing_over) spelt ∙ one in
     cc
 
+-- ---- where a receiver stands behind it: at a frame exactly where that is the answer
+
+abbrev pub StandsSo : Phase → Result Step Fault → Type 0
+StandsSo phase (Ok (steps.Frame r)) = is_at_frame phase ≡ true
+StandsSo phase (Err faults.Failed) = ⊤
+StandsSo phase result = is_at_frame phase ≡ false
+
+met_so : (rules : Rules) (s : Standing) (next : Next) (symbols : List Symbol) → StandsSo (phases.Met next) (Ok (step_of rules s (met_of next symbols)))
+met_so rules s (nexts.Frame at over) symbols = refl
+met_so rules s (nexts.Cut at over count) symbols = refl
+met_so rules s (nexts.End at over) symbols = refl
+
+told_so : (rules : Rules) (s : Standing) (met : Met) → StandsSo (phase_after met) (Ok (step_of rules s met))
+told_so rules s (frame at over symbols) = refl
+told_so rules s (cut at over count) = refl
+told_so rules s (ended over) = refl
+
+-- where no more can be met the end stays, or the call is refused
+stands_so : (old new : State) (result : Result Step Fault) → (old.phase ≡ phases.Ended → result ≡ Ok steps.End) → ((IsLive old.phase → ⊥) × (old.phase ≢ phases.Ended) → result ≡ Err faults.Failed)
+    → ((IsLive old.phase → ⊥) → new ≡ old) → (IsLive old.phase → StandsSo new.phase result) → StandsSo new.phase result
+stands_so old new result ends fails nothing live = by_phase old.phase refl
+  where
+    refused : old.phase ≢ phases.Ended → (IsLive old.phase → ⊥) → StandsSo new.phase result
+    refused other idle = subst (StandsSo new.phase) (sym (fails (idle, other))) tt
+
+    by_phase : (phase : Phase) → old.phase ≡ phase → StandsSo new.phase result
+    by_phase phases.Searching is = live (subst IsLive (sym is) tt)
+    by_phase phases.Closing is = live (subst IsLive (sym is) tt)
+    by_phase (phases.Met next) is = refused (λ e. cc) (subst IsLive is)
+    by_phase phases.Failed is = refused (λ e. cc) (subst IsLive is)
+    by_phase phases.Ended is = subst (StandsSo new.phase) (sym (ends is)) (ap (λ (s : State). is_at_frame s.phase) (nothing (subst IsLive is)) ∙ ap is_at_frame is)
+
+stops_so : (rules : Rules) (old new : State) (r r' : Option (List ℕ)) (reads reads' : ℕ) → Stops rules old new r r' reads reads' → is_at_frame new.phase ≡ false
+stops_so rules old new r r' reads reads' stops = ap (λ (s : State). is_at_frame s.phase) stops.failed
+
+certifies : (rows : Rows) (last : Decision) (phase : Phase) (result : Result Step Fault) → OnFrame result (λ r. IsCertifiedBy rows r.verdict last) → StandsSo phase result
+    → Certifies rows last (if is_at_frame phase then last.certificate else None) result
+certifies rows last phase (Ok (steps.Frame r)) shown so = subst (λ b. IsShown rows last.soft (record { verdict = r.verdict; bits = last.bits; certificate = if b then last.certificate else None })) (sym so) shown
+certifies rows last phase (Ok (steps.Cut at count)) shown so = ap (λ b. if b then last.certificate else None) so
+certifies rows last phase (Ok steps.End) shown so = ap (λ b. if b then last.certificate else None) so
+certifies rows last phase (Err faults.Read) shown so = ap (λ b. if b then last.certificate else None) so
+certifies rows last phase (Err faults.Write) shown so = ap (λ b. if b then last.certificate else None) so
+certifies rows last phase (Err faults.Failed) shown so = tt
+
 -- ---- what is promised of it
 
-pub record IsPromised (old : Receiver) (last : Decision) (bytes : Option (List ℕ)) (result : Result Step Fault) : Type 0 where
+pub record IsPromised (old : Receiver) (last : Decision) (phase : Phase) (bytes : Option (List ℕ)) (result : Result Step Fault) : Type 0 where
   pub likely : OnFrame result (λ r. IsLikelyBy old.link.rows r.verdict last)
-  pub certified : OnFrame result (λ r. IsCertifiedBy old.link.rows r.verdict last)
+  pub certified : Certifies old.link.rows last (if is_at_frame phase then last.certificate else None) result
   pub within : OnFrame result (λ r. IsCorrected old.link.setup.mode last r.outcome)
   pub heard : IfOk result (Heard old last bytes)
   pub both_codes : IfOk result (Corrects old last bytes)
@@ -95,14 +140,14 @@ module _ (old : Receiver) (last : Decision) (bytes : Option (List ℕ)) (all : P
         decided,
       )
 
-  promised : (result : Result Step Fault) → AnswersLive result → IsPromised old last bytes result
-  promised result a =
+  promised : (phase : Phase) (result : Result Step Fault) → StandsSo phase result → AnswersLive result → IsPromised old last phase bytes result
+  promised phase result so a =
       let m = old.link.setup.mode in
       let code = code_of old.link.rows in
       record {
         likely = reported (λ v o d. IsLikelyBy old.link.rows v d)
             (λ symbols. (let d = frame_decision old.link old.tuning symbols in subst (λ soft. IsAsLikely code soft d.verdict d.bits) (sym (frame_is old.link old.tuning symbols).soft_is) (all.as_likely symbols))) result a;
-        certified = reported (λ v o d. IsCertifiedBy old.link.rows v d) (λ symbols. (all.told symbols).certified) result a;
+        certified = certifies old.link.rows last phase result (reported (λ v o d. IsCertifiedBy old.link.rows v d) (λ symbols. (all.told symbols).certified) result a) so;
         within = reported (λ v o d. IsCorrected m d o) (λ symbols. (all.told symbols).within) result a;
         heard = IfOk-weaker result _ _ (λ step answers at field codeword symbols sent clear stands.
             (let h = all.heard.clear (nat_lt 0 old.state.at) at field codeword symbols sent clear in
@@ -117,14 +162,33 @@ module _ (old : Receiver) (last : Decision) (bytes : Option (List ℕ)) (all : P
 
 module _ (v w : Receiver) (last : Decision) (result : Result Step Fault) (is : v ≡ w) (all : Promises v.link v.tuning) (rules' : Rules) (same : rules' ≡ rules_for v)
     (ends : v.state.phase ≡ phases.Ended → result ≡ Ok steps.End) (fails : IsErrOf result faults.Failed ↔ ((IsLive v.state.phase → ⊥) × (v.state.phase ≢ phases.Ended))) where
-  shown : (bytes : Option (List ℕ)) → IfOk result (λ step. IsLive v.state.phase → Answers rules' v.state bytes last step) → IsPromised w last bytes result
-  shown bytes answers =
+  shown : (new : State) (bytes : Option (List ℕ)) → ((IsLive v.state.phase → ⊥) → new ≡ v.state) → (IsLive v.state.phase → StandsSo new.phase result)
+      → IfOk result (λ step. IsLive v.state.phase → Answers rules' v.state bytes last step) → IsPromised w last new.phase bytes result
+  shown new bytes nothing live answers =
       let of_v = subst (λ (x : Rules). IfOk result (λ step. IsLive v.state.phase → Answers x v.state bytes last step)) same answers in
-      subst (λ (x : Receiver). IsPromised x last bytes result) is (promised v last bytes all result (of_v, ends, fails.1))
+      subst (λ (x : Receiver). IsPromised x last new.phase bytes result) is (promised v last bytes all new.phase result (stands_so v.state new result ends fails.1 nothing live) (of_v, ends, fails.1))
 
-  pub meet_promised : (new : State) (r r' : Option (List ℕ)) → IfOk result (λ step. IsLive v.state.phase → Finds rules' v.state new r r' last step) → IsPromised w last r result
-  meet_promised new r r' finds = shown r (IfOk-weaker result _ _ (λ step find live.
+  meets_so : (new : State) (r r' : Option (List ℕ)) (reads reads' : ℕ) (x : Result Step Fault) → IfOk x (λ step. IsLive v.state.phase → Finds rules' v.state new r r' last step)
+      → (IsErrOf x faults.Read → Stops rules' v.state new r r' reads reads') → x ≢ Err faults.Write → IsLive v.state.phase → StandsSo new.phase x
+  meets_so new r r' reads reads' (Ok step) finds stops other live =
+      let f = finds live in
+      subst (λ (s : State). StandsSo s.phase (Ok step)) (sym f.state) (subst (λ x. StandsSo (phases.Met f.next) (Ok x)) (sym f.step_is) (met_so rules' v.state.standing f.next f.symbols))
+  meets_so new r r' reads reads' (Err faults.Read) finds stops other live = stops_so rules' v.state new r r' reads reads' (stops refl)
+  meets_so new r r' reads reads' (Err faults.Write) finds stops other live = absurd (other refl)
+  meets_so new r r' reads reads' (Err faults.Failed) finds stops other live = tt
+
+  pub meet_promised : (new : State) (r r' : Option (List ℕ)) (reads reads' : ℕ) → IfOk result (λ step. IsLive v.state.phase → Finds rules' v.state new r r' last step)
+      → (IsErrOf result faults.Read → Stops rules' v.state new r r' reads reads') → result ≢ Err faults.Write → ((IsLive v.state.phase → ⊥) → new ≡ v.state) → IsPromised w last new.phase r result
+  meet_promised new r r' reads reads' finds stops other nothing = shown new r nothing (meets_so new r r' reads reads' result finds stops other) (IfOk-weaker result _ _ (λ step find live.
       (let f = find live in record { met = met_of f.next f.symbols; later = met_after rules'.finds rules'.size f.next r'; meets = f.met; step_is = f.step_is; decided = f.decided })) finds)
+
+  tells_so : (new : State) (before behind : Streams) (x : Result Step Fault) → (IsLive v.state.phase → StepAnswers rules' v.state new before behind x) → IsLive v.state.phase → StandsSo new.phase x
+  tells_so new before behind (Ok step) answers live =
+      let (met, step_is, phase_is, went) = answers live in
+      subst (λ phase. StandsSo phase (Ok step)) (sym phase_is) (subst (λ x. StandsSo (phase_after met) (Ok x)) (sym step_is) (told_so rules' v.state.standing met))
+  tells_so new before behind (Err faults.Read) answers live = stops_so rules' v.state new before.taken behind.taken before.reads behind.reads (answers live)
+  tells_so new before behind (Err faults.Write) answers live = ap is_at_frame (answers live).0
+  tells_so new before behind (Err faults.Failed) answers live = tt
 
   next_answers : (new : State) (before behind : Streams) (x : Result Step Fault) → (IsLive v.state.phase → StepAnswers rules' v.state new before behind x)
       → OnFrame x (λ r. MetFrame rules' v.state new before behind r last) → IfOk x (λ step. IsLive v.state.phase → Answers rules' v.state before.taken last step)
@@ -132,5 +196,5 @@ module _ (v w : Receiver) (last : Decision) (result : Result Step Fault) (is : v
   next_answers new before behind (Err fault) answers frames = tt
 
   pub next_promised : (new : State) (before behind : Streams) → (IsLive v.state.phase → StepAnswers rules' v.state new before behind result)
-      → OnFrame result (λ r. MetFrame rules' v.state new before behind r last) → IsPromised w last before.taken result
-  next_promised new before behind answers frames = shown before.taken (next_answers new before behind result answers frames)
+      → OnFrame result (λ r. MetFrame rules' v.state new before behind r last) → ((IsLive v.state.phase → ⊥) → new ≡ v.state) → IsPromised w last new.phase before.taken result
+  next_promised new before behind answers frames nothing = shown new before.taken nothing (tells_so new before behind result answers) (next_answers new before behind result answers frames)

@@ -11,6 +11,7 @@ use Rattle.s2_check.specs.Cost.{IsMostLikely}
 use Rattle.s2_split.specs.Scattered.{IsScattered}
 use Rattle.s2_bbframe.specs.DataStream.{header_at, to_place, field_bytes}
 use Rattle.s2_receive.specs.Laws.{Spells}
+use Rattle.s2_receive.specs.Receiving.{Decision}
 use Rattle.s2_receive.specs.declared.report.Totals.{Totals}
 use Rattle.s2_check.specs.Strict.{IsSole}
 use Rattle.s2_check.specs.Verdicts.{is_certified}
@@ -69,6 +70,19 @@ ScatteredFrameLaw m =
     (link : Link) (tuning : Tuning) (at : ℕ) (symbols : List Symbol) (field : List ℕ) (codeword : List Bool) (sent : IsSent m link at field codeword)
     → IsScattered (code_of link.rows) (frame_soft link tuning symbols) codeword
     → IsDeliveredCertified (frame_decision link tuning symbols) codeword (message_of link.setup.mode sent.codeword_is.bch_word) (header_at link.setup.roll_off at field) field
+
+-- the same two of what was decided of a frame's symbols
+abbrev pub HearsScattered : Link → Tuning → List Symbol → (last : Decision) → Type 0
+HearsScattered link tuning symbols last =
+    (at : ℕ) (field : List ℕ) (codeword : List Bool) (sent : IsSent link.setup.mode link at field codeword) → IsScattered (code_of link.rows) (frame_soft link tuning symbols) codeword
+    → IsDeliveredCertified last codeword (message_of link.setup.mode sent.codeword_is.bch_word) (header_at link.setup.roll_off at field) field
+
+abbrev pub CorrectsWithin : Link → (last : Decision) → Type 0
+CorrectsWithin link last =
+    (at : ℕ) (field : List ℕ) (codeword : List Bool) (sent : IsSent link.setup.mode link at field codeword)
+    → differences (k_of link.setup.mode) (received_word link.setup.mode last.bits) sent.codeword_is.bch_word ≤ t_of link.setup.mode
+    → IsDelivered last (differences (k_of link.setup.mode) (received_word link.setup.mode last.bits) sent.codeword_is.bch_word)
+    (message_of link.setup.mode sent.codeword_is.bch_word) (header_at link.setup.roll_off at field) field
 
 -- each frame of a link is received as it was sent, by each divisor
 abbrev pub HearsLaw : Mode → Type 0

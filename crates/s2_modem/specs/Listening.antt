@@ -1,6 +1,6 @@
 -- What the parts of a receiver hold.
 use Rattle.std.specs.Prelude.{◌≡◌, ℕ, Bool, List, Option, Some, None, IfSome, ℤ}
-use Rattle.s2_mode.specs.Mode.{Mode, k_of, shape_in, HasCodeSizes}
+use Rattle.s2_mode.specs.Mode.{Mode, IsMode, k_of, shape_in, HasCodeSizes}
 use Rattle.s2_mode.specs.declared.symbols.Symbol.{Symbol}
 use Rattle.s2_rows.specs.Rows.{Rows}
 use Rattle.s2_bits.specs.Bits.{differences}
@@ -71,6 +71,7 @@ decision_held m soft bits certificate bch_word d field = record {
 
 -- the stages of a decider are of its mode, the divisor is that of its tuning, and the joiner can take what was delivered last
 pub record IsListening (mode : Mode) (rows : Rows) (tuning : Tuning) (demodulates : Demodulating) (corrects : Mode) (reads : Reading) (last : Decided) : Type 0 where
+  pub valid : IsMode mode
   pub sizes : HasCodeSizes mode
   pub shape : rows.shape ≡ shape_in mode
   pub demodulator : demodulates.mode ≡ mode

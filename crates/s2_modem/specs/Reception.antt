@@ -1,5 +1,5 @@
 -- What a receiver of a link reads, reports and writes, and which setups it refuses.
-use Rattle.std.specs.Prelude.{◌≡◌, IsTrue, ℕ, ℤ, Bool, List, Result, Ok, Err, ⊤}
+use Rattle.std.specs.Prelude.{◌≡◌, IsTrue, ℕ, ℤ, Bool, if◌then◌else◌, List, Option, None, Result, Ok, Err, ⊤}
 use Rattle.s2_mode.specs.Mode.{Mode, k_of, symbols_in}
 use Rattle.s2_mode.specs.Streams.{Streams}
 use Rattle.s2_mode.specs.declared.symbols.Symbol.{Symbol}
@@ -8,10 +8,15 @@ use Rattle.s2_matrix.specs.Code.{Code, code_of}
 use Rattle.s2_check.specs.Cost.{IsMostLikely}
 use Rattle.s2_check.specs.Strict.{IsSole}
 use Rattle.s2_check.specs.Verdicts.{is_certified}
+use Rattle.s2_check.specs.Views.{View}
 use Rattle.s2_check.specs.declared.verdict.Verdict.{Verdict}
 use Rattle.s2_check.specs.declared.verdict.Verdict.TheVariants.{Sole}
-use Rattle.s2_receive.specs.Receiving.{Rules, State, Decision, begun}
+use Rattle.s2_receive.specs.Receiving.{Rules, State, Decision, begun, is_at_frame}
 use Rattle.s2_receive.specs.Answers.{ReceivesTo, BreaksIn}
+use Rattle.s2_receive.specs.declared.report.Fault.{Fault}
+use Rattle.s2_receive.specs.declared.report.Fault.TheVariants as step_faults
+use Rattle.s2_receive.specs.declared.report.Step.{Step}
+use Rattle.s2_receive.specs.declared.report.Step.TheVariants as steps
 use Rattle.s2_receive.specs.declared.report.Totals.{Totals}
 use Rattle.s2_mode.specs.Limits.{most_symbols}
 use Rattle.s2_link.specs.declared.setup.Setup.{Setup}
@@ -44,6 +49,10 @@ pub record Receiver : Type 0 where
 abbrev pub rules_for : Receiver → Rules
 rules_for r = link_rules r.link r.tuning r.limit
 
+-- the certificate that it shows: that of what was decided last, where the last step came to that frame; else none
+abbrev pub certificate_of : Receiver → Option View
+certificate_of r = if is_at_frame r.state.phase then r.last.certificate else None
+
 -- bits are as likely as their verdict says: where it has a certificate no codeword costs less, where it is sole each other one more
 pub record IsAsLikely (code : Code) (soft : List ℤ) (verdict : Verdict) (bits : List Bool) : Type 0 where
   pub likely : IsTrue (is_certified verdict) → IsMostLikely code soft bits
@@ -62,6 +71,13 @@ AllAsLikely link tuning =
 -- strict exactly where they are called sole
 abbrev pub IsCertifiedBy : Rows → Verdict → Decision → Type 0
 IsCertifiedBy rows verdict d = IsShown rows d.soft (record { verdict = verdict; bits = d.bits; certificate = d.certificate })
+
+-- and what a receiver shows behind a step: that of a frame; none where the step came to no frame. What it shows where there was no step,
+-- since an earlier one had a fault or is not delivered, is as before.
+abbrev pub Certifies : Rows → (last : Decision) → (shown : Option View) → Result Step Fault → Type 0
+Certifies rows last shown (Ok (steps.Frame r)) = IsShown rows last.soft (record { verdict = r.verdict; bits = last.bits; certificate = shown })
+Certifies rows last shown (Err step_faults.Failed) = ⊤
+Certifies rows last shown result = shown ≡ None
 
 -- What comes of a frame is what BCH decoding finds of its first Nbch decided bits: a word of the code that differs from them in at most
 -- t places, in just as many as are reported, and begins with the message; or there is none so near.

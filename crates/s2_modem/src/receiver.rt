@@ -1,5 +1,5 @@
 //! The receiver of one link.
-ghost use Rattle.std.specs.Prelude.{◌≡◌, ◌≢◌, ◌↔◌, ◌≤◌, Ok, Err, IfOk, IsErrOf};
+ghost use Rattle.std.specs.Prelude.{◌≡◌, ◌≢◌, ◌↔◌, ◌≤◌, None, Ok, Err, IfOk, OnErr, IsErrOf};
 ghost use Rattle.s2_mode.specs.Counts.{CanCount};
 ghost use Rattle.s2_mode.specs.Limits.{most_symbols};
 ghost use Rattle.s2_mode.specs.Mode.{symbols_in};
@@ -13,7 +13,7 @@ ghost use Rattle.s2_receive.specs.Answers.{OnFrame, Delivers, KeepsLast, OnlyFau
 ghost use Rattle.s2_link.specs.Tuning.{tuning_of};
 ghost use Rattle.s2_modem.specs.Reports.{IsUndecided};
 ghost use Rattle.s2_modem.specs.Listening.{decides};
-ghost use Rattle.s2_modem.specs.Reception.{AllAsLikely, IsLikelyBy, IsCertifiedBy, IsCorrected, link_rules, rules_for, IsNew, Makes};
+ghost use Rattle.s2_modem.specs.Reception.{AllAsLikely, Certifies, IsLikelyBy, IsCorrected, certificate_of, link_rules, rules_for, IsNew, Makes};
 ghost use Rattle.s2_modem.specs.Steps.{Steps, StepsFrame, Runs, Heard, Corrects};
 ghost use Rattle.s2_modem.specs.Promise.{RunsHeadline, Promises};
 
@@ -162,7 +162,7 @@ impl<'a> Receiver<'a> {
             self.old.state self.new.state (R.remaining reader.old) (R.remaining reader.new) self.new.last step) }
         ensures kept { KeepsLast result self.old.last self.new.last }
         ensures likely { OnFrame result (λ r. IsLikelyBy self.old.link.rows r.verdict self.new.last) }
-        ensures certified { OnFrame result (λ r. IsCertifiedBy self.old.link.rows r.verdict self.new.last) }
+        ensures certified { Certifies self.old.link.rows self.new.last (certificate_of self.new) result }
         ensures within { OnFrame result (λ r. IsCorrected self.old.link.setup.mode self.new.last r.outcome) }
         ensures heard { IfOk result (Heard self.old self.new.last (R.remaining reader.old)) }
         ensures both_codes { IfOk result (Corrects self.old self.new.last (R.remaining reader.old)) }
@@ -233,7 +233,7 @@ impl<'a> Receiver<'a> {
             self.old self.new (ends reader.old packets.old report.old) (ends reader.new packets.new report.new) result }
         ensures kept { result ≢ Err faults.Write → KeepsLast result self.old.last self.new.last }
         ensures likely { OnFrame result (λ r. IsLikelyBy self.old.link.rows r.verdict self.new.last) }
-        ensures certified { OnFrame result (λ r. IsCertifiedBy self.old.link.rows r.verdict self.new.last) }
+        ensures certified { Certifies self.old.link.rows self.new.last (certificate_of self.new) result }
         ensures within { OnFrame result (λ r. IsCorrected self.old.link.setup.mode self.new.last r.outcome) }
         ensures heard { IfOk result (Heard self.old self.new.last (R.remaining reader.old)) }
         ensures both_codes { IfOk result (Corrects self.old self.new.last (R.remaining reader.old)) }
@@ -261,7 +261,8 @@ impl<'a> Receiver<'a> {
     /// memory.
     ///
     /// After a fault what was met before it is written whole: after `Read`, which comes as in
-    /// [`Receiver::meet`], nothing else is, after `Write` a part of the next packets or line is.
+    /// [`Receiver::meet`], nothing else is, after `Write` a part of the next packets or line is; and the receiver counts as
+    /// failed. No certificate is lent after it, since its last step came to no frame.
     pub fn run<R: CountedRead, P: CountedWrite, W: CountedWrite>(
         &mut self,
         reader: &mut R,
@@ -274,6 +275,8 @@ impl<'a> Receiver<'a> {
         requires live { IsLive self.old.state.phase }
         ensures runs { let ends = streams_by R.remaining R.count P.contents P.count W.contents W.count in Runs
             self.old self.new (ends reader.old packets.old report.old) (ends reader.new packets.new report.new) result }
+        ensures stopped { OnErr result (self.new.state.phase ≡ phases.Failed) }
+        ensures uncertified { certificate_of self.new ≡ None }
         ensures bounded { self.new.state.at ≤ self.old.limit }
         ensures headline { let at = streams_by R.remaining R.count P.contents P.count W.contents W.count in
             RunsHeadline self.old (at reader.old packets.old report.old) (at reader.new packets.new report.new) result }
@@ -301,12 +304,17 @@ impl<'a> Receiver<'a> {
         self.inner.decider().word()
     }
 
-    /// The certificate of the last frame's decided bits: `Some` exactly where it was reported sole or most likely. It can
-    /// be checked ([`s2_check::check`]), and written to a file. It stays as they do; `None` before the first frame.
+    /// The certificate of the decided bits of the frame that the last step came to: `Some` exactly where that step reported
+    /// a frame, met or delivered, as sole or most likely. It can be checked ([`s2_check::check`]), and written to a file.
+    /// Before the first step, after a cut frame, the end and a fault it is `None`.
     pub fn certificate(&self) -> Option<CertView<'_>>
-        ensures { result ≡ self.now.last.certificate }
+        ensures { result ≡ certificate_of self.now }
     {
-        self.inner.decider().certificate()
+        if self.inner.is_at_frame() {
+            self.inner.decider().certificate()
+        } else {
+            None
+        }
     }
 
     /// The message that BCH decoding left of the last frame's decided bits, Kbch bits, still scrambled; it stays as they do.

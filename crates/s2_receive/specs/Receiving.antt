@@ -19,6 +19,7 @@ use Rattle.s2_check.specs.declared.verdict.Verdict.{Verdict}
 use Rattle.s2_check.specs.Verdicts.{is_certified}
 use Rattle.s2_check.specs.Views.{View}
 use Rattle.s2_receive.specs.declared.finding.Next.{Next}
+use Rattle.s2_receive.specs.declared.finding.Next.TheVariants as nexts
 use Rattle.s2_receive.specs.declared.report.Outcome.{Outcome}
 use Rattle.s2_receive.specs.declared.report.Outcome.TheVariants as outcomes
 use Rattle.s2_receive.specs.declared.report.Report.{Report}
@@ -201,6 +202,12 @@ abbrev pub phase_after : Met → Phase
 phase_after (frame at over symbols) = phases.Searching
 phase_after (cut at over count) = phases.Closing
 phase_after (ended over) = phases.Ended
+
+-- the last step came to a frame, met or told, or none was taken yet: what was decided last is that frame's
+abbrev pub is_at_frame : Phase → Bool
+is_at_frame phases.Searching = true
+is_at_frame (phases.Met (nexts.Frame at over)) = true
+is_at_frame phase = false
 
 -- whether no frame comes any more
 abbrev pub rank : Phase → ℕ

@@ -3,6 +3,7 @@ ghost use Rattle.std.specs.Prelude.{◌≡◌, ◌*◌, ◌<◌, ◌≤◌, OnOk
 ghost use Rattle.s2_mode.specs.Counts.{CanCount};
 ghost use Rattle.s2_mode.specs.Streams.{streams_by, NoneFailed, OneFailed};
 ghost use Rattle.s2_receive.specs.Receiving.{IsLive, begun, is_well, rules_of};
+ghost use Rattle.s2_receive.specs.declared.report.Phase.TheVariants as phases;
 ghost use Rattle.s2_receive.specs.Answers.{Between, Runs, OnlyStreamFaults, ReceivesBytes, bytes_by};
 
 use crate::parts::Decide;
@@ -41,6 +42,7 @@ pub fn receive_all<D: Decide, R: CountedRead, P: CountedWrite, W: CountedWrite>(
         W.contents W.count reader.old packets.old report.old reader.new packets.new report.new result }
     ensures counts { let ends = streams_by R.remaining R.count P.contents P.count W.contents W.count in
         OnlyStreamFaults result (ends reader.old packets.old report.old) (ends reader.new packets.new report.new) }
+    ensures stopped { OnErr result (receiver.new.state.phase ≡ phases.Failed) }
     ensures bounded { receiver.new.state.at ≤ receiver.old.limit }
     ensures rules { rules_of D.decide receiver.new ≡ rules_of D.decide receiver.old }
     ensures same { (receiver.new.mode ≡ receiver.old.mode) × (receiver.new.lock ≡ receiver.old.lock)

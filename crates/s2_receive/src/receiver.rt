@@ -9,7 +9,7 @@ ghost use Rattle.s2_receive.specs.declared.finding.Next.TheVariants as next;
 ghost use Rattle.s2_receive.specs.declared.report.Phase.TheVariants as phases;
 ghost use Rattle.s2_receive.specs.Meeting.{nothing_over};
 ghost use Rattle.s2_receive.specs.Stepping.{place_of};
-ghost use Rattle.s2_receive.specs.Receiving.{IsLive, Finds, Stops, StandsBehind, begun, rules_of};
+ghost use Rattle.s2_receive.specs.Receiving.{IsLive, Finds, Stops, StandsBehind, begun, is_at_frame, rules_of};
 ghost use Rattle.s2_receive.specs.Answers.{Between, Delivers, FindsStep, KeepsLast, Steps, StepsFrame, OnlyFaults};
 
 use crate::finder::Finder;
@@ -124,6 +124,17 @@ impl<D: Decide> Receiver<D> {
         ensures { result.now ≡ self.now.decider }
     {
         &self.decider
+    }
+
+    /// Whether the last step came to a frame, met or delivered, which then is what was decided last: not after a cut
+    /// frame, the end, or a fault. So it is, too, before the first step.
+    pub fn is_at_frame(&self) -> bool
+        ensures { result ≡ is_at_frame self.now.state.phase }
+    {
+        matches!(
+            self.place.phase,
+            Phase::Searching | Phase::Met(Next::Frame { .. })
+        )
     }
 
     /// The first half of a step: finds what comes next, a frame, one that lacks symbols, or the end, and decides a

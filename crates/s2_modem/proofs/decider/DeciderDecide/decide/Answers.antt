@@ -1,21 +1,71 @@
-use Rattle.s2_modem.proofs.Names.{◌≡◌, length, refl, ap, ◌∙◌, refilled, Link, received_payload, soft_values, delivered_of, frame_soft, frame_decision, received_word, FindsWord, Reads, Listening}
-use Rattle.s2_modem.proofs.DecisionLemmas.{frame_decided}
+use Rattle.s2_modem.proofs.Names.{◌≡◌, ◌≤◌, length, sym, refl, ap, subst, ◌∙◌, refilled, Link, IsMode, HasCodeSizes, code_of, k_of, t_of, differences, received_payload, soft_values, header_at, Decision, IsAsLikely, IsCorrected, IsDelivered, IsDeliveredCertified, frame_soft, frame_decision, received_word, message_of, FindsWord, Reads, Listening, decides, decision_held}
+use Rattle.s2_modem.proofs.CleanFrames.{found_corrected, scattered_law, both_codes_law}
+use Rattle.s2_modem.proofs.DecisionLemmas.{frame_decided, as_likely_on, received_long}
 use Rattle.s2_modem.proofs.decider.DeciderDecide.decide.Goals as goal
+use Rattle.s2_modem.proofs.decider.DeciderDecide.decide.Goals.{After-decide-self-inside}
+
+module _ (c : After-decide-self-inside) where
+  abbrev link : Link
+  link = record { setup = record { mode = c.self.inside.mode; number = c.self.inside.demodulator.number; roll_off = c.self.inside.roll_off }; rows = c.self.inside.judge.rows }
+
+  soft_is : c.decide-verdict.new.self.soft ≡ frame_soft link c.self.inside.judge.tuning c.args.symbols.now
+  soft_is =
+      let so = c.self.invariant in
+      let before = c.self.inside.judge.soft in
+      let values = refilled (length before) c.find_soft.new.soft before refl (c.find_soft.auto.soft ∙ ap length c.soft_mut.ensures.is) in
+      c.decide-verdict.ensures.soft ∙ values ∙ c.find_soft.ensures.is ∙ (λ i. soft_values (so.divisor i) (so.demodulator i) (received_payload (so.demodulator i) c.self.inside.demodulator.number c.args.symbols.now))
+
+  abbrev decision : Decision
+  decision = decision_held c.self.inside.mode c.decide-verdict.new.self.soft c.decide-verdict.new.self.bits c.decide-verdict.new.self.certificate c.correct-found.new.self.word c.decide-self-inside.result c.decide-self-inside.new.self.field
+
+  finds : FindsWord c.self.inside.mode (received_word c.self.inside.mode c.decide-verdict.new.self.bits) c.correct-found.new.self.word c.correct-found.result
+  finds = rw (c.self.invariant.corrector, c.word.ensures.is) at c.correct-found.ensures.nearest
+
+  reads : Reads c.self.inside.mode c.correct-found.new.self.word c.correct-found.result decision.outcome decision.delivered
+  reads = rw (c.self.invariant.reader, c.word-2.ensures.is) at c.decide-self-inside.ensures.reads
+
+  is_decided : decision ≡ decides c.args.self.now c.args.symbols.now
+  is_decided =
+      let was = c.decide-verdict in
+      frame_decided link c.self.inside.judge.tuning c.args.symbols.now was.new.self.soft _ was.new.self.bits c.decide-self-inside.result.verdict was.new.self.certificate
+      c.correct-found.new.self.word c.correct-found.result decision.outcome decision.delivered
+      was.ensures.soft (sym was.ensures.soft ∙ soft_is) (c.decide-self-inside.ensures.verdict ∙ was.ensures.verdict) was.ensures.bits was.ensures.certificate finds reads
+      ∙ ap (λ (l : Listening). frame_decision l.link l.tuning c.args.symbols.now) c.self.view_is
+
+  of_mode : IsMode c.args.self.now.link.setup.mode × HasCodeSizes c.args.self.now.link.setup.mode
+  of_mode = subst (λ (l : Listening). IsMode l.link.setup.mode × HasCodeSizes l.link.setup.mode) c.self.view_is (c.self.invariant.valid, c.self.invariant.sizes)
 
 pub returns-clause-last : goal.returns-clause-last
-returns-clause-last c =
-    let d = c.self.inside in
-    let so = c.self.invariant in
-    let link : Link = record { setup = record { mode = d.mode; number = d.demodulator.number; roll_off = d.roll_off }; rows = d.judge.rows } in
-    let before = d.judge.soft in
-    let values = refilled (length before) c.find_soft.new.soft before refl (c.find_soft.auto.soft ∙ ap length c.soft_mut.ensures.is) in
-    let soft_is : c.find_soft.new.soft ≡ frame_soft link d.judge.tuning c.args.symbols.now =
-    c.find_soft.ensures.is ∙ (λ i. soft_values (so.divisor i) (so.demodulator i) (received_payload (so.demodulator i) d.demodulator.number c.args.symbols.now)) in
+returns-clause-last c = is_decided (goal.at.returns-clause-last c).After-decide-self-inside
+
+pub returns-clause-likely : goal.returns-clause-likely
+returns-clause-likely c =
     let was = c.decide-verdict in
-    let found = c.correct-found in
-    let finds : FindsWord d.mode (received_word d.mode was.new.self.bits) found.new.self.word found.result = rw (so.corrector, c.word.ensures.is) at found.ensures.nearest in
-    let r = c.decide-self-inside in
-    let reads : Reads d.mode found.new.self.word found.result r.result.outcome (delivered_of r.result.header r.new.self.field) = rw (so.reader, c.word-2.ensures.is) at r.ensures.reads in
-    frame_decided link d.judge.tuning c.args.symbols.now was.new.self.soft _ was.new.self.bits r.result.verdict was.new.self.certificate found.new.self.word found.result r.result.outcome (delivered_of r.result.header r.new.self.field)
-    was.ensures.soft (values ∙ soft_is) (r.ensures.verdict ∙ was.ensures.verdict) was.ensures.bits was.ensures.certificate finds reads
-    ∙ ap (λ (l : Listening). frame_decision l.link l.tuning c.args.symbols.now) c.self.view_is
+    subst (λ (l : Listening). IsAsLikely (code_of l.link.rows) (frame_soft l.link l.tuning c.args.symbols.now) c.decide-self-inside.result.verdict was.new.self.bits) c.self.view_is
+    (as_likely_on (code_of c.self.inside.judge.rows) _ _ was.result c.decide-self-inside.result.verdict was.new.self.bits (sym was.ensures.soft ∙ soft_is (goal.at.returns-clause-likely c).After-decide-self-inside) c.decide-self-inside.ensures.verdict was.ensures.likely was.ensures.sole)
+
+pub returns-clause-within : goal.returns-clause-within
+returns-clause-within c =
+    let k = (goal.at.returns-clause-within c).After-decide-self-inside in
+    let so = c.self.invariant in
+    let long = received_long c.self.inside.mode c.self.inside.judge.rows c.decide-verdict.new.self.bits so.sizes so.shape (rw (c.word.ensures.is, c.decide-verdict.ensures.rows) at c.word.ensures.long) in
+    subst (λ (l : Listening). IsCorrected l.link.setup.mode (decision k) (decision k).outcome) c.self.view_is
+    (found_corrected c.self.inside.mode so.valid so.sizes (decision k) c.correct-found.new.self.word c.correct-found.result (decision k).delivered long refl (finds k) (reads k))
+
+pub returns-clause-heard : goal.returns-clause-heard
+returns-clause-heard c = λ at field codeword sent scattered.
+    let k = (goal.at.returns-clause-heard c).After-decide-self-inside in
+    let l = c.args.self.now.link in
+    let (valid, sizes) = of_mode k in
+    subst (λ d. IsDeliveredCertified d codeword (message_of l.setup.mode sent.codeword_is.bch_word) (header_at l.setup.roll_off at field) field) (sym (is_decided k))
+    (scattered_law l.setup.mode valid sizes l c.args.self.now.tuning at c.args.symbols.now field codeword sent scattered)
+
+pub returns-clause-both_codes : goal.returns-clause-both_codes
+returns-clause-both_codes c = λ at field codeword sent few.
+    let k = (goal.at.returns-clause-both_codes c).After-decide-self-inside in
+    let l = c.args.self.now.link in
+    let m = l.setup.mode in
+    let word = sent.codeword_is.bch_word in
+    let (valid, sizes) = of_mode k in
+    subst (λ (d : Decision). differences (k_of m) (received_word m d.bits) word ≤ t_of m → IsDelivered d (differences (k_of m) (received_word m d.bits) word) (message_of m word) (header_at l.setup.roll_off at field) field) (sym (is_decided k))
+    (both_codes_law m valid sizes l c.args.self.now.tuning at c.args.symbols.now field codeword sent) few

@@ -1,12 +1,13 @@
+use Rattle.s2_modem.proofs.Names.{ap}
 use Rattle.s2_modem.proofs.StepPromises.{IsPromised, next_promised}
 use Rattle.s2_modem.proofs.receiver.Receiver.next.Given.{Over}
 use Rattle.s2_modem.proofs.receiver.Receiver.next.Goals as goal
 use Rattle.s2_modem.proofs.receiver.Receiver.next.Goals.{After-next}
 
-promise : (g : Over) (c : After-next g) → IsPromised c.args.self.now c.next.new.self.decider.last (g.R.CountedRead.remaining c.args.reader.now) c.next.result
+promise : (g : Over) (c : After-next g) → IsPromised c.args.self.now c.next.new.self.decider.last c.next.new.self.state.phase (g.R.CountedRead.remaining c.args.reader.now) c.next.result
 promise g c =
     let n = c.next in
-    next_promised _ _ n.new.self.decider.last n.result c.self.view_is c.self.invariant.1 _ c.self.invariant.0 n.ensures.ended n.ensures.failed n.new.self.state _ _ n.ensures.live n.ensures.frame
+    next_promised _ _ n.new.self.decider.last n.result c.self.view_is c.self.invariant.1 _ c.self.invariant.0 n.ensures.ended n.ensures.failed n.new.self.state _ _ n.ensures.live n.ensures.frame (λ idle. ap (λ r. r.state) (n.ensures.nothing idle).0)
 
 pub returns-clause-likely : goal.returns-clause-likely
 returns-clause-likely g c = (promise g (goal.at.returns-clause-likely g c).After-next).likely
