@@ -37,7 +37,7 @@ fn accept_next<R: CountedRead>(
     reader: &mut R,
 ) -> Result<bool, SendFault>
     requires reader { CanCount (R.count reader.old) }
-    requires number { packets < 2 ^ 64 - 1 }
+    requires number { CanCount packets }
     requires not_ready { length slicer.old.waiting < slicer.old.size }
     requires not_closed { slicer.old.closed ≡ false }
     ensures accepts { AcceptsNext packets slicer.old slicer.new (R.remaining reader.old) (R.remaining reader.new) result }

@@ -1,5 +1,6 @@
 //! Where a reader of a text is.
 ghost use Rattle.std.specs.Prelude.{◌≡◌, ◌≢◌, ◌+◌, ◌-◌, ◌^◌, ◌<◌, ◌≤◌, [], ℕ, List};
+ghost use Rattle.s2_mode.specs.Counts.{CanCount};
 ghost use Rattle.s2_rows.specs.Text.{is_space, lines_of};
 ghost use Rattle.s2_rows.specs.Values.{tokens_from};
 ghost use Rattle.s2_skim.specs.Words.{word_of, IsAt, words_left, GoesOn, Ends};
@@ -41,7 +42,7 @@ impl Place {
 
     /// Passes a byte, and gives the word that ends before it, if one does.
     pub(crate) fn pass(&mut self, byte: u8) -> Option<Word>
-        requires { self.old.number < 2 ^ 64 - 1 }
+        requires { CanCount self.old.number }
         ensures on { (bytes : List ℕ) → IsAt self.old bytes → GoesOn self.old bytes byte result self.new }
         ensures numbered { self.new.number ≤ self.old.number + 1 }
     {

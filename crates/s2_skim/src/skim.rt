@@ -40,7 +40,7 @@ fn take_ended<S: Skim>(skim: &mut S, line: u64, word: Option<Word>)
 
 /// Passes a byte, and takes the word that ends before it, if one does.
 fn pass<S: Skim>(skim: &mut S, place: &mut Place, byte: u8)
-    requires { place.old.number < 2 ^ 64 - 1 }
+    requires { CanCount place.old.number }
     ensures on { Passes (S.fault skim.old) (S.fault skim.new) place.old place.new (byte ∷ []) }
     ensures numbered { place.new.number ≤ place.old.number + 1 }
 {
