@@ -31,6 +31,6 @@ pub use Rattle.s2_tool.specs.Looping.{Loops, kept_fault}
 pub use Rattle.s2_tool.specs.Losses.{Finishes, exit_by, notes_of}
 pub use Rattle.s2_tool.specs.Receptions.{Hears}
 pub use Rattle.s2_tool.specs.Sending.{Sends, transmitter_on}
-pub use Rattle.s2_tool.specs.Serving.{Began, Channels, IsPlaced, Receipts, Reports, Served, Serves, Unbegun, asked_setup, noise_asked, written_first}
+pub use Rattle.s2_tool.specs.Serving.{Began, Channels, IsPlaced, Receipts, Reports, Served, Serves, Unbegun, asked_setup, noise_asked, reported, written_first}
 pub use Rattle.s2_tool.specs.Spoiling.{NoiseEnds, Spoils, piped}
 pub use Rattle.s2_console.specs.declared.fault.Fault.TheVariants as faults

@@ -16,6 +16,7 @@ use Rattle.s2_evidence.specs.Inputs.{rows_in, IsAccepted}
 use Rattle.s2_files.specs.Known.{Holdings, Leavings}
 use Rattle.s2_files.specs.Opening.{Asked}
 use Rattle.s2_files.specs.declared.uses.Role.TheVariants as roles
+use Rattle.s2_tool.specs.declared.memory.Memory.{Memory}
 
 -- ---- the files
 
@@ -78,6 +79,10 @@ abbrev pub Causes : {T : Type 0} → Streams → Streams → Result T Fault → 
 Causes old new ended = OnlyFailed (ended ≡ Err faults.Read) (ended ≡ Err faults.Write) old new
 
 -- ---- the link
+
+-- there was no memory for what was asked for meanwhile
+abbrev pub Lacks : (old new : Memory) → Type 0
+Lacks old new = new.refused ≢ old.refused
 
 -- a link on these rows, or why there are none
 abbrev pub link_on : Setup → Result Rows Fault → Result Link Fault

@@ -63,18 +63,18 @@ ReadsThrough old new ended =
     (packets : List (List ℕ)) × (refusal : Option SendFault) × Reads old new packets refusal
     × (ended ≡ Err (fault_without_memory refusal)) × (new.given ≡ old.given) × (new.out ≡ old.out)
 
--- `mod` on a link, with dummy frames
-abbrev pub Sends : ℕ → LinkCommand Exit
-Sends dummy (Some link) old new ended = SendsBy (transmitter_on link dummy) old new ended
-Sends dummy None old new ended = ReadsThrough old new ended
+-- `mod` on a link, with dummy frames, or on none, just where memory lacked
+abbrev pub Sends : (lacking : Type 0) → ℕ → LinkCommand Exit
+Sends lacking dummy (Some link) old new ended = SendsBy (transmitter_on link dummy) old new ended
+Sends lacking dummy None old new ended = lacking × ReadsThrough old new ended
 
 -- `mod` on a setup, with dummy frames, and these files
-abbrev pub Modulates : Setup → ℕ → Ends → Ends → Streams → Streams → Result Exit Fault → Type 0
-Modulates setup dummy files left old new ended = OnLink (Sends dummy) setup files left old new ended
+abbrev pub Modulates : (lacking : Type 0) → Setup → ℕ → Ends → Ends → Streams → Streams → Result Exit Fault → Type 0
+Modulates lacking setup dummy files left old new ended = OnLink (Sends lacking dummy) setup files left old new ended
 
 -- `mod` has ended: so it sent, with its counts at this place, and behind them stand the note and of a fault the line
-abbrev pub ModEnds : Setup → ModWords → Place → Ends → Ends → Screen → Screen → Exit → Type 0
-ModEnds setup words place files left old new exit =
+abbrev pub ModEnds : (lacking : Type 0) → Setup → ModWords → Place → Ends → Ends → Screen → Screen → Exit → Type 0
+ModEnds lacking setup words place files left old new exit =
     (ended : Result Exit Fault) × (shown : Screen) × (exit ≡ exit_of ended)
-    × Modulates setup words.dummy files left (streams_at place files old) (streams_at place left shown) ended
+    × Modulates lacking setup words.dummy files left (streams_at place files old) (streams_at place left shown) ended
     × Concludes place (notes_on words.quiet setup.mode ended) ended old shown new

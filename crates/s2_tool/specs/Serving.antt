@@ -13,9 +13,9 @@ use Rattle.s2_console.specs.declared.exit.Exit.{Exit}
 use Rattle.s2_console.specs.declared.exit.Exit.TheVariants as exits
 use Rattle.s2_console.specs.declared.fault.Fault.{Fault}
 use Rattle.s2_console.specs.declared.fault.Fault.TheVariants as faults
-use Rattle.s2_console.specs.Exits.{exit_of, CommandRuns, Complains}
+use Rattle.s2_console.specs.Exits.{exit_of, CommandRuns, CommandCounts, Complains}
 use Rattle.s2_console.specs.Notes.{Concludes}
-use Rattle.s2_console.specs.Screens.{Screen, report_in}
+use Rattle.s2_console.specs.Screens.{Screen, report_in, report_failed}
 use Rattle.s2_console.specs.declared.place.Place.{Place}
 use Rattle.s2_console.specs.declared.place.Place.TheVariants as places
 use Rattle.s2_files.specs.Known.{Holdings, Leavings, LeftWhole, LeftPart}
@@ -34,7 +34,7 @@ use Rattle.s2_words.specs.declared.request.ChannelWords.{ChannelWords}
 use Rattle.s2_words.specs.declared.request.NoteWords.{NoteWords}
 use Rattle.s2_receive.specs.declared.report.Received.{Received}
 use Rattle.s2_words.specs.declared.request.ShapeWords.{ShapeWords}
-use Rattle.s2_evidence.specs.Files.{Written, JudgeFiles, CheckFiles}
+use Rattle.s2_evidence.specs.Files.{Written, JudgeFiles, CheckFiles, failed_in}
 use Rattle.s2_evidence.specs.Inputs.{AreInputs, IsAccepted, AreAccepted, rows_in, values_in}
 use Rattle.s2_evidence.specs.Certifying.{Certifies}
 use Rattle.s2_evidence.specs.Judging.{IsJudged, IsOwn}
@@ -115,34 +115,34 @@ NotSpoilt tells words f =
     CannotOpenOne tells (noise_asked words) [] f ⊎ (OpensAll tells (noise_asked words) × ((f ≡ faults.NoMemory) ⊎ (f ≡ faults.Write)))
 
 -- a command that could not be begun, for such a fault: nothing is printed, and nothing noted
-abbrev pub NotBegun : (Fault → Type 0) → List ℕ → Result Exit Fault → Option (List ℕ) → Option (List ℕ) → Type 0
+abbrev pub NotBegun : (Fault → Type 0) → List ℕ → Result Exit Fault → Written → Written → Type 0
 NotBegun Why notes (Ok exit) old new = ⊥
 NotBegun Why notes (Err f) old new = Why f × (notes ≡ []) × (new ≡ old)
 
--- ---- what is said of a request; `Left` says of its files with what they were let go
+-- ---- what is said of a request, from what stands in its report before to what stands there behind it; `Left` says of its files with what
+-- they were let go
+
+-- what stands in a report at this place, and how many of its calls have failed
+abbrev pub reported : Place → Screen → Written
+reported place screen = record { contents = report_in place screen; failed = report_failed place screen }
 
 -- The output of a command on a link of this setup and these files, and how it ended: what the command does of them. They were let go
 -- with what was left of them then, and with what the writer had taken.
-abbrev pub Reports : {T : Type 0} → LinkCommand T → Setup → Ends → (Ends → Type 0) → Result T Fault → Option (List ℕ) → Option (List ℕ) → Type 0
+abbrev pub Reports : {T : Type 0} → LinkCommand T → Setup → Ends → (Ends → Type 0) → Result T Fault → Written → Written → Type 0
 Reports {T} Does setup files Left ended old new =
-    (failed : ℕ) × (later : ℕ) × (left : Ends)
-    × OnLink Does setup files left (streams_with files old failed) (streams_with left new later) ended × Left left
+    (left : Ends) × OnLink Does setup files left (streams_with files old.contents old.failed) (streams_with left new.contents new.failed) ended × Left left
 
 -- The output of a command that receives so, its notes, and how it ended.
-abbrev pub Receipts : NoteWords → Setup → Ends → (Ends → Type 0) → LinkCommand Received → List ℕ → Result Exit Fault → Option (List ℕ) → Option (List ℕ) → Type 0
+abbrev pub Receipts : NoteWords → Setup → Ends → (Ends → Type 0) → LinkCommand Received → List ℕ → Result Exit Fault → Written → Written → Type 0
 Receipts words setup files Left Does notes ended old new =
     (heard : Result Received Fault) × Reports Does setup files Left heard old new × Answered words setup.mode heard ended notes
 
--- a failed read is told only where one failed, of so many
-abbrev pub TellsRead : Result Exit Fault → ℕ → Type 0
-TellsRead ended failed = ended ≡ Err faults.Read → failed ≡ 1
-
 -- Whether the rows of a file are the standard's for the code of a mode.
-abbrev pub Compares : Mode → Option (List ℕ) → (Option (List ℕ) → ℕ → Type 0) → Result Exit Fault → Option (List ℕ) → Option (List ℕ) → Type 0
+abbrev pub Compares : Mode → Option (List ℕ) → (Option (List ℕ) → ℕ → Type 0) → Result Exit Fault → Written → Written → Type 0
 Compares mode rows Left ended old new =
-    CommandRuns (IsTold mode) (AreRowsIn (shape_in mode) rows) ended old new
+    CommandRuns (IsTold mode) (AreRowsIn (shape_in mode) rows) ended old.contents new.contents
     × (ended ≡ Err faults.NoMemory → IsAccepted rows (rows_in (shape_in mode)))
-    × ((left : Option (List ℕ)) × (failed : ℕ) × Left left failed × TellsRead ended failed)
+    × ((left : Option (List ℕ)) × (failed : ℕ) × Left left failed × CommandCounts ended 0 failed old.failed new.failed)
 
 -- the files of `check` were let go
 abbrev pub LeftChecked : Leavings → CheckWords → CheckFiles → Type 0
@@ -150,11 +150,11 @@ LeftChecked leaves words left =
     leaves roles.Input words.rows.now left.rows left.rows_failed × leaves roles.Input words.certificate.now left.certificate left.certificate_failed
 
 -- What the checker finds of a certificate's file, by a row file.
-abbrev pub Examines : CheckFiles → (CheckFiles → Type 0) → Result Exit Fault → Option (List ℕ) → Option (List ℕ) → Type 0
+abbrev pub Examines : CheckFiles → (CheckFiles → Type 0) → Result Exit Fault → Written → Written → Type 0
 Examines files Left ended old new =
-    CommandRuns IsAnswered (AreCheckInputs files.rows files.certificate) ended old new
+    CommandRuns IsAnswered (AreCheckInputs files.rows files.certificate) ended old.contents new.contents
     × (ended ≡ Err faults.NoMemory → AreBothAccepted files.rows files.certificate)
-    × ((left : CheckFiles) × Left left × TellsRead ended (left.rows_failed + left.certificate_failed))
+    × ((left : CheckFiles) × Left left × CommandCounts ended 0 (left.rows_failed + left.certificate_failed) old.failed new.failed)
 
 -- a file that may be asked for: it was let go with what is said to stand in it
 abbrev pub LeftAsked : Leavings → Option (Bor (List ℕ)) → Option Written → Type 0
@@ -171,12 +171,13 @@ LeftJudged leaves words left =
 
 -- The verdict on soft values of a file by the tuning of the words, and their certificate in the file that was asked for, which was
 -- let go with it.
-abbrev pub Judges : JudgeWords → JudgeFiles → (JudgeFiles → Type 0) → Result Exit Fault → Option (List ℕ) → Option (List ℕ) → Type 0
+abbrev pub Judges : JudgeWords → JudgeFiles → (JudgeFiles → Type 0) → Result Exit Fault → Written → Written → Type 0
 Judges words files Left ended old new =
-    (left : JudgeFiles) × CommandRuns (IsJudged words.tuning) (AreInputs (asked_shape words.shape) files.rows files.soft) ended old new
+    (left : JudgeFiles) × CommandRuns (IsJudged words.tuning) (AreInputs (asked_shape words.shape) files.rows files.soft) ended old.contents new.contents
     × (ended ≡ Err faults.NoMemory → AreAccepted (asked_shape words.shape) files.rows files.soft)
     × Certifies words.tuning (AreInputs (asked_shape words.shape) files.rows files.soft) ended files.certificate left.certificate
-    × Left left × TellsRead ended (left.rows_failed + left.soft_failed)
+    × Left left
+    × CommandCounts ended 0 (left.rows_failed + left.soft_failed) (failed_in files.certificate + old.failed) (failed_in left.certificate + new.failed)
 
 -- Symbols are spoilt by the channel of the words. The file that is read was let go with what was left of it. The file that is written was
 -- let go with all of them where the exit is fine, and else with a first part, since what is left in the buffer at the end may not be
@@ -193,41 +194,43 @@ Channels channel from to LeftFrom LeftTo ended =
 -- go, by its name, with what the command says is left of it, or that its writer took; or it could not be begun.
 -- Where its words have no mode or no shape, just that is told, and want of memory not in its place. Nor is it told in place of
 -- what the rows, values, certificate or packets are refused for that standard input or a file holds.
-abbrev pub Serves : Holdings → Tells → Leavings → Request → Option (List ℕ) → List ℕ → Result Exit Fault → Option (List ℕ) → Option (List ℕ) → Type 0
-Serves holds tells leaves requests.Own input notes ended old new =
-    (notes ≡ []) × CommandRuns IsOwn (AreInputs (shape_of 4 2 3) (Some (codes "0 4 8\n0 1 2\n")) input) ended old new
+abbrev pub Serves : Holdings → Tells → Leavings → (lacking : Type 0) → Request → Option (List ℕ) → List ℕ → Result Exit Fault → Written → Written → Type 0
+Serves holds tells leaves lacking requests.Own input notes ended old new =
+    (notes ≡ []) × CommandRuns IsOwn (AreInputs (shape_of 4 2 3) (Some (codes "0 4 8\n0 1 2\n")) input) ended old.contents new.contents
     × (ended ≡ Err faults.NoMemory → IsAccepted input (values_in (shape_of 4 2 3)))
-Serves holds tells leaves (requests.Modes words) input notes ended old new = (notes ≡ []) × CommandRuns IsListed (IsAsked words.rate) ended old new
-Serves holds tells leaves (requests.Rows words) input notes ended old new =
+    × ((reads : ℕ) × (reads_after : ℕ) × CommandCounts ended reads reads_after old.failed new.failed)
+Serves holds tells leaves lacking (requests.Modes words) input notes ended old new =
+    (notes ≡ []) × CommandRuns IsListed (IsAsked words.rate) ended old.contents new.contents × CommandCounts ended 0 0 old.failed new.failed
+Serves holds tells leaves lacking (requests.Rows words) input notes ended old new =
     (IsShape (asked_shape words.shape) × (notes ≡ [])
-    × MakesRows (asked_shape words.shape) words.weight words.seed ended old new)
+    × MakesRows (asked_shape words.shape) words.weight words.seed ended old.contents new.contents × CommandCounts ended 0 0 old.failed new.failed)
     ⊎ NotBegun (NotOf (asked_shape words.shape) (λ f. ⊥)) notes ended old new
-Serves holds tells leaves (requests.Table words) input notes ended old new =
+Serves holds tells leaves lacking (requests.Table words) input notes ended old new =
     (IsMode (table_mode words) × OpensAll tells (rows_asked words.rows) × (notes ≡ notes_on words.quiet (table_mode words) ended)
     × Compares (table_mode words) (holds roles.Input words.rows.now) (leaves roles.Input words.rows.now) ended old new)
     ⊎ NotBegun (NotOn (table_mode words) (CannotOpenOne tells (rows_asked words.rows) [])) notes ended old new
-Serves holds tells leaves (requests.Judge words) input notes ended old new =
+Serves holds tells leaves lacking (requests.Judge words) input notes ended old new =
     (IsShape (asked_shape words.shape) × OpensAll tells (judge_asked words) × (notes ≡ [])
     × Judges words (judge_files holds words) (LeftJudged leaves words) ended old new)
     ⊎ NotBegun (NotOf (asked_shape words.shape) (CannotOpenOne tells (judge_asked words) [])) notes ended old new
-Serves holds tells leaves (requests.Check words) input notes ended old new =
+Serves holds tells leaves lacking (requests.Check words) input notes ended old new =
     (OpensAll tells (check_asked words) × (notes ≡ []) × Examines (check_files holds words) (LeftChecked leaves words) ended old new)
     ⊎ NotBegun (CannotOpenOne tells (check_asked words) []) notes ended old new
-Serves holds tells leaves (requests.Mod words) input notes ended old new =
+Serves holds tells leaves lacking (requests.Mod words) input notes ended old new =
     (IsMode (asked_setup words.link).mode × OpensAll tells (asked_of words.rows words.packets words.symbols)
     × (notes ≡ notes_on words.quiet (asked_setup words.link).mode ended)
-    × Reports (Sends words.dummy) (asked_setup words.link) (ends_of holds words.rows words.packets words.symbols) (LeftLink leaves words.rows words.packets words.symbols) ended old new)
+    × Reports (Sends lacking words.dummy) (asked_setup words.link) (ends_of holds words.rows words.packets words.symbols) (LeftLink leaves words.rows words.packets words.symbols) ended old new)
     ⊎ NotBegun (NotOn (asked_setup words.link).mode (CannotOpenOne tells (asked_of words.rows words.packets words.symbols) [])) notes ended old new
-Serves holds tells leaves (requests.Noise words) input notes ended old new =
+Serves holds tells leaves lacking (requests.Noise words) input notes ended old new =
     (notes ≡ []) × (new ≡ old)
     × ((OpensAll tells (noise_asked words)
     × Channels words.channel (holds roles.Input words.from.now) (holds roles.Output words.to.now) (leaves roles.Input words.from.now) (leaves roles.Output words.to.now) ended)
     ⊎ NotBegun (NotSpoilt tells words) notes ended old new)
-Serves holds tells leaves (requests.Demod words) input notes ended old new =
+Serves holds tells leaves lacking (requests.Demod words) input notes ended old new =
     (IsMode (asked_setup words.link).mode × OpensAll tells (asked_of words.rows words.symbols words.packets)
     × Receipts words.notes (asked_setup words.link) (ends_of holds words.rows words.symbols words.packets) (LeftLink leaves words.rows words.symbols words.packets) (Hears words.tuning) notes ended old new)
     ⊎ NotBegun (NotOn (asked_setup words.link).mode (CannotOpenOne tells (asked_of words.rows words.symbols words.packets) [])) notes ended old new
-Serves holds tells leaves (requests.Run words) input notes ended old new =
+Serves holds tells leaves lacking (requests.Run words) input notes ended old new =
     (IsMode (asked_setup words.link).mode × OpensAll tells (asked_of words.rows words.packets words.to)
     × Receipts words.notes (asked_setup words.link) (ends_of holds words.rows words.packets words.to) (LeftLink leaves words.rows words.packets words.to) (Loops words) notes ended old new)
     ⊎ NotBegun (NotOn (asked_setup words.link).mode (CannotOpenOne tells (asked_of words.rows words.packets words.to) [])) notes ended old new
@@ -247,7 +250,7 @@ IsPlaced request place = place ≡ places.Output
 
 -- A request was served with this exit: how it ended decides the exit, the report and what is told behind it. What a file gets that
 -- is standard output stands there beside the console.
-pub record Served (holds : Holdings) (tells : Tells) (leaves : Leavings) (request : Request) (input : Option (List ℕ)) (exit : Exit) (old new : Screen) : Type 0 where
+pub record Served (holds : Holdings) (tells : Tells) (leaves : Leavings) (lacking : Type 0) (request : Request) (input : Option (List ℕ)) (exit : Exit) (old new : Screen) : Type 0 where
   pub ended : Result Exit Fault
   pub notes : List ℕ
   pub place : Place
@@ -255,20 +258,20 @@ pub record Served (holds : Holdings) (tells : Tells) (leaves : Leavings) (reques
   pub shown : Screen
   pub placed : IsPlaced request place
   pub exit_is : exit ≡ exit_of ended
-  pub prints : Serves holds tells leaves request input notes ended (report_in place old) (report_in place shown)
+  pub prints : Serves holds tells leaves lacking request input notes ended (reported place old) (reported place shown)
   pub concludes : Concludes place notes ended old shown new
   -- only where a fault is told may a call of the output or of the errors have failed
   pub whole : exit ≢ exits.Fault → new.output_failed ≡ old.output_failed
   pub quiet : exit ≢ exits.Fault → new.errors_failed ≡ old.errors_failed
 
 -- nothing is reported of a command that could not be begun
-abbrev pub Unbegun : Holdings → Tells → Leavings → Request → Option (List ℕ) → Fault → Screen → Type 0
-Unbegun holds tells leaves request input f old = (place : Place) × IsPlaced request place × Serves holds tells leaves request input [] (Err f) (report_in place old) (report_in place old)
+abbrev pub Unbegun : Holdings → Tells → Leavings → (lacking : Type 0) → Request → Option (List ℕ) → Fault → Screen → Type 0
+Unbegun holds tells leaves lacking request input f old = (place : Place) × IsPlaced request place × Serves holds tells leaves lacking request input [] (Err f) (reported place old) (reported place old)
 
 -- A command was begun and ended so, or it could not be begun and did nothing.
-abbrev pub Began : Holdings → Tells → Leavings → Request → Option (List ℕ) → Result Exit Fault → Screen → Screen → Type 0
-Began holds tells leaves request input (Ok exit) old new = Served holds tells leaves request input exit old new
-Began holds tells leaves request input (Err f) old new = Unbegun holds tells leaves request input f old × (new ≡ old)
+abbrev pub Began : Holdings → Tells → Leavings → (lacking : Type 0) → Request → Option (List ℕ) → Result Exit Fault → Screen → Screen → Type 0
+Began holds tells leaves lacking request input (Ok exit) old new = Served holds tells leaves lacking request input exit old new
+Began holds tells leaves lacking request input (Err f) old new = Unbegun holds tells leaves lacking request input f old × (new ≡ old)
 
 -- how the program ends where the parser's own text was to be printed: well only behind help or the version
 abbrev pub IsExplained : ErrorKind → Exit → Type 0
@@ -283,12 +286,12 @@ Explains kind exit old new =
     ⊎ ((kind ≢ kinds.OutOfMemory) × IsExplained kind exit × (new ≡ old))
 
 -- what was asked for is served, or why nothing was is explained
-abbrev pub Answers : Holdings → Tells → Leavings → Result Request Error → Option (List ℕ) → Exit → Screen → Screen → Type 0
-Answers holds tells leaves (Ok request) input exit old new = Served holds tells leaves request input exit old new
-Answers holds tells leaves (Err error) input exit old new = Explains (kind_of error) exit old new
+abbrev pub Answers : Holdings → Tells → Leavings → (lacking : Type 0) → Result Request Error → Option (List ℕ) → Exit → Screen → Screen → Type 0
+Answers holds tells leaves lacking (Ok request) input exit old new = Served holds tells leaves lacking request input exit old new
+Answers holds tells leaves lacking (Err error) input exit old new = Explains (kind_of error) exit old new
 
 -- what the words ask for is answered, or there was no memory for them
-abbrev pub AnswersWords : Holdings → Tells → Leavings → Option (Result Request Error) → Option (List ℕ) → Exit → Screen → Screen → Type 0
-AnswersWords holds tells leaves (Some asked) input exit old new = Answers holds tells leaves asked input exit old new
-AnswersWords holds tells leaves None input exit old new =
+abbrev pub AnswersWords : Holdings → Tells → Leavings → (lacking : Type 0) → Option (Result Request Error) → Option (List ℕ) → Exit → Screen → Screen → Type 0
+AnswersWords holds tells leaves lacking (Some asked) input exit old new = Answers holds tells leaves lacking asked input exit old new
+AnswersWords holds tells leaves lacking None input exit old new =
     (exit ≡ exits.Fault) × (new.output ≡ old.output) × (new.output_failed ≡ old.output_failed) × Complains (Err faults.NoMemory) old new

@@ -5,11 +5,13 @@ ghost use Rattle.std.specs.Prelude.{◌≡◌, ◌≢◌, IsErr};
 ghost use Rattle.clap.specs.Words.{kind_of};
 ghost use Rattle.s2_mode.specs.Counts.{CanCount};
 ghost use Rattle.s2_console.specs.Screens.{CanTell};
+ghost use Rattle.s2_tool.specs.Links.{Lacks};
 ghost use Rattle.s2_tool.specs.Serving.{Answers, AnswersWords, IsExplained};
 
 mod demod;
 mod link_files;
 mod losses;
+mod memory;
 mod modulate;
 mod noise;
 mod opening;
@@ -17,6 +19,7 @@ mod rows;
 mod run;
 mod serve;
 
+use crate::memory::Memory;
 use clap::Error;
 use clap::error::ErrorKind;
 use s2_console::{Console, Exit, Fault};
@@ -41,7 +44,8 @@ fn main(rt: HostRuntime) -> ExitCode {
         Some(words) => Some(read_words(rt.alloc(), words.as_slice())),
         None => None,
     };
-    serve_words(&rt, &terminal, asked, &mut input, &mut console).code()
+    let mut memory = Memory::new(rt.alloc());
+    serve_words(&rt, &terminal, asked, &mut memory, &mut input, &mut console).code()
 }
 
 /// The program's words, where there is memory for them.
@@ -59,18 +63,20 @@ fn serve_words<
     rt: &R,
     terminal: &Terminal<'_, R>,
     asked: Option<Result<Request<'_>, Error>>,
+    memory: &mut Memory,
     input: &mut S,
     console: &mut Console<O, E>,
 ) -> Exit
+    requires memory { CanCount memory.old.refused }
     requires input { CanCount (S.count input.old) }
     requires console { CanTell console.old }
     ensures quiet { result ≢ Exit.Fault → console.new.errors_failed ≡ console.old.errors_failed }
     ensures whole { result ≢ Exit.Fault → console.new.output_failed ≡ console.old.output_failed }
-    ensures served { AnswersWords R.holds R.tells R.leaves asked.entry (S.remaining input.old) result
-        console.old console.new }
+    ensures served { AnswersWords R.holds R.tells R.leaves (Lacks memory.old memory.new)
+        asked.entry (S.remaining input.old) result console.old console.new }
 {
     match asked {
-        Some(asked) => answer(rt, terminal, asked, input, console),
+        Some(asked) => answer(rt, terminal, asked, memory, input, console),
         None => console.complain(Fault::NoMemory),
     }
 }
@@ -86,17 +92,19 @@ fn answer<
     rt: &R,
     terminal: &Terminal<'_, R>,
     asked: Result<Request<'_>, Error>,
+    memory: &mut Memory,
     input: &mut S,
     console: &mut Console<O, E>,
 ) -> Exit
+    requires memory { CanCount memory.old.refused }
     requires input { CanCount (S.count input.old) }
     requires console { CanTell console.old }
-    ensures answers { Answers R.holds R.tells R.leaves asked.entry (S.remaining input.old) result
-        console.old console.new }
+    ensures answers { Answers R.holds R.tells R.leaves (Lacks memory.old memory.new)
+        asked.entry (S.remaining input.old) result console.old console.new }
     ensures untouched { IsErr asked.entry → input.new ≡ input.old }
 {
     match asked {
-        Ok(request) => serve(rt, terminal, &request, input, console),
+        Ok(request) => serve(rt, terminal, &request, memory, input, console),
         Err(error) if error.kind() == ErrorKind::OutOfMemory => console.complain(Fault::NoMemory),
         Err(error) => explain(rt, &error),
     }

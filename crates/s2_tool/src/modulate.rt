@@ -6,19 +6,19 @@ ghost use Rattle.s2_mode.specs.Streams.{streams_by};
 ghost use Rattle.s2_link.specs.Link.{setup_of};
 ghost use Rattle.s2_console.specs.Screens.{CanTell, SameBeside};
 ghost use Rattle.s2_packets.specs.Taking.{Takes};
-ghost use Rattle.s2_tool.specs.Links.{CanFail, Causes, Tries, NotCut, streams_at, streams_to};
+ghost use Rattle.s2_tool.specs.Links.{CanFail, Causes, Lacks, Tries, NotCut, streams_at, streams_to};
 ghost use Rattle.s2_tool.specs.Sending.{sent_line, refusal_fault, fault_without_memory, SendsBy, Sends, Modulates, ModEnds};
 
 use crate::link_files::LinkFiles;
+use crate::memory::Memory;
 use s2_console::{Console, Exit, Fault, Line, Place, print};
 use s2_files::Output;
 use s2_link::{Link, LinkSetup};
 use s2_mode::{CountedRead, CountedWrite};
 use s2_packets::skim_packets;
 use s2_send::{Counts, SendFault, Transmitter};
-use s2_table::{conclude_noted, read_noted};
+use s2_table::conclude_noted;
 use s2_words::ModWords;
-use std::alloc::Global;
 
 /// The line of a run's counts. It takes no memory, so that none can lack once frames are written.
 fn sent_line(counts: Counts) -> Line
@@ -123,53 +123,55 @@ fn send_begun<S: CountedRead, W: Output, O: CountedWrite>(
 
 /// Sends packets on a link, with a dummy frame behind every so many frames.
 fn send_link<S: CountedRead, W: Output, O: CountedWrite>(
-    alloc: Global,
+    memory: &mut Memory,
     link: &Link<'_>,
     dummy: u16,
     packets: &mut S,
     symbols: &mut W,
     out: &mut O,
 ) -> Result<Exit, Fault<'static>>
+    requires memory { CanCount memory.old.refused }
     requires packets { CanCount (S.count packets.old) }
     requires symbols { CanCount (W.count symbols.old) }
     requires out { CanCount (O.count out.old) }
     ensures sends { let ends = streams_by S.remaining S.count W.contents W.count O.contents O.count in
-        Tries (Sends dummy) link.now (ends packets.old symbols.old out.old) (ends packets.new symbols.new out.new) result }
+        Tries (Sends (Lacks memory.old memory.new) dummy) link.now (ends packets.old symbols.old out.old) (ends packets.new symbols.new out.new) result }
     ensures causes { let ends = streams_by S.remaining S.count W.contents W.count O.contents O.count in
         Causes (ends packets.old symbols.old out.old) (ends packets.new symbols.new out.new) result }
 {
-    match Transmitter::on_link(alloc, link) {
-        Ok(mut transmitter) => {
+    match memory.transmitter(link) {
+        Some(mut transmitter) => {
             transmitter.dummy_every(dummy);
             send_begun(&mut transmitter, packets, symbols, out)
         }
-        Err(_) => Err(fault_without_memory(packets)),
+        None => Err(fault_without_memory(packets)),
     }
 }
 
 /// Reads rows, and sends packets.
 fn send_files<R: CountedRead, S: CountedRead, W: Output, O: CountedWrite, N: CountedWrite>(
-    alloc: Global,
+    memory: &mut Memory,
     setup: LinkSetup,
     words: &ModWords<'_>,
     files: &mut LinkFiles<R, S, W>,
     out: &mut O,
     notes: &mut N,
 ) -> Result<Exit, Fault<'static>>
+    requires memory { CanCount memory.old.refused }
     requires files { CanFail files.old }
     requires out { CanCount (O.count out.old) }
     requires notes { CanCount (N.count notes.old) }
     ensures run { let ends = streams_to O.contents O.count in
-        Modulates (setup_of setup) words.now.dummy files.old files.new
+        Modulates (Lacks memory.old memory.new) (setup_of setup) words.now.dummy files.old files.new
         (ends files.old out.old) (ends files.new out.new) result }
 {
-    let matrix = match read_noted(alloc, &setup.mode, &mut files.rows, words.quiet, notes) {
+    let matrix = match memory.read_rows(&setup.mode, &mut files.rows, words.quiet, notes) {
         Ok(matrix) => matrix,
         Err(fault) => return Err(fault_without_rows(fault, &mut files.from)),
     };
     let link = Link::of(setup, &matrix);
     send_link(
-        alloc,
+        memory,
         &link,
         words.dummy,
         &mut files.from,
@@ -187,7 +189,7 @@ fn send_at<
     E: CountedWrite,
     N: CountedWrite,
 >(
-    alloc: Global,
+    memory: &mut Memory,
     setup: LinkSetup,
     words: &ModWords<'_>,
     files: &mut LinkFiles<R, S, W>,
@@ -195,17 +197,18 @@ fn send_at<
     console: &mut Console<O, E>,
     notes: &mut N,
 ) -> Result<Exit, Fault<'static>>
+    requires memory { CanCount memory.old.refused }
     requires files { CanFail files.old }
     requires console { CanTell console.old }
     requires notes { CanCount (N.count notes.old) }
     ensures beside { SameBeside place console.old console.new }
     ensures run { let ends = streams_at place in
-        Modulates (setup_of setup) words.now.dummy files.old files.new
+        Modulates (Lacks memory.old memory.new) (setup_of setup) words.now.dummy files.old files.new
         (ends files.old console.old) (ends files.new console.new) result }
 {
     match place {
-        Place::Output => send_files(alloc, setup, words, files, &mut console.output, notes),
-        Place::Errors => send_files(alloc, setup, words, files, &mut console.errors, notes),
+        Place::Output => send_files(memory, setup, words, files, &mut console.output, notes),
+        Place::Errors => send_files(memory, setup, words, files, &mut console.errors, notes),
     }
 }
 
@@ -221,7 +224,7 @@ pub fn mod_command<
     E: CountedWrite,
     N: CountedWrite,
 >(
-    alloc: Global,
+    memory: &mut Memory,
     setup: LinkSetup,
     words: &ModWords<'_>,
     files: &mut LinkFiles<R, S, W>,
@@ -229,13 +232,15 @@ pub fn mod_command<
     console: &mut Console<O, E>,
     notes: &mut N,
 ) -> Exit
+    requires memory { CanCount memory.old.refused }
     requires files { CanFail files.old }
     requires console { CanTell console.old }
     requires notes { CanCount (N.count notes.old) }
     ensures quiet { result ≢ Exit.Fault → console.new.errors_failed ≡ console.old.errors_failed }
     ensures whole { result ≢ Exit.Fault → console.new.output_failed ≡ console.old.output_failed }
-    ensures run { ModEnds (setup_of setup) words.now place files.old files.new console.old console.new result }
+    ensures run { ModEnds (Lacks memory.old memory.new) (setup_of setup) words.now place
+        files.old files.new console.old console.new result }
 {
-    let ended = send_at(alloc, setup, words, files, place, console, notes);
+    let ended = send_at(memory, setup, words, files, place, console, notes);
     conclude_noted(words.quiet, &setup.mode, ended, console)
 }

@@ -1,5 +1,5 @@
 //! The commands on the files and streams that their words name.
-ghost use Rattle.std.specs.Prelude.{◌≡◌, ◌↔◌, ℕ, List, Option, IsSome, IfSome, IsTrue, IsFalse};
+ghost use Rattle.std.specs.Prelude.{◌≡◌, ◌≢◌, ◌↔◌, ℕ, List, Option, IsSome, IfSome, IsTrue, IsFalse};
 ghost use Rattle.s2_mode.specs.Counts.{CanCount};
 ghost use Rattle.s2_mode.specs.Mode.{IsMode, mode_of};
 ghost use Rattle.s2_mode.specs.Shape.{IsShape};
@@ -7,10 +7,12 @@ ghost use Rattle.s2_mode.specs.Shape as shapes;
 ghost use Rattle.s2_link.specs.Link as links;
 ghost use Rattle.s2_console.specs.Screens.{CanShow, CanTell};
 ghost use Rattle.s2_evidence.specs.Files.{SameAsked};
+ghost use Rattle.s2_tool.specs.Links.{Lacks};
 ghost use Rattle.s2_tool.specs.Serving.{IsPlacedFor, asked_file, asked_setup, no_mode, no_shape, LeftChecked, LeftJudged, Served, Began};
 
 use crate::demod::demod_command;
 use crate::link_files::{leave_link, leave_whole};
+use crate::memory::Memory;
 use crate::modulate::mod_command;
 use crate::noise::noise_command;
 use crate::opening::{open_check, open_judge, open_link, open_noise, open_rows, open_whole};
@@ -60,15 +62,17 @@ pub fn serve<R: Disk + Clock + AllocGlobal, S: CountedRead, O: CountedWrite, E: 
     rt: &R,
     terminal: &Terminal<'_, R>,
     request: &Request<'_>,
+    memory: &mut Memory,
     input: &mut S,
     console: &mut Console<O, E>,
 ) -> Exit
+    requires memory { CanCount memory.old.refused }
     requires input { CanCount (S.count input.old) }
     requires console { CanTell console.old }
-    ensures served { Served R.holds R.tells R.leaves request.now (S.remaining input.old) result
-        console.old console.new }
+    ensures served { Served R.holds R.tells R.leaves (Lacks memory.old memory.new)
+        request.now (S.remaining input.old) result console.old console.new }
 {
-    match begin(rt, terminal, request, input, console) {
+    match begin(rt, terminal, request, memory, input, console) {
         Ok(exit) => exit,
         Err(fault) => console.complain(fault),
     }
@@ -79,13 +83,15 @@ fn begin<'a, R: Disk + Clock + AllocGlobal, S: CountedRead, O: CountedWrite, E: 
     rt: &R,
     terminal: &Terminal<'_, R>,
     request: &Request<'a>,
+    memory: &mut Memory,
     input: &mut S,
     console: &mut Console<O, E>,
 ) -> Result<Exit, Fault<'a>>
+    requires memory { CanCount memory.old.refused }
     requires input { CanCount (S.count input.old) }
     requires console { CanTell console.old }
-    ensures began { Began R.holds R.tells R.leaves request.now (S.remaining input.old) result
-        console.old console.new }
+    ensures began { Began R.holds R.tells R.leaves (Lacks memory.old memory.new)
+        request.now (S.remaining input.old) result console.old console.new }
 {
     match request {
         Request::Own => Ok(self_command(rt.alloc(), input, console)),
@@ -94,7 +100,7 @@ fn begin<'a, R: Disk + Clock + AllocGlobal, S: CountedRead, O: CountedWrite, E: 
         Request::Table(words) => serve_table(rt, words, console),
         Request::Judge(words) => serve_judge(rt, words, console),
         Request::Check(words) => serve_check(rt, words, console),
-        Request::Mod(words) => serve_mod(rt, terminal, words, console),
+        Request::Mod(words) => serve_mod(rt, terminal, words, memory, console),
         Request::Noise(words) => serve_noise(rt, terminal, words, console),
         Request::Demod(words) => serve_demod(rt, terminal, words, console),
         Request::Run(words) => serve_run(rt, terminal, words, console),
@@ -122,8 +128,8 @@ fn serve_rows<R: Disk + AllocGlobal, O: CountedWrite, E: CountedWrite>(
     console: &mut Console<O, E>,
 ) -> Result<Exit, Fault<'static>>
     requires { CanShow console.old }
-    ensures { (input : Option (List ℕ)) →
-        Began R.holds R.tells R.leaves (Request.Rows words.now) input result console.old console.new }
+    ensures { (input : Option (List ℕ)) (count : ℕ) →
+        Began R.holds R.tells R.leaves (count ≢ count) (Request.Rows words.now) input result console.old console.new }
 {
     let Some(shape) = shape_of(words.shape) else {
         return Err(no_shape());
@@ -167,8 +173,8 @@ fn serve_table<'a, R: Disk + AllocGlobal, O: CountedWrite, E: CountedWrite>(
     console: &mut Console<O, E>,
 ) -> Result<Exit, Fault<'a>>
     requires { CanTell console.old }
-    ensures { (input : Option (List ℕ)) →
-        Began R.holds R.tells R.leaves (Request.Table words.now) input result console.old console.new }
+    ensures { (input : Option (List ℕ)) (count : ℕ) →
+        Began R.holds R.tells R.leaves (count ≢ count) (Request.Table words.now) input result console.old console.new }
 {
     let Some(mode) = Mode::of(words.modcod, words.short, false) else {
         return Err(no_mode());
@@ -219,8 +225,8 @@ fn serve_judge<'a, R: Disk + AllocGlobal, O: CountedWrite, E: CountedWrite>(
     console: &mut Console<O, E>,
 ) -> Result<Exit, Fault<'a>>
     requires { CanTell console.old }
-    ensures { (input : Option (List ℕ)) →
-        Began R.holds R.tells R.leaves (Request.Judge words.now) input result console.old console.new }
+    ensures { (input : Option (List ℕ)) (count : ℕ) →
+        Began R.holds R.tells R.leaves (count ≢ count) (Request.Judge words.now) input result console.old console.new }
 {
     let place = place_beside(words.certificate);
     let Some(shape) = shape_of(words.shape) else {
@@ -253,8 +259,8 @@ fn serve_check<'a, R: Disk + AllocGlobal, O: CountedWrite, E: CountedWrite>(
     console: &mut Console<O, E>,
 ) -> Result<Exit, Fault<'a>>
     requires { CanShow console.old }
-    ensures { (input : Option (List ℕ)) →
-        Began R.holds R.tells R.leaves (Request.Check words.now) input result console.old console.new }
+    ensures { (input : Option (List ℕ)) (count : ℕ) →
+        Began R.holds R.tells R.leaves (count ≢ count) (Request.Check words.now) input result console.old console.new }
 {
     let mut files = open_check(rt, words)?;
     let exit = check_command(rt.alloc(), &mut files, console);
@@ -267,11 +273,13 @@ fn serve_mod<'a, R: Disk + Clock + AllocGlobal, O: CountedWrite, E: CountedWrite
     rt: &R,
     terminal: &Terminal<'_, R>,
     words: &ModWords<'a>,
+    memory: &mut Memory,
     console: &mut Console<O, E>,
 ) -> Result<Exit, Fault<'a>>
-    requires { CanTell console.old }
+    requires memory { CanCount memory.old.refused }
+    requires console { CanTell console.old }
     ensures { (input : Option (List ℕ)) →
-        Began R.holds R.tells R.leaves (Request.Mod words.now) input result console.old console.new }
+        Began R.holds R.tells R.leaves (Lacks memory.old memory.new) (Request.Mod words.now) input result console.old console.new }
 {
     let place = place_of(words.symbols);
     let Some(setup) = setup_of(&words.link) else {
@@ -283,15 +291,7 @@ fn serve_mod<'a, R: Disk + Clock + AllocGlobal, O: CountedWrite, E: CountedWrite
     show.expect(opened.1);
     let mut files = opened.0.watched(&show);
     let mut notes = notes_of(rt);
-    let exit = mod_command(
-        rt.alloc(),
-        setup,
-        words,
-        &mut files,
-        place,
-        console,
-        &mut notes,
-    );
+    let exit = mod_command(memory, setup, words, &mut files, place, console, &mut notes);
     show.finish();
     leave_link(rt, words.rows, words.packets, words.symbols, files);
     Ok(exit)
@@ -306,8 +306,8 @@ fn serve_noise<'a, R: Disk + Clock + AllocGlobal, O: CountedWrite, E: CountedWri
     console: &mut Console<O, E>,
 ) -> Result<Exit, Fault<'a>>
     requires { CanShow console.old }
-    ensures { (input : Option (List ℕ)) →
-        Began R.holds R.tells R.leaves (Request.Noise words.now) input result console.old console.new }
+    ensures { (input : Option (List ℕ)) (count : ℕ) →
+        Began R.holds R.tells R.leaves (count ≢ count) (Request.Noise words.now) input result console.old console.new }
 {
     let show = show_on(terminal, Pace::Spoiling, words.progress);
     let opened = open_noise(rt, words)?;
@@ -329,8 +329,8 @@ fn serve_demod<'a, R: Disk + Clock + AllocGlobal, O: CountedWrite, E: CountedWri
     console: &mut Console<O, E>,
 ) -> Result<Exit, Fault<'a>>
     requires { CanTell console.old }
-    ensures { (input : Option (List ℕ)) →
-        Began R.holds R.tells R.leaves (Request.Demod words.now) input result console.old console.new }
+    ensures { (input : Option (List ℕ)) (count : ℕ) →
+        Began R.holds R.tells R.leaves (count ≢ count) (Request.Demod words.now) input result console.old console.new }
 {
     let place = place_of(words.packets);
     let Some(setup) = setup_of(&words.link) else {
@@ -365,8 +365,8 @@ fn serve_run<'a, R: Disk + Clock + AllocGlobal, O: CountedWrite, E: CountedWrite
     console: &mut Console<O, E>,
 ) -> Result<Exit, Fault<'a>>
     requires { CanTell console.old }
-    ensures { (input : Option (List ℕ)) →
-        Began R.holds R.tells R.leaves (Request.Run words.now) input result console.old console.new }
+    ensures { (input : Option (List ℕ)) (count : ℕ) →
+        Began R.holds R.tells R.leaves (count ≢ count) (Request.Run words.now) input result console.old console.new }
 {
     let place = place_of(words.to);
     let Some(setup) = setup_of(&words.link) else {
