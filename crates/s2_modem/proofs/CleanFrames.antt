@@ -259,11 +259,11 @@ module _ (m : Mode) (valid : IsMode m) (sizes : HasCodeSizes m) where
   }
 
   pub scattered_law : ScatteredFrameLaw m
-  scattered_law link tuning at symbols field codeword sent scattered =
+  scattered_law link tuning symbols at field codeword sent scattered =
       let f = frame_is link tuning symbols in
       let sure = scattered_lem link.rows tuning (frame_soft link tuning symbols) codeword scattered in
       let bits = f.bits ∙ sure.1 in
       record { verdict = ap is_certified f.verdict ∙ sure.0; bits = bits; delivered = codeword_delivers m valid sizes link sent.linked at field codeword sent tuning symbols bits }
 
   pub both_codes_law : BothCodesLaw m
-  both_codes_law link tuning at symbols field codeword sent few = both_codes m valid sizes link sent.linked at field codeword sent tuning symbols few
+  both_codes_law link tuning symbols at field codeword sent few = both_codes m valid sizes link sent.linked at field codeword sent tuning symbols few

@@ -16,7 +16,7 @@ module _ (m : Mode) (valid : IsMode m) (sizes : HasCodeSizes m) (link : Link) (t
       let one = h.0 behind in
       let message = message_of link.setup.mode sent.codeword_is.bch_word in
       subst (λ l. IsWholeFrame link tuning behind l × IsDeliveredCertified (frame_decision link tuning l) codeword message (header_at link.setup.roll_off at field) field) (sym clean) ((one.0, one.1), h.1)
-  clear_one behind at field codeword symbols sent (inr (whole, scattered)) = (whole, scattered_law m valid sizes link tuning at symbols field codeword sent scattered)
+  clear_one behind at field codeword symbols sent (inr (whole, scattered)) = (whole, scattered_law m valid sizes link tuning symbols at field codeword sent scattered)
 
   pub heard_one : (behind : Bool) (at : ℕ) (field : List ℕ) (symbols : List Symbol) → IsField (field_bytes link.setup.mode) at field → IsHeard link tuning behind at field symbols
       → IsReceived rules behind (header_at link.setup.roll_off at field) field symbols × IsCertifiedFrame rules symbols

@@ -94,7 +94,7 @@ module _ (m : Mode) (valid : IsMode m) (sizes : HasCodeSizes m) (link : Link) (t
     read_one behind at field symbols is_field (codeword, is, inl clear) = ((heard_one m valid sizes link tuning limit linked ro known behind at field symbols is_field (codeword, is, clear)).0, tt)
     read_one behind at field symbols (bytes, place, fits) (codeword, is, inr (whole, few)) =
         let sent : IsSent m link at field codeword = record { linked = linked; roll_off = ro; bytes = bytes; place = place; fits = fits; codeword_is = is } in
-        ((whole.0, whole.1, (both_codes_law m valid sizes link tuning at symbols field codeword sent few).delivered), tt)
+        ((whole.0, whole.1, (both_codes_law m valid sizes link tuning symbols at field codeword sent few).delivered), tt)
 
     -- and what is told of it
     told_one : (behind : Bool) (at place : ℕ) (field : List ℕ) (symbols : List Symbol) (s : Standing) → IsField (field_bytes link.setup.mode) at field → IsReadable link tuning behind at field symbols
@@ -114,7 +114,7 @@ module _ (m : Mode) (valid : IsMode m) (sizes : HasCodeSizes m) (link : Link) (t
             | inr part ↦ part.1
           ] in
           let few' = subst (λ w. differences (k_of mode) (received_word mode bits) w ≤ t_of mode) (sym (one_word m valid sizes link linked at field codeword sent other is_other)) few in (
-            (both_codes_law m valid sizes link tuning at symbols field other (sent_as other is_other) few').outcome,
+            (both_codes_law m valid sizes link tuning symbols at field other (sent_as other is_other) few').outcome,
             λ clear.
                 (let h = clear_one m valid sizes link tuning limit linked ro known behind at field other symbols (sent_as other is_other) clear in
                 (h.1.verdict, h.1.delivered.outcome)),

@@ -105,7 +105,7 @@ pub use Rattle.s2_receive.proofs.SameSymbols.{same_met}
 pub use Rattle.s2_receive.proofs.StepLemmas.{live_at, on_frame, symbols_least}
 pub use Rattle.s2_modem.specs.Both.{AreBytes, Hears, IsByte, IsDelivered, IsDeliveredCertified, certified_lines, run_places, sent_symbols, totals_of}
 pub use Rattle.s2_modem.specs.Front.{IsCleanFrame}
-pub use Rattle.s2_modem.specs.Headline.{ArrivalLaw, BothCodesLaw, HearsLaw, IsSent, ScatteredFrameLaw}
+pub use Rattle.s2_modem.specs.Headline.{ArrivalLaw, BothCodesLaw, CorrectsWithin, HearsLaw, HearsScattered, IsSent, ScatteredFrameLaw}
 pub use Rattle.s2_modem.specs.Listening.{FindsWord, Listening, Reads, decides, decision_held}
 pub use Rattle.s2_modem.specs.Promise.{AreReadable, AreReported, Arriving, BeginsWith, Headline, IsHeadline, IsReadable, IsReport, IsReported, KeepsHeadline, Promises, RunsHeadline, decision_from, frame_from}
 pub use Rattle.s2_modem.specs.Reception.{AllAsLikely, AllTold, Certifies, IsAsLikely, IsCertifiedBy, IsCorrected, IsLikelyBy, Receiver, link_rules, rules_for}

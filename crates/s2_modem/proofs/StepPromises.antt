@@ -1,5 +1,5 @@
 -- What a step promises of its answer.
-use Rattle.s2_modem.proofs.Names.{on_frame, ◌≡◌, ◌≢◌, ℕ, ◌+◌, ◌≤◌, true, false, if◌then◌else◌, ⊤, List, [], ◌∷◌, ◌++◌, length, take, Option, Some, None, Result, Ok, Err, IfOk, refl, sym, ap, subst, ◌∙◌, nat_lt, ◌↔◌, IsErrOf, k_of, t_of, Streams, Symbol, differences, code_of, header_at, Verdict, Met, frame, cut, ended, nothing_over, met_from, Meets, met_of, met_after, Spells, Rules, State, Decision, IsLive, IsDecided, Finds, Stops, Standing, Next, Phase, Rows, IsShown, MetFrame, StepAnswers, met_left, phase_after, is_at_frame, report_for, report_of, step_of, Fault, Outcome, Report, Step, whole_frame, symbols_least, live_at, received_word, message_of, frame_decision, IsDelivered, IsDeliveredCertified, Receiver, IsAsLikely, IsLikelyBy, IsCertifiedBy, Certifies, IsCorrected, rules_for, IsFrameAt, Heard, Corrects, StandsAt, Promises, OnFrame, IsWholeFrame, IfOk-weaker}
+use Rattle.s2_modem.proofs.Names.{on_frame, ◌≡◌, ◌≢◌, ℕ, ◌+◌, ◌≤◌, true, false, if◌then◌else◌, ⊤, List, [], ◌∷◌, ◌++◌, length, take, Option, Some, None, Result, Ok, Err, IfOk, refl, sym, ap, subst, ◌∙◌, nat_lt, ◌↔◌, IsErrOf, Streams, Symbol, code_of, header_at, Verdict, Met, frame, cut, ended, nothing_over, met_from, Meets, met_of, met_after, Spells, Rules, State, Decision, IsLive, IsDecided, Finds, Stops, Standing, Next, Phase, Rows, IsShown, MetFrame, StepAnswers, met_left, phase_after, is_at_frame, report_for, report_of, step_of, Fault, Outcome, Report, Step, whole_frame, symbols_least, live_at, message_of, frame_decision, IsDeliveredCertified, Receiver, IsAsLikely, IsLikelyBy, IsCertifiedBy, Certifies, IsCorrected, rules_for, IsFrameAt, Heard, Corrects, CorrectsWithin, StandsAt, Promises, OnFrame, IsWholeFrame, IfOk-weaker}
 use Rattle.s2_modem.proofs.Names.faults
 use Rattle.s2_modem.proofs.Names.founds
 use Rattle.s2_modem.proofs.Names.nexts
@@ -153,11 +153,8 @@ module _ (old : Receiver) (last : Decision) (bytes : Option (List ℕ)) (all : P
             (let h = all.heard.clear (nat_lt 0 old.state.at) at field codeword symbols sent clear in
             let here = there step symbols answers stands h.0 in
             (here.0, subst (λ d. IsDeliveredCertified d codeword (message_of m sent.codeword_is.bch_word) (header_at old.link.setup.roll_off at field) field) (sym here.1) h.1))) a.0;
-        both_codes = IfOk-weaker result _ _ (λ step answers at field codeword symbols sent whole stands few.
-            (let here = there step symbols answers stands whole in
-            let word = sent.codeword_is.bch_word in
-            let few' = subst (λ (d : Decision). differences (k_of m) (received_word m d.bits) word ≤ t_of m) here.1 few in
-            (here.0, subst (λ (d : Decision). IsDelivered d (differences (k_of m) (received_word m d.bits) word) (message_of m word) (header_at old.link.setup.roll_off at field) field) (sym here.1) (all.heard.corrected at symbols field codeword sent few')))) a.0;
+        both_codes = IfOk-weaker result _ _ (λ step answers symbols whole stands.
+            (let here = there step symbols answers stands whole in (here.0, subst (CorrectsWithin m old.link) (sym here.1) (all.heard.corrected symbols)))) a.0;
       }
 
 module _ (v w : Receiver) (last : Decision) (result : Result Step Fault) (is : v ≡ w) (all : Promises v.link v.tuning) (rules' : Rules) (same : rules' ≡ rules_for v)

@@ -52,37 +52,29 @@ pub record IsSent (m : Mode) (link : Link) (at : ℕ) (field : List ℕ) (codewo
   pub fits : length field ≤ field_bytes link.setup.mode
   pub codeword_is : IsCodewordFor link.setup.mode link.rows (header_at link.setup.roll_off at field) field codeword
 
--- Both codes together: where the first Nbch decided bits differ from the sent BCH word in at most t places, the message and the field
--- that were sent are delivered, and the report tells in how many.
-abbrev pub AllCorrected : Mode → Link → Tuning → Type 0
-AllCorrected m link tuning =
-    (at : ℕ) (symbols : List Symbol) (field : List ℕ) (codeword : List Bool) (sent : IsSent m link at field codeword)
-    → differences (k_of link.setup.mode) (received_word link.setup.mode (frame_decision link tuning symbols).bits) sent.codeword_is.bch_word ≤ t_of link.setup.mode
-    → IsDelivered (frame_decision link tuning symbols) (differences (k_of link.setup.mode) (received_word link.setup.mode (frame_decision link tuning symbols).bits) sent.codeword_is.bch_word)
+-- Both codes together: where the first Nbch decided bits differ from the BCH word that was sent in at most t places, the message and the
+-- field that were sent are delivered, and the report tells in how many. So of any frame's symbols.
+abbrev pub CorrectsWithin : Mode → Link → (last : Decision) → Type 0
+CorrectsWithin m link last =
+    (at : ℕ) (field : List ℕ) (codeword : List Bool) (sent : IsSent m link at field codeword)
+    → differences (k_of link.setup.mode) (received_word link.setup.mode last.bits) sent.codeword_is.bch_word ≤ t_of link.setup.mode
+    → IsDelivered last (differences (k_of link.setup.mode) (received_word link.setup.mode last.bits) sent.codeword_is.bch_word)
     (message_of link.setup.mode sent.codeword_is.bch_word) (header_at link.setup.roll_off at field) field
+
+abbrev pub AllCorrected : Mode → Link → Tuning → Type 0
+AllCorrected m link tuning = (symbols : List Symbol) → CorrectsWithin m link (frame_decision link tuning symbols)
 
 abbrev pub BothCodesLaw : Mode → Type 0
 BothCodesLaw m = (link : Link) (tuning : Tuning) → AllCorrected m link tuning
 
--- a frame whose soft values are scattered about the codeword that was sent
-abbrev pub ScatteredFrameLaw : Mode → Type 0
-ScatteredFrameLaw m =
-    (link : Link) (tuning : Tuning) (at : ℕ) (symbols : List Symbol) (field : List ℕ) (codeword : List Bool) (sent : IsSent m link at field codeword)
-    → IsScattered (code_of link.rows) (frame_soft link tuning symbols) codeword
-    → IsDeliveredCertified (frame_decision link tuning symbols) codeword (message_of link.setup.mode sent.codeword_is.bch_word) (header_at link.setup.roll_off at field) field
-
--- the same two of what was decided of a frame's symbols
-abbrev pub HearsScattered : Link → Tuning → List Symbol → (last : Decision) → Type 0
-HearsScattered link tuning symbols last =
-    (at : ℕ) (field : List ℕ) (codeword : List Bool) (sent : IsSent link.setup.mode link at field codeword) → IsScattered (code_of link.rows) (frame_soft link tuning symbols) codeword
+-- Where a frame's soft values are scattered about the codeword that was sent, that is decided, certified, with no bit changed.
+abbrev pub HearsScattered : Mode → Link → Tuning → List Symbol → (last : Decision) → Type 0
+HearsScattered m link tuning symbols last =
+    (at : ℕ) (field : List ℕ) (codeword : List Bool) (sent : IsSent m link at field codeword) → IsScattered (code_of link.rows) (frame_soft link tuning symbols) codeword
     → IsDeliveredCertified last codeword (message_of link.setup.mode sent.codeword_is.bch_word) (header_at link.setup.roll_off at field) field
 
-abbrev pub CorrectsWithin : Link → (last : Decision) → Type 0
-CorrectsWithin link last =
-    (at : ℕ) (field : List ℕ) (codeword : List Bool) (sent : IsSent link.setup.mode link at field codeword)
-    → differences (k_of link.setup.mode) (received_word link.setup.mode last.bits) sent.codeword_is.bch_word ≤ t_of link.setup.mode
-    → IsDelivered last (differences (k_of link.setup.mode) (received_word link.setup.mode last.bits) sent.codeword_is.bch_word)
-    (message_of link.setup.mode sent.codeword_is.bch_word) (header_at link.setup.roll_off at field) field
+abbrev pub ScatteredFrameLaw : Mode → Type 0
+ScatteredFrameLaw m = (link : Link) (tuning : Tuning) (symbols : List Symbol) → HearsScattered m link tuning symbols (frame_decision link tuning symbols)
 
 -- each frame of a link is received as it was sent, by each divisor
 abbrev pub HearsLaw : Mode → Type 0

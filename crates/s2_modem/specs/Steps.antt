@@ -1,10 +1,8 @@
 -- What a step answers: what comes next, and where the search stands at a frame that was sent, that one.
-use Rattle.std.specs.Prelude.{◌≡◌, ℕ, ◌≤◌, nat_lt, Bool, List, ◌++◌, Option, Result}
-use Rattle.s2_mode.specs.Mode.{k_of, t_of}
+use Rattle.std.specs.Prelude.{◌≡◌, ℕ, nat_lt, Bool, List, ◌++◌, Option, Result}
 use Rattle.s2_mode.specs.Streams.{Streams}
 use Rattle.s2_mode.specs.declared.stream_fault.StreamFault.{StreamFault}
 use Rattle.s2_mode.specs.declared.symbols.Symbol.{Symbol}
-use Rattle.s2_bits.specs.Bits.{differences}
 use Rattle.s2_bbframe.specs.DataStream.{header_at}
 use Rattle.s2_link.specs.Link.{Link}
 use Rattle.s2_link.specs.Tuning.{Tuning}
@@ -17,10 +15,10 @@ use Rattle.s2_receive.specs.declared.report.Received.{Received}
 use Rattle.s2_receive.specs.declared.report.Report.{Report}
 use Rattle.s2_receive.specs.declared.report.Step.{Step}
 use Rattle.s2_receive.specs.declared.report.Step.TheVariants as steps
-use Rattle.s2_modem.specs.Reports.{received_word, message_of, frame_decision}
+use Rattle.s2_modem.specs.Reports.{message_of, frame_decision}
 use Rattle.s2_modem.specs.Reception.{Receiver, rules_for}
-use Rattle.s2_modem.specs.Both.{IsDelivered, IsDeliveredCertified}
-use Rattle.s2_modem.specs.Headline.{IsSent, AllCorrected}
+use Rattle.s2_modem.specs.Both.{IsDeliveredCertified}
+use Rattle.s2_modem.specs.Headline.{IsSent, CorrectsWithin, AllCorrected}
 use Rattle.s2_modem.specs.Streams.{IsWholeFrame, IsClear}
 
 -- ---- the next thing met, or all that is left
@@ -62,17 +60,13 @@ Heard old last bytes step =
     → IsFrameAt old.state.at last step
     × IsDeliveredCertified last codeword (message_of old.link.setup.mode sent.codeword_is.bch_word) (header_at old.link.setup.roll_off at field) field
 
--- Where the search stands at such a frame behind a header that passes there, and the first Nbch decided bits differ from the BCH word that
--- was sent in at most t places, the answer is that frame, delivered with just so many bits changed, its message the one that was sent,
--- whatever its verdict.
+-- Where the search stands at a whole frame behind a header that passes there, the answer is that frame; and where the first Nbch decided
+-- bits differ from the BCH word that was sent in at most t places, it is delivered with just so many bits changed, its message the one that
+-- was sent, whatever its verdict.
 abbrev pub Corrects : (old : Receiver) (last : Decision) (bytes : Option (List ℕ)) → Step → Type 0
 Corrects old last bytes step =
-    (at : ℕ) (field : List ℕ) (codeword : List Bool) (symbols : List Symbol) (sent : IsSent old.link.setup.mode old.link at field codeword)
-    → IsWholeFrame old.link old.tuning (nat_lt 0 old.state.at) symbols → StandsAt old bytes symbols
-    → differences (k_of old.link.setup.mode) (received_word old.link.setup.mode last.bits) sent.codeword_is.bch_word ≤ t_of old.link.setup.mode
-    → IsFrameAt old.state.at last step
-    × IsDelivered last (differences (k_of old.link.setup.mode) (received_word old.link.setup.mode last.bits) sent.codeword_is.bch_word)
-    (message_of old.link.setup.mode sent.codeword_is.bch_word) (header_at old.link.setup.roll_off at field) field
+    (symbols : List Symbol) → IsWholeFrame old.link old.tuning (nat_lt 0 old.state.at) symbols → StandsAt old bytes symbols
+    → IsFrameAt old.state.at last step × CorrectsWithin old.link.setup.mode old.link last
 
 -- what is decided of the symbols of each such frame of a link
 pub record AllHeard (link : Link) (tuning : Tuning) : Type 0 where

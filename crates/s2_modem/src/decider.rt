@@ -143,8 +143,9 @@ impl<'a> Decide for Decider<'a> {
             self.new.last.verdict self.new.last.bits }
         ensures certified { IsCertifiedBy self.old.link.rows self.new.last.verdict self.new.last }
         ensures within { IsCorrected self.old.link.setup.mode self.new.last self.new.last.outcome }
-        ensures heard { HearsScattered self.old.link self.old.tuning symbols.now self.new.last }
-        ensures both_codes { CorrectsWithin self.old.link self.new.last }
+        ensures heard { HearsScattered self.old.link.setup.mode self.old.link self.old.tuning
+            symbols.now self.new.last }
+        ensures both_codes { CorrectsWithin self.old.link.setup.mode self.old.link self.new.last }
     {
         self.demodulator.find_soft(symbols, self.judge.soft_mut());
         let verdict = self.judge.decide();

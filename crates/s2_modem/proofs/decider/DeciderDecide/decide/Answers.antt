@@ -1,4 +1,4 @@
-use Rattle.s2_modem.proofs.Names.{◌≡◌, ◌≤◌, length, sym, refl, ap, subst, ◌∙◌, refilled, Link, IsMode, HasCodeSizes, code_of, k_of, t_of, differences, received_payload, soft_values, header_at, Decision, IsAsLikely, IsCorrected, IsDelivered, IsDeliveredCertified, frame_soft, frame_decision, received_word, message_of, FindsWord, Reads, Listening, decides, decision_held}
+use Rattle.s2_modem.proofs.Names.{◌≡◌, length, sym, refl, ap, subst, ◌∙◌, refilled, Link, IsMode, HasCodeSizes, code_of, received_payload, soft_values, Decision, IsAsLikely, IsCorrected, CorrectsWithin, HearsScattered, frame_soft, frame_decision, received_word, FindsWord, Reads, Listening, decides, decision_held}
 use Rattle.s2_modem.proofs.CleanFrames.{found_corrected, scattered_law, both_codes_law}
 use Rattle.s2_modem.proofs.DecisionLemmas.{frame_decided, as_likely_on, received_long}
 use Rattle.s2_modem.proofs.decider.DeciderDecide.decide.Goals as goal
@@ -53,19 +53,13 @@ returns-clause-within c =
     (found_corrected c.self.inside.mode so.valid so.sizes (decision k) c.correct-found.new.self.word c.correct-found.result (decision k).delivered long refl (finds k) (reads k))
 
 pub returns-clause-heard : goal.returns-clause-heard
-returns-clause-heard c = λ at field codeword sent scattered.
+returns-clause-heard c =
     let k = (goal.at.returns-clause-heard c).After-decide-self-inside in
     let l = c.args.self.now.link in
-    let (valid, sizes) = of_mode k in
-    subst (λ d. IsDeliveredCertified d codeword (message_of l.setup.mode sent.codeword_is.bch_word) (header_at l.setup.roll_off at field) field) (sym (is_decided k))
-    (scattered_law l.setup.mode valid sizes l c.args.self.now.tuning at c.args.symbols.now field codeword sent scattered)
+    subst (HearsScattered l.setup.mode l c.args.self.now.tuning c.args.symbols.now) (sym (is_decided k)) (scattered_law l.setup.mode (of_mode k).0 (of_mode k).1 l c.args.self.now.tuning c.args.symbols.now)
 
 pub returns-clause-both_codes : goal.returns-clause-both_codes
-returns-clause-both_codes c = λ at field codeword sent few.
+returns-clause-both_codes c =
     let k = (goal.at.returns-clause-both_codes c).After-decide-self-inside in
     let l = c.args.self.now.link in
-    let m = l.setup.mode in
-    let word = sent.codeword_is.bch_word in
-    let (valid, sizes) = of_mode k in
-    subst (λ (d : Decision). differences (k_of m) (received_word m d.bits) word ≤ t_of m → IsDelivered d (differences (k_of m) (received_word m d.bits) word) (message_of m word) (header_at l.setup.roll_off at field) field) (sym (is_decided k))
-    (both_codes_law m valid sizes l c.args.self.now.tuning at c.args.symbols.now field codeword sent) few
+    subst (CorrectsWithin l.setup.mode l) (sym (is_decided k)) (both_codes_law l.setup.mode (of_mode k).0 (of_mode k).1 l c.args.self.now.tuning c.args.symbols.now)
