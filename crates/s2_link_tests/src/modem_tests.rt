@@ -158,7 +158,8 @@ fn assert_uncertified<A: Abort>(
     further: usize,
 ) -> Result<(), Fail> {
     let symbols = sample.symbols.as_slice();
-    let shown = show_behind(alloc, &sample.link, symbols, &symbols[..further])?;
+    let part = &symbols[..further.min(symbols.len())];
+    let shown = show_behind(alloc, &sample.link, symbols, part)?;
     assert_shown(rt, &shown, None);
     Ok(())
 }
