@@ -1,5 +1,5 @@
 -- The link that a command works on, and its files.
-use Rattle.std.specs.Prelude.{◌≡◌, ◌≢◌, ◌⊎◌, ℕ, ◌+◌, List, [], ◌∷◌, Option, Some, None, IfSome, Result, Ok, Err, IfOk}
+use Rattle.std.specs.Prelude.{◌≡◌, ◌≢◌, ◌⊎◌, ℕ, ◌+◌, ◌<◌, List, [], ◌∷◌, Option, Some, None, IfSome, Result, Ok, Err, IfOk}
 use Rattle.std.specs.Borrow.{Bor}
 use Rattle.s2_mode.specs.Counts.{CanCount}
 use Rattle.s2_mode.specs.Mode.{shape_in}
@@ -80,9 +80,9 @@ Causes old new ended = OnlyFailed (ended ≡ Err faults.Read) (ended ≡ Err fau
 
 -- ---- the link
 
--- there was no memory for what was asked for meanwhile
+-- there was no memory for what was asked for meanwhile: more was refused
 abbrev pub Lacks : (old new : Memory) → Type 0
-Lacks old new = new.refused ≢ old.refused
+Lacks old new = old.refused < new.refused
 
 -- a link on these rows, or why there are none
 abbrev pub link_on : Setup → Result Rows Fault → Result Link Fault

@@ -1,5 +1,5 @@
 //! Memory for what `mod` makes, and how often there was none.
-ghost use Rattle.std.specs.Prelude.{◌≡◌, ◌≢◌, ◌+◌, Err, IfOk, IfSome, IsNone};
+ghost use Rattle.std.specs.Prelude.{◌≡◌, ◌≢◌, ◌+◌, ◌<◌, Err, IfOk, IfSome, IsNone};
 ghost use Rattle.s2_mode.specs.Counts.{CanCount};
 ghost use Rattle.s2_mode.specs.Mode.{shape_in};
 ghost use Rattle.s2_console.specs.Exits.{Follows};
@@ -47,7 +47,7 @@ impl Memory {
         ensures no_memory { result ≡ Err Fault.NoMemory → IsAccepted (R.remaining rows.old) (rows_in (shape_in mode.now)) }
         ensures write { result ≢ Err Fault.Write }
         ensures granted { IfOk result (λ _. self.new ≡ self.old) }
-        ensures refused { result ≡ Err Fault.NoMemory → self.new.refused ≢ self.old.refused }
+        ensures refused { result ≡ Err Fault.NoMemory → self.old.refused < self.new.refused }
     {
         match read_noted(self.alloc, mode, rows, quiet, notes) {
             Err(Fault::NoMemory) => {
@@ -63,7 +63,7 @@ impl Memory {
         requires { CanCount self.old.refused }
         ensures is { IfSome result (λ t. t ≡ new_transmitter link.now) }
         ensures granted { IfSome result (λ _. self.new ≡ self.old) }
-        ensures refused { IsNone result → self.new.refused ≢ self.old.refused }
+        ensures refused { IsNone result → self.old.refused < self.new.refused }
     {
         match Transmitter::on_link(self.alloc, link) {
             Ok(transmitter) => Some(transmitter),

@@ -1,5 +1,5 @@
 //! The commands on the files and streams that their words name.
-ghost use Rattle.std.specs.Prelude.{◌≡◌, ◌≢◌, ◌↔◌, ℕ, List, Option, IsSome, IfSome, IsTrue, IsFalse};
+ghost use Rattle.std.specs.Prelude.{◌≡◌, ◌<◌, ◌↔◌, ℕ, List, Option, IsSome, IfSome, IsTrue, IsFalse};
 ghost use Rattle.s2_mode.specs.Counts.{CanCount};
 ghost use Rattle.s2_mode.specs.Mode.{IsMode, mode_of};
 ghost use Rattle.s2_mode.specs.Shape.{IsShape};
@@ -129,7 +129,7 @@ fn serve_rows<R: Disk + AllocGlobal, O: CountedWrite, E: CountedWrite>(
 ) -> Result<Exit, Fault<'static>>
     requires { CanShow console.old }
     ensures { (input : Option (List ℕ)) (count : ℕ) →
-        Began R.holds R.tells R.leaves (count ≢ count) (Request.Rows words.now) input result console.old console.new }
+        Began R.holds R.tells R.leaves (count < count) (Request.Rows words.now) input result console.old console.new }
 {
     let Some(shape) = shape_of(words.shape) else {
         return Err(no_shape());
@@ -174,7 +174,7 @@ fn serve_table<'a, R: Disk + AllocGlobal, O: CountedWrite, E: CountedWrite>(
 ) -> Result<Exit, Fault<'a>>
     requires { CanTell console.old }
     ensures { (input : Option (List ℕ)) (count : ℕ) →
-        Began R.holds R.tells R.leaves (count ≢ count) (Request.Table words.now) input result console.old console.new }
+        Began R.holds R.tells R.leaves (count < count) (Request.Table words.now) input result console.old console.new }
 {
     let Some(mode) = Mode::of(words.modcod, words.short, false) else {
         return Err(no_mode());
@@ -226,7 +226,7 @@ fn serve_judge<'a, R: Disk + AllocGlobal, O: CountedWrite, E: CountedWrite>(
 ) -> Result<Exit, Fault<'a>>
     requires { CanTell console.old }
     ensures { (input : Option (List ℕ)) (count : ℕ) →
-        Began R.holds R.tells R.leaves (count ≢ count) (Request.Judge words.now) input result console.old console.new }
+        Began R.holds R.tells R.leaves (count < count) (Request.Judge words.now) input result console.old console.new }
 {
     let place = place_beside(words.certificate);
     let Some(shape) = shape_of(words.shape) else {
@@ -260,7 +260,7 @@ fn serve_check<'a, R: Disk + AllocGlobal, O: CountedWrite, E: CountedWrite>(
 ) -> Result<Exit, Fault<'a>>
     requires { CanShow console.old }
     ensures { (input : Option (List ℕ)) (count : ℕ) →
-        Began R.holds R.tells R.leaves (count ≢ count) (Request.Check words.now) input result console.old console.new }
+        Began R.holds R.tells R.leaves (count < count) (Request.Check words.now) input result console.old console.new }
 {
     let mut files = open_check(rt, words)?;
     let exit = check_command(rt.alloc(), &mut files, console);
@@ -307,7 +307,7 @@ fn serve_noise<'a, R: Disk + Clock + AllocGlobal, O: CountedWrite, E: CountedWri
 ) -> Result<Exit, Fault<'a>>
     requires { CanShow console.old }
     ensures { (input : Option (List ℕ)) (count : ℕ) →
-        Began R.holds R.tells R.leaves (count ≢ count) (Request.Noise words.now) input result console.old console.new }
+        Began R.holds R.tells R.leaves (count < count) (Request.Noise words.now) input result console.old console.new }
 {
     let show = show_on(terminal, Pace::Spoiling, words.progress);
     let opened = open_noise(rt, words)?;
@@ -330,7 +330,7 @@ fn serve_demod<'a, R: Disk + Clock + AllocGlobal, O: CountedWrite, E: CountedWri
 ) -> Result<Exit, Fault<'a>>
     requires { CanTell console.old }
     ensures { (input : Option (List ℕ)) (count : ℕ) →
-        Began R.holds R.tells R.leaves (count ≢ count) (Request.Demod words.now) input result console.old console.new }
+        Began R.holds R.tells R.leaves (count < count) (Request.Demod words.now) input result console.old console.new }
 {
     let place = place_of(words.packets);
     let Some(setup) = setup_of(&words.link) else {
@@ -366,7 +366,7 @@ fn serve_run<'a, R: Disk + Clock + AllocGlobal, O: CountedWrite, E: CountedWrite
 ) -> Result<Exit, Fault<'a>>
     requires { CanTell console.old }
     ensures { (input : Option (List ℕ)) (count : ℕ) →
-        Began R.holds R.tells R.leaves (count ≢ count) (Request.Run words.now) input result console.old console.new }
+        Began R.holds R.tells R.leaves (count < count) (Request.Run words.now) input result console.old console.new }
 {
     let place = place_of(words.to);
     let Some(setup) = setup_of(&words.link) else {
