@@ -1,5 +1,5 @@
 #!/usr/bin/env python3
-"""Checks a certificate of version 2 without the modem: examples/check.py ROWS CERTIFICATE
+"""Checks a certificate of version 2 without the modem: examples/check.py ROWS CERTIFICATE. Exit 0 where it is accepted, else 2.
 
 A check moves its amount to one of its bits from each of its others. Another codeword differs from the word in an even number of the
 check's bits, to which no more comes by that move than goes. So it costs more by at least what the bits where it differs have left."""
@@ -34,4 +34,6 @@ def checked(rows, file):
 
 if __name__ == "__main__":
     lines = [line.split() for line in open(sys.argv[1], encoding="ascii")]
-    print(checked([list(map(int, it)) for it in lines if it and it[0][0] != "#"], open(sys.argv[2], "rb").read()))
+    said = checked([list(map(int, it)) for it in lines if it and it[0][0] != "#"], open(sys.argv[2], "rb").read())
+    print(said)
+    sys.exit(2 * said.startswith("no"))

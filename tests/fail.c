@@ -1,4 +1,4 @@
-/* For LD_PRELOAD: fails one read or write of a file, as where a device breaks, and only that one.
+/* For LD_PRELOAD: fails one read, write or cut of a file, as where a device breaks, and only that one.
 
    The calls on the file FAIL_FILE, whose path is told whole, count from 1, and the one of the number FAIL_AT fails. Then the file
    FAIL_TOLD is made, so that who started the program knows: it holds how many bytes were moved before. */
@@ -32,16 +32,24 @@ static void tell(void) {
     }
 }
 
-static ssize_t move(long call, int file, void *bytes, size_t size) {
+/* Whether this call on a file is the one that fails. */
+static int fails(int file) {
     const char *at = getenv("FAIL_AT");
     if (!is_named(file))
-        return syscall(call, file, bytes, size);
+        return 0;
     calls += 1;
-    if (at && calls == strtoul(at, 0, 10)) {
-        tell();
-        errno = EIO;
+    if (!at || calls != strtoul(at, 0, 10))
+        return 0;
+    tell();
+    errno = EIO;
+    return 1;
+}
+
+static ssize_t move(long call, int file, void *bytes, size_t size) {
+    if (fails(file))
         return -1;
-    }
+    if (!is_named(file))
+        return syscall(call, file, bytes, size);
     ssize_t done = syscall(call, file, bytes, size);
     moved += done > 0 ? done : 0;
     return done;
@@ -52,3 +60,7 @@ ssize_t read(int file, void *to, size_t size) { return move(SYS_read, file, to, 
 ssize_t write(int file, const void *from, size_t size) { return move(SYS_write, file, (void *)from, size); }
 
 ssize_t __write(int file, const void *from, size_t size) { return move(SYS_write, file, (void *)from, size); }
+
+int ftruncate(int file, off_t size) { return fails(file) ? -1 : (int)syscall(SYS_ftruncate, file, size); }
+
+int ftruncate64(int file, off_t size) { return fails(file) ? -1 : (int)syscall(SYS_ftruncate, file, size); }

@@ -1,17 +1,25 @@
-"""Certificates by settling on small codes, by the rule's description over checks and members, as the tests of s2_settle
-have them.
+"""Certificates by settling, by the rule's description over checks and members, as the tests of s2_settle have them.
 
 A code is the size of a group, how many groups, q, and the address rows; `settle` gives the shares of each edge, check by
-check, members rising, or None where no certificate is found.
+check, members rising, or None where no certificate is found. `Trace` counts what it took.
 """
 
 import os
 import sys
+from collections import deque
 
 sys.path.insert(0, os.path.join(os.path.dirname(__file__), "..", "minsum"))
 from values import members  # noqa: E402
 
 SCALE, MOST_MOVED = 16, 2**20
+FIRST_RESERVE, MOST_SERVED = 256, 4000
+
+
+class Trace:
+    """What an attempt took: passes, and of each queue how many checks it served."""
+
+    def __init__(self):
+        self.passes, self.served, self.counts = 0, [], []
 
 
 def give_moves(rests, check, move, sign):
@@ -43,6 +51,32 @@ def run_layer(checks, rests, moves, layer, reserve):
         moves[j] = new[j]
 
 
+def run_queue(checks, checks_of, rests, moves):
+    """Serves the checks of lacking bits, one after another; gives how many were served."""
+    waiting, waits = deque(), set()
+
+    def call(i):
+        for j in checks_of[i]:
+            if j not in waits:
+                waits.add(j)
+                waiting.append(j)
+
+    for i, rest in enumerate(rests):
+        if rest < 1:
+            call(i)
+    served = 0
+    while waiting and served < MOST_SERVED:
+        j = waiting.popleft()
+        waits.remove(j)
+        before = {i: rests[i] for i in checks[j]}
+        run_layer(checks, rests, moves, [j], 0)
+        for i in checks[j]:
+            if rests[i] < 1 and rests[i] != before[i]:
+                call(i)
+        served += 1
+    return served
+
+
 def shares(checks, word, moves):
     """In favour of the word the target's share is minus the amount, and every other member's the amount."""
     listed = []
@@ -53,25 +87,45 @@ def shares(checks, word, moves):
     return listed
 
 
-def settle(group, groups, q, rows, soft, word, passes):
+def find_moves(checks, q, values, passes, trace):
+    """The moves of the checks that leave each bit a rest of at least 1, or None. The values are in favour of the word."""
+    n = len(values)
+    checks_of = [[] for _ in range(n)]
+    for j, check in enumerate(checks):
+        for i in check:
+            checks_of[i].append(j)
+    rests = [SCALE * v for v in values]
+    moves = [None] * len(checks)
+    reserve, before, tried = FIRST_RESERVE, 0, None
+    done = 0
+    while True:
+        now = sum(v < 1 for v in rests)
+        trace.counts.append(now)
+        if now == 0:
+            return moves
+        if done == passes or (done >= 3 and now > n // 200 and now >= before + before // 64):
+            return None
+        if now <= n // 200 and (tried is None or 2 * now <= tried):
+            tried = now
+            trace.served.append(run_queue(checks, checks_of, rests, moves))
+            if min(rests) >= 1:
+                return moves
+        if done >= 2:
+            fallen = 320 * (before - now) // before if before > now else 0
+            reserve = max(0, reserve - min(64, max(12, fallen)))
+        before = now
+        for r in range(q):
+            run_layer(checks, rests, moves, range(r, len(checks), q), reserve)
+        done += 1
+        trace.passes = done
+
+
+def settle(group, groups, q, rows, soft, word, passes, trace=None):
     checks = members(group, groups, q, rows)
     assert all(sum(word[i] for i in check) % 2 == 0 for check in checks)
-    rests = [SCALE * (-v if one else v) for v, one in zip(soft, word)]
-    moves = [None] * len(checks)
-    earlier = 0
-    for done in range(passes + 1):
-        negative = sum(v < 0 for v in rests)
-        if negative == 0:
-            return shares(checks, word, moves)
-        if done == passes:
-            return None
-        if done % 4 == 0:
-            if done >= 8 and negative > len(soft) // 128 and negative >= earlier + earlier // 16:
-                return None
-            earlier = negative
-        for r in range(q):
-            run_layer(checks, rests, moves, range(r, len(checks), q), max(0, 256 - 8 * done))
-    return None
+    values = [-v if one else v for v, one in zip(soft, word)]
+    moves = find_moves(checks, q, values, passes, trace or Trace())
+    return None if moves is None else shares(checks, word, moves)
 
 
 # A code, soft values, the ones of a word, and passes.
@@ -94,17 +148,17 @@ CASES = {
         17, 235, 17, -120, -149, 91, -97, 491, 351, 302, -299, -113, 465, 207, 8, -511, -322, 154, -195, 511, -506, -87,
         -197, 233, 294, 340, 355, 340, 116, -131, -251, 49, -82, -225, 216, -325,
     ], [4, 6, 10, 11, 14, 15, 16, 18, 20, 22, 29, 30, 31, 32, 33, 35], 3),
-    # The least rest in favour of the word is 1, and 0.
+    # The least rest in favour of the word is 1; and one pass before it is 0.
     "REST_OF_ONE": ((1, 3, 5, [[0, 1, 3], [0, 2], [1, 4]]), [
-        54, 261, 54, 50, 106, 153, -449, -172,
-    ], [0, 3, 6, 7], 3),
+        170, 33, -336, -121, -304, -110, 221, 27,
+    ], [0, 2, 3, 4, 5, 7], 4),
     "REST_OF_ZERO": ((1, 3, 5, [[0, 1, 3], [0, 2], [1, 4]]), [
-        207, -109, -164, -400, -274, 161, -113, 292,
-    ], [1, 3, 4], 8),
-    # Given up after eight passes; nine would do.
+        -76, 201, 65, 60, 170, 486, 160, 234,
+    ], [], 2),
+    # Given up before pass 3; a fourth pass would do.
     "GIVEN_UP": (TOY, [
-        178, 86, 453, -191, -511, -360, 381, -394, -79, 337, -365, -262, 64, 336, -262, 193, 84, -157, -62, 183,
-    ], [1, 4, 5, 7, 8, 10, 11, 13, 14, 17], 40),
+        -381, 366, 40, 271, 81, 253, -84, -97, -32, -511, 77, 257, -204, -511, 339, 58, 14, 511, 240, -143,
+    ], [0, 2, 7, 8, 9, 12, 13, 16, 19], 40),
 }
 
 if __name__ == "__main__":

@@ -92,6 +92,11 @@ def certified(code, checks, soft, bits, passes):
     return rests
 
 
+def decoded(code, checks, soft, bits, passes):
+    """For what min-sum found: with passes by settling alone."""
+    return settled(code, checks, soft, bits, passes) if passes else certified(code, checks, soft, bits, 0)
+
+
 def shown(bits, rests):
     least = min(rests)
     return "sole" if least >= 1 else "most-likely", bits, least
@@ -111,7 +116,7 @@ def verdict(code, soft, passes, rounds=50, factor=12, uncertified=False):
     for done in range(rounds):
         bits = [v < 0 for v in values.run(*code, soft, done + 1, factor=factor)[0]]
         if not any(odd(checks, bits)):
-            rests = None if uncertified else certified(code, checks, soft, bits, passes)
+            rests = None if uncertified else decoded(code, checks, soft, bits, passes)
             return ("parity", bits, None) if rests is None else shown(bits, rests)
     return ("parity", repair, None) if is_codeword else ("broken", bits, None)
 
@@ -125,8 +130,8 @@ CASES = {
     "a pair": (PAIR, [-5, 3], 0),
     "a pair that disagrees": (PAIR, [-5, 5], 0),
     "a chain": (CHAIN, [0, -1, -1, 0], 0),
-    "REST_OF_ONE": (FIVE, [54, 261, 54, 50, 106, 153, -449, -172], 3),
-    "REST_OF_ZERO": (FIVE, [207, -109, -164, -400, -274, 161, -113, 292], 8),
+    "REST_OF_ONE": (FIVE, [170, 33, -336, -121, -304, -110, 221, 27], 4),
+    "REST_OF_ZERO": (FIVE, [-76, 201, 65, 60, 170, 486, 160, 234], 2),
     "GIVEN_BACK_VALUES": (GIVEN_BACK, [23, 11, -8, -9, 4, 20, 20, -2, 6, 17, 9, 6], 0),
 }
 

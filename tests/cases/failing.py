@@ -1,4 +1,4 @@
-"""Reads and writes that fail in turn."""
+"""Reads, writes and cuts that fail in turn."""
 from cases.common import LINK, LONG_ROWS, PAIR, TOY
 
 READ, WRITE = "cannot read", "cannot write"
@@ -58,3 +58,5 @@ FAILING = [
     (RUN, "out", WRITE, [(0, 0), (188, 26)]),
     (RUN, "printed", WRITE, FRAMES),
 ]
+# Commands whose first call on an existing `out` truncates it.
+CUTTING = [MOD, DEMOD, NOISE, RUN, f"judge {TOY} --cert out toy stored", f"judge {PAIR} --cert out pair odd"]

@@ -1,4 +1,6 @@
 """`rows`, `mod`, `noise`, `demod` and `run`."""
+import functools
+
 from cases.common import ANY, DIVISORS, LINK, LONG_ROWS, NO, ONE, PACKET, PAIR, TOY, TWO, WANTED, Case, digest, ending, fault, noted, size
 from cases.drawn import made_rows, spoilt
 from cases.plain_receiver import broken, checks_of, soft_value, weakened
@@ -77,6 +79,13 @@ def cut(frames, count):
     return code, f"{frames * ONE}{line}end frames {frames} delivered {frames} packets {frames} bad 0\n"
 
 
+def wrong_headers(two, count, frame=8190):
+    """The symbols with so many bits of the second header inverted, first those that all headers have in common."""
+    at = 4 * frame
+    turned = bytes(byte for sample in range(at, at + 4 * count, 2) for byte in (-int.from_bytes(two[sample : sample + 2], "big", signed=True)).to_bytes(2, "big", signed=True))
+    return two[:at] + turned + two[at + 4 * count :]
+
+
 def demod(two, single):
     """The cases over the symbols of the two packets in short frames, and of the single one in a normal frame."""
     cut_two = [(65_519, 8189), (65_516, 8189), (33_120, 90), (33_119, 0), (32_760, 0)]
@@ -84,6 +93,7 @@ def demod(two, single):
     return [
         received(two, 0, TWO, 2 * PACKET),
         received(two + b"123", 0, TWO, 2 * PACKET),
+        received(wrong_headers(two, 12), 0, TWO, 2 * PACKET),
         received(single, 0, SINGLE, PACKET, "--modcod 1 normal4"),
         # the second packet began in the first frame
         *(received(two[:size], *cut(1, count), PACKET, errors=noted("1 packets torn") if count else "") for size, count in cut_two),
@@ -173,6 +183,10 @@ RUN = [
 # A seed and a level behind which two rounds of min-sum leave another count of wrong bits by each divisor, and sizes of components
 # around those from which on a soft value is not 0.
 NOISY, WEAK = (14, 670), (1, 2, 3, 5, 6, 11, 12, 23, 24)
+# A seed and a level for which only the second header has 13 to 30 wrong bits.
+LOCKED = (10, 840)
+# Others for which two rounds leave different counts for different headers and scrambling numbers.
+TURNED = (8, 600)
 # By each of these factors it leaves another count, too.
 FACTORS = (12, 13, 14, 16)
 # Words that are best for QPSK 1/4, and those that win over them, also by what is their default: the divisor and the factor.
@@ -185,18 +199,24 @@ TUNED = [
 ]
 
 
-def divided(two, rows):
+def reporting(two, rows):
+    """Returns a function that computes the report of the two packets with that noise after two rounds, for a divisor and a factor."""
+    checks, noisy = checks_of(rows), spoilt(two, *NOISY)
+    return functools.cache(lambda divisor, factor: broken(checks, two, noisy, divisor, 2, factor))
+
+
+def divided(two, report_by):
     """The cases of divisors over the symbols of the two packets: with noise, without, and so weak that a large divisor leaves
     nothing of them, which is the word of zeros; and with noise those of factors, and of what is best."""
-    checks, noisy, noise = checks_of(rows), spoilt(two, *NOISY), "--rounds 2 --seed {} --level {}".format(*NOISY)
+    noisy, noise = spoilt(two, *NOISY), "--rounds 2 --seed {} --level {}".format(*NOISY)
     lost = TWO.replace("sole fixed 0", "most-likely lost").replace("delivered 2 packets 2", "delivered 0 packets 0")
-    usual = broken(checks, two, noisy, DIVISORS[0], 2)
+    usual = report_by(DIVISORS[0], 12)
     cases = [
         received(noisy, NO, usual, 2 * PACKET, f"{LINK} --rounds 2 made"),
         run(f"{LINK} {noise} made", NO, usual, 2 * PACKET),
     ]
     for divisor in DIVISORS:
-        words, report = f"{LINK} --divisor {divisor}", broken(checks, two, noisy, divisor, 2)
+        words, report = f"{LINK} --divisor {divisor}", report_by(divisor, 12)
         cases += [
             received(two, 0, TWO, 2 * PACKET, f"{words} made"),
             run(f"{words} --seed 1 --level 0 made", 0, TWO, 2 * PACKET),
@@ -207,7 +227,7 @@ def divided(two, rows):
             ends = (0, TWO, 2 * PACKET) if soft_value((component, component), 0, divisor) else (NO, lost, b"")
             cases.append(received(weakened(two, component), *ends, f"{words} made"))
     for words, divisor, factor in [*((f"--factor {factor}", DIVISORS[0], factor) for factor in FACTORS), *TUNED]:
-        report = broken(checks, two, noisy, divisor, 2, factor)
+        report = report_by(divisor, factor)
         cases += [
             received(noisy, NO, report, 2 * PACKET, f"{LINK} {words} --rounds 2 made"),
             run(f"{LINK} {words} {noise} made", NO, report, 2 * PACKET),

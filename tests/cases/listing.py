@@ -85,7 +85,8 @@ NO_NAMES = [
     ("3/4", FORMS),
 ]
 LINKED = ("mod", "demod", "run")
-SWITCHES = ["--pilots yes", "--pilots no", "--pilots on", "--pilots OFF", "--pilots True", "--pilots 1", "--pilots=1", "--pilots=off", "--pilots="]
+SWITCHES = [f"--pilots {text}" for text in ("on", "off", "yes", "no", "true", "false", "1", "0", "OFF", "True", "FALSE")]
+SWITCHES += ["--pilots=1", "--pilots=0", "--pilots=off", "--pilots=false", "--pilots="]
 MISUSES = [
     ("mod --modcod -1 made packets out", "error: invalid value '-1' for '--modcod <M>': -1 is not in 1..=17"),
     ("table --modcod 18 made", "error: invalid value '18' for '--modcod <M>': 18 is not in 1..=17"),

@@ -18,9 +18,9 @@ def turned_back(symbol, turn):
     return [(i, q), (q, negative(i)), (negative(i), negative(q)), (negative(q), i)][turn]
 
 
-def payloads(symbols):
-    """The payload of each frame."""
-    frames, turns = list(struct.iter_unpack(">hh", symbols)), quarter_turns(0, FRAME - HEADER)
+def payloads(symbols, number=0):
+    """The payload of each frame, by the number of the scrambling sequence."""
+    frames, turns = list(struct.iter_unpack(">hh", symbols)), quarter_turns(number, FRAME - HEADER)
     for at in range(HEADER, len(frames), FRAME):
         yield [turned_back(*each) for each in zip(frames[at : at + FRAME - HEADER], turns)]
 
@@ -87,11 +87,11 @@ def decisions(checks, soft, rounds, factor):
         yield [value < 0 for value in posteriors]
 
 
-def broken(checks, sent, noisy, divisor, rounds, factor=12):
+def broken(checks, sent, noisy, divisor, rounds, factor=12, number=0):
     """The report of frames of which no step finds a codeword, where outer coding corrects all: how many of the first bits of
     min-sum's last decision are not those sent."""
     lines = []
-    for number, (clean, payload) in enumerate(zip(payloads(sent), payloads(noisy))):
+    for number, (clean, payload) in enumerate(zip(payloads(sent, number), payloads(noisy, number))):
         soft = soft_values(payload, divisor)
         hard = [value < 0 for value in soft]
         words = [hard, repaired(checks, hard), *decisions(checks, soft, rounds, factor)]

@@ -1,10 +1,11 @@
 """Outputs that stay whole, files that are used twice, and standard streams."""
-from cases.common import LINK, PACKET, STORED, STORED_MOVED, TOY, TWO, WANTED, Case, Rule, fault, size
-from cases.links import SAMPLES, SPOILT
+from cases.common import LINK, NO, PACKET, PAIR, STORED, STORED_MOVED, TOY, TWO, WANTED, Case, Rule, fault, size
+from cases.drawn import spoilt
+from cases.links import NONE, SAMPLES, SPOILT
 
 NOISE, RUN, DEMOD = "noise --seed 1 --level 256", f"run {LINK} --seed 1 --level 0", f"demod {LINK}"
 SENT, TOO_FEW = "packets 2 frames 2\n", "rows: too few rows"
-LONG = bytes(range(100))
+LONG, LONGER = bytes(range(100)), 1000 * b"longer "
 
 
 def twice(words, name, **more):
@@ -27,7 +28,26 @@ WHOLE = [
     Case(f"mod {LINK} made packets long", out=SENT, reads={"long": 70_000 * b"l"}, writes={"long": size(65_520)}),
     Case(f"{NOISE} in long", reads={"in": SAMPLES, "long": LONG}, writes={"long": SPOILT}),
     fault(f"mod {LINK} made in long", "packets: not a whole packet", reads={"in": b"\x47", "long": LONG}, writes={"long": b""}),
-    fault(f"{RUN} made in long", "packets: not a whole packet", reads={"in": b"\x47", "long": LONG}, writes={"long": b""}),
+    fault(f"{RUN} made in long", "packets: not a whole packet", reads={"in": b"\x47", "long": LONG}),
+]
+
+# Two files exchanged on the command line: a file with other contents is refused, or another file is written.
+NO_NUMBER = "not a number in line 1"
+EXCHANGED = [
+    fault(f"judge {TOY} stored toy", f"rows: {NO_NUMBER}"),
+    fault(f"judge {TOY} --cert toy out stored", "cannot open out"),
+    fault(f"judge {TOY} --cert old stored toy", f"rows: {NO_NUMBER}"),
+    fault(f"judge {TOY} --cert stored toy old", f"values: {NO_NUMBER}"),
+    fault("check certificate toy", "certificate: magic"),
+    fault(f"mod {LINK} made old packets", "packets: not a whole packet", writes={"packets": b""}),
+    fault(f"mod {LINK} old packets made", f"rows: {NO_NUMBER}", WANTED),
+    Case(f"{NOISE} long in", reads={"in": SAMPLES, "long": LONG}, writes={"in": spoilt(LONG, 1, 256)}),
+    fault(f"{DEMOD} in made old", f"rows: {NO_NUMBER}", WANTED, reads={"in": SAMPLES}),
+    fault(f"{DEMOD} old in made", f"rows: {NO_NUMBER}", WANTED, reads={"in": SAMPLES}),
+    Case(f"{DEMOD} made old in", out=NONE, reads={"in": SAMPLES}, writes={"in": b""}),
+    fault(f"{RUN} packets made old", f"rows: {NO_NUMBER}", WANTED),
+    fault(f"{RUN} old packets made", f"rows: {NO_NUMBER}", WANTED),
+    fault(f"{RUN} made out packets", "cannot open out"),
 ]
 
 TWICE = [
@@ -105,6 +125,11 @@ def streams(two, rows):
             (f"{DEMOD} made in -", {"reads": {"in": two}}),
             (f"{RUN} made packets -", {}),
         ]),
+        # nothing is left of an output that was longer
+        Case(f"{DEMOD} made in long", out=TWO, reads={"in": two, "long": LONGER}, writes={"long": 2 * PACKET}),
+        Case(f"{RUN} made packets long", out=TWO, reads={"long": LONGER}, writes={"long": 2 * PACKET}),
+        Case(f"judge {TOY} --cert long toy stored", out="sole cost -45\n", reads={"long": LONGER}, writes={"long": STORED_MOVED}),
+        Case(f"judge {PAIR} --cert long pair odd", NO, "broken cost -5 check 0\n", reads={"long": LONGER}, writes={"long": b""}),
         # what stands in standard output is not cut
         Case(f"{NOISE} in -", reads={"in": SAMPLES, "long": LONG}, to="long", writes={"long": SPOILT + LONG[8:]}),
     ]

@@ -45,7 +45,7 @@ unsplit_same : (r : Rows) (soft : List ℤ) (word : List Bool) → view_of r (fi
 unsplit_same r soft word =
     let code = code_of r in
     let view = unsplit_view r soft word in
-    let with_shares : List ℤ → View = λ l. record { shape = view.shape; scale = view.scale; soft = view.soft; bits = view.bits; shares = l; split = view.split } in
+    let with_shares : List ℤ → View = λ l. record { rows = view.rows; scale = view.scale; soft = view.soft; bits = view.bits; shares = l; split = view.split } in
     let split = placed_of code word 1 (replicate code.checks no_move) in
     ap with_shares (zeros_listed split.share (members code) (upto code.checks) (share_none code word code.checks))
 

@@ -64,22 +64,6 @@ pub(crate) fn moved(listed: &[u8; SIZE], amount: u8) -> [u8; MOVED_SIZE] {
     file
 }
 
-/// The file of the wrong bit as moves, with another byte at a place.
-pub(crate) fn moved_with_byte(at: usize, byte: u8) -> [u8; MOVED_SIZE] {
-    let mut file = moved(&wrong_bit(), 4);
-    if at < MOVED_SIZE {
-        file[at] = byte;
-    }
-    file
-}
-
-/// The file of the wrong bit as moves, of which check 0 has this one.
-pub(crate) fn moved_by(entry: &[u8; 6]) -> [u8; MOVED_SIZE] {
-    let mut file = moved(&wrong_bit(), 4);
-    file[56..62].copy_from_slice(entry);
-    file
-}
-
 /// Of two bits that are to be the same, values -5 and 3, scale 2, ones: so much is moved to the bit at a place.
 pub(crate) fn pair_file(place: u8, amount: [u8; 4]) -> [u8; 24] {
     let mut file = [

@@ -89,7 +89,7 @@ pub(crate) fn are_words(shares: &[i32]) -> bool
 /// The view of listed shares.
 fn listed<'a, R: Abort>(
     rt: &R,
-    matrix: &Matrix,
+    matrix: &'a Matrix,
     soft: &'a [i16],
     word: &'a Bits,
     shares: &'a [i32],

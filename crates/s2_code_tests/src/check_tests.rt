@@ -300,7 +300,12 @@ fn assert_cost<R: Abort>(rt: &R, soft: &[i16; 20], word: &Bits, want: i64) {
 }
 
 /// The view without a split.
-fn unsplit<'a, R: Abort>(rt: &R, matrix: &Matrix, soft: &'a [i16], word: &'a Bits) -> CertView<'a> {
+fn unsplit<'a, R: Abort>(
+    rt: &R,
+    matrix: &'a Matrix,
+    soft: &'a [i16],
+    word: &'a Bits,
+) -> CertView<'a> {
     assert!(rt; soft.len() == matrix.bits());
     assert!(rt; are_soft(soft));
     assert!(rt; word.len() == matrix.bits());
@@ -419,20 +424,6 @@ fn spread(amount: u32) -> [Move; 12] {
     moves
 }
 
-/// Asserts that two views answer alike: so on this matrix, and whatever it is on another.
-fn assert_alike<R: Abort>(
-    rt: &R,
-    matrices: [&Matrix; 2],
-    view: &CertView<'_>,
-    list: &CertView<'_>,
-    want: Answer,
-) {
-    let [matrix, other] = matrices;
-    assert_eq!(rt; checked(matrix, view), want);
-    assert_eq!(rt; checked(matrix, list), want);
-    assert_eq!(rt; checked(other, view), checked(other, list));
-}
-
 /// Asserts that two views show the same shares.
 fn assert_same_shares<R: Abort>(
     rt: &R,
@@ -450,16 +441,17 @@ fn assert_same_shares<R: Abort>(
 pub(crate) fn assert_listed<R: Abort>(
     rt: &R,
     alloc: Global,
-    matrices: [&Matrix; 2],
+    matrix: &Matrix,
     view: &CertView<'_>,
     want: Answer,
 ) -> Result<(), Fail> {
     let file = file_of(alloc, view)?;
     let certificate = read(alloc, &file)?;
-    let Some(list) = certificate.view(matrices[0]) else {
+    let Some(list) = certificate.view(matrix) else {
         return Err(Fail::from("another shape"));
     };
-    assert_alike(rt, matrices, view, &list, want);
+    assert_eq!(rt; checked(matrix, view), want);
+    assert_eq!(rt; checked(matrix, &list), want);
     assert_same_shares(rt, alloc, view, &list)
 }
 
@@ -467,36 +459,64 @@ pub(crate) fn assert_listed<R: Abort>(
 fn assert_as_listed<R: Abort>(
     rt: &R,
     alloc: Global,
-    matrices: [&Matrix; 2],
+    toy: &Matrix,
     amount: u32,
     want: Answer,
 ) -> Result<(), Fail> {
     let word = zeros(alloc, 20)?;
     let moves = spread(amount);
-    let view = placed(rt, matrices[0], 16, &WEAK, &word, &moves);
-    assert_listed(rt, alloc, matrices, &view, want)
+    let view = placed(rt, toy, 16, &WEAK, &word, &moves);
+    assert_listed(rt, alloc, toy, &view, want)
 }
 
-fn assert_moves_listed<R: Abort>(
-    rt: &R,
-    alloc: Global,
-    matrices: [&Matrix; 2],
-) -> Result<(), Fail> {
+fn assert_moves_listed<R: Abort>(rt: &R, alloc: Global, toy: &Matrix) -> Result<(), Fail> {
     let no = Answer::No(Refusal::BoundBelow);
     for (amount, want) in [(3, no), (4, Answer::Yes), (16, Answer::Yes), (17, no)] {
-        assert_as_listed(rt, alloc, matrices, amount, want)?;
+        assert_as_listed(rt, alloc, toy, amount, want)?;
     }
     Ok(())
-}
-
-/// Asserts the same beside a matrix of other rows.
-fn assert_moves_listed_beside<R: Abort>(rt: &R, alloc: Global, toy: &Matrix) -> Result<(), Fail> {
-    let other = matrix_of(alloc, (TOY.0, b"0 4 9\n0 1 2\n"))?;
-    assert_moves_listed(rt, alloc, [toy, &other])
 }
 
 #[test]
 fn checks_moves_as_their_shares(rt: HostRuntime) -> Result<(), Fail> {
     let toy = matrix_of(rt.alloc(), TOY)?;
-    assert_moves_listed_beside(&rt, rt.alloc(), &toy)
+    assert_moves_listed(&rt, rt.alloc(), &toy)
+}
+
+/// Asserts that a view is a certificate for a matrix of the rows for which it was lent, and none for other rows of the
+/// same shape.
+fn assert_of_its_rows<R: Abort>(rt: &R, alloc: Global, view: &CertView<'_>) -> Result<(), Fail> {
+    let again = matrix_of(alloc, TOY)?;
+    assert_eq!(rt; checked(&again, view), Answer::Yes);
+    let other = matrix_of(alloc, (TOY.0, b"0 4 9\n0 1 2\n"))?;
+    assert_eq!(rt; checked(&other, view), Answer::No(Refusal::OtherShape));
+    Ok(())
+}
+
+/// Asserts it of the view of a file.
+fn assert_file_of_its_rows<R: Abort>(
+    rt: &R,
+    alloc: Global,
+    toy: &Matrix,
+    file: &[u8],
+) -> Result<(), Fail> {
+    let certificate = read(alloc, file)?;
+    match certificate.view(toy) {
+        Some(view) => assert_of_its_rows(rt, alloc, &view),
+        None => Err(Fail::from("another shape")),
+    }
+}
+
+/// Asserts it of listed shares, of moves, and of no split.
+fn assert_each_of_its_rows<R: Abort>(rt: &R, alloc: Global, toy: &Matrix) -> Result<(), Fail> {
+    assert_file_of_its_rows(rt, alloc, toy, &wrong_bit())?;
+    assert_file_of_its_rows(rt, alloc, toy, &moved(&wrong_bit(), 4))?;
+    let word = zeros(alloc, 20)?;
+    assert_of_its_rows(rt, alloc, &unsplit(rt, toy, &[1; 20], &word))
+}
+
+#[test]
+fn checks_a_view_by_the_rows_for_which_it_was_lent(rt: HostRuntime) -> Result<(), Fail> {
+    let toy = matrix_of(rt.alloc(), TOY)?;
+    assert_each_of_its_rows(&rt, rt.alloc(), &toy)
 }

@@ -1,9 +1,9 @@
 //! Certificate files, by the format.
 use super::certificate_bytes::{
-    CODEWORD, MOVED_SIZE, SIZE, codeword_file, moved, moved_by, moved_with_byte, one_byte_values,
-    pair_file, with_byte, wrong_bit,
+    CODEWORD, MOVED_SIZE, SIZE, codeword_file, moved, one_byte_values, pair_file, with_byte,
+    wrong_bit,
 };
-use s2_file::{CertFault, Contents, Held, Move};
+use s2_file::{CertFault, Contents};
 use std::alloc::Global;
 use std::test::Fail;
 
@@ -65,29 +65,6 @@ fn keeps_to_the_limits(rt: HostRuntime) -> Result<(), Fail> {
     Ok(())
 }
 
-// What is behind the end; of the front alone a shape or a scale of 0, and that one of its bytes lacks.
-#[test]
-fn refuses_in_order(rt: HostRuntime) -> Result<(), Fail> {
-    let alloc = rt.alloc();
-    let mut longer = Vec::from_slice(alloc, &moved_with_byte(13, 0x7F))?;
-    longer.push(0)?;
-    assert_eq!(rt; fault_of(alloc, &longer), Some(CertFault::Extra));
-    for (at, want) in [
-        (4, CertFault::Magic),
-        (6, CertFault::Shape),
-        (8, CertFault::Shape),
-        (10, CertFault::Shape),
-        (12, CertFault::Range),
-        (13, CertFault::Cut),
-    ] {
-        let file = moved_with_byte(at, 0);
-        let before = if at == 4 { want } else { CertFault::Cut };
-        assert_eq!(rt; fault_of(alloc, &file[..13]), Some(want));
-        assert_eq!(rt; fault_of(alloc, &file[..12]), Some(before));
-    }
-    Ok(())
-}
-
 // A third version; a scale of 4096 or 4097; a soft value of 511 or 512; a padding bit; a place of a check that moves
 // nothing.
 #[test]
@@ -135,34 +112,6 @@ fn keeps_to_amounts_of_31_bits(rt: HostRuntime) -> Result<(), Fail> {
     ] {
         assert_eq!(rt; fault_of(alloc, &pair_file(place, amount)), want);
     }
-    Ok(())
-}
-
-/// Whether a file's split is this move in the first check, and none in the others.
-fn moves_once(contents: &Contents, first: Move) -> bool {
-    let none = Move {
-        place: 0,
-        amount: 0,
-    };
-    match contents.held() {
-        Held::Moved(moves) => match moves.split_first() {
-            Some((one, others)) => *one == first && others == [none; 11].as_slice(),
-            None => false,
-        },
-        Held::Listed(_) => false,
-    }
-}
-
-#[test]
-fn reads_moves(rt: HostRuntime) -> Result<(), Fail> {
-    let contents = Contents::read(rt.alloc(), &moved(&codeword_file(), 0))?;
-    assert_eq!(rt; contents.soft(), CODEWORD.as_slice());
-    let first = Move {
-        place: 2,
-        amount: 0x01020304,
-    };
-    let contents = Contents::read(rt.alloc(), &moved_by(&[0, 2, 1, 2, 3, 4]))?;
-    assert!(rt; moves_once(&contents, first));
     Ok(())
 }
 

@@ -296,16 +296,18 @@ fn assert_decided_after<A: Abort>(
     Ok(())
 }
 
-/// Asserts what is decided where passes leave a rest of 1, and where one of 0.
+/// What min-sum decides of the values whose smallest rest is 1.
+const REST_OF_ONE_BITS: [bool; 8] = [true, false, true, true, true, true, false, true];
+
+/// Asserts what is decided where passes leave a rest of 1, and where one pass less leaves one of 0.
 fn assert_rests_decided<A: Abort>(rt: &A, alloc: Global, five: &Matrix) -> Result<(), Fail> {
-    let bits = [true, false, false, true, false, false, true, true];
-    assert_decided_after(rt, alloc, five, &REST_OF_ONE, &bits, 3, SOLE)?;
-    let bits = [false, true, false, true, true, false, false, false];
-    assert_decided_after(rt, alloc, five, &REST_OF_ZERO, &bits, 8, LIKELY)
+    let bits = REST_OF_ONE_BITS;
+    assert_decided_after(rt, alloc, five, &REST_OF_ONE, &bits, 4, SOLE)?;
+    assert_decided_after(rt, alloc, five, &REST_OF_ZERO, &[false; 8], 2, SOLE)
 }
 
 #[test]
-fn a_rest_of_zero_is_not_strict(rt: HostRuntime) -> Result<(), Fail> {
+fn a_rest_of_zero_is_not_enough(rt: HostRuntime) -> Result<(), Fail> {
     let five = matrix_of(rt.alloc(), FIVE)?;
     assert_rests_decided(&rt, rt.alloc(), &five)
 }
@@ -354,8 +356,14 @@ fn uncertified_certifies_what_is_repaired(rt: HostRuntime) -> Result<(), Fail> {
 #[test]
 fn uncertified_leaves_what_min_sum_finds(rt: HostRuntime) -> Result<(), Fail> {
     assert_left(&rt, rt.alloc(), PAIR, &[-5, 3], &[true; 2], PARITY)?;
-    let bits = [true, false, false, true, false, false, true, true];
-    assert_left(&rt, rt.alloc(), FIVE, &REST_OF_ONE, &bits, PARITY)?;
+    assert_left(
+        &rt,
+        rt.alloc(),
+        FIVE,
+        &REST_OF_ONE,
+        &REST_OF_ONE_BITS,
+        PARITY,
+    )?;
     assert_left(
         &rt,
         rt.alloc(),

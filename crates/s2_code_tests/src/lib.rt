@@ -28,6 +28,8 @@ mod field_tests;
 #[cfg(test)]
 mod file_tests;
 #[cfg(test)]
+mod frames_tests;
+#[cfg(test)]
 mod judge_memory_tests;
 #[cfg(test)]
 mod judge_tests;

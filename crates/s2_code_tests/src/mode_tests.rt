@@ -165,14 +165,6 @@ fn counts_a_failed_read(rt: HostRuntime) {
 }
 
 #[test]
-fn keeps_what_came_before_a_failed_read(rt: HostRuntime) {
-    let mut reader = FailAt::new(Counting::new(ByOne::new(b"abc")), 2);
-    let mut buf = [0; 3];
-    assert_eq!(rt; read_full(&mut reader, &mut buf), Err(ReadFault));
-    assert_eq!(rt; buf, *b"ab\0");
-}
-
-#[test]
 fn counts_a_write_that_takes_nothing(rt: HostRuntime) {
     let mut room = [0; 2];
     let mut writer = Counting::new(room.as_mut_slice());
@@ -270,16 +262,6 @@ fn counts_a_write_that_failed_inside(rt: HostRuntime) {
 }
 
 #[test]
-fn tells_a_fault_inside_while_calls_pass(rt: HostRuntime) {
-    let mut reader = FailAt::new(Counting::new(Broken), 1);
-    let mut room = [0; 2];
-    assert_eq!(rt; reader.read(&mut room), Err(ReadFault));
-    assert_eq!(rt; reader.read(&mut room), Err(ReadFault));
-    assert_eq!(rt; reader.count(), 2);
-    assert_eq!(rt; reader.into_inner().count(), 1);
-}
-
-#[test]
 fn says_what_failed(rt: HostRuntime) -> Result<(), Fail> {
     let texts = [
         (format!(in rt.alloc(); "{}", ReadFault)?, "cannot read"),
@@ -364,23 +346,6 @@ fn gives_up_on_an_endless_reader(rt: HostRuntime) {
     let mut reader = Counting::new(Endless::new(b"abc"));
     let all = read_all(rt.alloc(), &mut reader, 100);
     assert_eq!(rt; all.err(), Some(FileFault::TooLong));
-}
-
-/// Asserts that bytes are more than may be read.
-fn assert_too_long<A: Abort>(rt: &A, alloc: Global, bytes: &[u8], most: u16) {
-    let all = read_all(alloc, &mut InMemory::new(bytes), usize::from(most));
-    assert_eq!(rt; all.err(), Some(FileFault::TooLong));
-}
-
-#[test]
-fn reads_a_file_just_as_long_as_it_may_be(rt: HostRuntime) -> Result<(), Fail> {
-    let bytes = vec![in rt.alloc(); b'a'; 5000]?;
-    let all = read_all(rt.alloc(), &mut InMemory::new(&bytes), 5000)?;
-    assert_eq!(rt; all.len(), 5000);
-    for most in [0, 1, 4095, 4096, 4999] {
-        assert_too_long(&rt, rt.alloc(), &bytes, most);
-    }
-    Ok(())
 }
 
 #[test]

@@ -1,4 +1,4 @@
-//! Small codes against a small program in another language (bench/settle/shares.py).
+//! Small codes against a small program in another language (bench/settle/shares.py, bench/settle/frames.py).
 ghost use Rattle.std.specs.Prelude.{◌≡◌, All, IfOk, length};
 ghost use Rattle.s2_matrix.specs.Code.{code_of, IsCodeword};
 ghost use Rattle.s2_check.specs.Views.{IsSoft};
@@ -34,9 +34,9 @@ const THREE_PASSES: [i16; 20] = [
 const THREE_PASSES_ONES: [usize; 13] = [0, 1, 2, 3, 5, 8, 10, 11, 12, 13, 15, 17, 19];
 
 const THREE_PASSES_SHARES: [i32; 47] = [
-    1708, 1708, -1708, -33, -33, -33, 33, -115, 115, 115, 115, -1074, -1074, -1074, 1074, -806,
-    -806, 806, -806, -1679, 1679, -1679, -1679, -889, -889, -889, 889, 0, 0, 0, 0, -2534, -2534,
-    -2534, 2534, -490, 490, 490, 490, -119, 119, -119, -119, -372, 372, -372, -372,
+    1705, 1705, -1705, -29, -29, -29, 29, -112, 112, 112, 112, -1072, -1072, -1072, 1072, -805,
+    -805, 805, -805, -1676, 1676, -1676, -1676, -888, -888, -888, 888, 0, 0, 0, 0, -2532, -2532,
+    -2532, 2532, -486, 486, 486, 486, -113, 113, -113, -113, -378, 378, -378, -378,
 ];
 
 const GROUP_1: [i16; 8] = [-129, 158, 14, -207, 272, 372, -511, 114];
@@ -44,7 +44,7 @@ const GROUP_1: [i16; 8] = [-129, 158, 14, -207, 272, 372, -511, 114];
 const GROUP_1_ONES: [usize; 4] = [0, 3, 6, 7];
 
 const GROUP_1_SHARES: [i32; 16] = [
-    -113, 113, 113, -2135, -2135, -2135, 2135, 0, 0, 0, 2944, 2944, -2944, 1967, -1967, 1967,
+    -109, 109, 109, -2129, -2129, -2129, 2129, 0, 0, 0, 2935, 2935, -2935, 1960, -1960, 1960,
 ];
 
 const GROUP_7: [i16; 28] = [
@@ -55,10 +55,10 @@ const GROUP_7: [i16; 28] = [
 const GROUP_7_ONES: [usize; 15] = [1, 2, 3, 10, 11, 12, 14, 15, 17, 18, 19, 21, 22, 23, 27];
 
 const GROUP_7_SHARES: [i32; 62] = [
-    0, 0, -271, 271, 271, 100, 100, -100, 31, 31, -31, 1914, 1914, -1914, -242, -242, -242, -346,
-    -346, -346, 544, 544, -544, 1506, 1506, -1506, -333, 333, 333, 0, 0, 0, 1829, -1829, 1829,
-    -1267, -1267, -1267, -317, 317, 317, 39, 39, -39, 1590, 1590, -1590, -2114, -2114, -2114, 23,
-    -23, 23, 141, -141, 141, 208, 208, -208, -1020, -1020, -1020,
+    0, 0, -265, 265, 265, 97, 97, -97, 27, 27, -27, 1908, 1908, -1908, -238, -238, -238, -342,
+    -342, -342, 542, 542, -542, 1499, 1499, -1499, -329, 329, 329, 0, 0, 0, 1823, -1823, 1823,
+    -1263, -1263, -1263, -313, 313, 313, 36, 36, -36, 1586, 1586, -1586, -2112, -2112, -2112, 15,
+    -15, 15, 137, -137, 137, 206, 206, -206, -1017, -1017, -1017,
 ];
 
 const GROUP_9: [i16; 36] = [
@@ -69,39 +69,39 @@ const GROUP_9: [i16; 36] = [
 const GROUP_9_ONES: [usize; 16] = [4, 6, 10, 11, 14, 15, 16, 18, 20, 22, 29, 30, 31, 32, 33, 35];
 
 const GROUP_9_SHARES: [i32; 89] = [
-    -843, 843, -843, -843, 416, 416, 416, -416, 416, 1365, 1365, 1365, 1365, -1365, 1238, 1238,
-    -1238, -1238, -1238, 733, 733, -733, -733, -733, 49, 49, -49, -49, -49, -2970, -2970, -2970,
-    2970, 2970, -77, 77, 77, 77, 77, -20, -20, -20, 20, 20, 1223, -1223, 1223, 1223, 1223, -132,
-    132, 132, 132, 132, 0, 0, 0, 0, 0, -243, 243, 243, -243, -243, 451, -451, -451, -451, 451, 692,
-    -692, -692, 692, -692, -239, 239, -239, 239, -239, 4, 4, -4, -4, -4, 113, -113, -113, 113,
-    -113,
+    -865, 865, -865, -865, 439, 439, 439, -439, 439, 1384, 1384, 1384, 1384, -1384, 1253, 1253,
+    -1253, -1253, -1253, 755, 755, -755, -755, -755, 55, 55, -55, -55, -55, -2992, -2992, -2992,
+    2992, 2992, -78, 78, 78, 78, 78, -51, -51, -51, 51, 51, 1234, -1234, 1234, 1234, 1234, -153,
+    153, 153, 153, 153, 0, 0, 0, 0, 0, -269, 269, 269, -269, -269, 473, -473, -473, -473, 473, 718,
+    -718, -718, 718, -718, -254, 254, -254, 254, -254, 25, 25, -25, -25, -25, 117, -117, -117, 117,
+    -117,
 ];
 
 // Passes leave a rest of 1, and no smaller one.
-pub(crate) const REST_OF_ONE: [i16; 8] = [54, 261, 54, 50, 106, 153, -449, -172];
+pub(crate) const REST_OF_ONE: [i16; 8] = [170, 33, -336, -121, -304, -110, 221, 27];
 
-const REST_OF_ONE_ONES: [usize; 4] = [0, 3, 6, 7];
+const REST_OF_ONE_ONES: [usize; 6] = [0, 2, 3, 4, 5, 7];
 
 const REST_OF_ONE_SHARES: [i32; 16] = [
-    -801, 801, 801, 0, 0, 0, 0, 457, 457, -457, 2165, 2165, -2165, -824, -824, -824,
+    1138, 1138, -1138, 704, -704, -704, -704, -699, -699, -699, 879, -879, 879, -1454, 1454, 1454,
 ];
 
-// Passes leave a rest of 0.
-pub(crate) const REST_OF_ZERO: [i16; 8] = [207, -109, -164, -400, -274, 161, -113, 292];
+// One pass leaves a rest of 0, the second one of more.
+pub(crate) const REST_OF_ZERO: [i16; 8] = [-76, 201, 65, 60, 170, 486, 160, 234];
 
-const REST_OF_ZERO_ONES: [usize; 3] = [1, 3, 4];
+const REST_OF_ZERO_ONES: [usize; 0] = [];
 
 const REST_OF_ZERO_SHARES: [i32; 16] = [
-    -1556, -1556, -1556, 2804, -2804, -2804, -2804, 224, -224, 224, 1808, 1808, -1808, 0, 0, 0,
+    -320, 320, 320, 0, 0, 0, 0, 0, 0, 0, -1600, 1600, 1600, 0, 0, 0,
 ];
 
-// Given up after eight passes; nine would do.
+// Given up before pass 3; a fourth pass would do.
 const GIVEN_UP: [i16; 20] = [
-    178, 86, 453, -191, -511, -360, 381, -394, -79, 337, -365, -262, 64, 336, -262, 193, 84, -157,
-    -62, 183,
+    -381, 366, 40, 271, 81, 253, -84, -97, -32, -511, 77, 257, -204, -511, 339, 58, 14, 511, 240,
+    -143,
 ];
 
-const GIVEN_UP_ONES: [usize; 10] = [1, 4, 5, 7, 8, 10, 11, 13, 14, 17];
+const GIVEN_UP_ONES: [usize; 9] = [0, 2, 7, 8, 9, 12, 13, 16, 19];
 
 /// A word with ones at these places.
 fn word_of(alloc: Global, bits: usize, ones: &[usize]) -> Result<Bits, AllocError> {
@@ -114,14 +114,8 @@ fn word_of(alloc: Global, bits: usize, ones: &[usize]) -> Result<Bits, AllocErro
     Ok(word)
 }
 
-/// Asserts that the shares of a certificate are these, and what the checker finds of it.
-fn assert_shares<R: Abort>(
-    rt: &R,
-    matrix: &Matrix,
-    view: &CertView<'_>,
-    shares: &[i32],
-    strict: bool,
-) {
+/// Asserts that the shares of a certificate are these, and that the checker finds it strict.
+fn assert_shares<R: Abort>(rt: &R, matrix: &Matrix, view: &CertView<'_>, shares: &[i32]) {
     assert_eq!(rt; view.scale(), 16);
     assert_eq!(rt; view.share_count(), shares.len());
     for edge in 0..view.share_count() {
@@ -129,7 +123,7 @@ fn assert_shares<R: Abort>(
     }
     let found = Examined {
         answer: Answer::Yes,
-        strict,
+        strict: true,
     };
     assert_eq!(rt; examine(matrix, view), found);
 }
@@ -159,15 +153,13 @@ fn is_certified(settler: &mut Settler<'_>, soft: &[i16], word: &Bits, passes: u3
     settler.certify(soft, word, passes)
 }
 
-/// What is found for a word with ones at these places in so many passes: these shares, which leave every rest at least 1
-/// or do not, or nothing.
+/// What is found for a word with ones at these places in so many passes: these shares, or nothing.
 #[derive(Clone, Copy)]
 struct Found<'a> {
     soft: &'a [i16],
     ones: &'a [usize],
     passes: u32,
     shares: Option<&'a [i32]>,
-    strict: bool,
 }
 
 /// Asserts what is found.
@@ -186,9 +178,8 @@ fn assert_settled<R: Abort + AllocGlobal>(
     let found = is_certified(settler, frame.soft, &word, frame.passes);
     assert_eq!(rt; found, frame.shares.is_some());
     if let Some(shares) = frame.shares {
-        assert_eq!(rt; settler.is_strict(), frame.strict);
         let view = settler.held(frame.soft, &word);
-        assert_shares(rt, matrix, &view, shares, frame.strict);
+        assert_shares(rt, matrix, &view, shares);
     }
     Ok(())
 }
@@ -228,7 +219,7 @@ fn assert_all_settled<R: Abort + AllocGlobal>(
     assert_settled_anew(rt, &matrix, frames)
 }
 
-/// Asserts that a certificate with these shares, strict or not, is found in so many passes, and none in one pass less.
+/// Asserts that a certificate with these shares is found in so many passes, and none in one pass less.
 fn assert_found<R: Abort + AllocGlobal>(
     rt: &R,
     code: Code<'_>,
@@ -236,36 +227,25 @@ fn assert_found<R: Abort + AllocGlobal>(
     ones: &[usize],
     passes: u32,
     shares: &[i32],
-    strict: bool,
 ) -> Result<(), Fail> {
     let none = Found {
         soft,
         ones,
         passes: passes.saturating_sub(1),
         shares: None,
-        strict: false,
     };
     let found = Found {
         soft,
         ones,
         passes,
         shares: Some(shares),
-        strict,
     };
     assert_all_settled(rt, code, &[none, found])
 }
 
 #[test]
 fn finds_the_moves_of_the_rule(rt: HostRuntime) -> Result<(), Fail> {
-    assert_found(
-        &rt,
-        TOY,
-        &ONE_PASS,
-        &ONE_PASS_ONES,
-        1,
-        &ONE_PASS_SHARES,
-        true,
-    )?;
+    assert_found(&rt, TOY, &ONE_PASS, &ONE_PASS_ONES, 1, &ONE_PASS_SHARES)?;
     assert_found(
         &rt,
         TOY,
@@ -273,7 +253,6 @@ fn finds_the_moves_of_the_rule(rt: HostRuntime) -> Result<(), Fail> {
         &THREE_PASSES_ONES,
         3,
         &THREE_PASSES_SHARES,
-        true,
     )
 }
 
@@ -281,42 +260,32 @@ fn finds_the_moves_of_the_rule(rt: HostRuntime) -> Result<(), Fail> {
 pub(crate) const FIVE: Code<'static> = ([1, 3, 5], b"0 1 3\n0 2\n1 4\n");
 
 #[test]
-fn a_rest_of_zero_is_not_strict(rt: HostRuntime) -> Result<(), Fail> {
+fn a_rest_of_zero_is_not_enough(rt: HostRuntime) -> Result<(), Fail> {
     assert_found(
         &rt,
         FIVE,
         &REST_OF_ONE,
         &REST_OF_ONE_ONES,
-        3,
+        4,
         &REST_OF_ONE_SHARES,
-        true,
     )?;
     assert_found(
         &rt,
         FIVE,
         &REST_OF_ZERO,
         &REST_OF_ZERO_ONES,
-        8,
+        2,
         &REST_OF_ZERO_SHARES,
-        false,
     )
 }
 
 #[test]
 fn finds_them_in_groups_of_any_size(rt: HostRuntime) -> Result<(), Fail> {
-    assert_found(&rt, FIVE, &GROUP_1, &GROUP_1_ONES, 2, &GROUP_1_SHARES, true)?;
+    assert_found(&rt, FIVE, &GROUP_1, &GROUP_1_ONES, 2, &GROUP_1_SHARES)?;
     let seven = ([7, 1, 3], b"0 4 11\n".as_slice());
-    assert_found(
-        &rt,
-        seven,
-        &GROUP_7,
-        &GROUP_7_ONES,
-        2,
-        &GROUP_7_SHARES,
-        true,
-    )?;
+    assert_found(&rt, seven, &GROUP_7, &GROUP_7_ONES, 2, &GROUP_7_SHARES)?;
     let nine = ([9, 2, 2], b"0 5 7\n1 4 10\n".as_slice());
-    assert_found(&rt, nine, &GROUP_9, &GROUP_9_ONES, 3, &GROUP_9_SHARES, true)
+    assert_found(&rt, nine, &GROUP_9, &GROUP_9_ONES, 3, &GROUP_9_SHARES)
 }
 
 /// One settler, frame after frame.
@@ -327,21 +296,18 @@ fn forgets_the_moves_of_an_earlier_frame(rt: HostRuntime) -> Result<(), Fail> {
         ones: &ONE_PASS_ONES,
         passes: 9,
         shares: Some(&ONE_PASS_SHARES),
-        strict: true,
     };
     let given_up = Found {
         soft: &GIVEN_UP,
         ones: &GIVEN_UP_ONES,
         passes: 40,
         shares: None,
-        strict: false,
     };
     let three = Found {
         soft: &THREE_PASSES,
         ones: &THREE_PASSES_ONES,
         passes: 9,
         shares: Some(&THREE_PASSES_SHARES),
-        strict: true,
     };
     let frames = [one, given_up, three, one, given_up, three];
     assert_all_settled(&rt, TOY, &frames)

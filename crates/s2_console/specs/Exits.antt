@@ -63,12 +63,11 @@ abbrev pub Complains : Result Exit Fault → Screen → Screen → Type 0
 Complains (Ok exit) old new = (new.errors_failed ≡ old.errors_failed) × (new.errors ≡ old.errors)
 Complains (Err f) old new = new.errors_failed ≡ old.errors_failed → Appends old.errors new.errors (fault_line f)
 
--- A command that holds its output back, and tells how it ended: so it ran on an input, `Roomless` holds where memory ran out,
--- only what failed was counted, of so many failed reads before and behind, and of a fault the line stands on the errors.
-abbrev pub CommandEnds : {I : Type 0} → (I → Exit → List ℕ → Type 0) → (Result I Fault → Type 0) → Type 0 → ℕ → ℕ → Screen → Screen → Exit → Type 0
-CommandEnds Says IsInput Roomless reads reads_after old new exit =
+-- A command that prints its output at its end: it ran on an input, only failed calls were counted (of its readers, so many
+-- before and after), and the line of a fault stands on the errors.
+abbrev pub CommandEnds : {I : Type 0} → (I → Exit → List ℕ → Type 0) → (Result I Fault → Type 0) → ℕ → ℕ → Screen → Screen → Exit → Type 0
+CommandEnds Says IsInput reads reads_after old new exit =
     (ended : Result Exit Fault) × (exit ≡ exit_of ended) × CommandRuns Says IsInput ended old.output new.output
-    × (ended ≡ Err faults.NoMemory → Roomless)
     × CommandCounts ended reads reads_after old.output_failed new.output_failed × Complains ended old new
 
 -- the number that the program ends with

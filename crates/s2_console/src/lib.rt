@@ -16,7 +16,6 @@ mod exit;
 mod fault;
 pub mod laws;
 mod line;
-mod place;
 mod printed;
 mod told;
 
@@ -24,6 +23,5 @@ pub use console::Console;
 pub use exit::Exit;
 pub use fault::Fault;
 pub use line::{LINE_ROOM, Line};
-pub use place::Place;
 pub use printed::{Printed, print};
 pub use told::Told;

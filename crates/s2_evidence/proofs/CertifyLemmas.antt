@@ -1,70 +1,65 @@
--- A certificate that was written, and the verdict that was printed behind it.
-use Rattle.std.proofs.Common.{◌≡◌, ◌≢◌, ℕ, ◌+◌, ℤ, List, Option, Some, None, Result, Ok, Err, inl, inr, subst, sym, refl}
-use Rattle.s2_mode.specs.Shape.{Shape}
+-- What a command leaves of the file for a certificate.
+use Rattle.std.proofs.Common.{◌≡◌, ◌≢◌, ℤ, List, ℕ, Option, Result, Ok, Err, OnErr, inl, inr, subst, sym, refl}
 use Rattle.s2_rows.specs.Rows.{Rows}
 use Rattle.s2_link.specs.Tuning.{Tuning}
+use Rattle.s2_judge.specs.Deciding.{decided, IsShown}
 use Rattle.s2_console.specs.declared.printed.Printed.{Printed}
 use Rattle.s2_console.specs.declared.exit.Exit.{Exit}
 use Rattle.s2_console.specs.declared.fault.Fault.{Fault}
 use Rattle.s2_console.specs.declared.fault.Fault.TheVariants as faults
-use Rattle.s2_console.specs.Exits.{Prints}
-use Rattle.s2_evidence.specs.Files.{Written, contents_in, failed_in, SameAsked}
-use Rattle.s2_evidence.specs.Inputs.{AreInputs, IsOnly}
-use Rattle.s2_evidence.specs.Certifying.{Wrote, IsCertified, Certifies}
+use Rattle.s2_console.specs.Exits.{CommandAnswers, Prints}
+use Rattle.s2_evidence.specs.Files.{Written}
+use Rattle.s2_evidence.specs.Inputs.{IsOnly}
+use Rattle.s2_evidence.specs.Judging.{IsJudged}
+use Rattle.s2_evidence.specs.Certifying.{Wrote, WrotePart, IsToldAndCertified, LeavesCertificate}
 
-pub certified_moved : (tuning : Tuning) (A B : Result (Rows × List ℤ) Fault → Type 0) (made : Result Printed Fault) (old new : Option (List ℕ))
-    → ((said : Result (Rows × List ℤ) Fault) → A said → B said) → IsCertified tuning A made old new → IsCertified tuning B made old new
-certified_moved tuning A B (Ok p) old new f (input, is, wrote) = (input, f (Ok input) is, wrote)
-certified_moved tuning A B (Err faults.Read) old new f h = h
-certified_moved tuning A B (Err faults.Write) old new f (input, is, part) = (input, f (Ok input) is, part)
-certified_moved tuning A B (Err faults.NoMemory) old new f h = h
-certified_moved tuning A B (Err (faults.Open name)) old new f h = h
-certified_moved tuning A B (Err (faults.UsedTwice name)) old new f h = h
-certified_moved tuning A B (Err faults.TooLong) old new f h = h
-certified_moved tuning A B (Err (faults.Rows words)) old new f h = h
-certified_moved tuning A B (Err (faults.Told words)) old new f h = h
+-- no writer failed, and the file is unchanged
+pub unchanged : {T : Type 0} → (tuning : Tuning) (IsInput : Result (Rows × List ℤ) Fault → Type 0) (f : Fault) (file : Written) → f ≢ faults.Write → LeavesCertificate {T = T} tuning IsInput (Err f) file file
+unchanged tuning IsInput f file other = record { failed = λ e. absurd (other cc); other = λ e. refl }
 
--- where the input is refused nothing is written
-pub uncertified : (tuning : Tuning) (IsInput : Result (Rows × List ℤ) Fault → Type 0) (f : Fault) (old : Option (List ℕ)) → f ≢ faults.Write → IsCertified tuning IsInput (Err f) old old
-uncertified tuning IsInput faults.Write old other = absurd (other refl)
-uncertified tuning IsInput faults.Read old other = refl
-uncertified tuning IsInput faults.NoMemory old other = refl
-uncertified tuning IsInput (faults.Open name) old other = refl
-uncertified tuning IsInput (faults.UsedTwice name) old other = refl
-uncertified tuning IsInput faults.TooLong old other = refl
-uncertified tuning IsInput (faults.Rows words) old other = refl
-uncertified tuning IsInput (faults.Told words) old other = refl
+module _ (rows : Rows) (asked : Tuning) (soft : List ℤ) (old new : Written) where
+  -- a judge that tries as much as is asked for says of these bits, and certifies them
+  pub told : (tuning : Tuning) (p : Printed) → tuning ≡ asked → IsJudged tuning (rows, soft) p.exit p.text → IsShown rows soft (decided rows tuning soft)
+      → Wrote (decided rows tuning soft).certificate old new → CommandAnswers (IsToldAndCertified asked old new) (IsOnly (rows, soft)) (Ok p)
+  told tuning p same said shown wrote =
+      let P : Tuning → Type 0 = λ t. IsToldAndCertified t old new (rows, soft) p.exit p.text in
+      ((rows, soft), refl, subst P same (said, record { shown = shown; done = wrote }))
 
--- where no verdict is printed
-pub unprinted : (tuning : Tuning) (IsInput : Result (Rows × List ℤ) Fault → Type 0) (f : Fault) (old new : Option Written)
-    → (f ≡ faults.Write → failed_in new ≡ failed_in old + 1) → IsCertified tuning IsInput (Err f) (contents_in old) (contents_in new) → Certifies tuning IsInput (Err f) old new
-unprinted tuning IsInput faults.Write old new rises (input, is, part) = (input, is, inr (rises refl, part))
-unprinted tuning IsInput faults.Read old new rises h = h
-unprinted tuning IsInput faults.NoMemory old new rises h = h
-unprinted tuning IsInput (faults.Open name) old new rises h = h
-unprinted tuning IsInput (faults.UsedTwice name) old new rises h = h
-unprinted tuning IsInput faults.TooLong old new rises h = h
-unprinted tuning IsInput (faults.Rows words) old new rises h = h
-unprinted tuning IsInput (faults.Told words) old new rises h = h
+  -- its writer failed
+  pub in_part : {T : Type 0} → (tuning : Tuning) → tuning ≡ asked → IsShown rows soft (decided rows tuning soft)
+      → WrotePart (decided rows tuning soft).certificate old new → LeavesCertificate {T = T} asked (IsOnly (rows, soft)) (Err faults.Write) old new
+  in_part {T} tuning same shown part =
+      let P : Tuning → Type 0 = λ t. LeavesCertificate {T = T} t (IsOnly (rows, soft)) (Err faults.Write) old new in
+      subst P same (record { failed = λ e. ((rows, soft), refl, record { shown = shown; done = inr part }); other = λ e. absurd (e refl) })
 
-pub certifies : (tuning : Tuning) (IsInput : Result (Rows × List ℤ) Fault → Type 0) (p : Printed) (ended : Result Exit Fault) (out out' : Option (List ℕ)) (old new : Option Written)
-    → failed_in new ≡ failed_in old → Prints p.exit p.text ended out out' → IsCertified tuning IsInput (Ok p) (contents_in old) (contents_in new) → Certifies tuning IsInput ended old new
-certifies tuning IsInput p (Ok exit) out out' old new same (e, printed) (input, is, wrote) = (input, is, subst (λ x. Wrote tuning input x (contents_in old) (contents_in new)) (sym e) wrote)
-certifies tuning IsInput p (Err faults.Write) out out' old new same printed (input, is, wrote) = (input, is, inl (same, (p.exit, wrote)))
-certifies tuning IsInput p (Err faults.Read) out out' old new same no_way h = absurd no_way
-certifies tuning IsInput p (Err faults.NoMemory) out out' old new same no_way h = absurd no_way
-certifies tuning IsInput p (Err (faults.Open name)) out out' old new same no_way h = absurd no_way
-certifies tuning IsInput p (Err (faults.UsedTwice name)) out out' old new same no_way h = absurd no_way
-certifies tuning IsInput p (Err faults.TooLong) out out' old new same no_way h = absurd no_way
-certifies tuning IsInput p (Err (faults.Rows words)) out out' old new same no_way h = absurd no_way
-certifies tuning IsInput p (Err (faults.Told words)) out out' old new same no_way h = absurd no_way
+-- the same of files that say this input
+pub leaves_moved : {T : Type 0} → (tuning : Tuning) (IsInput : Result (Rows × List ℤ) Fault → Type 0) (input : Rows × List ℤ) (ended : Result T Fault) (old new : Written)
+    → IsInput (Ok input) → LeavesCertificate tuning (IsOnly input) ended old new → LeavesCertificate tuning IsInput ended old new
+leaves_moved tuning IsInput input ended old new is h = record {
+  failed = λ e. (let (it, same, done) = h.failed e in (it, subst IsInput (sym same) is, done));
+  other = h.other;
+}
 
--- on files that were read
-pub certified_inputs : (tuning : Tuning) (shape : Shape) (known_rows known_soft : Option (List ℕ)) (rows : Rows) (soft : List ℤ) (made : Result Printed Fault) (old new : Option (List ℕ))
-    → AreInputs shape known_rows known_soft (Ok (rows, soft)) → IsCertified tuning (IsOnly (rows, soft)) made old new → IsCertified tuning (AreInputs shape known_rows known_soft) made old new
-certified_inputs tuning shape known_rows known_soft rows soft made old new is h =
-    certified_moved tuning (IsOnly (rows, soft)) (AreInputs shape known_rows known_soft) made old new (λ said e. subst (AreInputs shape known_rows known_soft) (sym e) is) h
+-- what fails where a text is printed is the writer
+only_write : (exit : Exit) (text : List ℕ) (ended : Result Exit Fault) (old new : Option (List ℕ)) → Prints exit text ended old new → OnErr ended (ended ≡ Err faults.Write)
+only_write exit text (Ok e) old new h = tt
+only_write exit text (Err faults.Write) old new h = refl
+only_write exit text (Err faults.Read) old new h = absurd h
+only_write exit text (Err faults.NoMemory) old new h = absurd h
+only_write exit text (Err (faults.Open name)) old new h = absurd h
+only_write exit text (Err (faults.UsedTwice name)) old new h = absurd h
+only_write exit text (Err faults.TooLong) old new h = absurd h
+only_write exit text (Err (faults.Rows words)) old new h = absurd h
+only_write exit text (Err (faults.Told words)) old new h = absurd h
 
-pub same_asked : (file : Option Written) → SameAsked file file
-same_asked None = tt
-same_asked (Some file) = tt
+writes_only : {T : Type 0} (ended : Result T Fault) (P : Type 0) → OnErr ended (ended ≡ Err faults.Write) → OnErr ended (ended ≢ Err faults.Write → P)
+writes_only (Ok x) P h = tt
+writes_only (Err f) P h = λ other. absurd (other h)
+
+-- the verdict was printed behind the certificate, or could not be
+pub printed_behind : (tuning : Tuning) (IsInput : Result (Rows × List ℤ) Fault → Type 0) (p : Printed) (ended : Result Exit Fault) (out out' : Option (List ℕ)) (old new : Written)
+    → CommandAnswers (IsToldAndCertified tuning old new) IsInput (Ok p) → Prints p.exit p.text ended out out' → LeavesCertificate tuning IsInput ended old new
+printed_behind tuning IsInput p ended out out' old new (input, is, (said, certified)) prints = record {
+  failed = λ e. (input, is, record { shown = certified.shown; done = inl certified.done });
+  other = writes_only ended (new ≡ old) (only_write p.exit p.text ended out out' prints);
+}

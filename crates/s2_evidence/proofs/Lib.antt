@@ -1,6 +1,5 @@
 pub mod CertifyLemmas
 pub mod InputLemmas
-pub mod LackLemmas
 pub mod JudgeLemmas
 pub mod OwnLemmas
 pub mod ValueRange

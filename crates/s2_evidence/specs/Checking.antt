@@ -1,9 +1,7 @@
 -- What `check` reads, and what it prints of a certificate.
-use Rattle.std.specs.Prelude.{◌≡◌, ◌↔◌, ◌⊎◌, IsTrue, IsOk, ℕ, ◌+◌, List, ◌++◌, Option, IfSome, codes, pos, Result, Ok, Err}
-use Rattle.s2_mode.specs.Shape.{Shape}
+use Rattle.std.specs.Prelude.{◌≡◌, ◌↔◌, ◌⊎◌, IsTrue, ℕ, List, ◌++◌, Option, IfSome, codes, pos, Result, Ok, Err}
 use Rattle.s2_rows.specs.Rows.{Rows}
 use Rattle.s2_rows.specs.RowFiles as row_files
-use Rattle.s2_rows.specs.FaultTexts.{row_fault_text}
 use Rattle.s2_matrix.specs.Code.{code_of}
 use Rattle.s2_check.specs.Cost.{cost, IsMostLikely}
 use Rattle.s2_check.specs.Views.{View}
@@ -14,8 +12,6 @@ use Rattle.s2_file.specs.File.{File}
 use Rattle.s2_file.specs.Format.{file_of_bytes}
 use Rattle.s2_file.specs.FaultTexts.{certificate_fault_text}
 use Rattle.s2_file.specs.declared.fault.CertFault.{CertFault}
-use Rattle.s2_skim.specs.declared.check.CheckRefusal.{CheckRefusal}
-use Rattle.s2_skim.specs.declared.check.CheckRefusal.TheVariants as refusals
 use Rattle.s2_check.specs.declared.checker.Answer.{Answer}
 use Rattle.s2_check.specs.declared.checker.Answer.TheVariants as answers
 use Rattle.s2_check.specs.declared.checker.Examined.{Examined}
@@ -26,7 +22,6 @@ use Rattle.s2_console.specs.declared.fault.Fault.{Fault}
 use Rattle.s2_console.specs.declared.fault.Fault.TheVariants as faults
 use Rattle.s2_console.specs.Exits.{CommandEnds}
 use Rattle.s2_console.specs.Screens.{Screen}
-use Rattle.s2_evidence.specs.Files.{CheckFiles}
 use Rattle.s2_evidence.specs.Inputs.{taken, rows_said}
 use Rattle.s2_evidence.specs.Lines.{answer_line, examined_line}
 
@@ -35,11 +30,6 @@ use Rattle.s2_evidence.specs.Lines.{answer_line, examined_line}
 abbrev pub certificate_said : Result File CertFault → Result File Fault
 certificate_said (Ok file) = Ok file
 certificate_said (Err e) = Err (faults.Told (codes "certificate: " ++ certificate_fault_text e))
-
--- the shape alone
-abbrev pub shape_of_said : Result File Fault → Result Shape Fault
-shape_of_said (Ok file) = Ok file.shape
-shape_of_said (Err f) = Err f
 
 abbrev pub beside : File → Result Rows Fault → Result (Rows × File) Fault
 beside file (Ok rows) = Ok (rows, file)
@@ -71,15 +61,6 @@ ArePartsIn rows certificate said = parts_in rows certificate ≡ said
 abbrev pub AreCheckInputs : Option (List ℕ) → Option (List ℕ) → Result (Rows × File) Fault → Type 0
 AreCheckInputs rows certificate said = IfSome rows (λ xs. IfSome certificate (λ ys. check_inputs xs ys ≡ said))
 
--- what a row file and a certificate say is accepted, where their bytes are known
-abbrev pub AreBothAccepted : Option (List ℕ) → Option (List ℕ) → Type 0
-AreBothAccepted rows certificate = IfSome rows (λ xs. IfSome certificate (λ ys. IsOk (check_inputs xs ys)))
-
--- why a certificate and its rows are refused
-abbrev pub refusal_said : CheckRefusal → Fault
-refusal_said (refusals.Certificate e) = faults.Told (codes "certificate: " ++ certificate_fault_text e)
-refusal_said (refusals.Rows e) = faults.Rows (codes "rows: " ++ row_fault_text e)
-
 -- ---- the answer
 
 abbrev pub answer_exit : Answer → Exit
@@ -108,9 +89,7 @@ abbrev pub IsAnswered : Rows × File → Exit → List ℕ → Type 0
 IsAnswered input exit text =
     (Suits input.0 input.1 × SaysAnswer input.0 (view_of input.0 input.1) exit text) ⊎ SaysNoShape input.0 input.1 exit text
 
--- `check` has ended: so it ran on what its files say, and memory ran out only over files that are accepted.
-abbrev pub CheckEnds : CheckFiles → CheckFiles → Screen → Screen → Exit → Type 0
-CheckEnds files files_after old new exit =
-    CommandEnds IsAnswered (AreCheckInputs files.rows files.certificate)
-    (AreBothAccepted files.rows files.certificate)
-    (files.rows_failed + files.certificate_failed) (files_after.rows_failed + files_after.certificate_failed) old new exit
+-- `check` has ended: so it ran on what its files say, with so many failed reads before and behind
+abbrev pub CheckEnds : Option (List ℕ) → Option (List ℕ) → Screen → Screen → Exit → ℕ → ℕ → Type 0
+CheckEnds rows certificate old new exit reads reads_after =
+    CommandEnds IsAnswered (AreCheckInputs rows certificate) reads reads_after old new exit

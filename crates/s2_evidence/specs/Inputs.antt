@@ -1,5 +1,5 @@
 -- What the files of a command say, or the fault that is told.
-use Rattle.std.specs.Prelude.{◌≡◌, ℕ, ℤ, nat_le, Option, IfSome, IsOk, List, ◌++◌, codes, length, Result, Ok, Err, if◌then◌else◌}
+use Rattle.std.specs.Prelude.{◌≡◌, ℕ, ℤ, nat_le, Option, IfSome, List, ◌++◌, codes, length, Result, Ok, Err, if◌then◌else◌}
 use Rattle.s2_mode.specs.Shape.{Shape, code_bits}
 use Rattle.s2_mode.specs.declared.whole.FileFault.{FileFault}
 use Rattle.s2_mode.specs.declared.whole.FileFault.TheVariants as files
@@ -53,14 +53,6 @@ inputs shape rows soft = then_values (rows_in shape rows) (values_in shape soft)
 -- what is answered is what a row file and a value file say, where their bytes are known
 abbrev pub AreInputs : Shape → Option (List ℕ) → Option (List ℕ) → Result (Rows × List ℤ) Fault → Type 0
 AreInputs shape rows soft said = IfSome rows (λ xs. IfSome soft (λ ys. inputs shape xs ys ≡ said))
-
--- what a file says is accepted, where its bytes are known
-abbrev pub IsAccepted : {T : Type 0} → Option (List ℕ) → (List ℕ → Result T Fault) → Type 0
-IsAccepted known said = IfSome known (λ xs. IsOk (said xs))
-
--- a row file is accepted, and a value file
-abbrev pub AreAccepted : Shape → Option (List ℕ) → Option (List ℕ) → Type 0
-AreAccepted shape rows soft = IsAccepted rows (rows_in shape) × IsAccepted soft (values_in shape)
 
 -- what is answered is this input
 abbrev pub IsOnly : {I : Type 0} → I → Result I Fault → Type 0

@@ -14,15 +14,8 @@ use Rattle.s2_console.specs.declared.exit.Exit.TheVariants as exits
 use Rattle.s2_mode.specs.Shape.{shape_of}
 use Rattle.s2_console.specs.Exits.{CommandEnds}
 use Rattle.s2_console.specs.Screens.{Screen}
-use Rattle.s2_evidence.specs.Inputs.{AreInputs, IsAccepted, values_in}
+use Rattle.s2_evidence.specs.Inputs.{AreInputs}
 use Rattle.s2_evidence.specs.Lines.{sole_line, most_likely_line, parity_line, broken_line}
-
--- the exit of a verdict
-abbrev pub exit_on : Verdict → Exit
-exit_on verdicts.Sole = exits.Fine
-exit_on verdicts.MostLikely = exits.Fine
-exit_on verdicts.Parity = exits.No
-exit_on verdicts.Broken = exits.No
 
 -- each other codeword costs more than the bits
 pub record SaysSole (rows : Rows) (soft : List ℤ) (bits : List Bool) (exit : Exit) (text : List ℕ) : Type 0 where
@@ -78,9 +71,7 @@ SaysOwn d rows soft exit text = Says (own_verdict d.verdict) rows soft d.bits ex
 abbrev pub IsOwn : Rows × List ℤ → Exit → List ℕ → Type 0
 IsOwn input exit text = SaysOwn (decided input.0 (tuning_of default_rounds 0) input.1) input.0 input.1 exit text
 
--- The program without words has ended: so it ran on the values of its input under the toy rows, and memory ran out only over an
--- input that is accepted.
+-- the program without words has ended: so it ran on the values of its input under the toy rows
 abbrev pub OwnEnds : Option (List ℕ) → ℕ → ℕ → Screen → Screen → Exit → Type 0
 OwnEnds soft reads reads_after old new exit =
-    CommandEnds IsOwn (AreInputs (shape_of 4 2 3) (Some (codes "0 4 8\n0 1 2\n")) soft)
-    (IsAccepted soft (values_in (shape_of 4 2 3))) reads reads_after old new exit
+    CommandEnds IsOwn (AreInputs (shape_of 4 2 3) (Some (codes "0 4 8\n0 1 2\n")) soft) reads reads_after old new exit

@@ -1,5 +1,5 @@
 //! What is decided on soft values: its line, its exit and its certificate.
-ghost use Rattle.std.specs.Prelude.{◌≡◌, ◌≢◌, IsTrue, All, OnOk, OnErr, length};
+ghost use Rattle.std.specs.Prelude.{◌≡◌, ◌≢◌, IsTrue, All, IfOk, OnOk, OnErr, length, true, false};
 ghost use Rattle.s2_mode.specs.Counts.{CanCount, CountsFault};
 ghost use Rattle.s2_matrix.specs.Code.{code_of, IsCodeword};
 ghost use Rattle.s2_check.specs.Cost.{IsMostLikely};
@@ -7,16 +7,16 @@ ghost use Rattle.s2_check.specs.Strict.{IsSole};
 ghost use Rattle.s2_check.specs.Verdicts.{is_certified};
 ghost use Rattle.s2_check.specs.Views.{IsSoft};
 ghost use Rattle.s2_judge.specs.Deciding.{decided, IsShown};
-ghost use Rattle.s2_evidence.specs.Files.{written, contents_in, failed_in, SameAsked};
-ghost use Rattle.s2_evidence.specs.Judging.{Says, SaysDecided, SaysOwn, exit_on, own_verdict};
-ghost use Rattle.s2_evidence.specs.Certifying.{Writes, WritesPart, CertifiesDecided};
+ghost use Rattle.s2_evidence.specs.Files.{written, CanBegin};
+ghost use Rattle.s2_evidence.specs.Judging.{Says, SaysDecided, SaysOwn, IsJudged, own_verdict};
+ghost use Rattle.s2_evidence.specs.Certifying.{Writes, WritesPart, Wrote, WrotePart};
 
 use crate::lines::{broken_line, most_likely_line, parity_line, sole_line};
 use crate::reading::Judged;
 use s2_bits::Bits;
 use s2_check::{CertView, Verdict, cost};
 use s2_console::{Exit, Printed};
-use s2_files::Output;
+use s2_files::{Destination, Output};
 use s2_judge::Judge;
 use s2_matrix::Matrix;
 use s2_mode::WriteFault;
@@ -30,7 +30,6 @@ fn judgement(matrix: &Matrix, soft: &[i16], word: &Bits, verdict: Verdict) -> Pr
     requires codeword { verdict ≢ Verdict.Broken → IsCodeword (code_of matrix.now) word.now }
     requires broken { verdict ≡ Verdict.Broken → IsCodeword (code_of matrix.now) word.now → ⊥ }
     ensures says { Says verdict matrix.now soft.now word.now result.exit result.text }
-    ensures exit { result.exit ≡ exit_on verdict }
 {
     // at most 64800, so that the cost fits
     let _ = matrix.bits();
@@ -62,7 +61,6 @@ fn decision(matrix: &Matrix, judge: &mut Judge<'_>, soft: &[i16]) -> Printed
     requires long { length soft.now ≡ (code_of matrix.now).bits }
     requires range { All IsSoft soft.now }
     ensures says { SaysDecided (decided matrix.now judge.old.tuning soft.now) matrix.now soft.now result.exit result.text }
-    ensures exit { result.exit ≡ exit_on (decided matrix.now judge.old.tuning soft.now).verdict }
     ensures certificate { judge.new.certificate ≡ (decided matrix.now judge.old.tuning soft.now).certificate }
     ensures shown { IsShown matrix.now soft.now (decided matrix.now judge.old.tuning soft.now) }
 {
@@ -93,56 +91,59 @@ pub(crate) fn own_decision(matrix: &Matrix, judge: &mut Judge<'_>, soft: &[i16])
 }
 
 /// Begins a file, and writes a certificate, if there is one. After a failed write a part of it is written; where the file could
-/// not be cut, nothing.
-fn write_begun<C: Output>(view: Option<CertView<'_>>, file: &mut C) -> Result<(), WriteFault>
-    requires { CanCount (C.count file.old) }
-    ensures bytes { OnOk result (Writes view.entry (C.contents file.old) (C.contents file.new)) }
-    ensures part { OnErr result (WritesPart view.entry (C.contents file.old) (C.contents file.new)) }
-    ensures cause { CountsFault (C.count file.old) (C.count file.new) result }
+/// not be truncated, nothing.
+fn write_certificate<C: Output>(
+    view: Option<CertView<'_>>,
+    file: &mut Destination<C>,
+) -> Result<(), WriteFault>
+    requires once { file.old.begun ≡ false }
+    requires count { CanCount (C.count file.old.to) }
+    ensures begun { file.new.begun ≡ true }
+    ensures bytes { OnOk result (Writes view.entry (C.contents file.old.to) (C.contents file.new.to)) }
+    ensures part { OnErr result (WritesPart view.entry (C.contents file.old.to) (C.contents file.new.to)) }
+    ensures cause { CountsFault (C.count file.old.to) (C.count file.new.to) result }
 {
+    file.begin()?;
     match view {
-        Some(view) => {
-            file.begin()?;
-            view.write(file)
-        }
-        None => file.begin(),
+        Some(view) => view.write(file.writer()),
+        None => Ok(()),
     }
 }
 
-/// The same where there is a file.
-fn write_certificate<C: Output>(
+/// The same if a file is asked for.
+fn certify<C: Output>(
     view: Option<CertView<'_>>,
-    certificate: &mut Option<C>,
+    certificate: &mut Option<Destination<C>>,
 ) -> Result<(), WriteFault>
-    requires { CanCount (failed_in (written (λ c. C.contents c) (λ c. C.count c) certificate.old)) }
-    ensures bytes { OnOk result (Writes view.entry (contents_in (written (λ c. C.contents c) (λ c. C.count c) certificate.old)) (contents_in (written (λ c. C.contents c) (λ c. C.count c) certificate.new))) }
-    ensures part { OnErr result (WritesPart view.entry (contents_in (written (λ c. C.contents c) (λ c. C.count c) certificate.old)) (contents_in (written (λ c. C.contents c) (λ c. C.count c) certificate.new))) }
-    ensures cause { CountsFault (failed_in (written (λ c. C.contents c) (λ c. C.count c) certificate.old)) (failed_in (written (λ c. C.contents c) (λ c. C.count c) certificate.new)) result }
-    ensures asked { SameAsked (written (λ c. C.contents c) (λ c. C.count c) certificate.old) (written (λ c. C.contents c) (λ c. C.count c) certificate.new) }
+    requires { CanBegin (written C.contents C.count certificate.old) }
+    ensures whole { OnOk result (Wrote view.entry (written C.contents C.count certificate.old) (written C.contents C.count certificate.new)) }
+    ensures part { OnErr result (WrotePart view.entry (written C.contents C.count certificate.old) (written C.contents C.count certificate.new)) }
 {
     match (view, certificate) {
-        (view, Some(file)) => write_begun(view, file),
+        (view, Some(file)) => write_certificate(view, file),
         (Some(_), None) => Ok(()),
         (None, None) => Ok(()),
     }
 }
 
-/// Decides by a judge, begins the file for a certificate, where there is one, and writes that of what is decided, where there is one.
+/// Decides by a judge, and writes the certificate of what is decided, if there is one, to a file that is asked for.
 pub(crate) fn decide_by<C: Output>(
     judged: &Judged,
     judge: &mut Judge<'_>,
-    certificate: &mut Option<C>,
+    certificate: &mut Option<Destination<C>>,
 ) -> Result<Printed, WriteFault>
     requires rows { judge.old.rows ≡ judged.now.matrix }
     requires long { length judged.now.soft.items ≡ (code_of judged.now.matrix).bits }
     requires range { All IsSoft judged.now.soft.items }
-    requires certificate { CanCount (failed_in (written (λ c. C.contents c) (λ c. C.count c) certificate.old)) }
-    ensures certified { CertifiesDecided (decided judged.now.matrix judge.old.tuning judged.now.soft.items) judged.now.matrix judged.now.soft.items result
-        (contents_in (written (λ c. C.contents c) (λ c. C.count c) certificate.old)) (contents_in (written (λ c. C.contents c) (λ c. C.count c) certificate.new)) }
-    ensures cause { CountsFault (failed_in (written (λ c. C.contents c) (λ c. C.count c) certificate.old)) (failed_in (written (λ c. C.contents c) (λ c. C.count c) certificate.new)) result }
-    ensures asked { SameAsked (written (λ c. C.contents c) (λ c. C.count c) certificate.old) (written (λ c. C.contents c) (λ c. C.count c) certificate.new) }
+    requires certificate { CanBegin (written C.contents C.count certificate.old) }
+    ensures says { IfOk result (λ p. IsJudged judge.old.tuning (judged.now.matrix, judged.now.soft.items) p.exit p.text) }
+    ensures shown { IsShown judged.now.matrix judged.now.soft.items (decided judged.now.matrix judge.old.tuning judged.now.soft.items) }
+    ensures whole { OnOk result (Wrote (decided judged.now.matrix judge.old.tuning judged.now.soft.items).certificate
+        (written C.contents C.count certificate.old) (written C.contents C.count certificate.new)) }
+    ensures part { OnErr result (WrotePart (decided judged.now.matrix judge.old.tuning judged.now.soft.items).certificate
+        (written C.contents C.count certificate.old) (written C.contents C.count certificate.new)) }
 {
     let printed = decision(&judged.matrix, judge, &judged.soft);
-    write_certificate(judge.certificate(), certificate)?;
+    certify(judge.certificate(), certificate)?;
     Ok(printed)
 }

@@ -8,7 +8,7 @@ ghost use Rattle.s2_link.specs.Limits.{default_rounds};
 ghost use Rattle.s2_link.specs.Tuning.{tuning_of};
 ghost use Rattle.s2_console.specs.Screens.{CanShow};
 ghost use Rattle.s2_console.specs.Exits.{CommandAnswers, CommandRuns, CommandCounts};
-ghost use Rattle.s2_evidence.specs.Inputs.{AreInputs, IsOnly, values_in, IsAccepted, AreAccepted};
+ghost use Rattle.s2_evidence.specs.Inputs.{AreInputs, IsOnly};
 ghost use Rattle.s2_evidence.specs.Judging.{IsOwn, OwnEnds};
 
 use crate::decision::own_decision;
@@ -55,8 +55,6 @@ fn own_read<R: CountedRead, S: CountedRead>(
     ensures answers { CommandAnswers IsOwn (AreInputs shape (R.remaining rows.old) (S.remaining soft.old)) result }
     ensures read { result ≡ Err Fault.Read → R.count rows.new + S.count soft.new ≡ R.count rows.old + S.count soft.old + 1 }
     ensures no_read { result ≢ Err Fault.Read → R.count rows.new + S.count soft.new ≡ R.count rows.old + S.count soft.old }
-    ensures no_memory { result ≡ Err Fault.NoMemory → AreAccepted shape
-        (R.remaining rows.old) (S.remaining soft.old) }
     ensures write { result ≢ Err Fault.Write }
 {
     let judged = read_judged(alloc, rows, soft, shape)?;
@@ -73,8 +71,6 @@ fn print_own<S: CountedRead, O: CountedWrite>(
     requires out { CanCount (O.count out.old) }
     ensures whole { IsOk result → O.count out.new ≡ O.count out.old }
     ensures run { CommandRuns IsOwn (AreInputs (shape_of 4 2 3) (Some (codes "0 4 8\n0 1 2\n")) (S.remaining soft.old)) result (O.contents out.old) (O.contents out.new) }
-    ensures no_memory { result ≡ Err Fault.NoMemory
-        → IsAccepted (S.remaining soft.old) (values_in (shape_of 4 2 3)) }
     ensures causes { CommandCounts result (S.count soft.old) (S.count soft.new) (O.count out.old) (O.count out.new) }
 {
     let shape = Shape::of(4, 2, 3);
@@ -83,7 +79,7 @@ fn print_own<S: CountedRead, O: CountedWrite>(
 }
 
 /// The program without words: `judge` of its input under the toy rows, but a word that is sole is called most
-/// likely, as it also is. Want of memory is told only of values that are accepted.
+/// likely, as it also is.
 pub fn self_command<S: CountedRead, O: CountedWrite, E: CountedWrite>(
     alloc: Global,
     soft: &mut S,

@@ -1,5 +1,5 @@
 //! Row files, their matrices, value files, and what is judged.
-ghost use Rattle.std.specs.Prelude.{◌≡◌, ◌≢◌, ◌+◌, ◌≤◌, All, Err, List, ℤ, IfOk, IfSome, IsOk, IsOkUnless, OnOk, length, vec_len, vec_capacity};
+ghost use Rattle.std.specs.Prelude.{◌≡◌, ◌≢◌, ◌+◌, ◌≤◌, All, Err, IfOk, IfSome, IsOkUnless, length, vec_len, vec_capacity};
 ghost use Rattle.s2_check.specs.Views.{IsSoft};
 ghost use Rattle.s2_mode.specs.Counts.{CanCount};
 ghost use Rattle.s2_mode.specs.Shape.{code_bits};
@@ -7,20 +7,19 @@ ghost use Rattle.s2_rows.specs.RowFiles as row_files;
 ghost use Rattle.s2_matrix.specs.Code.{code_of};
 ghost use Rattle.s2_console.specs.Exits.{Follows};
 ghost use Rattle.s2_rows.specs.Values as values;
-ghost use Rattle.s2_evidence.specs.Inputs.{taken, fault_of_file, rows_said, rows_in, values_said, values_in, inputs, most_bytes, IsAccepted, AreAccepted};
+ghost use Rattle.s2_evidence.specs.Inputs.{taken, fault_of_file, rows_said, rows_in, values_said, values_in, inputs, most_bytes};
 
 use s2_console::Fault;
 use s2_matrix::Matrix;
 use s2_mode::{CountedRead, FileFault, Shape, read_into};
 use s2_rows::{RowFault, Rows, ValueFault, read_rows, read_values};
-use s2_skim::{skim_rows, skim_values};
 use std::alloc::Global;
 
 /// The most bytes of a file that is read into memory.
 pub const MOST_BYTES: usize = 16_777_216;
 
 /// Room for the bytes of any file.
-pub(crate) fn room(alloc: Global) -> Result<Vec<u8>, Fault<'static>>
+fn room(alloc: Global) -> Result<Vec<u8>, Fault<'static>>
     ensures empty { IfOk result (λ v. vec_len v ≡ 0) }
     ensures room { IfOk result (λ v. most_bytes ≤ vec_capacity v) }
     ensures told { IsOkUnless result Fault.NoMemory }
@@ -29,7 +28,7 @@ pub(crate) fn room(alloc: Global) -> Result<Vec<u8>, Fault<'static>>
 }
 
 /// A fault of a file, as a command's.
-pub(crate) fn file_fault(fault: FileFault) -> Fault<'static>
+fn file_fault(fault: FileFault) -> Fault<'static>
     ensures { result ≡ fault_of_file fault }
 {
     match fault {
@@ -40,10 +39,7 @@ pub(crate) fn file_fault(fault: FileFault) -> Fault<'static>
 }
 
 /// Puts the bytes of a file into room for them. It takes no memory.
-pub(crate) fn fill<R: CountedRead>(
-    reader: &mut R,
-    bytes: &mut Vec<u8>,
-) -> Result<(), Fault<'static>>
+fn fill<R: CountedRead>(reader: &mut R, bytes: &mut Vec<u8>) -> Result<(), Fault<'static>>
     requires count { CanCount (R.count reader.old) }
     requires empty { vec_len bytes.old ≡ 0 }
     requires room { most_bytes ≤ vec_capacity bytes.old }
@@ -57,12 +53,14 @@ pub(crate) fn fill<R: CountedRead>(
 }
 
 /// The bytes of a file. Room for them is taken before the first one is read.
-fn read_bytes<R: CountedRead>(alloc: Global, reader: &mut R) -> Result<Vec<u8>, Fault<'static>>
+pub(crate) fn read_bytes<R: CountedRead>(
+    alloc: Global,
+    reader: &mut R,
+) -> Result<Vec<u8>, Fault<'static>>
     requires { CanCount (R.count reader.old) }
     ensures bytes { IfSome (R.remaining reader.old) (λ xs. Follows (λ v. v.items) result (taken xs)) }
     ensures read { result ≡ Err Fault.Read → R.count reader.new ≡ R.count reader.old + 1 }
     ensures no_other { result ≢ Err Fault.Read → R.count reader.new ≡ R.count reader.old }
-    ensures no_memory { result ≡ Err Fault.NoMemory → reader.new ≡ reader.old }
     ensures write { result ≢ Err Fault.Write }
 {
     let mut bytes = room(alloc)?;
@@ -74,7 +72,6 @@ fn read_bytes<R: CountedRead>(alloc: Global, reader: &mut R) -> Result<Vec<u8>, 
 fn rows_of(alloc: Global, text: &[u8], shape: Shape) -> Result<Rows, Fault<'static>>
     ensures says { Follows (λ r. r) result (rows_said shape (row_files.rows_of_text text.now shape)) }
     ensures shape { IfOk result (λ r. r.shape ≡ shape) }
-    ensures no_memory { result ≡ Err Fault.NoMemory → IsOk (rows_said shape (row_files.rows_of_text text.now shape)) }
     ensures read { result ≢ Err Fault.Read }
     ensures write { result ≢ Err Fault.Write }
 {
@@ -89,7 +86,6 @@ fn rows_of(alloc: Global, text: &[u8], shape: Shape) -> Result<Rows, Fault<'stat
 pub(crate) fn matrix_of(alloc: Global, text: &[u8], shape: Shape) -> Result<Matrix, Fault<'static>>
     ensures says { Follows (λ m. m) result (rows_said shape (row_files.rows_of_text text.now shape)) }
     ensures shape { IfOk result (λ m. m.shape ≡ shape) }
-    ensures no_memory { result ≡ Err Fault.NoMemory → IsOk (rows_said shape (row_files.rows_of_text text.now shape)) }
     ensures read { result ≢ Err Fault.Read }
     ensures write { result ≢ Err Fault.Write }
 {
@@ -100,24 +96,7 @@ pub(crate) fn matrix_of(alloc: Global, text: &[u8], shape: Shape) -> Result<Matr
     }
 }
 
-/// What is told of a row file for which there is no room: why its rows are refused, or want of memory where they are not.
-fn lacking_rows<R: CountedRead>(reader: &mut R, shape: Shape) -> Fault<'static>
-    requires { CanCount (R.count reader.old) }
-    ensures rows { IfSome (R.remaining reader.old) (λ xs. Follows (λ (r : Rows). r) (Err result) (rows_in shape xs)) }
-    ensures read { result ≡ Fault.Read → R.count reader.new ≡ R.count reader.old + 1 }
-    ensures no_other { result ≢ Fault.Read → R.count reader.new ≡ R.count reader.old }
-    ensures no_memory { result ≡ Fault.NoMemory → IsAccepted (R.remaining reader.old) (rows_in shape) }
-    ensures write { result ≢ Fault.Write }
-{
-    match skim_rows(reader, shape, MOST_BYTES) {
-        Ok(Some(fault)) => Fault::of_rows(fault.text()),
-        Ok(None) => Fault::NoMemory,
-        Err(fault) => file_fault(fault),
-    }
-}
-
-/// The matrix of the rows of a row file, which is read to its end. Where it is refused, the fault says why: want of memory is
-/// told only of rows that are accepted.
+/// The matrix of the rows of a row file, which is read to its end.
 pub fn read_matrix<R: CountedRead>(
     alloc: Global,
     reader: &mut R,
@@ -128,14 +107,10 @@ pub fn read_matrix<R: CountedRead>(
     ensures shape { IfOk result (λ m. m.shape ≡ shape) }
     ensures read { result ≡ Err Fault.Read → R.count reader.new ≡ R.count reader.old + 1 }
     ensures no_other { result ≢ Err Fault.Read → R.count reader.new ≡ R.count reader.old }
-    ensures no_memory { result ≡ Err Fault.NoMemory → IsAccepted (R.remaining reader.old) (rows_in shape) }
     ensures write { result ≢ Err Fault.Write }
 {
-    match read_bytes(alloc, reader) {
-        Ok(text) => matrix_of(alloc, &text, shape),
-        Err(Fault::NoMemory) => Err(lacking_rows(reader, shape)),
-        Err(fault) => Err(fault),
-    }
+    let text = read_bytes(alloc, reader)?;
+    matrix_of(alloc, &text, shape)
 }
 
 /// The values of a value file in memory, as many as a codeword has bits.
@@ -143,8 +118,6 @@ fn values_of(alloc: Global, text: &[u8], shape: Shape) -> Result<Vec<i16>, Fault
     ensures says { Follows (λ v. v.items) result (values_said (values.values_of_text text.now (code_bits shape))) }
     ensures long { IfOk result (λ v. length v.items ≡ code_bits shape) }
     ensures range { IfOk result (λ v. All IsSoft v.items) }
-    ensures no_memory { result ≡ Err Fault.NoMemory
-        → IsOk (values_said (values.values_of_text text.now (code_bits shape))) }
     ensures read { result ≢ Err Fault.Read }
     ensures write { result ≢ Err Fault.Write }
 {
@@ -152,22 +125,6 @@ fn values_of(alloc: Global, text: &[u8], shape: Shape) -> Result<Vec<i16>, Fault
         Ok(values) => Ok(values),
         Err(ValueFault::NoMemory) => Err(Fault::NoMemory),
         Err(fault) => Err(Fault::about("values: ", fault.text())),
-    }
-}
-
-/// What is told of a value file for which there is no room: why its values are refused, or want of memory where they are not.
-fn lacking_values<R: CountedRead>(reader: &mut R, shape: Shape) -> Fault<'static>
-    requires { CanCount (R.count reader.old) }
-    ensures values { IfSome (R.remaining reader.old) (λ xs. Follows (λ (v : List ℤ). v) (Err result) (values_in shape xs)) }
-    ensures read { result ≡ Fault.Read → R.count reader.new ≡ R.count reader.old + 1 }
-    ensures no_other { result ≢ Fault.Read → R.count reader.new ≡ R.count reader.old }
-    ensures no_memory { result ≡ Fault.NoMemory → IsAccepted (R.remaining reader.old) (values_in shape) }
-    ensures write { result ≢ Fault.Write }
-{
-    match skim_values(reader, shape.n(), MOST_BYTES) {
-        Ok(Some(fault)) => Fault::about("values: ", fault.text()),
-        Ok(None) => Fault::NoMemory,
-        Err(fault) => file_fault(fault),
     }
 }
 
@@ -183,14 +140,10 @@ fn read_value_file<R: CountedRead>(
     ensures range { IfOk result (λ v. All IsSoft v.items) }
     ensures read { result ≡ Err Fault.Read → R.count reader.new ≡ R.count reader.old + 1 }
     ensures no_other { result ≢ Err Fault.Read → R.count reader.new ≡ R.count reader.old }
-    ensures no_memory { result ≡ Err Fault.NoMemory → IsAccepted (R.remaining reader.old) (values_in shape) }
     ensures write { result ≢ Err Fault.Write }
 {
-    match read_bytes(alloc, reader) {
-        Ok(text) => values_of(alloc, &text, shape),
-        Err(Fault::NoMemory) => Err(lacking_values(reader, shape)),
-        Err(fault) => Err(fault),
-    }
+    let text = read_bytes(alloc, reader)?;
+    values_of(alloc, &text, shape)
 }
 
 /// What is judged: the matrix of rows, and a soft value for each of its bits.
@@ -205,8 +158,7 @@ impl Drop for Judged {
     }
 }
 
-/// The rows of a row file and the values of a value file. Where there is no memory for the rows, the values are read through all the
-/// same: they may be refused.
+/// The rows of a row file and the values of a value file.
 pub(crate) fn read_judged<R: CountedRead, S: CountedRead>(
     alloc: Global,
     rows: &mut R,
@@ -220,17 +172,9 @@ pub(crate) fn read_judged<R: CountedRead, S: CountedRead>(
     ensures range { IfOk result (λ j. All IsSoft j.soft.items) }
     ensures read { result ≡ Err Fault.Read → R.count rows.new + S.count soft.new ≡ R.count rows.old + S.count soft.old + 1 }
     ensures no_read { result ≢ Err Fault.Read → R.count rows.new + S.count soft.new ≡ R.count rows.old + S.count soft.old }
-    ensures no_memory { result ≡ Err Fault.NoMemory
-        → AreAccepted shape (R.remaining rows.old) (S.remaining soft.old) }
-    ensures accepted { OnOk result (AreAccepted shape (R.remaining rows.old) (S.remaining soft.old)) }
     ensures write { result ≢ Err Fault.Write }
 {
-    match read_matrix(alloc, rows, shape) {
-        Ok(matrix) => {
-            let soft = read_value_file(alloc, soft, shape)?;
-            Ok(Judged { matrix, soft })
-        }
-        Err(Fault::NoMemory) => Err(lacking_values(soft, shape)),
-        Err(fault) => Err(fault),
-    }
+    let matrix = read_matrix(alloc, rows, shape)?;
+    let soft = read_value_file(alloc, soft, shape)?;
+    Ok(Judged { matrix, soft })
 }

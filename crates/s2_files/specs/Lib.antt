@@ -1,4 +1,3 @@
-pub mod Uses
-pub mod Names
 pub mod Known
-pub mod Opening
+pub mod Lending
+pub mod Uses

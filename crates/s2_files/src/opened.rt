@@ -11,7 +11,7 @@ pub enum Opened<F, S> {
 }
 
 impl<F: OpenFile, S> Opened<F, S> {
-    /// Cuts the file to length 0. A standard stream stays as it is, since more may stand in it than its reader has asked for.
+    /// Truncates the file. A standard stream is unchanged, since it may hold more than its reader asked for.
     pub(crate) fn cut(&self) -> io::Result<()> {
         match self {
             Opened::File(file) => file.set_len(0),

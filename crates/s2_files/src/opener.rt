@@ -1,11 +1,7 @@
 //! Files opened, each once.
-ghost use Rattle.std.specs.Prelude.{◌≡◌, ◌+◌, ◌<◌, ◌≤◌, [], ◌∷◌, ◌++◌, false, true, IfOk, IfErr, OnErr, OnOk, length};
-ghost use Rattle.s2_files.specs.Known.{buffered_of, known_of};
-ghost use Rattle.s2_files.specs.Names.{NamesStandard};
-ghost use Rattle.s2_files.specs.Opening.{CannotOpen, Takes};
-ghost use Rattle.s2_files.specs.Uses.{clashes_any};
+ghost use Rattle.std.specs.Prelude.{◌≡◌, ◌+◌, ◌<◌, [], IfOk, OnOk, length};
 
-use crate::disk::Disk;
+use crate::disk::{Disk, open_input, open_output, standard_node, stat};
 use crate::opened::Opened;
 use crate::standard::is_standard;
 use crate::target::Target;
@@ -14,17 +10,14 @@ use arrayvec::ArrayVec;
 use either::{Either, Left, Right};
 use s2_console::Fault;
 use s2_mode::Counting;
-use std::io::BufReader;
+use std::io::{BufReader, BufWriter};
 use std::marker::Model;
 
 /// The most files of a command.
 pub const MOST_FILES: usize = 4;
 
-/// An input behind a buffer, or without one where there was no memory for it, with its failed calls counted.
+/// An input with a buffer, or without one if there was no memory for it or none is wanted. It counts its failed calls.
 pub type Reader<F, S> = Counting<Either<BufReader<Opened<F, S>>, Opened<F, S>>>;
-
-/// An input without a buffer, with its failed calls counted.
-pub type PlainReader<F, S> = Counting<Opened<F, S>>;
 
 /// Opens files, each once. To contracts it is how each file that was opened is used, in order.
 pub struct Opener<'r, R> {
@@ -53,7 +46,7 @@ impl<'r, R> Model for Opener<'r, R> {
 }
 
 impl<'r, R: Disk> Opener<'r, R> {
-    /// Nothing is open so far.
+    /// No file is open.
     pub fn new(rt: &'r R) -> Opener<'r, R>
         ensures { result ≡ [] }
     {
@@ -64,18 +57,15 @@ impl<'r, R: Disk> Opener<'r, R> {
         }
     }
 
-    /// The length of the input that was opened last, where it is a regular file that was opened by its name.
+    /// The length of the file that was opened last, if it is a regular file that was opened by its name.
     pub fn last_length(&self) -> Option<u64> {
         self.length
     }
 
-    /// Takes up a new use of this name, where it goes together with those before it.
+    /// Notes how a file is used, unless that clashes with those before it.
     fn take<'a>(&mut self, name: &'a str, new: Use) -> Result<(), Fault<'a>>
         requires room { length self.old < 4 }
-        ensures taken { OnOk result ((self.new ≡ self.old ++ new ∷ []) × (clashes_any self.old new ≡ false)) }
-        ensures kept { OnErr result (self.new ≡ self.old) }
         ensures count { OnOk result (length self.new ≡ length self.old + 1) }
-        ensures fault { IfErr result (λ fault. (fault ≡ Fault.UsedTwice name.entry) × (clashes_any self.old new ≡ true)) }
     {
         if clashes_any(self.uses.as_slice(), new) {
             return Err(Fault::UsedTwice(name));
@@ -84,16 +74,13 @@ impl<'r, R: Disk> Opener<'r, R> {
         Ok(())
     }
 
-    /// Takes up a standard stream by one of its names.
+    /// Notes the use of a standard stream, which has no length.
     fn take_standard<'a>(&mut self, role: Role, name: &'a str) -> Result<(), Fault<'a>>
         requires room { length self.old < 4 }
-        requires standard { NamesStandard role name.now }
-        ensures takes { OnOk result (Takes R.tells role name.entry.now self.old self.new) }
-        ensures kept { OnErr result (self.new ≡ self.old) }
         ensures count { OnOk result (length self.new ≡ length self.old + 1) }
-        ensures fault { IfErr result (CannotOpen R.tells role name.entry self.old) }
     {
-        let node = self.rt.standard_node(role);
+        self.length = None;
+        let node = standard_node(self.rt, role);
         self.take(
             name,
             Use {
@@ -104,23 +91,15 @@ impl<'r, R: Disk> Opener<'r, R> {
         )
     }
 
-    /// Takes up an open file by its name. Answers its length, where it is a regular file.
-    fn take_file<'a>(
-        &mut self,
-        role: Role,
-        name: &'a str,
-        file: &R::File,
-    ) -> Result<Option<u64>, Fault<'a>>
+    /// Notes the use and the length of a file that was opened by its name.
+    fn take_file<'a>(&mut self, role: Role, name: &'a str, file: &R::File) -> Result<(), Fault<'a>>
         requires room { length self.old < 4 }
-        requires named { NamesStandard role name.now → ⊥ }
-        ensures takes { OnOk result (Takes R.tells role name.entry.now self.old self.new) }
-        ensures kept { OnErr result (self.new ≡ self.old) }
         ensures count { OnOk result (length self.new ≡ length self.old + 1) }
-        ensures fault { IfErr result (CannotOpen R.tells role name.entry self.old) }
     {
-        let Ok(stat) = self.rt.stat(role, name, file) else {
+        let Ok(stat) = stat(file) else {
             return Err(Fault::Open(name));
         };
+        self.length = stat.length;
         self.take(
             name,
             Use {
@@ -128,66 +107,68 @@ impl<'r, R: Disk> Opener<'r, R> {
                 standard: false,
                 node: stat.node,
             },
-        )?;
-        Ok(stat.length)
+        )
     }
 
     /// Opens an input.
-    pub fn read<'a>(&mut self, name: &'a str) -> Result<PlainReader<R::File, R::Input>, Fault<'a>>
+    fn input<'a>(&mut self, name: &'a str) -> Result<Opened<R::File, R::Input>, Fault<'a>>
         requires room { length self.old < 4 }
-        ensures fresh { IfOk result (λ file. file.failed ≡ 0) }
-        ensures holds { IfOk result
-            (λ file. known_of R.File.remaining R.Input.remaining file.inner ≡ R.holds Role.Input name.entry.now) }
-        ensures takes { OnOk result (Takes R.tells Role.Input name.entry.now self.old self.new) }
-        ensures kept { OnErr result (self.new ≡ self.old) }
         ensures count { OnOk result (length self.new ≡ length self.old + 1) }
-        ensures fault { IfErr result (CannotOpen R.tells Role.Input name.entry self.old) }
     {
         if is_standard(Role::Input, name) {
             self.take_standard(Role::Input, name)?;
-            self.length = None;
-            return Ok(Counting::new(Opened::Standard(self.rt.standard_input())));
+            return Ok(Opened::Standard(self.rt.input()));
         }
-        let Ok(file) = self.rt.open_input(name) else {
+        let Ok(file) = open_input(self.rt, name) else {
             return Err(Fault::Open(name));
         };
-        self.length = self.take_file(Role::Input, name, &file)?;
-        Ok(Counting::new(Opened::File(file)))
+        self.take_file(Role::Input, name, &file)?;
+        Ok(Opened::File(file))
     }
 
-    /// Opens an output, which is not cut.
-    pub fn write<'a>(&mut self, name: &'a str) -> Result<Target<R::File, R::Output>, Fault<'a>>
+    /// Opens an output, which is not truncated.
+    fn output<'a>(&mut self, name: &'a str) -> Result<Opened<R::File, R::Output>, Fault<'a>>
         requires room { length self.old < 4 }
-        ensures fresh { IfOk result (λ file. file.failed ≡ 0) }
-        ensures holds { IfOk result
-            (λ file. known_of R.File.contents R.Output.contents file.to ≡ R.holds Role.Output name.entry.now) }
-        ensures takes { OnOk result (Takes R.tells Role.Output name.entry.now self.old self.new) }
-        ensures kept { OnErr result (self.new ≡ self.old) }
         ensures count { OnOk result (length self.new ≡ length self.old + 1) }
-        ensures fault { IfErr result (CannotOpen R.tells Role.Output name.entry self.old) }
     {
         if is_standard(Role::Output, name) {
             self.take_standard(Role::Output, name)?;
-            return Ok(Target::new(Opened::Standard(self.rt.standard_output()), false));
+            return Ok(Opened::Standard(self.rt.output()));
         }
-        let Ok(file) = self.rt.open_output(name) else {
+        let Ok(file) = open_output(self.rt, name) else {
             return Err(Fault::Open(name));
         };
-        let length = self.take_file(Role::Output, name, &file)?;
-        Ok(Target::new(Opened::File(file), length.is_some()))
+        self.take_file(Role::Output, name, &file)?;
+        Ok(Opened::File(file))
+    }
+
+    /// Opens an input without a buffer.
+    pub fn read<'a>(&mut self, name: &'a str) -> Result<Reader<R::File, R::Input>, Fault<'a>>
+        requires room { length self.old < 4 }
+        ensures fresh { IfOk result (λ file. file.failed ≡ 0) }
+        ensures count { OnOk result (length self.new ≡ length self.old + 1) }
+    {
+        Ok(Counting::new(Right(self.input(name)?)))
+    }
+
+    /// Opens an output without a buffer. It is not truncated.
+    pub fn write<'a>(&mut self, name: &'a str) -> Result<Target<R::File, R::Output>, Fault<'a>>
+        requires room { length self.old < 4 }
+        ensures fresh { IfOk result (λ file. file.failed ≡ 0) }
+        ensures count { OnOk result (length self.new ≡ length self.old + 1) }
+    {
+        let file = self.output(name)?;
+        Ok(Target::new(Right(file), self.length.is_some()))
     }
 }
 
-/// Puts an input behind a buffer, where there is memory for it. The buffer is made around standard input, since without memory what it is
+/// Puts an input behind a buffer, if there is memory for it. The buffer is made around standard input, since without memory what it is
 /// made around is dropped.
 fn buffered<R: Disk + AllocGlobal>(
     rt: &R,
     file: Opened<R::File, R::Input>,
-) -> Either<BufReader<Opened<R::File, R::Input>>, Opened<R::File, R::Input>>
-    ensures { buffered_of (known_of R.File.remaining R.Input.remaining) result
-        ≡ known_of R.File.remaining R.Input.remaining file }
-{
-    match BufReader::new(rt.alloc(), Opened::Standard(rt.standard_input())) {
+) -> Either<BufReader<Opened<R::File, R::Input>>, Opened<R::File, R::Input>> {
+    match BufReader::new(rt.alloc(), Opened::Standard(rt.input())) {
         Ok(mut buffer) => {
             *buffer.get_mut() = file;
             Left(buffer)
@@ -197,21 +178,32 @@ fn buffered<R: Disk + AllocGlobal>(
 }
 
 impl<'r, R: Disk + AllocGlobal> Opener<'r, R> {
-    /// Opens an input behind a buffer; without one where there is no memory for it.
+    /// Opens an input with a buffer; without one if there is no memory for it.
     pub fn read_buffered<'a>(
         &mut self,
         name: &'a str,
     ) -> Result<Reader<R::File, R::Input>, Fault<'a>>
         requires room { length self.old < 4 }
         ensures fresh { IfOk result (λ file. file.failed ≡ 0) }
-        ensures holds { IfOk result (λ file. buffered_of (known_of R.File.remaining R.Input.remaining) file.inner
-            ≡ R.holds Role.Input name.entry.now) }
-        ensures takes { OnOk result (Takes R.tells Role.Input name.entry.now self.old self.new) }
-        ensures kept { OnErr result (self.new ≡ self.old) }
         ensures count { OnOk result (length self.new ≡ length self.old + 1) }
-        ensures fault { IfErr result (CannotOpen R.tells Role.Input name.entry self.old) }
     {
-        let file = self.read(name)?;
-        Ok(Counting::new(buffered(self.rt, file.into_inner())))
+        let file = self.input(name)?;
+        Ok(Counting::new(buffered(self.rt, file)))
+    }
+
+    /// Opens an output with a buffer. It is not truncated.
+    pub fn write_buffered<'a>(
+        &mut self,
+        name: &'a str,
+    ) -> Result<Target<R::File, R::Output>, Fault<'a>>
+        requires room { length self.old < 4 }
+        ensures fresh { IfOk result (λ file. file.failed ≡ 0) }
+        ensures count { OnOk result (length self.new ≡ length self.old + 1) }
+    {
+        let file = self.output(name)?;
+        let Ok(buffered) = BufWriter::new(self.rt.alloc(), file) else {
+            return Err(Fault::NoMemory);
+        };
+        Ok(Target::new(Left(buffered), self.length.is_some()))
     }
 }

@@ -1,22 +1,72 @@
-//! Writers in front of which something may stand.
-ghost use Rattle.std.specs.Prelude.{◌≡◌};
+//! Outputs, which may hold something from before.
+ghost use Rattle.std.specs.Prelude.{◌≡◌, true, false};
 ghost use Rattle.s2_mode.specs.Counts.{CanCount, CountsFault};
+ghost use Rattle.s2_files.specs.Lending.{LendsWriter};
+ghost use Rattle.std.specs.Borrow.{sem};
 
 use s2_mode::{CountedWrite, Counting, WriteFault};
 use std::io::Write;
 
 /// A writer that may stand on a file which holds something from before.
 pub trait Output: CountedWrite {
-    /// Cuts off what stood in the file before. It is called once, before the first write; what the writer has taken is as it was.
-    fn begin(&mut self) -> Result<(), WriteFault>
+    /// Truncates the file. What the writer has taken is unchanged.
+    fn truncate(&mut self) -> Result<(), WriteFault>
         requires { CanCount (Self.count self.old) }
         ensures kept { Self.contents self.new ≡ Self.contents self.old }
         ensures cause { CountsFault (Self.count self.old) (Self.count self.new) result };
 }
 
-/// In memory nothing stood before.
+/// Memory holds nothing from before.
 impl<W: Write> Output for Counting<W> {
-    fn begin(&mut self) -> Result<(), WriteFault> {
+    fn truncate(&mut self) -> Result<(), WriteFault> {
         Ok(())
+    }
+}
+
+/// An output that a command was given. It keeps what it holds until the command begins to write, which it does once; nothing can be written
+/// before.
+#[derive(Drop)]
+pub struct Destination<W> {
+    to: W,
+    begun: bool,
+}
+
+impl<W> Destination<W> {
+    /// An output that is not begun.
+    pub fn new(to: W) -> Destination<W>
+        ensures unbegun { result.begun ≡ false }
+        ensures same { result.to ≡ to }
+    {
+        Destination { to, begun: false }
+    }
+
+    /// The writer of an output that is begun.
+    pub fn writer(&mut self) -> &mut W
+        requires begun { self.old.begun ≡ true }
+        ensures* writes_back { sem 𝓛 (LendsWriter W.row self.entry result) }
+        ensures same { result.now ≡ self.old.to }
+    {
+        &mut self.to
+    }
+
+    /// The writer, begun or not.
+    pub fn into_inner(self) -> W
+        ensures { result ≡ self.to }
+    {
+        self.to
+    }
+}
+
+impl<W: Output> Destination<W> {
+    /// Begins it: what the file held is gone. If it cannot be truncated, it counts as begun all the same.
+    pub fn begin(&mut self) -> Result<(), WriteFault>
+        requires once { self.old.begun ≡ false }
+        requires count { CanCount (W.count self.old.to) }
+        ensures begun { self.new.begun ≡ true }
+        ensures kept { W.contents self.new.to ≡ W.contents self.old.to }
+        ensures cause { CountsFault (W.count self.old.to) (W.count self.new.to) result }
+    {
+        self.begun = true;
+        self.to.truncate()
     }
 }

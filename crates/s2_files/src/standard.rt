@@ -1,9 +1,5 @@
 //! Standard streams, and their names.
-ghost use Rattle.std.specs.Prelude.{◌≡◌, ◌↔◌, IsTrue};
-ghost use Rattle.s2_files.specs.Names.{standard_path, NamesStandard};
-
 use crate::uses::Role;
-use s2_console::Place;
 use std::io::{IsTerminal, Read, Write};
 use std::rt::{Stderr, Stdin, Stdout};
 
@@ -43,29 +39,14 @@ impl StandardStreams for HostRuntime {
 }
 
 /// The path of a standard stream.
-pub(crate) fn standard_path(role: Role) -> &'static str
-    ensures { result.now ≡ standard_path role }
-{
+pub(crate) fn standard_path(role: Role) -> &'static str {
     match role {
         Role::Input => "/dev/stdin",
         Role::Output => "/dev/stdout",
     }
 }
 
-/// Whether a name is that of a standard stream.
-pub(crate) fn is_standard(role: Role, name: &str) -> bool
-    ensures { IsTrue result ↔ NamesStandard role name.now }
-{
+/// Whether a name is that of a standard stream: `-`, or its path.
+pub fn is_standard(role: Role, name: &str) -> bool {
     name == "-" || name == standard_path(role)
-}
-
-/// Where the report goes beside an output of this name: onto standard error where that is standard output.
-pub fn place_of(name: &str) -> Place
-    ensures { (result ≡ Place.Errors) ↔ NamesStandard Role.Output name.now }
-{
-    if is_standard(Role::Output, name) {
-        Place::Errors
-    } else {
-        Place::Output
-    }
 }

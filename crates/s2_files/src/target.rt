@@ -1,36 +1,32 @@
-//! Outputs that are whole until they are begun.
-ghost use Rattle.std.specs.Prelude.{◌≡◌, ◌≢◌, ◌⊎◌, ◌<◌, ◌≤◌, ℕ, Ok, IfOk, IfErr, IsOk, length};
-ghost use Rattle.std.specs.Io.Buffered.{writer_contents};
+//! Files that are written.
+ghost use Rattle.std.specs.Prelude.{◌≡◌, ◌<◌, ◌≤◌, Ok, IfOk, length};
 ghost use Rattle.std.specs.Io.KnownBytes.{WriteAppends};
 ghost use Rattle.s2_mode.specs.Counts.{CanCount, CountsFault};
-ghost use Rattle.s2_files.specs.Known.{known_of, FailedBy, LeftWhole, LeftPart};
+ghost use Rattle.s2_files.specs.Known.{buffered_of, known_of};
 
-use crate::disk::Disk;
 use crate::opened::Opened;
 use crate::output::Output;
-use crate::uses::Role;
-use s2_console::{Exit, Fault};
+use either::{Either, Left, Right};
 use s2_mode::{Counted, CountedWrite, Counting, Sink, WriteFault, write_full};
-use std::alloc::Global;
 use std::fs::OpenFile;
+use std::io;
 use std::io::{BufWriter, Write};
 
-/// An output that was opened without being cut, with its failed calls counted.
+/// An opened file behind a buffer, or without one.
+pub(crate) type MaybeBuffered<F, S> = Either<BufWriter<Opened<F, S>>, Opened<F, S>>;
+
+/// A file that was opened for writing and is not truncated yet, or a standard stream. It counts its failed calls.
 #[derive(Drop)]
-pub struct Target<F, S> {
-    to: Opened<F, S>,
+pub struct Target<F: Write + Drop, S: Write + Drop> {
+    to: MaybeBuffered<F, S>,
     holds: bool,
     failed: u64,
 }
 
-/// An output behind a buffer.
-pub type Writer<F, S> = Counting<BufWriter<Opened<F, S>>>;
-
-impl<F, S> Target<F, S> {
-    /// `holds` tells that it is a regular file, which may hold something.
-    pub(crate) fn new(to: Opened<F, S>, holds: bool) -> Target<F, S>
-        ensures fresh { result.failed ≡ 0 }
-        ensures to { result.to ≡ to }
+impl<F: Write + Drop, S: Write + Drop> Target<F, S> {
+    /// `holds` says whether it is a regular file, which may hold something.
+    pub(crate) fn new(to: MaybeBuffered<F, S>, holds: bool) -> Target<F, S>
+        ensures { result.failed ≡ 0 }
     {
         Target {
             to,
@@ -38,32 +34,26 @@ impl<F, S> Target<F, S> {
             failed: 0,
         }
     }
-}
 
-impl<F: Write + OpenFile + Drop, S: Write + Drop> Target<F, S> {
-    /// Begins it, behind a buffer. Where there is no memory for the buffer, nothing is cut.
-    pub fn begin_buffered(self, alloc: Global) -> Result<Writer<F, S>, Fault<'static>>
-        ensures fresh { IfOk result (λ writer. writer.failed ≡ 0) }
-        ensures contents { IfOk result (λ writer. writer_contents (known_of F.contents S.contents) writer.inner
-            ≡ known_of F.contents S.contents self.to) }
-        ensures fault { IfErr result (λ fault. (fault ≡ Fault.NoMemory) ⊎ (fault ≡ Fault.Write)) }
-    {
+    /// Writes what is still in the buffer. After a failed write nothing more is written.
+    pub fn finish(self) -> Result<(), WriteFault> {
         let Target {
             to,
-            holds,
-            failed: _,
+            holds: _,
+            failed,
         } = self;
-        let Ok(buffered) = BufWriter::new(alloc, to) else {
-            return Err(Fault::NoMemory);
+        let Left(buffered) = to else {
+            return Ok(());
         };
-        if holds && buffered.get_ref().cut().is_err() {
-            return Err(Fault::Write);
+        let (file, left) = buffered.into_parts();
+        if failed > 0 {
+            return Ok(());
         }
-        Ok(Counting::new(buffered))
+        write_full(&mut Counting::new(file), &left)
     }
 }
 
-impl<F, S> Counted for Target<F, S> {
+impl<F: Write + Drop, S: Write + Drop> Counted for Target<F, S> {
     ghost count = { λ t. t.failed };
 
     fn count(&self) -> u64 {
@@ -71,18 +61,18 @@ impl<F, S> Counted for Target<F, S> {
     }
 }
 
-impl<F: Write, S: Write> CountedWrite for Target<F, S> {
-    ghost use Rattle.s2_files.specs.Known.{known_of};
+impl<F: Write + Drop, S: Write + Drop> CountedWrite for Target<F, S> {
+    ghost use Rattle.s2_files.specs.Known.{buffered_of, known_of};
 
-    ghost contents = { λ t. known_of F.contents S.contents t.to };
+    ghost contents = { λ t. buffered_of (known_of F.contents S.contents) t.to };
 
-    /// Writes once. Of no bytes nothing is asked of the file, so nothing can fail.
+    /// Writes once. If there are no bytes to write, the file is not called.
     fn write(&mut self, buf: &[u8]) -> Result<usize, WriteFault>
         requires { CanCount self.old.failed }
         ensures bound { IfOk result (λ n. n ≤ length buf.now) }
         ensures progress { IfOk result (λ n. 0 < length buf.now → 0 < n) }
-        ensures bytes { WriteAppends (known_of F.contents S.contents self.old.to)
-            (known_of F.contents S.contents self.new.to) result buf.now }
+        ensures bytes { WriteAppends (buffered_of (known_of F.contents S.contents) self.old.to)
+            (buffered_of (known_of F.contents S.contents) self.new.to) result buf.now }
         ensures cause { CountsFault self.old.failed self.new.failed result }
         ensures empty { length buf.now ≡ 0 → (result ≡ Ok 0) × (self.new ≡ self.old) }
     {
@@ -97,47 +87,20 @@ impl<F: Write, S: Write> CountedWrite for Target<F, S> {
     }
 }
 
-impl<F: Write + OpenFile, S: Write> Output for Target<F, S> {
-    fn begin(&mut self) -> Result<(), WriteFault> {
-        if self.holds && self.to.cut().is_err() {
+/// Truncates the file, in whose buffer there is nothing so far.
+fn cut<F: Write + OpenFile + Drop, S: Write + Drop>(to: &MaybeBuffered<F, S>) -> io::Result<()> {
+    match to {
+        Left(buffered) => buffered.get_ref().cut(),
+        Right(file) => file.cut(),
+    }
+}
+
+impl<F: Write + OpenFile + Drop, S: Write + Drop> Output for Target<F, S> {
+    fn truncate(&mut self) -> Result<(), WriteFault> {
+        if self.holds && cut(&self.to).is_err() {
             self.failed = self.failed.saturating_add(1);
             return Err(WriteFault);
         }
         Ok(())
-    }
-}
-
-/// Ends an output behind a buffer that was opened by this name: what is still in the buffer is written, also where a fault was told that is
-/// none of this output, and then it is let go. Once a write has failed, nothing more is written.
-pub fn finish<R: Disk>(
-    rt: &R,
-    name: &str,
-    exit: Exit,
-    to: Writer<R::File, R::Output>,
-) -> Result<Exit, Fault<'static>>
-    ensures same { IfOk result (λ ended. ended ≡ exit) }
-    ensures fault { IfErr result (λ fault. fault ≡ Fault.Write) }
-    ensures told { exit ≢ Exit.Fine → IsOk result }
-    ensures whole { to.failed ≡ 0 → result ≡ Ok Exit.Fine → LeftWhole (R.leaves Role.Output name.now)
-        (writer_contents (known_of R.File.contents R.Output.contents) to.inner) 0 }
-    ensures part { (failed : ℕ) × LeftPart (R.leaves Role.Output name.now) (writer_contents
-        (known_of R.File.contents R.Output.contents) to.inner) failed × FailedBy to.failed failed result }
-{
-    let failed = to.count();
-    let (file, left) = to.into_inner().into_parts();
-    let mut to = Target {
-        to: file,
-        holds: false,
-        failed,
-    };
-    if failed > 0 {
-        rt.leave_output(name, to);
-        return Ok(exit);
-    }
-    let written = write_full(&mut to, &left);
-    rt.leave_output(name, to);
-    match written {
-        Err(_) if exit == Exit::Fine => Err(Fault::Write),
-        _ => Ok(exit),
     }
 }

@@ -15,9 +15,9 @@ use Rattle.s2_split.proofs.Accepted.{made_certificate, greedy_certificate, scatt
 use Rattle.s2_settle.specs.Settled.{settled}
 use Rattle.s2_settle.specs.Holding.{Settling, view_by as view_settled}
 use Rattle.s2_settle.proofs.SettledViews.{settled_lem}
-use Rattle.s2_judge.specs.Deciding.{is_strict, IsCertificateOf, or_else, view_for}
+use Rattle.s2_judge.specs.Deciding.{is_strict, IsCertificateOf, or_else, view_for, decoded_view}
 use Rattle.s2_judge.specs.Certifying.{Certifying, settled_shares}
-use Rattle.s2_judge.proofs.Decisions.{strict_is}
+use Rattle.s2_settle.proofs.StrictTests.{strict_test, strict_is}
 
 -- with passes or without
 pub without_passes : (r : Rows) (passes : ℕ) (soft : List ℤ) (bits : List Bool) → (passes == 0) ≡ true → view_for r passes soft bits ≡ made_view r soft bits
@@ -27,6 +27,13 @@ without_passes r passes soft bits e =
 pub with_passes : (r : Rows) (passes : ℕ) (soft : List ℤ) (bits : List Bool) → (passes == 0) ≡ false → view_for r passes soft bits ≡ or_else (greedy_view r soft bits) (settled r soft bits passes)
 with_passes r passes soft bits e =
     ap (λ b. cond b (made_view r soft bits) (or_else (greedy_view r soft bits) (settled r soft bits passes))) e
+
+-- of a codeword that min-sum found, without passes and with
+pub decoded_without : (r : Rows) (passes : ℕ) (soft : List ℤ) (bits : List Bool) → (passes == 0) ≡ true → decoded_view r passes soft bits ≡ made_view r soft bits
+decoded_without r passes soft bits e = ap (λ b. cond b (made_view r soft bits) (settled r soft bits passes)) e
+
+pub decoded_with : (r : Rows) (passes : ℕ) (soft : List ℤ) (bits : List Bool) → (passes == 0) ≡ false → decoded_view r passes soft bits ≡ settled r soft bits passes
+decoded_with r passes soft bits e = ap (λ b. cond b (made_view r soft bits) (settled r soft bits passes)) e
 
 of_lists : (r : Rows) (soft : List ℤ) (bits : List Bool) (view : View) (o : Option Shared) → shared_views r soft bits o ≡ Some view → (view.soft ≡ soft) × (view.bits ≡ bits)
 of_lists r soft bits view None e = cc
@@ -46,7 +53,7 @@ shared_shown r soft bits view o accepted is =
 settled_shown : (r : Rows) (passes : ℕ) (soft : List ℤ) (bits : List Bool) (view : View) → IsCodeword (code_of r) bits → settled r soft bits passes ≡ Some view → IsCertificateOf r soft bits view
 settled_shown r passes soft bits view codeword is =
     let all = settled_lem r soft bits passes view codeword is in
-    record { accepted = all.0; values = all.1; word = all.2 }
+    record { accepted = all.0.certificate; values = all.1; word = all.2 }
 
 -- a certificate that is found for a codeword is one
 pub found_shown : (r : Rows) (passes : ℕ) (soft : List ℤ) (bits : List Bool) (view : View) → IsCodeword (code_of r) bits → view_for r passes soft bits ≡ Some view → IsCertificateOf r soft bits view
@@ -59,6 +66,13 @@ found_shown r passes soft bits view codeword is =
     either : (o : Option View) → greedy_view r soft bits ≡ o → or_else o (settled r soft bits passes) ≡ Some view → IsCertificateOf r soft bits view
     either (Some v) e s = shared_shown r soft bits view (shared (code_of r) bits (greedy_split (code_of r) soft bits)) (greedy_certificate r soft bits codeword) (e ∙ s)
     either None e s = settled_shown r passes soft bits view codeword s
+
+pub decoded_shown : (r : Rows) (passes : ℕ) (soft : List ℤ) (bits : List Bool) (view : View) → IsCodeword (code_of r) bits → decoded_view r passes soft bits ≡ Some view → IsCertificateOf r soft bits view
+decoded_shown r passes soft bits view codeword is =
+    elim (cases_Bool (passes == 0)) [
+      | inl none ↦ shared_shown r soft bits view (shared (code_of r) bits (made_split (code_of r) soft bits)) (made_certificate r soft bits codeword) (sym (decoded_without r passes soft bits none) ∙ is)
+      | inr some ↦ settled_shown r passes soft bits view codeword (sym (decoded_with r passes soft bits some) ∙ is)
+    ]
 
 -- where the values are scattered about a word, one is found
 pub scattered_found : (r : Rows) (passes : ℕ) (soft : List ℤ) (word : List Bool) → IsScattered (code_of r) soft word → view_for r passes soft word ≢ None
@@ -104,11 +118,10 @@ by_nobody r passes soft word made some made_is none is =
 settled_same : (r : Rows) (soft : List ℤ) (word : List Bool) (settler : Settling) → settler.rows ≡ r → view_settled settler soft word ≡ shared_view r soft word (settled_shares settler)
 settled_same r soft word settler rows = ap (λ (q : Rows). shared_view q soft word (settled_shares settler)) rows
 
--- whether what a settler holds is strict
-pub strict_settled : (r : Rows) (soft : List ℤ) (word : List Bool) (settler : Settling) → settler.rows ≡ r → IsCertificate r (view_settled settler soft word) → (IsTrue settler.strict ↔ IsStrict r (view_settled settler soft word)) → is_strict r (shared_view r soft word (settled_shares settler)) ≡ settler.strict
-strict_settled r soft word settler rows accepted says =
-    let view = view_settled settler soft word in
-    ap (is_strict r) (sym (settled_same r soft word settler rows)) ∙ strict_is r view settler.strict (λ yes'. (says.0 yes').strict, λ strict. says.1 (record { certificate = accepted; strict = strict }))
+-- what a settler holds is strict
+pub strict_settled : (r : Rows) (soft : List ℤ) (word : List Bool) (settler : Settling) → settler.rows ≡ r → IsStrict r (view_settled settler soft word) → is_strict r (shared_view r soft word (settled_shares settler)) ≡ true
+strict_settled r soft word settler rows strict =
+    ap (is_strict r) (sym (settled_same r soft word settler rows)) ∙ strict_test r (view_settled settler soft word) strict.strict
 
 -- whether what a maker holds is, by its rests
 pub strict_made : (r : Rows) (soft : List ℤ) (word : List Bool) (m : Making) (b : Bool) → m.rows ≡ r → HoldsRests m soft word → (IsTrue b ↔ AreSome (code_of m.rows) m.rests) → IfSome m.made (λ s. is_strict r (shared_view r soft word s) ≡ b)
@@ -128,6 +141,10 @@ by_settler r passes soft word made settler some made_is none rows is =
     ∙ ap (λ o. or_else (shared_views r soft word o) (settled r soft word passes)) (sym made_is ∙ none)
     ∙ is
     ∙ ap Some (settled_same r soft word settler rows)
+
+pub decoded_by_settler : (r : Rows) (passes : ℕ) (soft : List ℤ) (word : List Bool) (settler : Settling) → (passes == 0) ≡ false → settler.rows ≡ r → settled r soft word passes ≡ Some (view_settled settler soft word) → decoded_view r passes soft word ≡ shared_views r soft word (Some (settled_shares settler))
+decoded_by_settler r passes soft word settler some rows is =
+    decoded_with r passes soft word some ∙ is ∙ ap Some (settled_same r soft word settler rows)
 
 -- what a certifier, unchanged before, finds for the repair
 pub view_by_certifier : (soft : List ℤ) (word : List Bool) (before start : Certifying) (found : Option Shared) → word ≡ repaired (code_of start.rows) soft → before ≡ start → view_for before.rows before.passes soft word ≡ shared_views before.rows soft word found → view_for start.rows start.passes soft (repaired (code_of start.rows) soft) ≡ shared_views start.rows soft word found

@@ -14,12 +14,13 @@ use Rattle.s2_check.proofs.Strictness.{strictness_lem}
 use Rattle.s2_check.proofs.UnsplitSplits.{unsplit_accepted_lem}
 use Rattle.s2_check.proofs.UnsplitStrict.{unsplit_strict_lem}
 use Rattle.s2_split.specs.Scattered.{repaired}
-use Rattle.s2_judge.specs.Deciding.{Decided, is_strict, verdict_by, certified, uncertified, satisfies, decoded_bits, first_codeword, with_made, view_for, min_sum_view, decided, CleanLaw, LikelyLaw, SoleLaw, IsCertificateOf, IsShown, CertifiedLaw, BrokenLaw}
+use Rattle.s2_judge.specs.Deciding.{Decided, is_strict, verdict_by, certified, uncertified, satisfies, decoded_bits, first_codeword, with_made, decoded_view, min_sum_view, decided, CleanLaw, LikelyLaw, SoleLaw, IsCertificateOf, IsShown, CertifiedLaw, BrokenLaw}
 use Rattle.s2_check.specs.declared.verdict.Verdict.{Verdict}
 use Rattle.s2_check.specs.declared.verdict.Verdict.TheVariants.{Sole, Parity, Broken}
-use Rattle.s2_judge.proofs.Certificates.{found_shown}
+use Rattle.s2_judge.proofs.Certificates.{found_shown, decoded_shown}
 use Rattle.s2_split.proofs.Repairs.{length-repaired}
-use Rattle.s2_judge.proofs.Decisions.{strict_test, test_strict, certified_by, satisfied_codeword, codeword_satisfied, not_codeword, found_codeword, last_odd, by_hard, by_ways}
+use Rattle.s2_settle.proofs.StrictTests.{strict_test, test_strict}
+use Rattle.s2_judge.proofs.Decisions.{certified_by, satisfied_codeword, codeword_satisfied, not_codeword, found_codeword, last_odd, by_hard, by_ways}
 
 sole_by : (b : Bool) → verdict_by b ≡ Sole → b ≡ true
 sole_by true e = refl
@@ -79,7 +80,7 @@ certified_lem r tuning soft long =
     by_ways r tuning soft (IsShown r soft) (λ even. by_certificate r soft (hard_decision soft) _ (unsplit_shown r soft (hard_codeword r soft long even))) (λ view even is. by_certificate r soft (repaired (code_of r) soft) view (found_shown r tuning.passes soft (repaired (code_of r) soft) view (repaired_codeword r soft even) is)) (λ bits none is. with_view bits (found_codeword r tuning.factor tuning.rounds soft bits is) (min_sum_view r tuning soft bits) refl) (λ none is. either (satisfies (code_of r) (repaired (code_of r) soft)))
   where
     with_view : (bits : List Bool) → IsCodeword (code_of r) bits → (o : Option View) → min_sum_view r tuning soft bits ≡ o → IsShown r soft (with_made r bits o)
-    with_view bits codeword (Some view) e = by_certificate r soft bits view (found_shown r tuning.passes soft bits view codeword (looked_for tuning.uncertified (view_for r tuning.passes soft bits) view e))
+    with_view bits codeword (Some view) e = by_certificate r soft bits view (decoded_shown r tuning.passes soft bits view codeword (looked_for tuning.uncertified (decoded_view r tuning.passes soft bits) view e))
     with_view bits codeword None e = without r soft Parity bits (λ e. cc)
 
     either : (b : Bool) → IsShown r soft (cond b (uncertified Parity (repaired (code_of r) soft)) (uncertified Broken (decoded_bits r tuning.factor soft tuning.rounds)))

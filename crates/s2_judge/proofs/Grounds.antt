@@ -19,7 +19,8 @@ use Rattle.s2_judge.specs.declared.ground.Ground.{Ground}
 use Rattle.s2_judge.specs.declared.ground.Ground.TheVariants.{HardDecision, Found, Checks, Nothing}
 use Rattle.s2_judge.specs.Deciding.{Decided, is_strict, verdict_by, certified, uncertified, satisfies, after_rounds, decoded_bits, first_codeword, with_made, by_min_sum, repair_view, by_repair, decided, min_sum_view}
 use Rattle.s2_judge.specs.Judging.{shown_by, verdict_of, view_by}
-use Rattle.s2_judge.proofs.Decisions.{strict_is, by_hard, not_hard}
+use Rattle.s2_settle.proofs.StrictTests.{strict_is}
+use Rattle.s2_judge.proofs.Decisions.{by_hard, not_hard}
 
 -- ---- rounds
 

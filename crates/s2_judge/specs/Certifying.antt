@@ -7,12 +7,12 @@ use Rattle.s2_settle.specs.Holding.{Settling}
 use Rattle.s2_judge.specs.declared.certifier.Holder.{Holder}
 use Rattle.s2_judge.specs.declared.certifier.Holder.TheVariants.{Nobody, Maker, Settler}
 
--- the rows of its matrix, how many passes of settling it runs, the codeword that it was last given, what it found for it, and whether
--- that is strict
+-- the rows of its matrix, how many passes of settling it runs, the word that what it found is bound to, if it is, what it found, and
+-- whether that is strict
 pub record Certifying : Type 0 where
   pub rows : Rows
   pub passes : ℕ
-  pub word : List Bool
+  pub word : Option (List Bool)
   pub found : Option Shared
   pub strict : Bool
 
@@ -25,6 +25,12 @@ abbrev pub found_by : Making → Settling → Holder → Option Shared
 found_by maker settler Nobody = None
 found_by maker settler Maker = maker.made
 found_by maker settler Settler = Some (settled_shares settler)
+
+-- the word that what was found is bound to: a maker keeps its own
+abbrev pub word_by : Making → Holder → Option (List Bool)
+word_by maker Nobody = None
+word_by maker Maker = Some maker.word
+word_by maker Settler = None
 
 -- a maker that is said to hold something does
 abbrev pub IsHolder : Making → Holder → Type 0

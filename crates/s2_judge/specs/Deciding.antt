@@ -16,6 +16,7 @@ use Rattle.s2_check.specs.Verdicts.{is_certified}
 use Rattle.s2_split.specs.Scattered.{repaired, IsScattered}
 use Rattle.s2_split.specs.Making.{made_view, greedy_view}
 use Rattle.s2_settle.specs.Settled.{settled}
+unfoldable pub use Rattle.s2_settle.specs.Settled.{is_strict}
 use Rattle.s2_minsum.specs.Plain.{State, start, round, decision}
 use Rattle.s2_link.specs.Tuning.{Tuning}
 use Rattle.s2_check.specs.declared.verdict.Verdict.{Verdict}
@@ -26,11 +27,6 @@ pub record Decided : Type 0 where
   pub verdict : Verdict
   pub bits : List Bool
   pub certificate : Option View
-
--- whether every rest that a certificate leaves is at least 1 in favour of its word
-unfoldable pub is_strict : Rows → View → Bool
-is_strict r v =
-    list_all (λ i. int_lt (pos 0) (in_favour v.bits i (rest (code_of r) v.soft (split_in r v) i))) (upto (code_of r).bits)
 
 -- the verdict by a certificate, strict or not
 abbrev pub verdict_by : Bool → Verdict
@@ -71,10 +67,15 @@ abbrev pub or_else : Option View → Option View → Option View
 or_else (Some view) other = Some view
 or_else None other = other
 
--- the certificate that is made for a codeword: by greedy amounts, else by spreading or by so many passes of settling
+-- the certificate that is made for the repair: by greedy amounts, else by spreading or by so many passes of settling
 abbrev pub view_for : Rows → ℕ → List ℤ → List Bool → Option View
 view_for r passes soft bits =
     if passes == 0 then made_view r soft bits else or_else (greedy_view r soft bits) (settled r soft bits passes)
+
+-- the certificate that is made for a codeword that min-sum found: without passes of settling the same, with passes by these alone
+abbrev pub decoded_view : Rows → ℕ → List ℤ → List Bool → Option View
+decoded_view r passes soft bits =
+    if passes == 0 then made_view r soft bits else settled r soft bits passes
 
 -- ---- the steps, the last one first
 
@@ -91,7 +92,7 @@ with_made r bits None = uncertified Parity bits
 -- the certificate that is made for a codeword that min-sum found: none where those stay uncertified
 abbrev pub min_sum_view : Rows → Tuning → List ℤ → List Bool → Option View
 min_sum_view r tuning soft bits =
-    if tuning.uncertified then None else view_for r tuning.passes soft bits
+    if tuning.uncertified then None else decoded_view r tuning.passes soft bits
 
 -- step 3: what min-sum found
 abbrev pub by_min_sum : Rows → Tuning → List ℤ → Option (List Bool) → Decided

@@ -1,5 +1,5 @@
 -- What a judge shows, and what holds of its parts.
-use Rattle.std.specs.Prelude.{◌≡◌, ◌≤◌, Bool, List, All, length, ℤ, Option, None, Some}
+use Rattle.std.specs.Prelude.{◌≡◌, ◌≤◌, Bool, List, All, length, ℤ, Option, None, Some, IfSome}
 use Rattle.s2_rows.specs.Rows.{Rows}
 use Rattle.s2_matrix.specs.Code.{code_of}
 use Rattle.s2_check.specs.Views.{View, IsSoft, unsplit_view}
@@ -43,7 +43,7 @@ shown_by r soft bits found ground =
 -- on a ground with a certificate the values are soft values, and what was found is of these bits
 abbrev pub IsGround : List ℤ → List Bool → Certifying → Ground → Type 0
 IsGround soft bits certifier (HardDecision strict) = All IsSoft soft
-IsGround soft bits certifier (Found strict) = All IsSoft soft × (certifier.word ≡ bits)
+IsGround soft bits certifier (Found strict) = All IsSoft soft × IfSome certifier.word (λ w. w ≡ bits)
 IsGround soft bits certifier Checks = Unit
 IsGround soft bits certifier Nothing = Unit
 

@@ -4,8 +4,8 @@ ghost use Rattle.s2_matrix.specs.Code.{code_of, IsCodeword};
 ghost use Rattle.s2_check.specs.Views.{IsSoft};
 ghost use Rattle.s2_split.specs.Making.{shared_view, shared_views};
 ghost use Rattle.s2_split.specs.Scattered.{repaired};
-ghost use Rattle.s2_judge.specs.Deciding.{is_strict, view_for};
-ghost use Rattle.s2_judge.specs.Certifying.{found_by, IsHolder};
+ghost use Rattle.s2_judge.specs.Deciding.{is_strict, view_for, decoded_view};
+ghost use Rattle.s2_judge.specs.Certifying.{found_by, word_by, IsHolder};
 
 use s2_bits::Bits;
 use s2_check::CertView;
@@ -35,9 +35,9 @@ impl Holder {
     }
 }
 
-/// Looks for a certificate of a codeword, by so many passes of settling if any: who then holds it, and
-/// whether it is strict.
-fn find_holder(
+/// Looks for a certificate of the repair, by so many passes of settling if any: who then holds it, and whether it is
+/// strict.
+fn find_for_repair(
     maker: &mut Maker<'_>,
     settler: &mut Settler<'_>,
     soft: &[i16],
@@ -50,7 +50,7 @@ fn find_holder(
     requires codeword { IsCodeword (code_of maker.old.rows) codeword.now }
     ensures maker { maker.new.rows ≡ maker.old.rows }
     ensures settler { settler.new.rows ≡ settler.old.rows }
-    ensures word { maker.new.word ≡ codeword.now }
+    ensures word { IfSome (word_by maker.new result.0) (λ w. w ≡ codeword.now) }
     ensures holder { IsHolder maker.new result.0 }
     ensures view { view_for maker.old.rows passes soft.now codeword.now ≡ shared_views maker.old.rows soft.now codeword.now (found_by maker.new settler.new result.0) }
     ensures strict { IfSome (found_by maker.new settler.new result.0) (λ s. is_strict maker.old.rows (shared_view maker.old.rows soft.now codeword.now s) ≡ result.1) }
@@ -65,16 +65,48 @@ fn find_holder(
         return (Holder::Maker, maker.is_strict());
     }
     if settler.certify(soft, codeword, passes) {
-        return (Holder::Settler, settler.is_strict());
+        return (Holder::Settler, true);
     }
     (Holder::Nobody, false)
 }
 
-/// Finds certificates of codewords: by the maker's greedy amounts, else, with no passes, by its spreading, and
-/// with passes by so many at most of the settler.
+/// Looks for a certificate of a codeword that min-sum found, by so many passes of settling if any: who then holds it,
+/// and whether it is strict. Greedy amounts reach for few of these, and settling is as fast where they do.
+fn find_for_decoded(
+    maker: &mut Maker<'_>,
+    settler: &mut Settler<'_>,
+    soft: &[i16],
+    codeword: &Bits,
+    passes: u32,
+) -> (Holder, bool)
+    requires settler { settler.old.rows ≡ maker.old.rows }
+    requires soft { length soft.now ≡ (code_of maker.old.rows).bits }
+    requires range { All IsSoft soft.now }
+    requires codeword { IsCodeword (code_of maker.old.rows) codeword.now }
+    ensures maker { maker.new.rows ≡ maker.old.rows }
+    ensures settler { settler.new.rows ≡ settler.old.rows }
+    ensures word { IfSome (word_by maker.new result.0) (λ w. w ≡ codeword.now) }
+    ensures holder { IsHolder maker.new result.0 }
+    ensures view { decoded_view maker.old.rows passes soft.now codeword.now ≡ shared_views maker.old.rows soft.now codeword.now (found_by maker.new settler.new result.0) }
+    ensures strict { IfSome (found_by maker.new settler.new result.0) (λ s. is_strict maker.old.rows (shared_view maker.old.rows soft.now codeword.now s) ≡ result.1) }
+{
+    if passes == 0 {
+        if maker.certify_codeword(soft, codeword) {
+            return (Holder::Maker, maker.is_strict());
+        }
+        return (Holder::Nobody, false);
+    }
+    if settler.certify(soft, codeword, passes) {
+        return (Holder::Settler, true);
+    }
+    (Holder::Nobody, false)
+}
+
+/// Finds certificates of codewords: with no passes by the maker's greedy amounts, else by its spreading; with
+/// passes by so many at most of the settler, and of a repair by greedy amounts before.
 ///
-/// To contracts it is the rows of its matrix, how many passes it runs, the codeword that it was last given, what
-/// it found for it, and whether that is strict.
+/// To contracts it is the rows of its matrix, how many passes it runs, the word that what it found is bound to, if
+/// it is, what it found, and whether that is strict.
 pub(crate) struct Certifier<'a> {
     matrix: &'a Matrix,
     passes: u32,
@@ -98,11 +130,11 @@ impl<'a> Drop for Certifier<'a> {
 }
 
 impl<'a> Model for Certifier<'a> {
-    ghost use Rattle.s2_judge.specs.Certifying.{Certifying, IsCertifier, found_by};
+    ghost use Rattle.s2_judge.specs.Certifying.{Certifying, IsCertifier, found_by, word_by};
 
     ghost Value = { Certifying };
 
-    ghost view = { λ c. record { rows = c.matrix.now; passes = c.passes; word = c.maker.word; found = found_by c.maker c.settler c.holder; strict = c.strict } };
+    ghost view = { λ c. record { rows = c.matrix.now; passes = c.passes; word = word_by c.maker c.holder; found = found_by c.maker c.settler c.holder; strict = c.strict } };
 
     ghost invariant = { λ c. IsCertifier c.matrix.now c.maker c.settler c.holder };
 }
@@ -148,19 +180,43 @@ impl<'a> Certifier<'a> {
         self.maker.repair_into(soft, word);
     }
 
-    /// Looks for a certificate of a codeword: whether there is one.
-    pub(crate) fn certify(&mut self, soft: &[i16], codeword: &Bits) -> bool
+    /// Looks for a certificate of a repair that is a codeword: whether there is one.
+    pub(crate) fn certify_repair(&mut self, soft: &[i16], codeword: &Bits) -> bool
         requires soft { length soft.now ≡ (code_of self.old.rows).bits }
         requires range { All IsSoft soft.now }
         requires codeword { IsCodeword (code_of self.old.rows) codeword.now }
         ensures rows { self.new.rows ≡ self.old.rows }
         ensures passes { self.new.passes ≡ self.old.passes }
-        ensures word { self.new.word ≡ codeword.now }
+        ensures word { IfSome self.new.word (λ w. w ≡ codeword.now) }
         ensures found { IsTrue result ↔ (self.new.found ≢ None) }
         ensures view { view_for self.old.rows self.old.passes soft.now codeword.now ≡ shared_views self.old.rows soft.now codeword.now self.new.found }
         ensures strict { IfSome self.new.found (λ s. is_strict self.old.rows (shared_view self.old.rows soft.now codeword.now s) ≡ self.new.strict) }
     {
-        let (holder, strict) = find_holder(
+        let (holder, strict) = find_for_repair(
+            &mut self.maker,
+            &mut self.settler,
+            soft,
+            codeword,
+            self.passes,
+        );
+        self.holder = holder;
+        self.strict = strict;
+        self.holder.is_some()
+    }
+
+    /// Looks for a certificate of a codeword that min-sum found: whether there is one.
+    pub(crate) fn certify_decoded(&mut self, soft: &[i16], codeword: &Bits) -> bool
+        requires soft { length soft.now ≡ (code_of self.old.rows).bits }
+        requires range { All IsSoft soft.now }
+        requires codeword { IsCodeword (code_of self.old.rows) codeword.now }
+        ensures rows { self.new.rows ≡ self.old.rows }
+        ensures passes { self.new.passes ≡ self.old.passes }
+        ensures word { IfSome self.new.word (λ w. w ≡ codeword.now) }
+        ensures found { IsTrue result ↔ (self.new.found ≢ None) }
+        ensures view { decoded_view self.old.rows self.old.passes soft.now codeword.now ≡ shared_views self.old.rows soft.now codeword.now self.new.found }
+        ensures strict { IfSome self.new.found (λ s. is_strict self.old.rows (shared_view self.old.rows soft.now codeword.now s) ≡ self.new.strict) }
+    {
+        let (holder, strict) = find_for_decoded(
             &mut self.maker,
             &mut self.settler,
             soft,
@@ -184,7 +240,7 @@ impl<'a> Certifier<'a> {
         requires soft { length soft.now ≡ (code_of self.now.rows).bits }
         requires range { All IsSoft soft.now }
         requires long { length word.now ≡ (code_of self.now.rows).bits }
-        requires word { word.now ≡ self.now.word }
+        requires word { IfSome self.now.word (λ w. w ≡ word.now) }
         ensures { result ≡ shared_views self.now.rows soft.now word.now self.now.found }
     {
         match self.holder {

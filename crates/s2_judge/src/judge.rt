@@ -32,9 +32,9 @@ use std::marker::Model;
 ///    most likely if a certificate is found for it, else it is said to satisfy the checks;
 /// 4. the repair where it satisfies every check; if not, min-sum's last hard decision, broken.
 ///
-/// A certificate is found by greedy amounts, else, with no passes, by spreading, and with passes by so
-/// many at most of settling; for what min-sum found none is looked for where the tuning leaves that
-/// uncertified. Where a certificate is strict, the verdict is sole in the place of most
+/// Without passes a certificate is found by greedy amounts, else by spreading. With passes it is found by so
+/// many at most of settling, and is then strict; for a repair greedy amounts are tried before. For what min-sum
+/// found none is looked for where the tuning leaves that uncertified. Where a certificate is strict, the verdict is sole in the place of most
 /// likely: every other codeword costs more. In step 1 that is where no soft value is 0.
 ///
 /// To contracts a judge is its matrix's rows, its tuning, its soft values, the bits that were

@@ -38,7 +38,7 @@ fn try_repair(
     ensures repair { IsTrue result.1 → repair.new ≡ repaired (code_of certifier.old.rows) soft.now }
     ensures long { length repair.new ≡ (code_of certifier.old.rows).bits }
     ensures both { IsTrue result.0 → IsTrue result.1 }
-    ensures word { IsTrue result.0 → certifier.new.word ≡ repair.new }
+    ensures word { IsTrue result.0 → IfSome certifier.new.word (λ w. w ≡ repair.new) }
     ensures found { IsTrue result.0 → certifier.new.found ≢ None }
     ensures strict { IsTrue result.0 → IfSome certifier.new.found (λ s. is_strict certifier.old.rows (shared_view certifier.old.rows soft.now repair.new s) ≡ certifier.new.strict) }
     ensures view { repair_view certifier.old.rows certifier.old.passes soft.now ≡ (if result.0 then shared_views certifier.old.rows soft.now repair.new certifier.new.found else None) }
@@ -48,7 +48,7 @@ fn try_repair(
     }
     certifier.repair_into(soft, repair);
     if certifier.matrix().satisfied(repair) {
-        (certifier.certify(soft, repair), true)
+        (certifier.certify_repair(soft, repair), true)
     } else {
         (false, false)
     }
@@ -130,7 +130,7 @@ fn decide_by_min_sum(
         if tuning.is_uncertified() {
             return Ground::Checks;
         }
-        if certifier.certify(soft, bits) {
+        if certifier.certify_decoded(soft, bits) {
             return Ground::Found(certifier.is_strict());
         }
         return Ground::Checks;

@@ -1,9 +1,9 @@
 //! Frames without noise by each divisor of soft values.
 use super::hearing::{hear_by, show_by};
 use super::modem_tests::frame;
-use super::streams::{Sample, sample_of, two_packets};
 use s2_receive::Step;
 use s2_soft::{DIVISORS, Divisor};
+use s2_stream_tests::streams::{Sample, sample_of, two_packets};
 use std::alloc::Global;
 use std::process::Abort;
 use std::test::Fail;

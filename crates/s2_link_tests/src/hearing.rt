@@ -3,9 +3,6 @@
 ghost use Rattle.std.specs.Prelude.{◌≡◌, IfOk};
 ghost use Rattle.s2_receive.specs.Receiving.{IsLive, begun};
 
-use super::streams::{
-    ALL, ROUNDS, Reader, Sample, Sides, Source, Writer, reader_of, taken, writer_of,
-};
 use s2_bits::Bits;
 use s2_check::{Answer, check};
 use s2_link::{Link, Tuning};
@@ -15,6 +12,10 @@ use s2_modem::{DemodFault, Receiver, SetupFault, demodulate};
 use s2_plframe::Lock;
 use s2_receive::{Fault, Received, Step, Totals};
 use s2_soft::Divisor;
+use s2_stream_tests::streams::{
+    ALL, ROUNDS, Reader, Sample, Sides, Source, Steps, Writer, first_bytes, reader_of, taken,
+    writer_of,
+};
 use std::alloc::{AllocError, Global};
 use std::process::Abort;
 use std::test::Fail;
@@ -239,9 +240,6 @@ fn two_halves(
     Ok(step)
 }
 
-/// What five calls of a receiver answer.
-pub(crate) type Steps = [Result<Step, Fault>; 5];
-
 fn five_steps(
     receiver: &mut Receiver<'_>,
     reader: &mut Reader<'_>,
@@ -397,11 +395,6 @@ pub(crate) fn hear_locked(
         )),
         Err(fault) => Err(fault),
     }
-}
-
-/// The first 32 bits of a word.
-pub(crate) fn first_bytes(word: &Bits) -> [u8; 4] {
-    [word.byte(0), word.byte(1), word.byte(2), word.byte(3)]
 }
 
 /// What a receiver shows of a frame.

@@ -1,20 +1,13 @@
-//! Tests of a link and of its parts, from baseband frames to both ends, over public calls alone, with the
-//! numbers of the standard.
+//! Tests of both ends of a link together, over public calls alone, with the numbers of the standard.
 //!
-//! Each crate's tests stand in a module of its name. What several need stands in `streams` (small links, and what is
-//! sent on them), in `hearing` (what is received of it) and in `toy` (a receiver of made-up frames).
+//! What several of them need stands in `hearing` (what is received of a stream), and in `streams` of `s2_stream_tests`
+//! (small links, and what is sent on them).
 #![tactic(auto)]
 
-#[cfg(test)]
-mod bbframe_memory_tests;
-#[cfg(test)]
-mod bbframe_tests;
 #[cfg(test)]
 mod divisor_tests;
 #[cfg(test)]
 mod dummy_tests;
-#[cfg(test)]
-mod halves_tests;
 #[cfg(test)]
 mod hearing;
 #[cfg(test)]
@@ -26,18 +19,8 @@ mod modem_memory_tests;
 #[cfg(test)]
 mod modem_tests;
 #[cfg(test)]
-mod plframe_tests;
-#[cfg(test)]
-mod receive_tests;
-#[cfg(test)]
 mod room_tests;
 #[cfg(test)]
 mod scattered_tests;
 #[cfg(test)]
-mod send_tests;
-#[cfg(test)]
-mod streams;
-#[cfg(test)]
 mod threshold_tests;
-#[cfg(test)]
-mod toy;

@@ -1,9 +1,9 @@
 //! Headers of which many bits are wrong: what passes right behind a frame and nowhere else, by a receiver's lock.
 use super::hearing::hear_locked;
-use super::streams::{
+use s2_plframe::Lock;
+use s2_stream_tests::streams::{
     ALL, Sample, Source, packet_of, sample_of, send_with_dummies, two_frames, two_packets,
 };
-use s2_plframe::Lock;
 use std::alloc::Global;
 use std::process::Abort;
 use std::test::Fail;

@@ -3,12 +3,12 @@
 ghost use Rattle.std.specs.Prelude.{◌≡◌, IfOk};
 ghost use Rattle.s2_receive.specs.Receiving.{begun};
 
-use super::streams::{Sample, Sides, packet_of_zeros, setup_of, transmitter_of};
 use s2_matrix::Matrix;
 use s2_mode::{Counted, Counting, InMemory, Shape, StreamFault};
 use s2_modem::{Counts, DemodFault, Receiver, SendFault, SetupFault, Transmitter, demodulate};
 use s2_receive::{Received, Totals};
 use s2_rows::{MakeFault, Rows, make_rows};
+use s2_stream_tests::streams::{Sample, Sides, packet_of_zeros, setup_of, transmitter_of};
 use std::alloc::{AllocError, Global};
 use std::process::Abort;
 use std::test::Fail;

@@ -3,16 +3,16 @@ use super::hearing::{
     Shown, assert_reported, assert_sample, hear, hear_in_halves, received, received_whole,
     receiver_of, show, show_behind, show_between, show_nothing,
 };
-use super::streams::{
-    ALL, Sample, Sides, Source, bch_word_of, frame_of_word, link_of, one_frame, other_link,
-    packet_of, packet_of_zeros, sample_of, two_frames, two_packets,
-};
 use s2_bbframe::Header;
 use s2_bits::Bits;
 use s2_check::{Answer, Verdict};
 use s2_mode::{ByOne, MOST_SYMBOLS};
 use s2_modem::{DemodFault, MOST_PASSES, SetupFault};
 use s2_receive::{Outcome, Report, Step, Totals};
+use s2_stream_tests::streams::{
+    ALL, Sample, Sides, Source, bch_word_of, frame_of_word, link_of, one_frame, other_link,
+    packet_of, packet_of_zeros, sample_of, two_frames, two_packets,
+};
 use std::alloc::{AllocError, Global};
 use std::process::Abort;
 use std::test::Fail;

@@ -1,11 +1,11 @@
 //! That memory is enough for each mode, with pilots and without, and for the largest scrambling number: nothing is
 //! refused where it is there.
 use super::hearing::{assert_reported, hear};
-use super::streams::{ALL, Sides, Source, link_in, link_of, matrix_of, transmitter_of};
 use s2_bbframe::{Slicer, field_bytes};
 use s2_mode::{MOST_SYMBOLS, Mode};
 use s2_modem::{Setup, SetupFault};
 use s2_receive::Step;
+use s2_stream_tests::streams::{ALL, Sides, Source, link_in, link_of, matrix_of, transmitter_of};
 use std::alloc::Global;
 use std::process::Abort;
 use std::test::Fail;

@@ -1,8 +1,10 @@
 //! A frame whose wrong decisions are scattered.
 use super::hearing::{assert_reported, hear};
-use super::streams::{ALL, Sides, Source, matrix_of, packet_of_zeros, setup_of, symbols_of};
 use s2_matrix::Matrix;
 use s2_mode::{ByOne, MOST_SYMBOLS};
+use s2_stream_tests::streams::{
+    ALL, Sides, Source, matrix_of, packet_of_zeros, setup_of, symbols_of,
+};
 use std::alloc::{AllocError, Global};
 use std::process::Abort;
 use std::test::Fail;

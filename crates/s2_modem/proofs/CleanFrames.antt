@@ -1,5 +1,5 @@
 -- A frame without noise is delivered, certified, with nothing changed.
-use Rattle.s2_modem.proofs.Names.{ap₂, xor_same, number, or_right, ◌≡◌, ℕ, zero, suc, ◌+◌, ◌-◌, ◌*◌, ◌/◌, ◌%◌, ◌<◌, ◌≤◌, Bool, true, false, List, [], ◌∷◌, ◌++◌, length, take, drop, map, get_or, Option, Some, None, Result, Ok, Err, refl, sym, ap, subst, ◌∙◌, arith, length-append, length-take, length-drop, ℤ, pos, int_lt, le-leb, eq-eqb, length-map, ext_get_or, get_or-take, get_or-drop, take_at, drop_at, take_all, fill_by_all, length-map-range_with_len, All-head, All-tail, All-append, All-from_recursion, Mode, IsMode, HasCodeSizes, k_of, kbch_of, n_of, t_of, slots_of, symbols_in, Symbol, symbols_least, Rows, bit_at, bits_of_byte, bits_of_bytes, byte_at, byte_of, bytes_from, differences, byte_back, code_of, IsCodeword, hard_decision, NoneIsZero, is_certified, IsSole, HeaderFault, Decision, header_bytes, has_valid_lengths, header_of_bytes, signalling, header_at, to_place, field_bytes, header_of_bytes-header_bytes, divided, scrambled, scrambled-scrambled, IsWithin, IsWordOf, generator_of, parity_bits, word-unique, nearest, within_is_nearest, nearest_is_within, no_nearest, payload_symbol, payload_of, frame_symbol, frame_symbols, decision, found, clean_behind, IsDivisor, soft_bit, soft_values, Says, clean_says, payload_again, clean_passes, IsCleanFrame, IsReceived, Link, padded_bits, baseband_frame, IsCodewordFor, found_as, Decided, decided, IsShown, Tuning, frame_soft, received_word, message_of, header_in, field_in, outcome_by, delivered_by, FindsWord, Reads, decision_by, frame_decision, AllAsLikely, AllTold, IsCertifiedBy, IsCorrected, link_rules, IsLinkOf, IsByte, AreBytes, sent_symbols, IsDelivered, IsDeliveredCertified, HearsLaw, ScatteredFrameLaw, BothCodesLaw, IsSent, IsMostLikely, received_payload, Sole, clean_lem, certified_lem, likely_lem, sole_lem, scattered_lem, decided_long, length-baseband_frame, length-bch_word, symbol, Header}
+use Rattle.s2_modem.proofs.Names.{ap₂, xor_same, number, or_right, ◌≡◌, ℕ, zero, suc, ◌+◌, ◌-◌, ◌*◌, ◌/◌, ◌%◌, ◌<◌, ◌≤◌, Bool, true, false, List, [], ◌∷◌, ◌++◌, length, take, drop, map, get_or, Option, Some, None, Result, Ok, Err, refl, sym, ap, subst, ◌∙◌, arith, length-append, length-take, length-drop, ℤ, pos, int_lt, le-leb, eq-eqb, length-map, ext_get_or, get_or-take, get_or-drop, take_at, drop_at, take_all, fill_by_all, length-map-range_with_len, All-head, All-tail, All-append, All-from_recursion, Mode, IsMode, HasCodeSizes, k_of, kbch_of, n_of, t_of, slots_of, symbols_in, Symbol, symbols_least, Rows, bit_at, bits_of_byte, bits_of_bytes, byte_at, byte_of, bytes_from, differences, byte_back, code_of, IsCodeword, hard_decision, NoneIsZero, is_certified, IsSole, HeaderFault, Decision, header_bytes, has_valid_lengths, header_of_bytes, signalling, header_at, to_place, field_bytes, header_of_bytes-header_bytes, divided, scrambled, scrambled-scrambled, IsWithin, IsWordOf, generator_of, parity_bits, word-unique, nearest, within_is_nearest, nearest_is_within, no_nearest, payload_symbol, payload_of, frame_symbol, frame_symbols, decision, found, clean_behind, IsDivisor, soft_bit, soft_values, Says, clean_says, payload_again, clean_passes, IsCleanFrame, IsReceived, Link, padded_bits, baseband_frame, IsCodewordFor, found_as, Decided, decided, IsShown, Tuning, frame_soft, received_word, message_of, header_in, field_in, outcome_by, delivered_by, decision_by, frame_decision, AllAsLikely, AllTold, IsCertifiedBy, IsCorrected, link_rules, IsLinkOf, IsByte, AreBytes, sent_symbols, IsDelivered, IsDeliveredCertified, HearsLaw, ScatteredFrameLaw, BothCodesLaw, IsSent, IsMostLikely, received_payload, Sole, clean_lem, certified_lem, likely_lem, sole_lem, scattered_lem, decided_long, length-baseband_frame, length-bch_word, symbol, Header}
 use Rattle.s2_modem.proofs.Names.founds
 use Rattle.s2_modem.proofs.DecisionLemmas.{code_is}
 use Rattle.s2_modem.proofs.Dummies.{dummy_is}
@@ -71,15 +71,6 @@ decision_corrected : (m : Mode) → IsMode m → HasCodeSizes m → (soft : List
 decision_corrected m valid sizes soft d (Some word) long near =
     read_corrected m (decision_by m soft d (Some word)) word (header_of_bytes m (header_in (scrambled (message_of m word)))) (nearest_is_within m valid sizes (received_word m d.bits) long word near) refl
 decision_corrected m valid sizes soft d None long near = no_nearest m valid sizes (received_word m d.bits) long near
-
--- the same of what a decider found and read
-pub found_corrected : (m : Mode) → IsMode m → HasCodeSizes m → (d : Decision) (word : List Bool) (found : Option ℕ) (delivered : Option (Header × List ℕ)) → length (received_word m d.bits) ≡ k_of m → d.message ≡ message_of m word
-    → FindsWord m (received_word m d.bits) word found → Reads m word found d.outcome delivered → IsCorrected m d d.outcome
-found_corrected m valid sizes d word (Some fixed) delivered long message finds reads =
-    let read : Result Header HeaderFault = header_of_bytes m (header_in (scrambled (message_of m word))) in
-    let told : d.outcome ≡ outcome_by (differences (k_of m) (received_word m d.bits) word) read = reads.0 ∙ ap (λ n. outcome_by n read) finds.1 in
-    subst (IsCorrected m d) (sym told) (read_corrected m d word read (nearest_is_within m valid sizes (received_word m d.bits) long word finds.0) message)
-found_corrected m valid sizes d word None delivered long message finds reads = subst (IsCorrected m d) (sym reads.0) (no_nearest m valid sizes (received_word m d.bits) long finds.0)
 
 -- a decision on these soft values has what was decided on them
 pub record IsOf (r : Rows) (soft : List ℤ) (d : Decided) (x : Decision) : Type 0 where

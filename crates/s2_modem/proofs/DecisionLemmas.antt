@@ -1,5 +1,5 @@
 -- What a decider finds is what is decided of a frame.
-use Rattle.s2_modem.proofs.Names.{and_parts, ◌≡◌, ℕ, ◌+◌, ◌-◌, ◌*◌, ◌/◌, ◌≤◌, Bool, true, false, List, length, take, Option, Some, None, IfSome, IfNone, Result, Ok, refl, sym, ap, subst, ◌∙◌, arith, length-take, ℤ, replicate, pos, leb-true, ext_get_or, get_or-take, take-replicate, field_bytes, Mode, HasCodeSizes, k_of, kbch_of, n_of, shape_in, code_bits, Symbol, Rows, Code, code_of, IsTrue, is_certified, IsMostLikely, IsSole, Sole, IsAsLikely, Verdict, View, Link, bit_at, differences, Rewritten, Header, HeaderFault, is_whole, is_packet_stream, header_of, has_valid_lengths, header_of_bytes, header_of_bytes-bad_crc, header_of_bytes-other, header_of_bytes-bad_lengths, header_of_bytes-accepted, IsWithin, nearest, Decision, Answer, Outcome, Decided, decided, Tuning, frame_soft, frame_decision, received_word, message_of, header_in, outcome_by, delivered_by, decision_on, decision_by, IsUndecided, scrambled, FindsWord, Reads, decision_held}
+use Rattle.s2_modem.proofs.Names.{and_parts, ◌≡◌, ℕ, ◌+◌, ◌-◌, ◌*◌, ◌/◌, ◌≤◌, Bool, true, false, List, length, take, Option, Some, None, IfSome, IfNone, Result, Ok, refl, sym, ap, subst, ◌∙◌, arith, length-take, ℤ, replicate, pos, leb-true, ext_get_or, get_or-take, take-replicate, field_bytes, Mode, HasCodeSizes, k_of, kbch_of, n_of, shape_in, code_bits, Symbol, Rows, code_of, Verdict, View, Link, bit_at, differences, Rewritten, Header, HeaderFault, is_whole, is_packet_stream, header_of, has_valid_lengths, header_of_bytes, header_of_bytes-bad_crc, header_of_bytes-other, header_of_bytes-bad_lengths, header_of_bytes-accepted, IsWithin, nearest, Decision, Answer, Outcome, Decided, decided, Tuning, frame_soft, frame_decision, received_word, message_of, header_in, outcome_by, delivered_by, decision_on, decision_by, IsUndecided, scrambled, FindsWord, Reads, decision_held}
 
 -- a list over which the first bits of another were written, as many as it has
 prefix_is : (n : ℕ) (bits old now : List Bool) → Rewritten false n (bit_at bits) old now → length old ≡ n → n ≤ length bits → now ≡ take n bits
@@ -69,16 +69,6 @@ frame_decided link tuning symbols held soft bits verdict certificate word found 
     (λ i. shown m (held_is i) (bits_are i) (verdict_is i) (certificate_is i) word outcome delivered)
     ∙ decision_is m soft d word found outcome delivered (subst (λ b. FindsWord m (received_word m b) word found) bits_are finds) reads
     ∙ ap (λ s. decision_on m s (decided link.rows tuning s)) soft_is
-
--- bits are as likely as they are called, where they are of these soft values
-pub as_likely_on : (code : Code) (held soft : List ℤ) (verdict told : Verdict) (bits : List Bool) → held ≡ soft → told ≡ verdict
-    → (IsTrue (is_certified verdict) → IsMostLikely code held bits) → (verdict ≡ Sole → IsSole code held bits) → IsAsLikely code soft told bits
-as_likely_on code held soft verdict told bits held_is told_is likely sole =
-    subst (λ s. IsAsLikely code s told bits) held_is (subst (λ v. IsAsLikely code held v bits) (sym told_is) (record { likely = likely; sole = sole }))
-
--- the first Nbch of a codeword's bits
-pub received_long : (m : Mode) (rows : Rows) (bits : List Bool) → HasCodeSizes m → rows.shape ≡ shape_in m → length bits ≡ (code_of rows).bits → length (received_word m bits) ≡ k_of m
-received_long m rows bits sizes shape long = omega (arith, length-take (k_of m) bits, long ∙ code_is m rows sizes shape, sizes.checks)
 
 -- the baseband frame that is read
 pub frame_read : (m : Mode) (word old copied frame : List Bool) (n : ℕ) → n ≡ kbch_of m → HasCodeSizes m → length word ≡ k_of m → length old ≡ kbch_of m

@@ -77,7 +77,7 @@ pub use Rattle.s2_send.specs.Laws.{IsLinkOf}
 pub use Rattle.s2_send.specs.Sending.{AreUnits, is_due}
 pub use Rattle.s2_send.specs.Transmitter.{Transmitter}
 pub use Rattle.s2_send.proofs.OnlyFrames.{length-baseband_frame, length-bch_word}
-pub use Rattle.s2_receive.specs.Answers.{OnFrame, ReceivesTo, RunAnswers}
+pub use Rattle.s2_receive.specs.Answers.{MeetAnswers, NextAnswers, OnFrame, ReceivesTo, RunAnswers, Seen}
 pub use Rattle.s2_receive.specs.Finding.{Meets, met_after, met_of}
 pub use Rattle.s2_receive.specs.Laws.{AreReceived, IsDummy, IsReceived, PassedNone, Piece, Spells, coded, dummy, frames_at, joined, stream_symbols}
 pub use Rattle.s2_receive.specs.Meeting.{Met, begins, by_found, cut, ended, frame, met_from, nothing_over, passed}

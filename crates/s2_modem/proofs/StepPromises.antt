@@ -1,5 +1,5 @@
 -- What a step promises of its answer.
-use Rattle.s2_modem.proofs.Names.{on_frame, ◌≡◌, ◌≢◌, ℕ, ◌+◌, ◌≤◌, true, false, if◌then◌else◌, ⊤, List, [], ◌∷◌, ◌++◌, length, take, Option, Some, None, Result, Ok, Err, IfOk, refl, sym, ap, subst, ◌∙◌, nat_lt, ◌↔◌, IsErrOf, Streams, Symbol, code_of, header_at, Verdict, Met, frame, cut, ended, nothing_over, met_from, Meets, met_of, met_after, Spells, Rules, State, Decision, IsLive, IsDecided, Finds, Stops, Standing, Next, Phase, Rows, IsShown, MetFrame, StepAnswers, met_left, phase_after, is_at_frame, report_for, report_of, step_of, Fault, Outcome, Report, Step, whole_frame, symbols_least, live_at, message_of, frame_decision, IsDeliveredCertified, Receiver, IsAsLikely, IsLikelyBy, IsCertifiedBy, Certifies, IsCorrected, rules_for, IsFrameAt, Heard, Corrects, CorrectsWithin, StandsAt, Promises, OnFrame, IsWholeFrame, IfOk-weaker}
+use Rattle.s2_modem.proofs.Names.{on_frame, ◌≡◌, ◌≢◌, ℕ, ◌+◌, ◌≤◌, true, false, if◌then◌else◌, ⊤, List, [], ◌∷◌, ◌++◌, length, take, Option, Some, None, Result, Ok, Err, IfOk, refl, sym, ap, subst, ◌∙◌, nat_lt, Streams, Symbol, code_of, header_at, Verdict, Met, frame, cut, ended, nothing_over, met_from, Meets, met_of, met_after, Spells, Rules, State, Decision, IsLive, IsDecided, Stops, Standing, Next, Phase, Rows, IsShown, MetFrame, StepAnswers, met_left, phase_after, is_at_frame, report_for, report_of, step_of, Fault, Outcome, Report, Step, whole_frame, symbols_least, live_at, message_of, frame_decision, IsDeliveredCertified, Receiver, IsAsLikely, IsLikelyBy, IsCertifiedBy, Certifies, IsCorrected, rules_for, IsFrameAt, Heard, Corrects, CorrectsWithin, StandsAt, Promises, OnFrame, IsWholeFrame, IfOk-weaker, Seen, MeetAnswers, NextAnswers}
 use Rattle.s2_modem.proofs.Names.faults
 use Rattle.s2_modem.proofs.Names.founds
 use Rattle.s2_modem.proofs.Names.nexts
@@ -157,41 +157,41 @@ module _ (old : Receiver) (last : Decision) (bytes : Option (List ℕ)) (all : P
             (let here = there step symbols answers stands whole in (here.0, subst (CorrectsWithin m old.link) (sym here.1) (all.heard.corrected symbols)))) a.0;
       }
 
-module _ (v w : Receiver) (last : Decision) (result : Result Step Fault) (is : v ≡ w) (all : Promises v.link v.tuning) (rules' : Rules) (same : rules' ≡ rules_for v)
-    (ends : v.state.phase ≡ phases.Ended → result ≡ Ok steps.End) (fails : IsErrOf result faults.Failed ↔ ((IsLive v.state.phase → ⊥) × (v.state.phase ≢ phases.Ended))) where
-  shown : (new : State) (bytes : Option (List ℕ)) → ((IsLive v.state.phase → ⊥) → new ≡ v.state) → (IsLive v.state.phase → StandsSo new.phase result)
-      → IfOk result (λ step. IsLive v.state.phase → Answers rules' v.state bytes last step) → IsPromised w last new.phase bytes result
-  shown new bytes nothing live answers =
-      let of_v = subst (λ (x : Rules). IfOk result (λ step. IsLive v.state.phase → Answers x v.state bytes last step)) same answers in
-      subst (λ (x : Receiver). IsPromised x last new.phase bytes result) is (promised v last bytes all new.phase result (stands_so v.state new result ends fails.1 nothing live) (of_v, ends, fails.1))
+-- of a receiver over another one, of which this is seen before and behind
+module _ (v w : Receiver) (is : v ≡ w) (all : Promises v.link v.tuning) (rules' : Rules) (same : rules' ≡ rules_for v) (new : Seen) (result : Result Step Fault) where
+  abbrev old : Seen
+  old = record { rules = rules'; state = v.state; last = v.last }
 
-  meets_so : (new : State) (r r' : Option (List ℕ)) (reads reads' : ℕ) (x : Result Step Fault) → IfOk x (λ step. IsLive v.state.phase → Finds rules' v.state new r r' last step)
-      → (IsErrOf x faults.Read → Stops rules' v.state new r r' reads reads') → x ≢ Err faults.Write → IsLive v.state.phase → StandsSo new.phase x
-  meets_so new r r' reads reads' (Ok step) finds stops other live =
-      let f = finds live in
+  shown : (bytes : Option (List ℕ)) → (v.state.phase ≡ phases.Ended → result ≡ Ok steps.End) → ((IsLive v.state.phase → ⊥) × (v.state.phase ≢ phases.Ended) → result ≡ Err faults.Failed)
+      → ((IsLive v.state.phase → ⊥) → new.state ≡ v.state) → (IsLive v.state.phase → StandsSo new.state.phase result)
+      → IfOk result (λ step. IsLive v.state.phase → Answers rules' v.state bytes new.last step) → IsPromised w new.last new.state.phase bytes result
+  shown bytes ends fails nothing live answers =
+      let of_v = subst (λ (x : Rules). IfOk result (λ step. IsLive v.state.phase → Answers x v.state bytes new.last step)) same answers in
+      subst (λ (x : Receiver). IsPromised x new.last new.state.phase bytes result) is (promised v new.last bytes all new.state.phase result (stands_so v.state new.state result ends fails nothing live) (of_v, ends, fails))
+
+  meets_so : (r r' : Option (List ℕ)) (reads reads' : ℕ) (x : Result Step Fault) → MeetAnswers old new r r' reads reads' x → IsLive v.state.phase → StandsSo new.state.phase x
+  meets_so r r' reads reads' (Ok step) m live =
+      let f = m.finds live in
       subst (λ (s : State). StandsSo s.phase (Ok step)) (sym f.state) (subst (λ x. StandsSo (phases.Met f.next) (Ok x)) (sym f.step_is) (met_so rules' v.state.standing f.next f.symbols))
-  meets_so new r r' reads reads' (Err faults.Read) finds stops other live = stops_so rules' v.state new r r' reads reads' (stops refl)
-  meets_so new r r' reads reads' (Err faults.Write) finds stops other live = absurd (other refl)
-  meets_so new r r' reads reads' (Err faults.Failed) finds stops other live = tt
+  meets_so r r' reads reads' (Err faults.Read) m live = stops_so rules' v.state new.state r r' reads reads' (m.stops refl)
+  meets_so r r' reads reads' (Err faults.Write) m live = absurd (m.no_write refl)
+  meets_so r r' reads reads' (Err faults.Failed) m live = tt
 
-  pub meet_promised : (new : State) (r r' : Option (List ℕ)) (reads reads' : ℕ) → IfOk result (λ step. IsLive v.state.phase → Finds rules' v.state new r r' last step)
-      → (IsErrOf result faults.Read → Stops rules' v.state new r r' reads reads') → result ≢ Err faults.Write → ((IsLive v.state.phase → ⊥) → new ≡ v.state) → IsPromised w last new.phase r result
-  meet_promised new r r' reads reads' finds stops other nothing = shown new r nothing (meets_so new r r' reads reads' result finds stops other) (IfOk-weaker result _ _ (λ step find live.
-      (let f = find live in record { met = met_of f.next f.symbols; later = met_after rules'.finds rules'.size f.next r'; meets = f.met; step_is = f.step_is; decided = f.decided })) finds)
+  pub meet_promised : (r r' : Option (List ℕ)) (reads reads' : ℕ) → MeetAnswers old new r r' reads reads' result → ((IsLive v.state.phase → ⊥) → new.state ≡ v.state) → IsPromised w new.last new.state.phase r result
+  meet_promised r r' reads reads' m nothing = shown r m.ended m.failed.1 nothing (meets_so r r' reads reads' result m) (IfOk-weaker result _ _ (λ step find live.
+      (let f = find live in record { met = met_of f.next f.symbols; later = met_after rules'.finds rules'.size f.next r'; meets = f.met; step_is = f.step_is; decided = f.decided })) m.finds)
 
-  tells_so : (new : State) (before behind : Streams) (x : Result Step Fault) → (IsLive v.state.phase → StepAnswers rules' v.state new before behind x) → IsLive v.state.phase → StandsSo new.phase x
-  tells_so new before behind (Ok step) answers live =
-      let (met, step_is, phase_is, went) = answers live in
+  tells_so : (before behind : Streams) (x : Result Step Fault) → NextAnswers old new before behind x → IsLive v.state.phase → StandsSo new.state.phase x
+  tells_so before behind (Ok step) n live =
+      let (met, step_is, phase_is, went) = n.live live in
       subst (λ phase. StandsSo phase (Ok step)) (sym phase_is) (subst (λ x. StandsSo (phase_after met) (Ok x)) (sym step_is) (told_so rules' v.state.standing met))
-  tells_so new before behind (Err faults.Read) answers live = stops_so rules' v.state new before.taken behind.taken before.reads behind.reads (answers live)
-  tells_so new before behind (Err faults.Write) answers live = ap is_at_frame (answers live).0
-  tells_so new before behind (Err faults.Failed) answers live = tt
+  tells_so before behind (Err faults.Read) n live = stops_so rules' v.state new.state before.taken behind.taken before.reads behind.reads (n.live live)
+  tells_so before behind (Err faults.Write) n live = ap is_at_frame (n.live live).0
+  tells_so before behind (Err faults.Failed) n live = tt
 
-  next_answers : (new : State) (before behind : Streams) (x : Result Step Fault) → (IsLive v.state.phase → StepAnswers rules' v.state new before behind x)
-      → OnFrame x (λ r. MetFrame rules' v.state new before behind r last) → IfOk x (λ step. IsLive v.state.phase → Answers rules' v.state before.taken last step)
-  next_answers new before behind (Ok step) answers frames = λ live. went_answers rules' v.state new before behind last step (answers live) frames
-  next_answers new before behind (Err fault) answers frames = tt
+  next_answers : (before behind : Streams) (x : Result Step Fault) → NextAnswers old new before behind x → IfOk x (λ step. IsLive v.state.phase → Answers rules' v.state before.taken new.last step)
+  next_answers before behind (Ok step) n = λ live. went_answers rules' v.state new.state before behind new.last step (n.live live) n.frame
+  next_answers before behind (Err fault) n = tt
 
-  pub next_promised : (new : State) (before behind : Streams) → (IsLive v.state.phase → StepAnswers rules' v.state new before behind result)
-      → OnFrame result (λ r. MetFrame rules' v.state new before behind r last) → ((IsLive v.state.phase → ⊥) → new ≡ v.state) → IsPromised w last new.phase before.taken result
-  next_promised new before behind answers frames nothing = shown new before.taken nothing (tells_so new before behind result answers) (next_answers new before behind result answers frames)
+  pub next_promised : (before behind : Streams) → NextAnswers old new before behind result → ((IsLive v.state.phase → ⊥) → new.state ≡ v.state) → IsPromised w new.last new.state.phase before.taken result
+  next_promised before behind n nothing = shown before.taken n.ended n.failed.1 nothing (tells_so before behind result n) (next_answers before behind result n)

@@ -12,7 +12,7 @@ use Rattle.s2_check.specs.Views.{View}
 use Rattle.s2_check.specs.declared.verdict.Verdict.{Verdict}
 use Rattle.s2_check.specs.declared.verdict.Verdict.TheVariants.{Sole}
 use Rattle.s2_receive.specs.Receiving.{Rules, State, Decision, begun, is_at_frame}
-use Rattle.s2_receive.specs.Answers.{ReceivesTo, BreaksIn}
+use Rattle.s2_receive.specs.Answers.{Seen, ReceivesTo, BreaksIn}
 use Rattle.s2_receive.specs.declared.report.Fault.{Fault}
 use Rattle.s2_receive.specs.declared.report.Fault.TheVariants as step_faults
 use Rattle.s2_receive.specs.declared.report.Step.{Step}
@@ -48,6 +48,9 @@ pub record Receiver : Type 0 where
 
 abbrev pub rules_for : Receiver → Rules
 rules_for r = link_rules r.link r.tuning r.limit
+
+abbrev pub seen : Receiver → Seen
+seen r = record { rules = rules_for r; state = r.state; last = r.last }
 
 -- the certificate that it shows: that of what was decided last, where the last step came to that frame; else none
 abbrev pub certificate_of : Receiver → Option View
@@ -137,9 +140,3 @@ Demodulates setup rows tuning before behind (Ok totals) =
 Demodulates setup rows tuning before behind (Err demod_faults.Write) =
     IsSetUp setup rows × IsTuning tuning × BreaksIn (link_rules (link_of setup rows) tuning most_symbols) before behind
 Demodulates setup rows tuning before behind (Err (demod_faults.Setup fault)) = Refuses setup rows tuning fault × (behind.given ≡ before.given) × (behind.out ≡ before.out)
-
--- where symbols were received, all bits that were reported are as likely as their verdicts say
-abbrev pub AreAsLikely : Link → Tuning → Result Totals DemodFault → Type 0
-AreAsLikely link tuning (Ok totals) = AllAsLikely link tuning
-AreAsLikely link tuning (Err demod_faults.Write) = AllAsLikely link tuning
-AreAsLikely link tuning (Err (demod_faults.Setup fault)) = ⊤

@@ -1,4 +1,4 @@
--- What a step answers: what comes next, and where the search stands at a frame that was sent, that one.
+-- What a run answers, and a step where the search stands at a frame that was sent: that one.
 use Rattle.std.specs.Prelude.{◌≡◌, ℕ, nat_lt, Bool, List, ◌++◌, Option, Result}
 use Rattle.s2_mode.specs.Streams.{Streams}
 use Rattle.s2_mode.specs.declared.stream_fault.StreamFault.{StreamFault}
@@ -7,9 +7,8 @@ use Rattle.s2_bbframe.specs.DataStream.{header_at}
 use Rattle.s2_link.specs.Link.{Link}
 use Rattle.s2_link.specs.Tuning.{Tuning}
 use Rattle.s2_receive.specs.Laws.{Spells}
-use Rattle.s2_receive.specs.Receiving.{Decision, IsLive, MetFrame, StepAnswers}
-use Rattle.s2_receive.specs.Answers.{OnFrame, RunAnswers}
-use Rattle.s2_receive.specs.declared.report.Fault.{Fault}
+use Rattle.s2_receive.specs.Receiving.{Decision}
+use Rattle.s2_receive.specs.Answers.{RunAnswers}
 use Rattle.s2_receive.specs.declared.report.Phase.TheVariants as phases
 use Rattle.s2_receive.specs.declared.report.Received.{Received}
 use Rattle.s2_receive.specs.declared.report.Report.{Report}
@@ -20,16 +19,6 @@ use Rattle.s2_modem.specs.Reception.{Receiver, rules_for}
 use Rattle.s2_modem.specs.Both.{IsDeliveredCertified}
 use Rattle.s2_modem.specs.Headline.{IsSent, CorrectsWithin, AllCorrected}
 use Rattle.s2_modem.specs.Streams.{IsWholeFrame, IsClear}
-
--- ---- the next thing met, or all that is left
-
--- a step, where more can be met
-abbrev pub Steps : (old new : Receiver) → (before behind : Streams) → Result Step Fault → Type 0
-Steps old new before behind result = IsLive old.state.phase → StepAnswers (rules_for old) old.state new.state before behind result
-
--- and a frame's
-abbrev pub StepsFrame : (old new : Receiver) → (before behind : Streams) → Result Step Fault → Type 0
-StepsFrame old new before behind result = OnFrame result (λ report. MetFrame (rules_for old) old.state new.state before behind report new.last)
 
 -- a run of all that is left
 abbrev pub Runs : (old new : Receiver) → (before behind : Streams) → Result Received StreamFault → Type 0

@@ -1,20 +1,18 @@
 //! The receiver of one link.
-ghost use Rattle.std.specs.Prelude.{◌≡◌, ◌≢◌, ◌↔◌, ◌≤◌, None, Ok, Err, IfOk, OnErr, IsErrOf};
+ghost use Rattle.std.specs.Prelude.{◌≡◌, ◌≢◌, ◌≤◌, None, IfOk, OnErr, IsErrOf};
 ghost use Rattle.s2_mode.specs.Counts.{CanCount};
 ghost use Rattle.s2_mode.specs.Limits.{most_symbols};
-ghost use Rattle.s2_mode.specs.Mode.{symbols_in};
-ghost use Rattle.s2_mode.specs.Streams.{streams_by, NoneFailed, OneFailed};
+ghost use Rattle.s2_mode.specs.Streams.{streams_by};
 ghost use Rattle.s2_receive.specs.declared.finding.Next.{Next as NextValue};
 ghost use Rattle.s2_receive.specs.declared.report.Phase.TheVariants as phases;
-ghost use Rattle.s2_receive.specs.declared.report.Step.TheVariants as steps;
 ghost use Rattle.s2_receive.specs.declared.report.Fault.TheVariants as faults;
-ghost use Rattle.s2_receive.specs.Receiving.{IsLive, Finds, Stops, StandsBehind, begun, rules_of};
-ghost use Rattle.s2_receive.specs.Answers.{OnFrame, Delivers, KeepsLast, OnlyFaults, OnlyStreamFaults};
+ghost use Rattle.s2_receive.specs.Receiving.{IsLive, begun, rules_of};
+ghost use Rattle.s2_receive.specs.Answers.{OnFrame, MeetAnswers, DeliversBy, StepsBy, OnlyStreamFaults};
 ghost use Rattle.s2_link.specs.Tuning.{tuning_of};
 ghost use Rattle.s2_modem.specs.Reports.{IsUndecided};
 ghost use Rattle.s2_modem.specs.Listening.{decides};
-ghost use Rattle.s2_modem.specs.Reception.{AllAsLikely, Certifies, IsLikelyBy, IsCorrected, certificate_of, link_rules, rules_for, IsNew, Makes};
-ghost use Rattle.s2_modem.specs.Steps.{Steps, StepsFrame, Runs, Heard, Corrects};
+ghost use Rattle.s2_modem.specs.Reception.{Certifies, IsLikelyBy, IsCorrected, certificate_of, link_rules, seen, IsNew, Makes};
+ghost use Rattle.s2_modem.specs.Steps.{Runs, Heard, Corrects};
 ghost use Rattle.s2_modem.specs.Promise.{RunsHeadline, Promises};
 
 use crate::decider::Decider;
@@ -152,28 +150,16 @@ impl<'a> Receiver<'a> {
     /// without noise, or scattered behind a header that passes, that frame is answered, certified, with no bit changed; with
     /// at most t wrong bits of the outer code's word, just these are corrected.
     ///
-    /// `Read` comes, never after a cut frame, where a read failed or where the limit was reached and the next frame would
-    /// end behind it; then the receiver counts as failed. After the end it answers `End` and reads nothing. After a fault, and
-    /// before what was met is delivered, it answers `Failed` and reads nothing. Where no frame comes, what was decided last
-    /// stays. It takes no memory.
+    /// When a fault or the end is answered, and what stays then, is as at [`s2_receive::Receiver::meet`]. It takes no memory.
     pub fn meet<R: CountedRead>(&mut self, reader: &mut R) -> Result<Step, Fault>
         requires reader { CanCount (R.count reader.old) }
-        ensures finds { IfOk result (λ step. IsLive self.old.state.phase → Finds (rules_for self.old)
-            self.old.state self.new.state (R.remaining reader.old) (R.remaining reader.new) self.new.last step) }
-        ensures kept { KeepsLast result self.old.last self.new.last }
+        ensures meets { MeetAnswers (seen self.old) (seen self.new)
+            (R.remaining reader.old) (R.remaining reader.new) (R.count reader.old) (R.count reader.new) result }
         ensures likely { OnFrame result (λ r. IsLikelyBy self.old.link.rows r.verdict self.new.last) }
         ensures certified { Certifies self.old.link.rows self.new.last (certificate_of self.new) result }
         ensures within { OnFrame result (λ r. IsCorrected self.old.link.setup.mode self.new.last r.outcome) }
         ensures heard { IfOk result (Heard self.old self.new.last (R.remaining reader.old)) }
         ensures both_codes { IfOk result (Corrects self.old self.new.last (R.remaining reader.old)) }
-        ensures stops { IsErrOf result faults.Read → Stops (rules_for self.old) self.old.state self.new.state
-            (R.remaining reader.old) (R.remaining reader.new) (R.count reader.old) (R.count reader.new) }
-        ensures bounded { self.new.state.at ≤ self.old.limit }
-        ensures no_read { result ≢ Err faults.Read → R.count reader.new ≡ R.count reader.old }
-        ensures no_write { result ≢ Err faults.Write }
-        ensures ended { self.old.state.phase ≡ phases.Ended → result ≡ Ok steps.End }
-        ensures failed { IsErrOf result faults.Failed
-            ↔ ((IsLive self.old.state.phase → ⊥) × (self.old.state.phase ≢ phases.Ended)) }
         ensures nothing { (IsLive self.old.state.phase → ⊥) → (self.new ≡ self.old) × (reader.new ≡ reader.old) }
         ensures same { (self.new.link ≡ self.old.link) × (self.new.tuning ≡ self.old.tuning)
             × (self.new.limit ≡ self.old.limit) }
@@ -182,11 +168,7 @@ impl<'a> Receiver<'a> {
     }
 
     /// The second half of a step: writes the packets of what was met, those of a frame in stream order, then its line of
-    /// the report.
-    ///
-    /// `Write` tells that one of the two writers failed, which then has a part of the packets or of the line; the receiver
-    /// counts as failed from then on. After the end it writes nothing. Where nothing was met it answers `Failed` and writes
-    /// nothing. It takes no memory.
+    /// the report. Its faults are as at [`s2_receive::Receiver::deliver`]. It takes no memory.
     pub fn deliver<P: CountedWrite, W: CountedWrite>(
         &mut self,
         packets: &mut P,
@@ -194,18 +176,8 @@ impl<'a> Receiver<'a> {
     ) -> Result<(), Fault>
         requires packets { CanCount (P.count packets.old) }
         requires report { CanCount (W.count report.old) }
-        ensures last { self.new.last ≡ self.old.last }
-        ensures tells { Delivers (rules_for self.old) self.old.state self.new.state self.old.last
-            (P.contents packets.old) (P.contents packets.new) (W.contents report.old) (W.contents report.new) result }
-        ensures bounded { self.new.state.at ≤ self.old.limit }
-        ensures write { IsErrOf result faults.Write
-            → OneFailed (P.count packets.old) (P.count packets.new) (W.count report.old) (W.count report.new) }
-        ensures no_write { result ≢ Err faults.Write
-            → NoneFailed (P.count packets.old) (P.count packets.new) (W.count report.old) (W.count report.new) }
-        ensures no_read { result ≢ Err faults.Read }
-        ensures ended { self.old.state.phase ≡ phases.Ended → result ≡ Ok tt }
-        ensures failed { IsErrOf result faults.Failed
-            ↔ (((next : NextValue) → self.old.state.phase ≢ phases.Met next) × (self.old.state.phase ≢ phases.Ended)) }
+        ensures delivers { DeliversBy seen P.contents P.count W.contents W.count
+            self.old packets.old report.old self.new packets.new report.new result }
         ensures nothing { ((next : NextValue) → self.old.state.phase ≢ phases.Met next)
             → (self.new ≡ self.old) × (packets.new ≡ packets.old) × (report.new ≡ report.old) }
         ensures same { (self.new.link ≡ self.old.link) × (self.new.tuning ≡ self.old.tuning)
@@ -214,10 +186,8 @@ impl<'a> Receiver<'a> {
         self.inner.deliver(packets, report)
     }
 
-    /// Takes one step: [`Receiver::meet`] and then [`Receiver::deliver`]. After a cut frame comes the end, or a fault; after
-    /// `End` comes `End` and nothing is written. From a fault on every call answers `Failed` and reads and writes nothing, and
-    /// so it does before what was met is delivered. Where no frame comes and no write fails, what was decided last stays. It
-    /// takes no memory.
+    /// Takes one step: [`Receiver::meet`] and then [`Receiver::deliver`], as [`s2_receive::Receiver::next`] does. It takes no
+    /// memory.
     pub fn next<R: CountedRead, P: CountedWrite, W: CountedWrite>(
         &mut self,
         reader: &mut R,
@@ -227,26 +197,16 @@ impl<'a> Receiver<'a> {
         requires reader { CanCount (R.count reader.old) }
         requires packets { CanCount (P.count packets.old) }
         requires report { CanCount (W.count report.old) }
-        ensures live { let ends = streams_by R.remaining R.count P.contents P.count W.contents W.count in Steps
-            self.old self.new (ends reader.old packets.old report.old) (ends reader.new packets.new report.new) result }
-        ensures frame { let ends = streams_by R.remaining R.count P.contents P.count W.contents W.count in StepsFrame
-            self.old self.new (ends reader.old packets.old report.old) (ends reader.new packets.new report.new) result }
-        ensures kept { result ≢ Err faults.Write → KeepsLast result self.old.last self.new.last }
+        ensures steps { StepsBy seen R.remaining R.count P.contents P.count W.contents W.count
+            self.old reader.old packets.old report.old self.new reader.new packets.new report.new result }
         ensures likely { OnFrame result (λ r. IsLikelyBy self.old.link.rows r.verdict self.new.last) }
         ensures certified { Certifies self.old.link.rows self.new.last (certificate_of self.new) result }
         ensures within { OnFrame result (λ r. IsCorrected self.old.link.setup.mode self.new.last r.outcome) }
         ensures heard { IfOk result (Heard self.old self.new.last (R.remaining reader.old)) }
         ensures both_codes { IfOk result (Corrects self.old self.new.last (R.remaining reader.old)) }
-        ensures taken { StandsBehind (symbols_in self.old.link.setup.mode) self.new.state.at result }
-        ensures bounded { self.new.state.at ≤ self.old.limit }
-        ensures ended { self.old.state.phase ≡ phases.Ended → result ≡ Ok steps.End }
-        ensures failed { IsErrOf result faults.Failed
-            ↔ ((IsLive self.old.state.phase → ⊥) × (self.old.state.phase ≢ phases.Ended)) }
         ensures nothing { (IsLive self.old.state.phase → ⊥) → (self.new ≡ self.old) × (reader.new ≡ reader.old)
             × (packets.new ≡ packets.old) × (report.new ≡ report.old) }
         ensures unwritten { IsErrOf result faults.Read → (packets.new ≡ packets.old) × (report.new ≡ report.old) }
-        ensures counts { let ends = streams_by R.remaining R.count P.contents P.count W.contents W.count in
-            OnlyFaults result (ends reader.old packets.old report.old) (ends reader.new packets.new report.new) }
         ensures same { (self.new.link ≡ self.old.link) × (self.new.tuning ≡ self.old.tuning)
             × (self.new.limit ≡ self.old.limit) }
     {
@@ -280,7 +240,6 @@ impl<'a> Receiver<'a> {
         ensures bounded { self.new.state.at ≤ self.old.limit }
         ensures headline { let at = streams_by R.remaining R.count P.contents P.count W.contents W.count in
             RunsHeadline self.old (at reader.old packets.old report.old) (at reader.new packets.new report.new) result }
-        ensures as_likely { AllAsLikely self.old.link self.old.tuning }
         ensures counts { let ends = streams_by R.remaining R.count P.contents P.count W.contents W.count in
             OnlyStreamFaults result (ends reader.old packets.old report.old) (ends reader.new packets.new report.new) }
         ensures same { (self.new.link ≡ self.old.link) × (self.new.tuning ≡ self.old.tuning)

@@ -5,7 +5,7 @@ ghost use Rattle.s2_mode.specs.Streams.{OnlyFailed};
 ghost use Rattle.s2_receive.specs.Answers.{bytes_by};
 ghost use Rattle.s2_link.specs.Link.{link_of};
 ghost use Rattle.s2_link.specs.Tuning.{tuning_of};
-ghost use Rattle.s2_modem.specs.Reception.{AreAsLikely, Demodulates, DemodulatesOn};
+ghost use Rattle.s2_modem.specs.Reception.{Demodulates, DemodulatesOn};
 ghost use Rattle.s2_modem.specs.Promise.{IsHeadline};
 
 use crate::receiver::tune;
@@ -42,7 +42,6 @@ fn demodulate_link<P: CountedWrite, W: CountedWrite>(
     ensures demodulates { let ends = bytes_by P.contents P.count W.contents W.count in
         DemodulatesOn link.now tuning
         (ends bytes.now packets.old report.old) (ends bytes.now packets.new report.new) result }
-    ensures as_likely { AreAsLikely link.now tuning result }
     ensures headline { let ends = bytes_by P.contents P.count W.contents W.count in
         OnOk result (IsHeadline link.now tuning (ends bytes.now packets.old report.old) (ends bytes.now packets.new report.new)) }
     ensures counts { let ends = bytes_by P.contents P.count W.contents W.count in
@@ -60,10 +59,11 @@ fn demodulate_link<P: CountedWrite, W: CountedWrite>(
 
 /// Receives a whole stream of symbols, fewer than 2^42 bytes, and writes the packets that its frames
 /// carry and a line for each frame, for a cut one, and for the end. 1 to 3 bytes behind the last
-/// symbol are dropped. The bits that are reported are as likely as their verdicts say, and of the whole stream the
-/// headline holds: also that the first frames that a transmitter of the link sent, clear or with at most t wrong bits of
-/// the outer code's word, give their packets and each its line, delivered, and certified where it is clear. A setup is
-/// refused as by [`crate::Receiver::new`], and then nothing is written; the divisor of soft values is the usual one, as there.
+/// symbol are dropped. The bits that are reported are as likely as their verdicts say ([`crate::laws::likely_frame`],
+/// [`crate::laws::sole_frame`]). Of the whole stream the headline holds: also that the first frames that a transmitter of the link
+/// sent, clear or with at most t wrong bits of the outer code's word, give their packets and each its line, delivered, and certified
+/// where it is clear. A setup is refused as by [`crate::Receiver::new`], and then nothing is written; the divisor of soft values is
+/// the usual one, as there.
 pub fn demodulate<P: CountedWrite, W: CountedWrite>(
     alloc: Global,
     setup: Setup,
@@ -79,7 +79,6 @@ pub fn demodulate<P: CountedWrite, W: CountedWrite>(
     requires few { length bytes.now < 2 ^ 42 }
     ensures demodulates { let ends = bytes_by P.contents P.count W.contents W.count bytes.now in Demodulates
         setup matrix.now (tuning_of rounds passes) (ends packets.old report.old) (ends packets.new report.new) result }
-    ensures as_likely { AreAsLikely (link_of setup matrix.now) (tuning_of rounds passes) result }
     ensures headline { let at = bytes_by P.contents P.count W.contents W.count bytes.now in OnOk result (IsHeadline
         (link_of setup matrix.now) (tuning_of rounds passes) (at packets.old report.old) (at packets.new report.new)) }
     ensures counts { let ends = bytes_by P.contents P.count W.contents W.count bytes.now in OnlyFailed ⊥

@@ -37,7 +37,7 @@ pub fn modes_command<O: CountedWrite, E: CountedWrite>(
     requires console { CanShow console.old }
     ensures quiet { result ≢ Exit.Fault → console.new.errors_failed ≡ console.old.errors_failed }
     ensures whole { result ≢ Exit.Fault → console.new.output_failed ≡ console.old.output_failed }
-    ensures run { CommandEnds IsListed (IsAsked rate.now) ⊤ 0 0 console.old console.new result }
+    ensures run { CommandEnds IsListed (IsAsked rate.now) 0 0 console.old console.new result }
 {
     let ended = print_modes(alloc, rate, &mut console.output);
     console.conclude(ended)

@@ -1,7 +1,6 @@
 //! The words of a line.
-ghost use Rattle.std.specs.Prelude.{◌≡◌, ◌+◌, ◌-◌, ◌≤◌, ◌++◌, length, decimal};
+ghost use Rattle.std.specs.Prelude.{◌≡◌, ◌+◌, ◌≤◌, ◌++◌, length, decimal};
 ghost use Rattle.s2_console.specs.Lines.{line_room};
-ghost use Rattle.s2_progress.specs.Words.{part, megabytes, counts_text, pace_text, line_text, fits, fitted, blanks, shown_text, wiped_text, widest};
 
 use crate::numbers::Numbers;
 use s2_console::Line;
@@ -22,7 +21,6 @@ fn push_between(line: &mut Line, before: &str, number: u64, after: &str)
 /// The same where there is a number.
 fn push_part(line: &mut Line, before: &str, number: Option<u64>, after: &str)
     requires { length line.old + (length before.now + 40) + length after.now ≤ line_room }
-    ensures bytes { line.new ≡ line.old ++ part before.now number after.now }
     ensures room { length line.new ≤ length line.old + (length before.now + 20) + length after.now }
 {
     if let Some(number) = number {
@@ -31,10 +29,8 @@ fn push_part(line: &mut Line, before: &str, number: Option<u64>, after: &str)
 }
 
 /// Puts megabytes behind a line, of which so many tenths are there.
-#[tactic(auto, unfolding(crate::specs::Words::megabytes))]
 fn push_megabytes(line: &mut Line, tenths: u64)
     requires { length line.old + 84 ≤ line_room }
-    ensures bytes { line.new ≡ line.old ++ megabytes tenths }
     ensures room { length line.new ≤ length line.old + 44 }
 {
     push_between(line, "", tenths / 10, ".");
@@ -42,10 +38,8 @@ fn push_megabytes(line: &mut Line, tenths: u64)
 }
 
 /// Puts behind a line how much has passed.
-#[tactic(auto, unfolding(crate::specs::Words::counts_text))]
 fn push_counts(line: &mut Line, numbers: Numbers)
     requires { length line.old ≤ 1 }
-    ensures bytes { line.new ≡ line.old ++ counts_text numbers }
     ensures room { length line.new ≤ length line.old + 107 }
 {
     line.push("s2: ");
@@ -55,10 +49,8 @@ fn push_counts(line: &mut Line, numbers: Numbers)
 }
 
 /// Puts behind a line how fast it goes, and how far it has gone.
-#[tactic(auto, unfolding(crate::specs::Words::pace_text))]
 fn push_pace(line: &mut Line, numbers: Numbers)
     requires { length line.old ≤ 108 }
-    ensures bytes { line.new ≡ line.old ++ pace_text numbers }
     ensures room { length line.new ≤ length line.old + 84 }
 {
     push_part(line, ", ", numbers.rate, " symbols/s");
@@ -67,20 +59,16 @@ fn push_pace(line: &mut Line, numbers: Numbers)
 }
 
 /// Puts the words of these numbers behind a line.
-#[tactic(auto, unfolding(crate::specs::Words::line_text))]
 fn push_numbers(line: &mut Line, numbers: Numbers)
     requires { length line.old ≤ 1 }
-    ensures bytes { line.new ≡ line.old ++ line_text numbers }
-    ensures room { length line.new ≤ length line.old + widest }
+    ensures room { length line.new ≤ length line.old + 191 }
 {
     push_counts(line, numbers);
     push_pace(line, numbers);
 }
 
 /// The words of these numbers: `s2: 7 frames, 120 packets, 1.9 MB, 500000 symbols/s, 41%, 12 s left`.
-pub fn line_of(numbers: Numbers) -> Line
-    ensures { result ≡ line_text numbers }
-{
+pub fn line_of(numbers: Numbers) -> Line {
     let mut line = Line::new();
     push_numbers(&mut line, numbers);
     line
@@ -90,16 +78,12 @@ pub fn line_of(numbers: Numbers) -> Line
 const COLUMNS: usize = 79;
 
 /// Whether the words of these numbers fit on a line of a terminal.
-fn fits(numbers: Numbers) -> bool
-    ensures { result ≡ fits numbers }
-{
+fn fits(numbers: Numbers) -> bool {
     line_of(numbers).as_bytes().len() <= COLUMNS
 }
 
 /// What is shown of these numbers: where their words don't fit on a line, no frames, and where those don't fit either, no packets.
-fn fitted(numbers: Numbers) -> Numbers
-    ensures { result ≡ fitted numbers }
-{
+fn fitted(numbers: Numbers) -> Numbers {
     let few = Numbers {
         frames: None,
         ..numbers
@@ -119,7 +103,7 @@ fn fitted(numbers: Numbers) -> Numbers
 /// Puts so many blanks behind a line.
 fn push_blanks(line: &mut Line, count: usize)
     requires { length line.old + count ≤ line_room }
-    ensures { line.new ≡ line.old ++ blanks count }
+    ensures { length line.new ≡ length line.old + count }
 {
     'blanks: for _ in 0..count {
         line.push(" ");
@@ -128,8 +112,7 @@ fn push_blanks(line: &mut Line, count: usize)
 
 /// The words of what is shown of these numbers, over those that stand on the line before, of which there are so many characters.
 pub(crate) fn shown(numbers: Numbers, width: usize) -> Line
-    requires { width ≤ widest }
-    ensures { result ≡ shown_text numbers width }
+    requires { width ≤ 191 }
 {
     let mut line = Line::new();
     line.push("\r");
@@ -141,8 +124,7 @@ pub(crate) fn shown(numbers: Numbers, width: usize) -> Line
 
 /// Blanks over what stands on the line before, of which there are so many characters.
 pub(crate) fn wiped(width: usize) -> Line
-    requires { width ≤ widest }
-    ensures { result ≡ wiped_text width }
+    requires { width ≤ 191 }
 {
     let mut line = Line::new();
     line.push("\r");

@@ -1,6 +1,4 @@
 //! The numbers of a line.
-ghost use Rattle.std.specs.Prelude.{◌≡◌};
-ghost use Rattle.s2_progress.specs.Numbers.{capped, ratio, symbols_of, packets_of, frames_of, done_of, whole_of, share_of, left_of, tenths_of, numbers_at};
 
 /// What of a command's bytes are packets, and what are symbols. `frame` tells the symbols of a frame.
 #[derive(Clone, Copy, Debug, PartialEq, Eq)]
@@ -41,16 +39,12 @@ const PACKET_BYTES: u64 = 188;
 const SYMBOL_BYTES: u64 = 4;
 
 /// The number, or the largest that there is.
-pub(crate) fn capped(number: u128) -> u64
-    ensures { result ≡ capped number }
-{
+pub(crate) fn capped(number: u128) -> u64 {
     number.min(u64::MAX as u128) as u64
 }
 
 /// So many in so many, at this number: the rule of three. None in nothing.
-fn ratio(number: u64, many: u64, per: u64) -> Option<u64>
-    ensures { result ≡ ratio number many per }
-{
+fn ratio(number: u64, many: u64, per: u64) -> Option<u64> {
     if per == 0 {
         return None;
     }
@@ -58,9 +52,7 @@ fn ratio(number: u64, many: u64, per: u64) -> Option<u64>
 }
 
 /// The symbols that have passed.
-fn symbols_of(pace: Pace, passed: Passed) -> Option<u64>
-    ensures { result ≡ symbols_of pace passed }
-{
+fn symbols_of(pace: Pace, passed: Passed) -> Option<u64> {
     match pace {
         Pace::Sending { frame: _ } => Some(passed.given / SYMBOL_BYTES),
         Pace::Receiving { frame: _ } | Pace::Spoiling => Some(passed.taken / SYMBOL_BYTES),
@@ -69,9 +61,7 @@ fn symbols_of(pace: Pace, passed: Passed) -> Option<u64>
 }
 
 /// The packets that have passed. Of those that go round they are the ones that came back, once there are such.
-fn packets_of(pace: Pace, passed: Passed) -> Option<u64>
-    ensures { result ≡ packets_of pace passed }
-{
+fn packets_of(pace: Pace, passed: Passed) -> Option<u64> {
     match pace {
         Pace::Sending { frame: _ } => Some(passed.taken / PACKET_BYTES),
         Pace::Receiving { frame: _ } => Some(passed.given / PACKET_BYTES),
@@ -82,9 +72,7 @@ fn packets_of(pace: Pace, passed: Passed) -> Option<u64>
 }
 
 /// The frames that have passed.
-fn frames_of(pace: Pace, passed: Passed) -> Option<u64>
-    ensures { result ≡ frames_of pace passed }
-{
+fn frames_of(pace: Pace, passed: Passed) -> Option<u64> {
     match pace {
         Pace::Sending { frame } => ratio(passed.given / SYMBOL_BYTES, 1, frame),
         Pace::Receiving { frame } => ratio(passed.taken / SYMBOL_BYTES, 1, frame),
@@ -93,9 +81,7 @@ fn frames_of(pace: Pace, passed: Passed) -> Option<u64>
 }
 
 /// How many bytes are done: those that were taken, and of packets that go round those that came back too.
-fn done_of(pace: Pace, passed: Passed) -> u64
-    ensures { result ≡ done_of pace passed }
-{
+fn done_of(pace: Pace, passed: Passed) -> u64 {
     match pace {
         Pace::Looping => passed.taken.saturating_add(passed.given),
         _ => passed.taken,
@@ -103,9 +89,7 @@ fn done_of(pace: Pace, passed: Passed) -> u64
 }
 
 /// How many bytes are to be done of an input of this length.
-fn whole_of(pace: Pace, length: u64) -> u64
-    ensures { result ≡ whole_of pace length }
-{
+fn whole_of(pace: Pace, length: u64) -> u64 {
     match pace {
         Pace::Looping => length.saturating_mul(2),
         _ => length,
@@ -113,18 +97,14 @@ fn whole_of(pace: Pace, length: u64) -> u64
 }
 
 /// The hundredths that are done, at most all.
-fn share_of(pace: Pace, passed: Passed) -> Option<u64>
-    ensures { result ≡ share_of pace passed }
-{
+fn share_of(pace: Pace, passed: Passed) -> Option<u64> {
     let whole = whole_of(pace, passed.length?);
     let share = ratio(done_of(pace, passed), 100, whole)?;
     Some(share.min(100))
 }
 
 /// The seconds that are left, at the pace so far.
-fn left_of(pace: Pace, passed: Passed) -> Option<u64>
-    ensures { result ≡ left_of pace passed }
-{
+fn left_of(pace: Pace, passed: Passed) -> Option<u64> {
     let whole = whole_of(pace, passed.length?);
     let done = done_of(pace, passed);
     let millis = ratio(whole.saturating_sub(done), passed.millis, done)?;
@@ -132,17 +112,12 @@ fn left_of(pace: Pace, passed: Passed) -> Option<u64>
 }
 
 /// The tenths of a megabyte that were taken and given.
-fn tenths_of(passed: Passed) -> u64
-    ensures { result ≡ tenths_of passed }
-{
+fn tenths_of(passed: Passed) -> u64 {
     capped((passed.taken as u128 + passed.given as u128) / 100_000)
 }
 
 /// The numbers of so many bytes in so much time.
-#[tactic(auto, unfolding(crate::specs::Numbers::numbers_at))]
-pub fn numbers_at(pace: Pace, passed: Passed) -> Numbers
-    ensures { result ≡ numbers_at pace passed }
-{
+pub fn numbers_at(pace: Pace, passed: Passed) -> Numbers {
     Numbers {
         frames: frames_of(pace, passed),
         packets: packets_of(pace, passed),

@@ -24,7 +24,7 @@ impl<'r, R: StandardStreams> Terminal<'r, R> {
     }
 
     /// What it is the terminal of.
-    pub(crate) fn host(&self) -> &'r R {
+    pub fn host(&self) -> &'r R {
         self.rt
     }
 

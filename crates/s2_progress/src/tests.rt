@@ -141,7 +141,7 @@ impl CountedWrite for Stuck {
 }
 
 impl Output for Stuck {
-    fn begin(&mut self) -> Result<(), WriteFault> {
+    fn truncate(&mut self) -> Result<(), WriteFault> {
         self.failed = self.failed.saturating_add(1);
         Err(WriteFault)
     }
@@ -278,7 +278,7 @@ fn tells_what_has_passed(rt: HostRuntime) -> Result<(), Fail> {
     assert_eq!(rt; reader.read(&mut buf), Ok(3));
     assert_eq!(rt; tally.numbers(), (7, 0, 2));
     let mut writer = Watched::new(Counting::new(Vec::new(rt.alloc())), &tally);
-    assert_eq!(rt; writer.begin(), Ok(()));
+    assert_eq!(rt; writer.truncate(), Ok(()));
     assert_eq!(rt; writer.write(b"symbols"), Ok(7));
     assert_eq!(rt; tally.numbers(), (7, 7, 3));
     let written = writer.into_inner().into_inner();
@@ -300,7 +300,7 @@ fn tells_nothing_of_a_failed_call(rt: HostRuntime) {
     assert_eq!(rt; writer.write(b"symbols"), Err(WriteFault));
     assert_eq!(rt; writer.count(), 1);
     let mut output = Watched::new(Stuck { failed: 0 }, &tally);
-    assert_eq!(rt; output.begin(), Err(WriteFault));
+    assert_eq!(rt; output.truncate(), Err(WriteFault));
     assert_eq!(rt; output.count(), 1);
     assert_eq!(rt; tally.numbers(), (4, 0, 1));
 }

@@ -57,7 +57,7 @@ impl<T: CountedWrite, M: Meter> CountedWrite for Watched<'_, T, M> {
 }
 
 impl<T: Output, M: Meter> Output for Watched<'_, T, M> {
-    fn begin(&mut self) -> Result<(), WriteFault> {
-        self.inner.begin()
+    fn truncate(&mut self) -> Result<(), WriteFault> {
+        self.inner.truncate()
     }
 }

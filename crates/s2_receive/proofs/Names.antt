@@ -29,7 +29,7 @@ pub use Rattle.s2_bbframe.proofs.RoundTrips.{round_trip}
 pub use Rattle.s2_bbframe.proofs.Runs.{length_closed}
 pub use Rattle.s2_bbframe.specs.DataStream.{IsPacket, closed_body, stream_of, cuts, fields_of, header_at}
 pub use Rattle.s2_bbframe.specs.Joining.{Placed, closed_in, gap, Joined, step, still, begun_body, torn_in, torn, and_then, joining, field, events_from}
-pub use Rattle.s2_receive.specs.Answers.{RunAnswers, BreaksIn, OnFrame, Delivers, bytes_by}
+pub use Rattle.s2_receive.specs.Answers.{RunAnswers, BreaksIn, OnFrame, Delivers, IsSame, bytes_by}
 pub use Rattle.s2_receive.specs.Faults.{fault_of}
 pub use Rattle.s2_receive.specs.Finding.{YieldsSymbols, Meets, EndsBehind, Scans, Reaches, ReadsBytes, StopsShort, FindsNext, Looks, IsBehind, met_with, place_with, met_of, met_after, place_after, found_last, NoHeader, ReadsPart}
 pub use Rattle.s2_receive.specs.Laws.{joined, met_events, events_of, IsJoined, Piece, coded, dummy, stream_symbols, AreReceived, frames_at, PassedNone, Gives, FrontLaw, Spells, GoOn, HasGiven, SameRunLaw, SameStepLaw, NoneBegins, SearchLaw, behind_at}

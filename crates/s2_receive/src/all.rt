@@ -2,9 +2,9 @@
 ghost use Rattle.std.specs.Prelude.{◌≡◌, ◌*◌, ◌<◌, ◌≤◌, OnOk, OnErr, length};
 ghost use Rattle.s2_mode.specs.Counts.{CanCount};
 ghost use Rattle.s2_mode.specs.Streams.{streams_by, NoneFailed, OneFailed};
-ghost use Rattle.s2_receive.specs.Receiving.{IsLive, begun, is_well, rules_of};
+ghost use Rattle.s2_receive.specs.Receiving.{IsLive, begun, is_well};
 ghost use Rattle.s2_receive.specs.declared.report.Phase.TheVariants as phases;
-ghost use Rattle.s2_receive.specs.Answers.{Between, Runs, OnlyStreamFaults, ReceivesBytes, bytes_by};
+ghost use Rattle.s2_receive.specs.Answers.{Between, IsSame, Runs, OnlyStreamFaults, ReceivesBytes, bytes_by};
 
 use crate::parts::Decide;
 use crate::receiver::Receiver;
@@ -44,9 +44,7 @@ pub fn receive_all<D: Decide, R: CountedRead, P: CountedWrite, W: CountedWrite>(
         OnlyStreamFaults result (ends reader.old packets.old report.old) (ends reader.new packets.new report.new) }
     ensures stopped { OnErr result (receiver.new.state.phase ≡ phases.Failed) }
     ensures bounded { receiver.new.state.at ≤ receiver.old.limit }
-    ensures rules { rules_of D.decide receiver.new ≡ rules_of D.decide receiver.old }
-    ensures same { (receiver.new.mode ≡ receiver.old.mode) × (receiver.new.lock ≡ receiver.old.lock)
-        × (receiver.new.limit ≡ receiver.old.limit) }
+    ensures same { IsSame D.decide receiver.old receiver.new }
 {
     let mut well = true;
     'steps: loop {

@@ -4,6 +4,7 @@ ghost use Rattle.std.specs.List.{flat_map};
 ghost use Rattle.std.specs.Io.KnownBytes.{Appends};
 ghost use Rattle.s2_mode.specs.Counts.{CanCount, CountsFault};
 ghost use Rattle.s2_mode.specs.Pieces.{AppendsPart};
+ghost use Rattle.s2_receive.specs.Answers.{IsSame};
 ghost use Rattle.s2_receive.specs.Finding.{met_of};
 ghost use Rattle.s2_receive.specs.Parts.{delivered_of, HasPlace};
 ghost use Rattle.s2_receive.specs.Receiving.{held_before, torn_before, joined_after, torn_after, count_of, deciding, rules_of};
@@ -91,8 +92,7 @@ impl<D: Decide> Receiver<D> {
         packets: &mut P,
     ) -> Result<Given, WriteFault>
         requires packets { CanCount (P.count packets.old) }
-        ensures rules { rules_of D.decide self.new ≡ rules_of D.decide self.old }
-        ensures same { (self.new.mode ≡ self.old.mode) × (self.new.lock ≡ self.old.lock) × (self.new.limit ≡ self.old.limit) }
+        ensures same { IsSame D.decide self.old self.new }
         ensures last { D.last self.new.decider ≡ D.last self.old.decider }
         ensures place { (self.new.state.phase ≡ self.old.state.phase) × (self.new.state.at ≡ self.old.state.at) × (self.new.state.standing.totals ≡ self.old.state.standing.totals) }
         ensures gives { GivesPackets (deciding (D.last self.old.decider) (rules_of D.decide self.old)) self.old.state.standing self.new.state.standing (met_of next [])

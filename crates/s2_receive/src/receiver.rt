@@ -1,16 +1,15 @@
 //! The receiver between two steps.
-ghost use Rattle.std.specs.Prelude.{◌≡◌, ◌≢◌, ◌↔◌, ◌≤◌, Ok, Err, IfOk, OnErr, IsErrOf};
+ghost use Rattle.std.specs.Prelude.{◌≡◌, ◌≢◌, ◌≤◌, Ok, IfOk, OnErr, IsErrOf};
 ghost use Rattle.s2_mode.specs.Counts.{CanCount};
 ghost use Rattle.s2_mode.specs.Limits.{most_symbols};
 ghost use Rattle.s2_mode.specs.Mode.{symbols_in};
-ghost use Rattle.s2_mode.specs.Streams.{streams_by, NoneFailed, OneFailed};
 ghost use Rattle.s2_receive.specs.declared.finding.Next.{Next as NextValue};
 ghost use Rattle.s2_receive.specs.declared.finding.Next.TheVariants as next;
 ghost use Rattle.s2_receive.specs.declared.report.Phase.TheVariants as phases;
 ghost use Rattle.s2_receive.specs.Meeting.{nothing_over};
 ghost use Rattle.s2_receive.specs.Stepping.{place_of};
-ghost use Rattle.s2_receive.specs.Receiving.{IsLive, Finds, Stops, StandsBehind, begun, is_at_frame, rules_of};
-ghost use Rattle.s2_receive.specs.Answers.{Between, Delivers, FindsStep, KeepsLast, Steps, StepsFrame, OnlyFaults};
+ghost use Rattle.s2_receive.specs.Receiving.{IsLive, Finds, Stops, begun, is_at_frame, rules_of};
+ghost use Rattle.s2_receive.specs.Answers.{IsSame, KeepsLast, MeetAnswers, DeliversBy, StepsBy, seen_by};
 
 use crate::finder::Finder;
 use crate::finding::Next;
@@ -147,20 +146,9 @@ impl<D: Decide> Receiver<D> {
     /// reads nothing. Where no frame comes, what was decided last stays.
     pub fn meet<R: CountedRead>(&mut self, reader: &mut R) -> Result<Step, Fault>
         requires reader { CanCount (R.count reader.old) }
-        ensures rules { rules_of D.decide self.new ≡ rules_of D.decide self.old }
-        ensures same { (self.new.mode ≡ self.old.mode) × (self.new.lock ≡ self.old.lock)
-            × (self.new.limit ≡ self.old.limit) }
-        ensures finds { IfOk result
-            (FindsStep D.decide D.last self.old self.new (R.remaining reader.old) (R.remaining reader.new)) }
-        ensures kept { KeepsLast result (D.last self.old.decider) (D.last self.new.decider) }
-        ensures stops { IsErrOf result Fault.Read → Stops (rules_of D.decide self.old) self.old.state self.new.state
-            (R.remaining reader.old) (R.remaining reader.new) (R.count reader.old) (R.count reader.new) }
-        ensures bounded { self.new.state.at ≤ self.old.limit }
-        ensures no_read { result ≢ Err Fault.Read → R.count reader.new ≡ R.count reader.old }
-        ensures no_write { result ≢ Err Fault.Write }
-        ensures ended { self.old.state.phase ≡ phases.Ended → result ≡ Ok Step.End }
-        ensures failed { IsErrOf result Fault.Failed
-            ↔ ((IsLive self.old.state.phase → ⊥) × (self.old.state.phase ≢ phases.Ended)) }
+        ensures same { IsSame D.decide self.old self.new }
+        ensures meets { MeetAnswers (seen_by D.decide D.last self.old) (seen_by D.decide D.last self.new)
+            (R.remaining reader.old) (R.remaining reader.new) (R.count reader.old) (R.count reader.new) result }
         ensures nothing { (IsLive self.old.state.phase → ⊥) → (self.new ≡ self.old) × (reader.new ≡ reader.old) }
     {
         match self.place.phase {
@@ -180,8 +168,7 @@ impl<D: Decide> Receiver<D> {
     fn search<R: CountedRead>(&mut self, reader: &mut R) -> Result<Step, ReadFault>
         requires reader { CanCount (R.count reader.old) }
         requires searching { self.old.state.phase ≡ phases.Searching }
-        ensures rules { rules_of D.decide self.new ≡ rules_of D.decide self.old }
-        ensures same { (self.new.mode ≡ self.old.mode) × (self.new.lock ≡ self.old.lock) × (self.new.limit ≡ self.old.limit) }
+        ensures same { IsSame D.decide self.old self.new }
         ensures finds { IfOk result (Finds (rules_of D.decide self.old) self.old.state self.new.state (R.remaining reader.old) (R.remaining reader.new) (D.last self.new.decider)) }
         ensures stops { OnErr result (Stops (rules_of D.decide self.old) self.old.state self.new.state
             (R.remaining reader.old) (R.remaining reader.new) (R.count reader.old) (R.count reader.new)) }
@@ -207,8 +194,7 @@ impl<D: Decide> Receiver<D> {
     /// Behind a cut frame there is the end alone.
     fn close(&mut self) -> Step
         requires closing { self.old.state.phase ≡ phases.Closing }
-        ensures rules { rules_of D.decide self.new ≡ rules_of D.decide self.old }
-        ensures same { (self.new.mode ≡ self.old.mode) × (self.new.lock ≡ self.old.lock) × (self.new.limit ≡ self.old.limit) }
+        ensures same { IsSame D.decide self.old self.new }
         ensures state { self.new.state ≡ record self.old.state { phase = phases.Met (next.End self.old.state.at nothing_over) } }
         ensures last { D.last self.new.decider ≡ D.last self.old.decider }
         ensures end { result ≡ Step.End }
@@ -234,21 +220,9 @@ impl<D: Decide> Receiver<D> {
     ) -> Result<(), Fault>
         requires packets { CanCount (P.count packets.old) }
         requires report { CanCount (W.count report.old) }
-        ensures rules { rules_of D.decide self.new ≡ rules_of D.decide self.old }
-        ensures same { (self.new.mode ≡ self.old.mode) × (self.new.lock ≡ self.old.lock)
-            × (self.new.limit ≡ self.old.limit) }
-        ensures last { D.last self.new.decider ≡ D.last self.old.decider }
-        ensures tells { Delivers (rules_of D.decide self.old) self.old.state self.new.state (D.last self.old.decider)
-            (P.contents packets.old) (P.contents packets.new) (W.contents report.old) (W.contents report.new) result }
-        ensures bounded { self.new.state.at ≤ self.old.limit }
-        ensures write { IsErrOf result Fault.Write
-            → OneFailed (P.count packets.old) (P.count packets.new) (W.count report.old) (W.count report.new) }
-        ensures no_write { result ≢ Err Fault.Write
-            → NoneFailed (P.count packets.old) (P.count packets.new) (W.count report.old) (W.count report.new) }
-        ensures no_read { result ≢ Err Fault.Read }
-        ensures ended { self.old.state.phase ≡ phases.Ended → result ≡ Ok tt }
-        ensures failed { IsErrOf result Fault.Failed
-            ↔ (((next : NextValue) → self.old.state.phase ≢ phases.Met next) × (self.old.state.phase ≢ phases.Ended)) }
+        ensures same { IsSame D.decide self.old self.new }
+        ensures delivers { DeliversBy (seen_by D.decide D.last) P.contents P.count W.contents W.count
+            self.old packets.old report.old self.new packets.new report.new result }
         ensures nothing { ((next : NextValue) → self.old.state.phase ≢ phases.Met next)
             → (self.new ≡ self.old) × (packets.new ≡ packets.old) × (report.new ≡ report.old) }
     {
@@ -288,25 +262,12 @@ impl<D: Decide> Receiver<D> {
         requires reader { CanCount (R.count reader.old) }
         requires packets { CanCount (P.count packets.old) }
         requires report { CanCount (W.count report.old) }
-        ensures rules { rules_of D.decide self.new ≡ rules_of D.decide self.old }
-        ensures same { (self.new.mode ≡ self.old.mode) × (self.new.lock ≡ self.old.lock)
-            × (self.new.limit ≡ self.old.limit) }
-        ensures live { let ends = streams_by R.remaining R.count P.contents P.count W.contents W.count in Steps D.decide
-            self.old self.new (ends reader.old packets.old report.old) (ends reader.new packets.new report.new) result }
-        ensures frame { Between (StepsFrame D.decide D.last self.old self.new) R.remaining R.count P.contents P.count
-            W.contents W.count reader.old packets.old report.old reader.new packets.new report.new result }
-        ensures kept { result ≢ Err Fault.Write
-            → KeepsLast result (D.last self.old.decider) (D.last self.new.decider) }
-        ensures taken { StandsBehind (symbols_in self.old.mode) self.new.state.at result }
-        ensures bounded { self.new.state.at ≤ self.old.limit }
-        ensures ended { self.old.state.phase ≡ phases.Ended → result ≡ Ok Step.End }
-        ensures failed { IsErrOf result Fault.Failed
-            ↔ ((IsLive self.old.state.phase → ⊥) × (self.old.state.phase ≢ phases.Ended)) }
+        ensures same { IsSame D.decide self.old self.new }
+        ensures steps { StepsBy (seen_by D.decide D.last) R.remaining R.count P.contents P.count W.contents W.count
+            self.old reader.old packets.old report.old self.new reader.new packets.new report.new result }
         ensures nothing { (IsLive self.old.state.phase → ⊥) → (self.new ≡ self.old) × (reader.new ≡ reader.old)
             × (packets.new ≡ packets.old) × (report.new ≡ report.old) }
         ensures unwritten { IsErrOf result Fault.Read → (packets.new ≡ packets.old) × (report.new ≡ report.old) }
-        ensures counts { let ends = streams_by R.remaining R.count P.contents P.count W.contents W.count in
-            OnlyFaults result (ends reader.old packets.old report.old) (ends reader.new packets.new report.new) }
     {
         let step = self.meet(reader)?;
         self.deliver(packets, report)?;

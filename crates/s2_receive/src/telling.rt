@@ -3,6 +3,7 @@ ghost use Rattle.std.specs.Prelude.{◌≡◌, ◌+◌, ◌-◌, [], ◌*◌, �
 ghost use Rattle.s2_mode.specs.Counts.{CanCount, CountsFault};
 ghost use Rattle.s2_mode.specs.Limits.{header_symbols};
 ghost use Rattle.s2_mode.specs.Mode.{symbols_in};
+ghost use Rattle.s2_receive.specs.Answers.{IsSame};
 ghost use Rattle.s2_receive.specs.Meeting.{frame, cut, ended};
 ghost use Rattle.s2_receive.specs.Finding.{LiesWithin, met_of, place_after};
 ghost use Rattle.s2_receive.specs.Receiving.{deciding, report_for, rules_of};
@@ -44,8 +45,7 @@ impl<D: Decide> Receiver<D> {
         requires start { self.old.state.at + over.symbols ≤ at }
         requires room { at + symbols_in self.old.mode ≤ self.old.limit }
         requires few { IsFew given }
-        ensures rules { rules_of D.decide self.new ≡ rules_of D.decide self.old }
-        ensures same { (self.new.mode ≡ self.old.mode) × (self.new.lock ≡ self.old.lock) × (self.new.limit ≡ self.old.limit) }
+        ensures same { IsSame D.decide self.old self.new }
         ensures last { D.last self.new.decider ≡ D.last self.old.decider }
         ensures tells { TellsLine (deciding (D.last self.old.decider) (rules_of D.decide self.old)) self.old.state self.new.state (frame at over []) given (at + symbols_in self.old.mode)
             (W.contents report.old) (W.contents report.new) result }
@@ -75,8 +75,7 @@ impl<D: Decide> Receiver<D> {
         requires some { header_symbols ≤ count }
         requires room { at + count ≤ self.old.limit }
         requires few { IsFew given }
-        ensures rules { rules_of D.decide self.new ≡ rules_of D.decide self.old }
-        ensures same { (self.new.mode ≡ self.old.mode) × (self.new.lock ≡ self.old.lock) × (self.new.limit ≡ self.old.limit) }
+        ensures same { IsSame D.decide self.old self.new }
         ensures last { D.last self.new.decider ≡ D.last self.old.decider }
         ensures tells { TellsLine (deciding (D.last self.old.decider) (rules_of D.decide self.old)) self.old.state self.new.state (cut at over count) given (at + count)
             (W.contents report.old) (W.contents report.new) result }
@@ -102,8 +101,7 @@ impl<D: Decide> Receiver<D> {
         requires report { CanCount (W.count report.old) }
         requires start { self.old.state.at + over.symbols ≤ at }
         requires room { at ≤ self.old.limit }
-        ensures rules { rules_of D.decide self.new ≡ rules_of D.decide self.old }
-        ensures same { (self.new.mode ≡ self.old.mode) × (self.new.lock ≡ self.old.lock) × (self.new.limit ≡ self.old.limit) }
+        ensures same { IsSame D.decide self.old self.new }
         ensures last { D.last self.new.decider ≡ D.last self.old.decider }
         ensures tells { (given : GivenValue) → TellsLine (deciding (D.last self.old.decider) (rules_of D.decide self.old)) self.old.state self.new.state (ended over) given at
             (W.contents report.old) (W.contents report.new) result }
@@ -130,8 +128,7 @@ impl<D: Decide> Receiver<D> {
         requires report { CanCount (W.count report.old) }
         requires within { LiesWithin (symbols_in self.old.mode) self.old.state.at self.old.limit next }
         requires few { IsFew given }
-        ensures rules { rules_of D.decide self.new ≡ rules_of D.decide self.old }
-        ensures same { (self.new.mode ≡ self.old.mode) × (self.new.lock ≡ self.old.lock) × (self.new.limit ≡ self.old.limit) }
+        ensures same { IsSame D.decide self.old self.new }
         ensures last { D.last self.new.decider ≡ D.last self.old.decider }
         ensures tells { TellsLine (deciding (D.last self.old.decider) (rules_of D.decide self.old)) self.old.state self.new.state (met_of next []) given (place_after (symbols_in self.old.mode) next)
             (W.contents report.old) (W.contents report.new) result }

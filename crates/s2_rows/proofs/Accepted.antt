@@ -4,13 +4,13 @@ use Rattle.std.specs.List.{list_any}
 use Rattle.std.proofs.lemmas.List.Elements.{All-push}
 use Rattle.std.proofs.lemmas.List.Folds.{list_any_at}
 use Rattle.std.proofs.lemmas.List.Quantifiers.{all_pairs_push}
-use Rattle.std.proofs.lemmas.Bool.{eq-eqb, eqb-true, ltb-true}
-use Rattle.s2_rows.proofs.RowLines.{passes_over, line_read}
+use Rattle.std.proofs.lemmas.Bool.{eq-eqb, eqb-true, cond-false, ltb-true}
+use Rattle.s2_rows.proofs.RowLines.{passes_over}
 use Rattle.s2_mode.specs.Shape.{Shape, IsShape, check_count}
 use Rattle.s2_rows.specs.Numbers.{natural_of}
 use Rattle.s2_rows.specs.Readings.{ok_cons}
 use Rattle.s2_rows.specs.Rows.{AreAddresses, IsRows, rows_value}
-use Rattle.s2_rows.specs.RowFiles.{address_of, with_address, with_token, row_from, row_in, next_row_in, rows_of, rows_of_text}
+use Rattle.s2_rows.specs.RowFiles.{address_of, with_address, with_token, row_from, row_in, rows_of, rows_of_text}
 use Rattle.s2_rows.specs.Text.{tokens_of, lines_of, is_passed_over}
 use Rattle.s2_rows.specs.declared.row_file.RowFault.{RowFault}
 
@@ -146,8 +146,8 @@ line_by_line checks [] left n rows h =
 line_by_line checks (line ∷ lines) left n rows h =
     let on_over : is_passed_over (tokens_of line) ≡ true → AreRows checks left rows = λ over. line_by_line checks lines left (n + 1) rows (sym (passes_over checks left n line lines (sym over)) ∙ h) in
     let on_spoken : is_passed_over (tokens_of line) ≡ false → AreRows checks left rows = λ over.
-    let (row, others, next, rest, all) = cons_ok (next_row_in checks left n (tokens_of line)) (rows_of checks (left - 1) (n + 1) lines) rows (sym (line_read checks left n line lines (sym over)) ∙ h) in
-    let (some, first) = this_fails _ (row_in checks n (tokens_of line)) row (left == 0) next in
+    let (some, read) = this_fails _ (ok_cons (row_in checks n (tokens_of line)) (rows_of checks (left - 1) (n + 1) lines)) rows (left == 0) (sym (cond-false _ _ _ over) ∙ h) in
+    let (row, others, first, rest, all) = cons_ok (row_in checks n (tokens_of line)) (rows_of checks (left - 1) (n + 1) lines) rows read in
     subst (AreRows checks left) all (one_more_row checks left row others (above_zero left some) (line_is_row checks n (tokens_of line) row over first) (line_by_line checks lines (left - 1) (n + 1) others rest)) in
     bool_cases (is_passed_over (tokens_of line)) on_over on_spoken
 

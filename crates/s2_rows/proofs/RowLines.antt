@@ -1,11 +1,10 @@
 -- What is read behind some addresses of a row, and behind some rows.
-use Rattle.std.proofs.Common.{◌≡◌, ℕ, zero, suc, ◌+◌, ◌-◌, ◌<◌, true, false, List, [], ◌∷◌, ◌++◌, length, Ok, Err, refl, sym, ap, ◌∙◌, arith}
-use Rattle.std.specs.Result.{result_err}
-use Rattle.std.proofs.lemmas.Bool.{cond-true, cond-false, ne_eqb}
+use Rattle.std.proofs.Common.{◌≡◌, ℕ, zero, suc, ◌+◌, ◌-◌, ◌<◌, true, false, List, [], ◌∷◌, ◌++◌, length, Ok, Err, sym, ap, ◌∙◌, arith, append-nil}
+use Rattle.std.proofs.lemmas.Bool.{cond-true, cond-false, eq-eqb, ne_eqb}
 use Rattle.s2_rows.proofs.Pieces.{token_first, no_tokens}
-use Rattle.s2_rows.proofs.Afters.{after_cons, err_cons}
+use Rattle.s2_rows.proofs.Afters.{after_cons}
 use Rattle.s2_rows.specs.Readings.{ok_cons, after}
-use Rattle.s2_rows.specs.RowFiles.{with_token, row_from, row_in, next_row_in, rows_of}
+use Rattle.s2_rows.specs.RowFiles.{with_token, row_from, row_in, rows_of}
 use Rattle.s2_rows.specs.Text.{is_space, pieces_of, tokens_of, lines_of, is_passed_over}
 use Rattle.s2_rows.specs.declared.row_file.RowFault.{RowFault}
 use Rattle.s2_rows.specs.declared.row_file.RowFault.TheVariants as faults
@@ -33,31 +32,28 @@ module _ (checks left n : ℕ) (line : List ℕ) (lines : List (List ℕ)) where
   unfolding rows_of
   passes_over h = cond-true _ _ _ (sym h)
 
-  pub line_read : false ≡ is_passed_over (tokens_of line) → rows_of checks left n (line ∷ lines) ≡ ok_cons (next_row_in checks left n (tokens_of line)) (rows_of checks (left - 1) (n + 1) lines)
+  pub too_many_rows : false ≡ is_passed_over (tokens_of line) → left ≡ 0 → rows_of checks left n (line ∷ lines) ≡ Err faults.TooManyRows
   unfolding rows_of
-  line_read h = cond-false _ _ _ (sym h)
+  too_many_rows h none = cond-false _ _ _ (sym h) ∙ cond-true _ _ _ (eq-eqb left 0 none)
 
   pub one_row : false ≡ is_passed_over (tokens_of line) → 0 < left → rows_of checks left n (line ∷ lines) ≡ ok_cons (row_in checks n (tokens_of line)) (rows_of checks (left - 1) (n + 1) lines)
-  one_row h some = line_read h ∙ ap (λ r. ok_cons r (rows_of checks (left - 1) (n + 1) lines)) (cond-false _ _ _ (ne_eqb left 0 (λ e. omega arith)))
+  unfolding rows_of
+  one_row h some = cond-false _ _ _ (sym h) ∙ cond-false _ _ _ (ne_eqb left 0 (λ e. omega arith))
 
-  -- what the next row is
-  pub refuses_row : (fault : RowFault) → false ≡ is_passed_over (tokens_of line) → next_row_in checks left n (tokens_of line) ≡ Err fault → rows_of checks left n (line ∷ lines) ≡ Err fault
-  refuses_row fault h e = line_read h ∙ ap (λ r. ok_cons r (rows_of checks (left - 1) (n + 1) lines)) e
+  pub adds_row : (front : List (List ℕ)) (row : List ℕ) → false ≡ is_passed_over (tokens_of line) → 0 < left → row_in checks n (tokens_of line) ≡ Ok row → after front (rows_of checks left n (line ∷ lines)) ≡ after (front ++ row ∷ []) (rows_of checks (left - 1) (n + 1) lines)
+  adds_row front row h some e = ap (after front) (one_row h some ∙ ap (λ r. ok_cons r (rows_of checks (left - 1) (n + 1) lines)) e) ∙ after_cons front row _
 
-  pub adds_row : (front : List (List ℕ)) (row : List ℕ) → false ≡ is_passed_over (tokens_of line) → next_row_in checks left n (tokens_of line) ≡ Ok row → after front (rows_of checks left n (line ∷ lines)) ≡ after (front ++ row ∷ []) (rows_of checks (left - 1) (n + 1) lines)
-  adds_row front row h e = ap (after front) (line_read h ∙ ap (λ r. ok_cons r (rows_of checks (left - 1) (n + 1) lines)) e) ∙ after_cons front row _
-
-  pub counts_row : (row : List ℕ) → false ≡ is_passed_over (tokens_of line) → next_row_in checks left n (tokens_of line) ≡ Ok row → result_err (rows_of checks left n (line ∷ lines)) ≡ result_err (rows_of checks (left - 1) (n + 1) lines)
-  counts_row row h e = ap result_err (line_read h ∙ ap (λ r. ok_cons r (rows_of checks (left - 1) (n + 1) lines)) e) ∙ err_cons row _
+  pub refuses_row : (front : List (List ℕ)) (fault : RowFault) → false ≡ is_passed_over (tokens_of line) → 0 < left → row_in checks n (tokens_of line) ≡ Err fault → after front (rows_of checks left n (line ∷ lines)) ≡ Err fault
+  refuses_row front fault h some e = ap (after front) (one_row h some ∙ ap (λ r. ok_cons r (rows_of checks (left - 1) (n + 1) lines)) e)
 
 -- at the end of the text
-pub rows_end_early : (checks left n : ℕ) (rest : List ℕ) → length rest ≡ 0 → 0 < left → rows_of checks left n (lines_of rest) ≡ Err faults.TooFewRows
+pub rows_end_early : (checks left n : ℕ) (front : List (List ℕ)) (rest : List ℕ) → length rest ≡ 0 → 0 < left → after front (rows_of checks left n (lines_of rest)) ≡ Err faults.TooFewRows
 unfolding rows_of pieces_of
-rows_end_early checks left n [] e h = cond-false _ _ _ (ne_eqb left 0 (λ e. omega arith))
-rows_end_early checks left n (b ∷ rest) e h = absurd (omega arith)
+rows_end_early checks left n front [] e h = ap (after front) (cond-false _ _ _ (ne_eqb left 0 (λ e. omega arith)))
+rows_end_early checks left n front (b ∷ rest) e h = absurd (omega arith)
 
-pub rows_end_well : (checks left n : ℕ) (rest : List ℕ) → length rest ≡ 0 → left ≡ 0 → rows_of checks left n (lines_of rest) ≡ Ok []
+pub rows_end_well : (checks left n : ℕ) (front : List (List ℕ)) (rest : List ℕ) → length rest ≡ 0 → left ≡ 0 → after front (rows_of checks left n (lines_of rest)) ≡ Ok front
 unfolding rows_of pieces_of
-rows_end_well checks (suc left) n rest e h = cc
-rows_end_well checks zero n [] e h = refl
-rows_end_well checks zero n (b ∷ rest) e h = absurd (omega arith)
+rows_end_well checks (suc left) n front rest e h = cc
+rows_end_well checks zero n front [] e h = ap Ok (append-nil front)
+rows_end_well checks zero n front (b ∷ rest) e h = absurd (omega arith)

@@ -1,6 +1,5 @@
 -- What a row file says, or its first fault.
-use Rattle.std.specs.Prelude.{◌≡◌, ℕ, ◌+◌, ◌-◌, ◌==◌, nat_lt, List, [], ◌∷◌, ◌++◌, length, Option, Some, None, Result, Ok, Err, IsOk, if◌then◌else◌}
-use Rattle.std.specs.Result.{result_err}
+use Rattle.std.specs.Prelude.{◌≡◌, ℕ, ◌+◌, ◌-◌, ◌==◌, nat_lt, List, [], ◌∷◌, ◌++◌, length, Option, Some, None, Result, Ok, Err, ⊤, if◌then◌else◌}
 use Rattle.std.specs.List.{list_any}
 use Rattle.s2_mode.specs.Shape.{Shape, check_count}
 use Rattle.s2_rows.specs.Limits.{most_addresses}
@@ -35,27 +34,20 @@ row_from checks line (Ok row) (token ∷ tokens) = row_from checks line (with_to
 abbrev pub row_in : ℕ → ℕ → List (List ℕ) → Result (List ℕ) RowFault
 row_in checks line tokens = row_from checks line (Ok []) tokens
 
--- the row of a line that is not passed over, where so many are wanted
-abbrev pub next_row_in : ℕ → ℕ → ℕ → List (List ℕ) → Result (List ℕ) RowFault
-next_row_in checks left line tokens = if left == 0 then Err faults.TooManyRows else row_in checks line tokens
-
 -- so many rows more, from these lines
 unfoldable pub rows_of : ℕ → ℕ → ℕ → List (List ℕ) → Result (List (List ℕ)) RowFault
 rows_of checks left number [] = if left == 0 then Ok [] else Err faults.TooFewRows
 rows_of checks left number (line ∷ lines) =
     if is_passed_over (tokens_of line) then rows_of checks left (number + 1) lines
-    else ok_cons (next_row_in checks left number (tokens_of line)) (rows_of checks (left - 1) (number + 1) lines)
+    else (if left == 0 then Err faults.TooManyRows
+    else ok_cons (row_in checks number (tokens_of line)) (rows_of checks (left - 1) (number + 1) lines))
 
 -- the rows of a text for a shape, or the first fault in reading order
 abbrev pub rows_of_text : List ℕ → Shape → Result (List (List ℕ)) RowFault
 rows_of_text text shape = rows_of (check_count shape) shape.groups 1 (lines_of text)
 
--- the fault of these lines behind so many rows, if they have one
-abbrev pub fault_behind : Shape → ℕ → ℕ → List (List ℕ) → Option RowFault
-fault_behind shape count number lines = result_err (rows_of (check_count shape) (shape.groups - count) number lines)
-
--- What was answered is what the text says; memory is wanted only for what is accepted.
+-- What was answered is what the text says. Storage is taken before the text is read, so where there is none nothing is said of the text.
 abbrev pub RowsAnswer : {V : Type 0} → (V → List (List ℕ)) → Result V RowFault → Result (List (List ℕ)) RowFault → Type 0
 RowsAnswer view (Ok v) said = said ≡ Ok (view v)
-RowsAnswer view (Err faults.NoMemory) said = IsOk said
+RowsAnswer view (Err faults.NoMemory) said = ⊤
 RowsAnswer view (Err e) said = said ≡ Err e

@@ -3,7 +3,7 @@
 //!
 //! It stands on the shapes of `s2_mode`, and `s2_matrix` builds a code's checks of its `Rows`.
 //! `read_rows` and `read_values` answer exactly what the formats say of every text: what it holds,
-//! or its first fault in reading order. They want memory only for a text that is otherwise accepted.
+//! or its first fault in reading order. They take storage first, so `NoMemory` comes before every other fault.
 //! `make_rows` gives the rows that a shape, a weight and a seed determine ([`laws::made_rows`]), and
 //! `write_rows` writes exactly their text, which is read again as the same rows ([`laws::read_back`]).
 //!

@@ -1,13 +1,12 @@
 //! Row files.
-ghost use Rattle.std.specs.Prelude.{◌≡◌, ◌≢◌, ◌+◌, ◌-◌, ◌<◌, ◌≤◌, ◌∷◌, ℕ, List, Ok, Err, map, vec_len, vec_capacity, Some, IfOk, IfErr, OnOk, MatchResult};
-ghost use Rattle.std.specs.Result.{result_err};
+ghost use Rattle.std.specs.Prelude.{◌≡◌, ◌+◌, ◌-◌, ◌<◌, ◌≤◌, ◌∷◌, ℕ, List, Ok, Err, map, vec_len, vec_capacity, IfOk, MatchResult};
 ghost use Rattle.s2_mode.specs.Shape.{IsShape, check_count};
 ghost use Rattle.s2_mode.specs.Limits.{most_bits};
 ghost use Rattle.s2_mode.specs.FaultTexts.{said};
 ghost use Rattle.s2_rows.specs.FaultTexts.{row_fault_text};
 ghost use Rattle.s2_rows.specs.Numbers.{natural_of};
 ghost use Rattle.s2_rows.specs.Readings.{after, GoesOn};
-ghost use Rattle.s2_rows.specs.RowFiles.{address_of, with_token, row_in, next_row_in, rows_of, rows_of_text, fault_behind, RowsAnswer};
+ghost use Rattle.s2_rows.specs.RowFiles.{address_of, with_token, row_in, rows_of, rows_of_text, RowsAnswer};
 ghost use Rattle.s2_rows.specs.Text.{tokens_of};
 
 use crate::numbers::natural;
@@ -64,10 +63,9 @@ fn address(checks: usize, line: u64, token: &[u8]) -> Result<u32, RowFault>
 /// Adds the address that a token says to its row.
 fn add_token(row: &mut Row, checks: usize, line: u64, token: &[u8]) -> Result<(), RowFault>
     requires { checks ≤ most_bits }
-    ensures read { MatchResult result
+    ensures { MatchResult result
         (λ _. with_token checks line row.old.items token.now ≡ Ok row.new.items)
         (λ e. with_token checks line row.old.items token.now ≡ Err e) }
-    ensures memory { result ≢ Err RowFault.NoMemory }
 {
     if row.is_full() {
         return Err(RowFault::RowTooLong { line });
@@ -83,10 +81,9 @@ fn add_token(row: &mut Row, checks: usize, line: u64, token: &[u8]) -> Result<()
 /// The row of a line.
 fn read_row(checks: usize, number: u64, line: &[u8]) -> Result<Row, RowFault>
     requires { checks ≤ most_bits }
-    ensures read { MatchResult result
+    ensures { MatchResult result
         (λ row. row_in checks number (tokens_of line.now) ≡ Ok row.items)
         (λ e. row_in checks number (tokens_of line.now) ≡ Err e) }
-    ensures memory { result ≢ Err RowFault.NoMemory }
 {
     let mut row = Row::new();
     let mut rest = line;
@@ -98,19 +95,6 @@ fn read_row(checks: usize, number: u64, line: &[u8]) -> Result<Row, RowFault>
         rest = after;
     }
     Ok(row)
-}
-
-/// The row of a line that is not passed over, behind so many rows.
-fn next_row(count: usize, shape: Shape, number: u64, line: &[u8]) -> Result<Row, RowFault>
-    ensures read { let next = next_row_in (check_count shape) (shape.groups - count) number (tokens_of line.now) in
-        MatchResult result (λ row. next ≡ Ok row.items) (λ e. next ≡ Err e) }
-    ensures room { OnOk result (count < shape.groups) }
-    ensures memory { result ≢ Err RowFault.NoMemory }
-{
-    if count >= shape.groups() {
-        return Err(RowFault::TooManyRows);
-    }
-    read_row(shape.checks(), number, line)
 }
 
 /// Reads a line behind the rows so far.
@@ -125,50 +109,17 @@ fn read_line<A: Allocator>(
     ensures read { (lines : List (List ℕ)) → GoesOn result
         (after (map (λ row. row.items) rows.old.items) (rows_of (check_count shape) (shape.groups - vec_len rows.old) number (line.now ∷ lines)))
         (after (map (λ row. row.items) rows.new.items) (rows_of (check_count shape) (shape.groups - vec_len rows.new) (number + 1) lines)) }
-    ensures memory { result ≢ Err RowFault.NoMemory }
     ensures room { shape.groups ≤ vec_capacity rows.new }
     ensures most { vec_len rows.new ≤ shape.groups }
 {
     if is_passed_over(line) {
         return Ok(());
     }
-    let row = next_row(rows.len(), shape, number, line)?;
+    if rows.len() >= shape.groups() {
+        return Err(RowFault::TooManyRows);
+    }
+    let row = read_row(shape.checks(), number, line)?;
     rows.push(row).unwrap();
-    Ok(())
-}
-
-/// How many rows there are with a line, behind so many, none of which is kept.
-fn count_line(count: usize, shape: Shape, number: u64, line: &[u8]) -> Result<usize, RowFault>
-    ensures read { (lines : List (List ℕ)) → IfOk result (λ next.
-        fault_behind shape count number (line.now ∷ lines) ≡ fault_behind shape next (number + 1) lines) }
-    ensures refused { (lines : List (List ℕ)) →
-        IfErr result (λ e. fault_behind shape count number (line.now ∷ lines) ≡ Some e) }
-    ensures memory { result ≢ Err RowFault.NoMemory }
-{
-    if is_passed_over(line) {
-        return Ok(count);
-    }
-    next_row(count, shape, number, line)?;
-    Ok(count + 1)
-}
-
-/// Whether a text is accepted, or its first fault: it keeps no row, and takes no memory.
-fn accept(text: &[u8], shape: Shape) -> Result<(), RowFault>
-    ensures read { result_err result ≡ result_err (rows_of_text text.now shape) }
-    ensures memory { result ≢ Err RowFault.NoMemory }
-{
-    let mut count = 0;
-    let mut rest = text;
-    let mut number = 1u64;
-    while !rest.is_empty() {
-        let (line, after) = cut_line(rest);
-        count = count_line(count, shape, number, line)?;
-        rest = after;
-        number += 1;
-    }
-    if count < shape.groups() {
-        return Err(RowFault::TooFewRows);
-    }
     Ok(())
 }
 
@@ -181,13 +132,7 @@ pub fn read_lines<A: Allocator>(
     ensures read { RowsAnswer (λ v. map (λ row. row.items) v.items) result (rows_of_text text.now shape) }
     ensures valid { IsShape shape }
 {
-    let mut rows = match Vec::with_capacity(alloc, shape.groups()) {
-        Ok(rows) => rows,
-        Err(_) => {
-            accept(text, shape)?;
-            return Err(RowFault::NoMemory);
-        }
-    };
+    let mut rows = Vec::with_capacity(alloc, shape.groups()).map_err(|_| RowFault::NoMemory)?;
     let mut rest = text;
     let mut number = 1u64;
     while !rest.is_empty() {
@@ -205,7 +150,8 @@ pub fn read_lines<A: Allocator>(
 /// The rows that a text holds for a shape, or its first fault in reading order. A line that has no
 /// tokens, or whose first token begins with #, is passed over; each other line is the row of the
 /// next group of information bits. Its tokens, between spaces, tabs and CR, are decimal addresses:
-/// 1 to 24 of them, below n - k, each once. `NoMemory` comes only for a text that is otherwise accepted.
+/// 1 to 24 of them, below n - k, each once. Storage is taken before the text is read, so `NoMemory` comes
+/// before every other fault.
 pub fn read_rows(alloc: Global, text: &[u8], shape: Shape) -> Result<Rows, RowFault>
     ensures rows { RowsAnswer (λ r. r.rows) result (rows_of_text text.now shape) }
     ensures shape { IfOk result (λ r. r.shape ≡ shape) }

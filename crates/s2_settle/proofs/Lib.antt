@@ -1,10 +1,14 @@
 pub mod Pieces
 pub mod Sames
+pub mod Spots
+pub mod Shifts
+pub mod Windows
+pub mod Rings
 pub mod Layers
 pub mod Shown
-pub mod Spreads
 pub mod MadeMoves
 pub mod Makes
+pub mod StrictTests
 pub mod SettledViews
 pub mod Least
 pub mod LeastMember
@@ -14,5 +18,7 @@ pub mod LayerSums
 pub mod ShownMoves
 pub mod PlainLayers
 pub mod PlainPasses
+pub mod PlainServing
+pub mod Queues
 pub mod PlainSettled
 pub mod RuleLaws

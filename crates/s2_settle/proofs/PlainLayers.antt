@@ -33,7 +33,7 @@ either_most true x y one two = one
 either_most false x y one two = two
 
 -- no more is ever moved than the most
-amount_most : (reserve : ℕ) (f : ℕ → ℤ) (t : ℕ) (xs : List ℕ) → amount_to reserve f t xs ≤ 1048576
+pub amount_most : (reserve : ℕ) (f : ℕ → ℤ) (t : ℕ) (xs : List ℕ) → amount_to reserve f t xs ≤ 1048576
 amount_most reserve f t [] = omega arith
 amount_most reserve f t (k ∷ ks) =
     let a = f t in

@@ -1,4 +1,4 @@
--- Passes over rows and lanes are the passes over checks and members.
+-- The start and the passes of rows and lanes show those of checks and members; where passes end.
 use Rattle.std.proofs.Common.{◌≡◌, ◌≢◌, ℕ, zero, suc, ◌+◌, ◌*◌, ◌/◌, ◌%◌, ◌<◌, ◌≤◌, ◌==◌, nat_lt, Bool, true, false, cond, List, [], ◌∷◌, length, get_or, map, fold, replicate, sum_by, All, ℤ, pos, neg_ℤ, ◌+ℤ◌, ◌*ℤ◌, int_lt, unsigned_abs, Option, None, Some, refl, ap, sym, subst, ◌∙◌, inl, inr, arith, eq-eqb, lt-ltb, le-ltb}
 use Rattle.std.specs.List.{AllPairs, list_any}
 use Rattle.std.proofs.lemmas.Bool.{cases_Bool, cases_lt}
@@ -12,7 +12,7 @@ use Rattle.std.proofs.lemmas.Int.{ints}
 use Rattle.s2_mode.specs.Shape.{code_bits}
 use Rattle.s2_rows.specs.Rows.{Rows}
 use Rattle.s2_matrix.specs.Total.{upto}
-use Rattle.s2_matrix.specs.Code.{code_of, checks_of}
+use Rattle.s2_matrix.specs.Code.{Code, code_of, checks_of}
 use Rattle.s2_matrix.proofs.Totals.{total-same, total-zero, upto_more}
 use Rattle.s2_matrix.proofs.Members.{upto_below}
 use Rattle.s2_matrix.proofs.Joins.{div_below}
@@ -24,17 +24,17 @@ use Rattle.s2_mode.specs.Limits.{most_soft}
 use Rattle.s2_minsum.specs.Layout.{row_of_bit, lane_of_bit, bit_of}
 use Rattle.s2_minsum.proofs.Places
 use Rattle.s2_minsum.proofs.Orders.{Within, sum_within}
-use Rattle.s2_settle.specs.Rests.{zero_rest}
-use Rattle.s2_settle.specs.Plain.{settling_scale, State, raise, rest, reserve_in, is_hopeless}
+use Rattle.s2_settle.specs.Rests.{zero_rest, lacking}
+use Rattle.s2_settle.specs.Plain.{settling_scale, first_reserve, State, raise, rest, is_hopeless, begun, after}
+use Rattle.s2_settle.specs.declared.course.Course.{Course}
 use Rattle.s2_settle.specs.Plain as plain
 use Rattle.s2_settle.specs.Layer.{Held, layer}
 use Rattle.s2_settle.specs.Start.{started, start}
-use Rattle.s2_settle.specs.Passes.{pass, negatives, spread}
+use Rattle.s2_settle.specs.Passes.{pass}
 use Rattle.s2_settle.specs.Placing.{place_of_check}
 use Rattle.s2_minsum.specs.Decoding.{AreFit}
-use Rattle.s2_settle.specs.Shows.{Shows, ShowsEnd, IsWithin}
+use Rattle.s2_settle.specs.Shows.{Shows, ShowsEnd, IsShown, IsWithin}
 use Rattle.s2_settle.proofs.Layers.{upto_at, length-upto_map, by_places, pass_more}
-use Rattle.s2_settle.proofs.Spreads.{spread_now, spread_never, spread_hopeless, spread_later}
 use Rattle.s2_settle.proofs.PlainLayers.{layer_within, layer_shown}
 use Rattle.s2_settle.proofs.RestWords.{less_is, no_less_is, less_of, no_less_of}
 
@@ -108,19 +108,17 @@ start_shown rows fit soft word all =
       };
     }
 
+pub start_both : (rows : Rows) → AreFit rows → (soft : List ℤ) (word : List Bool) → All IsSoft soft → IsShown rows (start rows soft word) (plain.start soft word)
+start_both rows fit soft word all = record { within = start_within rows soft word all; shows = start_shown rows fit soft word all }
+
 -- ---- a pass
 
--- rows and lanes show a state within its limits
-pub record Both (rows : Rows) (a : Held) (b : State) : Type 0 where
-  pub within : IsWithin rows b
-  pub shows : Shows rows a b
-
-module _ (rows : Rows) (fit : AreFit rows) (reserve : ℕ) (few : reserve ≤ reserve_in 0) (h : Held) (st : State) (within : IsWithin rows st) (shows : Shows rows h st) where
+module _ (rows : Rows) (fit : AreFit rows) (reserve : ℕ) (few : reserve ≤ first_reserve) (h : Held) (st : State) (within : IsWithin rows st) (shows : Shows rows h st) where
   plain_more : (n : ℕ) → fold (plain.layer (code_of rows) rows.shape.q reserve) st (upto (n + 1)) ≡ plain.layer (code_of rows) rows.shape.q reserve (fold (plain.layer (code_of rows) rows.shape.q reserve) st (upto n)) n
   plain_more n =
       ap (fold (plain.layer (code_of rows) rows.shape.q reserve) st) (upto_more n) ∙ fold-append (plain.layer (code_of rows) rows.shape.q reserve) st (upto n) (n ∷ [])
 
-  layers_shown : (n : ℕ) → n ≤ rows.shape.q → Both rows (fold (layer rows reserve) h (upto n)) (fold (plain.layer (code_of rows) rows.shape.q reserve) st (upto n))
+  layers_shown : (n : ℕ) → n ≤ rows.shape.q → IsShown rows (fold (layer rows reserve) h (upto n)) (fold (plain.layer (code_of rows) rows.shape.q reserve) st (upto n))
   layers_shown zero le = record { within = within; shows = shows }
   layers_shown (suc n) le =
       let one : suc n ≡ n + 1 = omega arith in
@@ -128,10 +126,10 @@ module _ (rows : Rows) (fit : AreFit rows) (reserve : ℕ) (few : reserve ≤ re
       let low : n < rows.shape.q = omega arith in
       let after = layer_shown rows fit reserve few n low _ _ before.within before.shows in
       let after' = layer_within rows reserve n _ before.within in
-      let now : Both rows (layer rows reserve (fold (layer rows reserve) h (upto n)) n) (plain.layer (code_of rows) rows.shape.q reserve (fold (plain.layer (code_of rows) rows.shape.q reserve) st (upto n)) n) = record { within = after'; shows = after } in
+      let now : IsShown rows (layer rows reserve (fold (layer rows reserve) h (upto n)) n) (plain.layer (code_of rows) rows.shape.q reserve (fold (plain.layer (code_of rows) rows.shape.q reserve) st (upto n)) n) = record { within = after'; shows = after } in
       let a = ap (λ k. fold (layer rows reserve) h (upto k)) one ∙ pass_more rows reserve n h in
       let b = ap (λ k. fold (plain.layer (code_of rows) rows.shape.q reserve) st (upto k)) one ∙ plain_more n in
-      subst (λ (x : State). Both rows (fold (layer rows reserve) h (upto (suc n))) x) (sym b) (subst (λ (x : Held). Both rows x (plain.layer (code_of rows) rows.shape.q reserve (fold (plain.layer (code_of rows) rows.shape.q reserve) st (upto n)) n)) (sym a) now)
+      subst (λ (x : State). IsShown rows (fold (layer rows reserve) h (upto (suc n))) x) (sym b) (subst (λ (x : Held). IsShown rows x (plain.layer (code_of rows) rows.shape.q reserve (fold (plain.layer (code_of rows) rows.shape.q reserve) st (upto n)) n)) (sym a) now)
 
   pub pass_shown : Shows rows (pass rows reserve h) (plain.pass (code_of rows) rows.shape.q reserve st)
   pass_shown = (layers_shown rows.shape.q (omega arith)).shows
@@ -139,7 +137,7 @@ module _ (rows : Rows) (fit : AreFit rows) (reserve : ℕ) (few : reserve ≤ re
   pub pass_within : IsWithin rows (plain.pass (code_of rows) rows.shape.q reserve st)
   pass_within = (layers_shown rows.shape.q (omega arith)).within
 
--- ---- negative rests
+-- ---- bits that lack
 
 sum_map : (g f : ℕ → ℕ) (xs : List ℕ) → sum_by g (map f xs) ≡ sum_by (λ k. g (f k)) xs
 sum_map g f [] = refl
@@ -154,10 +152,10 @@ sum_same f g (x ∷ xs) same =
 any_of : (xs : List ℕ) (y k : ℕ) → k < length xs → get_or xs k 0 ≡ y → list_any (λ m. m == y) xs ≡ true
 any_of xs y k lt is = list_any_at (λ m. m == y) xs k 0 lt (eq-eqb (get_or xs k 0) y is)
 
-same_sign : (w : ℕ) (z : ℤ) → pos w ≡ pos 2147483648 +ℤ z → cond {A = ℕ} (nat_lt w 2147483648) 1 0 ≡ cond (int_lt z (pos 0)) 1 0
-same_sign w z is = elim (cases_lt w 2147483648) [
-  | inl lt ↦ (λ i. cond {A = ℕ} ((lt-ltb w 2147483648 lt ∙ sym (less_is z (pos 0) (omega (arith, ints, is)))) i) 1 0)
-  | inr le ↦ (λ i. cond {A = ℕ} ((le-ltb w 2147483648 le ∙ sym (no_less_is z (pos 0) (omega (arith, ints, is)))) i) 1 0)
+same_sign : (w : ℕ) (z : ℤ) → pos w ≡ pos 2147483648 +ℤ z → cond {A = ℕ} (nat_lt w 2147483649) 1 0 ≡ cond (int_lt z (pos 1)) 1 0
+same_sign w z is = elim (cases_lt w 2147483649) [
+  | inl lt ↦ (λ i. cond {A = ℕ} ((lt-ltb w 2147483649 lt ∙ sym (less_is z (pos 1) (omega (arith, ints, is)))) i) 1 0)
+  | inr le ↦ (λ i. cond {A = ℕ} ((le-ltb w 2147483649 le ∙ sym (no_less_is z (pos 1) (omega (arith, ints, is)))) i) 1 0)
 ]
 
 module _ (rows : Rows) (fit : AreFit rows) (h : Held) (st : State) (shows : Shows rows h st) where
@@ -231,11 +229,11 @@ module _ (rows : Rows) (fit : AreFit rows) (h : Held) (st : State) (shows : Show
       let i = bit_at_place k in
       any_of places (get_or (upto bits) k 0) i (omega (arith, places_long, there_low k low)) (places_is i 0 (there_low k low) ∙ there_is k low ∙ sym (upto_is k 0 low))
 
-  pub negatives_same : negatives h.rests ≡ plain.negatives (code_of rows) st
-  negatives_same =
-      let F : ℕ → ℕ = λ p. cond (nat_lt (get_or h.rests p 0) 2147483648) 1 0 in
-      let G : ℕ → ℕ = λ i. cond (int_lt (rest (code_of rows) st i) (pos 0)) 1 0 in
-      let own : ℕ → ℕ = λ v. cond (nat_lt v 2147483648) 1 0 in
+  pub lacking_same : lacking h.rests ≡ plain.lacking (code_of rows) st
+  lacking_same =
+      let F : ℕ → ℕ = λ p. cond (nat_lt (get_or h.rests p 0) 2147483649) 1 0 in
+      let G : ℕ → ℕ = λ i. cond (int_lt (rest (code_of rows) st i) (pos 1)) 1 0 in
+      let own : ℕ → ℕ = λ v. cond (nat_lt v 2147483649) 1 0 in
       let list = by_places 0 (λ p. get_or h.rests p 0) bits h.rests shows.long.rests_long (λ k lt. refl) in
       let one : sum_by own h.rests ≡ sum_by F (upto bits) = ap (sum_by own) list ∙ sum_map own (λ p. get_or h.rests p 0) (upto bits) in
       let two : sum_by F places ≡ sum_by (λ i. F (row_of_bit rows.shape i * rows.shape.group + lane_of_bit rows.shape i)) (upto bits) = sum_map F (λ i. row_of_bit rows.shape i * rows.shape.group + lane_of_bit rows.shape i) (upto bits) in
@@ -246,67 +244,48 @@ module _ (rows : Rows) (fit : AreFit rows) (h : Held) (st : State) (shows : Show
 
 -- ---- how passes end
 
-passes_now : (rows : Rows) (n p before : ℕ) (s : State) → (plain.negatives (code_of rows) s == 0) ≡ true → plain.passes (code_of rows) rows.shape.q n p before s ≡ Some s
-unfolding plain.passes
-passes_now rows zero p before s none = rw none refl
-passes_now rows (suc n) p before s none = rw none refl
+-- what is left of passes: so many, from pass p on with this course, and a state that rows and lanes show, from which they end where they
+-- are to end
+pub record IsPassed (rows : Rows) (left p : ℕ) (c : Course) (h : Held) (end : Option State) : Type 0 where
+  pub state : State
+  pub shown : IsShown rows h state
+  pub same : plain.passes (code_of rows) rows.shape.q left p c state ≡ end
 
-passes_never : (rows : Rows) (p before : ℕ) (s : State) → (plain.negatives (code_of rows) s == 0) ≡ false → plain.passes (code_of rows) rows.shape.q 0 p before s ≡ None
-unfolding plain.passes
-passes_never rows p before s some = rw some refl
+pub end_none : (rows : Rows) (end : Option State) (h : Held) → end ≡ None → ShowsEnd rows end false h
+end_none rows end h is = subst (λ (o : Option State). ShowsEnd rows o false h) (sym is) refl
 
-passes_hopeless : (rows : Rows) (n p before : ℕ) (s : State) → (plain.negatives (code_of rows) s == 0) ≡ false → is_hopeless (code_of rows).bits p before (plain.negatives (code_of rows) s) ≡ true → plain.passes (code_of rows) rows.shape.q (suc n) p before s ≡ None
-unfolding plain.passes
-passes_hopeless rows n p before s some hopeless = rw (some, hopeless) refl
+pub end_some : (rows : Rows) (end : Option State) (h : Held) (s : State) → IsShown rows h s → end ≡ Some s → ShowsEnd rows end true h
+end_some rows end h s shown is = subst (λ (o : Option State). ShowsEnd rows o true h) (sym is) (refl, shown)
 
-passes_later : (rows : Rows) (n p before : ℕ) (s : State) → (plain.negatives (code_of rows) s == 0) ≡ false → is_hopeless (code_of rows).bits p before (plain.negatives (code_of rows) s) ≡ false
-    → plain.passes (code_of rows) rows.shape.q (suc n) p before s ≡ plain.passes (code_of rows) rows.shape.q n (p + 1) (cond (p % 4 == 0) (plain.negatives (code_of rows) s) before) (plain.pass (code_of rows) rows.shape.q (reserve_in p) s)
-unfolding plain.passes
-passes_later rows n p before s some hopeful = rw (some, hopeful) refl
+module _ (code : Code) (q : ℕ) where
+  pub passes_now : (n p : ℕ) (c : Course) (s : State) → (plain.lacking code s == 0) ≡ true → plain.passes code q n p c s ≡ Some s
+  unfolding plain.passes
+  passes_now zero p c s none = rw none refl
+  passes_now (suc n) p c s none = rw none refl
 
--- found by both or by neither
-abbrev pub BothEnd : Rows → Option Held → Option State → Type 0
-BothEnd rows None end = end ≡ None
-BothEnd rows (Some h) None = ⊥
-BothEnd rows (Some h) (Some s) = Both rows h s
+  pub passes_never : (p : ℕ) (c : Course) (s : State) → (plain.lacking code s == 0) ≡ false → plain.passes code q 0 p c s ≡ None
+  unfolding plain.passes
+  passes_never p c s some = rw some refl
 
-by_ends : (rows : Rows) (o a : Option Held) (o' b : Option State) → o ≡ a → o' ≡ b → BothEnd rows a b → BothEnd rows o o'
-by_ends rows o a o' b one two end =
-    subst (λ (x : Option Held). BothEnd rows x o') (sym one) (subst (λ (x : Option State). BothEnd rows a x) (sym two) end)
+  pub passes_hopeless : (n p : ℕ) (c : Course) (s : State) → (plain.lacking code s == 0) ≡ false → is_hopeless code.bits p c.before (plain.lacking code s) ≡ true → plain.passes code q (suc n) p c s ≡ None
+  unfolding plain.passes
+  passes_hopeless n p c s some hopeless = rw (some, hopeless) refl
 
-module _ (rows : Rows) (fit : AreFit rows) where
-  now_both : (n p before : ℕ) (h : Held) (s : State) → IsWithin rows s → Shows rows h s → (negatives h.rests == 0) ≡ true → BothEnd rows (spread rows n p before h) (plain.passes (code_of rows) rows.shape.q n p before s)
-  now_both n p before h s within shows none =
-      by_ends rows (spread rows n p before h) (Some h) (plain.passes (code_of rows) rows.shape.q n p before s) (Some s) (spread_now rows n p before h none) (passes_now rows n p before s (ap (λ m. m == 0) (sym (negatives_same rows fit h s shows)) ∙ none)) (record { within = within; shows = shows })
+  pub passes_queued : (n p : ℕ) (c : Course) (s : State) → (plain.lacking code s == 0) ≡ false → is_hopeless code.bits p c.before (plain.lacking code s) ≡ false → (plain.lacking code (begun code c s) == 0) ≡ true → plain.passes code q (suc n) p c s ≡ Some (begun code c s)
+  unfolding plain.passes
+  passes_queued n p c s some hopeful found =
+      let b = begun code c s in
+      let on = plain.passes code q n (p + 1) (after code c p (plain.lacking code s)) (plain.pass code q (after code c p (plain.lacking code s)).reserve b) in
+      ap (λ x. cond x (Some s) (cond (is_hopeless code.bits p c.before (plain.lacking code s)) None (cond (plain.lacking code b == 0) (Some b) on))) some
+      ∙ ap (λ x. cond x None (cond (plain.lacking code b == 0) (Some b) on)) hopeful
+      ∙ ap (λ x. cond x (Some b) on) found
 
-  pub spread_both : (n p before : ℕ) (h : Held) (s : State) → IsWithin rows s → Shows rows h s → BothEnd rows (spread rows n p before h) (plain.passes (code_of rows) rows.shape.q n p before s)
-  spread_both zero p before h s within shows = elim (cases_Bool (negatives h.rests == 0)) [
-    | inl none ↦ now_both 0 p before h s within shows none
-    | inr some ↦ by_ends rows (spread rows 0 p before h) None (plain.passes (code_of rows) rows.shape.q 0 p before s) None (spread_never rows p before h some) (passes_never rows p before s (ap (λ m. m == 0) (sym (negatives_same rows fit h s shows)) ∙ some)) refl
-  ]
-  spread_both (suc m) p before h s within shows =
-      let same = negatives_same rows fit h s shows in
-      let reserve = reserve_in p in
-      let few : reserve ≤ reserve_in 0 = omega arith in
-      let later = spread_both m (p + 1) (cond (p % 4 == 0) (negatives h.rests) before) (pass rows reserve h) (plain.pass (code_of rows) rows.shape.q reserve s) (pass_within rows fit reserve few h s within shows) (pass_shown rows fit reserve few h s within shows) in
-      elim (cases_Bool (negatives h.rests == 0)) [
-        | inl none ↦ now_both (suc m) p before h s within shows none
-        | inr some ↦ (
-            let some' = ap (λ m. m == 0) (sym same) ∙ some in
-            let test : is_hopeless (length h.rests) p before (negatives h.rests) ≡ is_hopeless (code_of rows).bits p before (plain.negatives (code_of rows) s) = (λ i. is_hopeless (shows.long.rests_long i) p before (same i)) in
-            elim (cases_Bool (is_hopeless (length h.rests) p before (negatives h.rests))) [
-              | inl yes' ↦ by_ends rows (spread rows (suc m) p before h) None (plain.passes (code_of rows) rows.shape.q (suc m) p before s) None (spread_hopeless rows (suc m) p before h some yes') (passes_hopeless rows m p before s some' (sym test ∙ yes')) refl
-              | inr no' ↦ (
-                  let a = spread rows m (p + 1) (cond (p % 4 == 0) (negatives h.rests) before) (pass rows reserve h) in
-                  let b = plain.passes (code_of rows) rows.shape.q m (p + 1) (cond (p % 4 == 0) (negatives h.rests) before) (plain.pass (code_of rows) rows.shape.q reserve s) in
-                  let b_is = passes_later rows m p before s some' (sym test ∙ no') ∙ ap (λ k. plain.passes (code_of rows) rows.shape.q m (p + 1) (cond (p % 4 == 0) k before) (plain.pass (code_of rows) rows.shape.q reserve s)) (sym same) in
-                  by_ends rows (spread rows (suc m) p before h) a (plain.passes (code_of rows) rows.shape.q (suc m) p before s) b (spread_later rows m p before h some no') b_is later
-                  )
-            ]
-            )
-      ]
-
-pub ends_shown : (rows : Rows) (o : Option Held) (o' : Option State) → BothEnd rows o o' → ShowsEnd rows o o'
-ends_shown rows None o' e = e
-ends_shown rows (Some h) None e = e
-ends_shown rows (Some h) (Some s) e = e.shows
+  pub passes_later : (n p : ℕ) (c : Course) (s : State) → (plain.lacking code s == 0) ≡ false → is_hopeless code.bits p c.before (plain.lacking code s) ≡ false → (plain.lacking code (begun code c s) == 0) ≡ false
+      → plain.passes code q (suc n) p c s ≡ plain.passes code q n (p + 1) (after code c p (plain.lacking code s)) (plain.pass code q (after code c p (plain.lacking code s)).reserve (begun code c s))
+  unfolding plain.passes
+  passes_later n p c s some hopeful none =
+      let b = begun code c s in
+      let on = plain.passes code q n (p + 1) (after code c p (plain.lacking code s)) (plain.pass code q (after code c p (plain.lacking code s)).reserve b) in
+      ap (λ x. cond x (Some s) (cond (is_hopeless code.bits p c.before (plain.lacking code s)) None (cond (plain.lacking code b == 0) (Some b) on))) some
+      ∙ ap (λ x. cond x None (cond (plain.lacking code b == 0) (Some b) on)) hopeful
+      ∙ ap (λ x. cond x (Some b) on) none

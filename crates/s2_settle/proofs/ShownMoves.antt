@@ -32,7 +32,7 @@ use Rattle.s2_check.proofs.Places.{some_member}
 use Rattle.s2_settle.proofs.RestWords.{signed, given_is}
 use Rattle.s2_settle.proofs.LaneMoves.{Has, Lanes, amount_is, target_low, target_is}
 
-signed_none : (x y : Bool) (a : ℕ) → a ≡ 0 → signed x a ≡ signed y a
+pub signed_none : (x y : Bool) (a : ℕ) → a ≡ 0 → signed x a ≡ signed y a
 signed_none true true a none = refl
 signed_none true false a none = omega (arith, ints)
 signed_none false true a none = omega (arith, ints)

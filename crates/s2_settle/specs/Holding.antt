@@ -6,13 +6,13 @@ use Rattle.s2_check.specs.Moves.{Move, no_move, AreTargets}
 use Rattle.s2_check.specs.Views.{View}
 use Rattle.s2_minsum.specs.Decoding.{AreFit, HasRoom}
 use Rattle.s2_settle.specs.Layer.{Held, AreLong}
+use Rattle.s2_settle.specs.Waiting.{Waiting}
 use Rattle.s2_settle.specs.Settled.{moved_view}
 
--- the rows of a settler's matrix, the moves that it made last, check by check, and whether they were found to be a strict certificate
+-- the rows of a settler's matrix, and the moves that it made last, check by check
 pub record Settling : Type 0 where
   pub rows : Rows
   pub moves : List Move
-  pub strict : Bool
 
 -- the certificate of these values and this word by the moves that were made last
 abbrev pub view_by : Settling → List ℤ → List Bool → View
@@ -26,9 +26,10 @@ pub record AreMoves (code : Code) (ms : List Move) : Type 0 where
   pub unmoved : (j : ℕ) → (get_or ms j no_move).amount ≡ 0 → (get_or ms j no_move).place ≡ 0
 
 -- what holds of a settler's lists
-pub record IsSettler (rows layered : Rows) (h : Held) (ms : List Move) (scratch : ℕ) : Type 0 where
+pub record IsSettler (rows layered : Rows) (h : Held) (w : Waiting) (ms : List Move) (scratch : ℕ) : Type 0 where
   pub layers : layered ≡ rows
   pub fit : AreFit rows
   pub long : AreLong rows h
   pub room : HasRoom rows scratch
+  pub waiting : w.room ≡ (code_of rows).checks
   pub moves : AreMoves (code_of rows) ms

@@ -3,21 +3,26 @@ use Rattle.std.specs.Prelude.{◌≡◌, ℕ, ◌≤◌, ◌<◌, Bool, All, Lis
 use Rattle.s2_rows.specs.Rows.{Rows}
 use Rattle.s2_matrix.specs.Code.{code_of, IsCodeword}
 use Rattle.s2_check.specs.Views.{View, IsSoft}
-use Rattle.s2_check.specs.Checking.{IsCertificate}
-use Rattle.s2_settle.specs.Plain.{reserve_in, State}
+use Rattle.s2_check.specs.Strict.{IsStrict}
+use Rattle.s2_settle.specs.Plain.{first_reserve, State}
 use Rattle.s2_settle.specs.Plain as plain
 use Rattle.s2_settle.specs.Layer.{Held, layer}
-use Rattle.s2_settle.specs.Passes.{spread}
+use Rattle.s2_settle.specs.Serving.{IsServed}
 use Rattle.s2_settle.specs.Start.{start}
 use Rattle.s2_settle.specs.Settled.{settled}
-use Rattle.s2_settle.specs.Placing.{held_view}
 use Rattle.s2_minsum.specs.Decoding.{AreFit}
-use Rattle.s2_settle.specs.Shows.{Shows, ShowsEnd, IsWithin}
+use Rattle.s2_settle.specs.Shows.{Shows, IsShown, IsWithin}
 
--- it is accepted, and of these values and this word
+-- it is accepted, strict, and of these values and this word
 abbrev pub SettledLaw : Type 0
 SettledLaw =
-    (rows : Rows) (soft : List ℤ) (word : List Bool) (passes : ℕ) (view : View) → IsCodeword (code_of rows) word → settled rows soft word passes ≡ Some view → IsCertificate rows view × (view.soft ≡ soft) × (view.bits ≡ word)
+    (rows : Rows) (soft : List ℤ) (word : List Bool) (passes : ℕ) (view : View) → IsCodeword (code_of rows) word → settled rows soft word passes ≡ Some view → IsStrict rows view × (view.soft ≡ soft) × (view.bits ≡ word)
+
+-- where rows and lanes show a state, and a check is served there, they then show the state in which it is, and it called as this says
+abbrev pub ServeLaw : Type 0
+ServeLaw =
+    (rows : Rows) (j : ℕ) (h h' : Held) (waiting waiting' : List ℕ) (s : State) → AreFit rows → j < (code_of rows).checks → IsShown rows h s → IsServed rows j h h' waiting waiting'
+    → IsShown rows h' (plain.serve (code_of rows) s j) × (waiting' ≡ plain.call_for (code_of rows) waiting (plain.unsettled (code_of rows) s j))
 
 -- the rows before any move show the state without moves
 abbrev pub StartLaw : Type 0
@@ -27,15 +32,5 @@ StartLaw =
 -- where rows and lanes show a state, they show its layer after their layer
 abbrev pub LayerLaw : Type 0
 LayerLaw =
-    (rows : Rows) (reserve r : ℕ) (h : Held) (s : State) → AreFit rows → reserve ≤ reserve_in 0 → r < rows.shape.q → IsWithin rows s → Shows rows h s
+    (rows : Rows) (reserve r : ℕ) (h : Held) (s : State) → AreFit rows → reserve ≤ first_reserve → r < rows.shape.q → IsWithin rows s → Shows rows h s
     → Shows rows (layer rows reserve h r) (plain.layer (code_of rows) rows.shape.q reserve s r) × IsWithin rows (plain.layer (code_of rows) rows.shape.q reserve s r)
-
--- and their passes end where its passes end
-abbrev pub PassesLaw : Type 0
-PassesLaw =
-    (rows : Rows) (left p before : ℕ) (h : Held) (s : State) → AreFit rows → IsWithin rows s → Shows rows h s → ShowsEnd rows (spread rows left p before h) (plain.passes (code_of rows) rows.shape.q left p before s)
-
--- what passes over rows and lanes find is what is settled
-abbrev pub RuleLaw : Type 0
-RuleLaw =
-    (rows : Rows) (soft : List ℤ) (word : List Bool) (passes : ℕ) → AreFit rows → All IsSoft soft → held_view rows soft word (spread rows passes 0 0 (start rows soft word)) ≡ settled rows soft word passes

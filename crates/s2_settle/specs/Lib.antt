@@ -6,6 +6,8 @@ pub mod Layer
 pub mod Passes
 pub mod Start
 pub mod Placing
+pub mod Waiting
+pub mod Serving
 pub mod Shows
 pub mod Holding
 pub mod Laws

@@ -1,15 +1,14 @@
 -- Where rows and lanes hold a layer's moves, and the certificate of these.
-use Rattle.std.specs.Prelude.{◌≡◌, ℕ, ◌+◌, ◌*◌, ◌/◌, ◌%◌, min, nat_lt, Bool, true, false, if◌then◌else◌, List, map, get_or, length, ℤ, Option, None, Some}
+use Rattle.std.specs.Prelude.{◌≡◌, ℕ, ◌+◌, ◌*◌, ◌/◌, ◌%◌, min, nat_lt, Bool, true, false, if◌then◌else◌, List, map, get_or, length, Option, None, Some}
 use Rattle.s2_mode.specs.Shape.{Shape}
 use Rattle.s2_rows.specs.Rows.{Rows}
 use Rattle.s2_matrix.specs.Total.{upto}
 use Rattle.s2_matrix.specs.Code.{code_of, members}
-use Rattle.s2_check.specs.Views.{View}
 use Rattle.s2_minsum.specs.Rows.{turned, entry_at}
 use Rattle.s2_minsum.specs.Layout.{bit_of, entries_of}
 use Rattle.s2_check.specs.Moves.{Move, most_moved}
-use Rattle.s2_settle.specs.Layer.{Held}
-use Rattle.s2_settle.specs.Settled.{move_to, moved_view, if_reached}
+use Rattle.s2_settle.specs.Plain.{State}
+use Rattle.s2_settle.specs.Settled.{move_to, moves_in}
 
 -- the bit that an entry of layer r shows to the check in lane c; 0 where there is no such entry
 abbrev pub shown : Rows → ℕ → ℕ → ℕ → ℕ
@@ -28,12 +27,7 @@ move_of rows targets amounts j =
 abbrev pub moves_of : Rows → List ℕ → List ℕ → List Move
 moves_of rows targets amounts = map (move_of rows targets amounts) (upto (code_of rows).checks)
 
--- the certificate of what rows and lanes hold, where its bound reaches the scaled cost
-abbrev pub held_view : Rows → List ℤ → List Bool → Option Held → Option View
-held_view rows soft word None = None
-held_view rows soft word (Some h) = if_reached rows (moved_view rows soft word (moves_of rows h.targets h.amounts))
-
 -- what is made of what passes find
-abbrev pub Finds : Rows → Option Held → Bool → List Move → Type 0
+abbrev pub Finds : Rows → Option State → Bool → List Move → Type 0
 Finds rows None found ms = found ≡ false
-Finds rows (Some h) found ms = (found ≡ true) × (ms ≡ moves_of rows h.targets h.amounts)
+Finds rows (Some s) found ms = (found ≡ true) × (ms ≡ moves_in (code_of rows) s)

@@ -1,11 +1,13 @@
 -- Settling over a code (this project's own: the standard leaves decoding free). Each check moves an amount to one of its members from
--- its others, until no bit's rest is negative.
-use Rattle.std.specs.Prelude.{ℕ, zero, suc, ◌+◌, ◌-◌, ◌*◌, ◌/◌, ◌%◌, ◌==◌, ◌&&◌, min, nat_lt, nat_le, Bool, if◌then◌else◌, List, [], ◌∷◌, fold, count_by, ℤ, pos, neg_ℤ, ◌+ℤ◌, ◌-ℤ◌, ◌*ℤ◌, int_lt, unsigned_abs, Option, None, Some}
+-- its others, until no bit lacks: until each rest in favour of the word is at least 1.
+use Rattle.std.specs.Prelude.{ℕ, zero, suc, ◌+◌, ◌-◌, ◌*◌, ◌/◌, ◌%◌, ◌==◌, ◌&&◌, ◌||◌, min, max, nat_lt, nat_le, Bool, if◌then◌else◌, List, [], ◌∷◌, ◌++◌, fold, filter, count_by, ℤ, pos, neg_ℤ, ◌+ℤ◌, ◌-ℤ◌, ◌*ℤ◌, int_lt, unsigned_abs, Option, None, Some}
+use Rattle.std.specs.List.{list_any}
 use Rattle.s2_matrix.specs.Total.{total, upto}
 use Rattle.s2_matrix.specs.Code.{Code, members, checks_of}
 use Rattle.s2_check.specs.Cost.{value_at}
 use Rattle.s2_check.specs.Moves.{most_moved, in_favour}
 use Rattle.s2_minsum.specs.Plain.{others}
+use Rattle.s2_settle.specs.declared.course.Course.{Course}
 
 -- ---- the numbers
 
@@ -13,29 +15,37 @@ use Rattle.s2_minsum.specs.Plain.{others}
 abbrev pub settling_scale : ℕ
 settling_scale = 16
 
--- what is held in reserve in the first pass, and by how much less from pass to pass, down to nothing
+-- what is held in reserve at first, and in how many passes
 abbrev pub first_reserve : ℕ
 first_reserve = 256
 
-abbrev pub reserve_step : ℕ
-reserve_step = 8
+abbrev pub full_passes : ℕ
+full_passes = 2
 
-abbrev pub reserve_in : ℕ → ℕ
-reserve_in p = first_reserve - reserve_step * p
+-- before each later pass it falls by this part of the share by which the lacking bits became fewer, within these bounds
+abbrev pub fall_part : ℕ
+fall_part = 320
 
--- the early end: the first pass after which there can be one, and after how many more each time
+abbrev pub least_fall : ℕ
+least_fall = 12
+
+abbrev pub most_fall : ℕ
+most_fall = 64
+
+-- few bits lack: at most one in so many
+abbrev pub bits_a_few : ℕ
+bits_a_few = 200
+
+-- the first pass before which settling can be given up, and by which part the lacking bits grow where it is
 abbrev pub first_end : ℕ
-first_end = 8
-
-abbrev pub passes_between : ℕ
-passes_between = 4
-
--- and one negative rest in how many bits, grown by one in how many
-abbrev pub bits_a_negative : ℕ
-bits_a_negative = 128
+first_end = 3
 
 abbrev pub growth_part : ℕ
-growth_part = 16
+growth_part = 64
+
+-- how many checks a queue serves at most
+abbrev pub most_served : ℕ
+most_served = 4000
 
 -- ---- states
 
@@ -61,9 +71,13 @@ raise s j i = if i == s.target j then pos (s.amount j) else neg_ℤ (pos (s.amou
 abbrev pub rest : Code → State → ℕ → ℤ
 rest code s i = s.value i +ℤ total (λ j. raise s j i) (checks_of code i)
 
--- how many rests are negative
-abbrev pub negatives : Code → State → ℕ
-negatives code s = count_by (λ i. int_lt (rest code s i) (pos 0)) (upto code.bits)
+-- whether bit i lacks: its rest is below 1
+abbrev pub lacks : Code → State → ℕ → Bool
+lacks code s i = int_lt (rest code s i) (pos 1)
+
+-- how many bits lack
+abbrev pub lacking : Code → State → ℕ
+lacking code s = count_by (lacks code s) (upto code.bits)
 
 -- ---- the move of a check
 
@@ -95,28 +109,93 @@ new_amount code reserve s j =
 
 -- ---- layers and passes
 
--- layer r: the checks j with j mod q = r take their moves back and move anew, all by the state before it
-abbrev pub layer : Code → ℕ → ℕ → State → ℕ → State
-layer code q reserve s r = record {
+-- the checks that are chosen take their moves back and move anew, all by the state before
+abbrev pub anew : Code → ℕ → (ℕ → Bool) → State → State
+anew code reserve chosen s = record {
   value = s.value;
-  target = λ j. if j % q == r then new_target code s j else s.target j;
-  amount = λ j. if j % q == r then new_amount code reserve s j else s.amount j;
+  target = λ j. if chosen j then new_target code s j else s.target j;
+  amount = λ j. if chosen j then new_amount code reserve s j else s.amount j;
 }
+
+-- layer r: the checks j with j mod q = r
+abbrev pub layer : Code → ℕ → ℕ → State → ℕ → State
+layer code q reserve s r = anew code reserve (λ j. j % q == r) s
 
 -- layers 0 to q - 1 in this order
 abbrev pub pass : Code → ℕ → ℕ → State → State
 pass code q reserve s = fold (layer code q reserve) s (upto q)
 
--- the early end, tested from `first_end` passes on, every `passes_between`: whether there are many negative rests, and these have grown
--- by a `growth_part` since the test before
-abbrev pub is_hopeless : ℕ → ℕ → ℕ → ℕ → Bool
-is_hopeless bits p before count =
-    (p % passes_between == 0) && (nat_le first_end p && (nat_lt (bits / bits_a_negative) count && nat_le (before + before / growth_part) count))
+-- ---- the queue
 
--- so many passes from pass p on, until no rest is negative
-unfoldable pub passes : Code → ℕ → ℕ → ℕ → ℕ → State → Option State
-passes code q zero p before s = if negatives code s == 0 then Some s else None
-passes code q (suc left) p before s =
-    if negatives code s == 0 then Some s else
-    if is_hopeless code.bits p before (negatives code s) then None else
-    passes code q left (p + 1) (if p % passes_between == 0 then negatives code s else before) (pass code q (reserve_in p) s)
+-- a check comes behind those that wait, unless it waits
+abbrev pub call : List ℕ → ℕ → List ℕ
+call waiting j = if list_any (λ k. j == k) waiting then waiting else waiting ++ j ∷ []
+
+-- and so the checks of some bits, bit by bit
+abbrev pub call_for : Code → List ℕ → List ℕ → List ℕ
+call_for code = fold (λ waiting i. fold call waiting (checks_of code i))
+
+-- check j is served: it moves anew with no reserve
+abbrev pub serve : Code → State → ℕ → State
+serve code s j = anew code 0 (λ k. k == j) s
+
+-- the members of check j that lack once it is served, and whose rests that changed
+abbrev pub differ : ℤ → ℤ → Bool
+differ a b = int_lt a b || int_lt b a
+
+abbrev pub unsettled : Code → State → ℕ → List ℕ
+unsettled code s j =
+    filter (λ i. lacks code (serve code s j) i && differ (rest code s i) (rest code (serve code s j) i)) (members code j)
+
+-- so many of the waiting checks at most, the first one first, are served, and call for such members
+unfoldable pub queue : Code → ℕ → State → List ℕ → State
+queue code left s [] = s
+queue code zero s (j ∷ waiting) = s
+queue code (suc left) s (j ∷ waiting) =
+    queue code left (serve code s j) (call_for code waiting (unsettled code s j))
+
+-- it begins with the checks of the bits that lack
+abbrev pub queued : Code → State → State
+queued code s =
+    queue code most_served s (call_for code [] (filter (lacks code s) (upto code.bits)))
+
+-- ---- the course
+
+-- before the first pass: as if all bits had lacked before the last queue
+abbrev pub at_first : Code → Course
+at_first code = record { reserve = first_reserve; before = 0; tried = code.bits }
+
+-- by how much the reserve falls where so many bits lacked before, and lack now
+abbrev pub fall : ℕ → ℕ → ℕ
+fall before now =
+    min most_fall (max least_fall (if nat_lt now before then fall_part * (before - now) / before else 0))
+
+-- whether it is of no more use: before pass `first_end` and later, where not few bits lack, and they have grown by a `growth_part`
+abbrev pub is_hopeless : ℕ → ℕ → ℕ → ℕ → Bool
+is_hopeless bits p before now =
+    nat_le first_end p && (nat_lt (bits / bits_a_few) now && nat_le (before + before / growth_part) now)
+
+-- whether it is time for a queue: few bits lack, and at most half as many as before the last one
+abbrev pub is_time : ℕ → ℕ → ℕ → Bool
+is_time bits tried now = nat_le now (bits / bits_a_few) && nat_le (2 * now) tried
+
+-- the state in which a pass begins, once a queue ran if it is time
+abbrev pub begun : Code → Course → State → State
+begun code c s = if is_time code.bits c.tried (lacking code s) then queued code s else s
+
+-- the course from pass p on, where so many bits lack
+abbrev pub after : Code → Course → ℕ → ℕ → Course
+after code c p now = record {
+  reserve = if nat_lt p full_passes then c.reserve else c.reserve - fall c.before now;
+  before = now;
+  tried = if is_time code.bits c.tried now then now else c.tried;
+}
+
+-- so many passes at most from pass p on, until no bit lacks
+unfoldable pub passes : Code → ℕ → ℕ → ℕ → Course → State → Option State
+passes code q zero p c s = if lacking code s == 0 then Some s else None
+passes code q (suc left) p c s =
+    if lacking code s == 0 then Some s else
+    if is_hopeless code.bits p c.before (lacking code s) then None else
+    if lacking code (begun code c s) == 0 then Some (begun code c s) else
+    passes code q left (p + 1) (after code c p (lacking code s)) (pass code q (after code c p (lacking code s)).reserve (begun code c s))

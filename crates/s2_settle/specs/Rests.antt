@@ -1,5 +1,5 @@
 -- Rests as words of 32 bits, each 2^31 higher than it is, and how a check's moves change them.
-use Rattle.std.specs.Prelude.{ℕ, ◌/◌, ◌==◌, min, max, if◌then◌else◌, List, get_or}
+use Rattle.std.specs.Prelude.{ℕ, ◌/◌, ◌==◌, min, max, nat_lt, not, ◌&&◌, Bool, if◌then◌else◌, List, get_or, count_by}
 use Rattle.s2_bits.specs.Lanes32.{minus32, plus32}
 use Rattle.s2_minsum.specs.declared.rows.Entry.{Entry}
 use Rattle.s2_check.specs.Moves.{most_moved}
@@ -8,6 +8,14 @@ use Rattle.s2_minsum.specs.Rows.{turned, cell, entry_at, is_lacking, changed_by}
 -- the word of a rest of 0
 abbrev pub zero_rest : ℕ
 zero_rest = 2147483648
+
+-- the word of a rest of 1, the least that does not lack
+abbrev pub least_rest : ℕ
+least_rest = 2147483649
+
+-- how many rests are below 1
+abbrev pub lacking : List ℕ → ℕ
+lacking = count_by (λ v. nat_lt v least_rest)
 
 -- the word of no rest: more than any
 abbrev pub no_rest : ℕ
@@ -35,7 +43,16 @@ seen_at at first x e = if min first x == first then at else e
 abbrev pub changed : ℕ → List Entry → List ℕ → (ℕ → ℕ → ℕ) → ℕ → ℕ → ℕ
 changed = changed_by plus32
 
--- what the member at entry e gives to the check in lane c; more than any rest where there is none
+-- what the member at entry e gives to the check in lane c, by its target and amount; more than any rest where there is none
+abbrev pub received_by : ℕ → List Entry → ℕ → List ℕ → ℕ → ℕ → ℕ → ℕ → ℕ
+received_by n entries last rests target amount c e =
+    if is_lacking last (entry_at entries e) c then no_rest else given (cell rests n (entry_at entries e).row (turned n (entry_at entries e).shift c)) target amount e
+
+-- the same with the targets and amounts of all lanes
 abbrev pub received : ℕ → List Entry → ℕ → List ℕ → List ℕ → List ℕ → ℕ → ℕ → ℕ
 received n entries last rests targets amounts e c =
-    if is_lacking last (entry_at entries e) c then no_rest else given (cell rests n (entry_at entries e).row (turned n (entry_at entries e).shift c)) (get_or targets c 0) (get_or amounts c 0) e
+    received_by n entries last rests (get_or targets c 0) (get_or amounts c 0) c e
+
+-- whether a rest that changed by so much calls the checks of its bit
+abbrev pub is_calling : ℕ → ℕ → Bool
+is_calling change rest = not (change == 0) && nat_lt rest least_rest

@@ -1,5 +1,5 @@
 -- What it means that rows and lanes show a state of checks and members.
-use Rattle.std.specs.Prelude.{◌≡◌, ℕ, ◌*◌, ◌/◌, ◌%◌, ◌<◌, ◌≤◌, List, get_or, pos, ◌+ℤ◌, unsigned_abs, Option, None, Some}
+use Rattle.std.specs.Prelude.{◌≡◌, ℕ, ◌*◌, ◌/◌, ◌%◌, ◌<◌, ◌≤◌, List, get_or, pos, ◌+ℤ◌, unsigned_abs, Bool, true, false, Option, None, Some}
 use Rattle.s2_mode.specs.Shape.{code_bits}
 use Rattle.s2_rows.specs.Rows.{Rows}
 use Rattle.s2_matrix.specs.Code.{code_of}
@@ -29,8 +29,12 @@ pub record IsWithin (rows : Rows) (s : State) : Type 0 where
   pub values : (i : ℕ) → i < code_bits rows.shape → unsigned_abs (s.value i) ≤ settling_scale * most_soft
   pub amounts : (j : ℕ) → s.amount j ≤ most_moved
 
--- where passes end: found by both or by neither, and what rows and lanes then hold shows the state
-abbrev pub ShowsEnd : Rows → Option Held → Option State → Type 0
-ShowsEnd rows None end = end ≡ None
-ShowsEnd rows (Some h) None = ⊥
-ShowsEnd rows (Some h) (Some s) = Shows rows h s
+-- rows and lanes show a state within these limits
+pub record IsShown (rows : Rows) (h : Held) (s : State) : Type 0 where
+  pub within : IsWithin rows s
+  pub shows : Shows rows h s
+
+-- what passes find, and what rows and lanes then show
+abbrev pub ShowsEnd : Rows → Option State → Bool → Held → Type 0
+ShowsEnd rows None found h = found ≡ false
+ShowsEnd rows (Some s) found h = (found ≡ true) × IsShown rows h s

@@ -3,15 +3,15 @@ ghost use Rattle.std.specs.Prelude.{◌≡◌, ℕ, ◌≤◌, ◌<◌, ◌+◌,
 ghost use Rattle.s2_mode.specs.Shape.{code_bits};
 ghost use Rattle.s2_matrix.specs.Code.{code_of};
 ghost use Rattle.s2_check.specs.Views.{IsSoft};
-ghost use Rattle.s2_minsum.specs.Decoding.{HasRoom};
+ghost use Rattle.s2_minsum.specs.Decoding.{AreFit, HasRoom};
 ghost use Rattle.s2_settle.specs.Layer.{AreLong};
-ghost use Rattle.s2_settle.specs.Passes.{spread as after_spread};
-ghost use Rattle.s2_settle.specs.Start.{start};
+ghost use Rattle.s2_settle.specs.Settled.{ended};
 ghost use Rattle.s2_settle.specs.Placing.{Finds};
 ghost use Rattle.s2_settle.specs.Holding.{AreMoves};
 
 use crate::held::Held;
-use crate::passes::spread;
+use crate::passes::run_passes;
+use crate::waiting::Waiting;
 use s2_check::Move;
 use s2_matrix::Matrix;
 use s2_minsum::Layers;
@@ -25,6 +25,7 @@ pub(crate) fn find_moves(
     passes: u32,
     held: &mut Held,
     scratch: &mut [u32],
+    waiting: &mut Waiting,
     moves: &mut [Move],
 ) -> bool
     requires layers { layers.now ≡ matrix.now }
@@ -33,13 +34,16 @@ pub(crate) fn find_moves(
     requires word { length word.now ≡ code_bits matrix.now.shape }
     requires long { AreLong matrix.now held.old }
     requires room { HasRoom matrix.now (length scratch.old) }
+    requires fit { AreFit matrix.now }
+    requires waiting { waiting.old.room ≡ (code_of matrix.now).checks }
     requires moves { AreMoves (code_of matrix.now) moves.old }
-    ensures found { Finds matrix.now (after_spread matrix.now passes 0 0 (start matrix.now soft.now word.now)) result moves.new }
+    ensures found { Finds matrix.now (ended matrix.now soft.now word.now passes) result moves.new }
     ensures moves { AreMoves (code_of matrix.now) moves.new }
     ensures long { AreLong matrix.now held.new }
+    ensures waiting { waiting.new.room ≡ (code_of matrix.now).checks }
 {
     held.start(matrix, soft, word);
-    if !spread(matrix, layers, passes, held, scratch) {
+    if !run_passes(matrix, layers, passes, held, scratch, waiting) {
         return false;
     }
     held.put_moves(matrix, layers, moves);

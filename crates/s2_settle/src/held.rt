@@ -1,19 +1,26 @@
 //! What a settler holds while it settles.
-ghost use Rattle.std.specs.Prelude.{◌≡◌, ◌*◌, ◌<◌, ◌≤◌, All, IfOk, length};
+ghost use Rattle.std.specs.Prelude.{◌≡◌, ◌*◌, ◌<◌, ◌≤◌, nat_lt, filter, All, IfOk, length};
 ghost use Rattle.s2_mode.specs.Shape.{code_bits};
 ghost use Rattle.s2_matrix.specs.Code.{code_of};
 ghost use Rattle.s2_check.specs.Views.{IsSoft};
 ghost use Rattle.s2_minsum.specs.Decoding.{HasRoom};
 ghost use Rattle.s2_settle.specs.Layer.{AreLong, layer as after_layer};
-ghost use Rattle.s2_settle.specs.Passes.{negatives};
+ghost use Rattle.s2_matrix.specs.Total.{upto};
+ghost use Rattle.s2_settle.specs.Plain.{call_for};
+ghost use Rattle.s2_settle.specs.Rests.{least_rest, lacking};
+ghost use Rattle.s2_settle.specs.Serving.{rest_at, IsServed};
+ghost use Rattle.s2_settle.specs.Waiting.{waiting as waiting_of};
 ghost use Rattle.s2_settle.specs.Start.{start as started};
 ghost use Rattle.s2_settle.specs.Placing.{moves_of};
 ghost use Rattle.s2_settle.specs.Holding.{AreMoves};
 
+use crate::calling::call_lacking;
+use crate::lacking::count_lacking;
 use crate::moves::put_moves;
-use crate::negatives::count_negative;
 use crate::one_layer::run_layer;
+use crate::serving::serve;
 use crate::start::put_rests;
+use crate::waiting::Waiting;
 use s2_check::Move;
 use s2_matrix::Matrix;
 use s2_minsum::Layers;
@@ -104,12 +111,49 @@ impl Held {
         );
     }
 
-    /// How many rests are negative.
-    pub(crate) fn negatives(&self) -> usize
-        ensures is { result ≡ negatives self.now.rests }
+    /// How many bits lack.
+    pub(crate) fn lacking(&self) -> usize
+        ensures is { result ≡ lacking self.now.rests }
         ensures few { result ≤ length self.now.rests }
     {
-        count_negative(&self.rests)
+        count_lacking(&self.rests)
+    }
+
+    /// The checks of the bits that lack are called.
+    pub(crate) fn call_lacking(&self, matrix: &Matrix, waiting: &mut Waiting)
+        requires long { AreLong matrix.now self.now }
+        requires room { waiting.old.room ≡ (code_of matrix.now).checks }
+        ensures { waiting.new ≡ waiting_of waiting.old.room (call_for (code_of matrix.now) waiting.old.checks (filter (λ i. nat_lt (rest_at matrix.now.shape self.now.rests i) least_rest) (upto (code_of matrix.now).bits))) }
+    {
+        call_lacking(matrix, &self.rests, waiting);
+    }
+
+    /// A check takes its move back and moves anew, with no reserve, and calls the checks of its members that then lack
+    /// and whose rests that changed.
+    pub(crate) fn serve(
+        &mut self,
+        matrix: &Matrix,
+        layers: &Layers<'_>,
+        check: usize,
+        waiting: &mut Waiting,
+    )
+        requires layers { layers.now ≡ matrix.now }
+        requires check { check < (code_of matrix.now).checks }
+        requires long { AreLong matrix.now self.old }
+        requires room { waiting.old.room ≡ (code_of matrix.now).checks }
+        ensures is { IsServed matrix.now check self.old self.new waiting.old.checks waiting.new.checks }
+        ensures long { AreLong matrix.now self.new }
+        ensures room { waiting.new.room ≡ waiting.old.room }
+    {
+        serve(
+            matrix,
+            layers,
+            check,
+            &mut self.rests,
+            &mut self.targets,
+            &mut self.amounts,
+            waiting,
+        );
     }
 
     /// Writes the moves check by check.

@@ -1,13 +1,14 @@
 //! Laws of the definitions: each a call that does nothing, whose clause is the law.
 ghost use Rattle.std.specs.Prelude.{◌≡◌};
-ghost use Rattle.s2_settle.specs.Laws.{SettledLaw, StartLaw, LayerLaw, PassesLaw, RuleLaw};
-ghost use Rattle.s2_settle.specs.Plain.{settling_scale, first_reserve, reserve_step, first_end, passes_between, bits_a_negative, growth_part};
+ghost use Rattle.s2_settle.specs.Laws.{SettledLaw, StartLaw, LayerLaw, ServeLaw};
+ghost use Rattle.s2_settle.specs.Plain.{settling_scale, first_reserve, full_passes, fall_part, least_fall, most_fall, bits_a_few, first_end, growth_part, most_served};
 
 use crate::limits::{
-    BITS_A_NEGATIVE, FIRST_END, FIRST_RESERVE, GROWTH_PART, PASSES_BETWEEN, RESERVE_STEP, SCALE,
+    BITS_A_FEW, FALL_PART, FIRST_END, FIRST_RESERVE, FULL_PASSES, GROWTH_PART, LEAST_FALL,
+    MOST_FALL, MOST_SERVED, SCALE,
 };
 
-/// What is settled for a codeword is an accepted certificate of these values and this word.
+/// What is settled for a codeword is a strict certificate of these values and this word.
 pub fn settled()
     ensures { SettledLaw }
 {}
@@ -22,24 +23,22 @@ pub fn layer()
     ensures { LayerLaw }
 {}
 
-/// Where rows and lanes show a state, their passes end where its passes end: found by both or by neither, and
-/// what is found shows the state.
-pub fn passes()
-    ensures { PassesLaw }
-{}
-
-/// What passes over rows and lanes find is what is settled by checks and members.
-pub fn rule()
-    ensures { RuleLaw }
+/// Where a check is served over rows and lanes that show a state, they show the state in which it is served, and just
+/// the checks that it calls there are called.
+pub fn serve()
+    ensures { ServeLaw }
 {}
 
 /// The program's numbers are those of the rule.
 pub fn limits()
     ensures scale { SCALE ≡ settling_scale }
     ensures reserve { FIRST_RESERVE ≡ first_reserve }
-    ensures step { RESERVE_STEP ≡ reserve_step }
+    ensures full { FULL_PASSES ≡ full_passes }
+    ensures part { FALL_PART ≡ fall_part }
+    ensures least { LEAST_FALL ≡ least_fall }
+    ensures most { MOST_FALL ≡ most_fall }
+    ensures few { BITS_A_FEW ≡ bits_a_few }
     ensures end { FIRST_END ≡ first_end }
-    ensures between { PASSES_BETWEEN ≡ passes_between }
-    ensures negatives { BITS_A_NEGATIVE ≡ bits_a_negative }
     ensures growth { GROWTH_PART ≡ growth_part }
+    ensures served { MOST_SERVED ≡ most_served }
 {}

@@ -29,7 +29,13 @@ fn shown_by(shape: Shape, entry: Entry, lane: usize) -> usize
 }
 
 /// The bit that an entry of a layer shows to the check in a lane; 0 where there is no such entry.
-fn target_of(matrix: &Matrix, layers: &Layers<'_>, r: usize, lane: usize, e: usize) -> usize
+pub(crate) fn target_of(
+    matrix: &Matrix,
+    layers: &Layers<'_>,
+    r: usize,
+    lane: usize,
+    e: usize,
+) -> usize
     requires layers { layers.now ≡ matrix.now }
     requires layer { r < matrix.now.shape.q }
     requires lane { lane < matrix.now.shape.group }
@@ -49,12 +55,16 @@ fn move_to(members: &[u32], bit: u32, amount: u32) -> Move
     requires { length members.now ≤ most_bits }
     ensures { result ≡ move_to members.now bit amount }
 {
+    let none = Move {
+        place: 0,
+        amount: 0,
+    };
+    if amount == 0 {
+        return none;
+    }
     let place = place_among(members, bit);
-    if amount == 0 || place >= members.len() {
-        return Move {
-            place: 0,
-            amount: 0,
-        };
+    if place >= members.len() {
+        return none;
     }
     Move {
         place: place as u16,

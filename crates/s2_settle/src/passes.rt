@@ -1,14 +1,17 @@
-//! Passes over all layers, as long as a rest is negative.
-ghost use Rattle.std.specs.Prelude.{◌≡◌, ℕ, ◌≤◌, ◌<◌, ◌+◌, ◌*◌, length};
-ghost use Rattle.s2_mode.specs.Limits.{most_bits};
-ghost use Rattle.s2_minsum.specs.Decoding.{HasRoom};
+//! Passes over all layers, and queues between them, as long as a bit lacks.
+ghost use Rattle.std.specs.Prelude.{◌≡◌, length};
+ghost use Rattle.s2_matrix.specs.Code.{code_of};
+ghost use Rattle.s2_minsum.specs.Decoding.{AreFit, HasRoom};
+ghost use Rattle.s2_settle.specs.Plain.{State, begun, at_first, passes as passes_from};
+ghost use Rattle.s2_settle.specs.Rests.{lacking};
 ghost use Rattle.s2_settle.specs.Layer.{AreLong};
-ghost use Rattle.s2_settle.specs.Passes.{pass as after_pass, reserve_in, is_hopeless, spread as after_spread, Ends};
+ghost use Rattle.s2_settle.specs.Passes.{pass as after_pass};
+ghost use Rattle.s2_settle.specs.Shows.{IsShown, ShowsEnd};
 
+use crate::course::{Course, is_hopeless, is_time};
 use crate::held::Held;
-use crate::limits::{
-    BITS_A_NEGATIVE, FIRST_END, FIRST_RESERVE, GROWTH_PART, PASSES_BETWEEN, RESERVE_STEP,
-};
+use crate::queue::run_queue;
+use crate::waiting::Waiting;
 use s2_matrix::Matrix;
 use s2_minsum::Layers;
 
@@ -32,52 +35,65 @@ fn run_pass(
     }
 }
 
-/// What is held in reserve in a pass.
-fn reserve_in(pass: u32) -> u32
-    ensures { result ≡ reserve_in pass }
+/// Runs a queue if it is time, and says how many bits lack then.
+fn begin(
+    matrix: &Matrix,
+    layers: &Layers<'_>,
+    course: Course,
+    now: usize,
+    held: &mut Held,
+    waiting: &mut Waiting,
+) -> usize
+    requires layers { layers.now ≡ matrix.now }
+    requires fit { AreFit matrix.now }
+    requires long { AreLong matrix.now held.old }
+    requires waiting { waiting.old.room ≡ (code_of matrix.now).checks }
+    requires now { now ≡ lacking held.old.rests }
+    ensures is { (s : State) → IsShown matrix.now held.old s → IsShown matrix.now held.new (begun (code_of matrix.now) course s) }
+    ensures lacking { result ≡ lacking held.new.rests }
+    ensures long { AreLong matrix.now held.new }
+    ensures waiting { waiting.new.room ≡ (code_of matrix.now).checks }
 {
-    FIRST_RESERVE.saturating_sub(pass.saturating_mul(RESERVE_STEP))
+    if !is_time(matrix.bits(), course.tried, now) {
+        return now;
+    }
+    run_queue(matrix, layers, held, waiting);
+    held.lacking()
 }
 
-/// Whether passes are of no more use.
-fn is_hopeless(bits: usize, pass: u32, before: usize, count: usize) -> bool
-    requires { before ≤ most_bits }
-    ensures { result ≡ is_hopeless bits pass before count }
-{
-    pass % PASSES_BETWEEN == 0
-        && pass >= FIRST_END
-        && count > bits / BITS_A_NEGATIVE
-        && count >= before + before / GROWTH_PART
-}
-
-/// At most so many passes, until no rest is negative: whether none is then.
-pub(crate) fn spread(
+/// At most so many passes, until no bit lacks: whether none does then.
+pub(crate) fn run_passes(
     matrix: &Matrix,
     layers: &Layers<'_>,
     passes: u32,
     held: &mut Held,
     scratch: &mut [u32],
+    waiting: &mut Waiting,
 ) -> bool
     requires layers { layers.now ≡ matrix.now }
+    requires fit { AreFit matrix.now }
     requires long { AreLong matrix.now held.old }
     requires room { HasRoom matrix.now (length scratch.old) }
-    ensures is { Ends (after_spread matrix.now passes 0 0 held.old) result held.new }
+    requires waiting { waiting.old.room ≡ (code_of matrix.now).checks }
+    ensures is { (s : State) → IsShown matrix.now held.old s → ShowsEnd matrix.now (passes_from (code_of matrix.now) matrix.now.shape.q passes 0 (at_first (code_of matrix.now)) s) result held.new }
     ensures long { AreLong matrix.now held.new }
+    ensures waiting { waiting.new.room ≡ (code_of matrix.now).checks }
 {
     let bits = matrix.bits();
-    let mut before = 0usize;
+    let mut course = Course::at_first(bits);
     for pass in 0..passes {
-        let count = held.negatives();
-        if count == 0 {
+        let now = held.lacking();
+        if now == 0 {
             return true;
         }
-        if is_hopeless(bits, pass, before, count) {
+        if is_hopeless(bits, pass, course.before, now) {
             return false;
         }
-        if pass % PASSES_BETWEEN == 0 {
-            before = count;
+        if begin(matrix, layers, course, now, held, waiting) == 0 {
+            return true;
         }
-        run_pass(matrix, layers, reserve_in(pass), held, scratch);
+        course = course.after(bits, pass, now);
+        run_pass(matrix, layers, course.reserve, held, scratch);
     }
-    held.negatives() == 0
+    held.lacking() == 0
 }

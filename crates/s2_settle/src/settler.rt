@@ -1,7 +1,6 @@
 //! The settler.
-ghost use Rattle.std.specs.Prelude.{◌≡◌, ◌↔◌, IsTrue, IfOk, All, Some, None, if◌then◌else◌, length};
+ghost use Rattle.std.specs.Prelude.{◌≡◌, IsTrue, IfOk, All, Some, None, if◌then◌else◌, length};
 ghost use Rattle.s2_matrix.specs.Code.{code_of, IsCodeword};
-ghost use Rattle.s2_check.specs.Checking.{IsCertificate};
 ghost use Rattle.s2_check.specs.Strict.{IsStrict};
 ghost use Rattle.s2_check.specs.Views.{IsSoft};
 ghost use Rattle.s2_settle.specs.Settled.{settled};
@@ -10,22 +9,23 @@ ghost use Rattle.s2_settle.specs.Holding.{view_by};
 use crate::find::find_moves;
 use crate::held::Held;
 use crate::limits::SCALE;
+use crate::waiting::Waiting;
 use s2_bits::Bits;
-use s2_check::{Answer, CertView, Move, examine};
+use s2_check::{CertView, Move, examine};
 use s2_matrix::Matrix;
 use s2_minsum::{Layers, scratch_len};
 use std::alloc::{AllocError, Global};
 use std::marker::Model;
 
-/// A maker of certificates by passes over all layers. To contracts it is the address rows, the moves that it
-/// made last, and whether they were found to be a strict certificate.
+/// A maker of certificates by passes over all layers, and queues between them. To contracts it is the address rows,
+/// and the moves that it made last.
 pub struct Settler<'a> {
     matrix: &'a Matrix,
     layers: Layers<'a>,
     held: Held,
     scratch: Vec<u32>,
+    waiting: Waiting,
     moves: Vec<Move>,
-    strict: bool,
 }
 
 impl<'a> Drop for Settler<'a> {
@@ -35,8 +35,8 @@ impl<'a> Drop for Settler<'a> {
             layers: _,
             held: _,
             scratch: _,
+            waiting: _,
             moves: _,
-            strict: _,
         } = self;
     }
 }
@@ -47,9 +47,9 @@ impl<'a> Model for Settler<'a> {
 
     ghost Value = { Settling };
 
-    ghost view = { λ s. record { rows = s.matrix.now; moves = s.moves.items; strict = s.strict } };
+    ghost view = { λ s. record { rows = s.matrix.now; moves = s.moves.items } };
 
-    ghost invariant = { λ s. IsSettler s.matrix.now s.layers s.held s.moves.items (length s.scratch.items) };
+    ghost invariant = { λ s. IsSettler s.matrix.now s.layers s.held s.waiting s.moves.items (length s.scratch.items) };
 }
 
 impl<'a> Settler<'a> {
@@ -58,6 +58,7 @@ impl<'a> Settler<'a> {
     pub fn new(alloc: Global, matrix: &'a Matrix) -> Result<Settler<'a>, AllocError>
         ensures { IfOk result (λ s. s.rows ≡ matrix.now) }
     {
+        let checks = matrix.check_count();
         let layers = Layers::of(alloc, matrix)?;
         let none = Move {
             place: 0,
@@ -65,19 +66,20 @@ impl<'a> Settler<'a> {
         };
         let held = Held::of(alloc, matrix)?;
         let scratch = vec![in alloc; 0u32; scratch_len(matrix)]?;
-        let moves = vec![in alloc; none; matrix.check_count()]?;
+        let waiting = Waiting::of(alloc, checks)?;
+        let moves = vec![in alloc; none; checks]?;
         Ok(Settler {
             matrix,
             layers,
             held,
             scratch,
+            waiting,
             moves,
-            strict: false,
         })
     }
 
-    /// Whether at most so many passes find a certificate for a codeword. The moves that are then held are
-    /// its moves.
+    /// Whether at most so many passes find a certificate for a codeword, which is strict. The moves that are then
+    /// held are its moves.
     pub fn certify(&mut self, soft: &[i16], word: &Bits, passes: u32) -> bool
         requires soft { length soft.now ≡ (code_of self.old.rows).bits }
         requires range { All IsSoft soft.now }
@@ -85,9 +87,7 @@ impl<'a> Settler<'a> {
         ensures rows { self.new.rows ≡ self.old.rows }
         ensures is { settled self.old.rows soft.now word.now passes
             ≡ (if result then Some (view_by self.new soft.now word.now) else None) }
-        ensures accepted { IsTrue result → IsCertificate self.old.rows (view_by self.new soft.now word.now) }
-        ensures strict { IsTrue result
-            → (IsTrue self.new.strict ↔ IsStrict self.old.rows (view_by self.new soft.now word.now)) }
+        ensures strict { IsTrue result → IsStrict self.old.rows (view_by self.new soft.now word.now) }
     {
         if !find_moves(
             self.matrix,
@@ -97,23 +97,12 @@ impl<'a> Settler<'a> {
             passes,
             &mut self.held,
             &mut self.scratch,
+            &mut self.waiting,
             &mut self.moves,
         ) {
             return false;
         }
-        let examined = examine(self.matrix, &self.held(soft, word));
-        self.strict = examined.strict;
-        match examined.answer {
-            Answer::Yes => true,
-            Answer::No(_) => false,
-        }
-    }
-
-    /// Whether the moves that were made last were found to be a strict certificate.
-    pub fn is_strict(&self) -> bool
-        ensures { result ≡ self.now.strict }
-    {
-        self.strict
+        examine(self.matrix, &self.held(soft, word)).strict
     }
 
     /// The certificate of these values and this word by the moves that were made last.

@@ -1,5 +1,5 @@
 -- What `table` prints of rows, and the note of rows that are others than the standard's.
-use Rattle.std.specs.Prelude.{◌≡◌, ℕ, ◌++◌, Bool, true, false, List, Option, IfSome, Result, codes}
+use Rattle.std.specs.Prelude.{◌≡◌, ℕ, ◌++◌, Bool, true, false, List, Option, IfSome, Result, Ok, Err, codes}
 use Rattle.std.specs.Io.KnownBytes.{Appends}
 use Rattle.s2_mode.specs.Mode.{Mode}
 use Rattle.s2_mode.specs.Shape.{Shape}
@@ -43,3 +43,10 @@ Notes mode false old new = Appends old new (note_line mode)
 -- of others it is noted that they are that
 abbrev pub IsNoted : Mode → Rows → Option (List ℕ) → Option (List ℕ) → Type 0
 IsNoted mode rows old new = (answer : Bool) × HasSum rows (standard_sum mode) answer × Notes mode answer old new
+
+-- What is noted of the rows in a file that was read, which are these or are refused: where notes are left out or the rows are refused
+-- nothing, and of rows that are not the standard's the note, which can be lost only where its writer failed.
+abbrev pub NotesRows : Bool → Mode → ℕ → ℕ → Option (List ℕ) → Option (List ℕ) → Result Rows Fault → Type 0
+NotesRows true mode before after old new said = (after ≡ before) × (new ≡ old)
+NotesRows false mode before after old new (Ok rows) = after ≡ before → IsNoted mode rows old new
+NotesRows false mode before after old new (Err f) = (after ≡ before) × (new ≡ old)

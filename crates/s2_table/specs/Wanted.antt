@@ -9,7 +9,6 @@ use Rattle.s2_console.specs.declared.fault.Fault.TheVariants as faults
 use Rattle.s2_console.specs.Exits.{exit_of, CommandRuns, CommandCounts}
 use Rattle.s2_console.specs.Notes.{Remarks}
 use Rattle.s2_console.specs.Screens.{Screen}
-use Rattle.s2_evidence.specs.Inputs.{rows_in, IsAccepted}
 use Rattle.s2_table.specs.Tables.{AreRowsIn, IsTold}
 
 -- how many rows, of addresses below which number
@@ -30,11 +29,9 @@ abbrev pub notes_on : Bool → Mode → Result Exit Fault → List ℕ
 notes_on quiet m (Ok exit) = []
 notes_on quiet m (Err f) = if quiet then [] else fault_note m f
 
--- `table` has ended: of the rows in its file the answer is printed, memory ran out only over rows that are
--- accepted, only what failed was counted, of so many failed reads before and behind, and the note and of a fault the line
--- stand on the errors.
+-- `table` has ended: of the rows in its file the answer is printed, only what failed was counted, of so many failed reads before and
+-- behind, and the note and of a fault the line stand on the errors.
 abbrev pub TableEnds : Mode → Bool → Option (List ℕ) → ℕ → ℕ → Screen → Screen → Exit → Type 0
 TableEnds m quiet rows reads reads_after old new exit =
     (ended : Result Exit Fault) × (exit ≡ exit_of ended) × CommandRuns (IsTold m) (AreRowsIn (shape_in m) rows) ended old.output new.output
-    × (ended ≡ Err faults.NoMemory → IsAccepted rows (rows_in (shape_in m)))
     × CommandCounts ended reads reads_after old.output_failed new.output_failed × Remarks (notes_on quiet m ended) ended old new

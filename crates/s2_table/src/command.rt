@@ -3,8 +3,7 @@ ghost use Rattle.std.specs.Prelude.{◌≡◌, ◌≢◌, ◌+◌, Result, Err, 
 ghost use Rattle.s2_mode.specs.Counts.{CanCount};
 ghost use Rattle.s2_mode.specs.Mode.{shape_in};
 ghost use Rattle.s2_console.specs.Exits.{CommandAnswers, CommandRuns, CommandCounts};
-ghost use Rattle.s2_console.specs.Screens.{CanTell};
-ghost use Rattle.s2_evidence.specs.Inputs.{rows_in, IsAccepted};
+ghost use Rattle.s2_console.specs.Screens.{CanNote};
 ghost use Rattle.s2_table.specs.Wanted.{TableEnds};
 ghost use Rattle.s2_table.specs.Tables.{AreRowsIn, IsTold, answer_line, answer_exit};
 
@@ -53,7 +52,6 @@ fn table_read<R: CountedRead>(
     ensures answers { CommandAnswers (IsTold mode.now) (AreRowsIn (shape_in mode.now) (R.remaining rows.old)) result }
     ensures read { result ≡ Err Fault.Read → R.count rows.new ≡ R.count rows.old + 1 }
     ensures no_read { result ≢ Err Fault.Read → R.count rows.new ≡ R.count rows.old }
-    ensures no_memory { result ≡ Err Fault.NoMemory → IsAccepted (R.remaining rows.old) (rows_in (shape_in mode.now)) }
     ensures write { result ≢ Err Fault.Write }
 {
     let matrix = read_matrix(alloc, rows, mode.shape())?;
@@ -71,15 +69,13 @@ fn print_table<R: CountedRead, O: CountedWrite>(
     requires out { CanCount (O.count out.old) }
     ensures whole { IsOk result → O.count out.new ≡ O.count out.old }
     ensures run { CommandRuns (IsTold mode.now) (AreRowsIn (shape_in mode.now) (R.remaining rows.old)) result (O.contents out.old) (O.contents out.new) }
-    ensures no_memory { result ≡ Err Fault.NoMemory → IsAccepted (R.remaining rows.old) (rows_in (shape_in mode.now)) }
     ensures causes { CommandCounts result (R.count rows.old) (R.count rows.new) (O.count out.old) (O.count out.new) }
 {
     table_read(alloc, mode, rows)?.print(out)
 }
 
 /// `table`: whether the rows of a file are the standard's for the code of a mode, whatever the order within each row. Of rows that
-/// are refused it is noted which ones the mode wants, unless notes are left out. Want of memory is told only of rows
-/// that are accepted.
+/// are refused it is noted which ones the mode wants, unless notes are left out.
 pub fn table_command<R: CountedRead, O: CountedWrite, E: CountedWrite>(
     alloc: Global,
     mode: &Mode,
@@ -88,7 +84,7 @@ pub fn table_command<R: CountedRead, O: CountedWrite, E: CountedWrite>(
     console: &mut Console<O, E>,
 ) -> Exit
     requires rows { CanCount (R.count rows.old) }
-    requires console { CanTell console.old }
+    requires console { CanNote console.old }
     ensures quiet { result ≢ Exit.Fault → console.new.errors_failed ≡ console.old.errors_failed }
     ensures whole { result ≢ Exit.Fault → console.new.output_failed ≡ console.old.output_failed }
     ensures run { TableEnds mode.now quiet (R.remaining rows.old)

@@ -1,12 +1,12 @@
 //! Rows read for a command, and the note of those that are others than the standard's.
-ghost use Rattle.std.specs.Prelude.{◌≡◌, ◌≢◌, ◌+◌, ◌≤◌, ◌++◌, Err, IfOk, IfSome, OnOk, OnErr, true, false};
+ghost use Rattle.std.specs.Prelude.{◌≡◌, ◌≢◌, ◌+◌, ◌≤◌, ◌++◌, Err, IfOk, IfSome, OnOk};
 ghost use Rattle.std.specs.Io.KnownBytes.{Appends};
 ghost use Rattle.s2_mode.specs.Counts.{CanCount, CountsFault};
 ghost use Rattle.s2_mode.specs.Mode.{shape_in};
 ghost use Rattle.s2_console.specs.Exits.{Follows};
-ghost use Rattle.s2_evidence.specs.Inputs.{rows_in, IsAccepted};
+ghost use Rattle.s2_evidence.specs.Inputs.{rows_in};
 ghost use Rattle.s2_modes.specs.Names.{mode_words};
-ghost use Rattle.s2_table.specs.Tables.{note_line, Notes, IsNoted};
+ghost use Rattle.s2_table.specs.Tables.{note_line, Notes, IsNoted, NotesRows};
 
 use crate::standard::is_standard;
 use s2_console::Fault;
@@ -66,8 +66,7 @@ pub fn note_rows<E: CountedWrite>(errors: &mut E, mode: &Mode, matrix: &Matrix)
 }
 
 /// The matrix of the rows of a mode's row file, which is read to its end, with the note where it belongs, unless notes are to be left
-/// out. Where the file is refused, the fault says why, and nothing is noted: want of memory is told only of rows that
-/// are accepted.
+/// out. Where the file is refused, the fault says why, and nothing is noted.
 pub fn read_noted<R: CountedRead, E: CountedWrite>(
     alloc: Global,
     mode: &Mode,
@@ -81,13 +80,9 @@ pub fn read_noted<R: CountedRead, E: CountedWrite>(
     ensures shape { IfOk result (λ m. m.shape ≡ shape_in mode.now) }
     ensures read { result ≡ Err Fault.Read → R.count reader.new ≡ R.count reader.old + 1 }
     ensures no_other { result ≢ Err Fault.Read → R.count reader.new ≡ R.count reader.old }
-    ensures no_memory { result ≡ Err Fault.NoMemory
-        → IsAccepted (R.remaining reader.old) (rows_in (shape_in mode.now)) }
     ensures write { result ≢ Err Fault.Write }
-    ensures noted { quiet ≡ false → IfOk result (λ m. E.count errors.new ≡ E.count errors.old
-        → IsNoted mode.now m (E.contents errors.old) (E.contents errors.new)) }
-    ensures left_out { quiet ≡ true → errors.new ≡ errors.old }
-    ensures silent { OnErr result (errors.new ≡ errors.old) }
+    ensures noted { NotesRows quiet mode.now (E.count errors.old) (E.count errors.new)
+        (E.contents errors.old) (E.contents errors.new) result }
 {
     let matrix = read_matrix(alloc, reader, mode.shape())?;
     if !quiet {

@@ -1,8 +1,7 @@
 pub mod Links
-pub mod Making
+pub mod Losses
 pub mod Sending
 pub mod Spoiling
 pub mod Receptions
-pub mod Losses
 pub mod Looping
-pub mod Serving
+pub mod Making

@@ -11,9 +11,8 @@ use Rattle.s2_console.specs.declared.exit.Exit.{Exit}
 use Rattle.s2_console.specs.declared.exit.Exit.TheVariants as exits
 use Rattle.s2_console.specs.declared.fault.Fault.{Fault}
 use Rattle.s2_console.specs.declared.fault.Fault.TheVariants as faults
-use Rattle.s2_console.specs.declared.place.Place.{Place}
 use Rattle.s2_console.specs.Exits.{exit_of}
-use Rattle.s2_console.specs.Notes.{Concludes}
+use Rattle.s2_console.specs.Notes.{Remarks}
 use Rattle.s2_console.specs.Screens.{Screen}
 
 -- no frame was found, nor a cut one, in enough symbols for a header
@@ -58,11 +57,10 @@ abbrev pub Answered : NoteWords → Mode → Result Received Fault → Result Ex
 Answered words m (Ok r) ended notes = (notes ≡ (if words.quiet then [] else notes_of m r)) × ((ended ≡ Ok (exit_by words.strict r)) ⊎ (ended ≡ Err faults.Write))
 Answered words m (Err f) ended notes = (notes ≡ (if words.quiet then [] else fault_note m f)) × (ended ≡ Err f)
 
--- How a command ends that received so, with which exit: its report was made at this place, and behind it stand its notes, and
--- of a fault its line.
-pub record Finishes (words : NoteWords) (m : Mode) (heard : Result Received Fault) (place : Place) (exit : Exit) (old shown new : Screen) : Type 0 where
+-- How a command that received so ends, and with which exit: its notes, and the line of a fault, stand on the errors.
+pub record Finishes (words : NoteWords) (m : Mode) (heard : Result Received Fault) (exit : Exit) (old new : Screen) : Type 0 where
   pub ended : Result Exit Fault
   pub notes : List ℕ
   pub exit_is : exit ≡ exit_of ended
   pub answered : Answered words m heard ended notes
-  pub concludes : Concludes place notes ended old shown new
+  pub remarks : Remarks notes ended old new

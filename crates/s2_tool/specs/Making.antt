@@ -1,5 +1,5 @@
 -- What `rows` prints.
-use Rattle.std.specs.Prelude.{◌≡◌, ℕ, List, Option, Result, Ok, Err, IsTrue, if◌then◌else◌}
+use Rattle.std.specs.Prelude.{◌≡◌, ℕ, List, Result, Ok, Err, if◌then◌else◌}
 use Rattle.s2_mode.specs.Shape.{Shape}
 use Rattle.s2_rows.specs.FaultTexts.{make_fault_text}
 use Rattle.s2_rows.specs.declared.make.MakeFault.TheVariants as making
@@ -9,7 +9,7 @@ use Rattle.s2_console.specs.declared.exit.Exit.{Exit}
 use Rattle.s2_console.specs.declared.exit.Exit.TheVariants as exits
 use Rattle.s2_console.specs.declared.fault.Fault.{Fault}
 use Rattle.s2_console.specs.declared.fault.Fault.TheVariants as faults
-use Rattle.s2_console.specs.Exits.{exit_of, CommandRuns, CommandCounts, Complains}
+use Rattle.s2_console.specs.Exits.{CommandEnds}
 use Rattle.s2_console.specs.Screens.{Screen}
 
 -- the rows that a shape, a weight and a seed determine
@@ -24,14 +24,6 @@ AreMadeRows shape weight seed said = rows_made shape weight seed ≡ said
 abbrev pub IsRowFile : List (List ℕ) → Exit → List ℕ → Type 0
 IsRowFile rows exit text = (exit ≡ exits.Fine) × (text ≡ rows_text rows)
 
--- `rows` of a shape, a weight and a seed. Want of memory is told only where this is a weight.
-abbrev pub MakesRows : Shape → ℕ → ℕ → Result Exit Fault → Option (List ℕ) → Option (List ℕ) → Type 0
-MakesRows shape weight seed ended old new =
-    CommandRuns IsRowFile (AreMadeRows shape weight seed) ended old new
-    × (ended ≡ Err faults.NoMemory → IsTrue (is_weight shape weight))
-
--- `rows` has ended so: only what failed was counted, and of a fault the line stands on the errors
+-- `rows` has ended with this exit
 abbrev pub RowsEnds : Shape → ℕ → ℕ → Screen → Screen → Exit → Type 0
-RowsEnds shape weight seed old new exit =
-    (ended : Result Exit Fault) × (exit ≡ exit_of ended) × MakesRows shape weight seed ended old.output new.output
-    × CommandCounts ended 0 0 old.output_failed new.output_failed × Complains ended old new
+RowsEnds shape weight seed old new exit = CommandEnds IsRowFile (AreMadeRows shape weight seed) 0 0 old new exit

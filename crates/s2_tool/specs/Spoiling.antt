@@ -1,5 +1,5 @@
 -- What `noise` writes.
-use Rattle.std.specs.Prelude.{◌≡◌, ℕ, List, Option, None, IfSome, Result, Ok, Err}
+use Rattle.std.specs.Prelude.{◌≡◌, ℕ, Bool, List, Option, IfSome, Result, Ok, Err}
 use Rattle.std.specs.Io.KnownBytes.{Appends}
 use Rattle.s2_mode.specs.Streams.{Streams}
 use Rattle.s2_mode.specs.Symbols.{symbols_of}
@@ -11,9 +11,10 @@ use Rattle.s2_console.specs.declared.exit.Exit.TheVariants as exits
 use Rattle.s2_console.specs.declared.fault.Fault.{Fault}
 use Rattle.s2_console.specs.declared.fault.Fault.TheVariants as faults
 use Rattle.s2_console.specs.Exits.{exit_of, Complains}
+use Rattle.s2_console.specs.Files.{piped}
 use Rattle.s2_console.specs.Screens.{Screen}
 use Rattle.s2_words.specs.declared.request.ChannelWords.{ChannelWords}
-use Rattle.s2_tool.specs.Links.{Causes}
+use Rattle.s2_tool.specs.Links.{Begins, Causes}
 
 -- All symbols that were read, each with its noise. Where a read failed, or as many came as one run takes, those that came before;
 -- where a write failed, those that were read but the last, and of that one's bytes a part and not all.
@@ -27,21 +28,17 @@ IsSpoilt channel old new (Err faults.Write) =
     PassesPart channel.level (pcg32_of_seed (pcg32_seed 16 channel.seed)) old.taken new.taken old.given new.given
 IsSpoilt channel old new (Err f) = ⊥
 
--- the streams of a command that prints nothing
-abbrev pub piped : Option (List ℕ) → Option (List ℕ) → ℕ → ℕ → Streams
-piped taken given reads writes =
-    record { taken = taken; given = given; out = None; reads = reads; writes = writes; prints = 0 }
-
--- those of a reader and a writer
+-- the streams of a reader and a writer, beside no report
 abbrev pub piped_by : {R W : Type 0} → (R → Option (List ℕ)) → (R → ℕ) → (W → Option (List ℕ)) → (W → ℕ) → R → W → Streams
-piped_by taken reads given writes r w = piped (taken r) (given w) (reads r) (writes w)
+piped_by taken reads given writes r w = piped (taken r) (reads r) (given w) (writes w)
 
 -- `noise` by a channel's seed and level
 pub record Spoils (channel : ChannelWords) (old new : Streams) (ended : Result Exit Fault) : Type 0 where
   pub spoilt : IsSpoilt channel old new ended
   pub causes : Causes old new ended
 
--- `noise` has ended: so it spoilt, and of a fault the line stands on the errors
-abbrev pub NoiseEnds : ChannelWords → Streams → Streams → Screen → Screen → Exit → Type 0
-NoiseEnds channel old new console_old console_new exit =
-    (ended : Result Exit Fault) × (exit ≡ exit_of ended) × Spoils channel old new ended × Complains ended console_old console_new
+-- `noise` has ended with this exit: it began its output and added the noise, or it could not begin; the line of a fault stands on the
+-- errors
+abbrev pub NoiseEnds : ChannelWords → (begun : Bool) → Streams → Streams → Screen → Screen → Exit → Type 0
+NoiseEnds channel begun old new console_old console_new exit =
+    (ended : Result Exit Fault) × (exit ≡ exit_of ended) × Begins (Spoils channel) begun old new ended × Complains ended console_old console_new

@@ -1,10 +1,8 @@
 //! What was lost of a stream that was received: notes behind the report, and the exit of a strict command.
-ghost use Rattle.std.specs.Prelude.{◌≡◌, ◌≢◌, ◌+◌, ℕ, List, [], Result, IsOk, OnOk, not, nat_eq};
+ghost use Rattle.std.specs.Prelude.{◌≡◌, ◌≢◌, ◌+◌, [], IsOk, OnOk, not, nat_eq};
 ghost use Rattle.std.specs.Io.KnownBytes.{Appends};
 ghost use Rattle.s2_mode.specs.Counts.{CanCount, CountsFault};
-ghost use Rattle.s2_console.specs.Exits.{exit_of};
-ghost use Rattle.s2_console.specs.Notes.{Remarks};
-ghost use Rattle.s2_tool.specs.Losses.{is_deaf, is_clean, exit_by, passed_note, deaf_end, deaf_note, torn_note, note_if, notes_of, Answered};
+ghost use Rattle.s2_tool.specs.Losses.{is_deaf, is_clean, exit_by, passed_note, deaf_end, deaf_note, torn_note, note_if, notes_of, Finishes};
 
 use s2_console::{Console, Exit, Fault, Line};
 use s2_mode::{CountedWrite, HEADER_SYMBOLS, Mode, WriteFault, write_full};
@@ -144,7 +142,7 @@ fn write_notes<W: CountedWrite>(
     write_torn(received.totals, out)
 }
 
-/// The exit of a command that received so, and its notes behind the report, where they are not to be left out. A fault is told; where a
+/// The exit of a command that received so. Its notes are written, unless they are to be left out; a fault is reported. If a
 /// note cannot be written, that is the fault.
 pub(crate) fn conclude_heard<O: CountedWrite, E: CountedWrite>(
     words: NoteWords,
@@ -156,8 +154,7 @@ pub(crate) fn conclude_heard<O: CountedWrite, E: CountedWrite>(
     ensures fine { result ≢ Exit.Fault → IsOk heard.entry }
     ensures quiet { result ≢ Exit.Fault → console.new.errors_failed ≡ console.old.errors_failed }
     ensures output { (console.new.output ≡ console.old.output) × (console.new.output_failed ≡ console.old.output_failed) }
-    ensures answered { (ended : Result Exit Fault) × (notes : List ℕ) × (result ≡ exit_of ended)
-        × Answered words mode.now heard.entry ended notes × Remarks notes ended console.old console.new }
+    ensures finishes { Finishes words mode.now heard.entry result console.old console.new }
 {
     match heard {
         Ok(received) if words.quiet => exit_by(words.strict, received),

@@ -1,10 +1,12 @@
-//! `noise`: symbols spoilt.
-ghost use Rattle.std.specs.Prelude.{◌≡◌, ◌≢◌};
+//! `noise`: noise added to symbols.
+ghost use Rattle.std.specs.Prelude.{◌≡◌, ◌≢◌, false};
 ghost use Rattle.s2_mode.specs.Counts.{CanCount};
+ghost use Rattle.s2_tool.specs.Links.{Begins};
 ghost use Rattle.s2_tool.specs.Spoiling.{piped_by, Spoils, NoiseEnds};
 
 use s2_channel::{Noise, add_to_all};
 use s2_console::{Console, Exit, Fault};
+use s2_files::{Destination, Output};
 use s2_mode::{CountedRead, CountedWrite, StreamFault};
 use s2_words::ChannelWords;
 
@@ -27,23 +29,42 @@ pub(crate) fn spoil<R: CountedRead, W: CountedWrite>(
     }
 }
 
-/// `noise`: writes the symbols of a reader with the noise that a seed and a level determine. It prints
-/// nothing. One to three bytes that are left over at the end are dropped.
-pub fn noise_command<R: CountedRead, W: CountedWrite, O: CountedWrite, E: CountedWrite>(
+/// Begins the file that is written, and writes the symbols of a reader with noise.
+fn spoil_begun<R: CountedRead, W: Output>(
     channel: ChannelWords,
     from: &mut R,
-    to: &mut W,
+    to: &mut Destination<W>,
+) -> Result<Exit, Fault<'static>>
+    requires from { CanCount (R.count from.old) }
+    requires to { CanCount (W.count to.old.to) }
+    requires unbegun { to.old.begun ≡ false }
+    ensures { let ends = piped_by R.remaining R.count W.contents W.count in
+        Begins (Spoils channel) to.new.begun (ends from.old to.old.to) (ends from.new to.new.to) result }
+{
+    match to.begin() {
+        Ok(()) => spoil(channel, from, to.writer()),
+        Err(_) => Err(Fault::Write),
+    }
+}
+
+/// `noise`: writes the symbols of a reader with the noise that a seed and a level determine. It prints
+/// nothing. One to three bytes that are left at the end are dropped.
+pub fn noise_command<R: CountedRead, W: Output, O: CountedWrite, E: CountedWrite>(
+    channel: ChannelWords,
+    from: &mut R,
+    to: &mut Destination<W>,
     console: &mut Console<O, E>,
 ) -> Exit
     requires from { CanCount (R.count from.old) }
-    requires to { CanCount (W.count to.old) }
+    requires to { CanCount (W.count to.old.to) }
+    requires unbegun { to.old.begun ≡ false }
     requires errors { CanCount console.old.errors_failed }
     ensures quiet { result ≢ Exit.Fault → console.new.errors_failed ≡ console.old.errors_failed }
     ensures output { console.new.output ≡ console.old.output }
     ensures whole { console.new.output_failed ≡ console.old.output_failed }
-    ensures run { let ends = piped_by R.remaining R.count W.contents W.count in
-        NoiseEnds channel (ends from.old to.old) (ends from.new to.new) console.old console.new result }
+    ensures run { let ends = piped_by R.remaining R.count W.contents W.count in NoiseEnds channel to.new.begun
+        (ends from.old to.old.to) (ends from.new to.new.to) console.old console.new result }
 {
-    let ended = spoil(channel, from, to);
+    let ended = spoil_begun(channel, from, to);
     console.conclude(ended)
 }

@@ -1,115 +1,109 @@
-//! Files opened.
-ghost use Rattle.std.specs.Prelude.{◌≡◌, ◌≤◌, [], IfOk, IfErr, IfSome, OnOk, length};
-ghost use Rattle.std.specs.Io.Buffered.{writer_contents};
-ghost use Rattle.s2_files.specs.Known.{buffered_of, known_of};
-ghost use Rattle.s2_files.specs.declared.uses.Role.TheVariants as roles;
-ghost use Rattle.s2_evidence.specs.Files.{failed_in, written};
-ghost use Rattle.s2_files.specs.Opening.{CannotOpenOne, Opens, OpensAll};
-ghost use Rattle.s2_tool.specs.Links.{IsUntouched, asked_of, ends_of};
-ghost use Rattle.s2_tool.specs.Serving.{asked_file, judge_files, judge_asked, check_files, check_asked, rows_asked, noise_asked, written_first, NotSpoilt};
+//! Files opened in the order of a command's words, and where a command prints.
+ghost use Rattle.std.specs.Prelude.{◌≡◌, ◌≤◌, false, IfOk, IfSome, OnOk, [], length};
+ghost use Rattle.s2_console.specs.Files.{CanStart};
+ghost use Rattle.s2_console.specs.Screens.{CanNote};
+ghost use Rattle.s2_evidence.specs.Files.{CanJudge};
 
 use crate::link_files::LinkFiles;
-use s2_console::Fault;
-use s2_evidence::{CheckFiles, JudgeFiles};
-use s2_files::{Disk, Opener, PlainReader, Reader, Target, Writer};
-use s2_words::{CheckWords, JudgeWords, NoiseWords};
+use either::{Either, Left, Right};
+use s2_console::{Console, Fault};
+use s2_evidence::JudgeFiles;
+use s2_files::{Destination, Disk, Opener, Reader, Role, StandardStreams, Target, is_standard};
+use s2_mode::Counting;
+use s2_progress::{Clearing, Meter, Show, Terminal, Watched};
+use s2_words::JudgeWords;
+use std::rt::Files;
+use std::time::Clock;
 
-/// Opens the files of a command on a link: the row file, then the one that is read behind it. The one that is
-/// written is opened once both are open, and stays whole. How many bytes the second has, where that is known, stands beside them.
-pub(crate) fn open_link<'a, R: Disk + AllocGlobal>(
-    rt: &R,
-    rows: &'a str,
-    from: &'a str,
-    to: &'a str,
-) -> Result<
-    (
-        LinkFiles<
-            PlainReader<R::File, R::Input>,
-            Reader<R::File, R::Input>,
-            Target<R::File, R::Output>,
-        >,
-        Option<u64>,
-    ),
-    Fault<'a>,
->
-    ensures fresh { IfOk result (λ opened. IsUntouched opened.0) }
-    ensures files { IfOk result (λ opened. opened.0 ≡ ends_of R.holds rows.entry from.entry to.entry) }
-    ensures opened { OnOk result (OpensAll R.tells (asked_of rows.entry from.entry to.entry)) }
-    ensures fault { IfErr result (CannotOpenOne R.tells (asked_of rows.entry from.entry to.entry) []) }
+/// An opened input.
+pub(crate) type Input<R> = Reader<<R as Files>::File, <R as StandardStreams>::Input>;
+
+/// An opened output.
+pub(crate) type Written<R> = Target<<R as Files>::File, <R as StandardStreams>::Output>;
+
+/// Standard error. The progress line is cleared before anything is written to it.
+pub(crate) type Errors<'t, 'r, R> = Clearing<'t, 'r, Counting<<R as StandardStreams>::Errors>, R>;
+
+/// Standard output, or standard error if a command's data go to standard output.
+type Report<R> = Either<<R as StandardStreams>::Output, <R as StandardStreams>::Errors>;
+
+/// Where a command prints its report, and its errors.
+pub(crate) type Screen<'t, 'r, R> = Console<
+    Clearing<'t, 'r, Counting<Report<R>>, R>,
+    Errors<'t, 'r, R>,
+>;
+
+/// The files of a command on a link, of which the second and the third are watched.
+pub(crate) type Watching<'m, 't, 'r, R> = LinkFiles<
+    Watched<'m, Input<R>, Show<'t, 'r, R>>,
+    Watched<'m, Written<R>, Show<'t, 'r, R>>,
+>;
+
+/// Standard error.
+pub(crate) fn errors_of<'t, 'r, R: Disk>(terminal: &'t Terminal<'r, R>) -> Errors<'t, 'r, R>
+    ensures { result.inner.failed ≡ 0 }
 {
-    let mut opener = Opener::new(rt);
-    let rows = opener.read(rows)?;
-    let from = opener.read_buffered(from)?;
-    let length = opener.last_length();
-    let to = opener.write(to)?;
-    Ok((LinkFiles { rows, from, to }, length))
+    Clearing::new(Counting::new(terminal.host().errors()), terminal)
 }
 
-/// The same for who reads many bytes of the second file at a time, which has no buffer.
-pub(crate) fn open_whole<'a, R: Disk>(
-    rt: &R,
-    rows: &'a str,
-    from: &'a str,
-    to: &'a str,
-) -> Result<
-    (
-        LinkFiles<
-            PlainReader<R::File, R::Input>,
-            PlainReader<R::File, R::Input>,
-            Target<R::File, R::Output>,
-        >,
-        Option<u64>,
-    ),
-    Fault<'a>,
->
-    ensures fresh { IfOk result (λ opened. IsUntouched opened.0) }
-    ensures files { IfOk result (λ opened. opened.0 ≡ ends_of R.holds rows.entry from.entry to.entry) }
-    ensures opened { OnOk result (OpensAll R.tells (asked_of rows.entry from.entry to.entry)) }
-    ensures fault { IfErr result (CannotOpenOne R.tells (asked_of rows.entry from.entry to.entry) []) }
+/// Where a command prints that writes a file of this name, or none.
+pub(crate) fn screen_beside<'t, 'r, R: Disk>(
+    terminal: &'t Terminal<'r, R>,
+    written: Option<&str>,
+) -> Screen<'t, 'r, R>
+    ensures { CanNote result }
 {
-    let mut opener = Opener::new(rt);
-    let rows = opener.read(rows)?;
-    let from = opener.read(from)?;
-    let length = opener.last_length();
-    let to = opener.write(to)?;
-    Ok((LinkFiles { rows, from, to }, length))
+    let report = match written {
+        Some(name) if is_standard(Role::Output, name) => Right(terminal.host().errors()),
+        _ => Left(terminal.host().output()),
+    };
+    let output = Clearing::new(Counting::new(report), terminal);
+    Console::new(output, errors_of(terminal))
 }
 
-/// Opens an output where a name is given.
+/// Opens a file that is read alone.
+pub(crate) fn open_input<'a, R: Disk>(rt: &R, name: &'a str) -> Result<Input<R>, Fault<'a>>
+    ensures { IfOk result (λ file. file.failed ≡ 0) }
+{
+    Opener::new(rt).read(name)
+}
+
+/// Opens two files that are read.
+pub(crate) fn open_inputs<'a, R: Disk>(
+    rt: &R,
+    first: &'a str,
+    second: &'a str,
+) -> Result<(Input<R>, Input<R>), Fault<'a>>
+    ensures { IfOk result (λ files. (files.0.failed ≡ 0) × (files.1.failed ≡ 0)) }
+{
+    let mut opener = Opener::new(rt);
+    let first = opener.read(first)?;
+    let second = opener.read(second)?;
+    Ok((first, second))
+}
+
+/// Opens an output if a name is given.
 fn write_named<'a, R: Disk>(
     opener: &mut Opener<'_, R>,
     name: Option<&'a str>,
-) -> Result<Option<Target<R::File, R::Output>>, Fault<'a>>
+) -> Result<Option<Destination<Written<R>>>, Fault<'a>>
     requires room { opener.old ≡ [] }
     ensures room { OnOk result (length opener.new ≤ 1) }
-    ensures fresh { IfOk result (λ made. IfSome made (λ file. file.failed ≡ 0)) }
-    ensures files { IfOk result (λ made. written (λ file. known_of R.File.contents R.Output.contents file.to) (λ file. file.failed) made ≡ asked_file R.holds name.entry) }
-    ensures opened { OnOk result (Opens R.tells (written_first name.entry []) [] opener.new) }
-    ensures fault { IfErr result (CannotOpenOne R.tells (written_first name.entry []) []) }
+    ensures unbegun { IfOk result (λ made. IfSome made (λ file. file.begun ≡ false)) }
+    ensures fresh { IfOk result (λ made. IfSome made (λ file. file.to.failed ≡ 0)) }
 {
     match name {
-        Some(name) => Ok(Some(opener.write(name)?)),
+        Some(name) => Ok(Some(Destination::new(opener.write(name)?))),
         None => Ok(None),
     }
 }
 
-/// Opens the files of `judge`: that of the certificate, which stays whole, before the others.
+/// Opens the files of `judge`: that of the certificate before the others.
 pub(crate) fn open_judge<'a, R: Disk>(
     rt: &R,
     words: &JudgeWords<'a>,
-) -> Result<
-    JudgeFiles<
-        PlainReader<R::File, R::Input>,
-        PlainReader<R::File, R::Input>,
-        Target<R::File, R::Output>,
-    >,
-    Fault<'a>,
->
-    ensures fresh { IfOk result (λ files. (files.rows_failed ≡ 0) × (files.soft_failed ≡ 0)) }
-    ensures certificate { IfOk result (λ files. failed_in files.certificate ≡ 0) }
-    ensures files { IfOk result (λ files. files ≡ judge_files R.holds words.now) }
-    ensures opened { OnOk result (OpensAll R.tells (judge_asked words.now)) }
-    ensures fault { IfErr result (CannotOpenOne R.tells (judge_asked words.now) []) }
+) -> Result<JudgeFiles<Input<R>, Written<R>>, Fault<'a>>
+    ensures { IfOk result CanJudge }
 {
     let mut opener = Opener::new(rt);
     let certificate = write_named(&mut opener, words.certificate)?;
@@ -122,59 +116,57 @@ pub(crate) fn open_judge<'a, R: Disk>(
     })
 }
 
-/// Opens the files of `check`.
-pub(crate) fn open_check<'a, R: Disk>(
+/// Opens the files of a command on a link: the row file, the file that is read after it, with a buffer if one is wanted, and the
+/// file that is written. Of the rows' bytes nothing is shown.
+pub(crate) fn open_link<'a, 'm, 't, 'r, R: Disk + Clock + AllocGlobal>(
     rt: &R,
-    words: &CheckWords<'a>,
-) -> Result<CheckFiles<PlainReader<R::File, R::Input>, PlainReader<R::File, R::Input>>, Fault<'a>>
-    ensures fresh { IfOk result (λ files. (files.rows_failed ≡ 0) × (files.certificate_failed ≡ 0)) }
-    ensures files { IfOk result (λ files. files ≡ check_files R.holds words.now) }
-    ensures opened { OnOk result (OpensAll R.tells (check_asked words.now)) }
-    ensures fault { IfErr result (CannotOpenOne R.tells (check_asked words.now) []) }
+    show: &'m Show<'t, 'r, R>,
+    unseen: &'m Show<'t, 'r, R>,
+    names: [&'a str; 3],
+    buffered: bool,
+) -> Result<Watching<'m, 't, 'r, R>, Fault<'a>>
+    ensures { IfOk result CanStart }
 {
+    let [rows, from, to] = names;
     let mut opener = Opener::new(rt);
-    let rows = opener.read(words.rows)?;
-    let certificate = opener.read(words.certificate)?;
-    Ok(CheckFiles { rows, certificate })
+    let rows = opener.read(rows)?;
+    let from = if buffered {
+        opener.read_buffered(from)?
+    } else {
+        opener.read(from)?
+    };
+    show.expect(opener.last_length());
+    let to = opener.write(to)?;
+    Ok(LinkFiles {
+        rows: Watched::new(rows, unseen),
+        from: Watched::new(from, show),
+        to: Destination::new(Watched::new(to, show)),
+    })
 }
 
-/// Opens a row file.
-pub(crate) fn open_rows<'a, R: Disk>(
+/// Opens the files of `noise`, both with a buffer.
+pub(crate) fn open_noise<'a, 'm, 't, 'r, R: Disk + Clock + AllocGlobal>(
     rt: &R,
-    rows: &'a str,
-) -> Result<PlainReader<R::File, R::Input>, Fault<'a>>
-    ensures fresh { IfOk result (λ file. file.failed ≡ 0) }
-    ensures rows { IfOk result (λ file. known_of R.File.remaining R.Input.remaining file.inner ≡ R.holds roles.Input rows.entry.now) }
-    ensures opened { OnOk result (OpensAll R.tells (rows_asked rows.entry)) }
-    ensures fault { IfErr result (CannotOpenOne R.tells (rows_asked rows.entry) []) }
-{
-    let mut opener = Opener::new(rt);
-    opener.read(rows)
-}
-
-/// Opens the files of `noise`, and begins the one that is written, behind a buffer. How many bytes the other has, where that is known,
-/// stands beside them.
-pub(crate) fn open_noise<'a, R: Disk + AllocGlobal>(
-    rt: &R,
-    words: &NoiseWords<'a>,
+    show: &'m Show<'t, 'r, R>,
+    from: &'a str,
+    to: &'a str,
 ) -> Result<
     (
-        Reader<R::File, R::Input>,
-        Writer<R::File, R::Output>,
-        Option<u64>,
+        Watched<'m, Input<R>, Show<'t, 'r, R>>,
+        Destination<Watched<'m, Written<R>, Show<'t, 'r, R>>>,
     ),
     Fault<'a>,
 >
-    ensures from { IfOk result (λ files. files.0.failed ≡ 0) }
-    ensures to { IfOk result (λ files. files.1.failed ≡ 0) }
-    ensures read { IfOk result (λ files. buffered_of (known_of R.File.remaining R.Input.remaining) files.0.inner ≡ R.holds roles.Input words.now.from.now) }
-    ensures written { IfOk result (λ files. writer_contents (known_of R.File.contents R.Output.contents) files.1.inner ≡ R.holds roles.Output words.now.to.now) }
-    ensures opened { OnOk result (OpensAll R.tells (noise_asked words.now)) }
-    ensures fault { IfErr result (NotSpoilt R.tells words.now) }
+    ensures from { IfOk result (λ files. files.0.inner.failed ≡ 0) }
+    ensures unbegun { IfOk result (λ files. files.1.begun ≡ false) }
+    ensures to { IfOk result (λ files. files.1.to.inner.failed ≡ 0) }
 {
     let mut opener = Opener::new(rt);
-    let from = opener.read_buffered(words.from)?;
-    let length = opener.last_length();
-    let to = opener.write(words.to)?.begin_buffered(rt.alloc())?;
-    Ok((from, to, length))
+    let from = opener.read_buffered(from)?;
+    show.expect(opener.last_length());
+    let to = opener.write_buffered(to)?;
+    Ok((
+        Watched::new(from, show),
+        Destination::new(Watched::new(to, show)),
+    ))
 }

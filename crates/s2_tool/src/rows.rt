@@ -1,11 +1,10 @@
 //! `rows`: rows made.
-ghost use Rattle.std.specs.Prelude.{◌≡◌, ◌≢◌, Err, IfOk, IsOk, IsErrOf, IsOkUnless, IsTrue};
+ghost use Rattle.std.specs.Prelude.{◌≡◌, ◌≢◌, Err, IfOk, IsOk, IsOkUnless};
 ghost use Rattle.s2_mode.specs.Counts.{CanCount};
-ghost use Rattle.s2_rows.specs.MadeRows.{is_weight};
 ghost use Rattle.s2_rows.specs.RowTexts.{rows_text};
-ghost use Rattle.s2_console.specs.Exits.{Follows, CommandCounts};
+ghost use Rattle.s2_console.specs.Exits.{Follows, CommandRuns, CommandCounts};
 ghost use Rattle.s2_console.specs.Screens.{CanShow};
-ghost use Rattle.s2_tool.specs.Making.{rows_made, MakesRows, RowsEnds};
+ghost use Rattle.s2_tool.specs.Making.{rows_made, AreMadeRows, IsRowFile, RowsEnds};
 
 use s2_console::{Console, Exit, Fault, print};
 use s2_mode::{CountedWrite, Counting, Shape};
@@ -27,7 +26,6 @@ fn row_file(alloc: Global, rows: &Rows) -> Result<Vec<u8>, Fault<'static>>
 /// Makes rows.
 fn made_rows(alloc: Global, shape: Shape, weight: usize, seed: u64) -> Result<Rows, Fault<'static>>
     ensures made { Follows (λ rows. rows.rows) result (rows_made shape weight seed) }
-    ensures memory { IsErrOf result Fault.NoMemory → IsTrue (is_weight shape weight) }
     ensures read { result ≢ Err Fault.Read }
     ensures write { result ≢ Err Fault.Write }
 {
@@ -48,7 +46,7 @@ fn print_rows<O: CountedWrite>(
 ) -> Result<Exit, Fault<'static>>
     requires { CanCount (O.count out.old) }
     ensures whole { IsOk result → O.count out.new ≡ O.count out.old }
-    ensures run { MakesRows shape weight seed result (O.contents out.old) (O.contents out.new) }
+    ensures run { CommandRuns IsRowFile (AreMadeRows shape weight seed) result (O.contents out.old) (O.contents out.new) }
     ensures causes { CommandCounts result 0 0 (O.count out.old) (O.count out.new) }
 {
     let rows = made_rows(alloc, shape, weight, seed)?;

@@ -1,35 +1,32 @@
-//! `run`: packets sent, spoilt and received, with all of them in memory, and then their symbols.
-ghost use Rattle.std.specs.Prelude.{◌≡◌, ◌≢◌, ◌⊎◌, [], ℕ, List, Ok, Some, IfSome};
+//! `run`: packets sent, noise added to their symbols, and these received. The symbols are kept in memory.
+ghost use Rattle.std.specs.Prelude.{◌≡◌, ◌≢◌, [], Ok, Some, false};
 ghost use Rattle.s2_mode.specs.Counts.{CanCount};
 ghost use Rattle.s2_mode.specs.Streams.{streams_by};
 ghost use Rattle.s2_link.specs.Link.{setup_of};
 ghost use Rattle.s2_receive.specs.Receiving.{begun};
 ghost use Rattle.s2_modem.specs.Reception.{rules_for};
-ghost use Rattle.s2_console.specs.Screens.{CanTell, SameBeside};
-ghost use Rattle.s2_send.specs.declared.outcome.Counts.{Counts};
-ghost use Rattle.s2_send.specs.Sending.{joined};
-ghost use Rattle.s2_tool.specs.Links.{CanFail, Causes, Tries, NotCut, streams_at, streams_to};
-ghost use Rattle.s2_tool.specs.Looping.{kept_fault, in_memory, EndsAll, Passes, Returns, LoopsBy, Loops, LoopsBack, RunEnds};
-ghost use Rattle.s2_tool.specs.Sending.{Runs};
+ghost use Rattle.s2_console.specs.Files.{CanStart, reporting};
+ghost use Rattle.s2_console.specs.Screens.{CanNote};
+ghost use Rattle.s2_tool.specs.Links.{Causes, DoesOn, OnLink, noted_by};
+ghost use Rattle.s2_tool.specs.Looping.{kept_fault, Passes, LoopsBy, Loops, RunEnds};
 
-use crate::demod::receive_frames;
+use crate::demod::receive_begun;
 use crate::link_files::LinkFiles;
 use crate::losses::conclude_heard;
-use crate::modulate::{fault_of, fault_without_memory, fault_without_rows};
+use crate::modulate::fault_of;
 use crate::noise::spoil;
-use s2_console::{Console, Exit, Fault, Place};
-use s2_files::Output;
+use s2_console::{Console, Exit, Fault};
+use s2_files::{Destination, Output};
 use s2_link::{Link, LinkSetup};
 use s2_mode::{CountedRead, CountedWrite, Counting, InMemory};
 use s2_modem::Receiver;
-use s2_packets::take_packets;
 use s2_receive::Received;
 use s2_send::Transmitter;
 use s2_table::read_noted;
 use s2_words::{ChannelWords, RunWords};
 use std::alloc::Global;
 
-/// The fault where what is written is kept in memory.
+/// The fault of a part whose output is kept in memory.
 fn kept_fault(fault: Fault<'static>) -> Fault<'static>
     ensures { result ≡ kept_fault fault.entry }
 {
@@ -39,27 +36,28 @@ fn kept_fault(fault: Fault<'static>) -> Fault<'static>
     }
 }
 
-/// Spoils symbols, and receives what comes.
-fn receive_spoilt<P: CountedWrite, O: CountedWrite>(
+/// Adds noise to symbols, and receives what comes.
+fn receive_noisy<W: Output, O: CountedWrite>(
     alloc: Global,
     receiver: &mut Receiver<'_>,
     channel: ChannelWords,
     symbols: &[u8],
-    packets: &mut P,
+    packets: &mut Destination<W>,
     out: &mut O,
 ) -> Result<Received, Fault<'static>>
-    requires packets { CanCount (P.count packets.old) }
+    requires packets { CanCount (W.count packets.old.to) }
+    requires unbegun { packets.old.begun ≡ false }
     requires out { CanCount (O.count out.old) }
     requires begun { receiver.old.state ≡ begun }
-    ensures passes { let ends = streams_by (λ b. Some b) (λ b. 0) P.contents P.count O.contents O.count in
-        Passes (rules_for receiver.old) channel symbols.now
-        (ends symbols.now packets.old out.old) (ends symbols.now packets.new out.new) result }
-    ensures causes { let ends = streams_by (λ b. Some b) (λ b. 0) P.contents P.count O.contents O.count in
-        Causes (ends symbols.now packets.old out.old) (ends symbols.now packets.new out.new) result }
+    ensures passes { let ends = streams_by (λ b. Some b) (λ b. 0) W.contents W.count O.contents O.count in
+        Passes (rules_for receiver.old) channel symbols.now packets.new.begun
+        (ends symbols.now packets.old.to out.old) (ends symbols.now packets.new.to out.new) result }
+    ensures causes { let ends = streams_by (λ b. Some b) (λ b. 0) W.contents W.count O.contents O.count in
+        Causes (ends symbols.now packets.old.to out.old) (ends symbols.now packets.new.to out.new) result }
 {
     let mut heard = Counting::new(Vec::new(alloc));
     match spoil(channel, &mut InMemory::new(symbols), &mut heard) {
-        Ok(_) => receive_frames(
+        Ok(_) => receive_begun(
             receiver,
             &mut InMemory::new(&heard.into_inner()),
             packets,
@@ -69,97 +67,31 @@ fn receive_spoilt<P: CountedWrite, O: CountedWrite>(
     }
 }
 
-/// The symbols of packets in memory, where there is memory for them. The packets are let go.
-fn symbols_of(alloc: Global, transmitter: &mut Transmitter<'_>, packets: Vec<u8>) -> Option<Vec<u8>>
-    ensures { IfSome result (λ symbols. (counts : Counts) × (left : List ℕ)
-        × Runs transmitter.old (in_memory packets.items [] 0) (in_memory left symbols.items 0) (Ok counts)) }
-{
-    let mut symbols = Counting::new(Vec::new(alloc));
-    match transmitter.run(&mut InMemory::new(&packets), &mut symbols) {
-        Ok(_) => Some(symbols.into_inner()),
-        Err(_) => None,
-    }
-}
-
-/// Sends packets that were taken, and receives what comes, where there is memory for it.
-fn loop_taken<P: CountedWrite, O: CountedWrite>(
-    alloc: Global,
-    transmitter: &mut Transmitter<'_>,
-    receiver: &mut Receiver<'_>,
-    channel: ChannelWords,
-    packets: Option<Vec<u8>>,
-    to: &mut P,
-    out: &mut O,
-) -> Result<Received, Fault<'static>>
-    requires to { CanCount (P.count to.old) }
-    requires out { CanCount (O.count out.old) }
-    requires begun { receiver.old.state ≡ begun }
-    ensures returns { let ends = streams_by (λ b. Some b) (λ b. 0) P.contents P.count O.contents O.count in
-        (taken : List (List ℕ)) → IfSome packets (λ bytes. bytes.items ≡ joined taken)
-        → Returns transmitter.old (rules_for receiver.old) channel taken (ends [] to.old out.old) (ends [] to.new out.new) result
-        ⊎ EndsAll Fault.NoMemory (ends [] to.old out.old) (ends [] to.new out.new) result }
-    ensures causes { let ends = streams_by (λ b. Some b) (λ b. 0) P.contents P.count O.contents O.count in
-        Causes (ends [] to.old out.old) (ends [] to.new out.new) result }
-{
-    let Some(packets) = packets else {
-        return Err(Fault::NoMemory);
-    };
-    match symbols_of(alloc, transmitter, packets) {
-        Some(symbols) => receive_spoilt(alloc, receiver, channel, &symbols, to, out),
-        None => Err(Fault::NoMemory),
-    }
-}
-
-/// Takes packets, sends them, and receives what comes.
+/// Sends packets into memory, and receives what comes of their symbols.
 fn loop_packets<S: CountedRead, W: Output, O: CountedWrite>(
     alloc: Global,
     transmitter: &mut Transmitter<'_>,
     receiver: &mut Receiver<'_>,
     channel: ChannelWords,
     from: &mut S,
-    to: &mut W,
+    to: &mut Destination<W>,
     out: &mut O,
 ) -> Result<Received, Fault<'static>>
     requires from { CanCount (S.count from.old) }
-    requires to { CanCount (W.count to.old) }
+    requires to { CanCount (W.count to.old.to) }
+    requires unbegun { to.old.begun ≡ false }
     requires out { CanCount (O.count out.old) }
     requires begun { receiver.old.state ≡ begun }
     ensures loops { let ends = streams_by S.remaining S.count W.contents W.count O.contents O.count in
-        LoopsBy transmitter.old (rules_for receiver.old) channel
-        (ends from.old to.old out.old) (ends from.new to.new out.new) result }
+        LoopsBy transmitter.old (rules_for receiver.old) channel to.new.begun
+        (ends from.old to.old.to out.old) (ends from.new to.new.to out.new) result }
     ensures causes { let ends = streams_by S.remaining S.count W.contents W.count O.contents O.count in
-        Causes (ends from.old to.old out.old) (ends from.new to.new out.new) result }
+        Causes (ends from.old to.old.to out.old) (ends from.new to.new.to out.new) result }
 {
-    match take_packets(alloc, from) {
-        Ok(packets) => loop_taken(alloc, transmitter, receiver, channel, packets, to, out),
-        Err(refusal) => Err(fault_of(refusal)),
-    }
-}
-
-/// Begins the file that is written, sends packets, and receives what comes.
-fn loop_begun<S: CountedRead, W: Output, O: CountedWrite>(
-    alloc: Global,
-    transmitter: &mut Transmitter<'_>,
-    receiver: &mut Receiver<'_>,
-    channel: ChannelWords,
-    from: &mut S,
-    to: &mut W,
-    out: &mut O,
-) -> Result<Received, Fault<'static>>
-    requires from { CanCount (S.count from.old) }
-    requires to { CanCount (W.count to.old) }
-    requires out { CanCount (O.count out.old) }
-    requires begun { receiver.old.state ≡ begun }
-    ensures loops { let ends = streams_by S.remaining S.count W.contents W.count O.contents O.count in
-        LoopsBy transmitter.old (rules_for receiver.old) channel
-        (ends from.old to.old out.old) (ends from.new to.new out.new) result
-        ⊎ NotCut (ends from.old to.old out.old) (ends from.new to.new out.new) result }
-    ensures causes { let ends = streams_by S.remaining S.count W.contents W.count O.contents O.count in
-        Causes (ends from.old to.old out.old) (ends from.new to.new out.new) result }
-{
-    match to.begin() {
-        Ok(()) => loop_packets(alloc, transmitter, receiver, channel, from, to, out),
-        Err(_) => Err(Fault::Write),
+    let mut symbols = Counting::new(Vec::new(alloc));
+    match transmitter.run(from, &mut symbols) {
+        Ok(_) => receive_noisy(alloc, receiver, channel, &symbols.into_inner(), to, out),
+        Err(refusal) => Err(kept_fault(fault_of(refusal))),
     }
 }
 
@@ -169,23 +101,25 @@ fn loop_link<S: CountedRead, W: Output, O: CountedWrite>(
     link: &Link<'_>,
     words: &RunWords<'_>,
     from: &mut S,
-    to: &mut W,
+    to: &mut Destination<W>,
     out: &mut O,
 ) -> Result<Received, Fault<'static>>
     requires from { CanCount (S.count from.old) }
-    requires to { CanCount (W.count to.old) }
+    requires to { CanCount (W.count to.old.to) }
+    requires unbegun { to.old.begun ≡ false }
     requires out { CanCount (O.count out.old) }
-    ensures loops { let ends = streams_by S.remaining S.count W.contents W.count O.contents O.count in
-        Tries (Loops words.now) link.now (ends from.old to.old out.old) (ends from.new to.new out.new) result }
+    ensures does { let ends = streams_by S.remaining S.count W.contents W.count O.contents O.count in
+        DoesOn (Loops words.now) (Ok link.now) to.new.begun
+        (ends from.old to.old.to out.old) (ends from.new to.new.to out.new) result }
     ensures causes { let ends = streams_by S.remaining S.count W.contents W.count O.contents O.count in
-        Causes (ends from.old to.old out.old) (ends from.new to.new out.new) result }
+        Causes (ends from.old to.old.to out.old) (ends from.new to.new.to out.new) result }
 {
     let Ok(mut transmitter) = Transmitter::on_link(alloc, link) else {
-        return Err(fault_without_memory(from));
+        return Err(Fault::NoMemory);
     };
     transmitter.dummy_every(words.dummy);
     match Receiver::on_link(alloc, link, words.tuning) {
-        Ok(mut receiver) => loop_begun(
+        Ok(mut receiver) => loop_packets(
             alloc,
             &mut transmitter,
             &mut receiver,
@@ -194,92 +128,58 @@ fn loop_link<S: CountedRead, W: Output, O: CountedWrite>(
             to,
             out,
         ),
-        Err(_) => Err(fault_without_memory(from)),
+        Err(_) => Err(Fault::NoMemory),
     }
 }
 
 /// Reads rows, sends packets, and receives what comes.
-fn loop_files<R: CountedRead, S: CountedRead, W: Output, O: CountedWrite, N: CountedWrite>(
+fn loop_files<R: CountedRead, W: Output, O: CountedWrite, E: CountedWrite>(
     alloc: Global,
     setup: LinkSetup,
     words: &RunWords<'_>,
-    files: &mut LinkFiles<R, S, W>,
-    out: &mut O,
-    notes: &mut N,
+    files: &mut LinkFiles<R, W>,
+    console: &mut Console<O, E>,
+    notes: &mut E,
 ) -> Result<Received, Fault<'static>>
-    requires files { CanFail files.old }
-    requires out { CanCount (O.count out.old) }
-    requires notes { CanCount (N.count notes.old) }
-    ensures run { let ends = streams_to O.contents O.count in
-        LoopsBack (setup_of setup) words.now files.old files.new (ends files.old out.old) (ends files.new out.new) result }
+    requires files { CanStart files.old }
+    requires console { CanNote console.old }
+    requires notes { CanCount (E.count notes.old) }
+    ensures errors { (console.new.errors ≡ console.old.errors) × (console.new.errors_failed ≡ console.old.errors_failed) }
+    ensures run { OnLink (Loops words.now) (noted_by E.contents E.count words.now.notes.quiet setup.mode notes.old notes.new) (setup_of setup) files.old files.new (reporting files.old console.old) (reporting files.new console.new) result }
 {
     let quiet = words.notes.quiet;
-    let matrix = match read_noted(alloc, &setup.mode, &mut files.rows, quiet, notes) {
-        Ok(matrix) => matrix,
-        Err(fault) => return Err(fault_without_rows(fault, &mut files.from)),
-    };
+    let matrix = read_noted(alloc, &setup.mode, &mut files.rows, quiet, notes)?;
     let link = Link::of(setup, &matrix);
-    loop_link(alloc, &link, words, &mut files.from, &mut files.to, out)
-}
-
-/// The same with the report at a place of a console.
-fn loop_at<
-    R: CountedRead,
-    S: CountedRead,
-    W: Output,
-    O: CountedWrite,
-    E: CountedWrite,
-    N: CountedWrite,
->(
-    alloc: Global,
-    setup: LinkSetup,
-    words: &RunWords<'_>,
-    files: &mut LinkFiles<R, S, W>,
-    place: Place,
-    console: &mut Console<O, E>,
-    notes: &mut N,
-) -> Result<Received, Fault<'static>>
-    requires files { CanFail files.old }
-    requires console { CanTell console.old }
-    requires notes { CanCount (N.count notes.old) }
-    ensures beside { SameBeside place console.old console.new }
-    ensures run { let ends = streams_at place in
-        LoopsBack (setup_of setup) words.now files.old files.new
-        (ends files.old console.old) (ends files.new console.new) result }
-{
-    match place {
-        Place::Output => loop_files(alloc, setup, words, files, &mut console.output, notes),
-        Place::Errors => loop_files(alloc, setup, words, files, &mut console.errors, notes),
-    }
+    loop_link(
+        alloc,
+        &link,
+        words,
+        &mut files.from,
+        &mut files.to,
+        &mut console.output,
+    )
 }
 
 /// `run`: sends the packets of a stream on the link of a setup and a row file, with the dummy frames that its words
-/// ask for, adds the noise of a seed and a level to their symbols, and receives these: it prints the report of `demod`, and writes the packets
-/// that come out. The packets are taken into memory, and then their symbols. Where a packet is refused nothing is printed or written. Want
-/// of memory is told only of rows and packets that are accepted: without memory the packets are read to their end all the same.
-pub fn run_command<
-    R: CountedRead,
-    S: CountedRead,
-    W: Output,
-    O: CountedWrite,
-    E: CountedWrite,
-    N: CountedWrite,
->(
+/// ask for, adds the noise of a seed and a level to their symbols, and receives these: it prints the report of `demod`, and writes
+/// the packets that come out. The symbols are kept in memory. If a packet is refused, nothing is printed, and the file that is
+/// written is not begun. The note on rows that are not the standard's is written to `notes`.
+pub fn run_command<R: CountedRead, W: Output, O: CountedWrite, E: CountedWrite>(
     alloc: Global,
     setup: LinkSetup,
     words: &RunWords<'_>,
-    files: &mut LinkFiles<R, S, W>,
-    place: Place,
+    files: &mut LinkFiles<R, W>,
     console: &mut Console<O, E>,
-    notes: &mut N,
+    notes: &mut E,
 ) -> Exit
-    requires files { CanFail files.old }
-    requires console { CanTell console.old }
-    requires notes { CanCount (N.count notes.old) }
+    requires files { CanStart files.old }
+    requires console { CanNote console.old }
+    requires notes { CanCount (E.count notes.old) }
     ensures quiet { result ≢ Exit.Fault → console.new.errors_failed ≡ console.old.errors_failed }
     ensures whole { result ≢ Exit.Fault → console.new.output_failed ≡ console.old.output_failed }
-    ensures run { RunEnds (setup_of setup) words.now place files.old files.new console.old console.new result }
+    ensures run { let noted = noted_by E.contents E.count words.now.notes.quiet setup.mode notes.old notes.new in
+        RunEnds (setup_of setup) words.now noted files.old files.new console.old console.new result }
 {
-    let heard = loop_at(alloc, setup, words, files, place, console, notes);
+    let heard = loop_files(alloc, setup, words, files, console, notes);
     conclude_heard(words.notes, &setup.mode, heard, console)
 }

@@ -1,392 +1,307 @@
-//! The commands on the files and streams that their words name.
-ghost use Rattle.std.specs.Prelude.{◌≡◌, ◌<◌, ◌↔◌, ℕ, List, Option, IsSome, IfSome, IsTrue, IsFalse};
+//! What the words of the command line ask for, served. This is plain code: what each command does is said at the command.
+ghost use Rattle.std.specs.Prelude.{◌≡◌, OnErr};
 ghost use Rattle.s2_mode.specs.Counts.{CanCount};
-ghost use Rattle.s2_mode.specs.Mode.{IsMode, mode_of};
-ghost use Rattle.s2_mode.specs.Shape.{IsShape};
-ghost use Rattle.s2_mode.specs.Shape as shapes;
-ghost use Rattle.s2_link.specs.Link as links;
-ghost use Rattle.s2_console.specs.Screens.{CanShow, CanTell};
-ghost use Rattle.s2_evidence.specs.Files.{SameAsked};
-ghost use Rattle.s2_tool.specs.Links.{Lacks};
-ghost use Rattle.s2_tool.specs.Serving.{IsPlacedFor, asked_file, asked_setup, no_mode, no_shape, LeftChecked, LeftJudged, Served, Began};
+ghost use Rattle.s2_console.specs.Screens.{CanNote};
 
 use crate::demod::demod_command;
-use crate::link_files::{leave_link, leave_whole};
-use crate::memory::Memory;
 use crate::modulate::mod_command;
 use crate::noise::noise_command;
-use crate::opening::{open_check, open_judge, open_link, open_noise, open_rows, open_whole};
+use crate::opening::{
+    errors_of, open_input, open_inputs, open_judge, open_link, open_noise, screen_beside,
+};
 use crate::rows::rows_command;
 use crate::run::run_command;
-use s2_console::{Console, Exit, Fault, Place};
-use s2_evidence::{CheckFiles, JudgeFiles, check_command, judge_command, self_command};
-use s2_files::{Disk, PlainReader, StandardStreams, Target, finish, place_of};
+use clap::Error;
+use clap::error::ErrorKind;
+use s2_console::{Console, Exit, Fault};
+use s2_evidence::{check_command, judge_command, self_command};
+use s2_files::Disk;
 use s2_link::LinkSetup;
-use s2_mode::{CountedRead, CountedWrite, Counting, FaultText, Mode, Shape};
+use s2_mode::{CountedWrite, Counting, FaultText, Mode, Shape};
 use s2_modes::modes_command;
-use s2_progress::{Meter, Pace, Show, Terminal, Watched};
+use s2_progress::{Pace, Show, Terminal};
 use s2_table::table_command;
 use s2_words::{
     CheckWords, DemodWords, JudgeWords, LinkWords, ModWords, NoiseWords, Progress, Request,
-    RowsWords, RunWords, ShapeWords, TableWords,
+    RowsWords, RunWords, ShapeWords, TableWords, read_words,
 };
+use std::env;
+use std::rt::Env;
 use std::time::Clock;
 
-/// The shape of three words.
-fn shape_of(words: ShapeWords) -> Option<Shape>
-    ensures found { IsSome result ↔ IsShape (shapes.shape_of words.group words.groups words.q) }
-    ensures value { IfSome result (λ s. s ≡ shapes.shape_of words.group words.groups words.q) }
-{
-    Shape::new(
-        usize::from(words.group),
-        usize::from(words.groups),
-        usize::from(words.q),
-    )
+/// Reads the words of the command line, and serves what they ask for.
+pub(crate) fn serve<R: Disk + Env + Clock + Print + Eprint + AllocGlobal>(
+    rt: &R,
+    terminal: &Terminal<'_, R>,
+) -> Exit {
+    let Some(words) = words_given(rt) else {
+        return lacks_memory(&mut screen_beside(terminal, None));
+    };
+    match read_words(rt.alloc(), &words) {
+        Ok(request) => {
+            let mut screen = screen_beside(terminal, written_by(&request));
+            serve_request(
+                rt,
+                terminal,
+                &request,
+                &mut screen,
+                &mut errors_of(terminal),
+            )
+        }
+        Err(error) if error.kind() == ErrorKind::OutOfMemory => {
+            lacks_memory(&mut screen_beside(terminal, None))
+        }
+        Err(error) => explain(rt, &error),
+    }
 }
 
-/// The setup of a link's words.
-fn setup_of(words: &LinkWords) -> Option<LinkSetup>
-    ensures found { IsSome result ↔ IsMode (mode_of words.now.modcod words.now.short words.now.pilots) }
-    ensures value { IfSome result (λ s. s ≡ record { mode = mode_of words.now.modcod words.now.short words.now.pilots; number = words.now.number; roll_off = words.now.roll_off }) }
-    ensures setup { IfSome result (λ s. links.setup_of s ≡ asked_setup words.now) }
+/// Reports that there was no memory for the words.
+fn lacks_memory<O: CountedWrite, E: CountedWrite>(console: &mut Console<O, E>) -> Exit
+    requires { CanNote console.old }
 {
-    Some(LinkSetup {
-        mode: Mode::of(words.modcod, words.short, words.pilots)?,
-        number: words.number,
-        roll_off: words.roll_off,
-    })
+    console.complain(Fault::NoMemory)
 }
 
-/// Serves a request.
-pub fn serve<R: Disk + Clock + AllocGlobal, S: CountedRead, O: CountedWrite, E: CountedWrite>(
+/// The words of the command line, if there is memory for them.
+fn words_given<R: Env + AllocGlobal>(rt: &R) -> Option<Vec<String>> {
+    env::args(rt).ok()?.collect(rt.alloc()).ok()
+}
+
+/// Prints help on standard output, or a usage fault on standard error.
+fn explain<R: Print + Eprint>(rt: &R, error: &Error) -> Exit {
+    match error.print(rt) {
+        Ok(()) if !error.use_stderr() => Exit::Fine,
+        _ => Exit::Fault,
+    }
+}
+
+/// The name of the file that a request writes, if it writes one.
+fn written_by<'a>(request: &Request<'a>) -> Option<&'a str> {
+    match request {
+        Request::Judge(words) => words.certificate,
+        Request::Mod(words) => Some(words.symbols),
+        Request::Demod(words) => Some(words.packets),
+        Request::Run(words) => Some(words.to),
+        _ => None,
+    }
+}
+
+/// Serves a request, and reports a fault that comes before its command. `notes` takes what is noted before a report.
+fn serve_request<R: Disk + Clock + AllocGlobal, O: CountedWrite, E: CountedWrite>(
     rt: &R,
     terminal: &Terminal<'_, R>,
     request: &Request<'_>,
-    memory: &mut Memory,
-    input: &mut S,
     console: &mut Console<O, E>,
+    notes: &mut E,
 ) -> Exit
-    requires memory { CanCount memory.old.refused }
-    requires input { CanCount (S.count input.old) }
-    requires console { CanTell console.old }
-    ensures served { Served R.holds R.tells R.leaves (Lacks memory.old memory.new)
-        request.now (S.remaining input.old) result console.old console.new }
+    requires console { CanNote console.old }
+    requires notes { CanCount (E.count notes.old) }
 {
-    match begin(rt, terminal, request, memory, input, console) {
+    match run_request(rt, terminal, request, console, notes) {
         Ok(exit) => exit,
         Err(fault) => console.complain(fault),
     }
 }
 
-/// Serves a request, unless it cannot be begun.
-fn begin<'a, R: Disk + Clock + AllocGlobal, S: CountedRead, O: CountedWrite, E: CountedWrite>(
+/// Runs the command of a request on its files, unless they cannot be opened.
+fn run_request<'a, R: Disk + Clock + AllocGlobal, O: CountedWrite, E: CountedWrite>(
     rt: &R,
     terminal: &Terminal<'_, R>,
     request: &Request<'a>,
-    memory: &mut Memory,
-    input: &mut S,
     console: &mut Console<O, E>,
+    notes: &mut E,
 ) -> Result<Exit, Fault<'a>>
-    requires memory { CanCount memory.old.refused }
-    requires input { CanCount (S.count input.old) }
-    requires console { CanTell console.old }
-    ensures began { Began R.holds R.tells R.leaves (Lacks memory.old memory.new)
-        request.now (S.remaining input.old) result console.old console.new }
+    requires console { CanNote console.old }
+    requires notes { CanCount (E.count notes.old) }
+    ensures { OnErr result (console.new.errors_failed ≡ console.old.errors_failed) }
 {
     match request {
-        Request::Own => Ok(self_command(rt.alloc(), input, console)),
+        Request::Own => Ok(self_command(rt.alloc(), &mut Counting::new(rt.input()), console)),
         Request::Modes(words) => Ok(modes_command(rt.alloc(), &words.rate, console)),
         Request::Rows(words) => serve_rows(rt, words, console),
         Request::Table(words) => serve_table(rt, words, console),
         Request::Judge(words) => serve_judge(rt, words, console),
         Request::Check(words) => serve_check(rt, words, console),
-        Request::Mod(words) => serve_mod(rt, terminal, words, memory, console),
+        Request::Mod(words) => serve_mod(rt, terminal, words, console, notes),
         Request::Noise(words) => serve_noise(rt, terminal, words, console),
-        Request::Demod(words) => serve_demod(rt, terminal, words, console),
-        Request::Run(words) => serve_run(rt, terminal, words, console),
+        Request::Demod(words) => serve_demod(rt, terminal, words, console, notes),
+        Request::Run(words) => serve_run(rt, terminal, words, console, notes),
     }
 }
 
-/// The fault of a shape that there is not.
-fn no_shape() -> Fault<'static>
-    ensures { result ≡ no_shape }
-{
-    Fault::told(FaultText::of("no such shape"))
+/// The shape of three words.
+fn shape_of(words: ShapeWords) -> Result<Shape, Fault<'static>> {
+    let [group, groups, q] = [words.group, words.groups, words.q].map(usize::from);
+    Shape::new(group, groups, q).ok_or(Fault::told(FaultText::of("no such shape")))
 }
 
-/// The fault of a mode that there is not.
-fn no_mode() -> Fault<'static>
-    ensures { result ≡ no_mode }
-{
-    Fault::told(FaultText::of("no such mode"))
+/// The mode of words.
+fn mode_of(modcod: u8, short: bool, pilots: bool) -> Result<Mode, Fault<'static>> {
+    Mode::of(modcod, short, pilots).ok_or(Fault::told(FaultText::of("no such mode")))
 }
 
-/// Prints made rows.
+/// The setup of a link's words.
+fn setup_of(words: &LinkWords) -> Result<LinkSetup, Fault<'static>> {
+    Ok(LinkSetup {
+        mode: mode_of(words.modcod, words.short, words.pilots)?,
+        number: words.number,
+        roll_off: words.roll_off,
+    })
+}
+
+/// Shows how far a command is, if that is wanted.
+fn show_on<'t, 'r, R: Disk + Clock>(
+    terminal: &'t Terminal<'r, R>,
+    pace: Pace,
+    progress: Progress,
+) -> Show<'t, 'r, R> {
+    let wanted = match progress {
+        Progress::Shown => true,
+        Progress::OnTerminal => terminal.is_there(),
+        Progress::Hidden => false,
+    };
+    Show::new(terminal, pace, wanted)
+}
+
+/// `rows`.
 fn serve_rows<R: Disk + AllocGlobal, O: CountedWrite, E: CountedWrite>(
     rt: &R,
     words: &RowsWords,
     console: &mut Console<O, E>,
 ) -> Result<Exit, Fault<'static>>
-    requires { CanShow console.old }
-    ensures { (input : Option (List ℕ)) (count : ℕ) →
-        Began R.holds R.tells R.leaves (count < count) (Request.Rows words.now) input result console.old console.new }
+    requires { CanNote console.old }
+    ensures { OnErr result (console.new.errors_failed ≡ console.old.errors_failed) }
 {
-    let Some(shape) = shape_of(words.shape) else {
-        return Err(no_shape());
-    };
+    let shape = shape_of(words.shape)?;
     let weight = usize::from(words.weight);
     Ok(rows_command(rt.alloc(), shape, weight, words.seed, console))
 }
 
-/// Whether progress is shown on standard error.
-fn is_shown<R: StandardStreams>(terminal: &Terminal<'_, R>, progress: Progress) -> bool
-    ensures shown { progress ≡ Progress.Shown → IsTrue result }
-    ensures hidden { progress ≡ Progress.Hidden → IsFalse result }
-{
-    match progress {
-        Progress::Shown => true,
-        Progress::OnTerminal => terminal.is_there(),
-        Progress::Hidden => false,
-    }
-}
-
-/// What shows how far a command is.
-fn show_on<'t, 'r, R: StandardStreams + Clock>(
-    terminal: &'t Terminal<'r, R>,
-    pace: Pace,
-    progress: Progress,
-) -> Show<'t, 'r, R> {
-    Show::new(terminal, pace, is_shown(terminal, progress))
-}
-
-/// Where notes go that stand before a report: standard error, beside the console.
-fn notes_of<R: StandardStreams>(rt: &R) -> Counting<R::Errors>
-    ensures { result.failed ≡ 0 }
-{
-    Counting::new(rt.errors())
-}
-
-/// Tells whether rows are the standard's.
+/// `table`.
 fn serve_table<'a, R: Disk + AllocGlobal, O: CountedWrite, E: CountedWrite>(
     rt: &R,
     words: &TableWords<'a>,
     console: &mut Console<O, E>,
 ) -> Result<Exit, Fault<'a>>
-    requires { CanTell console.old }
-    ensures { (input : Option (List ℕ)) (count : ℕ) →
-        Began R.holds R.tells R.leaves (count < count) (Request.Table words.now) input result console.old console.new }
+    requires { CanNote console.old }
+    ensures { OnErr result (console.new.errors_failed ≡ console.old.errors_failed) }
 {
-    let Some(mode) = Mode::of(words.modcod, words.short, false) else {
-        return Err(no_mode());
-    };
-    let mut rows = open_rows(rt, words.rows)?;
-    let exit = table_command(rt.alloc(), &mode, words.quiet, &mut rows, console);
-    rt.leave_input(words.rows, rows);
-    Ok(exit)
+    let mode = mode_of(words.modcod, words.short, false)?;
+    let mut rows = open_input(rt, words.rows)?;
+    Ok(table_command(rt.alloc(), &mode, words.quiet, &mut rows, console))
 }
 
-/// Where the report goes beside an output that may be asked for.
-fn place_beside(name: Option<&str>) -> Place
-    ensures { IsPlacedFor name.entry result }
-{
-    match name {
-        Some(name) => place_of(name),
-        None => Place::Output,
-    }
-}
-
-/// Lets the files of `judge` go, each by its name, that of the certificate where it is asked for.
-fn leave_judge<R: Disk>(
-    rt: &R,
-    words: &JudgeWords<'_>,
-    files: JudgeFiles<
-        PlainReader<R::File, R::Input>,
-        PlainReader<R::File, R::Input>,
-        Target<R::File, R::Output>,
-    >,
-)
-    requires { SameAsked (asked_file R.holds words.now.certificate) files.certificate }
-    ensures { LeftJudged R.leaves words.now files }
-{
-    let (rows, soft, certificate) = files.into_parts();
-    rt.leave_input(words.rows, rows);
-    rt.leave_input(words.soft, soft);
-    match (words.certificate, certificate) {
-        (Some(name), Some(file)) => rt.leave_output(name, file),
-        _ => {}
-    }
-}
-
-/// Judges soft values. The certificate's file is opened before the others, and the verdict stands beside standard output where
-/// that is it.
+/// `judge`. The certificate's file is opened before the others.
 fn serve_judge<'a, R: Disk + AllocGlobal, O: CountedWrite, E: CountedWrite>(
     rt: &R,
     words: &JudgeWords<'a>,
     console: &mut Console<O, E>,
 ) -> Result<Exit, Fault<'a>>
-    requires { CanTell console.old }
-    ensures { (input : Option (List ℕ)) (count : ℕ) →
-        Began R.holds R.tells R.leaves (count < count) (Request.Judge words.now) input result console.old console.new }
+    requires { CanNote console.old }
+    ensures { OnErr result (console.new.errors_failed ≡ console.old.errors_failed) }
 {
-    let place = place_beside(words.certificate);
-    let Some(shape) = shape_of(words.shape) else {
-        return Err(no_shape());
-    };
+    let shape = shape_of(words.shape)?;
     let mut files = open_judge(rt, words)?;
-    let tuning = words.tuning;
-    let exit = judge_command(rt.alloc(), shape, tuning, &mut files, place, console);
-    leave_judge(rt, words, files);
-    Ok(exit)
+    Ok(judge_command(rt.alloc(), shape, words.tuning, &mut files, console))
 }
 
-/// Lets the files of `check` go, each by its name.
-fn leave_check<R: Disk>(
-    rt: &R,
-    words: &CheckWords<'_>,
-    files: CheckFiles<PlainReader<R::File, R::Input>, PlainReader<R::File, R::Input>>,
-)
-    ensures { LeftChecked R.leaves words.now files }
-{
-    let (rows, certificate) = files.into_parts();
-    rt.leave_input(words.rows, rows);
-    rt.leave_input(words.certificate, certificate);
-}
-
-/// Checks a certificate.
+/// `check`.
 fn serve_check<'a, R: Disk + AllocGlobal, O: CountedWrite, E: CountedWrite>(
     rt: &R,
     words: &CheckWords<'a>,
     console: &mut Console<O, E>,
 ) -> Result<Exit, Fault<'a>>
-    requires { CanShow console.old }
-    ensures { (input : Option (List ℕ)) (count : ℕ) →
-        Began R.holds R.tells R.leaves (count < count) (Request.Check words.now) input result console.old console.new }
+    requires { CanNote console.old }
+    ensures { OnErr result (console.new.errors_failed ≡ console.old.errors_failed) }
 {
-    let mut files = open_check(rt, words)?;
-    let exit = check_command(rt.alloc(), &mut files, console);
-    leave_check(rt, words, files);
-    Ok(exit)
+    let (mut rows, mut certificate) = open_inputs(rt, words.rows, words.certificate)?;
+    Ok(check_command(rt.alloc(), &mut rows, &mut certificate, console))
 }
 
-/// Sends packets. The symbol file is opened once the others are, and the counts stand beside standard output where that is it.
+/// `mod`.
 fn serve_mod<'a, R: Disk + Clock + AllocGlobal, O: CountedWrite, E: CountedWrite>(
     rt: &R,
     terminal: &Terminal<'_, R>,
     words: &ModWords<'a>,
-    memory: &mut Memory,
     console: &mut Console<O, E>,
+    notes: &mut E,
 ) -> Result<Exit, Fault<'a>>
-    requires memory { CanCount memory.old.refused }
-    requires console { CanTell console.old }
-    ensures { (input : Option (List ℕ)) →
-        Began R.holds R.tells R.leaves (Lacks memory.old memory.new) (Request.Mod words.now) input result console.old console.new }
+    requires console { CanNote console.old }
+    requires notes { CanCount (E.count notes.old) }
+    ensures { OnErr result (console.new.errors_failed ≡ console.old.errors_failed) }
 {
-    let place = place_of(words.symbols);
-    let Some(setup) = setup_of(&words.link) else {
-        return Err(no_mode());
-    };
+    let setup = setup_of(&words.link)?;
     let frame = setup.mode.symbols() as u64;
     let show = show_on(terminal, Pace::Sending { frame }, words.progress);
-    let opened = open_link(rt, words.rows, words.packets, words.symbols)?;
-    show.expect(opened.1);
-    let mut files = opened.0.watched(&show);
-    let mut notes = notes_of(rt);
-    let exit = mod_command(memory, setup, words, &mut files, place, console, &mut notes);
+    let unseen = Show::new(terminal, Pace::Sending { frame }, false);
+    let names = [words.rows, words.packets, words.symbols];
+    let mut files = open_link(rt, &show, &unseen, names, true)?;
+    let exit = mod_command(rt.alloc(), setup, words, &mut files, console, notes);
     show.finish();
-    leave_link(rt, words.rows, words.packets, words.symbols, files);
     Ok(exit)
 }
 
-/// Adds noise to symbols. What its buffer still holds at the end is written before the command has
-/// ended well; after a fault nothing more is.
+/// `noise`. What is left in the buffer at the end is written before the command has ended well; after a failed write nothing more is.
 fn serve_noise<'a, R: Disk + Clock + AllocGlobal, O: CountedWrite, E: CountedWrite>(
     rt: &R,
     terminal: &Terminal<'_, R>,
     words: &NoiseWords<'a>,
     console: &mut Console<O, E>,
 ) -> Result<Exit, Fault<'a>>
-    requires { CanShow console.old }
-    ensures { (input : Option (List ℕ)) (count : ℕ) →
-        Began R.holds R.tells R.leaves (count < count) (Request.Noise words.now) input result console.old console.new }
+    requires { CanNote console.old }
+    ensures { OnErr result (console.new.errors_failed ≡ console.old.errors_failed) }
 {
     let show = show_on(terminal, Pace::Spoiling, words.progress);
-    let opened = open_noise(rt, words)?;
-    show.expect(opened.2);
-    let mut from = Watched::new(opened.0, &show);
-    let mut to = Watched::new(opened.1, &show);
+    let (mut from, mut to) = open_noise(rt, &show, words.from, words.to)?;
     let exit = noise_command(words.channel, &mut from, &mut to, console);
     show.finish();
-    rt.leave_buffered(words.from, from.into_inner());
-    finish(rt, words.to, exit, to.into_inner())
+    match to.into_inner().into_inner().finish() {
+        Err(_) if exit == Exit::Fine => Err(Fault::Write),
+        _ => Ok(exit),
+    }
 }
 
-/// Receives symbols. The packet file is opened once the others are, and the report stands beside standard output where that
-/// is it.
+/// `demod`. Many bytes are read at a time, so the symbols have no buffer.
 fn serve_demod<'a, R: Disk + Clock + AllocGlobal, O: CountedWrite, E: CountedWrite>(
     rt: &R,
     terminal: &Terminal<'_, R>,
     words: &DemodWords<'a>,
     console: &mut Console<O, E>,
+    notes: &mut E,
 ) -> Result<Exit, Fault<'a>>
-    requires { CanTell console.old }
-    ensures { (input : Option (List ℕ)) (count : ℕ) →
-        Began R.holds R.tells R.leaves (count < count) (Request.Demod words.now) input result console.old console.new }
+    requires console { CanNote console.old }
+    requires notes { CanCount (E.count notes.old) }
+    ensures { OnErr result (console.new.errors_failed ≡ console.old.errors_failed) }
 {
-    let place = place_of(words.packets);
-    let Some(setup) = setup_of(&words.link) else {
-        return Err(no_mode());
-    };
+    let setup = setup_of(&words.link)?;
     let frame = setup.mode.symbols() as u64;
     let show = show_on(terminal, Pace::Receiving { frame }, words.progress);
-    let opened = open_whole(rt, words.rows, words.symbols, words.packets)?;
-    show.expect(opened.1);
-    let mut files = opened.0.watched(&show);
-    let mut notes = notes_of(rt);
-    let exit = demod_command(
-        rt.alloc(),
-        setup,
-        words,
-        &mut files,
-        place,
-        console,
-        &mut notes,
-    );
+    let unseen = Show::new(terminal, Pace::Receiving { frame }, false);
+    let names = [words.rows, words.symbols, words.packets];
+    let mut files = open_link(rt, &show, &unseen, names, false)?;
+    let exit = demod_command(rt.alloc(), setup, words, &mut files, console, notes);
     show.finish();
-    leave_whole(rt, words.rows, words.symbols, words.packets, files);
     Ok(exit)
 }
 
-/// Sends, spoils and receives packets. The file of what is received is opened once the others are, and the report stands beside
-/// standard output where that is it.
+/// `run`.
 fn serve_run<'a, R: Disk + Clock + AllocGlobal, O: CountedWrite, E: CountedWrite>(
     rt: &R,
     terminal: &Terminal<'_, R>,
     words: &RunWords<'a>,
     console: &mut Console<O, E>,
+    notes: &mut E,
 ) -> Result<Exit, Fault<'a>>
-    requires { CanTell console.old }
-    ensures { (input : Option (List ℕ)) (count : ℕ) →
-        Began R.holds R.tells R.leaves (count < count) (Request.Run words.now) input result console.old console.new }
+    requires console { CanNote console.old }
+    requires notes { CanCount (E.count notes.old) }
+    ensures { OnErr result (console.new.errors_failed ≡ console.old.errors_failed) }
 {
-    let place = place_of(words.to);
-    let Some(setup) = setup_of(&words.link) else {
-        return Err(no_mode());
-    };
+    let setup = setup_of(&words.link)?;
     let show = show_on(terminal, Pace::Looping, words.progress);
-    let opened = open_link(rt, words.rows, words.packets, words.to)?;
-    show.expect(opened.1);
-    let mut files = opened.0.watched(&show);
-    let mut notes = notes_of(rt);
-    let exit = run_command(
-        rt.alloc(),
-        setup,
-        words,
-        &mut files,
-        place,
-        console,
-        &mut notes,
-    );
+    let unseen = Show::new(terminal, Pace::Looping, false);
+    let names = [words.rows, words.packets, words.to];
+    let mut files = open_link(rt, &show, &unseen, names, true)?;
+    let exit = run_command(rt.alloc(), setup, words, &mut files, console, notes);
     show.finish();
-    leave_link(rt, words.rows, words.packets, words.to, files);
     Ok(exit)
 }

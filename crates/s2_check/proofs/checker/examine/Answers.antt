@@ -37,7 +37,7 @@ returns-then-scaled_cost-shown-clause-exact c =
     let factors : pos c.scale.result *ℤ c.cost.result ≡ pos v.scale *ℤ cost v.soft v.bits = ap₂ (λ s z. pos s *ℤ z) c.scale.ensures.is costs in
     let bounds = c.shown-shown.ensures.bound in
     record {
-      shaped = c.if-not-is_of_shape.ensures.0 refl;
+      shaped = c.if-not-is_of.ensures.0 refl;
       accepted = record {
         scaled = c.scale.ensures.valid.scale_some;
         codeword = codeword;
@@ -71,7 +71,7 @@ returns-else-scaled_cost-shown-clause-exact c =
     let same : pos v.scale *ℤ cost v.soft v.bits ≡ bound code v.soft (split_in r v) = omega (arith, ints) in
     absurd (c.if-scaled_cost-shown.false (ap (of_z w64) (product ∙ factors ∙ same ∙ sym c.shown-shown.ensures.bound)))
     )) in
-    (c.if-not-is_of_shape.ensures.0 refl, codeword, below)
+    (c.if-not-is_of.ensures.0 refl, codeword, below)
 
 pub returns-in-Some-clause-strict : goal.returns-in-Some-clause-strict
 returns-in-Some-clause-strict c =

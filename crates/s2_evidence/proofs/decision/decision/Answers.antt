@@ -1,7 +1,6 @@
 use Rattle.std.proofs.Common.{◌≡◌, ap, ◌∙◌, subst}
 use Rattle.s2_rows.specs.Rows.{Rows}
 use Rattle.s2_judge.specs.Deciding.{Decided, decided, IsShown}
-use Rattle.s2_evidence.specs.Judging.{exit_on}
 use Rattle.s2_evidence.proofs.JudgeLemmas.{says, shown}
 use Rattle.s2_evidence.proofs.decision.decision.Goals as goal
 
@@ -11,12 +10,6 @@ returns-clause-says c =
     let same : decided c.args.judge.now.rows c.args.judge.now.tuning c.args.soft.now ≡ d = ap (λ r. decided r c.args.judge.now.tuning c.args.soft.now) c.requires.rows in
     says c.args.matrix.now c.args.soft.now d c.judge-verdict.result c.word.result.now c.judgement.result.exit c.judgement.result.text (c.judge-verdict.ensures.verdict ∙ ap (λ x. x.verdict) same)
     (c.word.ensures.is ∙ (c.judge-verdict.ensures.bits ∙ ap (λ x. x.bits) same)) c.judgement.ensures.says
-
-pub returns-clause-exit : goal.returns-clause-exit
-returns-clause-exit c =
-    let d : Decided = decided c.args.matrix.now c.args.judge.now.tuning c.args.soft.now in
-    let same : decided c.args.judge.now.rows c.args.judge.now.tuning c.args.soft.now ≡ d = ap (λ r. decided r c.args.judge.now.tuning c.args.soft.now) c.requires.rows in
-    c.judgement.ensures.exit ∙ ap exit_on (c.judge-verdict.ensures.verdict ∙ ap (λ x. x.verdict) same)
 
 pub returns-clause-certificate : goal.returns-clause-certificate
 returns-clause-certificate c =

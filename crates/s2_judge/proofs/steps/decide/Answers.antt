@@ -1,4 +1,4 @@
-use Rattle.std.proofs.Common.{◌≡◌, Bool, None, IfSome, cond, length, sym, ap, subst, ◌∙◌, arith}
+use Rattle.std.proofs.Common.{◌≡◌, Bool, List, None, IfSome, cond, length, sym, ap, subst, ◌∙◌, arith}
 use Rattle.std.proofs.lemmas.List.{length-map}
 use Rattle.s2_check.specs.Hard.{hard_decision}
 use Rattle.s2_split.specs.Making.{shared_view, shared_views}
@@ -27,7 +27,7 @@ returns-then-is_certified-clause-ground c =
     let word = c.try_repair-is_certified.new.repair in
     let long = ap length c.judge_unsplit.ensures.word ∙ length-map soft _ ∙ c.requires.soft in
     let same = copied word c.judge_unsplit.new.word c.copy_prefix.new.self c.len.result c.len.ensures (long ∙ sym c.try_repair-is_certified.ensures.long) c.copy_prefix.ensures in
-    (c.requires.range, c.try_repair-is_certified.ensures.word c.if-is_certified.true ∙ sym same)
+    (c.requires.range, subst (λ (bits : List Bool). IfSome c.try_repair-is_certified.new.certifier.word (λ w. w ≡ bits)) (sym same) (c.try_repair-is_certified.ensures.word c.if-is_certified.true))
 
 pub returns-then-is_certified-clause-decided : goal.returns-then-is_certified-clause-decided
 returns-then-is_certified-clause-decided c =

@@ -4,14 +4,14 @@ use Rattle.s2_matrix.specs.Code.{code_of}
 use Rattle.s2_split.specs.Making.{shared_view}
 use Rattle.s2_split.proofs.Held.{copied}
 use Rattle.s2_split.proofs.Repairs.{length-repaired}
-use Rattle.s2_judge.specs.Deciding.{is_strict, decoded_bits, first_codeword, with_made, view_for}
+use Rattle.s2_judge.specs.Deciding.{is_strict, decoded_bits, first_codeword, with_made, decoded_view}
 use Rattle.s2_judge.proofs.Certificates.{found_nothing}
 use Rattle.s2_judge.proofs.Decisions.{found_codeword}
 use Rattle.s2_judge.proofs.Grounds.{with_found, with_none, step_three, step_four, step_none}
 use Rattle.s2_judge.proofs.steps.decide_by_min_sum.Goals as goal
 
-pub certify-requires-clause-codeword : goal.certify-requires-clause-codeword
-certify-requires-clause-codeword c =
+pub certify_decoded-requires-clause-codeword : goal.certify_decoded-requires-clause-codeword
+certify_decoded-requires-clause-codeword c =
     let r = c.args.certifier.now.rows in
     let soft = c.args.soft.now in
     let bits = c.decode.new.bits in
@@ -31,20 +31,20 @@ returns-then-is_uncertified-clause-decided c =
     let bits = c.decode.new.bits in
     let first = sym (λ i. first_codeword (c.matrix.ensures i) (c.factor-factor.ensures.is i) (c.rounds-rounds.ensures.is i) soft) ∙ c.decode.ensures.first ∙ ap (λ b. cond b (Some bits) None) c.if-decode.true in
     let left = sym c.is_uncertified.ensures ∙ c.if-is_uncertified.true in
-    step_three r tuning soft bits _ first (ap (with_made r bits) (ap (λ b. cond b None (view_for r tuning.passes soft bits)) left))
+    step_three r tuning soft bits _ first (ap (with_made r bits) (ap (λ b. cond b None (decoded_view r tuning.passes soft bits)) left))
 
-pub returns-then-certify-clause-decided : goal.returns-then-certify-clause-decided
-returns-then-certify-clause-decided c =
+pub returns-then-certify_decoded-clause-decided : goal.returns-then-certify_decoded-clause-decided
+returns-then-certify_decoded-clause-decided c =
     let r = c.args.certifier.now.rows in
     let soft = c.args.soft.now in
     let tuning = c.args.tuning in
     let bits = c.decode.new.bits in
-    let found = c.certify.new.self.found in
+    let found = c.certify_decoded.new.self.found in
     let first = sym (λ i. first_codeword (c.matrix.ensures i) (c.factor-factor.ensures.is i) (c.rounds-rounds.ensures.is i) soft) ∙ c.decode.ensures.first ∙ ap (λ b. cond b (Some bits) None) c.if-decode.true in
-    let strict = subst (λ (b : Bool). IfSome found (λ s. is_strict r (shared_view r soft bits s) ≡ b)) (sym c.is_strict.ensures) c.certify.ensures.strict in
-    let shown = sym (ap (λ p. with_made r bits (view_for r p soft bits)) c.requires.passes) ∙ ap (with_made r bits) c.certify.ensures.view ∙ with_found r soft bits found c.is_strict.result (c.certify.ensures.found.0 c.if-certify.true) strict in
+    let strict = subst (λ (b : Bool). IfSome found (λ s. is_strict r (shared_view r soft bits s) ≡ b)) (sym c.is_strict.ensures) c.certify_decoded.ensures.strict in
+    let shown = sym (ap (λ p. with_made r bits (decoded_view r p soft bits)) c.requires.passes) ∙ ap (with_made r bits) c.certify_decoded.ensures.view ∙ with_found r soft bits found c.is_strict.result (c.certify_decoded.ensures.found.0 c.if-certify_decoded.true) strict in
     let looked = sym c.is_uncertified.ensures ∙ c.if-is_uncertified.false in
-    step_three r tuning soft bits _ first (ap (with_made r bits) (ap (λ b. cond b None (view_for r tuning.passes soft bits)) looked) ∙ shown)
+    step_three r tuning soft bits _ first (ap (with_made r bits) (ap (λ b. cond b None (decoded_view r tuning.passes soft bits)) looked) ∙ shown)
 
 pub returns-then-decode-clause-decided : goal.returns-then-decode-clause-decided
 returns-then-decode-clause-decided c =
@@ -52,12 +52,12 @@ returns-then-decode-clause-decided c =
     let soft = c.args.soft.now in
     let tuning = c.args.tuning in
     let bits = c.decode.new.bits in
-    let found = c.certify.new.self.found in
+    let found = c.certify_decoded.new.self.found in
     let first = sym (λ i. first_codeword (c.matrix.ensures i) (c.factor-factor.ensures.is i) (c.rounds-rounds.ensures.is i) soft) ∙ c.decode.ensures.first ∙ ap (λ b. cond b (Some bits) None) c.if-decode.true in
-    let none = found_nothing c.certify.result found c.certify.ensures.found c.if-certify.false in
-    let shown = sym (ap (λ p. with_made r bits (view_for r p soft bits)) c.requires.passes) ∙ ap (with_made r bits) c.certify.ensures.view ∙ with_none r soft bits found none in
+    let none = found_nothing c.certify_decoded.result found c.certify_decoded.ensures.found c.if-certify_decoded.false in
+    let shown = sym (ap (λ p. with_made r bits (decoded_view r p soft bits)) c.requires.passes) ∙ ap (with_made r bits) c.certify_decoded.ensures.view ∙ with_none r soft bits found none in
     let looked = sym c.is_uncertified.ensures ∙ c.if-is_uncertified.false in
-    step_three r tuning soft bits _ first (ap (with_made r bits) (ap (λ b. cond b None (view_for r tuning.passes soft bits)) looked) ∙ shown)
+    step_three r tuning soft bits _ first (ap (with_made r bits) (ap (λ b. cond b None (decoded_view r tuning.passes soft bits)) looked) ∙ shown)
 
 pub returns-then-is_even-clause-decided : goal.returns-then-is_even-clause-decided
 returns-then-is_even-clause-decided c =

@@ -69,8 +69,8 @@ returns-then-satisfied-clause-view c =
     let rows = c.matrix-2.ensures ∙ ap (λ (m : Certifying). m.rows) same in
     let even = ap (satisfies (code_of r)) (sym rep) ∙ test_in r c.matrix-2.result.now word c.satisfied.result rows (ap length rep ∙ length-repaired (code_of r) soft) c.satisfied.ensures ∙ c.if-satisfied.true in
     repair_made r (tuning_of 0 passes) soft even
-    ∙ view_by_certifier soft word c.repair_into.new.self c.args.certifier.now c.certify.new.self.found rep same c.certify.ensures.view
-    ∙ found_or_none r soft word c.certify.new.self.found c.certify.result c.certify.ensures.found
+    ∙ view_by_certifier soft word c.repair_into.new.self c.args.certifier.now c.certify_repair.new.self.found rep same c.certify_repair.ensures.view
+    ∙ found_or_none r soft word c.certify_repair.new.self.found c.certify_repair.result c.certify_repair.ensures.found
 
 pub returns-else-satisfied-clause-view : goal.returns-else-satisfied-clause-view
 returns-else-satisfied-clause-view c =
@@ -84,5 +84,5 @@ returns-else-satisfied-clause-view c =
 
 pub returns-then-satisfied-clause-strict : goal.returns-then-satisfied-clause-strict
 returns-then-satisfied-clause-strict c yes' =
-    let now = c.certify.new.self in
-    subst (λ (q : Rows). IfSome now.found (λ s. is_strict q (shared_view q c.args.soft.now c.repair_into.new.word s) ≡ now.strict)) (ap (λ (m : Certifying). m.rows) c.repair_into.ensures.same) c.certify.ensures.strict
+    let now = c.certify_repair.new.self in
+    subst (λ (q : Rows). IfSome now.found (λ s. is_strict q (shared_view q c.args.soft.now c.repair_into.new.word s) ≡ now.strict)) (ap (λ (m : Certifying). m.rows) c.repair_into.ensures.same) c.certify_repair.ensures.strict

@@ -3,4 +3,4 @@ use Rattle.s2_modes.proofs.command.modes_command.Goals as goal
 
 pub returns-clause-run : goal.returns-clause-run
 returns-clause-run g c =
-    (c.print_modes-ended.result, search rules, search rules, λ lacking. tt, search rules, search rules)
+    (c.print_modes-ended.result, search rules, search rules, search rules, search rules)

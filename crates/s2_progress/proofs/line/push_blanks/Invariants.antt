@@ -1,7 +1,6 @@
-use Rattle.std.proofs.Common.{◌≡◌, ◌++◌}
-use Rattle.s2_progress.specs.Words.{blanks}
+use Rattle.std.proofs.Common.{◌≡◌, ◌+◌, length}
 use Rattle.s2_progress.proofs.line.push_blanks.Given as goal
 
--- as many blanks as turns
+-- one blank a turn
 abbrev pub invariant-blanks : goal.invariant-blanks
-invariant-blanks l = l.line ≡ l.initial.line ++ blanks l.counter
+invariant-blanks l = length l.line ≡ length l.initial.line + l.counter

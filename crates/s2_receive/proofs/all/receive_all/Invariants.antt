@@ -1,4 +1,4 @@
-use Rattle.s2_receive.proofs.Names.{◌≡◌, ◌+◌, ◌-◌, most_symbols, streams_by, IsLive, rank, rules_of}
+use Rattle.s2_receive.proofs.Names.{◌≡◌, ◌+◌, ◌-◌, most_symbols, streams_by, IsLive, IsSame, rank, rules_of}
 use Rattle.s2_receive.proofs.RunLemmas.{Came}
 use Rattle.s2_receive.proofs.all.receive_all.Given as goal
 
@@ -8,8 +8,7 @@ invariant-steps g l =
     let ends = streams_by g.R.CountedRead.remaining g.R.Counted.count g.P.CountedWrite.contents g.P.Counted.count g.W.CountedWrite.contents g.W.Counted.count in
     record {
       came : Came (rules_of g.D.Decide.decide l.fn.receiver) l.fn.receiver.state l.receiver.state (ends l.fn.reader l.fn.packets l.fn.report) (ends l.reader l.packets l.report) l.well;
-      rules : rules_of g.D.Decide.decide l.receiver ≡ rules_of g.D.Decide.decide l.fn.receiver;
-      parts : (l.receiver.mode ≡ l.fn.receiver.mode) × (l.receiver.lock ≡ l.fn.receiver.lock) × (l.receiver.limit ≡ l.fn.receiver.limit);
+      same : IsSame g.D.Decide.decide l.fn.receiver l.receiver;
       live : IsLive l.receiver.state.phase;
       counts :
           (g.R.Counted.count l.reader ≡ g.R.Counted.count l.fn.reader) × (g.P.Counted.count l.packets ≡ g.P.Counted.count l.fn.packets)

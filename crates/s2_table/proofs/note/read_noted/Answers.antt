@@ -19,13 +19,3 @@ pub returns-clause-rows : goal.returns-clause-rows
 returns-clause-rows g c =
     let P : Shape → Type 0 = λ s. IfSome (g.R.CountedRead.remaining c.args.reader.now) (λ text. rows_in s text ≡ Ok c.in_ok-matrix.matrix) in
     subst P c.shape.ensures.is c.in_ok-matrix.ensures.rows
-
-pub returns-clause-noted : goal.returns-clause-noted
-returns-clause-noted g c = λ loud same.
-    elim c.if-not-quiet.branch [
-      | then-not-quiet w ↦
-          subst (λ e. g.E.Counted.count e ≡ g.E.Counted.count c.args.errors.now
-          → IsNoted c.args.mode.now c.in_ok-matrix.matrix (g.E.CountedWrite.contents c.args.errors.now) (g.E.CountedWrite.contents e))
-          (sym w.errors-is) w.note_rows.ensures.noted same
-      | else-not-quiet w ↦ (let no_way = w.if-not-quiet.false in cc)
-    ]

@@ -1,6 +1,6 @@
-use Rattle.s2_modem.proofs.Names.{◌≡◌, length, sym, refl, ap, subst, ◌∙◌, refilled, Link, IsMode, HasCodeSizes, code_of, received_payload, soft_values, Decision, IsAsLikely, IsCorrected, CorrectsWithin, HearsScattered, frame_soft, frame_decision, received_word, FindsWord, Reads, Listening, decides, decision_held}
-use Rattle.s2_modem.proofs.CleanFrames.{found_corrected, scattered_law, both_codes_law}
-use Rattle.s2_modem.proofs.DecisionLemmas.{frame_decided, as_likely_on, received_long}
+use Rattle.s2_modem.proofs.Names.{◌≡◌, length, sym, refl, ap, subst, ◌∙◌, refilled, Link, IsLinkOf, IsMode, HasCodeSizes, code_of, received_payload, soft_values, Decision, IsAsLikely, IsCorrected, CorrectsWithin, HearsScattered, frame_soft, frame_decision, received_word, FindsWord, Reads, Listening, decides, decision_held}
+use Rattle.s2_modem.proofs.CleanFrames.{all_as_likely, all_told, scattered_law, both_codes_law}
+use Rattle.s2_modem.proofs.DecisionLemmas.{frame_decided}
 use Rattle.s2_modem.proofs.decider.DeciderDecide.decide.Goals as goal
 use Rattle.s2_modem.proofs.decider.DeciderDecide.decide.Goals.{After-decide-self-inside}
 
@@ -32,25 +32,25 @@ module _ (c : After-decide-self-inside) where
       was.ensures.soft (sym was.ensures.soft ∙ soft_is) (c.decide-self-inside.ensures.verdict ∙ was.ensures.verdict) was.ensures.bits was.ensures.certificate finds reads
       ∙ ap (λ (l : Listening). frame_decision l.link l.tuning c.args.symbols.now) c.self.view_is
 
-  of_mode : IsMode c.args.self.now.link.setup.mode × HasCodeSizes c.args.self.now.link.setup.mode
-  of_mode = subst (λ (l : Listening). IsMode l.link.setup.mode × HasCodeSizes l.link.setup.mode) c.self.view_is (c.self.invariant.valid, c.self.invariant.sizes)
+  of_mode : IsMode c.args.self.now.link.setup.mode × HasCodeSizes c.args.self.now.link.setup.mode × IsLinkOf c.args.self.now.link.setup.mode c.args.self.now.link
+  of_mode = subst (λ (l : Listening). IsMode l.link.setup.mode × HasCodeSizes l.link.setup.mode × IsLinkOf l.link.setup.mode l.link) c.self.view_is (c.self.invariant.valid, c.self.invariant.sizes, (refl, c.self.invariant.shape))
 
 pub returns-clause-last : goal.returns-clause-last
 returns-clause-last c = is_decided (goal.at.returns-clause-last c).After-decide-self-inside
 
 pub returns-clause-likely : goal.returns-clause-likely
 returns-clause-likely c =
-    let was = c.decide-verdict in
-    subst (λ (l : Listening). IsAsLikely (code_of l.link.rows) (frame_soft l.link l.tuning c.args.symbols.now) c.decide-self-inside.result.verdict was.new.self.bits) c.self.view_is
-    (as_likely_on (code_of c.self.inside.judge.rows) _ _ was.result c.decide-self-inside.result.verdict was.new.self.bits (sym was.ensures.soft ∙ soft_is (goal.at.returns-clause-likely c).After-decide-self-inside) c.decide-self-inside.ensures.verdict was.ensures.likely was.ensures.sole)
+    let k = (goal.at.returns-clause-likely c).After-decide-self-inside in
+    let l = c.args.self.now.link in
+    let (valid, sizes, linked) = of_mode k in
+    subst (λ (d : Decision). IsAsLikely (code_of l.rows) (frame_soft l c.args.self.now.tuning c.args.symbols.now) d.verdict d.bits) (sym (is_decided k)) (all_as_likely l.setup.mode valid sizes l linked c.args.self.now.tuning c.args.symbols.now)
 
 pub returns-clause-within : goal.returns-clause-within
 returns-clause-within c =
     let k = (goal.at.returns-clause-within c).After-decide-self-inside in
-    let so = c.self.invariant in
-    let long = received_long c.self.inside.mode c.self.inside.judge.rows c.decide-verdict.new.self.bits so.sizes so.shape (rw (c.word.ensures.is, c.decide-verdict.ensures.rows) at c.word.ensures.long) in
-    subst (λ (l : Listening). IsCorrected l.link.setup.mode (decision k) (decision k).outcome) c.self.view_is
-    (found_corrected c.self.inside.mode so.valid so.sizes (decision k) c.correct-found.new.self.word c.correct-found.result (decision k).delivered long refl (finds k) (reads k))
+    let l = c.args.self.now.link in
+    let (valid, sizes, linked) = of_mode k in
+    subst (λ (d : Decision). IsCorrected l.setup.mode d d.outcome) (sym (is_decided k)) (all_told l.setup.mode valid sizes l linked c.args.self.now.tuning c.args.symbols.now).within
 
 pub returns-clause-heard : goal.returns-clause-heard
 returns-clause-heard c =

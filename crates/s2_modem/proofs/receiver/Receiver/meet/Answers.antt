@@ -6,6 +6,5 @@ pub returns : goal.returns
 returns g c =
     let m = c.meet in
     let promised : IsPromised c.args.self.now m.new.self.decider.last m.new.self.state.phase (g.R.CountedRead.remaining c.args.reader.now) m.result =
-    meet_promised _ _ m.new.self.decider.last m.result c.self.view_is c.self.invariant.1 _ c.self.invariant.0 m.ensures.ended m.ensures.failed m.new.self.state _ (g.R.CountedRead.remaining m.new.reader)
-    _ _ m.ensures.finds m.ensures.stops m.ensures.no_write (λ idle. ap (λ r. r.state) (m.ensures.nothing idle).0) in
+    meet_promised _ _ c.self.view_is c.self.invariant.1 _ c.self.invariant.0 _ m.result _ _ _ _ m.ensures.meets (λ idle. ap (λ r. r.state) (m.ensures.nothing idle).0) in
     search (rules, promised)

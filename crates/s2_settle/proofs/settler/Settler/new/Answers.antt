@@ -1,5 +1,6 @@
-use Rattle.std.proofs.Common.{subst, arith}
+use Rattle.std.proofs.Common.{subst, ap, ◌∙◌, arith}
 use Rattle.s2_minsum.specs.Decoding.{AreFit}
+use Rattle.s2_settle.specs.Waiting.{Waiting}
 use Rattle.s2_settle.proofs.MadeMoves.{none_are}
 use Rattle.s2_settle.proofs.settler.Settler.new.Goals as goal
 
@@ -12,6 +13,7 @@ invariant_of-result c =
       layers = layers;
       fit = subst AreFit layers c.in_ok-layers.ensures.fit;
       long = c.in_ok-held.ensures;
+      waiting = ap (λ (w : Waiting). w.room) c.in_ok-waiting.ensures ∙ c.check_count-checks.ensures.is;
       room = λ r lt. omega (arith, c.scratch_len.ensures.room r lt, c.in_ok-scratch.ensures.len);
-      moves = none_are rows c.check_count.result c.in_ok-moves.moves.items c.check_count.ensures.is moves;
+      moves = none_are rows c.check_count-checks.result c.in_ok-moves.moves.items c.check_count-checks.ensures.is moves;
     }

@@ -1,0 +1,74 @@
+use Rattle.std.proofs.Common.{Some, None, cond, ne_eqb, eq-eqb, sym, ap, subst, ◌∙◌}
+use Rattle.s2_rows.specs.Rows.{Rows}
+use Rattle.s2_check.specs.Strict.{IsStrict}
+use Rattle.s2_split.specs.Making.{shared_views}
+use Rattle.s2_settle.specs.Settled.{settled}
+use Rattle.s2_settle.specs.Holding.{view_by as view_settled}
+use Rattle.s2_judge.proofs.Certificates.{without_passes, found_nothing, by_greedy, by_settler, by_nobody, strict_made, strict_settled}
+use Rattle.s2_judge.proofs.certifier.find_for_repair.Goals as goal
+
+pub returns-then-certify_codeword-clause-view : goal.returns-then-certify_codeword-clause-view
+returns-then-certify_codeword-clause-view c =
+    let r = c.args.maker.now.rows in
+    let soft = c.args.soft.now in
+    let word = c.args.codeword.now in
+    without_passes r c.args.passes soft word (eq-eqb c.args.passes 0 c.if-passes-eq0.true) ∙ ap (shared_views r soft word) (sym c.certify_codeword.ensures.made)
+
+pub returns-then-passes-eq0-clause-view : goal.returns-then-passes-eq0-clause-view
+returns-then-passes-eq0-clause-view c =
+    let r = c.args.maker.now.rows in
+    let soft = c.args.soft.now in
+    let word = c.args.codeword.now in
+    let maker = c.certify_codeword in
+    let none = found_nothing maker.result maker.new.self.made maker.ensures.found c.if-certify_codeword.false in
+    without_passes r c.args.passes soft word (eq-eqb c.args.passes 0 c.if-passes-eq0.true) ∙ ap (shared_views r soft word) (sym maker.ensures.made ∙ none)
+
+pub returns-then-certify_greedily-clause-view : goal.returns-then-certify_greedily-clause-view
+returns-then-certify_greedily-clause-view c =
+    let maker = c.certify_greedily in
+    by_greedy c.args.maker.now.rows c.args.passes c.args.soft.now c.args.codeword.now maker.new.self.made (ne_eqb c.args.passes 0 c.if-passes-eq0.false) maker.ensures.made (maker.ensures.found.0 c.if-certify_greedily.true)
+
+pub returns-then-certify-clause-view : goal.returns-then-certify-clause-view
+returns-then-certify-clause-view c =
+    let r = c.args.maker.now.rows in
+    let soft = c.args.soft.now in
+    let word = c.args.codeword.now in
+    let passes = c.args.passes in
+    let greedy = c.certify_greedily in
+    let settler = c.certify.new.self in
+    let none = found_nothing greedy.result greedy.new.self.made greedy.ensures.found c.if-certify_greedily.false in
+    let view = view_settled settler soft word in
+    let is = ap (λ (q : Rows). settled q soft word passes) (sym c.requires.settler) ∙ c.certify.ensures.is ∙ ap (λ b. cond b (Some view) None) c.if-certify.true in
+    by_settler r passes soft word greedy.new.self.made settler (ne_eqb passes 0 c.if-passes-eq0.false) greedy.ensures.made none (c.certify.ensures.rows ∙ c.requires.settler) is
+
+pub returns-clause-view : goal.returns-clause-view
+returns-clause-view c =
+    let r = c.args.maker.now.rows in
+    let soft = c.args.soft.now in
+    let word = c.args.codeword.now in
+    let passes = c.args.passes in
+    let greedy = c.certify_greedily in
+    let none = found_nothing greedy.result greedy.new.self.made greedy.ensures.found c.if-certify_greedily.false in
+    let view = view_settled c.certify.new.self soft word in
+    let is = ap (λ (q : Rows). settled q soft word passes) (sym c.requires.settler) ∙ c.certify.ensures.is ∙ ap (λ b. cond b (Some view) None) c.if-certify.false in
+    by_nobody r passes soft word greedy.new.self.made (ne_eqb passes 0 c.if-passes-eq0.false) greedy.ensures.made none is
+
+pub returns-then-certify_codeword-clause-strict : goal.returns-then-certify_codeword-clause-strict
+returns-then-certify_codeword-clause-strict c =
+    let maker = c.certify_codeword in
+    strict_made c.args.maker.now.rows c.args.soft.now c.args.codeword.now maker.new.self c.is_strict.result maker.ensures.rows maker.ensures.rests c.is_strict.ensures
+
+pub returns-then-certify_greedily-clause-strict : goal.returns-then-certify_greedily-clause-strict
+returns-then-certify_greedily-clause-strict c =
+    let maker = c.certify_greedily in
+    strict_made c.args.maker.now.rows c.args.soft.now c.args.codeword.now maker.new.self c.is_strict-then-certify_greedily.result maker.ensures.rows maker.ensures.rests c.is_strict-then-certify_greedily.ensures
+
+pub returns-then-certify-clause-strict : goal.returns-then-certify-clause-strict
+returns-then-certify-clause-strict c =
+    let r = c.args.maker.now.rows in
+    let soft = c.args.soft.now in
+    let word = c.args.codeword.now in
+    let settler = c.certify.new.self in
+    let rows = c.requires.settler in
+    let strict = subst (λ (q : Rows). IsStrict q (view_settled settler soft word)) rows (c.certify.ensures.strict c.if-certify.true) in
+    strict_settled r soft word settler (c.certify.ensures.rows ∙ rows) strict

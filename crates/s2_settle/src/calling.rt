@@ -1,0 +1,81 @@
+//! Checks that are called for bits.
+ghost use Rattle.std.specs.Prelude.{◌≡◌, ◌≤◌, ◌<◌, ℕ, List, length, nat_lt, filter, fold, if◌then◌else◌};
+ghost use Rattle.s2_mode.specs.Shape.{information_bits, code_bits};
+ghost use Rattle.s2_matrix.specs.Total.{upto};
+ghost use Rattle.s2_matrix.specs.Code.{code_of, checks_of};
+ghost use Rattle.s2_settle.specs.Plain.{call, call_for};
+ghost use Rattle.s2_settle.specs.Rests.{least_rest};
+ghost use Rattle.s2_settle.specs.Serving.{rest_at};
+ghost use Rattle.s2_settle.specs.Waiting.{waiting as waiting_of};
+
+use crate::limits::LEAST_REST;
+use crate::waiting::Waiting;
+use s2_matrix::Matrix;
+
+/// The checks of a bit are called.
+fn call_checks(matrix: &Matrix, bit: usize, waiting: &mut Waiting)
+    requires bit { bit < (code_of matrix.now).bits }
+    requires room { waiting.old.room ≡ (code_of matrix.now).checks }
+    ensures { waiting.new ≡ waiting_of waiting.old.room (fold call waiting.old.checks (checks_of (code_of matrix.now) bit)) }
+{
+    for check in matrix.checks_at(bit) {
+        waiting.call(*check);
+    }
+}
+
+/// The checks of a bit are called if its rest is below 1.
+pub(crate) fn call_if_lacking(matrix: &Matrix, rest: u32, bit: usize, waiting: &mut Waiting)
+    requires bit { bit < (code_of matrix.now).bits }
+    requires room { waiting.old.room ≡ (code_of matrix.now).checks }
+    ensures { waiting.new ≡ waiting_of waiting.old.room (if nat_lt rest least_rest then fold call waiting.old.checks (checks_of (code_of matrix.now) bit) else waiting.old.checks) }
+{
+    if rest < LEAST_REST {
+        call_checks(matrix, bit, waiting);
+    }
+}
+
+/// The checks of the information bits that lack are called, whose rests stand in their order.
+fn call_information(matrix: &Matrix, rests: &[u32], waiting: &mut Waiting)
+    requires long { length rests.now ≡ code_bits matrix.now.shape }
+    requires room { waiting.old.room ≡ (code_of matrix.now).checks }
+    ensures { waiting.new ≡ waiting_of waiting.old.room (call_for (code_of matrix.now) waiting.old.checks (filter (λ i. nat_lt (rest_at matrix.now.shape rests.now i) least_rest) (upto (information_bits matrix.now.shape)))) }
+{
+    let bits = matrix.shape().k();
+    for bit in 0..bits {
+        call_if_lacking(matrix, rests[bit], bit, waiting);
+    }
+}
+
+/// The checks of the parity bits that lack are called: bit by bit, each behind the one before in the next row, and
+/// behind the last row in the next lane.
+fn call_parity(matrix: &Matrix, rests: &[u32], waiting: &mut Waiting)
+    requires long { length rests.now ≡ code_bits matrix.now.shape }
+    requires room { waiting.old.room ≡ (code_of matrix.now).checks }
+    ensures { (before : List ℕ) → waiting.old.checks ≡ call_for (code_of matrix.now) before (filter (λ i. nat_lt (rest_at matrix.now.shape rests.now i) least_rest) (upto (information_bits matrix.now.shape)))
+        → waiting.new ≡ waiting_of waiting.old.room (call_for (code_of matrix.now) before (filter (λ i. nat_lt (rest_at matrix.now.shape rests.now i) least_rest) (upto (code_of matrix.now).bits))) }
+{
+    let shape = matrix.shape();
+    let k = shape.k();
+    let n = shape.group();
+    let q = shape.q();
+    let mut row = 0usize;
+    let mut lane = 0usize;
+    for j in 0..matrix.check_count() {
+        call_if_lacking(matrix, rests[k + row * n + lane], k + j, waiting);
+        row += 1;
+        if row == q {
+            row = 0;
+            lane += 1;
+        }
+    }
+}
+
+/// The checks of the bits that lack are called.
+pub(crate) fn call_lacking(matrix: &Matrix, rests: &[u32], waiting: &mut Waiting)
+    requires long { length rests.now ≡ code_bits matrix.now.shape }
+    requires room { waiting.old.room ≡ (code_of matrix.now).checks }
+    ensures { waiting.new ≡ waiting_of waiting.old.room (call_for (code_of matrix.now) waiting.old.checks (filter (λ i. nat_lt (rest_at matrix.now.shape rests.now i) least_rest) (upto (code_of matrix.now).bits))) }
+{
+    call_information(matrix, rests, waiting);
+    call_parity(matrix, rests, waiting);
+}

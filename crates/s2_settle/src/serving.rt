@@ -1,0 +1,221 @@
+//! One check that is served: it takes its move back and moves anew, with no reserve.
+ghost use Rattle.std.specs.Prelude.{◌≡◌, ℕ, ◌≤◌, ◌<◌, ◌+◌, ◌*◌, ◌==◌, if◌then◌else◌, length};
+ghost use Rattle.s2_mode.specs.Limits.{most_bits};
+ghost use Rattle.s2_mode.specs.Shape.{code_bits};
+ghost use Rattle.s2_matrix.specs.Code.{code_of};
+ghost use Rattle.s2_bits.specs.Lanes32.{minus32};
+ghost use Rattle.s2_minsum.specs.Rows.{turned, AreIn};
+ghost use Rattle.s2_minsum.specs.Layout.{row_of_bit, lane_of_bit};
+ghost use Rattle.s2_settle.specs.Rests.{gap, received_by};
+ghost use Rattle.s2_settle.specs.Nodes.{first_of, second_of, least_at};
+ghost use Rattle.s2_settle.specs.Layer.{held, AreLong};
+ghost use Rattle.s2_settle.specs.Placing.{shown};
+ghost use Rattle.s2_settle.specs.Serving.{IsShifted, IsServed};
+
+use crate::calling::call_if_lacking;
+use crate::moves::target_of;
+use crate::waiting::Waiting;
+use s2_check::MOST_MOVED;
+use s2_matrix::Matrix;
+use s2_minsum::{Entry, Layers, last_row};
+use s2_mode::Shape;
+
+/// A move of a check: to which of its members, and how much.
+#[derive(Clone, Copy)]
+pub(crate) struct Moved {
+    target: u32,
+    amount: u32,
+}
+
+impl Moved {
+    /// By how much it raises the rest of a member.
+    fn raise(self, member: u32) -> u32
+        ensures { result ≡ (if self.target == member then self.amount else minus32 0 self.amount) }
+    {
+        if self.target == member {
+            self.amount
+        } else {
+            0u32.wrapping_sub(self.amount)
+        }
+    }
+}
+
+/// The place that an entry shows to the check in a lane.
+fn place_of_entry(entry: Entry, n: usize, lane: usize) -> usize
+    requires few { n ≤ most_bits }
+    requires rows { entry.row * n + n ≤ most_bits }
+    requires turn { entry.shift ≤ n }
+    requires lane { lane < n }
+    ensures { result ≡ entry.row * n + turned n entry.shift lane }
+{
+    let shift = entry.shift as usize;
+    let turned = if lane < shift {
+        lane + n - shift
+    } else {
+        lane - shift
+    };
+    entry.row as usize * n + turned
+}
+
+/// What the member at an entry gives to the check in a lane; more than any rest where it lacks one.
+fn receive_one(
+    entries: &[Entry],
+    n: usize,
+    last: usize,
+    rests: &[u32],
+    before: Moved,
+    lane: usize,
+    e: usize,
+) -> u32
+    requires entries { AreIn n entries.now (length rests.now) }
+    requires few { length rests.now ≤ most_bits }
+    requires many { length entries.now ≤ most_bits }
+    requires lane { lane < n }
+    requires entry { e < length entries.now }
+    ensures { result ≡ received_by n entries.now last rests.now before.target before.amount lane e }
+{
+    let entry = entries[e];
+    if lane == 0 && entry.row as usize == last && entry.shift == 1 {
+        return u32::MAX;
+    }
+    let rest = rests[place_of_entry(entry, n, lane)];
+    if before.target == e as u32 {
+        rest.wrapping_sub(before.amount)
+    } else {
+        rest.wrapping_add(before.amount)
+    }
+}
+
+/// The move of the check in a lane, to an entry, by what its members give.
+fn choose(
+    entries: &[Entry],
+    n: usize,
+    last: usize,
+    rests: &[u32],
+    before: Moved,
+    lane: usize,
+) -> Moved
+    requires entries { AreIn n entries.now (length rests.now) }
+    requires few { length rests.now ≤ most_bits }
+    requires many { length entries.now ≤ most_bits }
+    requires lane { lane < n }
+    ensures target { result.target ≡ least_at (received_by n entries.now last rests.now before.target before.amount lane) (length entries.now) }
+    ensures amount { result.amount ≡ gap 0 (first_of (received_by n entries.now last rests.now before.target before.amount lane) (length entries.now)) (second_of (received_by n entries.now last rests.now before.target before.amount lane) (length entries.now)) }
+{
+    let mut first = u32::MAX;
+    let mut second = u32::MAX;
+    let mut target = 0u32;
+    for e in 0..entries.len() {
+        let given = receive_one(entries, n, last, rests, before, lane, e);
+        let lower = first.min(given);
+        target = if lower == first { target } else { e as u32 };
+        second = second.min(first.max(given));
+        first = lower;
+    }
+    Moved {
+        target,
+        amount: (second.wrapping_sub(first) / 2).min(MOST_MOVED),
+    }
+}
+
+/// Where the rest of a bit stands.
+fn place_of(shape: Shape, bit: usize) -> usize
+    requires { bit < code_bits shape }
+    ensures is { result ≡ row_of_bit shape bit * shape.group + lane_of_bit shape bit }
+    ensures low { result < code_bits shape }
+{
+    let k = shape.k();
+    if bit < k {
+        return bit;
+    }
+    let j = bit - k;
+    (shape.groups() + j % shape.q()) * shape.group() + j / shape.q()
+}
+
+/// The rests of a check's members change by its moves, and the checks of those that change and then lack are called.
+fn shift(
+    matrix: &Matrix,
+    check: usize,
+    before: Moved,
+    now: Moved,
+    rests: &mut [u32],
+    waiting: &mut Waiting,
+)
+    requires check { check < (code_of matrix.now).checks }
+    requires long { length rests.old ≡ code_bits matrix.now.shape }
+    requires room { waiting.old.room ≡ (code_of matrix.now).checks }
+    ensures is { IsShifted matrix.now check before now rests.old rests.new waiting.old.checks waiting.new.checks }
+    ensures room { waiting.new.room ≡ waiting.old.room }
+{
+    let shape = matrix.shape();
+    for member in matrix.members_at(check) {
+        let change = now.raise(*member).wrapping_sub(before.raise(*member));
+        if change != 0 {
+            let place = place_of(shape, *member as usize);
+            let rest = rests[place].wrapping_add(change);
+            rests[place] = rest;
+            call_if_lacking(matrix, rest, *member as usize, waiting);
+        }
+    }
+}
+
+/// A check takes its move back and moves anew, with no reserve, and calls the checks of its members that then lack and
+/// whose rests that changed.
+pub(crate) fn serve(
+    matrix: &Matrix,
+    layers: &Layers<'_>,
+    check: usize,
+    rests: &mut [u32],
+    targets: &mut [u32],
+    amounts: &mut [u32],
+    waiting: &mut Waiting,
+)
+    requires layers { layers.now ≡ matrix.now }
+    requires check { check < (code_of matrix.now).checks }
+    requires long { AreLong matrix.now (held rests.old targets.old amounts.old) }
+    requires room { waiting.old.room ≡ (code_of matrix.now).checks }
+    ensures is { IsServed matrix.now check (held rests.old targets.old amounts.old) (held rests.new targets.new amounts.new) waiting.old.checks waiting.new.checks }
+    ensures room { waiting.new.room ≡ waiting.old.room }
+{
+    let shape = matrix.shape();
+    let n = shape.group();
+    let r = check % shape.q();
+    let lane = check / shape.q();
+    let at = r * n + lane;
+    let before = Moved {
+        target: targets[at],
+        amount: amounts[at],
+    };
+    let now = choose(
+        layers.entries(r),
+        n,
+        last_row(shape, r),
+        rests,
+        before,
+        lane,
+    );
+    targets[at] = now.target;
+    amounts[at] = now.amount;
+    shift(
+        matrix,
+        check,
+        by_member(matrix, layers, r, lane, before),
+        by_member(matrix, layers, r, lane, now),
+        rests,
+        waiting,
+    );
+}
+
+/// A move of the check in a lane of a layer, by the member that its entry shows.
+fn by_member(matrix: &Matrix, layers: &Layers<'_>, r: usize, lane: usize, entry: Moved) -> Moved
+    requires layers { layers.now ≡ matrix.now }
+    requires layer { r < matrix.now.shape.q }
+    requires lane { lane < matrix.now.shape.group }
+    ensures target { result.target ≡ shown matrix.now r lane entry.target }
+    ensures amount { result.amount ≡ entry.amount }
+{
+    Moved {
+        target: target_of(matrix, layers, r, lane, entry.target as usize) as u32,
+        amount: entry.amount,
+    }
+}

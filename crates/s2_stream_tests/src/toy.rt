@@ -1,0 +1,383 @@
+//! A receiver with a made-up decider, for tests: it takes frames of 8PSK 3/5 in short frames, with or without what a
+//! code would make of them. The first symbol behind a frame's header tells what it brings; its field has 100 bytes of zeros.
+//! As in `streams`, what has a large contract is called here and nowhere else in the tests.
+ghost use Rattle.std.specs.Prelude.{◌≡◌, ◌≤◌, IfOk, length};
+ghost use Rattle.s2_mode.specs.Limits.{most_symbols};
+ghost use Rattle.s2_receive.specs.Receiving.{IsLive, begun};
+ghost use Rattle.s2_stream_tests.specs.Toy.{told_by};
+
+use super::streams::{
+    ALL, Reader, Source, Steps, Writer, header_of, put_symbol, reader_of, taken, writer_of,
+};
+use s2_bbframe::Header;
+use s2_check::Verdict;
+use s2_mode::{Counted, MOST_SYMBOLS, Mode, StreamFault, Symbol, WriteFault};
+use s2_plframe::Lock;
+use s2_receive::{
+    Decide, Decided, Fault, Outcome, Received, Receiver, Report, Step, Totals, receive_all,
+    receive_bytes,
+};
+use std::alloc::{AllocError, Global};
+use std::test::Fail;
+
+/// The symbols of a frame, and of a dummy frame.
+pub(crate) const FRAME: u64 = 5490;
+
+pub(crate) const DUMMY: u64 = 3330;
+
+/// The 64 bits of a frame's header behind the mark, and those of a dummy frame's.
+const CODED_CODE: u64 = 0x8192_73C6_A34D_DDF5;
+
+const DUMMY_CODE: u64 = 0x719D_83C9_5342_2DFA;
+
+/// Decides by what a frame's symbols tell: below 0 nothing, else a field that goes to the place named.
+#[derive(Drop)]
+pub(crate) struct HalfPackets {
+    mode: Mode,
+    field: [u8; 100],
+    told: i16,
+}
+
+/// What a frame's symbols tell.
+fn told_by(symbols: &[Symbol]) -> i16
+    ensures { result ≡ told_by symbols.now }
+{
+    if symbols.len() > 90 { symbols[90].q } else { 0 }
+}
+
+impl Decide for HalfPackets {
+    ghost use Rattle.s2_mode.specs.Mode.{symbols_in};
+    ghost use Rattle.s2_stream_tests.specs.Toy.{told_by, place_for, decision_for};
+
+    ghost size = { λ d. symbols_in d.mode };
+
+    ghost decide = { λ d symbols. decision_for d.field (place_for (told_by symbols)) };
+
+    ghost field = { λ d. d.field };
+
+    ghost last = { λ d. decision_for d.field (place_for d.told) };
+
+    fn decide(&mut self, symbols: &[Symbol]) {
+        self.told = told_by(symbols);
+    }
+
+    fn decided(&self) -> Decided {
+        if self.told < 0 {
+            return Decided {
+                verdict: Verdict::Broken,
+                outcome: Outcome::NoWord,
+                header: None,
+            };
+        }
+        Decided {
+            verdict: Verdict::MostLikely,
+            outcome: Outcome::Delivered { fixed: 0 },
+            header: Some(Header {
+                roll_off: 0,
+                second: 0,
+                dfl: 800,
+                syncd: if self.told < 2 { 0 } else { 704 },
+            }),
+        }
+    }
+
+    fn field(&self) -> &[u8] {
+        &self.field
+    }
+}
+
+/// A receiver of these frames.
+pub(crate) type Toy = Receiver<HalfPackets>;
+
+/// A receiver that takes at most so many symbols.
+pub(crate) fn toy(alloc: Global, limit: u64) -> Result<Toy, Fail>
+    requires { limit ≤ MOST_SYMBOLS }
+    ensures limit { IfOk result (λ r. r.limit ≡ limit) }
+    ensures begun { IfOk result (λ r. r.state ≡ begun) }
+{
+    let mode = Mode::of(12, true, false).ok_or("no mode")?;
+    let decider = HalfPackets {
+        mode,
+        field: [0; 100],
+        told: 0,
+    };
+    Ok(Receiver::new(alloc, mode, Lock::usual(), decider, limit)?)
+}
+
+/// So many symbols at which nothing begins.
+pub(crate) fn put_symbols(bytes: &mut Vec<u8>, count: u32) -> Result<(), AllocError> {
+    for _ in 0..count {
+        put_symbol(bytes, Symbol { i: 1, q: 1 })?;
+    }
+    Ok(())
+}
+
+/// The header of these bits.
+fn put_code(bytes: &mut Vec<u8>, code: u64) -> Result<(), AllocError> {
+    for symbol in header_of(code) {
+        put_symbol(bytes, symbol)?;
+    }
+    Ok(())
+}
+
+/// The header of a frame.
+pub(crate) fn put_header(bytes: &mut Vec<u8>) -> Result<(), AllocError> {
+    put_code(bytes, CODED_CODE)
+}
+
+/// A frame whose first symbol behind the header has this Q.
+pub(crate) fn put_frame(bytes: &mut Vec<u8>, first: i16) -> Result<(), AllocError> {
+    put_header(bytes)?;
+    put_symbol(bytes, Symbol { i: 1, q: first })?;
+    put_symbols(bytes, 5399)
+}
+
+/// A dummy frame, or as many symbols of one, 90 at least.
+pub(crate) fn put_dummy(bytes: &mut Vec<u8>, symbols: u32) -> Result<(), AllocError> {
+    put_code(bytes, DUMMY_CODE)?;
+    put_symbols(bytes, symbols.saturating_sub(90))
+}
+
+/// A frame that was delivered.
+pub(crate) fn frame(number: u64, at: u64) -> Step {
+    Step::Frame(Report {
+        number,
+        at,
+        verdict: Verdict::MostLikely,
+        outcome: Outcome::Delivered { fixed: 0 },
+    })
+}
+
+/// A frame that was lost.
+pub(crate) fn lost(number: u64, at: u64) -> Step {
+    Step::Frame(Report {
+        number,
+        at,
+        verdict: Verdict::Broken,
+        outcome: Outcome::NoWord,
+    })
+}
+
+/// The totals of a stream in which nothing was lost but frames.
+pub(crate) fn totals(frames: u64, delivered: u64, packets: u64) -> Totals {
+    Totals {
+        frames,
+        delivered,
+        packets,
+        bad: 0,
+        torn: 0,
+        cut: false,
+        passed: 0,
+        places: 0,
+        first: 0,
+    }
+}
+
+/// Calls a receiver once.
+pub(crate) fn step(
+    receiver: &mut Toy,
+    reader: &mut Reader<'_>,
+    packets: &mut Writer,
+    report: &mut Writer,
+) -> Result<Step, Fault> {
+    let failed = [reader.count(), packets.count(), report.count()];
+    if failed[0] == u64::MAX || failed[1] == u64::MAX || failed[2] == u64::MAX {
+        return Err(Fault::Failed);
+    }
+    receiver.next(reader, packets, report)
+}
+
+/// The first half of a step.
+pub(crate) fn meet(receiver: &mut Toy, reader: &mut Reader<'_>) -> Result<Step, Fault> {
+    if reader.count() == u64::MAX {
+        return Err(Fault::Failed);
+    }
+    receiver.meet(reader)
+}
+
+/// The second half of a step.
+pub(crate) fn deliver(
+    receiver: &mut Toy,
+    packets: &mut Writer,
+    report: &mut Writer,
+) -> Result<(), Fault> {
+    if packets.count() == u64::MAX || report.count() == u64::MAX {
+        return Err(Fault::Failed);
+    }
+    receiver.deliver(packets, report)
+}
+
+fn five_steps(
+    receiver: &mut Toy,
+    reader: &mut Reader<'_>,
+    packets: &mut Writer,
+    report: &mut Writer,
+) -> Steps {
+    let mut steps = [Err(Fault::Failed); 5];
+    for answer in steps.iter_mut() {
+        *answer = step(receiver, reader, packets, report);
+    }
+    steps
+}
+
+/// What five calls of a receiver answered and wrote, and its totals behind them.
+pub(crate) struct Taken {
+    pub(crate) steps: Steps,
+    pub(crate) packets: Vec<u8>,
+    pub(crate) report: Vec<u8>,
+    pub(crate) totals: Totals,
+}
+
+impl Drop for Taken {
+    fn drop(self) {
+        let Taken {
+            steps: _,
+            packets: _,
+            report: _,
+            totals: _,
+        } = self;
+    }
+}
+
+fn taken_by(alloc: Global, receiver: &mut Toy, source: Source<'_>) -> Taken {
+    let mut reader = reader_of(source, ALL);
+    let mut packets = writer_of(alloc, ALL);
+    let mut report = writer_of(alloc, ALL);
+    let steps = five_steps(receiver, &mut reader, &mut packets, &mut report);
+    Taken {
+        steps,
+        packets: taken(packets),
+        report: taken(report),
+        totals: receiver.totals(),
+    }
+}
+
+/// Calls a new receiver five times, which takes at most so many symbols.
+pub(crate) fn take_within(alloc: Global, limit: u64, source: Source<'_>) -> Result<Taken, Fail> {
+    match toy(alloc, limit.min(MOST_SYMBOLS)) {
+        Ok(mut receiver) => Ok(taken_by(alloc, &mut receiver, source)),
+        Err(fault) => Err(fault),
+    }
+}
+
+/// Calls a new receiver five times.
+pub(crate) fn take(alloc: Global, source: Source<'_>) -> Result<Taken, Fail> {
+    take_within(alloc, MOST_SYMBOLS, source)
+}
+
+/// Lets a receiver run to the end of what is read.
+fn run_receiver(
+    receiver: &mut Toy,
+    reader: &mut Reader<'_>,
+    packets: &mut Writer,
+    report: &mut Writer,
+) -> Result<Received, StreamFault>
+    requires { IsLive receiver.old.state.phase }
+{
+    let failed = [reader.count(), packets.count(), report.count()];
+    if failed[0] == u64::MAX || failed[1] == u64::MAX || failed[2] == u64::MAX {
+        return Err(StreamFault::Read);
+    }
+    receive_all(receiver, reader, packets, report)
+}
+
+/// What a run came to, and its report.
+pub(crate) struct Whole {
+    pub(crate) answer: Result<Received, StreamFault>,
+    pub(crate) report: Vec<u8>,
+}
+
+impl Drop for Whole {
+    fn drop(self) {
+        let Whole {
+            answer: _,
+            report: _,
+        } = self;
+    }
+}
+
+fn whole_by(alloc: Global, receiver: &mut Toy, bytes: &[u8]) -> Whole
+    requires { IsLive receiver.old.state.phase }
+{
+    let mut reader = reader_of(Source::Slice(bytes), ALL);
+    let mut packets = writer_of(alloc, ALL);
+    let mut report = writer_of(alloc, ALL);
+    let answer = run_receiver(receiver, &mut reader, &mut packets, &mut report);
+    Whole {
+        answer,
+        report: taken(report),
+    }
+}
+
+/// What comes of all of these bytes by a single call of a receiver that takes at most so many symbols.
+pub(crate) fn receive_within(alloc: Global, limit: u64, bytes: &[u8]) -> Result<Whole, Fail> {
+    match toy(alloc, limit.min(MOST_SYMBOLS)) {
+        Ok(mut receiver) => Ok(whole_by(alloc, &mut receiver, bytes)),
+        Err(fault) => Err(fault),
+    }
+}
+
+/// The same of one without a limit of its own, where nothing fails.
+pub(crate) fn receive(alloc: Global, bytes: &[u8]) -> Result<Received, Fail> {
+    Ok(receive_within(alloc, MOST_SYMBOLS, bytes)?.answer?)
+}
+
+/// Receives bytes in memory.
+fn receive_into(
+    receiver: &mut Toy,
+    bytes: &[u8],
+    packets: &mut Writer,
+    report: &mut Writer,
+) -> Result<Totals, WriteFault>
+    requires begun { receiver.old.state ≡ begun }
+    requires limit { receiver.old.limit ≡ most_symbols }
+{
+    if packets.count() == u64::MAX || report.count() == u64::MAX {
+        return Err(WriteFault);
+    }
+    let bytes = &bytes[..bytes.len().min(1 << 30)];
+    receive_bytes(receiver, bytes, packets, report)
+}
+
+/// What comes of bytes in memory.
+pub(crate) struct InBytes {
+    pub(crate) answer: Result<Totals, WriteFault>,
+    pub(crate) packets: Vec<u8>,
+    pub(crate) report: Vec<u8>,
+}
+
+impl Drop for InBytes {
+    fn drop(self) {
+        let InBytes {
+            answer: _,
+            packets: _,
+            report: _,
+        } = self;
+    }
+}
+
+fn in_bytes_by(alloc: Global, receiver: &mut Toy, bytes: &[u8], writes: [u64; 2]) -> InBytes
+    requires begun { receiver.old.state ≡ begun }
+    requires limit { receiver.old.limit ≡ most_symbols }
+{
+    let mut packets = writer_of(alloc, writes[0]);
+    let mut report = writer_of(alloc, writes[1]);
+    let answer = receive_into(receiver, bytes, &mut packets, &mut report);
+    InBytes {
+        answer,
+        packets: taken(packets),
+        report: taken(report),
+    }
+}
+
+/// What comes of bytes in memory, where so many writes of packets and so many of lines pass.
+pub(crate) fn receive_in_bytes(
+    alloc: Global,
+    bytes: &[u8],
+    writes: [u64; 2],
+) -> Result<InBytes, Fail> {
+    match toy(alloc, MOST_SYMBOLS) {
+        Ok(mut receiver) => Ok(in_bytes_by(alloc, &mut receiver, bytes, writes)),
+        Err(fault) => Err(fault),
+    }
+}

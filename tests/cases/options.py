@@ -1,0 +1,242 @@
+"""The effect of each option of each command: cases with several of its values and without it, with input for which they differ.
+`unshown` compares them with the options in the help: an option without a case fails the test."""
+import re
+from dataclasses import dataclass, field
+
+from cases import links, listing, progress
+from cases.common import ANY, FINE, LINK, NO, PACKET, PAIR, STORED_MOVED, TOY, TWO, WANTED, Case, Rule, digest, noted
+from cases.drawn import made_rows, spoilt
+from cases.judging import LEFT
+from cases.links import NOISY, NONE, PARITY, SAMPLES, wrong_headers
+from cases.modes import PACKETS, WORDS
+from cases.words import WANTED_NORMAL
+
+
+@dataclass
+class Effect:
+    """The results of a command for several values of an option, which replaces {}; "" leaves it out. Equal results are one object, and
+    different objects are different results. `more` holds further fields of all cases."""
+
+    option: str
+    words: str
+    ends: dict
+    more: dict = field(default_factory=dict)
+
+    def cases(self):
+        return [Case(" ".join(self.words.format(value).split()), **self.more, **end) for value, end in self.ends.items()]
+
+    def name(self):
+        return self.words.split()[0]
+
+
+def ended(printed="", code=FINE, errors="", **writes):
+    return {"code": code, "out": printed, "errors": errors, "writes": writes}
+
+
+def refused(text, *notes, **writes):
+    return ended("", 1, noted(*notes) + f"s2: {text}\n", **writes)
+
+
+def each(option, values, ends):
+    return {f"{option} {value}": end for value, end in zip(values, ends)}
+
+
+def by_default(option, default, other, usual, changed):
+    """The results without an option, with its default value, and with another value."""
+    return {"": usual, f"{option} {default}": usual, f"{option} {other}": changed}
+
+
+ROWS_NOTE = "these rows are not the standard's for QPSK 1/4, short"
+TOO_FEW = "rows: too few rows"
+
+
+def too_large(rows, bound):
+    """The fault of a row file for a mode with fewer checks."""
+    lines = [max(map(int, line.split())) for line in rows.split(b"\n") if line]
+    return f"rows: address too large in line {1 + next(at for at, most in enumerate(lines) if most >= bound)}"
+
+
+OTHER_SHORT = too_large(made_rows(360, 9, 36, 3, 1), 10_800), "QPSK 1/3, short wants 15 rows of addresses below 10800"
+
+
+def rows_effects():
+    """Made rows with each number changed."""
+    usual = {"group": 4, "groups": 2, "q": 3, "weight": 3, "seed": 7}
+    for name, other in {"group": 5, "groups": 3, "q": 4, "weight": 2, "seed": 8}.items():
+        words = " ".join(f"--{it} {value}" for it, value in usual.items() if it != name)
+        ends = [ended(made_rows(*{**usual, name: value}.values()).decode()) for value in (usual[name], other)]
+        yield Effect(f"--{name}", f"rows {words} {{}}", each(f"--{name}", (usual[name], other), ends))
+    yield Effect("--quiet", f"rows {PAIR} --weight 1 --seed 1 {{}}", dict.fromkeys(("", "--quiet"), ended("0\n")))
+
+
+def judge_effects():
+    sole, parity = ended("sole cost -45\n"), ended("parity cost -2\n", NO)
+    shapes = {"group": (4, 2, "rows: address too large in line 1"), "groups": (2, 1, "rows: too many rows"), "q": (3, 4, "values: too few")}
+    for name, (usual, other, text) in shapes.items():
+        words = TOY.replace(f"--{name} {usual}", "{}")
+        yield Effect(f"--{name}", f"judge {words} toy stored", each(f"--{name}", (usual, other), (sole, refused(text))))
+    yield Effect("--cert", f"judge {TOY} {{}} toy stored", {"": sole, "--cert out": ended("sole cost -45\n", out=STORED_MOVED)})
+    (shape, rows), passes, values, line, *_ = LEFT[0]
+    ends, soft = (ended(line.replace("sole", "most-likely")), ended(line)), {"reads": {"rows": rows, "values": values}}
+    yield Effect("--passes", f"judge {shape} {{}} rows values", by_default("--passes", 0, passes, *ends), soft)
+    values = {"reads": {"values": b"-5 3"}}
+    yield Effect("--uncertified", f"judge {PAIR} {{}} pair values", {"": ended("most-likely cost -2\n"), "--uncertified": parity}, values)
+    broken, likely = ended("broken cost -5 check 0\n", NO), ended("most-likely cost 0\n")
+    yield Effect("--factor", f"judge {PAIR} {{}} pair odd", by_default("--factor", 12, 13, broken, likely))
+    yield Effect("--quiet", f"judge {TOY} {{}} toy stored", dict.fromkeys(("", "--quiet"), sole))
+
+
+def few_effects():
+    """Commands with few options."""
+    yield Effect("--rate", "modes {}", {"": ended(listing.listed()), "--rate 27500000": ended(listing.listed(27500000))})
+    yield Effect("--quiet", "modes {}", dict.fromkeys(("", "--quiet"), ended(listing.listed())))
+    yield Effect("--quiet", "check toy certificate {}", dict.fromkeys(("", "--quiet"), ended("sole cost -45\n")))
+    other = ended("other\n", NO)
+    yield Effect("--modcod", "table {} --short made", each("--modcod", (1, "qpsk1/4", 2), (other, other, refused(*OTHER_SHORT))))
+    yield Effect("--short", "table --modcod 1 {} made", {"--short": other, "": refused(TOO_FEW, WANTED_NORMAL)})
+    yield Effect("--quiet", f"table {LINK} {{}} toy", {"": refused(TOO_FEW, WANTED), "--quiet": refused(TOO_FEW)})
+    for name, values, rest in (("seed", (1, 2), "--level 256"), ("level", (256, 512), "--seed 1")):
+        made = [ended(out=spoilt(SAMPLES, *((it, 256) if name == "seed" else (1, it)))) for it in values]
+        yield Effect(f"--{name}", f"noise {rest} {{}} in out", each(f"--{name}", values, made), {"reads": {"in": SAMPLES}})
+
+
+def mod_effects(two, dummy):
+    by_words = {words: ended("packets 2 frames 1\n", out=digest(number)) for words, _, _, number in WORDS if words != "--short"}
+    usual, reads = by_words[""], {"reads": {"in": PACKETS, "rows": made_rows(360, 90, 90, 3, 1)}}
+    many = too_large(reads["reads"]["rows"], 25_920), "QPSK 3/5, normal wants 108 rows of addresses below 25920"
+    yield Effect("--modcod", "mod {} rows in out", each("--modcod", (4, "qpsk1/2", 5), (usual, usual, refused(*many, out=b""))), reads)
+    yield Effect("--pilots", "mod --modcod 4 {} rows in out", {"": usual, "--pilots": by_words["--pilots"]}, reads)
+    yield Effect("--number", "mod --modcod 4 {} rows in out", by_default("--number", 0, 262141, usual, by_words["--number 262141"]), reads)
+    yield Effect("--ro", "mod --modcod 4 {} rows in out", by_default("--ro", 0, 1, usual, by_words["--ro 1"]) | {"--ro 2": by_words["--ro 2"]}, reads)
+    sent, one, other = "packets 2 frames 2\n", two[:32_760], two[32_760:]
+    whole, apart = ended(sent, out=two), ended(sent, out=one + dummy + other + dummy)
+    yield Effect("--short", "mod --modcod 1 {} made packets out", {"--short": whole, "": refused(TOO_FEW, WANTED_NORMAL, out=b"")})
+    yield Effect("--dummy", f"mod {LINK} {{}} made packets out", by_default("--dummy", 0, 1, whole, apart))
+    yield Effect("--quiet", f"mod {LINK} {{}} made packets out", {"": ended(sent, FINE, noted(ROWS_NOTE), out=two), "--quiet": whole}, {"noted": True})
+
+
+def received(report, code=FINE, packets=2 * PACKET, notes=()):
+    return ended(report, code, noted(*notes), out=packets)
+
+
+WELL = received(TWO)
+# Noisy frames without certificates, and with a certificate for each frame.
+UNCERTIFIED = received(PARITY, NO)
+CERTIFIED = received(Rule("two frames, each certified", lambda got: re.fullmatch(rb"(frame .* (sole|most-likely) fixed 0\n){2}end .*\n", got)))
+# If the second of two frames is not found.
+PASSED = ["8190 symbols passed over in 1 places, the first at 8190"]
+UNFOUND = received("frame 1 at 0 sole fixed 0\nend frames 1 delivered 1 packets 1 bad 0\n", FINE, PACKET, PASSED)
+
+
+def both(option, words, ends, channel, more):
+    """An option of `demod` and of `run`. `run` adds the noise of a seed and a level; the input of `demod` already has it."""
+    yield Effect(option, f"demod {words} made in out", ends, more)
+    yield Effect(option, f"run {words} --seed {channel[0]} --level {channel[1]} made packets out", ends)
+
+
+def tuning_effects(two, report):
+    """`report` returns the report of the noisy symbols after two rounds, for a divisor and a factor."""
+    noisy = {"reads": {"in": spoilt(two, *NOISY)}}
+    by = {pair: received(report(*pair), NO) for pair in ((4096, 12), (8192, 12), (4096, 13), (8192, 15))}
+    usual, words = by[4096, 12], f"{LINK} --rounds 2 {{}}"
+    yield from both("--divisor", words, by_default("--divisor", 4096, 8192, usual, by[8192, 12]), NOISY, noisy)
+    yield from both("--factor", words, by_default("--factor", 12, 13, usual, by[4096, 13]), NOISY, noisy)
+    yield from both("--tuned", words, {"": usual, "--tuned": by[8192, 15]}, NOISY, noisy)
+    # the result of fifty rounds, the default, is only known to differ from those of one and two
+    many, one = ({"code": ANY, "out": ANY, "errors": "", "writes": {"out": ANY}} for _ in range(2))
+    ends = {"": many, "--rounds 50": many, "--rounds 2": usual, "--rounds 1": one}
+    yield from both("--rounds", f"{LINK} {{}}", ends, NOISY, noisy)
+    hard, soft = {"reads": {"in": spoilt(two, 1, 500)}}, {"reads": {"in": spoilt(two, 1, 400)}}
+    yield from both("--passes", f"{LINK} {{}}", by_default("--passes", 0, 96, UNCERTIFIED, WELL), (1, 500), hard)
+    yield from both("--uncertified", f"{LINK} {{}}", {"": CERTIFIED, "--uncertified": UNCERTIFIED}, (1, 400), soft)
+
+
+def link_effects(two):
+    """The options that select the frames that are sent."""
+    few, other = refused(TOO_FEW, WANTED_NORMAL, out=b""), refused(*OTHER_SHORT, out=b"")
+    clean = {"reads": {"in": two}}
+    yield from both("--modcod", "{} --short", each("--modcod", (1, "QPSK1/4", 2), (WELL, WELL, other)), (1, 0), clean)
+    yield from both("--short", "--modcod 1 {}", {"--short": WELL, "": few}, (1, 0), clean)
+    yield Effect("--quiet", f"demod {LINK} {{}} made in out", {"": received(TWO, notes=[ROWS_NOTE]), "--quiet": WELL}, {**clean, "noted": True})
+    yield Effect("--quiet", f"run {LINK} {{}} --seed 1 --level 0 made packets out", {"": received(TWO, notes=[ROWS_NOTE]), "--quiet": WELL}, {"noted": True})
+
+
+def demod_effects(two, pilots):
+    words, end = f"{LINK} --pilots", "end frames 2 delivered {0} packets {0} bad 0\n"
+    deaf = received(NONE, FINE, b"", ["16740 symbols passed over in 1 places, the first at 0", "no frame of QPSK 1/4, short in 16740 symbols"])
+    heard, lost = received(TWO.replace("8190", "8370")), received(Rule("lost frames", lambda got: got.decode().endswith(end.format(0))), NO, b"")
+    yield Effect("--pilots", f"demod {LINK} --number 7 {{}} made in out", {"": deaf, "--pilots": heard}, {"reads": {"in": pilots}})
+    yield Effect("--number", f"demod {words} {{}} made in out", by_default("--number", 0, 7, lost, heard), {"reads": {"in": pilots}})
+    # a receiver accepts any roll-off
+    yield Effect("--ro", f"demod {LINK} {{}} made in out", dict.fromkeys(("", "--ro 0", "--ro 1", "--ro 2"), WELL), {"reads": {"in": two}})
+    for wrong in (13, 20, 30, 40):
+        by_lock = {f"--lock {lock}": WELL if wrong <= lock else UNFOUND for lock in sorted({12, wrong - 1, wrong, 30, 40})}
+        yield Effect("--lock", f"demod {LINK} {{}} made in out", {"": UNFOUND} | by_lock, {"reads": {"in": wrong_headers(two, wrong)}})
+    gap = ["100 symbols passed over in 1 places, the first at 16380"]
+    ends = {"": received(TWO, notes=gap), "--strict": received(TWO, NO, notes=gap)}
+    yield Effect("--strict", f"demod {LINK} {{}} made in out", ends, {"reads": {"in": two + bytes(400)}})
+
+
+def run_effects(report, others):
+    """`others` are the reports of noisy symbols after two rounds: with default options, with scrambling number 7, and with roll-off 1."""
+    noise, words = "--seed {} --level {}".format(*links.TURNED), f"run {LINK} --rounds 2"
+    usual, by_number, by_roll_off = (received(text, NO) for text in others)
+    yield Effect("--number", f"{words} {noise} {{}} made packets out", by_default("--number", 0, 7, usual, by_number))
+    yield Effect("--ro", f"{words} {noise} {{}} made packets out", by_default("--ro", 0, 1, usual, by_roll_off))
+    usual = received(report(4096, 12), NO)
+    yield Effect("--level", f"{words} --seed {NOISY[0]} {{}} made packets out", each("--level", (NOISY[1], 0), (usual, WELL)))
+    other = {"code": ANY, "out": ANY, "errors": "", "writes": {"out": ANY}}
+    yield Effect("--seed", f"{words} --level {NOISY[1]} {{}} made packets out", each("--seed", (NOISY[0], 15), (usual, other)))
+    yield Effect("--pilots", f"run {LINK} --seed 1 --level 0 {{}} made packets out", {"": WELL, "--pilots": received(TWO.replace("8190", "8370"))})
+    apart = received(TWO.replace("8190", "11520"))
+    yield Effect("--dummy", f"run {LINK} --seed 1 --level 0 {{}} made packets out", by_default("--dummy", 0, 1, WELL, apart))
+    deaf = ["16380 symbols passed over in 1 places, the first at 0", "no frame of QPSK 1/4, short in 16380 symbols"]
+    ends = {"": received(NONE, FINE, b"", deaf), "--strict": received(NONE, NO, b"", deaf)}
+    yield Effect("--strict", f"run {LINK} --seed 1 --level 65535 {{}} made packets out", ends)
+    # 13 to 30 bits of the second header are wrong
+    one, both_found = (received(Rule(f"{frames} frames", lambda got, frames=frames: f"end frames {frames} ".encode() in got), NO, ANY, PASSED[: 2 - frames]) for frames in (1, 2))
+    yield Effect("--lock", "run {} {{}} --seed {} --level {} made packets out".format(LINK, *links.LOCKED), by_default("--lock", 12, 30, one, both_found))
+
+
+def effects(two, pilots, dummy, report, others):
+    found = [*rows_effects(), *judge_effects(), *few_effects(), *mod_effects(two, dummy), *tuning_effects(two, report)]
+    return found + [*link_effects(two), *demod_effects(two, pilots), *run_effects(report, others)]
+
+
+# Options with cases in progress.py.
+SHOWN = {(name, option) for name in progress.WORDS for option in ("--quiet", "--progress")}
+
+
+def told(text):
+    """The options in the help of a command, each with its default and whether it is required."""
+    usage = re.search(r"^Usage: (.*)$", text, re.M)[1]
+    found = re.findall(r"^ +(?:-\w, )?(--\w+)\b(.*)$", text.partition("\nOptions:\n")[2].partition("\n\n")[0], re.M)
+    defaults = {option: re.search(r"\[default: (\S+?)\]", rest) for option, rest in found if option != "--help"}
+    return {option: (default and default[1], f"{option} " in usage) for option, default in defaults.items()}
+
+
+def is_shown(option, default, must_stand, effect):
+    """Whether an effect covers an option: its absence if it is not required, its default, and another value."""
+    if not must_stand and "" not in effect.ends:
+        return False
+    if default is not None and effect.ends.get(f"{option} {default}") is not effect.ends[""]:
+        return False
+    return any(option in value.split() for value in effect.ends)
+
+
+def unshown(name, text, found):
+    """The options in the help of a command that no effect covers."""
+    of_name = [effect for effect in found if effect.name() == name]
+    return [
+        option
+        for option, (default, must_stand) in told(text).items()
+        if (name, option) not in SHOWN and not any(it.option == option and is_shown(option, default, must_stand, it) for it in of_name)
+    ]
+
+
+# Options without a visible effect: these commands write no notes, and a receiver accepts any roll-off.
+SAME = {("modes", "--quiet"), ("rows", "--quiet"), ("judge", "--quiet"), ("check", "--quiet"), ("demod", "--ro")}
+
+
+def has_difference(effect):
+    return (len({id(end) for end in effect.ends.values()}) > 1) != ((effect.name(), effect.option) in SAME)

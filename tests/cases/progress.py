@@ -1,0 +1,120 @@
+"""The progress line, as docs/formats.md describes it. The numbers of each line must agree with each other and with the files. When the
+command has ended, and between the lines of a report, nothing of it may be left."""
+import re
+
+from cases.common import LINK, PACKET
+
+# Symbols of a frame of LINK and packets sent; seconds between two readings of the clock of `meter.c`, and the least bytes between them.
+FRAME, PACKETS = 8190, 100
+STEPS = {"mod": 0.15, "noise": 0.15, "demod": 0.15, "run": 0.4}
+PIECES = {"mod": 1 << 16, "noise": 1 << 16, "demod": 1 << 16, "run": 1 << 11}
+FILES = {"many": PACKETS * PACKET}
+WORDS = {
+    "mod": f"mod {LINK} made many out",
+    "noise": "noise --seed 1 --level 0 frames out",
+    "demod": f"demod {LINK} made frames out",
+    "run": f"run {LINK} --seed 1 --level 0 made many out",
+}
+READS = {"mod": "many", "noise": "frames", "demod": "frames", "run": "many"}
+# Additional words, whether standard error is a terminal, and whether progress is shown.
+ASKED = [
+    ("", False, False),
+    ("--progress", False, True),
+    ("--quiet --progress", False, True),
+    ("", True, True),
+    ("--progress", True, True),
+    ("--quiet", True, False),
+    ("--quiet --progress", True, True),
+]
+# Commands that print their report while progress is shown, and whether on standard output; and the reports.
+REPORTED = [(WORDS["mod"], True), (WORDS["demod"], True), (WORDS["run"], True), (WORDS["mod"][:-3] + "-", False), (WORDS["demod"][:-3] + "-", False)]
+FRAMES = PACKETS // 2 + 1
+SENT = [f"packets {PACKETS} frames {FRAMES}"]
+RECEIVED = [f"frame {at + 1} at {FRAME * at} sole fixed 0" for at in range(FRAMES)] + [f"end frames {FRAMES} delivered {FRAMES} packets {PACKETS} bad 0"]
+LINE = re.compile(
+    r"s2: (?:(?P<frames>\d+) frames, )?(?:(?P<packets>\d+) packets, )?(?P<mega>\d+\.\d) MB"
+    r"(?:, (?P<rate>\d+) symbols/s)?(?:, (?P<share>\d+)%)?(?:, (?P<left>\d+) s left)? *"
+)
+SHOWN = {
+    "mod": {"frames", "packets", "rate", "share", "left"},
+    "noise": {"rate", "share", "left"},
+    "demod": {"frames", "packets", "rate", "share", "left"},
+    "run": {"packets", "share", "left"},
+}
+
+
+def rendered(seen):
+    """The lines that a terminal shows at the end."""
+    lines, at = [""], 0
+    for char in seen.decode():
+        if char == "\n":
+            lines.append("")
+        if char in "\r\n":
+            at = 0
+        else:
+            lines[-1] = lines[-1][:at].ljust(at) + char + lines[-1][at + 1 :]
+            at += 1
+    return [line.rstrip() for line in lines]
+
+
+def lines_of(seen):
+    """All progress lines, in order."""
+    return [LINE.fullmatch(part) for part in re.split(r"[\r\n]", seen.decode()) if part.startswith("s2: ") and not part.startswith("s2: note: ")]
+
+
+class Range:
+    """A number of bytes that is known only as a range."""
+
+    def __init__(self, least, most):
+        self.least, self.most = least, most
+
+    def plus(self, other):
+        return Range(self.least + other.least, self.most + other.most)
+
+    def gives(self, number, per, part=1):
+        """Whether part / per of the bytes, rounded down, can be this number."""
+        return part * self.least // per <= number <= part * self.most // per
+
+
+def units(number, size):
+    return Range(number * size, number * size + size - 1)
+
+
+def passed(name, shown, length):
+    """Returns the bytes done, the bytes read and written, and the bytes of symbols."""
+    both = units(round(10 * float(shown["mega"])), 100_000)
+    if name == "noise":
+        half = Range(both.least // 2 - 8192, both.most // 2 + 8192)
+        return half, both, half
+    packets = units(int(shown["packets"]), 188)
+    if name == "run":
+        # the line counts received packets as soon as there are some; all packets are read by then
+        done = packets.plus(Range(length, length)) if int(shown["share"]) >= 50 else packets
+        return done, done, None
+    frames = units(int(shown["frames"]), 4 * FRAME)
+    return packets if name == "mod" else frames, packets.plus(frames), frames
+
+
+def is_line(name, shown, number, length):
+    """Whether the numbers of a line agree with each other and with the length of the input. Line N is written N seconds after the start,
+    or later by at most one reading of the clock for each line."""
+    if not shown or {key for key in ("frames", "packets", "rate", "share", "left") if shown[key]} != SHOWN[name]:
+        return False
+    done, both, symbols = passed(name, shown, length)
+    whole, least, most = 2 * length if name == "run" else length, number, (number + 1) * (1 + STEPS[name])
+    fine = [done.gives(int(shown["share"]), whole, 100), both.gives(round(10 * float(shown["mega"])), 100_000)]
+    left = (whole - done.most) * least / done.most - 1, (whole - done.least) * most / max(1, done.least)
+    fine.append(left[0] <= int(shown["left"]) <= left[1])
+    if symbols:
+        fine.append(symbols.least / 4 / most - 1 <= int(shown["rate"]) <= symbols.most / 4 / least)
+    return all(fine)
+
+
+def is_possible(shown, length, size):
+    """Whether the line counts no more bytes than both files have."""
+    return round(10 * float(shown["mega"])) <= (length + size) // 100_000
+
+
+def most_readings(name, passing):
+    """The most readings of the clock for so many bytes."""
+    return passing // PIECES[name] + 3
