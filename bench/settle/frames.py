@@ -20,9 +20,13 @@ SHAPES = [
     (17, 9, 11, 4), (20, 20, 20, 4), (45, 9, 6, 3), (360, 2, 2, 3), (3, 100, 40, 4),
 ]
 FORTY = [(*shape, 4 * n + k + 1, deviation, 40) for n, shape in enumerate(SHAPES) for k, deviation in enumerate((40, 50, 60, 70))]
+# The smallest code, found and given up; and check 0 has one member.
+CORNERS = [(1, 1, 1, 1, 2, 90, 40), (1, 1, 1, 1, 10, 120, 40), (1, 4, 14, 2, 5, 100, 40), (4, 3, 5, 2, 13, 100, 40)]
+# The last one's first queue ends at its 4000th step, and passes go on from there.
 REAL = [
     (360, 20, 25, 6, 101, 50, 40), (360, 33, 12, 4, 102, 40, 40), (360, 40, 5, 3, 103, 30, 40),
     (360, 90, 90, 6, 104, 60, 40), (360, 135, 45, 4, 105, 45, 40), (360, 162, 18, 3, 106, 30, 40),
+    (360, 20, 25, 6, 37, 76, 40),
 ]
 
 
@@ -95,5 +99,5 @@ def tell(group, groups, q, weight, seed, deviation, passes, judged=True):
 
 
 if __name__ == "__main__":
-    for one in REAL if "real" in sys.argv[1:] else FORTY:
+    for one in REAL if "real" in sys.argv[1:] else FORTY + CORNERS:
         tell(*one, judged="real" not in sys.argv[1:])

@@ -64,14 +64,24 @@ const FORTY: [Frame; 40] = [
     (3, 100, 40, 4, 40, 70, 0, Verdict::Broken),
 ];
 
-/// Of the shapes of short and normal frames; their verdicts are left out.
-const REAL: [Frame; 6] = [
+/// The smallest code, found and given up; and codes whose first check has one member.
+const CORNERS: [Frame; 4] = [
+    (1, 1, 1, 1, 2, 90, 489708926, Verdict::Sole),
+    (1, 1, 1, 1, 10, 120, 0, Verdict::Broken),
+    (1, 4, 14, 2, 5, 100, 3247720141, Verdict::Sole),
+    (4, 3, 5, 2, 13, 100, 1866514994, Verdict::Sole),
+];
+
+/// Of the shapes of short and normal frames; their verdicts are left out. The last one's first queue ends at its 4000th
+/// step, with checks waiting, and passes go on from there.
+const REAL: [Frame; 7] = [
     (360, 20, 25, 6, 101, 50, 2135210895, Verdict::Sole),
     (360, 33, 12, 4, 102, 40, 3672152356, Verdict::Sole),
     (360, 40, 5, 3, 103, 30, 693270136, Verdict::Sole),
     (360, 90, 90, 6, 104, 60, 1201382014, Verdict::Sole),
     (360, 135, 45, 4, 105, 45, 1776986091, Verdict::Sole),
     (360, 162, 18, 3, 106, 30, 1429844023, Verdict::Sole),
+    (360, 20, 25, 6, 37, 76, 3678438688, Verdict::Sole),
 ];
 
 /// Sixteen bits of no order.
@@ -234,6 +244,15 @@ fn assert_found<R: Abort + AllocGlobal>(rt: &R, frame: &Frame, judged: bool) -> 
 #[test]
 fn settles_as_another_program_does(rt: HostRuntime) -> Result<(), Fail> {
     for frame in &FORTY {
+        assert_found(&rt, frame, true)?;
+    }
+    Ok(())
+}
+
+/// The smallest codes, and checks of one member.
+#[test]
+fn settles_corners_as_another_program_does(rt: HostRuntime) -> Result<(), Fail> {
+    for frame in &CORNERS {
         assert_found(&rt, frame, true)?;
     }
     Ok(())

@@ -1,7 +1,5 @@
 -- What an answer says of what the bytes say.
 use Rattle.std.specs.Prelude.{◌≡◌, IsOk, Result, Ok, Err}
-use Rattle.s2_mode.specs.Shape.{Shape}
-use Rattle.s2_file.specs.File.{File}
 use Rattle.s2_file.specs.declared.fault.CertFault.{CertFault}
 use Rattle.s2_file.specs.declared.fault.CertFault.TheVariants as faults
 
@@ -15,8 +13,3 @@ FileAnswer view (Err e) said = said ≡ Err e
 abbrev pub Reads : {V F : Type 0} → (V → F) → Result V CertFault → Result F CertFault → Type 0
 Reads view (Ok v) said = said ≡ Ok (view v)
 Reads view (Err e) said = said ≡ Err e
-
--- the shape that a file says, or its first refusal
-abbrev pub shape_said : Result File CertFault → Result Shape CertFault
-shape_said (Ok file) = Ok file.shape
-shape_said (Err e) = Err e

@@ -3,7 +3,7 @@ ghost use Rattle.std.specs.Prelude.{◌≡◌, IfOk, OnOk, true, length};
 ghost use Rattle.s2_file.specs.File.{IsFile, IsSplit};
 ghost use Rattle.s2_file.specs.Format.{body, body_at, file_of, file_of_bytes, split, IsHeader};
 ghost use Rattle.s2_file.specs.Held.{split_in};
-ghost use Rattle.s2_file.specs.Answers.{FileAnswer, Reads, shape_said};
+ghost use Rattle.s2_file.specs.Answers.{FileAnswer, Reads};
 
 use crate::fault::CertFault;
 use crate::header::{Header, read_front, read_header};
@@ -127,15 +127,6 @@ fn accept(header: &Header, bytes: &[u8]) -> Result<(), CertFault>
     Ok(())
 }
 
-/// The header's shape, once the body is accepted.
-fn accepted_shape(header: &Header, bytes: &[u8]) -> Result<Shape, CertFault>
-    requires { IsHeader header.now }
-    ensures { result ≡ shape_said (body_at header.now bytes.now) }
-{
-    accept(header, bytes)?;
-    Ok(header.shape)
-}
-
 impl Contents {
     /// Takes an accepted body apart.
     fn take_apart(alloc: Global, bytes: &[u8], header: &Header) -> Result<Contents, AllocError>
@@ -181,18 +172,6 @@ impl Contents {
         let (version, rest) = read_front(bytes)?;
         match read_header(version, rest) {
             Ok((header, rest)) => Contents::read_body(alloc, &header, rest),
-            Err(fault) => Err(fault),
-        }
-    }
-
-    /// The shape of the certificate in a file, or the file's first refusal. It takes no memory.
-    #[tactic(auto, unfolding(crate::specs::Format::file_of_bytes))]
-    pub fn shape_of(bytes: &[u8]) -> Result<Shape, CertFault>
-        ensures { result ≡ shape_said (file_of_bytes bytes.now) }
-    {
-        let (version, rest) = read_front(bytes)?;
-        match read_header(version, rest) {
-            Ok((header, rest)) => accepted_shape(&header, rest),
             Err(fault) => Err(fault),
         }
     }

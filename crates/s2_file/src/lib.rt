@@ -5,8 +5,7 @@
 //! codeword, and a split of the soft values: a share for each edge (version 1), or a move for each
 //! check (version 2). [`Contents::read`] accepts exactly the files of the
 //! format, which `specs/Format` reads from top to bottom, and answers the first refusal of any other
-//! file; only it takes memory. [`Contents::shape_of`] gives the shape alone, or the same refusal. What the
-//! writers of [`write_header`], [`write_soft`], [`write_word`] and [`write_share`] or [`write_move`] append,
+//! file; only it takes memory. What the writers of [`write_header`], [`write_soft`], [`write_word`] and [`write_share`] or [`write_move`] append,
 //! one after the other, is accepted as the same contents ([`laws::read_back`]).
 //!
 //! ```
