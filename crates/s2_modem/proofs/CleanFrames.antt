@@ -1,5 +1,5 @@
 -- A frame without noise is delivered, certified, with nothing changed.
-use Rattle.s2_modem.proofs.Names.{ap₂, xor_same, number, or_right, ◌≡◌, ℕ, zero, suc, ◌+◌, ◌-◌, ◌*◌, ◌/◌, ◌%◌, ◌<◌, ◌≤◌, Bool, true, false, List, [], ◌∷◌, ◌++◌, length, take, drop, map, get_or, Option, Some, None, Result, Ok, Err, refl, sym, ap, subst, ◌∙◌, arith, length-append, length-take, length-drop, ℤ, pos, int_lt, le-leb, eq-eqb, length-map, ext_get_or, get_or-take, get_or-drop, take_at, drop_at, take_all, fill_by_all, length-map-range_with_len, All-head, All-tail, All-append, All-from_recursion, Mode, IsMode, HasCodeSizes, k_of, kbch_of, n_of, t_of, slots_of, symbols_in, Symbol, symbols_least, Rows, bit_at, bits_of_byte, bits_of_bytes, byte_at, byte_of, bytes_from, differences, byte_back, code_of, IsCodeword, hard_decision, NoneIsZero, is_certified, IsSole, HeaderFault, Decision, header_bytes, has_valid_lengths, header_of_bytes, signalling, header_at, to_place, field_bytes, header_of_bytes-header_bytes, divided, scrambled, scrambled-scrambled, IsWithin, IsWordOf, generator_of, parity_bits, word-unique, nearest, within_is_nearest, nearest_is_within, no_nearest, payload_symbol, payload_of, frame_symbol, frame_symbols, decision, found, clean_behind, IsDivisor, soft_bit, soft_values, Says, clean_says, payload_again, clean_passes, IsCleanFrame, IsReceived, Link, padded_bits, baseband_frame, IsCodewordFor, found_as, Decided, decided, IsShown, Tuning, frame_soft, received_word, message_of, header_in, field_in, outcome_by, delivered_by, decision_by, frame_decision, AllAsLikely, AllTold, IsCertifiedBy, IsCorrected, link_rules, IsLinkOf, IsByte, AreBytes, sent_symbols, IsDelivered, IsDeliveredCertified, HearsLaw, ScatteredFrameLaw, BothCodesLaw, IsSent, IsMostLikely, received_payload, Sole, clean_lem, certified_lem, likely_lem, sole_lem, scattered_lem, decided_long, length-baseband_frame, length-bch_word, symbol, Header}
+use Rattle.s2_modem.proofs.Names.{ap₂, xor_same, number, or_right, ◌≡◌, ℕ, zero, suc, ◌+◌, ◌-◌, ◌*◌, ◌/◌, ◌%◌, ◌<◌, ◌≤◌, Bool, true, false, List, [], ◌∷◌, ◌++◌, length, take, drop, map, get_or, Option, Some, None, Result, Ok, Err, refl, sym, ap, subst, ◌∙◌, arith, length-append, length-take, length-drop, ℤ, pos, int_lt, le-leb, eq-eqb, length-map, ext_get_or, get_or-take, get_or-drop, take_at, drop_at, take_all, fill_by_all, length-map-range_with_len, All-head, All-tail, All-append, All-from_recursion, Mode, IsMode, HasCodeSizes, k_of, kbch_of, n_of, t_of, slots_of, symbols_in, Symbol, symbols_least, Rows, bit_at, bits_of_byte, bits_of_bytes, byte_at, byte_of, bytes_from, differences, byte_back, code_of, IsCodeword, hard_decision, NoneIsZero, is_certified, IsSole, HeaderFault, Decision, header_bytes, has_valid_lengths, header_of_bytes, signalling, header_at, to_place, field_bytes, header_of_bytes-header_bytes, divided, scrambled, scrambled-scrambled, IsWithin, nearest, within_is_nearest, nearest_is_within, no_nearest, payload_symbol, payload_of, frame_symbol, frame_symbols, decision, found, clean_behind, IsDivisor, soft_bit, soft_values, Says, clean_says, payload_again, clean_passes, IsCleanFrame, IsReceived, Link, padded_bits, baseband_frame, IsCodewordFor, found_as, Decided, decided, IsShown, Tuning, frame_soft, received_word, message_of, header_in, field_in, outcome_by, delivered_by, decision_by, frame_decision, AllAsLikely, AllTold, IsCertifiedBy, IsCorrected, link_rules, IsLinkOf, IsByte, AreBytes, sent_symbols, IsDelivered, IsDeliveredCertified, HearsLaw, ScatteredFrameLaw, BothCodesLaw, IsSent, IsMostLikely, received_payload, Sole, clean_lem, certified_lem, likely_lem, sole_lem, scattered_lem, decided_long, length-baseband_frame, length-bch_word, symbol, Header, count_of, cond, is_delivered}
 use Rattle.s2_modem.proofs.Names.founds
 use Rattle.s2_modem.proofs.DecisionLemmas.{code_is}
 use Rattle.s2_modem.proofs.Dummies.{dummy_is}
@@ -87,6 +87,19 @@ pub frame_is : (link : Link) (tuning : Tuning) (symbols : List Symbol) → IsOf 
 unfolding frame_decision
 frame_is link tuning symbols = decision_is_of link.rows link.setup.mode (frame_soft link tuning symbols) (decided link.rows tuning (frame_soft link tuning symbols)) _
 
+-- what is delivered is counted as its outcome says
+counts_by : (fixed : ℕ) (bits : List Bool) (r : Result Header HeaderFault) → count_of (delivered_by bits r) ≡ cond (is_delivered (outcome_by fixed r)) 1 0
+counts_by fixed bits (Ok header) = refl
+counts_by fixed bits (Err fault) = refl
+
+decision_counts : (m : Mode) (soft : List ℤ) (d : Decided) (o : Option (List Bool)) → count_of (decision_by m soft d o).delivered ≡ cond (is_delivered (decision_by m soft d o).outcome) 1 0
+decision_counts m soft d (Some word) = counts_by _ (scrambled (message_of m word)) (header_of_bytes m (header_in (scrambled (message_of m word))))
+decision_counts m soft d None = refl
+
+pub counts : (link : Link) (tuning : Tuning) (symbols : List Symbol) → count_of (frame_decision link tuning symbols).delivered ≡ cond (is_delivered (frame_decision link tuning symbols).outcome) 1 0
+unfolding frame_decision
+counts link tuning symbols = decision_counts link.setup.mode (frame_soft link tuning symbols) (decided link.rows tuning (frame_soft link tuning symbols)) _
+
 -- ---- frames of a link
 
 module _ (m : Mode) (valid : IsMode m) (sizes : HasCodeSizes m) (link : Link) (linked : IsLinkOf m link) where
@@ -167,14 +180,6 @@ module _ (m : Mode) (valid : IsMode m) (sizes : HasCodeSizes m) (link : Link) (l
         let n : header.dfl / 8 ≡ length field = omega arith in
         ap (field_in header) message_back ∙ ap (λ x. bytes_from 10 x (padded_bits (kbch_of mode) (header_bytes header) field)) n
         ∙ bytes_back front _ 10 (length field) front_bytes (omega (arith, long_front)) ∙ ap (take (length field)) (drop_at (header_bytes header) field 10 refl) ∙ take_all (length field) field (omega arith)
-
-    -- a data field has one BCH word
-    pub one_word : (other : List Bool) (is : IsCodewordFor mode link.rows header field other) → is.bch_word ≡ word
-    one_word other is =
-        let begins = (parity_bits mode has_sizes).generator.begins in
-        word-unique (drop 1 (generator_of mode)) (baseband_frame mode header field) is.bch_word word
-        (subst (λ g. IsWordOf g (baseband_frame mode header field) is.bch_word) begins is.is_bch_word)
-        (subst (λ g. IsWordOf g (baseband_frame mode header field) word) begins sent.codeword_is.is_bch_word)
 
     -- where the word that was sent is near enough, it is the nearest
     pub both_codes : (tuning : Tuning) (symbols : List Symbol) → differences (k_of mode) (received_word mode (frame_decision link tuning symbols).bits) word ≤ t_of mode

@@ -1,47 +1,18 @@
 -- The headline holds.
-use Rattle.s2_modem.proofs.Names.{◌≡◌, ℕ, zero, suc, ◌+◌, ◌-◌, ◌≤◌, Bool, true, false, cond, List, [], ◌∷◌, ◌++◌, All, Option, Some, None, length, take, drop, inl, inr, refl, sym, ap, ◌∙◌, subst, append_assoc, append-nil, Result, Ok, Err, ⊤, nat_le, nat_lt, flat_map, drop-drop, All-nil, All-cons, arith, Mode, IsMode, HasCodeSizes, k_of, t_of, differences, symbols_in, symbols_of, Streams, Symbol, code_of, header_at, field_bytes, closed_in, IsDivisor, Found, Tuning, Link, IsLinkOf, Stretch, Report, frame_line, cut_line, end_line, Met, frame, cut, ended, nothing_over, passed, begins, by_found, met_from, Rules, State, Standing, at_start, at_end, passes, report_of, after, after_all, all_packets, all_lines, begun, RunsOut, Piece, coded, dummy, joined, stream_symbols, Spells, IsReceived, frames_at, gives, packets-append, frame_soft, IsAsLikely, IsCorrected, link_rules, AllAsLikely, AllTold, Receiver, rules_for, IsSent, frame_from, decision_from, IsReport, IsReadable, AreReadable, IsReported, AreReported, IsCodewordFor, frame_decision, received_word, Arriving, BeginsWith, Headline, KeepsHeadline, Promises, IsHeadline, RunsHeadline, RunAnswers, ReceivesTo, Received, Totals, StreamFault, most_symbols}
+use Rattle.s2_modem.proofs.Names.{◌≡◌, ℕ, zero, suc, ◌+◌, ◌<◌, ◌≤◌, ◌⊎◌, IsTrue, Bool, true, false, cond, List, [], ◌∷◌, ◌++◌, All, Option, Some, None, length, map, range_with_len, count_by, sum_by-cons, inl, inr, refl, sym, ap, ◌∙◌, subst, append_assoc, append-nil, Result, Ok, Err, ⊤, nat_lt, lt-leb, flat_map, All-nil, All-cons, arith, Mode, IsMode, HasCodeSizes, symbols_of, Streams, Symbol, code_of, header_at, field_bytes, IsDivisor, Found, Tuning, Link, IsLinkOf, Stretch, Report, frame_line, cut_line, end_line, Met, frame, cut, ended, nothing_over, passed, begins, by_found, met_from, Rules, State, Standing, at_start, at_end, passes, report_of, after, after_all, all_packets, all_lines, begun, RunsOut, Piece, joined, stream_symbols, Spells, IsReceived, frames_at, gives, all_joined, packets-append, frame_soft, IsAsLikely, IsCorrected, link_rules, AllAsLikely, AllTold, Receiver, rules_for, IsSent, is_certified, Delivered, frame_from, decision_from, is_delivered, stands, IsCutAt, IsReadable, Arriving, closed_packets, wrong_bits, Headline, KeepsHeadline, Promises, IsHeadline, RunsHeadline, RunAnswers, ReceivesTo, Received, Totals, StreamFault, most_symbols}
 use Rattle.s2_modem.proofs.Names.founds
 use Rattle.s2_modem.proofs.Arrival.{all_met}
-use Rattle.s2_modem.proofs.CleanFrames.{all_as_likely, all_told, hears_law, both_codes_law, differs_nowhere, one_word}
-use Rattle.s2_modem.proofs.FirstFrames.{received_each, heard_one, clear_one, all_heard}
-use Rattle.s2_modem.proofs.ByteStreams.{IsField, AreFields, front_fields}
-
--- ---- what stands at a frame's place
-
--- what is met in a stream: frames, each of the symbols at its place, and then a cut one or the end
-abbrev AreMet : ℕ → List Symbol → List Met → Type 0
-AreMet size stream [] = ⊥
-AreMet size stream (frame at over symbols ∷ later) = (symbols ≡ take size (drop at stream)) × AreMet size stream later
-AreMet size stream (cut at over count ∷ later) = (o : Stretch) × (later ≡ ended o ∷ [])
-AreMet size stream (ended over ∷ later) = later ≡ []
-
-module _ (finds : Bool → List Symbol → Found) (size : ℕ) (stream : List Symbol) where
-  by_find : (at : ℕ) (over : Stretch) (symbols : List Symbol) (count : ℕ) (f : Found) (b : Bool) (one idle none : List Met) → symbols ≡ take size (drop at stream)
-      → AreMet size stream one → AreMet size stream idle → AreMet size stream none
-      → AreMet size stream (by_found f (cond b (frame at over symbols ∷ one) (cut at over count ∷ (ended nothing_over ∷ []))) idle none)
-  by_find at over symbols count founds.Coded true one idle none e c d n = (e, c)
-  by_find at over symbols count founds.Coded false one idle none e c d n = (nothing_over, refl)
-  by_find at over symbols count founds.Dummy b one idle none e c d n = d
-  by_find at over symbols count founds.Nothing b one idle none e c d n = n
-
-  are_met : (at inside : ℕ) (behind : Bool) (over : Stretch) (symbols : List Symbol) → symbols ≡ drop at stream → AreMet size stream (met_from finds size at inside behind over symbols)
-  are_met at inside behind over [] e = refl
-  are_met at (suc inside) behind over (s ∷ symbols) e = are_met (at + 1) inside true over symbols (ap (drop 1) e ∙ drop-drop 1 at stream)
-  are_met at zero behind over (s ∷ symbols) e =
-      let next : symbols ≡ drop (at + 1) stream = ap (drop 1) e ∙ drop-drop 1 at stream in
-      by_find at over (take size (s ∷ symbols)) (length (s ∷ symbols)) (begins (finds behind) (s ∷ symbols)) (nat_le size (length (s ∷ symbols))) _ _ _
-      (ap (take size) e) (are_met (at + 1) (size - 1) true nothing_over symbols next) (are_met (at + 1) 3329 true over symbols next) (are_met (at + 1) 0 false (passed over at 1) symbols next)
+use Rattle.s2_modem.proofs.CleanFrames.{all_as_likely, all_told, counts, hears_law, both_codes_law}
+use Rattle.s2_modem.proofs.Moves.{reports_of, cut_of, AreMet, are_met, at_frame, at_cut}
+use Rattle.s2_modem.proofs.FirstFrames.{received_each, heard_one, all_heard}
+use Rattle.s2_modem.proofs.ByteStreams.{IsField, front_fields}
 
 -- ---- what the lines tell
 
--- the reports of frames that were met
-abbrev reports_of : Rules → Standing → List Met → List Report
-reports_of rules s [] = []
-reports_of rules s (frame at over symbols ∷ later) = report_of rules s.totals at symbols ∷ reports_of rules (after rules s (frame at over symbols)) later
-reports_of rules s (cut at over count ∷ later) = []
-reports_of rules s (ended over ∷ later) = []
+module _ (link : Link) (tuning : Tuning) (stream : List Symbol) (limit : ℕ) where
+  abbrev rules : Rules
+  rules = link_rules link tuning limit
 
-module _ (link : Link) (tuning : Tuning) (stream : List Symbol) where
   -- what the report of a frame tells is so of the symbols at its place
   abbrev IsLikely : Report → Type 0
   IsLikely r = IsAsLikely (code_of link.rows) (frame_soft link tuning (frame_from link stream r.at)) r.verdict (decision_from link tuning stream r.at).bits
@@ -49,38 +20,62 @@ module _ (link : Link) (tuning : Tuning) (stream : List Symbol) where
   abbrev IsWithin : Report → Type 0
   IsWithin r = IsCorrected link.setup.mode (decision_from link tuning stream r.at) r.outcome
 
-  record Lines (frames : List Report) (report : List ℕ) : Type 0 where
-    lines : IsReport frames report
+  abbrev delivers : Report → Bool
+  delivers r = is_delivered r.outcome
+
+  record Lines (met : List Met) (s : Standing) (frames : List Report) : Type 0 where
+    lines : all_lines rules s met ≡ flat_map frame_line frames ++ cut_of met ++ end_line (after_all rules s met).totals
+    numbers : map (λ (r : Report). r.number) frames ≡ range_with_len (s.totals.frames + 1) (length frames)
+    frames_are : (after_all rules s met).totals.frames ≡ s.totals.frames + length frames
+    delivered_are : (after_all rules s met).totals.delivered ≡ s.totals.delivered + count_by delivers frames
+    cut_only : (cut_of met ≡ []) ⊎ ((moves : ℕ) × IsCutAt link tuning stream (stands link tuning stream moves))
     likely : All IsLikely frames
     within : All IsWithin frames
 
-  module _ (limit : ℕ) (all_likely : AllAsLikely link tuning) (all_told : AllTold link tuning) where
-    abbrev rules : Rules
-    rules = link_rules link tuning limit
-
-    tell_end : (over : Stretch) (later : List Met) (s : Standing) → later ≡ [] → all_lines rules s (ended over ∷ later) ≡ end_line (passes s.totals (at_end over))
-    tell_end over later s e = ap (λ l. end_line (passes s.totals (at_end over)) ++ all_lines rules (after rules s (ended over)) l) e ∙ append-nil (end_line (passes s.totals (at_end over)))
-
-    tell : (met : List Met) (s : Standing) → AreMet (symbols_in link.setup.mode) stream met → Lines (reports_of rules s met) (all_lines rules s met)
+  module _ (all_likely : AllAsLikely link tuning) (all_told : AllTold link tuning) where
+    tell : (met : List Met) (s : Standing) → AreMet link tuning stream met → Lines met s (reports_of rules s met)
     tell [] s h = absurd h
     tell (frame at over symbols ∷ later) s h =
         let r = report_of rules s.totals at symbols in
         let here = frame_from link stream at in
-        let others = reports_of rules (after rules s (frame at over symbols)) later in
-        let more = tell later (after rules s (frame at over symbols)) h.1 in
+        let t = after rules s (frame at over symbols) in
+        let others = reports_of rules t later in
+        let more = tell later t h.1 in
+        let end = end_line (after_all rules t later).totals in
         record {
-          lines = record { last = more.lines.last; closing = more.lines.closing; lines = ap (λ l. frame_line r ++ l) more.lines.lines ∙ sym (append_assoc (frame_line r) (flat_map frame_line others) more.lines.last) };
+          lines = ap (λ l. frame_line r ++ l) more.lines ∙ sym (append_assoc (frame_line r) (flat_map frame_line others ++ cut_of later) end)
+              ∙ ap (λ l. l ++ end) (sym (append_assoc (frame_line r) (flat_map frame_line others) (cut_of later)));
+          numbers = ap (λ l. (s.totals.frames + 1) ∷ l) more.numbers;
+          frames_are = more.frames_are ∙ omega arith;
+          delivered_are = more.delivered_are ∙ omega (arith, sum_by-cons (λ x. cond (delivers x) 1 0) r others, counts link tuning symbols);
+          cut_only = more.cut_only;
           likely = All-cons IsLikely r others (subst (λ l. IsLikely (report_of rules s.totals at l)) (sym h.0) (all_likely here)) more.likely;
           within = All-cons IsWithin r others (subst (λ l. IsWithin (report_of rules s.totals at l)) (sym h.0) (all_told here).within) more.within;
         }
     tell (cut at over count ∷ later) s h =
         let t = after rules s (cut at over count) in
-        let totals = passes t.totals (at_end h.0) in
-        let lines = ap (λ l. cut_line at count ++ l) (ap (all_lines rules t) h.1 ∙ tell_end h.0 [] t refl) in
-        record { lines = record { last = cut_line at count ++ end_line totals; closing = inr (at, count, totals, refl); lines = lines }; likely = All-nil IsLikely; within = All-nil IsWithin }
+        let lines = ap (λ l. cut_line at count ++ l) (append-nil (end_line (passes t.totals (at_end h.1.0)))) in
+        subst (λ l. Lines (cut at over count ∷ l) s []) (sym h.1.1)
+        (record { lines = lines; numbers = refl; frames_are = omega arith; delivered_are = omega arith; cut_only = inr h.0; likely = All-nil IsLikely; within = All-nil IsWithin })
     tell (ended over ∷ later) s h =
-        let totals = passes s.totals (at_end over) in
-        record { lines = record { last = end_line totals; closing = inl (totals, refl); lines = tell_end over later s h }; likely = All-nil IsLikely; within = All-nil IsWithin }
+        let lines = append-nil (end_line (passes s.totals (at_end over))) in
+        subst (λ l. Lines (ended over ∷ l) s []) (sym h)
+        (record { lines = lines; numbers = refl; frames_are = omega arith; delivered_are = omega arith; cut_only = inl refl; likely = All-nil IsLikely; within = All-nil IsWithin })
+
+-- fewer symbols than a frame has give no packet
+none_given : (rules : Rules) (at inside : ℕ) (behind : Bool) (over : Stretch) (symbols : List Symbol) (s : Standing) → length symbols < rules.size
+    → all_packets rules s (met_from rules.finds rules.size at inside behind over symbols) ≡ []
+none_given rules at inside behind over [] s few = refl
+none_given rules at (suc inside) behind over (x ∷ symbols) s few = none_given rules (at + 1) inside true over symbols s (omega arith)
+none_given rules at zero behind over (x ∷ symbols) s few =
+    by (begins (rules.finds behind) (x ∷ symbols)) _ (lt-leb rules.size (length (x ∷ symbols)) few) _ _ _ (none_given rules (at + 1) 3329 true over symbols s (omega arith))
+    (none_given rules (at + 1) 0 false (passed over at 1) symbols s (omega arith))
+  where
+    by : (f : Found) (whole : Bool) → whole ≡ false → (one dummies none : List Met) → all_packets rules s dummies ≡ [] → all_packets rules s none ≡ []
+        → all_packets rules s (by_found f (cond whole one (cut at over (length (x ∷ symbols)) ∷ (ended nothing_over ∷ []))) dummies none) ≡ []
+    by founds.Coded whole is one dummies none d n = ap (λ w. all_packets rules s (cond w one (cut at over (length (x ∷ symbols)) ∷ (ended nothing_over ∷ [])))) is
+    by founds.Dummy whole is one dummies none d n = d
+    by founds.Nothing whole is one dummies none d n = n
 
 -- ---- frames as they come
 
@@ -96,66 +91,61 @@ module _ (m : Mode) (valid : IsMode m) (sizes : HasCodeSizes m) (link : Link) (t
         let sent : IsSent m link at field codeword = record { linked = linked; roll_off = ro; bytes = bytes; place = place; fits = fits; codeword_is = is } in
         ((whole.0, whole.1, (both_codes_law m valid sizes link tuning symbols at field codeword sent few).delivered), tt)
 
-    -- and what is told of it
-    told_one : (behind : Bool) (at place : ℕ) (field : List ℕ) (symbols : List Symbol) (s : Standing) → IsField (field_bytes link.setup.mode) at field → IsReadable link tuning behind at field symbols
-        → IsReported link tuning behind at place field symbols (report_of by s.totals place symbols)
-    told_one behind at place field symbols s (bytes, room, fits) (codeword, is, readable) = (
-      refl,
-      λ other is_other.
-          (let mode = link.setup.mode in
-          let sent_as : (word : List Bool) → IsCodewordFor mode link.rows (header_at link.setup.roll_off at field) field word → IsSent m link at field word =
-          λ word is_word. record { linked = linked; roll_off = ro; bytes = bytes; place = room; fits = fits; codeword_is = is_word } in
-          let bits = (frame_decision link tuning symbols).bits in
-          let sent = sent_as codeword is in
-          let few : differences (k_of mode) (received_word mode bits) is.bch_word ≤ t_of mode = elim readable [
-            | inl clear ↦ (let same = (clear_one m valid sizes link tuning limit linked ro known behind at field codeword symbols sent clear).1.bits in
-                let none = differs_nowhere m valid sizes link linked at field codeword sent bits same in
-                omega (arith, none))
-            | inr part ↦ part.1
-          ] in
-          let few' = subst (λ w. differences (k_of mode) (received_word mode bits) w ≤ t_of mode) (sym (one_word m valid sizes link linked at field codeword sent other is_other)) few in (
-            (both_codes_law m valid sizes link tuning symbols at field other (sent_as other is_other) few').outcome,
-            λ clear.
-                (let h = clear_one m valid sizes link tuning limit linked ro known behind at field other symbols (sent_as other is_other) clear in
-                (h.1.verdict, h.1.delivered.outcome)),
-          )),
-    )
-
-    told_each : (behind : Bool) (at place : ℕ) (pieces : List Piece) (fields : List (List ℕ)) (s : Standing) (more : List Met) → AreFields (field_bytes link.setup.mode) at fields
-        → AreReadable link tuning behind at pieces fields → AreReported link tuning behind at place pieces fields (reports_of by s (frames_at by.size place pieces ++ more))
-    told_each behind at place [] fields s more each h = tt
-    told_each behind at place (coded symbols ∷ pieces) [] s more each h = absurd h
-    told_each behind at place (coded symbols ∷ pieces) (field ∷ fields) s more each h =
-        let next = after by s (frame place nothing_over symbols) in
-        (told_one behind at place field symbols s each.0 h.0, told_each true (at + length field) (place + by.size) pieces fields next more each.1 h.1)
-    told_each behind at place (dummy symbols ∷ pieces) fields s more each h = told_each true at (place + 3330) pieces fields s more each h.1
-
     abbrev met_on : List Symbol → List Met
     met_on symbols = met_from by.finds by.size 0 0 false nothing_over symbols
 
-    -- their packets are written first, and the report tells of them first
-    heard : (symbols : List Symbol) (packets fields later : List (List ℕ)) (pieces : List Piece) (rest : List Symbol) → Arriving link tuning packets fields later pieces → symbols ≡ stream_symbols pieces ++ rest
-        → BeginsWith (all_packets by at_start (met_on symbols)) (joined (take (closed_in (length (joined fields))) packets)) × (later ≡ [] → BeginsWith (all_packets by at_start (met_on symbols)) (joined packets))
-        × AreReported link tuning false 0 0 pieces fields (reports_of by at_start (met_on symbols))
-    heard symbols packets fields later pieces rest a spelt =
+    -- their packets are written first, and no other ones where no whole frame follows
+    heard : (symbols : List Symbol) (packets fields later : List (List ℕ)) (pieces : List Piece) (rest : List Symbol) → Arriving link tuning symbols packets fields later pieces rest
+        → ((more : List ℕ) × (all_packets by at_start (met_on symbols) ≡ closed_packets packets fields ++ more) × (length rest < by.size → more ≡ []))
+        × (later ≡ [] → closed_packets packets fields ≡ joined packets)
+    heard symbols packets fields later pieces rest a =
         let size = field_bytes link.setup.mode in
         let hears = hears_law m valid sizes link tuning limit linked ro known in
         let each = front_fields size packets fields later hears.field_least a.each a.bytes a.fields_are in
         let received = received_each (IsReadable link tuning) (λ symbols. ⊤) by link.setup.roll_off size read_one false 0 pieces fields each a.frames in
         let g = gives by link.setup.roll_off size packets fields later pieces rest hears.least hears.field_least a.each a.fields_are received.0 in
         let just = frames_at by.size 0 pieces in
-        let more = met_from by.finds by.size (length (stream_symbols pieces)) 0 (nat_lt 0 (length (stream_symbols pieces))) nothing_over rest in
-        let behind = all_packets by (after_all by at_start just) more in
-        let met_is : met_on symbols ≡ just ++ more = ap met_on spelt ∙ g.met in
-        let is : all_packets by at_start (met_on symbols) ≡ joined (take (closed_in (length (joined fields))) packets) ++ behind =
-        ap (all_packets by at_start) met_is ∙ packets-append by just more at_start ∙ ap (λ l. l ++ behind) g.written in
-        let told = told_each false 0 0 pieces fields at_start more each a.frames in
-        ((behind, is), λ none. (behind, is ∙ ap (λ l. joined l ++ behind) (g.all none)), subst (λ met. AreReported link tuning false 0 0 pieces fields (reports_of by at_start met)) (sym met_is) told)
+        let n = length (stream_symbols pieces) in
+        let s = after_all by at_start just in
+        let more = met_from by.finds by.size n 0 (nat_lt 0 n) nothing_over rest in
+        let is = ap (all_packets by at_start) (ap met_on a.spelt ∙ g.met) ∙ packets-append by just more at_start ∙ ap (λ l. l ++ all_packets by s more) g.written in
+        ((all_packets by s more, is, none_given by n 0 (nat_lt 0 n) nothing_over rest s), λ none. ap joined (g.all none))
 
     headline : (symbols : List Symbol) → Headline link tuning symbols (all_packets by at_start (met_on symbols)) (all_lines by at_start (met_on symbols))
     headline symbols =
-        let said = tell link tuning symbols limit (all_as_likely m valid sizes link linked tuning) (all_told m valid sizes link linked tuning) (met_on symbols) at_start (are_met by.finds by.size symbols 0 0 false nothing_over symbols refl) in
-        record { frames = reports_of by at_start (met_on symbols); lines = said.lines; likely = said.likely; within = said.within; heard = heard symbols }
+        let met = met_on symbols in
+        let all = all_heard m valid sizes link tuning linked ro known in
+        let said = tell link tuning symbols limit (all_as_likely m valid sizes link linked tuning) (all_told m valid sizes link linked tuning) met at_start
+        (are_met link tuning symbols (suc (length symbols)) 0 (stands link tuning symbols 0) nothing_over refl (omega arith)) in
+        let join = all_joined by at_start met in
+        record {
+          frames = reports_of by at_start met;
+          closing = record {
+            cut = cut_of met;
+            totals = (after_all by at_start met).totals;
+            lines = said.lines;
+            numbers = said.numbers;
+            cut_told = at_cut link tuning symbols limit;
+            cut_only = said.cut_only;
+            frames_are = said.frames_are ∙ omega arith;
+            delivered_are = said.delivered_are ∙ omega arith;
+            packets_are = (join.packets, join.good ∙ omega arith);
+            bad_are = join.bad ∙ omega arith;
+          };
+          likely = said.likely;
+          within = said.within;
+          aligned = λ moves byte field codeword sent.
+              (let place = stands link tuning symbols moves in
+              let here = frame_from link symbols place.at in (
+                λ clear.
+                    (let h = all.clear place.behind byte field codeword here sent clear in
+                    at_frame link tuning symbols limit moves (λ frame. IsTrue (is_certified frame.verdict) × (frame.outcome ≡ Delivered 0)) h.0 (λ s. (h.1.verdict, h.1.delivered.outcome))),
+                λ whole few. at_frame link tuning symbols limit moves (λ frame. frame.outcome ≡ Delivered (wrong_bits link tuning here sent.codeword_is.bch_word)) whole (λ s. (all.corrected here byte field codeword sent few).outcome),
+              ));
+          heard = λ sent fields later pieces rest a. (let h = heard symbols sent fields later pieces rest a in (h.0.0, h.0.1, h.1));
+          exact = λ sent fields later pieces rest a few.
+              (let h = (heard symbols sent fields later pieces rest a).0 in h.1 ∙ ap (λ l. closed_packets sent fields ++ l) (h.2 few) ∙ append-nil (closed_packets sent fields));
+        }
 
     -- of bytes that are known
     known_bytes : (state : State) (before behind : Streams) (taken : Option (List ℕ)) → before.taken ≡ taken → RunsOut by begun state before behind → IsHeadline link tuning (record before { taken = taken }) behind

@@ -1,12 +1,14 @@
 -- The names that the proofs of this crate cite, passed on from one place. Declares nothing.
 pub use Rattle.std.specs.Io.KnownBytes.{Appends, Consumes, IsAtEnd}
 pub use Rattle.std.specs.List.{range_with_len}
-pub use Rattle.std.specs.Prelude.{⊤}
-pub use Rattle.std.proofs.Common.{All, Bool, Err, IfNone, IfOk, IfSome, IsErrOf, IsTrue, List, None, Ok, Option, Result, SFits, Some, [], ap, append-nil, append_assoc, ap₂, arith, cond, drop, drop-drop, drop_at, eq-eqb, ext_get_or, false, flat_map, get_or, get_or-drop, get_or-take, if◌then◌else◌, inl, inr, int_lt, le-leb, leb-true, length, length-append, length-drop, length-take, length-take-le, lt-ltb, map, nat_eq, nat_le, nat_lt, neg_ℤ, negsuc, pos, refl, replicate, rules, subst, suc, sym, take, take_all, take_at, true, w16, zero, ℕ, ℤ, ◌%◌, ◌*◌, ◌++◌, ◌+◌, ◌-◌, ◌/◌, ◌<◌, ◌==◌, ◌↔◌, ◌∙◌, ◌∷◌, ◌≡◌, ◌≢◌, ◌≤◌}
-pub use Rattle.std.proofs.lemmas.Bool.{and_parts, cond_both, or_right}
+pub use Rattle.std.specs.Prelude.{⊤, ◌⊎◌, ◌&&◌, count_by}
+pub use Rattle.std.proofs.Common.{All, Bool, Err, IfNone, IfOk, IfSome, IsErrOf, IsTrue, List, None, Ok, Option, Result, SFits, Some, [], ap, append-nil, append_assoc, ap₂, arith, cond, drop, drop-drop, drop_at, eq-eqb, ext_get_or, false, flat_map, get_or, get_or-drop, get_or-take, if◌then◌else◌, inl, inr, int_lt, le-leb, leb-true, length, length-append, length-drop, length-take, length-take-le, lt-ltb, map, nat_eq, nat_le, nat_lt, neg_ℤ, negsuc, pos, refl, replicate, rules, subst, suc, sym, take, take-append-drop, take_all, take_at, true, w16, zero, ℕ, ℤ, ◌%◌, ◌*◌, ◌++◌, ◌+◌, ◌-◌, ◌/◌, ◌<◌, ◌==◌, ◌↔◌, ◌∙◌, ◌∷◌, ◌≡◌, ◌≢◌, ◌≤◌}
+pub use Rattle.std.proofs.Math.Bool.{and-true}
+pub use Rattle.std.proofs.lemmas.Bool.{and_parts, and_right, cases_lt, cond-true, cond_both, lt-leb, or_right}
 pub use Rattle.std.proofs.lemmas.Int.{int_min_is, ints}
-pub use Rattle.std.proofs.lemmas.List.{length-map, take-replicate}
+pub use Rattle.std.proofs.lemmas.List.{drop_all, length-map, take-replicate, take-take}
 pub use Rattle.std.proofs.lemmas.List.Elements.{All-append, All-cons, All-drop, All-from_recursion, All-head, All-map, All-nil, All-push, All-tail, All-take, All-weaker}
+pub use Rattle.std.proofs.lemmas.List.Sums.{sum_by-cons}
 pub use Rattle.std.proofs.lemmas.List.FromFn.{fill_by_all, get_or-map-range_with_len, length-map-range_with_len}
 pub use Rattle.std.proofs.lemmas.Result.{IfOk-weaker}
 pub use Rattle.s2_mode.specs.Limits.{most_symbols}
@@ -26,10 +28,6 @@ pub use Rattle.s2_rows.specs.Rows.{Rows}
 pub use Rattle.s2_matrix.specs.Code.{Code, IsCodeword, code_of}
 pub use Rattle.s2_bch.specs.Codes.{IsWithin}
 pub use Rattle.s2_bch.specs.Decoding.{nearest}
-pub use Rattle.s2_bch.specs.Generators.{generator_of}
-pub use Rattle.s2_bch.specs.Words.{IsWordOf}
-pub use Rattle.s2_bch.proofs.GeneratorDegrees.{parity_bits}
-pub use Rattle.s2_bch.proofs.WordFacts.{word-unique}
 pub use Rattle.s2_bch.proofs.NearestWords.{nearest_is_within, no_nearest, within_is_nearest}
 pub use Rattle.s2_scramble.specs.Baseband.{scrambled}
 pub use Rattle.s2_scramble.specs.Gold.{quarter_turns}
@@ -38,7 +36,7 @@ pub use Rattle.s2_scramble.proofs.Blocks.{scrambled-scrambled}
 pub use Rattle.s2_bbframe.specs.Crc.{crc8}
 pub use Rattle.s2_bbframe.specs.DataStream.{IsPacket, closed_body, cuts, field_bytes, fields_of, header_at, stream_of, to_place}
 pub use Rattle.s2_bbframe.specs.Headers.{has_valid_lengths, header_bytes, header_of, header_of_bytes, is_packet_stream, is_whole, signalling}
-pub use Rattle.s2_bbframe.specs.Joining.{Placed, closed_in}
+pub use Rattle.s2_bbframe.specs.Joining.{Placed}
 pub use Rattle.s2_bbframe.specs.declared.header.Header.{Header}
 pub use Rattle.s2_bbframe.specs.declared.header.HeaderFault.{HeaderFault}
 pub use Rattle.s2_bbframe.proofs.Division.{divided}
@@ -82,7 +80,7 @@ pub use Rattle.s2_receive.specs.Finding.{Meets, met_after, met_of}
 pub use Rattle.s2_receive.specs.Laws.{AreReceived, IsDummy, IsReceived, PassedNone, Piece, Spells, coded, dummy, frames_at, joined, stream_symbols}
 pub use Rattle.s2_receive.specs.Meeting.{Met, begins, by_found, cut, ended, frame, met_from, nothing_over, passed}
 pub use Rattle.s2_receive.specs.Parts.{delivered_of}
-pub use Rattle.s2_receive.specs.Receiving.{Decision, Finds, IsDecided, IsLive, MetFrame, Rules, RunsOut, Standing, State, StepAnswers, Stops, after, after_all, all_lines, all_packets, all_well, at_end, at_start, begun, is_at_frame, met_left, passes, phase_after, report_for, report_of, step_of}
+pub use Rattle.s2_receive.specs.Receiving.{Decision, Finds, IsDecided, IsLive, MetFrame, Rules, RunsOut, Standing, State, StepAnswers, Stops, after, after_all, all_lines, all_packets, all_well, at_end, at_start, begun, count_of, is_at_frame, met_left, passes, phase_after, report_for, report_of, step_of}
 pub use Rattle.s2_receive.specs.ReportLines.{cut_line, end_line, frame_line}
 unfoldable pub use Rattle.s2_receive.specs.Windows.{found_as}
 pub use Rattle.s2_receive.specs.declared.parts.Decided.{Decided as Answer}
@@ -98,7 +96,8 @@ pub use Rattle.s2_receive.specs.declared.report.Step.{Step}
 pub use Rattle.s2_receive.specs.declared.report.Totals.{Totals}
 pub use Rattle.s2_receive.specs.declared.stretch.Stretch.{Stretch}
 pub use Rattle.s2_receive.proofs.FieldPlaces.{placed_fields, placed_front}
-pub use Rattle.s2_receive.proofs.MetLemmas.{whole_frame}
+pub use Rattle.s2_receive.proofs.JoinLemmas.{all_joined}
+pub use Rattle.s2_receive.proofs.MetLemmas.{cut_frame, met-dummy, met-passed, whole_frame}
 pub use Rattle.s2_receive.proofs.Reception.{front, gives}
 pub use Rattle.s2_receive.proofs.RunLemmas.{after-append, lines-append, packets-append}
 pub use Rattle.s2_receive.proofs.SameSymbols.{same_met}
@@ -107,7 +106,7 @@ pub use Rattle.s2_modem.specs.Both.{AreBytes, Hears, IsByte, IsDelivered, IsDeli
 pub use Rattle.s2_modem.specs.Front.{IsCleanFrame}
 pub use Rattle.s2_modem.specs.Headline.{ArrivalLaw, BothCodesLaw, CorrectsWithin, HearsLaw, HearsScattered, IsSent, ScatteredFrameLaw}
 pub use Rattle.s2_modem.specs.Listening.{FindsWord, Listening, Reads, decides, decision_held}
-pub use Rattle.s2_modem.specs.Promise.{AreReadable, AreReported, Arriving, BeginsWith, Headline, IsHeadline, IsReadable, IsReport, IsReported, KeepsHeadline, Promises, RunsHeadline, decision_from, frame_from}
+pub use Rattle.s2_modem.specs.Promise.{Arriving, Headline, IsCutAt, IsHeadline, IsNext, IsReadable, KeepsHeadline, Place, Promises, RunsHeadline, closed_packets, decision_from, found_at, frame_from, is_delivered, past, stands, wrong_bits}
 pub use Rattle.s2_modem.specs.Reception.{AllAsLikely, AllTold, Certifies, IsAsLikely, IsCertifiedBy, IsCorrected, IsLikelyBy, Receiver, link_rules, rules_for}
 pub use Rattle.s2_modem.specs.Reports.{IsUndecided, decision_by, decision_on, delivered_by, field_in, frame_soft, header_in, message_of, outcome_by, received_word}
 unfoldable pub use Rattle.s2_modem.specs.Reports.{frame_decision}

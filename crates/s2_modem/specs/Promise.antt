@@ -1,6 +1,6 @@
 -- The headline: what a receiver of a link promises of a stream of symbols, and of the packets and the report that it writes of it.
-use Rattle.std.specs.Prelude.{◌≡◌, ℕ, ◌+◌, ◌≤◌, ◌⊎◌, IsTrue, Bool, true, false, List, [], ◌∷◌, ◌++◌, All, length, take, drop, IfSome, Result, OnOk, ⊤}
-use Rattle.std.specs.List.{flat_map}
+use Rattle.std.specs.Prelude.{◌≡◌, ℕ, zero, suc, ◌+◌, ◌-◌, ◌<◌, ◌≤◌, ◌⊎◌, IsTrue, Bool, true, false, List, [], ◌∷◌, ◌++◌, All, length, map, take, drop, count_by, None, IfSome, Result, OnOk}
+use Rattle.std.specs.List.{flat_map, range_with_len}
 use Rattle.std.specs.Io.KnownBytes.{Appends}
 use Rattle.s2_mode.specs.Limits.{dummy_symbols}
 use Rattle.s2_mode.specs.Mode.{Mode, k_of, t_of, symbols_in}
@@ -10,7 +10,9 @@ use Rattle.s2_mode.specs.declared.symbols.Symbol.{Symbol}
 use Rattle.s2_bits.specs.Bits.{differences}
 use Rattle.s2_matrix.specs.Code.{code_of}
 use Rattle.s2_bbframe.specs.DataStream.{IsPacket, stream_of, fields_of, field_bytes, header_at}
-use Rattle.s2_bbframe.specs.Joining.{closed_in}
+use Rattle.s2_bbframe.specs.Joining.{Joined, joining, closed_in}
+use Rattle.s2_plframe.specs.declared.receive.found.Found.{Found}
+use Rattle.s2_plframe.specs.declared.receive.found.Found.TheVariants as founds
 use Rattle.s2_check.specs.Verdicts.{is_certified}
 use Rattle.s2_soft.specs.Divisors.{IsDivisor}
 use Rattle.s2_link.specs.Tuning.{Tuning}
@@ -21,7 +23,9 @@ use Rattle.s2_send.specs.Laws.{IsLinkOf}
 use Rattle.s2_receive.specs.Windows.{found_as}
 use Rattle.s2_receive.specs.ReportLines.{frame_line, cut_line, end_line}
 use Rattle.s2_receive.specs.Receiving.{State, Decision, RunsOut, begun}
-use Rattle.s2_receive.specs.Laws.{Piece, coded, dummy, joined, stream_symbols}
+use Rattle.s2_receive.specs.Meeting.{nothing_over, begins, met_from}
+use Rattle.s2_receive.specs.Laws.{Piece, joined, stream_symbols, events_of}
+use Rattle.s2_receive.specs.declared.report.Outcome.{Outcome}
 use Rattle.s2_receive.specs.declared.report.Outcome.TheVariants.{Delivered}
 use Rattle.s2_receive.specs.declared.report.Report.{Report}
 use Rattle.s2_receive.specs.declared.report.Totals.{Totals}
@@ -29,6 +33,7 @@ use Rattle.s2_modem.specs.Reports.{frame_soft, frame_decision, received_word}
 use Rattle.s2_modem.specs.Reception.{Receiver, IsAsLikely, AllAsLikely, IsCorrected, AllTold, link_rules}
 use Rattle.s2_modem.specs.Both.{AreBytes}
 use Rattle.s2_modem.specs.Streams.{IsWholeFrame, IsClear, AreEach}
+use Rattle.s2_modem.specs.Headline.{IsSent}
 use Rattle.s2_modem.specs.Steps.{AllHeard}
 
 -- the symbols of the frame that begins at this one of a stream, and what is decided of them
@@ -38,74 +43,124 @@ frame_from link symbols at = take (symbols_in link.setup.mode) (drop at symbols)
 abbrev pub decision_from : Link → Tuning → List Symbol → ℕ → Decision
 decision_from link tuning symbols at = frame_decision link tuning (frame_from link symbols at)
 
--- the last lines of a report: that of a frame that was cut, where one was, and that of the end
-abbrev pub IsClosing : List ℕ → Type 0
-IsClosing lines = ((totals : Totals) × (lines ≡ end_line totals)) ⊎ ((at : ℕ) × (count : ℕ) × (totals : Totals) × (lines ≡ cut_line at count ++ end_line totals))
+-- ---- where the search stands
 
--- a line for each of these frames, and the last lines
-pub record IsReport (frames : List Report) (report : List ℕ) : Type 0 where
-  pub last : List ℕ
-  pub closing : IsClosing last
-  pub lines : report ≡ flat_map frame_line frames ++ last
+-- at which symbol of a stream, after how many coded frames, and whether a frame ended right before
+pub record Place : Type 0 where
+  pub at : ℕ
+  pub frames : ℕ
+  pub behind : Bool
+
+-- what begins there: the header of a coded frame passes, that of a dummy frame, or neither
+abbrev pub found_at : Link → Tuning → List Symbol → Place → Found
+found_at link tuning symbols place = begins (found_as link.setup.mode tuning.lock place.behind) (drop place.at symbols)
+
+-- where the search goes on: after the coded frame, after the dummy frame, or at the next symbol
+abbrev pub past : Mode → Place → Found → Place
+past m place founds.Coded = record { at = place.at + symbols_in m; frames = place.frames + 1; behind = true }
+past m place founds.Dummy = record { at = place.at + dummy_symbols; frames = place.frames; behind = true }
+past m place founds.Nothing = record { at = place.at + 1; frames = place.frames; behind = false }
+
+-- where it stands after so many such moves: first at the stream's first symbol
+abbrev pub stands : Link → Tuning → List Symbol → (moves : ℕ) → Place
+stands link tuning symbols zero = record { at = 0; frames = 0; behind = false }
+stands link tuning symbols (suc moves) = past link.setup.mode (stands link tuning symbols moves) (found_at link tuning symbols (stands link tuning symbols moves))
+
+-- the header of a coded frame passes there, and fewer symbols are left than a frame has
+abbrev pub IsCutAt : Link → Tuning → List Symbol → Place → Type 0
+IsCutAt link tuning symbols place = (found_at link tuning symbols place ≡ founds.Coded) × (length symbols < place.at + symbols_in link.setup.mode)
+
+-- ---- frames as they come
+
+-- in how many places the first Nbch decided bits of a frame's symbols differ from a BCH word
+abbrev pub wrong_bits : Link → Tuning → List Symbol → List Bool → ℕ
+wrong_bits link tuning symbols bch_word = differences (k_of link.setup.mode) (received_word link.setup.mode (frame_decision link tuning symbols).bits) bch_word
 
 -- Symbols of the frame that was sent for a data field, which begins at this byte of the stream: as they were sent, or behind a header that
 -- passes there, and scattered about the codeword, or with at most t wrong ones among the first Nbch decided bits.
 abbrev pub IsReadable : Link → Tuning → Bool → ℕ → List ℕ → List Symbol → Type 0
 IsReadable link tuning behind at field symbols =
     (codeword : List Bool) × (sent : IsCodewordFor link.setup.mode link.rows (header_at link.setup.roll_off at field) field codeword)
-    × (IsClear link tuning behind codeword symbols
-    ⊎ (IsWholeFrame link tuning behind symbols
-    × (differences (k_of link.setup.mode) (received_word link.setup.mode (frame_decision link tuning symbols).bits) sent.bch_word ≤ t_of link.setup.mode)))
+    × (IsClear link tuning behind codeword symbols ⊎ (IsWholeFrame link tuning behind symbols × (wrong_bits link tuning symbols sent.bch_word ≤ t_of link.setup.mode)))
 
 -- those of consecutive data fields, and dummy frames among them
 abbrev pub AreReadable : Link → Tuning → Bool → ℕ → List Piece → List (List ℕ) → Type 0
 AreReadable link tuning = AreEach (IsReadable link tuning) (found_as link.setup.mode tuning.lock)
 
--- What a report tells of the frame that was sent for a data field, whose symbols begin at this one of the stream: it is delivered, with as
--- many bits changed as its decided bits differ from the BCH word that was sent in; where it came clear it is certified, and none was changed.
-abbrev pub IsReported : Link → Tuning → Bool → (at place : ℕ) → List ℕ → List Symbol → Report → Type 0
-IsReported link tuning behind at place field symbols report =
-    (report.at ≡ place)
-    × ((codeword : List Bool) (sent : IsCodewordFor link.setup.mode link.rows (header_at link.setup.roll_off at field) field codeword)
-    → (report.outcome ≡ Delivered (differences (k_of link.setup.mode) (received_word link.setup.mode (frame_decision link tuning symbols).bits) sent.bch_word))
-    × (IsClear link tuning behind codeword symbols → IsTrue (is_certified report.verdict) × (report.outcome ≡ Delivered 0)))
-
--- the first of these reports are those of consecutive data fields' frames, in order, each at the symbol where its frame begins
-abbrev pub AreReported : Link → Tuning → Bool → (at place : ℕ) → List Piece → List (List ℕ) → List Report → Type 0
-AreReported link tuning behind at place [] fields reports = ⊤
-AreReported link tuning behind at place (coded symbols ∷ pieces) (field ∷ fields) (report ∷ reports) =
-    IsReported link tuning behind at place field symbols report × AreReported link tuning true (at + length field) (place + symbols_in link.setup.mode) pieces fields reports
-AreReported link tuning behind at place (coded symbols ∷ pieces) fields reports = ⊥
-AreReported link tuning behind at place (dummy symbols ∷ pieces) fields reports = AreReported link tuning true at (place + dummy_symbols) pieces fields reports
-
--- the first data fields of these packets, and the frames that a transmitter of the link makes of them, as they come
-pub record Arriving (link : Link) (tuning : Tuning) (packets fields later : List (List ℕ)) (pieces : List Piece) : Type 0 where
+-- Symbols begin with the first frames that a transmitter of the link makes of these packets, as they come, and go on with others: the
+-- frames of these data fields, of all of them where none is left.
+pub record Arriving (link : Link) (tuning : Tuning) (symbols : List Symbol) (packets fields later : List (List ℕ)) (pieces : List Piece) (rest : List Symbol) : Type 0 where
   pub each : All IsPacket packets
   pub bytes : AreBytes (joined packets)
   pub fields_are : fields ++ later ≡ fields_of (field_bytes link.setup.mode) (stream_of packets)
   pub frames : AreReadable link tuning false 0 pieces fields
+  pub spelt : symbols ≡ stream_symbols pieces ++ rest
 
--- these bytes, and others behind them
-abbrev pub BeginsWith : List ℕ → List ℕ → Type 0
-BeginsWith bytes front = (behind : List ℕ) × (bytes ≡ front ++ behind)
+-- the packets whose closing CRC-8 lies in these data fields
+abbrev pub closed_packets : (packets fields : List (List ℕ)) → List ℕ
+closed_packets packets fields = joined (take (closed_in (length (joined fields))) packets)
 
--- The headline. Of a stream of symbols, and the packets and the report that were written of it: the report has a line for each of these
--- frames, in order, and its last lines.
+-- ---- the report
+
+-- the line after so many others is that of a frame at this symbol, which is so
+abbrev pub IsNext : List Report → Place → (Report → Type 0) → Type 0
+IsNext frames place so =
+    (before : List Report) × (report : Report) × (later : List Report)
+    × (frames ≡ before ++ report ∷ later) × (length before ≡ place.frames) × (report.at ≡ place.at) × so report
+
+-- a frame was delivered
+abbrev pub is_delivered : Outcome → Bool
+is_delivered (Delivered fixed) = true
+is_delivered outcome = false
+
+-- what the joiner gives of a stream of symbols: of each frame that is met its data field comes to it, or a gap where none is delivered; a gap
+-- comes also where symbols were passed over, and of a cut frame
+abbrev pub joined_on : Link → Tuning → List Symbol → Joined
+joined_on link tuning symbols =
+    joining None (events_of (frame_decision link tuning) (met_from (found_as link.setup.mode tuning.lock) (symbols_in link.setup.mode) 0 0 false nothing_over symbols))
+
+-- The report of a stream: a line for each of these frames, numbered from 1; then that of a frame that is cut, exactly where the search comes to
+-- one, with its symbol and how many symbols were there; then the end's, with the number of frames, of delivered ones, of packets that were
+-- written, and of bodies whose CRC-8 is wrong.
+pub record IsReport (link : Link) (tuning : Tuning) (symbols : List Symbol) (packets report : List ℕ) (frames : List Report) : Type 0 where
+  pub cut : List ℕ
+  pub totals : Totals
+  pub lines : report ≡ flat_map frame_line frames ++ cut ++ end_line totals
+  pub numbers : map (λ frame. frame.number) frames ≡ range_with_len 1 (length frames)
+  pub cut_told : (moves : ℕ) → IsCutAt link tuning symbols (stands link tuning symbols moves)
+      → cut ≡ cut_line (stands link tuning symbols moves).at (length symbols - (stands link tuning symbols moves).at)
+  pub cut_only : (cut ≡ []) ⊎ ((moves : ℕ) × IsCutAt link tuning symbols (stands link tuning symbols moves))
+  pub frames_are : totals.frames ≡ length frames
+  pub delivered_are : totals.delivered ≡ count_by (λ frame. is_delivered frame.outcome) frames
+  pub packets_are : (packets ≡ joined (joined_on link tuning symbols).good) × (totals.packets ≡ length (joined_on link tuning symbols).good)
+  pub bad_are : totals.bad ≡ (joined_on link tuning symbols).bad
+
+-- The headline. Of a stream of symbols, and the packets and the report that were written of it:
 pub record Headline (link : Link) (tuning : Tuning) (symbols : List Symbol) (packets report : List ℕ) : Type 0 where
+  -- Its report has a line for each of these frames, in order, and is closed as it should be.
   pub frames : List Report
-  pub lines : IsReport frames report
-  -- The bits of a frame that is called most likely or sole are a codeword, and no codeword costs less under its soft values; where it is
-  -- called sole each other one costs more.
+  pub closing : IsReport link tuning symbols packets report frames
+  -- Likely: the bits of a frame that is called most likely or sole are a codeword, and no codeword costs less under its soft values; where
+  -- it is called sole each other one costs more.
   pub likely : All (λ frame. IsAsLikely (code_of link.rows) (frame_soft link tuning (frame_from link symbols frame.at)) frame.verdict (decision_from link tuning symbols frame.at).bits) frames
-  -- Where a message is delivered its BCH word differs from the decided bits in just as many places as the line says, at most t; where no
-  -- word is found none lies within t places.
+  -- Within: where a message is delivered its BCH word differs from the decided bits in just as many places as the line says, at most t;
+  -- where no word is found none lies within t places.
   pub within : All (λ frame. IsCorrected link.setup.mode (decision_from link tuning symbols frame.at) frame.outcome) frames
-  -- Where the symbols begin with the first frames that a transmitter of the link makes of some packets, as they come, the packets that
-  -- were written begin with just those whose closing CRC-8 lies in their data fields; with all, where these are all fields. And the report
-  -- begins with just these frames, each at its place, delivered, and certified where it came clear.
-  pub heard : (sent fields later : List (List ℕ)) (pieces : List Piece) (rest : List Symbol) → Arriving link tuning sent fields later pieces → symbols ≡ stream_symbols pieces ++ rest
-      → BeginsWith packets (joined (take (closed_in (length (joined fields))) sent)) × (later ≡ [] → BeginsWith packets (joined sent))
-      × AreReported link tuning false 0 0 pieces fields frames
+  -- Aligned: where the search stands at the frame that was sent for a data field, whatever came before and whatever follows, the next line is
+  -- that of this frame. Where it came clear it is certified and delivered, with no bit changed. Where it is whole behind a header that
+  -- passes there, and at most t decided bits differ from the BCH word that was sent, it is delivered with just so many changed.
+  pub aligned : (moves byte : ℕ) (field : List ℕ) (codeword : List Bool) (sent : IsSent link.setup.mode link byte field codeword)
+      → let place = stands link tuning symbols moves in let here = frame_from link symbols place.at in let wrong = wrong_bits link tuning here sent.codeword_is.bch_word in
+      (IsClear link tuning place.behind codeword here → IsNext frames place (λ frame. IsTrue (is_certified frame.verdict) × (frame.outcome ≡ Delivered 0)))
+      × (IsWholeFrame link tuning place.behind here → wrong ≤ t_of link.setup.mode → IsNext frames place (λ frame. frame.outcome ≡ Delivered wrong))
+  -- Heard: where the symbols begin with the first frames that a transmitter of the link makes of some packets, as they come, the packets
+  -- that were written begin with just those whose closing CRC-8 lies in their data fields, whatever follows; with all of them, where these
+  -- are all fields.
+  pub heard : (sent fields later : List (List ℕ)) (pieces : List Piece) (rest : List Symbol) → Arriving link tuning symbols sent fields later pieces rest
+      → (more : List ℕ) × (packets ≡ closed_packets sent fields ++ more) × (later ≡ [] → closed_packets sent fields ≡ joined sent)
+  -- Exact: where fewer symbols follow than a frame has, none or those of a frame that is cut, just these packets were written, and nothing else.
+  pub exact : (sent fields later : List (List ℕ)) (pieces : List Piece) (rest : List Symbol) → Arriving link tuning symbols sent fields later pieces rest
+      → length rest < symbols_in link.setup.mode → packets ≡ closed_packets sent fields
 
 -- the same of known bytes, and of what writers took
 abbrev pub IsHeadline : Link → Tuning → (before behind : Streams) → Type 0

@@ -215,9 +215,9 @@ impl<'a> Receiver<'a> {
 
     /// Takes all steps that are left, up to the end line, and answers the totals and whether each frame
     /// was delivered with bits that are most likely and none was cut. Of a new receiver, which takes a whole stream,
-    /// the headline holds where no fault is answered: also that the first frames that a transmitter of the link sent, clear or
-    /// with at most t wrong bits of the outer code's word, give their packets and each its line, delivered, and certified
-    /// where it is clear. Not to be called after the end or a fault, nor where what was met is not delivered yet. It takes no
+    /// the headline holds if no fault is answered: also that each frame that a transmitter of the link sent has its line,
+    /// delivered, wherever the search stands at it, certified if it is clear; that the first frames, clear or with at most t wrong
+    /// bits of the outer code's word, give their packets, and a stream of nothing else no others. Not to be called after the end or a fault, nor where what was met is not delivered yet. It takes no
     /// memory.
     ///
     /// After a fault what was met before it is written whole: after `Read`, which comes as in
