@@ -71,7 +71,7 @@ fn find_for_repair(
 }
 
 /// Looks for a certificate of a codeword that min-sum found, by so many passes of settling if any: who then holds it,
-/// and whether it is strict. Greedy amounts reach for few of these, and settling is as fast where they do.
+/// and whether it is strict. Greedy amounts reach few of these, and to try them first takes longer.
 fn find_for_decoded(
     maker: &mut Maker<'_>,
     settler: &mut Settler<'_>,
