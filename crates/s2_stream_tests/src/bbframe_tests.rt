@@ -268,7 +268,7 @@ fn assert_one_packet(rt: &impl Abort, joiner: &mut Joiner, header: &Header, fiel
         torn: 0,
     };
     assert_eq!(rt; fed, one);
-    assert_eq!(rt; &packets[..188], packet_of_zeros().as_slice());
+    assert!(rt; packets.starts_with(&packet_of_zeros()));
 }
 
 #[test]
