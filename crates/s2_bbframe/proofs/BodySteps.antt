@@ -1,8 +1,6 @@
 -- One byte more of a run.
-use Rattle.std.proofs.Common.{◌≡◌, ◌≢◌, ℕ, ◌+◌, ◌<◌, ◌≤◌, true, false, List, [], ◌∷◌, ◌++◌, Option, length, take, drop, set, get_or, sym, ap, ◌∙◌, subst, append_assoc, append-nil, length-take-le, arith, cond, ne_eqb, eq-eqb}
+use Rattle.std.proofs.Common.{◌≡◌, ◌≢◌, ℕ, ◌+◌, ◌*◌, ◌<◌, ◌≤◌, true, false, List, [], ◌∷◌, ◌++◌, length, take, drop, set, get_or, sym, ap, ◌∙◌, append_assoc, append-nil, length-take-le, arith, cond, ne_eqb, eq-eqb}
 use Rattle.std.specs.Prelude.{nat_eq}
-use Rattle.std.proofs.KnownBytes.{Appends-trans}
-use Rattle.std.specs.Io.KnownBytes.{Appends}
 use Rattle.std.specs.List.{flat_map}
 use Rattle.std.proofs.lemmas.List.{drop_more, take_more_set, take_all, length_push}
 use Rattle.std.proofs.lemmas.List.Concat.{flat_map-append}
@@ -35,41 +33,43 @@ run-bad body b bytes h k =
     let e : nat_eq b (crc8 body) ≡ false = ne_eqb b (crc8 body) k in
     run-close body b bytes h ∙ ap (λ t. cond t (more ((71 ∷ body) ∷ []) 0 (run_of [] bytes)) (more [] 1 (run_of [] bytes))) e
 
--- the packets so far, and what the rest gives, are all
-abbrev pub HasRead : Run → List ℕ → List ℕ → ℕ → ℕ → Option (List ℕ) → Option (List ℕ) → Type 0
-HasRead all body rest good bad w0 w =
-    (packets : List (List ℕ)) × (all ≡ more packets bad (run_of body rest)) × (good ≡ length packets) × Appends w0 w (flat_map (λ p. p) packets)
+-- the packets so far, which stand at the front of a buffer, and what the rest gives, are all
+abbrev pub HasRead : Run → List ℕ → List ℕ → ℕ → ℕ → List ℕ → Type 0
+HasRead all body rest good bad buffer =
+    (packets : List (List ℕ)) × (all ≡ more packets bad (run_of body rest)) × (good ≡ length packets) × (take (188 * good) buffer ≡ flat_map (λ p. p) packets)
 
-module _ (all : Run) (held : ℕ) (body bytes : List ℕ) (i good bad : ℕ) (w0 w : Option (List ℕ)) (within : i < length bytes) (long : length body ≡ 187) where
-  pub fills : HasRead all (take held body) (drop i bytes) good bad w0 w → held < 187
-      → HasRead all (take (held + 1) (set body held (get_or bytes i 0))) (drop (i + 1) bytes) good bad w0 w
-  fills (packets, whole, count, written) room =
+module _ (all : Run) (held : ℕ) (body bytes : List ℕ) (i good bad : ℕ) (buffer : List ℕ) (within : i < length bytes) (long : length body ≡ 187) where
+  pub fills : HasRead all (take held body) (drop i bytes) good bad buffer → held < 187
+      → HasRead all (take (held + 1) (set body held (get_or bytes i 0))) (drop (i + 1) bytes) good bad buffer
+  fills (packets, whole, count, stand) room =
       let here = drop_more bytes i 0 within in
       let short : length (take held body) < 187 = omega (arith, length-take-le held body (omega arith)) in
       let next = take_more_set body held (get_or bytes i 0) (omega arith) in (
         packets,
         whole ∙ ap (more packets bad) (ap (run_of (take held body)) here ∙ run-fill (take held body) (get_or bytes i 0) (drop (i + 1) bytes) short ∙ ap (λ b. run_of b (drop (i + 1) bytes)) (sym next)),
         count,
-        written,
+        stand,
       )
 
-  pub gives : (w' : Option (List ℕ)) → HasRead all (take held body) (drop i bytes) good bad w0 w → 187 ≤ held → get_or bytes i 0 ≡ crc8 body → Appends w w' (71 ∷ body)
-      → HasRead all [] (drop (i + 1) bytes) (good + 1) bad w0 w'
-  gives w' (packets, whole, count, written) full right append =
+  pub gives : (buffer' : List ℕ) → HasRead all (take held body) (drop i bytes) good bad buffer → 187 ≤ held → get_or bytes i 0 ≡ crc8 body
+      → take (188 * good + 188) buffer' ≡ take (188 * good) buffer ++ (71 ∷ body) → HasRead all [] (drop (i + 1) bytes) (good + 1) bad buffer'
+  gives buffer' (packets, whole, count, stand) full right put =
       let here = drop_more bytes i 0 within in
       let same : take held body ≡ body = take_all held body (omega arith) in
       let zero_more : bad + 0 ≡ bad = omega arith in
+      let one_more : 188 * (good + 1) ≡ 188 * good + 188 = omega arith in
       let rest = run_of [] (drop (i + 1) bytes) in (
         packets ++ (71 ∷ body) ∷ [],
         whole ∙ ap (more packets bad) (ap (run_of (take held body)) here ∙ ap (λ b. run_of b (get_or bytes i 0 ∷ drop (i + 1) bytes)) same ∙ run-good body (get_or bytes i 0) (drop (i + 1) bytes) long right)
             ∙ more-more packets bad ((71 ∷ body) ∷ []) 0 rest ∙ ap (λ n. more (packets ++ (71 ∷ body) ∷ []) n rest) zero_more,
         omega (arith, length_push packets (71 ∷ body)),
-        subst (Appends w0 w') (sym (flat_map-append (λ p. p) packets ((71 ∷ body) ∷ []) ∙ ap (λ l. flat_map (λ p. p) packets ++ l) (append-nil (71 ∷ body)))) (Appends-trans w0 w w' (flat_map (λ p. p) packets) (71 ∷ body) written append),
+        ap (λ n. take n buffer') one_more ∙ put ∙ ap (λ l. l ++ (71 ∷ body)) stand
+            ∙ sym (flat_map-append (λ p. p) packets ((71 ∷ body) ∷ []) ∙ ap (λ l. flat_map (λ p. p) packets ++ l) (append-nil (71 ∷ body))),
       )
 
-  pub drops : HasRead all (take held body) (drop i bytes) good bad w0 w → 187 ≤ held → get_or bytes i 0 ≢ crc8 body
-      → HasRead all [] (drop (i + 1) bytes) good (bad + 1) w0 w
-  drops (packets, whole, count, written) full wrong =
+  pub drops : HasRead all (take held body) (drop i bytes) good bad buffer → 187 ≤ held → get_or bytes i 0 ≢ crc8 body
+      → HasRead all [] (drop (i + 1) bytes) good (bad + 1) buffer
+  drops (packets, whole, count, stand) full wrong =
       let here = drop_more bytes i 0 within in
       let same : take held body ≡ body = take_all held body (omega arith) in
       let rest = run_of [] (drop (i + 1) bytes) in (
@@ -77,5 +77,5 @@ module _ (all : Run) (held : ℕ) (body bytes : List ℕ) (i good bad : ℕ) (w0
         whole ∙ ap (more packets bad) (ap (run_of (take held body)) here ∙ ap (λ b. run_of b (get_or bytes i 0 ∷ drop (i + 1) bytes)) same ∙ run-bad body (get_or bytes i 0) (drop (i + 1) bytes) long wrong)
             ∙ more-more packets bad [] 1 rest ∙ ap (λ l. more l (bad + 1) rest) (append-nil packets),
         count,
-        written,
+        stand,
       )

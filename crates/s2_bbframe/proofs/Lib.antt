@@ -5,7 +5,6 @@ pub mod Division
 pub mod Headers
 pub mod Streams
 pub mod BodySteps
-pub mod BrokenWrites
 pub mod Runs
 pub mod Events
 pub mod Parts

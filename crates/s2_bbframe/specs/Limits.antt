@@ -1,6 +1,6 @@
 -- The numbers of packets and of their fields' headers.
-use Rattle.std.specs.Prelude.{◌≡◌, ℕ}
-use Rattle.s2_bbframe.specs.declared.limits.TheConstants.{BODY_BYTES, NO_PLACE, PACKET_BITS, PACKET_BYTES, SYNC}
+use Rattle.std.specs.Prelude.{◌≡◌, ℕ, ◌+◌}
+use Rattle.s2_bbframe.specs.declared.limits.TheConstants.{BODY_BYTES, MOST_FIELD_BYTES, NO_PLACE, PACKET_BITS, PACKET_BYTES, PACKETS_ROOM, SYNC}
 
 -- the bytes of a packet (ISO/IEC 13818-1, 2.4.3.2)
 abbrev pub packet_bytes : ℕ
@@ -22,6 +22,14 @@ packet_bits = 1504
 abbrev pub no_place : ℕ
 no_place = 65535
 
+-- the most bytes of a data field: its length in bits, DFL of a header, is a number of 16 bits (EN 302 307-1, 5.1.6)
+abbrev pub most_field_bytes : ℕ
+most_field_bytes = 8191
+
+-- the most bytes of the packets that a data field of so many bytes completes: those of a body before it, and its own
+abbrev pub packets_room : ℕ → ℕ
+packets_room bytes = body_bytes + bytes
+
 -- the numbers that the code works with are these
 pub record LimitsLaw : Type 0 where
   pub packet : PACKET_BYTES ≡ packet_bytes
@@ -29,3 +37,5 @@ pub record LimitsLaw : Type 0 where
   pub first : SYNC ≡ sync
   pub bits : PACKET_BITS ≡ packet_bits
   pub none : NO_PLACE ≡ no_place
+  pub most_field : MOST_FIELD_BYTES ≡ most_field_bytes
+  pub room : PACKETS_ROOM ≡ packets_room most_field_bytes

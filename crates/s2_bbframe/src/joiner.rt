@@ -1,16 +1,12 @@
 //! Packets out of delivered data fields.
-ghost use Rattle.std.specs.Prelude.{ℕ, List, nat_lt, ◌≡◌, ◌+◌, ◌-◌, ◌*◌, ◌/◌, ◌%◌, ◌<◌, ◌≤◌, ◌⊎◌, None, Some, IfOk, IfSome, OnOk, OnErr, drop, length, take, if◌then◌else◌};
+ghost use Rattle.std.specs.Prelude.{ℕ, List, nat_lt, ◌≡◌, ◌+◌, ◌-◌, ◌*◌, ◌/◌, ◌%◌, ◌<◌, ◌≤◌, ◌⊎◌, None, Some, IfSome, drop, length, take, if◌then◌else◌};
 ghost use Rattle.std.specs.List.{flat_map};
-ghost use Rattle.std.specs.Io.KnownBytes.{Appends};
-ghost use Rattle.s2_mode.specs.Counts.{CanCount, CountsFault};
-ghost use Rattle.s2_mode.specs.Pieces.{AppendsPart};
-ghost use Rattle.s2_bbframe.specs.Limits.{body_bytes, no_place};
+ghost use Rattle.s2_bbframe.specs.Limits.{body_bytes, no_place, packet_bytes, packets_room};
 ghost use Rattle.s2_bbframe.specs.Joining.{fed, still, inside, run_of, begun_body, torn_by};
 
 use crate::bodies::{Bodies, read_bodies};
 use crate::header::Header;
 use crate::limits::{BODY_BYTES, NO_PLACE};
-use s2_mode::{CountedWrite, WriteFault};
 use std::marker::Model;
 use std::mem;
 
@@ -137,38 +133,31 @@ impl Joiner {
         torn
     }
 
-    /// Joins a data field on: writes the packets that are whole with it, and tells how many they were
-    /// and how many bodies were dropped. `SYNCD` names a byte of the field or is [`NO_PLACE`], as
-    /// [`Header::read`] sees to. After a fault a part of these packets has been written, and the joiner
-    /// is lost.
-    pub fn feed<W: CountedWrite>(
-        &mut self,
-        header: &Header,
-        field: &[u8],
-        out: &mut W,
-    ) -> Result<Fed, WriteFault>
-        requires count { CanCount (W.count out.old) }
+    /// Joins a data field on: puts the packets that are whole with it at the front of `packets`, and returns how many
+    /// they are, 188 bytes each, and how many bodies were dropped. `SYNCD` names a byte of the field or is
+    /// [`NO_PLACE`], as [`Header::read`] sees to. [`crate::PACKETS_ROOM`] bytes are room for any field.
+    pub fn feed(&mut self, header: &Header, field: &[u8], packets: &mut [u8]) -> Fed
         requires syncd { (length field.now ≡ 0)
             ⊎ ((header.now.syncd ≡ no_place) ⊎ (header.now.syncd / 8 < length field.now)) }
-        ensures held { OnOk result (self.new ≡ (fed self.old header.now.syncd field.now).held) }
-        ensures good { IfOk result (λ r. r.good ≡ length (fed self.old header.now.syncd field.now).good) }
-        ensures bad { IfOk result (λ r. r.bad ≡ (fed self.old header.now.syncd field.now).bad) }
-        ensures torn { IfOk result (λ r. r.torn ≡ torn_by self.old header.now.syncd field.now) }
-        ensures packets { OnOk result (Appends (W.contents out.old) (W.contents out.new)
-            (flat_map (λ packet. packet) (fed self.old header.now.syncd field.now).good)) }
-        ensures most { IfOk result (λ r. (r.good + r.bad ≤ length field.now) × (r.torn ≤ 1)) }
-        ensures part { OnErr result (AppendsPart (flat_map (λ packet. packet)
-            (fed self.old header.now.syncd field.now).good) (W.contents out.old) (W.contents out.new)) }
-        ensures lost { OnErr result (self.new ≡ None) }
-        ensures cause { CountsFault (W.count out.old) (W.count out.new) result }
+        requires room { packets_room (length field.now) ≤ length packets.old }
+        ensures held { self.new ≡ (fed self.old header.now.syncd field.now).held }
+        ensures packets { take (packet_bytes * result.good) packets.new
+            ≡ flat_map (λ packet. packet) (fed self.old header.now.syncd field.now).good }
+        ensures good { result.good ≡ length (fed self.old header.now.syncd field.now).good }
+        ensures bad { result.bad ≡ (fed self.old header.now.syncd field.now).bad }
+        ensures torn { result.torn ≡ torn_by self.old header.now.syncd field.now }
+        ensures most { packet_bytes * (result.good + result.bad) ≤ packets_room (length field.now) }
+        ensures few { result.torn ≤ 1 }
+        ensures size { length packets.new ≡ length packets.old }
     {
         let torn = torn_by(self.inside, self.held, header.syncd, field);
+        let nothing = Fed {
+            good: 0,
+            bad: 0,
+            torn,
+        };
         if field.is_empty() {
-            return Ok(Fed {
-                good: 0,
-                bad: 0,
-                torn,
-            });
+            return nothing;
         }
         let was_inside = mem::take(&mut self.inside);
         let Some(Join { start, from }) = resumed(
@@ -178,15 +167,16 @@ impl Joiner {
             header.syncd,
             field,
         ) else {
-            return Ok(Fed {
-                good: 0,
-                bad: 0,
-                torn,
-            });
+            return nothing;
         };
-        let Bodies { held, good, bad } = read_bodies(&mut self.body, start, &field[from..], out)?;
+        let Bodies { held, good, bad } = read_bodies(
+            &mut self.body,
+            start,
+            &field[from..],
+            packets,
+        );
         self.held = held;
         self.inside = true;
-        Ok(Fed { good, bad, torn })
+        Fed { good, bad, torn }
     }
 }

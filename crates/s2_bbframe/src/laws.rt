@@ -25,8 +25,8 @@ pub fn gaps()
 {}
 
 /// The numbers of packets and headers that the code works with, [`crate::PACKET_BYTES`],
-/// [`crate::BODY_BYTES`], [`crate::SYNC`], [`crate::PACKET_BITS`] and [`crate::NO_PLACE`], are those of
-/// the definitions.
+/// [`crate::BODY_BYTES`], [`crate::SYNC`], [`crate::PACKET_BITS`], [`crate::NO_PLACE`],
+/// [`crate::MOST_FIELD_BYTES`] and [`crate::PACKETS_ROOM`], are those of the definitions.
 pub fn limits()
     ensures { LimitsLaw }
 {}

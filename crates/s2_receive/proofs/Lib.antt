@@ -4,6 +4,7 @@ pub mod Headers
 pub mod MetLemmas
 pub mod FindSteps
 pub mod StepLemmas
+pub mod Delivered
 pub mod RunLemmas
 pub mod JoinLemmas
 pub mod FieldPlaces

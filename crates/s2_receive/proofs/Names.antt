@@ -1,5 +1,5 @@
 -- The names that the proofs of this crate cite, passed on from one place. Declares nothing.
-pub use Rattle.std.proofs.Common.{◌≡◌, ℕ, zero, suc, ◌+◌, ◌-◌, ◌*◌, ◌/◌, ◌<◌, ◌≤◌, List, [], ◌∷◌, ◌++◌, All, length, take, drop, refl, sym, ap, ◌∙◌, subst, length-append, length-drop, length-take, take-append-drop, arith, inl, inr, ◌≢◌, Bool, true, false, Option, Some, None, Result, Ok, Err, OnErr, length-take-le, append-nil, map, cond, append_assoc, ◌&&◌, ◌||◌, rules, max, pos, nat_le, nat_lt, nat_eq, if◌then◌else◌}
+pub use Rattle.std.proofs.Common.{◌≡◌, ℕ, zero, suc, ◌+◌, ◌-◌, ◌*◌, ◌/◌, ◌<◌, ◌≤◌, List, [], ◌∷◌, ◌++◌, All, length, take, drop, refl, sym, ap, ap₂, ◌∙◌, subst, length-append, length-drop, length-take, take-append-drop, arith, inl, inr, ◌≢◌, Bool, true, false, Option, Some, None, Result, Ok, Err, OnErr, length-take-le, append-nil, map, cond, append_assoc, ◌&&◌, ◌||◌, rules, max, pos, nat_le, nat_lt, nat_eq, if◌then◌else◌}
 pub use Rattle.std.proofs.KnownBytes.{Consumes-trans, Appends-nil, Appends-trans}
 pub use Rattle.std.proofs.Math.Bool.{and-true, and_assoc}
 pub use Rattle.std.proofs.Math.Nat.{div-mul-le_self, lt-div-mul-add}
@@ -34,15 +34,20 @@ pub use Rattle.s2_receive.specs.Faults.{fault_of}
 pub use Rattle.s2_receive.specs.Finding.{YieldsSymbols, Meets, EndsBehind, Scans, Reaches, ReadsBytes, StopsShort, FindsNext, Looks, IsBehind, met_with, place_with, met_of, met_after, place_after, found_last, NoHeader, ReadsPart}
 pub use Rattle.s2_receive.specs.Laws.{joined, met_events, events_of, IsJoined, Piece, coded, dummy, stream_symbols, AreReceived, frames_at, PassedNone, Gives, FrontLaw, Spells, GoOn, HasGiven, SameRunLaw, SameStepLaw, NoneBegins, SearchLaw, behind_at}
 pub use Rattle.s2_receive.specs.Meeting.{Met, frame, cut, ended, nothing_over, passed, begins, by_found, met_from, met_in, is_over}
-pub use Rattle.s2_receive.specs.Receiving.{Rules, Standing, after, all_packets, packets_of, delivery, joined_after, at_start, met_left, after_all, count_of, State, Went, StepAnswers, IsLive, all_lines, line_of, step_of, is_well, all_well, rank, RunsTo, Stops, BreaksOff, BreaksAfter, phase_after, Receiver, Decision, Finds, Told, Tells, MetFrame, IsDecided, begun, report_for, rules_of}
+pub use Rattle.s2_receive.specs.Receiving.{Rules, Standing, after, all_packets, packets_of, delivery, joined_after, at_start, met_left, after_all, count_of, State, Went, StepAnswers, IsLive, all_lines, line_of, step_of, is_well, all_well, rank, RunsTo, Stops, BreaksOff, BreaksAfter, phase_after, Receiver, Decision, Finds, Told, Tells, MetFrame, IsDecided, begun, report_for, rules_of, deciding, frame_totals, given_after, passes, state_of}
+pub use Rattle.s2_receive.specs.Parts.{delivered_of}
+pub use Rattle.s2_receive.specs.ReportLines.{frame_line, step_line}
 pub use Rattle.s2_receive.specs.Stepping.{FailsIn}
+pub use Rattle.s2_receive.specs.Telling.{Filled, filled_by, joined_by, given_by, counted}
 unfoldable pub use Rattle.s2_receive.specs.Windows.{Saw, found_as}
+pub use Rattle.s2_receive.specs.declared.delivering.Given.{Given}
 pub use Rattle.s2_receive.specs.declared.finding.Held.{Held}
 pub use Rattle.s2_receive.specs.declared.finding.Next.{Next}
 pub use Rattle.s2_receive.specs.declared.report.Fault.{Fault}
 pub use Rattle.s2_receive.specs.declared.report.Phase.{Phase}
 pub use Rattle.s2_receive.specs.declared.report.Report.{Report}
 pub use Rattle.s2_receive.specs.declared.report.Step.{Step}
+pub use Rattle.s2_receive.specs.declared.report.Totals.{Totals}
 pub use Rattle.s2_receive.specs.declared.scanning.Scan.{Scan}
 pub use Rattle.s2_receive.specs.declared.stretch.Stretch.{Stretch}
 pub use Rattle.s2_plframe.specs.declared.receive.found.Found.TheVariants as founds

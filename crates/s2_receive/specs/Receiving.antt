@@ -9,11 +9,12 @@ use Rattle.s2_mode.specs.Limits.{header_symbols}
 use Rattle.s2_mode.specs.Mode.{Mode, symbols_in}
 use Rattle.s2_mode.specs.Streams.{Streams}
 use Rattle.s2_bbframe.specs.Joining.{Event, field, gap, Joined, step, begun_body, torn_in}
+use Rattle.s2_receive.specs.declared.delivering.Given.{Given}
 use Rattle.s2_receive.specs.declared.stretch.Stretch.{Stretch}
 use Rattle.s2_receive.specs.Meeting.{Met, frame, cut, ended, nothing_over, is_over, met_in}
 use Rattle.s2_receive.specs.Finding.{YieldsSymbols, Meets, Reaches, StopsShort, met_of, met_after, place_after}
 use Rattle.s2_receive.specs.Windows.{found_as}
-use Rattle.s2_receive.specs.ReportLines.{frame_line, cut_line, end_line}
+use Rattle.s2_receive.specs.ReportLines.{step_line}
 use Rattle.s2_receive.specs.Stepping.{FailsIn}
 use Rattle.s2_check.specs.declared.verdict.Verdict.{Verdict}
 use Rattle.s2_check.specs.Verdicts.{is_certified}
@@ -93,10 +94,15 @@ passes t over = record t { passed = t.passed + over.symbols; places = t.places +
 abbrev pub at_end : Stretch → Stretch
 at_end over = if nat_lt over.symbols header_symbols then nothing_over else over
 
--- the totals with a frame more
-abbrev pub totals_after : Totals → Joined → ℕ → ℕ → Totals
-totals_after t joined torn delivered =
-    record t { frames = t.frames + 1; delivered = t.delivered + delivered; packets = t.packets + length joined.good; bad = t.bad + joined.bad; torn = t.torn + torn }
+-- what is to be counted of the frame
+abbrev pub given_after : Option (List ℕ) → Stretch → Option (Header × List ℕ) → Given
+given_after held over delivered =
+    record { delivered = count_of delivered; good = length (joined_after held over delivered).good; bad = (joined_after held over delivered).bad; torn = torn_after held over delivered }
+
+-- the totals with a frame more, which gave this
+abbrev pub frame_totals : Totals → Given → Totals
+frame_totals t given =
+    record t { frames = t.frames + 1; delivered = t.delivered + given.delivered; packets = t.packets + given.good; bad = t.bad + given.bad; torn = t.torn + given.torn }
 
 -- and with a cut one
 abbrev pub cut_totals : Totals → ℕ → Totals
@@ -113,8 +119,7 @@ abbrev pub after : Rules → Standing → Met → Standing
 after rules s (frame at over symbols) =
     record {
       held = (joined_after s.held over (rules.decide symbols).delivered).held;
-      totals =
-          totals_after (passes s.totals over) (joined_after s.held over (rules.decide symbols).delivered) (torn_after s.held over (rules.decide symbols).delivered) (count_of (rules.decide symbols).delivered);
+      totals = frame_totals (passes s.totals over) (given_after s.held over (rules.decide symbols).delivered);
     }
 after rules s (cut at over count) = record { held = None; totals = cut_totals (passes s.totals over) (begun_body s.held) }
 after rules s (ended over) = record { held = s.held; totals = passes s.totals (at_end over) }
@@ -124,17 +129,15 @@ abbrev pub packets_of : Rules → Standing → Met → List ℕ
 packets_of rules s (frame at over symbols) = flat_map (λ packet. packet) (joined_after s.held over (rules.decide symbols).delivered).good
 packets_of rules s met = []
 
--- its line of the report
-abbrev pub line_of : Rules → Standing → Met → List ℕ
-line_of rules s (frame at over symbols) = frame_line (report_of rules s.totals at symbols)
-line_of rules s (cut at over count) = cut_line at count
-line_of rules s (ended over) = end_line (passes s.totals (at_end over))
-
 -- the answer
 abbrev pub step_of : Rules → Standing → Met → Step
 step_of rules s (frame at over symbols) = steps.Frame (report_of rules s.totals at symbols)
 step_of rules s (cut at over count) = steps.Cut at count
 step_of rules s (ended over) = steps.End
+
+-- its line of the report: that of the answer, with the totals behind it
+abbrev pub line_of : Rules → Standing → Met → List ℕ
+line_of rules s met = step_line (step_of rules s met) (after rules s met).totals
 
 -- the same for all that is met
 abbrev pub after_all : Rules → Standing → List Met → Standing

@@ -4,6 +4,8 @@ use Rattle.s2_check.specs.Verdicts.{verdict_word}
 use Rattle.s2_receive.specs.declared.report.Outcome.{Outcome}
 use Rattle.s2_receive.specs.declared.report.Outcome.TheVariants.{Delivered, NoWord, BadHeader}
 use Rattle.s2_receive.specs.declared.report.Report.{Report}
+use Rattle.s2_receive.specs.declared.report.Step.{Step}
+use Rattle.s2_receive.specs.declared.report.Step.TheVariants as steps
 use Rattle.s2_receive.specs.declared.report.Totals.{Totals}
 
 -- how many bits of a delivered message's word were wrong, or that nothing was delivered
@@ -36,3 +38,9 @@ packets_words t = codes " packets " ++ decimal t.packets ++ codes " bad " ++ dec
 -- end frames F delivered D packets P bad B
 unfoldable pub end_line : Totals → List ℕ
 end_line t = frames_words t ++ delivered_words t ++ packets_words t ++ codes "\n"
+
+-- the line of a step, with the totals behind it
+abbrev pub step_line : Step → Totals → List ℕ
+step_line (steps.Frame report) totals = frame_line report
+step_line (steps.Cut at count) totals = cut_line at count
+step_line steps.End totals = end_line totals

@@ -1,21 +1,17 @@
 //! What was met, given: what comes to the joiner, and the packets that are whole with it.
-ghost use Rattle.std.specs.Prelude.{◌≡◌, ◌+◌, ◌-◌, ◌*◌, ◌^◌, ◌<◌, ◌≤◌, ◌⊎◌, [], None, IfOk, IfSome, OnOk, OnErr, length};
+ghost use Rattle.std.specs.Prelude.{◌≡◌, ◌*◌, ◌≤◌, None, IfOk, IfSome, length, take};
 ghost use Rattle.std.specs.List.{flat_map};
-ghost use Rattle.std.specs.Io.KnownBytes.{Appends};
-ghost use Rattle.s2_mode.specs.Counts.{CanCount, CountsFault};
-ghost use Rattle.s2_mode.specs.Pieces.{AppendsPart};
-ghost use Rattle.s2_receive.specs.Answers.{IsSame};
-ghost use Rattle.s2_receive.specs.Finding.{met_of};
+ghost use Rattle.s2_bbframe.specs.Joining.{still};
+ghost use Rattle.s2_bbframe.specs.Limits.{most_field_bytes, packet_bytes, packets_room};
 ghost use Rattle.s2_receive.specs.Parts.{delivered_of, HasPlace};
-ghost use Rattle.s2_receive.specs.Receiving.{held_before, torn_before, joined_after, torn_after, count_of, deciding, rules_of};
-ghost use Rattle.s2_receive.specs.Telling.{IsFew, GivesPackets};
+ghost use Rattle.s2_receive.specs.Receiving.{held_before, torn_before, joined_after, given_after};
+ghost use Rattle.s2_receive.specs.Telling.{IsFew, filled_by, given_by, joined_by};
 
 use crate::finding::Next;
-use crate::parts::{Decide, Decided};
-use crate::receiver::Receiver;
 use crate::stretch::Stretch;
-use s2_bbframe::Joiner;
-use s2_mode::{CountedWrite, WriteFault};
+use s2_bbframe::{Header, Joiner, PACKET_BYTES, PACKETS_ROOM};
+use std::alloc::{AllocError, Global};
+use std::marker::Model;
 
 /// What was met gave this: 1 or 0 delivered messages, packets, bodies with a wrong CRC-8, and torn bodies.
 #[derive(Clone, Copy)]
@@ -49,67 +45,101 @@ fn gap_before(joiner: &mut Joiner, over: Stretch) -> usize
     if over.is_over() { joiner.gap() } else { 0 }
 }
 
-/// Joins the data field of a frame on, and writes the packets that are whole with it. A gap comes before it where
-/// symbols were passed over, and in its place where nothing was delivered.
-fn give_packets<P: CountedWrite>(
+/// Joins the data field of a frame on, where it has a header, and puts the packets that are whole with it at the front
+/// of a buffer. A gap comes before it where symbols were passed over, and in its place where nothing was delivered.
+fn join_frame(
     joiner: &mut Joiner,
-    decided: Decided,
+    header: Option<Header>,
     field: &[u8],
     over: Stretch,
-    packets: &mut P,
-) -> Result<Given, WriteFault>
-    requires packets { CanCount (P.count packets.old) }
-    requires place { IfSome decided.header (HasPlace field.now) }
-    ensures delivered { IfOk result (λ given. given.delivered ≡ count_of (delivered_of decided.header field.now)) }
-    ensures good { IfOk result (λ given. given.good ≡ length (joined_after joiner.old over (delivered_of decided.header field.now)).good) }
-    ensures bad { IfOk result (λ given. given.bad ≡ (joined_after joiner.old over (delivered_of decided.header field.now)).bad) }
-    ensures torn { IfOk result (λ given. given.torn ≡ torn_after joiner.old over (delivered_of decided.header field.now)) }
-    ensures few { IfOk result IsFew }
-    ensures held { OnOk result (joiner.new ≡ (joined_after joiner.old over (delivered_of decided.header field.now)).held) }
-    ensures packets { OnOk result (Appends (P.contents packets.old) (P.contents packets.new) (flat_map (λ packet. packet) (joined_after joiner.old over (delivered_of decided.header field.now)).good)) }
-    ensures part { OnErr result (AppendsPart (flat_map (λ packet. packet) (joined_after joiner.old over (delivered_of decided.header field.now)).good) (P.contents packets.old) (P.contents packets.new)) }
-    ensures cause { CountsFault (P.count packets.old) (P.count packets.new) result }
+    packets: &mut [u8],
+) -> Given
+    requires place { IfSome header (HasPlace field.now) }
+    requires room { packets_room most_field_bytes ≤ length packets.old }
+    ensures held { joiner.new ≡ (joined_after joiner.old over (delivered_of header field.now)).held }
+    ensures packets { take (packet_bytes * result.good) packets.new ≡ flat_map (λ packet. packet) (joined_after joiner.old over (delivered_of header field.now)).good }
+    ensures given { result ≡ given_after joiner.old over (delivered_of header field.now) }
+    ensures few { IsFew result }
+    ensures most { packet_bytes * result.good ≤ length packets.old }
+    ensures size { length packets.new ≡ length packets.old }
 {
     let before = gap_before(joiner, over);
-    let Some(header) = decided.header else {
-        return Ok(Given::torn(before + joiner.gap()));
+    let Some(header) = header else {
+        return Given::torn(before + joiner.gap());
     };
-    let fed = joiner.feed(&header, field, packets)?;
-    Ok(Given {
+    let fed = joiner.feed(&header, field, packets);
+    Given {
         delivered: 1,
         good: fed.good as u64,
         bad: fed.bad as u64,
         torn: (before + fed.torn) as u64,
-    })
+    }
 }
 
-impl<D: Decide> Receiver<D> {
-    /// Gives what was met: a frame's data field is joined on to what the joiner holds, and the packets that are whole with
-    /// it are written; at a cut frame there is a gap, and at the end nothing. Only the joiner and the packets change.
-    pub(crate) fn give<P: CountedWrite>(
-        &mut self,
-        next: Next,
-        packets: &mut P,
-    ) -> Result<Given, WriteFault>
-        requires packets { CanCount (P.count packets.old) }
-        ensures same { IsSame D.decide self.old self.new }
-        ensures last { D.last self.new.decider ≡ D.last self.old.decider }
-        ensures place { (self.new.state.phase ≡ self.old.state.phase) × (self.new.state.at ≡ self.old.state.at) × (self.new.state.standing.totals ≡ self.old.state.standing.totals) }
-        ensures gives { GivesPackets (deciding (D.last self.old.decider) (rules_of D.decide self.old)) self.old.state.standing self.new.state.standing (met_of next [])
-            (P.contents packets.old) (P.contents packets.new) result }
-        ensures few { IfOk result IsFew }
-        ensures cause { CountsFault (P.count packets.old) (P.count packets.new) result }
+/// A joiner, and the packets that were whole with what was met last.
+pub(crate) struct Filler {
+    joiner: Joiner,
+    buffer: Vec<u8>,
+    filled: usize,
+}
+
+impl Drop for Filler {
+    fn drop(self) {
+        let Filler {
+            joiner: _,
+            buffer: _,
+            filled: _,
+        } = self;
+    }
+}
+
+impl Model for Filler {
+    ghost use Rattle.std.specs.Prelude.{take};
+    ghost use Rattle.s2_receive.specs.Telling.{Filled, HasRoom};
+
+    ghost Value = { Filled };
+
+    ghost view = { λ f. record { held = f.joiner; packets = take f.filled f.buffer.items } };
+
+    ghost invariant = { λ f. HasRoom f.filled f.buffer.items };
+}
+
+impl Filler {
+    /// A joiner that is lost, with room for the packets of a frame. `AllocError` only where a growth was refused.
+    pub(crate) fn new(alloc: Global) -> Result<Filler, AllocError>
+        ensures { IfOk result (λ f. f ≡ filled_by (still None)) }
     {
-        match next {
-            Next::Frame { at: _, over } => give_packets(
-                &mut self.joiner,
-                self.decider.decided(),
-                self.decider.field(),
-                over,
-                packets,
-            ),
-            Next::Cut { .. } => Ok(Given::torn(self.joiner.gap())),
-            Next::End { .. } => Ok(Given::torn(0)),
-        }
+        let buffer = vec![in alloc; 0u8; PACKETS_ROOM]?;
+        Ok(Filler {
+            joiner: Joiner::new(),
+            buffer,
+            filled: 0,
+        })
+    }
+
+    /// The packets that were whole with what was met last.
+    pub(crate) fn packets(&self) -> &[u8]
+        ensures { result.now ≡ self.now.packets }
+    {
+        &self.buffer[..self.filled]
+    }
+
+    /// Gives what was met: the data field of a frame with this header is joined on to what the joiner holds, where nothing
+    /// was delivered and at a cut frame there is a gap, and at the end nothing. What is to be counted.
+    pub(crate) fn give(&mut self, next: Next, header: Option<Header>, field: &[u8]) -> Given
+        requires place { IfSome header (HasPlace field.now) }
+        ensures filled { self.new ≡ filled_by (joined_by self.old.held next (delivered_of header field.now)) }
+        ensures given { result ≡ given_by self.old.held next (delivered_of header field.now) }
+        ensures few { IsFew result }
+    {
+        let given = match next {
+            Next::Frame { at: _, over } => {
+                join_frame(&mut self.joiner, header, field, over, &mut self.buffer)
+            }
+            Next::Cut { .. } => Given::torn(self.joiner.gap()),
+            Next::End { .. } => Given::torn(0),
+        };
+        self.filled = PACKET_BYTES * given.good as usize;
+        given
     }
 }

@@ -1,14 +1,10 @@
 //! The lines of a receiver's report.
-ghost use Rattle.std.specs.Prelude.{◌≡◌, ◌+◌, ◌≤◌, ◌++◌, OnOk, OnErr, length};
-ghost use Rattle.std.specs.Io.KnownBytes.{Appends};
-ghost use Rattle.s2_mode.specs.Counts.{CanCount, CountsFault};
-ghost use Rattle.s2_mode.specs.Pieces.{AppendsPart};
+ghost use Rattle.std.specs.Prelude.{◌≡◌, ◌+◌, ◌≤◌, ◌++◌, length};
 ghost use Rattle.s2_console.specs.Lines.{line_room};
-ghost use Rattle.s2_receive.specs.ReportLines.{outcome_words, frame_line, cut_line, frames_words, delivered_words, packets_words, end_line};
+ghost use Rattle.s2_receive.specs.ReportLines.{outcome_words, frame_line, cut_line, frames_words, delivered_words, packets_words, end_line, step_line};
 
-use crate::report::{Outcome, Report, Totals};
+use crate::report::{Outcome, Report, Step, Totals};
 use s2_console::Line;
-use s2_mode::{CountedWrite, WriteFault, write_full};
 
 fn push_outcome(line: &mut Line, outcome: Outcome)
     requires { length line.old + 50 ≤ line_room }
@@ -87,37 +83,13 @@ fn line_of_end(totals: Totals) -> Line
     line
 }
 
-/// Writes the line of a frame, by one write where the writer takes it whole. After a fault a part of it has been
-/// written.
-pub(crate) fn write_frame<W: CountedWrite>(report: Report, out: &mut W) -> Result<(), WriteFault>
-    requires { CanCount (W.count out.old) }
-    ensures bytes { OnOk result (Appends (W.contents out.old) (W.contents out.new) (frame_line report)) }
-    ensures part { OnErr result (AppendsPart (frame_line report) (W.contents out.old) (W.contents out.new)) }
-    ensures cause { CountsFault (W.count out.old) (W.count out.new) result }
+/// The line of a step, with the totals behind it.
+pub(crate) fn line_of(step: Step, totals: Totals) -> Line
+    ensures { result ≡ step_line step totals }
 {
-    write_full(out, line_of_frame(report).as_bytes())
-}
-
-/// That of a frame that begins at a symbol and has so many.
-pub(crate) fn write_cut<W: CountedWrite>(
-    at: u64,
-    symbols: u64,
-    out: &mut W,
-) -> Result<(), WriteFault>
-    requires { CanCount (W.count out.old) }
-    ensures bytes { OnOk result (Appends (W.contents out.old) (W.contents out.new) (cut_line at symbols)) }
-    ensures part { OnErr result (AppendsPart (cut_line at symbols) (W.contents out.old) (W.contents out.new)) }
-    ensures cause { CountsFault (W.count out.old) (W.count out.new) result }
-{
-    write_full(out, line_of_cut(at, symbols).as_bytes())
-}
-
-/// The last line.
-pub(crate) fn write_end<W: CountedWrite>(totals: Totals, out: &mut W) -> Result<(), WriteFault>
-    requires { CanCount (W.count out.old) }
-    ensures bytes { OnOk result (Appends (W.contents out.old) (W.contents out.new) (end_line totals)) }
-    ensures part { OnErr result (AppendsPart (end_line totals) (W.contents out.old) (W.contents out.new)) }
-    ensures cause { CountsFault (W.count out.old) (W.count out.new) result }
-{
-    write_full(out, line_of_end(totals).as_bytes())
+    match step {
+        Step::Frame(report) => line_of_frame(report),
+        Step::Cut { at, symbols } => line_of_cut(at, symbols),
+        Step::End => line_of_end(totals),
+    }
 }

@@ -11,12 +11,13 @@ ghost use Rattle.s2_receive.specs.Stepping.{place_of};
 ghost use Rattle.s2_receive.specs.Receiving.{IsLive, Finds, Stops, begun, is_at_frame, rules_of};
 ghost use Rattle.s2_receive.specs.Answers.{IsSame, KeepsLast, MeetAnswers, DeliversBy, StepsBy, seen_by};
 
+use crate::delivering::Filler;
 use crate::finder::Finder;
 use crate::finding::Next;
 use crate::parts::Decide;
 use crate::report::{Fault, Phase, Step, Totals};
 use crate::stretch::Stretch;
-use s2_bbframe::Joiner;
+use crate::telling::write_step;
 use s2_mode::{CountedRead, CountedWrite, Mode, ReadFault, WriteFault};
 use s2_plframe::Lock;
 use std::alloc::{AllocError, Global};
@@ -36,7 +37,7 @@ pub(crate) struct Place {
 pub struct Receiver<D: Decide> {
     pub(crate) finder: Finder,
     pub(crate) decider: D,
-    pub(crate) joiner: Joiner,
+    filler: Filler,
     pub(crate) place: Place,
     limit: u64,
 }
@@ -46,7 +47,7 @@ impl<D: Decide + Drop> Drop for Receiver<D> {
         let Receiver {
             finder: _,
             decider: _,
-            joiner: _,
+            filler: _,
             place: _,
             limit: _,
         } = self;
@@ -64,7 +65,7 @@ impl<D: Decide> Model for Receiver<D> {
       lock = r.finder.lock;
       decider = r.decider;
       limit = r.limit;
-      state = state_of r.place.phase r.place.at r.joiner r.place.totals;
+      state = state_of r.place.phase r.place.at r.filler.held r.place.totals;
     } };
 
     ghost invariant = { λ r. IsSound r.finder.mode (D.size r.decider) r.limit r.place.phase r.place.at r.place.totals };
@@ -92,7 +93,7 @@ impl<D: Decide> Receiver<D> {
         Ok(Receiver {
             finder: Finder::new(alloc, mode, lock)?,
             decider,
-            joiner: Joiner::new(),
+            filler: Filler::new(alloc)?,
             place: Place {
                 phase: Phase::Searching,
                 at: 0,
@@ -206,9 +207,9 @@ impl<D: Decide> Receiver<D> {
         Step::End
     }
 
-    /// The second half of a step: gives what was met, which writes its packets, and then tells it, which writes its line
-    /// of the report. The joiner has a gap where symbols were passed over that are no dummy frame's, where a frame
-    /// isn't delivered, and after a cut.
+    /// The second half of a step: gives what was met to the joiner, and writes the packets that are whole with it, and
+    /// then its line of the report. The joiner has a gap where symbols were passed over that are no dummy frame's, where
+    /// a frame isn't delivered, and after a cut.
     ///
     /// `Write` tells that one of the two writers failed, which then has a part of the packets or of the line; the
     /// receiver counts as failed from then on. After the end it writes nothing. Where nothing was met it answers
@@ -231,11 +232,15 @@ impl<D: Decide> Receiver<D> {
             Phase::Ended => return Ok(()),
             Phase::Searching | Phase::Closing | Phase::Failed => return Err(Fault::Failed),
         };
-        let Ok(given) = self.give(next, packets) else {
-            return Err(self.fail());
-        };
-        match self.tell(next, given, report) {
-            Ok(()) => Ok(()),
+        let header = self.decider.decided().header;
+        let given = self.filler.give(next, header, self.decider.field());
+        let step = self.step_of(next);
+        let place = self.place_behind(next, given);
+        match write_step(self.filler.packets(), step, place.totals, packets, report) {
+            Ok(()) => {
+                self.place = place;
+                Ok(())
+            }
             Err(WriteFault) => Err(self.fail()),
         }
     }

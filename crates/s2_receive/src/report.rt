@@ -1,8 +1,8 @@
 //! What a receiver answers and counts.
 ghost use Rattle.std.specs.Prelude.{◌≡◌, ◌≢◌, ◌+◌, ◌^◌, ◌<◌, ◌≤◌};
 ghost use Rattle.s2_receive.specs.Faults.{fault_of};
-ghost use Rattle.s2_receive.specs.Receiving.{at_start, passes, cut_totals};
-ghost use Rattle.s2_receive.specs.Telling.{IsFew, frame_totals};
+ghost use Rattle.s2_receive.specs.Receiving.{at_start, passes, cut_totals, frame_totals};
+ghost use Rattle.s2_receive.specs.Telling.{IsFew};
 
 use crate::delivering::Given;
 use crate::finding::Next;
