@@ -5,7 +5,7 @@ use Rattle.std.specs.Prelude.{◌==◌, ◌&&◌, ◌||◌, nat_le, if◌then◌
 use Rattle.std.proofs.lemmas.Bool.{eqb-true, leb-true, ne_eqb}
 use Rattle.std.proofs.lemmas.Bool.Decides.{eqb_tells}
 use Rattle.s2_mode.specs.Shape.{IsShape}
-use Rattle.s2_mode.specs.Mode.{Mode, mode_of, IsMode, rate_index, rate_of, kbch_of, k_of, n_of, t_of, q_of, width_of, slots_of, pilot_blocks_of, symbols_in, shape_in, HasCodeSizes, HasFrameSizes}
+use Rattle.s2_mode.specs.Mode.{Mode, mode_of, IsMode, modulation_of, is_qpsk, rate_index, rate_of, kbch_of, k_of, n_of, t_of, q_of, width_of, slots_of, pilot_blocks_of, symbols_in, shape_in, HasCodeSizes, HasFrameSizes}
 
 -- ---- every mode
 
@@ -80,7 +80,7 @@ equal_at f g m passes is = eqb-true (f m) (g m) (at_each (λ m. f m == g m) m pa
 pub at_most_at : (f g : Mode → ℕ) (m : Mode) → passes_all (λ m. nat_le (f m) (g m)) ≡ true → IsMode m → f m ≤ g m
 at_most_at f g m passes is = leb-true (f m) (g m) (at_each (λ m. nat_le (f m) (g m)) m passes is)
 
--- ---- the sizes
+-- ---- the sizes of the codes
 
 -- the degree of the BCH code's minimal polynomials
 abbrev degree : Bool → ℕ
@@ -157,24 +157,36 @@ valid_shape m is =
       few = omega (arith, sizes.groups, sizes.checks, sizes.n_most);
     }
 
+-- ---- the code rates
+
+normal_rate : (m : Mode) → IsMode m → (if m.short then 0 else k_of m * (rate_of m).under) ≡ (if m.short then 0 else n_of m * (rate_of m).over)
+unfolding k_of n_of rate_of rate_index
+normal_rate m is = equal_at (λ m. if m.short then 0 else k_of m * (rate_of m).under) (λ m. if m.short then 0 else n_of m * (rate_of m).over) m refl is
+
+pub code_rate_is : (m : Mode) → IsMode m → m.short ≡ false → k_of m * (rate_of m).under ≡ n_of m * (rate_of m).over
+code_rate_is m is normal =
+    subst (λ short. (if short then 0 else k_of m * (rate_of m).under) ≡ (if short then 0 else n_of m * (rate_of m).over)) normal (normal_rate m is)
+
+-- ---- the sizes of a frame
+
 payload : (m : Mode) → IsMode m → n_of m ≡ width_of m * (90 * slots_of m)
-unfolding n_of width_of slots_of
+unfolding n_of width_of is_qpsk modulation_of slots_of
 payload m is = equal_at n_of (λ m. width_of m * (90 * slots_of m)) m refl is
 
 slots_least : (m : Mode) → IsMode m → 60 ≤ slots_of m
-unfolding n_of width_of slots_of
+unfolding n_of width_of is_qpsk modulation_of slots_of
 slots_least m is = at_most_at (λ m. 60) slots_of m refl is
 
 slots_most : (m : Mode) → IsMode m → slots_of m ≤ 360
-unfolding n_of width_of slots_of
+unfolding n_of width_of is_qpsk modulation_of slots_of
 slots_most m is = at_most_at slots_of (λ m. 360) m refl is
 
 blocks_below : (m : Mode) → IsMode m → 16 * pilot_blocks_of m + 1 ≤ slots_of m
-unfolding n_of width_of slots_of pilot_blocks_of
+unfolding n_of width_of is_qpsk modulation_of slots_of pilot_blocks_of
 blocks_below m is = at_most_at (λ m. 16 * pilot_blocks_of m + 1) slots_of m refl is
 
 blocks_reach : (m : Mode) → IsMode m → (if m.pilots then slots_of m else 0) ≤ 16 * pilot_blocks_of m + 16
-unfolding n_of width_of slots_of pilot_blocks_of
+unfolding n_of width_of is_qpsk modulation_of slots_of pilot_blocks_of
 blocks_reach m is = at_most_at (λ m. if m.pilots then slots_of m else 0) (λ m. 16 * pilot_blocks_of m + 16) m refl is
 
 no_blocks : (m : Mode) → m.pilots ≡ false → pilot_blocks_of m ≡ 0
@@ -186,7 +198,7 @@ unfolding symbols_in
 symbols m = refl
 
 symbols_most : (m : Mode) → IsMode m → symbols_in m ≤ 33282
-unfolding n_of width_of slots_of pilot_blocks_of symbols_in
+unfolding n_of width_of is_qpsk modulation_of slots_of pilot_blocks_of symbols_in
 symbols_most m is = at_most_at symbols_in (λ m. 33282) m refl is
 
 pub frame_sizes : (m : Mode) → IsMode m → HasFrameSizes m

@@ -5,6 +5,7 @@ pub mod Symbols
 pub mod Lanes
 pub mod Limits
 pub mod Shape
+pub mod Table
 pub mod Mode
 pub mod FaultTexts
 pub mod Streams

@@ -1,8 +1,11 @@
--- The modes of the profile (EN 302 307-1, tables 5a, 5b, 12 and clause 5.5): one line of the table for each code rate.
-use Rattle.std.specs.Prelude.{◌≡◌, ◌≢◌, ℕ, ◌+◌, ◌-◌, ◌*◌, ◌/◌, ◌≤◌, ◌<◌, nat_le, Bool, true, false, List, [], ◌∷◌, get_or, slice_index, if◌then◌else◌}
+-- The modes of the profile, by the table of modes (EN 302 307-1, table 12 and clause 5.5).
+use Rattle.std.specs.Prelude.{◌≡◌, ◌≢◌, ℕ, ◌+◌, ◌-◌, ◌*◌, ◌/◌, ◌≤◌, ◌<◌, ℤ, pos, Bool, true, false, get_or, if◌then◌else◌}
 use Rattle.s2_mode.specs.Limits.{most_bits, header_symbols}
 use Rattle.s2_mode.specs.Shape.{Shape, shape_of}
-use Rattle.s2_mode.specs.declared.rates.Rate.{Rate}
+use Rattle.s2_mode.specs.Table.{CodeRate, rate, rates, line, modcods}
+use Rattle.s2_mode.specs.declared.modcods.Modcod.{Modcod}
+use Rattle.s2_mode.specs.declared.modcods.Modulation.{Modulation}
+use Rattle.s2_mode.specs.declared.modcods.Modulation.TheVariants as modulations
 
 -- a MODCOD, whether frames are short, and whether they have pilots
 pub record Mode : Type 0 where
@@ -10,41 +13,37 @@ pub record Mode : Type 0 where
   pub short : Bool
   pub pilots : Bool
 
--- a code rate: Kbch, k = Nbch and t of normal frames, and Kbch and k of short ones, whose t is 12
-abbrev pub rate : ℕ → ℕ → ℕ → ℕ → ℕ → Rate
-rate kbch k t short_kbch short_k =
-    record { kbch = kbch; k = k; t = t; short_kbch = short_kbch; short_k = short_k }
+-- the line of its MODCOD
+abbrev pub modcod_of : Mode → Modcod
+modcod_of m = get_or modcods (m.modcod - 1) (line modulations.Qpsk 0 (pos 0) 0)
 
--- 1/4, 1/3, 2/5, 1/2, 3/5, 2/3, 3/4, 4/5, 5/6, 8/9, 9/10; the last has no short frames
-abbrev pub rates : List Rate
-rates =
-    rate 16008 16200 12 3072 3240
-    ∷ rate 21408 21600 12 5232 5400
-    ∷ rate 25728 25920 12 6312 6480
-    ∷ rate 32208 32400 12 7032 7200
-    ∷ rate 38688 38880 12 9552 9720
-    ∷ rate 43040 43200 10 10632 10800
-    ∷ rate 48408 48600 12 11712 11880
-    ∷ rate 51648 51840 12 12432 12600
-    ∷ rate 53840 54000 10 13152 13320
-    ∷ rate 57472 57600 8 14232 14400
-    ∷ rate 58192 58320 8 0 0
-    ∷ []
+-- its constellation
+unfoldable pub modulation_of : Mode → Modulation
+modulation_of m = (modcod_of m).modulation
 
--- the places in the table of the rates of 8PSK: 3/5, 2/3, 3/4, 5/6, 8/9, 9/10
-abbrev pub psk_rates : List ℕ
-psk_rates = 4 ∷ 5 ∷ 6 ∷ 8 ∷ 9 ∷ 10 ∷ []
+-- whether that is QPSK, and not 8PSK
+abbrev pub names_qpsk : Modulation → Bool
+names_qpsk modulations.Qpsk = true
+names_qpsk modulations.Psk8 = false
 
--- MODCOD 1 to 11 is QPSK, 12 to 17 is 8PSK
-abbrev pub is_qpsk : Mode → Bool
-is_qpsk m = nat_le m.modcod 11
+unfoldable pub is_qpsk : Mode → Bool
+is_qpsk m = names_qpsk (modulation_of m)
 
--- which line of the table
+-- the Es/N0 of its MODCOD, in hundredths of a dB; it is that of normal frames
+unfoldable pub ideal_of : Mode → ℤ
+ideal_of m = (modcod_of m).ideal
+
+-- the factor of min-sum's messages that is best for its MODCOD
+unfoldable pub tuned_factor_of : Mode → ℕ
+tuned_factor_of m = (modcod_of m).tuned_factor
+
+-- the place of its code rate
 unfoldable pub rate_index : Mode → ℕ
-rate_index m = if is_qpsk m then m.modcod - 1 else slice_index psk_rates (m.modcod - 12)
+rate_index m = (modcod_of m).rate_index
 
-unfoldable pub rate_of : Mode → Rate
-rate_of m = get_or rates (rate_index m) (rate 0 0 0 0 0)
+-- its code rate
+unfoldable pub rate_of : Mode → CodeRate
+rate_of m = get_or rates (rate_index m) (rate 0 1 0 0 0 0 0)
 
 -- MODCOD 1 to 17; 9/10, which is 11 and 17, has no short frames
 pub record IsMode (m : Mode) : Type 0 where
@@ -54,11 +53,11 @@ pub record IsMode (m : Mode) : Type 0 where
 
 -- Kbch, the bits of a message
 unfoldable pub kbch_of : Mode → ℕ
-kbch_of m = if m.short then (rate_of m).short_kbch else (rate_of m).kbch
+kbch_of m = if m.short then (rate_of m).sizes.short_kbch else (rate_of m).sizes.kbch
 
 -- k, which is Nbch too
 unfoldable pub k_of : Mode → ℕ
-k_of m = if m.short then (rate_of m).short_k else (rate_of m).k
+k_of m = if m.short then (rate_of m).sizes.short_k else (rate_of m).sizes.k
 
 -- n
 unfoldable pub n_of : Mode → ℕ
@@ -66,11 +65,15 @@ n_of m = if m.short then 16200 else 64800
 
 -- how many errors of a BCH word can be corrected
 unfoldable pub t_of : Mode → ℕ
-t_of m = if m.short then 12 else (rate_of m).t
+t_of m = if m.short then 12 else (rate_of m).sizes.t
 
 -- by how many checks each next bit of a group moves on
 unfoldable pub q_of : Mode → ℕ
 q_of m = (n_of m - k_of m) / 360
+
+-- a code rate is k / n of normal frames
+abbrev pub CodeRatesLaw : Type 0
+CodeRatesLaw = (m : Mode) → IsMode m → m.short ≡ false → k_of m * (rate_of m).under ≡ n_of m * (rate_of m).over
 
 -- how many bits a symbol carries
 unfoldable pub width_of : Mode → ℕ

@@ -1,10 +1,16 @@
 //! Laws of the definitions: each a call that does nothing, whose clause is the law.
 ghost use Rattle.s2_mode.specs.Limits.{LimitsLaw};
+ghost use Rattle.s2_mode.specs.Mode.{CodeRatesLaw};
 ghost use Rattle.s2_mode.specs.Symbols.{SymbolsBackLaw};
 
 /// Symbols of 16-bit components are read back from their bytes.
 pub fn symbols_back()
     ensures { SymbolsBackLaw }
+{}
+
+/// The code rate that a mode is named by is that of its inner code, k / n of normal frames.
+pub fn code_rates()
+    ensures { CodeRatesLaw }
 {}
 
 /// The limits that are tested, [`crate::MOST_BITS`], [`crate::MOST_GROUP`], [`crate::MOST_MODCOD`], [`crate::MOST_SOFT`],

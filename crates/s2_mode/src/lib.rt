@@ -1,9 +1,9 @@
 //! What every other crate begins with: the modes of a DVB-S2 modem, the shape of a code, symbols, and
 //! readers and writers that count their failed calls.
 //!
-//! A [`Mode`] is made by [`Mode::of`] alone, so it is one that EN 302 307-1 has; its numbers are those of
-//! the standard's tables 5a and 5b, from one table ([`Mode::kbch`] to [`Mode::symbols`]), and
-//! [`Mode::shape`] is the shape of its LDPC code. [`Shape::new`] makes any other shape of at most 64800
+//! A [`Mode`] is made by [`Mode::of`] alone, so it is one that EN 302 307-1 has. What it says stands in one
+//! table: a line for each MODCOD ([`Mode::modulation`] to [`Mode::tuned_factor`]), and one for the sizes of each
+//! code rate ([`Mode::kbch`] to [`Mode::symbols`]). [`Mode::shape`] is the shape of its LDPC code. [`Shape::new`] makes any other shape of at most 64800
 //! bits. A call that reads or writes takes what is [`Counted`]: over memory its contract names the
 //! bytes, and a failed call raises the count, so no fault is answered where nothing failed.
 //! [`Counting`] counts for any [`Source`] and [`Sink`], which each reader and each writer of std is, and fails only
@@ -27,6 +27,7 @@ mod lanes;
 pub mod laws;
 mod limits;
 mod memory;
+mod modcods;
 mod mode;
 mod rates;
 mod shape;
@@ -46,6 +47,7 @@ pub use limits::{
     DUMMY_SYMBOLS, HEADER_SYMBOLS, MOST_BITS, MOST_GROUP, MOST_MODCOD, MOST_SOFT, MOST_SYMBOLS,
 };
 pub use memory::InMemory;
+pub use modcods::Modulation;
 pub use mode::Mode;
 pub use shape::Shape;
 pub use stream_fault::StreamFault;

@@ -1,9 +1,11 @@
 //! Modes.
 ghost use Rattle.std.specs.Prelude.{◌≡◌, ◌<◌, ◌↔◌, IsSome, IfSome};
-ghost use Rattle.s2_mode.specs.Mode.{mode_of, IsMode, is_qpsk, rate_index, kbch_of, k_of, n_of, t_of, q_of, rate_of, width_of, slots_of, pilot_blocks_of, symbols_in, shape_in, HasCodeSizes, HasFrameSizes};
+ghost use Rattle.s2_mode.specs.Table.{code_rate_text};
+ghost use Rattle.s2_mode.specs.Mode.{mode_of, IsMode, modcod_of, modulation_of, is_qpsk, rate_index, ideal_of, tuned_factor_of, kbch_of, k_of, n_of, t_of, q_of, rate_of, width_of, slots_of, pilot_blocks_of, symbols_in, shape_in, HasCodeSizes, HasFrameSizes};
 
 use crate::limits::{HEADER_SYMBOLS, MOST_MODCOD};
-use crate::rates::{RATES, Rate};
+use crate::modcods::{MODCODS, Modcod, Modulation};
+use crate::rates::{CodeRate, RATES, line_at};
 use crate::shape::Shape;
 use std::marker::Model;
 
@@ -47,34 +49,77 @@ impl Mode {
         })
     }
 
+    fn line(&self) -> Modcod
+        ensures is { result ≡ modcod_of self.now }
+        ensures valid { IsMode self.now }
+    {
+        MODCODS[usize::from(self.modcod) - 1]
+    }
+
+    /// The constellation.
+    #[tactic(auto, unfolding(crate::specs::Mode::modulation_of))]
+    pub fn modulation(&self) -> Modulation
+        ensures is { result ≡ modulation_of self.now }
+        ensures valid { IsMode self.now }
+    {
+        self.line().modulation
+    }
+
     /// Whether symbols carry two bits (QPSK), and not three (8PSK).
+    #[tactic(auto, unfolding(crate::specs::Mode::is_qpsk))]
     pub fn is_qpsk(&self) -> bool
         ensures is { result ≡ is_qpsk self.now }
         ensures valid { IsMode self.now }
     {
-        self.modcod <= 11
+        match self.modulation() {
+            Modulation::Qpsk => true,
+            Modulation::Psk8 => false,
+        }
     }
 
+    /// The place of the code rate among the eleven, from 1/4, which is 0, to 9/10, which is 10.
     #[tactic(auto, unfolding(crate::specs::Mode::rate_index))]
-    fn rate_index(&self) -> usize
+    pub fn rate_index(&self) -> usize
         ensures is { result ≡ rate_index self.now }
         ensures within { result < 11 }
         ensures valid { IsMode self.now }
     {
-        const PSK: [usize; 6] = [4, 5, 6, 8, 9, 10];
-        if self.is_qpsk() {
-            usize::from(self.modcod) - 1
-        } else {
-            PSK[usize::from(self.modcod) - 12]
-        }
+        self.line().rate_index
     }
 
-    #[tactic(auto, unfolding(crate::specs::Mode::rate_of))]
-    fn rate(&self) -> Rate
-        ensures is { result ≡ rate_of self.now }
+    fn rate(&self) -> CodeRate
+        ensures text { result.text.now ≡ code_rate_text (rate_of self.now) }
+        ensures sizes { result.sizes ≡ (rate_of self.now).sizes }
         ensures valid { IsMode self.now }
     {
-        RATES[self.rate_index()]
+        line_at(&RATES, self.rate_index())
+    }
+
+    /// The code rate as it is written, `3/4`.
+    pub fn code_rate(&self) -> &'static str
+        ensures is { result.now ≡ code_rate_text (rate_of self.now) }
+        ensures valid { IsMode self.now }
+    {
+        self.rate().text
+    }
+
+    /// The Es/N0 at which quasi error free reception begins over a channel with noise alone, in hundredths of a dB: that of
+    /// normal frames (EN 302 307-1, table 13).
+    #[tactic(auto, unfolding(crate::specs::Mode::ideal_of))]
+    pub fn ideal(&self) -> i16
+        ensures is { result ≡ ideal_of self.now }
+        ensures valid { IsMode self.now }
+    {
+        self.line().ideal
+    }
+
+    /// The factor of min-sum's messages that was measured to be best.
+    #[tactic(auto, unfolding(crate::specs::Mode::tuned_factor_of))]
+    pub fn tuned_factor(&self) -> u32
+        ensures is { result ≡ tuned_factor_of self.now }
+        ensures valid { IsMode self.now }
+    {
+        self.line().tuned_factor
     }
 
     /// The MODCOD, 1 to 17.
@@ -109,9 +154,9 @@ impl Mode {
         ensures sizes { HasCodeSizes self.now }
     {
         if self.short {
-            self.rate().short_kbch
+            self.rate().sizes.short_kbch
         } else {
-            self.rate().kbch
+            self.rate().sizes.kbch
         }
     }
 
@@ -123,9 +168,9 @@ impl Mode {
         ensures sizes { HasCodeSizes self.now }
     {
         if self.short {
-            self.rate().short_k
+            self.rate().sizes.short_k
         } else {
-            self.rate().k
+            self.rate().sizes.k
         }
     }
 
@@ -146,7 +191,7 @@ impl Mode {
         ensures valid { IsMode self.now }
         ensures sizes { HasCodeSizes self.now }
     {
-        if self.short { 12 } else { self.rate().t }
+        if self.short { 12 } else { self.rate().sizes.t }
     }
 
     /// q, by how many checks each next bit of a group moves on.

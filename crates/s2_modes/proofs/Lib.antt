@@ -1,4 +1,3 @@
 pub mod JoinedTexts
-pub mod RateTexts
 pub mod NameTexts
 pub mod Codes

@@ -1,6 +1,7 @@
 -- The line of each code.
-use Rattle.std.specs.Prelude.{◌≡◌, ℕ, ◌+◌, ◌/◌, ◌%◌, Bool, true, false, List, [], ◌∷◌, ◌++◌, drop, codes, decimal, Option, Some, None, Result, Ok, if◌then◌else◌}
-use Rattle.std.specs.List.{flat_map, All, Contains}
+use Rattle.std.specs.Prelude.{◌≡◌, ℕ, ◌+◌, ◌/◌, ◌%◌, nat_lt, Bool, true, false, List, [], ◌++◌, drop, codes, decimal, Option, Some, None, Result, Ok, if◌then◌else◌}
+use Rattle.std.specs.List.{flat_map, filter, range_with_len, Contains}
+use Rattle.s2_mode.specs.Limits.{most_modcod}
 use Rattle.s2_mode.specs.Mode.{Mode, IsMode, mode_of, kbch_of, k_of, symbols_in}
 use Rattle.s2_console.specs.declared.exit.Exit.{Exit}
 use Rattle.s2_console.specs.declared.exit.Exit.TheVariants as exits
@@ -39,25 +40,24 @@ line_text rate plain piloted =
 abbrev pub line_of : Option ℕ → ℕ → Bool → List ℕ
 line_of rate modcod short = line_text rate (mode_of modcod short false) (mode_of modcod short true)
 
--- the MODCODs of normal frames, and those of short ones
-unfoldable pub modcods : Bool → List ℕ
-modcods false = 1 ∷ 2 ∷ 3 ∷ 4 ∷ 5 ∷ 6 ∷ 7 ∷ 8 ∷ 9 ∷ 10 ∷ 11 ∷ 12 ∷ 13 ∷ 14 ∷ 15 ∷ 16 ∷ 17 ∷ []
-modcods true = 1 ∷ 2 ∷ 3 ∷ 4 ∷ 5 ∷ 6 ∷ 7 ∷ 8 ∷ 9 ∷ 10 ∷ 12 ∷ 13 ∷ 14 ∷ 15 ∷ 16 ∷ []
+-- whether there are frames of this length: then the table has a k for them
+abbrev pub has_code : Bool → ℕ → Bool
+has_code short modcod = nat_lt 0 (k_of (mode_of modcod short false))
 
--- each is one of a code of this length
-abbrev pub AreCodes : Bool → List ℕ → Type 0
-AreCodes short = All (λ modcod. IsMode (mode_of modcod short false))
+-- the MODCODs that have frames of a length
+unfoldable pub modcods_of : Bool → List ℕ
+modcods_of short = filter (has_code short) (range_with_len 1 most_modcod)
 
 -- each code is there
 abbrev pub AllCodesLaw : Type 0
-AllCodesLaw = (m : Mode) → IsMode m → Contains (modcods m.short) m.modcod
+AllCodesLaw = (m : Mode) → IsMode m → Contains (modcods_of m.short) m.modcod
 
 -- the lines of all codes of a length
 unfoldable pub lines_of : Option ℕ → Bool → List ℕ → List ℕ
 lines_of rate short codes = flat_map (λ modcod. line_of rate modcod short) codes
 
 unfoldable pub modes_text : Option ℕ → List ℕ
-modes_text rate = lines_of rate false (modcods false) ++ lines_of rate true (modcods true)
+modes_text rate = lines_of rate false (modcods_of false) ++ lines_of rate true (modcods_of true)
 
 -- what was asked for
 abbrev pub IsAsked : Option ℕ → Result (Option ℕ) Fault → Type 0

@@ -1,28 +1,18 @@
 //! The lines of all codes.
-ghost use Rattle.std.specs.Prelude.{◌≡◌, ◌≤◌, [], ◌++◌, false, codes, if◌then◌else◌, IfOk, OnOk};
-ghost use Rattle.s2_mode.specs.Mode.{IsMode, mode_of};
+ghost use Rattle.std.specs.Prelude.{◌≡◌, ◌≤◌, [], ◌∷◌, ◌++◌, codes, if◌then◌else◌, IfOk, OnOk};
+ghost use Rattle.std.specs.List.{filter};
+ghost use Rattle.s2_mode.specs.Limits.{most_modcod};
 ghost use Rattle.s2_modes.specs.Names.{name_of};
 ghost use Rattle.s2_modes.specs.Rates as rates;
 ghost use Rattle.s2_modes.specs.Ideal.{ideal_text};
-ghost use Rattle.s2_modes.specs.ModeLines.{code_text, frames_text, rates_of, line_text, line_of, lines_of, AreCodes};
+ghost use Rattle.s2_modes.specs.ModeLines.{code_text, frames_text, rates_of, line_text, has_code, modcods_of, lines_of};
 ghost use Rattle.s2_modes.specs.ModeLines as lines;
 
-use crate::names::{Case, code_rate, constellation};
+use crate::names::{Case, constellation};
 use crate::rate::SymbolRate;
-use crate::texts::{push, push_millionths, push_number, text_at};
-use s2_mode::Mode;
+use crate::texts::{push, push_hundredths, push_millionths, push_number};
+use s2_mode::{MOST_MODCOD, Mode};
 use std::alloc::{AllocError, Global};
-
-/// The Es/N0 in dB at which quasi error free reception begins in theory, by MODCOD from 1 on (EN 302 307-1, table 13).
-const IDEAL: [&str; 17] = [
-    "-2.35", "-1.24", "-0.30", "1.00", "2.23", "3.10", "4.03", "4.68", "5.18", "6.20", "6.42",
-    "5.50", "6.62", "7.91", "9.35", "10.69", "10.98",
-];
-
-/// The MODCODs of normal frames, and those of short ones.
-const NORMAL: [u8; 17] = [1, 2, 3, 4, 5, 6, 7, 8, 9, 10, 11, 12, 13, 14, 15, 16, 17];
-
-const SHORT: [u8; 15] = [1, 2, 3, 4, 5, 6, 7, 8, 9, 10, 12, 13, 14, 15, 16];
 
 /// The bits of a transport stream that a frame carries.
 fn stream_bits(mode: &Mode) -> usize
@@ -52,7 +42,7 @@ fn push_name(text: &mut Vec<u8>, mode: &Mode) -> Result<(), AllocError>
     ensures { OnOk result (text.new.items ≡ text.old.items ++ name_of mode.now Case.Small) }
 {
     push(text, constellation(mode, Case::Small))?;
-    push(text, code_rate(mode))
+    push(text, mode.code_rate())
 }
 
 /// The words of a frame's length.
@@ -94,12 +84,11 @@ fn added(mode: &Mode) -> &'static str
 }
 
 /// The Es/N0 of theory.
-#[tactic(auto, using(crate::proofs::RateTexts::place_is), unfolding(crate::specs::Ideal::ideal_text))]
 fn push_ideal(text: &mut Vec<u8>, mode: &Mode) -> Result<(), AllocError>
     ensures { OnOk result (text.new.items ≡ text.old.items ++ (codes " esn0 " ++ ideal_text mode.now)) }
 {
     push(text, " esn0 ")?;
-    push(text, text_at(&IDEAL, usize::from(mode.modcod()) - 1))?;
+    push_hundredths(text, mode.ideal())?;
     push(text, added(mode))
 }
 
@@ -139,16 +128,17 @@ fn push_modes(
     push(text, "\n")
 }
 
-/// The line of a code.
-#[tactic(auto, using(crate::proofs::Codes::piloted_is))]
+/// The line of a code, where there is one of this MODCOD and length.
+#[tactic(auto, using(crate::proofs::Codes::piloted_is, crate::proofs::Codes::code_line, crate::proofs::Codes::no_code_line))]
 fn push_line(
     text: &mut Vec<u8>,
     modcod: u8,
     short: bool,
     rate: &Option<SymbolRate>,
 ) -> Result<(), AllocError>
-    requires { IsMode (mode_of modcod short false) }
-    ensures { OnOk result (text.new.items ≡ text.old.items ++ line_of rate.now modcod short) }
+    requires some { 1 ≤ modcod }
+    requires most { modcod ≤ most_modcod }
+    ensures { OnOk result (text.new.items ≡ text.old.items ++ lines_of rate.now short (filter (has_code short) (modcod ∷ []))) }
 {
     let Some(plain) = Mode::of(modcod, short, false) else {
         return Ok(());
@@ -159,19 +149,13 @@ fn push_line(
     push_modes(text, &plain, &piloted, rate)
 }
 
-/// The lines of codes of a length.
-#[tactic(auto, using(crate::proofs::Codes::line_more, crate::proofs::Codes::no_lines, crate::proofs::Codes::all_lines))]
-fn push_lines(
-    text: &mut Vec<u8>,
-    modcods: &[u8],
-    short: bool,
-    rate: &Option<SymbolRate>,
-) -> Result<(), AllocError>
-    requires { AreCodes short modcods.now }
-    ensures { OnOk result (text.new.items ≡ text.old.items ++ lines_of rate.now short modcods.now) }
+/// The lines of all codes of a length.
+#[tactic(auto, using(crate::proofs::Codes::line_more, crate::proofs::Codes::no_lines))]
+fn push_lines(text: &mut Vec<u8>, short: bool, rate: &Option<SymbolRate>) -> Result<(), AllocError>
+    ensures { OnOk result (text.new.items ≡ text.old.items ++ lines_of rate.now short (modcods_of short)) }
 {
-    for at in 0..modcods.len() {
-        push_line(text, modcods[at], short, rate)?;
+    for modcod in 1..=MOST_MODCOD {
+        push_line(text, modcod, short, rate)?;
     }
     Ok(())
 }
@@ -180,12 +164,12 @@ fn push_lines(
 /// without and with pilot blocks the symbols of a frame and the bits of a transport stream that each carries, to the nearest
 /// millionth; the Es/N0 of the standard's table 13, behind which `+0.2..0.3` stands for short frames; and where a symbol rate is
 /// told the bits of a transport stream in a second, rounded down, without and with pilot blocks.
-#[tactic(auto, using(crate::proofs::Codes::codes_are), unfolding(crate::specs::ModeLines::modes_text, crate::specs::ModeLines::modcods))]
+#[tactic(auto, unfolding(crate::specs::ModeLines::modes_text))]
 pub fn modes_text(alloc: Global, rate: &Option<SymbolRate>) -> Result<Vec<u8>, AllocError>
     ensures { IfOk result (λ text. text.items ≡ lines.modes_text rate.now) }
 {
     let mut text = Vec::new(alloc);
-    push_lines(&mut text, &NORMAL, false, rate)?;
-    push_lines(&mut text, &SHORT, true, rate)?;
+    push_lines(&mut text, false, rate)?;
+    push_lines(&mut text, true, rate)?;
     Ok(text)
 }

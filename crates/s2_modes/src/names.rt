@@ -1,16 +1,9 @@
 //! The names of modes.
 ghost use Rattle.std.specs.Prelude.{◌≡◌, ◌↔◌, ◌++◌, false, IsTrue, IsSome, IfSome};
-ghost use Rattle.s2_mode.specs.Mode.{IsMode, mode_of};
-ghost use Rattle.s2_modes.specs.Names.{constellation_text, code_rate_of, code_rate_text, name_of, IsNameOf, IsName};
+ghost use Rattle.s2_mode.specs.Mode.{IsMode, mode_of, modulation_of};
+ghost use Rattle.s2_modes.specs.Names.{constellation_text, name_of, IsNameOf, IsName};
 
-use crate::texts::text_at;
-use s2_mode::{MOST_MODCOD, Mode};
-
-/// The code rates by MODCOD, from 1 on: those of QPSK, and from 12 on those of 8PSK.
-const CODE_RATES: [&str; 17] = [
-    "1/4", "1/3", "2/5", "1/2", "3/5", "2/3", "3/4", "4/5", "5/6", "8/9", "9/10", "3/5", "2/3",
-    "3/4", "5/6", "8/9", "9/10",
-];
+use s2_mode::{MOST_MODCOD, Mode, Modulation};
 
 /// In which letters a constellation is written.
 #[derive(Clone, Copy, Debug, PartialEq, Eq)]
@@ -21,21 +14,14 @@ pub enum Case {
 
 /// The constellation of a mode: `qpsk` or `8psk`, or `QPSK` or `8PSK`.
 pub fn constellation(mode: &Mode, case: Case) -> &'static str
-    ensures { result.now ≡ constellation_text mode.now case }
+    ensures { result.now ≡ constellation_text (modulation_of mode.now) case }
 {
-    match (case, mode.is_qpsk()) {
-        (Case::Small, true) => "qpsk",
-        (Case::Small, false) => "8psk",
-        (Case::Capital, true) => "QPSK",
-        (Case::Capital, false) => "8PSK",
+    match (case, mode.modulation()) {
+        (Case::Small, Modulation::Qpsk) => "qpsk",
+        (Case::Small, Modulation::Psk8) => "8psk",
+        (Case::Capital, Modulation::Qpsk) => "QPSK",
+        (Case::Capital, Modulation::Psk8) => "8PSK",
     }
-}
-
-/// The code rate of a mode, as `3/4`.
-pub fn code_rate(mode: &Mode) -> &'static str
-    ensures { result.now ≡ code_rate_text (code_rate_of mode.now) }
-{
-    text_at(&CODE_RATES, usize::from(mode.modcod()) - 1)
 }
 
 /// Whether bytes are these two parts.
@@ -53,7 +39,7 @@ fn is_named(mode: &Mode, case: Case, name: &[u8]) -> bool
     ensures { IsTrue result ↔ (name.now ≡ name_of mode.now case) }
 {
     let front = constellation(mode, case);
-    is_joined(name, front.as_bytes(), code_rate(mode).as_bytes())
+    is_joined(name, front.as_bytes(), mode.code_rate().as_bytes())
 }
 
 /// The MODCOD of a name: of a constellation, all in small letters or all in capitals, and a code rate. `None` where it is no

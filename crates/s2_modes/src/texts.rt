@@ -1,17 +1,10 @@
 //! Texts, piece by piece.
-ghost use Rattle.std.specs.Prelude.{◌≡◌, ◌<◌, [], ◌++◌, length, get_or, map, drop, decimal, OnOk};
+ghost use Rattle.std.specs.Prelude.{◌≡◌, ◌++◌, drop, decimal, OnOk};
+ghost use Rattle.s2_modes.specs.Ideal.{hundredths_text};
 ghost use Rattle.s2_modes.specs.ModeLines.{millionths_text};
 
 use itoa::Buffer;
 use std::alloc::AllocError;
-
-/// A text of a table.
-pub(crate) fn text_at(texts: &[&'static str], at: usize) -> &'static str
-    requires { at < length texts.now }
-    ensures { result.now ≡ get_or (map (λ t. t.now) texts.now) at [] }
-{
-    texts[at]
-}
 
 /// Puts words behind a text.
 pub(crate) fn push(text: &mut Vec<u8>, words: &str) -> Result<(), AllocError>
@@ -52,4 +45,18 @@ pub(crate) fn push_millionths(
     push_number(text, words, number / 1_000_000)?;
     push(text, ".")?;
     push_fraction(text, 1_000_000 + number % 1_000_000)
+}
+
+/// Puts a number of hundredths behind a text, with two digits behind the point.
+pub(crate) fn push_hundredths(text: &mut Vec<u8>, number: i16) -> Result<(), AllocError>
+    ensures { OnOk result (text.new.items ≡ text.old.items ++ hundredths_text number) }
+{
+    let size = number.unsigned_abs();
+    push_number(
+        text,
+        if number < 0 { "-" } else { "" },
+        usize::from(size / 100),
+    )?;
+    push(text, ".")?;
+    push_fraction(text, usize::from(100 + size % 100))
 }

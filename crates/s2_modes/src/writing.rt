@@ -4,7 +4,7 @@ ghost use Rattle.std.specs.Io.KnownBytes.{Appends};
 ghost use Rattle.s2_mode.specs.Counts.{CanCount, CountsFault};
 ghost use Rattle.s2_modes.specs.Names.{mode_words};
 
-use crate::names::{Case, code_rate, constellation};
+use crate::names::{Case, constellation};
 use s2_mode::{CountedWrite, Mode, WriteFault, write_full};
 
 /// The words of a frame's length, behind a code rate.
@@ -26,6 +26,6 @@ pub fn write_code<W: CountedWrite>(out: &mut W, mode: &Mode) -> Result<(), Write
 {
     write_full(out, constellation(mode, Case::Capital).as_bytes())?;
     write_full(out, " ".as_bytes())?;
-    write_full(out, code_rate(mode).as_bytes())?;
+    write_full(out, mode.code_rate().as_bytes())?;
     write_full(out, length_behind(mode).as_bytes())
 }

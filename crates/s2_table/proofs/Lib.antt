@@ -2,6 +2,5 @@ pub mod Hashing
 pub mod RisenRows
 pub mod NoteLemmas
 pub mod RisenLaws
-pub mod SumTexts
 pub mod TableLemmas
 pub mod TellLemmas

@@ -34,6 +34,6 @@ short_sums =
     ∷ []
     ∷ []
 
--- that of the code of a mode
+-- that of the code of a mode, by the place of its code rate
 unfoldable pub standard_sum : Mode → List ℕ
 standard_sum m = get_or (if m.short then short_sums else normal_sums) (rate_index m) []

@@ -56,7 +56,7 @@ fn note_answer<E: CountedWrite>(errors: &mut E, mode: &Mode, standard: bool)
 
 /// Notes that rows are not the standard's for the code of a mode, where they are not. Where the note cannot be written, the command
 /// goes on without it.
-pub fn note_rows<E: CountedWrite>(errors: &mut E, mode: &Mode, matrix: &Matrix)
+fn note_rows<E: CountedWrite>(errors: &mut E, mode: &Mode, matrix: &Matrix)
     requires { CanCount (E.count errors.old) }
     ensures noted { E.count errors.new ≡ E.count errors.old
         → IsNoted mode.now matrix.now (E.contents errors.old) (E.contents errors.new) }

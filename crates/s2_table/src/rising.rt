@@ -52,7 +52,7 @@ fn hash_row(hasher: &mut Sha256, row: &[u32])
 }
 
 /// The SHA-256 of the rows' text, each row on its line with its addresses rising, one space between them and LF behind the last.
-pub fn digest_of(matrix: &Matrix) -> [u8; 32]
+pub(crate) fn digest_of(matrix: &Matrix) -> [u8; 32]
     ensures { (rows : List (List ℕ)) × AreRisen matrix.now rows × (result ≡ sha256 (rows_text rows)) }
 {
     let mut hasher = Sha256::new();

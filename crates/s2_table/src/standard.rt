@@ -9,7 +9,7 @@ use s2_matrix::Matrix;
 use s2_mode::Mode;
 
 /// Whether the rows' text with rising addresses has this SHA-256, in 64 small hexadecimal digits.
-pub fn has_sum(matrix: &Matrix, sum: &str) -> bool
+pub(crate) fn has_sum(matrix: &Matrix, sum: &str) -> bool
     ensures { HasSum matrix.now sum.now result }
 {
     let digest = digest_of(matrix);
@@ -19,7 +19,7 @@ pub fn has_sum(matrix: &Matrix, sum: &str) -> bool
 }
 
 /// Whether rows are the standard's for the code of a mode, whatever the order within each row.
-pub fn is_standard(mode: &Mode, matrix: &Matrix) -> bool
+pub(crate) fn is_standard(mode: &Mode, matrix: &Matrix) -> bool
     ensures { HasSum matrix.now (standard_sum mode.now) result }
 {
     has_sum(matrix, sum_of(mode))

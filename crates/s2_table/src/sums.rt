@@ -1,6 +1,5 @@
 //! The digests of the standard's rows. `bench/rows_sums` makes them of row files.
 ghost use Rattle.std.specs.Prelude.{◌≡◌, ◌<◌, [], get_or, map};
-ghost use Rattle.s2_mode.specs.Mode.{rate_index};
 ghost use Rattle.s2_table.specs.Sums.{standard_sum};
 
 use s2_mode::Mode;
@@ -35,23 +34,6 @@ pub(crate) const SHORT: [&str; 11] = [
     "", // 9/10 has none
 ];
 
-/// Where the code rates of 8PSK stand among those of QPSK.
-const PSK: [usize; 6] = [4, 5, 6, 8, 9, 10];
-
-/// Where the code rate of a mode stands in the tables.
-#[tactic(auto, using(crate::proofs::SumTexts::index_is))]
-fn place_of(mode: &Mode) -> usize
-    ensures is { result ≡ rate_index mode.now }
-    ensures within { result < 11 }
-{
-    let modcod = usize::from(mode.modcod());
-    if mode.is_qpsk() {
-        modcod - 1
-    } else {
-        PSK[modcod - 12]
-    }
-}
-
 /// A text of a table.
 fn text_at(texts: &[&'static str; 11], at: usize) -> &'static str
     requires { at < 11 }
@@ -65,7 +47,7 @@ fn text_at(texts: &[&'static str; 11], at: usize) -> &'static str
 pub(crate) fn sum_of(mode: &Mode) -> &'static str
     ensures { result.now ≡ standard_sum mode.now }
 {
-    let place = place_of(mode);
+    let place = mode.rate_index();
     if mode.is_short() {
         text_at(&SHORT, place)
     } else {

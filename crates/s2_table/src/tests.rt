@@ -1,5 +1,5 @@
 //! Digests of small rows are those that `sha256sum` gives of their text, where this has rising addresses.
-use crate::{has_sum, is_standard};
+use crate::standard::{has_sum, is_standard};
 use s2_matrix::Matrix;
 use s2_mode::{Mode, Shape};
 use s2_rows::{make_rows, read_rows};

@@ -1,16 +1,12 @@
 -- How a receiver is tuned by the words of the line.
-use Rattle.std.specs.Prelude.{ℕ, ◌==◌, ◌||◌, Bool, if◌then◌else◌}
+use Rattle.std.specs.Prelude.{ℕ, Bool, if◌then◌else◌}
+use Rattle.s2_mode.specs.Mode.{Mode, tuned_factor_of}
 use Rattle.s2_link.specs.Limits.{default_rounds}
 use Rattle.s2_link.specs.Tuning.{Tuning, tuning_of}
 use Rattle.s2_words.specs.declared.told.Number.{Number}
 use Rattle.s2_words.specs.declared.told.TuningWords.{TuningWords}
 
--- ---- what is best, where that is asked for
-
--- the factor that is best for a MODCOD: QPSK 1/4, 1/3 and 3/5, 8PSK 3/4 and 5/6, all others
-abbrev pub factor_by_mode : ℕ → ℕ
-factor_by_mode modcod =
-    if modcod == 1 then 15 else if modcod == 2 then 14 else if modcod == 5 then 11 else if (modcod == 14) || (modcod == 15) then 12 else 13
+-- ---- what is best, where that is asked for; the factor is that of the mode
 
 -- the lock, the divisor and the passes
 abbrev pub best_lock : ℕ
@@ -38,7 +34,7 @@ abbrev pub judging_by : ℕ → ℕ → Bool → Tuning
 judging_by passes factor uncertified =
     record (tuning_of default_rounds (passes_by uncertified passes)) { factor = factor; uncertified = uncertified }
 
--- how a receiver of a MODCOD is tuned
-abbrev pub tuning_by : ℕ → TuningWords → Tuning
-tuning_by modcod words =
-    record { rounds = words.rounds; passes = passes_by words.uncertified (number_by words.tuned words.passes best_passes); divisor = number_by words.tuned words.divisor best_divisor; factor = number_by words.tuned words.factor (factor_by_mode modcod); lock = number_by words.tuned words.lock best_lock; uncertified = words.uncertified }
+-- how a receiver of a mode is tuned
+abbrev pub tuning_by : Mode → TuningWords → Tuning
+tuning_by mode words =
+    record { rounds = words.rounds; passes = passes_by words.uncertified (number_by words.tuned words.passes best_passes); divisor = number_by words.tuned words.divisor best_divisor; factor = number_by words.tuned words.factor (tuned_factor_of mode); lock = number_by words.tuned words.lock best_lock; uncertified = words.uncertified }

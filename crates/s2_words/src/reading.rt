@@ -9,6 +9,7 @@ use crate::told::{Number, TuningWords, judging_told, modcod_told, progress_told,
 use clap::parser::ValueSource;
 use clap::{ArgMatches, Error};
 use s2_link::{RollOff, Tuning};
+use s2_mode::Mode;
 use s2_modes::SymbolRate;
 use s2_scramble::ScramblingNumber;
 use std::alloc::Global;
@@ -46,7 +47,7 @@ fn number_of(m: &ArgMatches<'_>, name: &str) -> Option<Number> {
 }
 
 fn tuning_of(m: &ArgMatches<'_>) -> Option<Tuning> {
-    let modcod = modcod_told(m.get_str("modcod")?)?;
+    let mode = Mode::of(modcod_told(m.get_str("modcod")?)?, false, false)?;
     let words = TuningWords {
         rounds: m.get_one::<u32>("rounds")?,
         passes: number_of(m, "passes")?,
@@ -56,7 +57,7 @@ fn tuning_of(m: &ArgMatches<'_>) -> Option<Tuning> {
         tuned: m.get_flag("tuned"),
         uncertified: m.get_flag("uncertified"),
     };
-    tuning_told(modcod, words)
+    tuning_told(&mode, words)
 }
 
 fn channel_of(m: &ArgMatches<'_>) -> Option<ChannelWords> {

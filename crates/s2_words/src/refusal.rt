@@ -5,8 +5,8 @@ use crate::told::modcod_told;
 use clap::error::ErrorKind;
 use clap::{ArgMatches, Error};
 use s2_link::RollOff;
-use s2_mode::{MOST_MODCOD, Mode};
-use s2_modes::{Case, code_rate, constellation};
+use s2_mode::{MOST_MODCOD, Mode, Modulation};
+use s2_modes::{Case, constellation};
 use std::alloc::{AllocError, Global};
 
 /// What is given to a word: what stands behind it, or behind its equals sign.
@@ -82,14 +82,14 @@ fn fault_of(alloc: Global, entry: Entry, message: &str) -> Result<Error, AllocEr
 }
 
 /// Puts the names of all modes of a constellation behind a text.
-fn push_names(text: &mut String, is_qpsk: bool) -> Result<(), AllocError> {
+fn push_names(text: &mut String, modulation: Modulation) -> Result<(), AllocError> {
     let mut between = "";
     for modcod in 1..=MOST_MODCOD {
         if let Some(mode) = Mode::of(modcod, false, false) {
-            if mode.is_qpsk() == is_qpsk {
+            if mode.modulation() == modulation {
                 text.push_str(between)?;
                 text.push_str(constellation(&mode, Case::Small))?;
-                text.push_str(code_rate(&mode))?;
+                text.push_str(mode.code_rate())?;
                 between = ", ";
             }
         }
@@ -101,10 +101,10 @@ fn push_names(text: &mut String, is_qpsk: bool) -> Result<(), AllocError> {
 fn push_modes(text: &mut String, name: &str) -> Result<(), AllocError> {
     if begins_with(name, "qpsk", "QPSK") {
         text.push_str("QPSK has ")?;
-        push_names(text, true)
+        push_names(text, Modulation::Qpsk)
     } else if begins_with(name, "8psk", "8PSK") {
         text.push_str("8PSK has ")?;
-        push_names(text, false)
+        push_names(text, Modulation::Psk8)
     } else {
         text.push_str("it is 1 to 17, or qpsk or 8psk with a code rate, as qpsk3/4 or 8psk2/3")
     }

@@ -2,12 +2,12 @@
 ghost use Rattle.std.specs.Prelude.{◌≡◌, ◌↔◌, IsTrue, IsSome, IfSome, false};
 ghost use Rattle.s2_link.specs.Tuning.{IsTuning};
 ghost use Rattle.s2_words.specs.Told.{IsNumbered, IsTold, NamesMode, progress_by};
-ghost use Rattle.s2_words.specs.Tuned.{number_by, factor_by_mode, passes_by, judging_by, tuning_by};
+ghost use Rattle.s2_words.specs.Tuned.{number_by, passes_by, judging_by, tuning_by};
 
 use crate::request::Progress;
 use s2_link::{DEFAULT_ROUNDS, Tuning};
 use s2_minsum::Factor;
-use s2_mode::MOST_MODCOD;
+use s2_mode::{MOST_MODCOD, Mode};
 use s2_modes::modcod_of;
 use s2_plframe::Lock;
 use s2_soft::Divisor;
@@ -75,23 +75,6 @@ fn number_told(tuned: bool, number: Number, best: u32) -> u32
     }
 }
 
-/// The factor that `--tuned` says for a MODCOD.
-fn tuned_factor(modcod: u8) -> u32
-    ensures { result ≡ factor_by_mode modcod }
-{
-    if modcod == 1 {
-        15
-    } else if modcod == 2 {
-        14
-    } else if modcod == 5 {
-        11
-    } else if modcod == 14 || modcod == 15 {
-        12
-    } else {
-        13
-    }
-}
-
 /// How many passes there are: none where what min-sum finds stays uncertified.
 fn passes_told(uncertified: bool, passes: u32) -> u32
     ensures { result ≡ passes_by uncertified passes }
@@ -122,13 +105,14 @@ pub(crate) fn judging_told(passes: u32, factor: u32, uncertified: bool) -> Optio
     Some(certified_told(uncertified, tuning.with_factor(factor)))
 }
 
-/// How a receiver of a MODCOD is tuned.
-pub(crate) fn tuning_told(modcod: u8, words: TuningWords) -> Option<Tuning>
-    ensures found { IsSome result ↔ IsTuning (tuning_by modcod words) }
-    ensures value { IfSome result (λ t. t ≡ tuning_by modcod words) }
+/// How a receiver of a mode is tuned.
+pub(crate) fn tuning_told(mode: &Mode, words: TuningWords) -> Option<Tuning>
+    ensures found { IsSome result ↔ IsTuning (tuning_by mode.now words) }
+    ensures value { IfSome result (λ t. t ≡ tuning_by mode.now words) }
 {
     let divisor = Divisor::new(number_told(words.tuned, words.divisor, TUNED_DIVISOR))?;
-    let factor = Factor::new(number_told(words.tuned, words.factor, tuned_factor(modcod)))?;
+    let best = mode.tuned_factor();
+    let factor = Factor::new(number_told(words.tuned, words.factor, best))?;
     let lock = Lock::new(number_told(words.tuned, words.lock, TUNED_LOCK))?;
     let passes = number_told(words.tuned, words.passes, TUNED_PASSES);
     let tuning = Tuning::new(words.rounds, passes_told(words.uncertified, passes)).ok()?;
