@@ -34,7 +34,11 @@ abbrev pub judging_by : ℕ → ℕ → Bool → Tuning
 judging_by passes factor uncertified =
     record (tuning_of default_rounds (passes_by uncertified passes)) { factor = factor; uncertified = uncertified }
 
+-- how a receiver is tuned where this factor is best
+abbrev pub tuning_with : ℕ → TuningWords → Tuning
+tuning_with best words =
+    record { rounds = words.rounds; passes = passes_by words.uncertified (number_by words.tuned words.passes best_passes); divisor = number_by words.tuned words.divisor best_divisor; factor = number_by words.tuned words.factor best; lock = number_by words.tuned words.lock best_lock; uncertified = words.uncertified }
+
 -- how a receiver of a mode is tuned
 abbrev pub tuning_by : Mode → TuningWords → Tuning
-tuning_by mode words =
-    record { rounds = words.rounds; passes = passes_by words.uncertified (number_by words.tuned words.passes best_passes); divisor = number_by words.tuned words.divisor best_divisor; factor = number_by words.tuned words.factor (tuned_factor_of mode); lock = number_by words.tuned words.lock best_lock; uncertified = words.uncertified }
+tuning_by mode words = tuning_with (tuned_factor_of mode) words

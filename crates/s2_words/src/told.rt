@@ -1,8 +1,8 @@
 //! What a few words say, whatever else stands on the line.
-ghost use Rattle.std.specs.Prelude.{◌≡◌, ◌↔◌, IsTrue, IsSome, IfSome, false};
+ghost use Rattle.std.specs.Prelude.{◌≡◌, ◌↔◌, IsTrue, IsSome, IfSome, None, false};
 ghost use Rattle.s2_link.specs.Tuning.{IsTuning};
 ghost use Rattle.s2_words.specs.Told.{IsNumbered, IsTold, NamesMode, progress_by};
-ghost use Rattle.s2_words.specs.Tuned.{number_by, passes_by, judging_by, tuning_by};
+ghost use Rattle.s2_words.specs.Tuned.{number_by, passes_by, judging_by, tuning_with, tuning_by};
 
 use crate::request::Progress;
 use s2_link::{DEFAULT_ROUNDS, Tuning};
@@ -105,13 +105,12 @@ pub(crate) fn judging_told(passes: u32, factor: u32, uncertified: bool) -> Optio
     Some(certified_told(uncertified, tuning.with_factor(factor)))
 }
 
-/// How a receiver of a mode is tuned.
-pub(crate) fn tuning_told(mode: &Mode, words: TuningWords) -> Option<Tuning>
-    ensures found { IsSome result ↔ IsTuning (tuning_by mode.now words) }
-    ensures value { IfSome result (λ t. t ≡ tuning_by mode.now words) }
+/// How a receiver is tuned where this factor is best.
+fn tuning_with(best: u32, words: TuningWords) -> Option<Tuning>
+    ensures value { IfSome result (λ t. t ≡ tuning_with best words) }
+    ensures refused { result ≡ None → IsTuning (tuning_with best words) → ⊥ }
 {
     let divisor = Divisor::new(number_told(words.tuned, words.divisor, TUNED_DIVISOR))?;
-    let best = mode.tuned_factor();
     let factor = Factor::new(number_told(words.tuned, words.factor, best))?;
     let lock = Lock::new(number_told(words.tuned, words.lock, TUNED_LOCK))?;
     let passes = number_told(words.tuned, words.passes, TUNED_PASSES);
@@ -123,6 +122,14 @@ pub(crate) fn tuning_told(mode: &Mode, words: TuningWords) -> Option<Tuning>
             .with_factor(factor)
             .with_lock(lock),
     ))
+}
+
+/// How a receiver of a mode is tuned.
+pub(crate) fn tuning_told(mode: &Mode, words: TuningWords) -> Option<Tuning>
+    ensures found { IsSome result ↔ IsTuning (tuning_by mode.now words) }
+    ensures value { IfSome result (λ t. t ≡ tuning_by mode.now words) }
+{
+    tuning_with(mode.tuned_factor(), words)
 }
 
 /// Whether progress is shown, by whether it is asked for, and whether the command is to be quiet.
