@@ -1,39 +1,178 @@
 #!/usr/bin/env python3
-"""Checks a certificate of version 2 without the modem: examples/check.py ROWS CERTIFICATE. Exit 0 where it is accepted, else 2.
+"""Checks certificates without the modem and without any of its code.
 
-A check moves its amount to one of its bits from each of its others. Another codeword differs from the word in an even number of the
-check's bits, to which no more comes by that move than goes. So it costs more by at least what the bits where it differs have left."""
+    examples/check.py ROWS CERTIFICATE
+    examples/check.py --each ROWS CERTIFICATES
+
+It prints what `s2 check` prints. With --each it reads certificates one after another, and prints a line for each as it comes.
+A file may be -, standard input. docs/certificates.md explains what a certificate proves, docs/formats.md has both file formats.
+
+Exit 0 if all certificates are accepted, 2 if one is not, 1 if a file cannot be read, with a sentence on standard error.
+
+Why an accepted certificate is a proof: changing a bit of the word adds its value, in favour of the word, to the cost. The scale
+times this value is the bit's rest plus its shares. Another codeword changes an even number of bits in each check, and no two shares
+of a check sum to less than 0. So it costs more by at least the rests of the bits that it changes, divided by the scale."""
+import os
+import re
 import struct
 import sys
 
+# A code has at most this many bits, a certificate at most this many shares, a row file at most this many bytes.
+MOST_BITS, MOST_SHARES, MOST_TEXT = 64_800, 1_555_200, 1 << 24
+MOST_ADDRESSES, MOST_SOFT, MOST_SCALE, MOST_AMOUNT = 24, 511, 4096, 2**31 - 1
 
-def checked(rows, file):
-    group, groups, q, scale = struct.unpack(">4H", file[5:13])
-    if file[:5] != b"S2ML\x02" or len(rows) != groups or scale < 1:
-        return "no shape"
-    k, checks = group * groups, group * q
-    n = k + checks
-    soft = struct.unpack(f">{n}h", file[13 : 13 + 2 * n])
-    packed, moved = file[13 + 2 * n :][: (n + 7) // 8], file[-6 * checks :]
-    word = [packed[i // 8] >> (7 - i % 8) & 1 for i in range(n)]
-    members = [[] for _ in range(checks)]
+
+class Refused(Exception):
+    """A file that cannot be read, or an output that cannot be written."""
+
+
+# The check is the next three functions, thirty lines. All others read files.
+def members_of(rows, group, groups, q):
+    """The bits of each check, rising."""
+    k, count = group * groups, group * q
+    members = [[] for _ in range(count)]
     for i in range(k):
         for address in rows[i // group]:
-            members[(address + i % group * q) % checks].append(i)
-    left = [scale * (-value if bit else value) for value, bit in zip(soft, word)]
+            members[(address + i % group * q) % count].append(i)
+    return [bits + [*range(max(k, k + j - 1), k + j + 1)] for j, bits in enumerate(members)]
+
+
+def shares_of(members, word, version, split):
+    """What each check takes from each of its bits, in favour of the word; None if the split is not of these checks."""
+    if version == 2:
+        fits = all(place < len(bits) for bits, (place, _) in zip(members, split))
+        shares = [[-amount if at == place else amount for at in range(len(bits))] for bits, (place, amount) in zip(members, split)]
+    else:
+        fits, left = len(split) == sum(map(len, members)), iter(split)
+        shares = [[-share if word[i] else share for i, share in zip(bits, left)] for bits in members]
+    return shares if fits else None
+
+
+def checked(members, scale, soft, word, shares):
+    """What a certificate proves: a line in the words of `s2 check`."""
     for j, bits in enumerate(members):
-        bits += range(max(k, k + j - 1), k + j + 1)
         if sum(word[i] for i in bits) % 2:
             return f"no check {j}"
-        place, amount = struct.unpack(">HI", moved[6 * j : 6 * j + 6])
-        for i in bits:
-            left[i] += amount if i == bits[place] else -amount
+    rests = [scale * (-value if bit else value) for value, bit in zip(soft, word)]
+    for bits, own in zip(members, shares):
+        for i, share in zip(bits, own):
+            rests[i] -= share
+    if min(rests) < 0 or any(sum(sorted(own)[:2]) < 0 for own in shares if len(own) > 1):
+        return "no bound"
     cost = sum(value for value, bit in zip(soft, word) if bit)
-    return f"{'sole' if min(left) > 0 else 'yes'} cost {cost}" if min(left) >= 0 else "no bound"
+    return f"{'sole' if min(rests) > 0 else 'yes'} cost {cost}"
+
+
+def rows_of(text, group, groups, q):
+    """The rows of a row file: for each group of bits its addresses, all below the count of checks, none twice."""
+    rows = []
+    for number, line in enumerate(text.split(b"\n"), 1):
+        words = re.findall(rb"[^ \t\r]+", line)
+        if words and not words[0].startswith(b"#"):
+            row = [int(word[-5:]) for word in words if re.fullmatch(rb"0*[0-9]{1,5}", word)]
+            if len(row) < len(words) or len(row) > MOST_ADDRESSES or len(set(row)) < len(row) or max(row) >= group * q:
+                raise Refused(f"rows: line {number} is no row of addresses")
+            rows.append(row)
+    if len(rows) != groups or len(text) > MOST_TEXT:
+        raise Refused(f"rows: there are not {groups} rows")
+    return rows
+
+
+def read_head(file, each):
+    """Version, shape, scale and count of shares of the certificate that begins here. With --each, None at the end of the file."""
+    head = file.read(5)
+    if each and not head:
+        return None
+    if not b"S2ML".startswith(head[:4]) or head[4:] not in (b"", b"\x01", b"\x02"):
+        raise Refused("certificate: magic")
+    size = 12 if head[4:] == b"\x01" else 8
+    rest = file.read(size)
+    if len(rest) < size:
+        raise Refused("certificate: cut")
+    group, groups, q, scale = struct.unpack(">4H", rest[:8])
+    if not 1 <= group <= 360 or not groups or not q or group * (groups + q) > MOST_BITS:
+        raise Refused("certificate: shape")
+    count = int.from_bytes(rest[8:], "big")
+    if not 1 <= scale <= MOST_SCALE or count > MOST_SHARES:
+        raise Refused("certificate: range")
+    return head[4], (group, groups, q), scale, count
+
+
+def read_body(file, version, shape, count, alone):
+    """Soft values, word and split of a certificate. Nothing may follow one that stands alone."""
+    group, groups, q = shape
+    n = group * (groups + q)
+    packed = 2 * n + (n + 7) // 8
+    size = packed + (4 * count if version == 1 else 6 * group * q)
+    body = file.read(size)
+    if len(body) < size:
+        raise Refused("certificate: cut")
+    if alone and file.read(1):
+        raise Refused("certificate: extra")
+    soft = struct.unpack(f">{n}h", body[: 2 * n])
+    bits = [byte >> place & 1 for byte in body[2 * n : packed] for place in range(7, -1, -1)]
+    split = [*struct.iter_unpack(">HI", body[packed:])] if version == 2 else struct.unpack(f">{count}i", body[packed:])
+    wrong = version == 2 and any(amount > MOST_AMOUNT or place and not amount for place, amount in split)
+    if wrong or any(bits[n:]) or max(map(abs, soft)) > MOST_SOFT:
+        raise Refused("certificate: range")
+    return soft, bits[:n], split
+
+
+def answers(text, file, each):
+    """The line for each certificate of a file, as they come."""
+    known, members = None, []
+    while head := read_head(file, each):
+        version, shape, scale, count = head
+        soft, word, split = read_body(file, version, shape, count, not each)
+        if shape != known:
+            known, members = shape, members_of(rows_of(text, *shape), *shape)
+        shares = shares_of(members, word, version, split)
+        yield "no shape" if shares is None else checked(members, scale, soft, word, shares)
+        if not each:
+            return
+
+
+def opened(name):
+    """A file, or standard input."""
+    try:
+        return open(0 if name == "-" else name, "rb", closefd=name != "-")
+    except OSError as fault:
+        raise Refused(f"cannot open {name}: {fault.strerror}") from None
+
+
+def written(line):
+    """Writes a line without a buffer, so that no write can fail later."""
+    try:
+        os.write(1, f"{line}\n".encode())
+    except OSError:
+        raise Refused("cannot write") from None
+
+
+def check_files(rows, certificates, each):
+    """Writes a line for each certificate, and returns whether all are accepted."""
+    is_accepted = True
+    with opened(rows) as file:
+        text = file.read(MOST_TEXT + 1)
+    with opened(certificates) as file:
+        for line in answers(text, file, each):
+            written(line)
+            is_accepted &= not line.startswith("no")
+    return is_accepted
+
+
+def main(words):
+    if words in (["-h"], ["--help"]):
+        print(__doc__)
+        return 0
+    try:
+        each = words[:1] == ["--each"]
+        if len(words) != 2 + each:
+            raise Refused("it takes [--each] ROWS CERTIFICATE")
+        return 0 if check_files(*words[-2:], each) else 2
+    except (Refused, OSError) as fault:
+        print(f"check.py: {'cannot read' if isinstance(fault, OSError) else fault}", file=sys.stderr)
+        return 1
 
 
 if __name__ == "__main__":
-    lines = [line.split() for line in open(sys.argv[1], encoding="ascii")]
-    said = checked([list(map(int, it)) for it in lines if it and it[0][0] != "#"], open(sys.argv[2], "rb").read())
-    print(said)
-    sys.exit(2 * said.startswith("no"))
+    sys.exit(main(sys.argv[1:]))

@@ -1,6 +1,8 @@
-"""A second checker of certificates of version 2, written from docs/formats.md: it computes every share, and for small codes compares all
-codewords. `drawn` makes random certificates, most of them close to the border between accepted and refused."""
+"""A second checker of certificates, written from docs/formats.md: it computes every share, and for small codes compares all codewords.
+`drawn` makes random certificates of version 2, most of them close to the border between accepted and refused, and `drawn_listed`
+certificates of version 1."""
 import itertools
+import math
 import struct
 
 MOST_SOFT, MOST_AMOUNT, MOST_SCALE = 511, 2**31 - 1, 4096
@@ -32,6 +34,12 @@ def file_of(shape, scale, soft, word, moves):
     packed = bytes(int("".join(map(str, padded[at : at + 8])), 2) for at in range(0, len(padded), 8))
     front = b"S2ML\x02" + struct.pack(">4H", *shape, scale) + struct.pack(f">{len(soft)}h", *soft)
     return front + packed + b"".join(struct.pack(">HI", *move) for move in moves)
+
+
+def file_listed(shape, scale, soft, word, shares):
+    """A certificate of version 1."""
+    front = file_of(shape, scale, soft, word, [])
+    return front[:4] + b"\x01" + front[5:13] + struct.pack(">I", len(shares)) + front[13:] + struct.pack(f">{len(shares)}i", *shares)
 
 
 def taken_apart(shape, file):
@@ -68,6 +76,33 @@ def answer(checks, scale, soft, word, moves):
             return f"no check {j}"
     least = min(rests_of(checks, scale, soft, word, moves))
     return f"{'sole' if least >= 1 else 'yes'} cost {cost_of(soft, word)}" if least >= 0 else "no bound"
+
+
+def least_even(shares):
+    """The least sum over the subsets of even size."""
+    even, odd = 0, math.inf
+    for share in shares:
+        even, odd = min(even, odd + share), min(odd, even + share)
+    return even
+
+
+def answer_listed(checks, scale, soft, word, shares):
+    """The same for version 1: the bound is the sum of the least even sums, and of all rests below 0."""
+    if len(shares) != sum(map(len, checks)):
+        return "no shape"
+    for j, members in enumerate(checks):
+        if sum(word[i] for i in members) % 2:
+            return f"no check {j}"
+    rests, left, bound = [scale * value for value in soft], list(shares), 0
+    for members in checks:
+        own, left = left[: len(members)], left[len(members) :]
+        bound += least_even(own)
+        for i, share in zip(members, own):
+            rests[i] -= share
+    if bound + sum(min(0, rest) for rest in rests) < scale * cost_of(soft, word):
+        return "no bound"
+    least = min(-rest if bit else rest for rest, bit in zip(rests, word))
+    return f"{'sole' if least >= 1 else 'yes'} cost {cost_of(soft, word)}"
 
 
 def cost_of(soft, word):
@@ -114,6 +149,21 @@ def drawn(random, shape, rows, wrong, wild):
     soft = [-value if bit else value for value, bit in zip(favours, word)]
     moves = drawn_moves(random, checks, [scale * value for value in favours], random.choice([0.3, 1]), kept, wild)
     return file_of(shape, scale, soft, word, moves)
+
+
+def drawn_listed(random, shape, rows):
+    """A certificate of version 1 for these rows, its answer, and its soft values and word. Some shares differ from those of moves."""
+    checks = members_of(shape, rows)
+    scale, soft, word, moves, _ = taken_apart(shape, drawn(random, shape, rows, random.choice([0, 0.03, 0.1]), 0.01))
+    shares = []
+    for members, (place, amount) in zip(checks, moves):
+        shares += [(amount if at != place else -amount) * (-1 if word[i] else 1) for at, i in enumerate(members)]
+    for _ in range(random.choice([0, 0, 1, 4])):
+        shares[random.randrange(len(shares))] += random.randint(-2, 2)
+    if random.random() < 0.05:
+        shares.append(0)
+    shares = [max(-(2**31), min(2**31 - 1, share)) for share in shares]
+    return file_listed(shape, scale, soft, word, shares), answer_listed(checks, scale, soft, word, shares), soft, word
 
 
 def altered(random, file):
