@@ -4,7 +4,8 @@ pub mod Headers
 pub mod MetLemmas
 pub mod FindSteps
 pub mod StepLemmas
-pub mod Delivered
+pub mod ReadLemmas
+pub mod NextLemmas
 pub mod RunLemmas
 pub mod JoinLemmas
 pub mod FieldPlaces

@@ -1,8 +1,8 @@
 -- The names that the proofs of this crate cite, passed on from one place. Declares nothing.
-pub use Rattle.std.proofs.Common.{◌≡◌, ℕ, zero, suc, ◌+◌, ◌-◌, ◌*◌, ◌/◌, ◌<◌, ◌≤◌, List, [], ◌∷◌, ◌++◌, All, length, take, drop, refl, sym, ap, ap₂, ◌∙◌, subst, length-append, length-drop, length-take, take-append-drop, arith, inl, inr, ◌≢◌, Bool, true, false, Option, Some, None, Result, Ok, Err, OnErr, length-take-le, append-nil, map, cond, append_assoc, ◌&&◌, ◌||◌, rules, max, pos, nat_le, nat_lt, nat_eq, if◌then◌else◌}
+pub use Rattle.std.proofs.Common.{◌≡◌, ℕ, zero, suc, ◌+◌, ◌-◌, ◌*◌, ◌/◌, ◌<◌, ◌≤◌, List, [], ◌∷◌, ◌++◌, All, IfSome, length, take, drop, refl, sym, ap, ap₂, ◌∙◌, subst, length-append, length-drop, length-take, take-append-drop, arith, inl, inr, ◌⊎◌, ◌≢◌, Bool, true, false, Option, Some, None, Result, Ok, Err, OnErr, length-take-le, append-nil, map, cond, append_assoc, ◌&&◌, ◌||◌, rules, min, max, pos, nat_le, nat_lt, nat_eq, if◌then◌else◌}
 pub use Rattle.std.proofs.KnownBytes.{Consumes-trans, Appends-nil, Appends-trans}
 pub use Rattle.std.proofs.Math.Bool.{and-true, and_assoc}
-pub use Rattle.std.proofs.Math.Nat.{div-mul-le_self, lt-div-mul-add}
+pub use Rattle.std.proofs.Math.Nat.{div-mul-le_self, lt-div-mul-add, min-le_left, min-le_right, le-min}
 pub use Rattle.std.proofs.Math.Seq.{take-append-add}
 pub use Rattle.std.proofs.lemmas.Bool.{cases_lt, le-leb, lt-leb, lt-ltb, eqb-true, eq-eqb, ne_eqb, cases_eq, cases_Bool, and_right, and_parts, cond-true, cond-false, cond_both}
 pub use Rattle.std.proofs.lemmas.Bool.Decides.{eqb_tells}
@@ -16,7 +16,7 @@ pub use borrow.Rule.Slice.PartMut.{put_mid, post_of}
 pub use Rattle.s2_mode.proofs.SymbolLists.{symbols-append, length-symbols}
 pub use Rattle.s2_mode.specs.Limits.{most_symbols}
 pub use Rattle.s2_mode.specs.Mode.{Mode}
-pub use Rattle.s2_mode.specs.Streams.{Streams, streams_by}
+pub use Rattle.s2_mode.specs.Streams.{NoneFailed, OneFailed, Streams, streams_by}
 pub use Rattle.s2_mode.specs.Symbols.{symbols_of, symbol_at}
 pub use Rattle.s2_mode.specs.declared.stream_fault.StreamFault.{StreamFault}
 pub use Rattle.s2_mode.specs.declared.symbols.Symbol.{Symbol}
@@ -29,16 +29,16 @@ pub use Rattle.s2_bbframe.proofs.RoundTrips.{round_trip}
 pub use Rattle.s2_bbframe.proofs.Runs.{length_closed}
 pub use Rattle.s2_bbframe.specs.DataStream.{IsPacket, closed_body, stream_of, cuts, fields_of, header_at}
 pub use Rattle.s2_bbframe.specs.Joining.{Placed, closed_in, gap, Joined, step, still, begun_body, torn_in, torn, and_then, joining, field, events_from}
-pub use Rattle.s2_receive.specs.Answers.{RunAnswers, BreaksIn, OnFrame, Delivers, IsSame, bytes_by}
+pub use Rattle.s2_receive.specs.Answers.{RunAnswers, BreaksIn, OnFrame, IsSame, KeepsLast, KeepsDecision, Reads, Seen, Finds, FindsNone, NextAnswers, bytes_by, seen_by}
 pub use Rattle.s2_receive.specs.Faults.{fault_of}
-pub use Rattle.s2_receive.specs.Finding.{YieldsSymbols, Meets, EndsBehind, Scans, Reaches, ReadsBytes, StopsShort, FindsNext, Looks, IsBehind, met_with, place_with, met_of, met_after, place_after, found_last, NoHeader, ReadsPart}
+pub use Rattle.s2_receive.specs.Finding.{Window, window_at, window_of, reached, wanted, met_within, met_then, Follows, Takes, Scans, IsBehind, met_of, place_after, found_last, NoHeader}
 pub use Rattle.s2_receive.specs.Laws.{joined, met_events, events_of, IsJoined, Piece, coded, dummy, stream_symbols, AreReceived, frames_at, PassedNone, Gives, FrontLaw, Spells, GoOn, HasGiven, SameRunLaw, SameStepLaw, NoneBegins, SearchLaw, behind_at}
-pub use Rattle.s2_receive.specs.Meeting.{Met, frame, cut, ended, nothing_over, passed, begins, by_found, met_from, met_in, is_over}
-pub use Rattle.s2_receive.specs.Receiving.{Rules, Standing, after, all_packets, packets_of, delivery, joined_after, at_start, met_left, after_all, count_of, State, Went, StepAnswers, IsLive, all_lines, line_of, step_of, is_well, all_well, rank, RunsTo, Stops, BreaksOff, BreaksAfter, phase_after, Receiver, Decision, Finds, Told, Tells, MetFrame, IsDecided, begun, report_for, rules_of, deciding, frame_totals, given_after, passes, state_of}
+pub use Rattle.s2_receive.specs.Meeting.{Met, frame, cut, ended, nothing_over, passed, begins, by_found, met_from, is_over}
+pub use Rattle.s2_receive.specs.Receiving.{Rules, Standing, after, all_packets, packets_of, delivery, joined_after, at_start, after_all, count_of, State, taken, left_by, left_known, met_left, left_in, asked, asked_by, Spell, EndsAt, Steps, Waits, YieldsSymbols, Reaches, Meets, EndsBehind, StopsShort, Stops, Went, StepAnswers, IsLive, all_lines, line_of, step_of, is_well, all_well, rank, RunsTo, BreaksOff, BreaksAfter, phase_after, Receiver, Decision, Tells, MetFrame, IsDecided, IsDecidedBy, begun, is_at_frame, report_for, rules_of, frame_totals, given_after, passes, state_of}
 pub use Rattle.s2_receive.specs.Parts.{delivered_of}
 pub use Rattle.s2_receive.specs.ReportLines.{frame_line, step_line}
-pub use Rattle.s2_receive.specs.Stepping.{FailsIn}
-pub use Rattle.s2_receive.specs.Telling.{Filled, filled_by, joined_by, given_by, counted}
+pub use Rattle.s2_receive.specs.Stepping.{FailsIn, Fits, IsSound, CanCountIn}
+pub use Rattle.s2_receive.specs.Telling.{Filled, filled_by, joined_by, given_by, counted, answer_for, TellsNext, Searches, KeepsWithout}
 unfoldable pub use Rattle.s2_receive.specs.Windows.{Saw, found_as}
 pub use Rattle.s2_receive.specs.declared.delivering.Given.{Given}
 pub use Rattle.s2_receive.specs.declared.finding.Held.{Held}

@@ -1,7 +1,7 @@
 -- Frames that are received as they were sent.
-use Rattle.s2_receive.proofs.Names.{◌≡◌, Bool, true, false, ℕ, suc, ◌+◌, ◌≤◌, cond, List, [], ◌∷◌, ◌++◌, All, Option, Some, None, length, take, refl, sym, ap, ◌∙◌, subst, append_assoc, append-nil, length-append, arith, take_at, flat_map-append, Symbol, IsPacket, stream_of, fields_of, header_at, nat_eq, field, joining, torn, events_from, Placed, round_trip, Met, frame, nothing_over, met_from, Rules, Standing, at_start, met_left, after_all, all_packets, delivery, count_of, Piece, coded, dummy, joined, stream_symbols, events_of, AreReceived, frames_at, PassedNone, Gives, FrontLaw, closed_in, Meets, Appends, ◌<◌}
+use Rattle.s2_receive.proofs.Names.{◌≡◌, Bool, true, false, ℕ, suc, ◌+◌, ◌≤◌, cond, List, [], ◌∷◌, ◌++◌, All, Option, Some, None, length, take, refl, sym, ap, ◌∙◌, subst, append_assoc, append-nil, length-append, arith, take_at, flat_map-append, Symbol, IsPacket, stream_of, fields_of, header_at, nat_eq, field, joining, torn, events_from, Placed, round_trip, Met, frame, nothing_over, met_from, Rules, Standing, at_start, begun, left_in, after_all, all_packets, delivery, count_of, Piece, coded, dummy, joined, stream_symbols, events_of, AreReceived, frames_at, PassedNone, Gives, FrontLaw, closed_in, Meets, Appends, ◌<◌}
 use Rattle.s2_receive.proofs.MetLemmas.{behind_of, behind_some, behind_or, whole_frame, whole_dummy}
-use Rattle.s2_receive.proofs.SameSymbols.{spelled_in}
+use Rattle.s2_receive.proofs.SameSymbols.{spelled}
 use Rattle.s2_receive.proofs.JoinLemmas.{all_joined}
 use Rattle.s2_receive.proofs.FieldPlaces.{placed_fields, placed_front, joined_fields, all_closed}
 
@@ -92,6 +92,6 @@ front rules roll_off size packets fields later pieces rest mid before behind met
     let just = frames_at rules.size 0 pieces in
     let symbols = stream_symbols pieces ++ rest in
     let many : length met ≡ length just = count ∙ sym (frames_give rules roll_off large false 0 0 pieces fields at_start received).1 in
-    let known = subst (λ m. Meets m (met_left rules mid.phase mid.at behind.taken) met) (spelled_in rules 0 symbols before.taken spelt) went.left in
+    let known = subst (λ m. Meets m (left_in rules mid behind.taken) met) (spelled rules begun.phase begun.window symbols before.taken spelt) went.left in
     let same : met ≡ just = front_of (met_from rules.finds rules.size 0 0 false nothing_over symbols) _ met just _ known g.met many in
     (same, subst (Appends before.given behind.given) (ap (all_packets rules at_start) same ∙ g.written) went.packets)

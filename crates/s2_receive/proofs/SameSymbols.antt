@@ -1,27 +1,22 @@
 -- What known bytes spell determines what is met.
-use Rattle.s2_receive.proofs.Names.{◌≡◌, ℕ, List, [], ◌∷◌, ◌++◌, Option, Some, None, refl, sym, ap, ◌∙◌, subst, append-nil, nat_lt, Streams, Symbol, Met, ended, nothing_over, met_from, met_in, Meets, Rules, State, Went, met_left, after, step_of, phase_after, HasGiven, SameRunLaw, SameStepLaw, Spells, Phase}
+use Rattle.s2_receive.proofs.Names.{◌≡◌, ℕ, List, [], ◌∷◌, ◌++◌, Option, Some, None, refl, sym, ap, ◌∙◌, subst, append-nil, Streams, Symbol, Met, Window, met_within, Meets, Rules, State, Went, left_by, left_in, left_known, met_left, after, step_of, phase_after, HasGiven, SameRunLaw, SameStepLaw, Spells, Phase}
 use Rattle.s2_receive.proofs.Names.phases
 
 module _ (rules : Rules) where
-  pub spelled_in : (at : ℕ) (symbols : List Symbol) (known : Option (List ℕ)) → Spells known symbols
-      → met_in rules.finds rules.size at 0 (nat_lt 0 at) nothing_over [] known ≡ Some (met_from rules.finds rules.size at 0 (nat_lt 0 at) nothing_over symbols)
-  spelled_in at symbols None spelt = absurd spelt
-  spelled_in at symbols (Some bytes) spelt = ap (λ l. Some (met_from rules.finds rules.size at 0 (nat_lt 0 at) nothing_over l)) spelt
-
   -- in known bytes it is known what is left
-  spelled : (phase : Phase) (at : ℕ) (symbols : List Symbol) → (all : List Met) × ((known : Option (List ℕ)) → Spells known symbols → met_left rules phase at known ≡ Some all)
-  spelled phases.Searching at symbols = (met_from rules.finds rules.size at 0 (nat_lt 0 at) nothing_over symbols, spelled_in at symbols)
-  spelled phases.Closing at symbols = (ended nothing_over ∷ [], λ known spelt. refl)
-  spelled (phases.Met next) at symbols = ([], λ known spelt. refl)
-  spelled phases.Ended at symbols = ([], λ known spelt. refl)
-  spelled phases.Failed at symbols = ([], λ known spelt. refl)
+  pub spelled : (phase : Phase) (window : Window) (symbols : List Symbol) (known : Option (List ℕ)) → Spells known symbols → left_known rules phase window known ≡ Some (left_by rules phase window symbols)
+  spelled phase window symbols None spelt = absurd spelt
+  spelled phases.Searching window symbols (Some bytes) spelt = ap (λ l. Some (met_within rules.finds rules.size window l)) spelt
+  spelled phases.Closing window symbols (Some bytes) spelt = refl
+  spelled phases.Ended window symbols (Some bytes) spelt = refl
+  spelled phases.Failed window symbols (Some bytes) spelt = refl
 
   -- a run to the end meets all of it
-  meets_all : (old new : State) (known left : Option (List ℕ)) (all met : List Met) → met_left rules old.phase old.at known ≡ Some all → new.phase ≡ phases.Ended
-      → Meets (met_left rules old.phase old.at known) (met_left rules new.phase new.at left) met → met ≡ all
+  meets_all : (old new : State) (known left : Option (List ℕ)) (all met : List Met) → left_in rules old known ≡ Some all → new.phase ≡ phases.Ended
+      → Meets (left_in rules old known) (left_in rules new left) met → met ≡ all
   meets_all old new known left all met e over meets =
-      let none : met_left rules new.phase new.at left ≡ Some [] = ap (λ phase. met_left rules phase new.at left) over in
-      let whole : all ≡ met ++ [] = subst (λ a. Meets a (Some []) met) e (subst (λ b. Meets (met_left rules old.phase old.at known) b met) none meets) in
+      let none : left_in rules new left ≡ Some [] = ap (λ phase. left_known rules phase new.window left) over in
+      let whole : all ≡ met ++ [] = subst (λ a. Meets a (Some []) met) e (subst (λ b. Meets (left_in rules old known) b met) none meets) in
       sym (whole ∙ append-nil met)
 
   -- a step meets the first of it
@@ -35,10 +30,11 @@ module _ (rules : Rules) where
 -- two runs to the end meet the same
 pub same_met : (rules : Rules) (old first second : State) (symbols : List Symbol) (known other left other_left : Option (List ℕ)) (met met' : List Met) → Spells known symbols → Spells other symbols
     → first.phase ≡ phases.Ended → second.phase ≡ phases.Ended
-    → Meets (met_left rules old.phase old.at known) (met_left rules first.phase first.at left) met
-    → Meets (met_left rules old.phase old.at other) (met_left rules second.phase second.at other_left) met' → met' ≡ met
+    → Meets (left_in rules old known) (left_in rules first left) met
+    → Meets (left_in rules old other) (left_in rules second other_left) met' → met' ≡ met
 same_met rules old first second symbols known other left other_left met met' spelt other_spelt end end' meets meets' =
-    let (all, is) = spelled rules old.phase old.at symbols in
+    let all = met_left rules old symbols in
+    let is = spelled rules old.phase old.window symbols in
     meets_all rules old second other other_left all met' (is other other_spelt) end' meets' ∙ sym (meets_all rules old first known left all met (is known spelt) end meets)
 
 pub same_run : SameRunLaw
@@ -48,9 +44,10 @@ same_run rules old first second symbols before behind other_before other_behind 
 
 pub same_step : SameStepLaw
 same_step rules old first second symbols before behind other_before other_behind step other_step spelt other_spelt (met, is, phase, went) (met', is', phase', went') =
-    let (all, known) = spelled rules old.phase old.at symbols in
-    let one = meets_first rules (met_left rules old.phase old.at before.taken) (met_left rules first.phase first.at behind.taken) all met (known before.taken spelt) went.left in
-    let two = meets_first rules (met_left rules old.phase old.at other_before.taken) (met_left rules second.phase second.at other_behind.taken) all met' (known other_before.taken other_spelt) went'.left in
+    let all = met_left rules old symbols in
+    let known = spelled rules old.phase old.window symbols in
+    let one = meets_first rules (left_in rules old before.taken) (left_in rules first behind.taken) all met (known before.taken spelt) went.left in
+    let two = meets_first rules (left_in rules old other_before.taken) (left_in rules second other_behind.taken) all met' (known other_before.taken other_spelt) went'.left in
     let whole : met ∷ one.0 ≡ met' ∷ two.0 = sym one.1 ∙ two.1 in
     let same : met' ≡ met = cc in (
       is ∙ ap (step_of rules old.standing) (sym same) ∙ sym is',

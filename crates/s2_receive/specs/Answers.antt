@@ -1,13 +1,15 @@
 -- What a receiver's calls answer, by its rules and from where it stood to where it stands.
-use Rattle.std.specs.Prelude.{◌≡◌, ◌≢◌, ◌↔◌, ◌≤◌, ℕ, List, [], Option, Some, Result, Ok, Err, IfOk, IsErrOf, ⊤}
-use Rattle.s2_mode.specs.Streams.{Streams, OnlyFailed, OneFailed, NoneFailed, streams_by}
+use Rattle.std.specs.Prelude.{◌≡◌, ◌≢◌, ◌↔◌, ◌<◌, ◌≤◌, nat_eq, ℕ, List, [], ◌∷◌, length, Option, Some, None, Result, Ok, Err, IsErrOf, ⊤}
+use Rattle.std.specs.Io.KnownBytes.{Consumes, IsAtEnd}
+use Rattle.s2_mode.specs.Streams.{Streams, OnlyFailed, streams_by}
+use Rattle.s2_mode.specs.Symbols.{symbols_of}
 use Rattle.s2_mode.specs.declared.symbols.Symbol.{Symbol}
 use Rattle.s2_mode.specs.declared.stream_fault.StreamFault.{StreamFault}
 use Rattle.s2_mode.specs.declared.stream_fault.StreamFault.TheVariants as stream_faults
+use Rattle.s2_mode.specs.declared.counts.ReadFault.{ReadFault}
 use Rattle.s2_mode.specs.declared.counts.WriteFault.{WriteFault}
-use Rattle.s2_receive.specs.Finding.{met_of, place_after}
-use Rattle.s2_receive.specs.Receiving.{Rules, Decision, State, Receiver, IsLive, IsDecided, Finds, Stops, MetFrame, StepAnswers, StandsBehind, Tells, RunsOut, RunsTo, StopsAfter, BreaksAfter, begun, rules_of}
-use Rattle.s2_receive.specs.declared.finding.Next.{Next}
+use Rattle.s2_receive.specs.Meeting.{Met}
+use Rattle.s2_receive.specs.Receiving.{Rules, Decision, State, Receiver, EndsAt, IsDecided, IsLive, Meets, MetFrame, Reaches, StepAnswers, StandsBehind, Steps, StopsShort, Tells, Waits, RunsOut, RunsTo, StopsAfter, BreaksAfter, begun, left_in, asked, rules_of, taken}
 use Rattle.s2_receive.specs.declared.report.Fault.{Fault}
 use Rattle.s2_receive.specs.declared.report.Fault.TheVariants as faults
 use Rattle.s2_receive.specs.declared.report.Phase.TheVariants as phases
@@ -28,14 +30,15 @@ bytes_by given writes out prints = streams_by (λ b. Some b) (λ b. 0) given wri
 
 -- ---- steps
 
--- what a receiver goes by, where it stands, and what it decided last
+-- what a receiver goes by, where it stands, what it decided last, and the packets of its last step
 pub record Seen : Type 0 where
   pub rules : Rules
   pub state : State
   pub last : Decision
+  pub packets : List ℕ
 
 abbrev pub seen_by : {D : Type 0} → (D → List Symbol → Decision) → (D → Decision) → Receiver D → Seen
-seen_by decide last r = record { rules = rules_of decide r; state = r.state; last = last r.decider }
+seen_by decide last r = record { rules = rules_of decide r; state = r.state; last = last r.decider; packets = r.packets }
 
 -- a receiver goes by the same rules as before
 pub record IsSame {D : Type 0} (decide : D → List Symbol → Decision) (old new : Receiver D) : Type 0 where
@@ -44,6 +47,51 @@ pub record IsSame {D : Type 0} (decide : D → List Symbol → Decision) (old ne
   pub lock : new.lock ≡ old.lock
   pub limit : new.limit ≡ old.limit
 
+-- bytes came, no more than were asked for: a step is made with their symbols, or none yet
+abbrev pub Goes : (old new : Seen) → List ℕ → Option Step → Type 0
+Goes old new bytes (Some step) = Steps old.rules old.state new.state (symbols_of bytes) (nat_eq (length bytes) (asked old.rules old.state)) new.last new.packets step
+Goes old new bytes None = Waits old.rules old.state new.state (symbols_of bytes) (nat_eq (length bytes) (asked old.rules old.state))
+
+-- where no frame is met, what was decided last stays: that of the frame before
+abbrev pub KeepsLast : Option Step → (old new : Decision) → Type 0
+KeepsLast (Some (steps.Frame report)) old new = ⊤
+KeepsLast answer old new = new ≡ old
+
+-- the answer where it cannot go on: the end again, or nothing after a fault; and nothing else changes
+pub record Rests (old new : Seen) (answer : Option Step) : Type 0 where
+  pub state : new.state ≡ old.state
+  pub ended : old.state.phase ≡ phases.Ended → answer ≡ Some steps.End
+  pub failed : old.state.phase ≡ phases.Failed → answer ≡ None
+
+-- what comes of bytes
+pub record Advances (old new : Seen) (bytes : List ℕ) (answer : Option Step) : Type 0 where
+  pub live : IsLive old.state.phase → Goes old new bytes answer
+  pub rests : (IsLive old.state.phase → ⊥) → Rests old new answer
+  pub kept : KeepsLast answer old.last new.last
+  pub bounded : taken new.state ≤ old.rules.limit
+
+-- ---- steps from a reader to two writers
+
+-- bytes were read, as many as were asked for or the last ones, and given to a receiver; or a read failed before, and nothing else changed
+abbrev pub Reads : (old new : Seen) → (reader_old reader_new : Option (List ℕ)) → Result (Option Step) ReadFault → Type 0
+Reads old new r r' (Ok answer) =
+    (bytes : List ℕ) × Consumes r r' bytes × (length bytes ≢ asked old.rules old.state → IsAtEnd r') × Advances old new bytes answer
+Reads old new r r' (Err fault) = (new ≡ old) × ((bytes : List ℕ) × Consumes r r' bytes × (length bytes < asked old.rules old.state))
+
+-- the receiver was searching, and nothing was decided
+abbrev pub FindsNone : (old new : Seen) → (reader_old reader_new : Option (List ℕ)) → (reads_old reads_new : ℕ) → Type 0
+FindsNone old new r r' n n' =
+    (old.state.phase ≡ phases.Searching) × (new.state.standing ≡ old.state.standing) × (new.last ≡ old.last) × StopsShort old.rules old.state r r' n n'
+    × (taken new.state ≤ old.rules.limit)
+
+-- What is read up to the next step: that step, which is what known bytes spell next, its symbols and no others; or why there is none.
+abbrev pub Finds : (old new : Seen) → (reader_old reader_new : Option (List ℕ)) → (reads_old reads_new : ℕ) → Result Step ReadFault → Type 0
+Finds old new r r' n n' (Ok step) =
+    (met : Met) × Tells old.rules old.state new.state met new.packets step × IsDecided old.rules met new.last × KeepsLast (Some step) old.last new.last
+    × Meets (left_in old.rules old.state r) (left_in old.rules new.state r') (met ∷ []) × Reaches (taken new.state) (taken old.state) r r' × EndsAt old.rules.size met (taken new.state)
+    × (n' ≡ n) × (taken new.state ≤ old.rules.limit)
+Finds old new r r' n n' (Err fault) = FindsNone old new r r' n n'
+
 -- of an answer, where it is a frame
 abbrev pub OnFrame : {E : Type 0} → Result Step E → (Report → Type 0) → Type 0
 OnFrame (Ok (steps.Frame report)) holds = holds report
@@ -51,59 +99,27 @@ OnFrame (Ok (steps.Cut at count)) holds = ⊤
 OnFrame (Ok steps.End) holds = ⊤
 OnFrame (Err fault) holds = ⊤
 
--- where the answer is no frame, what was decided last stays: that of the frame before
-abbrev pub KeepsLast : Result Step Fault → (old new : Decision) → Type 0
-KeepsLast (Ok (steps.Frame report)) old new = ⊤
-KeepsLast (Ok step) old new = new ≡ old
-KeepsLast (Err fault) old new = new ≡ old
-
--- what was met is told, whatever symbols they are of which that was decided last
-abbrev pub Delivers : {E : Type 0} → Rules → (old new : State) → (last : Decision) → (before behind : Streams) → Result ⊤ E → Type 0
-Delivers rules old new last before behind result =
-    (next : Next) (symbols : List Symbol) → old.phase ≡ phases.Met next → IsDecided rules (met_of next symbols) last
-    → Tells rules old new (met_of next symbols) (place_after rules.size next) before.given behind.given before.out behind.out result
+-- where the answer is no frame and no write failed, what was decided last stays
+abbrev pub KeepsDecision : Result Step Fault → (old new : Decision) → Type 0
+KeepsDecision (Ok (steps.Frame report)) old new = ⊤
+KeepsDecision (Err faults.Write) old new = ⊤
+KeepsDecision answer old new = new ≡ old
 
 -- only what failed was counted: a read where that is the answer, a write where that is
 abbrev pub OnlyFaults : {T : Type 0} → Result T Fault → (before behind : Streams) → Type 0
 OnlyFaults result = OnlyFailed (result ≡ Err faults.Read) (result ≡ Err faults.Write)
 
--- the first half of a step, of a reader by its bytes and its count
-pub record MeetAnswers (old new : Seen) (reader_old reader_new : Option (List ℕ)) (reads_old reads_new : ℕ) (result : Result Step Fault) : Type 0 where
-  pub finds : IfOk result (λ step. IsLive old.state.phase → Finds old.rules old.state new.state reader_old reader_new new.last step)
-  pub kept : KeepsLast result old.last new.last
-  pub stops : IsErrOf result faults.Read → Stops old.rules old.state new.state reader_old reader_new reads_old reads_new
-  pub bounded : new.state.at ≤ old.rules.limit
-  pub no_read : result ≢ Err faults.Read → reads_new ≡ reads_old
-  pub no_write : result ≢ Err faults.Write
-  pub ended : old.state.phase ≡ phases.Ended → result ≡ Ok steps.End
-  pub failed : IsErrOf result faults.Failed ↔ ((IsLive old.state.phase → ⊥) × (old.state.phase ≢ phases.Ended))
-
--- the second half, of two writers
-pub record DeliverAnswers (old new : Seen) (before behind : Streams) (result : Result ⊤ Fault) : Type 0 where
-  pub tells : Delivers old.rules old.state new.state old.last before behind result
-  pub last : new.last ≡ old.last
-  pub bounded : new.state.at ≤ old.rules.limit
-  pub write : IsErrOf result faults.Write → OneFailed before.writes behind.writes before.prints behind.prints
-  pub no_write : result ≢ Err faults.Write → NoneFailed before.writes behind.writes before.prints behind.prints
-  pub no_read : result ≢ Err faults.Read
-  pub ended : old.state.phase ≡ phases.Ended → result ≡ Ok tt
-  pub failed : IsErrOf result faults.Failed ↔ (((next : Next) → old.state.phase ≢ phases.Met next) × (old.state.phase ≢ phases.Ended))
-
--- both halves
 pub record NextAnswers (old new : Seen) (before behind : Streams) (result : Result Step Fault) : Type 0 where
   pub live : IsLive old.state.phase → StepAnswers old.rules old.state new.state before behind result
   pub frame : OnFrame result (λ report. MetFrame old.rules old.state new.state before behind report new.last)
-  pub kept : result ≢ Err faults.Write → KeepsLast result old.last new.last
-  pub taken : StandsBehind old.rules.size new.state.at result
-  pub bounded : new.state.at ≤ old.rules.limit
+  pub kept : KeepsDecision result old.last new.last
+  pub taken_are : StandsBehind old.rules.size (taken new.state) result
+  pub bounded : taken new.state ≤ old.rules.limit
   pub ended : old.state.phase ≡ phases.Ended → result ≡ Ok steps.End
-  pub failed : IsErrOf result faults.Failed ↔ ((IsLive old.state.phase → ⊥) × (old.state.phase ≢ phases.Ended))
+  pub failed : IsErrOf result faults.Failed ↔ (old.state.phase ≡ phases.Failed)
   pub counts : OnlyFaults result before behind
 
 -- from one receiver, and what is read and written, to the other
-abbrev pub DeliversBy : {V P W : Type 0} → (V → Seen) → (P → Option (List ℕ)) → (P → ℕ) → (W → Option (List ℕ)) → (W → ℕ) → V → P → W → V → P → W → Result ⊤ Fault → Type 0
-DeliversBy see given writes out prints old p w new p' w' = DeliverAnswers (see old) (see new) (bytes_by given writes out prints [] p w) (bytes_by given writes out prints [] p' w')
-
 abbrev pub StepsBy :
     {V R P W : Type 0} → (V → Seen) → (R → Option (List ℕ)) → (R → ℕ) → (P → Option (List ℕ)) → (P → ℕ) → (W → Option (List ℕ)) → (W → ℕ) → V → R → P → W → V → R → P → W → Result Step Fault → Type 0
 StepsBy see taken reads given writes out prints old r p w new r' p' w' = Between (NextAnswers (see old) (see new)) taken reads given writes out prints r p w r' p' w'
@@ -114,7 +130,7 @@ StepsBy see taken reads given writes out prints old r p w new r' p' w' = Between
 -- a read that failed or the limit is written; or that before a write that failed, and a part of the next thing.
 abbrev pub RunAnswers : Rules → (old new : State) → (before behind : Streams) → Result Received StreamFault → Type 0
 RunAnswers rules old new before behind (Ok received) =
-    RunsTo rules old new before behind received.well × (received.totals ≡ new.standing.totals) × (received.symbols ≡ new.at)
+    RunsTo rules old new before behind received.well × (received.totals ≡ new.standing.totals) × (received.symbols ≡ taken new)
 RunAnswers rules old new before behind (Err stream_faults.Read) = StopsAfter rules old new before behind
 RunAnswers rules old new before behind (Err stream_faults.Write) = BreaksAfter rules old before behind
 

@@ -1,26 +1,25 @@
 -- What a receiver does with what it meets.
-use Rattle.std.specs.Prelude.{◌≡◌, ◌≢◌, ℕ, ℤ, ◌+◌, ◌≤◌, Bool, true, false, ◌&&◌, nat_eq, nat_lt, if◌then◌else◌, List, [], ◌∷◌, ◌++◌, length, Option, Some, None, Result, Ok, Err, ⊤}
+use Rattle.std.specs.Prelude.{◌≡◌, ◌≢◌, ℕ, ℤ, ◌+◌, ◌-◌, ◌*◌, ◌/◌, ◌<◌, ◌≤◌, Bool, true, false, ◌&&◌, nat_eq, nat_lt, if◌then◌else◌, List, [], ◌∷◌, ◌++◌, length, Option, Some, None, Result, Ok, Err, ⊤}
 use Rattle.std.specs.List.{flat_map}
-use Rattle.std.specs.Io.KnownBytes.{Appends}
+use Rattle.std.specs.Io.KnownBytes.{Appends, Consumes}
 use Rattle.s2_mode.specs.declared.symbols.Symbol.{Symbol}
 use Rattle.s2_plframe.specs.declared.receive.found.Found.{Found}
 use Rattle.s2_bbframe.specs.declared.header.Header.{Header}
 use Rattle.s2_mode.specs.Limits.{header_symbols}
 use Rattle.s2_mode.specs.Mode.{Mode, symbols_in}
 use Rattle.s2_mode.specs.Streams.{Streams}
+use Rattle.s2_mode.specs.Symbols.{symbols_of}
 use Rattle.s2_bbframe.specs.Joining.{Event, field, gap, Joined, step, begun_body, torn_in}
 use Rattle.s2_receive.specs.declared.delivering.Given.{Given}
 use Rattle.s2_receive.specs.declared.stretch.Stretch.{Stretch}
-use Rattle.s2_receive.specs.Meeting.{Met, frame, cut, ended, nothing_over, is_over, met_in}
-use Rattle.s2_receive.specs.Finding.{YieldsSymbols, Meets, Reaches, StopsShort, met_of, met_after, place_after}
+use Rattle.s2_receive.specs.Meeting.{Met, frame, cut, ended, nothing_over, is_over}
+use Rattle.s2_receive.specs.Finding.{Window, Follows, met_within, reached, wanted, window_at}
 use Rattle.s2_receive.specs.Windows.{found_as}
 use Rattle.s2_receive.specs.ReportLines.{step_line}
 use Rattle.s2_receive.specs.Stepping.{FailsIn}
 use Rattle.s2_check.specs.declared.verdict.Verdict.{Verdict}
 use Rattle.s2_check.specs.Verdicts.{is_certified}
 use Rattle.s2_check.specs.Views.{View}
-use Rattle.s2_receive.specs.declared.finding.Next.{Next}
-use Rattle.s2_receive.specs.declared.finding.Next.TheVariants as nexts
 use Rattle.s2_receive.specs.declared.report.Outcome.{Outcome}
 use Rattle.s2_receive.specs.declared.report.Outcome.TheVariants as outcomes
 use Rattle.s2_receive.specs.declared.report.Report.{Report}
@@ -168,36 +167,40 @@ all_well rules s (met ∷ later) = is_well (step_of rules s met) && all_well rul
 
 -- ---- a receiver between two calls
 
--- the symbols that it took, and what stands
+-- what it does next, what it holds of the stream, and what stands
 pub record State : Type 0 where
   pub phase : Phase
-  pub at : ℕ
+  pub window : Window
   pub standing : Standing
 
--- a receiver: the mode of its frames, how many bits of a header may be wrong right behind a frame, what decides its frames, how many
--- symbols it takes at most, and where it stands
+-- how many symbols it took
+abbrev pub taken : State → ℕ
+taken s = reached s.window
+
+-- a receiver: the mode of its frames, how many bits of a header may be wrong right after a frame, what decides its frames, how many symbols it
+-- takes at most, where it stands, and the bytes of the packets that its last step gave
 pub record Receiver (D : Type 0) : Type 0 where
   pub mode : Mode
   pub lock : ℕ
   pub decider : D
   pub limit : ℕ
   pub state : State
+  pub packets : List ℕ
 
 -- its rules, by what its decider decides
 abbrev pub rules_of : {D : Type 0} → (D → List Symbol → Decision) → Receiver D → Rules
 rules_of decide r = record { finds = found_as r.mode r.lock; size = symbols_in r.mode; decide = decide r.decider; limit = r.limit }
 
-abbrev pub state_of : Phase → ℕ → Option (List ℕ) → Totals → State
-state_of phase at held totals = record { phase = phase; at = at; standing = record { held = held; totals = totals } }
+abbrev pub state_of : Phase → Window → Option (List ℕ) → Totals → State
+state_of phase window held totals = record { phase = phase; window = window; standing = record { held = held; totals = totals } }
 
 abbrev pub begun : State
-begun = record { phase = phases.Searching; at = 0; standing = at_start }
+begun = record { phase = phases.Searching; window = window_at 0 false; standing = at_start }
 
--- more can be met
+-- it can go on
 abbrev pub IsLive : Phase → Type 0
 IsLive phases.Searching = ⊤
 IsLive phases.Closing = ⊤
-IsLive (phases.Met next) = ⊥
 IsLive phases.Ended = ⊥
 IsLive phases.Failed = ⊥
 
@@ -206,83 +209,144 @@ phase_after (frame at over symbols) = phases.Searching
 phase_after (cut at over count) = phases.Closing
 phase_after (ended over) = phases.Ended
 
--- the last step came to a frame, met or told, or none was taken yet: what was decided last is that frame's
+-- the last step came to a frame, or none was taken yet: what was decided last is that frame's
 abbrev pub is_at_frame : Phase → Bool
 is_at_frame phases.Searching = true
-is_at_frame (phases.Met (nexts.Frame at over)) = true
 is_at_frame phase = false
 
 -- whether no frame comes any more
 abbrev pub rank : Phase → ℕ
 rank phases.Searching = 0
 rank phases.Closing = 1
-rank (phases.Met next) = 2
 rank phases.Ended = 2
 rank phases.Failed = 2
 
--- what is still to be met in known bytes; a receiver that searches stands right behind a frame where it took symbols
-abbrev pub met_left : Rules → Phase → ℕ → Option (List ℕ) → Option (List Met)
-met_left rules phases.Searching at bytes = met_in rules.finds rules.size at 0 (nat_lt 0 at) nothing_over [] bytes
-met_left rules phases.Closing at bytes = Some (ended nothing_over ∷ [])
-met_left rules (phases.Met next) at bytes = Some []
-met_left rules phases.Ended at bytes = Some []
-met_left rules phases.Failed at bytes = Some []
+-- what is still to be met in the symbols to come
+abbrev pub left_by : Rules → Phase → Window → List Symbol → List Met
+left_by rules phases.Searching window coming = met_within rules.finds rules.size window coming
+left_by rules phases.Closing window coming = ended nothing_over ∷ []
+left_by rules phases.Ended window coming = []
+left_by rules phases.Failed window coming = []
 
--- ---- the halves of a step
+abbrev pub met_left : Rules → State → List Symbol → List Met
+met_left rules s coming = left_by rules s.phase s.window coming
+
+-- the same of bytes to come, where it is known
+abbrev pub left_known : Rules → Phase → Window → Option (List ℕ) → Option (List Met)
+left_known rules phases.Searching window None = None
+left_known rules phases.Searching window (Some bytes) = Some (met_within rules.finds rules.size window (symbols_of bytes))
+left_known rules phases.Closing window bytes = Some (ended nothing_over ∷ [])
+left_known rules phases.Ended window bytes = Some []
+left_known rules phases.Failed window bytes = Some []
+
+abbrev pub left_in : Rules → State → Option (List ℕ) → Option (List Met)
+left_in rules s bytes = left_known rules s.phase s.window bytes
+
+-- ---- symbols that come
+
+-- how many bytes are asked for: those of the symbols that a frame lacks, up to the limit; none where it does not search
+abbrev pub asked_by : Rules → Phase → Window → ℕ
+asked_by rules phases.Searching window = 4 * wanted rules.limit rules.size window
+asked_by rules phase window = 0
+
+abbrev pub asked : Rules → State → ℕ
+asked rules s = asked_by rules s.phase s.window
+
+-- what these symbols and those that were held spell, whatever may follow: this, and then what is still to be met
+abbrev pub Spell : Rules → (old new : State) → (symbols : List Symbol) → (whole : Bool) → List Met → Type 0
+Spell rules old new symbols whole met = (coming : List Symbol) → Follows whole coming → met_left rules old (symbols ++ coming) ≡ met ++ met_left rules new coming
 
 -- where it was a frame, what is decided of its symbols was decided last
+abbrev pub IsDecidedBy : (List Symbol → Decision) → Met → Decision → Type 0
+IsDecidedBy decide (frame at over symbols) last = last ≡ decide symbols
+IsDecidedBy decide met last = ⊤
+
 abbrev pub IsDecided : Rules → Met → Decision → Type 0
-IsDecided rules (frame at over symbols) last = last ≡ rules.decide symbols
-IsDecided rules met last = ⊤
+IsDecided rules met last = IsDecidedBy rules.decide met last
 
--- the rules of which this is what is decided of any frame
-abbrev pub deciding : Decision → Rules → Rules
-deciding last rules = record rules { decide = λ symbols. last }
+-- This was met: it is counted, its packets are these, and it is the answer.
+pub record Tells (rules : Rules) (old new : State) (met : Met) (packets : List ℕ) (step : Step) : Type 0 where
+  pub step_is : step ≡ step_of rules old.standing met
+  pub phase : new.phase ≡ phase_after met
+  pub standing : new.standing ≡ after rules old.standing met
+  pub packets_are : packets ≡ packets_of rules old.standing met
 
--- This was met: it is what known bytes spell next, its symbols and no others were read, no more than may be taken, a frame is decided, and
--- the step is its. Of it nothing is written yet.
-pub record Finds (rules : Rules) (old new : State) (reader_old reader_new : Option (List ℕ)) (last : Decision) (step : Step) : Type 0 where
-  pub next : Next
-  pub symbols : List Symbol
-  pub state : new ≡ record old { phase = phases.Met next }
-  pub step_is : step ≡ step_of rules old.standing (met_of next symbols)
-  pub met : Meets (met_left rules old.phase old.at reader_old) (met_after rules.finds rules.size next reader_new) (met_of next symbols ∷ [])
-  pub taken : Reaches (place_after rules.size next) old.at reader_old reader_new
-  pub within : place_after rules.size next ≤ rules.limit
-  pub decided : IsDecided rules (met_of next symbols) last
+-- it ends at this place of the stream
+abbrev pub EndsAt : ℕ → Met → ℕ → Type 0
+EndsAt size (frame at over symbols) place = place ≡ at + size
+EndsAt size (cut at over count) place = place ≡ at + count
+EndsAt size (ended over) place = ⊤
 
--- Nothing could be met, since a read failed, or else since as many symbols were taken as may be: the receiver was searching, and counts as
--- failed.
+-- A step: symbols came, all that were asked for or the last ones of the stream, and this was met in them. They were taken, and no others.
+pub record Steps (rules : Rules) (old new : State) (symbols : List Symbol) (whole : Bool) (last : Decision) (packets : List ℕ) (step : Step) : Type 0 where
+  pub met : Met
+  pub tells : Tells rules old new met packets step
+  pub spell : Spell rules old new symbols whole (met ∷ [])
+  pub taken_are : taken new ≡ taken old + length symbols
+  pub ends : EndsAt rules.size met (taken new)
+  pub decided : IsDecided rules met last
+
+-- No step yet: all symbols that were asked for came, and nothing is met in them. They were taken.
+pub record Waits (rules : Rules) (old new : State) (symbols : List Symbol) (whole : Bool) : Type 0 where
+  pub all : whole ≡ true
+  pub searching : old.phase ≡ phases.Searching
+  pub phase : new.phase ≡ old.phase
+  pub standing : new.standing ≡ old.standing
+  pub spell : Spell rules old new symbols true []
+  pub taken_are : taken new ≡ taken old + length symbols
+
+-- ---- what is read and written
+
+-- these symbols are the next ones of known bytes
+abbrev pub YieldsSymbols : Option (List ℕ) → Option (List ℕ) → List Symbol → Type 0
+YieldsSymbols None new front = ⊤
+YieldsSymbols (Some old) None front = ⊥
+YieldsSymbols (Some old) (Some new) front = symbols_of old ≡ front ++ symbols_of new
+
+-- the symbols from one place of the stream up to another were read
+abbrev pub Reaches : ℕ → ℕ → Option (List ℕ) → Option (List ℕ) → Type 0
+Reaches to at reader_old reader_new = (front : List Symbol) × YieldsSymbols reader_old reader_new front × (at + length front ≡ to)
+
+-- known things to come begin with these
+abbrev pub Meets : Option (List Met) → Option (List Met) → List Met → Type 0
+Meets None new front = ⊤
+Meets (Some old) None front = ⊥
+Meets (Some old) (Some new) front = old ≡ front ++ new
+
+-- the next coded frame of what is known, where one comes next, ends after a place
+abbrev pub EndsBehind : ℕ → ℕ → Option (List Met) → Type 0
+EndsBehind size place None = ⊤
+EndsBehind size place (Some []) = ⊤
+EndsBehind size place (Some (frame at over symbols ∷ later)) = place < at + size
+EndsBehind size place (Some (cut at over count ∷ later)) = ⊤
+EndsBehind size place (Some (ended over ∷ later)) = ⊤
+
+-- Nothing was met, since a read failed, or else since as many symbols were taken as may be: the next frame of what is known to come ends after
+-- what was read, and then after that limit, up to which just the symbols' bytes were read.
+pub record StopsShort (rules : Rules) (old : State) (reader_old reader_new : Option (List ℕ)) (reads_old reads_new : ℕ) : Type 0 where
+  pub bytes : List ℕ
+  pub read : Consumes reader_old reader_new bytes
+  pub short : EndsBehind rules.size (taken old + length bytes / 4) (left_in rules old reader_old)
+  pub cause : reads_new ≢ reads_old + 1
+      → (reads_new ≡ reads_old) × Reaches rules.limit (taken old) reader_old reader_new × (length bytes ≡ 4 * (rules.limit - taken old))
+      × EndsBehind rules.size rules.limit (left_in rules old reader_old)
+
+-- the receiver was searching then, and counts as failed
 pub record Stops (rules : Rules) (old new : State) (reader_old reader_new : Option (List ℕ)) (reads_old reads_new : ℕ) : Type 0 where
   pub searching : old.phase ≡ phases.Searching
-  pub failed : new ≡ record old { phase = phases.Failed }
-  pub short : StopsShort rules.size old.at rules.limit (met_left rules old.phase old.at reader_old) reader_old reader_new reads_old reads_new
-
--- where a receiver stands when this was told, up to a place of the stream
-abbrev pub state_after : Rules → State → Met → ℕ → State
-state_after rules old met to = record { phase = phase_after met; at = to; standing = after rules old.standing met }
-
--- What was met was told: its packets and its line were written, and the receiver stands so.
-pub record Told (rules : Rules) (old new : State) (met : Met) (to : ℕ) (packets_old packets_new report_old report_new : Option (List ℕ)) : Type 0 where
-  pub state : new ≡ state_after rules old met to
-  pub packets : Appends packets_old packets_new (packets_of rules old.standing met)
-  pub line : Appends report_old report_new (line_of rules old.standing met)
-
--- or a write failed on the way, and the receiver counts as failed
-abbrev pub Tells : {E : Type 0} → Rules → State → State → Met → ℕ → (packets_old packets_new report_old report_new : Option (List ℕ)) → Result ⊤ E → Type 0
-Tells rules old new met to p p' w w' (Ok told) = Told rules old new met to p p' w w'
-Tells rules old new met to p p' w w' (Err fault) =
-    (new.phase ≡ phases.Failed) × FailsIn (packets_of rules old.standing met) (line_of rules old.standing met) p p' w w' × (new.at ≡ old.at)
+  pub failed : new.phase ≡ phases.Failed
+  pub standing : new.standing ≡ old.standing
+  pub stops : StopsShort rules old reader_old reader_new reads_old reads_new
 
 -- ---- steps
 
 -- From one state to another this was met: it is what known bytes spell next, its symbols and no others were read, its packets
 -- and its lines were written and nothing else.
 pub record Went (rules : Rules) (old new : State) (before behind : Streams) (met : List Met) : Type 0 where
-  pub left : Meets (met_left rules old.phase old.at before.taken) (met_left rules new.phase new.at behind.taken) met
+  pub left : Meets (left_in rules old before.taken) (left_in rules new behind.taken) met
   pub front : List Symbol
   pub read : YieldsSymbols before.taken behind.taken front
-  pub taken : old.at + length front ≡ new.at
+  pub taken_are : taken old + length front ≡ taken new
   pub standing : new.standing ≡ after_all rules old.standing met
   pub packets : Appends before.given behind.given (all_packets rules old.standing met)
   pub lines : Appends before.out behind.out (all_lines rules old.standing met)
@@ -298,13 +362,12 @@ pub record MetFrame (rules : Rules) (old new : State) (before behind : Streams) 
 -- A write failed when this was to be written, which was met: it is what known bytes spell next, and its symbols and no others were read, no
 -- more than may be taken. Of its packets a part was written and not all; or its packets whole, and of its line a part and not all.
 pub record BreaksOff (rules : Rules) (old : State) (before behind : Streams) : Type 0 where
-  pub next : Next
-  pub symbols : List Symbol
-  pub met : Meets (met_left rules old.phase old.at before.taken) (met_after rules.finds rules.size next behind.taken) (met_of next symbols ∷ [])
-  pub taken : Reaches (place_after rules.size next) old.at before.taken behind.taken
-  pub within : place_after rules.size next ≤ rules.limit
-  pub part :
-      FailsIn (packets_of rules old.standing (met_of next symbols)) (line_of rules old.standing (met_of next symbols)) before.given behind.given before.out behind.out
+  pub met : Met
+  pub mid : State
+  pub left : Meets (left_in rules old before.taken) (left_in rules mid behind.taken) (met ∷ [])
+  pub reaches : Reaches (taken mid) (taken old) before.taken behind.taken
+  pub within : taken mid ≤ rules.limit
+  pub part : FailsIn (packets_of rules old.standing met) (line_of rules old.standing met) before.given behind.given before.out behind.out
 
 -- what a call answers where more could be met
 abbrev pub StepAnswers : Rules → State → State → (before behind : Streams) → Result Step Fault → Type 0
@@ -343,7 +406,7 @@ pub record StopsAfter (rules : Rules) (old new : State) (before behind : Streams
   pub between : Streams
   pub went : Went rules old mid before between met
   pub stops : Stops rules mid new between.taken behind.taken between.reads behind.reads
-  pub cause : MayStop rules.limit old.at before behind
+  pub cause : MayStop rules.limit (taken old) before behind
   pub no_read : between.reads ≡ before.reads
   pub packets : behind.given ≡ between.given
   pub lines : behind.out ≡ between.out

@@ -1,10 +1,15 @@
 -- What something met gives, how it is counted, and where a receiver stands behind it.
-use Rattle.std.specs.Prelude.{◌≡◌, ℕ, ◌+◌, ◌≤◌, List, length, Option, None}
+use Rattle.std.specs.Prelude.{◌≡◌, ℕ, ◌+◌, ◌≤◌, Bool, true, List, ◌∷◌, ◌++◌, length, Option, Some, None, ⊤}
 use Rattle.std.specs.List.{flat_map}
 use Rattle.s2_bbframe.specs.Limits.{most_field_bytes, packets_room}
 use Rattle.s2_bbframe.specs.declared.header.Header.{Header}
 use Rattle.s2_bbframe.specs.Joining.{Joined, still, begun_body}
-use Rattle.s2_receive.specs.Receiving.{at_end, cut_totals, frame_totals, given_after, joined_after, passes}
+use Rattle.s2_mode.specs.declared.symbols.Symbol.{Symbol}
+use Rattle.s2_receive.specs.Finding.{Follows, met_then, met_of, place_after, window_at}
+use Rattle.s2_receive.specs.Receiving.{Decision, IsDecided, Rules, State, Tells, Waits, at_end, cut_totals, frame_totals, given_after, joined_after, met_left, passes, report_for, taken}
+use Rattle.s2_receive.specs.Stepping.{CanCountIn}
+use Rattle.s2_receive.specs.declared.report.Step.{Step}
+use Rattle.s2_receive.specs.declared.report.Step.TheVariants as steps
 use Rattle.s2_receive.specs.declared.delivering.Given.{Given}
 use Rattle.s2_receive.specs.declared.finding.Next.{Next}
 use Rattle.s2_receive.specs.declared.finding.Next.TheVariants as next
@@ -43,3 +48,28 @@ abbrev pub counted : Totals → Next → Given → Totals
 counted t (next.Frame at over) given = frame_totals (passes t over) given
 counted t (next.Cut at over count) given = cut_totals (passes t over) given.torn
 counted t (next.End at over) given = passes t (at_end over)
+
+-- the answer, where this was decided last
+abbrev pub answer_for : Decision → Totals → Next → Step
+answer_for last t (next.Frame at over) = steps.Frame (report_for last t at)
+answer_for last t (next.Cut at over count) = steps.Cut at count
+answer_for last t (next.End at over) = steps.End
+
+-- what was met, whatever symbols they are of which that was decided last
+abbrev pub TellsNext : Rules → (old new : State) → Decision → Next → (packets : List ℕ) → Step → Type 0
+TellsNext rules old new last found packets step =
+    (symbols : List Symbol) → IsDecided rules (met_of found symbols) last → Tells rules old new (met_of found symbols) packets step
+
+-- Symbols came to a receiver that searches: nothing is met yet; or this was, of which a frame is decided, and nothing else changed.
+abbrev pub Searches : Rules → (old new : State) → (symbols : List Symbol) → (whole : Bool) → Decision → Option Next → Type 0
+Searches rules old new symbols whole last None = Waits rules old new symbols whole
+Searches rules old new symbols whole last (Some found) =
+    (buffer : List Symbol) × IsDecided rules (met_of found buffer) last
+    × ((coming : List Symbol) → Follows whole coming → met_left rules old (symbols ++ coming) ≡ met_of found buffer ∷ met_then rules.finds rules.size found coming)
+    × (place_after rules.size found ≡ taken old + length symbols) × (new ≡ record old { window = window_at (place_after rules.size found) true })
+    × CanCountIn new.window old.standing.totals found
+
+-- where no frame was met, what was decided last stays
+abbrev pub KeepsWithout : Option Next → (old new : Decision) → Type 0
+KeepsWithout (Some (next.Frame at over)) old new = ⊤
+KeepsWithout found old new = new ≡ old

@@ -2,7 +2,7 @@
 ghost use Rattle.std.specs.Prelude.{◌≡◌, ◌*◌, ◌<◌, ◌≤◌, OnOk, OnErr, length};
 ghost use Rattle.s2_mode.specs.Counts.{CanCount};
 ghost use Rattle.s2_mode.specs.Streams.{streams_by, NoneFailed, OneFailed};
-ghost use Rattle.s2_receive.specs.Receiving.{IsLive, begun, is_well};
+ghost use Rattle.s2_receive.specs.Receiving.{IsLive, begun, is_well, taken};
 ghost use Rattle.s2_receive.specs.declared.report.Phase.TheVariants as phases;
 ghost use Rattle.s2_receive.specs.Answers.{Between, IsSame, Runs, OnlyStreamFaults, ReceivesBytes, bytes_by};
 
@@ -43,7 +43,7 @@ pub fn receive_all<D: Decide, R: CountedRead, P: CountedWrite, W: CountedWrite>(
     ensures counts { let ends = streams_by R.remaining R.count P.contents P.count W.contents W.count in
         OnlyStreamFaults result (ends reader.old packets.old report.old) (ends reader.new packets.new report.new) }
     ensures stopped { OnErr result (receiver.new.state.phase ≡ phases.Failed) }
-    ensures bounded { receiver.new.state.at ≤ receiver.old.limit }
+    ensures bounded { taken receiver.new.state ≤ receiver.old.limit }
     ensures same { IsSame D.decide receiver.old receiver.new }
 {
     let mut well = true;
@@ -52,7 +52,7 @@ pub fn receive_all<D: Decide, R: CountedRead, P: CountedWrite, W: CountedWrite>(
             Ok(step) => {
                 if step == Step::End {
                     let totals = receiver.totals();
-                    let symbols = receiver.place.at;
+                    let symbols = receiver.taken();
                     return Ok(Received {
                         totals,
                         well,

@@ -1,4 +1,4 @@
-//! What was met, given: what comes to the joiner, and the packets that are whole with it.
+//! What was met, given to the joiner, and the packets that are whole with it.
 ghost use Rattle.std.specs.Prelude.{◌≡◌, ◌*◌, ◌≤◌, None, IfOk, IfSome, length, take};
 ghost use Rattle.std.specs.List.{flat_map};
 ghost use Rattle.s2_bbframe.specs.Joining.{still};
@@ -77,15 +77,15 @@ fn join_frame(
 }
 
 /// A joiner, and the packets that were whole with what was met last.
-pub(crate) struct Filler {
+pub(crate) struct PacketBuffer {
     joiner: Joiner,
     buffer: Vec<u8>,
     filled: usize,
 }
 
-impl Drop for Filler {
+impl Drop for PacketBuffer {
     fn drop(self) {
-        let Filler {
+        let PacketBuffer {
             joiner: _,
             buffer: _,
             filled: _,
@@ -93,7 +93,7 @@ impl Drop for Filler {
     }
 }
 
-impl Model for Filler {
+impl Model for PacketBuffer {
     ghost use Rattle.std.specs.Prelude.{take};
     ghost use Rattle.s2_receive.specs.Telling.{Filled, HasRoom};
 
@@ -104,13 +104,13 @@ impl Model for Filler {
     ghost invariant = { λ f. HasRoom f.filled f.buffer.items };
 }
 
-impl Filler {
+impl PacketBuffer {
     /// A joiner that is lost, with room for the packets of a frame. `AllocError` only where a growth was refused.
-    pub(crate) fn new(alloc: Global) -> Result<Filler, AllocError>
+    pub(crate) fn new(alloc: Global) -> Result<PacketBuffer, AllocError>
         ensures { IfOk result (λ f. f ≡ filled_by (still None)) }
     {
         let buffer = vec![in alloc; 0u8; PACKETS_ROOM]?;
-        Ok(Filler {
+        Ok(PacketBuffer {
             joiner: Joiner::new(),
             buffer,
             filled: 0,

@@ -1,17 +1,15 @@
-//! The next frame of a reader's symbols.
-ghost use Rattle.std.specs.Prelude.{◌≡◌, ◌+◌, ◌-◌, ◌*◌, ◌^◌, ◌<◌, ◌≤◌, ◌∷◌, [], ℕ, List, Option, IfOk, OnErr, length, nat_lt, Bool, true, false};
-ghost use Rattle.std.specs.Io.KnownBytes.{IsAtEnd};
-ghost use Rattle.s2_mode.specs.Counts.{CanCount, CountsFault};
+//! The next frame in the symbols that come.
+ghost use Rattle.std.specs.Prelude.{◌≡◌, ◌+◌, ◌/◌, ◌^◌, ◌<◌, ◌≤◌, ◌∷◌, ◌++◌, [], List, length, take, true, false};
 ghost use Rattle.s2_mode.specs.Limits.{header_symbols, most_symbols};
-ghost use Rattle.s2_plframe.specs.declared.receive.found.Found.{Found};
-ghost use Rattle.s2_receive.specs.Meeting.{met_in, nothing_over, frame as met_frame};
-ghost use Rattle.s2_receive.specs.Finding.{FindsNext, StopsShort, Reaches, ReadsBytes, ReadsPart, Meets, Looks, IsBehind, met_with, place_with, met_of, met_after, place_after};
+ghost use Rattle.s2_mode.specs.Symbols.{symbols_of};
+ghost use Rattle.s2_mode.specs.declared.symbols.Symbol.{Symbol as SymbolValue};
+ghost use Rattle.s2_receive.specs.Meeting.{nothing_over, frame as met_frame};
+ghost use Rattle.s2_receive.specs.Finding.{Takes, IsBehind, met_within, met_then, met_of, place_after, window_at, window_of};
 ghost use Rattle.s2_receive.specs.Windows.{found_as};
 
-use crate::reading::read_symbols;
 use crate::scanning::look_through;
 use crate::stretch::Stretch;
-use s2_mode::{CountedRead, ReadFault, Symbol};
+use s2_mode::{Symbol, symbols_into};
 use s2_plframe::{Lock, Search};
 
 /// What comes next in the stream; positions count symbols from 0.
@@ -27,53 +25,56 @@ pub enum Next {
 
 /// What is held of the stream at the front of a frame's buffer.
 #[derive(Clone, Copy)]
-struct Held {
+pub(crate) struct Held {
     /// The place of its first symbol.
-    at: u64,
+    pub(crate) at: u64,
     /// What was passed over before it.
-    over: Stretch,
-    count: usize,
+    pub(crate) over: Stretch,
+    pub(crate) count: usize,
     /// How many symbols from the first on still belong to a dummy frame. Behind them a frame may begin.
-    inside: usize,
+    pub(crate) inside: usize,
     /// Whether a frame ended right before the first symbol that belongs to none.
-    behind: bool,
+    pub(crate) behind: bool,
 }
 
-/// Reads so many symbols behind those that are held. Whether they came: if not the stream ended, where up to
-/// three bytes are dropped.
-fn fill<R: CountedRead>(
-    reader: &mut R,
-    bytes: &mut [u8],
-    frame: &mut [Symbol],
-    held: &mut Held,
-    wanted: usize,
-) -> Result<bool, ReadFault>
-    requires count { CanCount (R.count reader.old) }
-    requires bytes { length bytes.old ≡ 4 * length frame.old }
-    requires room { held.old.count + wanted ≤ length frame.old }
-    ensures met { IfOk result (λ _. (finds : Bool → List Symbol → Found) → Meets (met_with finds held.old frame.old (R.remaining reader.old)) (met_with finds held.new frame.new (R.remaining reader.new)) []) }
-    ensures taken { IfOk result (λ _. Reaches (place_with held.new) (place_with held.old) (R.remaining reader.old) (R.remaining reader.new)) }
-    ensures held { IfOk result (λ _. (held.new.at ≡ held.old.at) × (held.new.over ≡ held.old.over) × (held.new.inside ≡ held.old.inside) × (held.new.behind ≡ held.old.behind)) }
-    ensures full { IfOk result (λ full. full ≡ true → held.new.count ≡ held.old.count + wanted) }
-    ensures read { IfOk result (λ full. full ≡ true → ReadsBytes (4 * wanted) (R.remaining reader.old) (R.remaining reader.new)) }
-    ensures end { IfOk result (λ full. full ≡ false → (held.new.count < held.old.count + wanted) × IsAtEnd (R.remaining reader.new)) }
-    ensures part { OnErr result (ReadsPart (4 * wanted) (R.remaining reader.old) (R.remaining reader.new)) }
-    ensures cause { CountsFault (R.count reader.old) (R.count reader.new) result }
+impl Held {
+    /// Nothing, from one place of the stream on, right after a frame or not.
+    pub(crate) fn nothing(at: u64, behind: bool) -> Held
+        ensures window { (buffer : List SymbolValue) → window_of result buffer ≡ window_at at behind }
+        ensures count { result.count ≡ 0 }
+    {
+        Held {
+            at,
+            over: Stretch::none(),
+            count: 0,
+            inside: 0,
+            behind,
+        }
+    }
+}
+
+/// The symbols of these bytes, put after those that are held.
+fn fill(bytes: &[u8], frame: &mut [Symbol], held: &mut Held)
+    requires room { held.old.count + length bytes.now / 4 ≤ length frame.old }
+    ensures window { window_of held.new frame.new ≡ record (window_of held.old frame.old) { symbols = take held.old.count frame.old ++ symbols_of bytes.now } }
+    ensures count { held.new.count ≡ held.old.count + length bytes.now / 4 }
+    ensures size { length frame.new ≡ length frame.old }
 {
-    let behind = held.count;
-    let count = read_symbols(reader, bytes, &mut frame[behind..behind + wanted])?;
-    held.count = behind + count;
-    Ok(count == wanted)
+    let start = held.count;
+    let count = bytes.len() / 4;
+    symbols_into(&bytes[..4 * count], &mut frame[start..start + count]);
+    held.count = start + count;
 }
 
 /// What is met at the stream's end, where fewer symbols are held than a frame has.
 fn meet_last(search: &mut Search, lock: Lock, frame: &[Symbol], held: Held) -> Next
     requires few { held.count < length frame.now }
     requires size { length frame.now ≤ 2 ^ 32 }
-    requires place { place_with held ≤ most_symbols }
+    requires place { held.at + held.count ≤ most_symbols }
     requires over { held.over.symbols ≤ held.at }
-    ensures met { (bytes : Option (List ℕ)) → IsAtEnd bytes → Meets (met_with (found_as search.old.mode lock) held frame.now bytes) (met_after (found_as search.old.mode lock) (length frame.now) result bytes) (met_of result frame.now ∷ []) }
-    ensures place { place_after (length frame.now) result ≡ place_with held }
+    ensures met { met_within (found_as search.old.mode lock) (length frame.now) (window_of held frame.now) []
+        ≡ met_of result frame.now ∷ met_then (found_as search.old.mode lock) (length frame.now) result [] }
+    ensures place { place_after (length frame.now) result ≡ held.at + held.count }
     ensures behind { IsBehind held.at held.over result }
     ensures same { search.new.mode ≡ search.old.mode }
 {
@@ -106,14 +107,16 @@ fn meet_last(search: &mut Search, lock: Lock, frame: &[Symbol], held: Held) -> N
 fn pass_over(search: &mut Search, lock: Lock, frame: &mut [Symbol], held: &mut Held) -> bool
     requires size { (header_symbols ≤ length frame.old) × (length frame.old ≤ 2 ^ 32) }
     requires full { held.old.count ≡ length frame.old }
-    requires place { place_with held.old ≤ most_symbols }
+    requires place { held.old.at + held.old.count ≤ most_symbols }
     requires over { held.old.over.symbols ≤ held.old.at }
-    ensures stands { result ≡ false → (bytes : Option (List ℕ)) → Meets (met_with (found_as search.old.mode lock) held.old frame.old bytes)
-        (met_in (found_as search.old.mode lock) (length frame.old) (place_with held.old) 0 true nothing_over [] bytes) (met_frame held.new.at held.new.over frame.new ∷ []) }
+    ensures stands { result ≡ false → (coming : List SymbolValue) → met_within (found_as search.old.mode lock) (length frame.old) (window_of held.old frame.old) coming
+        ≡ met_frame held.new.at held.new.over frame.new ∷ met_within (found_as search.old.mode lock) (length frame.old) (window_at (held.old.at + held.old.count) true) coming }
     ensures held { result ≡ false → (held.new.at ≡ held.old.at) × (held.new.over.symbols ≤ held.old.over.symbols) }
-    ensures passed { result ≡ true → (bytes : Option (List ℕ)) → Meets (met_with (found_as search.old.mode lock) held.old frame.old bytes) (met_with (found_as search.old.mode lock) held.new frame.new bytes) [] }
-    ensures further { result ≡ true → (held.old.at < held.new.at) × (place_with held.new ≡ place_with held.old) }
+    ensures passed { result ≡ true → (coming : List SymbolValue) → met_within (found_as search.old.mode lock) (length frame.old) (window_of held.old frame.old) coming
+        ≡ met_within (found_as search.old.mode lock) (length frame.old) (window_of held.new frame.new) coming }
+    ensures further { result ≡ true → (held.old.at < held.new.at) × (held.new.at + held.new.count ≡ held.old.at + held.old.count) }
     ensures over { result ≡ true → held.old.at + held.new.over.symbols ≤ held.new.at + held.old.over.symbols }
+    ensures long { length frame.new ≡ length frame.old }
     ensures same { search.new.mode ≡ search.old.mode }
 {
     let size = frame.len();
@@ -142,87 +145,64 @@ fn pass_over(search: &mut Search, lock: Lock, frame: &mut [Symbol], held: &mut H
     true
 }
 
-/// Fills the buffer and looks for a frame in it: what is found, or nothing where symbols only left it. It
-/// fails where a read does, and where as many symbols were taken as may be.
-fn look<R: CountedRead>(
+/// Looks for a frame in the symbols that are held: all that were asked for came (`whole`), or the stream ended. What is
+/// met, or nothing where more symbols are needed.
+///
+/// No frame begins before the buffer's first symbol. A full buffer is searched. Then what begins at the header, or the last
+/// 89 symbols, moves to the front, and nothing where a dummy frame reaches past them.
+fn look(
     search: &mut Search,
     lock: Lock,
-    reader: &mut R,
-    bytes: &mut [u8],
     frame: &mut [Symbol],
     held: &mut Held,
-    limit: u64,
-) -> Result<Option<Next>, ReadFault>
-    requires count { CanCount (R.count reader.old) }
+    whole: bool,
+) -> Option<Next>
     requires size { (header_symbols ≤ length frame.old) × (length frame.old ≤ 2 ^ 32) }
-    requires bytes { length bytes.old ≡ 4 * length frame.old }
-    requires held { held.old.count < length frame.old }
-    requires place { place_with held.old ≤ limit }
+    requires count { held.old.count ≤ length frame.old }
+    requires last { whole ≡ false → held.old.count < length frame.old }
+    requires place { held.old.at + held.old.count ≤ most_symbols }
     requires over { held.old.over.symbols ≤ held.old.at }
-    requires limit { limit ≤ most_symbols }
-    ensures looks { IfOk result (Looks (found_as search.old.mode lock) limit held.old held.new frame.old frame.new (R.remaining reader.old) (R.remaining reader.new)) }
-    ensures count { IfOk result (λ _. R.count reader.new ≡ R.count reader.old) }
-    ensures short { OnErr result (StopsShort (length frame.old) (place_with held.old) limit (met_with (found_as search.old.mode lock) held.old frame.old (R.remaining reader.old))
-        (R.remaining reader.old) (R.remaining reader.new) (R.count reader.old) (R.count reader.new)) }
+    ensures takes { Takes (found_as search.old.mode lock) (length frame.old) (window_of held.old frame.old) (window_of held.new frame.new) [] whole frame.new result }
+    ensures count { held.new.count < length frame.old }
+    ensures long { length frame.new ≡ length frame.old }
     ensures same { search.new.mode ≡ search.old.mode }
 {
-    let size = frame.len();
-    let left = limit - held.at - held.count as u64;
-    let wanted = left.min((size - held.count) as u64) as usize;
-    let full = fill(reader, bytes, frame, held, wanted)?;
-    if !full {
-        return Ok(Some(meet_last(search, lock, frame, *held)));
+    if !whole {
+        let next = meet_last(search, lock, frame, *held);
+        *held = Held::nothing(held.at + held.count as u64, true);
+        return Some(next);
     }
-    if held.count < size {
-        return Err(ReadFault);
+    if held.count < frame.len() || pass_over(search, lock, frame, held) {
+        return None;
     }
-    if pass_over(search, lock, frame, held) {
-        return Ok(None);
-    }
-    Ok(Some(Next::Frame {
+    let next = Next::Frame {
         at: held.at,
         over: held.over,
-    }))
+    };
+    *held = Held::nothing(held.at + frame.len() as u64, true);
+    Some(next)
 }
 
-/// Takes the symbols up to the end of the next frame, and leaves the frame's in `frame`.
-///
-/// Right before the first symbol a frame ended, but at the start of the stream. No frame begins before the buffer's
-/// first symbol. A whole frame's room is read at once and searched there; then what begins at the header, or the last
-/// 89 symbols, moves to the front, and nothing where a dummy frame reaches past them. So nothing behind the frame is
-/// read, and no symbol is kept between two calls.
-pub(crate) fn find_frame<R: CountedRead>(
+/// Takes the symbols of these bytes: all that were asked for (`whole`), or the last ones of the stream. What is met, or nothing
+/// where more symbols are needed.
+pub(crate) fn take_symbols(
     search: &mut Search,
     lock: Lock,
-    reader: &mut R,
-    bytes: &mut [u8],
+    bytes: &[u8],
     frame: &mut [Symbol],
-    start: u64,
-    limit: u64,
-) -> Result<Next, ReadFault>
-    requires count { CanCount (R.count reader.old) }
+    held: &mut Held,
+    whole: bool,
+) -> Option<Next>
     requires size { (header_symbols ≤ length frame.old) × (length frame.old ≤ 2 ^ 32) }
-    requires bytes { length bytes.old ≡ 4 * length frame.old }
-    requires start { start ≤ limit }
-    requires limit { limit ≤ most_symbols }
-    ensures found { IfOk result (FindsNext (found_as search.old.mode lock) (length frame.old) start limit (R.remaining reader.old) (R.remaining reader.new) frame.new) }
-    ensures count { IfOk result (λ _. R.count reader.new ≡ R.count reader.old) }
-    ensures short { OnErr result (StopsShort (length frame.old) start limit
-        (met_in (found_as search.old.mode lock) (length frame.old) start 0 (nat_lt 0 start) nothing_over [] (R.remaining reader.old))
-        (R.remaining reader.old) (R.remaining reader.new) (R.count reader.old) (R.count reader.new)) }
+    requires room { held.old.count + length bytes.now / 4 ≤ length frame.old }
+    requires last { whole ≡ false → held.old.count + length bytes.now / 4 < length frame.old }
+    requires place { held.old.at + held.old.count + length bytes.now / 4 ≤ most_symbols }
+    requires over { held.old.over.symbols ≤ held.old.at }
+    ensures takes { Takes (found_as search.old.mode lock) (length frame.old) (window_of held.old frame.old) (window_of held.new frame.new) (symbols_of bytes.now) whole frame.new result }
+    ensures count { held.new.count < length frame.old }
+    ensures long { length frame.new ≡ length frame.old }
     ensures same { search.new.mode ≡ search.old.mode }
 {
-    let mut held = Held {
-        at: start,
-        over: Stretch::none(),
-        count: 0,
-        inside: 0,
-        behind: start > 0,
-    };
-    'looking: loop {
-        match look(search, lock, reader, bytes, frame, &mut held, limit)? {
-            Some(found) => return Ok(found),
-            None => {}
-        }
-    }
+    fill(bytes, frame, held);
+    look(search, lock, frame, held, whole)
 }

@@ -28,10 +28,10 @@ mod finding;
 pub mod laws;
 mod lines;
 mod parts;
-mod reading;
 mod receiver;
 mod report;
 mod scanning;
+mod stepper;
 mod stretch;
 mod telling;
 

@@ -5,7 +5,6 @@ ghost use Rattle.s2_receive.specs.Receiving.{at_start, passes, cut_totals, frame
 ghost use Rattle.s2_receive.specs.Telling.{IsFew};
 
 use crate::delivering::Given;
-use crate::finding::Next;
 use crate::stretch::Stretch;
 use s2_bbframe::HeaderFault;
 use s2_check::Verdict;
@@ -167,14 +166,12 @@ impl Fault {
     }
 }
 
-/// What a receiver will do next.
-#[derive(Clone, Copy)]
+/// What a receiver does next.
+#[derive(Clone, Copy, PartialEq, Eq)]
 pub enum Phase {
     Searching,
-    /// A cut frame came, and the last line is still to be written.
+    /// A cut frame came, and the end is still to be reported.
     Closing,
-    /// This was met, and is still to be told.
-    Met(Next),
     Ended,
     Failed,
 }

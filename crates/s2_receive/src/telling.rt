@@ -1,21 +1,20 @@
-//! What was met, told: its answer, where the receiver stands behind it, and what is written of it.
+//! What was met: it is decided and joined, its answer, where the receiver stands then, and what is written of it.
 ghost use Rattle.std.specs.Prelude.{◌≡◌, ◌+◌, ◌-◌, [], ◌*◌, ◌^◌, ◌<◌, ◌≤◌, OnOk, OnErr};
 ghost use Rattle.std.specs.Io.KnownBytes.{Appends};
 ghost use Rattle.s2_mode.specs.Counts.{CanCount};
-ghost use Rattle.s2_mode.specs.Limits.{header_symbols};
-ghost use Rattle.s2_mode.specs.Mode.{symbols_in};
 ghost use Rattle.s2_mode.specs.Streams.{NoneFailed, OneFailed};
-ghost use Rattle.s2_receive.specs.Finding.{LiesWithin, met_of, place_after};
-ghost use Rattle.s2_receive.specs.Receiving.{deciding, phase_after, report_for, rules_of, step_of};
+ghost use Rattle.s2_receive.specs.Finding.{met_of};
+ghost use Rattle.s2_receive.specs.Receiving.{phase_after, rules_of};
 ghost use Rattle.s2_receive.specs.ReportLines.{step_line};
-ghost use Rattle.s2_receive.specs.Stepping.{FailsIn, IsSound};
-ghost use Rattle.s2_receive.specs.Telling.{IsFew, counted};
+ghost use Rattle.s2_receive.specs.Stepping.{CanCountIn, FailsIn, IsSound};
+ghost use Rattle.s2_receive.specs.Answers.{IsSame};
+ghost use Rattle.s2_receive.specs.Telling.{IsFew, TellsNext, answer_for, counted};
 
 use crate::delivering::Given;
 use crate::finding::Next;
 use crate::lines::line_of;
 use crate::parts::Decide;
-use crate::receiver::{Place, Receiver};
+use crate::stepper::{Stepper, Place};
 use crate::report::{Phase, Report, Step, Totals};
 use s2_mode::{CountedWrite, WriteFault, write_full};
 
@@ -39,57 +38,63 @@ pub(crate) fn write_step<P: CountedWrite, W: CountedWrite>(
     write_full(report, line_of(step, totals).as_bytes())
 }
 
-impl<D: Decide> Receiver<D> {
-    /// The report of the frame at this symbol, which was decided last.
-    pub(crate) fn report_of(&self, at: u64) -> Report
-        ensures { result ≡ report_for (D.last self.now.decider) self.now.state.standing.totals at }
-    {
-        let decided = self.decider.decided();
-        Report {
-            number: self.place.totals.frames + 1,
-            at,
-            verdict: decided.verdict,
-            outcome: decided.outcome,
-        }
-    }
-
+impl<D: Decide> Stepper<D> {
     /// The answer where this was met, and a frame decided.
-    pub(crate) fn step_of(&self, next: Next) -> Step
-        ensures { result ≡ step_of (deciding (D.last self.now.decider) (rules_of D.decide self.now)) self.now.state.standing (met_of next []) }
+    fn step_of(&self, next: Next) -> Step
+        ensures { result ≡ answer_for (D.last self.now.decider) self.now.state.standing.totals next }
     {
         match next {
-            Next::Frame { at, over: _ } => Step::Frame(self.report_of(at)),
+            Next::Frame { at, over: _ } => {
+                let decided = self.decider.decided();
+                Step::Frame(Report {
+                    number: self.place.totals.frames + 1,
+                    at,
+                    verdict: decided.verdict,
+                    outcome: decided.outcome,
+                })
+            }
             Next::Cut { at, over: _, count } => Step::Cut { at, symbols: count },
             Next::End { at: _, over: _ } => Step::End,
         }
     }
 
-    /// Where the receiver stands behind what was met, which gave this.
-    pub(crate) fn place_behind(&self, next: Next, given: Given) -> Place
-        requires within { LiesWithin (symbols_in self.now.mode) self.now.state.at self.now.limit next }
+    /// What the receiver does after what was met, which gave this, and its totals then.
+    fn place_then(&self, next: Next, given: Given) -> Place
+        requires room { CanCountIn self.now.state.window self.now.state.standing.totals next }
         requires few { IsFew given }
         ensures phase { result.phase ≡ phase_after (met_of next []) }
-        ensures at { result.at ≡ place_after (symbols_in self.now.mode) next }
         ensures totals { result.totals ≡ counted self.now.state.standing.totals next given }
-        ensures sound { IsSound self.now.mode (D.size self.now.decider) self.now.limit result.phase result.at result.totals }
+        ensures sound { IsSound self.now.mode (D.size self.now.decider) self.now.limit self.now.state.window result.totals }
     {
         let totals = self.place.totals;
         match next {
-            Next::Frame { at, over } => Place {
+            Next::Frame { at: _, over } => Place {
                 phase: Phase::Searching,
-                at: at + self.finder.frame().len() as u64,
                 totals: totals.passes(over).with_frame(given),
             },
-            Next::Cut { at, over, count } => Place {
+            Next::Cut { at: _, over, count: _ } => Place {
                 phase: Phase::Closing,
-                at: at + count,
                 totals: totals.passes(over).with_cut(given.torn),
             },
-            Next::End { at, over } => Place {
+            Next::End { at: _, over } => Place {
                 phase: Phase::Ended,
-                at,
                 totals: totals.passes(over.at_end()),
             },
         }
+    }
+
+    /// Gives what was met, of which a frame was decided last, to the joiner, and counts it. The answer.
+    pub(crate) fn step_to(&mut self, next: Next) -> Step
+        requires room { CanCountIn self.old.state.window self.old.state.standing.totals next }
+        ensures same { IsSame D.decide self.old self.new }
+        ensures decider { self.new.decider ≡ self.old.decider }
+        ensures window { self.new.state.window ≡ self.old.state.window }
+        ensures tells { TellsNext (rules_of D.decide self.old) self.old.state self.new.state (D.last self.old.decider) next self.new.packets result }
+    {
+        let header = self.decider.decided().header;
+        let given = self.joiner.give(next, header, self.decider.field());
+        let step = self.step_of(next);
+        self.place = self.place_then(next, given);
+        step
     }
 }

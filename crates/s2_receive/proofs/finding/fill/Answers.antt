@@ -1,8 +1,8 @@
-use Rattle.s2_receive.proofs.Names.{rules, ◌+◌, ◌-◌, arith}
+use Rattle.s2_receive.proofs.Names.{◌-◌, ◌+◌, ◌/◌, length, arith}
 use Rattle.s2_receive.proofs.FindSteps.{filled}
 use Rattle.s2_receive.proofs.finding.fill.Goals as goal
 
-pub returns-clause-met : goal.returns-clause-met
-returns-clause-met g c = λ finds.
-    filled finds c.args.held.now (g.R.CountedRead.remaining c.args.reader.now) (g.R.CountedRead.remaining c.read_symbols.new.reader) c.in_ok-count.count (c.args.held.now.count + c.args.wanted - c.args.held.now.count)
-    c.args.frame.now c.read_symbols.new.symbols (omega arith) c.in_ok-count.ensures.bound (search rules) c.in_ok-count.ensures.symbols
+pub returns-clause-window : goal.returns-clause-window
+returns-clause-window c =
+    filled c.args.held.now (c.args.held.now.count + length c.args.bytes.now / 4 - c.args.held.now.count) c.args.frame.now c.symbols_into.new.symbols c.args.bytes.now
+    (omega (arith, c.requires.room)) c.symbols_into.ensures

@@ -7,15 +7,15 @@ pub returns-then-scan-clause-met : goal.returns-then-scan-clause-met
 returns-then-scan-clause-met c = last_cut (found_as c.args.search.now.mode c.args.lock) c.args.held c.args.frame.now c.look_through-scan.result c.requires.few c.look_through-scan.ensures.scans c.if-scan.true
 
 pub returns-else-scan-clause-met : goal.returns-else-scan-clause-met
-returns-else-scan-clause-met c = λ bytes end.
-    rw c.passed.ensures (last_end (found_as c.args.search.now.mode c.args.lock) c.args.held c.args.frame.now c.look_through-scan.result c.requires.few c.look_through-scan.ensures.scans c.if-scan.false bytes end)
+returns-else-scan-clause-met c =
+    rw c.passed.ensures (last_end (found_as c.args.search.now.mode c.args.lock) c.args.held c.args.frame.now c.look_through-scan.result c.requires.few c.look_through-scan.ensures.scans c.if-scan.false)
 
 pub returns-then-scan-clause-behind : goal.returns-then-scan-clause-behind
 returns-then-scan-clause-behind c =
     let scans = c.look_through-scan.ensures.scans in
     let header = scans.header c.if-scan.true in
     let long = length-take-le c.args.held.count c.args.frame.now (omega (arith, c.requires.few)) in
-    (omega (arith, scans.within.0), omega (arith, header.0, long))
+    (omega arith, omega (arith, scans.within.0), omega (arith, header.0, long))
 
 pub returns-else-scan-clause-behind : goal.returns-else-scan-clause-behind
 returns-else-scan-clause-behind c =
@@ -23,4 +23,4 @@ returns-else-scan-clause-behind c =
     let scans = c.look_through-scan.ensures.scans in
     let long = length-take-le c.args.held.count c.args.frame.now (omega (arith, c.requires.few)) in
     let all = ap (λ over. over.symbols) c.passed.ensures ∙ passed-symbols scan.over (c.args.held.at + scan.place) (c.args.held.count - scan.place) in
-    omega (arith, all, scans.within.0, scans.within.1, long)
+    (omega arith, omega (arith, all, scans.within.0, scans.within.1, long))

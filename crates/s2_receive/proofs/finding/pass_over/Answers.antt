@@ -10,7 +10,7 @@ pub returns-clause-passed : goal.returns-clause-passed
 returns-clause-passed c = λ is.
     let least = c.min-gone.ensures in
     moved (found_as c.args.search.now.mode c.args.lock) c.args.held.now c.args.frame.now c.look_through-scan.result c.requires.full c.requires.size.0 c.look_through-scan.ensures.scans c.min-gone.result c.copy_within.new.self
-    (omega (arith, least)) (omega (arith, least)) (λ far. omega (arith, least, far)) c.copy_within.ensures.after c.copy_within.ensures.len
+    (omega (arith, least)) (omega (arith, least)) (λ far. omega (arith, least, far)) c.copy_within.ensures.after
 
 pub returns-then-scan-eq0-clause-held : goal.returns-then-scan-eq0-clause-held
 returns-then-scan-eq0-clause-held c = λ is. (refl, omega (arith, c.look_through-scan.ensures.scans.within.0, c.if-scan-eq0.true))

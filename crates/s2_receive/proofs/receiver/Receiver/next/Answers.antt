@@ -1,47 +1,46 @@
-use Rattle.s2_receive.proofs.Names.{◌≡◌, ◌≢◌, Ok, Err, ap, subst, rules as common, IsLive, ◌∙◌}
+use Rattle.s2_receive.proofs.Names.{◌≤◌, refl, ap, subst, inl, inr, Ok, Err, Receiver, streams_by, IsLive, seen_by, taken, rules as common}
 use Rattle.s2_receive.proofs.Names.faults
-use Rattle.s2_receive.proofs.StepLemmas.{fails, steps_on, frame_met, live_at, no_fault, on_frame}
+use Rattle.s2_receive.proofs.Names.steps
+use Rattle.s2_receive.proofs.NextLemmas.{broke, rested, stuck, wrote}
 use Rattle.s2_receive.proofs.receiver.Receiver.next.Goals as goal
 
-pub returns-in_err-deliver-clause-steps : goal.returns-in_err-deliver-clause-steps
-returns-in_err-deliver-clause-steps g c =
-    let fault = c.in_err-deliver.field-0.0 in
-    let is : c.from_residual-in_err-deliver.result ≡ Err fault = search common in
-    let meets = c.in_ok-step.ensures.meets in
-    let delivers = c.in_err-deliver.ensures.delivers in
-    let read : fault ≢ faults.Read = λ e. delivers.no_read (ap (λ f. Err f) e) in
-    let failed : fault ≢ faults.Failed = λ e.
-    (let none = delivers.failed.0 (ap (λ f. Err f) e) in
-    let dead = meets.failed.1 (
-      λ live. (let found = meets.finds live in none.0 found.next (ap (λ s. s.phase) found.state)),
-      λ ended. none.1 (ap (λ r. r.state.phase) (c.meet.ensures.nothing (λ live. subst IsLive ended live)).0 ∙ ended),
-    ) in
-    cc) in
-    record {
-      live = λ live.
-          rw is (fails g.D.Decide.decide g.D.Decide.last c.args.self.now c.meet.new.self _ _ _ _ c.meet.ensures.same.rules (meets.finds live) fault delivers.tells read failed);
-      frame = search common;
-      kept = λ unbroken. absurd (no_fault fault read (λ e. unbroken (is ∙ ap (λ f. Err f) e)) failed);
-      taken = search common;
-      bounded = search common;
-      ended = search common;
-      failed = (λ told. absurd (failed (cc)), λ dead. (let e = meets.failed.1 dead in cc));
-      counts = search common;
-    }
+pub returns-in-Ok-write_step-clause-steps : goal.returns-in-Ok-write_step-clause-steps
+returns-in-Ok-write_step-clause-steps g c =
+    let see = seen_by g.D.Decide.decide g.D.Decide.last in
+    let ends = streams_by g.R.CountedRead.remaining g.R.Counted.count g.P.CountedWrite.contents g.P.Counted.count g.W.CountedWrite.contents g.W.Counted.count in
+    let live : IsLive c.args.self.now.state.phase = search common in
+    let told = c.in-Ok-write_step.ensures in
+    wrote (see c.args.self.now) (see c.find.new.self) (ends c.args.reader.now c.args.packets.now c.args.report.now) (ends c.find.new.reader c.write_step.new.packets c.write_step.new.report) live
+    c.in-Ok.step c.in-Ok.ensures.finds (rw c.packets.ensures at told.packets) (rw c.totals.ensures.is at told.line) told.no_write
 
-pub returns-clause-steps : goal.returns-clause-steps
-returns-clause-steps g c =
-    let meets = c.in_ok-step.ensures.meets in
-    let delivers = c.in_ok-deliver.ensures.delivers in
-    record {
-      live = λ live. steps_on g.D.Decide.decide g.D.Decide.last c.args.self.now c.meet.new.self _ _ _ _ c.meet.ensures.same.rules (meets.finds live) delivers.tells;
-      frame = on_frame _ _ (λ report is.
-          (let live = live_at c.args.self.now.state.phase (Ok c.in_ok-step.step) report meets.ended meets.failed.1 is in
-          rw delivers.last (frame_met g.D.Decide.decide g.D.Decide.last c.args.self.now c.meet.new.self _ _ _ _ c.meet.ensures.same.rules (meets.finds live) delivers.tells report (search common))));
-      kept = λ unbroken. rw delivers.last meets.kept;
-      taken = search common;
-      bounded = search common;
-      ended = search common;
-      failed = search common;
-      counts = search common;
-    }
+pub returns-in-Err-clause-steps : goal.returns-in-Err-clause-steps
+returns-in-Err-clause-steps g c =
+    let see = seen_by g.D.Decide.decide g.D.Decide.last in
+    let ends = streams_by g.R.CountedRead.remaining g.R.Counted.count g.P.CountedWrite.contents g.P.Counted.count g.W.CountedWrite.contents g.W.Counted.count in
+    let live : IsLive c.args.self.now.state.phase = search common in
+    let told = c.in-Err.ensures in
+    rw c.fail-in-Err.ensures.fault
+    (broke (see c.args.self.now) (see c.find.new.self) (ends c.args.reader.now c.args.packets.now c.args.report.now) (ends c.find.new.reader c.write_step.new.packets c.write_step.new.report) live
+    c.in-Ok.step (see c.fail-in-Err.new.self) c.in-Ok.ensures.finds (ap (λ (r : Receiver g.row.D.Denot). r.state) c.fail-in-Err.ensures.state)
+    (rw (c.packets.ensures, c.totals.ensures.is) at told.part) told.write)
+
+pub returns-in-Ended-clause-steps : goal.returns-in-Ended-clause-steps
+returns-in-Ended-clause-steps g c =
+    let ends = streams_by g.R.CountedRead.remaining g.R.Counted.count g.P.CountedWrite.contents g.P.Counted.count g.W.CountedWrite.contents g.W.Counted.count in
+    rested (seen_by g.D.Decide.decide g.D.Decide.last c.args.self.now) (ends c.args.reader.now c.args.packets.now c.args.report.now) (Ok steps.End)
+    (subst (λ (r : Receiver g.row.D.Denot). taken r.state ≤ r.limit) c.self.view_is c.phase.ensures.within) (inl (search common, refl))
+
+pub returns-in-Failed-clause-steps : goal.returns-in-Failed-clause-steps
+returns-in-Failed-clause-steps g c =
+    let ends = streams_by g.R.CountedRead.remaining g.R.Counted.count g.P.CountedWrite.contents g.P.Counted.count g.W.CountedWrite.contents g.W.Counted.count in
+    rested (seen_by g.D.Decide.decide g.D.Decide.last c.args.self.now) (ends c.args.reader.now c.args.packets.now c.args.report.now) (Err faults.Failed)
+    (subst (λ (r : Receiver g.row.D.Denot). taken r.state ≤ r.limit) c.self.view_is c.phase.ensures.within) (inr (search common, refl))
+
+pub returns-in_default-clause-steps : goal.returns-in_default-clause-steps
+returns-in_default-clause-steps g c =
+    let see = seen_by g.D.Decide.decide g.D.Decide.last in
+    let ends = streams_by g.R.CountedRead.remaining g.R.Counted.count g.P.CountedWrite.contents g.P.Counted.count g.W.CountedWrite.contents g.W.Counted.count in
+    let live : IsLive c.args.self.now.state.phase = search common in
+    rw c.fail.ensures.fault
+    (stuck (see c.args.self.now) (see c.find.new.self) (ends c.args.reader.now c.args.packets.now c.args.report.now) (ends c.find.new.reader c.args.packets.now c.args.report.now) live
+    (see c.fail.new.self) c.in_default.ensures.finds (ap (λ (r : Receiver g.row.D.Denot). r.state) c.fail.ensures.state) (ap (λ (r : Receiver g.row.D.Denot). g.D.Decide.last r.decider) c.fail.ensures.state) (refl, refl))
