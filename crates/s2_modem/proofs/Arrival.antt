@@ -1,5 +1,5 @@
 -- What is sent arrives.
-use Rattle.s2_modem.proofs.Names.{⊤, nat_eq, if◌then◌else◌, ◌≡◌, ℕ, ◌+◌, ◌*◌, IsTrue, Bool, true, false, List, [], ◌∷◌, ◌++◌, All, Option, Some, None, length, refl, sym, ap, ap₂, ◌∙◌, subst, append_assoc, append-nil, length-append, arith, All-nil, All-cons, Appends, Consumes, IsAtEnd, Mode, IsMode, HasCodeSizes, symbols_of, symbol_bytes, bytes_of_symbols, Symbol, field_bytes, stream_of, fields_of, dummy_frame, Link, sent_behind, Transmitter, is_due, AreUnits, Met, frame, ended, nothing_over, met_from, Meets, Rules, State, Standing, at_start, passes, met_left, after, after_all, all_packets, all_lines, frame_line, end_line, Piece, coded, dummy, joined, stream_symbols, Spells, AreReceived, frames_at, PassedNone, Report, Totals, Verdict, is_certified, Delivered, Outcome, gives, after-append, packets-append, lines-append, symbols-append, AreBytes, Hears, certified_lines, run_places, totals_of, sent_symbols, places_in, most_symbols, ArrivalLaw, link_rules}
+use Rattle.s2_modem.proofs.Names.{⊤, nat_eq, if◌then◌else◌, ◌≡◌, ℕ, ◌+◌, ◌*◌, IsTrue, Bool, true, false, List, [], ◌∷◌, ◌++◌, All, Option, Some, None, length, refl, sym, ap, ap₂, ◌∙◌, subst, append_assoc, append-nil, length-append, arith, All-nil, All-cons, Appends, Consumes, IsAtEnd, Mode, IsMode, HasCodeSizes, symbols_of, symbol_bytes, bytes_of_symbols, Symbol, field_bytes, stream_of, fields_of, dummy_frame, Link, sent_behind, Transmitter, is_due, AreUnits, Met, frame, ended, nothing_over, met_from, Meets, Rules, State, Standing, at_start, passes, begun, left_in, left_known, after, after_all, all_packets, all_lines, frame_line, end_line, Piece, coded, dummy, joined, stream_symbols, Spells, AreReceived, frames_at, PassedNone, Report, Totals, Verdict, is_certified, Delivered, Outcome, gives, after-append, packets-append, lines-append, symbols-append, AreBytes, Hears, certified_lines, run_places, totals_of, sent_symbols, places_in, most_symbols, ArrivalLaw, link_rules}
 use Rattle.s2_modem.proofs.Names.phases
 use Rattle.s2_modem.proofs.SymbolsBack.{frame_read, dummy_read}
 use Rattle.s2_modem.proofs.ByteStreams.{AreFields, front_fields}
@@ -97,10 +97,10 @@ all_read source bytes (Some left) consumes end = consumes ∙ ap (λ l. bytes ++
 
 -- all that was met
 pub all_met : (rules : Rules) (symbols : List Symbol) (new : State) (taken left : Option (List ℕ)) (met : List Met) → Spells taken symbols → new.phase ≡ phases.Ended
-    → Meets (met_left rules phases.Searching 0 taken) (met_left rules new.phase new.at left) met → met_from rules.finds rules.size 0 0 false nothing_over symbols ≡ met
+    → Meets (left_in rules begun taken) (left_in rules new left) met → met_from rules.finds rules.size 0 0 false nothing_over symbols ≡ met
 all_met rules symbols new None left met spelt phase h = absurd spelt
 all_met rules symbols new (Some bytes) left met spelt phase h =
-    let whole = subst (λ x. Meets (met_left rules phases.Searching 0 (Some bytes)) (met_left rules x new.at left) met) phase h in
+    let whole = subst (λ x. Meets (left_in rules begun (Some bytes)) (left_known rules x new.window left) met) phase h in
     ap (met_from rules.finds rules.size 0 0 false nothing_over) (sym spelt) ∙ whole ∙ append-nil met
 
 -- the end adds nothing where nothing was passed over before it

@@ -1,5 +1,5 @@
 -- The headline holds.
-use Rattle.s2_modem.proofs.Names.{◌≡◌, ℕ, zero, suc, ◌+◌, ◌<◌, ◌≤◌, ◌⊎◌, IsTrue, Bool, true, false, cond, List, [], ◌∷◌, ◌++◌, All, Option, Some, None, length, map, range_with_len, count_by, sum_by-cons, inl, inr, refl, sym, ap, ◌∙◌, subst, append_assoc, append-nil, Result, Ok, Err, ⊤, nat_lt, lt-leb, flat_map, All-nil, All-cons, arith, Mode, IsMode, HasCodeSizes, symbols_of, Streams, Symbol, code_of, header_at, field_bytes, IsDivisor, Found, Tuning, Link, IsLinkOf, Stretch, Report, frame_line, cut_line, end_line, Met, frame, cut, ended, nothing_over, passed, begins, by_found, met_from, Rules, State, Standing, at_start, at_end, passes, report_of, after, after_all, all_packets, all_lines, begun, RunsOut, Piece, joined, stream_symbols, Spells, IsReceived, frames_at, gives, all_joined, packets-append, frame_soft, IsAsLikely, IsCorrected, link_rules, AllAsLikely, AllTold, Receiver, rules_for, IsSent, is_certified, Delivered, frame_from, decision_from, is_delivered, stands, IsCutAt, IsReadable, Arriving, closed_packets, wrong_bits, Headline, KeepsHeadline, Promises, IsHeadline, RunsHeadline, RunAnswers, ReceivesTo, Received, Totals, StreamFault, most_symbols}
+use Rattle.s2_modem.proofs.Names.{◌≡◌, ℕ, zero, suc, ◌+◌, ◌<◌, ◌≤◌, ◌⊎◌, IsTrue, Bool, true, false, cond, List, [], ◌∷◌, ◌++◌, All, Option, Some, None, length, map, range_with_len, count_by, sum_by-cons, inl, inr, refl, sym, ap, ◌∙◌, subst, append_assoc, append-nil, Result, Ok, Err, ⊤, nat_lt, lt-leb, flat_map, All-nil, All-cons, arith, Mode, IsMode, HasCodeSizes, symbols_of, Streams, Symbol, code_of, header_at, field_bytes, IsDivisor, Found, Tuning, Link, IsLinkOf, Stretch, Report, frame_line, cut_line, end_line, Met, frame, cut, ended, nothing_over, passed, begins, by_found, met_from, Rules, State, Standing, at_start, at_end, passes, report_of, after, after_all, all_packets, all_lines, begun, RunsOut, Piece, joined, stream_symbols, Spells, IsReceived, frames_at, gives, all_joined, packets-append, frame_soft, IsAsLikely, IsCorrected, link_rules, AllAsLikely, AllTold, Receiver, rules_for, IsSent, is_certified, Delivered, frame_from, decision_from, is_delivered, stands, IsCutAt, IsReadable, Arriving, closed_packets, wrong_bits, Headline, KeepsHeadline, FramePromises, IsHeadline, RunsHeadline, RunAnswers, ReceivesTo, Received, Totals, StreamFault, most_symbols}
 use Rattle.s2_modem.proofs.Names.founds
 use Rattle.s2_modem.proofs.Arrival.{all_met}
 use Rattle.s2_modem.proofs.CleanFrames.{all_as_likely, all_told, counts, hears_law, both_codes_law}
@@ -164,23 +164,22 @@ module _ (m : Mode) (valid : IsMode m) (sizes : HasCodeSizes m) (link : Link) (t
   pub keeps_headline : link.setup.roll_off ≤ 2 → IsDivisor tuning.divisor → KeepsHeadline link tuning
   keeps_headline ro known limit state before behind out = known_bytes ro known limit state before behind before.taken refl out
 
-  pub promises : link.setup.roll_off ≤ 2 → IsDivisor tuning.divisor → Promises link tuning
-  promises ro known = record {
+  pub frame_promises : link.setup.roll_off ≤ 2 → IsDivisor tuning.divisor → FramePromises link tuning
+  frame_promises ro known = record {
     as_likely = all_as_likely m valid sizes link linked tuning;
     told = all_told m valid sizes link linked tuning;
     heard = all_heard m valid sizes link tuning linked ro known;
-    headline = keeps_headline ro known;
   }
 
 -- ---- runs of a receiver
 
 -- a run to the end, from a new receiver
-pub run_headline : (v w : Receiver) (followed : Rules) (new : State) (before behind : Streams) (result : Result Received StreamFault) → v ≡ w → followed ≡ rules_for v → Promises v.link v.tuning
+pub run_headline : (v w : Receiver) (followed : Rules) (new : State) (before behind : Streams) (result : Result Received StreamFault) → v ≡ w → followed ≡ rules_for v → KeepsHeadline v.link v.tuning
     → RunAnswers followed v.state new before behind result → RunsHeadline w before behind result
 run_headline v w followed new before behind (Err fault) is same all run = tt
 run_headline v w followed new before behind (Ok received) is same all run =
     subst (λ (x : Receiver). x.state ≡ begun → IsHeadline x.link x.tuning before behind) is
-    (λ fresh. all.headline v.limit new before behind (subst (λ (x : Rules). RunsOut x begun new before behind) same (subst (λ (s : State). RunsOut followed s new before behind) fresh run.0.runs_out)))
+    (λ fresh. all v.limit new before behind (subst (λ (x : Rules). RunsOut x begun new before behind) same (subst (λ (s : State). RunsOut followed s new before behind) fresh run.0.runs_out)))
 
 -- a whole stream in memory
 pub bytes_headline : (link : Link) (tuning : Tuning) (followed : Rules) (new : State) (before behind : Streams) (totals : Totals) → followed ≡ link_rules link tuning most_symbols → KeepsHeadline link tuning

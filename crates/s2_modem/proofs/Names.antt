@@ -75,24 +75,18 @@ pub use Rattle.s2_send.specs.Laws.{IsLinkOf}
 pub use Rattle.s2_send.specs.Sending.{AreUnits, is_due}
 pub use Rattle.s2_send.specs.Transmitter.{Transmitter}
 pub use Rattle.s2_send.proofs.OnlyFrames.{length-baseband_frame, length-bch_word}
-pub use Rattle.s2_receive.specs.Answers.{MeetAnswers, NextAnswers, OnFrame, ReceivesTo, RunAnswers, Seen}
-pub use Rattle.s2_receive.specs.Finding.{Meets, met_after, met_of}
+pub use Rattle.s2_receive.specs.Answers.{ReceivesTo, RunAnswers}
 pub use Rattle.s2_receive.specs.Laws.{AreReceived, IsDummy, IsReceived, PassedNone, Piece, Spells, coded, dummy, frames_at, joined, stream_symbols}
 pub use Rattle.s2_receive.specs.Meeting.{Met, begins, by_found, cut, ended, frame, met_from, nothing_over, passed}
 pub use Rattle.s2_receive.specs.Parts.{delivered_of}
-pub use Rattle.s2_receive.specs.Receiving.{Decision, Finds, IsDecided, IsLive, MetFrame, Rules, RunsOut, Standing, State, StepAnswers, Stops, after, after_all, all_lines, all_packets, all_well, at_end, at_start, begun, count_of, is_at_frame, met_left, passes, phase_after, report_for, report_of, step_of}
+pub use Rattle.s2_receive.specs.Receiving.{Decision, Meets, Rules, RunsOut, Standing, State, after, after_all, all_lines, all_packets, all_well, at_end, at_start, begun, count_of, left_in, left_known, passes, report_of, step_of}
 pub use Rattle.s2_receive.specs.ReportLines.{cut_line, end_line, frame_line}
 unfoldable pub use Rattle.s2_receive.specs.Windows.{found_as}
 pub use Rattle.s2_receive.specs.declared.parts.Decided.{Decided as Answer}
-pub use Rattle.s2_receive.specs.declared.report.Fault.{Fault}
-pub use Rattle.s2_receive.specs.declared.finding.Next.{Next}
-pub use Rattle.s2_receive.specs.declared.finding.Next.TheVariants as nexts
 pub use Rattle.s2_receive.specs.declared.report.Outcome.{Outcome}
-pub use Rattle.s2_receive.specs.declared.report.Phase.{Phase}
 pub use Rattle.s2_receive.specs.declared.report.Outcome.TheVariants.{Delivered, NoWord}
 pub use Rattle.s2_receive.specs.declared.report.Received.{Received}
 pub use Rattle.s2_receive.specs.declared.report.Report.{Report}
-pub use Rattle.s2_receive.specs.declared.report.Step.{Step}
 pub use Rattle.s2_receive.specs.declared.report.Totals.{Totals}
 pub use Rattle.s2_receive.specs.declared.stretch.Stretch.{Stretch}
 pub use Rattle.s2_receive.proofs.FieldPlaces.{placed_fields, placed_front}
@@ -101,18 +95,16 @@ pub use Rattle.s2_receive.proofs.MetLemmas.{cut_frame, met-dummy, met-passed, wh
 pub use Rattle.s2_receive.proofs.Reception.{front, gives}
 pub use Rattle.s2_receive.proofs.RunLemmas.{after-append, lines-append, packets-append}
 pub use Rattle.s2_receive.proofs.SameSymbols.{same_met}
-pub use Rattle.s2_receive.proofs.StepLemmas.{live_at, on_frame, symbols_least}
+pub use Rattle.s2_receive.proofs.StepLemmas.{symbols_least}
 pub use Rattle.s2_modem.specs.Both.{AreBytes, Hears, IsByte, IsDelivered, IsDeliveredCertified, certified_lines, run_places, sent_symbols, totals_of}
 pub use Rattle.s2_modem.specs.Front.{IsCleanFrame}
 pub use Rattle.s2_modem.specs.Headline.{ArrivalLaw, BothCodesLaw, CorrectsWithin, HearsLaw, HearsScattered, IsSent, ScatteredFrameLaw}
 pub use Rattle.s2_modem.specs.Listening.{FindsWord, Listening, Reads, decides, decision_held}
-pub use Rattle.s2_modem.specs.Promise.{Arriving, Headline, IsCutAt, IsHeadline, IsNext, IsReadable, KeepsHeadline, Place, Promises, RunsHeadline, closed_packets, decision_from, found_at, frame_from, is_delivered, past, stands, wrong_bits}
-pub use Rattle.s2_modem.specs.Reception.{AllAsLikely, AllTold, Certifies, IsAsLikely, IsCertifiedBy, IsCorrected, IsLikelyBy, Receiver, link_rules, rules_for}
+pub use Rattle.s2_modem.specs.Promise.{Arriving, Headline, IsCutAt, IsHeadline, IsNext, IsReadable, FramePromises, KeepsHeadline, Place, RunsHeadline, closed_packets, decision_from, found_at, frame_from, is_delivered, past, stands, wrong_bits}
+pub use Rattle.s2_modem.specs.Reception.{AllAsLikely, AllTold, IsAsLikely, IsCertifiedBy, IsCorrected, Receiver, link_rules, rules_for}
 pub use Rattle.s2_modem.specs.Reports.{IsUndecided, decision_by, decision_on, delivered_by, field_in, frame_soft, header_in, message_of, outcome_by, received_word}
 unfoldable pub use Rattle.s2_modem.specs.Reports.{frame_decision}
-pub use Rattle.s2_modem.specs.Steps.{AllHeard, Corrects, Heard, IsFrameAt, StandsAt}
+pub use Rattle.s2_modem.specs.Steps.{AllHeard}
 pub use Rattle.s2_modem.specs.Streams.{AreEach, FirstFramesLaw, IsClear, IsHeard, IsWholeFrame, OneStreamLaw, places_in}
-pub use Rattle.s2_receive.specs.declared.report.Fault.TheVariants as faults
 pub use Rattle.s2_plframe.specs.declared.receive.found.Found.TheVariants as founds
 pub use Rattle.s2_receive.specs.declared.report.Phase.TheVariants as phases
-pub use Rattle.s2_receive.specs.declared.report.Step.TheVariants as steps

@@ -179,9 +179,12 @@ KeepsHeadline link tuning =
 abbrev pub HeadlineLaw : Mode → Type 0
 HeadlineLaw m = (link : Link) (tuning : Tuning) → IsLinkOf m link → link.setup.roll_off ≤ most_roll_off → IsDivisor tuning.divisor → KeepsHeadline link tuning
 
--- what a receiver promises of all frames and all streams of its link
-pub record Promises (link : Link) (tuning : Tuning) : Type 0 where
+-- what holds of each frame of a link, whatever its symbols: its bits are as likely as its verdict says, and certified so; what BCH decoding leaves is
+-- within t places; and a frame that was sent is heard
+pub record FramePromises (link : Link) (tuning : Tuning) : Type 0 where
   pub as_likely : AllAsLikely link tuning
   pub told : AllTold link tuning
   pub heard : AllHeard link tuning
-  pub headline : KeepsHeadline link tuning
+
+abbrev pub FramesLaw : Mode → Type 0
+FramesLaw m = (link : Link) (tuning : Tuning) → IsLinkOf m link → link.setup.roll_off ≤ most_roll_off → IsDivisor tuning.divisor → FramePromises link tuning

@@ -12,11 +12,9 @@ use Rattle.s2_check.specs.Views.{View}
 use Rattle.s2_check.specs.declared.verdict.Verdict.{Verdict}
 use Rattle.s2_check.specs.declared.verdict.Verdict.TheVariants.{Sole}
 use Rattle.s2_receive.specs.Receiving.{Rules, State, Decision, begun, is_at_frame}
-use Rattle.s2_receive.specs.Answers.{Seen, ReceivesTo, BreaksIn}
-use Rattle.s2_receive.specs.declared.report.Fault.{Fault}
-use Rattle.s2_receive.specs.declared.report.Fault.TheVariants as step_faults
-use Rattle.s2_receive.specs.declared.report.Step.{Step}
-use Rattle.s2_receive.specs.declared.report.Step.TheVariants as steps
+use Rattle.s2_receive.specs.Answers.{Seen, RunAnswers, ReceivesTo, BreaksIn}
+use Rattle.s2_mode.specs.declared.stream_fault.StreamFault.{StreamFault}
+use Rattle.s2_receive.specs.declared.report.Received.{Received}
 use Rattle.s2_receive.specs.declared.report.Totals.{Totals}
 use Rattle.s2_mode.specs.Limits.{most_symbols}
 use Rattle.s2_link.specs.declared.setup.Setup.{Setup}
@@ -38,19 +36,25 @@ use Rattle.s2_modem.specs.Reports.{frame_soft, frame_decision, received_word, me
 abbrev pub link_rules : Link → Tuning → ℕ → Rules
 link_rules link tuning limit = record { finds = found_as link.setup.mode tuning.lock; size = symbols_in link.setup.mode; decide = frame_decision link tuning; limit = limit }
 
--- a receiver: its link, how it is tuned, how many symbols it takes at most, where it stands, and what it decided last
+-- a receiver: its link, how it is tuned, how many symbols it takes at most, where it stands, what it decided last, and the packets of its last
+-- step
 pub record Receiver : Type 0 where
   pub link : Link
   pub tuning : Tuning
   pub limit : ℕ
   pub state : State
   pub last : Decision
+  pub packets : List ℕ
 
 abbrev pub rules_for : Receiver → Rules
 rules_for r = link_rules r.link r.tuning r.limit
 
 abbrev pub seen : Receiver → Seen
-seen r = record { rules = rules_for r; state = r.state; last = r.last }
+seen r = record { rules = rules_for r; state = r.state; last = r.last; packets = r.packets }
+
+-- a run of all that is left
+abbrev pub Runs : (old new : Receiver) → (before behind : Streams) → Result Received StreamFault → Type 0
+Runs old new before behind result = RunAnswers (rules_for old) old.state new.state before behind result
 
 -- the certificate that it shows: that of what was decided last, where the last step came to that frame; else none
 abbrev pub certificate_of : Receiver → Option View
@@ -61,11 +65,7 @@ pub record IsAsLikely (code : Code) (soft : List ℤ) (verdict : Verdict) (bits 
   pub likely : IsTrue (is_certified verdict) → IsMostLikely code soft bits
   pub sole : verdict ≡ Sole → IsSole code soft bits
 
--- those that were decided are as likely as this verdict says
-abbrev pub IsLikelyBy : Rows → Verdict → Decision → Type 0
-IsLikelyBy rows verdict d = IsAsLikely (code_of rows) d.soft verdict d.bits
-
--- and so are those of any frame's symbols
+-- so are those of any frame's symbols
 abbrev pub AllAsLikely : Link → Tuning → Type 0
 AllAsLikely link tuning =
     (symbols : List Symbol) → IsAsLikely (code_of link.rows) (frame_soft link tuning symbols) (frame_decision link tuning symbols).verdict (frame_decision link tuning symbols).bits
@@ -74,13 +74,6 @@ AllAsLikely link tuning =
 -- strict exactly where they are called sole
 abbrev pub IsCertifiedBy : Rows → Verdict → Decision → Type 0
 IsCertifiedBy rows verdict d = IsShown rows d.soft (record { verdict = verdict; bits = d.bits; certificate = d.certificate })
-
--- and what a receiver shows behind a step: that of a frame; none where the step came to no frame. What it shows where there was no step,
--- since an earlier one had a fault or is not delivered, is as before.
-abbrev pub Certifies : Rows → (last : Decision) → (shown : Option View) → Result Step Fault → Type 0
-Certifies rows last shown (Ok (steps.Frame r)) = IsShown rows last.soft (record { verdict = r.verdict; bits = last.bits; certificate = shown })
-Certifies rows last shown (Err step_faults.Failed) = ⊤
-Certifies rows last shown result = shown ≡ None
 
 -- What comes of a frame is what BCH decoding finds of its first Nbch decided bits: a word of the code that differs from them in at most
 -- t places, in just as many as are reported, and begins with the message; or there is none so near.

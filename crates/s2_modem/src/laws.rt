@@ -2,7 +2,7 @@
 ghost use Rattle.s2_modem.specs.Front.{CleanFrameLaw};
 ghost use Rattle.s2_modem.specs.Headline.{LikelyFrameLaw, SoleFrameLaw, BothCodesLaw, ScatteredFrameLaw, HearsLaw, ArrivalLaw};
 ghost use Rattle.s2_modem.specs.Streams.{FirstFramesLaw, OneStreamLaw};
-ghost use Rattle.s2_modem.specs.Promise.{HeadlineLaw};
+ghost use Rattle.s2_modem.specs.Promise.{FramesLaw, HeadlineLaw};
 
 use s2_mode::Mode;
 pub use s2_send::laws::{no_dummies, one_frame, one_run};
@@ -27,6 +27,16 @@ pub fn sole_frame(mode: Mode)
 /// places, the message and the data field that were sent are delivered, and the report tells in how many.
 pub fn both_codes(mode: Mode)
     ensures { BothCodesLaw mode }
+{
+    let _ = mode.k();
+}
+
+/// What holds of each frame, whatever symbols came: its bits are as likely as its verdict says, by a certificate that is
+/// accepted; its BCH word differs from the decided bits in just as many places as it tells, at most t; one that was sent, and
+/// came without noise or scattered, is delivered, certified, with no bit changed; and with at most t wrong bits of the outer
+/// code's word just these are corrected.
+pub fn frames(mode: Mode)
+    ensures { FramesLaw mode }
 {
     let _ = mode.k();
 }

@@ -1,19 +1,18 @@
 //! The receiver of one link.
-ghost use Rattle.std.specs.Prelude.{◌≡◌, ◌≢◌, ◌≤◌, None, IfOk, OnErr, IsErrOf};
+ghost use Rattle.std.specs.Prelude.{◌≡◌, ◌*◌, ◌≤◌, None, IfOk, OnErr, IsErrOf, length};
 ghost use Rattle.s2_mode.specs.Counts.{CanCount};
 ghost use Rattle.s2_mode.specs.Limits.{most_symbols};
+ghost use Rattle.s2_mode.specs.Mode.{symbols_in};
 ghost use Rattle.s2_mode.specs.Streams.{streams_by};
-ghost use Rattle.s2_receive.specs.declared.finding.Next.{Next as NextValue};
 ghost use Rattle.s2_receive.specs.declared.report.Phase.TheVariants as phases;
 ghost use Rattle.s2_receive.specs.declared.report.Fault.TheVariants as faults;
-ghost use Rattle.s2_receive.specs.Receiving.{IsLive, begun, rules_of};
-ghost use Rattle.s2_receive.specs.Answers.{OnFrame, MeetAnswers, DeliversBy, StepsBy, OnlyStreamFaults};
+ghost use Rattle.s2_receive.specs.Receiving.{IsLive, asked, begun, rules_of, taken};
+ghost use Rattle.s2_receive.specs.Answers.{Advances, OnlyStreamFaults, StepsBy};
 ghost use Rattle.s2_link.specs.Tuning.{tuning_of};
 ghost use Rattle.s2_modem.specs.Reports.{IsUndecided};
 ghost use Rattle.s2_modem.specs.Listening.{decides};
-ghost use Rattle.s2_modem.specs.Reception.{Certifies, IsLikelyBy, IsCorrected, certificate_of, link_rules, seen, IsNew, Makes};
-ghost use Rattle.s2_modem.specs.Steps.{Runs, Heard, Corrects};
-ghost use Rattle.s2_modem.specs.Promise.{RunsHeadline, Promises};
+ghost use Rattle.s2_modem.specs.Reception.{IsNew, Makes, Runs, certificate_of, link_rules, rules_for, seen};
+ghost use Rattle.s2_modem.specs.Promise.{KeepsHeadline, RunsHeadline};
 
 use crate::decider::Decider;
 use s2_bits::Bits;
@@ -37,7 +36,7 @@ pub(crate) fn tune<'a>(
     ensures rules { IfOk result (λ r. rules_of decides r ≡ link_rules link.now tuning most_symbols) }
     ensures limit { IfOk result (λ r. r.limit ≡ most_symbols) }
     ensures begun { IfOk result (λ r. r.state ≡ begun) }
-    ensures promises { IfOk result (λ _. Promises link.now tuning) }
+    ensures keeps { IfOk result (λ _. KeepsHeadline link.now tuning) }
     ensures undecided { IfOk result (λ r. IsUndecided link.now.setup.mode r.decider.last) }
 {
     let mode = link.mode();
@@ -74,7 +73,7 @@ impl<'a> Model for Receiver<'a> {
     ghost use Rattle.s2_link.specs.Link.{link_of, setup_of};
     ghost use Rattle.s2_modem.specs.Listening.{decides};
     ghost use Rattle.s2_modem.specs.Reception.{Receiver as ReceiverValue, link_rules};
-    ghost use Rattle.s2_modem.specs.Promise.{Promises};
+    ghost use Rattle.s2_modem.specs.Promise.{KeepsHeadline};
 
     ghost Value = { ReceiverValue };
 
@@ -84,11 +83,12 @@ impl<'a> Model for Receiver<'a> {
       limit = r.inner.limit;
       state = r.inner.state;
       last = r.inner.decider.last;
+      packets = r.inner.packets;
     } };
 
     ghost invariant = { λ r.
         (rules_of decides r.inner ≡ link_rules (link_of (setup_of r.setup) r.matrix.now) r.tuning r.inner.limit)
-        × Promises (link_of (setup_of r.setup) r.matrix.now) r.tuning };
+        × KeepsHeadline (link_of (setup_of r.setup) r.matrix.now) r.tuning };
 }
 
 impl<'a> Receiver<'a> {
@@ -140,54 +140,42 @@ impl<'a> Receiver<'a> {
         self.inner.limit(symbols);
     }
 
-    /// The first half of a step: finds what comes next, the next frame, a cut one, or the end, and decides a frame. Just the
-    /// symbols up to the end of what is answered are read, and nothing is written: [`Receiver::deliver`] does that. Between
-    /// the two soft values, bits, certificate and message can be looked at.
+    /// How many bytes are asked for next: four for each symbol that the frame at hand lacks, up to the limit. None where no
+    /// symbols are needed: after a cut frame and the end, after a fault, and where as many symbols were taken as may be.
+    pub fn room(&self) -> usize
+        ensures is { result ≡ asked (rules_for self.now) self.now.state }
+        ensures few { result ≤ 4 * symbols_in self.now.link.setup.mode }
+    {
+        self.inner.room()
+    }
+
+    /// Takes the next bytes of the stream, as many as [`Receiver::room`] asks for. Fewer mean that the stream ends with them; up to
+    /// three bytes that make no whole symbol are dropped then. `Some` is the next step, and comes as soon as all its symbols are
+    /// there: the next frame, a cut one, or the end. `None` means that more symbols are needed. It takes no memory.
     ///
     /// Dummy frames before it, known by a header of any TYPE, are passed, and so is what there is of a last one that lacks
-    /// symbols: of them nothing is told, and they are no gap. The bits of a frame are as likely as its verdict says, by the
-    /// certificate that [`Receiver::certificate`] lends. Where the search stands at a frame that was sent, and that came
-    /// without noise, or scattered behind a header that passes, that frame is answered, certified, with no bit changed; with
-    /// at most t wrong bits of the outer code's word, just these are corrected.
-    ///
-    /// When a fault or the end is answered, and what stays then, is as at [`s2_receive::Receiver::meet`]. It takes no memory.
-    pub fn meet<R: CountedRead>(&mut self, reader: &mut R) -> Result<Step, Fault>
-        requires reader { CanCount (R.count reader.old) }
-        ensures meets { MeetAnswers (seen self.old) (seen self.new)
-            (R.remaining reader.old) (R.remaining reader.new) (R.count reader.old) (R.count reader.new) result }
-        ensures likely { OnFrame result (λ r. IsLikelyBy self.old.link.rows r.verdict self.new.last) }
-        ensures certified { Certifies self.old.link.rows self.new.last (certificate_of self.new) result }
-        ensures within { OnFrame result (λ r. IsCorrected self.old.link.setup.mode self.new.last r.outcome) }
-        ensures heard { IfOk result (Heard self.old self.new.last (R.remaining reader.old)) }
-        ensures both_codes { IfOk result (Corrects self.old self.new.last (R.remaining reader.old)) }
-        ensures nothing { (IsLive self.old.state.phase → ⊥) → (self.new ≡ self.old) × (reader.new ≡ reader.old) }
+    /// symbols: nothing is reported of them, and they are no gap. What is decided of a frame is what the definitions say of its
+    /// symbols: soft values, bits, verdict and certificate, message, and the packets that end in it. [`crate::laws`] has what holds of
+    /// that: the bits are as likely as the verdict says ([`crate::laws::frames`]), and a frame that was sent is delivered, certified,
+    /// if it came without noise, or scattered.
+    pub fn advance(&mut self, bytes: &[u8]) -> Option<Step>
+        requires room { length bytes.now ≤ asked (rules_for self.old) self.old.state }
+        ensures advances { Advances (seen self.old) (seen self.new) bytes.now result }
         ensures same { (self.new.link ≡ self.old.link) × (self.new.tuning ≡ self.old.tuning)
             × (self.new.limit ≡ self.old.limit) }
     {
-        self.inner.meet(reader)
+        self.inner.advance(bytes)
     }
 
-    /// The second half of a step: writes the packets of what was met, those of a frame in stream order, then its line of
-    /// the report. Its faults are as at [`s2_receive::Receiver::deliver`]. It takes no memory.
-    pub fn deliver<P: CountedWrite, W: CountedWrite>(
-        &mut self,
-        packets: &mut P,
-        report: &mut W,
-    ) -> Result<(), Fault>
-        requires packets { CanCount (P.count packets.old) }
-        requires report { CanCount (W.count report.old) }
-        ensures delivers { DeliversBy seen P.contents P.count W.contents W.count
-            self.old packets.old report.old self.new packets.new report.new result }
-        ensures nothing { ((next : NextValue) → self.old.state.phase ≢ phases.Met next)
-            → (self.new ≡ self.old) × (packets.new ≡ packets.old) × (report.new ≡ report.old) }
-        ensures same { (self.new.link ≡ self.old.link) × (self.new.tuning ≡ self.old.tuning)
-            × (self.new.limit ≡ self.old.limit) }
+    /// The packets that end in the frame of the last step, in stream order.
+    pub fn packets(&self) -> &[u8]
+        ensures { result.now ≡ self.now.packets }
     {
-        self.inner.deliver(packets, report)
+        self.inner.packets()
     }
 
-    /// Takes one step: [`Receiver::meet`] and then [`Receiver::deliver`], as [`s2_receive::Receiver::next`] does. It takes no
-    /// memory.
+    /// Reads up to the next step, makes it, and writes its packets, and then its line of the report, as [`s2_receive::Receiver::next`]
+    /// does. It takes no memory.
     pub fn next<R: CountedRead, P: CountedWrite, W: CountedWrite>(
         &mut self,
         reader: &mut R,
@@ -199,11 +187,6 @@ impl<'a> Receiver<'a> {
         requires report { CanCount (W.count report.old) }
         ensures steps { StepsBy seen R.remaining R.count P.contents P.count W.contents W.count
             self.old reader.old packets.old report.old self.new reader.new packets.new report.new result }
-        ensures likely { OnFrame result (λ r. IsLikelyBy self.old.link.rows r.verdict self.new.last) }
-        ensures certified { Certifies self.old.link.rows self.new.last (certificate_of self.new) result }
-        ensures within { OnFrame result (λ r. IsCorrected self.old.link.setup.mode self.new.last r.outcome) }
-        ensures heard { IfOk result (Heard self.old self.new.last (R.remaining reader.old)) }
-        ensures both_codes { IfOk result (Corrects self.old self.new.last (R.remaining reader.old)) }
         ensures nothing { (IsLive self.old.state.phase → ⊥) → (self.new ≡ self.old) × (reader.new ≡ reader.old)
             × (packets.new ≡ packets.old) × (report.new ≡ report.old) }
         ensures unwritten { IsErrOf result faults.Read → (packets.new ≡ packets.old) × (report.new ≡ report.old) }
@@ -217,11 +200,11 @@ impl<'a> Receiver<'a> {
     /// was delivered with bits that are most likely and none was cut. Of a new receiver, which takes a whole stream,
     /// the headline holds if no fault is answered: also that each frame that a transmitter of the link sent has its line,
     /// delivered, wherever the search stands at it, certified if it is clear; that the first frames, clear or with at most t wrong
-    /// bits of the outer code's word, give their packets, and a stream of nothing else no others. Not to be called after the end or a fault, nor where what was met is not delivered yet. It takes no
-    /// memory.
+    /// bits of the outer code's word, give their packets, and a stream of nothing else no others. Not to be called after the end
+    /// or a fault. It takes no memory.
     ///
     /// After a fault what was met before it is written whole: after `Read`, which comes as in
-    /// [`Receiver::meet`], nothing else is, after `Write` a part of the next packets or line is; and the receiver counts as
+    /// [`Receiver::next`], nothing else is, after `Write` a part of the next packets or line is; and the receiver counts as
     /// failed. No certificate is lent after it, since its last step came to no frame.
     pub fn run<R: CountedRead, P: CountedWrite, W: CountedWrite>(
         &mut self,
@@ -237,7 +220,7 @@ impl<'a> Receiver<'a> {
             self.old self.new (ends reader.old packets.old report.old) (ends reader.new packets.new report.new) result }
         ensures stopped { OnErr result (self.new.state.phase ≡ phases.Failed) }
         ensures uncertified { certificate_of self.new ≡ None }
-        ensures bounded { self.new.state.at ≤ self.old.limit }
+        ensures bounded { taken self.new.state ≤ self.old.limit }
         ensures headline { let at = streams_by R.remaining R.count P.contents P.count W.contents W.count in
             RunsHeadline self.old (at reader.old packets.old report.old) (at reader.new packets.new report.new) result }
         ensures counts { let ends = streams_by R.remaining R.count P.contents P.count W.contents W.count in
@@ -248,7 +231,7 @@ impl<'a> Receiver<'a> {
         receive_all(&mut self.inner, reader, packets, report)
     }
 
-    /// The soft values of the codeword of the frame that was met last; they stay after a cut frame, the end and a failed
+    /// The soft values of the codeword of the last frame; they stay after a cut frame, the end and a failed
     /// read. Zeros before the first frame.
     pub fn soft(&self) -> &[i16]
         ensures { result.now ≡ self.now.last.soft }
@@ -264,7 +247,7 @@ impl<'a> Receiver<'a> {
     }
 
     /// The certificate of the decided bits of the frame that the last step came to: `Some` exactly where that step reported
-    /// a frame, met or delivered, as sole or most likely. It can be checked ([`s2_check::check`]), and written to a file.
+    /// a frame as sole or most likely. It can be checked ([`s2_check::check`]), and written to a file.
     /// Before the first step, after a cut frame, the end and a fault it is `None`.
     pub fn certificate(&self) -> Option<CertView<'_>>
         ensures { result ≡ certificate_of self.now }

@@ -1,5 +1,4 @@
-use Rattle.s2_modem.proofs.Names.{◌≡◌, length, sym, refl, ap, subst, ◌∙◌, refilled, Link, IsLinkOf, IsMode, HasCodeSizes, code_of, received_payload, soft_values, Decision, IsAsLikely, IsCorrected, CorrectsWithin, HearsScattered, frame_soft, frame_decision, received_word, FindsWord, Reads, Listening, decides, decision_held}
-use Rattle.s2_modem.proofs.CleanFrames.{all_as_likely, all_told, scattered_law, both_codes_law}
+use Rattle.s2_modem.proofs.Names.{◌≡◌, length, sym, refl, ap, ◌∙◌, refilled, Link, received_payload, soft_values, Decision, frame_soft, frame_decision, received_word, FindsWord, Reads, Listening, decides, decision_held}
 use Rattle.s2_modem.proofs.DecisionLemmas.{frame_decided}
 use Rattle.s2_modem.proofs.decider.DeciderDecide.decide.Goals as goal
 use Rattle.s2_modem.proofs.decider.DeciderDecide.decide.Goals.{After-decide-self-inside}
@@ -32,34 +31,5 @@ module _ (c : After-decide-self-inside) where
       was.ensures.soft (sym was.ensures.soft ∙ soft_is) (c.decide-self-inside.ensures.verdict ∙ was.ensures.verdict) was.ensures.bits was.ensures.certificate finds reads
       ∙ ap (λ (l : Listening). frame_decision l.link l.tuning c.args.symbols.now) c.self.view_is
 
-  of_mode : IsMode c.args.self.now.link.setup.mode × HasCodeSizes c.args.self.now.link.setup.mode × IsLinkOf c.args.self.now.link.setup.mode c.args.self.now.link
-  of_mode = subst (λ (l : Listening). IsMode l.link.setup.mode × HasCodeSizes l.link.setup.mode × IsLinkOf l.link.setup.mode l.link) c.self.view_is (c.self.invariant.valid, c.self.invariant.sizes, (refl, c.self.invariant.shape))
-
 pub returns-clause-last : goal.returns-clause-last
 returns-clause-last c = is_decided (goal.at.returns-clause-last c).After-decide-self-inside
-
-pub returns-clause-likely : goal.returns-clause-likely
-returns-clause-likely c =
-    let k = (goal.at.returns-clause-likely c).After-decide-self-inside in
-    let l = c.args.self.now.link in
-    let (valid, sizes, linked) = of_mode k in
-    subst (λ (d : Decision). IsAsLikely (code_of l.rows) (frame_soft l c.args.self.now.tuning c.args.symbols.now) d.verdict d.bits) (sym (is_decided k)) (all_as_likely l.setup.mode valid sizes l linked c.args.self.now.tuning c.args.symbols.now)
-
-pub returns-clause-within : goal.returns-clause-within
-returns-clause-within c =
-    let k = (goal.at.returns-clause-within c).After-decide-self-inside in
-    let l = c.args.self.now.link in
-    let (valid, sizes, linked) = of_mode k in
-    subst (λ (d : Decision). IsCorrected l.setup.mode d d.outcome) (sym (is_decided k)) (all_told l.setup.mode valid sizes l linked c.args.self.now.tuning c.args.symbols.now).within
-
-pub returns-clause-heard : goal.returns-clause-heard
-returns-clause-heard c =
-    let k = (goal.at.returns-clause-heard c).After-decide-self-inside in
-    let l = c.args.self.now.link in
-    subst (HearsScattered l.setup.mode l c.args.self.now.tuning c.args.symbols.now) (sym (is_decided k)) (scattered_law l.setup.mode (of_mode k).0 (of_mode k).1 l c.args.self.now.tuning c.args.symbols.now)
-
-pub returns-clause-both_codes : goal.returns-clause-both_codes
-returns-clause-both_codes c =
-    let k = (goal.at.returns-clause-both_codes c).After-decide-self-inside in
-    let l = c.args.self.now.link in
-    subst (CorrectsWithin l.setup.mode l) (sym (is_decided k)) (both_codes_law l.setup.mode (of_mode k).0 (of_mode k).1 l c.args.self.now.tuning c.args.symbols.now)
