@@ -1,4 +1,4 @@
-"""The functions of the crates and their clauses, as they stand in the sources: what docs/cited and docs/clauses look in."""
+"""The functions of the crates and their clauses, as they stand in the sources: what docs/define and docs/clauses look in."""
 import pathlib
 import re
 from typing import NamedTuple
