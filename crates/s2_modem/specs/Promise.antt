@@ -186,5 +186,6 @@ pub record FramePromises (link : Link) (tuning : Tuning) : Type 0 where
   pub told : AllTold link tuning
   pub heard : AllHeard link tuning
 
+-- it holds of each frame of each link
 abbrev pub FramesLaw : Mode → Type 0
 FramesLaw m = (link : Link) (tuning : Tuning) → IsLinkOf m link → link.setup.roll_off ≤ most_roll_off → IsDivisor tuning.divisor → FramePromises link tuning

@@ -12,18 +12,18 @@
 //! and only a failed write may leave less of that, and a part of the next frame or dummy frame.
 //! [`Transmitter::limit`] and [`Receiver::limit`] lower how much is taken at most.
 //!
-//! [`Receiver::next`] takes just the symbols up to the end of the next frame, which stands at the first header
-//! that is not before the last frame's end and in no dummy frame; right behind a frame or a dummy frame a header
-//! passes with as many wrong bits as the tuning's lock says. It is two halves: [`Receiver::meet`] finds and decides,
-//! [`Receiver::deliver`] writes, and between the two soft values, bits, certificate and message can be looked at. The
-//! dummy frames of any modulator are passed, and packets are joined across them. What it reports and writes is exactly
-//! what the definitions say of these symbols: soft values, decided bits with a verdict, the nearest BCH word, its
-//! message's header, and the packets that the joiner makes of its data field. Soft values are divided by
-//! [`DEFAULT_DIVISOR`], or by what the [`Tuning`] of [`Receiver::on_link`] says. Bits that are called sole or most likely
-//! satisfy every check, and no bits that do cost less, nor as little where they are called sole ([`s2_judge::laws`]). A
-//! frame that was sent, and at which the search stands, is answered, certified, with no bit changed, where it came without
-//! noise or scattered; just the wrong bits of its outer word are corrected, where these are at most t. [`Receiver::run`]
-//! goes on so to the end of the symbols, and [`demodulate`] does it for a whole stream in memory.
+//! [`Receiver::advance`] takes the bytes that [`Receiver::room`] asks for, just those up to the end of the next frame. A frame
+//! stands at the first header that is not before the last frame's end and in no dummy frame; right after a frame or a dummy frame
+//! a header passes with as many wrong bits as the tuning's lock says. The dummy frames of any modulator are passed, and packets are
+//! joined across them. Then soft values, bits, certificate, message and packets of the frame can be looked at. They are exactly what
+//! the definitions say of its symbols: soft values, decided bits with a verdict, the nearest BCH word, its message's header, and the
+//! packets that the joiner makes of its data field. [`Receiver::next`] reads and writes around it. Soft values are divided by
+//! [`DEFAULT_DIVISOR`], or by what the [`Tuning`] of [`Receiver::on_link`] says.
+//!
+//! Of each frame [`laws::frames`] holds. Bits that are called sole or most likely satisfy every check, and no bits that do cost
+//! less, nor as little if they are called sole. A frame that was sent, and at which the search stands, is delivered, certified, with
+//! no bit changed, if it came without noise or scattered; with at most t wrong bits of its outer word just these are corrected.
+//! [`Receiver::run`] goes on to the end of the symbols, and [`demodulate`] does it for a whole stream in memory.
 //!
 //! The decided bits of a frame, n of them, are called its word, whether they are a codeword or not. Their
 //! first Nbch bits are the received word, and what BCH decoding finds for that is a BCH word.

@@ -249,6 +249,7 @@ abbrev pub asked_by : Rules → Phase → Window → ℕ
 asked_by rules phases.Searching window = 4 * wanted rules.limit rules.size window
 asked_by rules phase window = 0
 
+-- how many bytes a receiver that stands so asks for
 abbrev pub asked : Rules → State → ℕ
 asked rules s = asked_by rules s.phase s.window
 

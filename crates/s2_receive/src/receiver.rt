@@ -151,7 +151,8 @@ impl<D: Decide> Receiver<D> {
     pub fn room(&self) -> usize
         ensures is { result ≡ asked (rules_of D.decide self.now) self.now.state }
         ensures few { result ≤ 4 * symbols_in self.now.mode }
-        ensures held { (length self.now.state.window.symbols < symbols_in self.now.mode) × (taken self.now.state ≤ self.now.limit) }
+        ensures held { (length self.now.state.window.symbols < symbols_in self.now.mode)
+            × (taken self.now.state ≤ self.now.limit) }
     {
         self.stepper.room()
     }
@@ -168,7 +169,8 @@ impl<D: Decide> Receiver<D> {
     pub fn advance(&mut self, bytes: &[u8]) -> Option<Step>
         requires room { length bytes.now ≤ asked (rules_of D.decide self.old) self.old.state }
         ensures same { IsSame D.decide self.old self.new }
-        ensures advances { Advances (seen_by D.decide D.last self.old) (seen_by D.decide D.last self.new) bytes.now result }
+        ensures advances { let see = seen_by D.decide D.last in
+            Advances (see self.old) (see self.new) bytes.now result }
     {
         self.stepper.advance(bytes)
     }
