@@ -45,9 +45,10 @@ moved strength component drawn = int_max (negsuc 32767) (int_min (component +ℤ
 
 -- a symbol with what is drawn next, first for I, then for Q, and the generator after it
 unfoldable pub add : Strength → Lcg → Symbol → Symbol × Lcg
-add strength g s =
-    (record { i = moved strength s.i (draw strength g).0; q = moved strength s.q (draw strength (draw strength g).1).0 },
-    (draw strength (draw strength g).1).1)
+add strength g s = (
+  record { i = moved strength s.i (draw strength g).0; q = moved strength s.q (draw strength (draw strength g).1).0 },
+  (draw strength (draw strength g).1).1,
+)
 
 -- the generator after what is drawn for so many symbols, two sums for each
 abbrev pub drawn_for : Strength → ℕ → Lcg → Lcg

@@ -22,8 +22,8 @@ pub fn add_to_all<R: CountedRead, W: CountedWrite>(
 ) -> Result<(), StreamFault>
     requires reader { CanCount (R.count reader.old) }
     requires writer { CanCount (W.count writer.old) }
-    ensures written { OnOk result (IfSome (R.remaining reader.old) (λ xs. Appends
-        (W.contents writer.old) (W.contents writer.new) (noisy noise.old.strength noise.old.generator (symbols_of xs)))) }
+    ensures written { OnOk result (IfSome (R.remaining reader.old) (λ xs. Appends (W.contents writer.old)
+        (W.contents writer.new) (noisy noise.old.strength noise.old.generator (symbols_of xs)))) }
     ensures drawn { OnOk result (IfSome (R.remaining reader.old) (λ xs.
         noise.new.generator ≡ drawn_for noise.old.strength (length (symbols_of xs)) noise.old.generator)) }
     ensures write { IsErrOf result StreamFault.Write → W.count writer.new ≡ W.count writer.old + 1 }
