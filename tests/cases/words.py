@@ -190,7 +190,7 @@ WORDS = [
     ("mod", "--ro <R>", "0 for 0.35, 1 for 0.25, 2 for 0.20 [default: 0]"),
     ("mod", "--dummy <D>", "0 to 65535: 0 for none [default: 0]"),
     ("noise", "--level <L>", "0.816 L in each component, where a QPSK point has 700"),
-    *((name, "--esn0 <DB>", "Es/N0 in dB, -10 to 40 with two decimals at most: Gaussian noise") for name in ("noise", "run")),
+    *((name, "--esn0 <DB>", "Gaussian noise, for symbols of the amplitude that `mod` sends") for name in ("noise", "run")),
     ("demod", "--rounds <K>", "Rounds of min-sum at most for each frame, 1 to 200 [default: 50]"),
     ("demod", "--passes <P>", "0 to 1000 [default: 0]"),
     *((name, "--uncertified", "which is `parity` then; not with --passes") for name in ("judge", "demod", "run")),
