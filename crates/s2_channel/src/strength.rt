@@ -1,6 +1,6 @@
 //! How strong noise is.
 ghost use Rattle.std.specs.Prelude.{◌≡◌, ◌↔◌, ◌≤◌, ◌*◌, ◌≤ℤ◌, ◌+ℤ◌, pos, negsuc, IsSome, IfSome};
-ghost use Rattle.s2_channel.specs.Gaussian.{most_esn0, nearest, hundredth, greatest_amplitude, amplitude_at};
+ghost use Rattle.s2_channel.specs.Gaussian.{nearest, hundredth, greatest_amplitude, amplitude_at};
 
 use std::marker::Model;
 

@@ -139,7 +139,7 @@ Exits:
   1  a usage fault, or a fault that standard error tells: the symbols before a read that failed stand in OUT
 
 Example:
-  s2 noise --seed 1 --level 100 symbols noisy
+  s2 noise --seed 1 --esn0 6.5 symbols noisy
   s2 mod --modcod 4 rows - - < packets.ts | s2 noise --seed 1 --level 100 - - | s2 demod --modcod 4 rows - received.ts";
 
 /// The report of a receiver, and its exits.
