@@ -8,7 +8,7 @@ _s2() {
   fi
   case "$before" in
     --divisor) COMPREPLY=($(compgen -W "4096 8192 16384 32768 65536" -- "$now")); return ;;
-    --rate|--group|--groups|--q|--weight|--seed|--modcod|--passes|--factor|--number|--ro|--dummy|--level|--rounds|--lock) return ;;
+    --rate|--group|--groups|--q|--weight|--seed|--modcod|--passes|--factor|--number|--ro|--dummy|--level|--esn0|--rounds|--lock) return ;;
   esac
   case "${COMP_WORDS[1]}" in
     modes) words="--rate --quiet --help" ;;
@@ -17,9 +17,9 @@ _s2() {
     judge) words="--group --groups --q --cert --passes --uncertified --factor --quiet --help" ;;
     check) words="--quiet --help" ;;
     mod) words="--modcod --short --pilots --number --ro --dummy --quiet --progress --help" ;;
-    noise) words="--seed --level --quiet --progress --help" ;;
+    noise) words="--seed --level --esn0 --quiet --progress --help" ;;
     demod) words="--modcod --short --pilots --number --ro --rounds --passes --uncertified --divisor --factor --lock --tuned --strict --quiet --progress --help" ;;
-    run) words="--modcod --short --pilots --number --ro --dummy --rounds --passes --uncertified --divisor --factor --lock --tuned --seed --level --strict --quiet --progress --help" ;;
+    run) words="--modcod --short --pilots --number --ro --dummy --rounds --passes --uncertified --divisor --factor --lock --tuned --seed --level --esn0 --strict --quiet --progress --help" ;;
     help) words="modes rows table judge check mod noise demod run" ;;
   esac
   if [[ $now == -* || ${COMP_WORDS[1]} == help ]]; then

@@ -1,4 +1,7 @@
 # PCG32 (XSH RR 64/32) and the noise, by its description alone.
+from decimal import Decimal,getcontext
+getcontext().prec=40
+ONE=2**30
 M64=(1<<64)-1
 MUL=6364136223846793005
 def xsh(s):
@@ -40,13 +43,29 @@ class Noise:
         return max(-32768,min(32767,x+trunc((d-1020)*self.level,256)))
     def add(self,i,q): 
         a=self.one(i); b=self.one(q); return a,b
+class Gaussian(Noise):
+    # by hundredths of a dB: at -10 dB a standard deviation of 700 sqrt(10), each hundredth 10**(-1/2000) times that
+    def __init__(self,seed,hundredths):
+        self.g=Pcg32(seed)
+        a=round(ONE*700*Decimal(10).sqrt()/Decimal(349520).sqrt())
+        step=round(ONE*Decimal(10)**(Decimal(-1)/2000))
+        for _ in range(hundredths+1000): a=(a*step+ONE//2)//ONE
+        self.a=a
+    def one(self,x):
+        d=sum(sum(self.g.next().to_bytes(4,'little')) for _ in range(16))-8160
+        size=(abs(d)*self.a+ONE//2)//ONE
+        return max(-32768,min(32767,x+(size if d>0 else -size)))
 if __name__=='__main__':
     for seed,level in [(1,256),(0,255),(1<<40,300),(7,65535),(2**64-1,1)]:
         n=Noise(seed,level)
         print(seed,level,[n.add(700,-700) for _ in range(4)])
         n=Noise(seed,level)
         print('   at 0',[n.add(0,0) for _ in range(4)])
-    import itertools
+    for seed,hundredths in [(1,1000),(0,-1000),(1<<40,4000),(7,622),(2**64-1,-235)]:
+        n=Gaussian(seed,hundredths)
+        print(seed,hundredths,n.a,[n.add(700,-700) for _ in range(4)])
+    for seed in range(1,4):
+        n=Gaussian(seed,-1000); print(seed,[n.add(32767,-32768) for _ in range(4)])
     # clamps
     for seed in range(1,6):
         n=Noise(seed,65535); print(seed,[n.add(32767,-32768) for _ in range(4)])

@@ -1,4 +1,5 @@
 """What seeds determine, drawn once more: made rows and noise, as docs/formats.md tells them."""
+from decimal import Decimal
 
 
 class Pcg32:
@@ -42,12 +43,37 @@ def made_rows(group, groups, q, weight, seed):
     return "".join(lines).encode()
 
 
-def spoilt(symbols, seed, level):
-    """The bytes of symbols behind noise."""
-    generator, made = Pcg32(seed), b""
+def moved(symbols, gains):
+    """The bytes of symbols whose components have these gains, in turn."""
+    made = b""
     for at in range(0, len(symbols) // 4 * 4, 2):
-        drawn = sum(generator.next_word().to_bytes(4, "big") + generator.next_word().to_bytes(4, "big")) - 1020
-        gain = abs(drawn) * level // 256 * (1 if drawn >= 0 else -1)
-        value = int.from_bytes(symbols[at : at + 2], "big", signed=True) + gain
+        value = int.from_bytes(symbols[at : at + 2], "big", signed=True) + next(gains)
         made += max(-32768, min(32767, value)).to_bytes(2, "big", signed=True)
     return made
+
+
+def differences(seed, words):
+    """Sums of the bytes of so many words of a generator, less their mean."""
+    generator = Pcg32(seed)
+    while True:
+        yield sum(sum(generator.next_word().to_bytes(4, "big")) for _ in range(words)) - 510 * words
+
+
+def spoilt(symbols, seed, level):
+    """The bytes of symbols with the noise of a level."""
+    return moved(symbols, (abs(it) * level // 256 * (1 if it >= 0 else -1) for it in differences(seed, 2)))
+
+
+def amplitude_of(decibels):
+    """The amplitude of an Es/N0 in 2^-30: at -10 dB a deviation of 700 * 10^(1/2), and 10^(-1/2000) times that each 0.01 dB."""
+    one = 2**30
+    amplitude, factor = round(one * 700 * (Decimal(10) / 349520).sqrt()), round(one * Decimal(10) ** (Decimal(-1) / 2000))
+    for _ in range(int(100 * Decimal(decibels)) + 1000):
+        amplitude = (amplitude * factor + one // 2) // one
+    return amplitude
+
+
+def gaussian(symbols, seed, decibels):
+    """The bytes of symbols with Gaussian noise of an Es/N0, which is told as on the command line."""
+    amplitude = amplitude_of(decibels)
+    return moved(symbols, ((abs(it) * amplitude + 2**29) // 2**30 * (1 if it >= 0 else -1) for it in differences(seed, 16)))

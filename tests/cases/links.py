@@ -2,7 +2,7 @@
 import functools
 
 from cases.common import ANY, DIVISORS, LINK, LONG_ROWS, NO, ONE, PACKET, PAIR, TOY, TWO, WANTED, Case, digest, ending, fault, noted, size
-from cases.drawn import made_rows, spoilt
+from cases.drawn import gaussian, made_rows, spoilt
 from cases.plain_receiver import broken, checks_of, soft_value, weakened
 
 MOST_SEED = 2**64 - 1
@@ -187,6 +187,8 @@ NOISY, WEAK = (14, 670), (1, 2, 3, 5, 6, 11, 12, 23, 24)
 LOCKED = (10, 840)
 # Others for which two rounds leave different counts for different headers and scrambling numbers.
 TURNED = (8, 600)
+# A seed and an Es/N0 for which two rounds leave wrong bits.
+GAUSSIAN = (1, 2.5)
 # By each of these factors it leaves another count, too.
 FACTORS = (12, 13, 14, 16)
 # Words that are best for QPSK 1/4, and those that win over them, also by what is their default: the divisor and the factor.
@@ -304,8 +306,15 @@ def worded(two):
 
 
 def alike(two):
-    """What ends in the same way, `demod` behind noise and `run`. With one round at level 700 no packet comes through."""
-    return [
+    """What ends in the same way, `demod` after noise and `run`. With one round at level 700 no packet comes through."""
+    by_ratio = [
+        (
+            heard(f"{LINK} --tuned", gaussian(two, seed, decibels), ANY, "", ANY, ANY),
+            Case(f"run {LINK} --tuned --seed {seed} --esn0 {decibels} made packets out", ANY, ANY, ANY, writes={"out": ANY}),
+        )
+        for seed, decibels in [(1, "2.5"), (MOST_SEED, "-2.35"), (3, "12")]
+    ]
+    return by_ratio + [
         (
             heard(f"{LINK} {words}", spoilt(two, seed, level), code, "", packets, ANY),
             Case(f"run {LINK} {words} --seed {seed} --level {level} made packets out", code, ANY, ANY, writes={"out": packets}),

@@ -51,7 +51,7 @@ USAGES = {
     "table": "s2 table [OPTIONS] --modcod <M> <ROWS>",
     "mod": "s2 mod [OPTIONS] --modcod <M> <ROWS> <PACKETS> <SYMBOLS>",
     "demod": "s2 demod [OPTIONS] --modcod <M> <ROWS> <SYMBOLS> <PACKETS>",
-    "run": "s2 run [OPTIONS] --modcod <M> --seed <S> --level <L> <ROWS> <PACKETS> <OUT>",
+    "run": "s2 run [OPTIONS] --modcod <M> --seed <S> <--level <L>|--esn0 <DB>> <ROWS> <PACKETS> <OUT>",
 }
 REST = {"table": "made", "mod": "made packets out", "demod": "made packets out", "run": "--seed 1 --level 1 made packets out"}
 

@@ -5,7 +5,7 @@ from dataclasses import dataclass, field
 
 from cases import links, listing, progress
 from cases.common import ANY, FINE, LINK, NO, PACKET, PAIR, STORED_MOVED, TOY, TWO, WANTED, Case, Rule, digest, noted
-from cases.drawn import made_rows, spoilt
+from cases.drawn import gaussian, made_rows, spoilt
 from cases.judging import LEFT
 from cases.links import NOISY, NONE, PARITY, SAMPLES, wrong_headers
 from cases.modes import PACKETS, WORDS
@@ -98,6 +98,10 @@ def few_effects():
     for name, values, rest in (("seed", (1, 2), "--level 256"), ("level", (256, 512), "--seed 1")):
         made = [ended(out=spoilt(SAMPLES, *((it, 256) if name == "seed" else (1, it)))) for it in values]
         yield Effect(f"--{name}", f"noise {rest} {{}} in out", each(f"--{name}", values, made), {"reads": {"in": SAMPLES}})
+    ends = {text: ended(out=gaussian(SAMPLES, 1, text)) for text in ("-10", "-2.35", "0", "6.2", "6.21", "40")}
+    ends |= {text: ends[same] for text, same in {"+6.20": "6.2", "06.2": "6.2", "-0.00": "0", "40.0": "40"}.items()}
+    values, made = [f"--esn0 {text}" for text in ends] + ["--esn0=-2.35"], [*ends.values(), ends["-2.35"]]
+    yield Effect("--esn0", "noise --seed 1 {} in out", dict(zip(values, made)), {"reads": {"in": SAMPLES}})
 
 
 def mod_effects(two, dummy):
@@ -178,13 +182,15 @@ def demod_effects(two, pilots):
 
 
 def run_effects(report, others):
-    """`others` are the reports of noisy symbols after two rounds: with default options, with scrambling number 7, and with roll-off 1."""
+    """`others` are the reports of noisy symbols after two rounds: with default options, with scrambling number 7, with roll-off 1, and by Es/N0."""
     noise, words = "--seed {} --level {}".format(*links.TURNED), f"run {LINK} --rounds 2"
-    usual, by_number, by_roll_off = (received(text, NO) for text in others)
+    usual, by_number, by_roll_off, gaussian_noise = (received(text, NO) for text in others)
     yield Effect("--number", f"{words} {noise} {{}} made packets out", by_default("--number", 0, 7, usual, by_number))
     yield Effect("--ro", f"{words} {noise} {{}} made packets out", by_default("--ro", 0, 1, usual, by_roll_off))
     usual = received(report(4096, 12), NO)
     yield Effect("--level", f"{words} --seed {NOISY[0]} {{}} made packets out", each("--level", (NOISY[1], 0), (usual, WELL)))
+    seed, decibels = links.GAUSSIAN
+    yield Effect("--esn0", f"{words} --seed {seed} {{}} made packets out", each("--esn0", (decibels, 40), (gaussian_noise, WELL)))
     other = {"code": ANY, "out": ANY, "errors": "", "writes": {"out": ANY}}
     yield Effect("--seed", f"{words} --level {NOISY[1]} {{}} made packets out", each("--seed", (NOISY[0], 15), (usual, other)))
     yield Effect("--pilots", f"run {LINK} --seed 1 --level 0 {{}} made packets out", {"": WELL, "--pilots": received(TWO.replace("8190", "8370"))})

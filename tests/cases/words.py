@@ -72,6 +72,12 @@ def beyond(value, word, least, most):
     return invalid(value, word, f"{value} is not in {least}..={most}")
 
 
+def no_ratio(text):
+    return invalid(text, "esn0 <DB>", "it is -10 to 40, with at most two digits after the point")
+
+
+# What is no Es/N0 that there is: beyond the range, by more than two decimals, and not written so.
+RATIOS = ["-10.01", "40.01", "-11", "41", "655.36", "6.205", "6.", ".5", "6.2.1", "6,2", "1e1", "x", "+", "+-6", "6.-2", "6.+2", "99999999999"]
 NOT_BOTH = "error: the argument '--uncertified' cannot be used with '--passes <P>'"
 # Words that no command has, and the first line on standard error.
 MISUSES = [
@@ -106,6 +112,10 @@ MISUSES = [
     ("noise --level 1 packets out", LACKS),
     ("noise --seed 1 --level 1 packets", LACKS),
     ("noise --seed 1 --level 65536 packets out", beyond(65536, "level <L>", 0, 65535)),
+    ("noise --seed 1 --level 1 --esn0 1 packets out", "error: the argument '--level <L>' cannot be used with '--esn0 <DB>'"),
+    ("noise --seed 1 --esn0 1 --level 1 packets out", "error: the argument '--esn0 <DB>' cannot be used with '--level <L>'"),
+    ("noise --esn0 1 packets out", LACKS),
+    *((f"noise --seed 1 --esn0 {text} packets out", no_ratio(text)) for text in RATIOS),
     ("demod", LACKS),
     ("demod made packets out", LACKS),
     ("demod --modcod 1 made packets", LACKS),
@@ -122,6 +132,9 @@ MISUSES = [
     ("demod --modcod 1 --seed 1 made packets out", "error: unexpected argument '--seed' found"),
     ("run --modcod 1 --seed 1 made packets out", LACKS),
     ("run --modcod 1 --level 1 made packets out", LACKS),
+    ("run --modcod 1 --esn0 1 made packets out", LACKS),
+    (f"{RUN} --esn0 1 made packets out", "error: the argument '--level <L>' cannot be used with '--esn0 <DB>'"),
+    *((f"run --modcod 1 --seed 1 --esn0 {text} made packets out", no_ratio(text)) for text in RATIOS),
     ("run --seed 1 --level 1 made packets out", LACKS),
     (f"{RUN} made packets", LACKS),
     (f"{RUN} --dummy 65536 made packets out", beyond(65536, "dummy <D>", 0, 65535)),
@@ -177,6 +190,7 @@ WORDS = [
     ("mod", "--ro <R>", "0 for 0.35, 1 for 0.25, 2 for 0.20 [default: 0]"),
     ("mod", "--dummy <D>", "0 to 65535: 0 for none [default: 0]"),
     ("noise", "--level <L>", "0.816 L in each component, where a QPSK point has 700"),
+    *((name, "--esn0 <DB>", "Gaussian noise, for symbols of the amplitude that `mod` sends") for name in ("noise", "run")),
     ("demod", "--rounds <K>", "Rounds of min-sum at most for each frame, 1 to 200 [default: 50]"),
     ("demod", "--passes <P>", "0 to 1000 [default: 0]"),
     *((name, "--uncertified", "which is `parity` then; not with --passes") for name in ("judge", "demod", "run")),

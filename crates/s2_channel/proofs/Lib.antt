@@ -1,2 +1,3 @@
+pub mod Amplitudes
 pub mod Streams
 pub mod Silence

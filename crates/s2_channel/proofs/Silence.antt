@@ -7,20 +7,20 @@ use Rattle.std.proofs.Math.Facts.{sfits_to_z}
 use Rattle.std.proofs.Math.IntN.{*ℤ-zero}
 use Rattle.std.specs.Int.{w16, cast_signed, cast_unsigned, from_be_bytes, to_be_bytes}
 use Rattle.s2_mode.specs.Symbols.{symbol_of, symbols_of, symbol_bytes}
-use Rattle.s2_channel.specs.Noise.{draw, gain, moved, add, noisy}
-use Rattle.s2_channel.specs.Laws.{SilentLaw, SilentStreamLaw}
+use Rattle.s2_channel.specs.Noise.{draw, level_gain, moved, add, noisy}
+use Rattle.s2_channel.specs.Laws.{silence, SilentLaw, SilentStreamLaw}
 
-no_gain : (d : ℕ) → gain 0 d ≡ pos 0
-unfolding gain
+no_gain : (d : ℕ) → level_gain 0 d ≡ pos 0
+unfolding level_gain
 no_gain d = ap (λ z. int_div z (pos 256)) (*ℤ-zero (pos d -ℤ pos 1020))
 
-unmoved : (x : ℤ) (d : ℕ) → FitsSigned w16 x → moved 0 x d ≡ x
+unmoved : (x : ℤ) (d : ℕ) → FitsSigned w16 x → moved silence x d ≡ x
 unfolding moved
 unmoved x d fits = let none = no_gain d in omega (arith, ints, clamps, none, fits)
 
 pub silent : SilentLaw
 unfolding add
-silent g s i q = λ x. (record { i = unmoved s.i (draw g).0 i x; q = unmoved s.q (draw (draw g).1).0 q x }, (draw (draw g).1).1)
+silent g s i q = λ x. (record { i = unmoved s.i (draw silence g).0 i x; q = unmoved s.q (draw silence (draw silence g).1).0 q x }, (draw silence (draw silence g).1).1)
 
 both_small : (a b : ℕ) → a < 256 → b < 256 → (i : ℕ) → get_or (a ∷ b ∷ []) i 0 < 256
 both_small a b ha hb zero = ha
@@ -57,8 +57,8 @@ silent_stream g (a ∷ b ∷ c ∷ d ∷ rest) h =
     let hd = All-head P d rest h3 in
     let s = symbol_of a b c d in
     let same = silent g s (fits a b ha hb) (fits c d hc hd) in
-    let next = (draw (draw g).1).1 in
-    ap (λ p. symbol_bytes p.0 ++ noisy 0 p.1 (symbols_of rest)) same
-    ∙ ap (λ front. front ++ noisy 0 next (symbols_of rest)) ((λ j. bytes_again a b ha hb j ++ bytes_again c d hc hd j))
+    let next = (draw silence (draw silence g).1).1 in
+    ap (λ p. symbol_bytes p.0 ++ noisy silence p.1 (symbols_of rest)) same
+    ∙ ap (λ front. front ++ noisy silence next (symbols_of rest)) ((λ j. bytes_again a b ha hb j ++ bytes_again c d hc hd j))
     ∙ ap (λ back. a ∷ b ∷ c ∷ d ∷ back) (silent_stream next rest (All-tail P d rest h3))
     ∙ sym (ap (λ n. take n (a ∷ b ∷ c ∷ d ∷ rest)) (four_more (length rest)))

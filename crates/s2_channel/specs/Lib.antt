@@ -1,3 +1,4 @@
+pub mod Gaussian
 pub mod Noise
 pub mod Laws
 pub use Rattle.rand_core.specs.Pcg32Seed

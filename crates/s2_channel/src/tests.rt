@@ -1,11 +1,27 @@
 //! Noise against the numbers of another program, which draws the generator's words by its description.
-use crate::{Noise, add_to_all};
+use crate::{EsN0, Noise, Strength, add_to_all};
 use s2_mode::{Counting, FailAt, InMemory, StreamFault, Symbol};
+use std::process::Abort;
 use std::test::Fail;
 
 fn symbol(components: [i16; 2]) -> Symbol {
     let [i, q] = components;
     Symbol { i, q }
+}
+
+/// The first symbols of noise, each from the same one.
+fn assert_adds(rt: &impl Abort, mut noise: Noise, from: [i16; 2], wanted: [[i16; 2]; 4]) {
+    for want in wanted {
+        assert_eq!(rt; noise.add(symbol(from)), symbol(want));
+    }
+}
+
+/// Gaussian noise of a seed and an Es/N0 in hundredths of a dB.
+fn gaussian(rt: &impl Abort, seed: u64, hundredths: i32) -> Noise {
+    let Some(esn0) = EsN0::new(hundredths) else {
+        panic!(rt; "no Es/N0: {hundredths}");
+    };
+    Noise::of(seed, Strength::EsN0(esn0))
 }
 
 #[test]
@@ -35,12 +51,53 @@ fn adds_the_noise_of_a_seed(rt: HostRuntime) {
         ),
     ];
     for (seed, level, wanted) in cases {
-        let mut noise = Noise::new(seed, level);
-        for want in wanted {
-            let noisy = noise.add(Symbol { i: 700, q: -700 });
-            assert_eq!(rt; noisy, symbol(want), "seed {seed}");
-        }
+        assert_adds(&rt, Noise::new(seed, level), [700, -700], wanted);
     }
+}
+
+#[test]
+fn adds_gaussian_noise(rt: HostRuntime) {
+    let cases: [(u64, i32, [[i16; 2]; 4]); 5] = [
+        (
+            1,
+            1000,
+            [[1019, -792], [890, -783], [223, -454], [899, -1123]],
+        ),
+        (
+            0,
+            -1000,
+            [[-693, 831], [322, 1116], [-1034, -1677], [2389, 2235]],
+        ),
+        (
+            1 << 40,
+            4000,
+            [[695, -700], [698, -701], [696, -699], [700, -701]],
+        ),
+        (
+            7,
+            622,
+            [[683, -1188], [473, -978], [814, -220], [909, -928]],
+        ),
+        (
+            u64::MAX,
+            -235,
+            [[363, 1280], [-183, -168], [1279, -1307], [334, -199]],
+        ),
+    ];
+    for (seed, hundredths, wanted) in cases {
+        assert_adds(&rt, gaussian(&rt, seed, hundredths), [700, -700], wanted);
+    }
+    assert_adds(
+        &rt,
+        gaussian(&rt, 1, -1000),
+        [32767, -32768],
+        [
+            [32767, -32768],
+            [32767, -32768],
+            [27993, -30308],
+            [32767, -32768],
+        ],
+    );
 }
 
 #[test]

@@ -22,20 +22,20 @@ pub fn add_to_all<R: CountedRead, W: CountedWrite>(
 ) -> Result<(), StreamFault>
     requires reader { CanCount (R.count reader.old) }
     requires writer { CanCount (W.count writer.old) }
-    ensures written { OnOk result (IfSome (R.remaining reader.old) (λ xs. Appends
-        (W.contents writer.old) (W.contents writer.new) (noisy noise.old.level noise.old.generator (symbols_of xs)))) }
+    ensures written { OnOk result (IfSome (R.remaining reader.old) (λ xs. Appends (W.contents writer.old)
+        (W.contents writer.new) (noisy noise.old.strength noise.old.generator (symbols_of xs)))) }
     ensures drawn { OnOk result (IfSome (R.remaining reader.old) (λ xs.
-        noise.new.generator ≡ drawn_for (length (symbols_of xs)) noise.old.generator)) }
+        noise.new.generator ≡ drawn_for noise.old.strength (length (symbols_of xs)) noise.old.generator)) }
     ensures write { IsErrOf result StreamFault.Write → W.count writer.new ≡ W.count writer.old + 1 }
     ensures wrote { result ≢ Err StreamFault.Write → W.count writer.new ≡ W.count writer.old }
     ensures read { IsErrOf result StreamFault.Read → R.count reader.new ≡ R.count reader.old
         → IfSome (R.remaining reader.old) (λ xs. most_symbols ≤ length (symbols_of xs)) }
     ensures no_read { result ≢ Err StreamFault.Read → R.count reader.new ≡ R.count reader.old }
     ensures front { IsErrOf result StreamFault.Read → PassesOnBy R.remaining R.count W.contents
-        noise.old.level noise.old.generator reader.old reader.new writer.old writer.new }
-    ensures part { IsErrOf result StreamFault.Write → PassesPart noise.old.level noise.old.generator
+        noise.old.strength noise.old.generator reader.old reader.new writer.old writer.new }
+    ensures part { IsErrOf result StreamFault.Write → PassesPart noise.old.strength noise.old.generator
         (R.remaining reader.old) (R.remaining reader.new) (W.contents writer.old) (W.contents writer.new) }
-    ensures level { noise.new.level ≡ noise.old.level }
+    ensures strength { noise.new.strength ≡ noise.old.strength }
 {
     for _taken in 0..MOST_SYMBOLS {
         let Some(symbol) = read_symbol(reader).map_err(|_| StreamFault::Read)? else {

@@ -21,18 +21,18 @@ use Rattle.s2_tool.specs.Links.{Begins, Causes}
 abbrev pub IsSpoilt : ChannelWords → Streams → Streams → Result Exit Fault → Type 0
 IsSpoilt channel old new (Ok exit) =
     (exit ≡ exits.Fine)
-    × IfSome old.taken (λ xs. Appends old.given new.given (noisy channel.level (pcg32_of_seed (pcg32_seed 16 channel.seed)) (symbols_of xs)))
+    × IfSome old.taken (λ xs. Appends old.given new.given (noisy channel.strength (pcg32_of_seed (pcg32_seed 16 channel.seed)) (symbols_of xs)))
 IsSpoilt channel old new (Err faults.Read) =
-    PassesOn channel.level (pcg32_of_seed (pcg32_seed 16 channel.seed)) old.taken new.taken old.given new.given old.reads new.reads
+    PassesOn channel.strength (pcg32_of_seed (pcg32_seed 16 channel.seed)) old.taken new.taken old.given new.given old.reads new.reads
 IsSpoilt channel old new (Err faults.Write) =
-    PassesPart channel.level (pcg32_of_seed (pcg32_seed 16 channel.seed)) old.taken new.taken old.given new.given
+    PassesPart channel.strength (pcg32_of_seed (pcg32_seed 16 channel.seed)) old.taken new.taken old.given new.given
 IsSpoilt channel old new (Err f) = ⊥
 
 -- the streams of a reader and a writer, beside no report
 abbrev pub piped_by : {R W : Type 0} → (R → Option (List ℕ)) → (R → ℕ) → (W → Option (List ℕ)) → (W → ℕ) → R → W → Streams
 piped_by taken reads given writes r w = piped (taken r) (reads r) (given w) (writes w)
 
--- `noise` by a channel's seed and level
+-- `noise` by a channel's seed and strength
 pub record Spoils (channel : ChannelWords) (old new : Streams) (ended : Result Exit Fault) : Type 0 where
   pub spoilt : IsSpoilt channel old new ended
   pub causes : Causes old new ended

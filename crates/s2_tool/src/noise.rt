@@ -21,7 +21,7 @@ pub(crate) fn spoil<R: CountedRead, W: CountedWrite>(
     ensures { let ends = piped_by R.remaining R.count W.contents W.count in
         Spoils channel (ends from.old to.old) (ends from.new to.new) result }
 {
-    let mut noise = Noise::new(channel.seed, channel.level);
+    let mut noise = Noise::of(channel.seed, channel.strength);
     match add_to_all(&mut noise, from, to) {
         Ok(()) => Ok(Exit::Fine),
         Err(StreamFault::Read) => Err(Fault::Read),
@@ -47,7 +47,7 @@ fn spoil_begun<R: CountedRead, W: Output>(
     }
 }
 
-/// `noise`: writes the symbols of a reader with the noise that a seed and a level determine. It prints
+/// `noise`: writes the symbols of a reader with the noise that a seed and a strength, a level or an Es/N0, determine. It prints
 /// nothing. One to three bytes that are left at the end are dropped.
 pub fn noise_command<R: CountedRead, W: Output, O: CountedWrite, E: CountedWrite>(
     channel: ChannelWords,

@@ -161,7 +161,7 @@ fn loop_files<R: CountedRead, W: Output, O: CountedWrite, E: CountedWrite>(
 }
 
 /// `run`: sends the packets of a stream on the link of a setup and a row file, with the dummy frames that its words
-/// ask for, adds the noise of a seed and a level to their symbols, and receives these: it prints the report of `demod`, and writes
+/// ask for, adds the noise of a seed and a strength to their symbols, and receives these: it prints the report of `demod`, and writes
 /// the packets that come out. The symbols are kept in memory. If a packet is refused, nothing is printed, and the file that is
 /// written is not begun. The note on rows that are not the standard's is written to `notes`.
 pub fn run_command<R: CountedRead, W: Output, O: CountedWrite, E: CountedWrite>(

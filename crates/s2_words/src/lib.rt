@@ -11,6 +11,7 @@
 //! ```
 #![tactic(auto)]
 
+mod decibels;
 pub mod laws;
 mod parser;
 mod reading;

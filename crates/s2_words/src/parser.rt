@@ -1,7 +1,7 @@
 //! The parser that the table describes.
-use crate::table::{ABOUT, Entry, Form, MORE, Word, commands, more_of, words_of};
+use crate::table::{ABOUT, Entry, Form, MORE, Word, choice_of, commands, more_of, words_of};
 use clap::builder::ValueParser;
-use clap::{Arg, ArgAction, Command};
+use clap::{Arg, ArgAction, ArgGroup, Command};
 use std::alloc::{AllocError, Global};
 
 /// What is read of the values that may be told by a name.
@@ -55,6 +55,10 @@ fn arg_of<'a>(alloc: Global, word: Word, values: Values) -> Result<Arg<'a>, Allo
         Form::NamedNumber { value, allowed } => {
             arg.long(word.name).value_name(value).value_parser(allowed)
         }
+        Form::NamedDecimal { value } => arg
+            .long(word.name)
+            .value_name(value)
+            .allow_negative_numbers(true),
         Form::NamedFile => arg.long(word.name).value_name("FILE"),
         Form::File => arg.required(true),
     };
@@ -72,7 +76,19 @@ pub(crate) fn command_of<'a>(
     for word in words_of(entry.command) {
         command = command.arg(arg_of(alloc, *word, values)?)?;
     }
-    Ok(command)
+    with_choice(alloc, command, choice_of(entry.command))
+}
+
+/// A command of whose words just one of these has to stand, where there are some.
+fn with_choice<'a>(
+    alloc: Global,
+    command: Command<'a>,
+    choice: &[&'static str],
+) -> Result<Command<'a>, AllocError> {
+    if choice.is_empty() {
+        return Ok(command);
+    }
+    command.group(ArgGroup::new(alloc, "choice").args(choice)?.required(true))
 }
 
 /// A program with one more command.

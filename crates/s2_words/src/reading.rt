@@ -1,4 +1,5 @@
 //! What words ask for.
+use crate::decibels::esn0_told;
 use crate::parser::program;
 use crate::refusal::{misused, not_understood, values_in};
 use crate::request::{
@@ -8,6 +9,7 @@ use crate::request::{
 use crate::told::{Number, TuningWords, judging_told, modcod_told, progress_told, tuning_told};
 use clap::parser::ValueSource;
 use clap::{ArgMatches, Error};
+use s2_channel::Strength;
 use s2_link::{RollOff, Tuning};
 use s2_mode::Mode;
 use s2_modes::SymbolRate;
@@ -60,10 +62,17 @@ fn tuning_of(m: &ArgMatches<'_>) -> Option<Tuning> {
     tuning_told(&mode, words)
 }
 
+fn strength_of(m: &ArgMatches<'_>) -> Option<Strength> {
+    match m.get_str("esn0") {
+        Some(text) => esn0_told(text).map(Strength::EsN0),
+        None => m.get_one::<u16>("level").map(Strength::Level),
+    }
+}
+
 fn channel_of(m: &ArgMatches<'_>) -> Option<ChannelWords> {
     Some(ChannelWords {
         seed: m.get_one::<u64>("seed")?,
-        level: m.get_one::<u16>("level")?,
+        strength: strength_of(m)?,
     })
 }
 

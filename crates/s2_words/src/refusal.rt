@@ -1,4 +1,5 @@
 //! Usage faults that say what is to stand where a value was told by a name that is none.
+use crate::decibels::esn0_told;
 use crate::parser::{Values, command_of, program};
 use crate::table::{Entry, commands};
 use crate::told::modcod_told;
@@ -127,6 +128,14 @@ fn message_of(alloc: Global, m: &ArgMatches<'_>) -> Result<Option<String>, Alloc
         if m.get_one::<u8>("ro").and_then(RollOff::new).is_none() {
             let text = format!(in alloc;
                 "invalid value '{name}' for '--ro <R>': it is 0 for 0.35, 1 for 0.25, or 2 for 0.20"
+            )?;
+            return Ok(Some(text));
+        }
+    }
+    if let Some(number) = m.get_str("esn0") {
+        if esn0_told(number).is_none() {
+            let text = format!(in alloc;
+                "invalid value '{number}' for '--esn0 <DB>': it is -10 to 40, with at most two digits after the point"
             )?;
             return Ok(Some(text));
         }

@@ -1,4 +1,5 @@
 //! What the words of a command line ask for.
+use s2_channel::Strength;
 use s2_link::{RollOff, Tuning};
 use s2_modes::SymbolRate;
 use s2_scramble::ScramblingNumber;
@@ -21,11 +22,11 @@ pub struct LinkWords {
     pub roll_off: RollOff,
 }
 
-/// The numbers of a channel's noise.
+/// The seed of a channel's noise, and how strong that is.
 #[derive(Clone, Copy, PartialEq, Eq)]
 pub struct ChannelWords {
     pub seed: u64,
-    pub level: u16,
+    pub strength: Strength,
 }
 
 /// `rows`: the numbers of made rows.

@@ -139,7 +139,7 @@ Exits:
   1  a usage fault, or a fault that standard error tells: the symbols before a read that failed stand in OUT
 
 Example:
-  s2 noise --seed 1 --level 100 symbols noisy
+  s2 noise --seed 1 --esn0 6.5 symbols noisy
   s2 mod --modcod 4 rows - - < packets.ts | s2 noise --seed 1 --level 100 - - | s2 demod --modcod 4 rows - received.ts";
 
 /// The report of a receiver, and its exits.
@@ -211,6 +211,10 @@ pub(crate) enum Form {
     NamedNumber {
         value: &'static str,
         allowed: ValueParser<'static>,
+    },
+    /// `--name VALUE`, a number with a sign and a decimal point or without, which may be left out.
+    NamedDecimal {
+        value: &'static str,
     },
     /// `--name FILE`.
     NamedFile,
@@ -417,12 +421,17 @@ const SEED: Word = Word {
 
 const LEVEL: Word = Word {
     name: "level",
-    form: Form::Number {
+    form: Form::NamedNumber {
         value: "L",
         allowed: ValueParser::Signed(0, u16::MAX as i64),
-        default: None,
     },
     help: "Level of the noise, 0 to 65535: a standard deviation of 0.816 L in each component, where a QPSK point has 700",
+};
+
+const ESN0: Word = Word {
+    name: "esn0",
+    form: Form::NamedDecimal { value: "DB" },
+    help: "Es/N0 in dB, -10 to 40 with two decimals at most: Gaussian noise, for symbols of the amplitude that `mod` sends",
 };
 
 const RATE: Word = Word {
@@ -578,9 +587,10 @@ static MOD_WORDS: [Word; 11] = [
 ];
 
 /// The words of `noise`, in order.
-static NOISE_WORDS: [Word; 6] = [
+static NOISE_WORDS: [Word; 7] = [
     SEED,
     LEVEL,
+    ESN0,
     QUIET_AND_STILL,
     PROGRESS,
     file!("IN", "File of symbols"),
@@ -613,7 +623,7 @@ static DEMOD_WORDS: [Word; 18] = [
 ];
 
 /// The words of `run`, in order.
-static RUN_WORDS: [Word; 21] = [
+static RUN_WORDS: [Word; 22] = [
     MODCOD,
     SHORT,
     PILOTS,
@@ -629,6 +639,7 @@ static RUN_WORDS: [Word; 21] = [
     TUNED,
     SEED,
     LEVEL,
+    ESN0,
     STRICT,
     QUIET_AND_STILL,
     PROGRESS,
@@ -649,6 +660,14 @@ pub(crate) fn words_of(command: Name) -> &'static [Word] {
         Name::Noise => &NOISE_WORDS,
         Name::Demod => &DEMOD_WORDS,
         Name::Run => &RUN_WORDS,
+    }
+}
+
+/// Words of a command of which just one has to stand, if there are any.
+pub(crate) fn choice_of(command: Name) -> &'static [&'static str] {
+    match command {
+        Name::Noise | Name::Run => &["level", "esn0"],
+        _ => &[],
     }
 }
 

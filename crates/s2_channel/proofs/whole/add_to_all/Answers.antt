@@ -6,15 +6,15 @@ use Rattle.s2_channel.proofs.whole.add_to_all.Goals as goal
 pub loop-taken-init : goal.loop-taken-init
 loop-taken-init g c = record {
   passed = passes_none _ _ _ _ (Consumes-nil _) (Appends-nil _);
-  level = search rules;
+  strength = search rules;
   reads = search rules;
   writes = search rules;
 }
 
 pub loop-taken-preserved : goal.loop-taken-preserved
 loop-taken-preserved g c = record {
-  passed = passes_on _ _ _ _ _ _ _ _ _ _ _ _ _ _ _ c.loop-taken.invariant.passed (search rules) c.add.ensures.drawn c.add.ensures.level (search rules);
-  level = c.add.ensures.level ∙ c.loop-taken.invariant.level;
+  passed = passes_on _ _ _ _ _ _ _ _ _ _ _ _ _ _ _ c.loop-taken.invariant.passed (search rules) c.add.ensures.drawn c.add.ensures.strength c.loop-taken.invariant.strength (search rules);
+  strength = c.add.ensures.strength ∙ c.loop-taken.invariant.strength;
   reads = search rules;
   writes = search rules;
 }
@@ -36,4 +36,4 @@ pub returns-clause-front : goal.returns-clause-front
 returns-clause-front g c = λ e. passes_most _ _ _ _ _ _ _ _ _ _ _ c.loop-taken.invariant.passed (search rules)
 
 pub returns-in_err-map_err-clause-part : goal.returns-in_err-map_err-clause-part
-returns-in_err-map_err-clause-part g c = λ e. passes_part _ _ _ _ _ _ _ _ _ _ _ _ _ _ c.loop-taken.invariant.passed c.loop-taken.invariant.level (search rules) c.add.ensures.drawn (search rules)
+returns-in_err-map_err-clause-part g c = λ e. passes_part _ _ _ _ _ _ _ _ _ _ _ _ _ _ c.loop-taken.invariant.passed c.loop-taken.invariant.strength (search rules) c.add.ensures.drawn (search rules)

@@ -1,0 +1,36 @@
+-- Gaussian noise (this project's own): how strong it is by Es/N0, and what a component gains by it. Symbols have the energy
+-- Es = 2 · 700², and each component gains noise of the variance N0/2.
+use Rattle.std.specs.Prelude.{Bool, ◌&&◌, nat_le, ℕ, zero, suc, ℤ, pos, ◌+◌, ◌-◌, ◌*◌, ◌/◌, ◌^◌, ◌-ℤ◌}
+
+-- the highest Es/N0, 40 dB, in hundredths of a dB above the lowest, -10 dB
+abbrev pub most_esn0 : ℕ
+most_esn0 = 5000
+
+-- a number of 2^-30, to the nearest whole number, halves up
+abbrev pub nearest : ℕ → ℕ
+nearest x = (x + 2 ^ 29) / 2 ^ 30
+
+-- at -10 dB: the standard deviation of a component's noise, 700 · 10^(1/2), over that of the sum of 64 bytes, 349520^(1/2), times 2^30
+abbrev pub greatest_amplitude : ℕ
+greatest_amplitude = 4020331772
+
+-- by what a hundredth of a dB lessens an amplitude: 10^(-1/2000) times 2^30
+abbrev pub hundredth : ℕ
+hundredth = 1072506344
+
+-- by what the sum of 64 bytes is multiplied, times 2^30, so many hundredths of a dB above -10 dB
+unfoldable pub amplitude_at : ℕ → ℕ
+amplitude_at zero = greatest_amplitude
+amplitude_at (suc n) = nearest (amplitude_at n * hundredth)
+
+-- what a component gains by a sum of 64 bytes, whose mean is 8160: the difference times the amplitude, to the nearest whole
+-- number, halves away from zero. One of the two terms is 0.
+unfoldable pub gaussian_gain : ℕ → ℕ → ℤ
+gaussian_gain a drawn = pos (nearest ((drawn - 8160) * a)) -ℤ pos (nearest ((8160 - drawn) * a))
+
+-- that an amplitude gives a component noise of the variance N0/2, to 0.001 %: 349520 times its square, a number of 2^-60, is 490000 times
+-- 10 for -10 dB, and 10^(1/100) times less for each tenth of a dB. Compared are hundredth powers, which are whole numbers.
+unfoldable pub has_variance : ℕ → ℕ → Bool
+has_variance tenths a =
+    let variance = (100000 * 349520 * a ^ 2) ^ 100 * 10 ^ tenths in
+    nat_le ((99999 * 4900000 * 2 ^ 60) ^ 100) variance && nat_le variance ((100001 * 4900000 * 2 ^ 60) ^ 100)

@@ -1,0 +1,34 @@
+//! Es/N0 as it stands on the command line.
+ghost use Rattle.std.specs.Prelude.{◌≤ℤ◌, pos, IfSome};
+
+use s2_channel::EsN0;
+
+/// The number of a text of decimal digits and nothing else.
+fn digits(text: &str) -> Option<u16> {
+    if text.bytes().all(|byte| byte.is_ascii_digit()) {
+        text.parse::<u16>().ok()
+    } else {
+        None
+    }
+}
+
+/// Hundredths of a number without a sign, with one or two digits after a point or none.
+fn hundredths(text: &str) -> Option<i32>
+    ensures { IfSome result (λ h. pos 0 ≤ℤ h) }
+{
+    let (whole, rest) = text.split_once('.').unwrap_or((text, "0"));
+    let least = match rest.len() {
+        1 => 10 * i32::from(digits(rest)?),
+        2 => i32::from(digits(rest)?),
+        _ => return None,
+    };
+    Some(100 * i32::from(digits(whole)?) + least)
+}
+
+/// An Es/N0 in dB, with a sign or without.
+pub(crate) fn esn0_told(text: &str) -> Option<EsN0> {
+    match text.strip_prefix("-") {
+        Some(size) => EsN0::new(-hundredths(size)?),
+        None => EsN0::new(hundredths(text.strip_prefix("+").unwrap_or(text))?),
+    }
+}
