@@ -64,6 +64,8 @@ if __name__=='__main__':
     for seed,hundredths in [(1,1000),(0,-1000),(1<<40,4000),(7,622),(2**64-1,-235)]:
         n=Gaussian(seed,hundredths)
         print(seed,hundredths,n.a,[n.add(700,-700) for _ in range(4)])
+    # how far the amplitude is from the right one, at most
+    print(max(abs(Gaussian(0,h).a/(ONE*700*10**(-h/2000)/349520**.5)-1) for h in range(-1000,4001)))
     for seed in range(1,4):
         n=Gaussian(seed,-1000); print(seed,[n.add(32767,-32768) for _ in range(4)])
     # clamps

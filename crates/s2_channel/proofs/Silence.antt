@@ -20,7 +20,9 @@ unmoved x d fits = let none = no_gain d in omega (arith, ints, clamps, none, fit
 
 pub silent : SilentLaw
 unfolding add
-silent g s i q = λ x. (record { i = unmoved s.i (draw silence g).0 i x; q = unmoved s.q (draw silence (draw silence g).1).0 q x }, (draw silence (draw silence g).1).1)
+silent g s i q = λ x.
+    let between = (draw silence g).1 in
+    (record { i = unmoved s.i (draw silence g).0 i x; q = unmoved s.q (draw silence between).0 q x }, (draw silence between).1)
 
 both_small : (a b : ℕ) → a < 256 → b < 256 → (i : ℕ) → get_or (a ∷ b ∷ []) i 0 < 256
 both_small a b ha hb zero = ha

@@ -19,7 +19,8 @@ pub record Passed (taken : ℕ) (r r' w w' : Option (List ℕ)) (first_strength 
   pub count : length (symbols_of bytes) ≡ taken
   pub written : Appends w w' (noisy first_strength first (symbols_of bytes))
   pub drawn : now ≡ drawn_for first_strength taken first
-  pub goes_on : (more : List Symbol) → noisy first_strength first (symbols_of bytes ++ more) ≡ noisy first_strength first (symbols_of bytes) ++ noisy strength now more
+  pub goes_on : (more : List Symbol) → noisy first_strength first (symbols_of bytes ++ more)
+      ≡ noisy first_strength first (symbols_of bytes) ++ noisy strength now more
 
 pub passes_none : (r w : Option (List ℕ)) (l : Strength) (g : Lcg) → Consumes r r [] → Appends w w [] → Passed 0 r r w w l l g g
 passes_none r w l g read written = record {
@@ -54,17 +55,21 @@ short (a ∷ b ∷ c ∷ []) h = refl
 short (a ∷ b ∷ c ∷ d ∷ bytes) h = absurd (omega arith)
 
 -- what one symbol more, with its noise, is written as
-one_noisy : (l k : Strength) (g h h' : Lcg) (s t : Symbol) (done : List Symbol) → ((more : List Symbol) → noisy l g (done ++ more) ≡ noisy l g done ++ noisy k h more)
+one_noisy : (l k : Strength) (g h h' : Lcg) (s t : Symbol) (done : List Symbol)
+    → ((more : List Symbol) → noisy l g (done ++ more) ≡ noisy l g done ++ noisy k h more)
     → (t, h') ≡ add k h s → (more : List Symbol) → noisy l g (done ++ s ∷ more) ≡ (noisy l g done ++ symbol_bytes t) ++ noisy k h' more
 one_noisy l k g h h' s t done goes_on drawn more =
     goes_on (s ∷ more) ∙ ap (λ b. noisy l g done ++ b) (ap (λ a. symbol_bytes a.0 ++ noisy k a.1 more) (sym drawn))
     ∙ sym (append_assoc (noisy l g done) (symbol_bytes t) (noisy k h' more))
 
-one_last : (l k : Strength) (g h h' : Lcg) (s t : Symbol) (done : List Symbol) → ((more : List Symbol) → noisy l g (done ++ more) ≡ noisy l g done ++ noisy k h more)
+one_last : (l k : Strength) (g h h' : Lcg) (s t : Symbol) (done : List Symbol)
+    → ((more : List Symbol) → noisy l g (done ++ more) ≡ noisy l g done ++ noisy k h more)
     → (t, h') ≡ add k h s → noisy l g (done ++ s ∷ []) ≡ noisy l g done ++ symbol_bytes t
 one_last l k g h h' s t done goes_on drawn = one_noisy l k g h h' s t done goes_on drawn [] ∙ append-nil (noisy l g done ++ symbol_bytes t)
 
-pub passes_on : (taken : ℕ) (r r' r'' w w' w'' : Option (List ℕ)) (l k k' : Strength) (g h h' : Lcg) (s t : Symbol) → Passed taken r r' w w' l k g h → YieldsSymbol r' r'' (Some s) → (t, h') ≡ add k h s → k' ≡ k → k ≡ l → Appends w' w'' (symbol_bytes t) → Passed (taken + 1) r r'' w w'' l k' g h'
+pub passes_on : (taken : ℕ) (r r' r'' w w' w'' : Option (List ℕ)) (l k k' : Strength) (g h h' : Lcg) (s t : Symbol)
+    → Passed taken r r' w w' l k g h → YieldsSymbol r' r'' (Some s) → (t, h') ≡ add k h s → k' ≡ k → k ≡ l → Appends w' w'' (symbol_bytes t)
+    → Passed (taken + 1) r r'' w w'' l k' g h'
 passes_on taken r r' r'' w w' w'' l k k' g h h' s t p (four, long, spelt, read) drawn same as_first more =
     let next_count : suc taken ≡ taken + 1 = omega arith in
     let now : symbols_of (p.bytes ++ four) ≡ symbols_of p.bytes ++ s ∷ [] = p.whole four ∙ ap (λ ss. symbols_of p.bytes ++ ss) spelt in
@@ -80,7 +85,8 @@ passes_on taken r r' r'' w w' w'' l k k' g h h' s t p (four, long, spelt, read) 
           ∙ sym (append_assoc (symbols_of p.bytes) (symbols_of four) (symbols_of rest)) ∙ ap (λ ss. ss ++ symbols_of rest) (sym (p.whole four));
       count = ap length now ∙ length-append (symbols_of p.bytes) (s ∷ []) ∙ ap (λ n. n + 1) p.count;
       written = subst (Appends w w'') (sym all) (Appends-trans _ _ _ _ _ p.written more);
-      drawn = one_more k h h' s t drawn ∙ ap (λ n. (draw n (draw n h).1).1) as_first ∙ ap (λ x. (draw l (draw l x).1).1) p.drawn ∙ ap (λ n. drawn_for l n g) next_count;
+      drawn = one_more k h h' s t drawn ∙ ap (λ n. (draw n (draw n h).1).1) as_first ∙ ap (λ x. (draw l (draw l x).1).1) p.drawn
+          ∙ ap (λ n. drawn_for l n g) next_count;
       goes_on = λ rest. ap (λ ss. noisy l g (ss ++ rest)) now ∙ ap (noisy l g) (append_assoc (symbols_of p.bytes) (s ∷ []) rest)
           ∙ one_noisy l k g h h' s t (symbols_of p.bytes) p.goes_on drawn rest ∙ ap (λ n. (noisy l g (symbols_of p.bytes) ++ symbol_bytes t) ++ noisy n h' rest) (sym same)
           ∙ ap (λ b. b ++ noisy k' h' rest) (sym all);
@@ -115,14 +121,16 @@ passes_most taken r r' w w' l k g h reads reads_now p all = record {
 }
 
 -- what one symbol is written as, behind those for which the noise was drawn
-last_noisy : (l : Strength) (taken : ℕ) (g h h' : Lcg) (s t : Symbol) (done : List Symbol) (four : List ℕ) → length done ≡ taken → h ≡ drawn_for l taken g → symbols_of four ≡ s ∷ []
+last_noisy : (l : Strength) (taken : ℕ) (g h h' : Lcg) (s t : Symbol) (done : List Symbol) (four : List ℕ) → length done ≡ taken
+    → h ≡ drawn_for l taken g → symbols_of four ≡ s ∷ []
     → (t, h') ≡ add l h s → noisy l (drawn_for l (length done) g) (symbols_of four) ≡ symbol_bytes t
 last_noisy l taken g h h' s t done four count now spelt drawn =
     let there : drawn_for l (length done) g ≡ h = ap (λ n. drawn_for l n g) count ∙ sym now in
     ap (λ x. noisy l x (symbols_of four)) there ∙ ap (noisy l h) spelt ∙ append-nil (symbol_bytes (add l h s).0) ∙ ap (λ a. symbol_bytes a.0) (sym drawn)
 
 -- a write failed within a symbol
-pub passes_part : (taken : ℕ) (r r' r'' w w' w'' : Option (List ℕ)) (l k : Strength) (g h h' : Lcg) (s t : Symbol) → Passed taken r r' w w' l k g h → k ≡ l → YieldsSymbol r' r'' (Some s) → (t, h') ≡ add k h s
+pub passes_part : (taken : ℕ) (r r' r'' w w' w'' : Option (List ℕ)) (l k : Strength) (g h h' : Lcg) (s t : Symbol) → Passed taken r r' w w' l k g h
+    → k ≡ l → YieldsSymbol r' r'' (Some s) → (t, h') ≡ add k h s
     → AppendsPart (symbol_bytes t) w' w'' → PassesPart l g r r'' w w''
 passes_part taken r r' r'' w w' w'' l k g h h' s t p same (four, long, spelt, read) drawn part =
     let noise = last_noisy l taken g h h' s t (symbols_of p.bytes) four p.count p.drawn spelt (drawn ∙ ap (λ n. add n h s) same) in
@@ -157,17 +165,20 @@ all_read taken r r' r'' w w' l k g h xs known (part, few, read, end) p =
     let last : left ≡ part = parted ∙ ap (λ l. part ++ l) none ∙ append-nil part in
     ap symbols_of (all ∙ ap (λ l. p.bytes ++ l) last) ∙ no_more p.bytes part p.whole few
 
-pub passed_all : (taken : ℕ) (r r' r'' w w' : Option (List ℕ)) (l k : Strength) (g h : Lcg) (xs : List ℕ) → r ≡ Some xs → Passed taken r r' w w' l k g h → YieldsSymbol r' r'' None → Appends w w' (noisy l g (symbols_of xs))
+pub passed_all : (taken : ℕ) (r r' r'' w w' : Option (List ℕ)) (l k : Strength) (g h : Lcg) (xs : List ℕ) → r ≡ Some xs
+    → Passed taken r r' w w' l k g h → YieldsSymbol r' r'' None → Appends w w' (noisy l g (symbols_of xs))
 passed_all taken r r' r'' w w' l k g h xs known p end =
     let whole = all_read taken r r' r'' w w' l k g h xs known end p in
     subst (λ ss. Appends w w' (noisy l g ss)) (sym whole) p.written
 
-pub drawn_all : (taken : ℕ) (r r' r'' w w' : Option (List ℕ)) (l k : Strength) (g h : Lcg) (xs : List ℕ) → r ≡ Some xs → Passed taken r r' w w' l k g h → YieldsSymbol r' r'' None → h ≡ drawn_for l (length (symbols_of xs)) g
+pub drawn_all : (taken : ℕ) (r r' r'' w w' : Option (List ℕ)) (l k : Strength) (g h : Lcg) (xs : List ℕ) → r ≡ Some xs
+    → Passed taken r r' w w' l k g h → YieldsSymbol r' r'' None → h ≡ drawn_for l (length (symbols_of xs)) g
 drawn_all taken r r' r'' w w' l k g h xs known p end =
     let whole = all_read taken r r' r'' w w' l k g h xs known end p in
     p.drawn ∙ ap (λ n. drawn_for l n g) (sym (ap length whole ∙ p.count))
 
-pub passed_many : (taken : ℕ) (r r' w w' : Option (List ℕ)) (l k : Strength) (g h : Lcg) (xs : List ℕ) → r ≡ Some xs → Passed taken r r' w w' l k g h → taken ≤ length (symbols_of xs)
+pub passed_many : (taken : ℕ) (r r' w w' : Option (List ℕ)) (l k : Strength) (g h : Lcg) (xs : List ℕ) → r ≡ Some xs
+    → Passed taken r r' w w' l k g h → taken ≤ length (symbols_of xs)
 passed_many taken r r' w w' l k g h xs known p =
     let (left, left_known, all) = split r r' p.bytes xs known p.read in
     let long = ap (λ bs. length (symbols_of bs)) all ∙ ap length (p.whole left) ∙ length-append (symbols_of p.bytes) (symbols_of left) in

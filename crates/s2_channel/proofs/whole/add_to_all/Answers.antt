@@ -13,7 +13,8 @@ loop-taken-init g c = record {
 
 pub loop-taken-preserved : goal.loop-taken-preserved
 loop-taken-preserved g c = record {
-  passed = passes_on _ _ _ _ _ _ _ _ _ _ _ _ _ _ _ c.loop-taken.invariant.passed (search rules) c.add.ensures.drawn c.add.ensures.strength c.loop-taken.invariant.strength (search rules);
+  passed = passes_on _ _ _ _ _ _ _ _ _ _ _ _ _ _ _ c.loop-taken.invariant.passed (search rules)
+      c.add.ensures.drawn c.add.ensures.strength c.loop-taken.invariant.strength (search rules);
   strength = c.add.ensures.strength ∙ c.loop-taken.invariant.strength;
   reads = search rules;
   writes = search rules;
@@ -36,4 +37,5 @@ pub returns-clause-front : goal.returns-clause-front
 returns-clause-front g c = λ e. passes_most _ _ _ _ _ _ _ _ _ _ _ c.loop-taken.invariant.passed (search rules)
 
 pub returns-in_err-map_err-clause-part : goal.returns-in_err-map_err-clause-part
-returns-in_err-map_err-clause-part g c = λ e. passes_part _ _ _ _ _ _ _ _ _ _ _ _ _ _ c.loop-taken.invariant.passed c.loop-taken.invariant.strength (search rules) c.add.ensures.drawn (search rules)
+returns-in_err-map_err-clause-part g c = λ e.
+    passes_part _ _ _ _ _ _ _ _ _ _ _ _ _ _ c.loop-taken.invariant.passed c.loop-taken.invariant.strength (search rules) c.add.ensures.drawn (search rules)
