@@ -138,8 +138,8 @@ impl Noise {
         }
     }
 
-    /// The symbol with the noise that is drawn next, first for I, then for Q. Level 0 draws as many words
-    /// as any other.
+    /// The symbol with the noise that is drawn next, first for I, then for Q. Level 0 draws the same number of
+    /// words as any other.
     #[tactic(auto, unfolding(crate::specs::Noise::add))]
     pub fn add(&mut self, symbol: Symbol) -> Symbol
         ensures drawn { (result, self.new.generator) ≡ add self.old.strength self.old.generator symbol }

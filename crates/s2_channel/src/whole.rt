@@ -9,12 +9,11 @@ ghost use Rattle.s2_channel.specs.Noise.{drawn_for, noisy, PassesOnBy, PassesPar
 use crate::noise::Noise;
 use s2_mode::{CountedRead, CountedWrite, MOST_SYMBOLS, StreamFault, read_symbol, write_symbol};
 
-/// Writes each symbol of a stream with its noise, up to the reader's end, where one to three bytes that
-/// are left over are dropped. `Read` where a read failed, or where [`MOST_SYMBOLS`] symbols came: then the
-/// writer has gained just the symbols whose four bytes were read, each whole and with its noise. `Write`
-/// where a write failed: then whole symbols were read and no byte more, and the writer has gained all of
-/// them but the last in the same way, and of the last one's four bytes a part and not all. Behind the end
-/// the noise goes on where the last symbol's ended.
+/// Writes each symbol of a stream with its noise, up to the reader's end; one to three bytes at the end are
+/// dropped. `Read` if a read failed or [`MOST_SYMBOLS`] symbols came: then the writer has gained exactly the
+/// symbols whose four bytes were read, each whole and with its noise. `Write` if a write failed: then whole
+/// symbols were read and no byte more. The writer has gained all of them but the last in the same way, and of
+/// the last one's four bytes a part and not all. The noise continues after the last symbol's.
 pub fn add_to_all<R: CountedRead, W: CountedWrite>(
     noise: &mut Noise,
     reader: &mut R,

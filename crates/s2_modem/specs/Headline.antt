@@ -1,4 +1,4 @@
--- What holds of a whole link: of each frame, and from packets to packets.
+-- Laws of a whole link: of each frame, and from packets to packets (EN 302 307-1, 5.1 to 5.5).
 use Rattle.std.specs.Prelude.{◌≡◌, ℕ, ◌<◌, ◌≤◌, IsTrue, Bool, List, [], ◌++◌, length, Option, Some, Ok}
 use Rattle.std.specs.Io.KnownBytes.{Appends}
 use Rattle.s2_mode.specs.Mode.{Mode, k_of, t_of, symbols_in}
@@ -52,8 +52,8 @@ pub record IsSent (m : Mode) (link : Link) (at : ℕ) (field : List ℕ) (codewo
   pub fits : length field ≤ field_bytes link.setup.mode
   pub codeword_is : IsCodewordFor link.setup.mode link.rows (header_at link.setup.roll_off at field) field codeword
 
--- Both codes together: where the first Nbch decided bits differ from the BCH word that was sent in at most t places, the message and the
--- field that were sent are delivered, and the report tells in how many. So of any frame's symbols.
+-- Both codes together. If the first Nbch decided bits differ from the BCH word that was sent in at most t places, the message and the
+-- field that were sent are delivered, with that number in the report. This holds for any frame's symbols.
 abbrev pub CorrectsWithin : Mode → Link → (last : Decision) → Type 0
 CorrectsWithin m link last =
     (at : ℕ) (field : List ℕ) (codeword : List Bool) (sent : IsSent m link at field codeword)
@@ -61,22 +61,25 @@ CorrectsWithin m link last =
     → IsDelivered last (differences (k_of link.setup.mode) (received_word link.setup.mode last.bits) sent.codeword_is.bch_word)
     (message_of link.setup.mode sent.codeword_is.bch_word) (header_at link.setup.roll_off at field) field
 
+-- `CorrectsWithin` holds for all symbols of a link
 abbrev pub AllCorrected : Mode → Link → Tuning → Type 0
 AllCorrected m link tuning = (symbols : List Symbol) → CorrectsWithin m link (frame_decision link tuning symbols)
 
+-- `AllCorrected` holds for each link and tuning of a mode
 abbrev pub BothCodesLaw : Mode → Type 0
 BothCodesLaw m = (link : Link) (tuning : Tuning) → AllCorrected m link tuning
 
--- Where a frame's soft values are scattered about the codeword that was sent, that is decided, certified, with no bit changed.
+-- if a frame's soft values are scattered about the codeword that was sent, that codeword is decided, certified, with no bit changed
 abbrev pub HearsScattered : Mode → Link → Tuning → List Symbol → (last : Decision) → Type 0
 HearsScattered m link tuning symbols last =
     (at : ℕ) (field : List ℕ) (codeword : List Bool) (sent : IsSent m link at field codeword) → IsScattered (code_of link.rows) (frame_soft link tuning symbols) codeword
     → IsDeliveredCertified last codeword (message_of link.setup.mode sent.codeword_is.bch_word) (header_at link.setup.roll_off at field) field
 
+-- `HearsScattered` holds for each link, tuning and symbols of a mode
 abbrev pub ScatteredFrameLaw : Mode → Type 0
 ScatteredFrameLaw m = (link : Link) (tuning : Tuning) (symbols : List Symbol) → HearsScattered m link tuning symbols (frame_decision link tuning symbols)
 
--- each frame of a link is received as it was sent, by each divisor
+-- each frame of a link is received as it was sent, with each divisor
 abbrev pub HearsLaw : Mode → Type 0
 HearsLaw m =
     (link : Link) (tuning : Tuning) (limit : ℕ) → IsLinkOf m link → link.setup.roll_off ≤ most_roll_off → IsDivisor tuning.divisor → Hears link (link_rules link tuning limit)

@@ -1,4 +1,4 @@
--- What the parts of a receiver hold.
+-- What the parts of a receiver hold (EN 302 307-1, 5.1 to 5.5).
 use Rattle.std.specs.Prelude.{◌≡◌, ℕ, Bool, List, Option, Some, None, IfSome, ℤ}
 use Rattle.s2_mode.specs.Mode.{Mode, IsMode, k_of, shape_in, HasCodeSizes}
 use Rattle.s2_mode.specs.declared.symbols.Symbol.{Symbol}
@@ -18,12 +18,12 @@ use Rattle.s2_link.specs.Tuning.{Tuning}
 use Rattle.s2_bch.specs.Decoding.{nearest}
 use Rattle.s2_modem.specs.Reports.{message_of, header_in, outcome_by, delivered_by, frame_decision}
 
--- what BCH decoding answers of some bits, and the bits that it leaves
+-- the result of BCH decoding on some bits, and the bits that it leaves
 abbrev pub FindsWord : Mode → List Bool → List Bool → Option ℕ → Type 0
 FindsWord m received bch_word (Some fixed) = (nearest m received ≡ Some bch_word) × (fixed ≡ differences (k_of m) received bch_word)
 FindsWord m received bch_word None = (nearest m received ≡ None) × (bch_word ≡ received)
 
--- what comes of that
+-- the outcome of that
 abbrev pub Reads : Mode → List Bool → Option ℕ → Outcome → Option (Header × List ℕ) → Type 0
 Reads m bch_word (Some fixed) outcome delivered =
     (outcome ≡ outcome_by fixed (header_of_bytes m (header_in (scrambled (message_of m bch_word)))))
@@ -69,7 +69,7 @@ decision_held m soft bits certificate bch_word d field = record {
   delivered = delivered_of d.header field;
 }
 
--- the stages of a decider are of its mode, the divisor is that of its tuning, and the joiner can take what was delivered last
+-- the stages of a decider are of its mode, the divisor is that of its tuning, and the joiner can take the last delivered field
 pub record IsListening (mode : Mode) (rows : Rows) (tuning : Tuning) (demodulates : Demodulating) (corrects : Mode) (reads : Reading) (last : Decided) : Type 0 where
   pub valid : IsMode mode
   pub sizes : HasCodeSizes mode

@@ -1,4 +1,6 @@
--- The headline: what a receiver of a link promises of a stream of symbols, and of the packets and the report that it writes of it.
+-- The headline: what a receiver of a link promises of a whole stream, of the packets and of the report that it writes (EN 302 307-1, 5.1 to 5.5). It is the clause
+-- `headline` of `demodulate`, and of `Receiver::run` for a new receiver and a reader whose bytes are known, if the call returns no fault.
+-- `laws::headline` says it of a caller that takes all steps one by one.
 use Rattle.std.specs.Prelude.{◌≡◌, ℕ, zero, suc, ◌+◌, ◌-◌, ◌<◌, ◌≤◌, ◌⊎◌, IsTrue, Bool, true, false, List, [], ◌∷◌, ◌++◌, All, length, map, take, drop, count_by, None, IfSome, Result, OnOk}
 use Rattle.std.specs.List.{flat_map, range_with_len}
 use Rattle.std.specs.Io.KnownBytes.{Appends}
@@ -36,10 +38,11 @@ use Rattle.s2_modem.specs.Streams.{IsWholeFrame, IsClear, AreEach}
 use Rattle.s2_modem.specs.Headline.{IsSent}
 use Rattle.s2_modem.specs.Steps.{AllHeard}
 
--- the symbols of the frame that begins at this one of a stream, and what is decided of them
+-- the symbols of the frame that begins at this symbol of a stream
 abbrev pub frame_from : Link → List Symbol → ℕ → List Symbol
 frame_from link symbols at = take (symbols_in link.setup.mode) (drop at symbols)
 
+-- the decision on the frame that begins at this symbol of a stream
 abbrev pub decision_from : Link → Tuning → List Symbol → ℕ → Decision
 decision_from link tuning symbols at = frame_decision link tuning (frame_from link symbols at)
 
@@ -55,13 +58,14 @@ pub record Place : Type 0 where
 abbrev pub found_at : Link → Tuning → List Symbol → Place → Found
 found_at link tuning symbols place = begins (found_as link.setup.mode tuning.lock place.behind) (drop place.at symbols)
 
--- where the search goes on: after the coded frame, after the dummy frame, or at the next symbol
+-- where the search continues: after the coded frame, after the dummy frame, or at the next symbol
 abbrev pub past : Mode → Place → Found → Place
 past m place founds.Coded = record { at = place.at + symbols_in m; frames = place.frames + 1; behind = true }
 past m place founds.Dummy = record { at = place.at + dummy_symbols; frames = place.frames; behind = true }
 past m place founds.Nothing = record { at = place.at + 1; frames = place.frames; behind = false }
 
--- where it stands after so many such moves: first at the stream's first symbol
+-- where the search is after so many moves: first at the stream's first symbol, then after each frame that it came to, and at the next
+-- symbol if no header passes
 abbrev pub stands : Link → Tuning → List Symbol → (moves : ℕ) → Place
 stands link tuning symbols zero = record { at = 0; frames = 0; behind = false }
 stands link tuning symbols (suc moves) = past link.setup.mode (stands link tuning symbols moves) (found_at link tuning symbols (stands link tuning symbols moves))
@@ -76,8 +80,8 @@ IsCutAt link tuning symbols place = (found_at link tuning symbols place ≡ foun
 abbrev pub wrong_bits : Link → Tuning → List Symbol → List Bool → ℕ
 wrong_bits link tuning symbols bch_word = differences (k_of link.setup.mode) (received_word link.setup.mode (frame_decision link tuning symbols).bits) bch_word
 
--- Symbols of the frame that was sent for a data field, which begins at this byte of the stream: as they were sent, or behind a header that
--- passes there, and scattered about the codeword, or with at most t wrong ones among the first Nbch decided bits.
+-- the symbols of the frame that was sent for a data field: clear, or whole with a header that passes there and at most t wrong ones among
+-- the first Nbch decided bits
 abbrev pub IsReadable : Link → Tuning → Bool → ℕ → List ℕ → List Symbol → Type 0
 IsReadable link tuning behind at field symbols =
     (codeword : List Bool) × (sent : IsCodewordFor link.setup.mode link.rows (header_at link.setup.roll_off at field) field codeword)
@@ -87,8 +91,8 @@ IsReadable link tuning behind at field symbols =
 abbrev pub AreReadable : Link → Tuning → Bool → ℕ → List Piece → List (List ℕ) → Type 0
 AreReadable link tuning = AreEach (IsReadable link tuning) (found_as link.setup.mode tuning.lock)
 
--- Symbols begin with the first frames that a transmitter of the link makes of these packets, as they come, and go on with others: the
--- frames of these data fields, of all of them where none is left.
+-- Symbols that begin with the first frames that a transmitter of the link makes of these packets, as they come. The frames are those of
+-- these data fields; other symbols follow.
 pub record Arriving (link : Link) (tuning : Tuning) (symbols : List Symbol) (packets fields later : List (List ℕ)) (pieces : List Piece) (rest : List Symbol) : Type 0 where
   pub each : All IsPacket packets
   pub bytes : AreBytes (joined packets)
@@ -102,7 +106,7 @@ closed_packets packets fields = joined (take (closed_in (length (joined fields))
 
 -- ---- the report
 
--- the line after so many others is that of a frame at this symbol, which is so
+-- the line after so many others is that of a frame at this symbol, of which this holds
 abbrev pub IsNext : List Report → Place → (Report → Type 0) → Type 0
 IsNext frames place so =
     (before : List Report) × (report : Report) × (later : List Report)
@@ -113,15 +117,15 @@ abbrev pub is_delivered : Outcome → Bool
 is_delivered (Delivered fixed) = true
 is_delivered outcome = false
 
--- what the joiner gives of a stream of symbols: of each frame that is met its data field comes to it, or a gap where none is delivered; a gap
--- comes also where symbols were passed over, and of a cut frame
+-- What the joiner gives of a stream of symbols. Each frame that is met gives it a data field, or a gap if it is not delivered. Symbols
+-- that were passed over and a cut frame give a gap too.
 abbrev pub joined_on : Link → Tuning → List Symbol → Joined
 joined_on link tuning symbols =
     joining None (events_of (frame_decision link tuning) (met_from (found_as link.setup.mode tuning.lock) (symbols_in link.setup.mode) 0 0 false nothing_over symbols))
 
--- The report of a stream: a line for each of these frames, numbered from 1; then that of a frame that is cut, exactly where the search comes to
--- one, with its symbol and how many symbols were there; then the end's, with the number of frames, of delivered ones, of packets that were
--- written, and of bodies whose CRC-8 is wrong.
+-- The report has a line for each of these frames, numbered from 1. Then comes the line of a cut frame, exactly if the search comes to
+-- one, with its symbol and the number of symbols left. Then comes the last line, with the numbers of frames, delivered frames, packets
+-- written and bodies with a wrong CRC-8.
 pub record IsReport (link : Link) (tuning : Tuning) (symbols : List Symbol) (packets report : List ℕ) (frames : List Report) : Type 0 where
   pub cut : List ℕ
   pub totals : Totals
@@ -135,30 +139,32 @@ pub record IsReport (link : Link) (tuning : Tuning) (symbols : List Symbol) (pac
   pub packets_are : (packets ≡ joined (joined_on link tuning symbols).good) × (totals.packets ≡ length (joined_on link tuning symbols).good)
   pub bad_are : totals.bad ≡ (joined_on link tuning symbols).bad
 
--- The headline. Of a stream of symbols, and the packets and the report that were written of it:
+-- the headline, of a stream of symbols, and of the packets and the report that were written of it
 pub record Headline (link : Link) (tuning : Tuning) (symbols : List Symbol) (packets report : List ℕ) : Type 0 where
-  -- Its report has a line for each of these frames, in order, and is closed as it should be.
+  -- the frames of the report, one for each line
   pub frames : List Report
+  -- The report has a line for each frame, then one for a cut frame, exactly if there is one, then the last line. The packets are exactly
+  -- those that the joiner gives of the whole stream.
   pub closing : IsReport link tuning symbols packets report frames
-  -- Likely: the bits of a frame that is called most likely or sole are a codeword, and no codeword costs less under its soft values; where
-  -- it is called sole each other one costs more.
+  -- If a line says most likely or sole, the frame's decided bits are a codeword of the link's rows, and no codeword costs less under its
+  -- soft values. If it says sole, every other codeword costs more.
   pub likely : All (λ frame. IsAsLikely (code_of link.rows) (frame_soft link tuning (frame_from link symbols frame.at)) frame.verdict (decision_from link tuning symbols frame.at).bits) frames
-  -- Within: where a message is delivered its BCH word differs from the decided bits in just as many places as the line says, at most t;
-  -- where no word is found none lies within t places.
+  -- If a line says `fixed C`, the BCH word of the frame's message differs from its first Nbch decided bits in exactly C places, at most
+  -- t. If no BCH word is found, none is within t places.
   pub within : All (λ frame. IsCorrected link.setup.mode (decision_from link tuning symbols frame.at) frame.outcome) frames
-  -- Aligned: where the search stands at the frame that was sent for a data field, whatever came before and whatever follows, the next line is
-  -- that of this frame. Where it came clear it is certified and delivered, with no bit changed. Where it is whole behind a header that
-  -- passes there, and at most t decided bits differ from the BCH word that was sent, it is delivered with just so many changed.
+  -- If the search is at a frame that was sent, the next line is that of this frame, at this symbol, whatever came before and whatever
+  -- follows. If the frame came clear, the line says that it is certified, and `fixed 0`. If a header passes there and the first Nbch
+  -- decided bits differ from the BCH word that was sent in at most t places, it is delivered with exactly that number.
   pub aligned : (moves byte : ℕ) (field : List ℕ) (codeword : List Bool) (sent : IsSent link.setup.mode link byte field codeword)
       → let place = stands link tuning symbols moves in let here = frame_from link symbols place.at in let wrong = wrong_bits link tuning here sent.codeword_is.bch_word in
       (IsClear link tuning place.behind codeword here → IsNext frames place (λ frame. IsTrue (is_certified frame.verdict) × (frame.outcome ≡ Delivered 0)))
       × (IsWholeFrame link tuning place.behind here → wrong ≤ t_of link.setup.mode → IsNext frames place (λ frame. frame.outcome ≡ Delivered wrong))
-  -- Heard: where the symbols begin with the first frames that a transmitter of the link makes of some packets, as they come, the packets
-  -- that were written begin with just those whose closing CRC-8 lies in their data fields, whatever follows; with all of them, where these
-  -- are all fields.
+  -- If the symbols begin with the first frames that a transmitter of the link makes of some packets, with or without dummy frames, the
+  -- packets written begin with exactly those whose closing CRC-8 is in the data fields of these frames. If these are all frames, they
+  -- begin with all packets.
   pub heard : (sent fields later : List (List ℕ)) (pieces : List Piece) (rest : List Symbol) → Arriving link tuning symbols sent fields later pieces rest
       → (more : List ℕ) × (packets ≡ closed_packets sent fields ++ more) × (later ≡ [] → closed_packets sent fields ≡ joined sent)
-  -- Exact: where fewer symbols follow than a frame has, none or those of a frame that is cut, just these packets were written, and nothing else.
+  -- If fewer symbols follow these frames than a frame has, exactly these packets are written, and nothing else
   pub exact : (sent fields later : List (List ℕ)) (pieces : List Piece) (rest : List Symbol) → Arriving link tuning symbols sent fields later pieces rest
       → length rest < symbols_in link.setup.mode → packets ≡ closed_packets sent fields
 
@@ -171,16 +177,17 @@ IsHeadline link tuning before behind =
 abbrev pub RunsHeadline : {T E : Type 0} → Receiver → (before behind : Streams) → Result T E → Type 0
 RunsHeadline r before behind result = OnOk result (r.state ≡ begun → IsHeadline r.link r.tuning before behind)
 
--- it holds of whoever goes by the link's rules from the beginning to the end
+-- the headline holds of every run that goes by the link's rules from the beginning to the end
 abbrev pub KeepsHeadline : Link → Tuning → Type 0
 KeepsHeadline link tuning =
     (limit : ℕ) (state : State) (before behind : Streams) → RunsOut (link_rules link tuning limit) begun state before behind → IsHeadline link tuning before behind
 
+-- the headline holds of each link of a mode, with each divisor
 abbrev pub HeadlineLaw : Mode → Type 0
 HeadlineLaw m = (link : Link) (tuning : Tuning) → IsLinkOf m link → link.setup.roll_off ≤ most_roll_off → IsDivisor tuning.divisor → KeepsHeadline link tuning
 
--- what holds of each frame of a link, whatever its symbols: its bits are as likely as its verdict says, and certified so; what BCH decoding leaves is
--- within t places; and a frame that was sent is heard
+-- The facts about each frame of a link, for any symbols. Its bits are as likely as its verdict says, and certified. BCH decoding changes at most t of
+-- them. A frame that was sent is delivered.
 pub record FramePromises (link : Link) (tuning : Tuning) : Type 0 where
   pub as_likely : AllAsLikely link tuning
   pub told : AllTold link tuning

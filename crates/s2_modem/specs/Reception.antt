@@ -1,4 +1,4 @@
--- What a receiver of a link reads, reports and writes, and which setups it refuses.
+-- What a receiver of a link reads, reports and writes, and which setups it refuses (EN 302 307-1, 5.1 to 5.5).
 use Rattle.std.specs.Prelude.{◌≡◌, IsTrue, ℕ, ℤ, Bool, if◌then◌else◌, List, Option, None, Result, Ok, Err, ⊤}
 use Rattle.s2_mode.specs.Mode.{Mode, k_of, symbols_in}
 use Rattle.s2_mode.specs.Streams.{Streams}
@@ -93,7 +93,7 @@ abbrev pub AllTold : Link → Tuning → Type 0
 AllTold link tuning =
     (symbols : List Symbol) → IsTold link (frame_decision link tuning symbols).verdict (frame_decision link tuning symbols).outcome (frame_decision link tuning symbols)
 
--- when each refusal comes: the first of five; want of memory only where none of them does
+-- when each refusal comes: the first of five; "out of memory" only if none of them does
 abbrev pub Refuses : Setup → Rows → Tuning → SetupFault → Type 0
 Refuses setup rows tuning faults.BadRounds = IsSetUp setup rows × RefusesTuning tuning faults.BadRounds
 Refuses setup rows tuning faults.BadPasses = IsSetUp setup rows × RefusesTuning tuning faults.BadPasses

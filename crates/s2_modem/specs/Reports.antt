@@ -1,4 +1,4 @@
--- What is decided and delivered of a frame's symbols.
+-- The decision on a frame's symbols, and what is delivered (EN 302 307-1, 5.1 to 5.5).
 use Rattle.std.specs.Prelude.{◌≡◌, ℕ, ◌/◌, Bool, false, List, replicate, take, Option, Some, None, Result, Ok, Err, ℤ, pos}
 use Rattle.s2_mode.specs.Mode.{Mode, kbch_of, k_of, n_of}
 use Rattle.s2_mode.specs.declared.symbols.Symbol.{Symbol}
@@ -33,11 +33,11 @@ message_of m bch_word = take (kbch_of m) bch_word
 abbrev pub header_in : List Bool → List ℕ
 header_in frame = bytes_from 0 10 frame
 
--- and the data field of this header behind them
+-- the data field of this header, after the header's bits
 abbrev pub field_in : Header → List Bool → List ℕ
 field_in header frame = bytes_from 10 (header.dfl / 8) frame
 
--- what comes of a message: its header is that of its descrambled bits
+-- the outcome of a message: its header is that of its descrambled bits
 abbrev pub outcome_by : ℕ → Result Header HeaderFault → Outcome
 outcome_by fixed (Ok header) = Delivered fixed
 outcome_by fixed (Err fault) = BadHeader fault
@@ -46,7 +46,8 @@ abbrev pub delivered_by : List Bool → Result Header HeaderFault → Option (He
 delivered_by frame (Ok header) = Some (header, field_in header frame)
 delivered_by frame (Err fault) = None
 
--- the decision where BCH decoding finds a BCH word, or where it finds none
+-- the decision with or without a BCH word: NoWord without one; BadHeader if its header is refused; else Delivered, with the number of
+-- places in which decided bits and word differ
 abbrev pub decision_by : Mode → List ℤ → Decided → Option (List Bool) → Decision
 decision_by m soft d (Some bch_word) = record {
   soft = soft;
@@ -67,18 +68,18 @@ decision_by m soft d None = record {
   delivered = None;
 }
 
--- what stands where no frame came yet: zeros, and no certificate
+-- the decision before the first frame: zeros, and no certificate
 pub record IsUndecided (m : Mode) (d : Decision) : Type 0 where
   pub soft : d.soft ≡ replicate (n_of m) (pos 0)
   pub bits : d.bits ≡ replicate (n_of m) false
   pub certificate : d.certificate ≡ None
   pub message : d.message ≡ replicate (kbch_of m) false
 
--- what is decided of soft values
+-- the decision on soft values: bits and verdict; then the nearest BCH word; then the header in its message
 abbrev pub decision_on : Mode → List ℤ → Decided → Decision
 decision_on m soft d = decision_by m soft d (nearest m (received_word m d.bits))
 
--- what is decided of a frame's symbols
+-- the decision on a frame's symbols: soft values, bits, verdict, certificate, message, outcome, header and data field
 unfoldable pub frame_decision : Link → Tuning → List Symbol → Decision
 frame_decision link tuning symbols =
     decision_on link.setup.mode (frame_soft link tuning symbols) (decided link.rows tuning (frame_soft link tuning symbols))

@@ -1,4 +1,4 @@
--- What holds of a stream of symbols: of its first frames, and where it is read in two ways.
+-- Laws of a stream of symbols: of its first frames, and of two ways to read it (EN 302 307-1, 5.1 to 5.5).
 use Rattle.std.specs.Prelude.{◌≡◌, ℕ, ◌+◌, ◌≤◌, ◌⊎◌, IsTrue, Bool, true, false, List, [], ◌∷◌, ◌++◌, All, length, take, ⊤}
 use Rattle.std.specs.Io.KnownBytes.{Appends}
 use Rattle.s2_mode.specs.Limits.{header_symbols, dummy_symbols}
@@ -27,12 +27,12 @@ use Rattle.s2_modem.specs.Reports.{frame_soft}
 use Rattle.s2_modem.specs.Reception.{link_rules}
 use Rattle.s2_modem.specs.Both.{AreBytes, sent_symbols, certified_lines}
 
--- symbols of a whole frame of the link, behind a header that passes there, right behind a frame or not
+-- the symbols of a whole frame of the link, with a header that passes there, right after a frame or not
 abbrev pub IsWholeFrame : Link → Tuning → Bool → List Symbol → Type 0
 IsWholeFrame link tuning behind symbols =
     (length symbols ≡ symbols_in link.setup.mode) × (found_as link.setup.mode tuning.lock behind (take header_symbols symbols) ≡ founds.Coded)
 
--- a frame's symbols as they were sent; or a whole frame's, whose soft values are scattered about the codeword
+-- a frame came clear: as it was sent; or whole, with a header that passes there and soft values that are scattered about the codeword
 abbrev pub IsClear : Link → Tuning → Bool → List Bool → List Symbol → Type 0
 IsClear link tuning behind codeword symbols =
     (symbols ≡ sent_symbols link codeword) ⊎ (IsWholeFrame link tuning behind symbols × IsScattered (code_of link.rows) (frame_soft link tuning symbols) codeword)
@@ -42,8 +42,8 @@ abbrev pub IsHeard : Link → Tuning → Bool → ℕ → List ℕ → List Symb
 IsHeard link tuning behind at field symbols =
     (codeword : List Bool) × IsCodewordFor link.setup.mode link.rows (header_at link.setup.roll_off at field) field codeword × IsClear link tuning behind codeword symbols
 
--- the frames of consecutive data fields, each of which holds what is asked of it where it stands, and dummy frames among them, each whole and
--- behind a header that is found there: that of the first by one test, those of all others, which stand right behind a frame, by that of the lock
+-- The frames of consecutive data fields, each with a given property at its place, and dummy frames among them. Each is whole, and its
+-- header is found. The first is found by one test, all others, right after a frame, by that of the lock.
 abbrev pub AreEach : (Bool → ℕ → List ℕ → List Symbol → Type 0) → (Bool → List Symbol → Found) → Bool → ℕ → List Piece → List (List ℕ) → Type 0
 AreEach holds finds behind at [] [] = ⊤
 AreEach holds finds behind at [] (field ∷ fields) = ⊥
@@ -51,25 +51,26 @@ AreEach holds finds behind at (coded symbols ∷ pieces) [] = ⊥
 AreEach holds finds behind at (coded symbols ∷ pieces) (field ∷ fields) = holds behind at field symbols × AreEach holds finds true (at + length field) pieces fields
 AreEach holds finds behind at (dummy symbols ∷ pieces) fields = IsDummy finds behind symbols × AreEach holds finds true at pieces fields
 
+-- the frames of consecutive data fields, with dummy frames among them: each is clear, and its header is found
 abbrev pub AreHeard : Link → Tuning → Bool → ℕ → List Piece → List (List ℕ) → Type 0
 AreHeard link tuning = AreEach (IsHeard link tuning) (found_as link.setup.mode tuning.lock)
 
--- where the coded ones begin, from a position on, and what these rules call them
+-- the places of the coded frames, from a position on, and their verdicts by these rules
 abbrev pub places_in : Rules → ℕ → List Piece → List (ℕ × Verdict)
 places_in rules at [] = []
 places_in rules at (coded symbols ∷ pieces) = (at, (rules.decide symbols).verdict) ∷ places_in rules (at + rules.size) pieces
 places_in rules at (dummy symbols ∷ pieces) = places_in rules (at + dummy_symbols) pieces
 
--- Each of the first coded frames is reported as certified, and just those packets are written whose closing CRC-8 lies in their data
--- fields; all packets, where these are all fields.
+-- Each of the first coded frames is reported as certified. Exactly the packets whose closing CRC-8 is in their data fields are written;
+-- all packets, if these are all fields.
 pub record FrontArrives (link : Link) (tuning : Tuning) (limit : ℕ) (packets fields later : List (List ℕ)) (pieces : List Piece) (before behind : Streams) : Type 0 where
   pub written : Appends before.given behind.given (joined (take (closed_in (length (joined fields))) packets))
   pub lines : Appends before.out behind.out (certified_lines 0 (places_in (link_rules link tuning limit) 0 pieces))
   pub certified : All (λ (place : ℕ × Verdict). IsTrue (is_certified place.1)) (places_in (link_rules link tuning limit) 0 pieces)
   pub all : later ≡ [] → take (closed_in (length (joined fields))) packets ≡ packets
 
--- What a receiver, by each divisor, has written after so many steps as first coded frames of a stream of packets came clear,
--- whatever comes behind them, and whatever dummy frames stand among them.
+-- What a receiver, with any divisor, has written after the first coded frames of a stream of packets, if they came clear. Dummy frames
+-- may be among them, and anything may follow.
 abbrev pub FirstFramesLaw : Mode → Type 0
 FirstFramesLaw m =
     (link : Link) (tuning : Tuning) (limit : ℕ) (packets fields later : List (List ℕ)) (pieces : List Piece) (rest : List Symbol) (mid : State) (before behind : Streams) (met : List Met)
@@ -85,8 +86,8 @@ pub record GiveTheSame (first second : State) (well other_well : Bool) (before b
   pub packets : (gained : List ℕ) × Appends before.given behind.given gained × Appends other_before.given other_behind.given gained
   pub lines : (gained : List ℕ) × Appends before.out behind.out gained × Appends other_before.out other_behind.out gained
 
--- Two receivers of a link that stand alike and run to the end, over bytes that spell the same symbols, however their readers cut
--- them and whatever bytes are left over, give the same.
+-- Two receivers of a link, in the same state, that run to the end over bytes that spell the same symbols give the same. How their readers
+-- cut the bytes and which bytes are left over does not matter.
 abbrev pub OneStreamLaw : Type 0
 OneStreamLaw =
     (link : Link) (tuning : Tuning) (limit : ℕ) (old first second : State) (symbols : List Symbol) (before behind other_before other_behind : Streams) (well other_well : Bool)

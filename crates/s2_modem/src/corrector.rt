@@ -1,4 +1,4 @@
-//! From decided bits to a BCH word (EN 302 307-1, 5.3.1, turned back).
+//! From decided bits to a BCH word: decoding of EN 302 307-1, 5.3.1.
 ghost use Rattle.std.specs.Prelude.{◌≡◌, ◌≤◌, length, replicate, false, IfOk};
 ghost use Rattle.s2_mode.specs.Mode.{k_of};
 ghost use Rattle.s2_modem.specs.Reports.{received_word};
@@ -66,8 +66,8 @@ impl Corrector {
         })
     }
 
-    /// Takes the first of these bits through BCH decoding: in how many places the BCH word that is left differs,
-    /// or that none is near enough, and then they are left as they were.
+    /// Decodes the first of these bits. Returns in how many places the BCH word left there differs, or that
+    /// none is near enough; then they are unchanged.
     pub(crate) fn correct(&mut self, bits: &Bits) -> Option<u32>
         requires bits { k_of self.old.mode ≤ length bits.now }
         ensures mode { self.new.mode ≡ self.old.mode }

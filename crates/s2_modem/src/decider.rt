@@ -14,7 +14,7 @@ use s2_receive::{Decide, Decided, Outcome};
 use std::alloc::{AllocError, Global};
 use std::marker::Model;
 
-/// Decides the frames of a link, in buffers of its own.
+/// Decides the frames of a link, in its own buffers.
 pub(crate) struct Decider<'a> {
     mode: Mode,
     roll_off: RollOff,
@@ -66,7 +66,7 @@ impl<'a> Decider<'a> {
         ensures undecided { IfOk result (λ d. IsUndecided link.now.setup.mode d.last) }
     {
         let mode = link.mode();
-        // what it promises of the mode is a part of what is promised here
+        // the promise on the mode is a part of this promise
         let _k = mode.k();
         let last = Decided {
             verdict: Verdict::Broken,
@@ -101,7 +101,7 @@ impl<'a> Decider<'a> {
         self.judge.word()
     }
 
-    /// The certificate of the last frame's decided bits, where its verdict has one.
+    /// The certificate of the last frame's decided bits, if its verdict has one.
     pub(crate) fn certificate(&self) -> Option<CertView<'_>>
         ensures { result ≡ self.now.last.certificate }
     {

@@ -1,4 +1,4 @@
-//! From a frame's symbols to the soft values of its codeword (EN 302 307-1, 5.4 and 5.5, turned back).
+//! From a frame's symbols to the soft values of its codeword: the inverse of EN 302 307-1, 5.4 and 5.5.
 ghost use Rattle.std.specs.Prelude.{◌≡◌, ◌*◌, All, length, IfOk};
 ghost use Rattle.s2_mode.specs.Mode.{n_of, slots_of, symbols_in};
 ghost use Rattle.s2_check.specs.Views.{IsSoft};

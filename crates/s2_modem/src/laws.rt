@@ -23,18 +23,18 @@ pub fn sole_frame(mode: Mode)
     let _ = mode.k();
 }
 
-/// Both codes together: where the decided bits of the BCH word differ from those sent in at most t
-/// places, the message and the data field that were sent are delivered, and the report tells in how many.
+/// Both codes together. If the decided bits of the BCH word differ from those sent in at most t places, the
+/// sent message and data field are delivered, with that number in the report.
 pub fn both_codes(mode: Mode)
     ensures { BothCodesLaw mode }
 {
     let _ = mode.k();
 }
 
-/// What holds of each frame, whatever symbols came: its bits are as likely as its verdict says, by a certificate that is
-/// accepted; its BCH word differs from the decided bits in just as many places as it tells, at most t; one that was sent, and
-/// came without noise or scattered, is delivered, certified, with no bit changed; and with at most t wrong bits of the outer
-/// code's word just these are corrected.
+/// Facts about each frame, for any symbols. Its bits are as likely as its verdict says, by a certificate that is accepted. Its
+/// BCH word differs from the decided bits in exactly the reported number of places, at most t. A frame that was sent, and came
+/// without noise or scattered, is delivered, certified, with no bit changed. With at most t wrong bits of the outer code's
+/// word exactly these are corrected.
 pub fn frames(mode: Mode)
     ensures { FramesLaw mode }
 {
@@ -55,43 +55,44 @@ pub fn clean_frame()
     ensures { CleanFrameLaw }
 {}
 
-/// A frame without noise is found where it begins, right behind a frame and elsewhere, and delivered, sole, with no bit
-/// changed: its codeword, message and data field as they were sent, by each divisor and with each lock; a dummy frame
-/// without noise is found as one.
+/// A frame without noise is found at its first symbol, right after a frame and elsewhere, and delivered, sole,
+/// with no bit changed. Its codeword, message and data field are those that were sent, with each divisor and
+/// each lock. A dummy frame without noise is found as one.
 pub fn hears(mode: Mode)
     ensures { HearsLaw mode }
 {
     let _ = mode.k();
 }
 
-/// All packets that a transmitter reads are written by a receiver of the symbols that it writes, and each frame is
-/// reported as sole, with no bit changed, at its place, by each divisor, whether the transmitter sends dummy
-/// frames or not.
+/// A receiver writes all packets that a transmitter reads, if it gets the symbols that this one writes. It
+/// reports each frame as sole, with no bit changed, at its place, with each divisor, and with dummy frames or
+/// without.
 pub fn arrival(mode: Mode)
     ensures { ArrivalLaw mode }
 {
     let _ = mode.k();
 }
 
-/// Of the first frames of a stream, each without noise or scattered about what was sent, behind a header
-/// that is found, and with or without dummy frames among them, just the packets are written whose closing CRC-8 lies
-/// in their data fields, and each is reported as certified, whatever symbols follow.
+/// Of the first frames of a stream, each without noise, or scattered with a header that is found, exactly the
+/// packets whose closing CRC-8 is in their data fields are written. Each frame is reported as certified. Dummy
+/// frames may be among them, and any symbols may follow.
 pub fn first_frames(mode: Mode)
     ensures { FirstFramesLaw mode }
 {
     let _ = mode.k();
 }
 
-/// Of each run by the rules of a link of the mode, from the beginning of a stream whose bytes are known to its end, the
-/// headline holds: also where it is made step by step ([`s2_receive::laws::two_runs`]).
+/// The headline holds of each run by the rules of a link of the mode, from the beginning of a stream to its
+/// end. The stream's bytes are known. It also holds if the run is made step by step
+/// ([`s2_receive::laws::two_runs`]).
 pub fn headline(mode: Mode)
     ensures { HeadlineLaw mode }
 {
     let _ = mode.k();
 }
 
-/// Receivers of one link that stand alike write the same packets and the same report of the same symbols,
-/// and come to the same totals and the same answer, however their readers cut the bytes.
+/// Receivers of one link in the same state write the same packets and the same report of the same symbols. They
+/// have the same totals and the same result, however their readers cut the bytes.
 pub fn one_stream()
     ensures { OneStreamLaw }
 {}

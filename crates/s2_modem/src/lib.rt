@@ -2,15 +2,14 @@
 //! out, two bytes for I and two for Q; and symbols in and packets out. It puts together the stages of
 //! the crates below.
 //!
-//! [`Transmitter::new`] and [`Receiver::new`] take all the memory that will be needed, or answer the
-//! first of their refusals; [`Transmitter::on_link`] and [`Receiver::on_link`] do the same on a [`Link`], which
-//! none refuses. [`Transmitter::run`] reads packets to the reader's end. `Ok`
-//! means that the writer has gained exactly the frames of the codewords of the BCH words of the
-//! scrambled baseband frames of the data stream's fields, in order, and a dummy frame behind each where
-//! [`Transmitter::dummy_every`] wants one. A refusal comes exactly where the packets give cause for it, or a
-//! read or a write failed; it leaves exactly what stands for the full fields of the packets accepted before,
-//! and only a failed write may leave less of that, and a part of the next frame or dummy frame.
-//! [`Transmitter::limit`] and [`Receiver::limit`] lower how much is taken at most.
+//! [`Transmitter::new`] and [`Receiver::new`] take all the memory that will be needed, or return the first of
+//! their refusals. [`Transmitter::on_link`] and [`Receiver::on_link`] do the same on a [`Link`], which none
+//! refuses. [`Transmitter::run`] reads packets to the reader's end. `Ok` means that the writer has gained
+//! exactly the frames of the data stream's fields, in order, and a dummy frame after each for which
+//! [`Transmitter::dummy_every`] wants one. A refusal comes exactly if the packets give cause for it, or a read
+//! or a write failed. It leaves exactly the frames of the full fields of the packets accepted before; only a
+//! failed write may leave fewer, and a part of the next frame or dummy frame. [`Transmitter::limit`] and
+//! [`Receiver::limit`] lower the limits.
 //!
 //! [`Receiver::advance`] takes the bytes that [`Receiver::room`] asks for, just those up to the end of the next frame. A frame
 //! stands at the first header that is not before the last frame's end and in no dummy frame; right after a frame or a dummy frame

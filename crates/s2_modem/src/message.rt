@@ -1,4 +1,4 @@
-//! From a BCH word to the header and the data field of its message (EN 302 307-1, 5.1 and 5.2, turned back).
+//! From a BCH word to the header and the data field of its message: the inverse of EN 302 307-1, 5.1 and 5.2.
 ghost use Rattle.std.specs.Prelude.{◌≡◌, ◌/◌, ◌≤◌, length, take, IfOk, IfSome, true};
 ghost use Rattle.s2_mode.specs.Mode.{kbch_of, k_of};
 ghost use Rattle.s2_bbframe.specs.DataStream.{field_bytes};
@@ -138,7 +138,7 @@ impl MessageReader {
         )
     }
 
-    /// What comes of decided bits of which BCH decoding left this word.
+    /// The outcome of decided bits after BCH decoding left this word.
     pub(crate) fn decide(
         &mut self,
         verdict: Verdict,

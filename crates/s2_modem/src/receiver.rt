@@ -40,7 +40,7 @@ pub(crate) fn tune<'a>(
     ensures undecided { IfOk result (λ r. IsUndecided link.now.setup.mode r.decider.last) }
 {
     let mode = link.mode();
-    // what these promise of the mode and of numbers is a part of what is promised here
+    // the promises on the mode and on numbers are a part of this promise
     let _k = mode.k();
     let _roll_off = link.roll_off();
     let _divisor = tuning.divisor();
@@ -93,11 +93,10 @@ impl<'a> Model for Receiver<'a> {
 
 impl<'a> Receiver<'a> {
     /// A receiver with all the memory that it needs, whose soft values are divided by the usual divisor,
-    /// [`DEFAULT_DIVISOR`](s2_soft::DEFAULT_DIVISOR). Of several refusals the first is answered:
-    /// `OtherShape` where the matrix is not of the shape of the mode's code, `BadNumber` where the
-    /// scrambling number is over 262141, `BadRollOff` where the roll-off is over 2, `BadRounds` where
-    /// the rounds of min-sum are not 1 to 200, `BadPasses` where the passes of settling are over 1000,
-    /// and then `NoMemory` where memory does not suffice.
+    /// [`DEFAULT_DIVISOR`](s2_soft::DEFAULT_DIVISOR). The first refusal that applies is returned. `OtherShape`:
+    /// the matrix is not of the shape of the mode's code. `BadNumber`: the scrambling number is over 262141.
+    /// `BadRollOff`: the roll-off is over 2. `BadRounds`: the rounds of min-sum are not 1 to 200. `BadPasses`:
+    /// the passes of settling are over 1000. `NoMemory`: memory does not suffice.
     pub fn new(
         alloc: Global,
         setup: Setup,
@@ -112,8 +111,8 @@ impl<'a> Receiver<'a> {
         Receiver::on_link(alloc, &link, tuning).map_err(|_| SetupFault::NoMemory)
     }
 
-    /// A receiver of a link that is tuned so, by any divisor, with all the memory that it needs. `AllocError` only
-    /// where memory does not suffice.
+    /// A receiver of a link with this tuning, with any divisor, with all the memory that it needs. `AllocError`
+    /// only if memory does not suffice.
     pub fn on_link(
         alloc: Global,
         link: &Link<'a>,
@@ -130,8 +129,7 @@ impl<'a> Receiver<'a> {
         })
     }
 
-    /// Lets the receiver take at most so many symbols in all, 1 to [`MOST_SYMBOLS`], before the first
-    /// step.
+    /// Sets the limit of symbols that the receiver takes in all, 1 to [`MOST_SYMBOLS`], before the first step.
     pub fn limit(&mut self, symbols: u64)
         requires range { (1 ≤ symbols) × (symbols ≤ most_symbols) }
         requires first { self.old.state ≡ begun }

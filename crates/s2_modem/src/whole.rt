@@ -57,13 +57,14 @@ fn demodulate_link<P: CountedWrite, W: CountedWrite>(
     }
 }
 
-/// Receives a whole stream of symbols, fewer than 2^42 bytes, and writes the packets that its frames
-/// carry and a line for each frame, for a cut one, and for the end. 1 to 3 bytes behind the last
-/// symbol are dropped. The bits that are reported are as likely as their verdicts say ([`crate::laws::likely_frame`],
-/// [`crate::laws::sole_frame`]). Of the whole stream the headline holds: also that each frame that a transmitter of the link sent
-/// has its line, delivered, wherever the search stands at it, certified if it is clear; that the first frames, clear or with at
-/// most t wrong bits of the outer code's word, give their packets, and a stream of nothing else no others. A setup is refused as by [`crate::Receiver::new`], and then nothing is written; the divisor of soft values is
-/// the usual one, as there.
+/// Receives a whole stream of symbols, fewer than 2^42 bytes, and writes the packets of its frames and a line
+/// for each frame, for a cut one, and for the end. 1 to 3 bytes after the last symbol are dropped. The reported
+/// bits are as likely as their verdicts say ([`crate::laws::likely_frame`], [`crate::laws::sole_frame`]). The
+/// headline holds of the whole stream. If the search is at a frame that a transmitter of the link sent, that
+/// frame has its line and is delivered, and certified if it is clear. The first frames, clear or with at most t
+/// wrong bits of the BCH word, give their packets, and a stream of nothing else no others. A setup is refused
+/// as by [`crate::Receiver::new`], and then nothing is written; the divisor of soft values is the usual one, as
+/// there.
 pub fn demodulate<P: CountedWrite, W: CountedWrite>(
     alloc: Global,
     setup: Setup,

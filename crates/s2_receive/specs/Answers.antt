@@ -150,7 +150,7 @@ pub record ReceivesTo (rules : Rules) (new : State) (before behind : Streams) (t
   pub runs_out : RunsOut rules begun new before (record behind { taken = left })
   pub totals_are : totals ≡ new.standing.totals
 
--- or those of some of them, up to a write that failed: what was met before is written, and a part of the next thing
+-- or a run up to a failed write: all that was met before is written, and a part of the next thing
 abbrev pub BreaksIn : Rules → (before behind : Streams) → Type 0
 BreaksIn rules before behind = (left : Option (List ℕ)) × BreaksAfter rules begun before (record behind { taken = left })
 

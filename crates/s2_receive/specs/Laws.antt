@@ -1,4 +1,4 @@
--- What follows from the definitions alone.
+-- What follows from the definitions alone (own).
 use Rattle.std.specs.Prelude.{Bool, true, nat_lt, nat_eq, ◌&&◌, ◌≡◌, ℕ, ◌+◌, ◌-◌, ◌<◌, ◌≤◌, false, if◌then◌else◌, List, [], ◌∷◌, ◌++◌, length, take, drop, All, Option, Some, None, Ok, ⊤}
 use Rattle.std.specs.List.{flat_map}
 use Rattle.s2_mode.specs.declared.symbols.Symbol.{Symbol}
@@ -18,13 +18,13 @@ use Rattle.s2_receive.specs.declared.report.Totals.{Totals}
 use Rattle.s2_mode.specs.Symbols.{symbols_of}
 use Rattle.std.specs.Io.KnownBytes.{Appends}
 
--- what stands in one list after another
+-- lists, one after another
 abbrev pub joined : {X : Type 0} → List (List X) → List X
 joined lists = flat_map (λ list. list) lists
 
 -- ---- joining
 
--- what comes to the joiner of something met
+-- the joiner's event for something met
 abbrev pub met_events : (List Symbol → Decision) → Met → List Event
 met_events decide (frame at over symbols) = (if is_over over then gap ∷ [] else []) ++ (delivery (decide symbols).delivered ∷ [])
 met_events decide (cut at over count) = gap ∷ []
@@ -42,6 +42,7 @@ pub record IsJoined (rules : Rules) (s : Standing) (met : List Met) : Type 0 whe
   pub bad : (after_all rules s met).totals.bad ≡ s.totals.bad + (joining s.held (events_of rules.decide met)).bad
   pub torn_is : (after_all rules s met).totals.torn ≡ s.totals.torn + torn s.held (events_of rules.decide met)
 
+-- packets and totals are those of `joining`, over all fields and gaps that came to the joiner
 abbrev pub JoiningLaw : Type 0
 JoiningLaw = (rules : Rules) (s : Standing) (met : List Met) → IsJoined rules s met
 
@@ -60,8 +61,7 @@ piece_symbols (dummy symbols) = symbols
 abbrev pub stream_symbols : List Piece → List Symbol
 stream_symbols pieces = flat_map piece_symbols pieces
 
--- symbols of a frame's size, whose header is found there, right behind a frame or not, and of which this header and this data field are
--- delivered
+-- symbols of a frame's size, whose header is found there, right after a frame or not, and which deliver this header and this data field
 abbrev pub IsReceived : Rules → Bool → Header → List ℕ → List Symbol → Type 0
 IsReceived rules behind header field symbols =
     (length symbols ≡ rules.size) × (rules.finds behind (take header_symbols symbols) ≡ founds.Coded) × ((rules.decide symbols).delivered ≡ Some (header, field))
@@ -70,8 +70,8 @@ IsReceived rules behind header field symbols =
 abbrev pub IsDummy : (Bool → List Symbol → Found) → Bool → List Symbol → Type 0
 IsDummy finds behind symbols = (length symbols ≡ dummy_symbols) × (finds behind (take header_symbols symbols) ≡ founds.Dummy)
 
--- the coded frames of consecutive data fields, the first of which begins at this byte of the stream, and dummy frames among them; each but
--- the first stands right behind a frame
+-- the coded frames of consecutive data fields, from a byte of the stream on, with dummy frames among them; each but the first is right
+-- after a frame
 abbrev pub AreReceived : Rules → ℕ → Bool → ℕ → List Piece → List (List ℕ) → Type 0
 AreReceived rules roll_off behind at [] [] = ⊤
 AreReceived rules roll_off behind at [] (field ∷ fields) = ⊥
@@ -80,7 +80,7 @@ AreReceived rules roll_off behind at (coded symbols ∷ pieces) (field ∷ field
     IsReceived rules behind (header_at roll_off at field) field symbols × AreReceived rules roll_off true (at + length field) pieces fields
 AreReceived rules roll_off behind at (dummy symbols ∷ pieces) fields = IsDummy rules.finds behind symbols × AreReceived rules roll_off true at pieces fields
 
--- just these coded frames, one after another from a position on, with none passed over
+-- exactly these coded frames, one after another from a position on, with no symbol passed over
 abbrev pub frames_at : ℕ → ℕ → List Piece → List Met
 frames_at size at [] = []
 frames_at size at (coded symbols ∷ pieces) = frame at nothing_over symbols ∷ frames_at size (at + size) pieces
@@ -90,8 +90,8 @@ frames_at size at (dummy symbols ∷ pieces) = frames_at size (at + dummy_symbol
 abbrev pub PassedNone : Totals → Type 0
 PassedNone t = (t.passed ≡ 0) × (t.places ≡ 0) × (t.first ≡ 0)
 
--- Coded frames that were received as sent, the first ones of a stream, are met as just these, and no packet is torn. The packets written then are those
--- whose closing CRC-8 lies in the fields of these frames; all of them where these are all fields.
+-- Coded frames received as sent, the first of a stream, are met as exactly these, and no packet is torn. The packets written then are
+-- those whose closing CRC-8 is in the fields of these frames; all packets if these are all fields.
 pub record Gives (rules : Rules) (packets fields later : List (List ℕ)) (pieces : List Piece) (rest : List Symbol) : Type 0 where
   pub met : met_from rules.finds rules.size 0 0 false nothing_over (stream_symbols pieces ++ rest) ≡ frames_at rules.size 0 pieces ++ met_from rules.finds rules.size (length (stream_symbols pieces)) 0 (nat_lt 0 (length (stream_symbols pieces))) nothing_over rest
   pub written : all_packets rules at_start (frames_at rules.size 0 pieces) ≡ joined (take (closed_in (length (joined fields))) packets)
@@ -104,6 +104,8 @@ pub record Gives (rules : Rules) (packets fields later : List (List ℕ)) (piece
   pub over : PassedNone (after_all rules at_start (frames_at rules.size 0 pieces)).totals
   pub all : later ≡ [] → take (closed_in (length (joined fields))) packets ≡ packets
 
+-- Coded frames received as they were sent, the first of a data stream, are met as these. The packets whose closing CRC-8 is in their
+-- fields are written.
 abbrev pub ReceptionLaw : Type 0
 ReceptionLaw =
     (rules : Rules) (roll_off size : ℕ) (packets fields later : List (List ℕ)) (pieces : List Piece) (rest : List Symbol)
@@ -115,8 +117,8 @@ abbrev pub Spells : Option (List ℕ) → List Symbol → Type 0
 Spells None symbols = ⊥
 Spells (Some bytes) symbols = symbols_of bytes ≡ symbols
 
--- What a receiver wrote when it had met as many things as so many coded frames that were received as sent, the first ones of a
--- stream that is known: the packets whose closing CRC-8 lies in the fields of these frames, and nothing else.
+-- What a receiver wrote when it had met the first coded frames of a known stream, received as sent: the packets whose closing CRC-8 is in
+-- the fields of these frames, and nothing else
 abbrev pub FrontLaw : Type 0
 FrontLaw =
     (rules : Rules) (roll_off size : ℕ) (packets fields later : List (List ℕ)) (pieces : List Piece) (rest : List Symbol)
@@ -126,7 +128,7 @@ FrontLaw =
     → Went rules begun mid before behind met
     → (met ≡ frames_at rules.size 0 pieces) × Appends before.given behind.given (joined (take (closed_in (length (joined fields))) packets))
 
--- whether a frame ended right before symbol n, where one did before the first or not
+-- whether a frame ended right before symbol n: only for n = 0, as given
 abbrev pub behind_at : Bool → ℕ → Bool
 behind_at behind n = behind && nat_eq n 0
 
@@ -134,9 +136,9 @@ behind_at behind n = behind && nat_eq n 0
 abbrev pub NoneBegins : (Bool → List Symbol → Found) → Bool → ℕ → List Symbol → Type 0
 NoneBegins finds behind n symbols = (i : ℕ) → i < n → begins (finds (behind_at behind i)) (drop i symbols) ≡ founds.Nothing
 
--- The search in its own words: where no header begins at the first n symbols and a coded frame's begins at the next, that is where
--- the next frame stands; it has its symbols and the search goes on behind them, or it is cut. Where a dummy frame's begins there,
--- the search goes on behind its symbols, or the end comes where it lacks some. Where none begins anywhere the end comes.
+-- The search in its own words. If no header begins at the first n symbols and a coded frame's begins at the next, the next frame is
+-- there. It has its symbols, and the search continues after them, or it is cut. If a dummy frame's header begins there, the search
+-- continues after its symbols, or the end comes if it lacks some. If no header begins anywhere, the end comes.
 pub record Searches (finds : Bool → List Symbol → Found) (size at : ℕ) (behind : Bool) (over : Stretch) (symbols : List Symbol) : Type 0 where
   pub found : (n : ℕ) → n + size ≤ length symbols → NoneBegins finds behind n symbols → begins (finds (behind_at behind n)) (drop n symbols) ≡ founds.Coded
       → met_from finds size at 0 behind over symbols ≡ frame (at + n) (passed over at n) (take size (drop n symbols)) ∷ met_from finds size (at + n + size) 0 true nothing_over (drop (n + size) symbols)
@@ -148,19 +150,20 @@ pub record Searches (finds : Bool → List Symbol → Found) (size at : ℕ) (be
       → met_from finds size at 0 behind over symbols ≡ ended (passed over at n) ∷ []
   pub none : NoneBegins finds behind (length symbols) symbols → met_from finds size at 0 behind over symbols ≡ ended (passed over at (length symbols)) ∷ []
 
+-- the search, in its own words, is as `Searches` says
 abbrev pub SearchLaw : Type 0
 SearchLaw = (finds : Bool → List Symbol → Found) (size at : ℕ) (behind : Bool) (over : Stretch) (symbols : List Symbol) → header_symbols ≤ size → Searches finds size at behind over symbols
 
 -- ---- one stream of symbols, read in two ways
 
--- from one state to another this was met: it stands so, and its packets and its lines were written
+-- from one state to another this was met, and its packets and its lines were written
 pub record HasGiven (rules : Rules) (old new : State) (before behind : Streams) (met : List Met) : Type 0 where
   pub standing : new.standing ≡ after_all rules old.standing met
   pub packets : Appends before.given behind.given (all_packets rules old.standing met)
   pub lines : Appends before.out behind.out (all_lines rules old.standing met)
 
--- However a reader cuts the bytes, and whatever bytes are left over: two runs from one state to the end, over bytes that spell the
--- same symbols, met the same, so they wrote the same packets and lines and came to the same totals.
+-- Two runs from one state to the end, over bytes that spell the same symbols, met the same. So they wrote the same packets and lines and
+-- have the same totals. How a reader cuts the bytes changes nothing, nor do left-over bytes.
 abbrev pub SameRunLaw : Type 0
 SameRunLaw =
     (rules : Rules) (old first second : State) (symbols : List Symbol) (before behind other_before other_behind : Streams)
@@ -178,11 +181,11 @@ SameStepLaw =
 
 -- ---- two runs in a row
 
--- Two runs in a row are one run: what was met on the one and then on the other was met on both together; and where the second came to the
--- end, both together did.
+-- two runs in a row are one run, which met the things of both; if the second came to the end, so did the one
 pub record GoOn (rules : Rules) (old mid new : State) (before between behind : Streams) (met : List Met) : Type 0 where
   pub further : (later : List Met) → Went rules mid new between behind later → Went rules old new before behind (met ++ later)
   pub to_the_end : (well : Bool) → RunsTo rules mid new between behind well → RunsTo rules old new before behind (all_well rules old.standing met && well)
 
+-- two runs in a row are one run
 abbrev pub TwoRunsLaw : Type 0
 TwoRunsLaw = (rules : Rules) (old mid new : State) (before between behind : Streams) (met : List Met) → Went rules old mid before between met → GoOn rules old mid new before between behind met

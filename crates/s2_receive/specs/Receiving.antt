@@ -31,8 +31,8 @@ use Rattle.s2_receive.specs.declared.report.Fault.TheVariants as faults
 use Rattle.s2_receive.specs.declared.report.Phase.{Phase}
 use Rattle.s2_receive.specs.declared.report.Phase.TheVariants as phases
 
--- What is decided of a frame's symbols: their soft values, the decided bits, what is known of them and the certificate of that, the
--- message that BCH decoding leaves, and what comes of it; where its header is accepted, the header and the data field.
+-- The decision on a frame's symbols: soft values, decided bits, verdict, certificate, message and outcome. If the message's header is
+-- accepted, also the header and the data field.
 pub record Decision : Type 0 where
   pub soft : List ℤ
   pub bits : List Bool
@@ -42,14 +42,14 @@ pub record Decision : Type 0 where
   pub outcome : Outcome
   pub delivered : Option (Header × List ℕ)
 
--- what comes to the joiner
+-- the event for the joiner
 abbrev pub delivery : Option (Header × List ℕ) → Event
 delivery (Some pair) = field pair.0 pair.1
 delivery None = gap
 
--- what a receiver was made with
+-- what a receiver goes by: what headers are found as, the size of a frame, the decision on a frame, and the limit of symbols
 pub record Rules : Type 0 where
-  -- what a header is found as, right behind a frame (`true`) and elsewhere
+  -- what a header is found as, right after a frame (`true`) and elsewhere
   pub finds : Bool → List Symbol → Found
   pub size : ℕ
   pub decide : List Symbol → Decision
@@ -65,7 +65,7 @@ pub record Standing : Type 0 where
 abbrev pub at_start : Standing
 at_start = record { held = None; totals = record { frames = 0; delivered = 0; packets = 0; bad = 0; torn = 0; cut = false; passed = 0; places = 0; first = 0 } }
 
--- what the joiner holds when a frame comes: a gap comes first where symbols were passed over
+-- what the joiner holds when a frame comes: a gap comes first if symbols were passed over
 abbrev pub held_before : Option (List ℕ) → Stretch → Option (List ℕ)
 held_before held over = if is_over over then None else held
 
@@ -85,15 +85,15 @@ abbrev pub count_of : Option (Header × List ℕ) → ℕ
 count_of (Some pair) = 1
 count_of None = 0
 
--- the totals with what was passed over in one place more, or in none; the first place is kept
+-- the totals with the symbols passed over in one more place, or in none; the first place is kept
 abbrev pub passes : Totals → Stretch → Totals
 passes t over = record t { passed = t.passed + over.symbols; places = t.places + (if is_over over then 1 else 0); first = if nat_eq t.places 0 then over.first else t.first }
 
--- what counts of what was passed over behind the last frame, where the stream ends: of fewer symbols than a header has, none
+-- the symbols passed over after the last frame, at the stream's end; fewer symbols than a header has count as none
 abbrev pub at_end : Stretch → Stretch
 at_end over = if nat_lt over.symbols header_symbols then nothing_over else over
 
--- what is to be counted of the frame
+-- the numbers to be counted for the frame
 abbrev pub given_after : Option (List ℕ) → Stretch → Option (Header × List ℕ) → Given
 given_after held over delivered =
     record { delivered = count_of delivered; good = length (joined_after held over delivered).good; bad = (joined_after held over delivered).bad; torn = torn_after held over delivered }
@@ -113,7 +113,7 @@ report_for decision t at = record { number = t.frames + 1; at = at; verdict = de
 abbrev pub report_of : Rules → Totals → ℕ → List Symbol → Report
 report_of rules t at symbols = report_for (rules.decide symbols) t at
 
--- what stands after something met
+-- the joiner's body and the totals after something met
 abbrev pub after : Rules → Standing → Met → Standing
 after rules s (frame at over symbols) =
     record {
@@ -134,7 +134,7 @@ step_of rules s (frame at over symbols) = steps.Frame (report_of rules s.totals 
 step_of rules s (cut at over count) = steps.Cut at count
 step_of rules s (ended over) = steps.End
 
--- its line of the report: that of the answer, with the totals behind it
+-- its line of the report, with the totals after it
 abbrev pub line_of : Rules → Standing → Met → List ℕ
 line_of rules s met = step_line (step_of rules s met) (after rules s met).totals
 
@@ -143,10 +143,12 @@ abbrev pub after_all : Rules → Standing → List Met → Standing
 after_all rules s [] = s
 after_all rules s (met ∷ later) = after_all rules (after rules s met) later
 
+-- the packets of all that is met
 abbrev pub all_packets : Rules → Standing → List Met → List ℕ
 all_packets rules s [] = []
 all_packets rules s (met ∷ later) = packets_of rules s met ++ all_packets rules (after rules s met) later
 
+-- the lines of all that is met
 abbrev pub all_lines : Rules → Standing → List Met → List ℕ
 all_lines rules s [] = []
 all_lines rules s (met ∷ later) = line_of rules s met ++ all_lines rules (after rules s met) later
@@ -177,8 +179,8 @@ pub record State : Type 0 where
 abbrev pub taken : State → ℕ
 taken s = reached s.window
 
--- a receiver: the mode of its frames, how many bits of a header may be wrong right after a frame, what decides its frames, how many symbols it
--- takes at most, where it stands, and the bytes of the packets that its last step gave
+-- A receiver: the mode of its frames, how many bits of a header may be wrong right after a frame, and what decides its frames. It has how many
+-- symbols it takes at most, its state, and the bytes of the packets that its last step gave.
 pub record Receiver (D : Type 0) : Type 0 where
   pub mode : Mode
   pub lock : ℕ
@@ -322,8 +324,8 @@ EndsBehind size place (Some (frame at over symbols ∷ later)) = place < at + si
 EndsBehind size place (Some (cut at over count ∷ later)) = ⊤
 EndsBehind size place (Some (ended over ∷ later)) = ⊤
 
--- Nothing was met, since a read failed, or else since as many symbols were taken as may be: the next frame of what is known to come ends after
--- what was read, and then after that limit, up to which just the symbols' bytes were read.
+-- Nothing was met, since a read failed or the limit was reached. The next frame of what is known to come ends after what was read. If no read
+-- failed, it ends after the limit, and exactly the bytes up to the limit were read.
 pub record StopsShort (rules : Rules) (old : State) (reader_old reader_new : Option (List ℕ)) (reads_old reads_new : ℕ) : Type 0 where
   pub bytes : List ℕ
   pub read : Consumes reader_old reader_new bytes
@@ -352,7 +354,7 @@ pub record Went (rules : Rules) (old new : State) (before behind : Streams) (met
   pub packets : Appends before.given behind.given (all_packets rules old.standing met)
   pub lines : Appends before.out behind.out (all_lines rules old.standing met)
 
--- The frame of this report was met, what is decided of its symbols was decided last, and the report tells that.
+-- The frame of this report was met, the last decision is on its symbols, and the report says that decision
 pub record MetFrame (rules : Rules) (old new : State) (before behind : Streams) (report : Report) (last : Decision) : Type 0 where
   pub over : Stretch
   pub symbols : List Symbol
@@ -395,12 +397,12 @@ pub record RunsTo (rules : Rules) (old new : State) (before behind : Streams) (w
   pub runs_out : RunsOut rules old new before behind
   pub is_well : well ≡ all_well rules old.standing runs_out.1.0
 
--- A read failed, or else as many symbols were taken from a place on as may be.
+-- a read failed, or the limit of symbols, counted from a place on, was reached
 abbrev pub MayStop : ℕ → ℕ → (before behind : Streams) → Type 0
 MayStop limit at before behind = behind.reads ≢ before.reads + 1 → (behind.reads ≡ before.reads) × Reaches limit at before.taken behind.taken
 
--- A run from one state on to where a read failed or no more symbols are taken: what was met before is written, and nothing else,
--- and no frame more ends in what was read.
+-- A run from one state to a failed read or the limit of symbols. All that was met before is written, and nothing else. No further frame
+-- ends in the bytes that were read.
 pub record StopsAfter (rules : Rules) (old new : State) (before behind : Streams) : Type 0 where
   pub met : List Met
   pub mid : State
@@ -412,7 +414,7 @@ pub record StopsAfter (rules : Rules) (old new : State) (before behind : Streams
   pub packets : behind.given ≡ between.given
   pub lines : behind.out ≡ between.out
 
--- A run from one state on to where a write failed: what was met before is written, and of the next thing a part.
+-- A run from one state to a failed write. All that was met before is written, and a part of the next thing.
 pub record BreaksAfter (rules : Rules) (old : State) (before behind : Streams) : Type 0 where
   pub met : List Met
   pub mid : State

@@ -1,4 +1,4 @@
--- The lines of a receiver's report.
+-- The lines of a receiver's report (own).
 use Rattle.std.specs.Prelude.{ℕ, List, ◌++◌, codes, decimal}
 use Rattle.s2_check.specs.Verdicts.{verdict_word}
 use Rattle.s2_receive.specs.declared.report.Outcome.{Outcome}
@@ -39,7 +39,7 @@ packets_words t = codes " packets " ++ decimal t.packets ++ codes " bad " ++ dec
 unfoldable pub end_line : Totals → List ℕ
 end_line t = frames_words t ++ delivered_words t ++ packets_words t ++ codes "\n"
 
--- the line of a step, with the totals behind it
+-- the line of a step, with the totals after it
 abbrev pub step_line : Step → Totals → List ℕ
 step_line (steps.Frame report) totals = frame_line report
 step_line (steps.Cut at count) totals = cut_line at count

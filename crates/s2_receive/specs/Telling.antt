@@ -23,17 +23,17 @@ pub record Filled : Type 0 where
 abbrev pub filled_by : Joined → Filled
 filled_by joined = record { held = joined.held; packets = flat_map (λ packet. packet) joined.good }
 
--- the buffer has room for the packets of any field, some of which it has
+-- the buffer has room for the packets of any field, and n bytes of it are filled
 abbrev pub HasRoom : ℕ → List ℕ → Type 0
 HasRoom filled buffer = (length buffer ≡ packets_room most_field_bytes) × (filled ≤ length buffer)
 
--- the joiner behind what was met, of which this was delivered
+-- the joiner after the thing met, by its delivered field
 abbrev pub joined_by : Option (List ℕ) → Next → Option (Header × List ℕ) → Joined
 joined_by held (next.Frame at over) delivered = joined_after held over delivered
 joined_by held (next.Cut at over count) delivered = still None
 joined_by held (next.End at over) delivered = still held
 
--- what is to be counted of it
+-- the numbers to be counted for it
 abbrev pub given_by : Option (List ℕ) → Next → Option (Header × List ℕ) → Given
 given_by held (next.Frame at over) delivered = given_after held over delivered
 given_by held (next.Cut at over count) delivered = record { delivered = 0; good = 0; bad = 0; torn = begun_body held }
@@ -43,7 +43,7 @@ given_by held (next.End at over) delivered = record { delivered = 0; good = 0; b
 abbrev pub IsFew : Given → Type 0
 IsFew given = (given.delivered ≤ 1) × (given.good + given.bad ≤ most_field_bytes) × (given.torn ≤ 2)
 
--- the totals behind what was met, which gave this
+-- the totals after the thing met, by its numbers
 abbrev pub counted : Totals → Next → Given → Totals
 counted t (next.Frame at over) given = frame_totals (passes t over) given
 counted t (next.Cut at over count) given = cut_totals (passes t over) given.torn

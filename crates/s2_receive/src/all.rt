@@ -25,9 +25,9 @@ fn is_well(step: Step) -> bool
     }
 }
 
-/// Takes all steps that are left, up to the end line, and answers the totals and whether all was well. After
-/// a fault what was met before it is written whole: `Write` where a packet or a line could not be written,
-/// which then has a part, `Read` where a read failed or the limit was reached.
+/// Takes all remaining steps, up to the end line, and returns the totals and whether all was well. After a
+/// fault all that was met before it is written whole. `Write`: a packet or a line could not be written, which
+/// then has a part. `Read`: a read failed or the limit was reached.
 pub fn receive_all<D: Decide, R: CountedRead, P: CountedWrite, W: CountedWrite>(
     receiver: &mut Receiver<D>,
     reader: &mut R,

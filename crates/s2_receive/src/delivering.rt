@@ -13,7 +13,7 @@ use s2_bbframe::{Header, Joiner, PACKET_BYTES, PACKETS_ROOM};
 use std::alloc::{AllocError, Global};
 use std::marker::Model;
 
-/// What was met gave this: 1 or 0 delivered messages, packets, bodies with a wrong CRC-8, and torn bodies.
+/// The numbers of a thing met: 1 or 0 delivered messages, packets, bodies with a wrong CRC-8, and torn bodies.
 #[derive(Clone, Copy)]
 pub(crate) struct Given {
     pub(crate) delivered: u64,
@@ -23,7 +23,7 @@ pub(crate) struct Given {
 }
 
 impl Given {
-    /// Nothing but so many torn bodies.
+    /// Nothing but this number of torn bodies.
     fn torn(bodies: usize) -> Given
         ensures { result ≡ record { delivered = 0; good = 0; bad = 0; torn = bodies } }
     {
@@ -36,7 +36,7 @@ impl Given {
     }
 }
 
-/// A gap, where symbols were passed over. How many bodies that were begun are dropped.
+/// A gap, if symbols were passed over. Returns the number of begun bodies that are dropped.
 fn gap_before(joiner: &mut Joiner, over: Stretch) -> usize
     ensures held { joiner.new ≡ held_before joiner.old over }
     ensures torn { result ≡ torn_before joiner.old over }
@@ -45,8 +45,8 @@ fn gap_before(joiner: &mut Joiner, over: Stretch) -> usize
     if over.is_over() { joiner.gap() } else { 0 }
 }
 
-/// Joins the data field of a frame on, where it has a header, and puts the packets that are whole with it at the front
-/// of a buffer. A gap comes before it where symbols were passed over, and in its place where nothing was delivered.
+/// Joins the data field of a frame on, if it has a header, and puts the packets that it completes at the front
+/// of a buffer. A gap comes before it if symbols were passed over, and in its place if nothing was delivered.
 fn join_frame(
     joiner: &mut Joiner,
     header: Option<Header>,
@@ -76,7 +76,7 @@ fn join_frame(
     }
 }
 
-/// A joiner, and the packets that were whole with what was met last.
+/// A joiner, and the packets that the last thing met completed.
 pub(crate) struct PacketBuffer {
     joiner: Joiner,
     buffer: Vec<u8>,
@@ -105,7 +105,8 @@ impl Model for PacketBuffer {
 }
 
 impl PacketBuffer {
-    /// A joiner that is lost, with room for the packets of a frame. `AllocError` only where a growth was refused.
+    /// A joiner that is lost, with room for the packets of a frame. `AllocError` only if an allocation was
+    /// refused.
     pub(crate) fn new(alloc: Global) -> Result<PacketBuffer, AllocError>
         ensures { IfOk result (λ f. f ≡ filled_by (still None)) }
     {
@@ -117,15 +118,16 @@ impl PacketBuffer {
         })
     }
 
-    /// The packets that were whole with what was met last.
+    /// The packets that the last thing met completed.
     pub(crate) fn packets(&self) -> &[u8]
         ensures { result.now ≡ self.now.packets }
     {
         &self.buffer[..self.filled]
     }
 
-    /// Gives what was met: the data field of a frame with this header is joined on to what the joiner holds, where nothing
-    /// was delivered and at a cut frame there is a gap, and at the end nothing. What is to be counted.
+    /// Delivers the thing met. The data field of a frame with this header is joined on to the joiner's body. If
+    /// nothing was delivered, and at a cut frame, there is a gap; at the end there is nothing. Returns the
+    /// numbers to be counted.
     pub(crate) fn give(&mut self, next: Next, header: Option<Header>, field: &[u8]) -> Given
         requires place { IfSome header (HasPlace field.now) }
         ensures filled { self.new ≡ filled_by (joined_by self.old.held next (delivered_of header field.now)) }

@@ -12,7 +12,7 @@ use s2_plframe::{Lock, Search};
 use std::alloc::{AllocError, Global};
 use std::marker::Model;
 
-/// Finds the frames of a mode in a stream of symbols, in buffers of its own.
+/// Finds the frames of a mode in a stream of symbols, in its own buffers.
 pub(crate) struct Finder {
     search: Search,
     lock: Lock,
@@ -48,7 +48,7 @@ impl Model for Finder {
 }
 
 impl Finder {
-    /// With the memory that it needs. `AllocError` only where a growth was refused.
+    /// With the memory that it needs. `AllocError` only if an allocation was refused.
     pub(crate) fn new(alloc: Global, mode: Mode, lock: Lock) -> Result<Finder, AllocError>
         ensures { IfOk result (λ f. (f.mode ≡ mode) × (f.lock ≡ lock) × (f.window ≡ window_at 0 false)) }
     {

@@ -12,26 +12,26 @@ use crate::stretch::Stretch;
 use s2_mode::{Symbol, symbols_into};
 use s2_plframe::{Lock, Search};
 
-/// What comes next in the stream; positions count symbols from 0.
+/// The next thing in the stream; positions count symbols from 0.
 #[derive(Clone, Copy)]
 pub enum Next {
-    /// A coded frame that has all its symbols, and what was passed over before it.
+    /// A coded frame that has all its symbols, and the symbols passed over before it.
     Frame { at: u64, over: Stretch },
-    /// A frame that has so many symbols and lacks the others, and what was passed over before it.
+    /// A frame that has only this number of symbols, and the symbols passed over before it.
     Cut { at: u64, over: Stretch, count: u64 },
-    /// No frame comes any more, the stream has so many symbols, and these were passed over last.
+    /// No frame comes any more. The number of symbols of the stream, and the symbols passed over last.
     End { at: u64, over: Stretch },
 }
 
-/// What is held of the stream at the front of a frame's buffer.
+/// The symbols of the stream at the front of a frame's buffer.
 #[derive(Clone, Copy)]
 pub(crate) struct Held {
     /// The place of its first symbol.
     pub(crate) at: u64,
-    /// What was passed over before it.
+    /// The symbols passed over before it.
     pub(crate) over: Stretch,
     pub(crate) count: usize,
-    /// How many symbols from the first on still belong to a dummy frame. Behind them a frame may begin.
+    /// The number of first symbols that still belong to a dummy frame. After them a frame may begin.
     pub(crate) inside: usize,
     /// Whether a frame ended right before the first symbol that belongs to none.
     pub(crate) behind: bool,
@@ -66,7 +66,7 @@ fn fill(bytes: &[u8], frame: &mut [Symbol], held: &mut Held)
     held.count = start + count;
 }
 
-/// What is met at the stream's end, where fewer symbols are held than a frame has.
+/// The thing met at the stream's end, with fewer symbols held than a frame has.
 fn meet_last(search: &mut Search, lock: Lock, frame: &[Symbol], held: Held) -> Next
     requires few { held.count < length frame.now }
     requires size { length frame.now ≤ 2 ^ 32 }
@@ -101,9 +101,9 @@ fn meet_last(search: &mut Search, lock: Lock, frame: &[Symbol], held: Held) -> N
     }
 }
 
-/// Moves to the front of a full buffer what may begin a frame: what begins at the first coded frame's header, or else
-/// what lies behind the last dummy frame, at most 89 symbols. Whether symbols left the buffer so: if not it is a
-/// frame.
+/// Moves the symbols that may begin a frame to the front of a full buffer: those from the first coded frame's
+/// header on, or else those after the last dummy frame, at most 89. Returns whether symbols left the buffer so:
+/// if not it is a frame.
 fn pass_over(search: &mut Search, lock: Lock, frame: &mut [Symbol], held: &mut Held) -> bool
     requires size { (header_symbols ≤ length frame.old) × (length frame.old ≤ 2 ^ 32) }
     requires full { held.old.count ≡ length frame.old }

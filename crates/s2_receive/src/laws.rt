@@ -7,22 +7,21 @@ pub fn joining()
     ensures { JoiningLaw }
 {}
 
-/// Frames that are received as they were sent, the first ones of a data stream, are met as just these,
-/// and give just the packets whose closing CRC-8 lies in their fields, whatever dummy frames stand among
-/// them.
+/// Frames received as they were sent, the first ones of a data stream, are met as exactly these. They give
+/// exactly the packets whose closing CRC-8 is in their fields, with any dummy frames among them.
 pub fn reception()
     ensures { ReceptionLaw }
 {}
 
-/// After as many steps as the first frames of a stream just these frames were met, and just their packets
-/// are written.
+/// After one step for each of the first frames of a stream exactly these frames were met, and exactly their
+/// packets are written.
 pub fn front()
     ensures { FrontLaw }
 {}
 
-/// The next frame stands where the first header begins, if it is a coded frame's, and has all its symbols from
-/// there, or is cut; behind a dummy frame the search goes on as if its symbols were not there; where no header begins
-/// the end comes.
+/// The next frame is at the first header, if it is a coded frame's, and has all its symbols from there, or is
+/// cut. After a dummy frame the search continues as if its symbols were not there. If no header begins, the end
+/// comes.
 pub fn searching()
     ensures { SearchLaw }
 {}
@@ -34,7 +33,7 @@ pub fn same_bytes()
     ensures steps { SameStepLaw }
 {}
 
-/// Two runs in a row are one run: so whoever takes step after step comes to what a run to the end comes to.
+/// Two runs in a row are one run: so single steps come to what a run to the end comes to.
 pub fn two_runs()
     ensures { TwoRunsLaw }
 {}

@@ -83,7 +83,7 @@ fn line_of_end(totals: Totals) -> Line
     line
 }
 
-/// The line of a step, with the totals behind it.
+/// The line of a step, with the totals after it.
 pub(crate) fn line_of(step: Step, totals: Totals) -> Line
     ensures { result ≡ step_line step totals }
 {

@@ -8,7 +8,7 @@ use s2_bbframe::Header;
 use s2_check::Verdict;
 use s2_mode::Symbol;
 
-/// What was decided of a frame: the answer of a decider.
+/// The decision on a frame: the result of a decider.
 #[derive(Clone, Copy)]
 pub struct Decided {
     pub verdict: Verdict,
@@ -17,23 +17,23 @@ pub struct Decided {
     pub header: Option<Header>,
 }
 
-/// Decides frames, in buffers of its own. What it decides is a function of a frame's symbols alone.
+/// Decides frames, in its own buffers. Its decision is a function of a frame's symbols alone.
 ///
-/// It is a trait though the modem's is the only one, so that the receiver's way through a stream is proved beside
-/// decoder and judge, and not behind them.
+/// It is a trait though the modem's is the only one, so that the receiver's loop is proved beside decoder and
+/// judge, and not after them.
 pub trait Decide {
     ghost use Rattle.s2_receive.specs.Parts.{delivered_of, HasPlace};
 
     /// How many symbols a frame has.
     ghost size: { Self → ℕ };
 
-    /// What is decided of a frame's symbols.
+    /// The decision on a frame's symbols.
     ghost decide: { Self → List SymbolValue → Decision };
 
     /// The data field that it lends.
     ghost field: { Self → List ℕ };
 
-    /// What was decided last.
+    /// The last decision.
     ghost last: { Self → Decision };
 
     /// Decides a frame of its size.
@@ -43,7 +43,7 @@ pub trait Decide {
         ensures same { decide self.new ≡ decide self.old }
         ensures size { size self.new ≡ size self.old };
 
-    /// What was decided last.
+    /// The last decision.
     fn decided(&self) -> Decided
         ensures verdict { result.verdict ≡ (last self.now).verdict }
         ensures outcome { result.outcome ≡ (last self.now).outcome }

@@ -101,7 +101,7 @@ impl<D: Decide> Receiver<D> {
         Ok(Receiver { stepper, bytes })
     }
 
-    /// What came so far, the frames that were not delivered among them; a cut one is no frame.
+    /// The frames so far, with those that were not delivered; a cut one is no frame.
     pub fn totals(&self) -> Totals
         ensures is { result ≡ self.now.state.standing.totals }
         ensures counted { result.frames ≤ most_symbols }
@@ -116,7 +116,7 @@ impl<D: Decide> Receiver<D> {
         self.stepper.taken()
     }
 
-    /// Takes at most so many symbols in all, of which it has not taken more yet.
+    /// Sets the limit of symbols in all; it has not taken more yet.
     pub fn limit(&mut self, symbols: u64)
         requires { (taken self.old.state ≤ symbols) × (symbols ≤ most_symbols) }
         ensures { self.new ≡ record self.old { limit = symbols } }

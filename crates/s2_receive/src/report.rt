@@ -1,4 +1,4 @@
-//! What a receiver answers and counts.
+//! A receiver's results and counts.
 ghost use Rattle.std.specs.Prelude.{◌≡◌, ◌≢◌, ◌+◌, ◌^◌, ◌<◌, ◌≤◌};
 ghost use Rattle.s2_receive.specs.Faults.{fault_of};
 ghost use Rattle.s2_receive.specs.Receiving.{at_start, passes, cut_totals, frame_totals};
@@ -11,8 +11,8 @@ use s2_check::Verdict;
 use s2_mode::StreamFault;
 use thiserror::Error;
 
-/// What came of the decided bits: a message whose header is accepted, with so many places changed by BCH
-/// decoding; no word of the BCH code near enough; or a message whose header is refused.
+/// The outcome of the decided bits: a message whose header is accepted, with the number of places changed by
+/// BCH decoding. Or no word of the BCH code near enough, or a message whose header is refused.
 #[derive(Clone, Copy, Debug, PartialEq, Eq)]
 pub enum Outcome {
     Delivered { fixed: u32 },
@@ -31,24 +31,24 @@ pub struct Report {
     pub outcome: Outcome,
 }
 
-/// What came so far.
+/// The totals so far.
 #[derive(Clone, Copy, Debug, PartialEq, Eq)]
 pub struct Totals {
     pub frames: u64,
     pub delivered: u64,
     pub packets: u64,
     pub bad: u64,
-    /// Packets of which a body was begun, with at least a byte, and dropped: by a gap, or by a header that
+    /// Packets with a body that was begun, with at least a byte, and dropped: by a gap, or by a header that
     /// names another place than the next one.
     pub torn: u64,
     pub cut: bool,
-    /// The symbols that belong to no frame, to no cut one and to no dummy frame; behind the last frame fewer than
-    /// 90 in all are none.
+    /// The symbols that belong to no frame, to no cut one and to no dummy frame; after the last frame fewer
+    /// than 90 in all are none.
     pub passed: u64,
-    /// In how many places they stand, each in front of a frame or a cut one, or behind the last frame. A dummy frame
-    /// divides none.
+    /// The number of places with such symbols, each before a frame or a cut one, or after the last frame. A
+    /// dummy frame divides none.
     pub places: u64,
-    /// Where the first of them stands, 0 where there is none.
+    /// The place of the first of them, 0 if there is none.
     pub first: u64,
 }
 
@@ -70,7 +70,7 @@ impl Totals {
         }
     }
 
-    /// With what was passed over in one place more, or in none.
+    /// With the symbols passed over in one place more, or in none.
     pub(crate) fn passes(self, over: Stretch) -> Totals
         requires symbols { self.passed + over.symbols < 2 ^ 63 }
         requires places { self.places < 2 ^ 63 }
@@ -106,7 +106,7 @@ impl Totals {
         }
     }
 
-    /// With a cut frame, before which so many bodies were torn.
+    /// With a cut frame, before which this number of bodies was torn.
     pub(crate) fn with_cut(self, torn: u64) -> Totals
         requires { self.torn + torn < 2 ^ 63 }
         ensures { result ≡ cut_totals self torn }
@@ -138,10 +138,10 @@ pub enum Step {
     End,
 }
 
-/// Why a receiver stopped. From a fault on every call answers `Failed`.
+/// Why a receiver stopped. From a fault on every call returns `Failed`.
 #[derive(Clone, Copy, Debug, PartialEq, Eq, Error)]
 pub enum Fault {
-    /// A read failed, or so many symbols were taken as are allowed.
+    /// A read failed, or the limit of symbols was reached.
     #[error("cannot read")]
     Read,
     /// A packet or a line of the report could not be written.
@@ -153,7 +153,7 @@ pub enum Fault {
 }
 
 impl Fault {
-    /// The fault of a stream that it is, where no call came after an earlier one.
+    /// The same as a fault of a stream, if no call came after an earlier one.
     pub(crate) fn of_stream(self) -> StreamFault
         requires { self ≢ Fault.Failed }
         ensures { fault_of result ≡ self }

@@ -9,13 +9,13 @@ use crate::stretch::Stretch;
 use s2_mode::{DUMMY_SYMBOLS, HEADER_SYMBOLS, Symbol};
 use s2_plframe::{Found, Lock, Search};
 
-/// Where a search came to in some symbols.
+/// The place that a search reached in some symbols.
 #[derive(Clone, Copy)]
 pub(crate) struct Scan {
-    /// The place at which a coded frame begins, or else the first at which one may still begin: it lies
-    /// behind the symbols where a dummy frame reaches past them.
+    /// The place at which a coded frame begins, or else the first at which one may still begin: it is after the
+    /// symbols if a dummy frame reaches past them.
     pub(crate) place: usize,
-    /// What was passed over before it.
+    /// The symbols passed over before it.
     pub(crate) over: Stretch,
     /// Whether a frame ended right before it.
     pub(crate) behind: bool,
@@ -30,7 +30,7 @@ fn is_first(behind: bool, place: usize, start: usize) -> bool
     behind && place == start
 }
 
-/// Takes a symbol, and says what the last 90 are, where they stand right behind a frame (`first`) or elsewhere.
+/// Takes a symbol, and returns what the last 90 are, right after a frame (`first`) or elsewhere.
 fn found_with(search: &mut Search, lock: Lock, symbol: Symbol, first: bool) -> Found
     ensures header { (seen : List SymbolValue) → Saw search.old seen → (first ≡ true → header_symbols ≤ length (seen ++ symbol ∷ []))
         → Saw search.new (seen ++ symbol ∷ []) × (result ≡ found_last (found_as search.old.mode lock first) (seen ++ symbol ∷ [])) }
@@ -43,10 +43,10 @@ fn found_with(search: &mut Search, lock: Lock, symbol: Symbol, first: bool) -> F
     found
 }
 
-/// Looks for the header of a coded frame in symbols that begin at this one of the stream. The symbols of dummy
-/// frames are passed without a look, and so are so many of the first ones; those at which nothing begins are passed over.
-/// Right behind those that are passed, and at the first one where none are and `behind` says so, a header passes as the
-/// search says of one behind a frame.
+/// Searches the header of a coded frame in symbols that begin at this one of the stream. The symbols of dummy
+/// frames are skipped, and so are the first n; those at which nothing begins are passed over. Right after
+/// skipped symbols, a header passes as right after a frame. The same holds at the first symbol if none is
+/// skipped and `behind` says so.
 pub(crate) fn look_through(
     search: &mut Search,
     lock: Lock,

@@ -128,7 +128,7 @@ impl<D: Decide> Stepper<D> {
         self.place.phase
     }
 
-    /// What came so far.
+    /// The totals so far.
     pub(crate) fn totals(&self) -> Totals
         ensures is { result ≡ self.now.state.standing.totals }
         ensures counted { result.frames ≤ most_symbols }

@@ -5,8 +5,8 @@ ghost use Rattle.s2_receive.specs.Receiving.{at_end};
 
 use s2_mode::HEADER_SYMBOLS;
 
-/// Symbols that belong to no coded frame and to no dummy frame, behind the last coded frame: where the first of them stands
-/// in the stream, 0 where there is none, and how many they are.
+/// Symbols that belong to no coded frame and to no dummy frame, after the last coded frame: the place of the
+/// first of them in the stream, 0 if there is none, and their number.
 #[derive(Clone, Copy, Debug, PartialEq, Eq)]
 pub struct Stretch {
     pub(crate) first: u64,
@@ -31,7 +31,8 @@ impl Stretch {
         self.symbols > 0
     }
 
-    /// With those from one place of a buffer to another passed over as well, where the buffer begins at this symbol of the stream.
+    /// With those from one place of a buffer to another passed over as well; the buffer begins at this symbol
+    /// of the stream.
     pub(crate) fn passed(self, at: u64, start: usize, place: usize) -> Stretch
         requires room { start < place → (self.symbols < 2 ^ 62) × (at + place < 2 ^ 62) }
         ensures { result ≡ passed self (at + start) (place - start) }
@@ -50,7 +51,7 @@ impl Stretch {
         }
     }
 
-    /// What counts of it where the stream ends: of fewer symbols than a header has, none.
+    /// The part that counts if the stream ends: fewer symbols than a header has count as none.
     pub(crate) fn at_end(self) -> Stretch
         ensures { result ≡ at_end self }
     {

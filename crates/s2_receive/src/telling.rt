@@ -18,7 +18,7 @@ use crate::stepper::{Stepper, Place};
 use crate::report::{Phase, Report, Step, Totals};
 use s2_mode::{CountedWrite, WriteFault, write_full};
 
-/// Writes the packets that a step gave, and then its line, each by one write where the writer takes it whole.
+/// Writes the packets of a step, and then its line, each with one write if the writer takes it whole.
 pub(crate) fn write_step<P: CountedWrite, W: CountedWrite>(
     given: &[u8],
     step: Step,
@@ -39,7 +39,7 @@ pub(crate) fn write_step<P: CountedWrite, W: CountedWrite>(
 }
 
 impl<D: Decide> Stepper<D> {
-    /// The answer where this was met, and a frame decided.
+    /// The result if this was met, and a frame decided.
     fn step_of(&self, next: Next) -> Step
         ensures { result ≡ answer_for (D.last self.now.decider) self.now.state.standing.totals next }
     {

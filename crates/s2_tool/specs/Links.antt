@@ -1,4 +1,4 @@
--- The link that a command works on.
+-- The link that a command works on (own).
 use Rattle.std.specs.Prelude.{◌≡◌, ◌≢◌, ◌⊎◌, ℕ, ◌+◌, Bool, true, false, List, Option, IfSome, Result, Ok, Err, IfOk}
 use Rattle.s2_mode.specs.Mode.{Mode, shape_in}
 use Rattle.s2_mode.specs.Streams.{Streams, OnlyFailed}
@@ -46,12 +46,12 @@ DoesOn Does (Err f) begun old new ended = (f ≢ faults.Write) × OnlyFails f be
 abbrev pub Causes : {T : Type 0} → Streams → Streams → Result T Fault → Type 0
 Causes old new ended = OnlyFailed (ended ≡ Err faults.Read) (ended ≡ Err faults.Write) old new
 
--- what is noted of rows, on a writer that is known by its contents and its count of failed calls
+-- the note on rows, on a writer known by its contents and its count of failed calls
 abbrev pub noted_by : {E : Type 0} → (E → Option (List ℕ)) → (E → ℕ) → Bool → Mode → E → E → Result Rows Fault → Type 0
 noted_by contents count quiet m old new rows = NotesRows quiet m (count old) (count new) (contents old) (contents new) rows
 
--- A command on a setup and on these files. The row file determines whether there is a link, unless memory runs out or a read of it
--- fails, which is counted; so it does what is noted of the rows.
+-- A command on a setup and on these files. The row file determines whether there is a link, unless memory runs out or a read of it fails,
+-- which is counted. It also determines the note on the rows.
 pub record OnLink {T : Type 0} (Does : LinkCommand T) (Noted : Result Rows Fault → Type 0) (setup : Setup) (files left : Files) (old new : Streams) (ended : Result T Fault) : Type 0 where
   pub rows : Result Rows Fault
   pub read : IfSome files.rows (λ text. Follows (λ r. r) rows (rows_in (shape_in setup.mode) text))

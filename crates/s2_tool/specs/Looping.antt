@@ -1,4 +1,4 @@
--- What `run` does: `mod`, `noise` and `demod`, with the symbols in memory.
+-- What `run` does: `mod`, `noise` and `demod`, with the symbols in memory (own).
 use Rattle.std.specs.Prelude.{◌≡◌, ◌⊎◌, ℕ, Bool, true, false, List, [], Option, Some, Result, Ok, Err}
 use Rattle.s2_mode.specs.Limits.{most_symbols}
 use Rattle.s2_mode.specs.Streams.{Streams}
@@ -32,14 +32,14 @@ kept_fault f = f
 abbrev pub EndsAll : Fault → (begun : Bool) → Streams → Streams → Result Received Fault → Type 0
 EndsAll f begun old new ended = (begun ≡ false) × (ended ≡ Err f) × (new.given ≡ old.given) × (new.out ≡ old.out)
 
--- what comes through the channel is received, and its output begun before
+-- the symbols with noise are received, and the output was begun before
 abbrev pub HearsAll : Rules → List ℕ → Result Exit Fault → (begun : Bool) → Streams → Streams → Result Received Fault → Type 0
 HearsAll rules heard (Ok exit) begun old new ended =
     (begun ≡ true) × ((left : Option (List ℕ)) × (Receives rules (record old { taken = Some heard; reads = 0 }) (record new { taken = left; reads = 0 }) ended
     ⊎ CannotBegin (record old { taken = left; reads = 0 }) (record new { taken = left; reads = 0 }) ended))
 HearsAll rules heard (Err f) begun old new ended = EndsAll (kept_fault f) begun old new ended
 
--- noise is added to symbols in memory, and what comes is received
+-- noise is added to symbols in memory, and the result is received
 abbrev pub Passes : Rules → ChannelWords → List ℕ → (begun : Bool) → Streams → Streams → Result Received Fault → Type 0
 Passes rules channel symbols begun old new ended =
     (spoilt : Result Exit Fault) × (left heard : List ℕ) × (failed : ℕ)

@@ -1,4 +1,4 @@
--- What was lost of a stream that was received: how it decides the exit of a strict command, and the notes of it.
+-- Losses of a received stream: the exit of a strict command, and the notes (own).
 use Rattle.std.specs.Prelude.{◌≡◌, ◌⊎◌, ℕ, Bool, ◌&&◌, ◌||◌, not, nat_eq, nat_le, if◌then◌else◌, List, [], ◌++◌, codes, decimal, Result, Ok, Err}
 use Rattle.s2_mode.specs.Limits.{header_symbols}
 use Rattle.s2_mode.specs.Mode.{Mode}
@@ -32,7 +32,7 @@ unfoldable pub passed_note : Totals → List ℕ
 passed_note t =
     (codes "s2: note: " ++ decimal t.passed) ++ (codes " symbols passed over in " ++ decimal t.places) ++ (codes " places, the first at " ++ decimal t.first) ++ codes "\n"
 
--- behind the words of a mode's code: whether it has pilot blocks, and in how many symbols no frame was
+-- the end of the note that no frame was found: whether the mode has pilot blocks, and the number of symbols
 unfoldable pub deaf_end : Bool → ℕ → List ℕ
 deaf_end pilots symbols = ((if pilots then codes ", pilots in " else codes " in ") ++ decimal symbols) ++ codes " symbols\n"
 
@@ -52,12 +52,12 @@ note_if so note = if so then note else []
 abbrev pub notes_of : Mode → Received → List ℕ
 notes_of m r = note_if (not (nat_eq r.totals.passed 0)) (passed_note r.totals) ++ note_if (is_deaf r) (deaf_note m r.symbols) ++ note_if (not (nat_eq r.totals.torn 0)) (torn_note r.totals)
 
--- How a command ends that received so, and its notes. Where they cannot be written, that is its fault.
+-- The end of a command that received this, and its notes. If they cannot be written, that is its fault.
 abbrev pub Answered : NoteWords → Mode → Result Received Fault → Result Exit Fault → List ℕ → Type 0
 Answered words m (Ok r) ended notes = (notes ≡ (if words.quiet then [] else notes_of m r)) × ((ended ≡ Ok (exit_by words.strict r)) ⊎ (ended ≡ Err faults.Write))
 Answered words m (Err f) ended notes = (notes ≡ (if words.quiet then [] else fault_note m f)) × (ended ≡ Err f)
 
--- How a command that received so ends, and with which exit: its notes, and the line of a fault, stand on the errors.
+-- The end of a command that received this, and its exit: its notes, and the line of a fault, are on the errors
 pub record Finishes (words : NoteWords) (m : Mode) (heard : Result Received Fault) (exit : Exit) (old new : Screen) : Type 0 where
   pub ended : Result Exit Fault
   pub notes : List ℕ

@@ -1,4 +1,4 @@
--- What `rows` prints.
+-- What `rows` prints (own).
 use Rattle.std.specs.Prelude.{◌≡◌, ℕ, List, Result, Ok, Err, if◌then◌else◌}
 use Rattle.s2_mode.specs.Shape.{Shape}
 use Rattle.s2_rows.specs.FaultTexts.{make_fault_text}
@@ -16,7 +16,7 @@ use Rattle.s2_console.specs.Screens.{Screen}
 abbrev pub rows_made : Shape → ℕ → ℕ → Result (List (List ℕ)) Fault
 rows_made shape weight seed = if is_weight shape weight then Ok (made_rows shape weight seed) else Err (faults.Told (make_fault_text making.BadWeight))
 
--- what is answered are the rows that a shape, a weight and a seed determine
+-- the result is the rows that a shape, a weight and a seed determine
 abbrev pub AreMadeRows : Shape → ℕ → ℕ → Result (List (List ℕ)) Fault → Type 0
 AreMadeRows shape weight seed said = rows_made shape weight seed ≡ said
 

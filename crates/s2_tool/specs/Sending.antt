@@ -1,4 +1,4 @@
--- What `mod` reads, sends and prints.
+-- What `mod` reads, sends and prints (own).
 use Rattle.std.specs.Prelude.{◌≡◌, ℕ, List, ◌++◌, codes, decimal, Option, Result, Ok, Err}
 use Rattle.s2_mode.specs.Streams.{Streams}
 use Rattle.s2_rows.specs.Rows.{Rows}
@@ -36,7 +36,7 @@ abbrev pub Tells : Result Counts SendFault → Result Exit Fault → Option (Lis
 Tells (Ok counts) ended old new = Prints exits.Fine (sent_line counts) ended old new
 Tells (Err refusal) ended old new = (ended ≡ Err (refusal_fault refusal)) × (new ≡ old)
 
--- a transmitter runs and returns this; `Read` only if a read failed, or as many packets were taken as a run takes at most
+-- a transmitter runs and returns this; `Read` only if a read failed, or the limit of packets was reached
 abbrev pub Runs : Transmitter → Streams → Streams → Result Counts SendFault → Type 0
 Runs t old new answer = TransmitterRuns t (ReadFails t.limit old.reads new.reads) old.taken new.taken old.given new.given answer
 
@@ -44,15 +44,15 @@ Runs t old new answer = TransmitterRuns t (ReadFails t.limit old.reads new.reads
 abbrev pub SendsBy : Transmitter → Streams → Streams → Result Exit Fault → Type 0
 SendsBy t old new ended = (answer : Result Counts SendFault) × Runs t old new answer × Tells answer ended old.out new.out
 
--- a new transmitter on a link, which sends a dummy frame after every so many frames
+-- a new transmitter on a link, which sends a dummy frame after every n-th frame
 abbrev pub transmitter_on : Link → ℕ → Transmitter
 transmitter_on link dummy = record (new_transmitter link) { dummy_every = dummy }
 
--- `mod` on a link, with a dummy frame after every so many frames
+-- `mod` on a link, with a dummy frame after every n-th frame
 abbrev pub Modulates : ℕ → LinkCommand Exit
 Modulates dummy link begun old new ended = Begins (SendsBy (transmitter_on link dummy)) begun old new ended
 
--- `mod` has ended with this exit: so it did on its files; the note and the line of a fault stand on the errors
+-- `mod` has ended with this exit on its files; the note and the line of a fault are on the errors
 abbrev pub ModEnds : Setup → ModWords → (Result Rows Fault → Type 0) → Files → Files → Screen → Screen → Exit → Type 0
 ModEnds setup words Noted files left old new exit =
     (ended : Result Exit Fault) × (exit ≡ exit_of ended)

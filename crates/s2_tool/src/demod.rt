@@ -123,13 +123,12 @@ fn receive_files<R: CountedRead, W: Output, O: CountedWrite, E: CountedWrite>(
     )
 }
 
-/// `demod`: receives the frames of a link to the end of the symbols, writes the packets that they carry,
-/// and prints a line for each frame as it comes, for a cut one, and for the end. Lines and packets are not
-/// held back: after a fault those of the frames before it stand. `No` if a frame was not delivered, was
-/// cut, or its bits are not known to be most likely; with `strict` also if something was lost. Notes on what was
-/// lost are written to the errors after the report, unless they are to be left out; the note on rows that are not the
-/// standard's is written to `notes` before it. The packets' file is begun once the rows are accepted and
-/// there is memory.
+/// `demod`: receives the frames of a link to the end of the symbols, writes their packets, and prints a line
+/// for each frame when it comes, for a cut one, and for the end. Lines and packets are not held back: after a
+/// fault those of earlier frames are written. `No` if a frame was not delivered, was cut, or its bits are not
+/// known to be most likely; with `strict` also if something was lost. Notes on losses are written to the errors
+/// after the report, unless they are left out; the note on rows that are not the standard's is written to
+/// `notes` before it. The packets' file is begun when the rows are accepted and there is memory.
 pub fn demod_command<R: CountedRead, W: Output, O: CountedWrite, E: CountedWrite>(
     alloc: Global,
     setup: LinkSetup,

@@ -1,4 +1,4 @@
-//! What was lost of a stream that was received: notes behind the report, and the exit of a strict command.
+//! Losses of a received stream: notes after the report, and the exit of a strict command.
 ghost use Rattle.std.specs.Prelude.{◌≡◌, ◌≢◌, ◌+◌, [], IsOk, OnOk, not, nat_eq};
 ghost use Rattle.std.specs.Io.KnownBytes.{Appends};
 ghost use Rattle.s2_mode.specs.Counts.{CanCount, CountsFault};
@@ -59,7 +59,7 @@ fn torn_note(totals: Totals) -> Line
     line
 }
 
-/// The end of the note that no frame was found in so many symbols.
+/// The end of the note that no frame was found in n symbols.
 #[tactic(auto, unfolding(crate::specs::Losses::deaf_end))]
 fn deaf_end(pilots: bool, symbols: u64) -> Line
     ensures { result ≡ deaf_end pilots symbols }
@@ -70,7 +70,7 @@ fn deaf_end(pilots: bool, symbols: u64) -> Line
     line
 }
 
-/// Writes the note that no frame of a mode was found in so many symbols.
+/// Writes the note that no frame of a mode was found in n symbols.
 fn write_deaf<W: CountedWrite>(mode: &Mode, symbols: u64, out: &mut W) -> Result<(), WriteFault>
     requires { CanCount (W.count out.old) }
     ensures bytes { OnOk result (Appends (W.contents out.old) (W.contents out.new) (deaf_note mode.now symbols)) }
@@ -80,7 +80,7 @@ fn write_deaf<W: CountedWrite>(mode: &Mode, symbols: u64, out: &mut W) -> Result
     write_note(out, "s2: note: no frame of ", mode, behind.as_bytes())
 }
 
-/// Writes the note of symbols that were passed over, where there are such.
+/// Writes the note of symbols that were passed over, if there are any.
 #[tactic(auto, unfolding(crate::specs::Losses::passed_note))]
 fn write_passed<W: CountedWrite>(totals: Totals, out: &mut W) -> Result<(), WriteFault>
     requires { CanCount (W.count out.old) }
@@ -111,7 +111,7 @@ fn write_deafness<W: CountedWrite>(
     write_deaf(mode, received.symbols, out)
 }
 
-/// Writes the note of torn packets, where there are such.
+/// Writes the note of torn packets, if there are any.
 #[tactic(auto, unfolding(crate::specs::Losses::torn_note))]
 fn write_torn<W: CountedWrite>(totals: Totals, out: &mut W) -> Result<(), WriteFault>
     requires { CanCount (W.count out.old) }

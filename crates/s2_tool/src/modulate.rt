@@ -86,7 +86,7 @@ fn send_begun<S: CountedRead, W: Output, O: CountedWrite>(
     }
 }
 
-/// Sends packets on a link, with a dummy frame after every so many frames.
+/// Sends packets on a link, with a dummy frame after every n-th frame.
 fn send_link<S: CountedRead, W: Output, O: CountedWrite>(
     alloc: Global,
     link: &Link<'_>,
@@ -142,9 +142,9 @@ fn send_files<R: CountedRead, W: Output, O: CountedWrite, E: CountedWrite>(
 }
 
 /// `mod`: sends the packets of a stream on the link of a setup and a row file, with a dummy frame after every
-/// `dummy` frames (0: none), and prints how many packets were taken and how many frames written, dummy frames
-/// not counted. The note on rows that are not the standard's is written to `notes`. The symbols' file is begun once the rows are
-/// accepted and there is memory.
+/// `dummy` frames (0: none). It prints how many packets were read and how many frames written; dummy frames are
+/// not counted. The note on rows that are not the standard's is written to `notes`. The symbols' file is begun
+/// when the rows are accepted and there is memory.
 pub fn mod_command<R: CountedRead, W: Output, O: CountedWrite, E: CountedWrite>(
     alloc: Global,
     setup: LinkSetup,

@@ -1,4 +1,4 @@
-//! Files opened in the order of a command's words, and where a command prints.
+//! Files opened in the order of a command's words, and the command's output.
 ghost use Rattle.std.specs.Prelude.{◌≡◌, ◌≤◌, false, IfOk, IfSome, OnOk, [], length};
 ghost use Rattle.s2_console.specs.Files.{CanStart};
 ghost use Rattle.s2_console.specs.Screens.{CanNote};
@@ -27,13 +27,13 @@ pub(crate) type Errors<'t, 'r, R> = Clearing<'t, 'r, Counting<<R as StandardStre
 /// Standard output, or standard error if a command's data go to standard output.
 type Report<R> = Either<<R as StandardStreams>::Output, <R as StandardStreams>::Errors>;
 
-/// Where a command prints its report, and its errors.
+/// A command's report and its errors.
 pub(crate) type Screen<'t, 'r, R> = Console<
     Clearing<'t, 'r, Counting<Report<R>>, R>,
     Errors<'t, 'r, R>,
 >;
 
-/// The files of a command on a link, of which the second and the third are watched.
+/// The files of a command on a link; the second and the third are watched.
 pub(crate) type Watching<'m, 't, 'r, R> = LinkFiles<
     Watched<'m, Input<R>, Show<'t, 'r, R>>,
     Watched<'m, Written<R>, Show<'t, 'r, R>>,
@@ -46,7 +46,7 @@ pub(crate) fn errors_of<'t, 'r, R: Disk>(terminal: &'t Terminal<'r, R>) -> Error
     Clearing::new(Counting::new(terminal.host().errors()), terminal)
 }
 
-/// Where a command prints that writes a file of this name, or none.
+/// The output of a command that writes a file of this name, or none.
 pub(crate) fn screen_beside<'t, 'r, R: Disk>(
     terminal: &'t Terminal<'r, R>,
     written: Option<&str>,

@@ -36,7 +36,7 @@ fn kept_fault(fault: Fault<'static>) -> Fault<'static>
     }
 }
 
-/// Adds noise to symbols, and receives what comes.
+/// Adds noise to symbols, and receives the result.
 fn receive_noisy<W: Output, O: CountedWrite>(
     alloc: Global,
     receiver: &mut Receiver<'_>,
@@ -67,7 +67,7 @@ fn receive_noisy<W: Output, O: CountedWrite>(
     }
 }
 
-/// Sends packets into memory, and receives what comes of their symbols.
+/// Sends packets into memory, and receives their symbols.
 fn loop_packets<S: CountedRead, W: Output, O: CountedWrite>(
     alloc: Global,
     transmitter: &mut Transmitter<'_>,
@@ -95,7 +95,7 @@ fn loop_packets<S: CountedRead, W: Output, O: CountedWrite>(
     }
 }
 
-/// Sends packets on a link as words say, and receives what comes.
+/// Sends packets on a link according to the options, and receives the result.
 fn loop_link<S: CountedRead, W: Output, O: CountedWrite>(
     alloc: Global,
     link: &Link<'_>,
@@ -132,7 +132,7 @@ fn loop_link<S: CountedRead, W: Output, O: CountedWrite>(
     }
 }
 
-/// Reads rows, sends packets, and receives what comes.
+/// Reads rows, sends packets, and receives the result.
 fn loop_files<R: CountedRead, W: Output, O: CountedWrite, E: CountedWrite>(
     alloc: Global,
     setup: LinkSetup,

@@ -1,4 +1,4 @@
-//! What the words of the command line ask for, served. This is plain code: what each command does is said at the command.
+//! The request of the command line, served. This is plain code: the contract of each command is at the command.
 ghost use Rattle.std.specs.Prelude.{◌≡◌, OnErr};
 ghost use Rattle.s2_mode.specs.Counts.{CanCount};
 ghost use Rattle.s2_console.specs.Screens.{CanNote};
@@ -29,7 +29,7 @@ use std::env;
 use std::rt::Env;
 use std::time::Clock;
 
-/// Reads the words of the command line, and serves what they ask for.
+/// Reads the command line, and serves its request.
 pub(crate) fn serve<R: Disk + Env + Clock + Print + Eprint + AllocGlobal>(
     rt: &R,
     terminal: &Terminal<'_, R>,
@@ -86,7 +86,8 @@ fn written_by<'a>(request: &Request<'a>) -> Option<&'a str> {
     }
 }
 
-/// Serves a request, and reports a fault that comes before its command. `notes` takes what is noted before a report.
+/// Serves a request, and reports a fault that comes before its command. `notes` takes the notes before a
+/// report.
 fn serve_request<R: Disk + Clock + AllocGlobal, O: CountedWrite, E: CountedWrite>(
     rt: &R,
     terminal: &Terminal<'_, R>,
@@ -241,7 +242,8 @@ fn serve_mod<'a, R: Disk + Clock + AllocGlobal, O: CountedWrite, E: CountedWrite
     Ok(exit)
 }
 
-/// `noise`. What is left in the buffer at the end is written before the command has ended well; after a failed write nothing more is.
+/// `noise`. The rest of the buffer is written before the command has ended well; after a failed write nothing
+/// more is.
 fn serve_noise<'a, R: Disk + Clock + AllocGlobal, O: CountedWrite, E: CountedWrite>(
     rt: &R,
     terminal: &Terminal<'_, R>,

@@ -1,4 +1,4 @@
--- How a receiver is tuned by the words of the line.
+-- How a receiver is tuned by the words of the line (own).
 use Rattle.std.specs.Prelude.{ℕ, Bool, if◌then◌else◌}
 use Rattle.s2_mode.specs.Mode.{Mode, tuned_factor_of}
 use Rattle.s2_link.specs.Limits.{default_rounds}
@@ -8,24 +8,26 @@ use Rattle.s2_words.specs.declared.told.TuningWords.{TuningWords}
 
 -- ---- what is best, where that is asked for; the factor is that of the mode
 
--- the lock, the divisor and the passes
+-- the lock with `--tuned`
 abbrev pub best_lock : ℕ
 best_lock = 30
 
+-- the divisor of soft values with `--tuned`
 abbrev pub best_divisor : ℕ
 best_divisor = 8192
 
+-- the passes of settling with `--tuned`
 abbrev pub best_passes : ℕ
 best_passes = 96
 
 -- ---- what the words say
 
--- a number that stands on the line wins, else what is best where that is asked for, else the default
+-- a number on the command line wins, else the best one if that is requested, else the default
 abbrev pub number_by : Bool → Number → ℕ → ℕ
 number_by tuned number best =
     if number.stands then number.value else if tuned then best else number.value
 
--- no passes where what min-sum finds stays uncertified
+-- no passes if what min-sum finds stays uncertified
 abbrev pub passes_by : Bool → ℕ → ℕ
 passes_by uncertified passes = if uncertified then 0 else passes
 
@@ -34,7 +36,7 @@ abbrev pub judging_by : ℕ → ℕ → Bool → Tuning
 judging_by passes factor uncertified =
     record (tuning_of default_rounds (passes_by uncertified passes)) { factor = factor; uncertified = uncertified }
 
--- how a receiver is tuned where this factor is best
+-- the tuning of a receiver for which this factor is best
 abbrev pub tuning_with : ℕ → TuningWords → Tuning
 tuning_with best words =
     record { rounds = words.rounds; passes = passes_by words.uncertified (number_by words.tuned words.passes best_passes); divisor = number_by words.tuned words.divisor best_divisor; factor = number_by words.tuned words.factor best; lock = number_by words.tuned words.lock best_lock; uncertified = words.uncertified }

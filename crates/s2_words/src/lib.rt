@@ -1,8 +1,8 @@
 //! The command line of the program: words in, a [`Request`] out.
 //!
-//! What the program understands stands in one table, with each command's words, their ranges and their help;
-//! [`read_words`] has clap read by it, and answers what was asked for with every word where it belongs, or
-//! clap's error, which is help, the version, a usage fault or want of memory.
+//! One table has each command's options, their ranges and their help. [`read_words`] lets clap read by it, and
+//! returns the request with every option in its place, or clap's error, which is help, the version, a usage
+//! fault or that memory ran out.
 //!
 //! ```text
 //! match read_words(alloc, &words)? {

@@ -4,7 +4,7 @@ use clap::builder::ValueParser;
 use clap::{Arg, ArgAction, ArgGroup, Command};
 use std::alloc::{AllocError, Global};
 
-/// What is read of the values that may be told by a name.
+/// The values that may be given by a name, read.
 #[derive(Clone, Copy, PartialEq, Eq)]
 pub(crate) enum Values {
     /// Numbers, which the parser tests.
@@ -13,7 +13,7 @@ pub(crate) enum Values {
     Texts,
 }
 
-/// A word with a value, which has to stand where it has no default.
+/// An option with a value, which is required if it has no default.
 fn valued<'a>(
     arg: Arg<'a>,
     word: Word,

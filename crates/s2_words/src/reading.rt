@@ -1,4 +1,4 @@
-//! What words ask for.
+//! The request of the command line.
 use crate::decibels::esn0_told;
 use crate::parser::program;
 use crate::refusal::{misused, not_understood, values_in};
@@ -192,8 +192,8 @@ fn request_of<'a>(name: &str, m: &ArgMatches<'a>) -> Option<Request<'a>> {
     }
 }
 
-/// What the words ask for. The parser takes only words of which a request can be made, but for values that are told by
-/// a name; of others that got through it, and of names that are none, the user hears by a usage fault.
+/// The request of the command line. The parser accepts only words from which a request can be made, except
+/// values that are given by a name. Any other word that it accepted, and an unknown name, are a usage fault.
 pub fn read_words<'a>(alloc: Global, words: &'a [String]) -> Result<Request<'a>, Error> {
     let matches = match program(alloc, values_in(words))?.try_get_matches_from(words) {
         Ok(matches) => matches,

@@ -1,4 +1,4 @@
-//! Usage faults that say what is to stand where a value was told by a name that is none.
+//! Usage faults with the accepted values, for a value given by an unknown name.
 use crate::decibels::esn0_told;
 use crate::parser::{Values, command_of, program};
 use crate::table::{Entry, commands};
@@ -10,7 +10,7 @@ use s2_mode::{MOST_MODCOD, Mode, Modulation};
 use s2_modes::{Case, constellation};
 use std::alloc::{AllocError, Global};
 
-/// What is given to a word: what stands behind it, or behind its equals sign.
+/// The value of an option: the next word, or the text after its equals sign.
 fn given<'a>(words: &'a [String], name: &str) -> Option<&'a str> {
     for (at, word) in words.iter().enumerate() {
         if let Some(rest) = word.as_str().strip_prefix(name) {
@@ -55,7 +55,7 @@ fn is_other_roll_off(words: &[String]) -> bool {
     }
 }
 
-/// What has to be read of the values that may be told by a name.
+/// The values that may be given by a name, to be read.
 pub(crate) fn values_in(words: &[String]) -> Values {
     if is_named(words) || is_other_roll_off(words) {
         Values::Texts
@@ -82,7 +82,7 @@ fn fault_of(alloc: Global, entry: Entry, message: &str) -> Result<Error, AllocEr
         .error(ErrorKind::ValueValidation, message)
 }
 
-/// Puts the names of all modes of a constellation behind a text.
+/// Appends the names of all modes of a constellation to a text.
 fn push_names(text: &mut String, modulation: Modulation) -> Result<(), AllocError> {
     let mut between = "";
     for modcod in 1..=MOST_MODCOD {
@@ -98,7 +98,7 @@ fn push_names(text: &mut String, modulation: Modulation) -> Result<(), AllocErro
     Ok(())
 }
 
-/// Puts what is to stand in place of a name behind a text: the names of its constellation, where it begins with one.
+/// Appends the accepted values for a name to a text: the names of its constellation, if it begins with one.
 fn push_modes(text: &mut String, name: &str) -> Result<(), AllocError> {
     if begins_with(name, "qpsk", "QPSK") {
         text.push_str("QPSK has ")?;
@@ -115,7 +115,7 @@ fn begins_with(name: &str, small: &str, capital: &str) -> bool {
     name.starts_with(small) || name.starts_with(capital)
 }
 
-/// What is to stand in place of values that are none, where there is one.
+/// The accepted values in place of unknown ones, if there are any.
 fn message_of(alloc: Global, m: &ArgMatches<'_>) -> Result<Option<String>, AllocError> {
     if let Some(name) = m.get_str("modcod") {
         if modcod_told(name).is_none() {
@@ -143,7 +143,7 @@ fn message_of(alloc: Global, m: &ArgMatches<'_>) -> Result<Option<String>, Alloc
     Ok(None)
 }
 
-/// The usage fault of words that ask for nothing.
+/// The usage fault of words that make no request.
 pub(crate) fn not_understood(
     alloc: Global,
     name: &str,
@@ -155,10 +155,10 @@ pub(crate) fn not_understood(
     }
 }
 
-/// What is given to `--pilots` in the belief that it takes a value.
+/// A value given to `--pilots` in the belief that it takes one.
 const SWITCHES: [&str; 8] = ["on", "off", "yes", "no", "true", "false", "1", "0"];
 
-/// Whether such a value stands behind `--pilots`.
+/// Whether such a value follows `--pilots`.
 fn is_switched(words: &[String]) -> bool {
     let Some(value) = given(words, "--pilots") else {
         return false;
@@ -190,7 +190,7 @@ fn has_switch(words: &[String], kind: ErrorKind) -> bool {
     }
 }
 
-/// A usage fault, or in its place one that says that `--pilots` takes no value where it was given one.
+/// A usage fault, or in its place one that says that `--pilots` takes no value, if it was given one.
 pub(crate) fn misused(alloc: Global, words: &[String], error: Error) -> Result<Error, AllocError> {
     match words.get(1) {
         Some(name) if has_switch(words, error.kind()) => fault_in(

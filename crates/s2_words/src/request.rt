@@ -1,4 +1,4 @@
-//! What the words of a command line ask for.
+//! The requests of a command line.
 use s2_channel::Strength;
 use s2_link::{RollOff, Tuning};
 use s2_modes::SymbolRate;
@@ -37,7 +37,7 @@ pub struct RowsWords {
     pub seed: u64,
 }
 
-/// `judge`: a shape, how much is tried, and the files.
+/// `judge`: a shape, the tuning, and the files.
 #[derive(Clone, Copy, PartialEq, Eq)]
 pub struct JudgeWords<'a> {
     pub shape: ShapeWords,
@@ -66,15 +66,15 @@ pub struct CheckWords<'a> {
 /// Whether progress is shown on standard error.
 #[derive(Clone, Copy, Debug, PartialEq, Eq)]
 pub enum Progress {
-    /// It was asked for.
+    /// It was requested.
     Shown,
-    /// Where standard error is a terminal.
+    /// If standard error is a terminal.
     OnTerminal,
     /// It was to be quiet.
     Hidden,
 }
 
-/// `mod`: a link, behind every how many frames a dummy frame stands (0 for none), whether notes are left out, whether
+/// `mod`: a link, the number of frames between dummy frames (0 for none), whether notes are left out, whether
 /// progress is shown, and the files.
 #[derive(Clone, Copy, PartialEq, Eq)]
 pub struct ModWords<'a> {
@@ -96,14 +96,15 @@ pub struct NoiseWords<'a> {
     pub to: &'a str,
 }
 
-/// What is told of a reception besides its report: whether what was lost decides the exit too, and whether notes are left out.
+/// What a reception reports besides its lines: whether losses decide the exit too, and whether notes are left
+/// out.
 #[derive(Clone, Copy, PartialEq, Eq)]
 pub struct NoteWords {
     pub strict: bool,
     pub quiet: bool,
 }
 
-/// `demod`: a link, how much is tried, what is told, whether progress is shown, and the files.
+/// `demod`: a link, the tuning, the notes, whether progress is shown, and the files.
 #[derive(Clone, Copy, PartialEq, Eq)]
 pub struct DemodWords<'a> {
     pub link: LinkWords,
@@ -115,8 +116,8 @@ pub struct DemodWords<'a> {
     pub packets: &'a str,
 }
 
-/// `run`: a link, behind every how many frames a dummy frame stands (0 for none), how much is tried, a channel, what
-/// is told, whether progress is shown, and the files.
+/// `run`: a link, the number of frames between dummy frames (0 for none), the tuning, a channel, the notes,
+/// whether progress is shown, and the files.
 #[derive(Clone, Copy, PartialEq, Eq)]
 pub struct RunWords<'a> {
     pub link: LinkWords,
@@ -130,13 +131,13 @@ pub struct RunWords<'a> {
     pub to: &'a str,
 }
 
-/// `modes`: a symbol rate, where the bits of a transport stream in a second are to be listed.
+/// `modes`: a symbol rate, if the bits of a transport stream per second are to be listed.
 #[derive(Clone, Copy, PartialEq, Eq)]
 pub struct ModesWords {
     pub rate: Option<SymbolRate>,
 }
 
-/// What the words ask for: `Own` without a command, else the command with its words.
+/// The request: `Own` without a command, else the command with its options.
 #[derive(Clone, Copy, PartialEq, Eq)]
 pub enum Request<'a> {
     Own,

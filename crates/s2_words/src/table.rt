@@ -12,7 +12,7 @@ use s2_scramble::MOST_NUMBER;
 pub(crate) const ABOUT: &str =
     "A DVB-S2 modem with maximum-likelihood certificates. Without a command it judges the 20 soft values of standard input under a toy code";
 
-/// What stands below the program's own options.
+/// The text below the program's own options.
 pub(crate) const MORE: &str = "\
 Files:
   -    standard input where it is read, standard output where it is written: a report then stands on standard error
@@ -22,22 +22,22 @@ Exits:
   1  a usage fault, or a fault that standard error tells
   2  the answer is no, or something was lost: each command's help tells what";
 
-/// The decimal digits of the rounds where none are named.
+/// The decimal digits of the default rounds.
 pub(crate) const DEFAULT_ROUNDS_TEXT: &str = "50";
 
 /// The decimal digits of each divisor of soft values.
 pub(crate) const DIVISOR_TEXTS: [&str; 5] = ["4096", "8192", "16384", "32768", "65536"];
 
-/// The decimal digits of the divisor where none is named.
+/// The decimal digits of the default divisor.
 pub(crate) const DEFAULT_DIVISOR_TEXT: &str = "4096";
 
-/// The decimal digits of the factor where none is named.
+/// The decimal digits of the default factor.
 pub(crate) const DEFAULT_FACTOR_TEXT: &str = "12";
 
-/// The decimal digits of the lock where none is named.
+/// The decimal digits of the default lock.
 pub(crate) const DEFAULT_LOCK_TEXT: &str = "12";
 
-/// What stands below the options of `modes`.
+/// The text below the options of `modes`.
 const MODES_MORE: &str = "\
 Each line:
   modcod M NAME         the number and the name, either of which --modcod takes
@@ -56,7 +56,7 @@ Exits:
 Example:
   s2 modes --rate 27500000";
 
-/// What stands below the options of `rows`.
+/// The text below the options of `rows`.
 const ROWS_MORE: &str = "\
 Each line:
   W addresses below G * Q, none twice. These rows are not the standard's: both ends of a link need the same.
@@ -69,7 +69,7 @@ Exits:
 Example:
   s2 rows --group 360 --groups 90 --q 90 --weight 8 --seed 1 > rows";
 
-/// What stands below the options of `table`.
+/// The text below the options of `table`.
 const TABLE_MORE: &str = "\
 The answer:
   standard  the rows are those of the standard for this code, whatever the order within each row
@@ -83,7 +83,7 @@ Exits:
 Example:
   s2 table --modcod qpsk3/4 rows";
 
-/// What stands below the options of `judge`.
+/// The text below the options of `judge`.
 const JUDGE_MORE: &str = "\
 The report:
   sole cost C              the decided bits cost C, every other codeword costs more
@@ -99,7 +99,7 @@ Exits:
 Example:
   s2 judge --group 4 --groups 2 --q 3 --cert certificate rows soft";
 
-/// What stands below the options of `check`.
+/// The text below the options of `check`.
 const CHECK_MORE: &str = "\
 The report:
   sole cost C           accepted: the word costs C, every other codeword costs more
@@ -116,7 +116,7 @@ Exits:
 Example:
   s2 check rows certificate";
 
-/// What stands below the options of `mod`.
+/// The text below the options of `mod`.
 const MOD_MORE: &str = "\
 The report, at the end:
   packets P frames F    P packets were taken, and F frames written, dummy frames not counted
@@ -132,7 +132,7 @@ Notes, on standard error:
 Example:
   s2 mod --modcod 4 --pilots rows packets.ts symbols";
 
-/// What stands below the options of `noise`.
+/// The text below the options of `noise`.
 const NOISE_MORE: &str = "\
 Exits:
   0  all symbols are written, and nothing is printed
@@ -180,28 +180,28 @@ Example:
     };
 }
 
-/// What stands below the options of `demod`.
+/// The text below the options of `demod`.
 const DEMOD_MORE: &str = report!("  s2 demod --modcod qpsk1/2 --pilots rows noisy received.ts");
 
-/// What stands below the options of `run`.
+/// The text below the options of `run`.
 const RUN_MORE: &str = report!(
     "  s2 run --modcod qpsk1/2 --pilots --seed 1 --level 100 rows packets.ts received.ts"
 );
 
-/// How a word stands on the command line.
+/// The form of an option on the command line.
 #[derive(Clone, Copy)]
 pub(crate) enum Form {
     /// `--name`.
     Flag,
-    /// `--name`, which does not stand with this other word.
+    /// `--name`, which excludes this other option.
     FlagWithout(&'static str),
-    /// `--name VALUE`, a number in a range or of a list. It has to stand where it has no default.
+    /// `--name VALUE`, a number in a range or of a list. It is required if it has no default.
     Number {
         value: &'static str,
         allowed: ValueParser<'static>,
         default: Option<&'static str>,
     },
-    /// The same, but of words that are no number the reader has to say what they are, or what is to stand there.
+    /// The same; for words that are no number the reader says what they are, or which values are accepted.
     Told {
         value: &'static str,
         allowed: ValueParser<'static>,
@@ -244,7 +244,7 @@ pub(crate) enum Name {
     Run,
 }
 
-/// A command, and what its name is. Its words and what help tells of it stand apart, so that no proof meets the texts of all.
+/// A command, and its name. Its options and its help are apart, so that no proof has the texts of all.
 #[derive(Clone, Copy)]
 pub(crate) struct Entry {
     pub command: Name,
@@ -671,7 +671,7 @@ pub(crate) fn choice_of(command: Name) -> &'static [&'static str] {
     }
 }
 
-/// What stands below the options of a command.
+/// The text below the options of a command.
 pub(crate) fn more_of(command: Name) -> &'static str {
     match command {
         Name::Modes => MODES_MORE,

@@ -1,4 +1,4 @@
-//! What a few words say, whatever else stands on the line.
+//! The meaning of a few options, whatever else is on the line.
 ghost use Rattle.std.specs.Prelude.{◌≡◌, ◌↔◌, IsTrue, IsSome, IfSome, None, false};
 ghost use Rattle.s2_link.specs.Tuning.{IsTuning};
 ghost use Rattle.s2_words.specs.Told.{IsNumbered, IsTold, NamesMode, progress_by};
@@ -34,7 +34,7 @@ pub(crate) fn modcod_told(text: &str) -> Option<u8>
     }
 }
 
-/// A number of the line, its default where it does not stand there.
+/// A number of the line, or its default if it is not there.
 #[derive(Clone, Copy)]
 pub(crate) struct Number {
     pub(crate) stands: bool,
@@ -62,7 +62,7 @@ const TUNED_LOCK: u32 = 30;
 /// The passes that `--tuned` says.
 const TUNED_PASSES: u32 = 96;
 
-/// A number that stands on the line, else what `--tuned` says where that does, else its default.
+/// A number on the line, else that of `--tuned` if it is given, else its default.
 fn number_told(tuned: bool, number: Number, best: u32) -> u32
     ensures { result ≡ number_by tuned number best }
 {
@@ -75,14 +75,14 @@ fn number_told(tuned: bool, number: Number, best: u32) -> u32
     }
 }
 
-/// How many passes there are: none where what min-sum finds stays uncertified.
+/// The number of passes: none if what min-sum finds stays uncertified.
 fn passes_told(uncertified: bool, passes: u32) -> u32
     ensures { result ≡ passes_by uncertified passes }
 {
     if uncertified { 0 } else { passes }
 }
 
-/// The same tuning, and uncertified where that is asked for.
+/// The same tuning, and uncertified if that is requested.
 fn certified_told(uncertified: bool, tuning: Tuning) -> Tuning
     requires certified { tuning.uncertified ≡ false }
     requires passes { IsTrue uncertified → tuning.passes ≡ 0 }
@@ -105,7 +105,7 @@ pub(crate) fn judging_told(passes: u32, factor: u32, uncertified: bool) -> Optio
     Some(certified_told(uncertified, tuning.with_factor(factor)))
 }
 
-/// How a receiver is tuned where this factor is best.
+/// The tuning of a receiver for which this factor is best.
 fn tuning_with(best: u32, words: TuningWords) -> Option<Tuning>
     ensures value { IfSome result (λ t. t ≡ tuning_with best words) }
     ensures refused { result ≡ None → IsTuning (tuning_with best words) → ⊥ }
@@ -132,7 +132,7 @@ pub(crate) fn tuning_told(mode: &Mode, words: TuningWords) -> Option<Tuning>
     tuning_with(mode.tuned_factor(), words)
 }
 
-/// Whether progress is shown, by whether it is asked for, and whether the command is to be quiet.
+/// Whether progress is shown, by whether it is requested, and whether the command is to be quiet.
 pub(crate) fn progress_told(asked: bool, quiet: bool) -> Progress
     ensures { result ≡ progress_by asked quiet }
 {
