@@ -70,6 +70,7 @@ module _ (old mid : Seen) (before behind : Streams) (live : IsLive old.state.pha
         failed = (λ is. cc, λ failed. absurd (live_only old.state live failed));
         counts = record { no_read = λ _. reads; write_told = λ is. cc; no_write = λ _. none };
       }
+
   -- or a write failed on the way
   pub broke : (step : Step) (new : Seen) → Finds old mid before.taken behind.taken before.reads behind.reads (Ok step) → new.state ≡ record mid.state { phase = phases.Failed }
       → FailsIn mid.packets (step_line step mid.state.standing.totals) before.given behind.given before.out behind.out → OneFailed before.writes behind.writes before.prints behind.prints

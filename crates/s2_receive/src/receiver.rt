@@ -7,9 +7,9 @@ ghost use Rattle.s2_receive.specs.declared.report.Phase.TheVariants as phases;
 ghost use Rattle.s2_receive.specs.Receiving.{IsLive, asked, begun, is_at_frame, rules_of, taken};
 ghost use Rattle.s2_receive.specs.Answers.{Advances, Finds, IsSame, Reads, StepsBy, seen_by};
 
-use crate::stepper::Stepper;
 use crate::parts::Decide;
 use crate::report::{Fault, Phase, Step, Totals};
+use crate::stepper::Stepper;
 use crate::telling::write_step;
 use s2_mode::{CountedRead, CountedWrite, Mode, ReadFault, read_full};
 use s2_plframe::Lock;
@@ -27,7 +27,10 @@ pub struct Receiver<D: Decide> {
 
 impl<D: Decide + Drop> Drop for Receiver<D> {
     fn drop(self) {
-        let Receiver { stepper: _, bytes: _ } = self;
+        let Receiver {
+            stepper: _,
+            bytes: _,
+        } = self;
     }
 }
 

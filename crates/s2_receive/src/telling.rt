@@ -14,8 +14,8 @@ use crate::delivering::Given;
 use crate::finding::Next;
 use crate::lines::line_of;
 use crate::parts::Decide;
-use crate::stepper::{Stepper, Place};
 use crate::report::{Phase, Report, Step, Totals};
+use crate::stepper::{Place, Stepper};
 use s2_mode::{CountedWrite, WriteFault, write_full};
 
 /// Writes the packets of a step, and then its line, each with one write if the writer takes it whole.
@@ -72,7 +72,11 @@ impl<D: Decide> Stepper<D> {
                 phase: Phase::Searching,
                 totals: totals.passes(over).with_frame(given),
             },
-            Next::Cut { at: _, over, count: _ } => Place {
+            Next::Cut {
+                at: _,
+                over,
+                count: _,
+            } => Place {
                 phase: Phase::Closing,
                 totals: totals.passes(over).with_cut(given.torn),
             },
