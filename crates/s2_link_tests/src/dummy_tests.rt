@@ -1,10 +1,11 @@
 //! A receiver of streams in which dummy frames of each TYPE stand, made here by the numbers of the standard.
-use super::hearing::{Heard, assert_reported, hear};
+use super::hearing::{assert_reported, hear};
 use super::modem_tests::frame;
 use s2_mode::{ByOne, Endless, MOST_SYMBOLS, Symbol};
 use s2_receive::{Fault, Step};
 use s2_stream_tests::streams::{
-    ALL, Sample, Source, Steps, header_of, put_symbol, send_with_dummies, two_frames, two_packets,
+    ALL, Heard, Sample, Source, Steps, header_of, put_symbol, send_with_dummies, two_frames,
+    two_packets,
 };
 use std::alloc::{AllocError, Global};
 use std::process::Abort;

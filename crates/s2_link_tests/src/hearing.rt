@@ -1,6 +1,6 @@
 //! What is received of small links' streams, for tests. As in `streams`, what has a large contract is called here and
 //! nowhere else in the tests, each such call by a function that has none.
-ghost use Rattle.std.specs.Prelude.{◌≡◌, IfOk};
+ghost use Rattle.std.specs.Prelude.{◌≡◌, ◌≤◌, IfOk, length};
 ghost use Rattle.s2_receive.specs.Receiving.{IsLive, begun};
 
 use s2_bits::Bits;
@@ -13,8 +13,8 @@ use s2_plframe::Lock;
 use s2_receive::{Fault, Received, Step, Totals};
 use s2_soft::Divisor;
 use s2_stream_tests::streams::{
-    ALL, ROUNDS, Reader, Sample, Sides, Source, Steps, Writer, first_bytes, reader_of, taken,
-    writer_of,
+    ALL, Fed, Heard, ROUNDS, Reader, Sample, Sides, Source, Steps, Writer, first_bytes, reader_of,
+    taken, writer_of,
 };
 use std::alloc::{AllocError, Global};
 use std::process::Abort;
@@ -208,36 +208,29 @@ fn step(
     receiver.next(reader, packets, report)
 }
 
-/// The first half of a step.
-fn meet(receiver: &mut Receiver<'_>, reader: &mut Reader<'_>) -> Result<Step, Fault> {
-    if reader.count() == u64::MAX {
-        return Err(Fault::Failed);
-    }
-    receiver.meet(reader)
+/// Gives a receiver the first of these bytes, as many as it has room for. Returns how many these are, and the step.
+fn feed(receiver: &mut Receiver<'_>, bytes: &[u8]) -> (usize, Option<Step>)
+    ensures { result.0 ≤ length bytes.now }
+{
+    let count = receiver.room().min(bytes.len());
+    (count, receiver.advance(&bytes[..count]))
 }
 
-/// The second half of a step.
-fn deliver(
+/// Gives a receiver symbols in memory room by room, so often.
+fn feed_rooms(
+    alloc: Global,
     receiver: &mut Receiver<'_>,
-    packets: &mut Writer,
-    report: &mut Writer,
-) -> Result<(), Fault> {
-    if packets.count() == u64::MAX || report.count() == u64::MAX {
-        return Err(Fault::Failed);
+    symbols: &[u8],
+    rooms: u32,
+) -> Result<Fed, AllocError> {
+    let mut fed = Fed::new(alloc);
+    let mut rest = symbols;
+    for _ in 0..rooms {
+        let (count, step) = feed(receiver, rest);
+        rest = &rest[count..];
+        fed.put(count, step, receiver.packets())?;
     }
-    receiver.deliver(packets, report)
-}
-
-/// A step in its two halves.
-fn two_halves(
-    receiver: &mut Receiver<'_>,
-    reader: &mut Reader<'_>,
-    packets: &mut Writer,
-    report: &mut Writer,
-) -> Result<Step, Fault> {
-    let step = meet(receiver, reader)?;
-    deliver(receiver, packets, report)?;
-    Ok(step)
+    Ok(fed)
 }
 
 fn five_steps(
@@ -251,37 +244,6 @@ fn five_steps(
         *answer = step(receiver, reader, packets, report);
     }
     steps
-}
-
-/// The same of five steps in halves.
-fn five_in_halves(
-    receiver: &mut Receiver<'_>,
-    reader: &mut Reader<'_>,
-    packets: &mut Writer,
-    report: &mut Writer,
-) -> Steps {
-    let mut steps = [Err(Fault::Failed); 5];
-    for answer in steps.iter_mut() {
-        *answer = two_halves(receiver, reader, packets, report);
-    }
-    steps
-}
-
-/// What five calls of a receiver answered and wrote.
-pub(crate) struct Heard {
-    pub(crate) steps: Steps,
-    pub(crate) packets: Vec<u8>,
-    pub(crate) report: Vec<u8>,
-}
-
-impl Drop for Heard {
-    fn drop(self) {
-        let Heard {
-            steps: _,
-            packets: _,
-            report: _,
-        } = self;
-    }
 }
 
 fn heard_by(
@@ -298,37 +260,6 @@ fn heard_by(
         steps,
         packets: taken(packets),
         report: taken(report),
-    }
-}
-
-/// The same of five steps in halves.
-fn heard_in_halves(
-    alloc: Global,
-    receiver: &mut Receiver<'_>,
-    source: Source<'_>,
-    passes: [u64; 3],
-) -> Heard {
-    let mut reader = reader_of(source, passes[0]);
-    let mut packets = writer_of(alloc, passes[1]);
-    let mut report = writer_of(alloc, passes[2]);
-    let steps = five_in_halves(receiver, &mut reader, &mut packets, &mut report);
-    Heard {
-        steps,
-        packets: taken(packets),
-        report: taken(report),
-    }
-}
-
-/// Takes five steps of a new receiver in halves, where so many reads, writes of packets and writes of lines pass.
-pub(crate) fn hear_in_halves(
-    alloc: Global,
-    link: &Sides,
-    source: Source<'_>,
-    passes: [u64; 3],
-) -> Result<Heard, SetupFault> {
-    match receiver_of(alloc, link, ROUNDS, 0) {
-        Ok(mut receiver) => Ok(heard_in_halves(alloc, &mut receiver, source, passes)),
-        Err(fault) => Err(fault),
     }
 }
 
@@ -512,62 +443,27 @@ pub(crate) fn show_by(
     }
 }
 
-/// Finds what comes first in symbols in memory.
-fn meet_over(receiver: &mut Receiver<'_>, symbols: &[u8]) -> Result<Step, Fault> {
-    let mut reader = reader_of(Source::Slice(symbols), ALL);
-    meet(receiver, &mut reader)
-}
-
-/// What was delivered.
-pub(crate) struct Delivered {
-    pub(crate) packets: Vec<u8>,
-    pub(crate) report: Vec<u8>,
-}
-
-impl Drop for Delivered {
-    fn drop(self) {
-        let Delivered {
-            packets: _,
-            report: _,
-        } = self;
-    }
-}
-
-/// Delivers what a receiver met.
-fn deliver_met(alloc: Global, receiver: &mut Receiver<'_>) -> Result<Delivered, Fault> {
-    let mut packets = writer_of(alloc, ALL);
-    let mut report = writer_of(alloc, ALL);
-    let answer = deliver(receiver, &mut packets, &mut report);
-    let delivered = Delivered {
-        packets: taken(packets),
-        report: taken(report),
-    };
-    match answer {
-        Ok(()) => Ok(delivered),
-        Err(fault) => Err(fault),
-    }
-}
-
-/// What a receiver shows between the halves of its first step, and what it then delivers.
-fn shown_between(
+/// What comes of symbols by so many rooms, and what a receiver shows then.
+fn shown_by_rooms(
     alloc: Global,
     link: &Sides,
     receiver: &mut Receiver<'_>,
     symbols: &[u8],
-) -> Result<(Shown, Delivered), Fail> {
-    let _step = meet_over(receiver, symbols)?;
-    let shown = shown_by(alloc, link, receiver)?;
-    Ok((shown, deliver_met(alloc, receiver)?))
+    rooms: u32,
+) -> Result<(Fed, Shown), AllocError> {
+    let fed = feed_rooms(alloc, receiver, symbols, rooms)?;
+    Ok((fed, shown_by(alloc, link, receiver)?))
 }
 
 /// The same of a new receiver.
-pub(crate) fn show_between(
+pub(crate) fn show_by_rooms(
     alloc: Global,
     link: &Sides,
     symbols: &[u8],
-) -> Result<(Shown, Delivered), Fail> {
+    rooms: u32,
+) -> Result<(Fed, Shown), Fail> {
     match receiver_of(alloc, link, ROUNDS, 0) {
-        Ok(mut receiver) => shown_between(alloc, link, &mut receiver, symbols),
+        Ok(mut receiver) => Ok(shown_by_rooms(alloc, link, &mut receiver, symbols, rooms)?),
         Err(fault) => Err(Fail::from(fault)),
     }
 }

@@ -1,6 +1,6 @@
 //! A receiver whose readers and writers fail or never end, and frames that are cut or whose headers are forged.
 use super::hearing::{
-    Demodulated, Heard, assert_received, assert_reported, assert_sample, hear, receive, received,
+    Demodulated, assert_received, assert_reported, assert_sample, hear, receive, received,
 };
 use super::modem_tests::frame;
 use s2_bbframe::{Header, HeaderFault, crc8};
@@ -9,8 +9,8 @@ use s2_mode::{ByOne, Endless, MOST_SYMBOLS};
 use s2_modem::{DemodFault, SetupFault};
 use s2_receive::{Fault, Outcome, Report, Step};
 use s2_stream_tests::streams::{
-    ALL, Sample, Sides, Source, Steps, frame_of, link_of, one_frame, packet_of, packet_of_zeros,
-    sample_of, two_frames, two_packets,
+    ALL, Heard, Sample, Sides, Source, Steps, frame_of, link_of, one_frame, packet_of,
+    packet_of_zeros, sample_of, two_frames, two_packets,
 };
 use std::alloc::Global;
 use std::process::Abort;

@@ -1,7 +1,7 @@
 //! Whole streams through a receiver.
 use super::hearing::{
-    Shown, assert_reported, assert_sample, hear, hear_in_halves, received, received_whole,
-    receiver_of, show, show_behind, show_between, show_nothing,
+    Shown, assert_reported, assert_sample, hear, received, received_whole, receiver_of, show,
+    show_behind, show_by_rooms, show_nothing,
 };
 use s2_bbframe::Header;
 use s2_bits::Bits;
@@ -10,7 +10,7 @@ use s2_mode::{ByOne, MOST_SYMBOLS};
 use s2_modem::{DemodFault, MOST_PASSES, SetupFault};
 use s2_receive::{Outcome, Report, Step, Totals};
 use s2_stream_tests::streams::{
-    ALL, Sample, Sides, Source, bch_word_of, frame_of_word, link_of, one_frame, other_link,
+    ALL, Event, Sample, Sides, Source, bch_word_of, frame_of_word, link_of, one_frame, other_link,
     packet_of, packet_of_zeros, sample_of, two_frames, two_packets,
 };
 use std::alloc::{AllocError, Global};
@@ -176,20 +176,28 @@ fn shows_no_certificate_behind_a_cut_frame(rt: HostRuntime) -> Result<(), Fail> 
     assert_uncertified(&rt, rt.alloc(), &sample, 4 * 90)
 }
 
-/// Asserts what a receiver shows of a sample between the halves of a step, and what it then delivers.
-fn assert_shown_between<A: Abort>(rt: &A, alloc: Global, sample: &Sample) -> Result<(), Fail> {
-    let (shown, delivered) = show_between(alloc, &sample.link, &sample.symbols)?;
-    assert_shown(rt, &shown, Some(Answer::Yes));
-    let line = "frame 1 at 0 sole fixed 0\n";
-    assert_eq!(rt; delivered.report.as_slice(), line.as_bytes());
-    assert_eq!(rt; delivered.packets.as_slice(), packet_of_zeros().as_slice());
+/// Asserts what a receiver shows of a sample after the room of its frame, before the packet is written; and after so many
+/// more, which end the stream: no certificate, and all else stays.
+fn assert_shown_by_rooms<A: Abort>(
+    rt: &A,
+    alloc: Global,
+    sample: &Sample,
+    rooms: u32,
+) -> Result<(), Fail> {
+    let (fed, shown) = show_by_rooms(alloc, &sample.link, &sample.symbols, rooms)?;
+    let answer = if rooms == 1 { Some(Answer::Yes) } else { None };
+    assert_shown(rt, &shown, answer);
+    assert_eq!(rt; fed.packets.as_slice(), packet_of_zeros().as_slice());
     Ok(())
 }
 
 #[test]
-fn shows_a_frame_before_it_is_delivered(rt: HostRuntime) -> Result<(), Fail> {
+fn shows_a_frame_before_its_packet_is_written(rt: HostRuntime) -> Result<(), Fail> {
     let sample = one_frame(rt.alloc())?;
-    assert_shown_between(&rt, rt.alloc(), &sample)
+    for rooms in 1..4u32 {
+        assert_shown_by_rooms(&rt, rt.alloc(), &sample, rooms)?;
+    }
+    Ok(())
 }
 
 /// Asserts that a new receiver shows zeros, and no certificate.
@@ -211,30 +219,37 @@ fn shows_nothing_before_the_first_frame(rt: HostRuntime) -> Result<(), Fail> {
     assert_nothing_shown(&rt, rt.alloc(), &link)
 }
 
-/// Asserts that five steps in halves answer and write what whole ones do.
-fn assert_halves<A: Abort>(
-    rt: &A,
-    alloc: Global,
-    sample: &Sample,
-    passes: [u64; 3],
-) -> Result<(), Fail> {
-    let source = Source::Slice(&sample.symbols);
-    let whole = hear(alloc, &sample.link, MOST_SYMBOLS, source, passes)?;
-    let halves = hear_in_halves(alloc, &sample.link, source, passes)?;
-    assert_eq!(rt; halves.steps, whole.steps);
-    assert_eq!(rt; halves.packets.as_slice(), whole.packets.as_slice());
-    assert_eq!(rt; halves.report.as_slice(), whole.report.as_slice());
+/// Asserts that the two packets' frames come by rooms as in memory at once: each with its last symbol, with its packet.
+fn assert_rooms<A: Abort>(rt: &A, alloc: Global, sample: &Sample) -> Result<(), Fail> {
+    let size = sample.symbols.len();
+    let (fed, _shown) = show_by_rooms(alloc, &sample.link, &sample.symbols, 3)?;
+    let want = [
+        (frame(1, 0), 4 * 8190, 188),
+        (frame(2, 8190), size, 188),
+        (Step::End, size, 0),
+    ];
+    assert_eq!(rt; fed.events.len(), want.len());
+    for (event, (step, given, packets)) in fed.events.iter().zip(want) {
+        assert_eq!(rt;
+            *event,
+            Event {
+                step,
+                given,
+                packets
+            }
+        );
+    }
+    let whole = received(alloc, &sample.link, &sample.symbols);
+    assert_eq!(rt; whole.report.as_slice(), TWO.as_bytes());
+    assert_eq!(rt; fed.packets.as_slice(), whole.packets.as_slice());
+    assert_eq!(rt; fed.packets.as_slice(), two_packets().as_flattened());
     Ok(())
 }
 
-/// Also where a read, a write of packets or a write of a line fails.
 #[test]
-fn halves_are_whole_steps(rt: HostRuntime) -> Result<(), Fail> {
+fn two_packets_arrive_by_rooms(rt: HostRuntime) -> Result<(), Fail> {
     let sample = two_frames(rt.alloc())?;
-    for passes in [[ALL, ALL, ALL], [1, ALL, ALL], [ALL, 1, ALL], [ALL, ALL, 1]] {
-        assert_halves(&rt, rt.alloc(), &sample, passes)?;
-    }
-    Ok(())
+    assert_rooms(&rt, rt.alloc(), &sample)
 }
 
 /// Asserts what a run with so many passes tells of a packet's frame, and of the same without its last byte.

@@ -10,7 +10,7 @@ mod bbframe_memory_tests;
 #[cfg(test)]
 mod bbframe_tests;
 #[cfg(test)]
-mod halves_tests;
+mod core_tests;
 #[cfg(test)]
 mod plframe_tests;
 #[cfg(test)]

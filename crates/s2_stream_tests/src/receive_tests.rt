@@ -1,7 +1,7 @@
 //! A receiver's way through a stream, on made-up frames.
 use super::streams::{ALL, Source, Steps, packet_of_zeros};
 use super::toy::{
-    DUMMY, FRAME, InBytes, Taken, Whole, frame, lost, put_dummy, put_frame, put_header,
+    DUMMY, FRAME, InBytes, Taken, Whole, frame, losing, lost, put_dummy, put_frame, put_header,
     put_symbols, receive, receive_in_bytes, receive_within, take, take_within, totals, toy,
 };
 use s2_mode::{ByOne, MOST_SYMBOLS, StreamFault, WriteFault};
@@ -10,26 +10,15 @@ use std::alloc::{AllocError, Global};
 use std::process::Abort;
 use std::test::Fail;
 
-/// Totals with so many symbols passed over in one place, which begins there, and so many packets torn.
-fn losing(totals: Totals, passed: u64, first: u64, torn: u64) -> Totals {
-    Totals {
-        passed,
-        places: 1,
-        first,
-        torn,
-        ..totals
-    }
-}
-
 /// Asserts what five calls answered, and the report.
 fn assert_steps<A: Abort>(rt: &A, taken: &Taken, steps: Steps, report: &str) {
-    assert_eq!(rt; taken.steps, steps);
-    assert_eq!(rt; taken.report.as_slice(), report.as_bytes());
+    assert_eq!(rt; taken.heard.steps, steps);
+    assert_eq!(rt; taken.heard.report.as_slice(), report.as_bytes());
 }
 
 /// Asserts which packets were written, and the totals.
 fn assert_came<A: Abort>(rt: &A, taken: &Taken, packets: &[u8], totals: Totals) {
-    assert_eq!(rt; taken.packets.as_slice(), packets);
+    assert_eq!(rt; taken.heard.packets.as_slice(), packets);
     assert_eq!(rt; taken.totals, totals);
 }
 

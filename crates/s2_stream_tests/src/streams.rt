@@ -146,8 +146,83 @@ pub fn taken(writer: Writer) -> Vec<u8> {
     writer.into_inner().into_inner()
 }
 
-/// What five calls of a receiver answer.
+/// What five calls of a receiver return.
 pub type Steps = [Result<Step, Fault>; 5];
+
+/// What five calls of a receiver return and write.
+pub struct Heard {
+    pub steps: Steps,
+    pub packets: Vec<u8>,
+    pub report: Vec<u8>,
+}
+
+impl Drop for Heard {
+    fn drop(self) {
+        let Heard {
+            steps: _,
+            packets: _,
+            report: _,
+        } = self;
+    }
+}
+
+/// A step of a receiver without input and output: how many bytes of the stream were given up to it, and how many
+/// bytes its packets have.
+#[derive(Clone, Copy, Debug, PartialEq, Eq)]
+pub struct Event {
+    pub step: Step,
+    pub given: usize,
+    pub packets: usize,
+}
+
+/// What comes of bytes that are given room by room.
+pub struct Fed {
+    pub events: Vec<Event>,
+    pub packets: Vec<u8>,
+    /// How many bytes were given.
+    pub given: usize,
+}
+
+impl Drop for Fed {
+    fn drop(self) {
+        let Fed {
+            events: _,
+            packets: _,
+            given: _,
+        } = self;
+    }
+}
+
+impl Fed {
+    /// Nothing so far.
+    pub fn new(alloc: Global) -> Fed {
+        Fed {
+            events: Vec::new(alloc),
+            packets: Vec::new(alloc),
+            given: 0,
+        }
+    }
+
+    /// So many bytes more were given, a step came, or none, and a receiver has these packets then.
+    pub fn put(
+        &mut self,
+        given: usize,
+        step: Option<Step>,
+        packets: &[u8],
+    ) -> Result<(), AllocError> {
+        self.given = self.given.saturating_add(given);
+        let Some(step) = step else {
+            return Ok(());
+        };
+        self.packets.extend_from_slice(packets)?;
+        self.events.push(Event {
+            step,
+            given: self.given,
+            packets: packets.len(),
+        })?;
+        Ok(())
+    }
+}
 
 /// What a run of a transmitter came to.
 #[derive(Drop)]

@@ -7,7 +7,8 @@ ghost use Rattle.s2_receive.specs.Receiving.{IsLive, begun};
 ghost use Rattle.s2_stream_tests.specs.Toy.{told_by};
 
 use super::streams::{
-    ALL, Reader, Source, Steps, Writer, header_of, put_symbol, reader_of, taken, writer_of,
+    ALL, Fed, Heard, Reader, Source, Steps, Writer, header_of, put_symbol, reader_of, taken,
+    writer_of,
 };
 use s2_bbframe::Header;
 use s2_check::Verdict;
@@ -173,8 +174,19 @@ pub(crate) fn totals(frames: u64, delivered: u64, packets: u64) -> Totals {
     }
 }
 
+/// Totals with so many symbols passed over in one place, which begins there, and so many packets torn.
+pub(crate) fn losing(totals: Totals, passed: u64, first: u64, torn: u64) -> Totals {
+    Totals {
+        passed,
+        places: 1,
+        first,
+        torn,
+        ..totals
+    }
+}
+
 /// Calls a receiver once.
-pub(crate) fn step(
+fn step(
     receiver: &mut Toy,
     reader: &mut Reader<'_>,
     packets: &mut Writer,
@@ -187,24 +199,29 @@ pub(crate) fn step(
     receiver.next(reader, packets, report)
 }
 
-/// The first half of a step.
-pub(crate) fn meet(receiver: &mut Toy, reader: &mut Reader<'_>) -> Result<Step, Fault> {
-    if reader.count() == u64::MAX {
-        return Err(Fault::Failed);
-    }
-    receiver.meet(reader)
+/// Gives a receiver the first of these bytes, as many as it has room for. Returns how many these are, and the step.
+pub(crate) fn feed(receiver: &mut Toy, bytes: &[u8]) -> (usize, Option<Step>)
+    ensures { result.0 ≤ length bytes.now }
+{
+    let count = receiver.room().min(bytes.len());
+    (count, receiver.advance(&bytes[..count]))
 }
 
-/// The second half of a step.
-pub(crate) fn deliver(
+/// Gives a receiver bytes room by room, so often.
+pub(crate) fn feed_rooms(
+    alloc: Global,
     receiver: &mut Toy,
-    packets: &mut Writer,
-    report: &mut Writer,
-) -> Result<(), Fault> {
-    if packets.count() == u64::MAX || report.count() == u64::MAX {
-        return Err(Fault::Failed);
+    bytes: &[u8],
+    rooms: u32,
+) -> Result<Fed, AllocError> {
+    let mut fed = Fed::new(alloc);
+    let mut rest = bytes;
+    for _ in 0..rooms {
+        let (count, step) = feed(receiver, rest);
+        rest = &rest[count..];
+        fed.put(count, step, receiver.packets())?;
     }
-    receiver.deliver(packets, report)
+    Ok(fed)
 }
 
 fn five_steps(
@@ -220,34 +237,43 @@ fn five_steps(
     steps
 }
 
-/// What five calls of a receiver answered and wrote, and its totals behind them.
+/// Calls a receiver five times, where so many reads, writes of packets and writes of lines pass.
+pub(crate) fn heard_by(
+    alloc: Global,
+    receiver: &mut Toy,
+    source: Source<'_>,
+    passes: [u64; 3],
+) -> Heard {
+    let mut reader = reader_of(source, passes[0]);
+    let mut packets = writer_of(alloc, passes[1]);
+    let mut report = writer_of(alloc, passes[2]);
+    let steps = five_steps(receiver, &mut reader, &mut packets, &mut report);
+    Heard {
+        steps,
+        packets: taken(packets),
+        report: taken(report),
+    }
+}
+
+/// What five calls of a receiver returned and wrote, and its totals after them.
 pub(crate) struct Taken {
-    pub(crate) steps: Steps,
-    pub(crate) packets: Vec<u8>,
-    pub(crate) report: Vec<u8>,
+    pub(crate) heard: Heard,
     pub(crate) totals: Totals,
 }
 
 impl Drop for Taken {
     fn drop(self) {
         let Taken {
-            steps: _,
-            packets: _,
-            report: _,
+            heard: _,
             totals: _,
         } = self;
     }
 }
 
 fn taken_by(alloc: Global, receiver: &mut Toy, source: Source<'_>) -> Taken {
-    let mut reader = reader_of(source, ALL);
-    let mut packets = writer_of(alloc, ALL);
-    let mut report = writer_of(alloc, ALL);
-    let steps = five_steps(receiver, &mut reader, &mut packets, &mut report);
+    let heard = heard_by(alloc, receiver, source, [ALL, ALL, ALL]);
     Taken {
-        steps,
-        packets: taken(packets),
-        report: taken(report),
+        heard,
         totals: receiver.totals(),
     }
 }
