@@ -192,7 +192,7 @@ module _ {D : Type 0} (decide : D → List Symbol → Decision) (last : D → De
   pub waits_more : Reads (seen_by decide last cur) (seen_by decide last new) b c (Ok None)
       → Waited rules first.state new.state a c × (last new.decider ≡ last first.decider) × IsLive new.state.phase × (0 < asked rules cur.state → taken cur.state < taken new.state) × (taken new.state ≤ cur.limit)
   waits_more (bytes, read, end, advances) =
-      let waits = subst (λ (x : Rules). Waits x cur.state new.state (symbols_of bytes) (nat_eq (length bytes) (asked x cur.state))) same (advances.live live) in
+      let waits = subst (λ (x : Rules). Waits x cur.state new.state (symbols_of bytes) (nat_eq (length bytes) (asked x cur.state))) same (advances.live live).0 in
       let all = eqb-true (length bytes) (asked rules cur.state) waits.all in
       let (n, four) = asked_four rules cur.state.phase cur.state.window in (
         waited_on rules first.state cur.state new.state a b c so bytes waits read,

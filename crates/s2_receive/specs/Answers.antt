@@ -50,7 +50,7 @@ pub record IsSame {D : Type 0} (decide : D → List Symbol → Decision) (old ne
 -- bytes came, no more than were asked for: a step is made with their symbols, or none yet
 abbrev pub Goes : (old new : Seen) → List ℕ → Option Step → Type 0
 Goes old new bytes (Some step) = Steps old.rules old.state new.state (symbols_of bytes) (nat_eq (length bytes) (asked old.rules old.state)) new.last new.packets step
-Goes old new bytes None = Waits old.rules old.state new.state (symbols_of bytes) (nat_eq (length bytes) (asked old.rules old.state))
+Goes old new bytes None = Waits old.rules old.state new.state (symbols_of bytes) (nat_eq (length bytes) (asked old.rules old.state)) × (new.packets ≡ old.packets)
 
 -- where no frame is met, what was decided last stays: that of the frame before
 abbrev pub KeepsLast : Option Step → (old new : Decision) → Type 0
@@ -60,6 +60,7 @@ KeepsLast answer old new = new ≡ old
 -- the answer where it cannot go on: the end again, or nothing after a fault; and nothing else changes
 pub record Rests (old new : Seen) (answer : Option Step) : Type 0 where
   pub state : new.state ≡ old.state
+  pub packets : new.packets ≡ old.packets
   pub ended : old.state.phase ≡ phases.Ended → answer ≡ Some steps.End
   pub failed : old.state.phase ≡ phases.Failed → answer ≡ None
 

@@ -11,7 +11,7 @@ returns-in_err-next-in-Searching-clause-advances g c =
     let searching : c.args.self.now.state.phase ≡ phases.Searching = search common in
     let ensured = c.in_err-next-in-Searching.ensures in
     rw c.from_residual.ensures (record {
-      live = λ live. ensured.searches;
+      live = λ live. (ensured.searches, ensured.packets);
       rests = λ dead. absurd (dead (subst IsLive (sym searching) tt));
       kept = ensured.kept;
       bounded = ensured.bounded;
