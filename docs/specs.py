@@ -37,13 +37,6 @@ class File(NamedTuple):
     text: str
 
 
-def comments():
-    """The comments of docs/comments.txt, by "crate/module/name", with ".field" after it, or by "crate/module" for a file's head."""
-    path = ROOT / "docs/comments.txt"
-    text = path.read_text(encoding="utf-8").replace("\n  ", " ") if path.exists() else ""
-    return dict(line.split(": ", 1) for line in text.splitlines() if line and not line.startswith("#"))
-
-
 def crates():
     """The crates, lowest first."""
     lines = (ROOT / "crates.txt").read_text(encoding="utf-8").splitlines()
@@ -63,13 +56,13 @@ def head_of(lines):
     return end, CLAUSE.sub("", text, count=1), clause and clause[1].removeprefix("EN 302 307-1, ")
 
 
-def fields_of(block, place, instead):
+def fields_of(block):
     """(name, comment) of each field or rule of a record that has a comment."""
     above, found = [], []
     for line in block:
         comment, field = COMMENT.fullmatch(line), FIELD.match(line)
         if field and not comment:
-            found.append((field[1], instead.get(f"{place}.{field[1]}", joined(above))))
+            found.append((field[1], joined(above)))
         above = above + [comment[2]] if comment else []
     return [it for it in found if it[1]]
 
@@ -84,16 +77,15 @@ def end_of(lines, at, indent):
     return len(lines)
 
 
-def definitions_of(lines, place, instead):
-    """The definitions of a file's lines, in order. Some have another comment instead of their own."""
+def definitions_of(lines):
+    """The definitions of a file's lines, in order."""
     found, above, at = [], [], 0
     while at < len(lines):
         comment, definition = COMMENT.fullmatch(lines[at]), DEFINITION.match(lines[at])
         end = end_of(lines, at, len(definition[1] or "")) if definition else at + 1
         if definition:
-            block, name = lines[at:end], definition[2] or definition[4]
-            its = f"{place}/{name}"
-            found.append(Definition(name, instead.get(its, joined(above)), fields_of(block[1:], its, instead), "\n".join(block)))
+            block = lines[at:end]
+            found.append(Definition(definition[2] or definition[4], joined(above), fields_of(block[1:]), "\n".join(block)))
         above = above + [comment[2]] if comment else []
         at = end
     return found
@@ -101,15 +93,14 @@ def definitions_of(lines, place, instead):
 
 def files():
     """The files of specs/ of all crates, the lowest crate first, and in each as its Lib.antt has them."""
-    instead = comments()
     for crate in crates():
         folder = ROOT / "crates" / crate / "specs"
         lib = (folder / "Lib.antt").read_text(encoding="utf-8") if folder.exists() else ""
         for module in re.findall(r"^pub mod (\w+)$", lib, re.M):
             text = (folder / f"{module}.antt").read_text(encoding="utf-8")
-            place, lines = f"{crate}/{module}", text.split("\n")
+            lines = text.split("\n")
             end, head, clause = head_of(lines)
-            yield File(crate, module, instead.get(place, head), clause, definitions_of(lines[end:], place, instead), text)
+            yield File(crate, module, head, clause, definitions_of(lines[end:]), text)
 
 
 def rests_on(file, definition):

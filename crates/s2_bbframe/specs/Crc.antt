@@ -7,7 +7,7 @@ use Rattle.s2_bits.specs.Bits.{bits_of_bytes}
 abbrev pub generator : ℕ
 generator = 469
 
--- a remainder times x: twice the number, less the generator where x^8 stands
+-- a remainder times x: twice the number, less the generator if x^8 appears
 unfoldable pub times_x : ℕ → ℕ
 times_x r = bit_xor (2 * r) (if nat_le 128 r then generator else 0)
 

@@ -10,7 +10,7 @@ use Rattle.s2_bbframe.specs.declared.header.Header.{Header}
 abbrev pub IsPacket : List ℕ → Type 0
 IsPacket packet = (length packet ≡ packet_bytes) × (slice_index packet 0 ≡ sync)
 
--- a packet's body, and behind it the body's CRC-8 in the next packet's sync place
+-- a packet's body, then the body's CRC-8 in the next packet's sync place
 abbrev pub closed_body : List ℕ → List ℕ
 closed_body packet = drop 1 packet ++ crc8 (drop 1 packet) ∷ []
 
@@ -19,7 +19,8 @@ abbrev pub first_place : List (List ℕ) → List ℕ
 first_place [] = []
 first_place (packet ∷ packets) = 0 ∷ []
 
--- the data stream of packets
+-- the data stream of packets: 00, then each packet's 187 bytes after its sync byte, and their CRC-8, which is in the
+-- next packet's sync place
 abbrev pub stream_of : List (List ℕ) → List ℕ
 stream_of packets = first_place packets ++ flat_map closed_body packets
 
@@ -32,7 +33,7 @@ abbrev pub is_begun : List (List ℕ) → Bool
 is_begun [] = false
 is_begun (packet ∷ packets) = true
 
--- so many consecutive cuts of a stream
+-- n consecutive cuts of a stream
 abbrev pub cuts : ℕ → ℕ → List ℕ → List (List ℕ)
 cuts size zero stream = []
 cuts size (suc n) stream = take size stream ∷ cuts size n (drop size stream)
@@ -49,7 +50,8 @@ fields_of size stream = cuts size ((length stream + (size - 1)) / size) stream
 abbrev pub to_place : ℕ → ℕ
 to_place at = (packet_bytes - at % packet_bytes) % packet_bytes
 
--- the header of the field at a stream byte
+-- The header of the field at a stream byte. DFL is its length in bits, SYNCD the distance in bits to the next sync
+-- place
 abbrev pub header_at : ℕ → ℕ → List ℕ → Header
 header_at roll_off at field = record { roll_off = roll_off; second = 0; dfl = 8 * length field; syncd = 8 * to_place at }
 
@@ -57,8 +59,8 @@ header_at roll_off at field = record { roll_off = roll_off; second = 0; dfl = 8 
 abbrev pub field_bytes : Mode → ℕ
 field_bytes m = (kbch_of m - 80) / 8
 
--- The next byte stands here in its packet, and with it so many bytes are left: the last byte of a stream is a CRC-8, which
--- stands in a sync place. Before the first packet there is none.
+-- The next byte is here in its packet, and n bytes are left from it on. The last byte of a stream is a CRC-8, in a sync
+-- place. Before the first packet there is none
 abbrev pub EndsAtPlace : Bool → ℕ → ℕ → Type 0
 EndsAtPlace true phase left = (phase + left) % packet_bytes ≡ 1
 EndsAtPlace false phase left = (phase ≡ 0) × (left ≡ 0)
@@ -69,7 +71,7 @@ pub record Slicing : Type 0 where
   pub size : ℕ
   -- whether a packet has come
   pub begun : Bool
-  -- where the next byte stands in its packet
+  -- the place of the next byte in its packet
   pub phase : ℕ
   -- the stream's bytes that were not taken yet
   pub waiting : List ℕ
@@ -80,7 +82,8 @@ pub record Slicing : Type 0 where
 abbrev pub starting : ℕ → Slicing
 starting size = record { size = size; begun = false; phase = 0; waiting = []; closed = false }
 
--- the packets that were accepted, and the fields that were taken
+-- the stream of the accepted packets is the fields that were taken, one after another, and then the bytes that the
+-- slicer still holds
 pub record Sliced (packets fields : List (List ℕ)) (s : Slicing) : Type 0 where
   pub begun : s.begun ≡ is_begun packets
   pub phase : s.phase ≡ length (flat_map (λ field. field) fields) % packet_bytes
@@ -90,7 +93,7 @@ pub record Sliced (packets fields : List (List ℕ)) (s : Slicing) : Type 0 wher
 abbrev pub next_field : Slicing → List ℕ
 next_field s = take s.size s.waiting
 
--- behind any packets and fields the next field is taken, with the header of its place
+-- after any packets and fields the next field is taken, with the header of its place
 abbrev pub TakesField : ℕ → (old new : Slicing) → Header → Type 0
 TakesField roll_off old new header =
     (packets fields : List (List ℕ)) → Sliced packets fields old

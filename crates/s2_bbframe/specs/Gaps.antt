@@ -14,7 +14,7 @@ syncd_of at bytes = if nat_lt (to_place at) (length bytes) then 8 * to_place at 
 abbrev pub header_of_cut : ℕ → ℕ → List ℕ → Header
 header_of_cut roll_off at bytes = record { roll_off = roll_off; second = 0; dfl = 8 * length bytes; syncd = syncd_of at bytes }
 
--- consecutive fields of a stream, the first of which begins at this byte of it
+-- consecutive fields of a stream, from a byte of it on
 pub record Part : Type 0 where
   pub at : ℕ
   pub fields : List (List ℕ)
@@ -23,7 +23,7 @@ pub record Part : Type 0 where
 abbrev pub bytes_in : Part → List ℕ
 bytes_in part = flat_map (λ bytes. bytes) part.fields
 
--- they stand so in the stream
+-- the stream has these fields at that byte
 abbrev pub IsPartOf : List ℕ → Part → Type 0
 IsPartOf stream part = (rest : List ℕ) × (drop part.at stream ≡ bytes_in part ++ rest)
 
@@ -32,7 +32,7 @@ abbrev pub cut_events : ℕ → ℕ → List (List ℕ) → List Event
 cut_events roll_off at [] = []
 cut_events roll_off at (bytes ∷ fields) = field (header_of_cut roll_off at bytes) bytes ∷ cut_events roll_off (at + length bytes) fields
 
--- all parts, each behind a gap
+-- all parts, each after a gap
 abbrev pub parted : ℕ → List Part → List Event
 parted roll_off parts = flat_map (λ part. gap ∷ cut_events roll_off part.at part.fields) parts
 
@@ -44,8 +44,8 @@ begun_before at = (at + body_bytes) / packet_bytes
 abbrev pub whole_in : List (List ℕ) → Part → List (List ℕ)
 whole_in packets part = drop (begun_before part.at) (take (closed_in (part.at + length (bytes_in part))) packets)
 
--- Of parts of a data stream, however cut into fields, just the packets that lie whole in one of them are given, part by part; none is
--- bad, and each gap tears one at most.
+-- Parts of a data stream, however cut into fields, give exactly the packets that are whole in one of them, part by
+-- part. None is bad, and each gap tears at most one
 abbrev pub PartsLaw : Type 0
 PartsLaw =
     (roll_off : ℕ) (held : Option (List ℕ)) (packets : List (List ℕ)) (parts : List Part)
@@ -58,6 +58,6 @@ PartsLaw =
 abbrev pub across : ℕ → ℕ → List (List ℕ) → List (List ℕ)
 across start end packets = drop (closed_in start) (take (begun_before end) packets)
 
--- A gap loses just these: those that are closed before its start and these are all that begin before its end.
+-- A gap loses exactly these packets: those closed before its start and these are all that begin before its end
 abbrev pub AcrossLaw : Type 0
 AcrossLaw = (start end : ℕ) (packets : List (List ℕ)) → start ≤ end → take (closed_in start) packets ++ across start end packets ≡ take (begun_before end) packets

@@ -52,5 +52,6 @@ header_of_bytes m bytes =
 abbrev pub signalling : Header → List ℕ
 signalling h = (240 + h.roll_off) ∷ h.second ∷ (to_be_bytes w16 packet_bits ++ (to_be_bytes w16 h.dfl ++ (sync ∷ to_be_bytes w16 h.syncd)))
 
+-- a header's ten bytes: the nine of `signalling` and their CRC-8
 abbrev pub header_bytes : Header → List ℕ
 header_bytes h = signalling h ++ (crc8 (signalling h) ∷ [])

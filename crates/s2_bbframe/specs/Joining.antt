@@ -18,7 +18,7 @@ pub record Run : Type 0 where
 abbrev pub more : List (List ℕ) → ℕ → Run → Run
 more good bad r = record { body = r.body; good = good ++ r.good; bad = bad + r.bad }
 
--- a body and the place behind it: a packet, which begins with the sync byte, where the place holds the body's CRC-8
+-- a body and the place after it: a packet, which begins with the sync byte, if the place holds the body's CRC-8
 abbrev pub closing : List ℕ → ℕ → Run → Run
 closing body place r = if nat_eq place (crc8 body) then more ((sync ∷ body) ∷ []) 0 r else more [] 1 r
 
@@ -39,18 +39,19 @@ pub record Joined : Type 0 where
 abbrev pub still : Option (List ℕ) → Joined
 still held = record { held = held; good = []; bad = 0 }
 
+-- the joiner inside a run, with the unfinished body held, and what the run gave
 abbrev pub inside : Run → Joined
 inside r = record { held = Some r.body; good = r.good; bad = r.bad }
 
--- the distance in bits to the run's next place, or `no_place` where it lies past the field
+-- the distance in bits to the run's next place, or `no_place` if it is past the field
 abbrev pub place_in : List ℕ → List ℕ → ℕ
 place_in body bytes = if nat_lt (body_bytes - length body) (length bytes) then 8 * (body_bytes - length body) else no_place
 
--- a field that comes while it is lost: a run begins behind the place that SYNCD names
+-- a field that comes while the joiner is lost: a run begins after the place that SYNCD names
 abbrev pub begins : ℕ → List ℕ → Joined
 begins syncd bytes = if nat_eq syncd no_place then still None else inside (run_of [] (drop (syncd / 8 + 1) bytes))
 
--- a field that comes inside a run: the run goes on where SYNCD names its next place, else it has ended
+-- a field that comes inside a run: the run continues if SYNCD names its next place, else it has ended
 abbrev pub goes_on : List ℕ → ℕ → List ℕ → Joined
 goes_on body syncd bytes = if nat_eq syncd (place_in body bytes) then inside (run_of body bytes) else begins syncd bytes
 
@@ -67,6 +68,7 @@ pub data Event : Type 0 where
   field : Header → List ℕ → Event
   gap : Event
 
+-- what an event makes of a joiner; a gap makes it lost
 abbrev pub step : Option (List ℕ) → Event → Joined
 step held (field header bytes) = fed held header.syncd bytes
 step held gap = still None
@@ -93,7 +95,7 @@ abbrev pub torn : Option (List ℕ) → List Event → ℕ
 torn held [] = 0
 torn held (event ∷ events) = torn_in held event + torn (step held event).held events
 
--- what comes after it
+-- a first result and the next one together
 abbrev pub and_then : Joined → Joined → Joined
 and_then first second = record { held = second.held; good = first.good ++ second.good; bad = first.bad + second.bad }
 
@@ -104,7 +106,7 @@ joining held (event ∷ events) = and_then (step held event) (joining (step held
 
 -- ---- the fields of a data stream, and their packets again
 
--- fields of a stream, the first of which begins at this byte of it, each with its header
+-- the fields of a stream from a byte of it on, each with its header
 abbrev pub events_from : ℕ → ℕ → List (List ℕ) → List Event
 events_from roll_off at [] = []
 events_from roll_off at (bytes ∷ fields) = field (header_at roll_off at bytes) bytes ∷ events_from roll_off (at + length bytes) fields
@@ -114,7 +116,7 @@ abbrev pub Placed : ℕ → List (List ℕ) → Type 0
 Placed at [] = ⊤
 Placed at (bytes ∷ fields) = (to_place at < length bytes) × Placed (at + length bytes) fields
 
--- how many packets' closing CRC-8s lie in so many bytes of a stream
+-- the number of packets whose closing CRC-8 is in the first n bytes of a stream
 abbrev pub closed_in : ℕ → ℕ
 closed_in bytes = (bytes - 1) / packet_bytes
 

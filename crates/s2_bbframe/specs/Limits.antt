@@ -1,4 +1,4 @@
--- The numbers of packets and of their fields' headers.
+-- The numbers of packets and of their fields' headers (EN 302 307-1, 5.1.4 and 5.1.6).
 use Rattle.std.specs.Prelude.{◌≡◌, ℕ, ◌+◌}
 use Rattle.s2_bbframe.specs.declared.limits.TheConstants.{BODY_BYTES, MOST_FIELD_BYTES, NO_PLACE, PACKET_BITS, PACKET_BYTES, PACKETS_ROOM, SYNC}
 
@@ -6,7 +6,7 @@ use Rattle.s2_bbframe.specs.declared.limits.TheConstants.{BODY_BYTES, MOST_FIELD
 abbrev pub packet_bytes : ℕ
 packet_bytes = 188
 
--- the bytes of a packet's body, which is what stands behind its sync byte (EN 302 307-1, 5.1.4)
+-- the bytes of a packet's body, which follows its sync byte (EN 302 307-1, 5.1.4)
 abbrev pub body_bytes : ℕ
 body_bytes = 187
 
@@ -26,7 +26,7 @@ no_place = 65535
 abbrev pub most_field_bytes : ℕ
 most_field_bytes = 8191
 
--- the most bytes of the packets that a data field of so many bytes completes: those of a body before it, and its own
+-- the most bytes of the packets that a data field of so many bytes completes: its own, and 187 of a body before it
 abbrev pub packets_room : ℕ → ℕ
 packets_room bytes = body_bytes + bytes
 

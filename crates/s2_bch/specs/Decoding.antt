@@ -16,6 +16,7 @@ all_lists (suc n) = map (λ bits. false ∷ bits) (all_lists n) ++ map (λ bits.
 unfoldable pub all_words : Mode → List (List Bool)
 all_words m = map (λ quotient. product quotient (generator_of m)) (all_lists (kbch_of m))
 
--- the first of them that differs from these bits in at most t places, or none
+-- decoding as a function, which is never computed: the first word of the code that differs from these bits in at most t
+-- places, or none
 unfoldable pub nearest : Mode → List Bool → Option (List Bool)
 nearest m bits = find (λ word. nat_le (differences (length bits) bits word) (t_of m)) (all_words m)

@@ -12,6 +12,7 @@ minimal_16 = 65581 ∷ 65907 ∷ 69565 ∷ 88661 ∷ 73519 ∷ 128949 ∷ 110437
 abbrev pub minimal_14 : List ℕ
 minimal_14 = 16427 ∷ 18753 ∷ 17991 ∷ 21905 ∷ 27477 ∷ 25481 ∷ 27877 ∷ 20257 ∷ 17935 ∷ 23113 ∷ 22545 ∷ 26095 ∷ []
 
+-- the product of some polynomials
 abbrev pub product_of_all : List (List Bool) → List Bool
 product_of_all [] = true ∷ []
 product_of_all (f ∷ fs) = product f (product_of_all fs)

@@ -1,4 +1,4 @@
--- What an encoder and decoder of a mode holds.
+-- What an encoder and decoder of a mode holds (EN 302 307-1, 5.3.1).
 use Rattle.std.specs.Prelude.{ℕ, ◌≡◌, ◌+◌, true, false, List, drop}
 use Rattle.s2_mode.specs.Mode.{Mode, IsMode, k_of, kbch_of, t_of, HasCodeSizes}
 use Rattle.s2_bch.specs.Generators.{generator_of}

@@ -1,4 +1,4 @@
--- The division register of three blocks of 64 bits, and what a word's division leaves.
+-- The division register of three blocks of 64 bits, and what a word's division leaves (EN 302 307-1, 5.3.1).
 use Rattle.std.specs.Prelude.{ℕ, ◌≡◌, ◌+◌, ◌-◌, ◌*◌, ◌^◌, ◌<◌, ◌≤◌, Bool, false, List, length, take, drop, replicate, slice_index_or}
 use Rattle.s2_bch.specs.Division.{steps}
 use Rattle.s2_bch.specs.Words.{register_after}
@@ -12,7 +12,7 @@ value_of r = (r.high * 2 ^ 64 + r.middle) * 2 ^ 64 + r.low
 abbrev pub empty : Register
 empty = record { high = 0; middle = 0; low = 0 }
 
--- the bits stand at the top of the register, and zeros follow
+-- the bits are at the top of the register, and zeros follow
 pub record Holds (r : Register) (bits : List Bool) : Type 0 where
   pub fits : length bits ≤ 192
   pub value : value_of r ≡ number_of bits * 2 ^ (192 - length bits)

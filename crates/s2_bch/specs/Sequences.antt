@@ -1,4 +1,4 @@
--- Sequences over a field, locators, and the shortest locator: the definitions.
+-- Sequences over a field, locators, and the shortest locator: the definitions (EN 302 307-1, 5.3.1).
 use Rattle.std.specs.Prelude.{ℕ, zero, suc, ◌≡◌, ◌≢◌, ◌+◌, ◌<◌, ◌≤◌, List, [], ◌∷◌, length}
 use Rattle.std.proofs.Common.{get_or}
 use Rattle.s2_field.specs.Operations.{Operations}
@@ -28,7 +28,7 @@ module _ {F : Type 0} (field : Operations F) where
   IsMonic zero (c ∷ f) = (c ≡ field.one) × (f ≡ [])
   IsMonic (suc d) (c ∷ f) = IsMonic d f
 
-  -- the discrepancies are zero as far as the first n terms tell; d is f's degree
+  -- a locator polynomial has discrepancies of zero, as far as the first n terms of a sequence show; d is its degree
   abbrev pub Annihilates : ℕ → ℕ → List F → (ℕ → F) → Type 0
   Annihilates n d f s = (i : ℕ) → i + d < n → discrepancies f s i ≡ field.zero
 
@@ -45,7 +45,8 @@ module _ {F : Type 0} (field : Operations F) where
   shift zero f = f
   shift (suc k) f = field.zero ∷ shift k f
 
-  -- f is the shortest monic locator of the first n terms, and b, the auxiliary polynomial, fails with delta one place before f's degree
+  -- The polynomial f is the shortest monic locator of the first n terms. The auxiliary polynomial b, from which the
+  -- next one is made, fails with delta one place before f's degree
   pub record Shortest (n d : ℕ) (f b : List F) (delta : F) (s : ℕ → F) : Type 0 where
     pub monic : IsMonic d f
     pub fits : d ≤ n

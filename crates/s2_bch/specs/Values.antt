@@ -1,15 +1,15 @@
--- A word's value at an element of a field, and its roots.
+-- A word's value at an element of a field, and its roots (EN 302 307-1, 5.3.1).
 use Rattle.std.specs.Prelude.{ℕ, suc, ◌≡◌, ◌≢◌, ◌<◌, Bool, true, false, List, [], ◌∷◌, length}
 use Rattle.s2_field.specs.Operations.{Operations}
 use Rattle.s2_field.specs.Polynomials.{pow}
 
--- v where the bit is set, and zero elsewhere
+-- v if the bit is set, else zero
 abbrev pub pick : {F : Type 0} → F → Bool → F → F
 pick nil true v = v
 pick nil false v = nil
 
 module _ {F : Type 0} (field : Operations F) where
-  -- the word at x, its first bit the highest power: the sum of the powers of x that its ones stand for
+  -- a word's value at x: the sum of the powers of x at its ones, the first bit the highest power
   abbrev pub value_at : List Bool → F → F
   value_at [] x = field.zero
   value_at (b ∷ w) x = field.sum (pick field.zero b (pow field x (length w))) (value_at w x)

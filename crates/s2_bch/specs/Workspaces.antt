@@ -1,4 +1,4 @@
--- How much room the search for up to t errors takes.
+-- The room that the search for up to t errors takes (EN 302 307-1, 5.3.1).
 use Rattle.std.specs.Prelude.{ℕ, ◌≡◌, ◌+◌, ◌≤◌}
 
 pub record HasSizes (t syndromes locator auxiliary next terms values : ℕ) : Type 0 where

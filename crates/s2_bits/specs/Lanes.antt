@@ -1,4 +1,4 @@
--- Lanes of a vector: numbers, and bits as numbers.
+-- Lanes of a vector: numbers, and bits as numbers (own).
 use Rattle.std.specs.Prelude.{◌≡◌, ◌<◌, ℕ, Bool, List, [], ◌∷◌, length, slice_index_or}
 use Rattle.s2_bits.specs.Bits.{number}
 

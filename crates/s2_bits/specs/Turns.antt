@@ -1,11 +1,11 @@
--- Rows, one after another, and rows that are turned.
+-- Rows, one after another, and rotated rows (own).
 use Rattle.std.specs.Prelude.{ℕ, ◌+◌, ◌-◌, ◌*◌, ◌%◌, List, get_or}
 
--- which of n places comes to place k when they are turned by s places
+-- which of n places comes to place k in a rotation by s places
 abbrev pub turned : ℕ → ℕ → ℕ → ℕ
 turned n s k = (k + n - s) % n
 
--- where place k of n looks that are turned back by s
+-- which of n places comes to place k in a rotation back by s places
 abbrev pub turned_back : ℕ → ℕ → ℕ → ℕ
 turned_back n s k = (k + s) % n
 

@@ -1,4 +1,4 @@
--- What level 0 does, and that amplitudes are right.
+-- What level 0 does, and that amplitudes are right (own).
 use Rattle.std.specs.Prelude.{◌≡◌, ◌<◌, ◌≤◌, IsTrue, ◌*◌, ◌/◌, ℕ, List, All, length, take, FitsSigned}
 use Rattle.std.specs.Int.{w16}
 use Rattle.rand_pcg.specs.Lcg.{Lcg}
@@ -17,7 +17,7 @@ silence = by.Level 0
 abbrev pub SilentLaw : Type 0
 SilentLaw = (g : Lcg) (s : Symbol) → FitsSigned w16 s.i → FitsSigned w16 s.q → add silence g s ≡ (s, (draw silence (draw silence g).1).1)
 
--- at level 0 the noisy symbols of some bytes are these bytes, without what is left over at the end
+-- at level 0 the noisy symbols of some bytes are these bytes, without up to three bytes at the end
 abbrev pub SilentStreamLaw : Type 0
 SilentStreamLaw = (g : Lcg) (bytes : List ℕ) → All (λ b. b < 256) bytes → noisy silence g (symbols_of bytes) ≡ take (length bytes / 4 * 4) bytes
 

@@ -43,37 +43,37 @@ gain (by.EsN0 esn0) drawn = gaussian_gain (amplitude_at esn0) drawn
 unfoldable pub moved : Strength → ℤ → ℕ → ℤ
 moved strength component drawn = int_max (negsuc 32767) (int_min (component +ℤ gain strength drawn) (pos 32767))
 
--- a symbol with what is drawn next, first for I, then for Q, and the generator after it
+-- a symbol with the noise drawn next, first for I, then for Q, and the generator after it
 unfoldable pub add : Strength → Lcg → Symbol → Symbol × Lcg
 add strength g s = (
   record { i = moved strength s.i (draw strength g).0; q = moved strength s.q (draw strength (draw strength g).1).0 },
   (draw strength (draw strength g).1).1,
 )
 
--- the generator after what is drawn for so many symbols, two sums for each
+-- the generator after the words of n symbols, two sums for each
 abbrev pub drawn_for : Strength → ℕ → Lcg → Lcg
 drawn_for strength zero g = g
 drawn_for strength (suc n) g = (draw strength (draw strength (drawn_for strength n g)).1).1
 
--- the bytes of these symbols with what is drawn for each in turn
+-- the bytes of these symbols, each with the noise drawn for it
 abbrev pub noisy : Strength → Lcg → List Symbol → List ℕ
 noisy strength g [] = []
 noisy strength g (s ∷ ss) = symbol_bytes (add strength g s).0 ++ noisy strength (add strength g s).1 ss
 
--- What a failed read leaves: the reader gave some bytes, and the writer gained the noisy symbols that just these spell, and
--- nothing else. If no read failed, they were as many symbols as one call takes.
+-- What a failed read leaves: the reader gave some bytes, and the writer gained exactly the noisy symbols that these
+-- spell. If no read failed, they were as many symbols as one call takes
 pub record PassesOn (strength : Strength) (g : Lcg) (taken left given gained : Option (List ℕ)) (reads reads_now : ℕ) : Type 0 where
   pub bytes : List ℕ
   pub read : Consumes taken left bytes
   pub written : Appends given gained (noisy strength g (symbols_of bytes))
   pub bound : reads_now ≡ reads → length (symbols_of bytes) ≡ most_symbols
 
--- the same of a reader and a writer, before and behind, by the reader's bytes and count and the writer's bytes
+-- the same of a reader and a writer, before and after, by the reader's bytes and count and the writer's bytes
 abbrev pub PassesOnBy : {R W : Type 0} → (R → Option (List ℕ)) → (R → ℕ) → (W → Option (List ℕ)) → Strength → Lcg → R → R → W → W → Type 0
 PassesOnBy taken reads given strength g r r' w w' = PassesOn strength g (taken r) (taken r') (given w) (given w') (reads r) (reads r')
 
--- What a failed write leaves: the reader gave the bytes of some whole symbols, and of one more behind them. The writer gained the
--- former, whole and with their noise, and behind them a part of the last one's four bytes with its noise, and not all.
+-- What a failed write leaves: the reader gave the bytes of some whole symbols, and of one more. The writer gained the
+-- former with their noise, and then a part of the last one's four bytes with its noise, and not all
 pub record PassesPart (strength : Strength) (g : Lcg) (taken left given gained : Option (List ℕ)) : Type 0 where
   pub bytes : List ℕ
   pub last : List ℕ

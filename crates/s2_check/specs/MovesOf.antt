@@ -1,4 +1,4 @@
--- The moves that the shares of a split are.
+-- The moves that the shares of a split are (own).
 use Rattle.std.specs.Prelude.{◌≡◌, ℕ, ◌==◌, if◌then◌else◌, Bool, List, map, get_or, ℤ, pos, int_lt, unsigned_abs}
 use Rattle.std.specs.List.{position_or_len}
 use Rattle.s2_matrix.specs.Code.{Code, members}
@@ -13,6 +13,8 @@ move_of xs = record {
   amount = unsigned_abs (get_or xs 0 (pos 0));
 }
 
+-- of each check the move that its shares are, in favour of the word: the size of its shares, to the member with a
+-- negative share
 abbrev pub moves_of : Code → List Bool → Split → List Move
 moves_of code word split =
     map (λ j. move_of (map (λ i. in_favour word i (split.share j i)) (members code j))) (upto code.checks)

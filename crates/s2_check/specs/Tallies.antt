@@ -1,9 +1,9 @@
--- What a tally has of the first ones of some numbers.
+-- What a tally has of the first ones of some numbers (own).
 use Rattle.std.specs.Prelude.{◌≡◌, ℕ, ◌*◌, ◌<◌, ◌≤◌, min, Bool, List, take, count_by, fold, ℤ, pos, neg_ℤ, ◌≤ℤ◌, int_lt, unsigned_abs}
 use Rattle.std.specs.Int.{int_min}
 use Rattle.s2_matrix.specs.Total.{total}
 
--- the sum of the negative numbers, how many there are, and the least size, or M where that is less
+-- the sum of the negative numbers, how many there are, and the least size, or M if that is less
 abbrev pub negatives : List ℤ → ℤ
 negatives xs = total (int_min (pos 0)) xs
 

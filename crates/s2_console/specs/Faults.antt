@@ -1,10 +1,11 @@
--- The line of a fault on the errors.
+-- The line of a fault on the errors (own).
 use Rattle.std.specs.Prelude.{ℕ, List, [], ◌++◌, codes, Option}
 use Rattle.s2_mode.specs.FaultTexts.{with_number}
 use Rattle.s2_console.specs.declared.fault.Fault.{Fault}
 use Rattle.s2_console.specs.declared.fault.Fault.TheVariants as faults
 use Rattle.s2_console.specs.declared.fault.Phrase.{Phrase}
 
+-- what a fault says: its words and its file's name; for a fault of another crate, the subject and that fault's words
 abbrev pub fault_text : Fault → List ℕ
 fault_text (faults.Open name) = codes "cannot open " ++ name.now
 fault_text (faults.UsedTwice name) = name.now ++ codes " is used twice"
@@ -15,6 +16,7 @@ fault_text faults.NoMemory = codes "no memory"
 fault_text (faults.Rows text) = text
 fault_text (faults.Told text) = text
 
+-- the line of a fault: `s2: `, its text, LF
 abbrev pub fault_line : Fault → List ℕ
 fault_line fault = codes "s2: " ++ fault_text fault ++ codes "\n"
 

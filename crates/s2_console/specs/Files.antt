@@ -1,11 +1,11 @@
--- The files of a command.
+-- The files of a command (own).
 use Rattle.std.specs.Prelude.{◌≡◌, ℕ, Bool, false, List, Option, None}
 use Rattle.s2_mode.specs.Counts.{CanCount}
 use Rattle.s2_mode.specs.Streams.{Streams}
 use Rattle.s2_console.specs.Screens.{Screen}
 
--- The files of a command, which has a row file: what is still to be read of the rows, and how many calls of that file have failed; whether
--- the file that is written was begun; and the streams of the others.
+-- The files of a command: the unread bytes of its row file and how many calls of it have failed; whether the output was
+-- begun; and the streams of the others
 pub record Files : Type 0 where
   pub rows : Option (List ℕ)
   pub rows_failed : ℕ

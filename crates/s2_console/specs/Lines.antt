@@ -1,4 +1,4 @@
--- Lines in the making.
+-- Lines in the making (own).
 use Rattle.std.specs.Prelude.{◌≡◌, ℕ}
 use Rattle.s2_console.specs.declared.line.TheConstants.{LINE_ROOM}
 

@@ -1,4 +1,4 @@
--- The lines of notes on the errors.
+-- The lines of notes on the errors (own).
 use Rattle.std.specs.Prelude.{◌≡◌, ℕ, List, [], ◌∷◌, ◌++◌, codes, Result, Ok, Err}
 use Rattle.std.specs.Io.KnownBytes.{Appends}
 use Rattle.s2_console.specs.declared.exit.Exit.{Exit}
@@ -11,8 +11,8 @@ use Rattle.s2_console.specs.Screens.{Screen}
 abbrev pub note_line : List ℕ → List ℕ
 note_line text = codes "s2: note: " ++ text ++ codes "\n"
 
--- What a command with these notes wrote to its errors: its notes, and behind them the line of a fault, where there was one. They may
--- be lost only where their writer failed, which is a fault.
+-- What a command with these notes wrote to its errors: its notes, then the line of a fault, if there is one. They may
+-- be lost only if their writer failed, which is a fault
 abbrev pub Remarks : List ℕ → Result Exit Fault → Screen → Screen → Type 0
 Remarks [] ended old new = Complains ended old new
 Remarks (byte ∷ notes) (Ok exit) old new = (new.errors_failed ≡ old.errors_failed) × Appends old.errors new.errors (byte ∷ notes)

@@ -1,4 +1,4 @@
--- What `judge` writes to its certificate's file, if one is asked for.
+-- What `judge` writes to its certificate's file, if there is one (own).
 use Rattle.std.specs.Prelude.{◌≡◌, ◌≢◌, ◌⊎◌, ℕ, ◌+◌, ℤ, List, Option, Some, None, Result, Ok, Err, OnErr}
 use Rattle.std.specs.Io.KnownBytes.{Appends}
 use Rattle.s2_mode.specs.Pieces.{AppendsPart}
@@ -17,18 +17,18 @@ use Rattle.s2_evidence.specs.Files.{Written, JudgeFiles}
 use Rattle.s2_evidence.specs.Inputs.{AreInputs}
 use Rattle.s2_evidence.specs.Judging.{IsJudged}
 
--- a certificate's bytes are written, or nothing where there is none
+-- a certificate's bytes are written, or nothing if there is none
 abbrev pub Writes : Option View → Option (List ℕ) → Option (List ℕ) → Type 0
 Writes None old new = new ≡ old
 Writes (Some view) old new = Appends old new (bytes_of view)
 
--- A certificate's bytes are written in part, from the first one on, and not all. Where there is none nothing is: its file could not
--- be truncated.
+-- A certificate's bytes are written in part, from the first one on, and not all. Without a certificate nothing is
+-- written: the file could not be truncated
 abbrev pub WritesPart : Option View → Option (List ℕ) → Option (List ℕ) → Type 0
 WritesPart None old new = new ≡ old
 WritesPart (Some view) old new = AppendsPart (bytes_of view) old new
 
--- if the file is asked for, it was begun, and the certificate written
+-- if there is a file, it was begun, and the certificate written
 pub record Wrote (view : Option View) (old new : Written) : Type 0 where
   pub asked : new.asked ≡ old.asked
   pub begun : new.begun ≡ old.asked
@@ -48,21 +48,21 @@ pub record IsCertified (tuning : Tuning) (input : Rows × List ℤ) (Done : Opti
   pub shown : IsShown input.0 input.1 (decided input.0 tuning input.1)
   pub done : Done (decided input.0 tuning input.1).certificate
 
--- what is printed of an input, and what was written before
+-- the text printed for an input, and the bytes written before it
 abbrev pub IsToldAndCertified : Tuning → Written → Written → Rows × List ℤ → Exit → List ℕ → Type 0
 IsToldAndCertified tuning old new input exit text =
     IsJudged tuning input exit text × IsCertified tuning input (λ view. Wrote view old new)
 
--- What a command that failed leaves of the file. Where a writer failed the input was accepted and the file begun: the certificate
--- stands there whole, or where its own writer failed in part. Where the input is refused, memory ran out or a reader failed the file is
--- unchanged, and not begun.
+-- What a failed command leaves of the file. If a writer failed, the input was accepted and the file begun: it has the
+-- whole certificate, or a part if its own writer failed. If the input is refused, memory ran out or a reader failed,
+-- the file is unchanged, and not begun
 pub record LeavesCertificate {T : Type 0} (tuning : Tuning) (IsInput : Result (Rows × List ℤ) Fault → Type 0) (ended : Result T Fault) (old new : Written) : Type 0 where
   pub failed : ended ≡ Err faults.Write
       → (input : Rows × List ℤ) × IsInput (Ok input) × IsCertified tuning input (λ view. Wrote view old new ⊎ WrotePart view old new)
   pub other : OnErr ended (ended ≢ Err faults.Write → new ≡ old)
 
--- `judge` has ended: of its files' input the verdict is printed, and the certificate written before it, only what failed was
--- counted, and of a fault the line stands on the errors.
+-- `judge` has ended. The verdict on its files' input is printed, and the certificate written before it. Only failed
+-- calls were counted, and the line of a fault is on the errors
 abbrev pub JudgeEnds : Tuning → Shape → JudgeFiles → JudgeFiles → Screen → Screen → Exit → Type 0
 JudgeEnds tuning shape files files_after old new exit =
     (ended : Result Exit Fault) × (exit ≡ exit_of ended)

@@ -1,4 +1,4 @@
--- What `check` reads, and what it prints of a certificate.
+-- What `check` reads, and what it prints of a certificate (own).
 use Rattle.std.specs.Prelude.{◌≡◌, ◌↔◌, ◌⊎◌, IsTrue, ℕ, List, ◌++◌, Option, IfSome, codes, pos, Result, Ok, Err}
 use Rattle.s2_rows.specs.Rows.{Rows}
 use Rattle.s2_rows.specs.RowFiles as row_files
@@ -53,16 +53,17 @@ then_parts (Ok rows) (Ok certificate) = parts_in rows certificate
 abbrev pub check_inputs : List ℕ → List ℕ → Result (Rows × File) Fault
 check_inputs rows certificate = then_parts (taken rows) (taken certificate)
 
--- what is answered is what two files in memory say
+-- the result is what two files in memory say
 abbrev pub ArePartsIn : List ℕ → List ℕ → Result (Rows × File) Fault → Type 0
 ArePartsIn rows certificate said = parts_in rows certificate ≡ said
 
--- what is answered is what a row file and a certificate say, where their bytes are known
+-- the result is what a row file and a certificate say, if their bytes are known
 abbrev pub AreCheckInputs : Option (List ℕ) → Option (List ℕ) → Result (Rows × File) Fault → Type 0
 AreCheckInputs rows certificate said = IfSome rows (λ xs. IfSome certificate (λ ys. check_inputs xs ys ≡ said))
 
 -- ---- the answer
 
+-- exit 0 for yes, else 2
 abbrev pub answer_exit : Answer → Exit
 answer_exit answers.Yes = exits.Fine
 answer_exit (answers.No refusal) = exits.No
@@ -89,7 +90,7 @@ abbrev pub IsAnswered : Rows × File → Exit → List ℕ → Type 0
 IsAnswered input exit text =
     (Suits input.0 input.1 × SaysAnswer input.0 (view_of input.0 input.1) exit text) ⊎ SaysNoShape input.0 input.1 exit text
 
--- `check` has ended: so it ran on what its files say, with so many failed reads before and behind
+-- `check` has ended: it ran on the contents of its files, with these counts of failed reads before and after
 abbrev pub CheckEnds : Option (List ℕ) → Option (List ℕ) → Screen → Screen → Exit → ℕ → ℕ → Type 0
 CheckEnds rows certificate old new exit reads reads_after =
     CommandEnds IsAnswered (AreCheckInputs rows certificate) reads reads_after old new exit

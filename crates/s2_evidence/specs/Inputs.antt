@@ -1,4 +1,4 @@
--- What the files of a command say, or the fault that is told.
+-- The contents of a command's files, or the fault that is reported (own).
 use Rattle.std.specs.Prelude.{◌≡◌, ℕ, ℤ, nat_le, Option, IfSome, List, ◌++◌, codes, length, Result, Ok, Err, if◌then◌else◌}
 use Rattle.s2_mode.specs.Shape.{Shape, code_bits}
 use Rattle.s2_mode.specs.declared.whole.FileFault.{FileFault}
@@ -12,6 +12,7 @@ use Rattle.s2_rows.specs.declared.values.ValueFault.{ValueFault}
 use Rattle.s2_console.specs.declared.fault.Fault.{Fault}
 use Rattle.s2_console.specs.declared.fault.Fault.TheVariants as faults
 
+-- the rows of a row file, or its fault after `rows: `
 abbrev pub rows_said : Shape → Result (List (List ℕ)) RowFault → Result Rows Fault
 rows_said shape (Ok rows) = Ok (rows_value shape rows)
 rows_said shape (Err e) = Err (faults.Rows (codes "rows: " ++ row_fault_text e))
@@ -47,13 +48,14 @@ then_values (Err f) values = Err f
 then_values (Ok rows) (Err f) = Err f
 then_values (Ok rows) (Ok vs) = Ok (rows, vs)
 
+-- the rows of a row file, then the values of a value file; else the first fault
 abbrev pub inputs : Shape → List ℕ → List ℕ → Result (Rows × List ℤ) Fault
 inputs shape rows soft = then_values (rows_in shape rows) (values_in shape soft)
 
--- what is answered is what a row file and a value file say, where their bytes are known
+-- the result is what a row file and a value file say, if their bytes are known
 abbrev pub AreInputs : Shape → Option (List ℕ) → Option (List ℕ) → Result (Rows × List ℤ) Fault → Type 0
 AreInputs shape rows soft said = IfSome rows (λ xs. IfSome soft (λ ys. inputs shape xs ys ≡ said))
 
--- what is answered is this input
+-- the result is this input
 abbrev pub IsOnly : {I : Type 0} → I → Result I Fault → Type 0
 IsOnly input said = said ≡ Ok input

@@ -1,4 +1,4 @@
--- What `judge` prints of soft values.
+-- What `judge` prints of soft values (own).
 use Rattle.std.specs.Prelude.{◌≡◌, ℕ, ℤ, Bool, Option, Some, List, codes}
 use Rattle.s2_matrix.specs.Code.{IsOddCheck, IsCodeword, code_of}
 use Rattle.s2_rows.specs.Rows.{Rows}
@@ -49,11 +49,11 @@ Says verdicts.MostLikely rows soft bits exit text = SaysMostLikely rows soft bit
 Says verdicts.Parity rows soft bits exit text = SaysParity rows soft bits exit text
 Says verdicts.Broken rows soft bits exit text = SaysBroken rows soft bits exit text
 
--- the exit and the text tell what was decided
+-- the exit and the text say what was decided
 abbrev pub SaysDecided : Decided → Rows → List ℤ → Exit → List ℕ → Type 0
 SaysDecided d rows soft exit text = Says d.verdict rows soft d.bits exit text
 
--- they tell what a receiver that tries so much decides on soft values
+-- they say what a receiver with this tuning decides on soft values
 abbrev pub IsJudged : Tuning → Rows × List ℤ → Exit → List ℕ → Type 0
 IsJudged tuning input exit text = SaysDecided (decided input.0 tuning input.1) input.0 input.1 exit text
 

@@ -1,4 +1,4 @@
--- The lines of verdicts and of answers.
+-- The lines of verdicts and of the checker's results (own).
 use Rattle.std.specs.Prelude.{ℕ, ℤ, List, ◌++◌, codes, decimal, if◌then◌else◌}
 use Rattle.std.specs.Fmt.{signed_decimal}
 use Rattle.s2_check.specs.Verdicts.{verdict_word}
@@ -9,7 +9,7 @@ use Rattle.s2_check.specs.declared.checker.Examined.{Examined}
 use Rattle.s2_check.specs.declared.checker.Answer.TheVariants as answers
 use Rattle.s2_check.specs.declared.checker.Refusal.TheVariants as refusals
 
--- what is known of bits, and their cost
+-- a verdict, and the cost of the bits
 abbrev pub cost_text : Verdict → ℤ → List ℕ
 cost_text verdict cost = verdict_word verdict ++ (codes " cost " ++ signed_decimal cost)
 
@@ -17,6 +17,7 @@ cost_text verdict cost = verdict_word verdict ++ (codes " cost " ++ signed_decim
 abbrev pub sole_line : ℤ → List ℕ
 sole_line cost = cost_text verdicts.Sole cost ++ codes "\n"
 
+-- `most-likely cost C` with LF
 abbrev pub most_likely_line : ℤ → List ℕ
 most_likely_line cost = cost_text verdicts.MostLikely cost ++ codes "\n"
 
@@ -28,16 +29,17 @@ parity_line cost = cost_text verdicts.Parity cost ++ codes "\n"
 abbrev pub broken_line : ℤ → ℕ → List ℕ
 broken_line cost check = cost_text verdicts.Broken cost ++ (codes " check " ++ decimal check) ++ codes "\n"
 
--- what a checker answers, with the cost of the word that was asked about
+-- the checker's result, with the cost of the word
 abbrev pub answer_text : ℤ → Answer → List ℕ
 answer_text cost answers.Yes = codes "yes cost " ++ signed_decimal cost
 answer_text cost (answers.No refusals.OtherShape) = codes "no shape"
 answer_text cost (answers.No (refusals.OddCheck check)) = codes "no check " ++ decimal check
 answer_text cost (answers.No refusals.BoundBelow) = codes "no bound"
 
+-- the line of a checker's result, with LF
 abbrev pub answer_line : ℤ → Answer → List ℕ
 answer_line cost answer = answer_text cost answer ++ codes "\n"
 
--- what is found of a certificate: of a strict one that its word is sole
+-- the line of a certificate: `sole` if it is strict, else the checker's result
 abbrev pub examined_line : ℤ → Examined → List ℕ
 examined_line cost found = if found.strict then sole_line cost else answer_line cost found.answer

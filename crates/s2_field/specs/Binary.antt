@@ -1,4 +1,4 @@
--- Multiplication of polynomials over two elements, written as numbers, modulo x^m + low.
+-- Multiplication of polynomials over two elements, written as numbers, modulo x^m + low (EN 302 307-1, 5.3.1).
 use Rattle.std.specs.Prelude.{ℕ, zero, suc, ◌≡◌, ◌+◌, ◌-◌, ◌*◌, ◌/◌, ◌%◌, ◌^◌, ◌<◌, ◌≤◌, bit_xor, refl}
 use Rattle.std.proofs.Common.{sym, ◌∙◌, ap, ap₂, arith, add-zero}
 use Rattle.std.proofs.Math.Nat.{mod-lt, mod-eq_of_lt, div-eq_of_lt, pow-suc}
@@ -6,7 +6,7 @@ use lib.Pow.{pow_mono, pow_pos}
 use Rattle.std.proofs.lemmas.Nat.{xor_comm, xor_lt, xor_shr, xor_mod, xor_block}
 use lib.Bits.{xor_assoc, xor_self, xor_zero_r, xor_shifted}
 
--- `x * a`: shift one place up, and take x^m + low away where x^m appears
+-- `x * a`: shift one place up, and subtract x^m + low if x^m appears
 abbrev pub times_x : ℕ → ℕ → ℕ → ℕ
 times_x m low a = bit_xor (a * 2 % 2 ^ m) (a / 2 ^ (m - 1) % 2 * low)
 
@@ -15,6 +15,7 @@ abbrev pub act : ℕ → ℕ → ℕ → ℕ → ℕ → ℕ
 act m low zero a v = 0
 act m low (suc k) a v = bit_xor (a % 2 * v) (times_x m low (act m low k (a / 2) v))
 
+-- the product of two polynomials over {0, 1}, written as numbers, modulo x^m + low
 unfoldable pub times : ℕ → ℕ → ℕ → ℕ → ℕ
 times m low a b = act m low m a b
 

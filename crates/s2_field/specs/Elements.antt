@@ -1,4 +1,4 @@
--- A type whose values are the numbers below 2^m is a field under `bit_xor` and `times m low`.
+-- A type whose values are the numbers below 2^m is a field under `bit_xor` and `times m low` (EN 302 307-1, 5.3.1).
 use Rattle.std.specs.Prelude.{ℕ, ◌≡◌, ◌%◌, ◌^◌, ◌<◌, bit_xor, refl, true, List}
 use Rattle.std.proofs.Common.{sym, ◌∙◌, ap, ap₂, arith}
 use Rattle.std.proofs.lemmas.Nat.{xor_comm, xor_lt}

@@ -1,4 +1,4 @@
--- Facts about the two fields that compute.
+-- Facts about the two fields that compute (EN 302 307-1, 5.3.1).
 use Rattle.std.specs.Prelude.{ℕ, ◌≡◌, ◌%◌, bit_xor, refl, true, List, [], ◌∷◌}
 use Rattle.s2_field.specs.Binary.{times}
 use Rattle.s2_field.specs.Inverse.{squared, choose, agree_at_powers}

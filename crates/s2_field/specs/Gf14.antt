@@ -1,4 +1,4 @@
--- The field of 2^14 elements, by x^14 + x^5 + x^3 + x + 1.
+-- The field of 2^14 elements, by x^14 + x^5 + x^3 + x + 1 (EN 302 307-1, 5.3.1).
 use Rattle.std.specs.Prelude.{ℕ, ◌≡◌, ◌<◌, ◌^◌, refl, List, [], ◌∷◌}
 use Rattle.std.proofs.Common.{arith}
 use Rattle.std.specs.Coded.{le_prop}
@@ -12,6 +12,7 @@ use Rattle.s2_field.specs.Binary.{times}
 use Rattle.s2_field.specs.Order.{iterate, order_of, power_product}
 use Rattle.s2_field.specs.Polynomials.{HasOrder, pow, eval}
 
+-- the number of an element
 abbrev pub number : Gf14 → ℕ
 number x = x.value
 
@@ -30,19 +31,22 @@ fourteen = omega arith
 pub low_fits : 43 < 2 ^ 14
 low_fits = omega arith
 
+-- the field of the numbers below 2^14, with exclusive or as sum and `times 14 43` as product
 abbrev pub field : Operations Gf14
 field = field_of 14 43 fourteen low_fits number below make (λ n h. refl) same
 
+-- it satisfies the laws of a field
 pub laws : FieldLaws field
 laws = laws_of 14 43 fourteen low_fits number below make (λ n h. refl) same half_list_14 frobenius_14 kernel_14
 
 pub two_fits : 2 < 2 ^ 14
 two_fits = omega arith
 
--- a, the element `x`
+-- a, the element 2, which is `x`
 abbrev pub alpha : Gf14
 alpha = make 2 two_fits
 
+-- a has the order 16383, that of all nonzero elements
 pub order : HasOrder field alpha 16383
 order = order_of 14 43 fourteen low_fits number below make (λ n h. refl) same two_fits refl 16382 walk_14 last_14
 
@@ -50,6 +54,7 @@ order = order_of 14 43 fourteen low_fits number below make (λ n h. refl) same t
 pub raised : (i : ℕ) (x y : Gf14) → number y ≡ iterate 14 43 i (number x) → y ≡ field.product (pow field alpha i) x
 raised = power_product 14 43 fourteen low_fits number below make (λ n h. refl) same two_fits refl
 
+-- its elements have different numbers, 0 to 16383
 pub numbered : IsNumbered field.zero number 16383
 numbered = record {
   at_zero = refl;

@@ -1,4 +1,4 @@
--- The field of 2^16 elements, by x^16 + x^5 + x^3 + x^2 + 1.
+-- The field of 2^16 elements, by x^16 + x^5 + x^3 + x^2 + 1 (EN 302 307-1, 5.3.1).
 use Rattle.std.specs.Prelude.{ℕ, ◌≡◌, ◌<◌, ◌^◌, refl, List, [], ◌∷◌}
 use Rattle.std.proofs.Common.{arith}
 use Rattle.std.specs.Coded.{le_prop}
@@ -12,6 +12,7 @@ use Rattle.s2_field.specs.Binary.{times}
 use Rattle.s2_field.specs.Order.{iterate, order_of, power_product}
 use Rattle.s2_field.specs.Polynomials.{HasOrder, pow, eval}
 
+-- the number of an element
 abbrev pub number : Gf16 → ℕ
 number x = x.value
 
@@ -30,19 +31,22 @@ sixteen = omega arith
 pub low_fits : 45 < 2 ^ 16
 low_fits = omega arith
 
+-- the field of the numbers below 2^16, with exclusive or as sum and `times 16 45` as product
 abbrev pub field : Operations Gf16
 field = field_of 16 45 sixteen low_fits number below make (λ n h. refl) same
 
+-- it satisfies the laws of a field
 pub laws : FieldLaws field
 laws = laws_of 16 45 sixteen low_fits number below make (λ n h. refl) same half_list_16 frobenius_16 kernel_16
 
 pub two_fits : 2 < 2 ^ 16
 two_fits = omega arith
 
--- a, the element `x`
+-- a, the element 2, which is `x`
 abbrev pub alpha : Gf16
 alpha = make 2 two_fits
 
+-- a has the order 65535, that of all nonzero elements
 pub order : HasOrder field alpha 65535
 order = order_of 16 45 sixteen low_fits number below make (λ n h. refl) same two_fits refl 65534 walk_16 last_16
 
@@ -50,6 +54,7 @@ order = order_of 16 45 sixteen low_fits number below make (λ n h. refl) same tw
 pub raised : (i : ℕ) (x y : Gf16) → number y ≡ iterate 16 45 i (number x) → y ≡ field.product (pow field alpha i) x
 raised = power_product 16 45 sixteen low_fits number below make (λ n h. refl) same two_fits refl
 
+-- its elements have different numbers, 0 to 65535
 pub numbered : IsNumbered field.zero number 65535
 numbered = record {
   at_zero = refl;

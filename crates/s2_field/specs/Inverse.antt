@@ -1,4 +1,4 @@
--- The inverse in a binary field: each nonzero a has a * a^(2^m - 2) = 1, where three facts hold that compute.
+-- The inverse in a binary field: each nonzero a has a * a^(2^m - 2) = 1, by three computed facts (EN 302 307-1, 5.3.1).
 use Rattle.std.specs.Prelude.{ℕ, zero, suc, ◌≡◌, ◌≢◌, ◌-◌, ◌*◌, ◌/◌, ◌%◌, ◌^◌, ◌<◌, bit_xor, refl, Bool, true, ◌==◌, ◌&&◌, List, [], ◌∷◌}
 use Rattle.std.proofs.Common.{sym, ◌∙◌, ap, ap₂, subst, arith}
 use Rattle.std.proofs.Math.Nat.{pow-suc}

@@ -1,7 +1,9 @@
--- The laws of a field in which each element is its own negative, and of the numbers that its elements stand for.
+-- The laws of a field in which each element is its own negative, and of the numbers of its elements (EN 302 307-1,
+-- 5.3.1).
 use Rattle.std.specs.Prelude.{ℕ, ◌≡◌, ◌≢◌, ◌<◌, ◌≤◌, ◌^◌}
 use Rattle.s2_field.specs.Operations.{Operations}
 
+-- the laws of a field in which each element is its own negative
 pub record FieldLaws {F : Type 0} (field : Operations F) : Type 0 where
   pub add_comm : (a b : F) → field.sum a b ≡ field.sum b a
   pub add_assoc : (a b c : F) → field.sum (field.sum a b) c ≡ field.sum a (field.sum b c)
@@ -14,7 +16,7 @@ pub record FieldLaws {F : Type 0} (field : Operations F) : Type 0 where
   pub mul_inv : (a : F) → a ≢ field.zero → field.product a (field.inverse a) ≡ field.one
   pub one_ne_zero : field.one ≢ field.zero
 
--- the elements are told apart by numbers up to `order`, and zero's number is 0
+-- the elements have different numbers up to `order`, and zero's number is 0
 pub record IsNumbered {F : Type 0} (zero : F) (number : F → ℕ) (order : ℕ) : Type 0 where
   pub at_zero : number zero ≡ 0
   pub most : (a : F) → number a ≤ order

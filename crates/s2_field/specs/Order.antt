@@ -1,4 +1,4 @@
--- The order of `x` in a binary field, by a walk over all its powers.
+-- The order of `x` in a binary field, by a walk over all its powers (EN 302 307-1, 5.3.1).
 use Rattle.std.specs.Prelude.{ℕ, zero, suc, ◌≡◌, ◌≢◌, ◌<◌, ◌^◌, refl, Bool, true, ◌==◌, ◌&&◌, not}
 use Rattle.std.proofs.Common.{sym, ◌∙◌, ap, subst, arith}
 use Rattle.std.proofs.lemmas.Bool.{and_parts, eq-eqb}

@@ -1,4 +1,4 @@
--- Powers of an element of a field, and polynomials by their coefficients, the constant first.
+-- Powers of an element of a field, and polynomials by their coefficients, the constant first (EN 302 307-1, 5.3.1).
 use Rattle.s2_field.specs.Operations.{Operations}
 use Rattle.std.specs.Prelude.{ℕ, zero, suc, ◌≡◌, ◌≢◌, ◌+◌, ◌<◌, ◌≤◌, List, [], ◌∷◌}
 use Rattle.std.proofs.Common.{get_or}

@@ -1,9 +1,9 @@
--- What an answer says of what the bytes say.
+-- What an answer says of what the bytes say (own).
 use Rattle.std.specs.Prelude.{◌≡◌, IsOk, Result, Ok, Err}
 use Rattle.s2_file.specs.declared.fault.CertFault.{CertFault}
 use Rattle.s2_file.specs.declared.fault.CertFault.TheVariants as faults
 
--- a value, or the first refusal; memory is wanted only for what is accepted
+-- a value, or the first refusal; memory can run out only for a file that is otherwise accepted
 abbrev pub FileAnswer : {V F : Type 0} → (V → F) → Result V CertFault → Result F CertFault → Type 0
 FileAnswer view (Ok v) said = said ≡ Ok (view v)
 FileAnswer view (Err faults.NoMemory) said = IsOk said

@@ -1,9 +1,11 @@
--- Fields of a file: how many bytes a field has, the test that they meet, the value that they hold, and the bytes of a value.
+-- Fields of a file (own): how many bytes a field has, the test that they meet, the value that they hold, and the bytes
+-- of a value..
 use Rattle.std.specs.Prelude.{◌≡◌, ℕ, ◌+◌, ◌-◌, ◌*◌, ◌/◌, ◌&&◌, not, Bool, true, List, ◌++◌, length, map, take, drop, ℤ}
 use Rattle.std.specs.Int.{Width, byte_len, from_be_bytes, to_be_bytes, cast_signed, cast_unsigned}
 use Rattle.std.specs.List.{list_all, flat_map, range_with_len}
 use Rattle.s2_bits.specs.Bits.{bit_of_bytes, byte_at}
 
+-- a field of a file: how many bytes it has, the test that they pass, their value, and the bytes of a value
 pub record Field (A : Type 0) : Type 0 where
   pub size : ℕ
   pub test : List ℕ → Bool
@@ -46,7 +48,7 @@ places n = range_with_len 0 n
 abbrev pub entry : ℕ → List ℕ → ℕ → List ℕ
 entry size bytes i = take size (drop (i * size) bytes)
 
--- so many fields, one after the other
+-- n fields, one after the other
 abbrev pub many : {A : Type 0} → ℕ → Field A → Field (List A)
 many n f = record {
   size = n * f.size;
@@ -65,7 +67,7 @@ is_padded bytes n = list_all (λ i. not (bit_of_bytes bytes i)) (range_with_len 
 abbrev pub bytes_of_bits : List Bool → List ℕ
 bytes_of_bits bits = map (λ k. byte_at bits (8 * k)) (places ((length bits + 7) / 8))
 
--- so many bits, each byte's highest first, padded with zeros to a byte
+-- n bits, each byte's highest first, padded with zeros to a byte
 abbrev pub bit_list : ℕ → Field (List Bool)
 bit_list n = record {
   size = (n + 7) / 8;
@@ -74,7 +76,7 @@ bit_list n = record {
   bytes = bytes_of_bits;
 }
 
--- what is written of the values of a sort is as long as the field, passes its test and is read back
+-- the bytes written for values of a sort have the field's length, pass its test, and are read back
 pub record IsField {A : Type 0} (f : Field A) (Fits : A → Type 0) : Type 0 where
   pub long : (x : A) → Fits x → length (f.bytes x) ≡ f.size
   pub passes : (x : A) → Fits x → f.test (f.bytes x) ≡ true

@@ -1,4 +1,4 @@
--- What a certificate file says.
+-- What a certificate file says (own).
 use Rattle.std.specs.Prelude.{◌≡◌, ℕ, ◌<◌, ◌≤◌, List, Bool, length, All, FitsSigned, ℤ, pos, neg_ℤ, ◌≤ℤ◌}
 use Rattle.std.specs.Int.{w32}
 use Rattle.s2_mode.specs.Shape.{Shape, IsShape, check_count, code_bits}
@@ -24,7 +24,7 @@ pub record IsSoft (v : ℤ) : Type 0 where
   pub low : neg_ℤ (pos most_soft) ≤ℤ v
   pub high : v ≤ℤ pos most_soft
 
--- the target's place among the members of its check in two bytes, an amount below 2^31, and place 0 where nothing is moved
+-- the target's place among the members of its check in two bytes, an amount below 2^31, and place 0 if the amount is 0
 pub record IsMove (m : Move) : Type 0 where
   pub place_fits : m.place < 65536
   pub amount_fits : m.amount < 2147483648
@@ -35,6 +35,8 @@ abbrev pub IsSplit : Shape → Split → Type 0
 IsSplit s (Listed shares) = (length shares ≤ most_shares) × All (FitsSigned w32) shares
 IsSplit s (Moved moves) = (length moves ≡ check_count s) × All IsMove moves
 
+-- what a certificate file can say: a shape, a scale within its limits, a soft value in its range and a bit for each
+-- place, and a split
 pub record IsFile (f : File) : Type 0 where
   pub shaped : IsShape f.shape
   pub scale_some : 1 ≤ f.scale

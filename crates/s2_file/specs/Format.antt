@@ -1,4 +1,5 @@
--- Certificate files: what is accepted, and the first refusal of what is not. Read from top to bottom; big endian, two's complement.
+-- Certificate files: the accepted ones, and the first refusal of any other (own). Read from top to bottom; big endian,
+-- two's complement.
 use Rattle.std.specs.Prelude.{◌≡◌, ◌↔◌, IsTrue, ℕ, ◌≤◌, nat_le, nat_lt, ◌==◌, ◌||◌, ◌&&◌, Bool, if◌then◌else◌, List, [], ◌∷◌, ◌++◌, length, take, drop, Result, Ok, Err, ℤ}
 use Rattle.std.specs.Int.{Width, w16, w32, byte_len, from_be_bytes, to_be_bytes}
 use Rattle.std.specs.List.{flat_map}
@@ -36,6 +37,7 @@ version_at [] = Err faults.Cut
 version_at (byte ∷ rest) =
     if byte == 1 then Ok (versions.Listed, rest) else if byte == 2 then Ok (versions.Moved, rest) else Err faults.Magic
 
+-- `S2ML` and the version's byte, letter by letter: `Cut` if the bytes end, `Magic` at another byte
 unfoldable pub front_at : List ℕ → Result (Version × List ℕ) CertFault
 front_at bytes = do
   s ← letter_at 83 bytes
@@ -50,6 +52,7 @@ abbrev pub number_at : Width → List ℕ → Result (ℕ × List ℕ) CertFault
 number_at w bytes =
     if nat_lt (length bytes) (byte_len w) then Err faults.Cut else Ok (from_be_bytes w (take (byte_len w) bytes), drop (byte_len w) bytes)
 
+-- the number of shares, four bytes in version 1; version 2 has none, and one move for each check
 abbrev pub count_at : Version → Shape → List ℕ → Result (ℕ × List ℕ) CertFault
 count_at versions.Listed shape bytes = number_at w32 bytes
 count_at versions.Moved shape bytes = Ok (check_count shape, bytes)
@@ -72,7 +75,7 @@ abbrev pub IsCount : Version → Shape → ℕ → Type 0
 IsCount versions.Listed shape count = Unit
 IsCount versions.Moved shape count = count ≡ check_count shape
 
--- what is known of the header of a file
+-- facts about the header of a file
 pub record IsHeader (h : Header) : Type 0 where
   pub shaped : IsShape h.shape
   pub scale_some : 1 ≤ h.scale
@@ -83,6 +86,7 @@ pub record IsHeader (h : Header) : Type 0 where
 abbrev pub ranged : Header → List ℕ → Result (Header × List ℕ) CertFault
 ranged h rest = demand (is_shape h.shape) faults.Shape (demand (is_ranged h) faults.Range (Ok (h, rest)))
 
+-- group, groups, q and scale, two bytes each, then the number of shares; then the tests of the shape and of the ranges
 unfoldable pub header_at : Version → List ℕ → Result (Header × List ℕ) CertFault
 header_at version bytes = do
   group ← number_at w16 bytes
@@ -98,16 +102,18 @@ header_at version bytes = do
 abbrev pub soft_width : Width
 soft_width = w16
 
+-- a soft value: a number of `soft_width` bits in two's complement, within its range
 abbrev pub soft : Field ℤ
 soft = tested (signed soft_width) is_value
 
+-- a share: a number of 32 bits in two's complement
 abbrev pub share : Field ℤ
 share = signed w32
 
 abbrev pub move_of : ℕ × ℕ → Move
 move_of m = record { place = m.0; amount = m.1 }
 
--- an amount below 2^31, and place 0 where nothing is moved
+-- an amount below 2^31, and place 0 if the amount is 0
 abbrev pub is_move : Move → Bool
 is_move m = nat_lt m.amount 2147483648 && (nat_lt 0 m.amount || (m.place == 0))
 
@@ -115,6 +121,7 @@ is_move m = nat_lt m.amount 2147483648 && (nat_lt 0 m.amount || (m.place == 0))
 abbrev pub move_numbers : Field (ℕ × ℕ)
 move_numbers = both (number w16) (number w32)
 
+-- a move: a place in two bytes, an amount in four, as `is_move` says
 abbrev pub move : Field Move
 move = record {
   size = move_numbers.size;
@@ -127,6 +134,7 @@ abbrev pub split_bytes : Split → List ℕ
 split_bytes (Listed shares) = flat_map share.bytes shares
 split_bytes (Moved moves) = flat_map move.bytes moves
 
+-- the split: in version 1 so many shares, in version 2 so many moves
 abbrev pub split : Version → ℕ → Field Split
 split versions.Listed n = record {
   size = (many n share).size;
@@ -141,6 +149,7 @@ split versions.Moved n = record {
   bytes = split_bytes;
 }
 
+-- the fields after the header: n soft values, n bits, the split
 abbrev pub body : Header → Field (List ℤ × (List Bool × Split))
 body h =
     both (many (code_bits h.shape) soft) (both (bit_list (code_bits h.shape)) (split h.version h.count))
@@ -148,7 +157,7 @@ body h =
 abbrev pub file_of : Header → List ℤ × (List Bool × Split) → File
 file_of h x = record { shape = h.shape; scale = h.scale; soft = x.0; bits = x.1.0; split = x.1.1 }
 
--- the length that the header gives, and then every field's test
+-- the test of the length that the header gives (`Cut`, `Extra`), then every field's test (`Range`)
 abbrev pub body_at : Header → List ℕ → Result File CertFault
 body_at h bytes =
     demand (nat_le (body h).size (length bytes)) faults.Cut (
@@ -191,12 +200,14 @@ abbrev pub front_bytes : Header → List ℕ
 front_bytes h =
     83 ∷ 50 ∷ 77 ∷ 76 ∷ version_byte h.version ∷ to_be_bytes w16 h.shape.group ++ (to_be_bytes w16 h.shape.groups ++ (to_be_bytes w16 h.shape.q ++ to_be_bytes w16 h.scale))
 
+-- the front and the header of a file
 abbrev pub header_bytes : Header → List ℕ
 header_bytes h = front_bytes h ++ count_bytes h.version h.count
 
+-- the bytes of a file: its header, then its body
 abbrev pub bytes_of : File → List ℕ
 bytes_of f = header_bytes (header_of f) ++ (body (header_of f)).bytes (f.soft, (f.bits, f.split))
 
--- what is written is accepted, as the same file
+-- a written file is accepted, as the same file
 abbrev pub ReadBackLaw : Type 0
 ReadBackLaw = (f : File) → IsFile f → file_of_bytes (bytes_of f) ≡ Ok f

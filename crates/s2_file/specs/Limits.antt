@@ -1,4 +1,4 @@
--- The limits of certificate files.
+-- The limits of certificate files (own).
 use Rattle.std.specs.Prelude.{ℕ}
 
 -- the largest scale; the least is 1

@@ -1,4 +1,4 @@
--- What is known of a file's bytes.
+-- Known bytes of a file (own).
 use Rattle.std.specs.Prelude.{ℕ, List, Option}
 use Rattle.std.specs.Io.Buffered.{writer_contents}
 use Rattle.std.specs.declared.io.buffered.BufWriter.{BufWriter}
@@ -7,7 +7,7 @@ use Rattle.either.specs.declared.Either.{Either}
 use Rattle.s2_files.specs.declared.opened.Opened.{Opened}
 use Rattle.s2_files.specs.declared.opened.Opened.TheVariants as kinds
 
--- of what was opened by its name, or of a standard stream
+-- the known bytes of a file opened by its name, or of a standard stream
 abbrev pub known_of : {F S : Type 0} → (F → Option (List ℕ)) → (S → Option (List ℕ)) → Opened F S → Option (List ℕ)
 known_of file standard (kinds.File f) = file f
 known_of file standard (kinds.Standard s) = standard s

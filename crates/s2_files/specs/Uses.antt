@@ -1,4 +1,4 @@
--- Which uses of files go together.
+-- Which uses of files go together (own).
 use Rattle.std.specs.Prelude.{Bool, false, ◌&&◌, ◌||◌, List, Option, None, Some, ◌==◌}
 use Rattle.std.specs.List.{list_any}
 use Rattle.s2_files.specs.declared.uses.Node.{Node}
@@ -19,6 +19,8 @@ clash_of roles.Output roles.Output standard node = standard || node
 clash_of roles.Input roles.Output standard node = node
 clash_of roles.Output roles.Input standard node = node
 
+-- two uses of one standard stream, or of one file that one of them writes; files are compared by device and inode
+-- number
 abbrev pub clashes : Use → Use → Bool
 clashes a b = clash_of a.role b.role (a.standard && b.standard) (same_node a.node b.node)
 

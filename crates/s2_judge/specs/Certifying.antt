@@ -1,4 +1,4 @@
--- What a certifier shows, and what holds of its parts.
+-- A certifier's value, and the invariants of its parts (own).
 use Rattle.std.specs.Prelude.{◌≡◌, ◌≢◌, ℕ, Bool, List, Option, None, Some}
 use Rattle.s2_rows.specs.Rows.{Rows}
 use Rattle.s2_split.specs.Making.{Making, Shared}
@@ -20,13 +20,13 @@ pub record Certifying : Type 0 where
 abbrev pub settled_shares : Settling → Shared
 settled_shares s = record { scale = settling_scale; moves = s.moves }
 
--- what was found, by who holds it
+-- the shares that were found, by their owner
 abbrev pub found_by : Making → Settling → Holder → Option Shared
 found_by maker settler Nobody = None
 found_by maker settler Maker = maker.made
 found_by maker settler Settler = Some (settled_shares settler)
 
--- the word that what was found is bound to: a maker keeps its own
+-- the word to which the found shares belong: a maker keeps its own
 abbrev pub word_by : Making → Holder → Option (List Bool)
 word_by maker Nobody = None
 word_by maker Maker = Some maker.word
@@ -38,7 +38,7 @@ IsHolder maker Nobody = Unit
 IsHolder maker Maker = maker.made ≢ None
 IsHolder maker Settler = Unit
 
--- what holds of a certifier
+-- the invariant of a certifier
 pub record IsCertifier (r : Rows) (maker : Making) (settler : Settling) (holder : Holder) : Type 0 where
   pub maker_rows : maker.rows ≡ r
   pub settler_rows : settler.rows ≡ r

@@ -1,4 +1,4 @@
--- What the receiver decides on the soft values of one frame: the bits, a verdict on them, and a certificate where
+-- What the receiver decides on the soft values of one frame (own): the bits, a verdict on them, and a certificate where
 -- they are shown to be sole or most likely. The first of four steps that succeeds decides.
 use Rattle.std.specs.Prelude.{◌≡◌, ◌≢◌, ℕ, ◌+◌, ◌%◌, ◌==◌, ◌≤◌, ◌↔◌, IsTrue, Bool, if◌then◌else◌, List, length, map, fold, ℤ, pos, int_lt, Option, None, Some, IfSome}
 use Rattle.std.specs.List.{list_all, find}
@@ -47,12 +47,12 @@ satisfies code bits = list_all (λ j. ones_in code bits j % 2 == 0) (upto code.c
 
 -- ---- min-sum
 
--- its state after so many rounds by a factor
+-- min-sum's state after n rounds with a factor
 abbrev pub after_rounds : Rows → ℕ → List ℤ → ℕ → State
 after_rounds r factor soft rounds =
     fold (λ before _. round (code_of r) r.shape.q factor before) (start soft) (upto rounds)
 
--- its hard decision after so many rounds
+-- its hard decision after n rounds
 unfoldable pub decoded_bits : Rows → ℕ → List ℤ → ℕ → List Bool
 decoded_bits r factor soft rounds = decision (code_of r) (after_rounds r factor soft rounds)
 
@@ -67,7 +67,7 @@ abbrev pub or_else : Option View → Option View → Option View
 or_else (Some view) other = Some view
 or_else None other = other
 
--- the certificate that is made for the repair: by greedy amounts, else by spreading or by so many passes of settling
+-- the certificate for the repair: by greedy amounts, else by spreading or by passes of settling
 abbrev pub view_for : Rows → ℕ → List ℤ → List Bool → Option View
 view_for r passes soft bits =
     if passes == 0 then made_view r soft bits else or_else (greedy_view r soft bits) (settled r soft bits passes)
@@ -79,7 +79,7 @@ decoded_view r passes soft bits =
 
 -- ---- the steps, the last one first
 
--- step 4: the repair where it satisfies every check, else min-sum's last hard decision
+-- step 4: the repair if it satisfies every check, else min-sum's last hard decision
 abbrev pub without_certificate : Rows → Tuning → List ℤ → Decided
 without_certificate r tuning soft =
     if satisfies (code_of r) (repaired (code_of r) soft) then uncertified Parity (repaired (code_of r) soft) else uncertified Broken (decoded_bits r tuning.factor soft tuning.rounds)
@@ -89,7 +89,7 @@ abbrev pub with_made : Rows → List Bool → Option View → Decided
 with_made r bits (Some view) = certified r bits view
 with_made r bits None = uncertified Parity bits
 
--- the certificate that is made for a codeword that min-sum found: none where those stay uncertified
+-- the certificate for a codeword that min-sum found: none if these stay uncertified
 abbrev pub min_sum_view : Rows → Tuning → List ℤ → List Bool → Option View
 min_sum_view r tuning soft bits =
     if tuning.uncertified then None else decoded_view r tuning.passes soft bits
@@ -109,14 +109,15 @@ abbrev pub by_repair : Rows → Tuning → List ℤ → Option View → Decided
 by_repair r tuning soft (Some view) = certified r (repaired (code_of r) soft) view
 by_repair r tuning soft None = by_min_sum r tuning soft (first_codeword r tuning.factor tuning.rounds soft)
 
--- step 1: the hard decision, where it satisfies every check
+-- the decision on soft values, in four steps: the hard decision; its repair with a certificate; the first codeword of
+-- min-sum, with or without a certificate; the repair without one, else min-sum's last hard decision
 unfoldable pub decided : Rows → Tuning → List ℤ → Decided
 decided r tuning soft =
     if satisfies (code_of r) (hard_decision soft) then certified r (hard_decision soft) (unsplit_view r soft (hard_decision soft)) else by_repair r tuning soft (repair_view r tuning.passes soft)
 
 -- ---- laws
 
--- a hard decision that is a codeword is decided, by its unsplit certificate, and called sole exactly where no value is 0
+-- a hard decision that is a codeword is decided, with its unsplit certificate, and is sole exactly if no value is 0
 abbrev pub CleanLaw : Type 0
 CleanLaw =
     (r : Rows) (tuning : Tuning) (soft : List ℤ) → IsCodeword (code_of r) (hard_decision soft) → (decided r tuning soft ≡ certified r (hard_decision soft) (unsplit_view r soft (hard_decision soft))) × (((decided r tuning soft).verdict ≡ Sole) ↔ NoneIsZero soft)
@@ -137,24 +138,25 @@ pub record IsCertificateOf (r : Rows) (soft : List ℤ) (bits : List Bool) (view
   pub values : view.soft ≡ soft
   pub word : view.bits ≡ bits
 
--- there is a certificate exactly where the bits are called sole or most likely; it is accepted, and strict exactly where they are
--- called sole
+-- There is a certificate exactly if the bits are called sole or most likely. It is accepted, and strict exactly if they
+-- are called sole
 pub record IsShown (r : Rows) (soft : List ℤ) (d : Decided) : Type 0 where
   pub some : IsTrue (is_certified d.verdict) → d.certificate ≢ None
   pub only : d.certificate ≢ None → IsTrue (is_certified d.verdict)
   pub certified : IfSome d.certificate (IsCertificateOf r soft d.bits)
   pub strict : IfSome d.certificate (λ view. (d.verdict ≡ Sole) ↔ IsStrict r view)
 
+-- every decision has a certificate exactly if its bits are sole or most likely, strict exactly if they are sole
 abbrev pub CertifiedLaw : Type 0
 CertifiedLaw =
     (r : Rows) (tuning : Tuning) (soft : List ℤ) → length soft ≡ (code_of r).bits → IsShown r soft (decided r tuning soft)
 
--- bits that are not called broken satisfy every check, and those that are don't
+-- if at least one round is tried, bits that are not called broken are a codeword, and broken ones are none
 abbrev pub BrokenLaw : Type 0
 BrokenLaw =
     (r : Rows) (tuning : Tuning) (soft : List ℤ) → length soft ≡ (code_of r).bits → 1 ≤ tuning.rounds → (((decided r tuning soft).verdict ≢ Broken → IsCodeword (code_of r) (decided r tuning soft).bits) × ((decided r tuning soft).verdict ≡ Broken → IsCodeword (code_of r) (decided r tuning soft).bits → ⊥))
 
--- where the values are scattered about a codeword, that is decided, with a certificate
+-- if the values are scattered about a codeword, it is decided, with a certificate
 abbrev pub ScatteredLaw : Type 0
 ScatteredLaw =
     (r : Rows) (tuning : Tuning) (soft : List ℤ) (sent : List Bool) → IsScattered (code_of r) soft sent → IsTrue (is_certified (decided r tuning soft).verdict) × ((decided r tuning soft).bits ≡ sent)

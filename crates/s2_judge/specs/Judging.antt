@@ -1,4 +1,4 @@
--- What a judge shows, and what holds of its parts.
+-- A judge's value, and the invariants of its parts (own).
 use Rattle.std.specs.Prelude.{◌≡◌, ◌≤◌, Bool, List, All, length, ℤ, Option, None, Some, IfSome}
 use Rattle.s2_rows.specs.Rows.{Rows}
 use Rattle.s2_matrix.specs.Code.{code_of}
@@ -35,19 +35,19 @@ view_by r soft bits found (Found strict) = shared_views r soft bits found
 view_by r soft bits found Checks = None
 view_by r soft bits found Nothing = None
 
--- what is decided on a ground
+-- the decision on a ground
 abbrev pub shown_by : Rows → List ℤ → List Bool → Option Shared → Ground → Decided
 shown_by r soft bits found ground =
     record { verdict = verdict_of ground; bits = bits; certificate = view_by r soft bits found ground }
 
--- on a ground with a certificate the values are soft values, and what was found is of these bits
+-- on a ground with a certificate the values are soft values, and the certificate is of these bits
 abbrev pub IsGround : List ℤ → List Bool → Certifying → Ground → Type 0
 IsGround soft bits certifier (HardDecision strict) = All IsSoft soft
 IsGround soft bits certifier (Found strict) = All IsSoft soft × IfSome certifier.word (λ w. w ≡ bits)
 IsGround soft bits certifier Checks = Unit
 IsGround soft bits certifier Nothing = Unit
 
--- what holds of a judge
+-- the invariant of a judge
 pub record IsJudge (tuning : Tuning) (certifier : Certifying) (decoder : Decoding) (soft : List ℤ) (repair bits : List Bool) (ground : Ground) : Type 0 where
   pub some : 1 ≤ tuning.rounds
   pub passes : certifier.passes ≡ tuning.passes

@@ -1,4 +1,4 @@
--- The repair of a hard decision, bit by bit.
+-- The repair of a hard decision, bit by bit (own).
 use Rattle.std.specs.Prelude.{ℕ, Bool, not, if◌then◌else◌, List}
 use Rattle.s2_bits.specs.Bits.{bit_at}
 use Rattle.s2_matrix.specs.Code.{Code}

@@ -1,4 +1,4 @@
--- The limits of a link.
+-- The limits of a link (own).
 use Rattle.std.specs.Prelude.{◌≡◌, ℕ}
 use Rattle.s2_link.specs.declared.roll_off.TheConstants.{MOST_ROLL_OFF}
 use Rattle.s2_link.specs.declared.tuning.TheConstants.{DEFAULT_ROUNDS, MOST_ROUNDS, MOST_PASSES}
@@ -11,7 +11,7 @@ most_roll_off = 2
 abbrev pub most_rounds : ℕ
 most_rounds = 200
 
--- the rounds of min-sum where none are named
+-- the default number of rounds of min-sum
 abbrev pub default_rounds : ℕ
 default_rounds = 50
 

@@ -1,4 +1,4 @@
--- What both ends of a link share, and which setups are refused.
+-- What both ends of a link share, and which setups are refused (EN 302 307-1, 5.1.6 and 5.5.4).
 use Rattle.std.specs.Prelude.{◌≡◌, ◌≢◌, ◌<◌, ◌≤◌}
 use Rattle.s2_mode.specs.Mode.{shape_in}
 use Rattle.s2_rows.specs.Rows.{Rows}
@@ -14,6 +14,7 @@ pub record Link : Type 0 where
   pub setup : Setup
   pub rows : Rows
 
+-- the link of a setup and rows
 abbrev pub link_of : Setup → Rows → Link
 link_of setup rows = record { setup = setup; rows = rows }
 

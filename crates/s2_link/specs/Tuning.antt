@@ -1,4 +1,4 @@
--- How a receiver is tuned, and which numbers are refused.
+-- How a receiver is tuned, and which numbers are refused (own).
 use Rattle.std.specs.Prelude.{◌≡◌, IsTrue, Bool, false, ℕ, ◌<◌, ◌≤◌, ◌⊎◌}
 use Rattle.s2_soft.specs.Divisors.{IsDivisor, default_divisor}
 use Rattle.s2_minsum.specs.Factors.{IsFactor, default_factor}
@@ -8,9 +8,9 @@ use Rattle.s2_link.specs.declared.fault.SetupFault.{SetupFault}
 use Rattle.s2_link.specs.declared.fault.SetupFault.TheVariants as faults
 use Rattle.s2_link.specs.Limits.{most_rounds, most_passes}
 
--- so many rounds of min-sum, so many passes of settling, what soft values are divided by, and how many sixteenths of the least
--- size min-sum's messages have, and how many bits of a header may be wrong right behind a frame; with no passes a certificate is made by
--- greedy amounts and spreading; uncertified, none is made for what min-sum finds
+-- The parameters of a receiver: rounds of min-sum, passes of settling, the divisor of soft values, the factor of
+-- min-sum's messages, the lock, and whether what min-sum finds stays uncertified. With no passes a certificate comes
+-- from greedy amounts and spreading
 pub record Tuning : Type 0 where
   pub rounds : ℕ
   pub passes : ℕ
@@ -19,13 +19,13 @@ pub record Tuning : Type 0 where
   pub lock : ℕ
   pub uncertified : Bool
 
--- so many rounds and passes, and the usual divisor, factor and lock, with certificates
+-- these rounds and passes, and the default divisor, factor and lock, with certificates
 abbrev pub tuning_of : ℕ → ℕ → Tuning
 tuning_of rounds passes =
     record { rounds = rounds; passes = passes; divisor = default_divisor; factor = default_factor; lock = most_wrong; uncertified = false }
 
--- at least one round of min-sum, no more rounds and no more passes of settling than may be, a divisor, a factor and a lock that there
--- are, and no passes where min-sum's words stay uncertified
+-- At least one round of min-sum, and rounds and passes within their limits. A divisor, a factor and a lock in their
+-- ranges. No passes if min-sum's words stay uncertified
 pub record IsTuning (tuning : Tuning) : Type 0 where
   pub some : 1 ≤ tuning.rounds
   pub most : tuning.rounds ≤ most_rounds

@@ -1,4 +1,4 @@
--- Eight symbols of 8PSK at a time: their labels, and their components as words of 16 bits, two's complement.
+-- Eight symbols of 8PSK at a time: their labels, and their components as words of 16 bits, two's complement (own).
 use Rattle.std.specs.Prelude.{ℕ, ◌+◌, ◌*◌, Bool, List, [], ◌∷◌}
 use Rattle.std.specs.Int.{w16, cast_unsigned}
 use Rattle.s2_mode.specs.declared.symbols.Symbol.{Symbol}

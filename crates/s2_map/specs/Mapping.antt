@@ -11,11 +11,13 @@ use Rattle.s2_map.specs.Constants.{diagonal, axis, psk_3_5}
 abbrev pub column_of : Mode → ℕ → ℕ
 column_of m c = if m.modcod == psk_3_5 then 2 - c else c
 
--- which codeword bit is payload bit i: QPSK has no interleaver; 8PSK writes the codeword into three columns and reads row by row
+-- Which codeword bit is payload bit i. QPSK has no interleaver. 8PSK writes the codeword into three columns of n / 3
+-- bits and reads row by row
 abbrev pub place_of : Mode → ℕ → ℕ
 place_of m i = if is_qpsk m then i else column_of m (i % 3) * (n_of m / 3) + i / 3
 
--- which payload bit codeword bit b is sent as: row and column the other way round
+-- which payload bit codeword bit b is sent as: at 8PSK bit s of column c is payload bit 3s + c, at 8PSK 3/5 bit 3s + 2
+-- - c
 abbrev pub sent_as : Mode → ℕ → ℕ
 sent_as m b = if is_qpsk m then b else 3 * (b % (n_of m / 3)) + column_of m (b / (n_of m / 3))
 
@@ -41,6 +43,7 @@ psk_points =
     ∷ symbol (pos 0) (neg_ℤ (pos axis))
     ∷ []
 
+-- the points of a mode, by label
 abbrev pub points : Mode → List Symbol
 points m = if is_qpsk m then qpsk_points else psk_points
 
@@ -48,12 +51,12 @@ points m = if is_qpsk m then qpsk_points else psk_points
 abbrev pub point_of : Mode → ℕ → Symbol
 point_of m label = symbol_at (points m) label
 
--- so many bits as a number, the first the highest
+-- n bits as a number, the first the highest
 unfoldable pub label_of : ℕ → (ℕ → Bool) → ℕ
 label_of zero bit = 0
 label_of (suc n) bit = 2 * label_of n bit + number (bit n)
 
--- payload symbol s: the point whose label is the bits of the codeword at the next places
+-- payload symbol s: the point whose label is payload bits w s to w s + w - 1, with w bits per symbol
 abbrev pub payload_symbol : Mode → List Bool → ℕ → Symbol
 payload_symbol m codeword s = point_of m (label_of (width_of m) (λ j. bit_at codeword (place_of m (width_of m * s + j))))
 

@@ -3,7 +3,7 @@ use Rattle.std.specs.Prelude.{◌≡◌, ℕ, ◌<◌}
 use Rattle.s2_mode.specs.Mode.{Mode, IsMode, n_of}
 use Rattle.s2_map.specs.Mapping.{place_of, sent_as}
 
--- places below n, of which each stands at exactly one index below n
+-- places below n, each at exactly one index below n
 pub record IsPermutation (n : ℕ) (place : ℕ → ℕ) : Type 0 where
   pub within : (i : ℕ) → i < n → place i < n
   pub each : (b : ℕ) → b < n → (i : ℕ) × (i < n) × (place i ≡ b)
@@ -15,5 +15,6 @@ pub record IsInterleaver (m : Mode) : Type 0 where
   pub sent : (i : ℕ) → i < n_of m → sent_as m (place_of m i) ≡ i
   pub back : (b : ℕ) → b < n_of m → (sent_as m b < n_of m) × (place_of m (sent_as m b) ≡ b)
 
+-- the interleaver of every mode sends each bit of a codeword as exactly one payload bit
 abbrev pub InterleaverLaw : Type 0
 InterleaverLaw = (m : Mode) → IsMode m → IsInterleaver m

@@ -37,7 +37,7 @@ pub record IsOddCheck (code : Code) (word : List Bool) (j : ℕ) : Type 0 where
 
 -- ---- edges: the pairs of a check and its bit, check by check, bits rising
 
--- how many edges the checks before j have
+-- how many edges the checks before check j have together
 abbrev pub first_edge : Code → ℕ → ℕ
 first_edge code j = sum_by (λ i. length (members code i)) (upto j)
 
@@ -51,7 +51,7 @@ edges_at code i = map (λ j. edge_of code j i) (checks_of code i)
 
 -- ---- the code of accepted rows
 
--- bit b stands at place m = b mod group in its group; some address x of the group's row gives check (x + m q) mod (n - k)
+-- bit b is at place m = b mod group in its group; some address x of the group's row gives check (x + m q) mod (n - k)
 abbrev pub row_gives : Rows → ℕ → ℕ → Bool
 row_gives r j b =
     list_any (λ x. (x + b % r.shape.group * r.shape.q) % check_count r.shape == j) (row_of r (b / r.shape.group))
@@ -63,6 +63,7 @@ is_member r j b =
     then row_gives r j b
     else (b == information_bits r.shape + j) || (b + 1 == information_bits r.shape + j)
 
+-- the code of accepted rows: n bits, n - k checks, and the members that `is_member` gives
 abbrev pub code_of : Rows → Code
 code_of r =
     record { bits = code_bits r.shape; checks = check_count r.shape; has = is_member r }

@@ -1,4 +1,4 @@
--- Edges as two lists, a check and a bit at each place, and the flat lists of a matrix.
+-- Edges as two lists, a check and a bit at each place, and the flat lists of a matrix (own).
 use Rattle.std.specs.Prelude.{◌≡◌, ℕ, ◌+◌, ◌*◌, ◌<◌, ◌≤◌, Bool, if◌then◌else◌, All, filter, List, [], ◌∷◌, ◌++◌, map, length, get_or, replicate}
 use Rattle.s2_matrix.specs.Total.{upto}
 use Rattle.s2_rows.specs.Rows.{Rows, IsRows}
@@ -9,7 +9,7 @@ use Rattle.s2_matrix.specs.Joined.{joined}
 use Rattle.s2_matrix.specs.Limits.{most_edges}
 use Rattle.s2_matrix.specs.Layers.{layer_places}
 
--- the checks that the test names gain the bit, by at most so many new edges
+-- the checks of the test gain the bit, by at most n new edges
 pub record Gains (count : ℕ) (cs bs cs' bs' : List ℕ) (test : ℕ → Bool) (bit most : ℕ) : Type 0 where
   pub paired : length bs' ≡ length cs'
   pub below : All (λ k. k < count) cs'

@@ -17,6 +17,7 @@ meets rows r place =
 abbrev pub layer_places : Rows → ℕ → List ℕ
 layer_places rows r = filter (meets rows r) (upto (information_bits rows.shape))
 
+-- the group and the shift of a place, as an entry of a layer
 abbrev pub entry_of : Rows → ℕ → LayerEntry
 entry_of rows place = record { group = place / rows.shape.group; shift = place % rows.shape.group }
 
@@ -24,7 +25,7 @@ entry_of rows place = record { group = place / rows.shape.group; shift = place %
 abbrev pub layer_entries : Rows → ℕ → List LayerEntry
 layer_entries rows r = map (entry_of rows) (layer_places rows r)
 
--- the bit that an entry shows to the check in lane c: the group's bits are turned by the shift
+-- the bit that an entry shows to the check in lane c: the group's bits, rotated by the shift
 abbrev pub shown : Rows → LayerEntry → ℕ → ℕ
 shown rows entry c = entry.group * rows.shape.group + turned rows.shape.group entry.shift c
 
@@ -39,6 +40,7 @@ pub record ShowsMembers (rows : Rows) (r c : ℕ) : Type 0 where
   pub members : (b : ℕ) → IsTrue (is_member rows (r + c * rows.shape.q) b) ↔ IsInLayer rows r c b
   pub once : AllPairs (λ d e. shown rows d c ≢ shown rows e c) (layer_entries rows r)
 
+-- in the code of any accepted rows, each layer shows exactly the members of each of its checks
 abbrev pub LayerLaw : Type 0
 LayerLaw = (rows : Rows) (r c : ℕ) → IsRows rows → r < rows.shape.q → c < rows.shape.group → ShowsMembers rows r c
 

@@ -4,8 +4,9 @@ use Rattle.s2_mode.specs.Shape.{information_bits, check_count}
 use Rattle.s2_rows.specs.Rows.{Rows, row_of}
 use Rattle.s2_matrix.specs.Code.{is_member}
 
--- by_row: bit m of group g is added to parity (x + m q) mod (n - k) for each address x of row g;
--- parity: the check of a parity bit has it; next: so has the check after it, into which the accumulator carries it
+-- A rule for each way into a check. `by_row`: bit m of group g is added to parity bit (x + m q) mod (n - k), for each
+-- address x of row g. `parity`: a parity bit is in its own check. `next`: the accumulator carries it into the next
+-- check
 pub data IsMember (r : Rows) (j b : ℕ) : Type 0 where
   by_row : (g m x : ℕ) → g < r.shape.groups → m < r.shape.group → Contains (row_of r g) x → b ≡ g * r.shape.group + m → (x + m * r.shape.q) % check_count r.shape ≡ j → IsMember r j b
   parity : b ≡ information_bits r.shape + j → IsMember r j b

@@ -12,6 +12,6 @@ sum_of f (suc n) = xor (sum_of f n) (f n)
 abbrev pub information_sum : Code → List Bool → ℕ → Bool
 information_sum code info j = sum_of (λ b. code.has j b && bit_at info b) (length info)
 
--- parity bit j: the sums of the checks up to check j, added up
+-- parity bit j: the sum of the sums of checks 0 to j, which is what the standard's accumulator leaves
 abbrev pub parity_bit : Code → List Bool → ℕ → Bool
 parity_bit code info j = sum_of (information_sum code info) (suc j)

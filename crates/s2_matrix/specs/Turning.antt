@@ -1,4 +1,5 @@
--- Bits of planes that are turned, eight planes and eight lanes at a time, so that each lane's bits follow one another.
+-- Transposed bits of planes, eight planes and eight lanes at a time, so that the bits of each lane follow one another
+-- (own).
 use Rattle.std.specs.Prelude.{◌≡◌, ℕ, ◌+◌, ◌-◌, ◌*◌, ◌/◌, ◌<◌, ◌≤◌, Bool, List, ◌++◌, length}
 use Rattle.s2_bits.specs.Bits.{xor, bit_at}
 use Rattle.s2_bits.specs.Lanes.{eight}
@@ -9,11 +10,11 @@ use Rattle.s2_matrix.specs.Planes.{plane_place}
 abbrev pub eight_rows : (ℕ → ℕ → Bool) → List ℕ
 eight_rows f = eight (f 0) ++ eight (f 1) ++ eight (f 2) ++ eight (f 3) ++ eight (f 4) ++ eight (f 5) ++ eight (f 6) ++ eight (f 7)
 
--- the sum of the lanes before a lane, where the last plane holds the sum of each
+-- the sum of the lanes before a lane; the last plane holds the sum of each
 abbrev pub carry_at : ℕ → ℕ → List Bool → ℕ → Bool
 carry_at group q planes lane = sum_of (λ l. bit_at planes ((q - 1) * group + l)) lane
 
--- the sum of the checks up to check j, where each plane holds the sums of its lanes up to it
+-- the sum of the checks up to check j; each plane holds the sums of its lanes up to it
 abbrev pub accumulated : ℕ → ℕ → List Bool → ℕ → Bool
 accumulated group q planes j = xor (carry_at group q planes (j / q)) (bit_at planes (plane_place group q j))
 

@@ -1,4 +1,4 @@
--- What a decoder shows, and what holds of its lists.
+-- A decoder's value, and the invariants of its lists (own).
 use Rattle.std.specs.Prelude.{◌≡◌, ℕ, ◌+◌, ◌*◌, ◌<◌, ◌≤◌, nat_le, Bool, All, List, length, get_or, ℤ, unsigned_abs}
 use Rattle.s2_mode.specs.Shape.{Shape, IsShape, code_bits}
 use Rattle.s2_rows.specs.Limits.{most_addresses}
@@ -21,6 +21,7 @@ pub record Decoding : Type 0 where
 abbrev pub decoded : Decoding → State
 decoded d = state_of d.rows d.soft (kept_of d.rows d.messages)
 
+-- no value is larger in size than a number
 abbrev pub AreWithin : ℕ → List ℤ → Type 0
 AreWithin n vs = All (λ v. unsigned_abs v ≤ n) vs
 
@@ -32,7 +33,7 @@ pub record AreFit (rows : Rows) : Type 0 where
   pub shaped : IsShape rows.shape
   pub few : (i : ℕ) → i < code_bits rows.shape → length (checks_of (code_of rows) i) ≤ most_addresses
 
--- what holds of the entries of all layers, and of where those of each begin
+-- the lists of the entries of all layers, and of the first entry of each
 pub record AreLayers (rows : Rows) (entries : List Entry) (firsts : List ℕ) : Type 0 where
   pub fit : AreFit rows
   pub entries_long : length entries ≡ first_row rows rows.shape.q
@@ -40,7 +41,7 @@ pub record AreLayers (rows : Rows) (entries : List Entry) (firsts : List ℕ) : 
   pub firsts_long : length firsts ≡ rows.shape.q + 1
   pub firsts_are : (r : ℕ) → r ≤ rows.shape.q → get_or firsts r 0 ≡ first_row rows r
 
--- what holds of the numbers
+-- the ranges of the numbers
 pub record AreNumbers (rows : Rows) (soft : List ℤ) (messages posteriors : List ℕ) : Type 0 where
   pub soft_long : length soft ≡ code_bits rows.shape
   pub soft_small : AreWithin most_soft soft
@@ -51,17 +52,17 @@ pub record AreNumbers (rows : Rows) (soft : List ℤ) (messages posteriors : Lis
   pub posteriors_long : length posteriors ≡ code_bits rows.shape
   pub posteriors_are : (row lane : ℕ) → row < rows.shape.groups + rows.shape.q → lane < rows.shape.group → signed16 (cell posteriors rows.shape.group row lane) ≡ posterior (code_of rows) (state_of rows soft (kept_of rows messages)) (bit_of rows.shape row lane)
 
--- so many words are enough for each layer: a row for each of its entries, and three rows more
+-- enough words for each layer: a row for each of its entries, and three rows more
 abbrev pub HasRoom : Rows → ℕ → Type 0
 HasRoom rows words =
     (r : ℕ) → r < rows.shape.q → (entry_count rows r + 3) * rows.shape.group ≤ words
 
--- so many words are enough for a decoder's work on each layer: a row for each of its entries
+-- enough words for a decoder's work on each layer: a row for each of its entries
 abbrev pub HasDecoderRoom : Rows → ℕ → Type 0
 HasDecoderRoom rows words =
     (r : ℕ) → r < rows.shape.q → entry_count rows r * rows.shape.group ≤ words
 
--- what holds of a decoder
+-- the invariant of a decoder
 pub record IsDecoder (rows layered : Rows) (soft : List ℤ) (messages posteriors : List ℕ) (scratch : ℕ) : Type 0 where
   pub layers : layered ≡ rows
   pub fit : AreFit rows

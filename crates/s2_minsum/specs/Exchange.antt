@@ -1,4 +1,4 @@
--- What a layer's checks exchange with their members, by rows of inputs and of messages, one check a lane.
+-- What a layer's checks exchange with their members, by rows of inputs and of messages, one check a lane (own).
 use Rattle.std.specs.Prelude.{◌≡◌, ℕ, ◌+◌, ◌<◌, ◌≤◌, List}
 use Rattle.s2_bits.specs.Lanes16.{minus16, size16}
 use Rattle.s2_minsum.specs.Rows.{cell, reduced16}
@@ -9,20 +9,20 @@ abbrev pub renewed : ℕ → ℕ → ℕ → List ℕ → ℕ → ℕ → ℕ
 renewed factor n count inputs e c =
     reduced16 factor (cell inputs n e c) (first_of (λ x. size16 (cell inputs n x c)) count) (second_of (λ x. size16 (cell inputs n x c)) count) (signs_of (λ x. cell inputs n x c) count)
 
--- what so many lanes from one on hold of others is left
+-- all lanes but those from one to another are unchanged
 abbrev pub AreLeft : ℕ → ℕ → ℕ → ℕ → List ℕ → List ℕ → Type 0
 AreLeft n count from to old new =
     (e c : ℕ) → e < count → c < n → (from ≤ c → c < to → ⊥) → cell new n e c ≡ cell old n e c
 
--- so many lanes from one on hold these messages, and in place of the inputs by how much they changed; the others are left
+-- n lanes from one on hold these messages, and their changes in place of the inputs; the others are unchanged
 pub record AreSent (n count at lanes : ℕ) (new : ℕ → ℕ → ℕ) (inputs messages inputs' messages' : List ℕ) : Type 0 where
   pub sent : (e k : ℕ) → e < count → k < lanes → cell messages' n e (at + k) ≡ new e k
   pub changes : (e k : ℕ) → e < count → k < lanes → cell inputs' n e (at + k) ≡ minus16 (new e k) (cell messages n e (at + k))
   pub inputs_left : AreLeft n count at (at + lanes) inputs inputs'
   pub messages_left : AreLeft n count at (at + lanes) messages messages'
 
--- the lanes from one on and before another hold the messages that their inputs make, and in place of the inputs by how much they
--- changed; the others are left
+-- the lanes from one to another hold the messages that their inputs make, and their changes in place of the inputs; the
+-- others are unchanged
 pub record AreExchanged (factor n count from to : ℕ) (inputs messages inputs' messages' : List ℕ) : Type 0 where
   pub sent : (e c : ℕ) → e < count → from ≤ c → c < to → cell messages' n e c ≡ renewed factor n count inputs e c
   pub changes : (e c : ℕ) → e < count → from ≤ c → c < to → cell inputs' n e c ≡ minus16 (renewed factor n count inputs e c) (cell messages n e c)

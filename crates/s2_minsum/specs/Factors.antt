@@ -10,10 +10,11 @@ least_factor = 8
 abbrev pub most_factor : ℕ
 most_factor = 16
 
--- three quarters: the factor where none is named
+-- three quarters, the default
 abbrev pub default_factor : ℕ
 default_factor = 12
 
+-- a factor: 8 to 16 sixteenths
 abbrev pub IsFactor : ℕ → Type 0
 IsFactor f = (least_factor ≤ f) × (f ≤ most_factor)
 

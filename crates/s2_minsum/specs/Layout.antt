@@ -1,4 +1,4 @@
--- Bits in rows of a group, and the messages of a layer by the members of its last check.
+-- Bits in rows of a group, and the messages of a layer by the members of its last check (own).
 use Rattle.std.specs.Prelude.{ℕ, ◌+◌, ◌-◌, ◌*◌, ◌/◌, ◌%◌, ◌==◌, nat_lt, if◌then◌else◌, List, map, length, sum_by, ℤ, pos}
 use Rattle.std.specs.List.{position_or_len}
 use Rattle.s2_mode.specs.Shape.{Shape, information_bits}
@@ -33,15 +33,15 @@ step_of_row s row = if nat_lt row s.groups then 1 else s.q
 abbrev pub last_check : Shape → ℕ → ℕ
 last_check s r = r + (s.group - 1) * s.q
 
--- the member of check r + q c that stands where b stands in the layer's last check
+-- the member of check r + q c that corresponds to b in the layer's last check
 abbrev pub forth : Shape → ℕ → ℕ → ℕ
 forth s c b = bit_of s (row_of_bit s b) ((lane_of_bit s b + 1 + c) % s.group)
 
--- the member of the layer's last check that stands where i stands in check r + q c
+-- the member of the layer's last check that corresponds to i in check r + q c
 abbrev pub back : Shape → ℕ → ℕ → ℕ
 back s c i = bit_of s (row_of_bit s i) ((lane_of_bit s i + s.group - 1 - c) % s.group)
 
--- the row and the turn that show such a member to all checks of the layer
+-- the row and the rotation that show such a member to all checks of the layer
 abbrev pub entry_of : Shape → ℕ → Entry
 entry_of s b = record { row = row_of_bit s b; shift = s.group - 1 - lane_of_bit s b }
 
@@ -62,14 +62,15 @@ message_of rows kept j i =
 abbrev pub state_of : Rows → List ℤ → (ℕ → ℕ → ℕ → ℕ) → State
 state_of rows soft kept = record { soft = soft; message = message_of rows kept }
 
--- the row that lane 0 of layer r lacks: only layer 0 has one
+-- the row that lane 0 of layer r lacks: the last one for layer 0, none for any other
 abbrev pub lacked_row : Shape → ℕ → ℕ
 lacked_row s r = if r == 0 then s.groups + s.q - 1 else s.groups + s.q
 
--- how many entries a layer has, and how many the layers before it have
+-- how many entries a layer has
 abbrev pub entry_count : Rows → ℕ → ℕ
 entry_count rows r = length (members (code_of rows) (last_check rows.shape r))
 
+-- how many entries the layers before a layer have
 abbrev pub first_row : Rows → ℕ → ℕ
 first_row rows r = sum_by (entry_count rows) (upto r)
 

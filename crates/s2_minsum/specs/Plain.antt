@@ -13,15 +13,15 @@ use Rattle.s2_minsum.specs.Factors.{most_factor}
 abbrev pub size_cap : ℕ
 size_cap = 1023
 
--- so many sixteenths of a size, rounded up
+-- f sixteenths of a size, rounded up
 abbrev pub reduced : ℕ → ℕ → ℕ
 reduced factor m = m - m * (most_factor - factor) / most_factor
 
--- the largest size of a message, by any factor: what a check of one member sends where sizes are kept whole
+-- the largest size of a message, with any factor: a check of one member sends it if sizes are kept whole
 abbrev pub most_message : ℕ
 most_message = size_cap
 
--- the largest size of a posterior: a bit is in as many checks as its row has addresses, at most
+-- the largest size of a posterior: a bit is in at most `most_addresses` checks
 abbrev pub most_posterior : ℕ
 most_posterior = most_soft + most_addresses * most_message
 
@@ -41,7 +41,7 @@ abbrev pub posterior : Code → State → ℕ → ℤ
 posterior code s i =
     get_or s.soft i (pos 0) +ℤ total (λ j. s.message j i) (checks_of code i)
 
--- the hard decision: a one exactly where the posterior is negative
+-- the hard decision: a one exactly if the posterior is negative
 abbrev pub decision : Code → State → List Bool
 decision code s = map (λ i. int_lt (posterior code s i) (pos 0)) (upto code.bits)
 
@@ -66,7 +66,8 @@ is_product_negative f ms = count_by (λ k. int_lt (f k) (pos 0)) ms % 2 == 1
 abbrev pub with_sign : Bool → ℕ → ℤ
 with_sign negative size = if negative then neg_ℤ (pos size) else pos size
 
--- the message that the inputs of the other members make: the sign of their product, and their least size reduced
+-- the message that the inputs of the other members make: the sign of their product, with 0 as positive, and their least
+-- size, at most the cap, reduced by a factor
 abbrev pub made : ℕ → (ℕ → ℤ) → List ℕ → ℤ
 made factor f ms = with_sign (is_product_negative f ms) (reduced factor (least_size f ms))
 

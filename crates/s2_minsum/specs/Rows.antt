@@ -1,4 +1,4 @@
--- Rows of words of 16 bits, one word for each lane, and the entries that turn them.
+-- Rows of words of 16 bits, one word for each lane, and the entries that rotate them (own).
 use Rattle.std.specs.Prelude.{ℕ, zero, suc, ◌+◌, ◌*◌, ◌/◌, ◌%◌, ◌==◌, ◌&&◌, ◌<◌, ◌≤◌, Bool, if◌then◌else◌, List, length, get_or, bit_xor}
 use Rattle.s2_minsum.specs.Plain.{size_cap, reduced}
 use Rattle.s2_mode.specs.Limits.{most_group}
@@ -6,8 +6,8 @@ use Rattle.s2_bits.specs.Lanes16.{minus16, plus16, size16, sign16}
 pub use Rattle.s2_bits.specs.Turns.{turned, turned_back, cell}
 use Rattle.s2_minsum.specs.declared.rows.Entry.{Entry}
 
--- the message to a member with input v of a check with this least size: of size high if v has it, else low; and a word that is negative
--- where an odd number of its inputs are
+-- The message to a member with input v. Its size is high if v has the least size, else low. It is negative if an odd
+-- number of the other inputs are
 abbrev pub sent16 : ℕ → ℕ → ℕ → ℕ → ℕ → ℕ
 sent16 v first low high signs =
     let m = (if size16 v == first then high else low) in
@@ -21,10 +21,11 @@ reduced16 factor v first second signs =
 abbrev pub no_entry : Entry
 no_entry = record { row = 0; shift = 0 }
 
+-- the entry at a place of a list
 abbrev pub entry_at : List Entry → ℕ → Entry
 entry_at entries e = get_or entries e no_entry
 
--- the rows of entries lie within a list, and no turn is longer than a row
+-- the rows of entries are within a list, and no rotation is longer than a row
 pub record AreIn (n : ℕ) (entries : List Entry) (places : ℕ) : Type 0 where
   pub some : 1 ≤ n
   pub few : n ≤ most_group
@@ -44,12 +45,12 @@ changed = changed_by plus16
 abbrev pub is_lacking : ℕ → Entry → ℕ → Bool
 is_lacking last entry c = (c == 0) && ((entry.row == last) && (entry.shift == 1))
 
--- what an entry's member gives to the check in lane c; the cap where the check lacks it
+-- the input that an entry's member gives to the check in lane c; the cap if the check lacks it
 abbrev pub received : ℕ → List Entry → ℕ → List ℕ → List ℕ → ℕ → ℕ → ℕ
 received n entries last posteriors messages e c =
     if is_lacking last (entry_at entries e) c then size_cap else minus16 (cell posteriors n (entry_at entries e).row (turned n (entry_at entries e).shift c)) (cell messages n e c)
 
--- by how much the message of an entry in lane c changes
+-- the change of the message of an entry in lane c
 abbrev pub change_of : ℕ → List Entry → ℕ → List ℕ → List ℕ → ℕ → ℕ → ℕ
 change_of n entries last old new e c =
     if is_lacking last (entry_at entries e) c then 0 else minus16 (cell new n e c) (cell old n e c)

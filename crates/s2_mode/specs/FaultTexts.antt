@@ -1,8 +1,8 @@
--- What a fault says.
+-- What a fault says (own).
 use Rattle.std.specs.Prelude.{ℕ, List, ◌++◌, decimal, Option, Some, None}
 use Rattle.s2_mode.specs.declared.fault_text.FaultText.{FaultText}
 
--- a number behind words, where there is one
+-- a number after words, if there is one
 abbrev pub with_number : List ℕ → Option ℕ → List ℕ
 with_number words None = words
 with_number words (Some number) = words ++ decimal number

@@ -1,4 +1,4 @@
--- Four symbols in the lanes of a vector: their components as words of 16 bits, two's complement.
+-- Four symbols in the lanes of a vector: their components as words of 16 bits, two's complement (own).
 use Rattle.std.specs.Prelude.{ℕ, List, [], ◌∷◌}
 use Rattle.std.specs.Int.{w16, cast_unsigned}
 use Rattle.s2_mode.specs.declared.symbols.Symbol.{Symbol}

@@ -1,4 +1,4 @@
--- What bounds codes, soft values, headers and streams.
+-- What bounds codes, soft values, headers and streams (own).
 use Rattle.std.specs.Prelude.{◌≡◌, ◌+◌, ◌*◌, ◌^◌, ℕ}
 use Rattle.s2_mode.specs.declared.limits.TheConstants.{DUMMY_SYMBOLS, HEADER_SYMBOLS, MOST_BITS, MOST_GROUP, MOST_MODCOD, MOST_SOFT, MOST_SYMBOLS}
 
@@ -18,7 +18,7 @@ most_modcod = 17
 abbrev pub most_soft : ℕ
 most_soft = 511
 
--- the symbols of a physical layer header, and as many bits (EN 302 307-1, 5.5.2)
+-- the symbols of a physical layer header, which are also its bits (EN 302 307-1, 5.5.2)
 abbrev pub header_symbols : ℕ
 header_symbols = 90
 

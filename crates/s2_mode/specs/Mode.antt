@@ -26,6 +26,7 @@ abbrev pub names_qpsk : Modulation → Bool
 names_qpsk modulations.Qpsk = true
 names_qpsk modulations.Psk8 = false
 
+-- whether a mode's constellation is QPSK
 unfoldable pub is_qpsk : Mode → Bool
 is_qpsk m = names_qpsk (modulation_of m)
 
@@ -95,11 +96,12 @@ symbols_in m = header_symbols + 90 * slots_of m + 36 * pilot_blocks_of m
 abbrev pub shape_in : Mode → Shape
 shape_in m = shape_of 360 (k_of m / 360) (q_of m)
 
+-- the mode of a MODCOD, short or normal frames, with or without pilots
 abbrev pub mode_of : ℕ → Bool → Bool → Mode
 mode_of modcod short pilots = record { modcod = modcod; short = short; pilots = pilots }
 
--- how the sizes of a mode's two codes go together: each minimal polynomial of the BCH code has degree 16, in short frames
--- 14; the LDPC code has groups of 360; a data field behind the header of 80 bits has whole bytes
+-- The relations between the sizes of a mode's two codes. Each minimal polynomial of the BCH code has degree 16, in
+-- short frames 14. The LDPC code has groups of 360. A data field, after the header of 80 bits, has whole bytes
 pub record HasCodeSizes (m : Mode) : Type 0 where
   pub normal_code : m.short ≡ false → k_of m ≡ kbch_of m + 16 * t_of m
   pub short_code : m.short ≡ true → k_of m ≡ kbch_of m + 14 * t_of m
@@ -114,7 +116,8 @@ pub record HasCodeSizes (m : Mode) : Type 0 where
   pub field_least : 374 ≤ (kbch_of m - 80) / 8
   pub field_most : (kbch_of m - 80) / 8 ≤ 7264
 
--- how the sizes of a mode's frame go together
+-- how the sizes of a mode's frame go together: n bits fill 90 symbols of each slot; the frame is the header, the slots
+-- and the pilot blocks
 pub record HasFrameSizes (m : Mode) : Type 0 where
   pub payload : n_of m ≡ width_of m * (90 * slots_of m)
   pub slots_least : 60 ≤ slots_of m

@@ -1,4 +1,4 @@
--- What a call that failed before its end has read or written.
+-- What a call that failed before its end has read or written (own).
 use Rattle.std.specs.Prelude.{ℕ, ◌<◌, List, length, take, Option}
 use Rattle.std.specs.Io.KnownBytes.{Consumes, Appends}
 

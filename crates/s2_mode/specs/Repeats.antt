@@ -1,7 +1,7 @@
--- A slice that is read again and again.
+-- A slice that is read repeatedly, from its start again after its end (own).
 use Rattle.std.specs.Prelude.{ℕ, nat_lt, List, length, drop, if◌then◌else◌}
 
--- where the next byte stands: at the end, the first one
+-- the place of the next byte: after the last one, the first
 abbrev pub next_place : List ℕ → ℕ → ℕ
 next_place bytes at = if nat_lt at (length bytes) then at else 0
 

@@ -12,7 +12,7 @@ pub record Shape : Type 0 where
 abbrev pub information_bits : Shape → ℕ
 information_bits s = s.group * s.groups
 
--- n - k: how many checks, and as many parity bits
+-- n - k: the number of checks, and of parity bits
 abbrev pub check_count : Shape → ℕ
 check_count s = s.group * s.q
 
@@ -28,5 +28,6 @@ pub record IsShape (s : Shape) : Type 0 where
   pub q_some : 1 ≤ s.q
   pub few : code_bits s ≤ most_bits
 
+-- the shape of these numbers: the size of a group, how many groups there are, and q
 abbrev pub shape_of : ℕ → ℕ → ℕ → Shape
 shape_of group groups q = record { group = group; groups = groups; q = q }

@@ -1,8 +1,8 @@
--- The ends of a stream, as they are seen from outside.
+-- The ends of a stream, as they are seen from outside (own).
 use Rattle.std.specs.Prelude.{◌≡◌, ◌+◌, ◌⊎◌, ℕ, List, Option}
 
--- What the file that is read still gives, what stands in the file that is written and in the output, where that is known, and
--- how many calls of each have failed.
+-- the unread bytes of the input, the contents of the output file and of the report, if they are known, and how many
+-- calls of each have failed
 pub record Streams : Type 0 where
   pub taken : Option (List ℕ)
   pub given : Option (List ℕ)
@@ -24,8 +24,8 @@ NoneFailed p p' w w' = (p' ≡ p) × (w' ≡ w)
 abbrev pub OneFailed : (packets_old packets_new report_old report_new : ℕ) → Type 0
 OneFailed p p' w w' = ((p' ≡ p + 1) × (w' ≡ w)) ⊎ ((p' ≡ p) × (w' ≡ w + 1))
 
--- Only what failed was counted, where a fault of reading is told or not, and one of writing or not: a count rises only where its fault
--- is told, and where one of writing is told one of the two writers failed, once.
+-- Only failed calls were counted. A count rises only if its fault is reported. If a fault of writing is reported,
+-- exactly one of the two writers failed, once
 pub record OnlyFailed (read write : Type 0) (old new : Streams) : Type 0 where
   pub no_read : (read → ⊥) → new.reads ≡ old.reads
   pub write_told : write → OneFailed old.writes new.writes old.prints new.prints

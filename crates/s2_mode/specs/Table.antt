@@ -40,8 +40,9 @@ rates =
 unfoldable pub code_rate_text : CodeRate → List ℕ
 code_rate_text rate = decimal rate.over ++ codes "/" ++ decimal rate.under
 
--- the line of a MODCOD: its constellation; the place of its code rate; the Es/N0 in hundredths of a dB at which quasi error free
--- reception begins over a channel with noise alone; and the factor of min-sum's messages that was measured to be best
+-- The line of a MODCOD. It has its constellation, the place of its code rate, its ideal Es/N0, and the measured best
+-- factor of min-sum's messages. The Es/N0 is in hundredths of a dB; quasi error free reception begins there over a
+-- channel with noise alone
 abbrev pub line : Modulation → ℕ → ℤ → ℕ → Modcod
 line modulation rate_index ideal tuned_factor =
     record { modulation = modulation; rate_index = rate_index; ideal = ideal; tuned_factor = tuned_factor }

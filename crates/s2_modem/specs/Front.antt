@@ -11,7 +11,8 @@ use Rattle.s2_soft.specs.Divisors.{IsDivisor}
 use Rattle.s2_soft.specs.Soft.{soft_values}
 use Rattle.s2_soft.specs.Clean.{Says}
 
--- the header of a codeword's frame is found, and the soft values of its payload by this divisor say the codeword; none of them is 0
+-- the header of a codeword's frame is found, and the soft values of its payload by this divisor say the codeword; none
+-- of them is 0
 pub record IsCleanFrame (divisor : ℕ) (m : Mode) (number : ℕ) (codeword : List Bool) : Type 0 where
   pub header : found m (map decision (take header_symbols (frame_symbols m number (payload_of m codeword)))) ≡ founds.Coded
   pub soft : Says (soft_values divisor m (received_payload m number (frame_symbols m number (payload_of m codeword)))) codeword

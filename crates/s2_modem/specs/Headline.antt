@@ -52,8 +52,9 @@ pub record IsSent (m : Mode) (link : Link) (at : ℕ) (field : List ℕ) (codewo
   pub fits : length field ≤ field_bytes link.setup.mode
   pub codeword_is : IsCodewordFor link.setup.mode link.rows (header_at link.setup.roll_off at field) field codeword
 
--- Both codes together. If the first Nbch decided bits differ from the BCH word that was sent in at most t places, the message and the
--- field that were sent are delivered, with that number in the report. This holds for any frame's symbols.
+-- Both codes together. If the first Nbch decided bits differ from the BCH word that was sent in at most t places, the
+-- message and the field that were sent are delivered, with that number in the report. This holds for any frame's
+-- symbols
 abbrev pub CorrectsWithin : Mode → Link → (last : Decision) → Type 0
 CorrectsWithin m link last =
     (at : ℕ) (field : List ℕ) (codeword : List Bool) (sent : IsSent m link at field codeword)
@@ -69,7 +70,8 @@ AllCorrected m link tuning = (symbols : List Symbol) → CorrectsWithin m link (
 abbrev pub BothCodesLaw : Mode → Type 0
 BothCodesLaw m = (link : Link) (tuning : Tuning) → AllCorrected m link tuning
 
--- if a frame's soft values are scattered about the codeword that was sent, that codeword is decided, certified, with no bit changed
+-- if a frame's soft values are scattered about the codeword that was sent, that codeword is decided, certified, with no
+-- bit changed
 abbrev pub HearsScattered : Mode → Link → Tuning → List Symbol → (last : Decision) → Type 0
 HearsScattered m link tuning symbols last =
     (at : ℕ) (field : List ℕ) (codeword : List Bool) (sent : IsSent m link at field codeword) → IsScattered (code_of link.rows) (frame_soft link tuning symbols) codeword

@@ -69,7 +69,8 @@ decision_held m soft bits certificate bch_word d field = record {
   delivered = delivered_of d.header field;
 }
 
--- the stages of a decider are of its mode, the divisor is that of its tuning, and the joiner can take the last delivered field
+-- the stages of a decider are of its mode, the divisor is that of its tuning, and the joiner can take the last
+-- delivered field
 pub record IsListening (mode : Mode) (rows : Rows) (tuning : Tuning) (demodulates : Demodulating) (corrects : Mode) (reads : Reading) (last : Decided) : Type 0 where
   pub valid : IsMode mode
   pub sizes : HasCodeSizes mode

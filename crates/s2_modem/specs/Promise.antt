@@ -1,6 +1,7 @@
--- The headline: what a receiver of a link promises of a whole stream, of the packets and of the report that it writes (EN 302 307-1, 5.1 to 5.5). It is the clause
--- `headline` of `demodulate`, and of `Receiver::run` for a new receiver and a reader whose bytes are known, if the call returns no fault.
--- `laws::headline` says it of a caller that takes all steps one by one.
+-- The headline (EN 302 307-1, 5.1 to 5.5): what a receiver of a link promises of a whole stream, of the packets and of
+-- the report that it writes. It is the clause `headline` of `demodulate`, and of `Receiver::run` for a new receiver and
+-- a reader whose bytes are known, if the call returns no fault. `laws::headline` says it of a caller that takes all
+-- steps one by one.
 use Rattle.std.specs.Prelude.{◌≡◌, ℕ, zero, suc, ◌+◌, ◌-◌, ◌<◌, ◌≤◌, ◌⊎◌, IsTrue, Bool, true, false, List, [], ◌∷◌, ◌++◌, All, length, map, take, drop, count_by, None, IfSome, Result, OnOk}
 use Rattle.std.specs.List.{flat_map, range_with_len}
 use Rattle.std.specs.Io.KnownBytes.{Appends}
@@ -64,8 +65,8 @@ past m place founds.Coded = record { at = place.at + symbols_in m; frames = plac
 past m place founds.Dummy = record { at = place.at + dummy_symbols; frames = place.frames; behind = true }
 past m place founds.Nothing = record { at = place.at + 1; frames = place.frames; behind = false }
 
--- where the search is after so many moves: first at the stream's first symbol, then after each frame that it came to, and at the next
--- symbol if no header passes
+-- where the search is after so many moves: first at the stream's first symbol, then after each frame that it came to,
+-- and at the next symbol if no header passes
 abbrev pub stands : Link → Tuning → List Symbol → (moves : ℕ) → Place
 stands link tuning symbols zero = record { at = 0; frames = 0; behind = false }
 stands link tuning symbols (suc moves) = past link.setup.mode (stands link tuning symbols moves) (found_at link tuning symbols (stands link tuning symbols moves))
@@ -80,8 +81,8 @@ IsCutAt link tuning symbols place = (found_at link tuning symbols place ≡ foun
 abbrev pub wrong_bits : Link → Tuning → List Symbol → List Bool → ℕ
 wrong_bits link tuning symbols bch_word = differences (k_of link.setup.mode) (received_word link.setup.mode (frame_decision link tuning symbols).bits) bch_word
 
--- the symbols of the frame that was sent for a data field: clear, or whole with a header that passes there and at most t wrong ones among
--- the first Nbch decided bits
+-- the symbols of the frame that was sent for a data field: clear, or whole with a header that passes there and at most
+-- t wrong ones among the first Nbch decided bits
 abbrev pub IsReadable : Link → Tuning → Bool → ℕ → List ℕ → List Symbol → Type 0
 IsReadable link tuning behind at field symbols =
     (codeword : List Bool) × (sent : IsCodewordFor link.setup.mode link.rows (header_at link.setup.roll_off at field) field codeword)
@@ -91,8 +92,8 @@ IsReadable link tuning behind at field symbols =
 abbrev pub AreReadable : Link → Tuning → Bool → ℕ → List Piece → List (List ℕ) → Type 0
 AreReadable link tuning = AreEach (IsReadable link tuning) (found_as link.setup.mode tuning.lock)
 
--- Symbols that begin with the first frames that a transmitter of the link makes of these packets, as they come. The frames are those of
--- these data fields; other symbols follow.
+-- Symbols that begin with the first frames that a transmitter of the link makes of these packets, as they come. The
+-- frames are those of these data fields; other symbols follow
 pub record Arriving (link : Link) (tuning : Tuning) (symbols : List Symbol) (packets fields later : List (List ℕ)) (pieces : List Piece) (rest : List Symbol) : Type 0 where
   pub each : All IsPacket packets
   pub bytes : AreBytes (joined packets)
@@ -117,15 +118,15 @@ abbrev pub is_delivered : Outcome → Bool
 is_delivered (Delivered fixed) = true
 is_delivered outcome = false
 
--- What the joiner gives of a stream of symbols. Each frame that is met gives it a data field, or a gap if it is not delivered. Symbols
--- that were passed over and a cut frame give a gap too.
+-- What the joiner gives of a stream of symbols. Each frame that is met gives it a data field, or a gap if it is not
+-- delivered. Symbols that were passed over and a cut frame give a gap too
 abbrev pub joined_on : Link → Tuning → List Symbol → Joined
 joined_on link tuning symbols =
     joining None (events_of (frame_decision link tuning) (met_from (found_as link.setup.mode tuning.lock) (symbols_in link.setup.mode) 0 0 false nothing_over symbols))
 
--- The report has a line for each of these frames, numbered from 1. Then comes the line of a cut frame, exactly if the search comes to
--- one, with its symbol and the number of symbols left. Then comes the last line, with the numbers of frames, delivered frames, packets
--- written and bodies with a wrong CRC-8.
+-- The report has a line for each of these frames, numbered from 1. Then comes the line of a cut frame, exactly if the
+-- search comes to one, with its symbol and the number of symbols left. Then comes the last line, with the numbers of
+-- frames, delivered frames, packets written and bodies with a wrong CRC-8
 pub record IsReport (link : Link) (tuning : Tuning) (symbols : List Symbol) (packets report : List ℕ) (frames : List Report) : Type 0 where
   pub cut : List ℕ
   pub totals : Totals
@@ -143,25 +144,26 @@ pub record IsReport (link : Link) (tuning : Tuning) (symbols : List Symbol) (pac
 pub record Headline (link : Link) (tuning : Tuning) (symbols : List Symbol) (packets report : List ℕ) : Type 0 where
   -- the frames of the report, one for each line
   pub frames : List Report
-  -- The report has a line for each frame, then one for a cut frame, exactly if there is one, then the last line. The packets are exactly
-  -- those that the joiner gives of the whole stream.
+  -- The report has a line for each frame, then one for a cut frame, exactly if there is one, then the last line. The
+  -- packets are exactly those that the joiner gives of the whole stream
   pub closing : IsReport link tuning symbols packets report frames
-  -- If a line says most likely or sole, the frame's decided bits are a codeword of the link's rows, and no codeword costs less under its
-  -- soft values. If it says sole, every other codeword costs more.
+  -- If a line says most likely or sole, the frame's decided bits are a codeword of the link's rows, and no codeword
+  -- costs less under its soft values. If it says sole, every other codeword costs more
   pub likely : All (λ frame. IsAsLikely (code_of link.rows) (frame_soft link tuning (frame_from link symbols frame.at)) frame.verdict (decision_from link tuning symbols frame.at).bits) frames
-  -- If a line says `fixed C`, the BCH word of the frame's message differs from its first Nbch decided bits in exactly C places, at most
-  -- t. If no BCH word is found, none is within t places.
+  -- If a line says `fixed C`, the BCH word of the frame's message differs from its first Nbch decided bits in exactly C
+  -- places, at most t. If no BCH word is found, none is within t places
   pub within : All (λ frame. IsCorrected link.setup.mode (decision_from link tuning symbols frame.at) frame.outcome) frames
-  -- If the search is at a frame that was sent, the next line is that of this frame, at this symbol, whatever came before and whatever
-  -- follows. If the frame came clear, the line says that it is certified, and `fixed 0`. If a header passes there and the first Nbch
-  -- decided bits differ from the BCH word that was sent in at most t places, it is delivered with exactly that number.
+  -- If the search is at a frame that was sent, the next line is that of this frame, at this symbol, whatever came
+  -- before and whatever follows. If the frame came clear, the line says that it is certified, and `fixed 0`. If a
+  -- header passes there and the first Nbch decided bits differ from the BCH word that was sent in at most t places, it
+  -- is delivered with exactly that number
   pub aligned : (moves byte : ℕ) (field : List ℕ) (codeword : List Bool) (sent : IsSent link.setup.mode link byte field codeword)
       → let place = stands link tuning symbols moves in let here = frame_from link symbols place.at in let wrong = wrong_bits link tuning here sent.codeword_is.bch_word in
       (IsClear link tuning place.behind codeword here → IsNext frames place (λ frame. IsTrue (is_certified frame.verdict) × (frame.outcome ≡ Delivered 0)))
       × (IsWholeFrame link tuning place.behind here → wrong ≤ t_of link.setup.mode → IsNext frames place (λ frame. frame.outcome ≡ Delivered wrong))
-  -- If the symbols begin with the first frames that a transmitter of the link makes of some packets, with or without dummy frames, the
-  -- packets written begin with exactly those whose closing CRC-8 is in the data fields of these frames. If these are all frames, they
-  -- begin with all packets.
+  -- If the symbols begin with the first frames that a transmitter of the link makes of some packets, with or without
+  -- dummy frames, the packets written begin with exactly those whose closing CRC-8 is in the data fields of these
+  -- frames. If these are all frames, they begin with all packets
   pub heard : (sent fields later : List (List ℕ)) (pieces : List Piece) (rest : List Symbol) → Arriving link tuning symbols sent fields later pieces rest
       → (more : List ℕ) × (packets ≡ closed_packets sent fields ++ more) × (later ≡ [] → closed_packets sent fields ≡ joined sent)
   -- If fewer symbols follow these frames than a frame has, exactly these packets are written, and nothing else

@@ -32,12 +32,11 @@ use Rattle.s2_receive.specs.declared.report.Outcome.{Outcome}
 use Rattle.s2_receive.specs.declared.report.Outcome.TheVariants.{Delivered, NoWord, BadHeader}
 use Rattle.s2_modem.specs.Reports.{frame_soft, frame_decision, received_word, message_of, IsUndecided}
 
--- a link's rules: its header, its frames, what is decided of them, and how many symbols are taken
+-- a link's rules: its header, its frame size, the decision on its frames, and the limit of symbols
 abbrev pub link_rules : Link → Tuning → ℕ → Rules
 link_rules link tuning limit = record { finds = found_as link.setup.mode tuning.lock; size = symbols_in link.setup.mode; decide = frame_decision link tuning; limit = limit }
 
--- a receiver: its link, how it is tuned, how many symbols it takes at most, where it stands, what it decided last, and the packets of its last
--- step
+-- a receiver: its link, its tuning, its limit of symbols, its state, and its last decision
 pub record Receiver : Type 0 where
   pub link : Link
   pub tuning : Tuning
@@ -46,9 +45,11 @@ pub record Receiver : Type 0 where
   pub last : Decision
   pub packets : List ℕ
 
+-- the rules of a receiver's link
 abbrev pub rules_for : Receiver → Rules
 rules_for r = link_rules r.link r.tuning r.limit
 
+-- what is seen of a receiver: its rules, its state, and its last decision
 abbrev pub seen : Receiver → Seen
 seen r = record { rules = rules_for r; state = r.state; last = r.last; packets = r.packets }
 
@@ -56,11 +57,12 @@ seen r = record { rules = rules_for r; state = r.state; last = r.last; packets =
 abbrev pub Runs : (old new : Receiver) → (before behind : Streams) → Result Received StreamFault → Type 0
 Runs old new before behind result = RunAnswers (rules_for old) old.state new.state before behind result
 
--- the certificate that it shows: that of what was decided last, where the last step came to that frame; else none
+-- the certificate that it shows: that of the last decision, if the last step came to that frame; else none
 abbrev pub certificate_of : Receiver → Option View
 certificate_of r = if is_at_frame r.state.phase then r.last.certificate else None
 
--- bits are as likely as their verdict says: where it has a certificate no codeword costs less, where it is sole each other one more
+-- Bits are as likely as their verdict says. If it has a certificate, no codeword costs less; if it is sole, every other
+-- codeword costs more
 pub record IsAsLikely (code : Code) (soft : List ℤ) (verdict : Verdict) (bits : List Bool) : Type 0 where
   pub likely : IsTrue (is_certified verdict) → IsMostLikely code soft bits
   pub sole : verdict ≡ Sole → IsSole code soft bits
@@ -70,13 +72,14 @@ abbrev pub AllAsLikely : Link → Tuning → Type 0
 AllAsLikely link tuning =
     (symbols : List Symbol) → IsAsLikely (code_of link.rows) (frame_soft link tuning symbols) (frame_decision link tuning symbols).verdict (frame_decision link tuning symbols).bits
 
--- a frame has a certificate exactly where its report calls its bits sole or most likely; it is accepted, of its soft values and bits, and
--- strict exactly where they are called sole
+-- A frame has a certificate exactly if its report calls its bits sole or most likely. It is accepted, of its soft
+-- values and bits, and strict exactly if they are called sole
 abbrev pub IsCertifiedBy : Rows → Verdict → Decision → Type 0
 IsCertifiedBy rows verdict d = IsShown rows d.soft (record { verdict = verdict; bits = d.bits; certificate = d.certificate })
 
--- What comes of a frame is what BCH decoding finds of its first Nbch decided bits: a word of the code that differs from them in at most
--- t places, in just as many as are reported, and begins with the message; or there is none so near.
+-- The outcome of a frame is what BCH decoding finds of its first Nbch decided bits. It finds a word of the code that
+-- differs from them in exactly the reported number of places, at most t, and begins with the message. Or there is none
+-- within t places
 abbrev pub IsCorrected : Mode → Decision → Outcome → Type 0
 IsCorrected m d (Delivered fixed) =
     (word : List Bool) × IsWithin m (received_word m d.bits) word × (d.message ≡ message_of m word) × (fixed ≡ differences (k_of m) (received_word m d.bits) word)

@@ -46,8 +46,8 @@ abbrev pub delivered_by : List Bool → Result Header HeaderFault → Option (He
 delivered_by frame (Ok header) = Some (header, field_in header frame)
 delivered_by frame (Err fault) = None
 
--- the decision with or without a BCH word: NoWord without one; BadHeader if its header is refused; else Delivered, with the number of
--- places in which decided bits and word differ
+-- the decision with or without a BCH word: NoWord without one; BadHeader if its header is refused; else Delivered, with
+-- the number of places in which decided bits and word differ
 abbrev pub decision_by : Mode → List ℤ → Decided → Option (List Bool) → Decision
 decision_by m soft d (Some bch_word) = record {
   soft = soft;

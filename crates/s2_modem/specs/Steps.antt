@@ -1,4 +1,4 @@
--- What is decided of each frame that was sent.
+-- The result of a run, and of a step if the search is at a frame that was sent (EN 302 307-1, 5.1 to 5.5).
 use Rattle.std.specs.Prelude.{ℕ, Bool, List}
 use Rattle.s2_mode.specs.declared.symbols.Symbol.{Symbol}
 use Rattle.s2_bbframe.specs.DataStream.{header_at}
@@ -9,8 +9,7 @@ use Rattle.s2_modem.specs.Both.{IsDeliveredCertified}
 use Rattle.s2_modem.specs.Headline.{IsSent, AllCorrected}
 use Rattle.s2_modem.specs.Streams.{IsWholeFrame, IsClear}
 
--- A frame that came without noise, or scattered behind a header that passes, is whole, and delivered, certified, with no bit changed: its bits,
--- its message and its data field are those that were sent. With at most t wrong bits of the outer code's word just these are corrected.
+-- the decision on the symbols of each such frame of a link
 pub record AllHeard (link : Link) (tuning : Tuning) : Type 0 where
   pub clear : (behind : Bool) (at : ℕ) (field : List ℕ) (codeword : List Bool) (symbols : List Symbol) (sent : IsSent link.setup.mode link at field codeword)
       → IsClear link tuning behind codeword symbols

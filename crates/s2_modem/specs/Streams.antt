@@ -32,7 +32,8 @@ abbrev pub IsWholeFrame : Link → Tuning → Bool → List Symbol → Type 0
 IsWholeFrame link tuning behind symbols =
     (length symbols ≡ symbols_in link.setup.mode) × (found_as link.setup.mode tuning.lock behind (take header_symbols symbols) ≡ founds.Coded)
 
--- a frame came clear: as it was sent; or whole, with a header that passes there and soft values that are scattered about the codeword
+-- a frame came clear: as it was sent; or whole, with a header that passes there and soft values that are scattered
+-- about the codeword
 abbrev pub IsClear : Link → Tuning → Bool → List Bool → List Symbol → Type 0
 IsClear link tuning behind codeword symbols =
     (symbols ≡ sent_symbols link codeword) ⊎ (IsWholeFrame link tuning behind symbols × IsScattered (code_of link.rows) (frame_soft link tuning symbols) codeword)
@@ -42,8 +43,8 @@ abbrev pub IsHeard : Link → Tuning → Bool → ℕ → List ℕ → List Symb
 IsHeard link tuning behind at field symbols =
     (codeword : List Bool) × IsCodewordFor link.setup.mode link.rows (header_at link.setup.roll_off at field) field codeword × IsClear link tuning behind codeword symbols
 
--- The frames of consecutive data fields, each with a given property at its place, and dummy frames among them. Each is whole, and its
--- header is found. The first is found by one test, all others, right after a frame, by that of the lock.
+-- The frames of consecutive data fields, each with a given property at its place, and dummy frames among them. Each is
+-- whole, and its header is found. The first is found by one test, all others, right after a frame, by that of the lock
 abbrev pub AreEach : (Bool → ℕ → List ℕ → List Symbol → Type 0) → (Bool → List Symbol → Found) → Bool → ℕ → List Piece → List (List ℕ) → Type 0
 AreEach holds finds behind at [] [] = ⊤
 AreEach holds finds behind at [] (field ∷ fields) = ⊥
@@ -61,16 +62,16 @@ places_in rules at [] = []
 places_in rules at (coded symbols ∷ pieces) = (at, (rules.decide symbols).verdict) ∷ places_in rules (at + rules.size) pieces
 places_in rules at (dummy symbols ∷ pieces) = places_in rules (at + dummy_symbols) pieces
 
--- Each of the first coded frames is reported as certified. Exactly the packets whose closing CRC-8 is in their data fields are written;
--- all packets, if these are all fields.
+-- Each of the first coded frames is reported as certified. Exactly the packets whose closing CRC-8 is in their data
+-- fields are written; all packets, if these are all fields
 pub record FrontArrives (link : Link) (tuning : Tuning) (limit : ℕ) (packets fields later : List (List ℕ)) (pieces : List Piece) (before behind : Streams) : Type 0 where
   pub written : Appends before.given behind.given (joined (take (closed_in (length (joined fields))) packets))
   pub lines : Appends before.out behind.out (certified_lines 0 (places_in (link_rules link tuning limit) 0 pieces))
   pub certified : All (λ (place : ℕ × Verdict). IsTrue (is_certified place.1)) (places_in (link_rules link tuning limit) 0 pieces)
   pub all : later ≡ [] → take (closed_in (length (joined fields))) packets ≡ packets
 
--- What a receiver, with any divisor, has written after the first coded frames of a stream of packets, if they came clear. Dummy frames
--- may be among them, and anything may follow.
+-- What a receiver, with any divisor, has written after the first coded frames of a stream of packets, if they came
+-- clear. Dummy frames may be among them, and anything may follow
 abbrev pub FirstFramesLaw : Mode → Type 0
 FirstFramesLaw m =
     (link : Link) (tuning : Tuning) (limit : ℕ) (packets fields later : List (List ℕ)) (pieces : List Piece) (rest : List Symbol) (mid : State) (before behind : Streams) (met : List Met)
@@ -86,8 +87,8 @@ pub record GiveTheSame (first second : State) (well other_well : Bool) (before b
   pub packets : (gained : List ℕ) × Appends before.given behind.given gained × Appends other_before.given other_behind.given gained
   pub lines : (gained : List ℕ) × Appends before.out behind.out gained × Appends other_before.out other_behind.out gained
 
--- Two receivers of a link, in the same state, that run to the end over bytes that spell the same symbols give the same. How their readers
--- cut the bytes and which bytes are left over does not matter.
+-- Two receivers of a link, in the same state, that run to the end over bytes that spell the same symbols give the same.
+-- How their readers cut the bytes and which bytes are left over does not matter
 abbrev pub OneStreamLaw : Type 0
 OneStreamLaw =
     (link : Link) (tuning : Tuning) (limit : ℕ) (old first second : State) (symbols : List Symbol) (before behind other_before other_behind : Streams) (well other_well : Bool)

@@ -1,4 +1,4 @@
--- The line of each code.
+-- The line of each code (own).
 use Rattle.std.specs.Prelude.{◌≡◌, ℕ, ◌+◌, ◌/◌, ◌%◌, nat_lt, Bool, true, false, List, [], ◌++◌, drop, codes, decimal, Option, Some, None, Result, Ok, if◌then◌else◌}
 use Rattle.std.specs.List.{flat_map, filter, range_with_len, Contains}
 use Rattle.s2_mode.specs.Limits.{most_modcod}
@@ -11,7 +11,7 @@ use Rattle.s2_modes.specs.Names.{name_of}
 use Rattle.s2_modes.specs.Rates.{symbol_millionths, stream_rate}
 use Rattle.s2_modes.specs.Ideal.{ideal_text}
 
--- a number of millionths, with six digits behind the point
+-- a number of millionths, with six digits after the point
 abbrev pub millionths_text : ℕ → List ℕ
 millionths_text n = decimal (n / 1000000) ++ (codes "." ++ drop 1 (decimal (1000000 + n % 1000000)))
 
@@ -27,7 +27,7 @@ frames_text plain piloted =
     codes " symbols " ++ decimal (symbols_in plain) ++ codes " " ++ decimal (symbols_in piloted)
     ++ codes " bits " ++ millionths_text (symbol_millionths plain) ++ codes " " ++ millionths_text (symbol_millionths piloted)
 
--- the bits of the transport stream in a second, where a symbol rate is told
+-- the bits of the transport stream per second, if a symbol rate is given
 unfoldable pub rates_of : Option ℕ → Mode → Mode → List ℕ
 rates_of None plain piloted = []
 rates_of (Some rate) plain piloted = codes " ts " ++ decimal (stream_rate rate plain) ++ codes " " ++ decimal (stream_rate rate piloted)
@@ -37,6 +37,7 @@ unfoldable pub line_text : Option ℕ → Mode → Mode → List ℕ
 line_text rate plain piloted =
     code_text plain ++ (frames_text plain piloted ++ (codes " esn0 " ++ ideal_text plain ++ (rates_of rate plain piloted ++ codes "\n")))
 
+-- the line of a MODCOD, for normal or short frames
 abbrev pub line_of : Option ℕ → ℕ → Bool → List ℕ
 line_of rate modcod short = line_text rate (mode_of modcod short false) (mode_of modcod short true)
 
@@ -56,10 +57,11 @@ AllCodesLaw = (m : Mode) → IsMode m → Contains (modcods_of m.short) m.modcod
 unfoldable pub lines_of : Option ℕ → Bool → List ℕ → List ℕ
 lines_of rate short codes = flat_map (λ modcod. line_of rate modcod short) codes
 
+-- the lines of all codes: those of normal frames first, then those of short ones
 unfoldable pub modes_text : Option ℕ → List ℕ
 modes_text rate = lines_of rate false (modcods_of false) ++ lines_of rate true (modcods_of true)
 
--- what was asked for
+-- the request was accepted, with this symbol rate or none
 abbrev pub IsAsked : Option ℕ → Result (Option ℕ) Fault → Type 0
 IsAsked rate said = said ≡ Ok rate
 

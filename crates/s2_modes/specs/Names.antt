@@ -1,4 +1,4 @@
--- How modes are named: by a constellation and a code rate, as in table 12 of EN 302 307-1.
+-- How modes are named: by a constellation and a code rate, as in table 12 of EN 302 307-1 (EN 302 307-1, table 12).
 use Rattle.std.specs.Prelude.{◌≡◌, ℕ, ◌⊎◌, false, List, ◌++◌, codes, if◌then◌else◌}
 use Rattle.s2_mode.specs.declared.modcods.Modulation.{Modulation}
 use Rattle.s2_mode.specs.declared.modcods.Modulation.TheVariants as modulations
@@ -14,7 +14,7 @@ constellation_text modulations.Psk8 cases.Small = codes "8psk"
 constellation_text modulations.Qpsk cases.Capital = codes "QPSK"
 constellation_text modulations.Psk8 cases.Capital = codes "8PSK"
 
--- a constellation and the code rate behind it
+-- a constellation, then the code rate
 abbrev pub name_of : Mode → Case → List ℕ
 name_of m letters = constellation_text (modulation_of m) letters ++ code_rate_text (rate_of m)
 
@@ -23,9 +23,11 @@ abbrev pub mode_words : Mode → List ℕ
 mode_words m =
     constellation_text (modulation_of m) cases.Capital ++ (codes " " ++ (code_rate_text (rate_of m) ++ (if m.short then codes ", short" else codes ", normal")))
 
+-- the text is a mode's name in small letters or in capitals: `qpsk3/4`, `QPSK3/4`
 abbrev pub IsNameOf : Mode → List ℕ → Type 0
 IsNameOf m text = (text ≡ name_of m cases.Small) ⊎ (text ≡ name_of m cases.Capital)
 
+-- the text is the name of some mode
 abbrev pub IsName : List ℕ → Type 0
 IsName text = (modcod : ℕ) × IsMode (mode_of modcod false false) × IsNameOf (mode_of modcod false false) text
 

@@ -1,9 +1,9 @@
--- What a mode carries.
+-- What a mode carries (own).
 use Rattle.std.specs.Prelude.{◌≡◌, ℕ, ◌+◌, ◌-◌, ◌*◌, ◌/◌, ◌≤◌}
 use Rattle.s2_mode.specs.Mode.{Mode, kbch_of, symbols_in}
 use Rattle.s2_modes.specs.declared.rate.TheConstants.{MOST_RATE}
 
--- the bits of a transport stream that a frame carries: those of its data field, behind the header of 80 bits
+-- the bits of a transport stream in a frame: those of its data field, which follows the header of 80 bits
 abbrev pub stream_bits : Mode → ℕ
 stream_bits m = kbch_of m - 80
 
@@ -19,11 +19,12 @@ symbol_millionths m = millionths (stream_bits m) (symbols_in m)
 abbrev pub most_rate : ℕ
 most_rate = 1000000000
 
+-- a symbol rate: 1 to `most_rate` symbols per second
 pub record IsRate (rate : ℕ) : Type 0 where
   pub some : 1 ≤ rate
   pub most : rate ≤ most_rate
 
--- the whole bits of the transport stream in a second, at so many symbols a second
+-- the whole bits of the transport stream per second, at a symbol rate
 abbrev pub stream_rate : ℕ → Mode → ℕ
 stream_rate rate m = rate * stream_bits m / symbols_in m
 

@@ -5,11 +5,11 @@ use Rattle.std.specs.Prelude.{ℕ}
 abbrev pub most_wrong : ℕ
 most_wrong = 12
 
--- own: the largest of these that may be allowed right behind a frame
+-- own: the largest number of wrong bits that may be allowed right after a frame
 abbrev pub most_lock : ℕ
 most_lock = 40
 
--- the symbols of 16 slots, behind which a pilot block stands
+-- the symbols of 16 slots; a pilot block follows them
 abbrev pub sixteen_slots : ℕ
 sixteen_slots = 1440
 

@@ -1,4 +1,5 @@
--- Dummy frames (EN 302 307-1, 5.5.1), which carry nothing: a header with MODCOD 0 and 36 slots of the carrier, all but the header turned, without pilot blocks. Own: the header has TYPE 0.
+-- Dummy frames, which carry nothing: a header with MODCOD 0 and 36 slots of the carrier, without pilot blocks (EN 302
+-- 307-1, 5.5.1). All but the header is rotated. Own: the header has TYPE 0.
 use Rattle.std.specs.Prelude.{ℕ, ◌-◌, false, List, pos, map, nat_lt, if◌then◌else◌}
 use Rattle.std.specs.List.{range_with_len}
 use Rattle.s2_mode.specs.declared.symbols.Symbol.{Symbol}
@@ -13,7 +14,7 @@ use Rattle.s2_plframe.specs.Header.{header_symbol, dummy_mode}
 abbrev pub carrier : Symbol
 carrier = symbol (pos diagonal) (pos diagonal)
 
--- symbol i of a dummy frame, under a scrambling number
+-- symbol i of a dummy frame: the header with MODCOD 0 and TYPE 0, then 36 slots of (700, 700), rotated
 abbrev pub dummy_symbol : ℕ → ℕ → Symbol
 dummy_symbol number i =
     if nat_lt i header_symbols

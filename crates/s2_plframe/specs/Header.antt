@@ -8,8 +8,8 @@ use Rattle.s2_mode.specs.Mode.{Mode, mode_of}
 use Rattle.s2_bits.specs.Bits.{xor, bit_of_number}
 use Rattle.s2_map.specs.Constants.{diagonal}
 
--- a header says a MODCOD and a TYPE, whose upper bit is one where frames are short, and the lower where they have pilots;
--- dummy frames have MODCOD 0, which is no mode, and are known with any TYPE
+-- A header has a MODCOD and a TYPE. TYPE's upper bit is one for short frames, its lower bit for pilots. Dummy frames
+-- have MODCOD 0, which is no mode, and any TYPE
 abbrev pub dummy_mode : Bool → Bool → Mode
 dummy_mode short pilots = mode_of 0 short pilots
 
@@ -30,7 +30,8 @@ sum_of_rows m (suc r) k = xor (sum_of_rows m r k) (chosen m r && bit_of_number 3
 abbrev pub code_bit : Mode → ℕ → Bool
 code_bit m j = xor (sum_of_rows m 6 (j / 2)) (if j % 2 == 1 then m.pilots else false)
 
--- the mark, and the code, which is scrambled
+-- a header's bit: the 26 bits of the start of frame, 18D2E82 hexadecimal, then the 64 bits of MODCOD and TYPE,
+-- scrambled with 719D83C953422DFA
 abbrev pub header_bit : Mode → ℕ → Bool
 header_bit m k = if nat_lt k 26 then bit_of_number 26 0x18D2E82 k else xor (code_bit m (k - 26)) (bit_of_number 64 0x719D83C953422DFA (k - 26))
 
@@ -41,6 +42,7 @@ header_point i bit =
     then (if bit then symbol (neg_ℤ (pos diagonal)) (neg_ℤ (pos diagonal)) else symbol (pos diagonal) (pos diagonal))
     else (if bit then symbol (pos diagonal) (neg_ℤ (pos diagonal)) else symbol (neg_ℤ (pos diagonal)) (pos diagonal))
 
+-- symbol i of a mode's header
 abbrev pub header_symbol : Mode → ℕ → Symbol
 header_symbol m i = header_point i (header_bit m i)
 

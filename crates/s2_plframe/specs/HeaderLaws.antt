@@ -1,4 +1,4 @@
--- Laws of frames, of the header test and of the search.
+-- Laws of frames, of the header test and of the search (EN 302 307-1, 5.5).
 use Rattle.std.specs.Prelude.{drop, length, Bool, ◌+◌, ◌-◌, ◌*◌, ◌≡◌, ◌≤◌, ℕ, zero, suc, true, false, List, [], ◌∷◌, ◌++◌, map, take}
 use Rattle.s2_mode.specs.declared.symbols.Symbol.{Symbol}
 use Rattle.s2_mode.specs.Limits.{header_symbols}
@@ -16,6 +16,7 @@ pub record HoldsFrame (m : Mode) (number : ℕ) (payload frame : List Symbol) : 
   pub header : take header_symbols frame ≡ header_of m
   pub payload_again : received_payload m number frame ≡ payload
 
+-- a frame begins with its mode's header, and gives its payload back if no component is -32768
 abbrev pub TakenOutLaw : Type 0
 TakenOutLaw = (m : Mode) (number : ℕ) (payload : List Symbol) → IsMode m → length payload ≡ 90 * slots_of m → AllTurnBack payload
     → HoldsFrame m number payload (frame_symbols m number payload)
@@ -49,11 +50,11 @@ differences a b (suc n) = differences a b n + number (xor (a n) (b n))
 abbrev pub DummiesApartLaw : Type 0
 DummiesApartLaw = (m : Mode) (short pilots : Bool) → IsMode m → 32 ≤ differences (header_bit m) (header_bit (dummy_mode short pilots)) header_symbols
 
--- with a lock of 12 the test right behind a frame is the one elsewhere
+-- with a lock of 12 the test right after a frame is the test elsewhere
 abbrev pub BehindLaw : Type 0
 BehindLaw = (m : Mode) (window : List Decision) → IsMode m → length window ≡ header_symbols → found_behind m most_wrong window ≡ found m window
 
--- what is found elsewhere is found right behind a frame as well
+-- a header that is found elsewhere is found right after a frame too
 abbrev pub StillFoundLaw : Type 0
 StillFoundLaw = (m : Mode) (lock : ℕ) (window : List Decision) → IsMode m → most_wrong ≤ lock → length window ≡ header_symbols
     → (found m window ≡ founds.Coded → found_behind m lock window ≡ founds.Coded) × (found m window ≡ founds.Dummy → found_behind m lock window ≡ founds.Dummy)

@@ -1,4 +1,5 @@
--- What only the clauses of the code itself speak of: bits of headers in numbers, whose lowest digit is the last one's, and places counted by blocks.
+-- What only the clauses of the code itself speak of (own): bits of headers in numbers, whose lowest digit is the last
+-- one's, and places counted by blocks..
 use Rattle.std.specs.Prelude.{ℕ, ◌+◌, ◌-◌, ◌*◌, ◌/◌, ◌%◌, ◌^◌, ◌≡◌, ◌<◌, ◌≤◌, ◌==◌, ◌||◌, min, Bool, true, false, List, map, nat_lt, nat_le, if◌then◌else◌}
 use Rattle.std.specs.List.{range_with_len}
 use Rattle.std.specs.Int.{bit_at as digit}
@@ -12,14 +13,15 @@ use Rattle.s2_plframe.specs.Search.{Decision, decided}
 use Rattle.s2_plframe.specs.declared.receive.found.Found.{Found}
 use Rattle.s2_plframe.specs.declared.receive.found.Found.TheVariants as founds
 
--- the place of symbol s where so many pilot blocks stand among the slots
+-- the place of symbol s with n pilot blocks among the slots
 abbrev pub place_behind : ℕ → ℕ → ℕ
 place_behind blocks s = if nat_lt s (sixteen_slots * blocks) then spaced_slots * (s / sixteen_slots) + s % sixteen_slots else s + pilot_block * blocks
 
--- what the symbol says that came so many before the last
+-- what the symbol n before the last one says
 abbrev pub held : ℕ → ℕ → ℕ → Decision
 held odd even j = record { odd = digit odd j == 1; even = digit even j == 1 }
 
+-- the decisions that two numbers hold, the latest last
 abbrev pub held_list : ℕ → ℕ → ℕ → List Decision
 held_list odd even count = map (λ k. held odd even (count - 1 - k)) (range_with_len 0 count)
 
@@ -45,7 +47,7 @@ abbrev pub found_by : ℕ → ℕ → ℕ → ℕ → ℕ → ℕ → Found
 found_by coded dummy dummy_pilots dummy_short dummy_both window =
     if is_near coded window then founds.Coded else (if is_dummy dummy dummy_pilots dummy_short dummy_both window then founds.Dummy else founds.Nothing)
 
--- the test right behind a frame
+-- the test right after a frame
 abbrev pub wrong_in : ℕ → ℕ → ℕ
 wrong_in header window = count_ones (bit_xor header window)
 
@@ -64,7 +66,7 @@ pub record AreHeaders (m : Mode) (coded dummy dummy_pilots dummy_short dummy_bot
   pub dummy_short_is : IsHeader (header_bit (dummy_mode true false)) dummy_short
   pub dummy_both_is : IsHeader (header_bit (dummy_mode true true)) dummy_both
 
--- what holds of a search's fields
+-- the invariant of a search's fields
 pub record IsSearch (m : Mode) (coded dummy dummy_pilots dummy_short dummy_both count : ℕ) : Type 0 where
   pub headers : AreHeaders m coded dummy dummy_pilots dummy_short dummy_both
   pub few : count ≤ header_symbols

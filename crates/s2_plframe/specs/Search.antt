@@ -14,7 +14,8 @@ pub record Decision : Type 0 where
   pub odd : Bool
   pub even : Bool
 
--- in the first, third and so on, where a zero is (A, A), and in the others, where it is (-A, A)
+-- the two decisions on a symbol: as the first, third and so on of a header, with a zero at (A, A); as one of the
+-- others, with a zero at (-A, A)
 abbrev pub decision : Symbol → Decision
 decision s = record { odd = int_lt (s.i +ℤ s.q) (pos 0); even = int_lt (s.q -ℤ s.i) (pos 0) }
 
@@ -39,7 +40,8 @@ abbrev pub passes_dummy : List Decision → Bool
 passes_dummy window =
     passes (header_bit (dummy_mode false false)) window || (passes (header_bit (dummy_mode false true)) window || (passes (header_bit (dummy_mode true false)) window || passes (header_bit (dummy_mode true true)) window))
 
--- what the last 90 symbols are
+-- what the last 90 symbols are: Coded if they pass the mode's header, else Dummy if they pass as a dummy header, else
+-- Nothing; Nothing for fewer symbols
 abbrev pub found : Mode → List Decision → Found
 found m window =
     if nat_lt (length window) header_symbols
@@ -56,15 +58,15 @@ wrong_bits_dummy window =
     min (min (wrong_bits (header_bit (dummy_mode false false)) window) (wrong_bits (header_bit (dummy_mode false true)) window))
     (min (wrong_bits (header_bit (dummy_mode true false)) window) (wrong_bits (header_bit (dummy_mode true true)) window))
 
--- What 90 symbols right behind a frame are: of the headers the one from which the fewest bits differ passes, where these are at most so
--- many; that of the mode where as many differ from one of dummy frames.
+-- What 90 symbols right after a frame are. The header from which the fewest bits differ passes, if these are at most as
+-- many as the lock says; on a tie the mode's wins
 abbrev pub found_behind : Mode → ℕ → List Decision → Found
 found_behind m lock window =
     if nat_le (wrong_bits (header_bit m) window) (wrong_bits_dummy window)
     then (if nat_le (wrong_bits (header_bit m) window) lock then founds.Coded else founds.Nothing)
     else (if nat_le (wrong_bits_dummy window) lock then founds.Dummy else founds.Nothing)
 
--- how many bits of a header may be wrong right behind a frame
+-- the number of wrong bits that a header may have right after a frame: 12 to 40
 abbrev pub IsLock : ℕ → Type 0
 IsLock lock = (most_wrong ≤ lock) × (lock ≤ most_lock)
 
@@ -77,5 +79,6 @@ pub record Search : Type 0 where
   pub mode : Mode
   pub seen : List Decision
 
+-- a search of a mode that has seen these decisions
 abbrev pub search_of : Mode → List Decision → Search
 search_of mode seen = record { mode = mode; seen = seen }

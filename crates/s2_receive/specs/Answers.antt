@@ -1,4 +1,4 @@
--- What a receiver's calls answer, by its rules and from where it stood to where it stands.
+-- The results of a receiver's calls, by its rules and its states before and after (own).
 use Rattle.std.specs.Prelude.{◌≡◌, ◌≢◌, ◌↔◌, ◌<◌, ◌≤◌, nat_eq, ℕ, List, [], ◌∷◌, length, Option, Some, None, Result, Ok, Err, IsErrOf, ⊤}
 use Rattle.std.specs.Io.KnownBytes.{Consumes, IsAtEnd}
 use Rattle.s2_mode.specs.Streams.{Streams, OnlyFailed, streams_by}
@@ -19,24 +19,25 @@ use Rattle.s2_receive.specs.declared.report.Step.{Step}
 use Rattle.s2_receive.specs.declared.report.Step.TheVariants as steps
 use Rattle.s2_receive.specs.declared.report.Totals.{Totals}
 
--- this holds of the ends of a reader and two writers, before and behind, each by its bytes and its count
+-- this holds of the ends of a reader and two writers, before and after, each by its bytes and its count
 abbrev pub Between : {R P W T : Type 0} → ((before behind : Streams) → T → Type 0) → (R → Option (List ℕ)) → (R → ℕ) → (P → Option (List ℕ)) → (P → ℕ) → (W → Option (List ℕ)) → (W → ℕ) → R → P → W → R → P → W → T → Type 0
 Between holds taken reads given writes out prints r p w r' p' w' =
     holds (streams_by taken reads given writes out prints r p w) (streams_by taken reads given writes out prints r' p' w')
 
--- what stands of bytes that are read and of two writers, each by its bytes and its count
+-- the bytes and counts of a reader and of two writers
 abbrev pub bytes_by : {P W : Type 0} → (P → Option (List ℕ)) → (P → ℕ) → (W → Option (List ℕ)) → (W → ℕ) → List ℕ → P → W → Streams
 bytes_by given writes out prints = streams_by (λ b. Some b) (λ b. 0) given writes out prints
 
 -- ---- steps
 
--- what a receiver goes by, where it stands, what it decided last, and the packets of its last step
+-- a receiver's rules, its state, and its last decision
 pub record Seen : Type 0 where
   pub rules : Rules
   pub state : State
   pub last : Decision
   pub packets : List ℕ
 
+-- what is seen of a receiver: its rules, its state, and its last decision
 abbrev pub seen_by : {D : Type 0} → (D → List Symbol → Decision) → (D → Decision) → Receiver D → Seen
 seen_by decide last r = record { rules = rules_of decide r; state = r.state; last = last r.decider; packets = r.packets }
 
@@ -52,7 +53,7 @@ abbrev pub Goes : (old new : Seen) → List ℕ → Option Step → Type 0
 Goes old new bytes (Some step) = Steps old.rules old.state new.state (symbols_of bytes) (nat_eq (length bytes) (asked old.rules old.state)) new.last new.packets step
 Goes old new bytes None = Waits old.rules old.state new.state (symbols_of bytes) (nat_eq (length bytes) (asked old.rules old.state)) × (new.packets ≡ old.packets)
 
--- where no frame is met, what was decided last stays: that of the frame before
+-- if the result is no frame, the last decision is unchanged
 abbrev pub KeepsLast : Option Step → (old new : Decision) → Type 0
 KeepsLast (Some (steps.Frame report)) old new = ⊤
 KeepsLast answer old new = new ≡ old
@@ -106,7 +107,7 @@ KeepsDecision (Ok (steps.Frame report)) old new = ⊤
 KeepsDecision (Err faults.Write) old new = ⊤
 KeepsDecision answer old new = new ≡ old
 
--- only what failed was counted: a read where that is the answer, a write where that is
+-- only failed calls were counted: a read or a write, if that is the result
 abbrev pub OnlyFaults : {T : Type 0} → Result T Fault → (before behind : Streams) → Type 0
 OnlyFaults result = OnlyFailed (result ≡ Err faults.Read) (result ≡ Err faults.Write)
 
@@ -120,15 +121,16 @@ pub record NextAnswers (old new : Seen) (before behind : Streams) (result : Resu
   pub failed : IsErrOf result faults.Failed ↔ (old.state.phase ≡ phases.Failed)
   pub counts : OnlyFaults result before behind
 
--- from one receiver, and what is read and written, to the other
+-- what both halves of a step return, read and write, between two receivers and the ends of their streams
 abbrev pub StepsBy :
     {V R P W : Type 0} → (V → Seen) → (R → Option (List ℕ)) → (R → ℕ) → (P → Option (List ℕ)) → (P → ℕ) → (W → Option (List ℕ)) → (W → ℕ) → V → R → P → W → V → R → P → W → Result Step Fault → Type 0
 StepsBy see taken reads given writes out prints old r p w new r' p' w' = Between (NextAnswers (see old) (see new)) taken reads given writes out prints r p w r' p' w'
 
 -- ---- whole runs
 
--- All was met and written to the end, and the totals, whether it was well and how many symbols were taken are told; or what was met before
--- a read that failed or the limit is written; or that before a write that failed, and a part of the next thing.
+-- All was met and written to the end, and the result has the totals, whether all was well, and how many symbols were
+-- taken. Or all that was met before a failed read or the limit is written. Or all that was met before a failed write is
+-- written, and a part of the next thing
 abbrev pub RunAnswers : Rules → (old new : State) → (before behind : Streams) → Result Received StreamFault → Type 0
 RunAnswers rules old new before behind (Ok received) =
     RunsTo rules old new before behind received.well × (received.totals ≡ new.standing.totals) × (received.symbols ≡ taken new)

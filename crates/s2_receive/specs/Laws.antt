@@ -61,7 +61,8 @@ piece_symbols (dummy symbols) = symbols
 abbrev pub stream_symbols : List Piece → List Symbol
 stream_symbols pieces = flat_map piece_symbols pieces
 
--- symbols of a frame's size, whose header is found there, right after a frame or not, and which deliver this header and this data field
+-- symbols of a frame's size, whose header is found there, right after a frame or not, and which deliver this header and
+-- this data field
 abbrev pub IsReceived : Rules → Bool → Header → List ℕ → List Symbol → Type 0
 IsReceived rules behind header field symbols =
     (length symbols ≡ rules.size) × (rules.finds behind (take header_symbols symbols) ≡ founds.Coded) × ((rules.decide symbols).delivered ≡ Some (header, field))
@@ -70,8 +71,8 @@ IsReceived rules behind header field symbols =
 abbrev pub IsDummy : (Bool → List Symbol → Found) → Bool → List Symbol → Type 0
 IsDummy finds behind symbols = (length symbols ≡ dummy_symbols) × (finds behind (take header_symbols symbols) ≡ founds.Dummy)
 
--- the coded frames of consecutive data fields, from a byte of the stream on, with dummy frames among them; each but the first is right
--- after a frame
+-- the coded frames of consecutive data fields, from a byte of the stream on, with dummy frames among them; each but the
+-- first is right after a frame
 abbrev pub AreReceived : Rules → ℕ → Bool → ℕ → List Piece → List (List ℕ) → Type 0
 AreReceived rules roll_off behind at [] [] = ⊤
 AreReceived rules roll_off behind at [] (field ∷ fields) = ⊥
@@ -90,8 +91,8 @@ frames_at size at (dummy symbols ∷ pieces) = frames_at size (at + dummy_symbol
 abbrev pub PassedNone : Totals → Type 0
 PassedNone t = (t.passed ≡ 0) × (t.places ≡ 0) × (t.first ≡ 0)
 
--- Coded frames received as sent, the first of a stream, are met as exactly these, and no packet is torn. The packets written then are
--- those whose closing CRC-8 is in the fields of these frames; all packets if these are all fields.
+-- Coded frames received as sent, the first of a stream, are met as exactly these, and no packet is torn. The packets
+-- written then are those whose closing CRC-8 is in the fields of these frames; all packets if these are all fields
 pub record Gives (rules : Rules) (packets fields later : List (List ℕ)) (pieces : List Piece) (rest : List Symbol) : Type 0 where
   pub met : met_from rules.finds rules.size 0 0 false nothing_over (stream_symbols pieces ++ rest) ≡ frames_at rules.size 0 pieces ++ met_from rules.finds rules.size (length (stream_symbols pieces)) 0 (nat_lt 0 (length (stream_symbols pieces))) nothing_over rest
   pub written : all_packets rules at_start (frames_at rules.size 0 pieces) ≡ joined (take (closed_in (length (joined fields))) packets)
@@ -104,8 +105,8 @@ pub record Gives (rules : Rules) (packets fields later : List (List ℕ)) (piece
   pub over : PassedNone (after_all rules at_start (frames_at rules.size 0 pieces)).totals
   pub all : later ≡ [] → take (closed_in (length (joined fields))) packets ≡ packets
 
--- Coded frames received as they were sent, the first of a data stream, are met as these. The packets whose closing CRC-8 is in their
--- fields are written.
+-- Coded frames received as they were sent, the first of a data stream, are met as these. The packets whose closing
+-- CRC-8 is in their fields are written
 abbrev pub ReceptionLaw : Type 0
 ReceptionLaw =
     (rules : Rules) (roll_off size : ℕ) (packets fields later : List (List ℕ)) (pieces : List Piece) (rest : List Symbol)
@@ -117,8 +118,8 @@ abbrev pub Spells : Option (List ℕ) → List Symbol → Type 0
 Spells None symbols = ⊥
 Spells (Some bytes) symbols = symbols_of bytes ≡ symbols
 
--- What a receiver wrote when it had met the first coded frames of a known stream, received as sent: the packets whose closing CRC-8 is in
--- the fields of these frames, and nothing else
+-- What a receiver wrote when it had met the first coded frames of a known stream, received as sent: the packets whose
+-- closing CRC-8 is in the fields of these frames, and nothing else
 abbrev pub FrontLaw : Type 0
 FrontLaw =
     (rules : Rules) (roll_off size : ℕ) (packets fields later : List (List ℕ)) (pieces : List Piece) (rest : List Symbol)
@@ -136,9 +137,10 @@ behind_at behind n = behind && nat_eq n 0
 abbrev pub NoneBegins : (Bool → List Symbol → Found) → Bool → ℕ → List Symbol → Type 0
 NoneBegins finds behind n symbols = (i : ℕ) → i < n → begins (finds (behind_at behind i)) (drop i symbols) ≡ founds.Nothing
 
--- The search in its own words. If no header begins at the first n symbols and a coded frame's begins at the next, the next frame is
--- there. It has its symbols, and the search continues after them, or it is cut. If a dummy frame's header begins there, the search
--- continues after its symbols, or the end comes if it lacks some. If no header begins anywhere, the end comes.
+-- The search in its own words. If no header begins at the first n symbols and a coded frame's begins at the next, the
+-- next frame is there. It has its symbols, and the search continues after them, or it is cut. If a dummy frame's header
+-- begins there, the search continues after its symbols, or the end comes if it lacks some. If no header begins
+-- anywhere, the end comes
 pub record Searches (finds : Bool → List Symbol → Found) (size at : ℕ) (behind : Bool) (over : Stretch) (symbols : List Symbol) : Type 0 where
   pub found : (n : ℕ) → n + size ≤ length symbols → NoneBegins finds behind n symbols → begins (finds (behind_at behind n)) (drop n symbols) ≡ founds.Coded
       → met_from finds size at 0 behind over symbols ≡ frame (at + n) (passed over at n) (take size (drop n symbols)) ∷ met_from finds size (at + n + size) 0 true nothing_over (drop (n + size) symbols)
@@ -162,8 +164,8 @@ pub record HasGiven (rules : Rules) (old new : State) (before behind : Streams) 
   pub packets : Appends before.given behind.given (all_packets rules old.standing met)
   pub lines : Appends before.out behind.out (all_lines rules old.standing met)
 
--- Two runs from one state to the end, over bytes that spell the same symbols, met the same. So they wrote the same packets and lines and
--- have the same totals. How a reader cuts the bytes changes nothing, nor do left-over bytes.
+-- Two runs from one state to the end, over bytes that spell the same symbols, met the same. So they wrote the same
+-- packets and lines and have the same totals. How a reader cuts the bytes changes nothing, nor do left-over bytes
 abbrev pub SameRunLaw : Type 0
 SameRunLaw =
     (rules : Rules) (old first second : State) (symbols : List Symbol) (before behind other_before other_behind : Streams)

@@ -1,4 +1,4 @@
--- What a receiver does with what it meets.
+-- What a receiver does with what it meets (own).
 use Rattle.std.specs.Prelude.{◌≡◌, ◌≢◌, ℕ, ℤ, ◌+◌, ◌-◌, ◌*◌, ◌/◌, ◌<◌, ◌≤◌, Bool, true, false, ◌&&◌, nat_eq, nat_lt, if◌then◌else◌, List, [], ◌∷◌, ◌++◌, length, Option, Some, None, Result, Ok, Err, ⊤}
 use Rattle.std.specs.List.{flat_map}
 use Rattle.std.specs.Io.KnownBytes.{Appends, Consumes}
@@ -31,8 +31,8 @@ use Rattle.s2_receive.specs.declared.report.Fault.TheVariants as faults
 use Rattle.s2_receive.specs.declared.report.Phase.{Phase}
 use Rattle.s2_receive.specs.declared.report.Phase.TheVariants as phases
 
--- The decision on a frame's symbols: soft values, decided bits, verdict, certificate, message and outcome. If the message's header is
--- accepted, also the header and the data field.
+-- The decision on a frame's symbols: soft values, decided bits, verdict, certificate, message and outcome. If the
+-- message's header is accepted, also the header and the data field
 pub record Decision : Type 0 where
   pub soft : List ℤ
   pub bits : List Bool
@@ -47,7 +47,8 @@ abbrev pub delivery : Option (Header × List ℕ) → Event
 delivery (Some pair) = field pair.0 pair.1
 delivery None = gap
 
--- what a receiver goes by: what headers are found as, the size of a frame, the decision on a frame, and the limit of symbols
+-- what a receiver goes by: what headers are found as, the size of a frame, the decision on a frame, and the limit of
+-- symbols
 pub record Rules : Type 0 where
   -- what a header is found as, right after a frame (`true`) and elsewhere
   pub finds : Bool → List Symbol → Found
@@ -158,18 +159,20 @@ abbrev pub is_sure : Outcome → Verdict → Bool
 is_sure (outcomes.Delivered fixed) verdict = is_certified verdict
 is_sure outcome verdict = false
 
+-- a frame is well if it was delivered with certified bits; the end is well, a cut frame is not
 abbrev pub is_well : Step → Bool
 is_well (steps.Frame report) = is_sure report.outcome report.verdict
 is_well (steps.Cut at count) = false
 is_well steps.End = true
 
+-- all that was met is well
 abbrev pub all_well : Rules → Standing → List Met → Bool
 all_well rules s [] = true
 all_well rules s (met ∷ later) = is_well (step_of rules s met) && all_well rules (after rules s met) later
 
 -- ---- a receiver between two calls
 
--- what it does next, what it holds of the stream, and what stands
+-- a receiver between two calls: its phase, how many symbols it took, and its totals
 pub record State : Type 0 where
   pub phase : Phase
   pub window : Window
@@ -179,8 +182,7 @@ pub record State : Type 0 where
 abbrev pub taken : State → ℕ
 taken s = reached s.window
 
--- A receiver: the mode of its frames, how many bits of a header may be wrong right after a frame, and what decides its frames. It has how many
--- symbols it takes at most, its state, and the bytes of the packets that its last step gave.
+-- a receiver: the mode of its frames, its lock, its decider, its limit of symbols, and its state
 pub record Receiver (D : Type 0) : Type 0 where
   pub mode : Mode
   pub lock : ℕ
@@ -193,13 +195,15 @@ pub record Receiver (D : Type 0) : Type 0 where
 abbrev pub rules_of : {D : Type 0} → (D → List Symbol → Decision) → Receiver D → Rules
 rules_of decide r = record { finds = found_as r.mode r.lock; size = symbols_in r.mode; decide = decide r.decider; limit = r.limit }
 
+-- a receiver's state: its phase, how many symbols it took, the body that its joiner holds, and its totals
 abbrev pub state_of : Phase → Window → Option (List ℕ) → Totals → State
 state_of phase window held totals = record { phase = phase; window = window; standing = record { held = held; totals = totals } }
 
+-- the state of a new receiver
 abbrev pub begun : State
 begun = record { phase = phases.Searching; window = window_at 0 false; standing = at_start }
 
--- it can go on
+-- more can be met: not after the end or a fault, and not before the last thing met is delivered
 abbrev pub IsLive : Phase → Type 0
 IsLive phases.Searching = ⊤
 IsLive phases.Closing = ⊤
@@ -211,7 +215,7 @@ phase_after (frame at over symbols) = phases.Searching
 phase_after (cut at over count) = phases.Closing
 phase_after (ended over) = phases.Ended
 
--- the last step came to a frame, or none was taken yet: what was decided last is that frame's
+-- the last step came to a frame, met or delivered, or there was no step yet: the last decision is on that frame
 abbrev pub is_at_frame : Phase → Bool
 is_at_frame phases.Searching = true
 is_at_frame phase = false
@@ -230,6 +234,7 @@ left_by rules phases.Closing window coming = ended nothing_over ∷ []
 left_by rules phases.Ended window coming = []
 left_by rules phases.Failed window coming = []
 
+-- the things still to be met in known bytes; a receiver that searches is right after a frame if it took symbols
 abbrev pub met_left : Rules → State → List Symbol → List Met
 met_left rules s coming = left_by rules s.phase s.window coming
 
@@ -264,6 +269,7 @@ abbrev pub IsDecidedBy : (List Symbol → Decision) → Met → Decision → Typ
 IsDecidedBy decide (frame at over symbols) last = last ≡ decide symbols
 IsDecidedBy decide met last = ⊤
 
+-- if it was a frame, the last decision is on its symbols
 abbrev pub IsDecided : Rules → Met → Decision → Type 0
 IsDecided rules met last = IsDecidedBy rules.decide met last
 
@@ -334,7 +340,8 @@ pub record StopsShort (rules : Rules) (old : State) (reader_old reader_new : Opt
       → (reads_new ≡ reads_old) × Reaches rules.limit (taken old) reader_old reader_new × (length bytes ≡ 4 * (rules.limit - taken old))
       × EndsBehind rules.size rules.limit (left_in rules old reader_old)
 
--- the receiver was searching then, and counts as failed
+-- Nothing could be met, because a read failed or the limit of symbols was reached. The receiver was searching, and now
+-- counts as failed
 pub record Stops (rules : Rules) (old new : State) (reader_old reader_new : Option (List ℕ)) (reads_old reads_new : ℕ) : Type 0 where
   pub searching : old.phase ≡ phases.Searching
   pub failed : new.phase ≡ phases.Failed
@@ -372,7 +379,7 @@ pub record BreaksOff (rules : Rules) (old : State) (before behind : Streams) : T
   pub within : taken mid ≤ rules.limit
   pub part : FailsIn (packets_of rules old.standing met) (line_of rules old.standing met) before.given behind.given before.out behind.out
 
--- what a call answers where more could be met
+-- the result of a call if more could be met
 abbrev pub StepAnswers : Rules → State → State → (before behind : Streams) → Result Step Fault → Type 0
 StepAnswers rules old new before behind (Ok step) =
     (met : Met) × (step ≡ step_of rules old.standing met) × (new.phase ≡ phase_after met) × Went rules old new before behind (met ∷ [])
@@ -401,8 +408,8 @@ pub record RunsTo (rules : Rules) (old new : State) (before behind : Streams) (w
 abbrev pub MayStop : ℕ → ℕ → (before behind : Streams) → Type 0
 MayStop limit at before behind = behind.reads ≢ before.reads + 1 → (behind.reads ≡ before.reads) × Reaches limit at before.taken behind.taken
 
--- A run from one state to a failed read or the limit of symbols. All that was met before is written, and nothing else. No further frame
--- ends in the bytes that were read.
+-- A run from one state to a failed read or the limit of symbols. All that was met before is written, and nothing else.
+-- No further frame ends in the bytes that were read
 pub record StopsAfter (rules : Rules) (old new : State) (before behind : Streams) : Type 0 where
   pub met : List Met
   pub mid : State
@@ -414,7 +421,7 @@ pub record StopsAfter (rules : Rules) (old new : State) (before behind : Streams
   pub packets : behind.given ≡ between.given
   pub lines : behind.out ≡ between.out
 
--- A run from one state to a failed write. All that was met before is written, and a part of the next thing.
+-- A run from one state to a failed write. All that was met before is written, and a part of the next thing
 pub record BreaksAfter (rules : Rules) (old : State) (before behind : Streams) : Type 0 where
   pub met : List Met
   pub mid : State

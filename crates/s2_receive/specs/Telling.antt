@@ -1,4 +1,4 @@
--- What something met gives, how it is counted, and where a receiver stands behind it.
+-- What a thing met delivers, how it is counted, and the receiver's state after it (own).
 use Rattle.std.specs.Prelude.{◌≡◌, ℕ, ◌+◌, ◌≤◌, Bool, true, List, ◌∷◌, ◌++◌, length, Option, Some, None, ⊤}
 use Rattle.std.specs.List.{flat_map}
 use Rattle.s2_bbframe.specs.Limits.{most_field_bytes, packets_room}

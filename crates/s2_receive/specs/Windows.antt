@@ -6,8 +6,8 @@ use Rattle.s2_plframe.specs.HeaderLaws.{seen_of}
 use Rattle.s2_plframe.specs.Search.{Search, decision, found, found_behind}
 use Rattle.s2_plframe.specs.declared.receive.found.Found.{Found}
 
--- What 90 symbols are found as: the header of a coded frame of the mode, that of a dummy frame of any TYPE, or nothing. Right after a
--- frame the lock says how many bits of it may be wrong.
+-- What 90 symbols are found as: the header of a coded frame of the mode, that of a dummy frame of any TYPE, or nothing.
+-- Right after a frame the lock says how many bits of it may be wrong
 unfoldable pub found_as : Mode → ℕ → Bool → List Symbol → Found
 found_as m lock behind symbols = if behind then found_behind m lock (map decision symbols) else found m (map decision symbols)
 

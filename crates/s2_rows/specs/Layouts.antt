@@ -1,4 +1,4 @@
--- How a line may be laid out: what stands around its tokens, comments, and zeros before digits.
+-- Layouts of a line: separators around its tokens, comments, and zeros before digits (own).
 use Rattle.std.specs.Prelude.{◌≡◌, ℕ, ◌⊎◌, IsTrue, List, [], ◌∷◌, ◌++◌, replicate, decimal, ⊤}
 use Rattle.s2_rows.specs.Text.{is_space}
 
@@ -12,7 +12,7 @@ abbrev pub EndsToken : List ℕ → Type 0
 EndsToken [] = ⊤
 EndsToken (b ∷ bytes) = IsTrue (is_space b)
 
--- a line that says nothing: separators alone, or a comment behind them, which begins with #
+-- an ignored line: separators alone, or separators and a comment, which begins with #
 abbrev pub IsSilent : List ℕ → Type 0
 IsSilent line = AreSpaces line ⊎ ((gap : List ℕ) × (comment : List ℕ) × (line ≡ gap ++ 35 ∷ comment) × AreSpaces gap)
 

@@ -1,4 +1,4 @@
--- The limit of row files.
+-- The limit of row files (own).
 use Rattle.std.specs.Prelude.{◌≡◌, ℕ}
 use Rattle.s2_rows.specs.declared.limits.TheConstants.{MOST_ADDRESSES}
 

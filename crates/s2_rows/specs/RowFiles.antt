@@ -1,4 +1,4 @@
--- What a row file says, or its first fault.
+-- What a row file says, or its first fault (own).
 use Rattle.std.specs.Prelude.{◌≡◌, ℕ, ◌+◌, ◌-◌, ◌==◌, nat_lt, List, [], ◌∷◌, ◌++◌, length, Option, Some, None, Result, Ok, Err, ⊤, if◌then◌else◌}
 use Rattle.std.specs.List.{list_any}
 use Rattle.s2_mode.specs.Shape.{Shape, check_count}
@@ -34,7 +34,7 @@ row_from checks line (Ok row) (token ∷ tokens) = row_from checks line (with_to
 abbrev pub row_in : ℕ → ℕ → List (List ℕ) → Result (List ℕ) RowFault
 row_in checks line tokens = row_from checks line (Ok []) tokens
 
--- so many rows more, from these lines
+-- n more rows, from these lines
 unfoldable pub rows_of : ℕ → ℕ → ℕ → List (List ℕ) → Result (List (List ℕ)) RowFault
 rows_of checks left number [] = if left == 0 then Ok [] else Err faults.TooFewRows
 rows_of checks left number (line ∷ lines) =
@@ -42,11 +42,14 @@ rows_of checks left number (line ∷ lines) =
     else (if left == 0 then Err faults.TooManyRows
     else ok_cons (row_in checks number (tokens_of line)) (rows_of checks (left - 1) (number + 1) lines))
 
--- the rows of a text for a shape, or the first fault in reading order
+-- The rows of a text for a shape, or the first fault in reading order. Each line that is not ignored is the row of the
+-- next group. A 25th token is a row too long. A token has to be a number, then below n - k, then new in its row. One
+-- line more than there are groups is too many, before its tokens are read; the end with a group left is too few
 abbrev pub rows_of_text : List ℕ → Shape → Result (List (List ℕ)) RowFault
 rows_of_text text shape = rows_of (check_count shape) shape.groups 1 (lines_of text)
 
--- What was answered is what the text says. Storage is taken before the text is read, so where there is none nothing is said of the text.
+-- The result is what the text says. Memory is allocated before the text is read, so nothing is claimed of the text if
+-- there is none
 abbrev pub RowsAnswer : {V : Type 0} → (V → List (List ℕ)) → Result V RowFault → Result (List (List ℕ)) RowFault → Type 0
 RowsAnswer view (Ok v) said = said ≡ Ok (view v)
 RowsAnswer view (Err faults.NoMemory) said = ⊤

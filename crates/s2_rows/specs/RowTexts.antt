@@ -1,4 +1,4 @@
--- The text of rows, as it is written and as it may be laid out.
+-- The text of rows, as it is written and as it may be laid out (own).
 use Rattle.std.specs.Prelude.{◌≡◌, ℕ, ◌⊎◌, List, [], ◌∷◌, ◌++◌, Ok, codes, decimal, ⊤}
 use Rattle.std.specs.List.{flat_map}
 use Rattle.s2_rows.specs.Rows.{Rows, IsRows}
@@ -6,7 +6,7 @@ use Rattle.s2_rows.specs.RowFiles.{rows_of_text}
 use Rattle.s2_rows.specs.Layouts.{AreSpaces, EndsToken, IsSilent, digits_of}
 use Rattle.s2_rows.specs.Text.{lines_of}
 
--- after an address a space where another follows, else LF
+-- after an address: a space if another follows, else LF
 abbrev pub after_address : List ℕ → List ℕ
 after_address [] = codes "\n"
 after_address (x ∷ row) = codes " "
@@ -16,11 +16,11 @@ unfoldable pub row_text : List ℕ → List ℕ
 row_text [] = []
 row_text (x ∷ row) = decimal x ++ (after_address row ++ row_text row)
 
--- the rows, each on its line
+-- the rows, each on its line: decimal digits, one space between addresses, LF
 abbrev pub rows_text : List (List ℕ) → List ℕ
 rows_text rows = flat_map row_text rows
 
--- what is written is accepted, as the same rows
+-- written rows are accepted, as the same rows
 abbrev pub ReadBackLaw : Type 0
 ReadBackLaw = (r : Rows) → IsRows r → rows_of_text (rows_text r.rows) r.shape ≡ Ok r.rows
 

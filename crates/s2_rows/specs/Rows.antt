@@ -8,6 +8,7 @@ pub record Rows : Type 0 where
   pub shape : Shape
   pub rows : List (List ℕ)
 
+-- the rows of a shape and a list
 abbrev pub rows_value : Shape → List (List ℕ) → Rows
 rows_value shape rows = record { shape = shape; rows = rows }
 

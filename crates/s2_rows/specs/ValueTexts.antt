@@ -1,4 +1,4 @@
--- The text of values, as it may be laid out.
+-- The text of values, as it may be laid out (own).
 use Rattle.std.specs.Prelude.{◌≡◌, ℕ, ◌≤◌, ◌⊎◌, List, [], ◌∷◌, ◌++◌, length, ℤ, pos, neg_ℤ, Ok}
 use Rattle.s2_mode.specs.Limits.{most_soft}
 use Rattle.s2_rows.specs.Layouts.{AreSpaces, EndsToken, IsSilent, digits_of}
@@ -10,7 +10,7 @@ pub data IsWritten (token : List ℕ) (v : ℤ) : Type 0 where
   plain : (zeros n : ℕ) → n ≤ most_soft → token ≡ digits_of zeros n → v ≡ pos n → IsWritten token v
   minus : (zeros n : ℕ) → n ≤ most_soft → token ≡ 45 ∷ digits_of zeros n → v ≡ neg_ℤ (pos n) → IsWritten token v
 
--- a line with these values in their order, each written, some separators before, between and behind them
+-- a line with these values in their order, with separators before, between and after them
 abbrev pub IsLineWith : List ℕ → List ℤ → Type 0
 IsLineWith line [] = AreSpaces line
 IsLineWith line (v ∷ values) =

@@ -1,4 +1,4 @@
--- Numbers of quarters in the lanes of four symbols.
+-- Numbers of quarters in the lanes of four symbols (own).
 use Rattle.std.specs.Prelude.{ℕ, List, [], ◌∷◌}
 
 -- each of four numbers twice: once for each component of a symbol

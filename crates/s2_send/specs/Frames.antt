@@ -1,4 +1,4 @@
--- The frame of a header and its data field (EN 302 307-1, 5.2 to 5.5), and dummy frames behind it.
+-- The frame of a header and its data field, and dummy frames after it (EN 302 307-1, 5.2 to 5.5).
 use Rattle.std.specs.Prelude.{◌≡◌, ℕ, ◌-◌, ◌*◌, Bool, false, List, [], ◌++◌, length, replicate, if◌then◌else◌, Option, Result, OnOk, OnErr}
 use Rattle.std.specs.Io.KnownBytes.{Appends}
 use Rattle.s2_mode.specs.Mode.{Mode, kbch_of, k_of, n_of, shape_in, HasCodeSizes}
@@ -25,7 +25,7 @@ padded_bits size header field = bits_of_bytes (header ++ field) ++ replicate (si
 abbrev pub baseband_frame : Mode → Header → List ℕ → List Bool
 baseband_frame mode header field = scrambled (padded_bits (kbch_of mode) (header_bytes header) field)
 
--- the codeword of the BCH word of the baseband frame (5.3)
+-- the codeword that begins with the BCH word of the baseband frame; there is only one
 pub record IsCodewordFor (mode : Mode) (rows : Rows) (header : Header) (field : List ℕ) (codeword : List Bool) : Type 0 where
   pub bch_word : List Bool
   pub is_bch_word : IsBchWordOf mode (baseband_frame mode header field) bch_word
@@ -45,17 +45,18 @@ pub record IsFrameOf (link : Link) (header : Header) (field bytes : List ℕ) : 
 abbrev pub dummy_bytes : ℕ → List ℕ
 dummy_bytes number = bytes_of_symbols (dummy_frame number)
 
--- what is sent behind a frame: a dummy frame where one is due
+-- the bytes sent after a frame: a dummy frame if one is due
 abbrev pub sent_behind : Link → Bool → List ℕ
 sent_behind link due = if due then dummy_bytes link.setup.number else []
 
--- what is sent for a header and its data field, the unit of a run: their frame, and a dummy frame behind it where one is due
+-- the bytes sent for a header and its data field, the unit of a run: their frame, and the dummy frame after it if one
+-- is due
 pub record IsUnitOf (link : Link) (due : Bool) (header : Header) (field bytes : List ℕ) : Type 0 where
   pub frame : List ℕ
   pub is_frame : IsFrameOf link header field frame
   pub spelt : bytes ≡ frame ++ sent_behind link due
 
--- bytes of which this holds are written, or where a write fails a part of them
+-- bytes with this property are written, or a part of them if a write fails
 abbrev pub WritesSome : {T E : Type 0} → (List ℕ → Type 0) → (old new : Option (List ℕ)) → Result T E → Type 0
 WritesSome holds old new result = (bytes : List ℕ) × holds bytes × OnOk result (Appends old new bytes) × OnErr result (AppendsPart bytes old new)
 

@@ -1,4 +1,4 @@
--- What the packets, the setup and the address rows determine.
+-- What the packets, the setup and the address rows determine (EN 302 307-1, 5.1 to 5.5).
 use Rattle.std.specs.Prelude.{◌≡◌, ◌≢◌, ℕ, ◌+◌, ◌≤◌, ◌⊎◌, ◌↔◌, length, List, Option, Some, Result, Err}
 use Rattle.s2_mode.specs.Mode.{Mode}
 use Rattle.s2_bbframe.specs.DataStream.{field_bytes}
@@ -21,12 +21,12 @@ FrameLaw m =
     (link : Link) (header : Header) (field a b : List ℕ) → IsLinkOf m link → length field ≤ field_bytes m
     → IsFrameOf link header field a → IsFrameOf link header field b → a ≡ b
 
--- where a transmitter sends no dummy frames the unit of a header and its data field is their frame
+-- without dummy frames the unit of a header and its data field is their frame
 abbrev pub NoDummiesLaw : Type 0
 NoDummiesLaw =
     (link : Link) (number : ℕ) (header : Header) (field bytes : List ℕ) → IsUnitOf link (is_due 0 number) header field bytes ↔ IsFrameOf link header field bytes
 
--- a count of failed reads rose, or as many packets were read as a run takes
+-- the count of failed reads was incremented, or the limit of packets was reached
 abbrev pub ReadFails : ℕ → ℕ → ℕ → ℕ → Type 0
 ReadFails most old new packets = (new ≡ old + 1) ⊎ ((new ≡ old) × (packets ≡ most))
 

@@ -1,4 +1,4 @@
--- The limit of a run.
+-- The limit of a run (own).
 use Rattle.std.specs.Prelude.{◌≡◌, ◌^◌, ℕ}
 use Rattle.s2_send.specs.declared.sending.TheConstants.{MOST_PACKETS}
 

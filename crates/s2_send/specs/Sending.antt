@@ -12,15 +12,16 @@ use Rattle.s2_send.specs.declared.outcome.Counts.{Counts}
 use Rattle.s2_send.specs.declared.outcome.SendFault.{SendFault}
 use Rattle.s2_send.specs.declared.outcome.SendFault.TheVariants.{NotWholePacket, NoSync, Read, Write}
 
--- what stands in one list after another
+-- lists, one after another
 abbrev pub joined : List (List ℕ) → List ℕ
 joined lists = flat_map (λ list. list) lists
 
--- whether a dummy frame is due behind a run's frame of this number, counted from 1: behind every so many, or behind none where that is 0
+-- whether a dummy frame is due after the run's frame of this number, counted from 1: if the transmitter's number
+-- divides it, and never if that is 0
 abbrev pub is_due : ℕ → ℕ → Bool
 is_due every number = if every == 0 then false else number % every == 0
 
--- the units of consecutive data fields, the first of which has this number in the run and begins at this byte of the stream
+-- the units of consecutive data fields, by the number of the first one in the run and its first byte in the stream
 abbrev pub AreUnits : Transmitter → ℕ → ℕ → List (List ℕ) → List (List ℕ) → Type 0
 AreUnits t number at [] [] = ⊤
 AreUnits t number at [] (unit ∷ units) = ⊥
@@ -29,12 +30,12 @@ AreUnits t number at (field ∷ fields) (unit ∷ units) =
     IsUnitOf t.link (is_due t.dummy_every number) (header_at t.link.setup.roll_off at field) field unit
     × AreUnits t (number + 1) (at + length field) fields units
 
--- Where a run that cannot read stopped: within the next packet, or behind as many packets as it takes, where it reads no more.
+-- a run that cannot read stopped: within the next packet, or after its limit of packets
 abbrev pub StopsReading : ℕ → ℕ → List ℕ → Type 0
 StopsReading most packets rest = ((packets < most) × (length rest < packet_bytes)) ⊎ ((packets ≡ most) × (rest ≡ []))
 
--- By the answer, where a run takes at most so many packets: how many were accepted, what was read behind them, and which data fields have their units written
--- whole. All of them only where the reader ends behind a whole packet, else those that were full.
+-- By the result of a run: how many packets were accepted, which bytes were read after them, and which data fields have
+-- their units written whole. After `Ok` these are all fields, else the full ones
 abbrev pub Outcome : ℕ → ℕ → (ℕ → Type 0) → List (List ℕ) → List ℕ → List (List ℕ) → Result Counts SendFault → Type 0
 Outcome most size MayFail packets rest fields (Ok counts) =
     (length packets < most) × (rest ≡ []) × (fields ≡ fields_of size (stream_of packets))
@@ -48,14 +49,14 @@ Outcome most size MayFail packets rest fields (Err Read) =
     MayFail (length packets) × StopsReading most (length packets) rest × (fields ≡ full_fields size (stream_of packets))
 Outcome most size MayFail packets rest fields (Err Write) = (length packets ≤ most) × (rest ≡ [])
 
--- The reader is at its end where the answer rests on that.
+-- the reader is at its end if the result says so
 abbrev pub EndsThere : Result Counts SendFault → Option (List ℕ) → Type 0
 EndsThere (Ok counts) reader_new = IsAtEnd reader_new
 EndsThere (Err NotWholePacket) reader_new = IsAtEnd reader_new
 EndsThere (Err fault) reader_new = ⊤
 
--- The unit of the field behind these could not be written. It is the last full field of the packets' stream, or where the
--- reader has ended the last one of all. Of its unit a part was written, from the first byte on, and not all.
+-- The unit of the field after these could not be written. It is the last full field of the packets' stream, or the last
+-- one of all if the reader has ended. A part of its unit was written, from the first byte on, and not all
 pub record BreaksOff (t : Transmitter) (reader_new : Option (List ℕ)) (packets fields : List (List ℕ)) (begun : List ℕ) : Type 0 where
   pub field : List ℕ
   pub unit : List ℕ
@@ -65,19 +66,19 @@ pub record BreaksOff (t : Transmitter) (reader_new : Option (List ℕ)) (packets
   pub is_unit : IsUnitOf t.link (is_due t.dummy_every (length fields + 1)) (header_at t.link.setup.roll_off (length (joined fields)) field) field unit
   pub is_part : (k : ℕ) × (k < length unit) × (begun ≡ take k unit)
 
--- Behind the whole units nothing is written, or where a write failed the beginning of the next one.
+-- nothing is written after the whole units, or the beginning of the next one if a write failed
 abbrev pub Begins : Transmitter → Option (List ℕ) → List (List ℕ) → List (List ℕ) → List ℕ → Result Counts SendFault → Type 0
 Begins t reader_new packets fields begun (Err Write) = BreaksOff t reader_new packets fields begun
 Begins t reader_new packets fields begun result = begun ≡ []
 
--- A run of a transmitter accepted these packets, read the rest behind them and no more, and wrote the units of these data fields, and
--- behind them nothing but the beginning of a unit that failed. `MayFail` says of a number of packets that a read may fail behind them.
+-- A run of a transmitter accepted these packets, and read the rest after them and no more. It wrote the units of these
+-- data fields, and then only the beginning of a unit that failed. `MayFail` says after how many packets a read may fail
 pub record TransmitterRuns (t : Transmitter) (MayFail : ℕ → Type 0) (reader_old reader_new writer_old writer_new : Option (List ℕ)) (result : Result Counts SendFault) : Type 0 where
   pub packets : List (List ℕ)
   pub rest : List ℕ
   pub fields : List (List ℕ)
   pub units : List (List ℕ)
-  -- what was written behind the units
+  -- the bytes written after the units
   pub begun : List ℕ
   pub each_is_packet : All IsPacket packets
   pub read : Consumes reader_old reader_new (joined packets ++ rest)
@@ -87,8 +88,8 @@ pub record TransmitterRuns (t : Transmitter) (MayFail : ℕ → Type 0) (reader_
   pub begins : Begins t reader_new packets fields begun result
   pub written : Appends writer_old writer_new (joined units ++ begun)
 
--- The next packet was read, the first behind so many, and the slicer has it; or at the reader's end the slicer is closed, and no packet
--- was there. Where the packet is refused, or a read failed, its bytes were read.
+-- The next packet was read, and the slicer has it. Or at the reader's end the slicer is closed, and there was no
+-- packet. If the packet is refused, or a read failed, its bytes were read
 abbrev pub AcceptsNext : ℕ → Slicing → Slicing → Option (List ℕ) → Option (List ℕ) → Result Bool SendFault → Type 0
 AcceptsNext behind old new reader_old reader_new (Ok true) =
     (packet : List ℕ) × IsPacket packet × Consumes reader_old reader_new packet × (new ≡ after_packet packet old)
@@ -101,11 +102,11 @@ AcceptsNext behind old new reader_old reader_new (Err (NoSync packet)) =
 AcceptsNext behind old new reader_old reader_new (Err Read) = (rest : List ℕ) × (length rest < packet_bytes) × Consumes reader_old reader_new rest
 AcceptsNext behind old new reader_old reader_new (Err Write) = ⊥
 
--- the unit of the next data field, behind these fields
+-- the unit of the next data field after these fields
 abbrev pub IsNextUnit : Link → Bool → List (List ℕ) → Slicing → List ℕ → Type 0
 IsNextUnit link due fields s unit = IsUnitOf link due (header_at link.setup.roll_off (length (joined fields)) (next_field s)) (next_field s) unit
 
--- The next data field's unit is written exactly where a field can be taken.
+-- the next data field's unit is written exactly if a field can be taken
 abbrev pub SendsNext : Link → Bool → Slicing → Slicing → Option (List ℕ) → Option (List ℕ) → Bool → Type 0
 SendsNext link due old new writer_old writer_new true =
     IsReady old × (new ≡ after_field old)
@@ -113,7 +114,7 @@ SendsNext link due old new writer_old writer_new true =
     × ((unit : List ℕ) × IsNextUnit link due fields old unit × Appends writer_old writer_new unit))
 SendsNext link due old new writer_old writer_new false = (IsReady old → ⊥) × (new ≡ old) × (writer_new ≡ writer_old)
 
--- Where that fails, a field could be taken, and a part of its unit is written.
+-- if that fails, a field could be taken, and a part of its unit is written
 abbrev pub FailsToSend : Link → Bool → Slicing → Option (List ℕ) → Option (List ℕ) → Type 0
 FailsToSend link due old writer_old writer_new =
     IsReady old

@@ -1,4 +1,4 @@
--- A transmitter, and the answer to who asks for one.
+-- A transmitter, and the result of making one (own).
 use Rattle.std.specs.Prelude.{◌≡◌, ℕ, ◌≤◌, Result, Ok, Err}
 use Rattle.s2_rows.specs.Rows.{Rows}
 use Rattle.s2_scramble.specs.Gold.{most_number}
@@ -9,7 +9,7 @@ use Rattle.s2_link.specs.declared.fault.SetupFault.{SetupFault}
 use Rattle.s2_link.specs.declared.fault.SetupFault.TheVariants as faults
 use Rattle.s2_send.specs.Limits.{most_packets}
 
--- a transmitter: its link, how many packets a run takes at most, and behind every how many frames a run sends a dummy frame: 0 for none
+-- A transmitter: its link, the most packets of a run, and the number of frames between dummy frames, 0 for none
 pub record Transmitter : Type 0 where
   pub link : Link
   pub limit : ℕ

@@ -1,4 +1,4 @@
--- What a settler holds.
+-- What a settler holds (own).
 use Rattle.std.specs.Prelude.{◌≡◌, ℕ, ◌<◌, Bool, List, length, get_or, ℤ}
 use Rattle.s2_rows.specs.Rows.{Rows}
 use Rattle.s2_matrix.specs.Code.{Code, code_of}
@@ -18,14 +18,14 @@ pub record Settling : Type 0 where
 abbrev pub view_by : Settling → List ℤ → List Bool → View
 view_by s soft word = moved_view s.rows soft word s.moves
 
--- a move for each check, to one of its members, of less than 2^31, to place 0 where nothing is moved
+-- a move for each check, to one of its members, of less than 2^31, to place 0 if the amount is 0
 pub record AreMoves (code : Code) (ms : List Move) : Type 0 where
   pub long : length ms ≡ code.checks
   pub targets : AreTargets code ms
   pub fit : (j : ℕ) → (get_or ms j no_move).amount < 2147483648
   pub unmoved : (j : ℕ) → (get_or ms j no_move).amount ≡ 0 → (get_or ms j no_move).place ≡ 0
 
--- what holds of a settler's lists
+-- the invariant of a settler's lists
 pub record IsSettler (rows layered : Rows) (h : Held) (w : Waiting) (ms : List Move) (scratch : ℕ) : Type 0 where
   pub layers : layered ≡ rows
   pub fit : AreFit rows

@@ -1,4 +1,4 @@
--- What holds of a certificate that is settled, and that rows and lanes are checks and members.
+-- Laws of a settled certificate, and that rows and lanes are checks and members (own).
 use Rattle.std.specs.Prelude.{◌≡◌, ℕ, ◌≤◌, ◌<◌, Bool, All, List, ℤ, Some}
 use Rattle.s2_rows.specs.Rows.{Rows}
 use Rattle.s2_matrix.specs.Code.{code_of, IsCodeword}
@@ -18,7 +18,8 @@ abbrev pub SettledLaw : Type 0
 SettledLaw =
     (rows : Rows) (soft : List ℤ) (word : List Bool) (passes : ℕ) (view : View) → IsCodeword (code_of rows) word → settled rows soft word passes ≡ Some view → IsStrict rows view × (view.soft ≡ soft) × (view.bits ≡ word)
 
--- where rows and lanes show a state, and a check is served there, they then show the state in which it is, and it called as this says
+-- if rows and lanes show a state, then after a check is served there they show the state with that check served, and
+-- the calls are those of that state
 abbrev pub ServeLaw : Type 0
 ServeLaw =
     (rows : Rows) (j : ℕ) (h h' : Held) (waiting waiting' : List ℕ) (s : State) → AreFit rows → j < (code_of rows).checks → IsShown rows h s → IsServed rows j h h' waiting waiting'
@@ -29,7 +30,7 @@ abbrev pub StartLaw : Type 0
 StartLaw =
     (rows : Rows) (soft : List ℤ) (word : List Bool) → AreFit rows → All IsSoft soft → Shows rows (start rows soft word) (plain.start soft word) × IsWithin rows (plain.start soft word)
 
--- where rows and lanes show a state, they show its layer after their layer
+-- if rows and lanes show a state, they show its layer after their layer
 abbrev pub LayerLaw : Type 0
 LayerLaw =
     (rows : Rows) (reserve r : ℕ) (h : Held) (s : State) → AreFit rows → reserve ≤ first_reserve → r < rows.shape.q → IsWithin rows s → Shows rows h s

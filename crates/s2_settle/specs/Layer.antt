@@ -1,4 +1,4 @@
--- One layer: rests in rows, and for each check of each layer the entry of its target and its amount.
+-- One layer: rests in rows, and for each check of each layer the entry of its target and its amount (own).
 use Rattle.std.specs.Prelude.{◌≡◌, ℕ, ◌+◌, ◌*◌, ◌/◌, ◌%◌, ◌==◌, if◌then◌else◌, List, map, get_or, length}
 use Rattle.s2_mode.specs.Shape.{code_bits}
 use Rattle.s2_rows.specs.Rows.{Rows}
@@ -8,7 +8,8 @@ use Rattle.s2_minsum.specs.Layout.{entries_of, lacked_row}
 use Rattle.s2_settle.specs.Rests.{change, changed, gap, received}
 use Rattle.s2_settle.specs.Nodes.{first_of, second_of, least_at}
 
--- the rest of each place, and of each check, layer by layer, the entry of its target and its amount
+-- the rest of each place, as a word of 32 bits that is 2^31 higher; of each check, layer by layer, the entry of its
+-- target and its amount
 pub record Held : Type 0 where
   pub rests : List ℕ
   pub targets : List ℕ
@@ -32,7 +33,7 @@ abbrev pub gifts : Rows → ℕ → Held → ℕ → ℕ → ℕ
 gifts rows r h c e =
     received rows.shape.group (entries_of rows r) (lacked_row rows.shape r) h.rests (of_layer rows.shape.group r h.targets) (of_layer rows.shape.group r h.amounts) e c
 
--- to which entry the check in lane c moves, and how much
+-- the entry to which the check in lane c moves, and the amount
 abbrev pub new_target : Rows → ℕ → Held → ℕ → ℕ
 new_target rows r h c = least_at (gifts rows r h c) (length (entries_of rows r))
 
@@ -40,7 +41,7 @@ abbrev pub new_amount : Rows → ℕ → ℕ → Held → ℕ → ℕ
 new_amount rows reserve r h c =
     gap reserve (first_of (gifts rows r h c) (length (entries_of rows r))) (second_of (gifts rows r h c) (length (entries_of rows r)))
 
--- by how much the rest of its member at entry e changes
+-- the change of the rest of its member at entry e
 abbrev pub change_in : Rows → ℕ → ℕ → Held → ℕ → ℕ → ℕ
 change_in rows reserve r h e c =
     if is_lacking (lacked_row rows.shape r) (entry_at (entries_of rows r) e) c then 0 else change (get_or h.targets (r * rows.shape.group + c) 0) (get_or h.amounts (r * rows.shape.group + c) 0) (new_target rows r h c) (new_amount rows reserve r h c) e

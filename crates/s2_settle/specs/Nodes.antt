@@ -1,4 +1,4 @@
--- One check by places: its least number, the least of the others, and where the least stands.
+-- One check by places: its least number, the least of the others, and the place of the least (own).
 use Rattle.std.specs.Prelude.{ℕ, zero, suc}
 use Rattle.s2_minsum.specs.Nodes.{least_from, next_from}
 use Rattle.s2_settle.specs.Rests.{no_rest, seen_at}

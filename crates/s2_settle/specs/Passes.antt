@@ -1,4 +1,4 @@
--- A pass over all layers.
+-- A pass over all layers (own).
 use Rattle.std.specs.Prelude.{ℕ, fold}
 use Rattle.s2_rows.specs.Rows.{Rows}
 use Rattle.s2_matrix.specs.Total.{upto}

@@ -15,10 +15,11 @@ use Rattle.s2_settle.specs.declared.course.Course.{Course}
 abbrev pub settling_scale : ℕ
 settling_scale = 16
 
--- what is held in reserve at first, and in how many passes
+-- the reserve of the first passes, and the number of these passes
 abbrev pub first_reserve : ℕ
 first_reserve = 256
 
+-- the number of passes with the first reserve
 abbrev pub full_passes : ℕ
 full_passes = 2
 
@@ -26,13 +27,15 @@ full_passes = 2
 abbrev pub fall_part : ℕ
 fall_part = 320
 
+-- the least fall of the reserve before a pass
 abbrev pub least_fall : ℕ
 least_fall = 12
 
+-- the largest fall of the reserve before a pass
 abbrev pub most_fall : ℕ
 most_fall = 64
 
--- few bits lack: at most one in so many
+-- few bits lack if at most one in this number does
 abbrev pub bits_a_few : ℕ
 bits_a_few = 200
 
@@ -40,6 +43,7 @@ bits_a_few = 200
 abbrev pub first_end : ℕ
 first_end = 3
 
+-- settling is given up if the lacking bits have grown by this part, a 64th
 abbrev pub growth_part : ℕ
 growth_part = 64
 
@@ -63,11 +67,12 @@ start soft word = record {
   amount = λ _. 0;
 }
 
--- by how much the move of check j raises the rest of its member i: its target's by the amount, any other's by minus the amount
+-- the amount by which the move of check j raises the rest of its member i: the target's by the amount, any other's by
+-- minus the amount
 abbrev pub raise : State → ℕ → ℕ → ℤ
 raise s j i = if i == s.target j then pos (s.amount j) else neg_ℤ (pos (s.amount j))
 
--- the rest of bit i: its value, and by how much the moves of its checks raise it
+-- the rest of bit i: its value, plus what the moves of its checks raise it by
 abbrev pub rest : Code → State → ℕ → ℤ
 rest code s i = s.value i +ℤ total (λ j. raise s j i) (checks_of code i)
 
@@ -95,7 +100,8 @@ abbrev pub half_gap : ℕ → ℤ → ℤ → ℕ
 half_gap reserve a b =
     if int_lt (a +ℤ pos reserve) b then min (unsigned_abs (b -ℤ a -ℤ pos reserve) / 2) most_moved else 0
 
--- what is moved to a member by its input and the least of the others' (so nothing where two are least); `most_moved` where there are no others
+-- The amount moved to a member, by its input and the least of the others'. It is nothing if two are least, and
+-- `most_moved` if there are no others
 abbrev pub amount_to : ℕ → (ℕ → ℤ) → ℕ → List ℕ → ℕ
 amount_to reserve f t [] = most_moved
 amount_to reserve f t (k ∷ ks) = half_gap reserve (f t) (f (least_of f (k ∷ ks)))
@@ -127,7 +133,7 @@ pass code q reserve s = fold (layer code q reserve) s (upto q)
 
 -- ---- the queue
 
--- a check comes behind those that wait, unless it waits
+-- a check is added after those that wait, unless it waits already
 abbrev pub call : List ℕ → ℕ → List ℕ
 call waiting j = if list_any (λ k. j == k) waiting then waiting else waiting ++ j ∷ []
 
@@ -143,11 +149,12 @@ serve code s j = anew code 0 (λ k. k == j) s
 abbrev pub differ : ℤ → ℤ → Bool
 differ a b = int_lt a b || int_lt b a
 
+-- the members of a check that lack after it was served, and whose rests changed
 abbrev pub unsettled : Code → State → ℕ → List ℕ
 unsettled code s j =
     filter (λ i. lacks code (serve code s j) i && differ (rest code s i) (rest code (serve code s j) i)) (members code j)
 
--- so many of the waiting checks at most, the first one first, are served, and call for such members
+-- at most n of the waiting checks are served, the first one first, and each calls the checks of such members
 unfoldable pub queue : Code → ℕ → State → List ℕ → State
 queue code left s [] = s
 queue code zero s (j ∷ waiting) = s
@@ -165,17 +172,18 @@ queued code s =
 abbrev pub at_first : Code → Course
 at_first code = record { reserve = first_reserve; before = 0; tried = code.bits }
 
--- by how much the reserve falls where so many bits lacked before, and lack now
+-- the fall of the reserve, by the numbers of bits that lacked before and that lack now
 abbrev pub fall : ℕ → ℕ → ℕ
 fall before now =
     min most_fall (max least_fall (if nat_lt now before then fall_part * (before - now) / before else 0))
 
--- whether it is of no more use: before pass `first_end` and later, where not few bits lack, and they have grown by a `growth_part`
+-- whether settling is given up before a pass: it is pass `first_end` or a later one, more than few bits lack, and they
+-- have grown by a `growth_part`
 abbrev pub is_hopeless : ℕ → ℕ → ℕ → ℕ → Bool
 is_hopeless bits p before now =
     nat_le first_end p && (nat_lt (bits / bits_a_few) now && nat_le (before + before / growth_part) now)
 
--- whether it is time for a queue: few bits lack, and at most half as many as before the last one
+-- whether it is time for a queue: few bits lack, and at most half of those before the last queue
 abbrev pub is_time : ℕ → ℕ → ℕ → Bool
 is_time bits tried now = nat_le now (bits / bits_a_few) && nat_le (2 * now) tried
 
@@ -183,7 +191,7 @@ is_time bits tried now = nat_le now (bits / bits_a_few) && nat_le (2 * now) trie
 abbrev pub begun : Code → Course → State → State
 begun code c s = if is_time code.bits c.tried (lacking code s) then queued code s else s
 
--- the course from pass p on, where so many bits lack
+-- the course from pass p on, with this number of lacking bits
 abbrev pub after : Code → Course → ℕ → ℕ → Course
 after code c p now = record {
   reserve = if nat_lt p full_passes then c.reserve else c.reserve - fall c.before now;
@@ -191,7 +199,7 @@ after code c p now = record {
   tried = if is_time code.bits c.tried now then now else c.tried;
 }
 
--- so many passes at most from pass p on, until no bit lacks
+-- at most n passes from pass p on, until no bit lacks
 unfoldable pub passes : Code → ℕ → ℕ → ℕ → Course → State → Option State
 passes code q zero p c s = if lacking code s == 0 then Some s else None
 passes code q (suc left) p c s =

@@ -1,4 +1,4 @@
--- Rests as words of 32 bits, each 2^31 higher than it is, and how a check's moves change them.
+-- Rests as words of 32 bits, each 2^31 higher than it is, and how a check's moves change them (own).
 use Rattle.std.specs.Prelude.{ℕ, ◌/◌, ◌==◌, min, max, nat_lt, not, ◌&&◌, Bool, if◌then◌else◌, List, get_or, count_by}
 use Rattle.s2_bits.specs.Lanes32.{minus32, plus32}
 use Rattle.s2_minsum.specs.declared.rows.Entry.{Entry}
@@ -25,17 +25,17 @@ no_rest = 4294967295
 abbrev pub given : ℕ → ℕ → ℕ → ℕ → ℕ
 given rest target amount e = if target == e then minus32 rest amount else plus32 rest amount
 
--- what is moved to the least, with the least other and what is held in reserve
+-- the amount moved to the least rest, by the least other one and the reserve
 abbrev pub gap : ℕ → ℕ → ℕ → ℕ
 gap reserve first second =
     min (minus32 (max (minus32 second first) reserve) reserve / 2) most_moved
 
--- by how much the rest of member e changes
+-- the change of the rest of member e
 abbrev pub change : ℕ → ℕ → ℕ → ℕ → ℕ → ℕ
 change old_target old_amount target amount e =
     minus32 (if target == e then amount else minus32 0 amount) (if old_target == e then old_amount else minus32 0 old_amount)
 
--- the place of the least in place of the one before, where a number is lower than the least so far
+-- the place of the least number so far
 abbrev pub seen_at : ℕ → ℕ → ℕ → ℕ → ℕ
 seen_at at first x e = if min first x == first then at else e
 
@@ -43,7 +43,8 @@ seen_at at first x e = if min first x == first then at else e
 abbrev pub changed : ℕ → List Entry → List ℕ → (ℕ → ℕ → ℕ) → ℕ → ℕ → ℕ
 changed = changed_by plus32
 
--- what the member at entry e gives to the check in lane c, by its target and amount; more than any rest where there is none
+-- the input that the member at entry e gives to the check in lane c, by the check's target and amount; more than any
+-- rest if there is no member
 abbrev pub received_by : ℕ → List Entry → ℕ → List ℕ → ℕ → ℕ → ℕ → ℕ → ℕ
 received_by n entries last rests target amount c e =
     if is_lacking last (entry_at entries e) c then no_rest else given (cell rests n (entry_at entries e).row (turned n (entry_at entries e).shift c)) target amount e

@@ -1,4 +1,4 @@
--- What a check's service changes.
+-- What a check's service changes (own).
 use Rattle.std.specs.Prelude.{◌≡◌, ℕ, ◌<◌, ◌/◌, ◌%◌, if◌then◌else◌, Bool, List, set, get_or, length, filter}
 use Rattle.s2_mode.specs.Shape.{Shape, code_bits}
 use Rattle.s2_rows.specs.Rows.{Rows}
@@ -16,7 +16,7 @@ use Rattle.s2_settle.specs.Placing.{shown, place_of_check}
 abbrev pub rest_at : Shape → List ℕ → ℕ → ℕ
 rest_at s rests i = cell rests s.group (row_of_bit s i) (lane_of_bit s i)
 
--- by how much the rest of member i changes where a move to a member stands in place of another
+-- the change of the rest of member i if one move replaces another
 abbrev pub shift_of : Moved → Moved → ℕ → ℕ
 shift_of before now i = change before.target before.amount now.target now.amount i
 

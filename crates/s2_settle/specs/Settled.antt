@@ -1,5 +1,5 @@
--- The certificate that passes find: their moves check by check, where the bound that these show reaches the scaled cost and every rest is
--- at least 1.
+-- The certificate that passes find (own): their moves check by check, if their bound reaches the scaled cost and every
+-- rest is at least 1..
 use Rattle.std.specs.Prelude.{ℕ, ◌==◌, nat_lt, Bool, not, ◌&&◌, if◌then◌else◌, List, map, length, ℤ, pos, ◌*ℤ◌, int_lt, Option, None, Some}
 use Rattle.std.specs.List.{position_or_len, list_all}
 use Rattle.s2_rows.specs.Rows.{Rows}
@@ -25,6 +25,7 @@ move_to members bit amount =
 abbrev pub move_in : Code → State → ℕ → Move
 move_in code s j = move_to (members code j) (s.target j) (s.amount j)
 
+-- the moves of all checks
 abbrev pub moves_in : Code → State → List Move
 moves_in code s = map (move_in code s) (upto code.checks)
 
@@ -43,6 +44,7 @@ unfoldable pub is_strict : Rows → View → Bool
 is_strict r v =
     list_all (λ i. int_lt (pos 0) (in_favour v.bits i (rest (code_of r) v.soft (split_in r v) i))) (upto (code_of r).bits)
 
+-- a certificate, if its bound reaches the scaled cost and it is strict
 abbrev pub if_strict : Rows → View → Option View
 if_strict rows v = if reaches rows v && is_strict rows v then Some v else None
 
@@ -50,11 +52,11 @@ abbrev pub view_in : Rows → List ℤ → List Bool → Option State → Option
 view_in rows soft word None = None
 view_in rows soft word (Some s) = if_strict rows (moved_view rows soft word (moves_in (code_of rows) s))
 
--- where so many passes end
+-- the state in which at most n passes end, if there is one
 abbrev pub ended : Rows → List ℤ → List Bool → ℕ → Option State
 ended rows soft word most =
     passes (code_of rows) rows.shape.q most 0 (at_first (code_of rows)) (start soft word)
 
--- the certificate that so many passes find for a codeword
+-- the certificate that n passes find for a codeword
 unfoldable pub settled : Rows → List ℤ → List Bool → ℕ → Option View
 settled rows soft word most = view_in rows soft word (ended rows soft word most)

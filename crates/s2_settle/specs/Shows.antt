@@ -1,4 +1,4 @@
--- What it means that rows and lanes show a state of checks and members.
+-- What it means that rows and lanes show a state of checks and members (own).
 use Rattle.std.specs.Prelude.{◌≡◌, ℕ, ◌*◌, ◌/◌, ◌%◌, ◌<◌, ◌≤◌, List, get_or, pos, ◌+ℤ◌, unsigned_abs, Bool, true, false, Option, None, Some}
 use Rattle.s2_mode.specs.Shape.{code_bits}
 use Rattle.s2_rows.specs.Rows.{Rows}

@@ -1,4 +1,4 @@
--- The rests before any move: scaled soft values in favour of the word.
+-- The rests before any move: scaled soft values in favour of the word (own).
 use Rattle.std.specs.Prelude.{ℕ, ◌+◌, ◌-◌, ◌*◌, ◌/◌, ◌%◌, Bool, if◌then◌else◌, List, map, replicate, ℤ, unsigned_abs}
 use Rattle.s2_mode.specs.Shape.{code_bits}
 use Rattle.s2_rows.specs.Rows.{Rows}

@@ -1,4 +1,4 @@
--- Checks that wait, in a ring.
+-- Checks that wait, in a ring (own).
 use Rattle.std.specs.Prelude.{◌≡◌, ℕ, ◌<◌, ◌≤◌, ◌==◌, Bool, false, nat_eq, List, [], ◌∷◌, ◌++◌, length, take, drop, get_or, All, Option, None, Some}
 use Rattle.std.specs.List.{list_any, IsDistinct}
 use Rattle.s2_mode.specs.Limits.{most_bits}
@@ -11,11 +11,11 @@ pub record Waiting : Type 0 where
 abbrev pub waiting : ℕ → List ℕ → Waiting
 waiting room checks = record { room = room; checks = checks }
 
--- so many slots of a ring, from the oldest on
+-- n slots of a ring, from the oldest on
 abbrev pub window : ℕ → ℕ → List ℕ → List ℕ
 window oldest count slots = take count (drop oldest slots ++ take oldest slots)
 
--- the first one, and those behind it
+-- the first one, and those after it
 abbrev pub first : List ℕ → Option ℕ
 first [] = None
 first (j ∷ js) = Some j
@@ -24,7 +24,7 @@ abbrev pub later : List ℕ → List ℕ
 later [] = []
 later (j ∷ js) = js
 
--- what holds of a ring of checks and of their marks: none waits twice, and just those that wait are marked
+-- the invariant of a ring of checks and of their marks: none waits twice, and exactly the waiting ones are marked
 pub record IsWaiting (oldest count : ℕ) (slots : List ℕ) (marks : List Bool) : Type 0 where
   pub some : oldest < length marks
   pub few : count ≤ length marks

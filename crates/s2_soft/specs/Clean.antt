@@ -1,11 +1,11 @@
--- Symbols without noise.
+-- Symbols without noise (own).
 use Rattle.std.specs.Prelude.{◌≡◌, ◌≢◌, ℕ, ◌<◌, Bool, List, length, ℤ, pos, map, int_lt}
 use Rattle.s2_mode.specs.Mode.{Mode, IsMode, n_of}
 use Rattle.s2_map.specs.Mapping.{payload_of}
 use Rattle.s2_soft.specs.Divisors.{IsDivisor}
 use Rattle.s2_soft.specs.Soft.{soft_values, value_at}
 
--- soft values that say each bit of a codeword, and none of which is undecided
+-- the hard decision of the soft values is the codeword, and none of them is 0
 pub record Says (values : List ℤ) (codeword : List Bool) : Type 0 where
   pub decided : map (λ v. int_lt v (pos 0)) values ≡ codeword
   pub some : (k : ℕ) → k < length codeword → value_at values k ≢ pos 0

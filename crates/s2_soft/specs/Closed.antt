@@ -1,4 +1,4 @@
--- What only the clauses of the code itself speak of: the differences of least squared distances in closed form.
+-- What only the clauses of the code itself speak of: the differences of least squared distances in closed form (own).
 use Rattle.std.specs.Prelude.{ℕ, ◌*◌, ◌-◌, ℤ, pos, neg_ℤ, ◌+ℤ◌, ◌-ℤ◌, ◌*ℤ◌, ◌≤ℤ◌}
 use Rattle.std.specs.Int.{int_max}
 use Rattle.s2_map.specs.Constants.{diagonal, axis as on_axis}
@@ -17,7 +17,7 @@ across i q = pos (2 * diagonal) *ℤ (i -ℤ q)
 abbrev pub axis : ℤ → ℤ
 axis c = pos (2 * on_axis) *ℤ c
 
--- by how much the squared length of a point on an axis is larger than that of one between them
+-- the difference of the squared lengths of a point on an axis and of one between the axes
 abbrev pub longer : ℕ
 longer = on_axis * on_axis - 2 * diagonal * diagonal
 

@@ -7,14 +7,15 @@ use Rattle.s2_soft.specs.declared.divisor.TheConstants.{DEFAULT_DIVISOR, DIVISOR
 abbrev pub divisors : List ℕ
 divisors = 4096 ∷ 8192 ∷ 16384 ∷ 32768 ∷ 65536 ∷ []
 
+-- one of the five divisors
 abbrev pub IsDivisor : ℕ → Type 0
 IsDivisor d = Contains divisors d
 
--- the divisor where none is named
+-- the default divisor
 abbrev pub default_divisor : ℕ
 default_divisor = 4096
 
--- what multiplies a component of QPSK where 65536 divides the product
+-- the multiplier of a QPSK component if 65536 divides the product
 abbrev pub factor_of : ℕ → ℕ
 factor_of d = 4 * diagonal * (65536 / d)
 

@@ -1,4 +1,4 @@
--- What lanes hold of symbols: their components, and inner products, as words in two's complement.
+-- What lanes hold of symbols: their components, and inner products, as words in two's complement (own).
 use Rattle.std.specs.Prelude.{◌<◌, ℕ, ◌*◌, ◌%◌, ◌/◌, ◌==◌, min, if◌then◌else◌, List, ℤ}
 use Rattle.std.specs.Int.{cast_signed}
 use Rattle.s2_mode.specs.declared.symbols.Symbol.{Symbol}
@@ -12,7 +12,7 @@ use mir.Val.{SFits}
 abbrev pub component_at : List Symbol → ℕ → ℤ
 component_at symbols b = if b % 2 == 0 then (symbol_at symbols (b / 2)).i else (symbol_at symbols (b / 2)).q
 
--- what a word of 32 bits stands for
+-- the number of a word of 32 bits
 abbrev pub number : ℕ → ℤ
 number v = cast_signed w32 v
 
@@ -24,6 +24,6 @@ times32 a b = a * b % 4294967296
 abbrev pub size32 : ℕ → ℕ
 size32 v = min v (minus32 0 v)
 
--- the lanes stand for components of 16 bits
+-- the lanes represent components of 16 bits
 abbrev pub AreComponents : List ℕ → Type 0
 AreComponents v = (k : ℕ) → k < 4 → SFits w16 (number (lane v k))

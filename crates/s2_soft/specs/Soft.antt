@@ -10,6 +10,7 @@ use Rattle.s2_bits.specs.Bits.{bit_of_number}
 use Rattle.s2_map.specs.Mapping.{point_of, sent_as}
 use Rattle.s2_mode.specs.Limits.{most_soft}
 
+-- the squared distance of two points
 abbrev pub squared_distance : Symbol → Symbol → ℤ
 squared_distance s p = (s.i -ℤ p.i) *ℤ (s.i -ℤ p.i) +ℤ (s.q -ℤ p.q) *ℤ (s.q -ℤ p.q)
 
@@ -19,22 +20,23 @@ least [] = pos 0
 least (x ∷ []) = x
 least (x ∷ y ∷ xs) = int_min x (least (y ∷ xs))
 
--- those of some labels of so many bits whose bit j, the first the highest, is b
+-- the labels of n bits whose bit j, the first the highest, is b
 abbrev pub with_bit : ℕ → ℕ → Bool → List ℕ → List ℕ
 with_bit width j b [] = []
 with_bit width j b (l ∷ ls) =
     if (if b then bit_of_number width l j else not (bit_of_number width l j)) then l ∷ with_bit width j b ls else with_bit width j b ls
 
--- the least squared distance to a point whose label has b at place j
+-- the least squared distance of a symbol to a point whose label has b at place j, the first bit the highest
 abbrev pub least_distance : Mode → Symbol → ℕ → Bool → ℤ
 least_distance m s j b =
     least (map (λ l. squared_distance s (point_of m l)) (with_bit (width_of m) j b (range_with_len 0 (2 ^ width_of m))))
 
--- divided toward zero by a divisor, and clamped
+-- Divided toward zero by a divisor, and limited to -511 .. 511
 abbrev pub quantized : ℕ → ℤ → ℤ
 quantized divisor d = int_max (neg_ℤ (pos most_soft)) (int_min (pos most_soft) (int_div d (pos divisor)))
 
--- how much nearer a symbol is to the points with 0 at place j of their labels than to those with 1
+-- the soft value of bit j of a symbol's label: the least squared distance with 1 there less that with 0, quantized;
+-- positive if 0 is nearer
 abbrev pub soft_value : ℕ → Mode → Symbol → ℕ → ℤ
 soft_value divisor m s j = quantized divisor (least_distance m s j true -ℤ least_distance m s j false)
 

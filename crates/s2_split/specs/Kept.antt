@@ -1,4 +1,4 @@
--- What the maker's lists hold while it works: for each bit its rest, for each check its move.
+-- What the maker's lists hold while it works: for each bit its rest, for each check its move (own).
 use Rattle.std.specs.Prelude.{◌≡◌, ◌≢◌, ℕ, ◌+◌, ◌*◌, ◌<◌, ◌≤◌, ◌==◌, ◌↔◌, Bool, true, false, if◌then◌else◌, Option, None, Some, List, length, get_or, All, filter, fold, count_by, ℤ, pos, neg_ℤ, ◌*ℤ◌, ◌-ℤ◌, ◌≤ℤ◌, int_lt}
 use Rattle.std.specs.List.{list_any}
 use Rattle.s2_matrix.specs.Total.{upto}
@@ -79,13 +79,13 @@ pub record AreCounted (code : Code) (rests : List ℤ) (counts : List ℕ) : Typ
 abbrev pub AreFew : Code → Type 0
 AreFew code = (i : ℕ) → i < code.bits → length (checks_of code i) ≤ most_addresses
 
--- what is left of each bit's scaled value after these moves, none of them larger than spreading makes
+-- the rests of each bit's scaled value after these moves, none of them larger than spreading makes
 pub record AreRests (code : Code) (soft : List ℤ) (word : List Bool) (scale : ℕ) (m : Moved) (rests : List ℤ) : Type 0 where
   pub long : length rests ≡ code.bits
   pub are : (i : ℕ) → i < code.bits → get_or rests i (pos 0) ≡ rest_at code soft word scale m i
   pub small : (j : ℕ) → j < code.checks → m.amount j ≤ most_moved
 
--- a check's move in a list: an amount and its target's place among the members, 0 where nothing is moved
+-- a check's move in a list: an amount and its target's place among the members, 0 if the amount is 0
 pub record IsHeld (code : Code) (j target amount : ℕ) (own : Move) : Type 0 where
   pub place : own.place < length (members code j)
   pub amount_is : own.amount ≡ amount

@@ -1,4 +1,4 @@
--- Rows with rising addresses, and the digest of their text.
+-- Rows with rising addresses, and the digest of their text (own).
 use Rattle.std.specs.Prelude.{◌≡◌, ◌↔◌, IsTrue, ℕ, ◌<◌, Bool, List, [], length, get_or}
 use Rattle.std.specs.List.Sorted.{IsPermutation, IsNonDecreasing}
 use Rattle.hex.specs.Hex.{encode_lower}

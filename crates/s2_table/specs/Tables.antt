@@ -1,4 +1,4 @@
--- What `table` prints of rows, and the note of rows that are others than the standard's.
+-- What `table` prints of rows, and the note of rows that are others than the standard's (own).
 use Rattle.std.specs.Prelude.{◌≡◌, ℕ, ◌++◌, Bool, true, false, List, Option, IfSome, Result, Ok, Err, codes}
 use Rattle.std.specs.Io.KnownBytes.{Appends}
 use Rattle.s2_mode.specs.Mode.{Mode}
@@ -12,14 +12,16 @@ use Rattle.s2_evidence.specs.Inputs.{rows_in}
 use Rattle.s2_table.specs.Rising.{HasSum}
 use Rattle.s2_table.specs.Sums.{standard_sum}
 
--- what is answered is what a row file says, where its bytes are known
+-- the result is what a row file says, if its bytes are known
 abbrev pub AreRowsIn : Shape → Option (List ℕ) → Result Rows Fault → Type 0
 AreRowsIn shape known said = IfSome known (λ text. rows_in shape text ≡ said)
 
+-- `standard` or `other`, with LF
 abbrev pub answer_line : Bool → List ℕ
 answer_line true = codes "standard\n"
 answer_line false = codes "other\n"
 
+-- exit 0 for the standard's rows, else 2
 abbrev pub answer_exit : Bool → Exit
 answer_exit true = exits.Fine
 answer_exit false = exits.No
@@ -44,8 +46,8 @@ Notes mode false old new = Appends old new (note_line mode)
 abbrev pub IsNoted : Mode → Rows → Option (List ℕ) → Option (List ℕ) → Type 0
 IsNoted mode rows old new = (answer : Bool) × HasSum rows (standard_sum mode) answer × Notes mode answer old new
 
--- What is noted of the rows in a file that was read, which are these or are refused: where notes are left out or the rows are refused
--- nothing, and of rows that are not the standard's the note, which can be lost only where its writer failed.
+-- The note on the rows of a file. There is none if notes are left out, if the rows are refused, or if they are the
+-- standard's. It can be lost only if its writer failed
 abbrev pub NotesRows : Bool → Mode → ℕ → ℕ → Option (List ℕ) → Option (List ℕ) → Result Rows Fault → Type 0
 NotesRows true mode before after old new said = (after ≡ before) × (new ≡ old)
 NotesRows false mode before after old new (Ok rows) = after ≡ before → IsNoted mode rows old new

@@ -1,4 +1,4 @@
--- The note of rows that are refused.
+-- The note of rows that are refused (own).
 use Rattle.std.specs.Prelude.{◌≡◌, ℕ, Bool, if◌then◌else◌, Option, List, [], ◌++◌, codes, decimal, Result, Ok, Err}
 use Rattle.s2_mode.specs.Mode.{Mode, shape_in}
 use Rattle.s2_mode.specs.Shape.{Shape, check_count}
@@ -15,11 +15,11 @@ use Rattle.s2_table.specs.Tables.{AreRowsIn, IsTold}
 unfoldable pub wanted_end : ℕ → ℕ → List ℕ
 wanted_end rows checks = (codes " wants " ++ decimal rows) ++ (codes " rows of addresses below " ++ decimal checks) ++ codes "\n"
 
--- the note of which rows a mode wants
+-- the note with the rows that a mode wants
 abbrev pub wanted_note : Mode → Shape → List ℕ
 wanted_note m shape = codes "s2: note: " ++ (mode_words m ++ wanted_end shape.groups (check_count shape))
 
--- the note of a fault: that of rows tells which ones the mode wants
+-- the note of a fault: for a fault of rows, the rows that the mode wants
 abbrev pub fault_note : Mode → Fault → List ℕ
 fault_note m (faults.Rows text) = wanted_note m (shape_in m)
 fault_note m f = []
@@ -29,8 +29,8 @@ abbrev pub notes_on : Bool → Mode → Result Exit Fault → List ℕ
 notes_on quiet m (Ok exit) = []
 notes_on quiet m (Err f) = if quiet then [] else fault_note m f
 
--- `table` has ended: of the rows in its file the answer is printed, only what failed was counted, of so many failed reads before and
--- behind, and the note and of a fault the line stand on the errors.
+-- `table` has ended. The result for the rows in its file is printed. Only failed calls were counted. The note and the
+-- line of a fault are on the errors
 abbrev pub TableEnds : Mode → Bool → Option (List ℕ) → ℕ → ℕ → Screen → Screen → Exit → Type 0
 TableEnds m quiet rows reads reads_after old new exit =
     (ended : Result Exit Fault) × (exit ≡ exit_of ended) × CommandRuns (IsTold m) (AreRowsIn (shape_in m) rows) ended old.output new.output

@@ -50,8 +50,8 @@ Causes old new ended = OnlyFailed (ended ≡ Err faults.Read) (ended ≡ Err fau
 abbrev pub noted_by : {E : Type 0} → (E → Option (List ℕ)) → (E → ℕ) → Bool → Mode → E → E → Result Rows Fault → Type 0
 noted_by contents count quiet m old new rows = NotesRows quiet m (count old) (count new) (contents old) (contents new) rows
 
--- A command on a setup and on these files. The row file determines whether there is a link, unless memory runs out or a read of it fails,
--- which is counted. It also determines the note on the rows.
+-- A command on a setup and on these files. The row file determines whether there is a link, unless memory runs out or a
+-- read of it fails, which is counted. It also determines the note on the rows
 pub record OnLink {T : Type 0} (Does : LinkCommand T) (Noted : Result Rows Fault → Type 0) (setup : Setup) (files left : Files) (old new : Streams) (ended : Result T Fault) : Type 0 where
   pub rows : Result Rows Fault
   pub read : IfSome files.rows (λ text. Follows (λ r. r) rows (rows_in (shape_in setup.mode) text))

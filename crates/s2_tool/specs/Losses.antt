@@ -52,7 +52,7 @@ note_if so note = if so then note else []
 abbrev pub notes_of : Mode → Received → List ℕ
 notes_of m r = note_if (not (nat_eq r.totals.passed 0)) (passed_note r.totals) ++ note_if (is_deaf r) (deaf_note m r.symbols) ++ note_if (not (nat_eq r.totals.torn 0)) (torn_note r.totals)
 
--- The end of a command that received this, and its notes. If they cannot be written, that is its fault.
+-- The end of a command that received this, and its notes. If they cannot be written, that is its fault
 abbrev pub Answered : NoteWords → Mode → Result Received Fault → Result Exit Fault → List ℕ → Type 0
 Answered words m (Ok r) ended notes = (notes ≡ (if words.quiet then [] else notes_of m r)) × ((ended ≡ Ok (exit_by words.strict r)) ⊎ (ended ≡ Err faults.Write))
 Answered words m (Err f) ended notes = (notes ≡ (if words.quiet then [] else fault_note m f)) × (ended ≡ Err f)

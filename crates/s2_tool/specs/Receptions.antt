@@ -18,8 +18,9 @@ use Rattle.s2_words.specs.declared.request.DemodWords.{DemodWords}
 use Rattle.s2_tool.specs.Links.{Begins, LinkCommand, OnLink}
 use Rattle.s2_tool.specs.Losses.{Finishes}
 
--- All is received to the end: the packets of each frame and its line are written, then the end line. If a read fails, exactly what was
--- found before is written. If a write fails, a part of the next packets or of the next line is written too.
+-- All is received to the end: the packets of each frame and its line are written, then the end line. If a read fails,
+-- exactly what was found before is written. If a write fails, a part of the next packets or of the next line is written
+-- too
 abbrev pub Receives : Rules → Streams → Streams → Result Received Fault → Type 0
 Receives rules old new (Ok received) = (state : State) × RunAnswers rules begun state old new (Ok received)
 Receives rules old new (Err faults.Read) = (state : State) × StopsAfter rules begun state old new

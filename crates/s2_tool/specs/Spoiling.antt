@@ -16,8 +16,8 @@ use Rattle.s2_console.specs.Screens.{Screen}
 use Rattle.s2_words.specs.declared.request.ChannelWords.{ChannelWords}
 use Rattle.s2_tool.specs.Links.{Begins, Causes}
 
--- All symbols that were read, each with its noise. After a failed read, or at the limit, those that came before. After a failed write all
--- that were read but the last, and a part of the last one's bytes.
+-- All symbols that were read, each with its noise. After a failed read, or at the limit, those that came before. After
+-- a failed write all that were read but the last, and a part of the last one's bytes
 abbrev pub IsSpoilt : ChannelWords → Streams → Streams → Result Exit Fault → Type 0
 IsSpoilt channel old new (Ok exit) =
     (exit ≡ exits.Fine)
@@ -37,7 +37,8 @@ pub record Spoils (channel : ChannelWords) (old new : Streams) (ended : Result E
   pub spoilt : IsSpoilt channel old new ended
   pub causes : Causes old new ended
 
--- `noise` has ended with this exit. It began its output and added the noise, or it could not begin. The line of a fault is on the errors.
+-- `noise` has ended with this exit. It began its output and added the noise, or it could not begin. The line of a fault
+-- is on the errors
 abbrev pub NoiseEnds : ChannelWords → (begun : Bool) → Streams → Streams → Screen → Screen → Exit → Type 0
 NoiseEnds channel begun old new console_old console_new exit =
     (ended : Result Exit Fault) × (exit ≡ exit_of ended) × Begins (Spoils channel) begun old new ended × Complains ended console_old console_new

@@ -6,8 +6,8 @@ use Rattle.s2_minsum.specs.Factors.{default_factor}
 use Rattle.s2_plframe.specs.Constants.{most_wrong}
 use Rattle.s2_words.specs.declared.table.TheConstants.{DEFAULT_ROUNDS_TEXT, DIVISOR_TEXTS, DEFAULT_DIVISOR_TEXT, DEFAULT_FACTOR_TEXT, DEFAULT_LOCK_TEXT}
 
--- the digits on the command line for the default rounds, divisor, factor and lock, and for the divisors that can be named, are those of
--- the numbers that a receiver takes
+-- the digits on the command line for the default rounds, divisor, factor and lock, and for the divisors that can be
+-- named, are those of the numbers that a receiver takes
 pub record DefaultsLaw : Type 0 where
   pub rounds : DEFAULT_ROUNDS_TEXT.now ≡ decimal default_rounds
   pub divisors : map (λ t. t.now) DIVISOR_TEXTS ≡ map decimal divisors

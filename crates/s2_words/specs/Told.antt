@@ -18,7 +18,7 @@ IsTold modcod text = IsNumbered modcod text ⊎ (IsMode (mode_of modcod false fa
 abbrev pub NamesMode : (ℕ → List ℕ → Type 0) → List ℕ → Type 0
 NamesMode tells text = (modcod : ℕ) × tells modcod text
 
--- progress is shown if it is asked for, also with `--quiet`; else it is shown exactly without `--quiet` and if standard error is a
--- terminal
+-- progress is shown if it is asked for, also with `--quiet`; else it is shown exactly without `--quiet` and if standard
+-- error is a terminal
 abbrev pub progress_by : Bool → Bool → Progress
 progress_by asked quiet = if asked then progress.Shown else (if quiet then progress.Hidden else progress.OnTerminal)
