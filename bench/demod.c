@@ -5,13 +5,13 @@
  * of two. */
 #include "plain.h"
 
-enum { MOST_SOFT = 511 };
+enum { MAX_SOFT = 511 };
 
 static int frame_symbols, shift;
-static uint8_t bytes[4 * MOST_SYMBOLS];
-static symbol frame[MOST_SYMBOLS], payload[MOST_SYMBOLS];
-static int16_t soft[MOST_BITS];
-static uint8_t word[MOST_BITS], sums[MOST_BITS], sequence[MOST_BITS], field[8192];
+static uint8_t bytes[4 * MAX_SYMBOLS];
+static symbol frame[MAX_SYMBOLS], payload[MAX_SYMBOLS];
+static int16_t soft[MAX_BITS];
+static uint8_t word[MAX_BITS], sums[MAX_BITS], sequence[MAX_BITS], field[8192];
 
 /* ---- 5.5: the frame */
 
@@ -53,11 +53,11 @@ static void take_payload(void) {
     }
 }
 
-/* ---- soft values: (d1 - d0) / divisor of the least squared distances, toward zero, held within MOST_SOFT */
+/* ---- soft values: (d1 - d0) / divisor of the least squared distances, toward zero, held within MAX_SOFT */
 
 static int16_t held(int32_t difference) {
     int32_t v = (difference + (difference >> 31 & ((1 << shift) - 1))) >> shift;
-    return (int16_t)(v > MOST_SOFT ? MOST_SOFT : v < -MOST_SOFT ? -MOST_SOFT : v);
+    return (int16_t)(v > MAX_SOFT ? MAX_SOFT : v < -MAX_SOFT ? -MAX_SOFT : v);
 }
 
 static int32_t most(int32_t a, int32_t b) { return a > b ? a : b; }

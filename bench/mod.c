@@ -4,7 +4,7 @@
 
 /* ---- 5.2: the baseband frame */
 
-static uint8_t message[MOST_BITS], word[MOST_BITS];
+static uint8_t message[MAX_BITS], word[MAX_BITS];
 
 static void bits_of(const uint8_t *bytes, int count, uint8_t *bits) {
     for (int i = 0; i < count; i++)
@@ -64,7 +64,7 @@ static void ldpc_encode(void) {
 /* ---- 5.3.3 and 5.4: interleaver and points */
 
 static const symbol psk[8] = {{700, 700}, {990, 0}, {-990, 0}, {-700, -700}, {0, 990}, {700, -700}, {-700, 700}, {0, -990}};
-static symbol payload[MOST_SYMBOLS], frame[MOST_SYMBOLS];
+static symbol payload[MAX_SYMBOLS], frame[MAX_SYMBOLS];
 
 static void map_symbols(void) {
     if (width == 2) {
@@ -104,7 +104,7 @@ static int make_frame(void) {
 }
 
 static void write_frame(FILE *out, int symbols) {
-    static uint8_t bytes[4 * MOST_SYMBOLS];
+    static uint8_t bytes[4 * MAX_SYMBOLS];
     for (int i = 0; i < symbols; i++) {
         bytes[4 * i] = (uint8_t)((uint16_t)frame[i].i >> 8);
         bytes[4 * i + 1] = (uint8_t)frame[i].i;

@@ -5,7 +5,7 @@
 #include <stdlib.h>
 #include <string.h>
 
-enum { PACKET = 188, HEADER_SYMBOLS = 90, GOLD = 262143, MOST_BITS = 64800, MOST_SYMBOLS = 33282 };
+enum { PACKET = 188, HEADER_SYMBOLS = 90, GOLD = 262143, MAX_BITS = 64800, MAX_SYMBOLS = 33282 };
 
 typedef struct { int16_t i, q; } symbol;
 
@@ -107,7 +107,7 @@ static void make_generator(void) {
 /* ---- 5.5: header and scrambler */
 
 static symbol header_symbols[HEADER_SYMBOLS];
-static uint8_t turns[MOST_SYMBOLS];
+static uint8_t turns[MAX_SYMBOLS];
 
 static void make_header(void) {
     static const uint32_t code[6] = {0x55555555, 0x33333333, 0x0F0F0F0F, 0x00FF00FF, 0x0000FFFF, 0xFFFFFFFF};
@@ -138,5 +138,5 @@ static void make_turns(uint32_t number) {
         y[i + 18] = y[i + 10] ^ y[i + 7] ^ y[i + 5] ^ y[i];
     }
     for (uint32_t i = 0; i < GOLD; i++) z[i] = x[(i + number) % GOLD] ^ y[i];
-    for (uint32_t i = 0; i < MOST_SYMBOLS; i++) turns[i] = (uint8_t)(2 * z[(i + 131072) % GOLD] + z[i]);
+    for (uint32_t i = 0; i < MAX_SYMBOLS; i++) turns[i] = (uint8_t)(2 * z[(i + 131072) % GOLD] + z[i]);
 }

@@ -18,8 +18,8 @@ import struct
 import sys
 
 # A code has at most this many bits, a certificate at most this many shares, a row file at most this many bytes.
-MOST_BITS, MOST_SHARES, MOST_TEXT = 64_800, 1_555_200, 1 << 24
-MOST_ADDRESSES, MOST_SOFT, MOST_SCALE, MOST_AMOUNT = 24, 511, 4096, 2**31 - 1
+MAX_BITS, MAX_SHARES, MAX_TEXT = 64_800, 1_555_200, 1 << 24
+MAX_ADDRESSES, MAX_SOFT, MAX_SCALE, MAX_AMOUNT = 24, 511, 4096, 2**31 - 1
 
 
 class Refused(Exception):
@@ -70,10 +70,10 @@ def rows_of(text, group, groups, q):
         words = re.findall(rb"[^ \t\r]+", line)
         if words and not words[0].startswith(b"#"):
             row = [int(word[-5:]) for word in words if re.fullmatch(rb"0*[0-9]{1,5}", word)]
-            if len(row) < len(words) or len(row) > MOST_ADDRESSES or len(set(row)) < len(row) or max(row) >= group * q:
+            if len(row) < len(words) or len(row) > MAX_ADDRESSES or len(set(row)) < len(row) or max(row) >= group * q:
                 raise Refused(f"rows: line {number} is no row of addresses")
             rows.append(row)
-    if len(rows) != groups or len(text) > MOST_TEXT:
+    if len(rows) != groups or len(text) > MAX_TEXT:
         raise Refused(f"rows: there are not {groups} rows")
     return rows
 
@@ -90,10 +90,10 @@ def read_head(file, each):
     if len(rest) < size:
         raise Refused("certificate: cut")
     group, groups, q, scale = struct.unpack(">4H", rest[:8])
-    if not 1 <= group <= 360 or not groups or not q or group * (groups + q) > MOST_BITS:
+    if not 1 <= group <= 360 or not groups or not q or group * (groups + q) > MAX_BITS:
         raise Refused("certificate: shape")
     count = int.from_bytes(rest[8:], "big")
-    if not 1 <= scale <= MOST_SCALE or count > MOST_SHARES:
+    if not 1 <= scale <= MAX_SCALE or count > MAX_SHARES:
         raise Refused("certificate: range")
     return head[4], (group, groups, q), scale, count
 
@@ -112,8 +112,8 @@ def read_body(file, version, shape, count, alone):
     soft = struct.unpack(f">{n}h", body[: 2 * n])
     bits = [byte >> place & 1 for byte in body[2 * n : packed] for place in range(7, -1, -1)]
     split = [*struct.iter_unpack(">HI", body[packed:])] if version == 2 else struct.unpack(f">{count}i", body[packed:])
-    wrong = version == 2 and any(amount > MOST_AMOUNT or place and not amount for place, amount in split)
-    if wrong or any(bits[n:]) or max(map(abs, soft)) > MOST_SOFT:
+    wrong = version == 2 and any(amount > MAX_AMOUNT or place and not amount for place, amount in split)
+    if wrong or any(bits[n:]) or max(map(abs, soft)) > MAX_SOFT:
         raise Refused("certificate: range")
     return soft, bits[:n], split
 
@@ -152,7 +152,7 @@ def check_files(rows, certificates, each):
     """Writes a line for each certificate, and returns whether all are accepted."""
     is_accepted = True
     with opened(rows) as file:
-        text = file.read(MOST_TEXT + 1)
+        text = file.read(MAX_TEXT + 1)
     with opened(certificates) as file:
         for line in answers(text, file, each):
             written(line)

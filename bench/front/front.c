@@ -6,7 +6,7 @@
 #include <stdlib.h>
 #include <time.h>
 
-enum { SLOTS = 1440, BLOCK = 1476, HEADER = 90, MOST = 33192, GOLD = 262143, QPSK = 32400, PSK = 21600, BITS = 64800, MOST_SOFT = 511 };
+enum { SLOTS = 1440, BLOCK = 1476, HEADER = 90, MOST = 33192, GOLD = 262143, QPSK = 32400, PSK = 21600, BITS = 64800, MAX_SOFT = 511 };
 
 typedef struct { int16_t i, q; } symbol;
 typedef unsigned __int128 u128;
@@ -90,10 +90,10 @@ __attribute__((noinline)) static unsigned feed_all(const symbol *s, int n) {
 
 /* ---- soft values */
 
-/* Divided by 2^shift, toward zero, and held within MOST_SOFT. */
+/* Divided by 2^shift, toward zero, and held within MAX_SOFT. */
 static inline int16_t quantized(int32_t d, int shift) {
     d = (d + (d >> 31 & ((1 << shift) - 1))) >> shift;
-    return d > MOST_SOFT ? MOST_SOFT : d < -MOST_SOFT ? -MOST_SOFT : d;
+    return d > MAX_SOFT ? MAX_SOFT : d < -MAX_SOFT ? -MAX_SOFT : d;
 }
 
 __attribute__((noinline)) static void soft_qpsk(const symbol *restrict p, int16_t *restrict soft, int n, int shift) {

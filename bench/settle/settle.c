@@ -6,7 +6,7 @@
 #include <string.h>
 #include <time.h>
 
-enum { GROUP = 360, GROUPS = 90, Q = 90, K = GROUP * GROUPS, M = GROUP * Q, N = K + M, MOST_MOVED = 1 << 20 };
+enum { GROUP = 360, GROUPS = 90, Q = 90, K = GROUP * GROUPS, M = GROUP * Q, N = K + M, MAX_MOVED = 1 << 20 };
 
 static int *first_member, *members, *first_check, *checks_of;
 static int32_t rests[N], target[M], amount[M];
@@ -64,9 +64,9 @@ static inline void choose(int j, int32_t reserve, int *to, int32_t *much) {
     if (input < least) next = least, least = input, at = i;
     else if (input < next) next = input;
   }
-  int64_t gap = next == INT32_MAX ? 2 * (int64_t)MOST_MOVED : (int64_t)next - least - reserve;
+  int64_t gap = next == INT32_MAX ? 2 * (int64_t)MAX_MOVED : (int64_t)next - least - reserve;
   *to = at;
-  *much = gap <= 0 ? 0 : gap / 2 > MOST_MOVED ? MOST_MOVED : (int32_t)(gap / 2);
+  *much = gap <= 0 ? 0 : gap / 2 > MAX_MOVED ? MAX_MOVED : (int32_t)(gap / 2);
 }
 
 static inline void put(int j, int to, int32_t much) {

@@ -11,8 +11,8 @@ from collections import deque
 sys.path.insert(0, os.path.join(os.path.dirname(__file__), "..", "minsum"))
 from values import members  # noqa: E402
 
-SCALE, MOST_MOVED = 16, 2**20
-FIRST_RESERVE, MOST_SERVED = 256, 4000
+SCALE, MAX_MOVED = 16, 2**20
+FIRST_RESERVE, MAX_SERVED = 256, 4000
 
 
 class Trace:
@@ -33,9 +33,9 @@ def give_moves(rests, check, move, sign):
 def new_move(inputs, reserve):
     """The move of a check by what its members give, or None."""
     if len(inputs) == 1:
-        return next(iter(inputs)), MOST_MOVED
+        return next(iter(inputs)), MAX_MOVED
     (a, i), (b, _) = sorted((v, i) for i, v in inputs.items())[:2]
-    amount = min((b - a - reserve) // 2, MOST_MOVED)
+    amount = min((b - a - reserve) // 2, MAX_MOVED)
     return (i, amount) if amount > 0 else None
 
 
@@ -65,7 +65,7 @@ def run_queue(checks, checks_of, rests, moves):
         if rest < 1:
             call(i)
     served = 0
-    while waiting and served < MOST_SERVED:
+    while waiting and served < MAX_SERVED:
         j = waiting.popleft()
         waits.remove(j)
         before = {i: rests[i] for i in checks[j]}

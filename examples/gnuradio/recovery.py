@@ -18,7 +18,7 @@ sys.path.append(os.path.join(os.path.dirname(os.path.abspath(__file__)), "../../
 from dummy import bpsk, header
 
 # The most that the carrier turns in a symbol.
-MOST_OFFSET = 0.05
+MAX_OFFSET = 0.05
 # How many filters symbol_sync chooses from, for the time between two samples.
 FILTERS = 32
 
@@ -48,7 +48,7 @@ class QuarterTurns(gr.sync_block):
 def spoilt(graph, samples, ratio, seed):
     """Samples behind a channel whose delay, offset and phase the seed determines."""
     draw = random.Random(seed)
-    delay, offset, phase = draw.uniform(0, flow.SAMPLES), draw.uniform(-MOST_OFFSET, MOST_OFFSET), draw.random()
+    delay, offset, phase = draw.uniform(0, flow.SAMPLES), draw.uniform(-MAX_OFFSET, MAX_OFFSET), draw.random()
     told = f"delay {delay / flow.SAMPLES:.3f} symbols, offset {offset:.4f} of the symbol rate, phase {360 * phase:.0f} degrees"
     print(told, file=sys.stderr, flush=True)
     places = numpy.arange(-24, 30) - delay

@@ -5,7 +5,7 @@ from cases.common import ANY, DIVISORS, LINK, LONG_ROWS, NO, ONE, PACKET, PAIR, 
 from cases.drawn import gaussian, made_rows, spoilt
 from cases.plain_receiver import broken, checks_of, soft_value, weakened
 
-MOST_SEED = 2**64 - 1
+MAX_SEED = 2**64 - 1
 NONE = "end frames 0 delivered 0 packets 0 bad 0\n"
 SINGLE = ONE + "end frames 1 delivered 1 packets 1 bad 0\n"
 PARITY = "frame 1 at 0 parity fixed 0\nframe 2 at 8190 parity fixed 0\nend frames 2 delivered 2 packets 2 bad 0\n"
@@ -16,11 +16,11 @@ SPOILT = bytes([3, 165, 253, 119, 3, 62, 253, 69])
 
 ROWS = [
     Case(f"rows {PAIR} --weight 1 --seed 1", out="0\n"),
-    Case(f"rows {TOY} --weight 12 --seed {MOST_SEED}", out=made_rows(4, 2, 3, 12, MOST_SEED).decode()),
+    Case(f"rows {TOY} --weight 12 --seed {MAX_SEED}", out=made_rows(4, 2, 3, 12, MAX_SEED).decode()),
     Case("rows --group 360 --groups 9 --q 36 --weight 3 --seed 1", out=made_rows(360, 9, 36, 3, 1).decode()),
     Case(LONG_ROWS, out=digest(0x7991B772DB342E83)),
     fault(f"rows {PAIR} --weight 2 --seed 1", "no such weight"),
-    fault(f"rows {TOY} --weight 24 --seed {MOST_SEED}", "no such weight"),
+    fault(f"rows {TOY} --weight 24 --seed {MAX_SEED}", "no such weight"),
     fault("rows --group 360 --groups 90 --q 91 --weight 8 --seed 1", "no such shape"),
     *(fault(words, "cannot write", to="/dev/full") for words in (f"rows {PAIR} --weight 1 --seed 1", LONG_ROWS)),
 ]
@@ -61,7 +61,7 @@ NOISE = [
     Case("noise --seed 1 --level 0 in old", reads={"in": b"123"}, writes={"old": b""}),
     *(
         Case(f"noise --seed {seed} --level {level} in out", reads={"in": SAMPLES}, writes={"out": spoilt(SAMPLES, seed, level)})
-        for seed, level in [(1, 65535), (MOST_SEED, 700), (MOST_SEED, 65535)]
+        for seed, level in [(1, 65535), (MAX_SEED, 700), (MAX_SEED, 65535)]
     ),
     fault("noise --seed 1 --level 1 . out", "cannot read", writes={"out": b""}),
     fault("noise --seed 1 --level 1 /dev/zero /dev/full", "cannot write"),
@@ -312,7 +312,7 @@ def alike(two):
             heard(f"{LINK} --tuned", gaussian(two, seed, decibels), ANY, "", ANY, ANY),
             Case(f"run {LINK} --tuned --seed {seed} --esn0 {decibels} made packets out", ANY, ANY, ANY, writes={"out": ANY}),
         )
-        for seed, decibels in [(1, "2.5"), (MOST_SEED, "-2.35"), (3, "12")]
+        for seed, decibels in [(1, "2.5"), (MAX_SEED, "-2.35"), (3, "12")]
     ]
     return by_ratio + [
         (
@@ -326,6 +326,6 @@ def alike(two):
             (1, 500, "--passes 96", 0, 2 * PACKET),
             (1, 500, "--tuned", 0, 2 * PACKET),
             (1, 500, "--uncertified", NO, 2 * PACKET),
-            (MOST_SEED, 700, "", ANY, ANY),
+            (MAX_SEED, 700, "", ANY, ANY),
         ]
     ]

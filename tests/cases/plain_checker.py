@@ -5,7 +5,7 @@ import itertools
 import math
 import struct
 
-MOST_SOFT, MOST_AMOUNT, MOST_SCALE = 511, 2**31 - 1, 4096
+MAX_SOFT, MAX_AMOUNT, MAX_SCALE = 511, 2**31 - 1, 4096
 # Amounts that would be small and negative if they were signed.
 BELOW_ZERO = range(2**32 - 2000, 2**32)
 
@@ -55,8 +55,8 @@ def taken_apart(shape, file):
 def is_out_of_range(shape, file):
     """Whether a file of the right length is refused as out of range."""
     scale, soft, _, moves, is_padded = taken_apart(shape, file)
-    fine = 1 <= scale <= MOST_SCALE and is_padded and max(map(abs, soft)) <= MOST_SOFT
-    return not fine or any(amount > MOST_AMOUNT or (place and not amount) for place, amount in moves)
+    fine = 1 <= scale <= MAX_SCALE and is_padded and max(map(abs, soft)) <= MAX_SOFT
+    return not fine or any(amount > MAX_AMOUNT or (place and not amount) for place, amount in moves)
 
 
 def rests_of(checks, scale, soft, word, moves):
@@ -122,7 +122,7 @@ def drawn_move(random, members, rests, kept, wild):
     room = max(0, min([rests[i] - kept for at, i in enumerate(members) if at != place], default=0))
     amount = random.choice([room, room, room // 2, random.randint(0, room), max(0, room - 1), 0, 0, 0])
     if random.random() < wild:
-        amount = random.choice([room + 1, MOST_AMOUNT, random.randint(0, MOST_AMOUNT), random.choice(BELOW_ZERO)])
+        amount = random.choice([room + 1, MAX_AMOUNT, random.randint(0, MAX_AMOUNT), random.choice(BELOW_ZERO)])
     return (place, min(amount, 2**32 - 1)) if amount else (0, 0)
 
 
@@ -143,8 +143,8 @@ def drawn(random, shape, rows, wrong, wild):
     word = encoded(shape, checks, [random.randrange(2) for _ in range(shape[0] * shape[1])])
     if random.random() < 0.05:
         word[random.randrange(len(word))] ^= 1
-    scale, kept = random.choice([1, 1, 2, 16, MOST_SCALE]), random.choice([0, 1])
-    least, most = random.choice([(kept, 3), (1, 40), (300, MOST_SOFT)])
+    scale, kept = random.choice([1, 1, 2, 16, MAX_SCALE]), random.choice([0, 1])
+    least, most = random.choice([(kept, 3), (1, 40), (300, MAX_SOFT)])
     favours = [random.randint(least, most) if random.random() >= wrong else -random.randint(0, max(1, most // 4)) for _ in word]
     soft = [-value if bit else value for value, bit in zip(favours, word)]
     moves = drawn_moves(random, checks, [scale * value for value in favours], random.choice([0.3, 1]), kept, wild)

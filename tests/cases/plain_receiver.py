@@ -6,7 +6,7 @@ from dummy import quarter_turns
 
 FRAME, HEADER, GROUP, GROUPS, Q = 8190, 90, 360, 9, 36
 POINTS = [(i, q) for i in (700, -700) for q in (700, -700)]
-MOST_SOFT, CAP, MOST_FIXED = 511, 1023, 12
+MAX_SOFT, CAP, MAX_FIXED = 511, 1023, 12
 
 
 def negative(value):
@@ -31,7 +31,7 @@ def soft_value(symbol, place, divisor):
         min((symbol[0] - i) ** 2 + (symbol[1] - q) ** 2 for i, q in POINTS if ((i, q)[place] < 0) == bit) for bit in (True, False)
     )
     value = abs(far - near) // divisor * (1 if far >= near else -1)
-    return max(-MOST_SOFT, min(MOST_SOFT, value))
+    return max(-MAX_SOFT, min(MAX_SOFT, value))
 
 
 def soft_values(payload, divisor):
@@ -96,7 +96,7 @@ def broken(checks, sent, noisy, divisor, rounds, factor=12, number=0):
         hard = [value < 0 for value in soft]
         words = [hard, repaired(checks, hard), *decisions(checks, soft, rounds, factor)]
         fixed = sum((value < 0) != bit for value, bit in list(zip(soft_values(clean, 1), words[-1]))[: GROUP * GROUPS])
-        assert all(odd(checks, word) for word in words) and fixed <= MOST_FIXED
+        assert all(odd(checks, word) for word in words) and fixed <= MAX_FIXED
         lines.append(f"frame {number + 1} at {FRAME * number} broken fixed {fixed}\n")
     return "".join(lines) + f"end frames {len(lines)} delivered {len(lines)} packets {len(lines)} bad 0\n"
 

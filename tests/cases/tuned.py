@@ -19,8 +19,8 @@ CHANNELS = {
 DEFINED = {
     "s2_words/specs/Tuned.antt": {"best_lock": LOCK, "best_divisor": DIVISOR, "best_passes": PASSES},
     "s2_settle/specs/Plain.antt": {
-        "settling_scale": 16, "first_reserve": 256, "full_passes": 2, "fall_part": 320, "least_fall": 12, "most_fall": 64,
-        "bits_a_few": 200, "first_end": 3, "growth_part": 64, "most_served": 4000,
+        "settling_scale": 16, "first_reserve": 256, "full_passes": 2, "fall_part": 320, "least_fall": 12, "max_fall": 64,
+        "bits_a_few": 200, "first_end": 3, "growth_part": 64, "max_served": 4000,
     },
 }  # fmt: skip
 

@@ -289,7 +289,7 @@ ENDLESS = [
     (f"demod {LINK} /dev/zero packets out", {"out": b""}),
     (f"run {LINK} --seed 1 --level 0 /dev/zero packets out", {"out": b""}),
 ]
-MOST_BYTES = 16_777_216
+MAX_BYTES = 16_777_216
 
 
 def padded(text, count):
@@ -297,8 +297,8 @@ def padded(text, count):
     return text + b"\n#" + bytes(count - len(text) - 2).replace(b"\0", b" ")
 
 
-LONGEST, TOO_LONG = padded(b"0 4 8\n0 1 2", MOST_BYTES), padded(b"0 4 8\n0 1 2", MOST_BYTES + 1)
-LONGEST_VALUES, TOO_LONG_VALUES = padded(STORED, MOST_BYTES), padded(STORED, MOST_BYTES + 1)
+LONGEST, TOO_LONG = padded(b"0 4 8\n0 1 2", MAX_BYTES), padded(b"0 4 8\n0 1 2", MAX_BYTES + 1)
+LONGEST_VALUES, TOO_LONG_VALUES = padded(STORED, MAX_BYTES), padded(STORED, MAX_BYTES + 1)
 
 CASES = [
     Case("--version", out="s2 0.1\n"),

@@ -1,6 +1,6 @@
 -- The numbers of packets and of their fields' headers (EN 302 307-1, 5.1.4 and 5.1.6).
 use Rattle.std.specs.Prelude.{◌≡◌, ℕ, ◌+◌}
-use Rattle.s2_bbframe.specs.declared.limits.TheConstants.{BODY_BYTES, MOST_FIELD_BYTES, NO_PLACE, PACKET_BITS, PACKET_BYTES, PACKETS_ROOM, SYNC}
+use Rattle.s2_bbframe.specs.declared.limits.TheConstants.{BODY_BYTES, MAX_FIELD_BYTES, NO_PLACE, PACKET_BITS, PACKET_BYTES, PACKETS_ROOM, SYNC}
 
 -- the bytes of a packet (ISO/IEC 13818-1, 2.4.3.2)
 abbrev pub packet_bytes : ℕ
@@ -23,8 +23,8 @@ abbrev pub no_place : ℕ
 no_place = 65535
 
 -- the most bytes of a data field: its length in bits, DFL of a header, is a number of 16 bits (EN 302 307-1, 5.1.6)
-abbrev pub most_field_bytes : ℕ
-most_field_bytes = 8191
+abbrev pub max_field_bytes : ℕ
+max_field_bytes = 8191
 
 -- the most bytes of the packets that a data field of so many bytes completes: its own, and 187 of a body before it
 abbrev pub packets_room : ℕ → ℕ
@@ -37,5 +37,5 @@ pub record LimitsLaw : Type 0 where
   pub first : SYNC ≡ sync
   pub bits : PACKET_BITS ≡ packet_bits
   pub none : NO_PLACE ≡ no_place
-  pub most_field : MOST_FIELD_BYTES ≡ most_field_bytes
-  pub room : PACKETS_ROOM ≡ packets_room most_field_bytes
+  pub max_field : MAX_FIELD_BYTES ≡ max_field_bytes
+  pub room : PACKETS_ROOM ≡ packets_room max_field_bytes

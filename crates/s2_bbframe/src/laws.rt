@@ -26,7 +26,7 @@ pub fn gaps()
 
 /// The numbers of packets and headers that the code works with, [`crate::PACKET_BYTES`],
 /// [`crate::BODY_BYTES`], [`crate::SYNC`], [`crate::PACKET_BITS`], [`crate::NO_PLACE`],
-/// [`crate::MOST_FIELD_BYTES`] and [`crate::PACKETS_ROOM`], are those of the definitions.
+/// [`crate::MAX_FIELD_BYTES`] and [`crate::PACKETS_ROOM`], are those of the definitions.
 pub fn limits()
     ensures { LimitsLaw }
 {}

@@ -35,6 +35,6 @@ pub use crc::crc8;
 pub use header::{Header, HeaderFault};
 pub use joiner::{Fed, Joiner};
 pub use limits::{
-    BODY_BYTES, MOST_FIELD_BYTES, NO_PLACE, PACKET_BITS, PACKET_BYTES, PACKETS_ROOM, SYNC,
+    BODY_BYTES, MAX_FIELD_BYTES, NO_PLACE, PACKET_BITS, PACKET_BYTES, PACKETS_ROOM, SYNC,
 };
 pub use slicer::{NoSync, Slicer, field_bytes};

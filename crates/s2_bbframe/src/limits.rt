@@ -16,7 +16,7 @@ pub const PACKET_BITS: u16 = 1504;
 pub const NO_PLACE: u16 = 65535;
 
 /// The most bytes of a data field, since DFL of a header is a number of bits below 2^16.
-pub const MOST_FIELD_BYTES: usize = 8191;
+pub const MAX_FIELD_BYTES: usize = 8191;
 
 /// The most bytes of the packets that a data field completes, with the body that is held before it.
-pub const PACKETS_ROOM: usize = BODY_BYTES + MOST_FIELD_BYTES;
+pub const PACKETS_ROOM: usize = BODY_BYTES + MAX_FIELD_BYTES;

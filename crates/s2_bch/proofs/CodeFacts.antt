@@ -14,7 +14,7 @@ use Rattle.s2_bch.specs.Words.{IsMultiple}
 use Rattle.s2_bch.specs.Codes.{IsBchWord}
 use Rattle.s2_bch.proofs.LocatorTheory.{zero-mul}
 use Rattle.s2_bch.specs.Generators.{generator_of}
-use Rattle.s2_bch.proofs.GeneratorFacts.{most_normal, most_short, normal_generator, short_generator}
+use Rattle.s2_bch.proofs.GeneratorFacts.{max_normal, max_short, normal_generator, short_generator}
 
 -- ---- the powers of a
 
@@ -49,12 +49,12 @@ far_of : (m : Mode) (s : Bool) → m.short ≡ s → IsMode m → (u v : List Bo
     → t_of m + t_of m < differences (length u) u v
 far_of m false e is u v hu hv ne =
     let g = normal_generator m is e in
-    let most = most_normal m is e in
+    let most = max_normal m is e in
     far gf16.field gf16.laws gf16.alpha 65535 (t_of m + t_of m) gf16.order (omega arith)
     (generator_of m) u v (omega (arith, g.size)) g.roots hu.multiple hv.multiple (omega (arith, hu.size, hv.size)) (omega (arith, hv.size)) ne
 far_of m true e is u v hu hv ne =
     let g = short_generator m is e in
-    let most = most_short m is e in
+    let most = max_short m is e in
     far gf14.field gf14.laws gf14.alpha 16383 (t_of m + t_of m) gf14.order (omega arith)
     (generator_of m) u v (omega (arith, g.size)) g.roots hu.multiple hv.multiple (omega (arith, hu.size, hv.size)) (omega (arith, hv.size)) ne
 
@@ -75,12 +75,12 @@ close_of : (m : Mode) (s : Bool) → m.short ≡ s → IsMode m → (u v : List 
     → differences (length u) u v ≤ t_of m + t_of m → u ≡ v
 close_of m false e is u v hu hv near =
     let g = normal_generator m is e in
-    let most = most_normal m is e in
+    let most = max_normal m is e in
     close gf16.field gf16.laws gf16.alpha 65535 (t_of m + t_of m) gf16.order (omega arith)
     (generator_of m) u v (omega (arith, g.size)) g.roots hu.multiple hv.multiple (omega (arith, hu.size, hv.size)) (omega (arith, hv.size)) near
 close_of m true e is u v hu hv near =
     let g = short_generator m is e in
-    let most = most_short m is e in
+    let most = max_short m is e in
     close gf14.field gf14.laws gf14.alpha 16383 (t_of m + t_of m) gf14.order (omega arith)
     (generator_of m) u v (omega (arith, g.size)) g.roots hu.multiple hv.multiple (omega (arith, hu.size, hv.size)) (omega (arith, hv.size)) near
 

@@ -129,15 +129,15 @@ some_tail m is = some_of m m.short refl is
 
 -- ---- lengths
 
-most_bits : (m : Mode) → IsMode m → k_of m ≤ (if m.short then 14400 else 58320)
+max_bits : (m : Mode) → IsMode m → k_of m ≤ (if m.short then 14400 else 58320)
 unfolding k_of rate_of rate_index
-most_bits m is = at_most_at k_of (λ m. if m.short then 14400 else 58320) m refl is
+max_bits m is = at_most_at k_of (λ m. if m.short then 14400 else 58320) m refl is
 
-pub most_normal : (m : Mode) → IsMode m → m.short ≡ false → k_of m ≤ 58320
-most_normal m is e = subst (λ s. k_of m ≤ (if s then 14400 else 58320)) e (most_bits m is)
+pub max_normal : (m : Mode) → IsMode m → m.short ≡ false → k_of m ≤ 58320
+max_normal m is e = subst (λ s. k_of m ≤ (if s then 14400 else 58320)) e (max_bits m is)
 
-pub most_short : (m : Mode) → IsMode m → m.short ≡ true → k_of m ≤ 14400
-most_short m is e = subst (λ s. k_of m ≤ (if s then 14400 else 58320)) e (most_bits m is)
+pub max_short : (m : Mode) → IsMode m → m.short ≡ true → k_of m ≤ 14400
+max_short m is e = subst (λ s. k_of m ≤ (if s then 14400 else 58320)) e (max_bits m is)
 
 -- what a code's generator gives, whatever the frames' length
 pub record HasGenerator (m : Mode) : Type 0 where

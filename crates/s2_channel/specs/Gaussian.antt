@@ -3,8 +3,8 @@
 use Rattle.std.specs.Prelude.{Bool, ◌&&◌, nat_le, ℕ, zero, suc, ℤ, pos, ◌+◌, ◌-◌, ◌*◌, ◌/◌, ◌^◌, ◌-ℤ◌}
 
 -- the highest Es/N0, 40 dB, in hundredths of a dB above the lowest, -10 dB
-abbrev pub most_esn0 : ℕ
-most_esn0 = 5000
+abbrev pub max_esn0 : ℕ
+max_esn0 = 5000
 
 -- a number of 2^-30, to the nearest whole number, halves up
 abbrev pub nearest : ℕ → ℕ

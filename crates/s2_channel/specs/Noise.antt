@@ -4,7 +4,7 @@ use Rattle.std.specs.Int.{w32, int_min, int_max, to_le_bytes}
 use Rattle.std.specs.Io.KnownBytes.{Appends, Consumes}
 use Rattle.rand_pcg.specs.Lcg.{Lcg}
 use Rattle.rand_pcg.specs.Pcg.{pcg32}
-use Rattle.s2_mode.specs.Limits.{most_symbols}
+use Rattle.s2_mode.specs.Limits.{max_symbols}
 use Rattle.s2_mode.specs.Pieces.{AppendsPart}
 use Rattle.s2_mode.specs.Symbols.{symbol_bytes, symbols_of}
 use Rattle.s2_mode.specs.declared.symbols.Symbol.{Symbol}
@@ -66,7 +66,7 @@ pub record PassesOn (strength : Strength) (g : Lcg) (taken left given gained : O
   pub bytes : List ℕ
   pub read : Consumes taken left bytes
   pub written : Appends given gained (noisy strength g (symbols_of bytes))
-  pub bound : reads_now ≡ reads → length (symbols_of bytes) ≡ most_symbols
+  pub bound : reads_now ≡ reads → length (symbols_of bytes) ≡ max_symbols
 
 -- the same of a reader and a writer, before and after, by the reader's bytes and count and the writer's bytes
 abbrev pub PassesOnBy : {R W : Type 0} → (R → Option (List ℕ)) → (R → ℕ) → (W → Option (List ℕ)) → Strength → Lcg → R → R → W → W → Type 0

@@ -24,7 +24,7 @@ mod strength;
 mod whole;
 
 pub use noise::Noise;
-pub use strength::{EsN0, LEAST_ESN0, MOST_ESN0, Strength};
+pub use strength::{EsN0, LEAST_ESN0, MAX_ESN0, Strength};
 pub use whole::add_to_all;
 
 #[cfg(test)]

@@ -8,7 +8,7 @@ use std::marker::Model;
 pub const LEAST_ESN0: i32 = -1000;
 
 /// The highest Es/N0, in hundredths of a dB.
-pub const MOST_ESN0: i32 = 4000;
+pub const MAX_ESN0: i32 = 4000;
 
 /// The amplitude at the lowest Es/N0: 700 · 10^(1/2) / 349520^(1/2), times 2^30.
 const GREATEST_AMPLITUDE: u32 = 4_020_331_772;
@@ -28,13 +28,13 @@ pub struct EsN0 {
 impl Model for EsN0 {
     ghost use Rattle.std.specs.Prelude.{◌≡◌, ◌≤◌, ℕ};
     ghost use Rattle.std.proofs.Common.{sym};
-    ghost use Rattle.s2_channel.specs.Gaussian.{most_esn0, amplitude_at};
+    ghost use Rattle.s2_channel.specs.Gaussian.{max_esn0, amplitude_at};
 
     ghost Value = { ℕ };
 
     ghost view = { λ e. e.above };
 
-    ghost invariant = { λ e. (e.above ≤ most_esn0) × (e.amplitude ≡ amplitude_at e.above) };
+    ghost invariant = { λ e. (e.above ≤ max_esn0) × (e.amplitude ≡ amplitude_at e.above) };
 
     ghost inverse = { λ v. record { above = v; amplitude = amplitude_at v } };
 
@@ -69,7 +69,7 @@ impl EsN0 {
         ensures found { IsSome result ↔ ((negsuc 999 ≤ℤ hundredths) × (hundredths ≤ℤ pos 4000)) }
         ensures value { IfSome result (λ e. pos e ≡ hundredths +ℤ pos 1000) }
     {
-        if hundredths < LEAST_ESN0 || hundredths > MOST_ESN0 {
+        if hundredths < LEAST_ESN0 || hundredths > MAX_ESN0 {
             return None;
         }
         let above = (hundredths - LEAST_ESN0) as u16;

@@ -1,7 +1,7 @@
 -- Moves that a file can say.
 use Rattle.std.proofs.Common.{ℕ, ◌≤◌, ◌<◌, Bool, List, replicate, All, sym, subst, arith, refl}
 use Rattle.std.proofs.lemmas.List.{length-replicate, get_or-replicate, get_or_default}
-use Rattle.s2_file.specs.File.{IsMove}
+use Rattle.s2_certfile.specs.File.{IsMove}
 use Rattle.s2_matrix.specs.Code.{Code}
 use Rattle.s2_matrix.proofs.Members.{length-members}
 use Rattle.s2_check.specs.Moves.{Move, no_move, ArePlaced}

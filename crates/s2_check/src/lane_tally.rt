@@ -1,7 +1,7 @@
 //! What the shares of a wide check add up to, four at a time. Lanes hold words of 32 bits in two's complement.
 ghost use Rattle.std.specs.Prelude.{◌≡◌, ℕ, ◌+◌, ◌*◌, ◌/◌, ◌%◌, ◌^◌, ◌<◌, ◌≤◌, min, length, get_or, pos, ◌-ℤ◌, FitsSigned};
 ghost use Rattle.std.specs.Int.{cast_unsigned, w32};
-ghost use Rattle.s2_mode.specs.Limits.{most_bits};
+ghost use Rattle.s2_mode.specs.Limits.{max_bits};
 ghost use Rattle.s2_bits.specs.Lanes.{HasLanes, lane};
 ghost use Rattle.s2_bits.specs.Lanes32.{minus32, plus32};
 ghost use Rattle.s2_check.specs.Tallies.{IsTally};
@@ -65,8 +65,8 @@ fn joined(sums: u64x4, counts: u32x4, sizes: u32x4, taken: usize) -> Tally
     requires sums_long { length sums ≡ 4 }
     requires counts_long { length counts ≡ 4 }
     requires sizes_long { length sizes ≡ 4 }
-    requires few { taken ≤ most_bits }
-    requires small { (k : ℕ) → lane sums k ≤ 2147483648 * most_bits }
+    requires few { taken ≤ max_bits }
+    requires small { (k : ℕ) → lane sums k ≤ 2147483648 * max_bits }
     ensures sum { result.negative_sum ≡ pos (lane sums 0 + lane sums 1 + lane sums 2 + lane sums 3) -ℤ pos (2147483648 * taken) }
     ensures count { result.negative_count ≡ lane counts 0 + lane counts 1 + lane counts 2 + lane counts 3 }
     ensures size { result.least_size ≡ min (min (lane sizes 0) (lane sizes 1)) (min (lane sizes 2) (lane sizes 3)) }
@@ -84,7 +84,7 @@ fn joined(sums: u64x4, counts: u32x4, sizes: u32x4, taken: usize) -> Tally
 /// The tally of the whole vectors of shares.
 #[inline(always)]
 pub(crate) fn tally_of_vectors(shares: &[i32]) -> Tally
-    requires { length shares.now ≤ most_bits }
+    requires { length shares.now ≤ max_bits }
     ensures { IsTally result.negative_sum result.negative_count result.least_size (4 * (length shares.now / 4)) shares.now }
 {
     let mut sums = u64x4::splat(0);

@@ -1,7 +1,7 @@
 //! What the shares of a check add up to.
 ghost use Rattle.std.specs.Prelude.{◌≡◌, ℕ, ◌+◌, ◌*◌, ◌%◌, ◌==◌, ◌≤◌, ◌≤ℤ◌, ◌+ℤ◌, min, pos, neg_ℤ, int_lt, unsigned_abs, if◌then◌else◌};
 ghost use Rattle.std.specs.Int.{int_min};
-ghost use Rattle.s2_mode.specs.Limits.{most_bits};
+ghost use Rattle.s2_mode.specs.Limits.{max_bits};
 
 /// Of the shares of a check that were taken in so far: the sum of the negative ones, how many these are, and the
 /// least size of all.
@@ -28,8 +28,8 @@ impl Tally {
 
     /// The tally with one share more.
     pub(crate) fn with(self, share: i32) -> Tally
-        requires few { self.negative_count ≤ most_bits }
-        requires low { neg_ℤ (pos (2147483648 * most_bits)) ≤ℤ self.negative_sum }
+        requires few { self.negative_count ≤ max_bits }
+        requires low { neg_ℤ (pos (2147483648 * max_bits)) ≤ℤ self.negative_sum }
         requires high { self.negative_sum ≤ℤ pos 0 }
         ensures sum { result.negative_sum ≡ self.negative_sum +ℤ int_min (pos 0) share }
         ensures count { result.negative_count ≡ self.negative_count + (if int_lt share (pos 0) then 1 else 0) }
@@ -46,7 +46,7 @@ impl Tally {
     /// The least sum of an even number of the shares: of the negative ones, less the cheapest change of one where
     /// these are odd in number.
     pub(crate) fn least_even_sum(self) -> i64
-        requires low { neg_ℤ (pos (2147483648 * most_bits)) ≤ℤ self.negative_sum }
+        requires low { neg_ℤ (pos (2147483648 * max_bits)) ≤ℤ self.negative_sum }
         requires high { self.negative_sum ≤ℤ pos 0 }
         ensures { result ≡ (if self.negative_count % 2 == 0 then self.negative_sum else self.negative_sum +ℤ pos self.least_size) }
     {

@@ -22,7 +22,7 @@ const SCALE: u16 = 4096;
 const SCALED: u32 = SCALE as u32 * LARGEST as u32;
 
 /// More than small moves leave of any bit.
-const MOST_LEFT: i64 = 2_200_000;
+const MAX_LEFT: i64 = 2_200_000;
 
 /// What a bound below the cost is answered.
 const BELOW: Answer = Answer::No(Refusal::BoundBelow);
@@ -190,7 +190,7 @@ fn assert_rest<R: Abort>(
 )
     requires { bit < (code_of matrix.now).bits }
 {
-    let room = rest_of(matrix, soft, shares, bit).clamp(0, MOST_LEFT) as i32;
+    let room = rest_of(matrix, soft, shares, bit).clamp(0, MAX_LEFT) as i32;
     let edges = matrix.edges_at(bit);
     if edges.is_empty() || edges[0] as usize >= shares.len() {
         return;
@@ -272,7 +272,7 @@ fn assert_taken<R: Abort>(
     requires { bit < (code_of matrix.now).bits }
 {
     let shares = shares_by(alloc, matrix, moves)?;
-    let room = rest_of(matrix, soft, &shares, bit).clamp(0, MOST_LEFT) as u32;
+    let room = rest_of(matrix, soft, &shares, bit).clamp(0, MAX_LEFT) as u32;
     let Some(check) = taking_check(matrix, moves, bit) else {
         return Ok(());
     };

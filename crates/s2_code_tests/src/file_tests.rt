@@ -3,7 +3,7 @@ use super::certificate_bytes::{
     CODEWORD, MOVED_SIZE, SIZE, codeword_file, moved, one_byte_values, pair_file, with_byte,
     wrong_bit,
 };
-use s2_file::{CertFault, Contents};
+use s2_certfile::{CertFault, Contents};
 use std::alloc::Global;
 use std::test::Fail;
 

@@ -1,6 +1,6 @@
 //! A decoder, where memory may be refused once: then it says so, and the same call again answers.
 ghost use Rattle.std.specs.Prelude.{◌≡◌, IfOk, length};
-ghost use Rattle.s2_mode.specs.Limits.{most_soft};
+ghost use Rattle.s2_mode.specs.Limits.{max_soft};
 ghost use Rattle.s2_minsum.specs.Decoding.{AreWithin};
 
 use super::again::matrix_of;
@@ -24,7 +24,7 @@ fn decoder<'a>(alloc: Global, matrix: &'a Matrix) -> Result<Decoder<'a>, AllocEr
 
 fn soft(alloc: Global, values: &[i16]) -> Result<Vec<i16>, AllocError>
     ensures long { IfOk result (λ v. length v.items ≡ length values.now) }
-    ensures small { IfOk result (λ v. AreWithin most_soft v.items) }
+    ensures small { IfOk result (λ v. AreWithin max_soft v.items) }
 {
     match soft_values(alloc, values) {
         Err(AllocError) => soft_values(alloc, values),
@@ -35,7 +35,7 @@ fn soft(alloc: Global, values: &[i16]) -> Result<Vec<i16>, AllocError>
 /// Asserts the posteriors after layer 0.
 fn assert_after_layer<R: Abort>(rt: &R, matrix: &Matrix, decoder: &mut Decoder<'_>, soft: &[i16])
     requires rows { decoder.old.rows ≡ matrix.now }
-    requires small { AreWithin most_soft soft.now }
+    requires small { AreWithin max_soft soft.now }
 {
     assert!(rt; matrix.bits() == 20 && matrix.shape().q() == 3);
     assert_eq!(rt; soft.len(), matrix.bits());

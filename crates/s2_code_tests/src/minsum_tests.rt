@@ -2,7 +2,7 @@
 ghost use Rattle.std.specs.Prelude.{◌≡◌, ◌<◌, IfOk, length};
 ghost use Rattle.s2_mode.specs.Shape.{code_bits};
 ghost use Rattle.s2_matrix.specs.Code.{code_of};
-ghost use Rattle.s2_mode.specs.Limits.{most_soft};
+ghost use Rattle.s2_mode.specs.Limits.{max_soft};
 ghost use Rattle.s2_minsum.specs.Decoding.{AreWithin};
 
 use super::codes::{Code, TOY, matrix_of};

@@ -365,13 +365,13 @@ fn asks_again_where_memory_is_refused(rt: HostRuntime) -> Result<(), Fail> {
 }
 
 /// The most that a command reads of a file.
-const MOST_BYTES: usize = 16_777_216;
+const MAX_BYTES: usize = 16_777_216;
 
 #[test]
 fn has_room_for_the_longest_file(rt: HostRuntime) -> Result<(), Fail> {
-    let bytes = vec![in rt.alloc(); b'a'; MOST_BYTES]?;
-    let all = read_all(rt.alloc(), &mut InMemory::new(&bytes), MOST_BYTES)?;
-    assert_eq!(rt; all.len(), MOST_BYTES);
+    let bytes = vec![in rt.alloc(); b'a'; MAX_BYTES]?;
+    let all = read_all(rt.alloc(), &mut InMemory::new(&bytes), MAX_BYTES)?;
+    assert_eq!(rt; all.len(), MAX_BYTES);
     Ok(())
 }
 

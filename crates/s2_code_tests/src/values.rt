@@ -1,14 +1,14 @@
 //! Soft values, and numbers of no order.
 ghost use Rattle.std.specs.Prelude.{◌≡◌, All, IfOk, IsTrue, length};
-ghost use Rattle.s2_mode.specs.Limits.{most_soft};
+ghost use Rattle.s2_mode.specs.Limits.{max_soft};
 ghost use Rattle.s2_check.specs.Views.{IsSoft};
 ghost use Rattle.s2_minsum.specs.Decoding.{AreWithin};
 
-use s2_mode::MOST_SOFT;
+use s2_mode::MAX_SOFT;
 use std::alloc::{AllocError, Global};
 
 /// The largest and the least soft value.
-pub const LARGEST: i16 = MOST_SOFT as i16;
+pub const LARGEST: i16 = MAX_SOFT as i16;
 
 pub const LEAST: i16 = -LARGEST;
 
@@ -37,7 +37,7 @@ pub fn are_soft(values: &[i16]) -> bool
 /// These values, none of a size over that of a soft value.
 pub fn soft_values(alloc: Global, values: &[i16]) -> Result<Vec<i16>, AllocError>
     ensures long { IfOk result (λ v. length v.items ≡ length values.now) }
-    ensures small { IfOk result (λ v. AreWithin most_soft v.items) }
+    ensures small { IfOk result (λ v. AreWithin max_soft v.items) }
 {
     let mut soft = Vec::new(alloc);
     for value in values {

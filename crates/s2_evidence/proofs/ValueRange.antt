@@ -2,7 +2,7 @@
 use Rattle.std.proofs.Common.{◌≡◌, ℕ, zero, suc, ◌-◌, ◌==◌, true, false, List, [], ◌∷◌, All, ℤ, pos, neg_ℤ, int_lt, Option, Some, None, Result, Ok, Err, inl, inr, refl, subst, arith}
 use Rattle.std.proofs.lemmas.Int.{ints}
 use Rattle.std.proofs.lemmas.Bool.{cases_Bool}
-use Rattle.s2_mode.specs.Limits.{most_soft}
+use Rattle.s2_mode.specs.Limits.{max_soft}
 use Rattle.s2_rows.specs.declared.values.ValueFault.{ValueFault}
 use Rattle.s2_rows.specs.Readings.{ok_cons}
 use Rattle.s2_rows.specs.Text.{lines_of}
@@ -11,8 +11,8 @@ use Rattle.s2_check.specs.Views.{IsSoft}
 
 soft : (v : ℤ) → is_value v ≡ true → IsSoft v
 soft v h =
-    let not_low : int_lt v (neg_ℤ (pos most_soft)) ≡ false = elim (cases_Bool (int_lt v (neg_ℤ (pos most_soft)))) [ inl low ↦ (let h' = rw low at h in cc) | inr ok ↦ ok ] in
-    let not_high : int_lt (pos most_soft) v ≡ false = elim (cases_Bool (int_lt (pos most_soft) v)) [ inl high ↦ (let h' = rw (not_low, high) at h in cc) | inr ok ↦ ok ] in
+    let not_low : int_lt v (neg_ℤ (pos max_soft)) ≡ false = elim (cases_Bool (int_lt v (neg_ℤ (pos max_soft)))) [ inl low ↦ (let h' = rw low at h in cc) | inr ok ↦ ok ] in
+    let not_high : int_lt (pos max_soft) v ≡ false = elim (cases_Bool (int_lt (pos max_soft) v)) [ inl high ↦ (let h' = rw (not_low, high) at h in cc) | inr ok ↦ ok ] in
     record { low = omega (arith, ints); high = omega (arith, ints) }
 
 said : (line : ℕ) (number : Option ℤ) (v : ℤ) → in_range line number ≡ Ok v → IsSoft v

@@ -8,10 +8,10 @@ use Rattle.s2_check.specs.Views.{View}
 use Rattle.s2_check.specs.Checking.{Checks}
 use Rattle.s2_check.specs.CertificateFiles.{Suits, view_of}
 use Rattle.s2_check.specs.Strict.{IsStrict, IsSole}
-use Rattle.s2_file.specs.File.{File}
-use Rattle.s2_file.specs.Format.{file_of_bytes}
-use Rattle.s2_file.specs.FaultTexts.{certificate_fault_text}
-use Rattle.s2_file.specs.declared.fault.CertFault.{CertFault}
+use Rattle.s2_certfile.specs.File.{File}
+use Rattle.s2_certfile.specs.Format.{file_of_bytes}
+use Rattle.s2_certfile.specs.FaultTexts.{certificate_fault_text}
+use Rattle.s2_certfile.specs.declared.fault.CertFault.{CertFault}
 use Rattle.s2_check.specs.declared.checker.Answer.{Answer}
 use Rattle.s2_check.specs.declared.checker.Answer.TheVariants as answers
 use Rattle.s2_check.specs.declared.checker.Examined.{Examined}

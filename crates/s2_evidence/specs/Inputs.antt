@@ -18,8 +18,8 @@ rows_said shape (Ok rows) = Ok (rows_value shape rows)
 rows_said shape (Err e) = Err (faults.Rows (codes "rows: " ++ row_fault_text e))
 
 -- the most bytes of a file that is read into memory
-abbrev pub most_bytes : ℕ
-most_bytes = 16777216
+abbrev pub max_bytes : ℕ
+max_bytes = 16777216
 
 abbrev pub fault_of_file : FileFault → Fault
 fault_of_file files.Read = faults.Read
@@ -28,11 +28,11 @@ fault_of_file files.NoMemory = faults.NoMemory
 
 -- the bytes of a file, at most 16,777,216
 abbrev pub taken : List ℕ → Result (List ℕ) Fault
-taken bytes = if nat_le (length bytes) most_bytes then Ok bytes else Err faults.TooLong
+taken bytes = if nat_le (length bytes) max_bytes then Ok bytes else Err faults.TooLong
 
 -- the rows of a row file, at most 16,777,216 bytes
 abbrev pub rows_in : Shape → List ℕ → Result Rows Fault
-rows_in shape bytes = if nat_le (length bytes) most_bytes then rows_said shape (row_files.rows_of_text bytes shape) else Err faults.TooLong
+rows_in shape bytes = if nat_le (length bytes) max_bytes then rows_said shape (row_files.rows_of_text bytes shape) else Err faults.TooLong
 
 abbrev pub values_said : Result (List ℤ) ValueFault → Result (List ℤ) Fault
 values_said (Ok vs) = Ok vs
@@ -40,7 +40,7 @@ values_said (Err e) = Err (faults.Told (codes "values: " ++ value_fault_text e))
 
 -- the values of a value file, at most 16,777,216 bytes
 abbrev pub values_in : Shape → List ℕ → Result (List ℤ) Fault
-values_in shape bytes = if nat_le (length bytes) most_bytes then values_said (values.values_of_text bytes (code_bits shape)) else Err faults.TooLong
+values_in shape bytes = if nat_le (length bytes) max_bytes then values_said (values.values_of_text bytes (code_bits shape)) else Err faults.TooLong
 
 -- the rows, then the values
 abbrev pub then_values : Result Rows Fault → Result (List ℤ) Fault → Result (Rows × List ℤ) Fault

@@ -1,7 +1,7 @@
 //! `check`: certificates checked.
 ghost use Rattle.std.specs.Prelude.{◌≡◌, ◌≢◌, ◌+◌, Result, Err, IsOk};
 ghost use Rattle.s2_mode.specs.Counts.{CanCount};
-ghost use Rattle.s2_file.specs.Format.{file_of_bytes};
+ghost use Rattle.s2_certfile.specs.Format.{file_of_bytes};
 ghost use Rattle.s2_console.specs.Screens.{CanShow};
 ghost use Rattle.s2_console.specs.Exits.{Follows, CommandAnswers, CommandRuns, CommandCounts};
 ghost use Rattle.s2_evidence.specs.Checking.{certificate_said, ArePartsIn, AreCheckInputs, answer_exit, SaysAnswer, IsAnswered, CheckEnds};

@@ -26,4 +26,4 @@ pub use check::check_command;
 pub use files::JudgeFiles;
 pub use judge::judge_command;
 pub use own::{TOY_ROWS, self_command};
-pub use reading::{MOST_BYTES, read_matrix};
+pub use reading::{MAX_BYTES, read_matrix};

@@ -7,7 +7,7 @@ ghost use Rattle.s2_rows.specs.RowFiles as row_files;
 ghost use Rattle.s2_matrix.specs.Code.{code_of};
 ghost use Rattle.s2_console.specs.Exits.{Follows};
 ghost use Rattle.s2_rows.specs.Values as values;
-ghost use Rattle.s2_evidence.specs.Inputs.{taken, fault_of_file, rows_said, rows_in, values_said, values_in, inputs, most_bytes};
+ghost use Rattle.s2_evidence.specs.Inputs.{taken, fault_of_file, rows_said, rows_in, values_said, values_in, inputs, max_bytes};
 
 use s2_console::Fault;
 use s2_matrix::Matrix;
@@ -16,15 +16,15 @@ use s2_rows::{RowFault, Rows, ValueFault, read_rows, read_values};
 use std::alloc::Global;
 
 /// The most bytes of a file that is read into memory.
-pub const MOST_BYTES: usize = 16_777_216;
+pub const MAX_BYTES: usize = 16_777_216;
 
 /// Room for the bytes of any file.
 fn room(alloc: Global) -> Result<Vec<u8>, Fault<'static>>
     ensures empty { IfOk result (λ v. vec_len v ≡ 0) }
-    ensures room { IfOk result (λ v. most_bytes ≤ vec_capacity v) }
+    ensures room { IfOk result (λ v. max_bytes ≤ vec_capacity v) }
     ensures told { IsOkUnless result Fault.NoMemory }
 {
-    Vec::with_capacity(alloc, MOST_BYTES).map_err(|_| Fault::NoMemory)
+    Vec::with_capacity(alloc, MAX_BYTES).map_err(|_| Fault::NoMemory)
 }
 
 /// A fault of a file, as a command's.
@@ -42,14 +42,14 @@ fn file_fault(fault: FileFault) -> Fault<'static>
 fn fill<R: CountedRead>(reader: &mut R, bytes: &mut Vec<u8>) -> Result<(), Fault<'static>>
     requires count { CanCount (R.count reader.old) }
     requires empty { vec_len bytes.old ≡ 0 }
-    requires room { most_bytes ≤ vec_capacity bytes.old }
+    requires room { max_bytes ≤ vec_capacity bytes.old }
     ensures bytes { IfSome (R.remaining reader.old) (λ xs. Follows (λ _. bytes.new.items) result (taken xs)) }
     ensures read { result ≡ Err Fault.Read → R.count reader.new ≡ R.count reader.old + 1 }
     ensures no_other { result ≢ Err Fault.Read → R.count reader.new ≡ R.count reader.old }
     ensures memory { result ≢ Err Fault.NoMemory }
     ensures write { result ≢ Err Fault.Write }
 {
-    read_into(reader, bytes, MOST_BYTES).map_err(file_fault)
+    read_into(reader, bytes, MAX_BYTES).map_err(file_fault)
 }
 
 /// The bytes of a file. Room for them is taken before the first one is read.

@@ -29,7 +29,7 @@ mod uses;
 
 pub use disk::Disk;
 pub use opened::Opened;
-pub use opener::{MOST_FILES, Opener, Reader};
+pub use opener::{MAX_FILES, Opener, Reader};
 pub use output::{Destination, Output};
 pub use standard::{StandardStreams, is_standard};
 pub use target::Target;

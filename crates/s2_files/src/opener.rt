@@ -14,7 +14,7 @@ use std::io::{BufReader, BufWriter};
 use std::marker::Model;
 
 /// The most files of a command.
-pub const MOST_FILES: usize = 4;
+pub const MAX_FILES: usize = 4;
 
 /// An input with a buffer, or without one if there was no memory for it or none is wanted. It counts its failed calls.
 pub type Reader<F, S> = Counting<Either<BufReader<Opened<F, S>>, Opened<F, S>>>;
@@ -22,7 +22,7 @@ pub type Reader<F, S> = Counting<Either<BufReader<Opened<F, S>>, Opened<F, S>>>;
 /// Opens files, each once. To contracts it is how each file that was opened is used, in order.
 pub struct Opener<'r, R> {
     rt: &'r R,
-    uses: ArrayVec<Use, MOST_FILES>,
+    uses: ArrayVec<Use, MAX_FILES>,
     length: Option<u64>,
 }
 

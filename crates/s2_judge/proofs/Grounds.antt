@@ -11,7 +11,7 @@ use Rattle.s2_check.specs.declared.verdict.Verdict.TheVariants.{Parity, Broken}
 use Rattle.s2_split.specs.Scattered.{repaired}
 use Rattle.s2_split.specs.Making.{Shared, shared_view, shared_views}
 use Rattle.s2_split.proofs.Passes.{fold_upto}
-use Rattle.s2_mode.specs.Limits.{most_soft}
+use Rattle.s2_mode.specs.Limits.{max_soft}
 use Rattle.s2_minsum.specs.Plain.{State, start, round, decision}
 use Rattle.s2_minsum.specs.Decoding.{AreWithin, Decoding, decoded}
 use Rattle.s2_link.specs.Tuning.{Tuning}
@@ -24,7 +24,7 @@ use Rattle.s2_judge.proofs.Decisions.{by_hard, not_hard}
 
 -- ---- rounds
 
-pub soft_within : (soft : List ℤ) → All IsSoft soft → AreWithin most_soft soft
+pub soft_within : (soft : List ℤ) → All IsSoft soft → AreWithin max_soft soft
 soft_within soft range k d within =
     let at = range k d within in
     omega (arith, ints, at.low, at.high)

@@ -2,12 +2,12 @@
 use Rattle.std.specs.Prelude.{◌≡◌, ◌≢◌, ◌<◌, ◌≤◌}
 use Rattle.s2_mode.specs.Mode.{shape_in}
 use Rattle.s2_rows.specs.Rows.{Rows}
-use Rattle.s2_scramble.specs.Gold.{most_number}
+use Rattle.s2_scramble.specs.Gold.{max_number}
 use Rattle.s2_link.specs.declared.setup.Setup.{Setup}
 use Rattle.s2_link.specs.declared.setup.LinkSetup.{LinkSetup}
 use Rattle.s2_link.specs.declared.fault.SetupFault.{SetupFault}
 use Rattle.s2_link.specs.declared.fault.SetupFault.TheVariants as faults
-use Rattle.s2_link.specs.Limits.{most_roll_off}
+use Rattle.s2_link.specs.Limits.{max_roll_off}
 
 -- a setup, and the address rows
 pub record Link : Type 0 where
@@ -29,12 +29,12 @@ HasShape setup rows = rows.shape ≡ shape_in setup.mode
 -- the rows are of the mode's shape, and the scrambling number and the roll-off are some
 pub record IsSetUp (setup : Setup) (rows : Rows) : Type 0 where
   pub shape : HasShape setup rows
-  pub number : setup.number ≤ most_number
-  pub roll_off : setup.roll_off ≤ most_roll_off
+  pub number : setup.number ≤ max_number
+  pub roll_off : setup.roll_off ≤ max_roll_off
 
 -- when a setup and rows are refused, at both ends of a link: the first of three
 abbrev pub RefusesLink : Setup → Rows → SetupFault → Type 0
 RefusesLink setup rows faults.OtherShape = rows.shape ≢ shape_in setup.mode
-RefusesLink setup rows faults.BadNumber = HasShape setup rows × (most_number < setup.number)
-RefusesLink setup rows faults.BadRollOff = HasShape setup rows × (setup.number ≤ most_number) × (most_roll_off < setup.roll_off)
+RefusesLink setup rows faults.BadNumber = HasShape setup rows × (max_number < setup.number)
+RefusesLink setup rows faults.BadRollOff = HasShape setup rows × (setup.number ≤ max_number) × (max_roll_off < setup.roll_off)
 RefusesLink setup rows fault = ⊥

@@ -2,11 +2,11 @@
 use Rattle.std.specs.Prelude.{◌≡◌, IsTrue, Bool, false, ℕ, ◌<◌, ◌≤◌, ◌⊎◌}
 use Rattle.s2_soft.specs.Divisors.{IsDivisor, default_divisor}
 use Rattle.s2_minsum.specs.Factors.{IsFactor, default_factor}
-use Rattle.s2_plframe.specs.Constants.{most_wrong}
+use Rattle.s2_plframe.specs.Constants.{max_wrong}
 use Rattle.s2_plframe.specs.Search.{IsLock}
 use Rattle.s2_link.specs.declared.fault.SetupFault.{SetupFault}
 use Rattle.s2_link.specs.declared.fault.SetupFault.TheVariants as faults
-use Rattle.s2_link.specs.Limits.{most_rounds, most_passes}
+use Rattle.s2_link.specs.Limits.{max_rounds, max_passes}
 
 -- The parameters of a receiver: rounds of min-sum, passes of settling, the divisor of soft values, the factor of
 -- min-sum's messages, the lock, and whether what min-sum finds stays uncertified. With no passes a certificate comes
@@ -22,14 +22,14 @@ pub record Tuning : Type 0 where
 -- these rounds and passes, and the default divisor, factor and lock, with certificates
 abbrev pub tuning_of : ℕ → ℕ → Tuning
 tuning_of rounds passes =
-    record { rounds = rounds; passes = passes; divisor = default_divisor; factor = default_factor; lock = most_wrong; uncertified = false }
+    record { rounds = rounds; passes = passes; divisor = default_divisor; factor = default_factor; lock = max_wrong; uncertified = false }
 
 -- At least one round of min-sum, and rounds and passes within their limits. A divisor, a factor and a lock in their
 -- ranges. No passes if min-sum's words stay uncertified
 pub record IsTuning (tuning : Tuning) : Type 0 where
   pub some : 1 ≤ tuning.rounds
-  pub most : tuning.rounds ≤ most_rounds
-  pub passes : tuning.passes ≤ most_passes
+  pub most : tuning.rounds ≤ max_rounds
+  pub passes : tuning.passes ≤ max_passes
   pub divisor : IsDivisor tuning.divisor
   pub factor : IsFactor tuning.factor
   pub lock : IsLock tuning.lock
@@ -37,6 +37,6 @@ pub record IsTuning (tuning : Tuning) : Type 0 where
 
 -- when rounds and passes are refused: the first of two
 abbrev pub RefusesTuning : Tuning → SetupFault → Type 0
-RefusesTuning tuning faults.BadRounds = (tuning.rounds ≡ 0) ⊎ (most_rounds < tuning.rounds)
-RefusesTuning tuning faults.BadPasses = (1 ≤ tuning.rounds) × (tuning.rounds ≤ most_rounds) × (most_passes < tuning.passes)
+RefusesTuning tuning faults.BadRounds = (tuning.rounds ≡ 0) ⊎ (max_rounds < tuning.rounds)
+RefusesTuning tuning faults.BadPasses = (1 ≤ tuning.rounds) × (tuning.rounds ≤ max_rounds) × (max_passes < tuning.passes)
 RefusesTuning tuning fault = ⊥

@@ -22,6 +22,6 @@ mod tuning;
 
 pub use fault::SetupFault;
 pub use link::Link;
-pub use roll_off::{MOST_ROLL_OFF, RollOff};
+pub use roll_off::{MAX_ROLL_OFF, RollOff};
 pub use setup::{LinkSetup, Setup};
-pub use tuning::{DEFAULT_ROUNDS, MOST_PASSES, MOST_ROUNDS, Tuning};
+pub use tuning::{DEFAULT_ROUNDS, MAX_PASSES, MAX_ROUNDS, Tuning};

@@ -1,8 +1,8 @@
 //! A link that no end refuses.
 ghost use Rattle.std.specs.Prelude.{◌≡◌, ◌≤◌, IfOk, IfErr};
 ghost use Rattle.s2_mode.specs.Mode.{shape_in};
-ghost use Rattle.s2_scramble.specs.Gold.{most_number};
-ghost use Rattle.s2_link.specs.Limits.{most_roll_off};
+ghost use Rattle.s2_scramble.specs.Gold.{max_number};
+ghost use Rattle.s2_link.specs.Limits.{max_roll_off};
 ghost use Rattle.s2_link.specs.Link.{link_of, setup_of, IsSetUp, RefusesLink};
 
 use crate::fault::SetupFault;
@@ -80,7 +80,7 @@ impl<'a> Link<'a> {
     /// The scrambling number.
     pub fn number(&self) -> ScramblingNumber
         ensures is { result ≡ self.now.setup.number }
-        ensures most { result ≤ most_number }
+        ensures most { result ≤ max_number }
     {
         // what it promises of the number is a part of what is promised here
         let _number = self.setup.number.get();
@@ -90,7 +90,7 @@ impl<'a> Link<'a> {
     /// The roll-off.
     pub fn roll_off(&self) -> RollOff
         ensures is { result ≡ self.now.setup.roll_off }
-        ensures most { result ≤ most_roll_off }
+        ensures most { result ≤ max_roll_off }
     {
         let _number = self.setup.roll_off.get();
         self.setup.roll_off

@@ -1,11 +1,11 @@
 //! Roll-offs.
 ghost use Rattle.std.specs.Prelude.{◌≡◌, ◌≤◌, ◌↔◌, IsSome, IfSome};
-ghost use Rattle.s2_link.specs.Limits.{most_roll_off};
+ghost use Rattle.s2_link.specs.Limits.{max_roll_off};
 
 use std::marker::Model;
 
 /// The highest number of a roll-off (EN 302 307-1, 5.1.6): 0 is 0.35, 1 is 0.25 and 2 is 0.20.
-pub const MOST_ROLL_OFF: u8 = 2;
+pub const MAX_ROLL_OFF: u8 = 2;
 
 /// A roll-off, by the number that headers tell (EN 302 307-1, 5.1.6). Its value is that number.
 #[derive(Clone, Copy, Debug, PartialEq, Eq)]
@@ -15,13 +15,13 @@ pub struct RollOff {
 
 impl Model for RollOff {
     ghost use Rattle.std.specs.Prelude.{ℕ, ◌≤◌};
-    ghost use Rattle.s2_link.specs.Limits.{most_roll_off};
+    ghost use Rattle.s2_link.specs.Limits.{max_roll_off};
 
     ghost Value = { ℕ };
 
     ghost view = { λ r. r.number };
 
-    ghost invariant = { λ r. r.number ≤ most_roll_off };
+    ghost invariant = { λ r. r.number ≤ max_roll_off };
 
     ghost inverse = { λ v. record { number = v } };
 }
@@ -29,10 +29,10 @@ impl Model for RollOff {
 impl RollOff {
     /// The roll-off of this number, if there is one.
     pub fn new(number: u8) -> Option<RollOff>
-        ensures found { IsSome result ↔ (number ≤ most_roll_off) }
+        ensures found { IsSome result ↔ (number ≤ max_roll_off) }
         ensures value { IfSome result (λ r. r ≡ number) }
     {
-        if number <= MOST_ROLL_OFF {
+        if number <= MAX_ROLL_OFF {
             Some(RollOff { number })
         } else {
             None
@@ -42,7 +42,7 @@ impl RollOff {
     /// The number.
     pub fn get(self) -> u8
         ensures value { result ≡ self }
-        ensures most { result ≤ most_roll_off }
+        ensures most { result ≤ max_roll_off }
     {
         self.number
     }

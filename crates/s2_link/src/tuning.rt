@@ -1,6 +1,6 @@
 //! How a receiver is tuned.
 ghost use Rattle.std.specs.Prelude.{◌≡◌, ◌≤◌, IfOk, IfErr, true};
-ghost use Rattle.s2_link.specs.Limits.{most_rounds, most_passes};
+ghost use Rattle.s2_link.specs.Limits.{max_rounds, max_passes};
 ghost use Rattle.s2_soft.specs.Divisors.{IsDivisor};
 ghost use Rattle.s2_minsum.specs.Factors.{IsFactor};
 ghost use Rattle.s2_plframe.specs.Search.{IsLock};
@@ -13,13 +13,13 @@ use s2_soft::Divisor;
 use std::marker::Model;
 
 /// How many rounds of min-sum a receiver runs at most.
-pub const MOST_ROUNDS: u32 = 200;
+pub const MAX_ROUNDS: u32 = 200;
 
 /// How many rounds of min-sum it runs at most where none are named.
 pub const DEFAULT_ROUNDS: u32 = 50;
 
 /// How many passes of settling it runs at most.
-pub const MOST_PASSES: u32 = 1000;
+pub const MAX_PASSES: u32 = 1000;
 
 /// How a receiver is tuned: so many rounds of min-sum, 1 to 200, so many passes of settling, 0 to 1000, what soft
 /// values are divided by, how many sixteenths of the least size min-sum's messages have, and how many bits of a header
@@ -76,10 +76,10 @@ impl Tuning {
         ensures tuned { IfOk result (λ _. IsTuning (tuning_of rounds passes)) }
         ensures refuses { IfErr result (RefusesTuning (tuning_of rounds passes)) }
     {
-        if rounds < 1 || rounds > MOST_ROUNDS {
+        if rounds < 1 || rounds > MAX_ROUNDS {
             return Err(SetupFault::BadRounds);
         }
-        if passes > MOST_PASSES {
+        if passes > MAX_PASSES {
             return Err(SetupFault::BadPasses);
         }
         Ok(Tuning {
@@ -152,7 +152,7 @@ impl Tuning {
     pub fn rounds(self) -> u32
         ensures is { result ≡ self.rounds }
         ensures some { 1 ≤ result }
-        ensures most { result ≤ most_rounds }
+        ensures most { result ≤ max_rounds }
     {
         self.rounds
     }
@@ -160,7 +160,7 @@ impl Tuning {
     /// How many passes of settling.
     pub fn passes(self) -> u32
         ensures is { result ≡ self.passes }
-        ensures most { result ≤ most_passes }
+        ensures most { result ≤ max_passes }
     {
         self.passes
     }

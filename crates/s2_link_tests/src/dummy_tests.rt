@@ -1,7 +1,7 @@
 //! A receiver of streams in which dummy frames of each TYPE stand, made here by the numbers of the standard.
 use super::hearing::{assert_reported, hear};
 use super::modem_tests::frame;
-use s2_mode::{ByOne, Endless, MOST_SYMBOLS, Symbol};
+use s2_mode::{ByOne, Endless, MAX_SYMBOLS, Symbol};
 use s2_receive::{Fault, Step};
 use s2_stream_tests::streams::{
     ALL, Heard, Sample, Source, Steps, header_of, put_symbol, send_with_dummies, two_frames,
@@ -173,7 +173,7 @@ fn each_read_fails_among_dummy_frames(rt: HostRuntime) -> Result<(), Fail> {
     let bytes = with_dummies(rt.alloc(), &sample, CODES[0], DUMMY)?;
     let source = Source::Slice(&bytes);
     for (passes, well) in [(0, 0), (1, 0), (2, 1), (3, 1), (4, 2), (5, 2), (6, 5)] {
-        let heard = hear_passes(rt.alloc(), &sample, source, MOST_SYMBOLS, passes)?;
+        let heard = hear_passes(rt.alloc(), &sample, source, MAX_SYMBOLS, passes)?;
         assert_read(&rt, &heard, well);
     }
     Ok(())
@@ -192,7 +192,7 @@ fn the_read_of_a_byte_fails_among_dummy_frames(rt: HostRuntime) -> Result<(), Fa
         (first + 400, 1),
         (ALL, 5),
     ] {
-        let heard = hear_passes(rt.alloc(), &sample, source, MOST_SYMBOLS, passes)?;
+        let heard = hear_passes(rt.alloc(), &sample, source, MAX_SYMBOLS, passes)?;
         assert_read(&rt, &heard, well);
     }
     Ok(())

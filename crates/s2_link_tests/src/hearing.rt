@@ -7,7 +7,7 @@ use s2_bits::Bits;
 use s2_check::{Answer, check};
 use s2_link::{Link, Tuning};
 use s2_matrix::Matrix;
-use s2_mode::{Counted, MOST_SYMBOLS, StreamFault};
+use s2_mode::{Counted, MAX_SYMBOLS, StreamFault};
 use s2_modem::{DemodFault, Receiver, SetupFault, demodulate};
 use s2_plframe::Lock;
 use s2_receive::{Fault, Received, Step, Totals};
@@ -191,7 +191,7 @@ fn receiver_by<'a>(alloc: Global, link: &'a Sides, divisor: Divisor) -> Result<R
 fn limit_receiver(receiver: &mut Receiver<'_>, symbols: u64)
     requires { receiver.old.state ≡ begun }
 {
-    receiver.limit(symbols.clamp(1, MOST_SYMBOLS));
+    receiver.limit(symbols.clamp(1, MAX_SYMBOLS));
 }
 
 /// Calls a receiver once.

@@ -5,7 +5,7 @@ use super::hearing::{
 use super::modem_tests::frame;
 use s2_bbframe::{Header, HeaderFault, crc8};
 use s2_check::Verdict;
-use s2_mode::{ByOne, Endless, MOST_SYMBOLS};
+use s2_mode::{ByOne, Endless, MAX_SYMBOLS};
 use s2_modem::{DemodFault, SetupFault};
 use s2_receive::{Fault, Outcome, Report, Step};
 use s2_stream_tests::streams::{
@@ -74,7 +74,7 @@ fn hear_sample(
     source: Source<'_>,
     passes: [u64; 3],
 ) -> Result<Heard, SetupFault> {
-    hear(alloc, &sample.link, MOST_SYMBOLS, source, passes)
+    hear(alloc, &sample.link, MAX_SYMBOLS, source, passes)
 }
 
 /// Asserts what is heard of the two frames.

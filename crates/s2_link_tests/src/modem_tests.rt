@@ -6,8 +6,8 @@ use super::hearing::{
 use s2_bbframe::Header;
 use s2_bits::Bits;
 use s2_check::{Answer, Verdict};
-use s2_mode::{ByOne, MOST_SYMBOLS};
-use s2_modem::{DemodFault, MOST_PASSES, SetupFault};
+use s2_mode::{ByOne, MAX_SYMBOLS};
+use s2_modem::{DemodFault, MAX_PASSES, SetupFault};
 use s2_receive::{Outcome, Report, Step, Totals};
 use s2_stream_tests::streams::{
     ALL, Event, Sample, Sides, Source, bch_word_of, frame_of_word, link_of, one_frame, other_link,
@@ -104,7 +104,7 @@ fn two_packets_arrive(rt: HostRuntime) -> Result<(), Fail> {
 /// Asserts what is heard of the two packets' frames where their bytes are read one by one.
 fn assert_heard_by_one<A: Abort>(rt: &A, alloc: Global, sample: &Sample) -> Result<(), Fail> {
     let source = Source::Bytes(ByOne::new(&sample.symbols));
-    let heard = hear(alloc, &sample.link, MOST_SYMBOLS, source, [ALL, ALL, ALL])?;
+    let heard = hear(alloc, &sample.link, MAX_SYMBOLS, source, [ALL, ALL, ALL])?;
     let end = Ok(Step::End);
     let want = [Ok(frame(1, 0)), Ok(frame(2, 8190)), end, end, end];
     assert_eq!(rt; heard.steps, want);
@@ -272,7 +272,7 @@ fn a_run_tells_whether_all_was_well(rt: HostRuntime) -> Result<(), Fail> {
 #[test]
 fn a_run_with_passes_tells_the_same(rt: HostRuntime) -> Result<(), Fail> {
     let sample = sample_of(rt.alloc(), 1, true, &packet_of(0))?;
-    assert_told(&rt, rt.alloc(), &sample, MOST_PASSES)
+    assert_told(&rt, rt.alloc(), &sample, MAX_PASSES)
 }
 
 /// Symbols of zeros say the zero codeword, whose message has no header.

@@ -2,7 +2,7 @@
 //! refused where it is there.
 use super::hearing::{assert_reported, hear};
 use s2_bbframe::{Slicer, field_bytes};
-use s2_mode::{MOST_SYMBOLS, Mode};
+use s2_mode::{MAX_SYMBOLS, Mode};
 use s2_modem::{Setup, SetupFault};
 use s2_receive::Step;
 use s2_stream_tests::streams::{ALL, Sides, Source, link_in, link_of, matrix_of, transmitter_of};
@@ -129,7 +129,7 @@ fn heaviest_link(alloc: Global, mode: Mode) -> Result<Sides, Fail> {
 fn assert_heaviest_has_room<A: Abort>(rt: &A, alloc: Global, mode: Mode) -> Result<(), Fail> {
     let link = heaviest_link(alloc, mode)?;
     assert_has_room(rt, alloc, &link)?;
-    assert_hears_the_end(rt, alloc, &link, MOST_SYMBOLS)
+    assert_hears_the_end(rt, alloc, &link, MAX_SYMBOLS)
 }
 
 /// The code of rate 9/10 has the most rows.

@@ -1,7 +1,7 @@
 //! A frame whose wrong decisions are scattered.
 use super::hearing::{assert_reported, hear};
 use s2_matrix::Matrix;
-use s2_mode::{ByOne, MOST_SYMBOLS};
+use s2_mode::{ByOne, MAX_SYMBOLS};
 use s2_stream_tests::streams::{
     ALL, Sides, Source, matrix_of, packet_of_zeros, setup_of, symbols_of,
 };
@@ -134,7 +134,7 @@ fn assert_repaired_by_one<A: Abort>(
 ) -> Result<(), Fail> {
     let symbols = negated(alloc, link, count)?;
     let source = Source::Bytes(ByOne::new(&symbols));
-    let heard = hear(alloc, link, MOST_SYMBOLS, source, [ALL, ALL, ALL])?;
+    let heard = hear(alloc, link, MAX_SYMBOLS, source, [ALL, ALL, ALL])?;
     assert_eq!(rt; heard.packets.as_slice(), packet_of_zeros().as_slice());
     assert_eq!(rt; heard.report.as_slice(), REPAIRED.as_bytes());
     Ok(())

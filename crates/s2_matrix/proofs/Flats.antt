@@ -18,8 +18,8 @@ use Rattle.s2_matrix.specs.Share.{shared, places_before}
 use Rattle.s2_matrix.specs.Joined.{joined}
 use Rattle.s2_matrix.proofs.Counts.{shared-append}
 use Rattle.s2_matrix.proofs.Cuts.{joined-append}
-use Rattle.s2_mode.specs.Limits.{most_bits}
-use Rattle.s2_matrix.specs.Limits.{most_edges}
+use Rattle.s2_mode.specs.Limits.{max_bits}
+use Rattle.s2_matrix.specs.Limits.{max_edges}
 use Rattle.s2_matrix.specs.Layers.{layer_places}
 use Rattle.s2_matrix.specs.Edges.{owners, flat, AreEdges, IsMatrix}
 use Rattle.s2_rows.specs.Rows.{IsRows}
@@ -203,10 +203,10 @@ owners_step lists old new row l n j inv el er en is =
 pub same_rows : (r : Rows) (shape : Shape) (rows : List (List ℕ)) → shape ≡ r.shape → rows ≡ r.rows → record { shape = shape; rows = rows } ≡ r
 same_rows r shape rows es er = ap₂ (λ (x : Shape) (y : List (List ℕ)). record { shape = x; rows = y }) es er
 
-pub few_checks_of : (r : Rows) → IsRows r → (code_of r).checks ≤ most_bits
+pub few_checks_of : (r : Rows) → IsRows r → (code_of r).checks ≤ max_bits
 few_checks_of r accepted = omega (arith, accepted.shaped.few)
 
-pub is_matrix : (r : Rows) (by_check edges checks layers : List (List ℕ)) → IsRows r → by_check ≡ map (members (code_of r)) (upto (code_of r).checks) → length (joined by_check) ≤ most_edges → edges ≡ map (edges_at (code_of r)) (upto (code_of r).bits) → checks ≡ map (checks_of (code_of r)) (upto (code_of r).bits) → layers ≡ map (layer_places r) (upto r.shape.q) → IsMatrix r by_check edges checks layers
+pub is_matrix : (r : Rows) (by_check edges checks layers : List (List ℕ)) → IsRows r → by_check ≡ map (members (code_of r)) (upto (code_of r).checks) → length (joined by_check) ≤ max_edges → edges ≡ map (edges_at (code_of r)) (upto (code_of r).bits) → checks ≡ map (checks_of (code_of r)) (upto (code_of r).bits) → layers ≡ map (layer_places r) (upto r.shape.q) → IsMatrix r by_check edges checks layers
 is_matrix r by_check edges checks layers accepted is few is_edges is_checks is_layers = record {
   rows = accepted;
   few_edges = omega (arith, ap (λ l. length (joined l)) is, length-flat (code_of r) (code_of r).checks);

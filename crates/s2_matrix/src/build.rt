@@ -2,7 +2,7 @@
 ghost use Rattle.std.specs.Prelude.{◌≡◌, ℕ, ◌+◌, ◌*◌, ◌/◌, ◌%◌, ◌<◌, ◌≤◌, ◌^◌, ◌==◌, ◌||◌, ◌++◌, ◌∷◌, [], All, OnOk, IfOk, length, vec_len};
 ghost use Rattle.std.specs.List.{list_any};
 ghost use Rattle.s2_matrix.specs.Total.{upto};
-ghost use Rattle.s2_mode.specs.Limits.{most_bits};
+ghost use Rattle.s2_mode.specs.Limits.{max_bits};
 ghost use Rattle.s2_mode.specs.Shape.{information_bits, check_count, code_bits};
 ghost use Rattle.s2_matrix.specs.Code.{code_of};
 ghost use Rattle.s2_rows.specs.Rows.{AreAddresses};
@@ -36,7 +36,7 @@ fn join_row(
     bit: u32,
 ) -> Result<(), AllocError>
     requires some { 1 ≤ count }
-    requires most { count ≤ most_bits }
+    requires most { count ≤ max_bits }
     requires turn { turn < 2 ^ 32 }
     requires addresses { AreAddresses count row.now }
     requires paired { length bits.old.items ≡ length checks.old.items }
@@ -59,7 +59,7 @@ fn join_parity(
     bit: u32,
 ) -> Result<(), AllocError>
     requires check { check < count }
-    requires most { count ≤ most_bits }
+    requires most { count ≤ max_bits }
     requires paired { length bits.old.items ≡ length checks.old.items }
     requires below { All (λ k. k < count) checks.old.items }
     ensures { OnOk result (Gains count checks.old.items bits.old.items checks.new.items bits.new.items (λ j. (check == j) || (check + 1 == j)) bit 2) }

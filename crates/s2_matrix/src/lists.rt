@@ -1,8 +1,8 @@
 //! The flat lists of a matrix.
 ghost use Rattle.std.specs.Prelude.{◌≡◌, ◌<◌, ◌≤◌, ◌^◌, IfOk, map, length, sum_by};
 ghost use Rattle.s2_rows.specs.Rows.{row_of};
-ghost use Rattle.s2_rows.specs.Limits.{most_addresses};
-ghost use Rattle.s2_matrix.specs.Limits.{most_edges};
+ghost use Rattle.s2_rows.specs.Limits.{max_addresses};
+ghost use Rattle.s2_matrix.specs.Limits.{max_edges};
 ghost use Rattle.s2_matrix.specs.Total.{upto};
 ghost use Rattle.s2_matrix.specs.Code.{code_of, members, checks_of, edges_at};
 ghost use Rattle.s2_matrix.specs.Joined.{joined};
@@ -16,7 +16,7 @@ use std::alloc::{AllocError, Global};
 
 /// A copy of a row.
 fn copy_row(row: &[u32]) -> Row
-    requires { length row.now ≤ most_addresses }
+    requires { length row.now ≤ max_addresses }
     ensures { result.items ≡ row.now }
 {
     let mut copy = Row::new();
@@ -41,7 +41,7 @@ pub(crate) fn copy_rows(alloc: Global, rows: &Rows) -> Result<Vec<Row>, AllocErr
 /// How many addresses all rows have.
 pub(crate) fn address_count(rows: &Rows) -> usize
     ensures is { result ≡ sum_by (λ g. length (row_of rows.now g)) (upto rows.now.shape.groups) }
-    ensures few { result ≤ most_edges }
+    ensures few { result ≤ max_edges }
 {
     let mut count = 0;
     for g in 0..rows.shape().groups() {
@@ -53,7 +53,7 @@ pub(crate) fn address_count(rows: &Rows) -> usize
 /// The members of the checks. All storage is taken before the first edge is written.
 pub(crate) fn members(alloc: Global, rows: &Rows) -> Result<Table, AllocError>
     ensures are { IfOk result (λ t. t ≡ map (members (code_of rows.now)) (upto (code_of rows.now).checks)) }
-    ensures few { IfOk result (λ t. length (joined t) ≤ most_edges) }
+    ensures few { IfOk result (λ t. length (joined t) ≤ max_edges) }
 {
     let shape = rows.shape();
     let count = shape.checks();
@@ -94,7 +94,7 @@ fn owners_of(alloc: Global, by_check: &Table) -> Result<Vec<u32>, AllocError>
 /// The edges of the bits.
 pub(crate) fn edges(alloc: Global, rows: &Rows, by_check: &Table) -> Result<Table, AllocError>
     requires are { by_check.now ≡ map (members (code_of rows.now)) (upto (code_of rows.now).checks) }
-    requires few { length (joined by_check.now) ≤ most_edges }
+    requires few { length (joined by_check.now) ≤ max_edges }
     ensures { IfOk result (λ t. t ≡ map (edges_at (code_of rows.now)) (upto (code_of rows.now).bits)) }
 {
     let bits = rows.shape().n();
@@ -107,7 +107,7 @@ pub(crate) fn edges(alloc: Global, rows: &Rows, by_check: &Table) -> Result<Tabl
 /// The checks of the bits.
 pub(crate) fn checks(alloc: Global, rows: &Rows, by_check: &Table) -> Result<Table, AllocError>
     requires are { by_check.now ≡ map (members (code_of rows.now)) (upto (code_of rows.now).checks) }
-    requires few { length (joined by_check.now) ≤ most_edges }
+    requires few { length (joined by_check.now) ≤ max_edges }
     ensures { IfOk result (λ t. t ≡ map (checks_of (code_of rows.now)) (upto (code_of rows.now).bits)) }
 {
     let bits = rows.shape().n();

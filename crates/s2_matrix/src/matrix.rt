@@ -1,11 +1,11 @@
 //! The matrix and its reads.
 ghost use Rattle.std.specs.Prelude.{◌≡◌, ℕ, ◌+◌, ◌<◌, ◌≤◌, All, IfOk, length, slice_index};
 ghost use Rattle.s2_mode.specs.Shape.{IsShape, check_count};
-ghost use Rattle.s2_mode.specs.Limits.{most_bits};
-ghost use Rattle.s2_rows.specs.Limits.{most_addresses};
+ghost use Rattle.s2_mode.specs.Limits.{max_bits};
+ghost use Rattle.s2_rows.specs.Limits.{max_addresses};
 ghost use Rattle.s2_rows.specs.Rows.{AreAddresses, row_of};
 ghost use Rattle.s2_matrix.specs.Code.{code_of, members, checks_of, edges_at, first_edge};
-ghost use Rattle.s2_matrix.specs.Limits.{most_edges};
+ghost use Rattle.s2_matrix.specs.Limits.{max_edges};
 
 use crate::table::Table;
 use crate::{layers, lists};
@@ -86,7 +86,7 @@ impl Matrix {
         requires { group < self.now.shape.groups }
         ensures are { result.now ≡ row_of self.now group }
         ensures addresses { AreAddresses (check_count self.now.shape) result.now }
-        ensures short { length result.now ≤ most_addresses }
+        ensures short { length result.now ≤ max_addresses }
     {
         self.rows[group].as_slice()
     }
@@ -94,8 +94,8 @@ impl Matrix {
     /// n, how many bits a codeword has: at most 64800. Each is in at most 24 checks.
     pub fn bits(&self) -> usize
         ensures is { result ≡ (code_of self.now).bits }
-        ensures few { result ≤ most_bits }
-        ensures few_checks { (i : ℕ) → length (checks_of (code_of self.now) i) ≤ most_addresses }
+        ensures few { result ≤ max_bits }
+        ensures few_checks { (i : ℕ) → length (checks_of (code_of self.now) i) ≤ max_addresses }
     {
         self.edges.len()
     }
@@ -103,7 +103,7 @@ impl Matrix {
     /// n - k, how many checks there are, and as many parity bits.
     pub fn check_count(&self) -> usize
         ensures is { result ≡ (code_of self.now).checks }
-        ensures few { result ≤ most_bits }
+        ensures few { result ≤ max_bits }
     {
         self.members.len()
     }
@@ -111,7 +111,7 @@ impl Matrix {
     /// How many edges there are, the pairs of a check and a member: at most 1,555,200.
     pub fn edges(&self) -> usize
         ensures is { result ≡ first_edge (code_of self.now) (code_of self.now).checks }
-        ensures few { result ≤ most_edges }
+        ensures few { result ≤ max_edges }
     {
         self.members.all().len()
     }
@@ -151,7 +151,7 @@ impl Matrix {
         requires { check < (code_of self.now).checks }
         ensures are { result.now ≡ members (code_of self.now) check }
         ensures below { All (λ i. i < (code_of self.now).bits) result.now }
-        ensures short { length result.now ≤ most_bits }
+        ensures short { length result.now ≤ max_bits }
         ensures within { first_edge (code_of self.now) check + length result.now
             ≤ first_edge (code_of self.now) (code_of self.now).checks }
     {
@@ -164,7 +164,7 @@ impl Matrix {
         requires { bit < (code_of self.now).bits }
         ensures are { result.now ≡ edges_at (code_of self.now) bit }
         ensures below { All (λ e. e < first_edge (code_of self.now) (code_of self.now).checks) result.now }
-        ensures few { length result.now ≤ most_addresses }
+        ensures few { length result.now ≤ max_addresses }
     {
         self.edges.row(bit)
     }
@@ -174,7 +174,7 @@ impl Matrix {
         requires { bit < (code_of self.now).bits }
         ensures are { result.now ≡ checks_of (code_of self.now) bit }
         ensures below { All (λ j. j < (code_of self.now).checks) result.now }
-        ensures few { length result.now ≤ most_addresses }
+        ensures few { length result.now ≤ max_addresses }
     {
         self.checks.row(bit)
     }
@@ -183,7 +183,7 @@ impl Matrix {
     pub fn degree(&self, check: usize) -> usize
         requires { check < (code_of self.now).checks }
         ensures is { result ≡ length (members (code_of self.now) check) }
-        ensures short { result ≤ most_bits }
+        ensures short { result ≤ max_bits }
         ensures within { first_edge (code_of self.now) check + result
             ≤ first_edge (code_of self.now) (code_of self.now).checks }
     {
@@ -204,7 +204,7 @@ impl Matrix {
     pub fn bit_degree(&self, bit: usize) -> usize
         requires { bit < (code_of self.now).bits }
         ensures is { result ≡ length (checks_of (code_of self.now) bit) }
-        ensures few { result ≤ most_addresses }
+        ensures few { result ≤ max_addresses }
     {
         self.checks_at(bit).len()
     }

@@ -2,7 +2,7 @@
 ghost use Rattle.std.specs.Prelude.{◌≡◌, ◌≢◌, ℕ, ◌+◌, ◌*◌, ◌<◌, ◌≤◌, ◌==◌, ◌%◌, ◌↔◌, All, IsTrue, IfSome, MatchOption, false, length, count_by};
 ghost use Rattle.s2_bits.specs.Bits.{xor, bit_at};
 ghost use Rattle.s2_mode.specs.Shape.{information_bits, check_count};
-ghost use Rattle.s2_mode.specs.Limits.{most_bits};
+ghost use Rattle.s2_mode.specs.Limits.{max_bits};
 ghost use Rattle.s2_matrix.specs.Code.{code_of, ones_in, IsCodeword, IsOddCheck};
 ghost use Rattle.s2_matrix.specs.Sums.{information_sum, parity_bit};
 ghost use Rattle.s2_matrix.specs.Planes.{plane_place};
@@ -11,7 +11,7 @@ use crate::accumulator::accumulate;
 use crate::matrix::Matrix;
 use crate::planes::{add_row, part};
 use s2_bits::{Bits, xor_first};
-use s2_mode::{MOST_BITS, MOST_GROUP};
+use s2_mode::{MAX_BITS, MAX_GROUP};
 
 /// How many checks are looked at one by one before all are at once: bits that are far from a
 /// codeword have an odd check among so many.
@@ -21,7 +21,7 @@ const FIRST_CHECKS: usize = 64;
 fn add_groups(matrix: &Matrix, info: &[bool], planes: &mut [bool])
     requires info { length info.now ≡ information_bits matrix.now.shape }
     requires room { check_count matrix.now.shape ≤ length planes.old }
-    requires few { length planes.old ≤ most_bits }
+    requires few { length planes.old ≤ max_bits }
     requires empty { (k : ℕ) → bit_at planes.old k ≡ false }
     ensures long { length planes.new ≡ length planes.old }
     ensures are { (j : ℕ) → j < check_count matrix.now.shape → bit_at planes.new (plane_place matrix.now.shape.group matrix.now.shape.q j) ≡ information_sum (code_of matrix.now) info.now j }
@@ -29,7 +29,7 @@ fn add_groups(matrix: &Matrix, info: &[bool], planes: &mut [bool])
     let shape = matrix.shape();
     let group = shape.group();
     let q = shape.q();
-    let mut room = [false; 2 * MOST_GROUP];
+    let mut room = [false; 2 * MAX_GROUP];
     let (twice, _) = room.split_at_mut(2 * group);
     for g in 0..shape.groups() {
         let bits = part(info, group * g, group);
@@ -102,7 +102,7 @@ impl Matrix {
             → bit_at parities.new j ≡ parity_bit (code_of self.now) info.now j }
     {
         let shape = self.shape();
-        let mut planes = [false; MOST_BITS];
+        let mut planes = [false; MAX_BITS];
         add_groups(self, info, &mut planes);
         accumulate(&mut planes, shape.group(), shape.q(), parities);
     }
@@ -126,7 +126,7 @@ impl Matrix {
         ensures { MatchOption result (IsCodeword (code_of self.now) codeword.now) (IsOddCheck (code_of self.now) codeword.now) }
     {
         let (info, parities) = codeword.split_at(self.shape().k());
-        let mut made = [false; MOST_BITS];
+        let mut made = [false; MAX_BITS];
         let (made, _) = made.split_at_mut(parities.len());
         self.parities_into(info, made);
         first_difference(parities, made)
@@ -143,7 +143,7 @@ impl Matrix {
             → bit_at odd.new j ≡ (ones_in (code_of self.now) codeword.now j % 2 == 1) }
     {
         let (info, parities) = codeword.split_at(self.shape().k());
-        let mut apart = [false; MOST_BITS];
+        let mut apart = [false; MAX_BITS];
         let (apart, _) = apart.split_at_mut(parities.len());
         self.parities_into(info, apart);
         xor_first(apart, parities, parities.len());

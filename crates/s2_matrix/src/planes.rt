@@ -2,7 +2,7 @@
 ghost use Rattle.std.specs.Prelude.{◌≡◌, ℕ, ◌+◌, ◌*◌, ◌%◌, ◌<◌, ◌≤◌, ◌==◌, ◌&&◌, ◌++◌, false, length};
 ghost use Rattle.std.specs.List.{list_any};
 ghost use Rattle.s2_bits.specs.Bits.{xor, bit_at};
-ghost use Rattle.s2_mode.specs.Limits.{most_bits};
+ghost use Rattle.s2_mode.specs.Limits.{max_bits};
 ghost use Rattle.s2_rows.specs.Rows.{AreAddresses};
 ghost use Rattle.s2_matrix.specs.Sums.{sum_of};
 ghost use Rattle.s2_matrix.specs.Planes.{plane_place};
@@ -35,7 +35,7 @@ fn add_address(planes: &mut [bool], q: usize, bits: &[bool], twice: &[bool], add
     requires twice { twice.now ≡ bits.now ++ bits.now }
     requires address { address < length bits.now * q }
     requires room { length bits.now * q ≤ length planes.old }
-    requires few { length planes.old ≤ most_bits }
+    requires few { length planes.old ≤ max_bits }
     ensures long { length planes.new ≡ length planes.old }
     ensures added { (j : ℕ) → j < length bits.now * q → bit_at planes.new (plane_place (length bits.now) q j) ≡ xor (bit_at planes.old (plane_place (length bits.now) q j)) (sum_of (λ m. ((address + m * q) % (length bits.now * q) == j) && bit_at bits.now m) (length bits.now)) }
 {
@@ -52,7 +52,7 @@ pub(crate) fn add_row(planes: &mut [bool], q: usize, bits: &[bool], twice: &mut 
     requires twice { length twice.old ≡ 2 * length bits.now }
     requires addresses { AreAddresses (length bits.now * q) row.now }
     requires room { length bits.now * q ≤ length planes.old }
-    requires few { length planes.old ≤ most_bits }
+    requires few { length planes.old ≤ max_bits }
     ensures long { length planes.new ≡ length planes.old }
     ensures added { (j : ℕ) → j < length bits.now * q → bit_at planes.new (plane_place (length bits.now) q j) ≡ xor (bit_at planes.old (plane_place (length bits.now) q j)) (sum_of (λ m. list_any (λ x. (x + m * q) % (length bits.now * q) == j) row.now && bit_at bits.now m) (length bits.now)) }
 {

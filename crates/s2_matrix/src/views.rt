@@ -2,9 +2,9 @@
 //! checks r + q c, one for each lane c of a group.
 ghost use Rattle.std.specs.Prelude.{◌≡◌, ◌/◌, ◌%◌, ◌<◌, ◌≤◌, All, length, get_or};
 ghost use Rattle.s2_mode.specs.Shape.{information_bits};
-ghost use Rattle.s2_mode.specs.Limits.{most_bits};
+ghost use Rattle.s2_mode.specs.Limits.{max_bits};
 ghost use Rattle.s2_rows.specs.Rows.{row_of};
-ghost use Rattle.s2_rows.specs.Limits.{most_addresses};
+ghost use Rattle.s2_rows.specs.Limits.{max_addresses};
 ghost use Rattle.s2_matrix.specs.Layers.{layer_places, layer_entries};
 
 use crate::matrix::Matrix;
@@ -34,7 +34,7 @@ impl Matrix {
     pub fn group_len(&self, group: usize) -> usize
         requires { group < self.now.shape.groups }
         ensures is { result ≡ length (row_of self.now group) }
-        ensures few { result ≤ most_addresses }
+        ensures few { result ≤ max_addresses }
     {
         self.addresses(group).len()
     }
@@ -61,7 +61,7 @@ impl Matrix {
         requires { layer < self.now.shape.q }
         ensures are { result.now ≡ layer_places self.now layer }
         ensures below { All (λ p. p < information_bits self.now.shape) result.now }
-        ensures short { length result.now ≤ most_bits }
+        ensures short { length result.now ≤ max_bits }
     {
         self.layers.row(layer)
     }

@@ -12,8 +12,8 @@ use Rattle.s2_matrix.specs.Code.{code_of, members, is_member}
 use Rattle.s2_matrix.proofs.Members.{members_rising, place_of}
 use Rattle.s2_matrix.proofs.Joins.{div_below}
 use Rattle.s2_minsum.specs.declared.rows.Entry.{Entry}
-use Rattle.s2_mode.specs.Limits.{most_soft}
-use Rattle.s2_minsum.specs.Plain.{size_cap, most_message, most_posterior, is_edge, input, posterior, others, made, layer as after_layer}
+use Rattle.s2_mode.specs.Limits.{max_soft}
+use Rattle.s2_minsum.specs.Plain.{size_cap, max_message, max_posterior, is_edge, input, posterior, others, made, layer as after_layer}
 use Rattle.s2_minsum.specs.Nodes.{first_of, second_of, signs_of, sent}
 use Rattle.s2_bits.specs.Lanes16.{signed16, plus16, minus16, size16}
 use Rattle.s2_minsum.specs.Rows.{cell, entry_at, reduced16, turned, turned_back, is_lacking, received, change_of, changed}
@@ -26,19 +26,19 @@ use Rattle.s2_minsum.proofs.WordLemmas.{word_plus, word_minus, sent_word}
 use Rattle.s2_minsum.proofs.StepStates.{replaced, edge_parts, is_edge-true, of_lane, lane_of, layer_of, lane_small, step}
 use Rattle.s2_minsum.proofs.Posteriors.{posterior_same, posterior_small}
 
-pub small_at : (vs : List ℕ) → AreMessages vs → (k : ℕ) → unsigned_abs (signed16 (get_or vs k 0)) ≤ most_message
+pub small_at : (vs : List ℕ) → AreMessages vs → (k : ℕ) → unsigned_abs (signed16 (get_or vs k 0)) ≤ max_message
 small_at vs all k = elim (cases_lt k (length vs)) [
   | inl lt ↦ all k 0 lt
   | inr le ↦ (let none = get_or_past vs k 0 le in rw none (omega arith))
 ]
 
-message_small : (rows : Rows) (kept : ℕ → ℕ → ℕ → ℕ) → ((r e c : ℕ) → unsigned_abs (signed16 (kept r e c)) ≤ most_message) → (j i : ℕ) → unsigned_abs (message_of rows kept j i) ≤ most_message
+message_small : (rows : Rows) (kept : ℕ → ℕ → ℕ → ℕ) → ((r e c : ℕ) → unsigned_abs (signed16 (kept r e c)) ≤ max_message) → (j i : ℕ) → unsigned_abs (message_of rows kept j i) ≤ max_message
 message_small rows kept small j i = elim (cases_Bool (is_edge (code_of rows) j i)) [
   | inl edge ↦ rw edge (small (j % rows.shape.q) (place_at rows j i) (j / rows.shape.q))
   | inr out ↦ rw out (omega arith)
 ]
 
-either_small : (b : Bool) (x y : ℕ) → unsigned_abs (signed16 x) ≤ most_message → unsigned_abs (signed16 y) ≤ most_message → unsigned_abs (signed16 (cond b x y)) ≤ most_message
+either_small : (b : Bool) (x y : ℕ) → unsigned_abs (signed16 x) ≤ max_message → unsigned_abs (signed16 y) ≤ max_message → unsigned_abs (signed16 (cond b x y)) ≤ max_message
 either_small true x y one two = one
 either_small false x y one two = two
 
@@ -78,13 +78,13 @@ module _ (rows : Rows) (factor : ℕ) (soft : List ℤ) (messages posteriors : L
         let b = get_or (members (code_of rows) (last_check rows.shape r)) k 0 in
         cond (is_lacking (lacked_row rows.shape r) (entry_of rows.shape b) c) (pos size_cap) (input (code_of rows) (state_of rows soft (kept_of rows messages)) (r + c * rows.shape.q) (forth rows.shape c b))
 
-    kept_small : (r' e c : ℕ) → unsigned_abs (signed16 (kept_of rows messages r' e c)) ≤ most_message
+    kept_small : (r' e c : ℕ) → unsigned_abs (signed16 (kept_of rows messages r' e c)) ≤ max_message
     kept_small r' e c = small_at messages d.messages_small ((first_row rows r' + e) * rows.shape.group + c)
 
-    soft_small : (i : ℕ) → i < code_bits rows.shape → unsigned_abs (get_or soft i (pos 0)) ≤ most_soft
+    soft_small : (i : ℕ) → i < code_bits rows.shape → unsigned_abs (get_or soft i (pos 0)) ≤ max_soft
     soft_small i low = d.soft_small i (pos 0) (omega (arith, d.soft_long))
 
-    before_small : (i : ℕ) → i < code_bits rows.shape → unsigned_abs (posterior (code_of rows) (state_of rows soft (kept_of rows messages)) i) ≤ most_posterior
+    before_small : (i : ℕ) → i < code_bits rows.shape → unsigned_abs (posterior (code_of rows) (state_of rows soft (kept_of rows messages)) i) ≤ max_posterior
     before_small i low =
         posterior_small (code_of rows) (state_of rows soft (kept_of rows messages)) i (l.few i low) (soft_small i low) (λ j. message_small rows (kept_of rows messages) kept_small j i)
 
@@ -198,10 +198,10 @@ module _ (rows : Rows) (factor : ℕ) (soft : List ℤ) (messages posteriors : L
     module _ (small' : AreMessages messages') (long' : length messages' ≡ length messages) (fits' : (k : ℕ) → get_or messages' k 0 < 65536) (posteriors' : List ℕ) (posteriors_fit : (k : ℕ) → get_or posteriors' k 0 < 65536) (posteriors_long : length posteriors' ≡ length posteriors)
         (posteriors_are : (p : ℕ) → p < length posteriors → get_or posteriors' p 0 ≡ changed rows.shape.group es posteriors (change_of rows.shape.group es (lacked_row rows.shape r) ms ys) (entry_count rows r) p)
       where
-        replaced_small : (m r' e c : ℕ) → unsigned_abs (signed16 (replaced (kept_of rows messages) (kept_of rows messages' r) r m r' e c)) ≤ most_message
+        replaced_small : (m r' e c : ℕ) → unsigned_abs (signed16 (replaced (kept_of rows messages) (kept_of rows messages' r) r m r' e c)) ≤ max_message
         replaced_small m r' e c = either_small ((r' == r) && nat_lt e m) (kept_of rows messages' r e c) (kept_of rows messages r' e c) (small_at messages' small' ((first_row rows r + e) * rows.shape.group + c)) (kept_small r' e c)
 
-        step_small : (m i : ℕ) → i < code_bits rows.shape → unsigned_abs (posterior (code_of rows) (state_of rows soft (replaced (kept_of rows messages) (kept_of rows messages' r) r m)) i) ≤ most_posterior
+        step_small : (m i : ℕ) → i < code_bits rows.shape → unsigned_abs (posterior (code_of rows) (state_of rows soft (replaced (kept_of rows messages) (kept_of rows messages' r) r m)) i) ≤ max_posterior
         step_small m i low =
             posterior_small (code_of rows) (state_of rows soft (replaced (kept_of rows messages) (kept_of rows messages' r) r m)) i (l.few i low) (soft_small i low) (λ j. message_small rows (replaced (kept_of rows messages) (kept_of rows messages' r) r m) (replaced_small m) j i)
 

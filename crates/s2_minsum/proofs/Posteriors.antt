@@ -6,8 +6,8 @@ use Rattle.std.proofs.lemmas.Int.{ints}
 use Rattle.s2_matrix.specs.Total.{total, upto}
 use Rattle.s2_matrix.specs.Code.{Code, checks_of}
 use Rattle.s2_matrix.proofs.Totals.{total-filter, total-within}
-use Rattle.s2_mode.specs.Limits.{most_soft}
-use Rattle.s2_minsum.specs.Plain.{most_message, most_posterior, State, posterior}
+use Rattle.s2_mode.specs.Limits.{max_soft}
+use Rattle.s2_minsum.specs.Plain.{max_message, max_posterior, State, posterior}
 
 pub total_small : (f : ℕ → ℤ) (m : ℕ) (xs : List ℕ) → ((k : ℕ) → unsigned_abs (f k) ≤ m) → unsigned_abs (total f xs) ≤ m * length xs
 total_small f m [] small = omega arith
@@ -17,9 +17,9 @@ total_small f m (x ∷ xs) small =
     let more : m * length (x ∷ xs) ≡ m + m * length xs = omega arith in
     omega (arith, ints, rest, one, more)
 
-pub posterior_small : (code : Code) (s : State) (i : ℕ) → length (checks_of code i) ≤ 24 → unsigned_abs (get_or s.soft i (pos 0)) ≤ most_soft → ((j : ℕ) → unsigned_abs (s.message j i) ≤ most_message) → unsigned_abs (posterior code s i) ≤ most_posterior
+pub posterior_small : (code : Code) (s : State) (i : ℕ) → length (checks_of code i) ≤ 24 → unsigned_abs (get_or s.soft i (pos 0)) ≤ max_soft → ((j : ℕ) → unsigned_abs (s.message j i) ≤ max_message) → unsigned_abs (posterior code s i) ≤ max_posterior
 posterior_small code s i few soft small =
-    let sum = total_small (λ j. s.message j i) most_message (checks_of code i) small in
+    let sum = total_small (λ j. s.message j i) max_message (checks_of code i) small in
     omega (arith, ints, sum, soft, few)
 
 pub posterior_same : (code : Code) (before after : State) (i : ℕ) → after.soft ≡ before.soft → ((k : ℕ) → after.message k i ≡ before.message k i) → posterior code after i ≡ posterior code before i

@@ -10,7 +10,7 @@ use Rattle.s2_rows.specs.Rows.{Rows}
 use Rattle.s2_matrix.specs.Code.{code_of, checks_of}
 use Rattle.s2_matrix.proofs.Totals.{total-zero}
 use Rattle.s2_matrix.proofs.Members.{length-members}
-use Rattle.s2_mode.specs.Limits.{most_soft}
+use Rattle.s2_mode.specs.Limits.{max_soft}
 use Rattle.s2_minsum.specs.Plain.{is_edge, posterior, start, decision}
 use Rattle.s2_bits.specs.Lanes16.{signed16}
 use Rattle.s2_minsum.specs.Rows.{cell}
@@ -30,7 +30,7 @@ pub start_is : (rows : Rows) (soft : List ℤ) (messages : List ℕ) → ((k : �
 start_is rows soft messages none =
     λ x. record { soft = soft; message = λ j i. none_sent (is_edge (code_of rows) j i) (kept_of rows messages (j % rows.shape.q) (place_at rows j i) (j / rows.shape.q)) (none ((first_row rows (j % rows.shape.q) + place_at rows j i) * rows.shape.group + j / rows.shape.q)) x }
 
-pub started : (rows : Rows) (soft : List ℤ) (messages posteriors : List ℕ) → length soft ≡ code_bits rows.shape → AreWithin most_soft soft → ((k : ℕ) → get_or messages k 0 ≡ 0) → length messages ≡ first_row rows rows.shape.q * rows.shape.group → length posteriors ≡ code_bits rows.shape → ((k : ℕ) → get_or posteriors k 0 < 65536)
+pub started : (rows : Rows) (soft : List ℤ) (messages posteriors : List ℕ) → length soft ≡ code_bits rows.shape → AreWithin max_soft soft → ((k : ℕ) → get_or messages k 0 ≡ 0) → length messages ≡ first_row rows rows.shape.q * rows.shape.group → length posteriors ≡ code_bits rows.shape → ((k : ℕ) → get_or posteriors k 0 < 65536)
     → ((row lane : ℕ) → row < rows.shape.groups + rows.shape.q → lane < rows.shape.group → signed16 (cell posteriors rows.shape.group row lane) ≡ get_or soft (bit_of rows.shape row lane) (pos 0))
     → AreNumbers rows soft messages posteriors
 started rows soft messages posteriors soft_long small none long posteriors_long fit are = record {

@@ -1,12 +1,12 @@
 -- A decoder's value, and the invariants of its lists (own).
 use Rattle.std.specs.Prelude.{◌≡◌, ℕ, ◌+◌, ◌*◌, ◌<◌, ◌≤◌, nat_le, Bool, All, List, length, get_or, ℤ, unsigned_abs}
 use Rattle.s2_mode.specs.Shape.{Shape, IsShape, code_bits}
-use Rattle.s2_rows.specs.Limits.{most_addresses}
+use Rattle.s2_rows.specs.Limits.{max_addresses}
 use Rattle.s2_rows.specs.Rows.{Rows}
 use Rattle.s2_matrix.specs.Code.{code_of, members, checks_of}
 use Rattle.s2_minsum.specs.declared.rows.Entry.{Entry}
-use Rattle.s2_mode.specs.Limits.{most_soft}
-use Rattle.s2_minsum.specs.Plain.{most_message, State, posterior}
+use Rattle.s2_mode.specs.Limits.{max_soft}
+use Rattle.s2_minsum.specs.Plain.{max_message, State, posterior}
 use Rattle.s2_bits.specs.Lanes16.{signed16}
 use Rattle.s2_minsum.specs.Rows.{cell, entry_at}
 use Rattle.s2_minsum.specs.Layout.{row_of_bit, lane_of_bit, bit_of, last_check, entry_of, entry_count, first_row, kept_of, state_of}
@@ -26,12 +26,12 @@ abbrev pub AreWithin : ℕ → List ℤ → Type 0
 AreWithin n vs = All (λ v. unsigned_abs v ≤ n) vs
 
 abbrev pub AreMessages : List ℕ → Type 0
-AreMessages vs = All (λ v. unsigned_abs (signed16 v) ≤ most_message) vs
+AreMessages vs = All (λ v. unsigned_abs (signed16 v) ≤ max_message) vs
 
 -- the rows of a code as the standard's are: of a valid shape, and no bit in more checks than a row has addresses at most
 pub record AreFit (rows : Rows) : Type 0 where
   pub shaped : IsShape rows.shape
-  pub few : (i : ℕ) → i < code_bits rows.shape → length (checks_of (code_of rows) i) ≤ most_addresses
+  pub few : (i : ℕ) → i < code_bits rows.shape → length (checks_of (code_of rows) i) ≤ max_addresses
 
 -- the lists of the entries of all layers, and of the first entry of each
 pub record AreLayers (rows : Rows) (entries : List Entry) (firsts : List ℕ) : Type 0 where
@@ -44,7 +44,7 @@ pub record AreLayers (rows : Rows) (entries : List Entry) (firsts : List ℕ) : 
 -- the ranges of the numbers
 pub record AreNumbers (rows : Rows) (soft : List ℤ) (messages posteriors : List ℕ) : Type 0 where
   pub soft_long : length soft ≡ code_bits rows.shape
-  pub soft_small : AreWithin most_soft soft
+  pub soft_small : AreWithin max_soft soft
   pub messages_long : length messages ≡ first_row rows rows.shape.q * rows.shape.group
   pub messages_small : AreMessages messages
   pub fits : (k : ℕ) → get_or messages k 0 < 65536

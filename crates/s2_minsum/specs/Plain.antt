@@ -1,11 +1,11 @@
 -- Layered min-sum over a code (this project's own: the standard leaves decoding free). Each check sends a message to each of its
 -- members; a message above 0 speaks for a zero, one below 0 for a one.
 use Rattle.std.specs.Prelude.{ℕ, ◌+◌, ◌-◌, ◌*◌, ◌/◌, ◌%◌, ◌==◌, min, nat_lt, Bool, not, ◌&&◌, if◌then◌else◌, List, map, filter, fold, count_by, get_or, ℤ, pos, neg_ℤ, ◌+ℤ◌, ◌-ℤ◌, int_lt, unsigned_abs}
-use Rattle.s2_mode.specs.Limits.{most_soft}
-use Rattle.s2_rows.specs.Limits.{most_addresses}
+use Rattle.s2_mode.specs.Limits.{max_soft}
+use Rattle.s2_rows.specs.Limits.{max_addresses}
 use Rattle.s2_matrix.specs.Total.{total, upto}
 use Rattle.s2_matrix.specs.Code.{Code, members, checks_of}
-use Rattle.s2_minsum.specs.Factors.{most_factor}
+use Rattle.s2_minsum.specs.Factors.{max_factor}
 
 -- ---- the numbers
 
@@ -15,15 +15,15 @@ size_cap = 1023
 
 -- f sixteenths of a size, rounded up
 abbrev pub reduced : ℕ → ℕ → ℕ
-reduced factor m = m - m * (most_factor - factor) / most_factor
+reduced factor m = m - m * (max_factor - factor) / max_factor
 
 -- the largest size of a message, with any factor: a check of one member sends it if sizes are kept whole
-abbrev pub most_message : ℕ
-most_message = size_cap
+abbrev pub max_message : ℕ
+max_message = size_cap
 
--- the largest size of a posterior: a bit is in at most `most_addresses` checks
-abbrev pub most_posterior : ℕ
-most_posterior = most_soft + most_addresses * most_message
+-- the largest size of a posterior: a bit is in at most `max_addresses` checks
+abbrev pub max_posterior : ℕ
+max_posterior = max_soft + max_addresses * max_message
 
 -- ---- states
 

@@ -1,7 +1,7 @@
 -- Rows of words of 16 bits, one word for each lane, and the entries that rotate them (own).
 use Rattle.std.specs.Prelude.{ℕ, zero, suc, ◌+◌, ◌*◌, ◌/◌, ◌%◌, ◌==◌, ◌&&◌, ◌<◌, ◌≤◌, Bool, if◌then◌else◌, List, length, get_or, bit_xor}
 use Rattle.s2_minsum.specs.Plain.{size_cap, reduced}
-use Rattle.s2_mode.specs.Limits.{most_group}
+use Rattle.s2_mode.specs.Limits.{max_group}
 use Rattle.s2_bits.specs.Lanes16.{minus16, plus16, size16, sign16}
 pub use Rattle.s2_bits.specs.Turns.{turned, turned_back, cell}
 use Rattle.s2_minsum.specs.declared.rows.Entry.{Entry}
@@ -28,7 +28,7 @@ entry_at entries e = get_or entries e no_entry
 -- the rows of entries are within a list, and no rotation is longer than a row
 pub record AreIn (n : ℕ) (entries : List Entry) (places : ℕ) : Type 0 where
   pub some : 1 ≤ n
-  pub few : n ≤ most_group
+  pub few : n ≤ max_group
   pub rows : (e : ℕ) → e < length entries → (entry_at entries e).row * n + n ≤ places
   pub turns : (e : ℕ) → e < length entries → (entry_at entries e).shift ≤ n
 

@@ -2,7 +2,7 @@
 ghost use Rattle.std.specs.Prelude.{◌≡◌, ℕ, ◌+◌, ◌*◌, ◌<◌, ◌≤◌, IfOk, length, get_or, replicate, true, pos};
 ghost use Rattle.s2_mode.specs.Shape.{code_bits};
 ghost use Rattle.s2_matrix.specs.Code.{code_of, members, first_edge, edge_of};
-ghost use Rattle.s2_mode.specs.Limits.{most_soft};
+ghost use Rattle.s2_mode.specs.Limits.{max_soft};
 ghost use Rattle.s2_minsum.specs.Plain.{posterior as posterior_of, layer as after_layer, round as after_round, start, decision, is_edge};
 ghost use Rattle.s2_minsum.specs.Decoding.{AreWithin, Decoding, decoded};
 
@@ -82,7 +82,7 @@ impl<'a> Decoder<'a> {
     /// Takes a soft value of -511 to 511 for each bit, and sets all messages to 0.
     pub fn load(&mut self, soft: &[i16])
         requires long { length soft.now ≡ code_bits self.old.rows.shape }
-        requires small { AreWithin most_soft soft.now }
+        requires small { AreWithin max_soft soft.now }
         ensures rows { self.new.rows ≡ self.old.rows }
         ensures state { decoded self.new ≡ start soft.now }
     {

@@ -1,6 +1,6 @@
 //! The entries of each layer: which rows its checks read, and how far turned.
 ghost use Rattle.std.specs.Prelude.{◌≡◌, ◌++◌, ℕ, ◌<◌, ◌≤◌, OnOk};
-ghost use Rattle.s2_mode.specs.Limits.{most_bits};
+ghost use Rattle.s2_mode.specs.Limits.{max_bits};
 ghost use Rattle.s2_minsum.specs.Layout.{entries_of, entry_count};
 ghost use Rattle.s2_minsum.specs.Decoding.{HasRoom, HasDecoderRoom};
 
@@ -27,10 +27,10 @@ pub(crate) fn add_entries(
 }
 
 /// How many entries the largest layer has.
-fn most_entries(matrix: &Matrix) -> usize
+fn max_entries(matrix: &Matrix) -> usize
     ensures most { (r : ℕ) → r < matrix.now.shape.q → entry_count matrix.now r ≤ result }
     ensures reached { (most : ℕ) → ((r : ℕ) → r < matrix.now.shape.q → entry_count matrix.now r ≤ most) → result ≤ most }
-    ensures few { result ≤ most_bits }
+    ensures few { result ≤ max_bits }
 {
     let shape = matrix.shape();
     let mut most = 0;
@@ -49,12 +49,12 @@ pub fn scratch_len(matrix: &Matrix) -> usize
     ensures room { HasRoom matrix.now result }
     ensures least { (words : ℕ) → HasRoom matrix.now words → result ≤ words }
 {
-    (most_entries(matrix) + 3) * matrix.shape().group()
+    (max_entries(matrix) + 3) * matrix.shape().group()
 }
 
 /// How many words a decoder works in at most: a row for each entry of a layer.
 pub(crate) fn decoder_len(matrix: &Matrix) -> usize
     ensures { HasDecoderRoom matrix.now result }
 {
-    most_entries(matrix) * matrix.shape().group()
+    max_entries(matrix) * matrix.shape().group()
 }

@@ -1,6 +1,6 @@
 //! How much of a size a message keeps.
 ghost use Rattle.std.specs.Prelude.{◌≡◌, ◌↔◌, ◌-◌, ◌≤◌, IsSome, IfSome};
-ghost use Rattle.s2_minsum.specs.Factors.{IsFactor, default_factor, most_factor};
+ghost use Rattle.s2_minsum.specs.Factors.{IsFactor, default_factor, max_factor};
 
 use std::marker::Model;
 
@@ -8,7 +8,7 @@ use std::marker::Model;
 pub const LEAST_FACTOR: u32 = 8;
 
 /// The factor that keeps all of it.
-pub const MOST_FACTOR: u32 = 16;
+pub const MAX_FACTOR: u32 = 16;
 
 /// The factor where none is named: three quarters.
 pub const DEFAULT_FACTOR: u32 = 12;
@@ -41,7 +41,7 @@ impl Factor {
         ensures found { IsSome result ↔ IsFactor number }
         ensures value { IfSome result (λ f. f ≡ number) }
     {
-        if number >= LEAST_FACTOR && number <= MOST_FACTOR {
+        if number >= LEAST_FACTOR && number <= MAX_FACTOR {
             Some(Factor { number })
         } else {
             None
@@ -67,9 +67,9 @@ impl Factor {
 
     /// How many sixteenths a message lacks.
     pub(crate) fn lacks(self) -> u16
-        ensures is { result ≡ most_factor - self }
+        ensures is { result ≡ max_factor - self }
         ensures few { result ≤ 8 }
     {
-        (MOST_FACTOR - self.number) as u16
+        (MAX_FACTOR - self.number) as u16
     }
 }

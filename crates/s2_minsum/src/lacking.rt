@@ -1,6 +1,6 @@
 //! The one member that a layer's first check can lack.
 ghost use Rattle.std.specs.Prelude.{◌≡◌, ℕ, ◌≤◌, ◌<◌, ◌+◌, ◌*◌, ◌==◌, ◌&&◌, if◌then◌else◌, length, slice_index_or};
-ghost use Rattle.s2_mode.specs.Limits.{most_group};
+ghost use Rattle.s2_mode.specs.Limits.{max_group};
 ghost use Rattle.s2_minsum.specs.Rows.{entry_at, is_lacking};
 
 use crate::rows::Entry;
@@ -16,7 +16,7 @@ fn is_absent(entry: Entry, last: usize) -> bool
 /// of the layer has a row of `n` lanes, one a check; `last` is what [`crate::last_row`] answers.
 pub fn mask_lacking<T: Copy>(entries: &[Entry], n: usize, last: usize, rows: &mut [T], value: T)
     requires some { 1 ≤ n }
-    requires few { n ≤ most_group }
+    requires few { n ≤ max_group }
     requires long { length rows.old ≡ length entries.now * n }
     ensures { (e c : ℕ) → e < length entries.now → c < n → slice_index_or rows.new (e * n + c) value
         ≡ (if is_lacking last (entry_at entries.now e) c then value else slice_index_or rows.old (e * n + c) value) }

@@ -1,6 +1,6 @@
 //! The rule over the rows of one layer: all checks of the layer at once, one check a lane.
 ghost use Rattle.std.specs.Prelude.{◌≡◌, ℕ, ◌≤◌, ◌<◌, ◌+◌, ◌*◌, ◌==◌, ◌&&◌, if◌then◌else◌, length, slice_index};
-ghost use Rattle.s2_mode.specs.Limits.{most_bits};
+ghost use Rattle.s2_mode.specs.Limits.{max_bits};
 ghost use Rattle.s2_bits.specs.Lanes16.{minus16, size16};
 ghost use Rattle.s2_minsum.specs.Rows.{turned, reduced16, cell, entry_at, AreIn, changed, is_lacking, received, change_of};
 ghost use Rattle.s2_minsum.specs.Nodes.{first_of, second_of, signs_of};
@@ -14,7 +14,7 @@ use crate::rows::{Entry, add, give};
 /// What the members of a layer's checks give.
 fn give_all(entries: &[Entry], n: usize, posteriors: &[u16], messages: &[u16], inputs: &mut [u16])
     requires entries { AreIn n entries.now (length posteriors.now) }
-    requires few { length posteriors.now ≤ most_bits }
+    requires few { length posteriors.now ≤ max_bits }
     requires long { length messages.now ≡ length entries.now * n }
     requires same { length inputs.old ≡ length entries.now * n }
     ensures { (e c : ℕ) → e < length entries.now → c < n → cell inputs.new n e c ≡ minus16 (cell posteriors.now n (entry_at entries.now e).row (turned n (entry_at entries.now e).shift c)) (cell messages.now n e c) }
@@ -35,7 +35,7 @@ fn give_all(entries: &[Entry], n: usize, posteriors: &[u16], messages: &[u16], i
 /// Adds the changes of a layer's messages, entry by entry.
 fn add_all(entries: &[Entry], n: usize, posteriors: &mut [u16], changes: &[u16])
     requires entries { AreIn n entries.now (length posteriors.old) }
-    requires few { length posteriors.old ≤ most_bits }
+    requires few { length posteriors.old ≤ max_bits }
     requires long { length changes.now ≡ length entries.now * n }
     ensures { (p : ℕ) → p < length posteriors.old → slice_index posteriors.new p ≡ changed n entries.now posteriors.old (cell changes.now n) (length entries.now) p }
 {
@@ -61,7 +61,7 @@ fn receive(
     inputs: &mut [u16],
 )
     requires entries { AreIn n entries.now (length posteriors.now) }
-    requires few { length posteriors.now ≤ most_bits }
+    requires few { length posteriors.now ≤ max_bits }
     requires long { length messages.now ≡ length entries.now * n }
     requires same { length inputs.old ≡ length entries.now * n }
     ensures { (e c : ℕ) → e < length entries.now → c < n → cell inputs.new n e c ≡ received n entries.now last posteriors.now messages.now e c }
@@ -73,7 +73,7 @@ fn receive(
 /// Adds the changes of a layer's messages, but none where the first check lacks a member.
 fn apply(entries: &[Entry], n: usize, last: usize, posteriors: &mut [u16], changes: &mut [u16])
     requires entries { AreIn n entries.now (length posteriors.old) }
-    requires few { length posteriors.old ≤ most_bits }
+    requires few { length posteriors.old ≤ max_bits }
     requires long { length changes.old ≡ length entries.now * n }
     ensures { (p : ℕ) → p < length posteriors.old → slice_index posteriors.new p ≡ changed n entries.now posteriors.old (λ e c. if is_lacking last (entry_at entries.now e) c then 0 else cell changes.old n e c) (length entries.now) p }
 {
@@ -92,7 +92,7 @@ pub(crate) fn run(
     factor: Factor,
 )
     requires entries { AreIn n entries.now (length posteriors.old) }
-    requires few { length posteriors.old ≤ most_bits }
+    requires few { length posteriors.old ≤ max_bits }
     requires long { length messages.old ≡ length entries.now * n }
     requires room { length entries.now * n ≤ length scratch.old }
     ensures messages { (e c : ℕ) → e < length entries.now → c < n → cell messages.new n e c ≡ reduced16 factor (received n entries.now last posteriors.old messages.old e c) (first_of (λ k. size16 (received n entries.now last posteriors.old messages.old k c)) (length entries.now)) (second_of (λ k. size16 (received n entries.now last posteriors.old messages.old k c)) (length entries.now)) (signs_of (λ k. received n entries.now last posteriors.old messages.old k c) (length entries.now)) }

@@ -1,6 +1,6 @@
 //! The layers of a matrix: which rows the checks of each read, and how far turned.
 ghost use Rattle.std.specs.Prelude.{◌≡◌, ◌+◌, ◌*◌, ◌<◌, ◌≤◌, IfOk, length};
-ghost use Rattle.s2_mode.specs.Limits.{most_bits};
+ghost use Rattle.s2_mode.specs.Limits.{max_bits};
 ghost use Rattle.s2_minsum.specs.Layout.{entries_of, entry_count, first_row};
 ghost use Rattle.s2_minsum.specs.Decoding.{AreFit, AreLayers};
 
@@ -24,7 +24,7 @@ fn find_span(matrix: &Matrix, entries: &[Entry], firsts: &[usize], r: usize) -> 
     ensures start { result.start ≡ first_row matrix.now r }
     ensures count { result.count ≡ entry_count matrix.now r }
     ensures entries { result.start + result.count ≤ length entries.now }
-    ensures few { result.count ≤ most_bits }
+    ensures few { result.count ≤ max_bits }
 {
     let (_matrix, _entries) = (matrix, entries);
     let start = firsts[r];
@@ -100,7 +100,7 @@ impl<'a> Layers<'a> {
     pub fn first(&self, r: usize) -> usize
         requires { r ≤ self.now.shape.q }
         ensures is { result ≡ first_row self.now r }
-        ensures few { result ≤ most_bits * most_bits }
+        ensures few { result ≤ max_bits * max_bits }
     {
         self.firsts[r]
     }

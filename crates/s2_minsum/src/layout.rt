@@ -1,7 +1,7 @@
 //! Where a decoder keeps its numbers: bits in rows of a group, one bit a lane.
 ghost use Rattle.std.specs.Prelude.{◌≡◌, ℕ, ◌+◌, ◌*◌, ◌<◌, ◌≤◌, ◌==◌};
 ghost use Rattle.std.specs.List.{position_or_len};
-ghost use Rattle.s2_mode.specs.Limits.{most_bits};
+ghost use Rattle.s2_mode.specs.Limits.{max_bits};
 ghost use Rattle.s2_mode.specs.Shape.{code_bits};
 ghost use Rattle.s2_minsum.specs.Layout.{entry_of, row_of_bit, lane_of_bit, bit_of, step_of_row, lacked_row, back};
 
@@ -74,7 +74,7 @@ pub fn first_bit(shape: Shape, row: usize) -> usize
 /// How far apart the bits of a row are.
 pub fn step_of(shape: Shape, row: usize) -> usize
     ensures is { result ≡ step_of_row shape row }
-    ensures few { result ≤ most_bits }
+    ensures few { result ≤ max_bits }
 {
     if row < shape.groups() { 1 } else { shape.q() }
 }

@@ -45,9 +45,9 @@ mod rows;
 
 pub use decoder::Decoder;
 pub use entries::scratch_len;
-pub use factor::{DEFAULT_FACTOR, Factor, LEAST_FACTOR, MOST_FACTOR};
+pub use factor::{DEFAULT_FACTOR, Factor, LEAST_FACTOR, MAX_FACTOR};
 pub use lacking::mask_lacking;
 pub use layers::Layers;
 pub use layout::{first_bit, last_row, place_among, step_of};
-pub use limits::{MOST_MESSAGE, SIZE_CAP};
+pub use limits::{MAX_MESSAGE, SIZE_CAP};
 pub use rows::Entry;

@@ -4,4 +4,4 @@
 pub const SIZE_CAP: u16 = 1023;
 
 /// The largest size of a message, by any factor: what a check of one member sends where sizes are kept whole.
-pub const MOST_MESSAGE: u16 = SIZE_CAP;
+pub const MAX_MESSAGE: u16 = SIZE_CAP;

@@ -1,6 +1,6 @@
 //! Soft values as the first posteriors.
 ghost use Rattle.std.specs.Prelude.{◌≡◌, ℕ, ◌+◌, ◌*◌, ◌<◌, ◌≤◌, length, slice_index, get_or, pos, EachIndex};
-ghost use Rattle.s2_mode.specs.Limits.{most_bits, most_group};
+ghost use Rattle.s2_mode.specs.Limits.{max_bits, max_group};
 ghost use Rattle.s2_mode.specs.Shape.{code_bits};
 ghost use Rattle.s2_bits.specs.Lanes16.{signed16};
 ghost use Rattle.s2_minsum.specs.Rows.{cell};
@@ -11,7 +11,7 @@ use s2_matrix::Matrix;
 
 /// Writes the soft values that follow one another from a place on.
 fn put_near(row: &mut [u16], soft: &[i16], first: usize)
-    requires few { length soft.now ≤ most_bits }
+    requires few { length soft.now ≤ max_bits }
     requires within { (c : ℕ) → c < length row.old → first + c < length soft.now }
     ensures { EachIndex row.new (λ c. signed16 (slice_index row.new c) ≡ get_or soft.now (first + c) (pos 0)) }
 {
@@ -22,9 +22,9 @@ fn put_near(row: &mut [u16], soft: &[i16], first: usize)
 
 /// Writes the soft values that stand `step` places apart, one by one.
 fn put_apart(row: &mut [u16], soft: &[i16], first: usize, step: usize)
-    requires few { length soft.now ≤ most_bits }
-    requires lanes { length row.old ≤ most_group }
-    requires step { step ≤ most_bits }
+    requires few { length soft.now ≤ max_bits }
+    requires lanes { length row.old ≤ max_group }
+    requires step { step ≤ max_bits }
     requires within { (c : ℕ) → c < length row.old → first + c * step < length soft.now }
     ensures { EachIndex row.new (λ c. signed16 (slice_index row.new c) ≡ get_or soft.now (first + c * step) (pos 0)) }
 {
@@ -35,9 +35,9 @@ fn put_apart(row: &mut [u16], soft: &[i16], first: usize, step: usize)
 
 /// Writes the soft values that stand `step` places apart.
 fn put_row(row: &mut [u16], soft: &[i16], first: usize, step: usize)
-    requires few { length soft.now ≤ most_bits }
-    requires lanes { length row.old ≤ most_group }
-    requires step { step ≤ most_bits }
+    requires few { length soft.now ≤ max_bits }
+    requires lanes { length row.old ≤ max_group }
+    requires step { step ≤ max_bits }
     requires within { (c : ℕ) → c < length row.old → first + c * step < length soft.now }
     ensures { EachIndex row.new (λ c. signed16 (slice_index row.new c) ≡ get_or soft.now (first + c * step) (pos 0)) }
 {

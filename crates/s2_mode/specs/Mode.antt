@@ -1,6 +1,6 @@
 -- The modes of the profile, by the table of modes (EN 302 307-1, table 12 and clause 5.5).
 use Rattle.std.specs.Prelude.{◌≡◌, ◌≢◌, ℕ, ◌+◌, ◌-◌, ◌*◌, ◌/◌, ◌≤◌, ◌<◌, ℤ, pos, Bool, true, false, get_or, if◌then◌else◌}
-use Rattle.s2_mode.specs.Limits.{most_bits, header_symbols}
+use Rattle.s2_mode.specs.Limits.{max_bits, header_symbols}
 use Rattle.s2_mode.specs.Shape.{Shape, shape_of}
 use Rattle.s2_mode.specs.Table.{CodeRate, rate, rates, line, modcods}
 use Rattle.s2_mode.specs.declared.modcods.Modcod.{Modcod}
@@ -111,7 +111,7 @@ pub record HasCodeSizes (m : Mode) : Type 0 where
   pub q_some : 1 ≤ q_of m
   pub t_least : 8 ≤ t_of m
   pub t_most : t_of m ≤ 12
-  pub n_most : n_of m ≤ most_bits
+  pub n_most : n_of m ≤ max_bits
   pub field : kbch_of m ≡ 80 + 8 * ((kbch_of m - 80) / 8)
   pub field_least : 374 ≤ (kbch_of m - 80) / 8
   pub field_most : (kbch_of m - 80) / 8 ≤ 7264

@@ -13,8 +13,8 @@ pub fn code_rates()
     ensures { CodeRatesLaw }
 {}
 
-/// The limits that are tested, [`crate::MOST_BITS`], [`crate::MOST_GROUP`], [`crate::MOST_MODCOD`], [`crate::MOST_SOFT`],
-/// [`crate::HEADER_SYMBOLS`], [`crate::DUMMY_SYMBOLS`] and [`crate::MOST_SYMBOLS`], are those of the definitions.
+/// The limits that are tested, [`crate::MAX_BITS`], [`crate::MAX_GROUP`], [`crate::MAX_MODCOD`], [`crate::MAX_SOFT`],
+/// [`crate::HEADER_SYMBOLS`], [`crate::DUMMY_SYMBOLS`] and [`crate::MAX_SYMBOLS`], are those of the definitions.
 pub fn limits()
     ensures { LimitsLaw }
 {}

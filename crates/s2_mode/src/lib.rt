@@ -44,7 +44,7 @@ pub use fakes::{ByOne, Endless, FailAt};
 pub use fault_text::FaultText;
 pub use lanes::{put_four, symbols_from, words_from};
 pub use limits::{
-    DUMMY_SYMBOLS, HEADER_SYMBOLS, MOST_BITS, MOST_GROUP, MOST_MODCOD, MOST_SOFT, MOST_SYMBOLS,
+    DUMMY_SYMBOLS, HEADER_SYMBOLS, MAX_BITS, MAX_GROUP, MAX_MODCOD, MAX_SOFT, MAX_SYMBOLS,
 };
 pub use memory::InMemory;
 pub use modcods::Modulation;

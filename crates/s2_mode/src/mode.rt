@@ -3,7 +3,7 @@ ghost use Rattle.std.specs.Prelude.{◌≡◌, ◌<◌, ◌↔◌, IsSome, IfSom
 ghost use Rattle.s2_mode.specs.Table.{code_rate_text};
 ghost use Rattle.s2_mode.specs.Mode.{mode_of, IsMode, modcod_of, modulation_of, is_qpsk, rate_index, ideal_of, tuned_factor_of, kbch_of, k_of, n_of, t_of, q_of, rate_of, width_of, slots_of, pilot_blocks_of, symbols_in, shape_in, HasCodeSizes, HasFrameSizes};
 
-use crate::limits::{HEADER_SYMBOLS, MOST_MODCOD};
+use crate::limits::{HEADER_SYMBOLS, MAX_MODCOD};
 use crate::modcods::{MODCODS, Modcod, Modulation};
 use crate::rates::{CodeRate, RATES, line_at};
 use crate::shape::Shape;
@@ -36,7 +36,7 @@ impl Mode {
         ensures found { IsSome result ↔ IsMode (mode_of modcod short pilots) }
         ensures value { IfSome result (λ m. m ≡ mode_of modcod short pilots) }
     {
-        if modcod < 1 || modcod > MOST_MODCOD {
+        if modcod < 1 || modcod > MAX_MODCOD {
             return None;
         }
         if short && (modcod == 11 || modcod == 17) {

@@ -2,7 +2,7 @@
 ghost use Rattle.std.specs.Prelude.{◌≡◌, ◌+◌, ◌*◌, ◌≤◌, ◌↔◌, IsSome, IfSome};
 ghost use Rattle.s2_mode.specs.Shape.{information_bits, check_count, code_bits, IsShape, shape_of};
 
-use crate::limits::{MOST_BITS, MOST_GROUP};
+use crate::limits::{MAX_BITS, MAX_GROUP};
 use std::marker::Model;
 
 /// The shape of a code whose rows are repeated by groups (EN 302 307-1, 5.3.2): the size of a
@@ -37,10 +37,10 @@ impl Shape {
         if group < 1 || groups < 1 || q < 1 {
             return None;
         }
-        if group > MOST_GROUP || groups > MOST_BITS || q > MOST_BITS {
+        if group > MAX_GROUP || groups > MAX_BITS || q > MAX_BITS {
             return None;
         }
-        if group * (groups + q) > MOST_BITS {
+        if group * (groups + q) > MAX_BITS {
             return None;
         }
         Some(Shape::of(group, groups, q))

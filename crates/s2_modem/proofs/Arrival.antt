@@ -1,5 +1,5 @@
 -- What is sent arrives.
-use Rattle.s2_modem.proofs.Names.{⊤, nat_eq, if◌then◌else◌, ◌≡◌, ℕ, ◌+◌, ◌*◌, IsTrue, Bool, true, false, List, [], ◌∷◌, ◌++◌, All, Option, Some, None, length, refl, sym, ap, ap₂, ◌∙◌, subst, append_assoc, append-nil, length-append, arith, All-nil, All-cons, Appends, Consumes, IsAtEnd, Mode, IsMode, HasCodeSizes, symbols_of, symbol_bytes, bytes_of_symbols, Symbol, field_bytes, stream_of, fields_of, dummy_frame, Link, sent_behind, Transmitter, is_due, AreUnits, Met, frame, ended, nothing_over, met_from, Meets, Rules, State, Standing, at_start, passes, begun, left_in, left_known, after, after_all, all_packets, all_lines, frame_line, end_line, Piece, coded, dummy, joined, stream_symbols, Spells, AreReceived, frames_at, PassedNone, Report, Totals, Verdict, is_certified, Delivered, Outcome, gives, after-append, packets-append, lines-append, symbols-append, AreBytes, Hears, certified_lines, run_places, totals_of, sent_symbols, places_in, most_symbols, ArrivalLaw, link_rules}
+use Rattle.s2_modem.proofs.Names.{⊤, nat_eq, if◌then◌else◌, ◌≡◌, ℕ, ◌+◌, ◌*◌, IsTrue, Bool, true, false, List, [], ◌∷◌, ◌++◌, All, Option, Some, None, length, refl, sym, ap, ap₂, ◌∙◌, subst, append_assoc, append-nil, length-append, arith, All-nil, All-cons, Appends, Consumes, IsAtEnd, Mode, IsMode, HasCodeSizes, symbols_of, symbol_bytes, bytes_of_symbols, Symbol, field_bytes, stream_of, fields_of, dummy_frame, Link, sent_behind, Transmitter, is_due, AreUnits, Met, frame, ended, nothing_over, met_from, Meets, Rules, State, Standing, at_start, passes, begun, left_in, left_known, after, after_all, all_packets, all_lines, frame_line, end_line, Piece, coded, dummy, joined, stream_symbols, Spells, AreReceived, frames_at, PassedNone, Report, Totals, Verdict, is_certified, Delivered, Outcome, gives, after-append, packets-append, lines-append, symbols-append, AreBytes, Hears, certified_lines, run_places, totals_of, sent_symbols, places_in, max_symbols, ArrivalLaw, link_rules}
 use Rattle.s2_modem.proofs.Names.phases
 use Rattle.s2_modem.proofs.SymbolsBack.{frame_read, dummy_read}
 use Rattle.s2_modem.proofs.ByteStreams.{AreFields, front_fields}
@@ -110,8 +110,8 @@ passed_at_end t over = (omega (arith, over.0), omega (arith, over.1), ap (λ n. 
 -- the receiver wrote what the transmitter read, reported each coded frame as sole, and then the end
 pub arrival_law : (m : Mode) → IsMode m → HasCodeSizes m → ArrivalLaw m
 arrival_law m valid sizes t tuning count_old count_new source written counts totals source_left before behind linked ro known are_bytes runs spelt (state, got) =
-    let rules = link_rules t.link tuning most_symbols in
-    let hears = hears_law m valid sizes t.link tuning most_symbols linked ro known in
+    let rules = link_rules t.link tuning max_symbols in
+    let hears = hears_law m valid sizes t.link tuning max_symbols linked ro known in
     let (met, went) = got.runs_out.1 in
     let size = field_bytes t.link.setup.mode in
     let from : source ≡ joined runs.packets =

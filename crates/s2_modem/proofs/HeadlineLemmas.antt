@@ -1,5 +1,5 @@
 -- The headline holds.
-use Rattle.s2_modem.proofs.Names.{◌≡◌, ℕ, zero, suc, ◌+◌, ◌<◌, ◌≤◌, ◌⊎◌, IsTrue, Bool, true, false, cond, List, [], ◌∷◌, ◌++◌, All, Option, Some, None, length, map, range_with_len, count_by, sum_by-cons, inl, inr, refl, sym, ap, ◌∙◌, subst, append_assoc, append-nil, Result, Ok, Err, ⊤, nat_lt, lt-leb, flat_map, All-nil, All-cons, arith, Mode, IsMode, HasCodeSizes, symbols_of, Streams, Symbol, code_of, header_at, field_bytes, IsDivisor, Found, Tuning, Link, IsLinkOf, Stretch, Report, frame_line, cut_line, end_line, Met, frame, cut, ended, nothing_over, passed, begins, by_found, met_from, Rules, State, Standing, at_start, at_end, passes, report_of, after, after_all, all_packets, all_lines, begun, RunsOut, Piece, joined, stream_symbols, Spells, IsReceived, frames_at, gives, all_joined, packets-append, frame_soft, IsAsLikely, IsCorrected, link_rules, AllAsLikely, AllTold, Receiver, rules_for, IsSent, is_certified, Delivered, frame_from, decision_from, is_delivered, stands, IsCutAt, IsReadable, Arriving, closed_packets, wrong_bits, Headline, KeepsHeadline, FramePromises, IsHeadline, RunsHeadline, RunAnswers, ReceivesTo, Received, Totals, StreamFault, most_symbols}
+use Rattle.s2_modem.proofs.Names.{◌≡◌, ℕ, zero, suc, ◌+◌, ◌<◌, ◌≤◌, ◌⊎◌, IsTrue, Bool, true, false, cond, List, [], ◌∷◌, ◌++◌, All, Option, Some, None, length, map, range_with_len, count_by, sum_by-cons, inl, inr, refl, sym, ap, ◌∙◌, subst, append_assoc, append-nil, Result, Ok, Err, ⊤, nat_lt, lt-leb, flat_map, All-nil, All-cons, arith, Mode, IsMode, HasCodeSizes, symbols_of, Streams, Symbol, code_of, header_at, field_bytes, IsDivisor, Found, Tuning, Link, IsLinkOf, Stretch, Report, frame_line, cut_line, end_line, Met, frame, cut, ended, nothing_over, passed, begins, by_found, met_from, Rules, State, Standing, at_start, at_end, passes, report_of, after, after_all, all_packets, all_lines, begun, RunsOut, Piece, joined, stream_symbols, Spells, IsReceived, frames_at, gives, all_joined, packets-append, frame_soft, IsAsLikely, IsCorrected, link_rules, AllAsLikely, AllTold, Receiver, rules_for, IsSent, is_certified, Delivered, frame_from, decision_from, is_delivered, stands, IsCutAt, IsReadable, Arriving, closed_packets, wrong_bits, Headline, KeepsHeadline, FramePromises, IsHeadline, RunsHeadline, RunAnswers, ReceivesTo, Received, Totals, StreamFault, max_symbols}
 use Rattle.s2_modem.proofs.Names.founds
 use Rattle.s2_modem.proofs.Arrival.{all_met}
 use Rattle.s2_modem.proofs.CleanFrames.{all_as_likely, all_told, counts, hears_law, both_codes_law}
@@ -182,8 +182,8 @@ run_headline v w followed new before behind (Ok received) is same all run =
     (λ fresh. all v.limit new before behind (subst (λ (x : Rules). RunsOut x begun new before behind) same (subst (λ (s : State). RunsOut followed s new before behind) fresh run.0.runs_out)))
 
 -- a whole stream in memory
-pub bytes_headline : (link : Link) (tuning : Tuning) (followed : Rules) (new : State) (before behind : Streams) (totals : Totals) → followed ≡ link_rules link tuning most_symbols → KeepsHeadline link tuning
+pub bytes_headline : (link : Link) (tuning : Tuning) (followed : Rules) (new : State) (before behind : Streams) (totals : Totals) → followed ≡ link_rules link tuning max_symbols → KeepsHeadline link tuning
     → ReceivesTo followed new before behind totals → IsHeadline link tuning before behind
 bytes_headline link tuning followed new before behind totals same keeps got =
     let left = record behind { taken = got.left } in
-    keeps most_symbols new before left (subst (λ (x : Rules). RunsOut x begun new before left) same got.runs_out)
+    keeps max_symbols new before left (subst (λ (x : Rules). RunsOut x begun new before left) same got.runs_out)

@@ -16,9 +16,9 @@ use Rattle.s2_receive.specs.declared.report.Totals.{Totals}
 use Rattle.s2_check.specs.Strict.{IsSole}
 use Rattle.s2_check.specs.Verdicts.{is_certified}
 use Rattle.s2_check.specs.declared.verdict.Verdict.TheVariants.{Sole}
-use Rattle.s2_mode.specs.Limits.{most_symbols}
+use Rattle.s2_mode.specs.Limits.{max_symbols}
 use Rattle.s2_soft.specs.Divisors.{IsDivisor}
-use Rattle.s2_link.specs.Limits.{most_roll_off}
+use Rattle.s2_link.specs.Limits.{max_roll_off}
 use Rattle.s2_link.specs.Tuning.{Tuning}
 use Rattle.s2_send.specs.declared.outcome.Counts.{Counts}
 use Rattle.s2_link.specs.Link.{Link}
@@ -46,7 +46,7 @@ SoleFrameLaw m =
 -- the codeword that was sent for a data field of bytes, which begins at this byte of its stream and holds a sync place
 pub record IsSent (m : Mode) (link : Link) (at : ℕ) (field : List ℕ) (codeword : List Bool) : Type 0 where
   pub linked : IsLinkOf m link
-  pub roll_off : link.setup.roll_off ≤ most_roll_off
+  pub roll_off : link.setup.roll_off ≤ max_roll_off
   pub bytes : AreBytes field
   pub place : to_place at < length field
   pub fits : length field ≤ field_bytes link.setup.mode
@@ -84,7 +84,7 @@ ScatteredFrameLaw m = (link : Link) (tuning : Tuning) (symbols : List Symbol) �
 -- each frame of a link is received as it was sent, with each divisor
 abbrev pub HearsLaw : Mode → Type 0
 HearsLaw m =
-    (link : Link) (tuning : Tuning) (limit : ℕ) → IsLinkOf m link → link.setup.roll_off ≤ most_roll_off → IsDivisor tuning.divisor → Hears link (link_rules link tuning limit)
+    (link : Link) (tuning : Tuning) (limit : ℕ) → IsLinkOf m link → link.setup.roll_off ≤ max_roll_off → IsDivisor tuning.divisor → Hears link (link_rules link tuning limit)
 
 -- all packets, a line for each frame, sole, and the end's
 pub record AllArrives (t : Transmitter) (source : List ℕ) (counts : Counts) (totals : Totals) (before behind : Streams) : Type 0 where
@@ -96,5 +96,5 @@ pub record AllArrives (t : Transmitter) (source : List ℕ) (counts : Counts) (t
 abbrev pub ArrivalLaw : Mode → Type 0
 ArrivalLaw m =
     (t : Transmitter) (tuning : Tuning) (count_old count_new : ℕ) (source written : List ℕ) (counts : Counts) (totals : Totals) (source_left : Option (List ℕ)) (before behind : Streams)
-    → IsLinkOf m t.link → t.link.setup.roll_off ≤ most_roll_off → IsDivisor tuning.divisor → AreBytes source → TransmitterRuns t (ReadFails t.limit count_old count_new) (Some source) source_left (Some []) (Some written) (Ok counts)
-    → Spells before.taken (symbols_of written) → Receives (link_rules t.link tuning most_symbols) before behind totals → AllArrives t source counts totals before behind
+    → IsLinkOf m t.link → t.link.setup.roll_off ≤ max_roll_off → IsDivisor tuning.divisor → AreBytes source → TransmitterRuns t (ReadFails t.limit count_old count_new) (Some source) source_left (Some []) (Some written) (Ok counts)
+    → Spells before.taken (symbols_of written) → Receives (link_rules t.link tuning max_symbols) before behind totals → AllArrives t source counts totals before behind

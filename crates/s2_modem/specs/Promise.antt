@@ -20,7 +20,7 @@ use Rattle.s2_check.specs.Verdicts.{is_certified}
 use Rattle.s2_soft.specs.Divisors.{IsDivisor}
 use Rattle.s2_link.specs.Tuning.{Tuning}
 use Rattle.s2_link.specs.Link.{Link}
-use Rattle.s2_link.specs.Limits.{most_roll_off}
+use Rattle.s2_link.specs.Limits.{max_roll_off}
 use Rattle.s2_send.specs.Frames.{IsCodewordFor}
 use Rattle.s2_send.specs.Laws.{IsLinkOf}
 use Rattle.s2_receive.specs.Windows.{found_as}
@@ -186,7 +186,7 @@ KeepsHeadline link tuning =
 
 -- the headline holds of each link of a mode, with each divisor
 abbrev pub HeadlineLaw : Mode → Type 0
-HeadlineLaw m = (link : Link) (tuning : Tuning) → IsLinkOf m link → link.setup.roll_off ≤ most_roll_off → IsDivisor tuning.divisor → KeepsHeadline link tuning
+HeadlineLaw m = (link : Link) (tuning : Tuning) → IsLinkOf m link → link.setup.roll_off ≤ max_roll_off → IsDivisor tuning.divisor → KeepsHeadline link tuning
 
 -- The facts about each frame of a link, for any symbols. Its bits are as likely as its verdict says, and certified. BCH decoding changes at most t of
 -- them. A frame that was sent is delivered.
@@ -197,4 +197,4 @@ pub record FramePromises (link : Link) (tuning : Tuning) : Type 0 where
 
 -- it holds of each frame of each link
 abbrev pub FramesLaw : Mode → Type 0
-FramesLaw m = (link : Link) (tuning : Tuning) → IsLinkOf m link → link.setup.roll_off ≤ most_roll_off → IsDivisor tuning.divisor → FramePromises link tuning
+FramesLaw m = (link : Link) (tuning : Tuning) → IsLinkOf m link → link.setup.roll_off ≤ max_roll_off → IsDivisor tuning.divisor → FramePromises link tuning

@@ -16,7 +16,7 @@ use Rattle.s2_receive.specs.Answers.{Seen, RunAnswers, ReceivesTo, BreaksIn}
 use Rattle.s2_mode.specs.declared.stream_fault.StreamFault.{StreamFault}
 use Rattle.s2_receive.specs.declared.report.Received.{Received}
 use Rattle.s2_receive.specs.declared.report.Totals.{Totals}
-use Rattle.s2_mode.specs.Limits.{most_symbols}
+use Rattle.s2_mode.specs.Limits.{max_symbols}
 use Rattle.s2_link.specs.declared.setup.Setup.{Setup}
 use Rattle.s2_link.specs.declared.fault.SetupFault.{SetupFault}
 use Rattle.s2_link.specs.declared.fault.SetupFault.TheVariants as faults
@@ -107,7 +107,7 @@ Refuses setup rows tuning fault = RefusesLink setup rows fault
 pub record IsNew (link : Link) (tuning : Tuning) (r : Receiver) : Type 0 where
   pub link_is : r.link ≡ link
   pub tuning_is : r.tuning ≡ tuning
-  pub limit : r.limit ≡ most_symbols
+  pub limit : r.limit ≡ max_symbols
   pub state : r.state ≡ begun
   pub undecided : IsUndecided link.setup.mode r.last
 
@@ -125,14 +125,14 @@ Receives rules before behind totals = (state : State) × ReceivesTo rules state 
 -- the answer for bytes on a link: all that they spell, or the beginning of it up to a write that failed, or nothing since there
 -- is no memory
 abbrev pub DemodulatesOn : Link → Tuning → (before behind : Streams) → Result Totals DemodFault → Type 0
-DemodulatesOn link tuning before behind (Ok totals) = Receives (link_rules link tuning most_symbols) before behind totals
-DemodulatesOn link tuning before behind (Err demod_faults.Write) = BreaksIn (link_rules link tuning most_symbols) before behind
+DemodulatesOn link tuning before behind (Ok totals) = Receives (link_rules link tuning max_symbols) before behind totals
+DemodulatesOn link tuning before behind (Err demod_faults.Write) = BreaksIn (link_rules link tuning max_symbols) before behind
 DemodulatesOn link tuning before behind (Err (demod_faults.Setup fault)) = (fault ≡ faults.NoMemory) × (behind.given ≡ before.given) × (behind.out ≡ before.out)
 
 -- the answer for bytes: all that they spell, or the beginning of it up to a write that failed, or a refusal that writes nothing
 abbrev pub Demodulates : Setup → Rows → Tuning → (before behind : Streams) → Result Totals DemodFault → Type 0
 Demodulates setup rows tuning before behind (Ok totals) =
-    IsSetUp setup rows × IsTuning tuning × Receives (link_rules (link_of setup rows) tuning most_symbols) before behind totals
+    IsSetUp setup rows × IsTuning tuning × Receives (link_rules (link_of setup rows) tuning max_symbols) before behind totals
 Demodulates setup rows tuning before behind (Err demod_faults.Write) =
-    IsSetUp setup rows × IsTuning tuning × BreaksIn (link_rules (link_of setup rows) tuning most_symbols) before behind
+    IsSetUp setup rows × IsTuning tuning × BreaksIn (link_rules (link_of setup rows) tuning max_symbols) before behind
 Demodulates setup rows tuning before behind (Err (demod_faults.Setup fault)) = Refuses setup rows tuning fault × (behind.given ≡ before.given) × (behind.out ≡ before.out)

@@ -18,7 +18,7 @@ use Rattle.s2_check.specs.Verdicts.{is_certified}
 use Rattle.s2_check.specs.declared.verdict.Verdict.{Verdict}
 use Rattle.s2_soft.specs.Divisors.{IsDivisor}
 use Rattle.s2_link.specs.Tuning.{Tuning}
-use Rattle.s2_link.specs.Limits.{most_roll_off}
+use Rattle.s2_link.specs.Limits.{max_roll_off}
 use Rattle.s2_link.specs.Link.{Link}
 use Rattle.s2_send.specs.Laws.{IsLinkOf}
 use Rattle.s2_send.specs.Frames.{IsCodewordFor}
@@ -75,7 +75,7 @@ pub record FrontArrives (link : Link) (tuning : Tuning) (limit : ℕ) (packets f
 abbrev pub FirstFramesLaw : Mode → Type 0
 FirstFramesLaw m =
     (link : Link) (tuning : Tuning) (limit : ℕ) (packets fields later : List (List ℕ)) (pieces : List Piece) (rest : List Symbol) (mid : State) (before behind : Streams) (met : List Met)
-    → IsLinkOf m link → link.setup.roll_off ≤ most_roll_off → IsDivisor tuning.divisor → All IsPacket packets → AreBytes (joined packets)
+    → IsLinkOf m link → link.setup.roll_off ≤ max_roll_off → IsDivisor tuning.divisor → All IsPacket packets → AreBytes (joined packets)
     → fields ++ later ≡ fields_of (field_bytes link.setup.mode) (stream_of packets) → AreHeard link tuning false 0 pieces fields
     → Spells before.taken (stream_symbols pieces ++ rest) → length met ≡ length fields → Went (link_rules link tuning limit) begun mid before behind met
     → FrontArrives link tuning limit packets fields later pieces before behind

@@ -47,8 +47,8 @@ mod whole;
 pub use receiver::Receiver;
 pub use s2_judge::Judge;
 pub use s2_link::{
-    Link, MOST_PASSES, MOST_ROLL_OFF, MOST_ROUNDS, RollOff, Setup, SetupFault, Tuning,
+    Link, MAX_PASSES, MAX_ROLL_OFF, MAX_ROUNDS, RollOff, Setup, SetupFault, Tuning,
 };
-pub use s2_send::{Counts, MOST_PACKETS, SendFault, Transmitter};
+pub use s2_send::{Counts, MAX_PACKETS, SendFault, Transmitter};
 pub use s2_soft::{DEFAULT_DIVISOR, DIVISORS, Divisor};
 pub use whole::{DemodFault, demodulate};

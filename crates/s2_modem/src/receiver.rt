@@ -1,7 +1,7 @@
 //! The receiver of one link.
 ghost use Rattle.std.specs.Prelude.{◌≡◌, ◌*◌, ◌≤◌, None, IfOk, OnErr, IsErrOf, length};
 ghost use Rattle.s2_mode.specs.Counts.{CanCount};
-ghost use Rattle.s2_mode.specs.Limits.{most_symbols};
+ghost use Rattle.s2_mode.specs.Limits.{max_symbols};
 ghost use Rattle.s2_mode.specs.Mode.{symbols_in};
 ghost use Rattle.s2_mode.specs.Streams.{streams_by};
 ghost use Rattle.s2_receive.specs.declared.report.Phase.TheVariants as phases;
@@ -19,7 +19,7 @@ use s2_bits::Bits;
 use s2_check::CertView;
 use s2_link::{Link, LinkSetup, Setup, SetupFault, Tuning};
 use s2_matrix::Matrix;
-use s2_mode::{CountedRead, CountedWrite, MOST_SYMBOLS, StreamFault};
+use s2_mode::{CountedRead, CountedWrite, MAX_SYMBOLS, StreamFault};
 use s2_receive::{Fault, Received, Step, receive_all};
 use std::alloc::{AllocError, Global};
 use std::marker::Model;
@@ -33,8 +33,8 @@ pub(crate) fn tune<'a>(
     link: &Link<'a>,
     tuning: Tuning,
 ) -> Result<Inner<'a>, AllocError>
-    ensures rules { IfOk result (λ r. rules_of decides r ≡ link_rules link.now tuning most_symbols) }
-    ensures limit { IfOk result (λ r. r.limit ≡ most_symbols) }
+    ensures rules { IfOk result (λ r. rules_of decides r ≡ link_rules link.now tuning max_symbols) }
+    ensures limit { IfOk result (λ r. r.limit ≡ max_symbols) }
     ensures begun { IfOk result (λ r. r.state ≡ begun) }
     ensures keeps { IfOk result (λ _. KeepsHeadline link.now tuning) }
     ensures undecided { IfOk result (λ r. IsUndecided link.now.setup.mode r.decider.last) }
@@ -45,7 +45,7 @@ pub(crate) fn tune<'a>(
     let _roll_off = link.roll_off();
     let _divisor = tuning.divisor();
     let decider = Decider::new(alloc, link, tuning)?;
-    s2_receive::Receiver::new(alloc, mode, tuning.lock(), decider, MOST_SYMBOLS)
+    s2_receive::Receiver::new(alloc, mode, tuning.lock(), decider, MAX_SYMBOLS)
 }
 
 /// Receives the frames of one link, and writes the packets that they carry.
@@ -129,9 +129,9 @@ impl<'a> Receiver<'a> {
         })
     }
 
-    /// Sets the limit of symbols that the receiver takes in all, 1 to [`MOST_SYMBOLS`], before the first step.
+    /// Sets the limit of symbols that the receiver takes in all, 1 to [`MAX_SYMBOLS`], before the first step.
     pub fn limit(&mut self, symbols: u64)
-        requires range { (1 ≤ symbols) × (symbols ≤ most_symbols) }
+        requires range { (1 ≤ symbols) × (symbols ≤ max_symbols) }
         requires first { self.old.state ≡ begun }
         ensures { self.new ≡ record self.old { limit = symbols } }
     {

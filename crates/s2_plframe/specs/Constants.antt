@@ -2,12 +2,12 @@
 use Rattle.std.specs.Prelude.{ℕ}
 
 -- own: how many of a header's bits may be decided as the other bit
-abbrev pub most_wrong : ℕ
-most_wrong = 12
+abbrev pub max_wrong : ℕ
+max_wrong = 12
 
 -- own: the largest number of wrong bits that may be allowed right after a frame
-abbrev pub most_lock : ℕ
-most_lock = 40
+abbrev pub max_lock : ℕ
+max_lock = 40
 
 -- the symbols of 16 slots; a pilot block follows them
 abbrev pub sixteen_slots : ℕ

@@ -5,7 +5,7 @@ use Rattle.s2_mode.specs.Limits.{header_symbols}
 use Rattle.s2_mode.specs.Mode.{Mode, IsMode, slots_of}
 use Rattle.s2_bits.specs.Bits.{xor, number}
 use Rattle.s2_plframe.specs.Header.{header_bit, header_of, dummy_mode}
-use Rattle.s2_plframe.specs.Constants.{most_wrong}
+use Rattle.s2_plframe.specs.Constants.{max_wrong}
 use Rattle.s2_plframe.specs.Frame.{frame_symbols}
 use Rattle.s2_plframe.specs.Payload.{received_payload, AllTurnBack}
 use Rattle.s2_plframe.specs.Search.{Decision, decision, passes, passes_dummy, found, found_behind, recent}
@@ -52,11 +52,11 @@ DummiesApartLaw = (m : Mode) (short pilots : Bool) → IsMode m → 32 ≤ diffe
 
 -- with a lock of 12 the test right after a frame is the test elsewhere
 abbrev pub BehindLaw : Type 0
-BehindLaw = (m : Mode) (window : List Decision) → IsMode m → length window ≡ header_symbols → found_behind m most_wrong window ≡ found m window
+BehindLaw = (m : Mode) (window : List Decision) → IsMode m → length window ≡ header_symbols → found_behind m max_wrong window ≡ found m window
 
 -- a header that is found elsewhere is found right after a frame too
 abbrev pub StillFoundLaw : Type 0
-StillFoundLaw = (m : Mode) (lock : ℕ) (window : List Decision) → IsMode m → most_wrong ≤ lock → length window ≡ header_symbols
+StillFoundLaw = (m : Mode) (lock : ℕ) (window : List Decision) → IsMode m → max_wrong ≤ lock → length window ≡ header_symbols
     → (found m window ≡ founds.Coded → found_behind m lock window ≡ founds.Coded) × (found m window ≡ founds.Dummy → found_behind m lock window ≡ founds.Dummy)
 
 -- no window passes as a header of a mode and as one of a dummy frame

@@ -7,7 +7,7 @@ use Rattle.std.specs.Int.RustNames.{count_ones, bit_xor}
 use Rattle.s2_mode.specs.Limits.{header_symbols}
 use Rattle.s2_mode.specs.Mode.{Mode}
 use Rattle.s2_bits.specs.Bits.{number}
-use Rattle.s2_plframe.specs.Constants.{most_wrong, sixteen_slots, pilot_block, spaced_slots}
+use Rattle.s2_plframe.specs.Constants.{max_wrong, sixteen_slots, pilot_block, spaced_slots}
 use Rattle.s2_plframe.specs.Header.{header_bit, dummy_mode}
 use Rattle.s2_plframe.specs.Search.{Decision, decided}
 use Rattle.s2_plframe.specs.declared.receive.found.Found.{Found}
@@ -37,7 +37,7 @@ pub record IsWindow (window : List Decision) (value : ℕ) : Type 0 where
 
 -- the same tests on numbers
 abbrev pub is_near : ℕ → ℕ → Bool
-is_near header window = nat_le (count_ones (bit_xor header window)) most_wrong
+is_near header window = nat_le (count_ones (bit_xor header window)) max_wrong
 
 abbrev pub is_dummy : ℕ → ℕ → ℕ → ℕ → ℕ → Bool
 is_dummy dummy dummy_pilots dummy_short dummy_both window =

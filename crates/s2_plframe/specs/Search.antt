@@ -5,7 +5,7 @@ use Rattle.s2_mode.specs.Limits.{header_symbols}
 use Rattle.s2_mode.specs.Mode.{Mode}
 use Rattle.s2_bits.specs.Bits.{xor, number}
 use Rattle.s2_plframe.specs.Header.{header_bit, dummy_mode}
-use Rattle.s2_plframe.specs.Constants.{most_wrong, most_lock}
+use Rattle.s2_plframe.specs.Constants.{max_wrong, max_lock}
 use Rattle.s2_plframe.specs.declared.receive.found.Found.{Found}
 use Rattle.s2_plframe.specs.declared.receive.found.Found.TheVariants as founds
 
@@ -33,7 +33,7 @@ mismatches header window (suc n) = mismatches header window n + number (xor (dec
 
 -- at most 12 of the 90 bits of a header differ
 abbrev pub passes : (ℕ → Bool) → List Decision → Bool
-passes header window = nat_le (mismatches header window header_symbols) most_wrong
+passes header window = nat_le (mismatches header window header_symbols) max_wrong
 
 -- the headers of dummy frames have MODCOD 0, and one of them each TYPE
 abbrev pub passes_dummy : List Decision → Bool
@@ -68,7 +68,7 @@ found_behind m lock window =
 
 -- the number of wrong bits that a header may have right after a frame: 12 to 40
 abbrev pub IsLock : ℕ → Type 0
-IsLock lock = (most_wrong ≤ lock) × (lock ≤ most_lock)
+IsLock lock = (max_wrong ≤ lock) × (lock ≤ max_lock)
 
 -- the last 90 of a list
 abbrev pub recent : List Decision → List Decision

@@ -1,10 +1,10 @@
 //! The numbers of a physical frame (EN 302 307-1, 5.5), and the one of this profile's header test.
 
 /// How many of a header's bits may be decided as the other bit.
-pub const MOST_WRONG: u32 = 12;
+pub const MAX_WRONG: u32 = 12;
 
 /// How many of them may be allowed to be right behind a frame.
-pub const MOST_LOCK: u32 = 40;
+pub const MAX_LOCK: u32 = 40;
 
 /// The symbols of 16 slots, behind which a pilot block stands.
 pub(crate) const SIXTEEN_SLOTS: usize = 1440;

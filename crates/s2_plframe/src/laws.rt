@@ -1,9 +1,9 @@
 //! Laws of frames, of the header test and of the search.
 ghost use Rattle.std.specs.Prelude.{◌≡◌};
-ghost use Rattle.s2_plframe.specs.Constants.{most_wrong, most_lock};
+ghost use Rattle.s2_plframe.specs.Constants.{max_wrong, max_lock};
 ghost use Rattle.s2_plframe.specs.HeaderLaws.{TakenOutLaw, SeenLaw, LastLaw, CleanHeaderLaw, DummyHeaderLaw, DummiesApartLaw, ApartLaw, BehindLaw, StillFoundLaw};
 
-use crate::constants::{MOST_LOCK, MOST_WRONG};
+use crate::constants::{MAX_LOCK, MAX_WRONG};
 
 /// A frame is its mode's header, and a payload that can be taken out again.
 pub fn taken_out()
@@ -51,9 +51,9 @@ pub fn still_found()
     ensures { StillFoundLaw }
 {}
 
-/// How many bits of a header may be wrong, [`crate::MOST_WRONG`], and how many may be allowed to be right behind a
-/// frame, [`crate::MOST_LOCK`], are the numbers of the definitions.
+/// How many bits of a header may be wrong, [`crate::MAX_WRONG`], and how many may be allowed to be right behind a
+/// frame, [`crate::MAX_LOCK`], are the numbers of the definitions.
 pub fn limits()
-    ensures wrong { MOST_WRONG ≡ most_wrong }
-    ensures lock { MOST_LOCK ≡ most_lock }
+    ensures wrong { MAX_WRONG ≡ max_wrong }
+    ensures lock { MAX_LOCK ≡ max_lock }
 {}

@@ -22,6 +22,6 @@ pub mod laws;
 mod receive;
 mod send;
 
-pub use constants::{MOST_LOCK, MOST_WRONG};
+pub use constants::{MAX_LOCK, MAX_WRONG};
 pub use receive::{Found, Lock, Search, header_matches, payload_of};
 pub use send::{dummy_into, frame_into};

@@ -1,7 +1,7 @@
 -- What a thing met delivers, how it is counted, and the receiver's state after it (own).
 use Rattle.std.specs.Prelude.{◌≡◌, ℕ, ◌+◌, ◌≤◌, Bool, true, List, ◌∷◌, ◌++◌, length, Option, Some, None, ⊤}
 use Rattle.std.specs.List.{flat_map}
-use Rattle.s2_bbframe.specs.Limits.{most_field_bytes, packets_room}
+use Rattle.s2_bbframe.specs.Limits.{max_field_bytes, packets_room}
 use Rattle.s2_bbframe.specs.declared.header.Header.{Header}
 use Rattle.s2_bbframe.specs.Joining.{Joined, still, begun_body}
 use Rattle.s2_mode.specs.declared.symbols.Symbol.{Symbol}
@@ -25,7 +25,7 @@ filled_by joined = record { held = joined.held; packets = flat_map (λ packet. p
 
 -- the buffer has room for the packets of any field, and n bytes of it are filled
 abbrev pub HasRoom : ℕ → List ℕ → Type 0
-HasRoom filled buffer = (length buffer ≡ packets_room most_field_bytes) × (filled ≤ length buffer)
+HasRoom filled buffer = (length buffer ≡ packets_room max_field_bytes) × (filled ≤ length buffer)
 
 -- the joiner after the thing met, by its delivered field
 abbrev pub joined_by : Option (List ℕ) → Next → Option (Header × List ℕ) → Joined
@@ -41,7 +41,7 @@ given_by held (next.End at over) delivered = record { delivered = 0; good = 0; b
 
 -- no more than a frame can give
 abbrev pub IsFew : Given → Type 0
-IsFew given = (given.delivered ≤ 1) × (given.good + given.bad ≤ most_field_bytes) × (given.torn ≤ 2)
+IsFew given = (given.delivered ≤ 1) × (given.good + given.bad ≤ max_field_bytes) × (given.torn ≤ 2)
 
 -- the totals after the thing met, by its numbers
 abbrev pub counted : Totals → Next → Given → Totals

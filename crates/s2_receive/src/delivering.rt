@@ -2,7 +2,7 @@
 ghost use Rattle.std.specs.Prelude.{◌≡◌, ◌*◌, ◌≤◌, None, IfOk, IfSome, length, take};
 ghost use Rattle.std.specs.List.{flat_map};
 ghost use Rattle.s2_bbframe.specs.Joining.{still};
-ghost use Rattle.s2_bbframe.specs.Limits.{most_field_bytes, packet_bytes, packets_room};
+ghost use Rattle.s2_bbframe.specs.Limits.{max_field_bytes, packet_bytes, packets_room};
 ghost use Rattle.s2_receive.specs.Parts.{delivered_of, HasPlace};
 ghost use Rattle.s2_receive.specs.Receiving.{held_before, torn_before, joined_after, given_after};
 ghost use Rattle.s2_receive.specs.Telling.{IsFew, filled_by, given_by, joined_by};
@@ -55,7 +55,7 @@ fn join_frame(
     packets: &mut [u8],
 ) -> Given
     requires place { IfSome header (HasPlace field.now) }
-    requires room { packets_room most_field_bytes ≤ length packets.old }
+    requires room { packets_room max_field_bytes ≤ length packets.old }
     ensures held { joiner.new ≡ (joined_after joiner.old over (delivered_of header field.now)).held }
     ensures packets { take (packet_bytes * result.good) packets.new ≡ flat_map (λ packet. packet) (joined_after joiner.old over (delivered_of header field.now)).good }
     ensures given { result ≡ given_after joiner.old over (delivered_of header field.now) }

@@ -1,6 +1,6 @@
 //! What finds the frames of one mode.
 ghost use Rattle.std.specs.Prelude.{◌≡◌, ◌*◌, ◌≤◌, nat_eq, IfOk, length, false};
-ghost use Rattle.s2_mode.specs.Limits.{header_symbols, most_symbols};
+ghost use Rattle.s2_mode.specs.Limits.{header_symbols, max_symbols};
 ghost use Rattle.s2_mode.specs.Mode.{symbols_in};
 ghost use Rattle.s2_mode.specs.Symbols.{symbols_of};
 ghost use Rattle.s2_receive.specs.Finding.{Takes, reached, wanted, window_at};
@@ -64,7 +64,7 @@ impl Finder {
 
     /// Up to which symbol of the stream symbols came.
     pub(crate) fn reached(&self) -> u64
-        requires { reached self.now.window ≤ most_symbols }
+        requires { reached self.now.window ≤ max_symbols }
         ensures { result ≡ reached self.now.window }
     {
         self.held.at + self.held.count as u64
@@ -84,7 +84,7 @@ impl Finder {
     /// nothing where more symbols are needed.
     pub(crate) fn take(&mut self, bytes: &[u8], limit: u64) -> Option<Next>
         requires room { length bytes.now ≤ 4 * wanted limit (symbols_in self.old.mode) self.old.window }
-        requires limit { (reached self.old.window ≤ limit) × (limit ≤ most_symbols) }
+        requires limit { (reached self.old.window ≤ limit) × (limit ≤ max_symbols) }
         requires over { self.old.window.over.symbols ≤ self.old.window.at }
         ensures takes { Takes (found_as self.old.mode self.old.lock) (symbols_in self.old.mode) self.old.window self.new.window (symbols_of bytes.now)
             (nat_eq (length bytes.now) (4 * wanted limit (symbols_in self.old.mode) self.old.window)) self.new.frame result }

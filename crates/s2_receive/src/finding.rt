@@ -1,6 +1,6 @@
 //! The next frame in the symbols that come.
 ghost use Rattle.std.specs.Prelude.{◌≡◌, ◌+◌, ◌/◌, ◌^◌, ◌<◌, ◌≤◌, ◌∷◌, ◌++◌, [], List, length, take, true, false};
-ghost use Rattle.s2_mode.specs.Limits.{header_symbols, most_symbols};
+ghost use Rattle.s2_mode.specs.Limits.{header_symbols, max_symbols};
 ghost use Rattle.s2_mode.specs.Symbols.{symbols_of};
 ghost use Rattle.s2_mode.specs.declared.symbols.Symbol.{Symbol as SymbolValue};
 ghost use Rattle.s2_receive.specs.Meeting.{nothing_over, frame as met_frame};
@@ -70,7 +70,7 @@ fn fill(bytes: &[u8], frame: &mut [Symbol], held: &mut Held)
 fn meet_last(search: &mut Search, lock: Lock, frame: &[Symbol], held: Held) -> Next
     requires few { held.count < length frame.now }
     requires size { length frame.now ≤ 2 ^ 32 }
-    requires place { held.at + held.count ≤ most_symbols }
+    requires place { held.at + held.count ≤ max_symbols }
     requires over { held.over.symbols ≤ held.at }
     ensures met { met_within (found_as search.old.mode lock) (length frame.now) (window_of held frame.now) []
         ≡ met_of result frame.now ∷ met_then (found_as search.old.mode lock) (length frame.now) result [] }
@@ -107,7 +107,7 @@ fn meet_last(search: &mut Search, lock: Lock, frame: &[Symbol], held: Held) -> N
 fn pass_over(search: &mut Search, lock: Lock, frame: &mut [Symbol], held: &mut Held) -> bool
     requires size { (header_symbols ≤ length frame.old) × (length frame.old ≤ 2 ^ 32) }
     requires full { held.old.count ≡ length frame.old }
-    requires place { held.old.at + held.old.count ≤ most_symbols }
+    requires place { held.old.at + held.old.count ≤ max_symbols }
     requires over { held.old.over.symbols ≤ held.old.at }
     ensures stands { result ≡ false → (coming : List SymbolValue) → met_within (found_as search.old.mode lock) (length frame.old) (window_of held.old frame.old) coming
         ≡ met_frame held.new.at held.new.over frame.new ∷ met_within (found_as search.old.mode lock) (length frame.old) (window_at (held.old.at + held.old.count) true) coming }
@@ -160,7 +160,7 @@ fn look(
     requires size { (header_symbols ≤ length frame.old) × (length frame.old ≤ 2 ^ 32) }
     requires count { held.old.count ≤ length frame.old }
     requires last { whole ≡ false → held.old.count < length frame.old }
-    requires place { held.old.at + held.old.count ≤ most_symbols }
+    requires place { held.old.at + held.old.count ≤ max_symbols }
     requires over { held.old.over.symbols ≤ held.old.at }
     ensures takes { Takes (found_as search.old.mode lock) (length frame.old) (window_of held.old frame.old) (window_of held.new frame.new) [] whole frame.new result }
     ensures count { held.new.count < length frame.old }
@@ -196,7 +196,7 @@ pub(crate) fn take_symbols(
     requires size { (header_symbols ≤ length frame.old) × (length frame.old ≤ 2 ^ 32) }
     requires room { held.old.count + length bytes.now / 4 ≤ length frame.old }
     requires last { whole ≡ false → held.old.count + length bytes.now / 4 < length frame.old }
-    requires place { held.old.at + held.old.count + length bytes.now / 4 ≤ most_symbols }
+    requires place { held.old.at + held.old.count + length bytes.now / 4 ≤ max_symbols }
     requires over { held.old.over.symbols ≤ held.old.at }
     ensures takes { Takes (found_as search.old.mode lock) (length frame.old) (window_of held.old frame.old) (window_of held.new frame.new) (symbols_of bytes.now) whole frame.new result }
     ensures count { held.new.count < length frame.old }

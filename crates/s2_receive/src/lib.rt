@@ -16,7 +16,7 @@
 //! that it doesn't matter how a reader cuts the bytes, and that two runs in a row are one.
 //!
 //! ```
-//! let mut receiver = Receiver::new(alloc, mode, lock, decider, MOST_SYMBOLS)?;
+//! let mut receiver = Receiver::new(alloc, mode, lock, decider, MAX_SYMBOLS)?;
 //! let count = read_full(&mut reader, &mut buffer[..receiver.room()])?;
 //! if let Some(step) = receiver.advance(&buffer[..count]) {
 //!     write_full(&mut packets, receiver.packets())?;

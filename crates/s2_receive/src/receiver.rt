@@ -1,7 +1,7 @@
 //! The receiver of a stream of symbols.
 ghost use Rattle.std.specs.Prelude.{◌≡◌, ◌*◌, ◌<◌, ◌≤◌, IfOk, IsErrOf, length};
 ghost use Rattle.s2_mode.specs.Counts.{CanCount, CountsFault};
-ghost use Rattle.s2_mode.specs.Limits.{most_symbols};
+ghost use Rattle.s2_mode.specs.Limits.{max_symbols};
 ghost use Rattle.s2_mode.specs.Mode.{symbols_in};
 ghost use Rattle.s2_receive.specs.declared.report.Phase.TheVariants as phases;
 ghost use Rattle.s2_receive.specs.Receiving.{IsLive, asked, begun, is_at_frame, rules_of, taken};
@@ -94,7 +94,7 @@ impl<D: Decide> Receiver<D> {
     where
         D: Drop,
         requires takes { symbols_in mode ≡ D.size decider }
-        requires limit { limit ≤ most_symbols }
+        requires limit { limit ≤ max_symbols }
         ensures parts { IfOk result
             (λ r. (r.mode ≡ mode) × (r.lock ≡ lock) × (r.decider ≡ decider) × (r.limit ≡ limit)) }
         ensures begun { IfOk result (λ r. r.state ≡ begun) }
@@ -107,7 +107,7 @@ impl<D: Decide> Receiver<D> {
     /// The frames so far, with those that were not delivered; a cut one is no frame.
     pub fn totals(&self) -> Totals
         ensures is { result ≡ self.now.state.standing.totals }
-        ensures counted { result.frames ≤ most_symbols }
+        ensures counted { result.frames ≤ max_symbols }
     {
         self.stepper.totals()
     }
@@ -121,7 +121,7 @@ impl<D: Decide> Receiver<D> {
 
     /// Sets the limit of symbols in all; it has not taken more yet.
     pub fn limit(&mut self, symbols: u64)
-        requires { (taken self.old.state ≤ symbols) × (symbols ≤ most_symbols) }
+        requires { (taken self.old.state ≤ symbols) × (symbols ≤ max_symbols) }
         ensures { self.new ≡ record self.old { limit = symbols } }
     {
         self.stepper.limit(symbols);
@@ -219,7 +219,7 @@ impl<D: Decide> Receiver<D> {
         ensures nothing { (IsLive self.old.state.phase → ⊥) → (self.new ≡ self.old) × (reader.new ≡ reader.old)
             × (packets.new ≡ packets.old) × (report.new ≡ report.old) }
         ensures unwritten { IsErrOf result Fault.Read → (packets.new ≡ packets.old) × (report.new ≡ report.old) }
-        ensures counted { IfOk result (λ _. self.new.state.standing.totals.frames ≤ most_symbols) }
+        ensures counted { IfOk result (λ _. self.new.state.standing.totals.frames ≤ max_symbols) }
     {
         match self.stepper.phase() {
             Phase::Searching | Phase::Closing => {}

@@ -1,7 +1,7 @@
 //! The search in symbols that are held.
 ghost use Rattle.std.specs.Prelude.{◌≡◌, ◌+◌, ◌^◌, ◌≤◌, ◌&&◌, nat_eq, List, [], ◌∷◌, ◌++◌, length, true};
 ghost use Rattle.s2_mode.specs.declared.symbols.Symbol.{Symbol as SymbolValue};
-ghost use Rattle.s2_mode.specs.Limits.{header_symbols, most_symbols};
+ghost use Rattle.s2_mode.specs.Limits.{header_symbols, max_symbols};
 ghost use Rattle.s2_receive.specs.Finding.{Scans, found_last};
 ghost use Rattle.s2_receive.specs.Windows.{Saw, found_as};
 
@@ -57,7 +57,7 @@ pub(crate) fn look_through(
     over: Stretch,
 ) -> Scan
     requires size { length symbols.now ≤ 2 ^ 32 }
-    requires place { from + length symbols.now ≤ most_symbols }
+    requires place { from + length symbols.now ≤ max_symbols }
     requires over { over.symbols ≤ from }
     ensures scans { Scans (found_as search.old.mode lock) symbols.now from inside behind over result }
     ensures same { search.new.mode ≡ search.old.mode }

@@ -1,6 +1,6 @@
 //! The receiver without input and output: bytes come, and steps are made.
 ghost use Rattle.std.specs.Prelude.{◌≡◌, ◌*◌, ◌<◌, ◌≤◌, IfOk, IfSome, length, nat_eq};
-ghost use Rattle.s2_mode.specs.Limits.{most_symbols};
+ghost use Rattle.s2_mode.specs.Limits.{max_symbols};
 ghost use Rattle.s2_mode.specs.Mode.{symbols_in};
 ghost use Rattle.s2_mode.specs.Symbols.{symbols_of};
 ghost use Rattle.s2_receive.specs.declared.report.Phase.TheVariants as phases;
@@ -76,7 +76,7 @@ fn find_next<D: Decide>(
 ) -> Option<Next>
     requires frames { symbols_in finder.old.mode ≡ D.size decider.old }
     requires room { length bytes.now ≤ 4 * wanted limit (symbols_in finder.old.mode) finder.old.window }
-    requires limit { (reached finder.old.window ≤ limit) × (limit ≤ most_symbols) }
+    requires limit { (reached finder.old.window ≤ limit) × (limit ≤ max_symbols) }
     requires over { finder.old.window.over.symbols ≤ finder.old.window.at }
     ensures takes { Takes (found_as finder.old.mode finder.old.lock) (symbols_in finder.old.mode) finder.old.window finder.new.window (symbols_of bytes.now)
         (nat_eq (length bytes.now) (4 * wanted limit (symbols_in finder.old.mode) finder.old.window)) finder.new.frame result }
@@ -102,7 +102,7 @@ impl<D: Decide> Stepper<D> {
     where
         D: Drop,
         requires takes { symbols_in mode ≡ D.size decider }
-        requires limit { limit ≤ most_symbols }
+        requires limit { limit ≤ max_symbols }
         ensures parts { IfOk result
             (λ r. (r.mode ≡ mode) × (r.lock ≡ lock) × (r.decider ≡ decider) × (r.limit ≡ limit)) }
         ensures begun { IfOk result (λ r. r.state ≡ begun) }
@@ -123,7 +123,7 @@ impl<D: Decide> Stepper<D> {
     pub(crate) fn phase(&self) -> Phase
         ensures is { result ≡ self.now.state.phase }
         ensures within { taken self.now.state ≤ self.now.limit }
-        ensures counted { self.now.state.standing.totals.frames ≤ most_symbols }
+        ensures counted { self.now.state.standing.totals.frames ≤ max_symbols }
     {
         self.place.phase
     }
@@ -131,7 +131,7 @@ impl<D: Decide> Stepper<D> {
     /// The totals so far.
     pub(crate) fn totals(&self) -> Totals
         ensures is { result ≡ self.now.state.standing.totals }
-        ensures counted { result.frames ≤ most_symbols }
+        ensures counted { result.frames ≤ max_symbols }
     {
         self.place.totals
     }
@@ -145,7 +145,7 @@ impl<D: Decide> Stepper<D> {
 
     /// Takes at most so many symbols in all.
     pub(crate) fn limit(&mut self, symbols: u64)
-        requires { (taken self.old.state ≤ symbols) × (symbols ≤ most_symbols) }
+        requires { (taken self.old.state ≤ symbols) × (symbols ≤ max_symbols) }
         ensures { self.new ≡ record self.old { limit = symbols } }
     {
         self.limit = symbols;

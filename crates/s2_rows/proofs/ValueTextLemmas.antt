@@ -3,7 +3,7 @@ use Rattle.std.proofs.Common.{◌≡◌, ℕ, suc, ◌+◌, ◌-◌, ◌<◌, �
 use Rattle.std.proofs.lemmas.Bool.{cond-true, cond-false, cases_Bool, and_from, ne_eqb}
 use Rattle.std.proofs.lemmas.Int.{ints}
 use Rattle.std.specs.Option.{option_map}
-use Rattle.s2_mode.specs.Limits.{most_soft}
+use Rattle.s2_mode.specs.Limits.{max_soft}
 use Rattle.s2_rows.specs.Layouts.{digits_of}
 use Rattle.s2_rows.specs.Readings.{ok_cons}
 use Rattle.s2_rows.specs.Text.{is_space, tokens_of, lines_of, is_passed_over}
@@ -15,10 +15,10 @@ use Rattle.s2_rows.proofs.Tokens.{numbered, one_more, not_passed_over}
 
 -- ---- what a token says
 
-in_limits : (v : ℤ) (n : ℕ) → n ≤ most_soft → (v ≡ pos n) ⊎ (v ≡ neg_ℤ (pos n)) → is_value v ≡ true
+in_limits : (v : ℤ) (n : ℕ) → n ≤ max_soft → (v ≡ pos n) ⊎ (v ≡ neg_ℤ (pos n)) → is_value v ≡ true
 in_limits v n few is =
-    let low : int_lt v (neg_ℤ (pos most_soft)) ≡ false = elim (cases_Bool (int_lt v (neg_ℤ (pos most_soft)))) [ inl less ↦ absurd (omega (arith, ints)) | inr ok ↦ ok ] in
-    let high : int_lt (pos most_soft) v ≡ false = elim (cases_Bool (int_lt (pos most_soft) v)) [ inl less ↦ absurd (omega (arith, ints)) | inr ok ↦ ok ] in
+    let low : int_lt v (neg_ℤ (pos max_soft)) ≡ false = elim (cases_Bool (int_lt v (neg_ℤ (pos max_soft)))) [ inl less ↦ absurd (omega (arith, ints)) | inr ok ↦ ok ] in
+    let high : int_lt (pos max_soft) v ≡ false = elim (cases_Bool (int_lt (pos max_soft) v)) [ inl less ↦ absurd (omega (arith, ints)) | inr ok ↦ ok ] in
     and_from _ _ (ap not low) (ap not high)
 
 -- a token that begins no comment, without separators, of which this is the value in every line
@@ -31,7 +31,7 @@ record Speaks (token : List ℕ) (v : ℤ) : Type 0 where
 valued : (line : ℕ) (token : List ℕ) (v : ℤ) → number_of token ≡ Some v → is_value v ≡ true → value_of line token ≡ Ok v
 valued line token v number range = ap (in_range line) number ∙ cond-true _ _ _ range
 
-plain_speaks : (ds : List ℕ) (n : ℕ) → n ≤ most_soft → Says n ds → Speaks ds (pos n)
+plain_speaks : (ds : List ℕ) (n : ℕ) → n ≤ max_soft → Says n ds → Speaks ds (pos n)
 plain_speaks [] n few s = absurd (omega (arith, s.some))
 plain_speaks (d ∷ ds) n few s = record {
   some = s.some;
@@ -40,7 +40,7 @@ plain_speaks (d ∷ ds) n few s = record {
   value = λ line. valued line (d ∷ ds) (pos n) (cond-false _ _ _ (ne_eqb d 45 (λ e. omega (arith, s.digits.0))) ∙ ap (option_map (signed false)) (natural_of_says (d ∷ ds) n s)) (in_limits (pos n) n few (inl refl));
 }
 
-minus_speaks : (ds : List ℕ) (n : ℕ) → n ≤ most_soft → Says n ds → Speaks (45 ∷ ds) (neg_ℤ (pos n))
+minus_speaks : (ds : List ℕ) (n : ℕ) → n ≤ max_soft → Says n ds → Speaks (45 ∷ ds) (neg_ℤ (pos n))
 minus_speaks ds n few s = record {
   some = omega arith;
   apart = (refl, no_space ds s.digits);

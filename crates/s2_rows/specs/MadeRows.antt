@@ -6,7 +6,7 @@ use Rattle.rand_pcg.specs.Lcg.{Lcg}
 use Rattle.rand_pcg.specs.Pcg.{pcg32, pcg32_of_seed}
 use Rattle.s2_mode.specs.Shape.{Shape, IsShape, check_count}
 use Rattle.s2_rows.specs.Rows.{AreAddresses}
-use Rattle.s2_rows.specs.Limits.{most_addresses}
+use Rattle.s2_rows.specs.Limits.{max_addresses}
 use Rattle.s2_rows.specs.declared.make.MakeFault.{MakeFault}
 use Rattle.s2_rows.specs.declared.make.MakeFault.TheVariants as faults
 
@@ -37,7 +37,7 @@ made_rows shape weight seed = drawn_rows (check_count shape) weight shape.groups
 
 -- a weight: one to 24 addresses, and at most n - k
 abbrev pub is_weight : Shape → ℕ → Bool
-is_weight shape weight = nat_le 1 weight && (nat_le weight most_addresses && nat_le weight (check_count shape))
+is_weight shape weight = nat_le 1 weight && (nat_le weight max_addresses && nat_le weight (check_count shape))
 
 abbrev pub making : Shape → ℕ → ℕ → Result (List (List ℕ)) MakeFault
 making shape weight seed = if is_weight shape weight then Ok (made_rows shape weight seed) else Err faults.BadWeight

@@ -2,7 +2,7 @@
 use Rattle.std.specs.Prelude.{◌≡◌, ℕ, ◌+◌, ◌-◌, ◌==◌, nat_lt, List, [], ◌∷◌, ◌++◌, length, Option, Some, None, Result, Ok, Err, ⊤, if◌then◌else◌}
 use Rattle.std.specs.List.{list_any}
 use Rattle.s2_mode.specs.Shape.{Shape, check_count}
-use Rattle.s2_rows.specs.Limits.{most_addresses}
+use Rattle.s2_rows.specs.Limits.{max_addresses}
 use Rattle.s2_rows.specs.declared.row_file.RowFault.{RowFault}
 use Rattle.s2_rows.specs.declared.row_file.RowFault.TheVariants as faults
 use Rattle.s2_rows.specs.Numbers.{natural_of}
@@ -22,7 +22,7 @@ with_address line row (Ok x) = if list_any (λ y. y == x) row then Err (faults.R
 -- a row with the address of one token more, unless it is full
 abbrev pub with_token : ℕ → ℕ → List ℕ → List ℕ → Result (List ℕ) RowFault
 with_token checks line row token =
-    if nat_lt (length row) most_addresses then with_address line row (address_of checks line (natural_of token)) else Err (faults.RowTooLong line)
+    if nat_lt (length row) max_addresses then with_address line row (address_of checks line (natural_of token)) else Err (faults.RowTooLong line)
 
 -- the row that goes on with these tokens
 unfoldable pub row_from : ℕ → ℕ → Result (List ℕ) RowFault → List (List ℕ) → Result (List ℕ) RowFault

@@ -1,7 +1,7 @@
 -- Address rows (EN 302 307-1, 5.3.2): for each group of information bits the addresses of its first bit.
 use Rattle.std.specs.Prelude.{◌≡◌, ◌≢◌, ℕ, ◌<◌, ◌≤◌, All, AllPairs, List, [], length, get_or}
 use Rattle.s2_mode.specs.Shape.{Shape, IsShape, check_count}
-use Rattle.s2_rows.specs.Limits.{most_addresses}
+use Rattle.s2_rows.specs.Limits.{max_addresses}
 
 -- a shape, and a row for each of its groups
 pub record Rows : Type 0 where
@@ -27,4 +27,4 @@ pub record IsRows (r : Rows) : Type 0 where
   pub long : length r.rows ≡ r.shape.groups
   pub each : (g : ℕ) → g < r.shape.groups → AreAddresses (check_count r.shape) (row_of r g)
   pub some : (g : ℕ) → g < r.shape.groups → 1 ≤ length (row_of r g)
-  pub short : (g : ℕ) → g < r.shape.groups → length (row_of r g) ≤ most_addresses
+  pub short : (g : ℕ) → g < r.shape.groups → length (row_of r g) ≤ max_addresses

@@ -1,14 +1,14 @@
 -- The text of values, as it may be laid out (own).
 use Rattle.std.specs.Prelude.{◌≡◌, ℕ, ◌≤◌, ◌⊎◌, List, [], ◌∷◌, ◌++◌, length, ℤ, pos, neg_ℤ, Ok}
-use Rattle.s2_mode.specs.Limits.{most_soft}
+use Rattle.s2_mode.specs.Limits.{max_soft}
 use Rattle.s2_rows.specs.Layouts.{AreSpaces, EndsToken, IsSilent, digits_of}
 use Rattle.s2_rows.specs.Text.{lines_of}
 use Rattle.s2_rows.specs.Values.{values_of_text}
 
 -- the digits of a number of at most 511, leading zeros allowed, and a minus before them allowed
 pub data IsWritten (token : List ℕ) (v : ℤ) : Type 0 where
-  plain : (zeros n : ℕ) → n ≤ most_soft → token ≡ digits_of zeros n → v ≡ pos n → IsWritten token v
-  minus : (zeros n : ℕ) → n ≤ most_soft → token ≡ 45 ∷ digits_of zeros n → v ≡ neg_ℤ (pos n) → IsWritten token v
+  plain : (zeros n : ℕ) → n ≤ max_soft → token ≡ digits_of zeros n → v ≡ pos n → IsWritten token v
+  minus : (zeros n : ℕ) → n ≤ max_soft → token ≡ 45 ∷ digits_of zeros n → v ≡ neg_ℤ (pos n) → IsWritten token v
 
 -- a line with these values in their order, with separators before, between and after them
 abbrev pub IsLineWith : List ℕ → List ℤ → Type 0

@@ -28,7 +28,7 @@ pub fn made_rows()
     ensures { MadeRowsLaw }
 {}
 
-/// The limit that is tested, [`crate::MOST_ADDRESSES`], is that of the format.
+/// The limit that is tested, [`crate::MAX_ADDRESSES`], is that of the format.
 pub fn limits()
     ensures { LimitsLaw }
 {}

@@ -24,7 +24,7 @@ mod text;
 mod values;
 mod write;
 
-pub use limits::MOST_ADDRESSES;
+pub use limits::MAX_ADDRESSES;
 pub use make::{MakeFault, make_rows};
 pub use row_file::{RowFault, read_rows};
 pub use rows::{Row, Rows};

@@ -1,4 +1,4 @@
 //! The limit of row files.
 
 /// The most addresses of a row.
-pub const MOST_ADDRESSES: usize = 24;
+pub const MAX_ADDRESSES: usize = 24;

@@ -4,10 +4,10 @@ ghost use Rattle.std.specs.List.{list_any};
 ghost use Rattle.s2_mode.specs.Shape.{IsShape};
 ghost use Rattle.s2_mode.specs.FaultTexts.{said};
 ghost use Rattle.s2_rows.specs.FaultTexts.{make_fault_text};
-ghost use Rattle.s2_rows.specs.Limits.{most_addresses};
+ghost use Rattle.s2_rows.specs.Limits.{max_addresses};
 ghost use Rattle.s2_rows.specs.MadeRows.{free_from, drawn_row, Makes};
 
-use crate::limits::MOST_ADDRESSES;
+use crate::limits::MAX_ADDRESSES;
 use crate::rows::{Row, Rows};
 use rand_core::SeedableRng;
 use rand_core::utils::NextWord;
@@ -58,7 +58,7 @@ fn free_from(row: &[u32], checks: u32, x: u32) -> u32
 
 /// A row of so many addresses, each drawn in its turn.
 fn draw_row(generator: &mut Pcg32, checks: u32, weight: usize) -> Row
-    requires few { weight ≤ most_addresses }
+    requires few { weight ≤ max_addresses }
     requires free { weight ≤ checks }
     ensures { (result.items, generator.new) ≡ drawn_row checks weight [] generator.old }
 {
@@ -81,7 +81,7 @@ pub fn draw_rows<A: Allocator>(
     ensures valid { IsShape shape }
 {
     let checks = shape.checks();
-    if weight < 1 || weight > MOST_ADDRESSES || weight > checks {
+    if weight < 1 || weight > MAX_ADDRESSES || weight > checks {
         return Err(MakeFault::BadWeight);
     }
     let mut rows = Vec::with_capacity(alloc, shape.groups()).map_err(|_| MakeFault::NoMemory)?;

@@ -1,7 +1,7 @@
 //! Row files.
 ghost use Rattle.std.specs.Prelude.{◌≡◌, ◌+◌, ◌-◌, ◌<◌, ◌≤◌, ◌∷◌, ℕ, List, Ok, Err, map, vec_len, vec_capacity, IfOk, MatchResult};
 ghost use Rattle.s2_mode.specs.Shape.{IsShape, check_count};
-ghost use Rattle.s2_mode.specs.Limits.{most_bits};
+ghost use Rattle.s2_mode.specs.Limits.{max_bits};
 ghost use Rattle.s2_mode.specs.FaultTexts.{said};
 ghost use Rattle.s2_rows.specs.FaultTexts.{row_fault_text};
 ghost use Rattle.s2_rows.specs.Numbers.{natural_of};
@@ -50,7 +50,7 @@ impl RowFault {
 
 /// The address that a token says.
 fn address(checks: usize, line: u64, token: &[u8]) -> Result<u32, RowFault>
-    requires { checks ≤ most_bits }
+    requires { checks ≤ max_bits }
     ensures { result ≡ address_of checks line (natural_of token.now) }
 {
     match natural(token) {
@@ -62,7 +62,7 @@ fn address(checks: usize, line: u64, token: &[u8]) -> Result<u32, RowFault>
 
 /// Adds the address that a token says to its row.
 fn add_token(row: &mut Row, checks: usize, line: u64, token: &[u8]) -> Result<(), RowFault>
-    requires { checks ≤ most_bits }
+    requires { checks ≤ max_bits }
     ensures { MatchResult result
         (λ _. with_token checks line row.old.items token.now ≡ Ok row.new.items)
         (λ e. with_token checks line row.old.items token.now ≡ Err e) }
@@ -80,7 +80,7 @@ fn add_token(row: &mut Row, checks: usize, line: u64, token: &[u8]) -> Result<()
 
 /// The row of a line.
 fn read_row(checks: usize, number: u64, line: &[u8]) -> Result<Row, RowFault>
-    requires { checks ≤ most_bits }
+    requires { checks ≤ max_bits }
     ensures { MatchResult result
         (λ row. row_in checks number (tokens_of line.now) ≡ Ok row.items)
         (λ e. row_in checks number (tokens_of line.now) ≡ Err e) }

@@ -1,16 +1,16 @@
 //! Address rows.
 ghost use Rattle.std.specs.Prelude.{◌≡◌, ◌<◌, ◌≤◌, length, map};
 ghost use Rattle.s2_mode.specs.Shape.{check_count};
-ghost use Rattle.s2_rows.specs.Limits.{most_addresses};
+ghost use Rattle.s2_rows.specs.Limits.{max_addresses};
 ghost use Rattle.s2_rows.specs.Rows.{AreAddresses, IsRows, row_of, rows_value};
 
-use crate::limits::MOST_ADDRESSES;
+use crate::limits::MAX_ADDRESSES;
 use arrayvec::ArrayVec;
 use s2_mode::Shape;
 use std::marker::Model;
 
 /// The addresses of one row.
-pub type Row = ArrayVec<u32, MOST_ADDRESSES>;
+pub type Row = ArrayVec<u32, MAX_ADDRESSES>;
 
 /// A shape, and for each of its groups of information bits the addresses of the group's first bit
 /// (EN 302 307-1, 5.3.2): one to 24, each once, all of them below n - k.
@@ -58,7 +58,7 @@ impl Rows {
         requires { i < self.now.shape.groups }
         ensures are { result.now ≡ row_of self.now i }
         ensures addresses { AreAddresses (check_count self.now.shape) result.now }
-        ensures short { length result.now ≤ most_addresses }
+        ensures short { length result.now ≤ max_addresses }
     {
         self.rows[i].as_slice()
     }

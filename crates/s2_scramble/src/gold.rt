@@ -1,7 +1,7 @@
 //! Physical layer scrambling (EN 302 307-1, 5.5.4).
 ghost use Rattle.std.specs.Prelude.{◌≡◌, ℕ, ◌+◌, ◌<◌, ◌≤◌, ◌↔◌, IfOk, IsErrOf, length};
 ghost use Rattle.s2_mode.specs.declared.symbols.Symbol.{Symbol};
-ghost use Rattle.s2_scramble.specs.Gold.{most_number, most_symbols, quarter_turns};
+ghost use Rattle.s2_scramble.specs.Gold.{max_number, max_scrambled, quarter_turns};
 ghost use Rattle.s2_mode.specs.Symbols.{symbol_at};
 ghost use Rattle.s2_scramble.specs.Turns.{turned, turned_back, CanTurnBack};
 
@@ -14,10 +14,10 @@ use std::marker::Model;
 use thiserror::Error;
 
 /// The largest scrambling number.
-pub const MOST_NUMBER: u32 = 262141;
+pub const MAX_NUMBER: u32 = 262141;
 
 /// How many symbols can follow a frame's header: those of QPSK in normal frames with pilots.
-pub const MOST_SYMBOLS: usize = 33192;
+pub const MAX_SCRAMBLED: usize = 33192;
 
 /// Why there is no scrambler.
 #[derive(Clone, Copy, Debug, PartialEq, Eq, Error)]
@@ -63,7 +63,7 @@ impl Gold {
     /// Then nothing is kept.
     pub fn new(alloc: Global, number: u32) -> Result<Gold, GoldFault>
         ensures number { IfOk result (λ g. g ≡ number) }
-        ensures bad_number { IsErrOf result GoldFault.BadNumber ↔ (most_number < number) }
+        ensures bad_number { IsErrOf result GoldFault.BadNumber ↔ (max_number < number) }
     {
         let Some(number) = ScramblingNumber::new(number) else {
             return Err(GoldFault::BadNumber);
@@ -83,14 +83,14 @@ impl Gold {
     /// The scrambling number.
     pub fn number(&self) -> u32
         ensures is { result ≡ self.now }
-        ensures few { result ≤ most_number }
+        ensures few { result ≤ max_number }
     {
         self.number
     }
 
     /// R(i) of the standard: by how many quarter turns symbol `i` after the header is turned, 0 to 3.
     pub fn quarter(&self, i: usize) -> u8
-        requires { i < most_symbols }
+        requires { i < max_scrambled }
         ensures { result ≡ quarter_turns self.now i }
     {
         self.quarters[i] as u8
@@ -98,7 +98,7 @@ impl Gold {
 
     /// Turns a symbol as symbol `i` after the header. The negative of -32768 is 32767.
     pub fn turn(&self, i: usize, symbol: Symbol) -> Symbol
-        requires { i < most_symbols }
+        requires { i < max_scrambled }
         ensures { result ≡ turned (quarter_turns self.now i) symbol }
     {
         turned(self.quarters[i], symbol)
@@ -106,7 +106,7 @@ impl Gold {
 
     /// Turns symbol `i` after the header back. That undoes `turn` wherever no component is -32768.
     pub fn unturn(&self, i: usize, symbol: Symbol) -> Symbol
-        requires { i < most_symbols }
+        requires { i < max_scrambled }
         ensures is { result ≡ turned_back (quarter_turns self.now i) symbol }
         ensures undoes { (sent : Symbol) → CanTurnBack sent → symbol ≡ turned (quarter_turns self.now i) sent
             → result ≡ sent }
@@ -117,7 +117,7 @@ impl Gold {
     /// Turns symbols as those from symbol `at` after the header on.
     pub fn turn_into(&self, at: usize, symbols: &[Symbol], out: &mut [Symbol])
         requires same { length out.old ≡ length symbols.now }
-        requires within { at + length symbols.now ≤ most_symbols }
+        requires within { at + length symbols.now ≤ max_scrambled }
         ensures { (k : ℕ) → k < length symbols.now
             → symbol_at out.new k ≡ turned (quarter_turns self.now (at + k)) (symbol_at symbols.now k) }
     {
@@ -128,7 +128,7 @@ impl Gold {
     /// Turns symbols back, as those from symbol `at` after the header on.
     pub fn unturn_into(&self, at: usize, symbols: &[Symbol], out: &mut [Symbol])
         requires same { length out.old ≡ length symbols.now }
-        requires within { at + length symbols.now ≤ most_symbols }
+        requires within { at + length symbols.now ≤ max_scrambled }
         ensures { (k : ℕ) → k < length symbols.now
             → symbol_at out.new k ≡ turned_back (quarter_turns self.now (at + k)) (symbol_at symbols.now k) }
     {

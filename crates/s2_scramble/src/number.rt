@@ -1,8 +1,8 @@
 //! Scrambling numbers.
 ghost use Rattle.std.specs.Prelude.{◌≡◌, ◌≤◌, ◌↔◌, IsSome, IfSome};
-ghost use Rattle.s2_scramble.specs.Gold.{most_number};
+ghost use Rattle.s2_scramble.specs.Gold.{max_number};
 
-use crate::gold::MOST_NUMBER;
+use crate::gold::MAX_NUMBER;
 use std::marker::Model;
 
 /// A scrambling number of the physical layer, 0 to 262141 (EN 302 307-1, 5.5.4). Its value is that number.
@@ -13,13 +13,13 @@ pub struct ScramblingNumber {
 
 impl Model for ScramblingNumber {
     ghost use Rattle.std.specs.Prelude.{ℕ, ◌≤◌};
-    ghost use Rattle.s2_scramble.specs.Gold.{most_number};
+    ghost use Rattle.s2_scramble.specs.Gold.{max_number};
 
     ghost Value = { ℕ };
 
     ghost view = { λ s. s.number };
 
-    ghost invariant = { λ s. s.number ≤ most_number };
+    ghost invariant = { λ s. s.number ≤ max_number };
 
     ghost inverse = { λ v. record { number = v } };
 }
@@ -27,10 +27,10 @@ impl Model for ScramblingNumber {
 impl ScramblingNumber {
     /// The number, if it is in the range.
     pub fn new(number: u32) -> Option<ScramblingNumber>
-        ensures found { IsSome result ↔ (number ≤ most_number) }
+        ensures found { IsSome result ↔ (number ≤ max_number) }
         ensures value { IfSome result (λ s. s ≡ number) }
     {
-        if number <= MOST_NUMBER {
+        if number <= MAX_NUMBER {
             Some(ScramblingNumber { number })
         } else {
             None
@@ -40,7 +40,7 @@ impl ScramblingNumber {
     /// The number.
     pub fn get(self) -> u32
         ensures value { result ≡ self }
-        ensures most { result ≤ most_number }
+        ensures most { result ≤ max_number }
     {
         self.number
     }

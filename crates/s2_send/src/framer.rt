@@ -4,7 +4,7 @@ ghost use Rattle.std.specs.Io.KnownBytes.{Appends};
 ghost use Rattle.s2_mode.specs.Counts.{CanCount, CountsFault};
 ghost use Rattle.s2_mode.specs.Pieces.{AppendsPart};
 ghost use Rattle.s2_bbframe.specs.DataStream.{field_bytes};
-ghost use Rattle.s2_link.specs.Limits.{most_roll_off};
+ghost use Rattle.s2_link.specs.Limits.{max_roll_off};
 ghost use Rattle.s2_send.specs.Frames.{IsFrameOf, IsUnitOf, WritesSome, dummy_bytes};
 
 use crate::coder::Coder;
@@ -35,7 +35,7 @@ impl<'a> Drop for Framer<'a> {
 
 impl<'a> Model for Framer<'a> {
     ghost use Rattle.std.specs.Prelude.{◌≡◌, ◌≤◌};
-    ghost use Rattle.s2_link.specs.Limits.{most_roll_off};
+    ghost use Rattle.s2_link.specs.Limits.{max_roll_off};
     ghost use Rattle.s2_link.specs.Link.{Link as LinkValue};
 
     ghost Value = { LinkValue };
@@ -45,7 +45,7 @@ impl<'a> Model for Framer<'a> {
       rows = f.coder.rows;
     } };
 
-    ghost invariant = { λ f. (f.coder.mode ≡ f.modulator.mode) × (f.roll_off ≤ most_roll_off) };
+    ghost invariant = { λ f. (f.coder.mode ≡ f.modulator.mode) × (f.roll_off ≤ max_roll_off) };
 }
 
 impl<'a> Framer<'a> {
@@ -66,7 +66,7 @@ impl<'a> Framer<'a> {
     /// The roll-off that headers tell.
     pub fn roll_off(&self) -> RollOff
         ensures is { result ≡ self.now.setup.roll_off }
-        ensures most { result ≤ most_roll_off }
+        ensures most { result ≤ max_roll_off }
     {
         self.roll_off
     }

@@ -25,7 +25,7 @@ pub fn one_run(mode: Mode)
     one_frame(mode);
 }
 
-/// The limit that is tested, [`crate::MOST_PACKETS`], is that of the definitions.
+/// The limit that is tested, [`crate::MAX_PACKETS`], is that of the definitions.
 pub fn limits()
     ensures { LimitsLaw }
 {}

@@ -35,5 +35,5 @@ pub use coder::Coder;
 pub use framer::Framer;
 pub use modulator::Modulator;
 pub use outcome::{Counts, SendFault};
-pub use sending::MOST_PACKETS;
+pub use sending::MAX_PACKETS;
 pub use transmitter::Transmitter;

@@ -12,7 +12,7 @@ use s2_bbframe::{PACKET_BYTES, Slicer};
 use s2_mode::{CountedRead, CountedWrite, WriteFault, read_full};
 
 /// How many packets one run accepts at most, unless it is made to accept fewer.
-pub const MOST_PACKETS: u64 = 1 << 32;
+pub const MAX_PACKETS: u64 = 1 << 32;
 
 /// How a run goes: how many packets it takes at most, and behind every how many frames it writes a dummy frame, 0
 /// for none.

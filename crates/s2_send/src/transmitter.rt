@@ -1,14 +1,14 @@
 //! The transmitter: packets in, symbols out.
 ghost use Rattle.std.specs.Prelude.{◌≡◌, ◌≢◌, ◌+◌, ◌<◌, ◌≤◌, Err, IfOk, IsErrOf};
 ghost use Rattle.s2_mode.specs.Counts.{CanCount};
-ghost use Rattle.s2_send.specs.Limits.{most_packets};
+ghost use Rattle.s2_send.specs.Limits.{max_packets};
 ghost use Rattle.s2_send.specs.Transmitter.{TransmitterAnswers, new_transmitter};
 ghost use Rattle.s2_send.specs.Sending.{TransmitterRuns};
 ghost use Rattle.s2_send.specs.Laws.{ReadFails};
 
 use crate::framer::Framer;
 use crate::outcome::{Counts, SendFault};
-use crate::sending::{MOST_PACKETS, Plan, send_all};
+use crate::sending::{MAX_PACKETS, Plan, send_all};
 use s2_bbframe::{Slicer, field_bytes};
 use s2_link::{Link, Setup, SetupFault};
 use s2_matrix::Matrix;
@@ -78,15 +78,15 @@ impl<'a> Transmitter<'a> {
             slicer,
             field,
             plan: Plan {
-                limit: MOST_PACKETS,
+                limit: MAX_PACKETS,
                 dummy_every: 0,
             },
         })
     }
 
-    /// Lets each run take at most so many packets, 1 to [`MOST_PACKETS`].
+    /// Lets each run take at most so many packets, 1 to [`MAX_PACKETS`].
     pub fn limit(&mut self, packets: u64)
-        requires { (1 ≤ packets) × (packets ≤ most_packets) }
+        requires { (1 ≤ packets) × (packets ≤ max_packets) }
         ensures { self.new ≡ record self.old { limit = packets } }
     {
         self.plan.limit = packets;
@@ -103,7 +103,7 @@ impl<'a> Transmitter<'a> {
     /// Reads packets of 188 bytes to the reader's end, and writes the frames of their data stream,
     /// which begins anew with each run. It takes no memory, and reads and writes piece by piece: a
     /// packet, and a frame. A packet is accepted where it is whole and begins with 47 hexadecimal, at
-    /// most [`MOST_PACKETS`] of them, or as many as [`Transmitter::limit`] said. Where
+    /// most [`MAX_PACKETS`] of them, or as many as [`Transmitter::limit`] said. Where
     /// [`Transmitter::dummy_every`] said so a dummy frame stands behind a frame; it belongs to that
     /// frame in what follows, and is not counted.
     ///

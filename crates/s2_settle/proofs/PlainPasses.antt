@@ -20,7 +20,7 @@ use Rattle.s2_bits.specs.Bits.{bit_at}
 use Rattle.s2_check.specs.Cost.{value_at}
 use Rattle.s2_check.specs.Moves.{in_favour}
 use Rattle.s2_check.specs.Views.{IsSoft}
-use Rattle.s2_mode.specs.Limits.{most_soft}
+use Rattle.s2_mode.specs.Limits.{max_soft}
 use Rattle.s2_minsum.specs.Layout.{row_of_bit, lane_of_bit, bit_of}
 use Rattle.s2_minsum.proofs.Places
 use Rattle.s2_minsum.proofs.Orders.{Within, sum_within}
@@ -40,7 +40,7 @@ use Rattle.s2_settle.proofs.RestWords.{less_is, no_less_is, less_of, no_less_of}
 
 -- ---- the start
 
-soft_small : (soft : List ℤ) → All IsSoft soft → (i : ℕ) → unsigned_abs (value_at soft i) ≤ most_soft
+soft_small : (soft : List ℤ) → All IsSoft soft → (i : ℕ) → unsigned_abs (value_at soft i) ≤ max_soft
 soft_small soft all i = elim (cases_lt i (length soft)) [
   | inl lt ↦ (let is = all i (pos 0) lt in omega (arith, ints, is.low, is.high))
   | inr le ↦ (let none = get_or_past soft i (pos 0) le in omega (arith, ints, none))
@@ -50,7 +50,7 @@ started_is : (soft : List ℤ) (word : List Bool) → All IsSoft soft → (i : �
 started_is soft word all i =
     go (int_lt (value_at soft i) (pos 0)) (bit_at word i) refl refl
   where
-    small : unsigned_abs (value_at soft i) ≤ most_soft
+    small : unsigned_abs (value_at soft i) ≤ max_soft
     small = soft_small soft all i
 
     go : (s b : Bool) → int_lt (value_at soft i) (pos 0) ≡ s → bit_at word i ≡ b → pos (started soft word i) ≡ pos zero_rest +ℤ in_favour word i (pos settling_scale *ℤ value_at soft i)
@@ -59,7 +59,7 @@ started_is soft word all i =
     go false true s b = (let le = no_less_of (value_at soft i) (pos 0) s in rw (s, b) (omega (arith, ints, small, le)))
     go false false s b = (let le = no_less_of (value_at soft i) (pos 0) s in rw (s, b) (omega (arith, ints, small, le)))
 
-favour_small : (b : Bool) (z : ℤ) → unsigned_abs z ≤ most_soft → unsigned_abs (cond b (neg_ℤ (pos settling_scale *ℤ z)) (pos settling_scale *ℤ z)) ≤ settling_scale * most_soft
+favour_small : (b : Bool) (z : ℤ) → unsigned_abs z ≤ max_soft → unsigned_abs (cond b (neg_ℤ (pos settling_scale *ℤ z)) (pos settling_scale *ℤ z)) ≤ settling_scale * max_soft
 favour_small true z h = omega (arith, ints)
 favour_small false z h = omega (arith, ints)
 

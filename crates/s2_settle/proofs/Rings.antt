@@ -8,7 +8,7 @@ use Rattle.std.proofs.lemmas.List.Elements.{All-head, All-tail, All-append, All-
 use Rattle.std.proofs.lemmas.List.Folds.{list_any-append}
 use Rattle.std.proofs.lemmas.Map.Keys.{IsDistinct-push, IsDistinct-head, IsDistinct-tail}
 use Rattle.std.proofs.lemmas.Map.Steps.{length-le_from_distinct_below}
-use Rattle.s2_mode.specs.Limits.{most_bits}
+use Rattle.s2_mode.specs.Limits.{max_bits}
 use Rattle.s2_settle.specs.Plain.{call}
 use Rattle.s2_settle.specs.Waiting.{window, IsWaiting}
 use Rattle.s2_settle.proofs.Windows.{length-window, window_push, window_pop}

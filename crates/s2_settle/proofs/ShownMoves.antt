@@ -12,7 +12,7 @@ use Rattle.s2_matrix.specs.Total.{upto}
 use Rattle.s2_matrix.specs.Code.{code_of, members, checks_of, is_member}
 use Rattle.s2_matrix.proofs.Members.{members_rising, members_below, place_of, place_in_members}
 use Rattle.s2_minsum.specs.declared.rows.Entry.{Entry}
-use Rattle.s2_mode.specs.Limits.{most_soft}
+use Rattle.s2_mode.specs.Limits.{max_soft}
 use Rattle.s2_minsum.specs.Rows.{no_entry, entry_at, cell, turned, is_lacking}
 use Rattle.s2_minsum.specs.Layout.{row_of_bit, lane_of_bit, bit_of, last_check, forth, back, entry_of, entry_count, lacked_row, entries_of}
 use Rattle.s2_minsum.proofs.Places
@@ -21,7 +21,7 @@ use Rattle.s2_minsum.proofs.Columns.{found, member_below, member_has, lacks, pre
 use Rattle.s2_minsum.proofs.Posteriors.{total_small}
 use Rattle.s2_minsum.proofs.StepStates.{lane_of, layer_of}
 use Rattle.s2_settle.specs.Rests.{given}
-use Rattle.s2_check.specs.Moves.{most_moved}
+use Rattle.s2_check.specs.Moves.{max_moved}
 use Rattle.s2_settle.specs.Plain.{settling_scale, first_reserve, State, raise, rest, input, new_target as to_target, new_amount as to_amount}
 use Rattle.s2_settle.specs.Layer.{Held, of_layer, gifts, new_target, new_amount}
 use Rattle.s2_settle.specs.Placing.{shown, place_of_check}
@@ -38,14 +38,14 @@ signed_none true false a none = omega (arith, ints)
 signed_none false true a none = omega (arith, ints)
 signed_none false false a none = refl
 
-raise_small : (b : Bool) (a : ℕ) → a ≤ most_moved → unsigned_abs (signed b a) ≤ most_moved
+raise_small : (b : Bool) (a : ℕ) → a ≤ max_moved → unsigned_abs (signed b a) ≤ max_moved
 raise_small true a le = omega (arith, ints)
 raise_small false a le = omega (arith, ints)
 
 -- a rest is small
-pub rest_small : (rows : Rows) → AreFit rows → (st : State) → IsWithin rows st → (i : ℕ) → i < code_bits rows.shape → unsigned_abs (rest (code_of rows) st i) ≤ settling_scale * most_soft + 24 * most_moved
+pub rest_small : (rows : Rows) → AreFit rows → (st : State) → IsWithin rows st → (i : ℕ) → i < code_bits rows.shape → unsigned_abs (rest (code_of rows) st i) ≤ settling_scale * max_soft + 24 * max_moved
 rest_small rows fit st within i low =
-    let sum = total_small (λ j. raise st j i) most_moved (checks_of (code_of rows) i) (λ j. raise_small (i == st.target j) (st.amount j) (within.amounts j)) in
+    let sum = total_small (λ j. raise st j i) max_moved (checks_of (code_of rows) i) (λ j. raise_small (i == st.target j) (st.amount j) (within.amounts j)) in
     let few = fit.few i low in
     let value = within.values i low in
     omega (arith, ints, sum, few, value)

@@ -6,7 +6,7 @@ use Rattle.s2_matrix.specs.Total.{upto}
 use Rattle.s2_matrix.specs.Code.{code_of, members}
 use Rattle.s2_minsum.specs.Rows.{turned, entry_at}
 use Rattle.s2_minsum.specs.Layout.{bit_of, entries_of}
-use Rattle.s2_check.specs.Moves.{Move, most_moved}
+use Rattle.s2_check.specs.Moves.{Move, max_moved}
 use Rattle.s2_settle.specs.Plain.{State}
 use Rattle.s2_settle.specs.Settled.{move_to, moves_in}
 
@@ -22,7 +22,7 @@ place_of_check s j = j % s.q * s.group + j / s.q
 -- the move of check j
 abbrev pub move_of : Rows → List ℕ → List ℕ → ℕ → Move
 move_of rows targets amounts j =
-    move_to (members (code_of rows) j) (shown rows (j % rows.shape.q) (j / rows.shape.q) (get_or targets (place_of_check rows.shape j) 0)) (min (get_or amounts (place_of_check rows.shape j) 0) most_moved)
+    move_to (members (code_of rows) j) (shown rows (j % rows.shape.q) (j / rows.shape.q) (get_or targets (place_of_check rows.shape j) 0)) (min (get_or amounts (place_of_check rows.shape j) 0) max_moved)
 
 abbrev pub moves_of : Rows → List ℕ → List ℕ → List Move
 moves_of rows targets amounts = map (move_of rows targets amounts) (upto (code_of rows).checks)

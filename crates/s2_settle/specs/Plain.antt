@@ -5,7 +5,7 @@ use Rattle.std.specs.List.{list_any}
 use Rattle.s2_matrix.specs.Total.{total, upto}
 use Rattle.s2_matrix.specs.Code.{Code, members, checks_of}
 use Rattle.s2_check.specs.Cost.{value_at}
-use Rattle.s2_check.specs.Moves.{most_moved, in_favour}
+use Rattle.s2_check.specs.Moves.{max_moved, in_favour}
 use Rattle.s2_minsum.specs.Plain.{others}
 use Rattle.s2_settle.specs.declared.course.Course.{Course}
 
@@ -32,8 +32,8 @@ abbrev pub least_fall : ℕ
 least_fall = 12
 
 -- the largest fall of the reserve before a pass
-abbrev pub most_fall : ℕ
-most_fall = 64
+abbrev pub max_fall : ℕ
+max_fall = 64
 
 -- few bits lack if at most one in this number does
 abbrev pub bits_a_few : ℕ
@@ -48,8 +48,8 @@ abbrev pub growth_part : ℕ
 growth_part = 64
 
 -- how many checks a queue serves at most
-abbrev pub most_served : ℕ
-most_served = 4000
+abbrev pub max_served : ℕ
+max_served = 4000
 
 -- ---- states
 
@@ -95,15 +95,15 @@ abbrev pub least_of : (ℕ → ℤ) → List ℕ → ℕ
 least_of f [] = 0
 least_of f (m ∷ ms) = fold (λ k i. if int_lt (f i) (f k) then i else k) m ms
 
--- half of what input b is above input a and the reserve, at most `most_moved`; nothing where it is not above
+-- half of what input b is above input a and the reserve, at most `max_moved`; nothing where it is not above
 abbrev pub half_gap : ℕ → ℤ → ℤ → ℕ
 half_gap reserve a b =
-    if int_lt (a +ℤ pos reserve) b then min (unsigned_abs (b -ℤ a -ℤ pos reserve) / 2) most_moved else 0
+    if int_lt (a +ℤ pos reserve) b then min (unsigned_abs (b -ℤ a -ℤ pos reserve) / 2) max_moved else 0
 
 -- The amount moved to a member, by its input and the least of the others'. It is nothing if two are least, and
--- `most_moved` if there are no others
+-- `max_moved` if there are no others
 abbrev pub amount_to : ℕ → (ℕ → ℤ) → ℕ → List ℕ → ℕ
-amount_to reserve f t [] = most_moved
+amount_to reserve f t [] = max_moved
 amount_to reserve f t (k ∷ ks) = half_gap reserve (f t) (f (least_of f (k ∷ ks)))
 
 abbrev pub new_target : Code → State → ℕ → ℕ
@@ -164,7 +164,7 @@ queue code (suc left) s (j ∷ waiting) =
 -- it begins with the checks of the bits that lack
 abbrev pub queued : Code → State → State
 queued code s =
-    queue code most_served s (call_for code [] (filter (lacks code s) (upto code.bits)))
+    queue code max_served s (call_for code [] (filter (lacks code s) (upto code.bits)))
 
 -- ---- the course
 
@@ -175,7 +175,7 @@ at_first code = record { reserve = first_reserve; before = 0; tried = code.bits 
 -- the fall of the reserve, by the numbers of bits that lacked before and that lack now
 abbrev pub fall : ℕ → ℕ → ℕ
 fall before now =
-    min most_fall (max least_fall (if nat_lt now before then fall_part * (before - now) / before else 0))
+    min max_fall (max least_fall (if nat_lt now before then fall_part * (before - now) / before else 0))
 
 -- whether settling is given up before a pass: it is pass `first_end` or a later one, more than few bits lack, and they
 -- have grown by a `growth_part`

@@ -2,7 +2,7 @@
 use Rattle.std.specs.Prelude.{ℕ, ◌/◌, ◌==◌, min, max, nat_lt, not, ◌&&◌, Bool, if◌then◌else◌, List, get_or, count_by}
 use Rattle.s2_bits.specs.Lanes32.{minus32, plus32}
 use Rattle.s2_minsum.specs.declared.rows.Entry.{Entry}
-use Rattle.s2_check.specs.Moves.{most_moved}
+use Rattle.s2_check.specs.Moves.{max_moved}
 use Rattle.s2_minsum.specs.Rows.{turned, cell, entry_at, is_lacking, changed_by}
 
 -- the word of a rest of 0
@@ -28,7 +28,7 @@ given rest target amount e = if target == e then minus32 rest amount else plus32
 -- the amount moved to the least rest, by the least other one and the reserve
 abbrev pub gap : ℕ → ℕ → ℕ → ℕ
 gap reserve first second =
-    min (minus32 (max (minus32 second first) reserve) reserve / 2) most_moved
+    min (minus32 (max (minus32 second first) reserve) reserve / 2) max_moved
 
 -- the change of the rest of member e
 abbrev pub change : ℕ → ℕ → ℕ → ℕ → ℕ → ℕ

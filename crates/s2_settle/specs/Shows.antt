@@ -3,11 +3,11 @@ use Rattle.std.specs.Prelude.{◌≡◌, ℕ, ◌*◌, ◌/◌, ◌%◌, ◌<◌
 use Rattle.s2_mode.specs.Shape.{code_bits}
 use Rattle.s2_rows.specs.Rows.{Rows}
 use Rattle.s2_matrix.specs.Code.{code_of}
-use Rattle.s2_mode.specs.Limits.{most_soft}
+use Rattle.s2_mode.specs.Limits.{max_soft}
 use Rattle.s2_minsum.specs.Rows.{cell}
 use Rattle.s2_minsum.specs.Layout.{row_of_bit, lane_of_bit, entry_count}
 use Rattle.s2_settle.specs.Rests.{zero_rest}
-use Rattle.s2_check.specs.Moves.{most_moved}
+use Rattle.s2_check.specs.Moves.{max_moved}
 use Rattle.s2_settle.specs.Plain.{settling_scale, State, rest}
 use Rattle.s2_settle.specs.Layer.{Held, AreLong}
 use Rattle.s2_settle.specs.Placing.{shown, place_of_check}
@@ -26,8 +26,8 @@ pub record Shows (rows : Rows) (h : Held) (s : State) : Type 0 where
 
 -- values of soft values within their limits, and no amount above the most that a check moves
 pub record IsWithin (rows : Rows) (s : State) : Type 0 where
-  pub values : (i : ℕ) → i < code_bits rows.shape → unsigned_abs (s.value i) ≤ settling_scale * most_soft
-  pub amounts : (j : ℕ) → s.amount j ≤ most_moved
+  pub values : (i : ℕ) → i < code_bits rows.shape → unsigned_abs (s.value i) ≤ settling_scale * max_soft
+  pub amounts : (j : ℕ) → s.amount j ≤ max_moved
 
 -- rows and lanes show a state within these limits
 pub record IsShown (rows : Rows) (h : Held) (s : State) : Type 0 where

@@ -1,7 +1,7 @@
 -- Checks that wait, in a ring (own).
 use Rattle.std.specs.Prelude.{◌≡◌, ℕ, ◌<◌, ◌≤◌, ◌==◌, Bool, false, nat_eq, List, [], ◌∷◌, ◌++◌, length, take, drop, get_or, All, Option, None, Some}
 use Rattle.std.specs.List.{list_any, IsDistinct}
-use Rattle.s2_mode.specs.Limits.{most_bits}
+use Rattle.s2_mode.specs.Limits.{max_bits}
 
 -- how many checks there are, and those that wait, the first one first
 pub record Waiting : Type 0 where
@@ -28,7 +28,7 @@ later (j ∷ js) = js
 pub record IsWaiting (oldest count : ℕ) (slots : List ℕ) (marks : List Bool) : Type 0 where
   pub some : oldest < length marks
   pub few : count ≤ length marks
-  pub many : length marks ≤ most_bits
+  pub many : length marks ≤ max_bits
   pub long : length slots ≡ length marks
   pub low : All (λ j. j < length marks) (window oldest count slots)
   pub distinct : IsDistinct nat_eq (window oldest count slots)

@@ -1,12 +1,12 @@
 //! The course of settling: what is held in reserve, when there is a queue, and when settling is given up.
 ghost use Rattle.std.specs.Prelude.{◌≡◌, ◌≤◌, ◌-◌, nat_lt, if◌then◌else◌};
-ghost use Rattle.s2_mode.specs.Limits.{most_bits};
+ghost use Rattle.s2_mode.specs.Limits.{max_bits};
 ghost use Rattle.s2_matrix.specs.Code.{Code};
 ghost use Rattle.s2_settle.specs.Plain.{full_passes, fall, is_hopeless, is_time, at_first, after};
 
 use crate::limits::{
     BITS_A_FEW, FALL_PART, FIRST_END, FIRST_RESERVE, FULL_PASSES, GROWTH_PART, LEAST_FALL,
-    MOST_FALL,
+    MAX_FALL,
 };
 
 /// What is held in reserve, how many bits lacked before the last pass, and how many before the last queue.
@@ -19,7 +19,7 @@ pub(crate) struct Course {
 
 /// By how much the reserve falls where so many bits lacked before, and lack now.
 fn fall(before: usize, now: usize) -> u32
-    requires { before ≤ most_bits }
+    requires { before ≤ max_bits }
     ensures { result ≡ fall before now }
 {
     let part = if now < before {
@@ -27,12 +27,12 @@ fn fall(before: usize, now: usize) -> u32
     } else {
         0
     };
-    part.max(LEAST_FALL).min(MOST_FALL) as u32
+    part.max(LEAST_FALL).min(MAX_FALL) as u32
 }
 
 /// Whether passes are of no more use.
 pub(crate) fn is_hopeless(bits: usize, pass: u32, before: usize, now: usize) -> bool
-    requires { before ≤ most_bits }
+    requires { before ≤ max_bits }
     ensures { result ≡ is_hopeless bits pass before now }
 {
     pass >= FIRST_END && now > bits / BITS_A_FEW && now >= before + before / GROWTH_PART
@@ -40,7 +40,7 @@ pub(crate) fn is_hopeless(bits: usize, pass: u32, before: usize, now: usize) -> 
 
 /// Whether it is time for a queue.
 pub(crate) fn is_time(bits: usize, tried: usize, now: usize) -> bool
-    requires { now ≤ most_bits }
+    requires { now ≤ max_bits }
     ensures { result ≡ is_time bits tried now }
 {
     now <= bits / BITS_A_FEW && 2 * now <= tried
@@ -60,7 +60,7 @@ impl Course {
 
     /// The reserve from a pass on before which so many bits lack.
     fn next_reserve(self, pass: u32, now: usize) -> u32
-        requires { self.before ≤ most_bits }
+        requires { self.before ≤ max_bits }
         ensures { result ≡ (if nat_lt pass full_passes then self.reserve else self.reserve - fall self.before now) }
     {
         if pass < FULL_PASSES {
@@ -72,8 +72,8 @@ impl Course {
 
     /// The course from a pass on before which so many bits lack.
     pub(crate) fn after(self, bits: usize, pass: u32, now: usize) -> Course
-        requires before { self.before ≤ most_bits }
-        requires now { now ≤ most_bits }
+        requires before { self.before ≤ max_bits }
+        requires now { now ≤ max_bits }
         ensures { (code : Code) → code.bits ≡ bits → result ≡ after code self pass now }
     {
         let is_time = is_time(bits, self.tried, now);

@@ -5,7 +5,7 @@ ghost use Rattle.s2_bits.specs.Lanes32.{minus32};
 ghost use Rattle.s2_settle.specs.Rests.{given, gap, change};
 
 use s2_bits::lanes32::{all, least, minus, most, plus, where_same};
-use s2_check::MOST_MOVED;
+use s2_check::MAX_MOVED;
 use std::simd::prelude::*;
 
 #[inline(always)]
@@ -29,7 +29,7 @@ pub(crate) fn gap(reserve: u32x4, first: u32x4, second: u32x4) -> u32x4
     ensures { HasLanes 4 (λ k. gap (lane reserve k) (lane first k) (lane second k)) result }
 {
     let free = minus(most(minus(second, first), reserve), reserve);
-    least(half(free), all(MOST_MOVED))
+    least(half(free), all(MAX_MOVED))
 }
 
 /// What a move to a member adds to its rest.

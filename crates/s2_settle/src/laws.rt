@@ -1,11 +1,11 @@
 //! Laws of the definitions: each a call that does nothing, whose clause is the law.
 ghost use Rattle.std.specs.Prelude.{◌≡◌};
 ghost use Rattle.s2_settle.specs.Laws.{SettledLaw, StartLaw, LayerLaw, ServeLaw};
-ghost use Rattle.s2_settle.specs.Plain.{settling_scale, first_reserve, full_passes, fall_part, least_fall, most_fall, bits_a_few, first_end, growth_part, most_served};
+ghost use Rattle.s2_settle.specs.Plain.{settling_scale, first_reserve, full_passes, fall_part, least_fall, max_fall, bits_a_few, first_end, growth_part, max_served};
 
 use crate::limits::{
     BITS_A_FEW, FALL_PART, FIRST_END, FIRST_RESERVE, FULL_PASSES, GROWTH_PART, LEAST_FALL,
-    MOST_FALL, MOST_SERVED, SCALE,
+    MAX_FALL, MAX_SERVED, SETTLING_SCALE,
 };
 
 /// What is settled for a codeword is a strict certificate of these values and this word.
@@ -31,14 +31,14 @@ pub fn serve()
 
 /// The program's numbers are those of the rule.
 pub fn limits()
-    ensures scale { SCALE ≡ settling_scale }
+    ensures scale { SETTLING_SCALE ≡ settling_scale }
     ensures reserve { FIRST_RESERVE ≡ first_reserve }
     ensures full { FULL_PASSES ≡ full_passes }
     ensures part { FALL_PART ≡ fall_part }
     ensures least { LEAST_FALL ≡ least_fall }
-    ensures most { MOST_FALL ≡ most_fall }
+    ensures most { MAX_FALL ≡ max_fall }
     ensures few { BITS_A_FEW ≡ bits_a_few }
     ensures end { FIRST_END ≡ first_end }
     ensures growth { GROWTH_PART ≡ growth_part }
-    ensures served { MOST_SERVED ≡ most_served }
+    ensures served { MAX_SERVED ≡ max_served }
 {}

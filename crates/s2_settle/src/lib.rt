@@ -44,5 +44,5 @@ mod settler;
 mod start;
 mod waiting;
 
-pub use limits::SCALE;
+pub use limits::SETTLING_SCALE;
 pub use settler::Settler;

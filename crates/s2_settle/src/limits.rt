@@ -2,7 +2,7 @@
 
 /// What a soft value is multiplied by: rests, reserves and amounts count in sixteenths of one. With soft values up to 511
 /// and at most 24 moves of 2^20 a rest's size stays below 2^25, well within 32 bits.
-pub const SCALE: u16 = 16;
+pub const SETTLING_SCALE: u16 = 16;
 
 /// What is held in reserve at first.
 pub const FIRST_RESERVE: u32 = 256;
@@ -17,7 +17,7 @@ pub const FALL_PART: usize = 320;
 pub const LEAST_FALL: usize = 12;
 
 /// By no more than this.
-pub const MOST_FALL: usize = 64;
+pub const MAX_FALL: usize = 64;
 
 /// Few bits lack where at most one in so many does.
 pub const BITS_A_FEW: usize = 200;
@@ -29,7 +29,7 @@ pub const FIRST_END: u32 = 3;
 pub const GROWTH_PART: usize = 64;
 
 /// How many checks a queue serves at most.
-pub const MOST_SERVED: u32 = 4000;
+pub const MAX_SERVED: u32 = 4000;
 
 /// The word of a rest of 0.
 pub(crate) const ZERO_REST: u32 = 1 << 31;

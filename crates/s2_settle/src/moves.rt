@@ -1,6 +1,6 @@
 //! The moves that passes have found, check by check.
 ghost use Rattle.std.specs.Prelude.{◌≡◌, ℕ, ◌≤◌, ◌<◌, ◌+◌, ◌*◌, length};
-ghost use Rattle.s2_mode.specs.Limits.{most_bits};
+ghost use Rattle.s2_mode.specs.Limits.{max_bits};
 ghost use Rattle.s2_mode.specs.Shape.{code_bits};
 ghost use Rattle.s2_matrix.specs.Code.{code_of};
 ghost use Rattle.s2_minsum.specs.Rows.{turned};
@@ -9,7 +9,7 @@ ghost use Rattle.s2_settle.specs.Settled.{move_to};
 ghost use Rattle.s2_settle.specs.Placing.{shown, moves_of};
 ghost use Rattle.s2_settle.specs.Holding.{AreMoves};
 
-use s2_check::{MOST_MOVED, Move};
+use s2_check::{MAX_MOVED, Move};
 use s2_matrix::Matrix;
 use s2_minsum::{Entry, Layers, first_bit, place_among, step_of};
 use s2_mode::Shape;
@@ -40,7 +40,7 @@ pub(crate) fn target_of(
     requires layer { r < matrix.now.shape.q }
     requires lane { lane < matrix.now.shape.group }
     ensures is { result ≡ shown matrix.now r lane e }
-    ensures few { result ≤ most_bits }
+    ensures few { result ≤ max_bits }
 {
     let entries = layers.entries(r);
     if e < entries.len() {
@@ -52,7 +52,7 @@ pub(crate) fn target_of(
 
 /// The move of an amount to a bit of a check; none to a bit that is no member.
 fn move_to(members: &[u32], bit: u32, amount: u32) -> Move
-    requires { length members.now ≤ most_bits }
+    requires { length members.now ≤ max_bits }
     ensures { result ≡ move_to members.now bit amount }
 {
     let none = Move {
@@ -95,7 +95,7 @@ pub(crate) fn put_moves(
         let lane = check / q;
         let e = targets[r * n + lane] as usize;
         let bit = target_of(matrix, layers, r, lane, e);
-        let amount = amounts[r * n + lane].min(MOST_MOVED);
+        let amount = amounts[r * n + lane].min(MAX_MOVED);
         moves[check] = move_to(matrix.members_at(check), bit as u32, amount);
     }
 }

@@ -2,12 +2,12 @@
 ghost use Rattle.std.specs.Prelude.{◌≡◌};
 ghost use Rattle.s2_matrix.specs.Code.{code_of};
 ghost use Rattle.s2_minsum.specs.Decoding.{AreFit};
-ghost use Rattle.s2_settle.specs.Plain.{State, most_served, queue, queued};
+ghost use Rattle.s2_settle.specs.Plain.{State, max_served, queue, queued};
 ghost use Rattle.s2_settle.specs.Layer.{AreLong};
 ghost use Rattle.s2_settle.specs.Shows.{IsShown};
 
 use crate::held::Held;
-use crate::limits::MOST_SERVED;
+use crate::limits::MAX_SERVED;
 use crate::waiting::Waiting;
 use s2_matrix::Matrix;
 use s2_minsum::Layers;
@@ -18,11 +18,11 @@ fn serve_waiting(matrix: &Matrix, layers: &Layers<'_>, held: &mut Held, waiting:
     requires fit { AreFit matrix.now }
     requires long { AreLong matrix.now held.old }
     requires room { waiting.old.room ≡ (code_of matrix.now).checks }
-    ensures is { (s : State) → IsShown matrix.now held.old s → IsShown matrix.now held.new (queue (code_of matrix.now) most_served s waiting.old.checks) }
+    ensures is { (s : State) → IsShown matrix.now held.old s → IsShown matrix.now held.new (queue (code_of matrix.now) max_served s waiting.old.checks) }
     ensures long { AreLong matrix.now held.new }
     ensures room { waiting.new.room ≡ (code_of matrix.now).checks }
 {
-    'serving: for step in 0..MOST_SERVED {
+    'serving: for step in 0..MAX_SERVED {
         match waiting.next() {
             None => return,
             Some(check) => held.serve(matrix, layers, check, waiting),

@@ -1,6 +1,6 @@
 //! One row of a layer: a word in each lane.
 ghost use Rattle.std.specs.Prelude.{◌≡◌, ◌≤◌, ◌<◌, ◌+◌, ◌-◌, ◌*◌, ◌/◌, ◌==◌, if◌then◌else◌, min, max, length, slice_index, EachIndex};
-ghost use Rattle.s2_mode.specs.Limits.{most_group};
+ghost use Rattle.s2_mode.specs.Limits.{max_group};
 ghost use Rattle.s2_bits.specs.Bits.{Rewritten};
 ghost use Rattle.s2_bits.specs.Lanes32.{minus32};
 ghost use Rattle.s2_bits.specs.Turns.{turned};
@@ -9,7 +9,7 @@ ghost use Rattle.s2_settle.specs.Rests.{given, gap, change, seen_at};
 use crate::lanes;
 use s2_bits::lanes32;
 use s2_bits::lanes32::load;
-use s2_check::MOST_MOVED;
+use s2_check::MAX_MOVED;
 use std::simd::prelude::*;
 
 /// What the members of the whole vectors of a piece of a row give.
@@ -59,7 +59,7 @@ pub(crate) fn give(
     requires same_row { length row.now ≡ length inputs.old }
     requires same_targets { length targets.now ≡ length inputs.old }
     requires same_amounts { length amounts.now ≡ length inputs.old }
-    requires few { length row.now ≤ most_group }
+    requires few { length row.now ≤ max_group }
     requires turn { shift ≤ length row.now }
     ensures { EachIndex inputs.new (λ k. slice_index inputs.new k ≡ given (slice_index row.now (turned (length row.now) shift k)) (slice_index targets.now k) (slice_index amounts.now k) e) }
 {
@@ -145,7 +145,7 @@ pub(crate) fn take_gaps(first: &[u32], second: &mut [u32], reserve: u32)
     take_gap_blocks(first, second, reserve);
     for i in n / 4 * 4..n {
         let wide = second[i].wrapping_sub(first[i]).max(reserve);
-        second[i] = (wide.wrapping_sub(reserve) / 2).min(MOST_MOVED);
+        second[i] = (wide.wrapping_sub(reserve) / 2).min(MAX_MOVED);
     }
 }
 

@@ -1,6 +1,6 @@
 //! One check that is served: it takes its move back and moves anew, with no reserve.
 ghost use Rattle.std.specs.Prelude.{◌≡◌, ℕ, ◌≤◌, ◌<◌, ◌+◌, ◌*◌, ◌==◌, if◌then◌else◌, length};
-ghost use Rattle.s2_mode.specs.Limits.{most_bits};
+ghost use Rattle.s2_mode.specs.Limits.{max_bits};
 ghost use Rattle.s2_mode.specs.Shape.{code_bits};
 ghost use Rattle.s2_matrix.specs.Code.{code_of};
 ghost use Rattle.s2_bits.specs.Lanes32.{minus32};
@@ -15,7 +15,7 @@ ghost use Rattle.s2_settle.specs.Serving.{IsShifted, IsServed};
 use crate::calling::call_if_lacking;
 use crate::moves::target_of;
 use crate::waiting::Waiting;
-use s2_check::MOST_MOVED;
+use s2_check::MAX_MOVED;
 use s2_matrix::Matrix;
 use s2_minsum::{Entry, Layers, last_row};
 use s2_mode::Shape;
@@ -42,8 +42,8 @@ impl Moved {
 
 /// The place that an entry shows to the check in a lane.
 fn place_of_entry(entry: Entry, n: usize, lane: usize) -> usize
-    requires few { n ≤ most_bits }
-    requires rows { entry.row * n + n ≤ most_bits }
+    requires few { n ≤ max_bits }
+    requires rows { entry.row * n + n ≤ max_bits }
     requires turn { entry.shift ≤ n }
     requires lane { lane < n }
     ensures { result ≡ entry.row * n + turned n entry.shift lane }
@@ -68,8 +68,8 @@ fn receive_one(
     e: usize,
 ) -> u32
     requires entries { AreIn n entries.now (length rests.now) }
-    requires few { length rests.now ≤ most_bits }
-    requires many { length entries.now ≤ most_bits }
+    requires few { length rests.now ≤ max_bits }
+    requires many { length entries.now ≤ max_bits }
     requires lane { lane < n }
     requires entry { e < length entries.now }
     ensures { result ≡ received_by n entries.now last rests.now before.target before.amount lane e }
@@ -96,8 +96,8 @@ fn choose(
     lane: usize,
 ) -> Moved
     requires entries { AreIn n entries.now (length rests.now) }
-    requires few { length rests.now ≤ most_bits }
-    requires many { length entries.now ≤ most_bits }
+    requires few { length rests.now ≤ max_bits }
+    requires many { length entries.now ≤ max_bits }
     requires lane { lane < n }
     ensures target { result.target ≡ least_at (received_by n entries.now last rests.now before.target before.amount lane) (length entries.now) }
     ensures amount { result.amount ≡ gap 0 (first_of (received_by n entries.now last rests.now before.target before.amount lane) (length entries.now)) (second_of (received_by n entries.now last rests.now before.target before.amount lane) (length entries.now)) }
@@ -114,7 +114,7 @@ fn choose(
     }
     Moved {
         target,
-        amount: (second.wrapping_sub(first) / 2).min(MOST_MOVED),
+        amount: (second.wrapping_sub(first) / 2).min(MAX_MOVED),
     }
 }
 

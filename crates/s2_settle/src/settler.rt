@@ -8,7 +8,7 @@ ghost use Rattle.s2_settle.specs.Holding.{view_by};
 
 use crate::find::find_moves;
 use crate::held::Held;
-use crate::limits::SCALE;
+use crate::limits::SETTLING_SCALE;
 use crate::waiting::Waiting;
 use s2_bits::Bits;
 use s2_check::{CertView, Move, examine};
@@ -112,6 +112,6 @@ impl<'a> Settler<'a> {
         requires word { length word.now ≡ (code_of self.now.rows).bits }
         ensures { result ≡ view_by self.now soft.now word.now }
     {
-        CertView::placed(self.matrix, SCALE, soft, word, &self.moves)
+        CertView::placed(self.matrix, SETTLING_SCALE, soft, word, &self.moves)
     }
 }

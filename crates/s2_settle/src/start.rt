@@ -1,11 +1,11 @@
 //! The rests before any move.
 ghost use Rattle.std.specs.Prelude.{◌≡◌, ℕ, ◌≤◌, ◌<◌, ◌+◌, ◌*◌, All, length, slice_index, EachIndex};
-ghost use Rattle.s2_mode.specs.Limits.{most_bits, most_group};
+ghost use Rattle.s2_mode.specs.Limits.{max_bits, max_group};
 ghost use Rattle.s2_mode.specs.Shape.{code_bits};
 ghost use Rattle.s2_check.specs.Views.{IsSoft};
 ghost use Rattle.s2_settle.specs.Start.{started, start};
 
-use crate::limits::{SCALE, ZERO_REST};
+use crate::limits::{SETTLING_SCALE, ZERO_REST};
 use s2_matrix::Matrix;
 use s2_minsum::{first_bit, step_of};
 
@@ -17,7 +17,7 @@ fn started(soft: &[i16], word: &[bool], i: usize) -> u32
     ensures { result ≡ started soft.now word.now i }
 {
     let value = soft[i];
-    let size = u32::from(SCALE) * u32::from(value.unsigned_abs());
+    let size = u32::from(SETTLING_SCALE) * u32::from(value.unsigned_abs());
     let differs = if value < 0 { !word[i] } else { word[i] };
     if differs {
         ZERO_REST - size
@@ -29,10 +29,10 @@ fn started(soft: &[i16], word: &[bool], i: usize) -> u32
 /// Writes the rests of the bits that stand `step` places apart.
 fn put_row(row: &mut [u32], soft: &[i16], word: &[bool], first: usize, step: usize)
     requires range { All IsSoft soft.now }
-    requires few { length soft.now ≤ most_bits }
+    requires few { length soft.now ≤ max_bits }
     requires word { length word.now ≡ length soft.now }
-    requires lanes { length row.old ≤ most_group }
-    requires step { step ≤ most_bits }
+    requires lanes { length row.old ≤ max_group }
+    requires step { step ≤ max_bits }
     requires within { (c : ℕ) → c < length row.old → first + c * step < length soft.now }
     ensures { EachIndex row.new (λ c. slice_index row.new c ≡ started soft.now word.now (first + c * step)) }
 {

@@ -1,6 +1,6 @@
 //! Checks that wait to be served.
 ghost use Rattle.std.specs.Prelude.{◌≡◌, ◌<◌, ◌≤◌, ◌+◌, ◌%◌, [], IfOk, IfSome};
-ghost use Rattle.s2_mode.specs.Limits.{most_bits};
+ghost use Rattle.s2_mode.specs.Limits.{max_bits};
 ghost use Rattle.s2_settle.specs.Plain.{call};
 ghost use Rattle.s2_settle.specs.Waiting.{first, later, waiting};
 
@@ -9,7 +9,7 @@ use std::marker::Model;
 
 /// A slot's index, counted on past the end of the ring.
 fn around(index: usize, room: usize) -> usize
-    requires few { room ≤ most_bits }
+    requires few { room ≤ max_bits }
     requires once { index < room + room }
     ensures { result ≡ index % room }
 {
@@ -51,7 +51,7 @@ impl Waiting {
     /// Room for so many checks, of which none waits.
     pub(crate) fn of(alloc: Global, checks: usize) -> Result<Waiting, AllocError>
         requires some { 1 ≤ checks }
-        requires few { checks ≤ most_bits }
+        requires few { checks ≤ max_bits }
         ensures { IfOk result (λ w. w ≡ waiting checks []) }
     {
         let slots = vec![in alloc; 0u32; checks]?;

@@ -6,7 +6,7 @@ use Rattle.std.proofs.lemmas.Int.{ints, clamps}
 use Rattle.s2_bits.specs.Lanes16.{signed16, minus16}
 use Rattle.s2_bits.specs.Lanes32.{plus32, minus32}
 use Rattle.s2_bits.proofs.Words16.{word_low, negative_word}
-use Rattle.s2_mode.specs.Limits.{most_soft}
+use Rattle.s2_mode.specs.Limits.{max_soft}
 use Rattle.s2_soft.specs.Divisors.{IsDivisor}
 use Rattle.s2_soft.specs.Soft.{quantized}
 use Rattle.s2_soft.specs.Lanes.{number, times32, size32}
@@ -208,27 +208,27 @@ third_is a b ca cb =
 
 -- the word of 16 bits of the soft value of a difference
 abbrev pub soft_size : ℕ → ℕ → ℕ
-soft_size d x = min (size32 x / d) most_soft
+soft_size d x = min (size32 x / d) max_soft
 
 abbrev pub soft_word : ℕ → ℕ → ℕ
 soft_word d x = cond (eqb (x / 2147483648) 1) (minus32 65536 (soft_size d x)) (soft_size d x) % 65536
 
-positive_soft : (d : ℕ) → IsDivisor d → (x : ℕ) → pos (min (x / d) most_soft) ≡ quantized d (pos x)
+positive_soft : (d : ℕ) → IsDivisor d → (x : ℕ) → pos (min (x / d) max_soft) ≡ quantized d (pos x)
 positive_soft d known x =
-    by_divisors (λ d. pos (min (x / d) most_soft) ≡ quantized d (pos x)) (omega (arith, ints, clamps)) (omega (arith, ints, clamps)) (omega (arith, ints, clamps)) (omega (arith, ints, clamps)) (omega (arith, ints, clamps)) d known
+    by_divisors (λ d. pos (min (x / d) max_soft) ≡ quantized d (pos x)) (omega (arith, ints, clamps)) (omega (arith, ints, clamps)) (omega (arith, ints, clamps)) (omega (arith, ints, clamps)) (omega (arith, ints, clamps)) d known
 
-negative_soft : (d : ℕ) → IsDivisor d → (x : ℕ) → neg_ℤ (pos (min (x / d) most_soft)) ≡ quantized d (neg_ℤ (pos x))
+negative_soft : (d : ℕ) → IsDivisor d → (x : ℕ) → neg_ℤ (pos (min (x / d) max_soft)) ≡ quantized d (neg_ℤ (pos x))
 negative_soft d known x =
-    by_divisors (λ d. neg_ℤ (pos (min (x / d) most_soft)) ≡ quantized d (neg_ℤ (pos x))) (omega (arith, ints, clamps)) (omega (arith, ints, clamps)) (omega (arith, ints, clamps)) (omega (arith, ints, clamps)) (omega (arith, ints, clamps)) d known
+    by_divisors (λ d. neg_ℤ (pos (min (x / d) max_soft)) ≡ quantized d (neg_ℤ (pos x))) (omega (arith, ints, clamps)) (omega (arith, ints, clamps)) (omega (arith, ints, clamps)) (omega (arith, ints, clamps)) (omega (arith, ints, clamps)) d known
 
 -- a size that is held within the range
-small : (q : ℕ) → min q most_soft < 32768
+small : (q : ℕ) → min q max_soft < 32768
 small q = omega arith
 
-whole : (q : ℕ) → min q most_soft % 65536 ≡ min q most_soft
+whole : (q : ℕ) → min q max_soft % 65536 ≡ min q max_soft
 whole q = omega arith
 
-opposite : (q : ℕ) → minus32 65536 (min q most_soft) % 65536 ≡ minus16 0 (min q most_soft)
+opposite : (q : ℕ) → minus32 65536 (min q max_soft) % 65536 ≡ minus16 0 (min q max_soft)
 opposite q = omega arith
 
 pub soft_word_is : (d : ℕ) → IsDivisor d → (x : ℕ) → x < 4294967296 → signed16 (soft_word d x) ≡ quantized d (number x)
@@ -242,7 +242,7 @@ soft_word_is d known x fits =
           ap (λ b. signed16 (cond b (minus32 65536 (soft_size d x)) (soft_size d x) % 65536)) test
           ∙ ap signed16 (whole q)
           ∙ word_low (soft_size d x) (small q)
-          ∙ ap (λ s. pos (min (s / d) most_soft)) size
+          ∙ ap (λ s. pos (min (s / d) max_soft)) size
           ∙ positive_soft d known x
           ∙ ap (quantized d) (sym (number_low x lt))
           )
@@ -253,7 +253,7 @@ soft_word_is d known x fits =
           ap (λ b. signed16 (cond b (minus32 65536 (soft_size d x)) (soft_size d x) % 65536)) test
           ∙ ap signed16 (opposite q)
           ∙ negative_word (soft_size d x) (small q)
-          ∙ ap (λ s. neg_ℤ (pos (min (s / d) most_soft))) size
+          ∙ ap (λ s. neg_ℤ (pos (min (s / d) max_soft))) size
           ∙ negative_soft d known (4294967296 - x)
           ∙ ap (quantized d) (sym (number_high x le fits))
           )

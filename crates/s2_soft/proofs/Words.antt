@@ -4,7 +4,7 @@ use Rattle.std.proofs.lemmas.Bool.{cases_lt, eq-eqb, ne_eqb}
 use Rattle.std.proofs.lemmas.Int.{ints, clamps}
 use Rattle.s2_bits.specs.Lanes16.{signed16, minus16, size16}
 use Rattle.s2_bits.proofs.Words16.{word_low, word_high, negative_word}
-use Rattle.s2_mode.specs.Limits.{most_soft}
+use Rattle.s2_mode.specs.Limits.{max_soft}
 use Rattle.s2_soft.specs.Divisors.{IsDivisor, factor_of}
 use Rattle.s2_soft.specs.Soft.{quantized}
 use Rattle.s2_soft.specs.Closed.{component_difference}
@@ -12,9 +12,9 @@ use Rattle.s2_soft.proofs.DivisorLemmas.{by_divisors}
 
 -- the size of the soft value of a component of this size, by the factor of the divisor
 abbrev pub value_size : ℕ → ℕ → ℕ
-value_size f s = min (s * f / 65536) most_soft
+value_size f s = min (s * f / 65536) max_soft
 
-small : (q : ℕ) → min q most_soft < 32768
+small : (q : ℕ) → min q max_soft < 32768
 small q = omega arith
 
 above : (d : ℕ) → IsDivisor d → (s : ℕ) → pos (value_size (factor_of d) s) ≡ quantized d (component_difference (pos s))

@@ -8,7 +8,7 @@ use Rattle.s2_mode.specs.Symbols.{symbol_at}
 use Rattle.s2_mode.specs.Mode.{Mode, n_of, width_of}
 use Rattle.s2_bits.specs.Bits.{bit_of_number}
 use Rattle.s2_map.specs.Mapping.{point_of, sent_as}
-use Rattle.s2_mode.specs.Limits.{most_soft}
+use Rattle.s2_mode.specs.Limits.{max_soft}
 
 -- the squared distance of two points
 abbrev pub squared_distance : Symbol → Symbol → ℤ
@@ -33,7 +33,7 @@ least_distance m s j b =
 
 -- Divided toward zero by a divisor, and limited to -511 .. 511
 abbrev pub quantized : ℕ → ℤ → ℤ
-quantized divisor d = int_max (neg_ℤ (pos most_soft)) (int_min (pos most_soft) (int_div d (pos divisor)))
+quantized divisor d = int_max (neg_ℤ (pos max_soft)) (int_min (pos max_soft) (int_div d (pos divisor)))
 
 -- the soft value of bit j of a symbol's label: the least squared distance with 1 there less that with 0, quantized;
 -- positive if 0 is nearer
@@ -54,5 +54,5 @@ value_at values k = slice_index_or values k (pos 0)
 
 -- a soft value of this profile
 pub record InRange (v : ℤ) : Type 0 where
-  pub low : neg_ℤ (pos most_soft) ≤ℤ v
-  pub high : v ≤ℤ pos most_soft
+  pub low : neg_ℤ (pos max_soft) ≤ℤ v
+  pub high : v ≤ℤ pos max_soft

@@ -14,7 +14,7 @@ pub const DEFAULT_DIVISOR: u32 = 4096;
 /// By what differences of squared distances are divided: one of [`DIVISORS`]. Its value is that number.
 ///
 /// Twice the divisor halves the soft values. By 4096 a QPSK point of 700 has the soft value 478, and what is
-/// over 1.07 times as large is cut off at [`s2_mode::MOST_SOFT`]; where noise is strong, as at low rates, 8192
+/// over 1.07 times as large is cut off at [`s2_mode::MAX_SOFT`]; where noise is strong, as at low rates, 8192
 /// loses less. Symbols of a larger amplitude want a larger one in proportion.
 #[derive(Clone, Copy, Debug, PartialEq, Eq)]
 pub struct Divisor {

@@ -8,7 +8,7 @@ ghost use Rattle.s2_soft.specs.Closed.{component_difference};
 ghost use Rattle.s2_soft.specs.Lanes.{component_at};
 
 use s2_bits::lanes16::{all, least, minus, sign, size, where_same};
-use s2_mode::{MOST_SOFT, Symbol, words_from};
+use s2_mode::{MAX_SOFT, Symbol, words_from};
 use std::simd::prelude::*;
 
 /// The upper halves of products with a factor.
@@ -34,7 +34,7 @@ pub(crate) fn components(payload: &[Symbol], at: usize) -> u16x8
 pub(crate) fn component_values(components: u16x8, factor: u16) -> u16x8
     ensures { (d : ℕ) → IsDivisor d → factor ≡ factor_of d → (k : ℕ) → k < 8 → signed16 (lane result k) ≡ quantized d (component_difference (signed16 (lane components k))) }
 {
-    let sizes = least(upper_products(size(components), factor), all(MOST_SOFT));
+    let sizes = least(upper_products(size(components), factor), all(MAX_SOFT));
     where_same(sign(components), all(1), minus(all(0), sizes), sizes)
 }
 

@@ -3,7 +3,7 @@
 //!
 //! [`soft_into`] writes exactly the values of the definition, for any symbols, in the codeword's order:
 //! differences of least squared distances to the points of QPSK or 8PSK (EN 302 307-1, 5.4), divided by
-//! a [`Divisor`] toward zero and held within [`MOST_SOFT`](s2_mode::MOST_SOFT). Without noise they say the codeword, none of them 0
+//! a [`Divisor`] toward zero and held within [`MAX_SOFT`](s2_mode::MAX_SOFT). Without noise they say the codeword, none of them 0
 //! ([`laws::clean`]). No call takes memory.
 //!
 //! ```text

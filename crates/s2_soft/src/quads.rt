@@ -10,7 +10,7 @@ ghost use Rattle.s2_soft.specs.Lanes.{AreComponents, number, times32, size32};
 
 use crate::values::{BETWEEN, LONGER, ON_AXIS};
 use s2_bits::lanes32::{all, least, minus, most, plus, where_same};
-use s2_mode::{MOST_SOFT, Symbol};
+use s2_mode::{MAX_SOFT, Symbol};
 use std::simd::prelude::*;
 
 /// More than any inner product: what is raised by this has no sign.
@@ -166,7 +166,7 @@ pub(crate) fn quantized(differences: u32x4, shift: u32) -> u16x4
     requires { shift < 32 }
     ensures { (d : ℕ) → IsDivisor d → d ≡ 2 ^ shift → (k : ℕ) → k < 4 → signed16 (lane result k) ≡ quantized d (number (lane differences k)) }
 {
-    let sizes = least(shifted(size(differences), shift), all(MOST_SOFT as u32));
+    let sizes = least(shifted(size(differences), shift), all(MAX_SOFT as u32));
     let negative = quotient(differences, 1 << 31);
     let words = where_same(negative, all(1), minus(all(65536), sizes), sizes);
     lower(words).cast::<u16>()

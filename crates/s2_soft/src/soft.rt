@@ -19,8 +19,8 @@ use s2_mode::{Mode, Symbol};
 /// Writes the soft values of a payload whose scrambling is undone, in the order of the codeword's bits.
 /// A value is how much nearer the symbol is to the points with 0 at the bit's place of their labels
 /// (EN 302 307-1, 5.4) than to those with 1: the difference of the least squared distances, divided
-/// by `divisor` toward zero and held within -[`s2_mode::MOST_SOFT`] to
-/// [`s2_mode::MOST_SOFT`]. Any components are taken.
+/// by `divisor` toward zero and held within -[`s2_mode::MAX_SOFT`] to
+/// [`s2_mode::MAX_SOFT`]. Any components are taken.
 ///
 /// `payload` has 90 symbols for each slot of the mode: 32400 or 8100 for QPSK, 21600 or 5400 for 8PSK.
 /// `soft` has a value for each of the codeword's 64800 bits (normal frames) or 16200 (short ones).

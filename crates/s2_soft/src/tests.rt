@@ -4,7 +4,7 @@ ghost use Rattle.std.specs.Prelude.{◌≡◌, ◌*◌, ◌<◌, length};
 use crate::divisor::Divisor;
 use crate::soft::{columns_into, pairs_into};
 use crate::soft_into;
-use s2_mode::{MOST_SOFT, Mode, Symbol};
+use s2_mode::{MAX_SOFT, Mode, Symbol};
 use std::test::Fail;
 
 /// A point, and which bits of its label are ones.
@@ -103,7 +103,7 @@ fn defined(points: &[Labelled], divisor: u32, symbol: Symbol, place: usize) -> i
 {
     let one = least_distance(points, symbol, place, true);
     let zero = least_distance(points, symbol, place, false);
-    let limit = i64::from(MOST_SOFT);
+    let limit = i64::from(MAX_SOFT);
     (one.wrapping_sub(zero) / i64::from(divisor.max(1)))
         .min(limit)
         .max(-limit)

@@ -5,7 +5,7 @@ ghost use Rattle.s2_soft.specs.Closed.{component_difference, along, across, axis
 
 use crate::divisor::Divisor;
 use s2_map::{AXIS, DIAGONAL};
-use s2_mode::{MOST_SOFT, Symbol};
+use s2_mode::{MAX_SOFT, Symbol};
 
 /// What multiplies a component of QPSK in a difference of squared distances.
 const ALONG: i32 = 4 * DIAGONAL as i32;
@@ -25,7 +25,7 @@ fn quantized(divisor: Divisor, difference: i32) -> i16
     ensures { result ≡ quantized divisor difference }
 {
     let size = difference.unsigned_abs() / divisor.get();
-    let least = size.min(u32::from(MOST_SOFT)) as i16;
+    let least = size.min(u32::from(MAX_SOFT)) as i16;
     if difference < 0 { -least } else { least }
 }
 

@@ -3,8 +3,8 @@ use Rattle.std.proofs.Common.{◌≡◌, ℕ, ◌*◌, ◌<◌, ◌≤◌, AllPa
 use Rattle.std.proofs.lemmas.Bool.{both_ways, cases_eq, cases_lt, cond-true, cond-false, eqb-true}
 use Rattle.std.proofs.lemmas.Int.{ints}
 use Rattle.std.proofs.lemmas.List.Folds.{list_any_at}
-use Rattle.s2_check.specs.Moves.{Move, most_moved}
-use Rattle.s2_split.specs.Kept.{most_rest, most_between, is_among, taken_at, evenly_at, given_back}
+use Rattle.s2_check.specs.Moves.{Move, max_moved}
+use Rattle.s2_split.specs.Kept.{max_rest, max_between, is_among, taken_at, evenly_at, given_back}
 use Rattle.s2_split.proofs.Lesser.{IsWrittenAt}
 
 -- the member at a place is among them
@@ -33,11 +33,11 @@ given_member rests ms held i rising low h =
     either true = omega (arith, ints)
     either false = omega (arith, ints)
 
-pub given_within : (rests : List ℤ) (ms : List ℕ) (held : Move) (k : ℕ) → held.amount ≤ most_moved → (neg_ℤ (pos most_rest) ≤ℤ get_or rests k (pos 0)) × (get_or rests k (pos 0) ≤ℤ pos most_rest) → (neg_ℤ (pos most_between) ≤ℤ given_back rests ms held k) × (given_back rests ms held k ≤ℤ pos most_between)
+pub given_within : (rests : List ℤ) (ms : List ℕ) (held : Move) (k : ℕ) → held.amount ≤ max_moved → (neg_ℤ (pos max_rest) ≤ℤ get_or rests k (pos 0)) × (get_or rests k (pos 0) ≤ℤ pos max_rest) → (neg_ℤ (pos max_between) ≤ℤ given_back rests ms held k) × (given_back rests ms held k ≤ℤ pos max_between)
 given_within rests ms held k few within =
     either (is_among ms k) (k == get_or ms held.place 0)
   where
-    either : (b c : Bool) → (neg_ℤ (pos most_between) ≤ℤ (get_or rests k (pos 0) -ℤ cond b (cond c (neg_ℤ (neg_ℤ (pos held.amount))) (neg_ℤ (pos held.amount))) (pos 0))) × ((get_or rests k (pos 0) -ℤ cond b (cond c (neg_ℤ (neg_ℤ (pos held.amount))) (neg_ℤ (pos held.amount))) (pos 0)) ≤ℤ pos most_between)
+    either : (b c : Bool) → (neg_ℤ (pos max_between) ≤ℤ (get_or rests k (pos 0) -ℤ cond b (cond c (neg_ℤ (neg_ℤ (pos held.amount))) (neg_ℤ (pos held.amount))) (pos 0))) × ((get_or rests k (pos 0) -ℤ cond b (cond c (neg_ℤ (neg_ℤ (pos held.amount))) (neg_ℤ (pos held.amount))) (pos 0)) ≤ℤ pos max_between)
     either true true = (omega (arith, ints, within.0), omega (arith, ints, within.1))
     either true false = (omega (arith, ints, within.0), omega (arith, ints, within.1))
     either false c = (omega (arith, ints, within.0), omega (arith, ints, within.1))
@@ -46,10 +46,10 @@ given_within rests ms held k few within =
 abbrev pub gain : Move → ℕ → ℤ
 gain own i = cond (i == own.place) (pos own.amount) (neg_ℤ (pos own.amount))
 
-pub gain_within : (own : Move) (i : ℕ) → own.amount ≤ most_moved → (neg_ℤ (pos most_moved) ≤ℤ gain own i) × (gain own i ≤ℤ pos most_moved)
+pub gain_within : (own : Move) (i : ℕ) → own.amount ≤ max_moved → (neg_ℤ (pos max_moved) ≤ℤ gain own i) × (gain own i ≤ℤ pos max_moved)
 gain_within own i few = either (i == own.place)
   where
-    either : (b : Bool) → (neg_ℤ (pos most_moved) ≤ℤ cond b (pos own.amount) (neg_ℤ (pos own.amount))) × (cond b (pos own.amount) (neg_ℤ (pos own.amount)) ≤ℤ pos most_moved)
+    either : (b : Bool) → (neg_ℤ (pos max_moved) ≤ℤ cond b (pos own.amount) (neg_ℤ (pos own.amount))) × (cond b (pos own.amount) (neg_ℤ (pos own.amount)) ≤ℤ pos max_moved)
     either true = (omega (arith, ints, few), omega (arith, ints, few))
     either false = (omega (arith, ints, few), omega (arith, ints, few))
 
@@ -115,7 +115,7 @@ pub either_within : (b : Bool) (d : ℤ) (n : ℕ) → neg_ℤ (pos n) ≤ℤ d 
 either_within true d n low high = (low, high)
 either_within false d n low high = (omega (arith, ints), omega (arith, ints))
 
-pub difference : (a d : ℕ) → a ≤ most_moved → d ≤ most_moved → to_z w32 (of_z w32 (to_z w32 d -ℤ to_z w32 a)) ≡ pos d -ℤ pos a
+pub difference : (a d : ℕ) → a ≤ max_moved → d ≤ max_moved → to_z w32 (of_z w32 (to_z w32 d -ℤ to_z w32 a)) ≡ pos d -ℤ pos a
 difference a d held own = omega (arith, ints, held, own)
 
 pub moved_anew : (ms : List ℕ) (held own : Move) (p q : ℕ) (old mid : List ℤ) (v w : ℤ) → p ≡ held.place → q ≡ own.place → p < length ms → q < length ms → get_or ms p 0 < length mid → get_or ms q 0 < length (set mid (get_or ms p 0) v) → ((k : ℕ) → get_or mid k (pos 0) ≡ get_or old k (pos 0) -ℤ evenly_at ms (pos own.amount -ℤ pos held.amount) k) → v ≡ get_or mid (get_or ms p 0) (pos 0) +ℤ neg_ℤ (pos (2 * held.amount)) → w ≡ get_or (set mid (get_or ms p 0) v) (get_or ms q 0) (pos 0) +ℤ pos (2 * own.amount) → (k : ℕ) → get_or (set (set mid (get_or ms p 0) v) (get_or ms q 0) w) k (pos 0) ≡ given_back old ms held k -ℤ taken_at ms (get_or ms own.place 0) (pos own.amount) k

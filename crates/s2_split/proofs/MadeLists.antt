@@ -10,8 +10,8 @@ use Rattle.s2_check.specs.Moves.{Move, in_favour, moves, no_move, placed_of, lis
 use Rattle.s2_check.specs.MovesOf.{move_of, moves_of}
 use Rattle.s2_check.specs.Split.{Split}
 use Rattle.s2_split.specs.Making.{shared, AreLeft}
-use Rattle.s2_mode.specs.Limits.{most_soft}
-use Rattle.s2_split.specs.Spreading.{has_no_negative_rest, spread, split_by, made_split, spread_scale, most_passes}
+use Rattle.s2_mode.specs.Limits.{max_soft}
+use Rattle.s2_split.specs.Spreading.{has_no_negative_rest, spread, split_by, made_split, spread_scale, max_spread_passes}
 use Rattle.s2_split.specs.Greedy.{Moved, none_moved, greedy}
 use Rattle.s2_bits.specs.Bits.{bit_at}
 use Rattle.s2_check.specs.Cost.{value_at}
@@ -116,7 +116,7 @@ start_kept code soft word s rests ms lr lm some are none_held = record {
   };
 }
 
-low_signs : (b : Bool) (v : ℤ) → neg_ℤ (pos most_soft) ≤ℤ v → v ≤ℤ pos most_soft → neg_ℤ (pos most_soft) ≤ℤ cond b (neg_ℤ v) v
+low_signs : (b : Bool) (v : ℤ) → neg_ℤ (pos max_soft) ≤ℤ v → v ≤ℤ pos max_soft → neg_ℤ (pos max_soft) ≤ℤ cond b (neg_ℤ v) v
 low_signs true v l h = omega (arith, ints)
 low_signs false v l h = omega (arith, ints)
 
@@ -149,10 +149,10 @@ shared_greedy code soft word rests ms other kept h =
     let g = greedy code soft word in
     sym (shared_if code word (has_no_negative_rest code soft word 1 g) (moves word 1 g.target g.amount) other h ∙ ap (λ (l : List Move). Some (record { scale = 1; moves = l })) (same_moves code word 1 g ms kept.held))
 
-pub made_spread : (code : Code) (soft : List ℤ) (word : List Bool) (found : Bool) (rests : List ℤ) (ms : List Move) → Ends code soft word (spread code soft word most_passes none_moved) found rests ms → has_no_negative_rest code soft word 1 (greedy code soft word) ≡ false → cond found (Some (record { scale = spread_scale; moves = ms })) None ≡ shared code word (made_split code soft word)
+pub made_spread : (code : Code) (soft : List ℤ) (word : List Bool) (found : Bool) (rests : List ℤ) (ms : List Move) → Ends code soft word (spread code soft word max_spread_passes none_moved) found rests ms → has_no_negative_rest code soft word 1 (greedy code soft word) ≡ false → cond found (Some (record { scale = spread_scale; moves = ms })) None ≡ shared code word (made_split code soft word)
 made_spread code soft word found rests ms ends h =
     let g = greedy code soft word in
-    go (spread code soft word most_passes none_moved) ends ∙ sym (shared_else code word (has_no_negative_rest code soft word 1 g) (moves word 1 g.target g.amount) (split_by word spread_scale (spread code soft word most_passes none_moved)) h)
+    go (spread code soft word max_spread_passes none_moved) ends ∙ sym (shared_else code word (has_no_negative_rest code soft word 1 g) (moves word 1 g.target g.amount) (split_by word spread_scale (spread code soft word max_spread_passes none_moved)) h)
   where
     go : (o : Option Moved) → Ends code soft word o found rests ms → cond found (Some (record { scale = spread_scale; moves = ms })) None ≡ shared code word (split_by word spread_scale o)
     go None e = ap (λ b. cond b (Some (record { scale = spread_scale; moves = ms })) None) e

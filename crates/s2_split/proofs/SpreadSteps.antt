@@ -11,11 +11,11 @@ use Rattle.s2_matrix.specs.Code.{Code, members}
 use Rattle.s2_matrix.proofs.Members.{members_below}
 use Rattle.std.proofs.lemmas.List.Folds.{list_any_none}
 use Rattle.s2_matrix.specs.Total.{upto}
-use Rattle.s2_check.specs.Moves.{Move, no_move, most_moved}
+use Rattle.s2_check.specs.Moves.{Move, no_move, max_moved}
 use Rattle.s2_split.specs.Scattered.{least_of}
 use Rattle.s2_split.specs.Greedy.{Moved, rest_at, put}
 use Rattle.s2_split.specs.Spreading.{least_member, spread_amount, amount_to, give_back, spread_check, spread_scale}
-use Rattle.s2_split.specs.Kept.{most_between, taken_at, given_back, AreRests, IsHeld, AreKept}
+use Rattle.s2_split.specs.Kept.{max_between, taken_at, given_back, AreRests, IsHeld, AreKept}
 use Rattle.s2_split.proofs.FittingLemmas.{none_given'}
 use Rattle.s2_split.proofs.GreedyLemmas.{put_same, put_other}
 use Rattle.s2_split.proofs.Shifts.{given, rest_change, taken_back}
@@ -25,7 +25,7 @@ use Rattle.s2_split.proofs.Steps.{with_move, rests_given, held_as, held_own, mov
 
 -- ---- what is moved
 
-pub gap_is : (f : ℕ → ℤ) (ms : List ℕ) (e : ℕ) (rest other : ℤ) → AllPairs (λ a b. a < b) ms → ((k : ℕ) → f k ≤ℤ pos most_between) → (1 ≤ length ms → rest ≡ f e) → other ≡ fold int_min (pos 2147483647) (map f (filter (λ i. not (i == e)) ms)) → cond (nat_lt 1 (length ms)) (spread_amount rest other) 0 ≡ amount_to f ms e
+pub gap_is : (f : ℕ → ℤ) (ms : List ℕ) (e : ℕ) (rest other : ℤ) → AllPairs (λ a b. a < b) ms → ((k : ℕ) → f k ≤ℤ pos max_between) → (1 ≤ length ms → rest ≡ f e) → other ≡ fold int_min (pos 2147483647) (map f (filter (λ i. not (i == e)) ms)) → cond (nat_lt 1 (length ms)) (spread_amount rest other) 0 ≡ amount_to f ms e
 gap_is f ms e rest other rising small is other_is =
     elim (cases_Bool (nat_lt 1 (length ms))) [
       | inl two ↦ (
@@ -149,7 +149,7 @@ among_held code j f own h = record {
   unmoved = λ none. h.unmoved (h.amount_is ∙ none);
 }
 
-pub spread_step : (code : Code) (soft : List ℤ) (word : List Bool) (m : Moved) (j : ℕ) (own : Move) (rests rests1 rests2 : List ℤ) (moves : List Move) → AreKept code soft word spread_scale m rests moves → j < code.checks → length rests1 ≡ length rests → ((k : ℕ) → get_or rests1 k (pos 0) ≡ get_or rests k (pos 0) -ℤ taken_at (members code j) (target_of code j (get_or moves j no_move)) (neg_ℤ (pos (get_or moves j no_move).amount)) k) → IsHeld code j (least_member (λ i. get_or rests1 i (pos 0)) (members code j)) (amount_to (λ i. get_or rests1 i (pos 0)) (members code j) (least_member (λ i. get_or rests1 i (pos 0)) (members code j))) own → own.amount ≤ most_moved → length rests2 ≡ length rests1 → ((k : ℕ) → get_or rests2 k (pos 0) ≡ get_or rests1 k (pos 0) -ℤ taken_at (members code j) (target_of code j own) (pos own.amount) k) → AreKept code soft word spread_scale (spread_check code soft word m j) rests2 (set moves j own)
+pub spread_step : (code : Code) (soft : List ℤ) (word : List Bool) (m : Moved) (j : ℕ) (own : Move) (rests rests1 rests2 : List ℤ) (moves : List Move) → AreKept code soft word spread_scale m rests moves → j < code.checks → length rests1 ≡ length rests → ((k : ℕ) → get_or rests1 k (pos 0) ≡ get_or rests k (pos 0) -ℤ taken_at (members code j) (target_of code j (get_or moves j no_move)) (neg_ℤ (pos (get_or moves j no_move).amount)) k) → IsHeld code j (least_member (λ i. get_or rests1 i (pos 0)) (members code j)) (amount_to (λ i. get_or rests1 i (pos 0)) (members code j) (least_member (λ i. get_or rests1 i (pos 0)) (members code j))) own → own.amount ≤ max_moved → length rests2 ≡ length rests1 → ((k : ℕ) → get_or rests2 k (pos 0) ≡ get_or rests1 k (pos 0) -ℤ taken_at (members code j) (target_of code j own) (pos own.amount) k) → AreKept code soft word spread_scale (spread_check code soft word m j) rests2 (set moves j own)
 unfolding with_move
 spread_step code soft word m j own rests rests1 rests2 moves kept h long1 is1 here small long2 is2 =
     let m1 = give_back m j in
@@ -201,7 +201,7 @@ listed_at f n k past =
     ]
 
 -- a check's move is given back, and another is made
-pub anew_step : (code : Code) (soft : List ℤ) (word : List Bool) (m : Moved) (j : ℕ) (own : Move) (rests rests2 : List ℤ) (moves : List Move) → AreKept code soft word spread_scale m rests moves → j < code.checks → IsHeldAmong (members code j) (given_back rests (members code j) (get_or moves j no_move)) own → own.amount ≤ most_moved → length rests2 ≡ length rests → ((k : ℕ) → get_or rests2 k (pos 0) ≡ given_back rests (members code j) (get_or moves j no_move) k -ℤ taken_at (members code j) (target_of code j own) (pos own.amount) k) → AreKept code soft word spread_scale (spread_check code soft word m j) rests2 (set moves j own)
+pub anew_step : (code : Code) (soft : List ℤ) (word : List Bool) (m : Moved) (j : ℕ) (own : Move) (rests rests2 : List ℤ) (moves : List Move) → AreKept code soft word spread_scale m rests moves → j < code.checks → IsHeldAmong (members code j) (given_back rests (members code j) (get_or moves j no_move)) own → own.amount ≤ max_moved → length rests2 ≡ length rests → ((k : ℕ) → get_or rests2 k (pos 0) ≡ given_back rests (members code j) (get_or moves j no_move) k -ℤ taken_at (members code j) (target_of code j own) (pos own.amount) k) → AreKept code soft word spread_scale (spread_check code soft word m j) rests2 (set moves j own)
 anew_step code soft word m j own rests rests2 moves kept h among few long is =
     let ms = members code j in
     let was = get_or moves j no_move in

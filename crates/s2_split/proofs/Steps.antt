@@ -5,10 +5,10 @@ use Rattle.std.proofs.lemmas.Int.{ints}
 use Rattle.std.proofs.lemmas.List.Elements.{All-filter}
 use Rattle.s2_matrix.specs.Code.{Code, members}
 use Rattle.s2_matrix.proofs.Members.{members_below}
-use Rattle.s2_check.specs.Moves.{Move, no_move, most_moved}
+use Rattle.s2_check.specs.Moves.{Move, no_move, max_moved}
 use Rattle.s2_split.specs.Scattered.{least_of}
 use Rattle.s2_split.specs.Greedy.{Moved, rest_at, put, free_for, amount_for, move_to}
-use Rattle.s2_mode.specs.Limits.{most_soft}
+use Rattle.s2_mode.specs.Limits.{max_soft}
 use Rattle.s2_split.specs.Kept.{taken_at, AreRests, IsHeld, AreHeldMoves, AreKept}
 use Rattle.s2_split.proofs.FittingLemmas.{none_given'}
 use Rattle.s2_split.proofs.GreedyLemmas.{put_same, put_other}
@@ -32,7 +32,7 @@ amount_new : (m : Moved) (j e d k : ℕ) → k ≡ j → (with_move m j e d).amo
 unfolding with_move
 amount_new m j e d k same = ap (put m.amount j d) same ∙ put_same m.amount j d
 
-pub rests_after : (code : Code) (soft : List ℤ) (word : List Bool) (s : ℕ) (m : Moved) (j e d : ℕ) (rests rests' : List ℤ) → AreRests code soft word s m rests → j < code.checks → d ≤ most_moved → length rests' ≡ length rests → ((i : ℕ) → i < code.bits → get_or rests' i (pos 0) ≡ get_or rests i (pos 0) +ℤ cond (code.has j i) (given m i j -ℤ amount_at e d i) (pos 0)) → AreRests code soft word s (with_move m j e d) rests'
+pub rests_after : (code : Code) (soft : List ℤ) (word : List Bool) (s : ℕ) (m : Moved) (j e d : ℕ) (rests rests' : List ℤ) → AreRests code soft word s m rests → j < code.checks → d ≤ max_moved → length rests' ≡ length rests → ((i : ℕ) → i < code.bits → get_or rests' i (pos 0) ≡ get_or rests i (pos 0) +ℤ cond (code.has j i) (given m i j -ℤ amount_at e d i) (pos 0)) → AreRests code soft word s (with_move m j e d) rests'
 rests_after code soft word s m j e d rests rests' r h small long is = record {
   long = long ∙ r.long;
   are = λ i low. (
@@ -81,7 +81,7 @@ none_held true g v r e = omega (arith, ints, e)
 none_held false g v r e = omega (arith, ints)
 
 -- a check that holds nothing moves an amount
-pub rests_given : (code : Code) (soft : List ℤ) (word : List Bool) (s : ℕ) (m : Moved) (j e d : ℕ) (rests rests' : List ℤ) → AreRests code soft word s m rests → j < code.checks → m.amount j ≡ 0 → d ≤ most_moved → length rests' ≡ length rests → ((k : ℕ) → get_or rests' k (pos 0) ≡ get_or rests k (pos 0) -ℤ taken_at (members code j) e (pos d) k) → AreRests code soft word s (with_move m j e d) rests'
+pub rests_given : (code : Code) (soft : List ℤ) (word : List Bool) (s : ℕ) (m : Moved) (j e d : ℕ) (rests rests' : List ℤ) → AreRests code soft word s m rests → j < code.checks → m.amount j ≡ 0 → d ≤ max_moved → length rests' ≡ length rests → ((k : ℕ) → get_or rests' k (pos 0) ≡ get_or rests k (pos 0) -ℤ taken_at (members code j) e (pos d) k) → AreRests code soft word s (with_move m j e d) rests'
 rests_given code soft word s m j e d rests rests' r h none small long is =
     rests_after code soft word s m j e d rests rests' r h small long (λ i low. is i ∙ ap (λ v. get_or rests i (pos 0) -ℤ v) (taken_is code i j e d low) ∙ none_held (code.has j i) (given m i j) (amount_at e d i) (get_or rests i (pos 0)) (none_given' (m.target j) (m.amount j) i none))
 
@@ -93,7 +93,7 @@ free_same f g e xs here all =
     let p = λ (i : ℕ). not (i == e) in
     let least = ap least_of (map-same_in f g (filter p xs) (All-filter p (λ x. f x ≡ g x) xs all)) in rw here (rw least refl)
 
-pub greedy_step : (code : Code) (soft : List ℤ) (word : List Bool) (m : Moved) (j e : ℕ) (own : Move) (rests rests' : List ℤ) (ms : List Move) → AreKept code soft word 1 m rests ms → j < code.checks → e < code.bits → (get_or ms j no_move).amount ≡ 0 → IsHeld code j e (free_for (λ i. get_or rests i (pos 0)) e (members code j)) own → own.amount ≤ most_soft → length rests' ≡ length rests → ((k : ℕ) → get_or rests' k (pos 0) ≡ get_or rests k (pos 0) -ℤ taken_at (members code j) e (pos own.amount) k) → AreKept code soft word 1 (move_to code soft word e m j) rests' (set ms j own)
+pub greedy_step : (code : Code) (soft : List ℤ) (word : List Bool) (m : Moved) (j e : ℕ) (own : Move) (rests rests' : List ℤ) (ms : List Move) → AreKept code soft word 1 m rests ms → j < code.checks → e < code.bits → (get_or ms j no_move).amount ≡ 0 → IsHeld code j e (free_for (λ i. get_or rests i (pos 0)) e (members code j)) own → own.amount ≤ max_soft → length rests' ≡ length rests → ((k : ℕ) → get_or rests' k (pos 0) ≡ get_or rests k (pos 0) -ℤ taken_at (members code j) e (pos own.amount) k) → AreKept code soft word 1 (move_to code soft word e m j) rests' (set ms j own)
 unfolding with_move
 greedy_step code soft word m j e own rests rests' ms kept h le zero_held here small long is =
     let d = own.amount in
@@ -114,7 +114,7 @@ greedy_skip code soft word m j e rests ms kept h some =
     subst (λ (n : Moved). AreKept code soft word 1 n rests ms) (sym to) kept
 
 -- a bit's rest falls by what all the others have
-pub low_after : (b : Bool) (e k d : ℕ) (old new : ℤ) → new ≡ old -ℤ cond b (cond (k == e) (neg_ℤ (pos d)) (pos d)) (pos 0) → neg_ℤ (pos most_soft) ≤ℤ old → (b ≡ true → k ≢ e → 0 < d → pos d ≤ℤ old) → neg_ℤ (pos most_soft) ≤ℤ new
+pub low_after : (b : Bool) (e k d : ℕ) (old new : ℤ) → new ≡ old -ℤ cond b (cond (k == e) (neg_ℤ (pos d)) (pos d)) (pos 0) → neg_ℤ (pos max_soft) ≤ℤ old → (b ≡ true → k ≢ e → 0 < d → pos d ≤ℤ old) → neg_ℤ (pos max_soft) ≤ℤ new
 low_after false e k d old new is low spared = omega (arith, ints)
 low_after true e k d old new is low spared =
     elim (cases_eq k e) [

@@ -17,7 +17,7 @@ use Rattle.s2_check.specs.MovesOf.{moves_of}
 use Rattle.s2_check.proofs.BoundListed.{check_at}
 use Rattle.s2_check.proofs.Places.{some_member}
 use Rattle.s2_split.specs.Greedy.{Moved, none_moved, rest_at, amount_for, put, move_to, serve, greedy}
-use Rattle.s2_split.specs.Spreading.{amount_to, least_member, give_back, spread_check, spread_pass, spread, spread_scale, most_passes, has_no_negative_rest, split_by, made_split}
+use Rattle.s2_split.specs.Spreading.{amount_to, least_member, give_back, spread_check, spread_pass, spread, spread_scale, max_spread_passes, has_no_negative_rest, split_by, made_split}
 use Rattle.s2_split.specs.Kept.{IsHeld, AreHeldMoves}
 use Rattle.s2_split.proofs.GreedyLemmas.{put_same, put_other}
 use Rattle.s2_split.proofs.Steps.{held_as}
@@ -144,6 +144,6 @@ module _ (r : Rows) (soft : List ℤ) (word : List Bool) where
       g : Moved
       g = greedy (code_of r) soft word
 
-      go : (b : Bool) → IfSome (cond b (Some (moves word 1 g.target g.amount)) (split_by word spread_scale (spread (code_of r) soft word most_passes none_moved))) (AreBack (code_of r) word)
+      go : (b : Bool) → IfSome (cond b (Some (moves word 1 g.target g.amount)) (split_by word spread_scale (spread (code_of r) soft word max_spread_passes none_moved))) (AreBack (code_of r) word)
       go true = back 1 g (greedy_to (code_of r) soft word)
-      go false = spread_back most_passes none_moved (λ j some. absurd (some refl))
+      go false = spread_back max_spread_passes none_moved (λ j some. absurd (some refl))

@@ -6,9 +6,9 @@ use Rattle.s2_matrix.specs.Code.{Code, members, checks_of}
 use Rattle.s2_bits.specs.Bits.{bit_at}
 use Rattle.s2_check.specs.Cost.{value_at}
 use Rattle.s2_check.specs.Views.{IsSoft}
-use Rattle.s2_check.specs.Moves.{Move, no_move, most_moved}
-use Rattle.s2_mode.specs.Limits.{most_soft}
-use Rattle.s2_rows.specs.Limits.{most_addresses}
+use Rattle.s2_check.specs.Moves.{Move, no_move, max_moved}
+use Rattle.s2_mode.specs.Limits.{max_soft}
+use Rattle.s2_rows.specs.Limits.{max_addresses}
 use Rattle.s2_split.specs.Greedy.{Moved, rest_at, none_moved, serve}
 use Rattle.s2_check.specs.Hard.{differs}
 use Rattle.s2_split.specs.Spreading.{spread_scale}
@@ -37,16 +37,16 @@ given_back rests members held k =
     get_or rests k (pos 0) -ℤ taken_at members (get_or members held.place 0) (neg_ℤ (pos held.amount)) k
 
 -- no scaled value is larger than this in size
-abbrev pub most_scaled : ℕ
-most_scaled = spread_scale * most_soft
+abbrev pub max_scaled : ℕ
+max_scaled = spread_scale * max_soft
 
 -- nor a rest: a scaled value, and what each of its bit's checks moves
-abbrev pub most_rest : ℕ
-most_rest = most_scaled + most_addresses * most_moved
+abbrev pub max_rest : ℕ
+max_rest = max_scaled + max_addresses * max_moved
 
 -- nor a rest while a check has given its amount back
-abbrev pub most_between : ℕ
-most_between = most_rest + most_moved
+abbrev pub max_between : ℕ
+max_between = max_rest + max_moved
 
 -- no number of a list is larger than this in size
 abbrev pub AreWithin : ℕ → List ℤ → Type 0
@@ -55,7 +55,7 @@ AreWithin most xs =
 
 -- no rest is further below zero than a soft value
 abbrev pub AreLow : List ℤ → Type 0
-AreLow rests = (k : ℕ) → neg_ℤ (pos most_soft) ≤ℤ get_or rests k (pos 0)
+AreLow rests = (k : ℕ) → neg_ℤ (pos max_soft) ≤ℤ get_or rests k (pos 0)
 
 -- two rests are negative, or neither is
 abbrev pub HaveOneSign : ℤ → ℤ → Type 0
@@ -77,13 +77,13 @@ pub record AreCounted (code : Code) (rests : List ℤ) (counts : List ℕ) : Typ
 
 -- each bit is in few checks
 abbrev pub AreFew : Code → Type 0
-AreFew code = (i : ℕ) → i < code.bits → length (checks_of code i) ≤ most_addresses
+AreFew code = (i : ℕ) → i < code.bits → length (checks_of code i) ≤ max_addresses
 
 -- the rests of each bit's scaled value after these moves, none of them larger than spreading makes
 pub record AreRests (code : Code) (soft : List ℤ) (word : List Bool) (scale : ℕ) (m : Moved) (rests : List ℤ) : Type 0 where
   pub long : length rests ≡ code.bits
   pub are : (i : ℕ) → i < code.bits → get_or rests i (pos 0) ≡ rest_at code soft word scale m i
-  pub small : (j : ℕ) → j < code.checks → m.amount j ≤ most_moved
+  pub small : (j : ℕ) → j < code.checks → m.amount j ≤ max_moved
 
 -- a check's move in a list: an amount and its target's place among the members, 0 if the amount is 0
 pub record IsHeld (code : Code) (j target amount : ℕ) (own : Move) : Type 0 where

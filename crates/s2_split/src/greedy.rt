@@ -4,7 +4,7 @@ ghost use Rattle.std.specs.Prelude.{◌≡◌, ◌≢◌, ◌↔◌, IsTrue, ℕ
 ghost use Rattle.s2_matrix.specs.Code.{code_of, members};
 ghost use Rattle.s2_check.specs.Views.{IsSoft};
 ghost use Rattle.s2_split.specs.Greedy.{Moved, none_moved, move_to, serve, greedy};
-ghost use Rattle.s2_split.specs.Kept.{served, most_rest, AreWithin, AreLow, AreFew, AreKept, HaveOneSign, NoneIsNegative};
+ghost use Rattle.s2_split.specs.Kept.{served, max_rest, AreWithin, AreLow, AreFew, AreKept, HaveOneSign, NoneIsNegative};
 
 use crate::rests::{free_amount, move_of, shift};
 use crate::start::{differs, none_negative_between};
@@ -28,7 +28,7 @@ fn take_from(
     requires at { get_or (members (code_of matrix.now) check) place 0 ≡ bit }
     requires rests_long { length rests.old ≡ (code_of matrix.now).bits }
     requires moves_long { length moves.old ≡ (code_of matrix.now).checks }
-    requires small { AreWithin most_rest rests.old }
+    requires small { AreWithin max_rest rests.old }
     requires low { AreLow rests.old }
     ensures low { AreLow rests.new }
     ensures kept { (soft : List ℤ) (word : List Bool) (m : Moved) → AreKept (code_of matrix.now) soft word 1 m rests.old moves.old → AreKept (code_of matrix.now) soft word 1 (move_to (code_of matrix.now) soft word bit m check) rests.new moves.new }

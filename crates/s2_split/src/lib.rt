@@ -31,5 +31,5 @@ mod rests;
 mod spread;
 mod start;
 
-pub use limits::{MOST_PASSES, SPREAD_SCALE};
+pub use limits::{MAX_SPREAD_PASSES, SPREAD_SCALE};
 pub use maker::Maker;

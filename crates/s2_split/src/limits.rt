@@ -4,4 +4,4 @@
 pub const SPREAD_SCALE: u16 = 16;
 
 /// How often the checks are gone through at most.
-pub const MOST_PASSES: u32 = 64;
+pub const MAX_SPREAD_PASSES: u32 = 64;

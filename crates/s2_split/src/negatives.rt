@@ -1,10 +1,10 @@
 //! How many members of each check have a negative rest, and moves that these counts follow.
 ghost use Rattle.std.specs.Prelude.{◌≡◌, ◌≢◌, ℕ, ◌<◌, ◌≤◌, ◌==◌, if◌then◌else◌, Bool, not, List, All, length, get_or, set, count_by, ℤ, pos, neg_ℤ, ◌-ℤ◌, int_lt};
 ghost use Rattle.std.specs.List.{AllPairs};
-ghost use Rattle.s2_mode.specs.Limits.{most_bits};
+ghost use Rattle.s2_mode.specs.Limits.{max_bits};
 ghost use Rattle.s2_matrix.specs.Code.{code_of};
-ghost use Rattle.s2_split.specs.Kept.{most_rest, taken_at, given_back, AreWithin, AreCounted};
-ghost use Rattle.s2_check.specs.Moves.{most_moved};
+ghost use Rattle.s2_split.specs.Kept.{max_rest, taken_at, given_back, AreWithin, AreCounted};
+ghost use Rattle.s2_check.specs.Moves.{max_moved};
 
 use s2_check::Move;
 use s2_matrix::Matrix;
@@ -12,7 +12,7 @@ use s2_matrix::Matrix;
 /// How many of these places hold a negative rest.
 fn negatives_at(rests: &[i32], places: &[u32]) -> u32
     requires below { All (λ i. i < length rests.now) places.now }
-    requires short { length places.now ≤ most_bits }
+    requires short { length places.now ≤ max_bits }
     ensures { result ≡ count_by (λ i. int_lt (get_or rests.now i (pos 0)) (pos 0)) places.now }
 {
     let mut count = 0u32;
@@ -76,7 +76,7 @@ pub(crate) fn set_rest(
 
 /// What a move adds to the rest of the member at a place.
 fn gained_at(own: Move, at: usize) -> i32
-    requires { own.amount ≤ most_moved }
+    requires { own.amount ≤ max_moved }
     ensures { result ≡ (if at == own.place then pos own.amount else neg_ℤ (pos own.amount)) }
 {
     let amount = own.amount as i32;
@@ -99,11 +99,11 @@ pub(crate) fn move_counted(
     requires rests_long { length rests.old ≡ (code_of matrix.now).bits }
     requires below { All (λ i. i < length rests.old) members.now }
     requires rising { AllPairs (λ a b. a < b) members.now }
-    requires small { AreWithin most_rest rests.old }
+    requires small { AreWithin max_rest rests.old }
     requires held_place { held.place < length members.now }
-    requires held_few { held.amount ≤ most_moved }
+    requires held_few { held.amount ≤ max_moved }
     requires own_place { own.place < length members.now }
-    requires own_few { own.amount ≤ most_moved }
+    requires own_few { own.amount ≤ max_moved }
     requires counted { AreCounted (code_of matrix.now) rests.old negatives.old }
     ensures long { length rests.new ≡ length rests.old }
     ensures moved { (k : ℕ) → get_or rests.new k (pos 0) ≡ given_back rests.old members.now held k -ℤ taken_at members.now (get_or members.now own.place 0) (pos own.amount) k }

@@ -2,22 +2,22 @@
 ghost use Rattle.std.specs.Prelude.{◌≡◌, ◌≢◌, ◌↔◌, IsTrue, ℕ, true, ◌<◌, ◌≤◌, ◌==◌, not, nat_lt, if◌then◌else◌, All, length, get_or, map, filter, fold, pos, neg_ℤ, ◌≤ℤ◌, ◌-ℤ◌};
 ghost use Rattle.std.specs.List.{AllPairs};
 ghost use Rattle.std.specs.Int.{int_min};
-ghost use Rattle.s2_mode.specs.Limits.{most_soft};
+ghost use Rattle.s2_mode.specs.Limits.{max_soft};
 ghost use Rattle.s2_split.specs.Greedy.{free_for};
-ghost use Rattle.s2_split.specs.Kept.{most_rest, most_between, is_among, taken_at, evenly_at, given_back, AreWithin, AreLow};
-ghost use Rattle.s2_check.specs.Moves.{most_moved};
+ghost use Rattle.s2_split.specs.Kept.{max_rest, max_between, is_among, taken_at, evenly_at, given_back, AreWithin, AreLow};
+ghost use Rattle.s2_check.specs.Moves.{max_moved};
 ghost use Rattle.s2_split.specs.Spreading.{least_member, spread_amount, amount_to};
 
-use s2_check::{MOST_MOVED, Move};
+use s2_check::{MAX_MOVED, Move};
 
 /// Adds a signed amount to the rest of the target, and takes it from the rest of every other
 /// member.
 pub(crate) fn shift(rests: &mut [i32], members: &[u32], target: u32, amount: i32)
     requires below { All (λ i. i < length rests.old) members.now }
     requires rising { AllPairs (λ a b. a < b) members.now }
-    requires small { AreWithin most_between rests.old }
-    requires low { neg_ℤ (pos most_moved) ≤ℤ amount }
-    requires high { amount ≤ℤ pos most_moved }
+    requires small { AreWithin max_between rests.old }
+    requires low { neg_ℤ (pos max_moved) ≤ℤ amount }
+    requires high { amount ≤ℤ pos max_moved }
     ensures long { length rests.new ≡ length rests.old }
     ensures moved { (k : ℕ) → get_or rests.new k (pos 0) ≡ get_or rests.old k (pos 0) -ℤ taken_at members.now target amount k }
 {
@@ -52,10 +52,10 @@ pub(crate) fn free_amount(rests: &[i32], members: &[u32], bit: u32) -> u32
     requires below { All (λ i. i < length rests.now) members.now }
     requires rising { AllPairs (λ a b. a < b) members.now }
     requires among { is_among members.now bit ≡ true }
-    requires small { AreWithin most_between rests.now }
+    requires small { AreWithin max_between rests.now }
     requires low { AreLow rests.now }
     ensures value { result ≡ free_for (λ i. get_or rests.now i (pos 0)) bit members.now }
-    ensures few { result ≤ most_soft }
+    ensures few { result ≤ max_soft }
     ensures spared { (k : ℕ) → is_among members.now k ≡ true → k ≢ bit → 0 < result → pos result ≤ℤ get_or rests.now k (pos 0) }
 {
     if members.len() < 2 {
@@ -79,9 +79,9 @@ pub(crate) struct Least {
 pub(crate) fn least_two(rests: &[i32], members: &[u32], held: Move) -> Least
     requires below { All (λ i. i < length rests.now) members.now }
     requires rising { AllPairs (λ a b. a < b) members.now }
-    requires small { AreWithin most_rest rests.now }
+    requires small { AreWithin max_rest rests.now }
     requires held_place { held.place < length members.now }
-    requires held_few { held.amount ≤ most_moved }
+    requires held_few { held.amount ≤ max_moved }
     ensures place { result.place < length members.now }
     ensures least { get_or members.now result.place 0 ≡ least_member (given_back rests.now members.now held) members.now }
     ensures rest { result.rest ≡ given_back rests.now members.now held (get_or members.now result.place 0) }
@@ -112,7 +112,7 @@ pub(crate) fn least_two(rests: &[i32], members: &[u32], held: Move) -> Least
 }
 
 /// What is moved to the least rest of so many members: half of what lies between it and the least
-/// other, no more than it lacks, and no more than [`MOST_MOVED`].
+/// other, no more than it lacks, and no more than [`MAX_MOVED`].
 fn half_gap(count: usize, rest: i32, other: i32) -> u32
     ensures { result ≡ (if nat_lt 1 count then spread_amount rest other else 0) }
 {
@@ -121,7 +121,7 @@ fn half_gap(count: usize, rest: i32, other: i32) -> u32
     } else {
         rest.unsigned_abs()
             .min(other.abs_diff(rest) / 2)
-            .min(MOST_MOVED)
+            .min(MAX_MOVED)
     }
 }
 
@@ -159,12 +159,12 @@ pub(crate) fn move_of(place: usize, amount: u32) -> Move
 pub(crate) fn spread_move(rests: &[i32], members: &[u32], held: Move) -> Move
     requires below { All (λ i. i < length rests.now) members.now }
     requires rising { AllPairs (λ a b. a < b) members.now }
-    requires small { AreWithin most_rest rests.now }
+    requires small { AreWithin max_rest rests.now }
     requires short { length members.now ≤ 65536 }
     requires held_place { held.place < length members.now }
-    requires held_few { held.amount ≤ most_moved }
+    requires held_few { held.amount ≤ max_moved }
     ensures amount { result.amount ≡ amount_to (given_back rests.now members.now held) members.now (least_member (given_back rests.now members.now held) members.now) }
-    ensures few { result.amount ≤ most_moved }
+    ensures few { result.amount ≤ max_moved }
     ensures place { result.place < length members.now }
     ensures target { result.amount ≢ 0 → get_or members.now result.place 0 ≡ least_member (given_back rests.now members.now held) members.now }
     ensures unmoved { result.amount ≡ 0 → result.place ≡ 0 }
@@ -178,9 +178,9 @@ pub(crate) fn spread_move(rests: &[i32], members: &[u32], held: Move) -> Move
 fn take_evenly(rests: &mut [i32], members: &[u32], amount: i32)
     requires below { All (λ i. i < length rests.old) members.now }
     requires rising { AllPairs (λ a b. a < b) members.now }
-    requires small { AreWithin most_rest rests.old }
-    requires low { neg_ℤ (pos most_moved) ≤ℤ amount }
-    requires high { amount ≤ℤ pos most_moved }
+    requires small { AreWithin max_rest rests.old }
+    requires low { neg_ℤ (pos max_moved) ≤ℤ amount }
+    requires high { amount ≤ℤ pos max_moved }
     ensures long { length rests.new ≡ length rests.old }
     ensures taken { (k : ℕ) → get_or rests.new k (pos 0) ≡ get_or rests.old k (pos 0) -ℤ evenly_at members.now amount k }
 {
@@ -193,11 +193,11 @@ fn take_evenly(rests: &mut [i32], members: &[u32], amount: i32)
 pub(crate) fn move_anew(rests: &mut [i32], members: &[u32], held: Move, own: Move)
     requires below { All (λ i. i < length rests.old) members.now }
     requires rising { AllPairs (λ a b. a < b) members.now }
-    requires small { AreWithin most_rest rests.old }
+    requires small { AreWithin max_rest rests.old }
     requires held_place { held.place < length members.now }
-    requires held_few { held.amount ≤ most_moved }
+    requires held_few { held.amount ≤ max_moved }
     requires own_place { own.place < length members.now }
-    requires own_few { own.amount ≤ most_moved }
+    requires own_few { own.amount ≤ max_moved }
     ensures long { length rests.new ≡ length rests.old }
     ensures moved { (k : ℕ) → get_or rests.new k (pos 0) ≡ given_back rests.old members.now held k -ℤ taken_at members.now (get_or members.now own.place 0) (pos own.amount) k }
 {

@@ -3,13 +3,13 @@
 ghost use Rattle.std.specs.List.{AllPairs};
 ghost use Rattle.std.specs.Prelude.{◌≡◌, ℕ, ◌<◌, ◌≤◌, IsTrue, Bool, List, All, length, get_or, ℤ, pos, ◌≤ℤ◌, ◌-ℤ◌};
 ghost use Rattle.s2_matrix.specs.Code.{code_of, members};
-ghost use Rattle.s2_check.specs.Moves.{no_move, ArePlaced, most_moved};
+ghost use Rattle.s2_check.specs.Moves.{no_move, ArePlaced, max_moved};
 ghost use Rattle.s2_check.specs.Views.{IsSoft};
 ghost use Rattle.s2_split.specs.Greedy.{Moved, none_moved};
-ghost use Rattle.s2_split.specs.Spreading.{spread_check, spread_pass, spread, spread_scale, most_passes};
-ghost use Rattle.s2_split.specs.Kept.{most_rest, taken_at, given_back, AreWithin, AreFew, AreKept, AreOfValues, AreCounted, Ends};
+ghost use Rattle.s2_split.specs.Spreading.{spread_check, spread_pass, spread, spread_scale, max_spread_passes};
+ghost use Rattle.s2_split.specs.Kept.{max_rest, taken_at, given_back, AreWithin, AreFew, AreKept, AreOfValues, AreCounted, Ends};
 
-use crate::limits::MOST_PASSES;
+use crate::limits::MAX_SPREAD_PASSES;
 use crate::negatives::{count_negatives, move_counted};
 use crate::rests::{move_anew, spread_move};
 use crate::start::none_negative;
@@ -28,11 +28,11 @@ fn move_rests<const BY_COUNTS: bool>(
     requires rests_long { length rests.old ≡ (code_of matrix.now).bits }
     requires below { All (λ i. i < length rests.old) members.now }
     requires rising { AllPairs (λ a b. a < b) members.now }
-    requires small { AreWithin most_rest rests.old }
+    requires small { AreWithin max_rest rests.old }
     requires held_place { held.place < length members.now }
-    requires held_few { held.amount ≤ most_moved }
+    requires held_few { held.amount ≤ max_moved }
     requires own_place { own.place < length members.now }
-    requires own_few { own.amount ≤ most_moved }
+    requires own_few { own.amount ≤ max_moved }
     requires counted { IsTrue BY_COUNTS → AreCounted (code_of matrix.now) rests.old negatives.old }
     ensures long { length rests.new ≡ length rests.old }
     ensures moved { (k : ℕ) → get_or rests.new k (pos 0) ≡ given_back rests.old members.now held k -ℤ taken_at members.now (get_or members.now own.place 0) (pos own.amount) k }
@@ -57,9 +57,9 @@ fn spread_check<const BY_COUNTS: bool>(
     requires check { check < (code_of matrix.now).checks }
     requires rests_long { length rests.old ≡ (code_of matrix.now).bits }
     requires moves_long { length moves.old ≡ (code_of matrix.now).checks }
-    requires small { AreWithin most_rest rests.old }
+    requires small { AreWithin max_rest rests.old }
     requires place { (get_or moves.old check no_move).place < length (members (code_of matrix.now) check) }
-    requires held { (get_or moves.old check no_move).amount ≤ most_moved }
+    requires held { (get_or moves.old check no_move).amount ≤ max_moved }
     requires counted { IsTrue BY_COUNTS → AreCounted (code_of matrix.now) rests.old negatives.old }
     ensures kept { (soft : List ℤ) (word : List Bool) (m : Moved) → AreKept (code_of matrix.now) soft word spread_scale m rests.old moves.old → AreKept (code_of matrix.now) soft word spread_scale (spread_check (code_of matrix.now) soft word m check) rests.new moves.new }
     ensures same { IsTrue result → (rests.new ≡ rests.old) × (moves.new ≡ moves.old) }
@@ -120,9 +120,9 @@ fn visit<const BY_COUNTS: bool>(
     requires check { check < (code_of matrix.now).checks }
     requires rests_long { length rests.old ≡ (code_of matrix.now).bits }
     requires moves_long { length moves.old ≡ (code_of matrix.now).checks }
-    requires small { AreWithin most_rest rests.old }
+    requires small { AreWithin max_rest rests.old }
     requires place { (get_or moves.old check no_move).place < length (members (code_of matrix.now) check) }
-    requires held { (get_or moves.old check no_move).amount ≤ most_moved }
+    requires held { (get_or moves.old check no_move).amount ≤ max_moved }
     requires counted { IsTrue BY_COUNTS → AreCounted (code_of matrix.now) rests.old negatives.old }
     ensures kept { (soft : List ℤ) (word : List Bool) (m : Moved) → AreKept (code_of matrix.now) soft word spread_scale m rests.old moves.old → AreKept (code_of matrix.now) soft word spread_scale (spread_check (code_of matrix.now) soft word m check) rests.new moves.new }
     ensures same { IsTrue result → (rests.new ≡ rests.old) × (moves.new ≡ moves.old) }
@@ -209,7 +209,7 @@ fn bring_counts(
 /// Where fewer checks than one in so many moved otherwise than before, the next pass goes by counts.
 const FEW: usize = 8;
 
-/// At most [`MOST_PASSES`] passes over all checks, rising, until no rest is negative: whether none is
+/// At most [`MAX_SPREAD_PASSES`] passes over all checks, rising, until no rest is negative: whether none is
 /// then. A pass in which each check moves as before is the last, since all later ones would be the
 /// same. While many checks move, a pass looks at the members of those that hold no amount; once few
 /// do, it goes by how many of a check's members have a negative rest.
@@ -228,14 +228,14 @@ pub(crate) fn spread(
     requires start { AreKept (code_of matrix.now) soft.now word.now spread_scale none_moved rests.old moves.old }
     ensures long { length negatives.new ≡ length negatives.old }
     ensures moves { ArePlaced (code_of matrix.now) word.now moves.new }
-    ensures ends { Ends (code_of matrix.now) soft.now word.now (spread (code_of matrix.now) soft.now word.now most_passes none_moved) result rests.new moves.new }
+    ensures ends { Ends (code_of matrix.now) soft.now word.now (spread (code_of matrix.now) soft.now word.now max_spread_passes none_moved) result rests.new moves.new }
 {
     let _soft = soft;
     let _word = word;
     let few = matrix.check_count() / FEW;
     let mut by_counts = false;
     let mut changed = few;
-    'passes: for pass in 0..MOST_PASSES {
+    'passes: for pass in 0..MAX_SPREAD_PASSES {
         if none_negative(rests) {
             return true;
         }

@@ -4,7 +4,7 @@ use super::toy::{
     DUMMY, FRAME, Toy, feed, feed_rooms, frame, heard_by, losing, lost, put_dummy, put_frame,
     put_header, put_symbols, totals, toy,
 };
-use s2_mode::{ByOne, MOST_SYMBOLS};
+use s2_mode::{ByOne, MAX_SYMBOLS};
 use s2_receive::{Fault, Step, Totals};
 use std::alloc::{AllocError, Global};
 use std::process::Abort;
@@ -92,7 +92,7 @@ fn mix(
     rooms: u32,
     passes: [u64; 3],
 ) -> Result<Mixed, Fail> {
-    match toy(alloc, limit.min(MOST_SYMBOLS)) {
+    match toy(alloc, limit.min(MAX_SYMBOLS)) {
         Ok(mut receiver) => Ok(mix_by(alloc, &mut receiver, bytes, rooms, passes)?),
         Err(fault) => Err(fault),
     }
@@ -116,7 +116,7 @@ impl Want<'_> {
     fn event(&self, number: usize) -> Event {
         let step = self.step(number);
         let given = match step {
-            Step::Frame(report) => 4 * (report.at.min(MOST_SYMBOLS) + FRAME) as usize,
+            Step::Frame(report) => 4 * (report.at.min(MAX_SYMBOLS) + FRAME) as usize,
             Step::Cut { .. } | Step::End => self.size,
         };
         let packets = if number == 1 && self.totals.packets == 1 {
@@ -154,7 +154,7 @@ fn assert_mixed<A: Abort>(rt: &A, alloc: Global, bytes: &[u8], want: Want<'_>) -
         &[]
     };
     for rooms in 0..11u32 {
-        let mixed = mix(alloc, MOST_SYMBOLS, bytes, rooms, [ALL, ALL, ALL])?;
+        let mixed = mix(alloc, MAX_SYMBOLS, bytes, rooms, [ALL, ALL, ALL])?;
         assert_steps(rt, &mixed, want);
         let (fed, written) = (mixed.fed.packets.as_slice(), mixed.heard.packets.as_slice());
         assert!(rt;
@@ -280,7 +280,7 @@ fn assert_write_fails<A: Abort>(rt: &A, alloc: Global, bytes: &[u8]) -> Result<(
         (1, [ALL, ALL, 0], 1, [188, 0]),
         (2, [ALL, ALL, 0], 2, [0, 0]),
     ] {
-        let mixed = mix(alloc, MOST_SYMBOLS, bytes, rooms, passes)?;
+        let mixed = mix(alloc, MAX_SYMBOLS, bytes, rooms, passes)?;
         assert_stops(rt, &mixed, frames, Fault::Write);
         assert_eq!(rt;
             [mixed.heard.packets.len(), mixed.heard.report.len()],
@@ -296,7 +296,7 @@ fn assert_read_fails<A: Abort>(rt: &A, alloc: Global, bytes: &[u8]) -> Result<()
     let size = 4 * FRAME;
     for at in [0, 1, 359, 360, size / 2, size - 1] {
         for (rooms, reads, frames) in [(0, at, 0), (0, size + at, 1), (1, at, 1)] {
-            let mixed = mix(alloc, MOST_SYMBOLS, bytes, rooms, [reads, ALL, ALL])?;
+            let mixed = mix(alloc, MAX_SYMBOLS, bytes, rooms, [reads, ALL, ALL])?;
             assert_stops(rt, &mixed, frames, Fault::Read);
         }
     }

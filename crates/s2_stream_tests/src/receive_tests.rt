@@ -4,7 +4,7 @@ use super::toy::{
     DUMMY, FRAME, InBytes, Taken, Whole, frame, losing, lost, put_dummy, put_frame, put_header,
     put_symbols, receive, receive_in_bytes, receive_within, take, take_within, totals, toy,
 };
-use s2_mode::{ByOne, MOST_SYMBOLS, StreamFault, WriteFault};
+use s2_mode::{ByOne, MAX_SYMBOLS, StreamFault, WriteFault};
 use s2_receive::{Fault, Received, Step, Totals, laws};
 use std::alloc::{AllocError, Global};
 use std::process::Abort;
@@ -201,7 +201,7 @@ fn stops_at_its_limit(rt: HostRuntime) -> Result<(), Fail> {
 
 /// The totals of a new receiver that takes at most so many symbols.
 fn totals_before(alloc: Global, limit: u64) -> Result<Totals, Fail> {
-    let receiver = toy(alloc, limit.min(MOST_SYMBOLS))?;
+    let receiver = toy(alloc, limit.min(MAX_SYMBOLS))?;
     Ok(receiver.totals())
 }
 

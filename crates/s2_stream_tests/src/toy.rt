@@ -2,7 +2,7 @@
 //! code would make of them. The first symbol behind a frame's header tells what it brings; its field has 100 bytes of zeros.
 //! As in `streams`, what has a large contract is called here and nowhere else in the tests.
 ghost use Rattle.std.specs.Prelude.{◌≡◌, ◌≤◌, IfOk, length};
-ghost use Rattle.s2_mode.specs.Limits.{most_symbols};
+ghost use Rattle.s2_mode.specs.Limits.{max_symbols};
 ghost use Rattle.s2_receive.specs.Receiving.{IsLive, begun};
 ghost use Rattle.s2_stream_tests.specs.Toy.{told_by};
 
@@ -12,7 +12,7 @@ use super::streams::{
 };
 use s2_bbframe::Header;
 use s2_check::Verdict;
-use s2_mode::{Counted, MOST_SYMBOLS, Mode, StreamFault, Symbol, WriteFault};
+use s2_mode::{Counted, MAX_SYMBOLS, Mode, StreamFault, Symbol, WriteFault};
 use s2_plframe::Lock;
 use s2_receive::{
     Decide, Decided, Fault, Outcome, Received, Receiver, Report, Step, Totals, receive_all,
@@ -92,7 +92,7 @@ pub(crate) type Toy = Receiver<HalfPackets>;
 
 /// A receiver that takes at most so many symbols.
 pub(crate) fn toy(alloc: Global, limit: u64) -> Result<Toy, Fail>
-    requires { limit ≤ MOST_SYMBOLS }
+    requires { limit ≤ MAX_SYMBOLS }
     ensures limit { IfOk result (λ r. r.limit ≡ limit) }
     ensures begun { IfOk result (λ r. r.state ≡ begun) }
 {
@@ -280,7 +280,7 @@ fn taken_by(alloc: Global, receiver: &mut Toy, source: Source<'_>) -> Taken {
 
 /// Calls a new receiver five times, which takes at most so many symbols.
 pub(crate) fn take_within(alloc: Global, limit: u64, source: Source<'_>) -> Result<Taken, Fail> {
-    match toy(alloc, limit.min(MOST_SYMBOLS)) {
+    match toy(alloc, limit.min(MAX_SYMBOLS)) {
         Ok(mut receiver) => Ok(taken_by(alloc, &mut receiver, source)),
         Err(fault) => Err(fault),
     }
@@ -288,7 +288,7 @@ pub(crate) fn take_within(alloc: Global, limit: u64, source: Source<'_>) -> Resu
 
 /// Calls a new receiver five times.
 pub(crate) fn take(alloc: Global, source: Source<'_>) -> Result<Taken, Fail> {
-    take_within(alloc, MOST_SYMBOLS, source)
+    take_within(alloc, MAX_SYMBOLS, source)
 }
 
 /// Lets a receiver run to the end of what is read.
@@ -337,7 +337,7 @@ fn whole_by(alloc: Global, receiver: &mut Toy, bytes: &[u8]) -> Whole
 
 /// What comes of all of these bytes by a single call of a receiver that takes at most so many symbols.
 pub(crate) fn receive_within(alloc: Global, limit: u64, bytes: &[u8]) -> Result<Whole, Fail> {
-    match toy(alloc, limit.min(MOST_SYMBOLS)) {
+    match toy(alloc, limit.min(MAX_SYMBOLS)) {
         Ok(mut receiver) => Ok(whole_by(alloc, &mut receiver, bytes)),
         Err(fault) => Err(fault),
     }
@@ -345,7 +345,7 @@ pub(crate) fn receive_within(alloc: Global, limit: u64, bytes: &[u8]) -> Result<
 
 /// The same of one without a limit of its own, where nothing fails.
 pub(crate) fn receive(alloc: Global, bytes: &[u8]) -> Result<Received, Fail> {
-    Ok(receive_within(alloc, MOST_SYMBOLS, bytes)?.answer?)
+    Ok(receive_within(alloc, MAX_SYMBOLS, bytes)?.answer?)
 }
 
 /// Receives bytes in memory.
@@ -356,7 +356,7 @@ fn receive_into(
     report: &mut Writer,
 ) -> Result<Totals, WriteFault>
     requires begun { receiver.old.state ≡ begun }
-    requires limit { receiver.old.limit ≡ most_symbols }
+    requires limit { receiver.old.limit ≡ max_symbols }
 {
     if packets.count() == u64::MAX || report.count() == u64::MAX {
         return Err(WriteFault);
@@ -384,7 +384,7 @@ impl Drop for InBytes {
 
 fn in_bytes_by(alloc: Global, receiver: &mut Toy, bytes: &[u8], writes: [u64; 2]) -> InBytes
     requires begun { receiver.old.state ≡ begun }
-    requires limit { receiver.old.limit ≡ most_symbols }
+    requires limit { receiver.old.limit ≡ max_symbols }
 {
     let mut packets = writer_of(alloc, writes[0]);
     let mut report = writer_of(alloc, writes[1]);
@@ -402,7 +402,7 @@ pub(crate) fn receive_in_bytes(
     bytes: &[u8],
     writes: [u64; 2],
 ) -> Result<InBytes, Fail> {
-    match toy(alloc, MOST_SYMBOLS) {
+    match toy(alloc, MAX_SYMBOLS) {
         Ok(mut receiver) => Ok(in_bytes_by(alloc, &mut receiver, bytes, writes)),
         Err(fault) => Err(fault),
     }

@@ -2,7 +2,7 @@
 use Rattle.std.specs.Prelude.{◌≡◌, ℕ, Bool, if◌then◌else◌, Option, List, [], ◌++◌, codes, decimal, Result, Ok, Err}
 use Rattle.s2_mode.specs.Mode.{Mode, shape_in}
 use Rattle.s2_mode.specs.Shape.{Shape, check_count}
-use Rattle.s2_modes.specs.Names.{mode_words}
+use Rattle.s2_names.specs.Names.{mode_words}
 use Rattle.s2_console.specs.declared.exit.Exit.{Exit}
 use Rattle.s2_console.specs.declared.fault.Fault.{Fault}
 use Rattle.s2_console.specs.declared.fault.Fault.TheVariants as faults

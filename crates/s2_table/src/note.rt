@@ -5,7 +5,7 @@ ghost use Rattle.s2_mode.specs.Counts.{CanCount, CountsFault};
 ghost use Rattle.s2_mode.specs.Mode.{shape_in};
 ghost use Rattle.s2_console.specs.Exits.{Follows};
 ghost use Rattle.s2_evidence.specs.Inputs.{rows_in};
-ghost use Rattle.s2_modes.specs.Names.{mode_words};
+ghost use Rattle.s2_names.specs.Names.{mode_words};
 ghost use Rattle.s2_table.specs.Tables.{note_line, Notes, IsNoted, NotesRows};
 
 use crate::standard::is_standard;
@@ -13,7 +13,7 @@ use s2_console::Fault;
 use s2_evidence::read_matrix;
 use s2_matrix::Matrix;
 use s2_mode::{CountedRead, CountedWrite, Mode, WriteFault, write_full};
-use s2_modes::write_code;
+use s2_names::write_code;
 use std::alloc::Global;
 
 /// Writes a note that names the code of a mode: what stands in front of its words, they, and what stands behind them.

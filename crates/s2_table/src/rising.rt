@@ -2,7 +2,7 @@
 ghost use Rattle.std.specs.Prelude.{◌≡◌, ◌≤◌, ◌++◌, ℕ, List, length};
 ghost use Rattle.sha2.specs.Hashers.{Holds256};
 ghost use Rattle.sha2.specs.Sha256.{sha256};
-ghost use Rattle.s2_rows.specs.Limits.{most_addresses};
+ghost use Rattle.s2_rows.specs.Limits.{max_addresses};
 ghost use Rattle.s2_rows.specs.RowTexts.{after_address, row_text, rows_text};
 ghost use Rattle.s2_table.specs.Rising.{IsRisen, AreRisen};
 
@@ -13,7 +13,7 @@ use sha2::{Digest, Sha256};
 
 /// A copy of a row.
 fn copy_row(row: &[u32]) -> Row
-    requires { length row.now ≤ most_addresses }
+    requires { length row.now ≤ max_addresses }
     ensures { result.items ≡ row.now }
 {
     let mut copy = Row::new();
@@ -25,7 +25,7 @@ fn copy_row(row: &[u32]) -> Row
 
 /// The addresses of a row, rising.
 fn risen(row: &[u32]) -> Row
-    requires { length row.now ≤ most_addresses }
+    requires { length row.now ≤ max_addresses }
     ensures { IsRisen row.now result.items }
 {
     let mut risen = copy_row(row);

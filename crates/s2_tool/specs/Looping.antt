@@ -1,6 +1,6 @@
 -- What `run` does: `mod`, `noise` and `demod`, with the symbols in memory (own).
 use Rattle.std.specs.Prelude.{◌≡◌, ◌⊎◌, ℕ, Bool, true, false, List, [], Option, Some, Result, Ok, Err}
-use Rattle.s2_mode.specs.Limits.{most_symbols}
+use Rattle.s2_mode.specs.Limits.{max_symbols}
 use Rattle.s2_mode.specs.Streams.{Streams}
 use Rattle.s2_rows.specs.Rows.{Rows}
 use Rattle.s2_link.specs.declared.setup.Setup.{Setup}
@@ -60,7 +60,7 @@ LoopsBy t rules channel begun old new ended =
 -- `run` on a link, with the dummy frames, the tuning and the channel of its words
 abbrev pub Loops : RunWords → LinkCommand Received
 Loops words link begun old new ended =
-    LoopsBy (transmitter_on link words.dummy) (link_rules link words.tuning most_symbols) words.channel begun old new ended
+    LoopsBy (transmitter_on link words.dummy) (link_rules link words.tuning max_symbols) words.channel begun old new ended
 
 -- `run` has ended with this exit: so it did on its files, and so it reported how it ended
 abbrev pub RunEnds : Setup → RunWords → (Result Rows Fault → Type 0) → Files → Files → Screen → Screen → Exit → Type 0

@@ -1,6 +1,6 @@
 -- What `demod` receives, writes and reports (own).
 use Rattle.std.specs.Prelude.{Result, Ok, Err}
-use Rattle.s2_mode.specs.Limits.{most_symbols}
+use Rattle.s2_mode.specs.Limits.{max_symbols}
 use Rattle.s2_mode.specs.Streams.{Streams}
 use Rattle.s2_rows.specs.Rows.{Rows}
 use Rattle.s2_link.specs.Tuning.{Tuning}
@@ -29,7 +29,7 @@ Receives rules old new (Err f) = ⊥
 
 -- `demod` on a link: what a new receiver makes of the symbols
 abbrev pub Demodulates : Tuning → LinkCommand Received
-Demodulates tuning link begun old new ended = Begins (Receives (link_rules link tuning most_symbols)) begun old new ended
+Demodulates tuning link begun old new ended = Begins (Receives (link_rules link tuning max_symbols)) begun old new ended
 
 -- `demod` has ended with this exit: so it did on its files, and so it reported how it ended
 abbrev pub DemodEnds : Setup → DemodWords → (Result Rows Fault → Type 0) → Files → Files → Screen → Screen → Exit → Type 0

@@ -18,7 +18,7 @@ use s2_evidence::{check_command, judge_command, self_command};
 use s2_files::Disk;
 use s2_link::LinkSetup;
 use s2_mode::{CountedWrite, Counting, FaultText, Mode, Shape};
-use s2_modes::modes_command;
+use s2_names::modes_command;
 use s2_progress::{Pace, Show, Terminal};
 use s2_table::table_command;
 use s2_words::{

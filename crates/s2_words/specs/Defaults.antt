@@ -3,7 +3,7 @@ use Rattle.std.specs.Prelude.{◌≡◌, decimal, map}
 use Rattle.s2_soft.specs.Divisors.{divisors, default_divisor}
 use Rattle.s2_link.specs.Limits.{default_rounds}
 use Rattle.s2_minsum.specs.Factors.{default_factor}
-use Rattle.s2_plframe.specs.Constants.{most_wrong}
+use Rattle.s2_plframe.specs.Constants.{max_wrong}
 use Rattle.s2_words.specs.declared.table.TheConstants.{DEFAULT_ROUNDS_TEXT, DIVISOR_TEXTS, DEFAULT_DIVISOR_TEXT, DEFAULT_FACTOR_TEXT, DEFAULT_LOCK_TEXT}
 
 -- the digits on the command line for the default rounds, divisor, factor and lock, and for the divisors that can be
@@ -13,4 +13,4 @@ pub record DefaultsLaw : Type 0 where
   pub divisors : map (λ t. t.now) DIVISOR_TEXTS ≡ map decimal divisors
   pub divisor : DEFAULT_DIVISOR_TEXT.now ≡ decimal default_divisor
   pub factor : DEFAULT_FACTOR_TEXT.now ≡ decimal default_factor
-  pub lock : DEFAULT_LOCK_TEXT.now ≡ decimal most_wrong
+  pub lock : DEFAULT_LOCK_TEXT.now ≡ decimal max_wrong

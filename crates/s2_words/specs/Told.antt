@@ -2,7 +2,7 @@
 use Rattle.std.specs.Prelude.{◌≡◌, ℕ, ◌⊎◌, Bool, false, List, if◌then◌else◌}
 use Rattle.std.specs.Str.Parse.{IsNumeral, digits_value, without_leading_plus}
 use Rattle.s2_mode.specs.Mode.{IsMode, mode_of}
-use Rattle.s2_modes.specs.Names.{IsNameOf}
+use Rattle.s2_names.specs.Names.{IsNameOf}
 use Rattle.s2_words.specs.declared.request.Progress.{Progress}
 use Rattle.s2_words.specs.declared.request.Progress.TheVariants as progress
 

@@ -3,7 +3,7 @@ ghost use Rattle.s2_words.specs.Defaults.{DefaultsLaw};
 
 /// Help has the defaults and choices in decimal digits: the rounds, [`s2_link::DEFAULT_ROUNDS`], the divisors,
 /// [`s2_soft::DIVISORS`], the default one, [`s2_soft::DEFAULT_DIVISOR`], the factor,
-/// [`s2_minsum::DEFAULT_FACTOR`], and the lock, [`s2_plframe::MOST_WRONG`].
+/// [`s2_minsum::DEFAULT_FACTOR`], and the lock, [`s2_plframe::MAX_WRONG`].
 pub fn defaults()
     ensures { DefaultsLaw }
 {}

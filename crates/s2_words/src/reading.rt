@@ -12,7 +12,7 @@ use clap::{ArgMatches, Error};
 use s2_channel::Strength;
 use s2_link::{RollOff, Tuning};
 use s2_mode::Mode;
-use s2_modes::SymbolRate;
+use s2_names::SymbolRate;
 use s2_scramble::ScramblingNumber;
 use std::alloc::Global;
 

@@ -6,8 +6,8 @@ use crate::told::modcod_told;
 use clap::error::ErrorKind;
 use clap::{ArgMatches, Error};
 use s2_link::RollOff;
-use s2_mode::{MOST_MODCOD, Mode, Modulation};
-use s2_modes::{Case, constellation};
+use s2_mode::{MAX_MODCOD, Mode, Modulation};
+use s2_names::{Case, constellation};
 use std::alloc::{AllocError, Global};
 
 /// The value of an option: the next word, or the text after its equals sign.
@@ -85,7 +85,7 @@ fn fault_of(alloc: Global, entry: Entry, message: &str) -> Result<Error, AllocEr
 /// Appends the names of all modes of a constellation to a text.
 fn push_names(text: &mut String, modulation: Modulation) -> Result<(), AllocError> {
     let mut between = "";
-    for modcod in 1..=MOST_MODCOD {
+    for modcod in 1..=MAX_MODCOD {
         if let Some(mode) = Mode::of(modcod, false, false) {
             if mode.modulation() == modulation {
                 text.push_str(between)?;

@@ -1,7 +1,7 @@
 //! The requests of a command line.
 use s2_channel::Strength;
 use s2_link::{RollOff, Tuning};
-use s2_modes::SymbolRate;
+use s2_names::SymbolRate;
 use s2_scramble::ScramblingNumber;
 
 /// The numbers of a shape.

@@ -1,12 +1,12 @@
 //! The table of all that the program understands.
 use clap::builder::ValueParser;
-use s2_link::{MOST_PASSES, MOST_ROLL_OFF, MOST_ROUNDS};
-use s2_minsum::{LEAST_FACTOR, MOST_FACTOR};
-use s2_mode::{MOST_BITS, MOST_GROUP, MOST_MODCOD};
-use s2_modes::MOST_RATE;
-use s2_plframe::{MOST_LOCK, MOST_WRONG};
-use s2_rows::MOST_ADDRESSES;
-use s2_scramble::MOST_NUMBER;
+use s2_link::{MAX_PASSES, MAX_ROLL_OFF, MAX_ROUNDS};
+use s2_minsum::{LEAST_FACTOR, MAX_FACTOR};
+use s2_mode::{MAX_BITS, MAX_GROUP, MAX_MODCOD};
+use s2_names::MAX_RATE;
+use s2_plframe::{MAX_LOCK, MAX_WRONG};
+use s2_rows::MAX_ADDRESSES;
+use s2_scramble::MAX_NUMBER;
 
 /// What the program says of itself.
 pub(crate) const ABOUT: &str =
@@ -259,7 +259,7 @@ const GROUP: Word = Word {
     name: "group",
     form: Form::Number {
         value: "G",
-        allowed: ValueParser::Signed(1, MOST_GROUP as i64),
+        allowed: ValueParser::Signed(1, MAX_GROUP as i64),
         default: None,
     },
     help: "Bits of a group, 1 to 360",
@@ -269,7 +269,7 @@ const GROUPS: Word = Word {
     name: "groups",
     form: Form::Number {
         value: "N",
-        allowed: ValueParser::Signed(1, MOST_BITS as i64 - 1),
+        allowed: ValueParser::Signed(1, MAX_BITS as i64 - 1),
         default: None,
     },
     help: "Groups of information bits, 1 to 64799",
@@ -279,7 +279,7 @@ const Q: Word = Word {
     name: "q",
     form: Form::Number {
         value: "Q",
-        allowed: ValueParser::Signed(1, MOST_BITS as i64 - 1),
+        allowed: ValueParser::Signed(1, MAX_BITS as i64 - 1),
         default: None,
     },
     help: "Checks by which a group's next bit moves on, 1 to 64799",
@@ -289,7 +289,7 @@ const WEIGHT: Word = Word {
     name: "weight",
     form: Form::Number {
         value: "W",
-        allowed: ValueParser::Signed(1, MOST_ADDRESSES as i64),
+        allowed: ValueParser::Signed(1, MAX_ADDRESSES as i64),
         default: None,
     },
     help: "Addresses of each row, 1 to 24",
@@ -299,7 +299,7 @@ const MODCOD: Word = Word {
     name: "modcod",
     form: Form::Told {
         value: "M",
-        allowed: ValueParser::Signed(1, MOST_MODCOD as i64),
+        allowed: ValueParser::Signed(1, MAX_MODCOD as i64),
         default: None,
     },
     help: "MODCOD, 1 to 17, or the mode's name, in small letters or in capitals, as qpsk3/4 or 8PSK2/3: `s2 modes` lists them",
@@ -321,7 +321,7 @@ const NUMBER: Word = Word {
     name: "number",
     form: Form::Number {
         value: "N",
-        allowed: ValueParser::Signed(0, MOST_NUMBER as i64),
+        allowed: ValueParser::Signed(0, MAX_NUMBER as i64),
         default: Some("0"),
     },
     help: "Scrambling number, 0 to 262141",
@@ -331,7 +331,7 @@ const ROLL_OFF: Word = Word {
     name: "ro",
     form: Form::Told {
         value: "R",
-        allowed: ValueParser::Signed(0, MOST_ROLL_OFF as i64),
+        allowed: ValueParser::Signed(0, MAX_ROLL_OFF as i64),
         default: Some("0"),
     },
     help: "Roll-off that headers tell: 0 for 0.35, 1 for 0.25, 2 for 0.20",
@@ -351,7 +351,7 @@ const ROUNDS: Word = Word {
     name: "rounds",
     form: Form::Number {
         value: "K",
-        allowed: ValueParser::Signed(1, MOST_ROUNDS as i64),
+        allowed: ValueParser::Signed(1, MAX_ROUNDS as i64),
         default: Some(DEFAULT_ROUNDS_TEXT),
     },
     help: "Rounds of min-sum at most for each frame, 1 to 200",
@@ -361,7 +361,7 @@ const PASSES: Word = Word {
     name: "passes",
     form: Form::Number {
         value: "P",
-        allowed: ValueParser::Signed(0, MOST_PASSES as i64),
+        allowed: ValueParser::Signed(0, MAX_PASSES as i64),
         default: Some("0"),
     },
     help: "Passes at most that look for a certificate of what has none yet, 0 to 1000",
@@ -381,7 +381,7 @@ const FACTOR: Word = Word {
     name: "factor",
     form: Form::Number {
         value: "F",
-        allowed: ValueParser::Signed(LEAST_FACTOR as i64, MOST_FACTOR as i64),
+        allowed: ValueParser::Signed(LEAST_FACTOR as i64, MAX_FACTOR as i64),
         default: Some(DEFAULT_FACTOR_TEXT),
     },
     help: "Sixteenths of a size that messages of min-sum have, 8 to 16: more at low code rates",
@@ -391,7 +391,7 @@ const LOCK: Word = Word {
     name: "lock",
     form: Form::Number {
         value: "H",
-        allowed: ValueParser::Signed(MOST_WRONG as i64, MOST_LOCK as i64),
+        allowed: ValueParser::Signed(MAX_WRONG as i64, MAX_LOCK as i64),
         default: Some(DEFAULT_LOCK_TEXT),
     },
     help: "Bits of a header that may be wrong right behind a frame, 12 to 40; elsewhere 12 may",
@@ -438,7 +438,7 @@ const RATE: Word = Word {
     name: "rate",
     form: Form::NamedNumber {
         value: "R",
-        allowed: ValueParser::Signed(1, MOST_RATE as i64),
+        allowed: ValueParser::Signed(1, MAX_RATE as i64),
     },
     help: "Symbols a second, 1 to 1000000000: adds the bits a second of the transport stream",
 };

@@ -7,8 +7,8 @@ ghost use Rattle.s2_words.specs.Tuned.{number_by, passes_by, judging_by, tuning_
 use crate::request::Progress;
 use s2_link::{DEFAULT_ROUNDS, Tuning};
 use s2_minsum::Factor;
-use s2_mode::{MOST_MODCOD, Mode};
-use s2_modes::modcod_of;
+use s2_mode::{MAX_MODCOD, Mode};
+use s2_names::modcod_of;
 use s2_plframe::Lock;
 use s2_soft::Divisor;
 
@@ -18,7 +18,7 @@ fn numbered(text: &str) -> Option<u8>
     ensures value { IfSome result (λ modcod. IsNumbered modcod text.now) }
 {
     match text.parse::<u8>() {
-        Ok(modcod) if 1 <= modcod && modcod <= MOST_MODCOD => Some(modcod),
+        Ok(modcod) if 1 <= modcod && modcod <= MAX_MODCOD => Some(modcod),
         _ => None,
     }
 }

@@ -1,9 +1,9 @@
 //! How far a header is trusted right behind a frame.
 ghost use Rattle.std.specs.Prelude.{◌≡◌, ◌↔◌, IsSome, IfSome};
-ghost use Rattle.s2_plframe.specs.Constants.{most_wrong};
+ghost use Rattle.s2_plframe.specs.Constants.{max_wrong};
 ghost use Rattle.s2_plframe.specs.Search.{IsLock};
 
-use crate::constants::{MOST_LOCK, MOST_WRONG};
+use crate::constants::{MAX_LOCK, MAX_WRONG};
 use std::marker::Model;
 
 /// How many bits of a header may be wrong right behind a frame, 12 to 40.
@@ -31,7 +31,7 @@ impl Lock {
         ensures found { IsSome result ↔ IsLock number }
         ensures value { IfSome result (λ l. l ≡ number) }
     {
-        if number >= MOST_WRONG && number <= MOST_LOCK {
+        if number >= MAX_WRONG && number <= MAX_LOCK {
             Some(Lock { number })
         } else {
             None
@@ -40,9 +40,9 @@ impl Lock {
 
     /// As many as anywhere, 12.
     pub fn usual() -> Lock
-        ensures { result ≡ most_wrong }
+        ensures { result ≡ max_wrong }
     {
-        Lock { number: MOST_WRONG }
+        Lock { number: MAX_WRONG }
     }
 
     /// How many.

@@ -3,7 +3,7 @@ ghost use Rattle.std.specs.Prelude.{◌≡◌, ℕ, ◌+◌, ◌-◌, ◌*◌, �
 ghost use Rattle.s2_mode.specs.declared.symbols.Symbol.{Symbol};
 ghost use Rattle.s2_mode.specs.Mode.{slots_of, symbols_in};
 ghost use Rattle.s2_mode.specs.Symbols.{symbol_at};
-ghost use Rattle.s2_scramble.specs.Gold.{most_symbols, quarter_turns};
+ghost use Rattle.s2_scramble.specs.Gold.{max_scrambled, quarter_turns};
 ghost use Rattle.s2_scramble.specs.Turns.{turned_back};
 ghost use Rattle.s2_plframe.specs.Constants.{sixteen_slots, pilot_block};
 ghost use Rattle.s2_plframe.specs.Frame.{frame_symbols};
@@ -36,7 +36,7 @@ pub fn payload_of(mode: Mode, gold: &Gold, frame: &[Symbol], payload: &mut [Symb
 fn read_slots(blocks: usize, gold: &Gold, slots: &[Symbol], out: &mut [Symbol])
     requires enough { sixteen_slots * blocks ≤ length out.old }
     requires room { length slots.now ≡ length out.old + pilot_block * blocks }
-    requires most { length slots.now ≤ most_symbols }
+    requires most { length slots.now ≤ max_scrambled }
     ensures { (s : ℕ) → s < length out.old → symbol_at out.new s ≡ turned_back (quarter_turns gold.now (place_behind blocks s)) (symbol_at slots.now (place_behind blocks s)) }
 {
     for block in 0..blocks {

@@ -7,7 +7,7 @@ ghost use Rattle.s2_bits.specs.Bits.{number};
 ghost use Rattle.s2_plframe.specs.Header.{header_bit};
 ghost use Rattle.s2_plframe.specs.Inside.{IsHeader, is_near, wrong_in};
 
-use crate::constants::MOST_WRONG;
+use crate::constants::MAX_WRONG;
 use crate::header::{PlsCode, header_bit};
 use s2_mode::HEADER_SYMBOLS;
 
@@ -42,7 +42,7 @@ pub(crate) fn mixed(odd: u128, even: u128) -> u128
 pub(crate) fn is_near(header: u128, window: u128) -> bool
     ensures { result ≡ is_near header window }
 {
-    (header ^ window).count_ones() <= MOST_WRONG
+    (header ^ window).count_ones() <= MAX_WRONG
 }
 
 /// How many bits of a window differ from a header.

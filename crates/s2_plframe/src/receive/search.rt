@@ -7,7 +7,7 @@ ghost use Rattle.s2_plframe.specs.Search.{decision, found, found_behind, passes}
 ghost use Rattle.s2_plframe.specs.declared.receive.found.Found.TheVariants as founds;
 ghost use Rattle.s2_plframe.specs.Inside.{AreHeaders, is_dummy, found_by, wrong_in_dummy, behind_by};
 
-use crate::constants::MOST_WRONG;
+use crate::constants::MAX_WRONG;
 use crate::header::{dummy_code, header_bit, pls_code};
 use crate::receive::found::Found;
 use crate::receive::lock::Lock;
@@ -52,7 +52,7 @@ pub fn header_matches(mode: Mode, symbols: &[Symbol; HEADER_SYMBOLS]) -> bool
     for k in 0..HEADER_SYMBOLS {
         different += u32::from(says_at(k, symbols[k]) ^ header_bit(code, k));
     }
-    different <= MOST_WRONG
+    different <= MAX_WRONG
 }
 
 /// The headers of a mode and of dummy frames, as numbers.

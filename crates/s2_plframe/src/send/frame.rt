@@ -2,7 +2,7 @@
 ghost use Rattle.std.specs.Prelude.{◌≡◌, ℕ, ◌+◌, ◌-◌, ◌*◌, ◌<◌, ◌≤◌, length};
 ghost use Rattle.s2_mode.specs.Mode.{slots_of, symbols_in};
 ghost use Rattle.s2_mode.specs.Symbols.{symbol_at};
-ghost use Rattle.s2_scramble.specs.Gold.{most_symbols, quarter_turns};
+ghost use Rattle.s2_scramble.specs.Gold.{max_scrambled, quarter_turns};
 ghost use Rattle.s2_scramble.specs.Turns.{turned};
 ghost use Rattle.s2_plframe.specs.Constants.{sixteen_slots, pilot_block, spaced_slots};
 ghost use Rattle.s2_plframe.specs.Frame.{spaced_symbol, frame_symbols};
@@ -42,7 +42,7 @@ pub fn frame_into(mode: Mode, gold: &Gold, payload: &[Symbol], frame: &mut [Symb
 fn write_slots(blocks: usize, gold: &Gold, payload: &[Symbol], out: &mut [Symbol])
     requires enough { sixteen_slots * blocks ≤ length payload.now }
     requires room { length out.old ≡ length payload.now + pilot_block * blocks }
-    requires most { length out.old ≤ most_symbols }
+    requires most { length out.old ≤ max_scrambled }
     ensures blocks { (u : ℕ) → u < spaced_slots * blocks → symbol_at out.new u ≡ turned (quarter_turns gold.now u) (spaced_symbol payload.now u) }
     ensures rest { (u : ℕ) → spaced_slots * blocks ≤ u → u < length out.old → symbol_at out.new u ≡ turned (quarter_turns gold.now u) (symbol_at payload.now (u - pilot_block * blocks)) }
 {
@@ -59,7 +59,7 @@ fn write_slots(blocks: usize, gold: &Gold, payload: &[Symbol], out: &mut [Symbol
 fn write_block(gold: &Gold, at: usize, slots: &[Symbol], out: &mut [Symbol])
     requires slots { length slots.now ≡ sixteen_slots }
     requires room { length out.old ≡ spaced_slots }
-    requires most { at + spaced_slots ≤ most_symbols }
+    requires most { at + spaced_slots ≤ max_scrambled }
     ensures { (k : ℕ) → k < spaced_slots → symbol_at out.new k ≡ turned (quarter_turns gold.now (at + k)) (spaced_symbol slots.now k) }
 {
     let (front, pilots) = out.split_at_mut(SIXTEEN_SLOTS);

@@ -2,7 +2,7 @@ use Rattle.std.proofs.Common.{arith, subst}
 use Rattle.s2_field.specs.Gf16 as gf16
 use Rattle.s2_field.specs.Gf14 as gf14
 use Rattle.s2_bch.specs.Ready.{IsWorkspace}
-use Rattle.s2_bch.proofs.GeneratorFacts.{most_short, normal_generator, short_generator}
+use Rattle.s2_bch.proofs.GeneratorFacts.{max_short, normal_generator, short_generator}
 use Rattle.s2_bch.proofs.NearWords.{rest_has_values, only_in_reach}
 use Rattle.s2_bch.proofs.bch.flip_near.Goals as goal
 
@@ -21,7 +21,7 @@ flip_near-requires-in-Short-clause-rest c =
 pub flip_near-requires-in-Short-clause-short : goal.flip_near-requires-in-Short-clause-short
 flip_near-requires-in-Short-clause-short c =
     let workspace = subst (IsWorkspace c.args.mode) c.in-Short.is c.requires.workspace in
-    let most = most_short c.args.mode c.requires.valid workspace.0 in
+    let most = max_short c.args.mode c.requires.valid workspace.0 in
     omega (arith, most, c.requires.word)
 
 pub returns-in-Normal-clause-only : goal.returns-in-Normal-clause-only

@@ -1,7 +1,7 @@
 use Rattle.std.proofs.Common.{arith, refl, ◌∙◌}
 use Rattle.std.proofs.lemmas.Result.{err_from_is_err_and}
-use Rattle.s2_file.specs.Format.{move}
-use Rattle.s2_file.proofs.Pages.{entry_through, entry_part}
+use Rattle.s2_certfile.specs.Format.{move}
+use Rattle.s2_certfile.proofs.Pages.{entry_through, entry_part}
 use Rattle.s2_check.specs.Moves.{no_move}
 use Rattle.s2_check.proofs.write.write_moves.Goals as goal
 

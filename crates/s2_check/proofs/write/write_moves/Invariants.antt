@@ -1,7 +1,7 @@
 use Rattle.std.proofs.Common.{◌≡◌, take}
 use Rattle.std.specs.List.{flat_map}
-use Rattle.s2_file.specs.Format.{move}
-use Rattle.s2_file.specs.Pages.{GoesThrough}
+use Rattle.s2_certfile.specs.Format.{move}
+use Rattle.s2_certfile.specs.Pages.{GoesThrough}
 use Rattle.s2_check.proofs.write.write_moves.Given as goal
 
 abbrev pub invariant-loop-value : goal.invariant-loop-value

@@ -1,8 +1,8 @@
 use Rattle.std.proofs.Common.{◌<◌, replicate, arith, sym, ◌∙◌}
 use Rattle.std.proofs.lemmas.List.{length-replicate, get_or-replicate}
 use Rattle.std.proofs.lemmas.Result.{err_from_is_err_and}
-use Rattle.s2_file.specs.Format.{move}
-use Rattle.s2_file.proofs.Pages.{entry_through, entry_part}
+use Rattle.s2_certfile.specs.Format.{move}
+use Rattle.s2_certfile.proofs.Pages.{entry_through, entry_part}
 use Rattle.s2_check.specs.Moves.{no_move}
 use Rattle.s2_check.proofs.write.write_unmoved.Goals as goal
 

@@ -1,7 +1,7 @@
 use Rattle.std.proofs.Common.{◌≡◌, take, replicate}
 use Rattle.std.specs.List.{flat_map}
-use Rattle.s2_file.specs.Format.{move}
-use Rattle.s2_file.specs.Pages.{GoesThrough}
+use Rattle.s2_certfile.specs.Format.{move}
+use Rattle.s2_certfile.specs.Pages.{GoesThrough}
 use Rattle.s2_check.specs.Moves.{no_move}
 use Rattle.s2_check.proofs.write.write_unmoved.Given as goal
 

@@ -2,8 +2,8 @@ use Rattle.std.proofs.Common.{ap, ◌∙◌}
 use Rattle.std.proofs.lemmas.Result.{err_from_is_err_and}
 use Rattle.s2_rows.specs.Rows.{Rows}
 use Rattle.s2_rows.specs.RowFiles as row_files
-use Rattle.s2_file.specs.File.{File}
-use Rattle.s2_file.specs.Format.{file_of_bytes}
+use Rattle.s2_certfile.specs.File.{File}
+use Rattle.s2_certfile.specs.Format.{file_of_bytes}
 use Rattle.s2_console.proofs.CommandLemmas.{refuses}
 use Rattle.s2_evidence.specs.Inputs.{rows_said}
 use Rattle.s2_evidence.specs.Checking.{certificate_said, with_rows, beside, ArePartsIn, IsAnswered}

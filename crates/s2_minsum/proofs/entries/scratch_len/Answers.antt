@@ -24,12 +24,12 @@ least rows shaped most reached words room =
 pub returns : goal.returns
 returns c =
     let rows = c.args.matrix.now in
-    let most = c.most_entries.result in
+    let most = c.max_entries.result in
     let g = c.group.ensures.is ∙ ap (λ (s : Shape). s.group) c.shape.ensures.is in
     let same : (most + 3) * c.group.result ≡ (most + 3) * rows.shape.group = ap (λ x. (most + 3) * x) g in
     record {
       room = λ r lt.
-          let one : (entry_count rows r + 3) * rows.shape.group ≤ (most + 3) * rows.shape.group = mul-le-mul_right rows.shape.group (omega (arith, c.most_entries.ensures.most r lt)) in
+          let one : (entry_count rows r + 3) * rows.shape.group ≤ (most + 3) * rows.shape.group = mul-le-mul_right rows.shape.group (omega (arith, c.max_entries.ensures.most r lt)) in
           omega (arith, one, same);
-      least = λ words enough. omega (arith, same, least rows c.shape.ensures.valid most c.most_entries.ensures.reached words enough);
+      least = λ words enough. omega (arith, same, least rows c.shape.ensures.valid most c.max_entries.ensures.reached words enough);
     }

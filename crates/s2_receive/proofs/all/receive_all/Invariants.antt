@@ -1,4 +1,4 @@
-use Rattle.s2_receive.proofs.Names.{◌≡◌, ◌+◌, ◌-◌, most_symbols, streams_by, IsLive, IsSame, rank, rules_of}
+use Rattle.s2_receive.proofs.Names.{◌≡◌, ◌+◌, ◌-◌, max_symbols, streams_by, IsLive, IsSame, rank, rules_of}
 use Rattle.s2_receive.proofs.RunLemmas.{Came}
 use Rattle.s2_receive.proofs.all.receive_all.Given as goal
 
@@ -17,4 +17,4 @@ invariant-steps g l =
 
 -- how many frames, and the end, may still be met at most
 abbrev pub decreases-steps : goal.decreases-steps
-decreases-steps g l = most_symbols + 3 - (l.receiver.state.standing.totals.frames + rank l.receiver.state.phase)
+decreases-steps g l = max_symbols + 3 - (l.receiver.state.standing.totals.frames + rank l.receiver.state.phase)

@@ -1,6 +1,6 @@
 use Rattle.std.proofs.Common.{◌≡◌, ℕ, suc, ◌+◌, ◌-◌, ◌<◌, ◌∷◌, List, ap, sym, subst, ◌∙◌, arith}
 use Rattle.s2_matrix.specs.Code.{code_of}
-use Rattle.s2_settle.specs.Plain.{State, most_served, call_for, serve, unsettled, queue}
+use Rattle.s2_settle.specs.Plain.{State, max_served, call_for, serve, unsettled, queue}
 use Rattle.s2_settle.specs.Waiting.{Waiting, later}
 use Rattle.s2_settle.specs.Shows.{IsShown}
 use Rattle.s2_settle.proofs.Queues.{queue_over, queue_done, queue_more, first_none, first_some}
@@ -10,7 +10,7 @@ use Rattle.s2_settle.proofs.queue.serve_waiting.Goals as goal
 pub returns-in-None-clause-is : goal.returns-in-None-clause-is
 returns-in-None-clause-is c = λ s shown. (
     let rows = c.args.matrix.now in
-    let k = most_served - c.serving.step in
+    let k = max_served - c.serving.step in
     let left = c.serving.invariant.left k (omega arith) s shown in
     let none = first_none c.serving.waiting.checks (sym c.in-None.ensures.first) in
     subst (λ (x : State). IsShown rows c.serving.held x) (sym (queue_over (code_of rows) k left.state c.serving.waiting.checks none) ∙ left.same) left.shown

@@ -1,6 +1,6 @@
 use Rattle.std.proofs.Common.{◌≡◌, ◌+◌, ℕ}
 use Rattle.s2_matrix.specs.Code.{code_of}
-use Rattle.s2_settle.specs.Plain.{State, most_served, queue}
+use Rattle.s2_settle.specs.Plain.{State, max_served, queue}
 use Rattle.s2_settle.specs.Layer.{AreLong}
 use Rattle.s2_settle.specs.Shows.{IsShown}
 use Rattle.s2_settle.proofs.Queues.{IsLeft}
@@ -10,5 +10,5 @@ abbrev pub invariant-serving : goal.invariant-serving
 invariant-serving l = record {
   long : AreLong l.matrix l.held;
   room : l.waiting.room ≡ (code_of l.matrix).checks;
-  left : (k : ℕ) → k + l.step ≡ most_served → (s : State) → IsShown l.matrix l.initial.held s → IsLeft l.matrix k l.held l.waiting.checks (queue (code_of l.matrix) most_served s l.initial.waiting.checks);
+  left : (k : ℕ) → k + l.step ≡ max_served → (s : State) → IsShown l.matrix l.initial.held s → IsLeft l.matrix k l.held l.waiting.checks (queue (code_of l.matrix) max_served s l.initial.waiting.checks);
 }

@@ -2,7 +2,7 @@ use Rattle.std.proofs.Common.{◌≡◌, suc, ◌-◌, Bool, true, false, sym, s
 use Rattle.std.proofs.lemmas.Bool.{cases_Bool}
 use Rattle.s2_matrix.specs.Code.{code_of}
 use Rattle.s2_split.specs.Greedy.{Moved, none_moved}
-use Rattle.s2_split.specs.Spreading.{has_no_negative_rest, spread, spread_pass, spread_scale, most_passes}
+use Rattle.s2_split.specs.Spreading.{has_no_negative_rest, spread, spread_pass, spread_scale, max_spread_passes}
 use Rattle.s2_split.specs.Kept.{AreKept, Ends}
 use Rattle.s2_split.proofs.Held.{kept_placed}
 use Rattle.s2_split.proofs.Passes.{lists_as}
@@ -48,7 +48,7 @@ returns-then-changed-eq0-clause-ends c =
     let code = code_of c.args.matrix.now in
     let soft = c.args.soft.now in
     let word = c.args.word.now in
-    let k = most_passes - c.passes.pass in
+    let k = max_spread_passes - c.passes.pass in
     let m = passed code soft word c.passes.pass in
     let new = c.next_pass-changed.new in
     let rests = c.passes.rests in
@@ -56,7 +56,7 @@ returns-then-changed-eq0-clause-ends c =
     let same = c.next_pass-changed.ensures.same c.if-changed-eq0.true in
     let again = λ (n : Moved) (kept : AreKept code soft word spread_scale n rests moves). lists_as (λ r ms. AreKept code soft word spread_scale (spread_pass code soft word n) r ms) new.rests rests new.moves moves (sym same.0) (sym same.1) (c.next_pass-changed.ensures.kept soft word n kept) in
     let never = c.passes.invariant.left k (omega arith) ∙ spread_stuck code soft word rests moves again c.none_negative.result c.none_negative.ensures c.if-none_negative.false k m c.passes.invariant.kept in
-    ends_none code soft word (spread code soft word most_passes none_moved) new.rests new.moves never
+    ends_none code soft word (spread code soft word max_spread_passes none_moved) new.rests new.moves never
 
 pub returns-then-none_negative-clause-moves : goal.returns-then-none_negative-clause-moves
 returns-then-none_negative-clause-moves c = kept_placed (code_of c.args.matrix.now) c.args.soft.now c.args.word.now spread_scale _ c.passes.rests c.passes.moves c.requires.word c.passes.invariant.kept
@@ -71,10 +71,10 @@ returns-then-none_negative-clause-ends c =
     let word = c.args.word.now in
     let p = c.passes.pass in
     let m = passed code soft word p in
-    let k = most_passes - p in
+    let k = max_spread_passes - p in
     let test : has_no_negative_rest code soft word spread_scale m ≡ true = test_is code soft word spread_scale m c.passes.rests c.none_negative.result c.passes.invariant.kept.left c.none_negative.ensures ∙ c.if-none_negative.true in
     let is = c.passes.invariant.left k (omega arith) ∙ spread_now code soft word k m test in
-    ends_some code soft word (spread code soft word most_passes none_moved) m c.passes.rests c.passes.moves is c.passes.invariant.kept
+    ends_some code soft word (spread code soft word max_spread_passes none_moved) m c.passes.rests c.passes.moves is c.passes.invariant.kept
 
 pub returns-clause-ends : goal.returns-clause-ends
 returns-clause-ends c =
@@ -82,7 +82,7 @@ returns-clause-ends c =
     let soft = c.args.soft.now in
     let word = c.args.word.now in
     let m = passed code soft word c.passes.pass in
-    let o = spread code soft word most_passes none_moved in
+    let o = spread code soft word max_spread_passes none_moved in
     let left = c.passes.invariant.left 0 (omega arith) in
     let is = test_is code soft word spread_scale m c.passes.rests c.none_negative-2.result c.passes.invariant.kept.left c.none_negative-2.ensures in
     elim (cases_Bool c.none_negative-2.result) [

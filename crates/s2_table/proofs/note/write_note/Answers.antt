@@ -1,6 +1,6 @@
 use Rattle.std.proofs.Common.{ℕ, List, subst}
 use Rattle.std.specs.Io.KnownBytes.{Appends}
-use Rattle.s2_modes.specs.Names.{mode_words}
+use Rattle.s2_names.specs.Names.{mode_words}
 use Rattle.s2_table.proofs.NoteLemmas.{note_written}
 use Rattle.s2_table.proofs.note.write_note.Goals as goal
 

@@ -1,6 +1,6 @@
 use Rattle.std.proofs.Common.{◌≡◌, ℕ, suc, ◌+◌, ◌*◌, ap, ap₂, ◌∙◌, arith}
 use Rattle.s2_mode.specs.Shape.{Shape, check_count}
-use Rattle.s2_mode.specs.Limits.{most_bits}
+use Rattle.s2_mode.specs.Limits.{max_bits}
 use Rattle.s2_bits.specs.Bits.{bit_at}
 use Rattle.s2_matrix.specs.Code.{code_of}
 use Rattle.s2_matrix.specs.Sums.{sum_of, information_sum}
@@ -10,7 +10,7 @@ use Rattle.s2_matrix.proofs.Planing.{empty_planes}
 use Rattle.s2_matrix.proofs.matrix.Matrix.parities_into.Goals as goal
 
 pub add_groups-requires-clause-empty : goal.add_groups-requires-clause-empty
-add_groups-requires-clause-empty c = empty_planes most_bits
+add_groups-requires-clause-empty c = empty_planes max_bits
 
 pub returns-clause-are : goal.returns-clause-are
 returns-clause-are c =

@@ -1,5 +1,5 @@
 use Rattle.std.proofs.Common.{ℕ, vec_len, get_or, pos, ap, sym, subst, ◌∙◌, arith}
-use Rattle.s2_mode.specs.Limits.{most_soft}
+use Rattle.s2_mode.specs.Limits.{max_soft}
 use Rattle.s2_minsum.specs.Plain.{start}
 use Rattle.s2_minsum.specs.Layout.{bit_of}
 use Rattle.s2_minsum.specs.Decoding.{AreWithin}
@@ -20,7 +20,7 @@ invariant_of-self c =
     (record {
       layers = c.self.invariant.layers;
       fit = c.self.invariant.fit;
-      numbers = started rows soft c.fill.new.self.items ys (omega (arith, c.self.invariant.numbers.soft_long)) (subst (AreWithin most_soft) (sym copied) c.requires.small) none (omega (arith, c.self.invariant.numbers.messages_long)) (omega (arith, c.self.invariant.numbers.posteriors_long)) c.put_posteriors.ensures.fits
+      numbers = started rows soft c.fill.new.self.items ys (omega (arith, c.self.invariant.numbers.soft_long)) (subst (AreWithin max_soft) (sym copied) c.requires.small) none (omega (arith, c.self.invariant.numbers.messages_long)) (omega (arith, c.self.invariant.numbers.posteriors_long)) c.put_posteriors.ensures.fits
           (λ row lane high low. c.put_posteriors.ensures.are row lane high low ∙ ap (λ xs. get_or xs (bit_of rows.shape row lane) (pos 0)) c.deref.ensures.value);
       room = c.self.invariant.room;
     })

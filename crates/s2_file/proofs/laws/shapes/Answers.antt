@@ -1,5 +1,0 @@
-use Rattle.s2_file.proofs.ShapeTests.{shape_lem}
-use Rattle.s2_file.proofs.laws.shapes.Goals as goal
-
-pub returns : goal.returns
-returns c = shape_lem

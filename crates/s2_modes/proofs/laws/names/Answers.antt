@@ -1,5 +1,0 @@
-use Rattle.s2_modes.proofs.NameTexts.{one_number}
-use Rattle.s2_modes.proofs.laws.names.Goals as goal
-
-pub returns : goal.returns
-returns c = one_number

@@ -1,0 +1,19 @@
+//! What the definitions determine: each a call that does nothing, whose clause is the law.
+ghost use Rattle.s2_names.specs.Names.{NamesLaw};
+ghost use Rattle.s2_names.specs.Rates.{LimitsLaw};
+ghost use Rattle.s2_names.specs.ModeLines.{AllCodesLaw};
+
+/// A name belongs to one MODCOD.
+pub fn names()
+    ensures { NamesLaw }
+{}
+
+/// The most symbols a second, [`crate::MAX_RATE`], are those of the definitions.
+pub fn limits()
+    ensures { LimitsLaw }
+{}
+
+/// Each code has its line.
+pub fn all_codes()
+    ensures { AllCodesLaw }
+{}
