@@ -107,7 +107,8 @@ static inline int32_t most(int32_t a, int32_t b) { return a > b ? a : b; }
 
 static inline int32_t nearest(int32_t a, int32_t b, int32_t x, int32_t y) { return most(most(a, b) + 100, most(x, y)); }
 
-__attribute__((noinline)) static void soft_psk(const symbol *restrict p, int16_t *restrict first, int16_t *restrict second, int16_t *restrict third, int n, int shift) {
+__attribute__((noinline)) static void soft_psk(const symbol *restrict p, int16_t *restrict first, int16_t *restrict second,
+                                               int16_t *restrict third, int n, int shift) {
     for (int s = 0; s < n; s++) {
         int32_t i = p[s].i, q = p[s].q, a = 1400 * (i + q), b = 1400 * (i - q), x = 1980 * i, y = 1980 * q;
         first[s] = quantized(nearest(a, -a, x, -x) - nearest(b, -b, y, -y), shift);
@@ -125,7 +126,8 @@ __attribute__((noinline)) static void map_qpsk(const uint8_t *restrict bits, sym
     }
 }
 
-__attribute__((noinline)) static void map_psk(const uint8_t *restrict first, const uint8_t *restrict second, const uint8_t *restrict third, symbol *restrict p, int n) {
+__attribute__((noinline)) static void map_psk(const uint8_t *restrict first, const uint8_t *restrict second,
+                                              const uint8_t *restrict third, symbol *restrict p, int n) {
     static const symbol points[8] = {{700, 700}, {990, 0}, {-990, 0}, {-700, -700}, {0, 990}, {700, -700}, {-700, 700}, {0, -990}};
     for (int s = 0; s < n; s++) p[s] = points[4 * first[s] + 2 * second[s] + third[s]];
 }

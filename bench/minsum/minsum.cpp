@@ -44,7 +44,8 @@ static void reduce(i16 *__restrict low, i16 *__restrict high, const i16 *__restr
     }
 }
 
-static void send(i16 *__restrict input, i16 *__restrict message, const i16 *__restrict first, const i16 *__restrict low, const i16 *__restrict high, const i16 *__restrict signs, int n) {
+static void send(i16 *__restrict input, i16 *__restrict message, const i16 *__restrict first, const i16 *__restrict low,
+                 const i16 *__restrict high, const i16 *__restrict signs, int n) {
     for (int i = 0; i < n; i++) {
         i16 v = input[i], size = size_of(v), one = first[i], less = low[i], more = high[i], before = message[i];
         i16 reduced = size == one ? more : less;

@@ -134,7 +134,8 @@ def settled(numbers, passes, values):
     group, groups, q, seed = numbers
     words, reads = f"judge --group {group} --groups {groups} --q {q}", {"rows": made_rows(group, groups, q, 3, seed), "values": values}
     ends = {60: False} if passes is None else {passes: True, passes - 1: False}
-    return [Case(f"{words} --passes {it} rows values", 0 if is_found else NO, f"{'sole' if is_found else 'parity'} cost 0\n", reads=reads) for it, is_found in ends.items()]
+    results = {True: (0, "sole cost 0\n"), False: (NO, "parity cost 0\n")}
+    return [Case(f"{words} --passes {it} rows values", *results[is_found], reads=reads) for it, is_found in ends.items()]
 
 
 # A normal frame of zeros, of whose decisions each thousandth is wrong. Its certificate has a header, 64800 values, the word, and
@@ -164,7 +165,10 @@ CASES = [
     # a hard decision and a repaired word keep their certificates, what min-sum finds has none
     *(Case(f"judge {TOY} --uncertified toy values", out=f"{word} cost {cost}\n", reads={"values": values}) for values, cost, word in WELL),
     Case(f"judge {TOY} --uncertified --cert out toy wrong", out="most-likely cost 0\n", writes={"out": WRONG_MOVED}),
-    *(Case(f"judge {shape} --uncertified --cert old rows values", NO, uncertified(line), reads={"rows": rows, "values": values}, writes={"old": b""}) for (shape, rows), _, values, line, _, _ in LEFT),
+    *(
+        Case(f"judge {shape} --uncertified --cert old rows values", NO, uncertified(line), reads={"rows": rows, "values": values}, writes={"old": b""})
+        for (shape, rows), _, values, line, _, _ in LEFT
+    ),
     *(fault("", f"values: {text}", given=values) for values, text in BAD_VALUES),
     *(fault(f"judge {TOY} toy values", f"values: {text}", reads={"values": values}) for values, text in BAD_VALUES),
     *(fault(f"judge {TOY} rows odd", f"rows: {text}", reads={"rows": rows}) for rows, text in BAD_ROWS),

@@ -82,8 +82,9 @@ def cut(frames, count):
 def wrong_headers(two, count, frame=8190):
     """The symbols with so many bits of the second header inverted, first those that all headers have in common."""
     at = 4 * frame
-    turned = bytes(byte for sample in range(at, at + 4 * count, 2) for byte in (-int.from_bytes(two[sample : sample + 2], "big", signed=True)).to_bytes(2, "big", signed=True))
-    return two[:at] + turned + two[at + 4 * count :]
+    samples = [int.from_bytes(two[sample : sample + 2], "big", signed=True) for sample in range(at, at + 4 * count, 2)]
+    negated = b"".join((-sample).to_bytes(2, "big", signed=True) for sample in samples)
+    return two[:at] + negated + two[at + 4 * count :]
 
 
 def demod(two, single):
@@ -125,7 +126,10 @@ def losing(two):
         (two + gap, 0, TWO, 2 * PACKET, ["100 symbols passed over in 1 places, the first at 16380"]),
         (two + gap[:356], 0, TWO, 2 * PACKET, []),
         (gap[:8] + two + gap, 0, TWO.replace("at 0 ", "at 2 ").replace("8190", "8192"), 2 * PACKET, ["102 symbols passed over in 2 places, the first at 0"]),
-        (one + gap[:4] + other[:400], NO, ONE + "cut at 8191 symbols 100\nend frames 1 delivered 1 packets 1 bad 0\n", PACKET, ["1 symbols passed over in 1 places, the first at 8190", torn]),
+        (
+            one + gap[:4] + other[:400], NO, ONE + "cut at 8191 symbols 100\nend frames 1 delivered 1 packets 1 bad 0\n", PACKET,
+            ["1 symbols passed over in 1 places, the first at 8190", torn],
+        ),
         # a header that names another place
         (one + one, 0, TWO, 2 * PACKET, [torn]),
         (gap, 0, NONE, b"", nothing),
@@ -296,12 +300,12 @@ def heard(words, symbols, code, end, packets, errors=""):
 def worded(two):
     """Symbols with pilots and another scrambling number, received with other words too."""
     words, end = f"{LINK} --pilots", "end frames 2 delivered {0} packets {0} bad 0\n"
-    deaf = "16740 symbols passed over in 1 places, the first at 0", "no frame of QPSK 1/4, short in 16740 symbols"
+    no_sync = "16740 symbols passed over in 1 places, the first at 0", "no frame of QPSK 1/4, short in 16740 symbols"
     return [
         heard(f"{words} --number 7", two, 0, end.format(2), 2 * PACKET),
         heard(words, two, NO, end.format(0), b""),
-        heard(f"{LINK} --number 7", two, 0, NONE, b"", noted(*deaf)),
-        heard(f"{LINK} --number 7 --strict", two, NO, NONE, b"", noted(*deaf)),
+        heard(f"{LINK} --number 7", two, 0, NONE, b"", noted(*no_sync)),
+        heard(f"{LINK} --number 7 --strict", two, NO, NONE, b"", noted(*no_sync)),
     ]
 
 

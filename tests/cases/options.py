@@ -167,9 +167,9 @@ def link_effects(two):
 
 def demod_effects(two, pilots):
     words, end = f"{LINK} --pilots", "end frames 2 delivered {0} packets {0} bad 0\n"
-    deaf = received(NONE, FINE, b"", ["16740 symbols passed over in 1 places, the first at 0", "no frame of QPSK 1/4, short in 16740 symbols"])
+    no_sync = received(NONE, FINE, b"", ["16740 symbols passed over in 1 places, the first at 0", "no frame of QPSK 1/4, short in 16740 symbols"])
     heard, lost = received(TWO.replace("8190", "8370")), received(Rule("lost frames", lambda got: got.decode().endswith(end.format(0))), NO, b"")
-    yield Effect("--pilots", f"demod {LINK} --number 7 {{}} made in out", {"": deaf, "--pilots": heard}, {"reads": {"in": pilots}})
+    yield Effect("--pilots", f"demod {LINK} --number 7 {{}} made in out", {"": no_sync, "--pilots": heard}, {"reads": {"in": pilots}})
     yield Effect("--number", f"demod {words} {{}} made in out", by_default("--number", 0, 7, lost, heard), {"reads": {"in": pilots}})
     # a receiver accepts any roll-off
     yield Effect("--ro", f"demod {LINK} {{}} made in out", dict.fromkeys(("", "--ro 0", "--ro 1", "--ro 2"), WELL), {"reads": {"in": two}})
@@ -196,11 +196,14 @@ def run_effects(report, others):
     yield Effect("--pilots", f"run {LINK} --seed 1 --level 0 {{}} made packets out", {"": WELL, "--pilots": received(TWO.replace("8190", "8370"))})
     apart = received(TWO.replace("8190", "11520"))
     yield Effect("--dummy", f"run {LINK} --seed 1 --level 0 {{}} made packets out", by_default("--dummy", 0, 1, WELL, apart))
-    deaf = ["16380 symbols passed over in 1 places, the first at 0", "no frame of QPSK 1/4, short in 16380 symbols"]
-    ends = {"": received(NONE, FINE, b"", deaf), "--strict": received(NONE, NO, b"", deaf)}
+    no_sync = ["16380 symbols passed over in 1 places, the first at 0", "no frame of QPSK 1/4, short in 16380 symbols"]
+    ends = {"": received(NONE, FINE, b"", no_sync), "--strict": received(NONE, NO, b"", no_sync)}
     yield Effect("--strict", f"run {LINK} --seed 1 --level 65535 {{}} made packets out", ends)
     # 13 to 30 bits of the second header are wrong
-    one, both_found = (received(Rule(f"{frames} frames", lambda got, frames=frames: f"end frames {frames} ".encode() in got), NO, ANY, PASSED[: 2 - frames]) for frames in (1, 2))
+    one, both_found = (
+        received(Rule(f"{frames} frames", lambda got, frames=frames: f"end frames {frames} ".encode() in got), NO, ANY, PASSED[: 2 - frames])
+        for frames in (1, 2)
+    )
     yield Effect("--lock", "run {} {{}} --seed {} --level {} made packets out".format(LINK, *links.LOCKED), by_default("--lock", 12, 30, one, both_found))
 
 

@@ -60,5 +60,5 @@ CASES = [
 ]
 # What is one code, told twice: it has one table.
 ALIKE = [
-    (Case("table --modcod 5 rows", NO, OTHER, reads={"rows": made_rows(360, 108, 72, 3, 1)}), Case("table --modcod 8psk3/5 rows", NO, OTHER, reads={"rows": made_rows(360, 108, 72, 3, 1)})),
+    tuple(Case(f"table --modcod {code} rows", NO, OTHER, reads={"rows": made_rows(360, 108, 72, 3, 1)}) for code in ("5", "8psk3/5")),
 ]

@@ -17,7 +17,7 @@ CHANNELS = {
 # Numbers of the rules, those of settling as bench/settle/shares.py has them, and the definitions to which the code's constants are proved
 # equal. No report was found that differs for a change of each.
 DEFINED = {
-    "s2_words/specs/Tuned.antt": {"best_lock": LOCK, "best_divisor": DIVISOR, "best_passes": PASSES},
+    "s2_words/specs/Tuned.antt": {"best_max_header_errors": LOCK, "best_divisor": DIVISOR, "best_passes": PASSES},
     "s2_settle/specs/Plain.antt": {
         "settling_scale": 16, "first_reserve": 256, "full_passes": 2, "fall_part": 320, "least_fall": 12, "max_fall": 64,
         "bits_a_few": 200, "first_end": 3, "growth_part": 64, "max_served": 4000,

@@ -307,7 +307,10 @@ CASES = [
     *(Case(f"{name} --help", out=first_line(about)) for name, about in ABOUTS.items()),
     *(Case(f"{name} --help", out=option("0  ", end)) for name, end in ENDS.items()),
     *(Case(f"{name} --help", out=option(word, says)) for name, word, says in WORDS),
-    *(Case(f"{name} --help", out=option("--quiet", f"No notes on standard error{', and no progress but by --progress' * (name in SHOWING)}")) for name in LINES),
+    *(
+        Case(f"{name} --help", out=option("--quiet", f"No notes on standard error{', and no progress but by --progress' * (name in SHOWING)}"))
+        for name in LINES
+    ),
     *(Case(f"{name} --help", out=option("--progress", "a line that is rewritten once a second")) for name in SHOWING),
     *(Case(f"{name} --help", out=option("--strict", "or no frame was found in 90 symbols or more")) for name in STRICT),
     *(taken("--quiet", name) for name in ENDED),

@@ -1,6 +1,6 @@
 -- What comes to the joiner in two parts.
 use Rattle.std.proofs.Common.{◌≡◌, ℕ, ◌+◌, ◌≤◌, List, [], ◌∷◌, ◌++◌, Option, Some, None, sym, ap, ◌∙◌, append_assoc, append-nil, arith}
-use Rattle.s2_bbframe.specs.Joining.{Event, Joined, step, still, begun_body, torn, and_then, joining}
+use Rattle.s2_bbframe.specs.Joining.{Event, Joined, step, still, begun_body, incomplete, and_then, joining}
 
 and_then-assoc : (a b c : Joined) → and_then (and_then a b) c ≡ and_then a (and_then b c)
 and_then-assoc a b c =
@@ -29,9 +29,9 @@ joining-append (e ∷ xs) ys held =
 pub joining-one : (held : Option (List ℕ)) (e : Event) → joining held (e ∷ []) ≡ step held e
 joining-one held e = and_then-none (step held e)
 
-pub torn-append : (xs ys : List Event) (held : Option (List ℕ)) → torn held (xs ++ ys) ≡ torn held xs + torn (joining held xs).held ys
-torn-append [] ys held = omega arith
-torn-append (e ∷ xs) ys held = omega (arith, torn-append xs ys (step held e).held)
+pub incomplete-append : (xs ys : List Event) (held : Option (List ℕ)) → incomplete held (xs ++ ys) ≡ incomplete held xs + incomplete (joining held xs).held ys
+incomplete-append [] ys held = omega arith
+incomplete-append (e ∷ xs) ys held = omega (arith, incomplete-append xs ys (step held e).held)
 
 pub begun_body-le : (held : Option (List ℕ)) → begun_body held ≤ 1
 begun_body-le (Some (byte ∷ body)) = omega arith

@@ -7,10 +7,10 @@ use Rattle.std.proofs.lemmas.Bool.{cases_lt, le-ltb}
 use Rattle.std.proofs.lemmas.List.{nil_from_length, drop-append-le, drop-take}
 use Rattle.std.proofs.lemmas.List.Elements.{All-head, All-tail, All-drop}
 use Rattle.s2_bbframe.specs.DataStream.{IsPacket, closed_body, stream_of, to_place}
-use Rattle.s2_bbframe.specs.Joining.{field, run_of, still, inside, place_in, begins, step, begun_body, torn_in, torn, and_then, joining, closed_in}
+use Rattle.s2_bbframe.specs.Joining.{field, run_of, still, inside, place_in, begins, step, begun_body, incomplete_in, incomplete, and_then, joining, closed_in}
 use Rattle.s2_bbframe.specs.Gaps.{syncd_of, header_of_cut, Part, bytes_in, IsPartOf, cut_events, parted, begun_before, whole_in, PartsLaw, AcrossLaw}
 use Rattle.s2_bbframe.proofs.Runs.{run-append, run-length, length_closed, front-run}
-use Rattle.s2_bbframe.proofs.Events.{none-and_then, joining-append, torn-append, begun_body-le}
+use Rattle.s2_bbframe.proofs.Events.{none-and_then, joining-append, incomplete-append, begun_body-le}
 
 -- ---- one field
 
@@ -32,11 +32,11 @@ module _ (ro : ℕ) where
       ap (λ b. cond b (inside (run_of body (x ∷ xs))) (begins (syncd_of at (x ∷ xs)) (x ∷ xs))) (names_next at x xs body positive here)
 
   -- and drops no body
-  keeps : (at : ℕ) (bytes body : List ℕ) → 0 < at → length body ≡ (at - 1) % 188 → torn_in (Some body) (field (header_of_cut ro at bytes) bytes) ≡ 0
+  keeps : (at : ℕ) (bytes body : List ℕ) → 0 < at → length body ≡ (at - 1) % 188 → incomplete_in (Some body) (field (header_of_cut ro at bytes) bytes) ≡ 0
   keeps at [] body positive here = refl
   keeps at (x ∷ xs) body positive here = ap (λ b. cond b 0 (begun_body (Some body))) (names_next at x xs body positive here)
 
-  none_to_tear : (at : ℕ) (bytes : List ℕ) → torn_in None (field (header_of_cut ro at bytes) bytes) ≡ 0
+  none_to_tear : (at : ℕ) (bytes : List ℕ) → incomplete_in None (field (header_of_cut ro at bytes) bytes) ≡ 0
   none_to_tear at [] = refl
   none_to_tear at (x ∷ xs) = refl
 
@@ -71,13 +71,13 @@ module _ (ro : ℕ) where
       let ih = all_go (at + length f) fs held (omega arith) (omega arith) in
       ap (λ j. and_then j (joining j.held rest)) first ∙ ap (and_then (inside (run_of body f))) ih ∙ joined_two body f (flat_map (λ f. f) fs)
 
-  none_torn : (at : ℕ) (fs : List (List ℕ)) (body : List ℕ) → 0 < at → length body ≡ (at - 1) % 188 → torn (Some body) (cut_events ro at fs) ≡ 0
-  none_torn at [] body positive here = refl
-  none_torn at (f ∷ fs) body positive here =
+  none_incomplete : (at : ℕ) (fs : List (List ℕ)) (body : List ℕ) → 0 < at → length body ≡ (at - 1) % 188 → incomplete (Some body) (cut_events ro at fs) ≡ 0
+  none_incomplete at [] body positive here = refl
+  none_incomplete at (f ∷ fs) body positive here =
       let rest = cut_events ro (at + length f) fs in
       let held = (run_of body f).body in
       let long : length held ≡ (length body + length f) % 188 = run-length f body (omega arith) in
-      let later = ap (λ j. torn j.held rest) (goes at f body positive here) ∙ none_torn (at + length f) fs held (omega arith) (omega arith) in
+      let later = ap (λ j. incomplete j.held rest) (goes at f body positive here) ∙ none_incomplete (at + length f) fs held (omega arith) (omega arith) in
       omega (arith, keeps at f body positive here, later)
 
   -- how much of a body is held behind the field with the first place
@@ -112,15 +112,15 @@ module _ (ro : ℕ) where
             ∙ ap (λ l. inside (run_of [] l)) (sym (ap (λ n. drop n (f ++ later)) same ∙ drop-append-add f later (to_place next + 1))))
       ]
 
-  pub lost_torn : (at : ℕ) (fs : List (List ℕ)) → torn None (cut_events ro at fs) ≡ 0
-  lost_torn at [] = refl
-  lost_torn at (f ∷ fs) =
+  pub lost_incomplete : (at : ℕ) (fs : List (List ℕ)) → incomplete None (cut_events ro at fs) ≡ 0
+  lost_incomplete at [] = refl
+  lost_incomplete at (f ∷ fs) =
       let next = at + length f in
       let rest = cut_events ro next fs in
       let first = none_to_tear at f in
       elim (cases_lt (to_place at) (length f)) [
-        | inl here ↦ (let later = ap (λ j. torn j.held rest) (finds at f here) ∙ none_torn next fs (run_of [] (drop (to_place at + 1) f)).body (omega arith) (held_length at f here) in omega (arith, first, later))
-        | inr none ↦ (let later = ap (λ j. torn j.held rest) (stays at f none) ∙ lost_torn next fs in omega (arith, first, later))
+        | inl here ↦ (let later = ap (λ j. incomplete j.held rest) (finds at f here) ∙ none_incomplete next fs (run_of [] (drop (to_place at + 1) f)).body (omega arith) (held_length at f here) in omega (arith, first, later))
+        | inr none ↦ (let later = ap (λ j. incomplete j.held rest) (stays at f none) ∙ lost_incomplete next fs in omega (arith, first, later))
       ]
 
 -- ---- the packets of a part
@@ -170,7 +170,7 @@ module _ (ro : ℕ) (packets : List (List ℕ)) (each : All IsPacket packets) wh
       ]
 
   all_given : (held : Option (List ℕ)) (parts : List Part) → All (IsPartOf (stream_of packets)) parts
-      → ((joining held (parted ro parts)).good ≡ flat_map (whole_in packets) parts) × ((joining held (parted ro parts)).bad ≡ 0) × (torn held (parted ro parts) ≤ length parts)
+      → ((joining held (parted ro parts)).good ≡ flat_map (whole_in packets) parts) × ((joining held (parted ro parts)).bad ≡ 0) × (incomplete held (parted ro parts) ≤ length parts)
   all_given held [] h = (refl, refl, omega arith)
   all_given held (part ∷ parts) h =
       let events = cut_events ro part.at part.fields in
@@ -179,10 +179,10 @@ module _ (ro : ℕ) (packets : List (List ℕ)) (each : All IsPacket packets) wh
       let here = part_given part (All-head (IsPartOf (stream_of packets)) part parts h) in
       let ih = all_given one.held parts (All-tail (IsPartOf (stream_of packets)) part parts h) in
       let both : joining held (parted ro (part ∷ parts)) ≡ and_then one later = none-and_then None (joining None (events ++ parted ro parts)) ∙ joining-append events (parted ro parts) None in
-      let tears = torn-append events (parted ro parts) None in (
+      let tears = incomplete-append events (parted ro parts) None in (
         ap (λ j. j.good) both ∙ ap (λ l. l ++ later.good) here.0 ∙ ap (λ l. whole_in packets part ++ l) ih.0,
         ap (λ j. j.bad) both ∙ omega (arith, here.1, ih.1),
-        omega (arith, tears, begun_body-le held, lost_torn ro part.at part.fields, ih.2),
+        omega (arith, tears, begun_body-le held, lost_incomplete ro part.at part.fields, ih.2),
       )
 
 pub parts_given : PartsLaw

@@ -29,7 +29,8 @@ unfoldable pub product : ℕ → List Bool → ℕ
 product p [] = 0
 product p (bit ∷ bits) = bit_xor (if bit then p * 2 ^ length bits else 0) (product p bits)
 
--- x^8, the number 256, times the polynomial with these coefficients is a multiple of the generator and a remainder of degree below 8
+-- x^8, the number 256, times the polynomial with these coefficients is the sum of a multiple of the generator and a
+-- remainder of degree below 8
 abbrev pub IsRemainder : List Bool → ℕ → Type 0
 IsRemainder bits r = (r < 256) × ((quotient : List Bool) × (product 256 bits ≡ bit_xor (product generator quotient) r))
 

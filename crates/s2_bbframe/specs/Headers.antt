@@ -2,7 +2,7 @@
 use Rattle.std.specs.Prelude.{ℕ, ◌+◌, ◌-◌, ◌/◌, ◌%◌, ◌==◌, ◌&&◌, ◌||◌, nat_le, nat_lt, Bool, not, List, [], ◌∷◌, ◌++◌, take, slice_index, Result, Ok, Err, if◌then◌else◌}
 use Rattle.std.specs.Int.{w16, from_be_bytes, to_be_bytes}
 use Rattle.s2_mode.specs.Mode.{Mode, kbch_of}
-use Rattle.s2_bbframe.specs.Limits.{no_place, packet_bits, sync}
+use Rattle.s2_bbframe.specs.Limits.{no_syncd, packet_bits, sync}
 use Rattle.s2_bbframe.specs.Crc.{crc8}
 use Rattle.s2_bbframe.specs.declared.header.Header.{Header}
 use Rattle.s2_bbframe.specs.declared.header.HeaderFault.{HeaderFault}
@@ -20,8 +20,8 @@ header_of bytes = record { roll_off = slice_index bytes 0 % 4; second = slice_in
 abbrev pub is_whole : List ℕ → Bool
 is_whole bytes = crc8 (take 9 bytes) == slice_index bytes 9
 
--- MATYPE-1 from the top: TS/GS 11, a transport stream; SIS/MIS 1, a single one; CCM/ACM 1, constant coding and modulation;
--- ISSYI 0; NPD 0
+-- MATYPE-1 from the top: TS/GS 11, a transport stream; SIS/MIS 1, a single one; CCM/ACM 1, constant coding and
+-- modulation; ISSYI 0; NPD 0
 abbrev pub is_constant_transport : ℕ → Bool
 is_constant_transport matype =
     (matype / 64 == 3) && ((matype / 32 % 2 == 1) && ((matype / 16 % 2 == 1) && ((matype / 8 % 2 == 0) && (matype / 4 % 2 == 0))))
@@ -30,12 +30,13 @@ is_constant_transport matype =
 abbrev pub is_packet_stream : List ℕ → Bool
 is_packet_stream bytes = is_constant_transport (slice_index bytes 0) && ((two_bytes bytes 2 == packet_bits) && (slice_index bytes 6 == sync))
 
--- DFL: whole bytes, which a frame holds. SYNCD: the first place lies in the field and is its own packet's, or there is none
+-- DFL: whole bytes, which a frame holds. SYNCD: the first place is in the field and is its own packet's, or there is
+-- none
 abbrev pub has_valid_lengths : Mode → Header → Bool
 has_valid_lengths m h =
     (h.dfl % 8 == 0)
     && (nat_le h.dfl (kbch_of m - 80)
-    && ((h.dfl == 0) || ((h.syncd == no_place) || ((h.syncd % 8 == 0) && (nat_lt h.syncd packet_bits && nat_lt h.syncd h.dfl)))))
+    && ((h.dfl == 0) || ((h.syncd == no_syncd) || ((h.syncd % 8 == 0) && (nat_lt h.syncd packet_bits && nat_lt h.syncd h.dfl)))))
 
 -- what a header's bytes say, or the first fault
 unfoldable pub header_of_bytes : Mode → List ℕ → Result Header HeaderFault

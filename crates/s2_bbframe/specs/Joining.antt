@@ -1,7 +1,7 @@
--- Packets out of delivered data fields: the data stream (EN 302 307-1, 5.1.4 and 5.1.5) read backwards.
+-- Packets reassembled from delivered data fields: the data stream (EN 302 307-1, 5.1.4 and 5.1.5) read backwards.
 use Rattle.std.specs.Prelude.{◌≡◌, ℕ, ◌+◌, ◌-◌, ◌*◌, ◌/◌, ◌<◌, nat_eq, nat_lt, if◌then◌else◌, List, [], ◌∷◌, ◌++◌, All, length, drop, take, Option, Some, None, ⊤}
 use Rattle.std.specs.List.{flat_map}
-use Rattle.s2_bbframe.specs.Limits.{body_bytes, no_place, packet_bytes, sync}
+use Rattle.s2_bbframe.specs.Limits.{body_bytes, no_syncd, packet_bytes, sync}
 use Rattle.s2_bbframe.specs.DataStream.{IsPacket, stream_of, header_at, to_place}
 use Rattle.s2_bbframe.specs.Crc.{crc8}
 use Rattle.s2_bbframe.specs.declared.header.Header.{Header}
@@ -43,13 +43,13 @@ still held = record { held = held; good = []; bad = 0 }
 abbrev pub inside : Run → Joined
 inside r = record { held = Some r.body; good = r.good; bad = r.bad }
 
--- the distance in bits to the run's next place, or `no_place` if it is past the field
+-- the distance in bits to the run's next place, or `no_syncd` if it is past the field
 abbrev pub place_in : List ℕ → List ℕ → ℕ
-place_in body bytes = if nat_lt (body_bytes - length body) (length bytes) then 8 * (body_bytes - length body) else no_place
+place_in body bytes = if nat_lt (body_bytes - length body) (length bytes) then 8 * (body_bytes - length body) else no_syncd
 
 -- a field that comes while the joiner is lost: a run begins after the place that SYNCD names
 abbrev pub begins : ℕ → List ℕ → Joined
-begins syncd bytes = if nat_eq syncd no_place then still None else inside (run_of [] (drop (syncd / 8 + 1) bytes))
+begins syncd bytes = if nat_eq syncd no_syncd then still None else inside (run_of [] (drop (syncd / 8 + 1) bytes))
 
 -- a field that comes inside a run: the run continues if SYNCD names its next place, else it has ended
 abbrev pub goes_on : List ℕ → ℕ → List ℕ → Joined
@@ -79,21 +79,21 @@ begun_body (Some (byte ∷ body)) = 1
 begun_body (Some []) = 0
 begun_body None = 0
 
--- How many bodies that were begun a field that comes drops: that of a run that does not go on. An empty field drops none.
-abbrev pub torn_by : Option (List ℕ) → ℕ → List ℕ → ℕ
-torn_by held syncd [] = 0
-torn_by None syncd (byte ∷ bytes) = 0
-torn_by (Some body) syncd (byte ∷ bytes) = if nat_eq syncd (place_in body (byte ∷ bytes)) then 0 else begun_body (Some body)
+-- The number of begun bodies that a field drops: that of a run that does not continue. An empty field drops none.
+abbrev pub incomplete_by : Option (List ℕ) → ℕ → List ℕ → ℕ
+incomplete_by held syncd [] = 0
+incomplete_by None syncd (byte ∷ bytes) = 0
+incomplete_by (Some body) syncd (byte ∷ bytes) = if nat_eq syncd (place_in body (byte ∷ bytes)) then 0 else begun_body (Some body)
 
 -- and a gap drops the one that is held
-abbrev pub torn_in : Option (List ℕ) → Event → ℕ
-torn_in held (field header bytes) = torn_by held header.syncd bytes
-torn_in held gap = begun_body held
+abbrev pub incomplete_in : Option (List ℕ) → Event → ℕ
+incomplete_in held (field header bytes) = incomplete_by held header.syncd bytes
+incomplete_in held gap = begun_body held
 
 -- all that come, one after another
-abbrev pub torn : Option (List ℕ) → List Event → ℕ
-torn held [] = 0
-torn held (event ∷ events) = torn_in held event + torn (step held event).held events
+abbrev pub incomplete : Option (List ℕ) → List Event → ℕ
+incomplete held [] = 0
+incomplete held (event ∷ events) = incomplete_in held event + incomplete (step held event).held events
 
 -- a first result and the next one together
 abbrev pub and_then : Joined → Joined → Joined
@@ -120,11 +120,12 @@ Placed at (bytes ∷ fields) = (to_place at < length bytes) × Placed (at + leng
 abbrev pub closed_in : ℕ → ℕ
 closed_in bytes = (bytes - 1) / packet_bytes
 
--- Whatever fields of a data stream come first: the packets whose closing CRC-8 lies in them are given, and none is bad or torn.
+-- Any first fields of a data stream give exactly the packets whose closing CRC-8 is in them, and none is bad or
+-- incomplete.
 abbrev pub RoundTripLaw : Type 0
 RoundTripLaw =
     (roll_off : ℕ) (packets fields : List (List ℕ)) (rest : List ℕ)
     → All IsPacket packets → stream_of packets ≡ flat_map (λ bytes. bytes) fields ++ rest → Placed 0 fields
     → ((joining None (events_from roll_off 0 fields)).good ≡ take (closed_in (length (flat_map (λ bytes. bytes) fields))) packets)
     × ((joining None (events_from roll_off 0 fields)).bad ≡ 0)
-    × (torn None (events_from roll_off 0 fields) ≡ 0)
+    × (incomplete None (events_from roll_off 0 fields) ≡ 0)

@@ -7,7 +7,7 @@ ghost use Rattle.s2_bbframe.specs.Joining.{run_of};
 use crate::crc::crc8;
 use crate::limits::{BODY_BYTES, PACKET_BYTES, SYNC};
 
-/// What bytes of a run gave, and how much of a body is held after them.
+/// The packets and the bad bodies in bytes of a run, and the number of bytes of a body that are held after them.
 #[derive(Clone, Copy)]
 pub(crate) struct Bodies {
     pub(crate) held: usize,
@@ -15,7 +15,7 @@ pub(crate) struct Bodies {
     pub(crate) bad: usize,
 }
 
-// puts the packet of this body behind the first bytes of a slice, which are kept
+// writes the packet of this body after the first `at` bytes of a slice, which are kept
 fn put_packet(body: &[u8], at: usize, packets: &mut [u8])
     requires body { length body.now ≡ body_bytes }
     requires room { at + packet_bytes ≤ length packets.old }
@@ -26,7 +26,7 @@ fn put_packet(body: &[u8], at: usize, packets: &mut [u8])
     packets[at + 1..at + PACKET_BYTES].copy_from_slice(body);
 }
 
-// reads on in a run, with the first `start` bytes of `body` held, and puts its packets at the front of `packets`
+// continues a run, with the first `start` bytes of `body` held, and writes its packets at the front of `packets`
 pub(crate) fn read_bodies(body: &mut [u8], start: usize, bytes: &[u8], packets: &mut [u8]) -> Bodies
     requires body { length body.old ≡ body_bytes }
     requires start { start ≤ body_bytes }

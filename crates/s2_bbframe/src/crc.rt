@@ -35,7 +35,7 @@ fn over_fours(bytes: &[u8]) -> u8
     crc
 }
 
-// so many bytes further
+// any number of bytes further
 fn over_bytes(start: u8, bytes: &[u8]) -> u8
     ensures { result ≡ remainder start (bits_of_bytes bytes.now) }
 {

@@ -1,24 +1,24 @@
-//! The header of a baseband frame (EN 302 307-1, 5.1.6).
+//! The BBHEADER, the header of a BBFRAME (EN 302 307-1, 5.1.6).
 ghost use Rattle.std.specs.Prelude.{◌≡◌, ◌≤◌, true, Ok};
 ghost use Rattle.s2_bbframe.specs.Headers.{is_whole, is_constant_transport, is_packet_stream, header_of};
 
 use crate::crc::crc8;
-use crate::limits::{NO_PLACE, PACKET_BITS, SYNC};
+use crate::limits::{NO_SYNCD, PACKET_BITS, SYNC};
 use s2_mode::Mode;
 use thiserror::Error;
 
-/// What a header says of its frame. The rest of it is the same in every frame of a transport stream
-/// with constant coding and modulation.
+/// The fields of a BBHEADER that differ from frame to frame. The others are the same in every frame of a transport
+/// stream with constant coding and modulation.
 #[derive(Clone, Copy, Debug, PartialEq, Eq)]
 pub struct Header {
-    /// RO: 0 for roll-off 0.35, 1 for 0.25, 2 for 0.20; 3 is reserved, and read as it stands.
+    /// RO: 0 for roll-off 0.35, 1 for 0.25, 2 for 0.20; 3 is reserved, and accepted.
     pub roll_off: u8,
     /// MATYPE-2.
     pub second: u8,
     /// DFL, the length of the data field in bits.
     pub dfl: u16,
     /// SYNCD, the distance in bits from the field's start to the first place for a CRC-8;
-    /// [`NO_PLACE`] where there is none.
+    /// [`NO_SYNCD`] if there is none.
     pub syncd: u16,
 }
 
@@ -82,12 +82,12 @@ impl Header {
     {
         let most = mode.kbch() - 80;
         let dfl = usize::from(self.dfl);
-        let has_place = self.syncd == NO_PLACE
+        let has_place = self.syncd == NO_SYNCD
             || self.syncd % 8 == 0 && self.syncd < PACKET_BITS && self.syncd < self.dfl;
         dfl % 8 == 0 && dfl <= most && (dfl == 0 || has_place)
     }
 
-    /// What these bytes say of a frame of this mode (EN 302 307-1, 5.1.6). Refuses, in this order, a
+    /// Reads the BBHEADER of a frame of this mode (EN 302 307-1, 5.1.6). Refuses, in this order, a
     /// wrong CRC-8, a header of another stream, and lengths that no frame of the mode has.
     pub fn read(bytes: &[u8; 10], mode: Mode) -> Result<Header, HeaderFault>
         ensures { result ≡ header_of_bytes mode bytes.now }
@@ -105,7 +105,7 @@ impl Header {
         Ok(header)
     }
 
-    /// Writes the header's ten bytes. Each mode in which its lengths are valid reads them as this
+    /// Writes the ten bytes of the BBHEADER. Each mode in which its lengths are valid reads them as this
     /// header.
     pub fn write(&self, bytes: &mut [u8; 10])
         requires { self.now.roll_off ≤ 3 }

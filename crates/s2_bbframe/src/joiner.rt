@@ -1,29 +1,29 @@
-//! Packets out of delivered data fields.
+//! Packets reassembled from delivered data fields.
 ghost use Rattle.std.specs.Prelude.{ℕ, List, nat_lt, ◌≡◌, ◌+◌, ◌-◌, ◌*◌, ◌/◌, ◌%◌, ◌<◌, ◌≤◌, ◌⊎◌, None, Some, IfSome, drop, length, take, if◌then◌else◌};
 ghost use Rattle.std.specs.List.{flat_map};
-ghost use Rattle.s2_bbframe.specs.Limits.{body_bytes, no_place, packet_bytes, packets_room};
-ghost use Rattle.s2_bbframe.specs.Joining.{fed, still, inside, run_of, begun_body, torn_by};
+ghost use Rattle.s2_bbframe.specs.Limits.{body_bytes, no_syncd, packet_bytes, packets_room};
+ghost use Rattle.s2_bbframe.specs.Joining.{fed, still, inside, run_of, begun_body, incomplete_by};
 
 use crate::bodies::{Bodies, read_bodies};
 use crate::header::Header;
-use crate::limits::{BODY_BYTES, NO_PLACE};
+use crate::limits::{BODY_BYTES, NO_SYNCD};
 use std::marker::Model;
 use std::mem;
 
-/// How many packets a field gave, how many bodies were dropped because their CRC-8 was wrong, and how many that
-/// were begun, with at least a byte, because its header names another place than the run's next one.
+/// The counts of a field: its packets, and the bodies that were dropped. A bad body has a wrong CRC-8. An incomplete
+/// one was begun, with at least a byte, and the field's header names another place than the run's next one.
 #[derive(Clone, Copy, Debug, PartialEq, Eq)]
 pub struct Fed {
     pub good: usize,
     pub bad: usize,
-    pub torn: usize,
+    pub incomplete: usize,
 }
 
-/// Joins the packets of consecutive data fields (EN 302 307-1, 5.1.4 and 5.1.5).
+/// Joins the packets of consecutive data fields (EN 302 307-1, 5.1.4 and 5.1.5): it reassembles packets.
 ///
-/// It is lost, or inside a run with a part of a packet's body held. A run begins behind the first place
-/// for a CRC-8 of a field that comes while it is lost; it ends at a gap, and where a header names
-/// another place than the run's next one.
+/// It is lost, or inside a run with a part of a packet's body held. If a field comes while it is lost, a run begins
+/// after the field's first place for a CRC-8. A run ends at a gap, and if a header names another place than the run's
+/// next one.
 #[derive(Drop)]
 pub struct Joiner {
     body: [u8; BODY_BYTES],
@@ -42,27 +42,27 @@ impl Model for Joiner {
     ghost invariant = { λ j. j.held ≤ body_bytes };
 }
 
-/// Where a run goes on in a field: behind so many held bytes, from so many of the field's on.
+/// How a run continues in a field: the number of held bytes, and the field's byte from which on it reads.
 #[derive(Clone, Copy)]
 struct Join {
     start: usize,
     from: usize,
 }
 
-// the distance in bits to a run's next place behind so many held bytes, or `NO_PLACE` where it lies past the field
+// the distance in bits to a run's next place after the held bytes, or `NO_SYNCD` if it is past the field
 fn next_place(held: usize, field: &[u8]) -> usize
     requires { held ≤ body_bytes }
-    ensures { result ≡ if nat_lt (body_bytes - held) (length field.now) then 8 * (body_bytes - held) else no_place }
+    ensures { result ≡ if nat_lt (body_bytes - held) (length field.now) then 8 * (body_bytes - held) else no_syncd }
 {
     let to_place = BODY_BYTES - held;
     if to_place < field.len() {
         8 * to_place
     } else {
-        usize::from(NO_PLACE)
+        usize::from(NO_SYNCD)
     }
 }
 
-// how many bodies that were begun are dropped with what is held
+// the number of begun bodies that are dropped with the held bytes
 fn begun_body(inside: bool, held: usize) -> usize
     requires { held ≤ body_bytes }
     ensures is { (body : List ℕ) → length body ≡ body_bytes → result ≡ begun_body (if inside then Some (take held body) else None) }
@@ -71,10 +71,10 @@ fn begun_body(inside: bool, held: usize) -> usize
     if inside && held > 0 { 1 } else { 0 }
 }
 
-// how many bodies that were begun a field drops
-fn torn_by(inside: bool, held: usize, syncd: u16, field: &[u8]) -> usize
+// the number of begun bodies that a field drops
+fn incomplete_by(inside: bool, held: usize, syncd: u16, field: &[u8]) -> usize
     requires { held ≤ body_bytes }
-    ensures is { (body : List ℕ) → length body ≡ body_bytes → result ≡ torn_by (if inside then Some (take held body) else None) syncd field.now }
+    ensures is { (body : List ℕ) → length body ≡ body_bytes → result ≡ incomplete_by (if inside then Some (take held body) else None) syncd field.now }
     ensures few { result ≤ 1 }
 {
     if field.is_empty() || usize::from(syncd) == next_place(held, field) {
@@ -83,12 +83,12 @@ fn torn_by(inside: bool, held: usize, syncd: u16, field: &[u8]) -> usize
     begun_body(inside, held)
 }
 
-// where the run goes on: with the body that is held where `SYNCD` names its next place, else behind the place that it names
+// how the run continues: with the held body if SYNCD names its next place, else after the place that SYNCD names
 fn resumed(was_inside: bool, body: &[u8], held: usize, syncd: u16, field: &[u8]) -> Option<Join>
     requires held { held ≤ body_bytes }
     requires body { length body.now ≡ body_bytes }
     requires some { 0 < length field.now }
-    requires syncd { (syncd ≡ no_place) ⊎ (syncd / 8 < length field.now) }
+    requires syncd { (syncd ≡ no_syncd) ⊎ (syncd / 8 < length field.now) }
     ensures lost { result ≡ None → fed (if was_inside then Some (take held body.now) else None) syncd field.now ≡ still None }
     ensures start { IfSome result (λ r. r.start ≤ body_bytes) }
     ensures from { IfSome result (λ r. r.from ≤ length field.now) }
@@ -100,7 +100,7 @@ fn resumed(was_inside: bool, body: &[u8], held: usize, syncd: u16, field: &[u8])
             from: 0,
         });
     }
-    if syncd == NO_PLACE {
+    if syncd == NO_SYNCD {
         return None;
     }
     Some(Join {
@@ -121,40 +121,40 @@ impl Joiner {
         }
     }
 
-    /// A field may be missing here: the joiner is lost, and the body that it held is dropped. How many bodies with
-    /// at least a byte these are: 1 or 0.
+    /// A field may be missing here: the joiner is lost, and the body that it held is dropped. Returns the number of
+    /// bodies with at least a byte that are dropped: 1 or 0.
     pub fn gap(&mut self) -> usize
         ensures lost { self.new ≡ None }
-        ensures torn { result ≡ begun_body self.old }
+        ensures incomplete { result ≡ begun_body self.old }
         ensures few { result ≤ 1 }
     {
-        let torn = begun_body(self.inside, self.held);
+        let incomplete = begun_body(self.inside, self.held);
         self.inside = false;
-        torn
+        incomplete
     }
 
-    /// Joins a data field on: puts the packets that are whole with it at the front of `packets`, and returns how many
-    /// they are, 188 bytes each, and how many bodies were dropped. `SYNCD` names a byte of the field or is
-    /// [`NO_PLACE`], as [`Header::read`] sees to. [`crate::PACKETS_ROOM`] bytes are room for any field.
+    /// Joins the next data field: writes the packets that it completes at the front of `packets`, 188 bytes each, and
+    /// returns their number and those of the dropped bodies. Unless the field is empty, SYNCD names a byte of it or is
+    /// [`NO_SYNCD`]; [`Header::read`] accepts no other header. [`crate::PACKETS_ROOM`] bytes are room for any field.
     pub fn feed(&mut self, header: &Header, field: &[u8], packets: &mut [u8]) -> Fed
         requires syncd { (length field.now ≡ 0)
-            ⊎ ((header.now.syncd ≡ no_place) ⊎ (header.now.syncd / 8 < length field.now)) }
+            ⊎ ((header.now.syncd ≡ no_syncd) ⊎ (header.now.syncd / 8 < length field.now)) }
         requires room { packets_room (length field.now) ≤ length packets.old }
         ensures held { self.new ≡ (fed self.old header.now.syncd field.now).held }
         ensures packets { take (packet_bytes * result.good) packets.new
             ≡ flat_map (λ packet. packet) (fed self.old header.now.syncd field.now).good }
         ensures good { result.good ≡ length (fed self.old header.now.syncd field.now).good }
         ensures bad { result.bad ≡ (fed self.old header.now.syncd field.now).bad }
-        ensures torn { result.torn ≡ torn_by self.old header.now.syncd field.now }
+        ensures incomplete { result.incomplete ≡ incomplete_by self.old header.now.syncd field.now }
         ensures most { packet_bytes * (result.good + result.bad) ≤ packets_room (length field.now) }
-        ensures few { result.torn ≤ 1 }
+        ensures few { result.incomplete ≤ 1 }
         ensures size { length packets.new ≡ length packets.old }
     {
-        let torn = torn_by(self.inside, self.held, header.syncd, field);
+        let incomplete = incomplete_by(self.inside, self.held, header.syncd, field);
         let nothing = Fed {
             good: 0,
             bad: 0,
-            torn,
+            incomplete,
         };
         if field.is_empty() {
             return nothing;
@@ -177,6 +177,10 @@ impl Joiner {
         );
         self.held = held;
         self.inside = true;
-        Fed { good, bad, torn }
+        Fed {
+            good,
+            bad,
+            incomplete,
+        }
     }
 }

@@ -10,22 +10,22 @@ pub fn remainder()
     ensures { RemainderLaw }
 {}
 
-/// The first fields of a data stream give the packets whose closing CRC-8 lies in them, no other, and tear none;
-/// so all its fields give all its packets.
+/// The first fields of a data stream give exactly the packets whose closing CRC-8 is in them, and none is incomplete.
+/// So all its fields give all its packets.
 pub fn round_trip()
     ensures { RoundTripLaw }
 {}
 
-/// Parts of a data stream, each cut anywhere into data fields whose SYNCD names their first sync place, with
-/// gaps between them, give just the packets that lie whole in one of the parts, and none is bad. So a gap
-/// loses just the packets that reach across it.
+/// Parts of a data stream with gaps between them give exactly the packets that are whole in one of the parts, and none
+/// is bad. Each part is cut anywhere into data fields whose SYNCD names their first sync place. So a gap loses only
+/// the packets that reach across it.
 pub fn gaps()
     ensures given { PartsLaw }
     ensures lost { AcrossLaw }
 {}
 
 /// The numbers of packets and headers that the code works with, [`crate::PACKET_BYTES`],
-/// [`crate::BODY_BYTES`], [`crate::SYNC`], [`crate::PACKET_BITS`], [`crate::NO_PLACE`],
+/// [`crate::BODY_BYTES`], [`crate::SYNC`], [`crate::PACKET_BITS`], [`crate::NO_SYNCD`],
 /// [`crate::MAX_FIELD_BYTES`] and [`crate::PACKETS_ROOM`], are those of the definitions.
 pub fn limits()
     ensures { LimitsLaw }

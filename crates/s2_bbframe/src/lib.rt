@@ -1,14 +1,18 @@
-//! Between packets and data fields with their headers (EN 302 307-1, 5.1): what stands in a baseband
-//! frame, the standard's BBFRAME, before it is scrambled and coded, and how packets come out of it again.
+//! Packets to data fields with their headers, and back (EN 302 307-1, 5.1). A header and its data field are a baseband
+//! frame, the standard's BBFRAME, before padding, scrambling and coding.
 //!
-//! [`crc8`] is the remainder of the bytes' polynomial, which [`laws::remainder`] says of a division. A [`Slicer`] takes packets and gives the
-//! fields of their data stream, each as soon as it is full and the rest after [`Slicer::close`]:
-//! whatever packets came and whatever fields were taken, these together with what it still holds
-//! are the stream. [`Header::write`] writes a field's header (BBHEADER), and [`Header::read`] accepts exactly
-//! the headers of the profile and says why another is refused; what is written is read as it was.
-//! A [`Joiner`] takes delivered fields and puts their packets into a buffer of the caller's; [`laws::round_trip`] says that the first
-//! fields of a stream give just the packets whose CRC-8 lies in them, and [`laws::gaps`] that fields cut
-//! anywhere do, and that a gap loses just the packets that reach across it. Only [`Slicer::new`] takes memory.
+//! [`crc8`] is the remainder of the bytes' polynomial; [`laws::remainder`] says so of a division.
+//!
+//! A [`Slicer`] takes packets and gives the fields of their data stream: each as soon as it is full, and the last one
+//! after [`Slicer::close`]. After any packets and fields, the taken fields and the bytes that it still holds are the
+//! stream.
+//!
+//! [`Header::write`] writes a field's header, the BBHEADER. [`Header::read`] accepts exactly the headers of the
+//! profile, and returns why it refuses another. A written header is read unchanged.
+//!
+//! A [`Joiner`] reassembles the packets of delivered fields in the caller's buffer. [`laws::round_trip`] says that the
+//! first fields of a stream give exactly the packets whose CRC-8 is in them. [`laws::gaps`] says the same of fields cut
+//! anywhere, and that a gap loses only the packets that reach across it. Only [`Slicer::new`] takes memory.
 //!
 //! ```
 //! let mut slicer = Slicer::new(alloc, mode)?;
@@ -17,7 +21,7 @@
 //! let header = slicer.take(0, &mut field)?;
 //! header.write(&mut bytes);
 //! assert_eq!(Header::read(&bytes, mode), Ok(header));
-//! let Fed { good, bad, torn } = Joiner::new().feed(&header, &field, &mut packets);
+//! let Fed { good, bad, incomplete } = Joiner::new().feed(&header, &field, &mut packets);
 //! out.write(&packets[..good * PACKET_BYTES])?;
 //! ```
 #![tactic(auto)]
@@ -35,6 +39,6 @@ pub use crc::crc8;
 pub use header::{Header, HeaderFault};
 pub use joiner::{Fed, Joiner};
 pub use limits::{
-    BODY_BYTES, MAX_FIELD_BYTES, NO_PLACE, PACKET_BITS, PACKET_BYTES, PACKETS_ROOM, SYNC,
+    BODY_BYTES, MAX_FIELD_BYTES, NO_SYNCD, PACKET_BITS, PACKET_BYTES, PACKETS_ROOM, SYNC,
 };
 pub use slicer::{NoSync, Slicer, field_bytes};

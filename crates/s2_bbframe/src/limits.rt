@@ -1,9 +1,9 @@
-//! The numbers of packets and of their fields' headers, each here alone.
+//! The constants of packets and of their fields' headers.
 
 /// The bytes of a packet (ISO/IEC 13818-1).
 pub const PACKET_BYTES: usize = 188;
 
-/// The bytes of a packet's body, behind its sync byte.
+/// The bytes of a packet's body, after its sync byte.
 pub const BODY_BYTES: usize = 187;
 
 /// The sync byte, with which a packet begins: SYNC of a header.
@@ -12,8 +12,8 @@ pub const SYNC: u8 = 0x47;
 /// The bits of a packet: UPL of a header.
 pub const PACKET_BITS: u16 = 1504;
 
-/// SYNCD of a header in whose field no place for a CRC-8 lies.
-pub const NO_PLACE: u16 = 65535;
+/// SYNCD of a header whose field has no place for a CRC-8.
+pub const NO_SYNCD: u16 = 65535;
 
 /// The most bytes of a data field, since DFL of a header is a number of bits below 2^16.
 pub const MAX_FIELD_BYTES: usize = 8191;

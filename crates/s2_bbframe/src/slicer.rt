@@ -79,8 +79,8 @@ impl Slicer {
     ghost use Rattle.s2_mode.specs.Mode.{Mode as ModeValue};
     ghost use Rattle.s2_bbframe.specs.Headers.{has_valid_lengths};
 
-    /// A slicer of fields of Kbch - 80 bits, with room for all that it will hold. Fails only where
-    /// there is no memory.
+    /// A slicer of fields of Kbch - 80 bits, with room for all that it will hold. Fails only if
+    /// memory is refused.
     pub fn new(alloc: Global, mode: Mode) -> Result<Slicer, AllocError>
         ensures begins { IfOk result (λ s. s ≡ starting (field_bytes mode)) }
         ensures stream { IfOk result (Sliced [] []) }
@@ -134,14 +134,14 @@ impl Slicer {
         Ok(())
     }
 
-    /// No packet comes any more.
+    /// Ends the stream: no packet follows.
     pub fn close(&mut self)
         ensures { self.new ≡ record self.old { closed = true } }
     {
         self.closed = true;
     }
 
-    /// As when made: a new stream begins.
+    /// Begins a new stream, as a new slicer does.
     pub fn restart(&mut self)
         ensures begins { self.new ≡ starting self.old.size }
         ensures stream { Sliced [] [] self.new }
@@ -152,9 +152,9 @@ impl Slicer {
         self.closed = false;
     }
 
-    /// Takes the next field into the first `dfl / 8` bytes of `field`, which has [`Slicer::size`]
-    /// bytes, and leaves the others. `None` where no field can be taken. [`Header::read`] accepts the lengths of each header: a place for
-    /// a CRC-8 lies in every field.
+    /// Takes the next field into the first `dfl / 8` bytes of `field`, which has [`Slicer::size`] bytes; the others are
+    /// unchanged. Returns `None` if no field can be taken. [`Header::read`] accepts the lengths of each header: every
+    /// field has a place for a CRC-8.
     pub fn take(&mut self, roll_off: u8, field: &mut [u8]) -> Option<Header>
         requires { length field.old ≡ self.old.size }
         ensures ready { IsSome result ↔ IsReady self.old }

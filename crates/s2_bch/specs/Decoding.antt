@@ -1,5 +1,5 @@
--- BCH decoding as a function (EN 302 307-1, 5.3.1): which word of the code, if any, lies within t places of some bits. It is
--- the answer that a decoder owes, and goes through all words of the code, so nobody computes it.
+-- BCH decoding as a function (EN 302 307-1, 5.3.1): the codeword within t places of some bits, if there is one. It is
+-- what a decoder must return. It goes through all codewords, so nobody computes it.
 use Rattle.std.specs.Prelude.{ℕ, zero, suc, nat_le, Bool, true, false, List, [], ◌∷◌, ◌++◌, map, length, Option}
 use Rattle.std.specs.List.{find}
 use Rattle.s2_bits.specs.Bits.{differences}

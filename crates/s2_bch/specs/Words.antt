@@ -1,5 +1,5 @@
 -- Words of bits as polynomials, the first bit the highest power (EN 302 307-1, 5.3.1): products, multiples, and
--- division by a register..
+-- division by a register.
 use Rattle.std.specs.Prelude.{ℕ, ◌≡◌, ◌+◌, ◌-◌, Bool, false, ◌&&◌, List, [], ◌∷◌, ◌++◌, length, take, replicate}
 use Rattle.s2_bits.specs.Bits.{xor, added}
 

@@ -8,8 +8,8 @@ ghost use Rattle.s2_bch.specs.Ready.{IsWorkspace};
 ghost use Rattle.s2_bch.specs.Codes.{IsBchWord, IsBchWordOf, IsWithin};
 ghost use Rattle.s2_bch.specs.Decoding.{nearest};
 
+use crate::corrector::FieldWorkspace;
 use crate::divider::{encode_into, rest, table_of};
-use crate::find::FieldWorkspace;
 use crate::register::Register;
 use s2_bits::Bits;
 use s2_field::{Gf14, Gf16};
@@ -17,7 +17,7 @@ use s2_mode::Mode;
 use std::alloc::{AllocError, Global};
 use std::marker::Model;
 
-/// The places of errors are found over one of two fields.
+/// The workspace to find errors, over one of the two fields.
 #[derive(Drop)]
 pub(crate) enum Workspace {
     Normal(FieldWorkspace<Gf16>),
@@ -60,7 +60,7 @@ impl Model for Bch {
 
 impl Bch {
     /// The BCH code of a mode (EN 302 307-1, 5.3.1), with all the memory that its calls use.
-    /// `AllocError` where a growth was refused; then nothing is kept.
+    /// Returns `AllocError` if memory is refused; then none is held.
     pub fn new(alloc: Global, mode: Mode) -> Result<Bch, AllocError>
         ensures { IfOk result (λ b. b ≡ mode) }
     {
@@ -79,9 +79,9 @@ impl Bch {
         })
     }
 
-    /// Puts the code's word for a message into `word`: the message, then its parity bits, each first
-    /// bit the highest power of x (EN 302 307-1, 5.3.1). The message has Kbch bits (`Mode::kbch`), the
-    /// word Nbch (`Mode::k`). What the word held before is lost.
+    /// Writes the codeword of a message: the message, then its parity bits. The first bit of each
+    /// is the highest power of x (EN 302 307-1, 5.3.1). The message has Kbch bits (`Mode::kbch`),
+    /// the word Nbch (`Mode::k`). The old bits of the word are lost.
     pub fn encode_into(&self, message: &Bits, word: &mut Bits)
         requires message { length message.now ≡ kbch_of self.now }
         requires word { length word.old ≡ k_of self.now }
@@ -91,9 +91,9 @@ impl Bch {
         encode_into(&self.table, message.truths(), word.truths_mut());
     }
 
-    /// Changes a word of Nbch bits (`Mode::k`) into the code's word (EN 302 307-1, 5.3.1) that differs
-    /// from it in at most t places (`Mode::t`), and answers in how many it differed: 0 for a word of
-    /// the code. `None` where no word of the code is so near: every bit is as it was.
+    /// Replaces a word of Nbch bits (`Mode::k`) by the codeword (EN 302 307-1, 5.3.1) that differs
+    /// from it in at most t places (`Mode::t`). Returns the number of these places: 0 for a
+    /// codeword. `None` if there is no such codeword: then the word is unchanged.
     pub fn decode_in_place(&mut self, word: &mut Bits) -> Option<u32>
         requires { length word.old ≡ k_of self.old }
         ensures same { self.new ≡ self.old }
@@ -142,7 +142,7 @@ fn correct_bits(
     decode(mode, table, workspace, word.truths_mut(), bits, candidate)
 }
 
-/// Leaves a word of the code as it is, which costs one division, and corrects any other.
+/// Keeps a codeword, which costs one division, and corrects any other word.
 fn decode(
     mode: Mode,
     table: &[Register],
@@ -172,9 +172,14 @@ fn decode(
     correct(mode, table, workspace, word, bits, candidate)
 }
 
-/// Flips, in a copy of the word, the only places whose change can make it a word of the code, t at
-/// most, and answers how many they are. `rest` is what its division leaves.
-fn flip_near(workspace: &mut Workspace, mode: Mode, rest: &[bool], candidate: &mut [bool]) -> usize
+/// Flips bits in a copy of the word: the only ones whose change can make it a codeword, at most t.
+/// Returns their number. `rest` is the remainder of its division.
+fn correct_errors(
+    workspace: &mut Workspace,
+    mode: Mode,
+    rest: &[bool],
+    candidate: &mut [bool],
+) -> usize
     requires valid { IsMode mode }
     requires sizes { HasCodeSizes mode }
     requires workspace { IsWorkspace mode workspace.old }
@@ -186,8 +191,8 @@ fn flip_near(workspace: &mut Workspace, mode: Mode, rest: &[bool], candidate: &m
     ensures only { (v : List Bool) → IsBchWord mode v → differences (length candidate.old) candidate.old v ≤ t_of mode → candidate.new ≡ v }
 {
     match workspace {
-        Workspace::Normal(workspace) => workspace.flip_near(rest, candidate),
-        Workspace::Short(workspace) => workspace.flip_near(rest, candidate),
+        Workspace::Normal(workspace) => workspace.correct_errors(rest, candidate),
+        Workspace::Short(workspace) => workspace.correct_errors(rest, candidate),
     }
 }
 
@@ -213,7 +218,7 @@ fn correct(
     ensures unchanged { IfNone result (word.new ≡ word.old) }
 {
     candidate.copy_from_slice(word);
-    let count = flip_near(workspace, mode, bits, candidate);
+    let count = correct_errors(workspace, mode, bits, candidate);
     if count > mode.t() {
         return None;
     }

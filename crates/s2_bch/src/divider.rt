@@ -1,5 +1,4 @@
-//! Division by the generator, a block of 64 bits a step, and what is left of the message eight bits a
-//! step.
+//! Division by the generator: blocks of 64 bits, then the last bits of the message eight at a time.
 ghost use Rattle.std.specs.Prelude.{◌≡◌, ◌+◌, ◌*◌, ◌/◌, ◌-◌, ◌^◌, ◌<◌, ◌≤◌, ◌∷◌, ℕ, List, Bool, true, false, bit_xor, drop, length, take, replicate, slice_index_or, IfOk};
 ghost use Rattle.s2_mode.specs.Mode.{Mode as ModeValue};
 ghost use Rattle.s2_bits.specs.Bits.{number_of};
@@ -83,7 +82,7 @@ fn block_at(bits: &[bool], at: usize) -> u64
     (u64::from(half_at(bits, at)) << 32) + u64::from(half_at(bits, at + 32))
 }
 
-/// What two bytes at the top of a register leave, where `behind` more bytes follow them.
+/// What two bytes at the top of a register leave, with `behind` more bytes after them.
 #[inline(always)]
 fn carried_by_pair(table: &[Register], behind: usize, pair: u16) -> Register
     requires table { length table.now ≡ 2048 }
@@ -96,7 +95,7 @@ fn carried_by_pair(table: &[Register], behind: usize, pair: u16) -> Register
     table[256 * (behind + 1) + first].plus(table[256 * behind + second])
 }
 
-/// What four bytes at the top of a register leave, where `behind` more bytes follow them.
+/// What four bytes at the top of a register leave, with `behind` more bytes after them.
 #[inline(always)]
 fn carried_by_half(table: &[Register], behind: usize, half: u32) -> Register
     requires table { length table.now ≡ 2048 }

@@ -1,4 +1,4 @@
-//! The terms of a polynomial at as many elements as there are lanes, so that they move on together.
+//! The terms of a polynomial at 16 elements at a time, one lane each.
 ghost use Rattle.std.specs.Prelude.{◌≡◌, ◌≢◌, ◌<◌, ◌≤◌, ◌+◌, ◌*◌, ℕ, List, false, length, slice_index_or};
 ghost use Rattle.s2_field.specs.Polynomials.{pow, eval};
 ghost use Rattle.s2_bch.specs.Terms.{AreTerms};

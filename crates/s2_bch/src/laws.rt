@@ -50,8 +50,8 @@ pub fn distance(mode: Mode)
     let _ = mode.t();
 }
 
-/// Decoding is a function: the nearest word of Nbch bits is the one word of the code that differs
-/// from them in at most t places, and it is missing exactly where no word of the code is so near.
+/// Decoding is a function. The nearest word of Nbch bits is the one codeword that differs from them
+/// in at most t places. It is `None` exactly if there is no such codeword.
 pub fn nearest(mode: Mode)
     ensures some { (r v : List Bool) → length r ≡ k_of mode → (nearest mode r ≡ Some v ↔ IsWithin mode r v) }
     ensures none { (r : List Bool) → length r ≡ k_of mode

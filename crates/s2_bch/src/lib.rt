@@ -1,15 +1,18 @@
 //! The BCH codes of all modes (EN 302 307-1, 5.3.1): encoder, and decoder to the full radius.
 //!
-//! A word is a list of Nbch bits, whether it is one of the code or not; those that are, are words of
-//! the code.
+//! A word is a list of Nbch bits. A codeword, or word of the code, is one that the encoder can
+//! make.
 //!
-//! The transmitter encodes each baseband frame here before the LDPC code; the receiver decodes the
-//! first Nbch decided bits. Promised: `Bch::encode_into` leaves the only word of the code that
-//! begins with the message. `Bch::decode_in_place` answers `Some(c)` exactly where some word of the
-//! code differs from the argument in at most t places: that word is the only one, and is what is
-//! left, at distance c. `None` leaves every bit as it was. `laws` has what holds of the codes
-//! themselves: their generators, that a message has one word, their roots, how far words are apart,
-//! and that decoding is a function: the nearest word. Only `Bch::new` takes memory.
+//! The transmitter encodes each BBFRAME here before the LDPC code. The receiver decodes the first
+//! Nbch decided bits. `Bch::encode_into` makes the only codeword that begins with the message.
+//! `Bch::decode_in_place` returns `Some(c)` exactly if a codeword differs from the argument in at
+//! most t places. It is the only one, c is its distance, and it replaces the argument. After `None`
+//! every bit is unchanged. `laws` states properties of the codes: their generators and roots, and
+//! that codewords are more than 2t apart. A message has one codeword, and decoding is a function:
+//! the nearest word. Only `Bch::new` takes memory.
+//!
+//! The decoder is the usual one: syndromes of the remainder, the Berlekamp-Massey algorithm for the
+//! error locator polynomial, and a Chien search for its roots.
 //!
 //! ```
 //! let mut bch = Bch::new(alloc, mode)?;
@@ -19,13 +22,14 @@
 #![tactic(auto)]
 
 mod bch;
+mod berlekamp_massey;
+mod chien;
+mod corrector;
 mod divider;
-mod find;
 mod generators;
 mod lanes;
 pub mod laws;
-mod locate;
 mod register;
-mod search;
+mod syndromes;
 
 pub use bch::Bch;

@@ -4,8 +4,8 @@ ghost use Rattle.s2_field.specs.Binary.{times_x};
 ghost use Rattle.s2_bits.specs.Bits.{number};
 ghost use Rattle.s2_bch.specs.Registers.{value_of, Holds};
 
-/// A register of 192 bits, in three blocks of 64. Fewer bits stand at the top, and zeros follow, so
-/// that all generators are divided by alike.
+/// A register of 192 bits, in three blocks of 64. Fewer bits are at the top, followed by zeros, so
+/// that all generators are divided by in the same way.
 #[derive(Clone, Copy, Drop)]
 pub(crate) struct Register {
     pub(crate) high: u64,

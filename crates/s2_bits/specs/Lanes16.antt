@@ -7,7 +7,7 @@ use mir.Syntax.{w16}
 abbrev pub signed16 : ℕ → ℤ
 signed16 v = cast_signed w16 v
 
--- the difference of words, and their sum
+-- the difference of two words, modulo 2^16
 abbrev pub minus16 : ℕ → ℕ → ℕ
 minus16 a b = (a + (65536 - b)) % 65536
 
@@ -15,9 +15,9 @@ minus16 a b = (a + (65536 - b)) % 65536
 abbrev pub plus16 : ℕ → ℕ → ℕ
 plus16 a b = (a + b) % 65536
 
--- how far a word's number is from 0
-abbrev pub size16 : ℕ → ℕ
-size16 v = min v (minus16 0 v)
+-- the magnitude of a word's number
+abbrev pub magnitude16 : ℕ → ℕ
+magnitude16 v = min v (minus16 0 v)
 
 -- 1 if a word's number is negative, else 0
 abbrev pub sign16 : ℕ → ℕ

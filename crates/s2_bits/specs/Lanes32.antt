@@ -1,7 +1,7 @@
 -- Words of 32 bits, as lanes hold them (own).
 use Rattle.std.specs.Prelude.{ℕ, ◌+◌, ◌-◌, ◌%◌}
 
--- the difference of words, and their sum
+-- the difference of two words, modulo 2^32
 abbrev pub minus32 : ℕ → ℕ → ℕ
 minus32 a b = (a + (4294967296 - b)) % 4294967296
 

@@ -1,6 +1,6 @@
 pub mod Bits
 pub mod Lending
-pub mod Turns
+pub mod Rotations
 pub mod Lanes
 pub mod Lanes16
 pub mod Lanes32

@@ -23,7 +23,7 @@ impl Model for Bits {
 }
 
 impl Bits {
-    /// A list of `len` zeros. `AllocError` where memory is refused.
+    /// A list of `len` zeros. `AllocError` if memory is refused.
     pub fn zeroed(alloc: Global, len: usize) -> Result<Bits, AllocError>
         ensures { IfOk result (λ b. b ≡ replicate len false) }
     {
@@ -31,8 +31,8 @@ impl Bits {
         Ok(Bits { truths })
     }
 
-    /// The first `len` bits of these bytes, each byte's highest bit first; there are at least `len`
-    /// bits in them. `AllocError` where memory is refused.
+    /// The first `len` bits of these bytes, each byte's highest bit first. The bytes have at least `len` bits.
+    /// `AllocError` if memory is refused.
     pub fn from_bytes(alloc: Global, bytes: &[u8], len: usize) -> Result<Bits, AllocError>
         requires { len ≤ 8 * length bytes.now }
         ensures { IfOk result (λ b. (length b ≡ len) × ((k : ℕ) → k < len → bit_at b k ≡ bit_of_bytes bytes.now k)) }
@@ -81,7 +81,7 @@ impl Bits {
         self.truths[i]
     }
 
-    /// Makes bit i, counted from 0, this one. All others stay.
+    /// Sets bit i, counted from 0. All others are unchanged.
     pub fn set(&mut self, i: usize, bit: bool)
         requires { i < length self.old }
         ensures { self.new ≡ slice_set self.old i bit }
@@ -96,7 +96,7 @@ impl Bits {
         bools::count_ones(&self.truths)
     }
 
-    /// At how many places two lists of the same length differ.
+    /// The number of places at which two lists of the same length differ (Hamming distance).
     pub fn distance(&self, other: &Bits) -> usize
         requires { length other.now ≡ length self.now }
         ensures { result ≡ differences (length self.now) self.now other.now }
@@ -104,8 +104,8 @@ impl Bits {
         bools::distance(&self.truths, &other.truths)
     }
 
-    /// Adds the other's first `len` bits modulo 2 to the first `len` bits, and leaves the rest. Both
-    /// lists have at least `len` bits.
+    /// Adds the other's first `len` bits modulo 2 to the first `len` bits. All others are unchanged. Both lists have at
+    /// least `len` bits.
     pub fn xor_prefix(&mut self, other: &Bits, len: usize)
         requires mine { len ≤ length self.old }
         requires theirs { len ≤ length other.now }
@@ -114,8 +114,8 @@ impl Bits {
         bools::xor_first(&mut self.truths, &other.truths, len);
     }
 
-    /// Copies the other's first `len` bits over the first `len` bits, and leaves the rest. Both lists
-    /// have at least `len` bits.
+    /// Copies the other's first `len` bits over the first `len` bits. All others are unchanged. Both lists have at
+    /// least `len` bits.
     pub fn copy_prefix(&mut self, other: &Bits, len: usize)
         requires mine { len ≤ length self.old }
         requires theirs { len ≤ length other.now }

@@ -2,7 +2,7 @@
 ghost use Rattle.std.specs.Prelude.{◌≡◌, ℕ, ◌<◌, ◌≤◌, false, length, count_by};
 ghost use Rattle.s2_bits.specs.Bits.{xor, bit_at, differences, Rewritten};
 
-/// Adds the first bits of one list to those of another, and leaves its others.
+/// Adds the first bits of one list to those of another, whose other bits are unchanged.
 pub fn xor_first(to: &mut [bool], from: &[bool], len: usize)
     requires room { len ≤ length to.old }
     requires enough { len ≤ length from.now }

@@ -1,7 +1,7 @@
 //! Words of 16 bits in two's complement, eight at a time.
 ghost use Rattle.std.specs.Prelude.{min, ◌==◌, if◌then◌else◌};
 ghost use Rattle.s2_bits.specs.Lanes.{HasLanes, lane};
-ghost use Rattle.s2_bits.specs.Lanes16.{minus16, sign16, size16};
+ghost use Rattle.s2_bits.specs.Lanes16.{magnitude16, minus16, sign16};
 
 use std::simd::prelude::*;
 
@@ -13,7 +13,7 @@ pub fn all(x: u16) -> u16x8
     u16x8::splat(x)
 }
 
-/// The lesser of two words, taken without a sign.
+/// The lesser of two words, as unsigned numbers.
 #[inline(always)]
 pub fn least(a: u16x8, b: u16x8) -> u16x8
     ensures { HasLanes 8 (λ k. min (lane a k) (lane b k)) result }
@@ -21,7 +21,7 @@ pub fn least(a: u16x8, b: u16x8) -> u16x8
     a.simd_min(b)
 }
 
-/// Differences of words. They wrap.
+/// Differences of words, modulo 2^16.
 #[inline(always)]
 pub fn minus(a: u16x8, b: u16x8) -> u16x8
     ensures { HasLanes 8 (λ k. minus16 (lane a k) (lane b k)) result }
@@ -29,7 +29,7 @@ pub fn minus(a: u16x8, b: u16x8) -> u16x8
     a - b
 }
 
-/// 1 where a word is negative, else 0.
+/// 1 if a word is negative, else 0.
 #[inline(always)]
 pub fn sign(a: u16x8) -> u16x8
     ensures { HasLanes 8 (λ k. sign16 (lane a k)) result }
@@ -37,7 +37,7 @@ pub fn sign(a: u16x8) -> u16x8
     a / u16x8::splat(32768)
 }
 
-/// x where a is b, else y.
+/// x if a equals b, else y, lane by lane.
 #[inline(always)]
 pub fn where_same(a: u16x8, b: u16x8, x: u16x8, y: u16x8) -> u16x8
     ensures { HasLanes 8 (λ k. if lane a k == lane b k then lane x k else lane y k) result }
@@ -45,10 +45,10 @@ pub fn where_same(a: u16x8, b: u16x8, x: u16x8, y: u16x8) -> u16x8
     a.simd_eq(b).select(x, y)
 }
 
-/// How far words are from 0.
+/// The magnitudes of words.
 #[inline(always)]
-pub fn size(v: u16x8) -> u16x8
-    ensures { HasLanes 8 (λ k. size16 (lane v k)) result }
+pub fn magnitude(v: u16x8) -> u16x8
+    ensures { HasLanes 8 (λ k. magnitude16 (lane v k)) result }
 {
     least(v, minus(all(0), v))
 }

@@ -22,7 +22,7 @@ pub fn load(s: &[u32], at: usize) -> u32x4
     u32x4::from_slice(&s[at..])
 }
 
-/// The lesser of two words, taken without a sign.
+/// The lesser of two words, as unsigned numbers.
 #[inline(always)]
 pub fn least(a: u32x4, b: u32x4) -> u32x4
     ensures { HasLanes 4 (λ k. min (lane a k) (lane b k)) result }
@@ -30,7 +30,7 @@ pub fn least(a: u32x4, b: u32x4) -> u32x4
     a.simd_min(b)
 }
 
-/// The greater of two words, taken without a sign.
+/// The greater of two words, as unsigned numbers.
 #[inline(always)]
 pub fn most(a: u32x4, b: u32x4) -> u32x4
     ensures { HasLanes 4 (λ k. max (lane a k) (lane b k)) result }
@@ -38,7 +38,7 @@ pub fn most(a: u32x4, b: u32x4) -> u32x4
     a.simd_max(b)
 }
 
-/// Differences of words. They wrap.
+/// Differences of words, modulo 2^32.
 #[inline(always)]
 pub fn minus(a: u32x4, b: u32x4) -> u32x4
     ensures { HasLanes 4 (λ k. minus32 (lane a k) (lane b k)) result }
@@ -46,7 +46,7 @@ pub fn minus(a: u32x4, b: u32x4) -> u32x4
     a - b
 }
 
-/// Sums of words. They wrap.
+/// Sums of words, modulo 2^32.
 #[inline(always)]
 pub fn plus(a: u32x4, b: u32x4) -> u32x4
     ensures { HasLanes 4 (λ k. plus32 (lane a k) (lane b k)) result }
@@ -54,7 +54,7 @@ pub fn plus(a: u32x4, b: u32x4) -> u32x4
     a + b
 }
 
-/// x where a is b, else y.
+/// x if a equals b, else y, lane by lane.
 #[inline(always)]
 pub fn where_same(a: u32x4, b: u32x4, x: u32x4, y: u32x4) -> u32x4
     ensures { HasLanes 4 (λ k. if lane a k == lane b k then lane x k else lane y k) result }

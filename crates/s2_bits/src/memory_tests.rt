@@ -1,5 +1,5 @@
-//! Each call that takes memory, where memory may be refused once: then it says so, and the same call
-//! again answers.
+//! Each call that allocates. If an allocation is refused it returns a fault, and the same call then
+//! succeeds.
 use crate::Bits;
 use std::alloc::{AllocError, Global};
 use std::test::Fail;

@@ -77,7 +77,7 @@ pub fn byte_at(bits: &[bool], at: usize) -> u8
     (digits.wrapping_mul(0x8040201008040201) >> 56) as u8
 }
 
-/// Writes so many of the bytes that bits spell, from byte `first` on.
+/// Writes `count` of the bytes that bits spell, from byte `first` on.
 pub fn bytes_from(bits: &[bool], first: usize, count: usize, bytes: &mut [u8])
     requires bits { 8 * (first + count) ≤ length bits.now }
     requires room { count ≤ length bytes.old }

@@ -17,7 +17,7 @@ use Rattle.s2_certfile.proofs.ByteBits.{bit_back}
 use Rattle.s2_certfile.specs.declared.step.Move.{Move}
 use Rattle.s2_certfile.specs.declared.version.Version.{Version}
 use Rattle.s2_certfile.specs.declared.version.Version.TheVariants as versions
-use Rattle.s2_certfile.specs.declared.header.Header.{Header}
+use Rattle.s2_certfile.specs.declared.header.FileHeader.{FileHeader}
 use Rattle.s2_mode.specs.Shape.{code_bits}
 use Rattle.s2_certfile.specs.File.{IsMove, IsSoft, Split, Listed, Moved}
 use Rattle.s2_certfile.specs.Field.{Field, IsField, number, places, both, many, bytes_of_bits, bit_list, entry}
@@ -185,11 +185,11 @@ split_is v n = record { long = split_long v n; passes = split_passes v n; back =
 
 -- ---- the body
 
-abbrev pub IsBody : Header → List ℤ × (List Bool × Split) → Type 0
+abbrev pub IsBody : FileHeader → List ℤ × (List Bool × Split) → Type 0
 IsBody h x =
     ((length x.0 ≡ code_bits h.shape) × All IsSoft x.0) × ((length x.1.0 ≡ code_bits h.shape) × IsOf h.version h.count x.1.1)
 
-pub body_is : (h : Header) → IsField (body h) (IsBody h)
+pub body_is : (h : FileHeader) → IsField (body h) (IsBody h)
 body_is h =
     let n = code_bits h.shape in
     both_are (many n soft) (both (bit_list n) (split h.version h.count)) (λ x. (length x ≡ n) × All IsSoft x) (λ x. (length x.0 ≡ n) × IsOf h.version h.count x.1) (many_are n soft IsSoft soft_is) (both_are (bit_list n) (split h.version h.count) (λ b. length b ≡ n) (IsOf h.version h.count) (bit_list_is n) (split_is h.version h.count))

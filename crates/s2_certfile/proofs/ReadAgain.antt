@@ -8,7 +8,7 @@ use Rattle.s2_mode.specs.Shape.{Shape, IsShape}
 use Rattle.s2_certfile.specs.Limits.{max_scale, max_shares}
 use Rattle.s2_certfile.specs.declared.fault.CertFault.TheVariants as faults
 use Rattle.s2_certfile.proofs.ShapeTests.{shape_passes}
-use Rattle.s2_certfile.specs.declared.header.Header.{Header}
+use Rattle.s2_certfile.specs.declared.header.FileHeader.{FileHeader}
 use Rattle.s2_certfile.specs.declared.version.Version.{Version}
 use Rattle.s2_certfile.specs.declared.version.Version.TheVariants as versions
 use Rattle.s2_certfile.specs.File.{File, Split, Listed, Moved, IsFile, IsSplit}
@@ -29,7 +29,7 @@ count_again versions.Moved s n rest h few = ap (λ k. Ok (k, rest)) (sym h)
 count_again versions.Listed s n rest h few = number_again w32 n rest refl (from_be_bytes-to_be_bytes_4 n (omega (arith, few)))
 
 -- what follows the front
-abbrev numbers : Header → List ℕ → List ℕ
+abbrev numbers : FileHeader → List ℕ → List ℕ
 numbers h rest =
     to_be_bytes w16 h.shape.group ++ (to_be_bytes w16 h.shape.groups ++ (to_be_bytes w16 h.shape.q ++ (to_be_bytes w16 h.scale ++ (count_bytes h.version h.count ++ rest))))
 
@@ -44,13 +44,13 @@ shape_small s h =
     let whole : 1 * (s.groups + s.q) ≤ s.group * (s.groups + s.q) = mul-le-mul h.group_some same in
     (omega (arith, h.group_most), omega (arith, whole, h.few), omega (arith, whole, h.few))
 
-ranged_again : (h : Header) (rest : List ℕ) → IsHeader h → ranged h rest ≡ Ok (h, rest)
+ranged_again : (h : FileHeader) (rest : List ℕ) → IsHeader h → ranged h rest ≡ Ok (h, rest)
 ranged_again h rest p =
     let shape : is_shape h.shape ≡ true = shape_passes h.shape p.shaped in
     let range : is_ranged h ≡ true = and_from _ _ (le-leb 1 h.scale p.scale_some) (and_from _ _ (le-leb h.scale max_scale p.scale_most) (le-leb h.count max_shares p.few)) in
     ap (λ b. demand b faults.Shape (demand (is_ranged h) faults.Range (Ok (h, rest)))) shape ∙ ap (λ b. demand b faults.Range (Ok (h, rest))) range
 
-header_again : (h : Header) (rest : List ℕ) → IsHeader h → header_at h.version (numbers h rest) ≡ Ok (h, rest)
+header_again : (h : FileHeader) (rest : List ℕ) → IsHeader h → header_at h.version (numbers h rest) ≡ Ok (h, rest)
 unfolding header_at
 header_again h rest p =
     let small = shape_small h.shape p.shaped in
@@ -60,7 +60,7 @@ header_again h rest p =
     let t1 = to_be_bytes w16 h.shape.groups ++ t2 in
     rw (two_again h.shape.group t1 small.0, two_again h.shape.groups t2 small.1, two_again h.shape.q t3 small.2, two_again h.scale tail (omega (arith, p.scale_most)), count_again h.version h.shape h.count rest p.counted p.few) (ranged_again h rest p)
 
-body_again : (h : Header) (x : List ℤ × (List Bool × Split)) → IsBody h x → body_at h ((body h).bytes x) ≡ Ok (file_of h x)
+body_again : (h : FileHeader) (x : List ℤ × (List Bool × Split)) → IsBody h x → body_at h ((body h).bytes x) ≡ Ok (file_of h x)
 body_again h x p =
     let b = body_is h in
     body_accepted h ((body h).bytes x) (b.long x p) (b.passes x p) ∙ ap (λ y. Ok (file_of h y)) (b.back x p)

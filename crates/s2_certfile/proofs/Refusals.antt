@@ -5,7 +5,7 @@ use Rattle.std.specs.Int.{Width, w16, w32, byte_len}
 use Rattle.s2_mode.specs.Shape.{Shape, shape_of}
 use Rattle.s2_certfile.specs.declared.fault.CertFault.{CertFault}
 use Rattle.s2_certfile.specs.declared.fault.CertFault.TheVariants as faults
-use Rattle.s2_certfile.specs.declared.header.Header.{Header}
+use Rattle.s2_certfile.specs.declared.header.FileHeader.{FileHeader}
 use Rattle.s2_certfile.specs.declared.version.Version.{Version}
 use Rattle.s2_certfile.specs.declared.version.Version.TheVariants as versions
 use Rattle.s2_certfile.specs.File.{File}
@@ -49,7 +49,7 @@ count_none : (v : Version) (s : Shape) (bytes : List ℕ) → WantsNone (count_a
 count_none versions.Listed s bytes = number_none w32 bytes
 count_none versions.Moved s bytes = tt
 
-ranged_none : (h : Header) (rest : List ℕ) → WantsNone (ranged h rest)
+ranged_none : (h : FileHeader) (rest : List ℕ) → WantsNone (ranged h rest)
 ranged_none h rest =
     either_none (is_shape h.shape) (demand (is_ranged h) faults.Range (Ok (h, rest))) (Err faults.Shape) (either_none (is_ranged h) (Ok (h, rest)) (Err faults.Range) tt tt) tt
 

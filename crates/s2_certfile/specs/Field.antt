@@ -1,5 +1,5 @@
--- Fields of a file (own): how many bytes a field has, the test that they meet, the value that they hold, and the bytes
--- of a value..
+-- Fields of a file (own): the number of a field's bytes, the test that they pass, the value that they hold, and the
+-- bytes of a value.
 use Rattle.std.specs.Prelude.{◌≡◌, ℕ, ◌+◌, ◌-◌, ◌*◌, ◌/◌, ◌&&◌, not, Bool, true, List, ◌++◌, length, map, take, drop, ℤ}
 use Rattle.std.specs.Int.{Width, byte_len, from_be_bytes, to_be_bytes, cast_signed, cast_unsigned}
 use Rattle.std.specs.List.{list_all, flat_map, range_with_len}

@@ -1,4 +1,4 @@
--- What a certificate file says (own).
+-- The contents of a certificate file (own).
 use Rattle.std.specs.Prelude.{◌≡◌, ℕ, ◌<◌, ◌≤◌, List, Bool, length, All, FitsSigned, ℤ, pos, neg_ℤ, ◌≤ℤ◌}
 use Rattle.std.specs.Int.{w32}
 use Rattle.s2_mode.specs.Shape.{Shape, IsShape, check_count, code_bits}

@@ -8,7 +8,7 @@ use Rattle.s2_mode.specs.Limits.{max_bits, max_group}
 use Rattle.s2_rows.specs.Values.{is_value}
 use Rattle.s2_certfile.specs.declared.fault.CertFault.{CertFault}
 use Rattle.s2_certfile.specs.declared.fault.CertFault.TheVariants as faults
-use Rattle.s2_certfile.specs.declared.header.Header.{Header}
+use Rattle.s2_certfile.specs.declared.header.FileHeader.{FileHeader}
 use Rattle.s2_certfile.specs.declared.step.Move.{Move}
 use Rattle.s2_certfile.specs.declared.version.Version.{Version}
 use Rattle.s2_certfile.specs.declared.version.Version.TheVariants as versions
@@ -16,7 +16,7 @@ use Rattle.s2_certfile.specs.Limits.{max_scale, max_shares}
 use Rattle.s2_certfile.specs.Field.{Field, number, signed, tested, both, many, bit_list}
 use Rattle.s2_certfile.specs.File.{File, IsFile, Split, Listed, Moved}
 
--- a reading, and what is read after it
+-- one reading, and then another
 infixl 10 ◌>>=◌
 abbrev pub ◌>>=◌ : {A B : Type 0} → Result A CertFault → (A → Result B CertFault) → Result B CertFault
 (Ok x) >>= f = f x
@@ -46,7 +46,7 @@ front_at bytes = do
   l ← letter_at 76 m
   version_at l
 
--- ---- the header: the shape and the scale in two bytes each, and the count of shares in four; that of moves is not there
+-- ---- the header: the shape and the scale in two bytes each, and the count of shares in four; moves have no count
 
 abbrev pub number_at : Width → List ℕ → Result (ℕ × List ℕ) CertFault
 number_at w bytes =
@@ -67,7 +67,7 @@ abbrev pub ShapeLaw : Type 0
 ShapeLaw = (s : Shape) → IsTrue (is_shape s) ↔ IsShape s
 
 -- a scale within its limits, and not too many shares
-abbrev pub is_ranged : Header → Bool
+abbrev pub is_ranged : FileHeader → Bool
 is_ranged h = nat_le 1 h.scale && (nat_le h.scale max_scale && nat_le h.count max_shares)
 
 -- a move for each check
@@ -76,18 +76,18 @@ IsCount versions.Listed shape count = Unit
 IsCount versions.Moved shape count = count ≡ check_count shape
 
 -- facts about the header of a file
-pub record IsHeader (h : Header) : Type 0 where
+pub record IsHeader (h : FileHeader) : Type 0 where
   pub shaped : IsShape h.shape
   pub scale_some : 1 ≤ h.scale
   pub scale_most : h.scale ≤ max_scale
   pub few : h.count ≤ max_shares
   pub counted : IsCount h.version h.shape h.count
 
-abbrev pub ranged : Header → List ℕ → Result (Header × List ℕ) CertFault
+abbrev pub ranged : FileHeader → List ℕ → Result (FileHeader × List ℕ) CertFault
 ranged h rest = demand (is_shape h.shape) faults.Shape (demand (is_ranged h) faults.Range (Ok (h, rest)))
 
 -- group, groups, q and scale, two bytes each, then the number of shares; then the tests of the shape and of the ranges
-unfoldable pub header_at : Version → List ℕ → Result (Header × List ℕ) CertFault
+unfoldable pub header_at : Version → List ℕ → Result (FileHeader × List ℕ) CertFault
 header_at version bytes = do
   group ← number_at w16 bytes
   groups ← number_at w16 group.1
@@ -134,7 +134,7 @@ abbrev pub split_bytes : Split → List ℕ
 split_bytes (Listed shares) = flat_map share.bytes shares
 split_bytes (Moved moves) = flat_map move.bytes moves
 
--- the split: in version 1 so many shares, in version 2 so many moves
+-- the split: n shares in version 1, n moves in version 2
 abbrev pub split : Version → ℕ → Field Split
 split versions.Listed n = record {
   size = (many n share).size;
@@ -150,15 +150,15 @@ split versions.Moved n = record {
 }
 
 -- the fields after the header: n soft values, n bits, the split
-abbrev pub body : Header → Field (List ℤ × (List Bool × Split))
+abbrev pub body : FileHeader → Field (List ℤ × (List Bool × Split))
 body h =
     both (many (code_bits h.shape) soft) (both (bit_list (code_bits h.shape)) (split h.version h.count))
 
-abbrev pub file_of : Header → List ℤ × (List Bool × Split) → File
+abbrev pub file_of : FileHeader → List ℤ × (List Bool × Split) → File
 file_of h x = record { shape = h.shape; scale = h.scale; soft = x.0; bits = x.1.0; split = x.1.1 }
 
 -- the test of the length that the header gives (`Cut`, `Extra`), then every field's test (`Range`)
-abbrev pub body_at : Header → List ℕ → Result File CertFault
+abbrev pub body_at : FileHeader → List ℕ → Result File CertFault
 body_at h bytes =
     demand (nat_le (body h).size (length bytes)) faults.Cut (
     demand (nat_le (length bytes) (body h).size) faults.Extra (
@@ -192,16 +192,16 @@ abbrev pub count_bytes : Version → ℕ → List ℕ
 count_bytes versions.Listed count = to_be_bytes w32 count
 count_bytes versions.Moved count = []
 
-abbrev pub header_of : File → Header
+abbrev pub header_of : File → FileHeader
 header_of f = record { version = version_of f.split; shape = f.shape; scale = f.scale; count = count_of f.split }
 
 -- what every version begins with
-abbrev pub front_bytes : Header → List ℕ
+abbrev pub front_bytes : FileHeader → List ℕ
 front_bytes h =
     83 ∷ 50 ∷ 77 ∷ 76 ∷ version_byte h.version ∷ to_be_bytes w16 h.shape.group ++ (to_be_bytes w16 h.shape.groups ++ (to_be_bytes w16 h.shape.q ++ to_be_bytes w16 h.scale))
 
 -- the front and the header of a file
-abbrev pub header_bytes : Header → List ℕ
+abbrev pub header_bytes : FileHeader → List ℕ
 header_bytes h = front_bytes h ++ count_bytes h.version h.count
 
 -- the bytes of a file: its header, then its body

@@ -1,4 +1,4 @@
-//! What a certificate file says, in memory.
+//! The contents of a certificate file, in memory.
 ghost use Rattle.std.specs.Prelude.{◌≡◌, IfOk, OnOk, true, length};
 ghost use Rattle.s2_certfile.specs.File.{IsFile, IsSplit};
 ghost use Rattle.s2_certfile.specs.Format.{body, body_at, file_of, file_of_bytes, split, IsHeader};
@@ -6,7 +6,7 @@ ghost use Rattle.s2_certfile.specs.Held.{split_in};
 ghost use Rattle.s2_certfile.specs.Answers.{FileAnswer, Reads};
 
 use crate::fault::CertFault;
-use crate::header::{Header, read_front, read_header};
+use crate::header::{FileHeader, read_front, read_header};
 use crate::held::Held;
 use crate::lists::{are_moves, are_soft, is_padded, moves, shares, soft_values};
 use crate::version::{MOVE_BYTES, SHARE_BYTES, SOFT_BYTES, Version};
@@ -15,7 +15,7 @@ use s2_mode::Shape;
 use std::alloc::{AllocError, Global};
 use std::marker::Model;
 
-/// What a certificate file says: a shape, a scale, a soft value and a bit for each place of a
+/// The contents of a certificate file: a shape, a scale, a soft value and a bit for each place of a
 /// codeword, and a split.
 pub struct Contents {
     shape: Shape,
@@ -61,7 +61,7 @@ impl Model for Contents {
 }
 
 /// How many bytes the split has.
-fn split_size(header: &Header) -> usize
+fn split_size(header: &FileHeader) -> usize
     requires { IsHeader header.now }
     ensures { result ≡ (split header.now.version header.now.count).size }
 {
@@ -72,7 +72,7 @@ fn split_size(header: &Header) -> usize
 }
 
 /// Whether the split's numbers are in range.
-fn is_split(header: &Header, bytes: &[u8]) -> bool
+fn is_split(header: &FileHeader, bytes: &[u8]) -> bool
     requires { length bytes.now ≡ (split header.now.version header.now.count).size }
     ensures { result ≡ (split header.now.version header.now.count).test bytes.now }
 {
@@ -83,7 +83,7 @@ fn is_split(header: &Header, bytes: &[u8]) -> bool
 }
 
 /// The split.
-fn read_split(alloc: Global, header: &Header, bytes: &[u8]) -> Result<Held, AllocError>
+fn read_split(alloc: Global, header: &FileHeader, bytes: &[u8]) -> Result<Held, AllocError>
     requires header { IsHeader header.now }
     requires size { length bytes.now ≡ (split header.now.version header.now.count).size }
     requires tests { (split header.now.version header.now.count).test bytes.now ≡ true }
@@ -103,7 +103,7 @@ fn read_split(alloc: Global, header: &Header, bytes: &[u8]) -> Result<Held, Allo
 }
 
 /// Whether the body has the length that the header gives, and each field passes its test.
-fn accept(header: &Header, bytes: &[u8]) -> Result<(), CertFault>
+fn accept(header: &FileHeader, bytes: &[u8]) -> Result<(), CertFault>
     requires { IsHeader header.now }
     ensures is { Reads (λ x. file_of header.now ((body header.now).value bytes.now)) result (body_at header.now bytes.now) }
     ensures size { OnOk result (length bytes.now ≡ (body header.now).size) }
@@ -129,7 +129,7 @@ fn accept(header: &Header, bytes: &[u8]) -> Result<(), CertFault>
 
 impl Contents {
     /// Takes an accepted body apart.
-    fn take_apart(alloc: Global, bytes: &[u8], header: &Header) -> Result<Contents, AllocError>
+    fn take_apart(alloc: Global, bytes: &[u8], header: &FileHeader) -> Result<Contents, AllocError>
         requires header { IsHeader header.now }
         requires size { length bytes.now ≡ (body header.now).size }
         requires tests { (body header.now).test bytes.now ≡ true }
@@ -151,7 +151,7 @@ impl Contents {
     }
 
     /// The contents of a body.
-    fn read_body(alloc: Global, header: &Header, bytes: &[u8]) -> Result<Contents, CertFault>
+    fn read_body(alloc: Global, header: &FileHeader, bytes: &[u8]) -> Result<Contents, CertFault>
         requires { IsHeader header.now }
         ensures { FileAnswer (λ c. c) result (body_at header.now bytes.now) }
     {
@@ -162,9 +162,9 @@ impl Contents {
         }
     }
 
-    /// The contents of a file, or its first refusal in this order: magic, cut (before the end of
-    /// the header), shape, range (the scale or the count), cut, extra, range (a soft value, a
-    /// padding bit or a move). `NoMemory` comes only for a file that is otherwise accepted.
+    /// The contents of a file, or its first refusal. The tests are made in this order: magic, cut (before the end of
+    /// the header), shape, range (the scale or the count), cut, extra, range (a soft value, a padding bit or a move).
+    /// `NoMemory` is returned only for a file that is otherwise accepted.
     #[tactic(auto, unfolding(crate::specs::Format::file_of_bytes))]
     pub fn read(alloc: Global, bytes: &[u8]) -> Result<Contents, CertFault>
         ensures { FileAnswer (λ c. c) result (file_of_bytes bytes.now) }

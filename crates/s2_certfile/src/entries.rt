@@ -43,7 +43,7 @@ pub(crate) fn move_of(bytes: &[u8]) -> Move
     }
 }
 
-/// Whether an amount is below 2^31, and the place is 0 where nothing is moved.
+/// Whether the amount is below 2^31, and the place is 0 if nothing is moved.
 pub(crate) fn is_move(bytes: &[u8]) -> bool
     requires { length bytes.now ≡ MOVE_BYTES }
     ensures { result ≡ move.test bytes.now }

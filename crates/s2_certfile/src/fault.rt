@@ -10,24 +10,23 @@ use thiserror::Error;
 #[derive(Clone, Copy, Debug, PartialEq, Eq, Error)]
 #[error("{}", self.text())]
 pub enum CertFault {
-    /// One of the first five bytes is there and is not that of a certificate of version 1 or 2.
+    /// One of the first five bytes, if it exists, is not that of a certificate of version 1 or 2.
     Magic,
     /// Fewer bytes than the header, or than the header says.
     Cut,
     /// More bytes than the header says.
     Extra,
-    /// A scale outside 1 to 4096, a count of shares over 1,555,200, a soft value outside -511
-    /// to 511, a padding bit that is 1, an amount over 2^31 - 1, or a place other than 0 where
-    /// nothing is moved.
+    /// A scale outside 1 to 4096, a count of shares over 1,555,200, or a soft value outside -511 to 511. Or a padding
+    /// bit that is 1, an amount over 2^31 - 1, or a place other than 0 if nothing is moved.
     Range,
     /// Numbers that are no shape.
     Shape,
-    /// A growth was refused, for a file that is otherwise accepted.
+    /// Memory was refused, for a file that is otherwise accepted.
     NoMemory,
 }
 
 impl CertFault {
-    /// What this fault says.
+    /// The text of this fault.
     pub fn text(self) -> FaultText
         ensures { said result ≡ certificate_fault_text self }
     {

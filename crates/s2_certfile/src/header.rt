@@ -1,4 +1,4 @@
-//! The front and the header of a file, each reader giving a value and the rest.
+//! The front and the header of a file. Each reader returns a value and the bytes after it.
 ghost use Rattle.std.specs.Prelude.{◌≡◌, IfOk};
 ghost use Rattle.std.specs.Int.{w16, w32};
 ghost use Rattle.s2_mode.specs.Shape.{shape_of};
@@ -12,8 +12,8 @@ use s2_mode::Shape;
 
 /// The numbers before the soft values.
 #[derive(Clone, Copy)]
-pub struct Header {
-    /// What the file says of the split.
+pub struct FileHeader {
+    /// The form of the split.
     pub version: Version,
     /// The shape of the code.
     pub shape: Shape,
@@ -115,7 +115,7 @@ fn read_count(
 
 /// The header, and what follows it.
 #[tactic(auto, unfolding(crate::specs::Format::header_at))]
-pub(crate) fn read_header(version: Version, bytes: &[u8]) -> Result<(Header, &[u8]), CertFault>
+pub(crate) fn read_header(version: Version, bytes: &[u8]) -> Result<(FileHeader, &[u8]), CertFault>
     ensures is { Reads (λ x. (x.0, x.1.now)) result (header_at version bytes.now) }
     ensures known { IfOk result (λ x. IsHeader x.0) }
 {
@@ -131,7 +131,7 @@ pub(crate) fn read_header(version: Version, bytes: &[u8]) -> Result<(Header, &[u
         return Err(CertFault::Range);
     }
     Ok((
-        Header {
+        FileHeader {
             version,
             shape,
             scale,

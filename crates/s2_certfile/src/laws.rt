@@ -4,7 +4,7 @@ ghost use Rattle.s2_certfile.specs.declared.limits.TheConstants.{MAX_SCALE, MAX_
 ghost use Rattle.s2_certfile.specs.Format.{ReadBackLaw, ShapeLaw};
 ghost use Rattle.s2_certfile.specs.Limits.{max_scale, max_shares};
 
-/// What is written of a file's contents is accepted, as the same contents.
+/// The bytes written for a file's contents are accepted, as the same contents.
 pub fn read_back()
     ensures { ReadBackLaw }
 {}

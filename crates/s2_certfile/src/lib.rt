@@ -1,12 +1,11 @@
-//! Certificate files: what a certificate file says, and its bytes. Below the checker, which lends
-//! what a file says as a view.
+//! Certificate files: their contents and their bytes. The checker, `s2_check`, lends the contents as a view.
 //!
-//! A file has S2ML and a version, a shape and a scale, a soft value and a bit for each place of a
-//! codeword, and a split of the soft values: a share for each edge (version 1), or a move for each
-//! check (version 2). [`Contents::read`] accepts exactly the files of the
-//! format, which `specs/Format` reads from top to bottom, and answers the first refusal of any other
-//! file; only it takes memory. What the writers of [`write_header`], [`write_soft`], [`write_word`] and [`write_share`] or [`write_move`] append,
-//! one after the other, is accepted as the same contents ([`laws::read_back`]).
+//! A file begins with S2ML and a version, a shape and a scale. A soft value and a bit for each place of a codeword
+//! follow, and then a split of the soft values. In version 1 this is a share for each edge, in version 2 a move for
+//! each check. [`Contents::read`] accepts exactly the files of the format, which `specs/Format` describes from top to
+//! bottom. It returns the first refusal of any other file. Only it allocates. The bytes that [`write_header`],
+//! [`write_soft`], [`write_word`] and then [`write_share`] or [`write_move`] append are accepted as the same contents
+//! ([`laws::read_back`]).
 //!
 //! ```
 //! let contents = Contents::read(alloc, &bytes)?;
@@ -29,7 +28,7 @@ mod write;
 
 pub use contents::Contents;
 pub use fault::CertFault;
-pub use header::Header;
+pub use header::FileHeader;
 pub use held::Held;
 pub use limits::{MAX_SCALE, MAX_SHARES};
 pub use page::Page;

@@ -1,5 +1,5 @@
-//! A page of bytes on their way to a writer. After a failed write the writer has gained a first part of
-//! what waited in the page and of the bytes behind it, and not all.
+//! A page: a buffer of bytes before a writer. After a failed write the writer has gained a first part of
+//! the bytes in the page and those after them, but not all.
 ghost use Rattle.std.specs.Prelude.{◌<◌, OnOk, [], ◌∷◌};
 ghost use Rattle.arrayvec.specs.ArrayVec.{array_vec_len};
 ghost use Rattle.s2_mode.specs.Counts.{CanCount, CountsFault};
@@ -11,7 +11,7 @@ use s2_mode::{CountedWrite, WriteFault, write_full};
 /// Bytes that are not written yet.
 pub type Page = ArrayVec<u8, 4096>;
 
-/// Makes room for a byte: writes the page where it is full.
+/// Makes room for a byte: writes the page if it is full.
 fn make_room<W: CountedWrite>(out: &mut W, page: &mut Page) -> Result<(), WriteFault>
     requires { CanCount (W.count out.old) }
     ensures room { OnOk result (array_vec_len page.new < 4096) }
@@ -26,7 +26,7 @@ fn make_room<W: CountedWrite>(out: &mut W, page: &mut Page) -> Result<(), WriteF
     Ok(())
 }
 
-/// Puts a byte into the page, and writes the page first where it is full.
+/// Puts a byte into the page, after writing the page if it is full.
 pub(crate) fn put<W: CountedWrite>(out: &mut W, page: &mut Page, byte: u8) -> Result<(), WriteFault>
     requires { CanCount (W.count out.old) }
     ensures bytes { PutsThrough (byte ∷ []) (W.contents out.old) (W.contents out.new) page.old.items page.new.items result }

@@ -1,6 +1,6 @@
-//! The versions of the format, and how wide their numbers are.
+//! The versions of the format, and the widths of their numbers.
 
-/// What a file says of the split.
+/// The form of a file's split.
 #[derive(Clone, Copy, Debug, PartialEq, Eq)]
 pub enum Version {
     /// A share for each edge: version 1.

@@ -1,6 +1,6 @@
-//! The parts of a certificate file, each put behind what was put before into a page, which is written
-//! whenever it is full. After a failed write the writer has gained a first part of what waited in the
-//! page and of the bytes behind it, and not all.
+//! The parts of a certificate file, each appended to a page. The page is written whenever it is full.
+//! After a failed write the writer has gained a first part of the bytes in the page and those after
+//! them, but not all.
 ghost use Rattle.std.specs.Prelude.{◌≡◌, ◌≤◌, All, length};
 ghost use Rattle.std.specs.List.{flat_map};
 ghost use Rattle.s2_mode.specs.Limits.{max_bits};
@@ -11,7 +11,7 @@ ghost use Rattle.s2_certfile.specs.Field.{bytes_of_bits};
 ghost use Rattle.s2_certfile.specs.File.{IsSoft};
 ghost use Rattle.s2_certfile.specs.Format.{header_bytes, soft, share, move, version_byte, count_bytes, front_bytes};
 
-use crate::header::Header;
+use crate::header::FileHeader;
 use crate::page::{Page, put, put_all};
 use crate::step::Move;
 use crate::version::Version;
@@ -28,11 +28,11 @@ fn byte_of(version: Version) -> u8
     }
 }
 
-/// Writes what every version begins with.
+/// Writes the bytes with which every version begins.
 fn write_front<W: CountedWrite>(
     out: &mut W,
     page: &mut Page,
-    header: &Header,
+    header: &FileHeader,
 ) -> Result<(), WriteFault>
     requires { CanCount (W.count out.old) }
     ensures bytes { PutsThrough (front_bytes header.now) (W.contents out.old) (W.contents out.new) page.old.items page.new.items result }
@@ -52,7 +52,7 @@ fn write_front<W: CountedWrite>(
     )
 }
 
-/// Writes the count of shares. There is none of moves.
+/// Writes the count of shares. Moves have no count.
 fn write_count<W: CountedWrite>(
     out: &mut W,
     page: &mut Page,
@@ -73,7 +73,7 @@ fn write_count<W: CountedWrite>(
 pub fn write_header<W: CountedWrite>(
     out: &mut W,
     page: &mut Page,
-    header: &Header,
+    header: &FileHeader,
 ) -> Result<(), WriteFault>
     requires count { CanCount (W.count out.old) }
     requires few { header.now.count ≤ max_shares }

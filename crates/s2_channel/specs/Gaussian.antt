@@ -14,22 +14,23 @@ nearest x = (x + 2 ^ 29) / 2 ^ 30
 abbrev pub greatest_amplitude : ℕ
 greatest_amplitude = 4020331772
 
--- by what a hundredth of a dB lessens an amplitude: 10^(-1/2000) times 2^30
+-- the factor of an amplitude for an Es/N0 a hundredth of a dB higher: 10^(-1/2000), times 2^30
 abbrev pub hundredth : ℕ
 hundredth = 1072506344
 
--- by what the sum of 64 bytes is multiplied, times 2^30, so many hundredths of a dB above -10 dB
+-- the factor of the sum of 64 bytes, times 2^30, by the number of hundredths of a dB above -10 dB
 unfoldable pub amplitude_at : ℕ → ℕ
 amplitude_at zero = greatest_amplitude
 amplitude_at (suc n) = nearest (amplitude_at n * hundredth)
 
 -- what a component gains by a sum of 64 bytes, whose mean is 8160: the difference times the amplitude, to the nearest whole
--- number, halves away from zero. One of the two terms is 0.
+-- number, halves away from zero; one of the two terms is 0
 unfoldable pub gaussian_gain : ℕ → ℕ → ℤ
 gaussian_gain a drawn = pos (nearest ((drawn - 8160) * a)) -ℤ pos (nearest ((8160 - drawn) * a))
 
--- that an amplitude gives a component noise of the variance N0/2, to 0.001 %: 349520 times its square, a number of 2^-60, is 490000 times
--- 10 for -10 dB, and 10^(1/100) times less for each tenth of a dB. Compared are hundredth powers, which are whole numbers.
+-- An amplitude gives a component noise of the variance N0/2, to 0.001 %. The variance is 349520 times its square, in units of
+-- 2^-60. It is 490000 times 10 for -10 dB, and 10^(1/100) times less for each tenth of a dB. The hundredth powers are compared,
+-- which are whole numbers.
 unfoldable pub has_variance : ℕ → ℕ → Bool
 has_variance tenths a =
     let variance = (100000 * 349520 * a ^ 2) ^ 100 * 10 ^ tenths in

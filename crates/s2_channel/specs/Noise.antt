@@ -16,14 +16,14 @@ use Rattle.s2_channel.specs.declared.strength.Strength.TheVariants as by
 abbrev pub byte_sum : ℕ → ℕ
 byte_sum value = sum (to_le_bytes w32 value)
 
--- the sum of the bytes of so many words that come next, and the generator after them
+-- the sum of the bytes of the next n words, and the generator after them
 unfoldable pub byte_sums : ℕ → Lcg → ℕ × Lcg
 byte_sums zero g = (0, g)
 byte_sums (suc n) g = ((byte_sums n g).0 + byte_sum (pcg32 (byte_sums n g).1).0, (pcg32 (byte_sums n g).1).1)
 
 -- of how many words the noise of a component is made: of eight bytes by a level, of 64 by Es/N0
 abbrev pub words : Strength → ℕ
-words (by.Level level) = 2
+words (by.Level noise_level) = 2
 words (by.EsN0 esn0) = 16
 
 -- the sum of the bytes that the noise of a component is made of, and the generator after them
@@ -32,11 +32,11 @@ draw strength g = byte_sums (words strength) g
 
 -- what a component gains by a sum of eight bytes: less its mean, times the level over 256, toward zero
 unfoldable pub level_gain : ℕ → ℕ → ℤ
-level_gain level drawn = int_div ((pos drawn -ℤ pos 1020) *ℤ pos level) (pos 256)
+level_gain noise_level drawn = int_div ((pos drawn -ℤ pos 1020) *ℤ pos noise_level) (pos 256)
 
 -- what a component gains by the sum that was drawn
 abbrev pub gain : Strength → ℕ → ℤ
-gain (by.Level level) drawn = level_gain level drawn
+gain (by.Level noise_level) drawn = level_gain noise_level drawn
 gain (by.EsN0 esn0) drawn = gaussian_gain (amplitude_at esn0) drawn
 
 -- a component with its gain, or the nearest number of 16 bits
@@ -61,7 +61,7 @@ noisy strength g [] = []
 noisy strength g (s ∷ ss) = symbol_bytes (add strength g s).0 ++ noisy strength (add strength g s).1 ss
 
 -- What a failed read leaves: the reader gave some bytes, and the writer gained exactly the noisy symbols that these
--- spell. If no read failed, they were as many symbols as one call takes
+-- spell. If no read failed, they were the most symbols that one call takes
 pub record PassesOn (strength : Strength) (g : Lcg) (taken left given gained : Option (List ℕ)) (reads reads_now : ℕ) : Type 0 where
   pub bytes : List ℕ
   pub read : Consumes taken left bytes

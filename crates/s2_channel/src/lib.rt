@@ -1,11 +1,11 @@
 //! A channel for tests: noise that a seed determines, added to symbols.
 //!
-//! It stands between the transmitter and the receiver, and adds noise of one [`Strength`] to what the one sent to try the other.
+//! It is used between the transmitter and the receiver, and adds noise of one [`Strength`] to the symbols that were sent.
 //!
 //! - By a level L, each component of a symbol gains the sum of eight random bytes less its mean, times L over 256: nearly a normal
 //!   distribution, of standard deviation 209.0 L / 256.
-//! - By an Es/N0, each component gains the sum of 64 random bytes less its mean, times a fixed-point amplitude, to the nearest whole
-//!   number: a normal distribution to six standard deviations, of variance N0/2 for symbols of energy Es = 2 · 700².
+//! - By an Es/N0 (AWGN), each component gains the sum of 64 random bytes less its mean, times a fixed-point amplitude, to the nearest whole
+//!   number. This is a normal distribution to six standard deviations. Its variance is N0/2 for symbols of energy Es = 2 · 700².
 //!
 //! The bytes are those of one `Pcg32` of the seed, so that any program draws the same ones. [`Noise::add`] promises exactly that
 //! symbol, [`add_to_all`] those symbols of a whole stream, [`laws::silent`] that level 0 changes nothing, and [`laws::gaussian`] that
@@ -20,12 +20,12 @@
 
 pub mod laws;
 mod noise;
+mod stream;
 mod strength;
-mod whole;
 
 pub use noise::Noise;
+pub use stream::add_to_all;
 pub use strength::{EsN0, LEAST_ESN0, MAX_ESN0, Strength};
-pub use whole::add_to_all;
 
 #[cfg(test)]
 mod tests;

@@ -18,7 +18,7 @@ const MEAN_OF_EIGHT: i32 = 1020;
 /// The mean of the sum of 64 bytes.
 const MEAN_OF_64: u16 = 8160;
 
-/// Noise of one strength. To contracts it is the strength, and the generator of random words as it stands.
+/// Noise of one strength. To contracts it is the strength, and the state of the generator of random words.
 #[derive(Drop)]
 pub struct Noise {
     strength: Strength,
@@ -34,7 +34,7 @@ fn byte_sum(word: u32) -> u16
     u16::from(a) + u16::from(b) + u16::from(c) + u16::from(d)
 }
 
-/// The sum of the bytes of so many words that the generator gives next.
+/// The sum of the bytes of the next words of the generator, `words` in number.
 #[tactic(auto, unfolding(crate::specs::Noise::byte_sums))]
 fn byte_sums(words: u16, generator: &mut Pcg32) -> u16
     requires { words ≤ 16 }
@@ -61,13 +61,13 @@ fn draw(strength: Strength, generator: &mut Pcg32) -> u16
 
 /// What a component gains by a sum of eight bytes.
 #[tactic(auto, unfolding(crate::specs::Noise::level_gain))]
-fn level_gain(level: u16, sum: u16) -> i32
+fn level_gain(noise_level: u16, sum: u16) -> i32
     requires { sum ≤ 2040 }
-    ensures value { result ≡ level_gain level sum }
+    ensures value { result ≡ level_gain noise_level sum }
     ensures least { negsuc 299999 ≤ℤ result }
     ensures most { result ≤ℤ pos 300000 }
 {
-    (i32::from(sum) - MEAN_OF_EIGHT) * i32::from(level) / 256
+    (i32::from(sum) - MEAN_OF_EIGHT) * i32::from(noise_level) / 256
 }
 
 /// The product of a difference of sums and an amplitude, to the nearest whole number.
@@ -102,7 +102,7 @@ fn gain(strength: Strength, sum: u16) -> i32
     ensures most { result ≤ℤ pos 300000 }
 {
     match strength {
-        Strength::Level(level) => level_gain(level, sum),
+        Strength::Level(noise_level) => level_gain(noise_level, sum),
         Strength::EsN0(esn0) => gaussian_gain(esn0.amplitude(), sum),
     }
 }

@@ -16,7 +16,7 @@ const GREATEST_AMPLITUDE: u32 = 4_020_331_772;
 /// 10^(-1/2000), times 2^30.
 const HUNDREDTH: u64 = 1_072_506_344;
 
-/// An Es/N0 of -10 to 40 dB, in hundredths of a dB. Its value is how many hundredths it lies above -10 dB.
+/// An Es/N0 of -10 to 40 dB, in hundredths of a dB. Its value is the number of hundredths above -10 dB.
 ///
 /// Es is the energy of a symbol, 2 · 700², and N0 twice the variance of the noise in each component.
 #[derive(Clone, Copy, Debug, PartialEq, Eq)]
@@ -41,8 +41,8 @@ impl Model for EsN0 {
     ghost inverse_ok = { λ e held. λ t. record { above = e.above; amplitude = sym held.1 t } };
 }
 
-/// The amplitude a hundredth of a dB higher.
-fn lessened(amplitude: u32) -> u32
+/// The amplitude at an Es/N0 a hundredth of a dB higher.
+fn at_next_hundredth(amplitude: u32) -> u32
     requires { amplitude ≤ greatest_amplitude }
     ensures value { result ≡ nearest (amplitude * hundredth) }
     ensures most { result ≤ greatest_amplitude }
@@ -50,21 +50,21 @@ fn lessened(amplitude: u32) -> u32
     ((u64::from(amplitude) * HUNDREDTH + (1 << 29)) >> 30) as u32
 }
 
-/// The amplitude so many hundredths of a dB above -10 dB.
+/// The amplitude at an Es/N0 by its number of hundredths of a dB above -10 dB.
 #[tactic(auto, unfolding(crate::specs::Gaussian::amplitude_at))]
 fn amplitude_at(above: u16) -> u32
     ensures value { result ≡ amplitude_at above }
     ensures most { result ≤ greatest_amplitude }
 {
     let mut amplitude = GREATEST_AMPLITUDE;
-    'lessen: for _hundredth in 0..above {
-        amplitude = lessened(amplitude);
+    'fall: for _hundredth in 0..above {
+        amplitude = at_next_hundredth(amplitude);
     }
     amplitude
 }
 
 impl EsN0 {
-    /// The Es/N0 of so many hundredths of a dB, if it is in the range.
+    /// The Es/N0 with this number of hundredths of a dB, if it is in the range.
     pub fn new(hundredths: i32) -> Option<EsN0>
         ensures found { IsSome result ↔ ((negsuc 999 ≤ℤ hundredths) × (hundredths ≤ℤ pos 4000)) }
         ensures value { IfSome result (λ e. pos e ≡ hundredths +ℤ pos 1000) }
@@ -79,7 +79,7 @@ impl EsN0 {
         })
     }
 
-    /// By what the sum of 64 bytes is multiplied, times 2^30.
+    /// The factor of the sum of 64 bytes, times 2^30.
     pub(crate) fn amplitude(self) -> u32
         ensures value { result ≡ amplitude_at self }
         ensures most { result ≤ greatest_amplitude }

@@ -50,8 +50,8 @@ fn adds_the_noise_of_a_seed(rt: HostRuntime) {
             [[700, -700], [700, -700], [701, -700], [700, -700]],
         ),
     ];
-    for (seed, level, wanted) in cases {
-        assert_adds(&rt, Noise::new(seed, level), [700, -700], wanted);
+    for (seed, noise_level, wanted) in cases {
+        assert_adds(&rt, Noise::new(seed, noise_level), [700, -700], wanted);
     }
 }
 

@@ -49,13 +49,13 @@ word_is x fits =
     ]
 
 -- after b vectors of xs
-pub record AreTallies (sums counts sizes : List ℕ) (b : ℕ) (xs : List ℤ) : Type 0 where
+pub record AreTallies (sums counts magnitudes : List ℕ) (b : ℕ) (xs : List ℤ) : Type 0 where
   pub sums_long : length sums ≡ 4
   pub counts_long : length counts ≡ 4
-  pub sizes_long : length sizes ≡ 4
+  pub magnitudes_long : length magnitudes ≡ 4
   pub sums_few : (k : ℕ) → k < 4 → lane sums k ≤ 2147483648 * b
   pub counts_few : (k : ℕ) → k < 4 → lane counts k ≤ b
-  pub tally : IsTally (pos (lane sums 0 + lane sums 1 + lane sums 2 + lane sums 3) -ℤ pos (2147483648 * (4 * b))) (lane counts 0 + lane counts 1 + lane counts 2 + lane counts 3) (min (min (lane sizes 0) (lane sizes 1)) (min (lane sizes 2) (lane sizes 3))) (4 * b) xs
+  pub tally : IsTally (pos (lane sums 0 + lane sums 1 + lane sums 2 + lane sums 3) -ℤ pos (2147483648 * (4 * b))) (lane counts 0 + lane counts 1 + lane counts 2 + lane counts 3) (min (min (lane magnitudes 0) (lane magnitudes 1)) (min (lane magnitudes 2) (lane magnitudes 3))) (4 * b) xs
 
 -- what a lane has after one word more
 pub record LaneIs (s s' c c' z z' : ℕ) (x : ℤ) : Type 0 where
@@ -118,9 +118,9 @@ four_more s s' c c' z z' b xs room lanes t =
     let place : i + 1 + 1 + 1 + 1 ≡ 4 * (b + 1) = omega arith in
     let sums : pos (s' 0 + s' 1 + s' 2 + s' 3) -ℤ pos (2147483648 * (4 * (b + 1))) ≡ pos (s 0 + s 1 + s 2 + s 3) -ℤ pos (2147483648 * i) +ℤ int_min (pos 0) (x 0) +ℤ int_min (pos 0) (x 1) +ℤ int_min (pos 0) (x 2) +ℤ int_min (pos 0) (x 3) = omega (arith, ints, h0.sum, h1.sum, h2.sum, h3.sum) in
     let counts : c' 0 + c' 1 + c' 2 + c' 3 ≡ c 0 + c 1 + c 2 + c 3 + one (x 0) + one (x 1) + one (x 2) + one (x 3) = omega (arith, h0.count, h1.count, h2.count, h3.count) in
-    let sizes : min (min (z' 0) (z' 1)) (min (z' 2) (z' 3)) ≡ min (min (min (min (min (min (z 0) (z 1)) (min (z 2) (z 3))) (unsigned_abs (x 0))) (unsigned_abs (x 1))) (unsigned_abs (x 2))) (unsigned_abs (x 3)) =
+    let magnitudes : min (min (z' 0) (z' 1)) (min (z' 2) (z' 3)) ≡ min (min (min (min (min (min (z 0) (z 1)) (min (z 2) (z 3))) (unsigned_abs (x 0))) (unsigned_abs (x 1))) (unsigned_abs (x 2))) (unsigned_abs (x 3)) =
     rw h0.size (rw h1.size (rw h2.size (rw h3.size (sym (least_four (z 0) (z 1) (z 2) (z 3) (unsigned_abs (x 0)) (unsigned_abs (x 1)) (unsigned_abs (x 2)) (unsigned_abs (x 3))))))) in
-    rw sums (rw counts (rw sizes (rw (sym place) t4)))
+    rw sums (rw counts (rw magnitudes (rw (sym place) t4)))
 
 -- four lanes one by one
 pub by_four : (P : ℕ → Type 0) → P 0 → P 1 → P 2 → P 3 → (k : ℕ) → k < 4 → P k

@@ -6,15 +6,16 @@ use Rattle.s2_matrix.specs.Total.{upto}
 use Rattle.s2_check.specs.Split.{Split}
 use Rattle.s2_check.specs.Moves.{Move, in_favour, placed_of, ArePlaced}
 
--- of a check's shares in favour of a word: the amount is the size of each, and it is moved to the member whose share is negative
+-- the move of a check's shares in favour of a word: the amount is the magnitude of each, and it is moved to the member
+-- whose share is negative
 abbrev pub move_of : List ℤ → Move
 move_of xs = record {
   place = if unsigned_abs (get_or xs 0 (pos 0)) == 0 then 0 else position_or_len (λ x. int_lt x (pos 0)) xs;
   amount = unsigned_abs (get_or xs 0 (pos 0));
 }
 
--- of each check the move that its shares are, in favour of the word: the size of its shares, to the member with a
--- negative share
+-- for each check the move that its shares are, in favour of the word: the magnitude of its shares, to the member with
+-- a negative share
 abbrev pub moves_of : Code → List Bool → Split → List Move
 moves_of code word split =
     map (λ j. move_of (map (λ i. in_favour word i (split.share j i)) (members code j))) (upto code.checks)

@@ -1,17 +1,19 @@
-//! Hard decisions, their costs, and certificates that a word is most likely: what a receiver's
-//! verdict rests on, between the soft values and the BCH code. A word is a bit for each place of a
-//! codeword, whether or not it is one.
+//! Hard decisions, their costs, and certificates that a word is most likely (maximum likelihood). They are made before
+//! the BCH code corrects the decided bits, and prove a receiver's verdict. A word is a bit for each place of a
+//! codeword, whether or not it is a codeword.
 //!
-//! A codeword is most likely if no codeword costs less, where a word's cost is the sum of the soft
-//! values over its ones. [`judge_unsplit`] is true exactly where the hard decision is a codeword,
-//! which then is most likely. Any other word needs a split of its soft values over the checks:
-//! [`check`] answers Yes exactly for a [`CertView`] whose split is accepted for its word, and the
-//! word is then most likely by weak duality ([`laws::weak_duality`]), whoever made the split. Where
-//! its rests in favour of the word are all at least 1, every other codeword costs more
-//! ([`laws::strictness`]): [`sole`] is true exactly there. [`Certificate::read`] accepts exactly the
-//! files of the format, of both versions; [`Certificate::view`] lends one for a matrix. What
-//! [`CertView::write`] writes is accepted, and lent as the same view ([`laws::read_back`],
-//! [`laws::same_view`]). Only `read` takes memory.
+//! In the literature a split is a dual solution of LP decoding, and a rest, or slack, is the reduced cost of a bit.
+//!
+//! A word's cost is the sum of the soft values over its ones. A codeword is most likely if no codeword costs less.
+//! [`judge_unsplit`] returns true exactly if the hard decision is a codeword, which is then most likely. Any other word
+//! needs a split of its soft values over the checks. [`check`] returns Yes exactly for a [`CertView`] whose split is
+//! accepted for its word. The word is then most likely by weak duality ([`laws::weak_duality`]), however the split was
+//! found. If its rests in favour of the word are all at least 1, every other codeword costs more
+//! ([`laws::strictness`]); [`sole`] returns true exactly then.
+//!
+//! [`Certificate::read`] accepts exactly the files of the format, of both versions. [`Certificate::view`] lends one for
+//! a matrix. A file that [`CertView::write`] writes is accepted, and lent as the same view ([`laws::read_back`],
+//! [`laws::same_view`]). Only `read` allocates.
 //!
 //! ```
 //! let certificate = Certificate::read(alloc, &bytes)?;

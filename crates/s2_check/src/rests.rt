@@ -1,4 +1,4 @@
-//! What is shown of a word by the rests that a split leaves.
+//! What the rests (slacks) of a split prove about a word.
 ghost use Rattle.std.specs.Prelude.{◌↔◌, IsTrue, pos, neg_ℤ, ◌≤ℤ◌, if◌then◌else◌};
 
 /// A sum of negative rests, and whether every rest in favour of the word is at least 1.

@@ -1,15 +1,14 @@
-//! What the shares of a check add up to.
+//! The tally of a check's shares, from which its local minimum follows.
 ghost use Rattle.std.specs.Prelude.{◌≡◌, ℕ, ◌+◌, ◌*◌, ◌%◌, ◌==◌, ◌≤◌, ◌≤ℤ◌, ◌+ℤ◌, min, pos, neg_ℤ, int_lt, unsigned_abs, if◌then◌else◌};
 ghost use Rattle.std.specs.Int.{int_min};
 ghost use Rattle.s2_mode.specs.Limits.{max_bits};
 
-/// Of the shares of a check that were taken in so far: the sum of the negative ones, how many these are, and the
-/// least size of all.
+/// Of the shares of a check so far: the sum of the negative ones, their number, and the least magnitude of all.
 #[derive(Clone, Copy)]
 pub(crate) struct Tally {
     pub(crate) negative_sum: i64,
     pub(crate) negative_count: usize,
-    pub(crate) least_size: u32,
+    pub(crate) least_magnitude: u32,
 }
 
 impl Tally {
@@ -17,12 +16,12 @@ impl Tally {
     pub(crate) fn new() -> Tally
         ensures sum { result.negative_sum ≡ pos 0 }
         ensures count { result.negative_count ≡ 0 }
-        ensures size { result.least_size ≡ 4294967295 }
+        ensures magnitude { result.least_magnitude ≡ 4294967295 }
     {
         Tally {
             negative_sum: 0,
             negative_count: 0,
-            least_size: u32::MAX,
+            least_magnitude: u32::MAX,
         }
     }
 
@@ -33,27 +32,27 @@ impl Tally {
         requires high { self.negative_sum ≤ℤ pos 0 }
         ensures sum { result.negative_sum ≡ self.negative_sum +ℤ int_min (pos 0) share }
         ensures count { result.negative_count ≡ self.negative_count + (if int_lt share (pos 0) then 1 else 0) }
-        ensures size { result.least_size ≡ min self.least_size (unsigned_abs share) }
+        ensures magnitude { result.least_magnitude ≡ min self.least_magnitude (unsigned_abs share) }
     {
         let negative = share < 0;
         Tally {
             negative_sum: self.negative_sum + i64::from(share.min(0)),
             negative_count: self.negative_count + usize::from(negative),
-            least_size: self.least_size.min(share.unsigned_abs()),
+            least_magnitude: self.least_magnitude.min(share.unsigned_abs()),
         }
     }
 
-    /// The least sum of an even number of the shares: of the negative ones, less the cheapest change of one where
-    /// these are odd in number.
+    /// The least sum of an even number of the shares. It is the sum of the negative ones; if their number is odd, the
+    /// least magnitude is added.
     pub(crate) fn least_even_sum(self) -> i64
         requires low { neg_ℤ (pos (2147483648 * max_bits)) ≤ℤ self.negative_sum }
         requires high { self.negative_sum ≤ℤ pos 0 }
-        ensures { result ≡ (if self.negative_count % 2 == 0 then self.negative_sum else self.negative_sum +ℤ pos self.least_size) }
+        ensures { result ≡ (if self.negative_count % 2 == 0 then self.negative_sum else self.negative_sum +ℤ pos self.least_magnitude) }
     {
         if self.negative_count % 2 == 0 {
             self.negative_sum
         } else {
-            self.negative_sum + i64::from(self.least_size)
+            self.negative_sum + i64::from(self.least_magnitude)
         }
     }
 }

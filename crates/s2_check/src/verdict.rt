@@ -1,9 +1,9 @@
-//! What is known of decided bits.
+//! Verdicts on decided bits.
 ghost use Rattle.std.specs.Prelude.{◌≡◌, ◌≤◌, length};
 ghost use Rattle.s2_check.specs.Verdicts.{verdict_word, is_certified};
 
-/// What is known of a frame's decided bits: that every other codeword costs more under its soft values, that
-/// no codeword costs less, that they are a codeword, or that they are none.
+/// The verdict on a frame's decided bits. Sole: every other codeword costs more under its soft values. Most likely: no
+/// codeword costs less. Parity: they are a codeword. Broken: they are no codeword.
 #[derive(Clone, Copy, Debug, PartialEq, Eq)]
 pub enum Verdict {
     Sole,

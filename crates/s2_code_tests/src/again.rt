@@ -1,4 +1,4 @@
-//! Calls that are made again where memory was refused.
+//! Calls that are made again after memory was refused.
 ghost use Rattle.std.specs.Prelude.{◌≡◌, IfOk, length};
 
 use super::codes::Code;
@@ -30,7 +30,7 @@ pub(crate) fn matrix_of(alloc: Global, code: Code<'_>) -> Result<Matrix, Fail> {
     Ok(built(alloc, &rows(alloc, text, shape)?)?)
 }
 
-/// So many zeros.
+/// Zeros, `len` of them.
 pub(crate) fn zeros(alloc: Global, len: usize) -> Result<Bits, AllocError>
     ensures { IfOk result (λ b. length b ≡ len) }
 {

@@ -1,4 +1,4 @@
-//! A decoder, where memory may be refused once: then it says so, and the same call again answers.
+//! A decoder, if memory may be refused once: it reports that, and the same call then succeeds.
 ghost use Rattle.std.specs.Prelude.{◌≡◌, IfOk};
 
 use super::again::zeros;
@@ -16,7 +16,8 @@ fn bch(alloc: Global, mode: Mode) -> Result<Bch, AllocError>
     }
 }
 
-/// What is found where every 600th of so many places of a word of zeros is changed, and how many ones are left.
+/// Changes every 600th place of a word of zeros, `changes` of them, and decodes. Returns the decoder's result, and the
+/// number of ones that are left.
 fn decoded(alloc: Global, mode: Mode, changes: usize) -> Result<(Option<u32>, usize), Fail> {
     let mut word = zeros(alloc, mode.k())?;
     let mut at = 0usize;

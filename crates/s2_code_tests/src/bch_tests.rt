@@ -214,8 +214,8 @@ fn damaged(
     Ok(word)
 }
 
-// What decoding answers after `count` places, `step` apart from `first` on, were changed, and
-// whether the word is the encoded one again.
+// The result of decoding after `count` places, `step` apart from `first` on, were changed, and whether the word is the
+// encoded one again.
 fn decoded(
     rt: &impl Abort,
     alloc: Global,

@@ -49,13 +49,13 @@ pub(crate) fn codeword_file() -> [u8; SIZE] {
     file
 }
 
-/// How many bytes each has as moves: 13 of the header, two for each value, three of the word, six for each of 12 checks.
+/// The bytes of each as moves: 13 of the header, two for each value, three of the word, six for each of 12 checks.
 pub(crate) const MOVED_SIZE: usize = 128;
 
 /// What each begins with as moves: format, shape and scale 1.
 const MOVED_HEAD: [u8; 13] = [0x53, 0x32, 0x4D, 0x4C, 2, 0, 4, 0, 2, 0, 3, 0, 1];
 
-/// A file as moves, of which check 0 moves so much to its first member, and the others nothing.
+/// A file as moves. Check 0 moves this amount to its first member, the others nothing.
 pub(crate) fn moved(listed: &[u8; SIZE], amount: u8) -> [u8; MOVED_SIZE] {
     let mut file = [0; MOVED_SIZE];
     file[..13].copy_from_slice(&MOVED_HEAD);

@@ -1,5 +1,5 @@
-//! The checker beside the plain definition of the bound where a rest or a local minimum misses by one, at the largest
-//! scale: wide checks, bits of many checks, and shares and amounts whose sums are beyond 32 bits.
+//! The checker and the plain definition of the bound, if a rest or a local minimum misses by one, at the largest scale.
+//! The codes have wide checks, bits of many checks, and shares and amounts whose sums are beyond 32 bits.
 ghost use Rattle.std.specs.Prelude.{◌<◌, All, FitsSigned, IsTrue};
 ghost use Rattle.std.specs.Int.{w32};
 ghost use Rattle.s2_matrix.specs.Code.{code_of};
@@ -24,7 +24,7 @@ const SCALED: u32 = SCALE as u32 * LARGEST as u32;
 /// More than small moves leave of any bit.
 const MAX_LEFT: i64 = 2_200_000;
 
-/// What a bound below the cost is answered.
+/// The result for a bound below the cost.
 const BELOW: Answer = Answer::No(Refusal::BoundBelow);
 
 /// The least sum of an even number of shares, by the least sums of an even and of an odd number of the first ones.
@@ -65,7 +65,7 @@ fn rest_of(matrix: &Matrix, soft: &[i16], shares: &[i32], bit: usize) -> i64
     rest
 }
 
-/// What the definition answers for a word of zeros, which costs nothing.
+/// The result of the definition for a word of zeros, which costs nothing.
 fn defined(matrix: &Matrix, soft: &[i16], shares: &[i32]) -> Answer {
     let mut bound = minima(matrix, shares);
     for bit in 0..matrix.bits() {
@@ -227,7 +227,7 @@ fn assert_minimum<R: Abort>(
     }
 }
 
-/// Asserts what is answered on listed shares of moves, and on shares that miss by one in any rest or local minimum.
+/// Asserts the results for listed shares of moves, and for shares that miss by one in any rest or local minimum.
 fn assert_listed_by_one<R: Abort>(rt: &R, alloc: Global, matrix: &Matrix) -> Result<(), Fail> {
     let word = zeros(alloc, matrix.bits())?;
     let soft = vec![in alloc; LARGEST; matrix.bits()]?;
@@ -291,8 +291,7 @@ fn assert_taken<R: Abort>(
 /// large to be summed in lanes.
 const VALUES: [i16; 2] = [250, LARGEST - 6];
 
-/// Asserts what is answered on moves that leave a bit of this value nothing, and on moves that miss by one, for each
-/// bit.
+/// Asserts the results for moves that leave a bit of this value nothing, and for moves that miss by one, for each bit.
 fn assert_moved_by_one<R: Abort>(
     rt: &R,
     alloc: Global,
@@ -452,7 +451,7 @@ fn chain(alloc: Global, checks: usize) -> Result<Vec<Move>, AllocError> {
     Ok(moves)
 }
 
-/// Asserts what is answered along a chain whose last bit lacks all that a soft value can.
+/// Asserts the results along a chain whose last bit lacks the largest soft value.
 fn assert_chain<R: Abort>(rt: &R, alloc: Global, matrix: &Matrix) -> Result<(), Fail> {
     let word = zeros(alloc, matrix.bits())?;
     let mut soft = vec![in alloc; LARGEST; matrix.bits()]?;

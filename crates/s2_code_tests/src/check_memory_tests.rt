@@ -1,5 +1,4 @@
-//! Reading a certificate, where memory may be refused once: then it says so, and the same call again
-//! answers.
+//! Reading a certificate, if memory may be refused once: it reports that, and the same call then succeeds.
 use super::again::matrix_of;
 use super::certificate_bytes::{moved, wrong_bit};
 use super::codes::TOY;
@@ -15,7 +14,7 @@ fn certificate(alloc: Global, bytes: &[u8]) -> Result<Certificate, CertFault> {
     }
 }
 
-/// What the checker answers on a file.
+/// The checker's result for a file.
 fn answer(alloc: Global, matrix: &Matrix, bytes: &[u8]) -> Result<Answer, Fail> {
     let certificate = certificate(alloc, bytes)?;
     let Some(view) = certificate.view(matrix) else {

@@ -24,12 +24,12 @@ fn read(alloc: Global, bytes: &[u8]) -> Result<Certificate, CertFault> {
     Certificate::read(alloc, bytes)
 }
 
-/// What the checker answers on a view.
+/// The checker's result for a view.
 pub(crate) fn checked(matrix: &Matrix, view: &CertView<'_>) -> Answer {
     check(matrix, view)
 }
 
-/// What the checker answers on a file, or why the file is refused.
+/// The checker's result for a file, or why the file is refused.
 fn answer(alloc: Global, matrix: &Matrix, bytes: &[u8]) -> Result<Answer, CertFault> {
     let certificate = read(alloc, bytes)?;
     match certificate.view(matrix) {
@@ -38,7 +38,7 @@ fn answer(alloc: Global, matrix: &Matrix, bytes: &[u8]) -> Result<Answer, CertFa
     }
 }
 
-/// Asserts what the checker answers on a file.
+/// Asserts the checker's result for a file.
 fn assert_answer<R: Abort>(rt: &R, alloc: Global, matrix: &Matrix, bytes: &[u8], want: Answer) {
     assert_eq!(rt; answer(alloc, matrix, bytes), Ok(want));
 }
@@ -73,7 +73,7 @@ fn checks_the_certificate_of_a_wrong_bit(rt: HostRuntime) -> Result<(), Fail> {
     Ok(())
 }
 
-/// What is answered on the file of the wrong bit with a byte's highest bit turned.
+/// The result for the file of the wrong bit with a byte's highest bit inverted.
 fn on_altered_wrong_bit(at: usize) -> Result<Answer, CertFault> {
     match at {
         0..=4 => Err(CertFault::Magic),
@@ -97,14 +97,14 @@ fn on_altered_codeword(at: usize) -> Result<Answer, CertFault> {
     }
 }
 
-/// The same of the file of the wrong bit as moves: it has no count, and behind its word moves of six bytes.
+/// The same for the file of the wrong bit as moves. It has no count, and after its word it has moves of six bytes.
 fn on_altered_moves(at: usize) -> Result<Answer, CertFault> {
     match at {
         0..=12 => on_altered_wrong_bit(at),
         13..=55 => on_altered_wrong_bit(at + 4),
         // a place past the members
         56 | 57 => Ok(Answer::No(Refusal::OtherShape)),
-        // a place where nothing is moved, or an amount of 2^31 and more
+        // a place at which nothing is moved, or an amount of 2^31 and more
         58..=127 if (at - 56) % 6 < 3 => Err(CertFault::Range),
         _ => Ok(Answer::No(Refusal::BoundBelow)),
     }
@@ -119,7 +119,7 @@ fn on_altered_codeword_moves(at: usize) -> Result<Answer, CertFault> {
     }
 }
 
-/// A file with the highest bit of a byte turned.
+/// A file with the highest bit of a byte inverted.
 fn altered(alloc: Global, file: &[u8], at: usize) -> Result<Vec<u8>, AllocError> {
     let mut bytes = Vec::from_slice(alloc, file)?;
     if at < bytes.len() {
@@ -128,7 +128,7 @@ fn altered(alloc: Global, file: &[u8], at: usize) -> Result<Vec<u8>, AllocError>
     Ok(bytes)
 }
 
-/// Asserts what is answered with the highest bit of a byte turned.
+/// Asserts the result with the highest bit of a byte inverted.
 fn assert_altered<R: Abort>(
     rt: &R,
     alloc: Global,
@@ -196,7 +196,7 @@ fn refuses_a_cut_certificate(rt: HostRuntime) -> Result<(), Fail> {
     Ok(())
 }
 
-/// What is found of a file, and whether it is said alike by each call.
+/// The findings on a file, and whether both calls agree.
 fn examined(alloc: Global, matrix: &Matrix, bytes: &[u8]) -> Result<(Examined, bool), Fail> {
     let certificate = read(alloc, bytes)?;
     match certificate.view(matrix) {
@@ -205,14 +205,14 @@ fn examined(alloc: Global, matrix: &Matrix, bytes: &[u8]) -> Result<(Examined, b
     }
 }
 
-/// What is found of a view, and whether it is said alike by each call.
+/// The findings on a view, and whether both calls agree.
 fn examined_view(matrix: &Matrix, view: &CertView<'_>) -> (Examined, bool) {
     let found = examine(matrix, view);
     let alike = check(matrix, view) == found.answer && sole(matrix, view) == found.strict;
     (found, alike)
 }
 
-/// Asserts what is found of a file.
+/// Asserts the findings on a file.
 fn assert_examined<R: Abort>(
     rt: &R,
     alloc: Global,
@@ -226,7 +226,7 @@ fn assert_examined<R: Abort>(
     Ok(())
 }
 
-/// Asserts what is found of moves of 7, 6 and 5 to the second bit, which leave rests of 3 and 1, 4 and 0, 5 and -1.
+/// Asserts the findings on moves of 7, 6 and 5 to the second bit. They leave rests of 3 and 1, 4 and 0, 5 and -1.
 fn assert_strict_from_one<R: Abort>(rt: &R, alloc: Global, pair: &Matrix) -> Result<(), Fail> {
     let no = Answer::No(Refusal::BoundBelow);
     for (amount, answer, strict) in [
@@ -271,7 +271,7 @@ fn has_no_view_past_the_members(rt: HostRuntime) -> Result<(), Fail> {
     Ok(())
 }
 
-/// Asserts what is found of both files in both versions.
+/// Asserts the findings on both files in both versions.
 fn assert_found_in_both<R: Abort>(rt: &R, alloc: Global, toy: &Matrix) -> Result<(), Fail> {
     let yes = Answer::Yes;
     assert_examined(rt, alloc, toy, &wrong_bit(), yes, false)?;
@@ -437,7 +437,7 @@ fn assert_same_shares<R: Abort>(
     Ok(())
 }
 
-/// Asserts that a view answers as what is read from the file that it writes.
+/// Asserts that a view has the same result as the certificate read from the file that it writes.
 pub(crate) fn assert_listed<R: Abort>(
     rt: &R,
     alloc: Global,
@@ -455,7 +455,7 @@ pub(crate) fn assert_listed<R: Abort>(
     assert_same_shares(rt, alloc, view, &list)
 }
 
-/// Asserts that moves of 40, 24, 20, 4 and this amount answer as what is read from the file that they write.
+/// Asserts that moves of 40, 24, 20, 4 and this amount have the same result as the certificate read from their file.
 fn assert_as_listed<R: Abort>(
     rt: &R,
     alloc: Global,

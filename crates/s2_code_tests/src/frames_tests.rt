@@ -18,7 +18,7 @@ use std::process::Abort;
 use std::test::Fail;
 
 /// A group, groups, q, the weight of a row, a seed, the deviation of the noise, the checksum of the certificate that is
-/// found, 0 where there is none, and the verdict.
+/// found, or 0, and the verdict.
 type Frame = (usize, usize, usize, usize, u32, i64, u32, Verdict);
 
 const FORTY: [Frame; 40] = [
@@ -125,7 +125,7 @@ fn encode(matrix: &Matrix, word: &mut Bits, number: &mut u32)
     }
 }
 
-/// A value of a bit behind noise of a deviation.
+/// A value of a bit with noise of a deviation.
 fn value_of(one: bool, deviation: i64, number: &mut u32) -> i16 {
     let mut sum = 0i64;
     for _ in 0..4u8 {
@@ -136,7 +136,7 @@ fn value_of(one: bool, deviation: i64, number: &mut u32) -> i16 {
     (if one { 0i64.wrapping_sub(value) } else { value }) as i16
 }
 
-/// The values of a word behind noise.
+/// The values of a codeword with noise.
 fn noisy(alloc: Global, word: &Bits, deviation: i64, number: &mut u32) -> Result<Vec<i16>, Fail> {
     let mut soft = Vec::new(alloc);
     for bit in word.truths() {
@@ -156,7 +156,7 @@ fn checksum(alloc: Global, view: &CertView<'_>) -> Result<u32, Fail> {
     Ok(sum)
 }
 
-/// The checksum of what is settled for a codeword.
+/// The checksum of the certificate that settling finds for a codeword.
 fn settled(
     alloc: Global,
     matrix: &Matrix,
@@ -216,7 +216,7 @@ fn matrix_for(alloc: Global, frame: &Frame) -> Result<Matrix, Fail> {
     Ok(Matrix::build(alloc, &rows)?)
 }
 
-/// Asserts what is found for the values of a frame, and with what verdict, unless that is left out.
+/// Asserts the certificate that is found for the values of a frame, and the verdict, unless that is left out.
 fn assert_frame<R: Abort + AllocGlobal>(
     rt: &R,
     matrix: &Matrix,
@@ -234,7 +234,7 @@ fn assert_frame<R: Abort + AllocGlobal>(
     Ok(())
 }
 
-/// Asserts what is found for a frame.
+/// Asserts the certificate that is found for a frame.
 fn assert_found<R: Abort + AllocGlobal>(rt: &R, frame: &Frame, judged: bool) -> Result<(), Fail> {
     let matrix = matrix_for(rt.alloc(), frame)?;
     assert_frame(rt, &matrix, frame, judged)

@@ -1,4 +1,4 @@
-//! Judges where memory is refused: each call that takes some is made again.
+//! Judges, if memory may be refused: each call that takes memory is made again.
 ghost use Rattle.std.specs.Prelude.{◌≡◌, All, IfOk, length};
 ghost use Rattle.s2_matrix.specs.Code.{code_of};
 ghost use Rattle.s2_check.specs.Views.{IsSoft};

@@ -33,7 +33,7 @@ pub(crate) fn fits(matrix: &Matrix, soft: &[i16]) -> bool
     soft.len() == matrix.bits() && are_soft(soft)
 }
 
-/// The judge of a matrix, by at most 50 rounds and so many passes of settling.
+/// The judge of a matrix, with at most 50 rounds and this number of passes of settling.
 fn judge_of<'a>(alloc: Global, matrix: &'a Matrix, passes: u32) -> Result<Judge<'a>, Fail>
     ensures { IfOk result (λ j. j.rows ≡ matrix.now) }
 {
@@ -49,7 +49,7 @@ fn verdict_by(judge: &mut Judge<'_>, soft: &[i16]) -> Verdict
     judge.judge(soft)
 }
 
-/// What the checker finds of a judge's certificate, where there is one.
+/// The checker's findings on a judge's certificate, if there is one.
 fn found_on(matrix: &Matrix, judge: &Judge<'_>) -> Option<Examined> {
     match judge.certificate() {
         Some(view) => Some(examine(matrix, &view)),
@@ -62,8 +62,8 @@ fn has_word(judge: &Judge<'_>, bits: &[bool]) -> bool {
     judge.word().truths() == bits
 }
 
-/// What is decided of some values: the verdict, whether the bits are these, and what the checker finds of
-/// their certificate, where there is one.
+/// The decision on some values: the verdict, whether the bits are these, and the checker's findings on their
+/// certificate, if there is one.
 pub(crate) type Decided = (Verdict, bool, Option<Examined>);
 
 /// A certificate all of whose rests are at least 1.
@@ -96,7 +96,7 @@ fn decided_by(matrix: &Matrix, judge: &mut Judge<'_>, soft: &[i16], bits: &[bool
     (verdict, has_word(judge, bits), found_on(matrix, judge))
 }
 
-/// What is decided by a tuning.
+/// The decision with a tuning.
 fn decided_by_tuning(
     alloc: Global,
     matrix: &Matrix,
@@ -111,7 +111,7 @@ fn decided_by_tuning(
     Ok(decided_by(matrix, &mut judge, soft, bits))
 }
 
-/// What is decided by so many passes of settling.
+/// The decision with this number of passes of settling.
 fn decided_in_passes(
     alloc: Global,
     matrix: &Matrix,
@@ -122,7 +122,7 @@ fn decided_in_passes(
     decided_by_tuning(alloc, matrix, soft, bits, Tuning::new(50, passes)?)
 }
 
-/// What is decided without passes of settling.
+/// The decision without passes of settling.
 pub(crate) fn decided(
     alloc: Global,
     matrix: &Matrix,
@@ -132,7 +132,7 @@ pub(crate) fn decided(
     decided_in_passes(alloc, matrix, soft, bits, 0)
 }
 
-/// Asserts what is decided of some values.
+/// Asserts the decision on some values.
 fn assert_decided<A: Abort>(
     rt: &A,
     alloc: Global,
@@ -146,7 +146,7 @@ fn assert_decided<A: Abort>(
     Ok(())
 }
 
-/// Zeros of which one is wrong, and whether its neighbours are weak.
+/// Values of zeros, one of them wrong. `weak`: its neighbours are weak.
 fn wrong_bit(weak: bool) -> [i16; 20] {
     let mut soft = [10; 20];
     soft[0] = -4;
@@ -171,7 +171,7 @@ fn repairs_a_wrong_bit(rt: HostRuntime) -> Result<(), Fail> {
     assert_repairs(&rt, rt.alloc(), &toy)
 }
 
-/// Asserts what is decided on two bits that are to be the same.
+/// Asserts the decision on two bits that must be equal.
 fn assert_pair_decided<A: Abort>(rt: &A, alloc: Global, pair: &Matrix) -> Result<(), Fail> {
     let broken = (Verdict::Broken, true, None);
     for (soft, bits, want) in [
@@ -189,7 +189,7 @@ fn decodes_where_the_repair_has_an_odd_check(rt: HostRuntime) -> Result<(), Fail
     assert_pair_decided(&rt, rt.alloc(), &pair)
 }
 
-/// Asserts what is decided on two bits that are to be the same, by some factors.
+/// Asserts the decision on two bits that must be equal, with some factors.
 fn assert_pair_decided_by_factors<A: Abort>(
     rt: &A,
     alloc: Global,
@@ -231,7 +231,7 @@ fn finds_codewords_without_a_certificate(rt: HostRuntime) -> Result<(), Fail> {
     assert_chain_decided(&rt, rt.alloc(), &chain)
 }
 
-/// Asserts what is decided on values of a codeword one of which is 0, 1 or -1 in the place of its own.
+/// Asserts the decision on values of a codeword, if one of them is replaced by 0, 1 or -1.
 fn assert_least_value<A: Abort>(
     rt: &A,
     alloc: Global,
@@ -270,14 +270,14 @@ fn assert_least_values<A: Abort>(rt: &A, alloc: Global, toy: &Matrix) -> Result<
     Ok(())
 }
 
-/// A codeword is sole without any repair exactly where no value is 0.
+/// A codeword is sole without any repair exactly if no value is 0.
 #[test]
 fn a_value_of_zero_is_not_strict(rt: HostRuntime) -> Result<(), Fail> {
     let toy = matrix_of(rt.alloc(), TOY)?;
     assert_least_values(&rt, rt.alloc(), &toy)
 }
 
-/// Asserts what is decided in so many passes, and that one less finds no certificate.
+/// Asserts the decision with this number of passes, and that one less finds no certificate.
 fn assert_decided_after<A: Abort>(
     rt: &A,
     alloc: Global,
@@ -299,7 +299,7 @@ fn assert_decided_after<A: Abort>(
 /// What min-sum decides of the values whose smallest rest is 1.
 const REST_OF_ONE_BITS: [bool; 8] = [true, false, true, true, true, true, false, true];
 
-/// Asserts what is decided where passes leave a rest of 1, and where one pass less leaves one of 0.
+/// Asserts the decision if the passes leave a rest of 1, and if one pass less leaves a rest of 0.
 fn assert_rests_decided<A: Abort>(rt: &A, alloc: Global, five: &Matrix) -> Result<(), Fail> {
     let bits = REST_OF_ONE_BITS;
     assert_decided_after(rt, alloc, five, &REST_OF_ONE, &bits, 4, SOLE)?;
@@ -326,7 +326,7 @@ fn spreading_may_be_strict(rt: HostRuntime) -> Result<(), Fail> {
     )
 }
 
-/// Asserts what is decided of some values where what min-sum finds stays uncertified.
+/// Asserts the decision on some values if min-sum's codewords stay uncertified.
 fn assert_left<A: Abort>(
     rt: &A,
     alloc: Global,
@@ -374,7 +374,7 @@ fn uncertified_leaves_what_min_sum_finds(rt: HostRuntime) -> Result<(), Fail> {
     )
 }
 
-/// What is decided of a clean frame of zeros.
+/// The decision on a frame of zeros without noise.
 pub(crate) fn decided_on_zeros(alloc: Global, matrix: &Matrix) -> Result<Decided, Fail> {
     let soft = vec![in alloc; 10i16; matrix.bits()]?;
     let zeros = vec![in alloc; false; matrix.bits()]?;
@@ -415,7 +415,7 @@ fn noisy_zeros(alloc: Global, count: usize) -> Result<Vec<i16>, AllocError> {
     Ok(values)
 }
 
-/// The file of a judge's certificate, empty where there is none.
+/// The file of a judge's certificate, empty if there is none.
 fn file_of(alloc: Global, judge: &Judge<'_>) -> Result<Vec<u8>, Fail> {
     let mut file = Counting::new(Vec::new(alloc));
     if let Some(view) = judge.certificate() {
@@ -437,7 +437,7 @@ fn certified_by(
     Ok((verdict, file_of(alloc, judge)?))
 }
 
-/// The same by so many passes of settling.
+/// The same with this number of passes of settling.
 fn certified(
     alloc: Global,
     matrix: &Matrix,
@@ -460,7 +460,7 @@ fn answer_on_file(alloc: Global, matrix: &Matrix, file: &[u8]) -> Result<Answer,
     Ok(check(matrix, &view))
 }
 
-/// Asserts that so many passes find no certificate.
+/// Asserts that this number of passes finds no certificate.
 fn assert_uncertified<A: Abort>(
     rt: &A,
     alloc: Global,
@@ -473,7 +473,7 @@ fn assert_uncertified<A: Abort>(
     Ok(())
 }
 
-/// Asserts that so many passes find a certificate.
+/// Asserts that this number of passes finds a certificate.
 fn assert_certified<A: Abort>(
     rt: &A,
     alloc: Global,

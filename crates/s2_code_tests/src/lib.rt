@@ -1,8 +1,8 @@
 //! Tests of the codes, their decoders and their certificates, over public calls alone, with the numbers of
 //! the standard, of the format, or of another program.
 //!
-//! Each crate's tests stand in a module of its name. What several need stands in `codes` (matrices), `values`
-//! (soft values), `certificate_bytes` (a file), and `again` (calls that are made again where memory was refused).
+//! Each crate's tests are in a module of its name. Several of them share `codes` (matrices), `values` (soft values),
+//! `certificate_bytes` (a file), and `again` (calls that are made again after memory was refused).
 #![tactic(auto)]
 
 #[cfg(test)]
@@ -14,11 +14,11 @@ mod bch_tests;
 #[cfg(test)]
 mod certificate_bytes;
 #[cfg(test)]
-mod check_agreement;
-#[cfg(test)]
 mod check_extremes;
 #[cfg(test)]
 mod check_memory_tests;
+#[cfg(test)]
+mod check_reference_tests;
 #[cfg(test)]
 mod check_tests;
 #[cfg(test)]
@@ -34,15 +34,15 @@ mod judge_memory_tests;
 #[cfg(test)]
 mod judge_tests;
 #[cfg(test)]
-mod matrix_agreement;
-#[cfg(test)]
 mod matrix_memory_tests;
+#[cfg(test)]
+mod matrix_reference_tests;
 #[cfg(test)]
 mod matrix_tests;
 #[cfg(test)]
-mod minsum_agreement;
-#[cfg(test)]
 mod minsum_memory_tests;
+#[cfg(test)]
+mod minsum_reference_tests;
 #[cfg(test)]
 mod minsum_tests;
 #[cfg(test)]

@@ -1,5 +1,4 @@
-//! Building a matrix, where memory may be refused once: then it says so, and the same call again
-//! answers.
+//! Building a matrix, if memory may be refused once: it reports that, and the same call then succeeds.
 use super::again::matrix_of;
 use super::codes::TOY;
 use s2_matrix::Matrix;

@@ -1,4 +1,4 @@
-//! A decoder, where memory may be refused once: then it says so, and the same call again answers.
+//! A decoder, if memory may be refused once: it reports that, and the same call then succeeds.
 ghost use Rattle.std.specs.Prelude.{◌≡◌, IfOk, length};
 ghost use Rattle.s2_mode.specs.Limits.{max_soft};
 ghost use Rattle.s2_minsum.specs.Decoding.{AreWithin};

@@ -158,7 +158,7 @@ fn after_layer<'a, R: Abort + AllocGlobal>(
     Ok(decoder)
 }
 
-/// Posteriors after so many rounds.
+/// Posteriors after this number of rounds.
 fn after_rounds<R: Abort + AllocGlobal>(
     rt: &R,
     matrix: &Matrix,
@@ -173,7 +173,7 @@ fn after_rounds<R: Abort + AllocGlobal>(
     Ok(posteriors(rt.alloc(), &decoder, matrix)?)
 }
 
-/// Asserts the posteriors after so many rounds.
+/// Asserts the posteriors after this number of rounds.
 fn assert_after_rounds<R: Abort + AllocGlobal>(
     rt: &R,
     matrix: &Matrix,
@@ -271,7 +271,7 @@ fn assert_largest<R: Abort + AllocGlobal>(rt: &R, many: &Matrix) -> Result<(), F
     assert_after_rounds(rt, many, &soft, 3, Factor::usual(), &want)
 }
 
-/// Asserts the posteriors of the largest values for zeros, where sizes are kept whole.
+/// Asserts the posteriors of the largest values for zeros, with a factor of 16 sixteenths.
 fn assert_largest_of_all<R: Abort + AllocGlobal>(rt: &R, many: &Matrix) -> Result<(), Fail> {
     let whole = Factor::new(16).expect(rt, "a factor");
     let mut want = [2557i16; 28];

@@ -43,7 +43,8 @@ fn has_the_numbers_of_the_table(rt: HostRuntime) {
     }
 }
 
-// The constellation, the code rate, the Es/N0 in hundredths of a dB (tables 12 and 13), and the measured factor of each MODCOD from 1 on.
+// The constellation, the code rate, the Es/N0 in hundredths of a dB (tables 12 and 13), and the measured factor of each
+// MODCOD from 1 on.
 const MODCODS: [(Modulation, &str, i16, u32); 17] = [
     (Modulation::Qpsk, "1/4", -235, 15),
     (Modulation::Qpsk, "1/3", -124, 14),
@@ -219,7 +220,7 @@ fn counts_no_empty_write(rt: HostRuntime) {
     assert_eq!(rt; writer.count(), 1);
 }
 
-/// Asserts that a buffer is filled as far as there are bytes, and that empty ones ask for nothing.
+/// Asserts that a buffer is filled as far as there are bytes, and that an empty one is accepted.
 fn assert_filled<A: Abort>(rt: &A, bytes: &[u8], room: &mut [u8]) {
     let most = bytes.len().min(room.len());
     let mut reader = Counting::new(bytes);
@@ -239,7 +240,7 @@ fn reads_long_and_empty_buffers(rt: HostRuntime) -> Result<(), Fail> {
     Ok(())
 }
 
-/// Asserts that a slice is written whole, and that empty ones ask for nothing.
+/// Asserts that a slice is written whole, and that an empty one is accepted.
 fn assert_written<A: Abort>(rt: &A, alloc: Global, bytes: &[u8]) {
     let mut writer = Counting::new(Vec::new(alloc));
     assert_eq!(rt; writer.write(&[]), Ok(0));
@@ -348,7 +349,7 @@ fn reads_into_the_room_that_is_there(rt: HostRuntime) -> Result<(), Fail> {
     Ok(())
 }
 
-/// All bytes of a file. Where memory is refused none of them was read, and they come when they are asked for again.
+/// All bytes of a file. If memory is refused, none of them was read, and the next call returns them.
 fn all_again(alloc: Global, bytes: &[u8]) -> Result<Vec<u8>, FileFault> {
     let mut reader = InMemory::new(bytes);
     match read_all(alloc, &mut reader, 9) {

@@ -19,7 +19,7 @@ use std::alloc::{AllocError, Global};
 use std::process::Abort;
 use std::test::Fail;
 
-/// Asserts that what is repaired is the word of zeros, and that it has a split.
+/// Asserts that the repair is the word of zeros, and that it has a split.
 fn assert_repaired<R: Abort>(rt: &R, maker: &mut Maker<'_>, soft: &[i16], word: &mut Bits)
     requires soft { length soft.now ≡ (code_of maker.old.rows).bits }
     requires word { length word.old ≡ (code_of maker.old.rows).bits }
@@ -100,7 +100,7 @@ fn file_of(alloc: Global, view: &CertView<'_>) -> Result<Vec<u8>, Fail> {
     Ok(out.into_inner())
 }
 
-/// Whether what is read of a file has a view, which is strict.
+/// Whether the certificate of a file has a view, and is strict.
 fn is_sole_in(alloc: Global, matrix: &Matrix, file: &[u8]) -> Result<bool, Fail> {
     let certificate = Certificate::read(alloc, file)?;
     match certificate.view(matrix) {
@@ -130,7 +130,7 @@ fn zeros_file(
     file_of(alloc, &CertView::listed(matrix, 1, soft, word, &shares))
 }
 
-/// Asserts that the certificate of zeros is written and read, in either version, as a strict one of so many bytes.
+/// Asserts that the certificate of zeros is written and read, in either version, as a strict one of this size in bytes.
 fn assert_certificates_have_room<R: Abort>(
     rt: &R,
     alloc: Global,
@@ -218,7 +218,7 @@ fn has_room_for_the_widest_checks(rt: HostRuntime) -> Result<(), Fail> {
     assert_clean_frame_has_room(&rt, rt.alloc(), &matrix)
 }
 
-/// A text of so many least values.
+/// A text of the least value, `count` times.
 fn least_values(alloc: Global, count: usize) -> Result<Vec<u8>, AllocError> {
     let mut text = Vec::new(alloc);
     for _value in 0..count {
@@ -250,7 +250,7 @@ fn values_have_room_for_every_mode(rt: HostRuntime) -> Result<(), Fail> {
     Ok(())
 }
 
-/// The rows of a small code behind a comment of so many bytes.
+/// The rows of a small code after a comment of `size` bytes.
 fn behind_a_comment(alloc: Global, size: usize) -> Result<Vec<u8>, AllocError> {
     let mut text = vec![in alloc; b'#'; size]?;
     text.extend_from_slice(b"\n0 4 8\n0 1 2\n")?;

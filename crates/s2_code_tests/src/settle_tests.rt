@@ -153,7 +153,7 @@ fn is_certified(settler: &mut Settler<'_>, soft: &[i16], word: &Bits, passes: u3
     settler.certify(soft, word, passes)
 }
 
-/// What is found for a word with ones at these places in so many passes: these shares, or nothing.
+/// The shares that are found for a word with ones at these places in this number of passes, if any.
 #[derive(Clone, Copy)]
 struct Found<'a> {
     soft: &'a [i16],
@@ -162,7 +162,7 @@ struct Found<'a> {
     shares: Option<&'a [i32]>,
 }
 
-/// Asserts what is found.
+/// Asserts the shares that are found.
 fn assert_settled<R: Abort + AllocGlobal>(
     rt: &R,
     matrix: &Matrix,
@@ -219,7 +219,7 @@ fn assert_all_settled<R: Abort + AllocGlobal>(
     assert_settled_anew(rt, &matrix, frames)
 }
 
-/// Asserts that a certificate with these shares is found in so many passes, and none in one pass less.
+/// Asserts that a certificate with these shares is found in this number of passes, and none in one pass less.
 fn assert_found<R: Abort + AllocGlobal>(
     rt: &R,
     code: Code<'_>,

@@ -1,4 +1,4 @@
-//! A maker, where memory may be refused once: then it says so, and the same call again answers.
+//! A maker, if memory may be refused once: it reports that, and the same call then succeeds.
 ghost use Rattle.std.specs.Prelude.{◌≡◌, IfOk};
 
 use super::again::{matrix_of, zeros};

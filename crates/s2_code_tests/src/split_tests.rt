@@ -13,8 +13,8 @@ use std::alloc::Global;
 use std::process::Abort;
 use std::test::Fail;
 
-/// What is made for a word of zeros under these values: a scale, 0 for none, the first shares, and whether every rest
-/// is at least 1.
+/// The split that is made for a word of zeros with these values: a scale, or 0 if there is none, the first shares, and
+/// whether every rest is at least 1.
 #[derive(Clone, Copy)]
 struct Made<'a> {
     soft: &'a [i16],
@@ -49,7 +49,7 @@ fn is_certified(maker: &mut Maker<'_>, soft: &[i16], word: &Bits) -> bool
     maker.certify(soft, word)
 }
 
-/// Asserts what is made.
+/// Asserts the split that is made.
 fn assert_made<R: Abort>(
     rt: &R,
     alloc: Global,
@@ -109,8 +109,7 @@ fn assert_all_made<R: Abort + AllocGlobal>(
     assert_made_anew(rt, rt.alloc(), &matrix, frames)
 }
 
-/// A wrong bit, then one whose neighbours are weak, then the first again: what was made of one
-/// frame doesn't matter to the next.
+/// A wrong bit, then one whose neighbours are weak, then the first again: one frame does not affect the next.
 #[test]
 fn makes_greedy_and_spread_splits(rt: HostRuntime) -> Result<(), Fail> {
     let greedy = Made {
@@ -161,7 +160,7 @@ fn finds_no_split_of_a_word_that_costs_more(rt: HostRuntime) -> Result<(), Fail>
     assert_all_made(&rt, ([1, 1, 1], b"0\n"), &[none])
 }
 
-/// A code in which checks give back what other checks have made good, and values for which no rest is below 3 after that.
+/// A code whose checks give back the surplus of other checks, and values for which no rest is below 3 after that.
 pub(crate) const GIVEN_BACK: Code<'static> = ([2, 3, 3], b"0 4\n2 3 4 5\n2 3 5\n");
 
 pub(crate) const GIVEN_BACK_VALUES: [i16; 12] = [23, 11, -8, -9, 4, 20, 20, -2, 6, 17, 9, 6];

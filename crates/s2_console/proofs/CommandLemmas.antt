@@ -16,7 +16,7 @@ answers_moved Says A B (Err (faults.Open name)) f h = f (Err (faults.Open name))
 answers_moved Says A B (Err (faults.UsedTwice name)) f h = f (Err (faults.UsedTwice name)) h
 answers_moved Says A B (Err faults.TooLong) f h = f (Err faults.TooLong) h
 answers_moved Says A B (Err (faults.Rows text)) f h = f (Err (faults.Rows text)) h
-answers_moved Says A B (Err (faults.Told text)) f h = f (Err (faults.Told text)) h
+answers_moved Says A B (Err (faults.Refused text)) f h = f (Err (faults.Refused text)) h
 
 -- a command that failed before it printed
 pub refused : {I : Type 0} → (Says : I → Exit → List ℕ → Type 0) (IsInput : Result I Fault → Type 0) (f : Fault) (old new : Option (List ℕ)) → CommandAnswers Says IsInput (Err f) → new ≡ old → CommandRuns Says IsInput (Err f) old new
@@ -27,7 +27,7 @@ refused Says IsInput (faults.Open name) old new h same = (h, same)
 refused Says IsInput (faults.UsedTwice name) old new h same = (h, same)
 refused Says IsInput faults.TooLong old new h same = (h, same)
 refused Says IsInput (faults.Rows text) old new h same = (h, same)
-refused Says IsInput (faults.Told text) old new h same = (h, same)
+refused Says IsInput (faults.Refused text) old new h same = (h, same)
 
 -- a command that printed, or could not
 pub printed_text : {I : Type 0} → (Says : I → Exit → List ℕ → Type 0) (IsInput : Result I Fault → Type 0) (input : I) (exit : Exit) (text : List ℕ) (ended : Result Exit Fault) (old new : Option (List ℕ))
@@ -40,7 +40,7 @@ printed_text Says IsInput input exit text (Err (faults.Open name)) old new is sa
 printed_text Says IsInput input exit text (Err (faults.UsedTwice name)) old new is says no_way = absurd no_way
 printed_text Says IsInput input exit text (Err faults.TooLong) old new is says no_way = absurd no_way
 printed_text Says IsInput input exit text (Err (faults.Rows said)) old new is says no_way = absurd no_way
-printed_text Says IsInput input exit text (Err (faults.Told said)) old new is says no_way = absurd no_way
+printed_text Says IsInput input exit text (Err (faults.Refused said)) old new is says no_way = absurd no_way
 
 pub printed : {I : Type 0} → (Says : I → Exit → List ℕ → Type 0) (IsInput : Result I Fault → Type 0) (p : Printed) (ended : Result Exit Fault) (old new : Option (List ℕ)) → CommandAnswers Says IsInput (Ok p) → Prints p.exit p.text ended old new → CommandRuns Says IsInput ended old new
 printed Says IsInput p ended old new (input, is, says) wrote = printed_text Says IsInput input p.exit p.text ended old new is says wrote
@@ -56,7 +56,7 @@ runs_moved Says A B (Err (faults.Open name)) old new f (h, same) = (f (Err (faul
 runs_moved Says A B (Err (faults.UsedTwice name)) old new f (h, same) = (f (Err (faults.UsedTwice name)) h, same)
 runs_moved Says A B (Err faults.TooLong) old new f (h, same) = (f (Err faults.TooLong) h, same)
 runs_moved Says A B (Err (faults.Rows text)) old new f (h, same) = (f (Err (faults.Rows text)) h, same)
-runs_moved Says A B (Err (faults.Told text)) old new f (h, same) = (f (Err (faults.Told text)) h, same)
+runs_moved Says A B (Err (faults.Refused text)) old new f (h, same) = (f (Err (faults.Refused text)) h, same)
 
 -- a fault of one of a command's parts is the fault of all
 pub told : {V T W U : Type 0} → (v : V → T) (w : W → U) (f : Fault) (a : Result T Fault) (b : Result U Fault) → (a ≡ Err f → b ≡ Err f) → Follows v (Err f) a → Follows w (Err f) b
@@ -67,7 +67,7 @@ told v w (faults.Open name) a b g h = g h
 told v w (faults.UsedTwice name) a b g h = g h
 told v w faults.TooLong a b g h = g h
 told v w (faults.Rows text) a b g h = g h
-told v w (faults.Told text) a b g h = g h
+told v w (faults.Refused text) a b g h = g h
 
 -- what a part refuses, a command refuses
 pub refuses : {I V T : Type 0} → (Says : I → Exit → List ℕ → Type 0) (IsInput : Result I Fault → Type 0) (view : V → T) (f : Fault) (planned : Result T Fault)
@@ -79,7 +79,7 @@ refuses Says IsInput view (faults.Open name) planned g h = g h
 refuses Says IsInput view (faults.UsedTwice name) planned g h = g h
 refuses Says IsInput view faults.TooLong planned g h = g h
 refuses Says IsInput view (faults.Rows text) planned g h = g h
-refuses Says IsInput view (faults.Told text) planned g h = g h
+refuses Says IsInput view (faults.Refused text) planned g h = g h
 
 -- the counts of failed calls by other names
 pub counts_moved : (ended : Result Exit Fault) (a b a' b' w v : ℕ) → a ≡ a' → b ≡ b' → CommandCounts ended a b w v → CommandCounts ended a' b' w v

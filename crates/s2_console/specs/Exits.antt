@@ -65,8 +65,8 @@ Complains (Err f) old new = new.errors_failed ≡ old.errors_failed → Appends 
 
 -- A command that prints its output at its end. It ran on an input, only failed calls were counted, and the line of a
 -- fault is on the errors
-abbrev pub CommandEnds : {I : Type 0} → (I → Exit → List ℕ → Type 0) → (Result I Fault → Type 0) → ℕ → ℕ → Screen → Screen → Exit → Type 0
-CommandEnds Says IsInput reads reads_after old new exit =
+abbrev pub CommandExits : {I : Type 0} → (I → Exit → List ℕ → Type 0) → (Result I Fault → Type 0) → ℕ → ℕ → Screen → Screen → Exit → Type 0
+CommandExits Says IsInput reads reads_after old new exit =
     (ended : Result Exit Fault) × (exit ≡ exit_of ended) × CommandRuns Says IsInput ended old.output new.output
     × CommandCounts ended reads reads_after old.output_failed new.output_failed × Complains ended old new
 

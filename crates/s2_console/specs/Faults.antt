@@ -14,7 +14,7 @@ fault_text faults.Write = codes "cannot write"
 fault_text faults.TooLong = codes "file too long"
 fault_text faults.NoMemory = codes "no memory"
 fault_text (faults.Rows text) = text
-fault_text (faults.Told text) = text
+fault_text (faults.Refused text) = text
 
 -- the line of a fault: `s2: `, its text, LF
 abbrev pub fault_line : Fault → List ℕ

@@ -1,4 +1,4 @@
--- What a command prints and complains, as it is seen (own).
+-- The contents of a command's output and errors (own).
 use Rattle.std.specs.Prelude.{◌≡◌, ℕ, ◌+◌, List, Option}
 use Rattle.s2_mode.specs.Counts.{CanCount}
 

@@ -1,4 +1,4 @@
-//! Where a command prints and where it complains.
+//! The output of a command, and its errors.
 ghost use Rattle.std.specs.Prelude.{◌≡◌, ◌≢◌, ◌≤◌, IsOk, Err};
 ghost use Rattle.s2_mode.specs.Counts.{CanCount};
 ghost use Rattle.s2_console.specs.Exits.{exit_of, Complains};
@@ -9,8 +9,8 @@ use crate::fault::{Fault, write_fault};
 use s2_mode::CountedWrite;
 use std::marker::Model;
 
-/// Where a command prints and where it complains. To contracts it is what stands there, and how many calls
-/// of each have failed.
+/// The output of a command, and its errors. To contracts it is the contents of both, and how many calls of
+/// each have failed.
 #[derive(Drop)]
 pub struct Console<O: CountedWrite, E: CountedWrite> {
     pub output: O,
@@ -32,7 +32,7 @@ impl<O: CountedWrite, E: CountedWrite> Console<O, E> {
         Console { output, errors }
     }
 
-    /// Tells a fault. Where its line cannot be written, nothing is left to tell.
+    /// Prints a fault's line on the errors. If the line cannot be written, nothing more is done.
     pub fn complain(&mut self, fault: Fault<'_>) -> Exit
         requires { CanCount self.old.errors_failed }
         ensures exit { result ≡ Exit.Fault }
@@ -45,7 +45,7 @@ impl<O: CountedWrite, E: CountedWrite> Console<O, E> {
         Exit::Fault
     }
 
-    /// The exit of a command that ended so. A fault is told.
+    /// The exit of a command with this result. A fault's line is printed on the errors.
     pub fn conclude(&mut self, ended: Result<Exit, Fault<'_>>) -> Exit
         requires { CanCount self.old.errors_failed }
         ensures exit { result ≡ exit_of ended.entry }

@@ -17,7 +17,7 @@ pub enum Exit {
 }
 
 impl Exit {
-    /// The code that the program answers: 0, 1 or 2.
+    /// The exit code of the program: 0, 1 or 2.
     pub fn code(self) -> ExitCode
         ensures { exit_status result ≡ status_of self }
     {

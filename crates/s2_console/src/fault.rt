@@ -6,10 +6,10 @@ ghost use Rattle.s2_mode.specs.FaultTexts.{said};
 ghost use Rattle.s2_console.specs.Faults.{fault_text, fault_line, phrase_text, end_text};
 
 use crate::line::Line;
-use crate::told::Told;
+use crate::reason::Reason;
 use s2_mode::{CountedWrite, FaultText, WriteFault, write_full};
 
-/// Why a command ended without an answer.
+/// Why a command failed.
 #[derive(Drop)]
 pub enum Fault<'a> {
     /// The file of this name cannot be opened or made.
@@ -21,37 +21,37 @@ pub enum Fault<'a> {
     Write,
     TooLong,
     NoMemory,
-    /// Rows are refused: what the refusal says.
-    Rows(Told),
-    /// What was asked for, or what a file holds, is refused: what the refusal says.
-    Told(Told),
+    /// Rows are refused, for this reason.
+    Rows(Reason),
+    /// A request, or the contents of a file, are refused, for this reason.
+    Refused(Reason),
 }
 
 impl<'a> Fault<'a> {
-    /// The fault that says this.
-    pub fn told(text: FaultText) -> Fault<'a>
-        ensures { result ≡ Fault.Told (said text) }
+    /// A fault with this text.
+    pub fn refused(text: FaultText) -> Fault<'a>
+        ensures { result ≡ Fault.Refused (said text) }
     {
-        Fault::Told(Told::new("", text))
+        Fault::Refused(Reason::new("", text))
     }
 
-    /// The fault of rows that says this.
+    /// A fault of rows with this text.
     pub fn of_rows(text: FaultText) -> Fault<'a>
         ensures { result ≡ Fault.Rows (codes "rows: " ++ said text) }
     {
-        Fault::Rows(Told::new("rows: ", text))
+        Fault::Rows(Reason::new("rows: ", text))
     }
 
-    /// The fault that says this of a subject.
+    /// A fault with this text, about a subject.
     pub fn about(subject: &'static str, text: FaultText) -> Fault<'a>
-        ensures { result ≡ Fault.Told (subject.entry.now ++ said text) }
+        ensures { result ≡ Fault.Refused (subject.entry.now ++ said text) }
     {
-        Fault::Told(Told::new(subject, text))
+        Fault::Refused(Reason::new(subject, text))
     }
 }
 
-/// The line of a fault in its parts: what it is about, what is wrong, and for some the number of a
-/// line or a packet.
+/// The line of a fault in its parts: its subject, its words, and for some faults the number of a line or
+/// a packet.
 #[derive(Clone, Copy)]
 struct Phrase<'a> {
     about: &'a str,
@@ -69,11 +69,11 @@ fn plain<'a>(about: &'a str, words: &'a str) -> Phrase<'a>
     }
 }
 
-/// The parts of what another crate's fault says.
-fn parts_of<'a>(told: Told) -> Phrase<'a>
-    ensures { phrase_text result ≡ told }
+/// The parts of the text of another crate's fault.
+fn parts_of<'a>(reason: Reason) -> Phrase<'a>
+    ensures { phrase_text result ≡ reason }
 {
-    let (about, text) = told.parts();
+    let (about, text) = reason.parts();
     Phrase {
         about,
         words: text.words,
@@ -91,12 +91,12 @@ fn phrase_of<'a>(fault: Fault<'a>) -> Phrase<'a>
         Fault::Write => plain("", "cannot write"),
         Fault::TooLong => plain("", "file too long"),
         Fault::NoMemory => plain("", "no memory"),
-        Fault::Rows(told) => parts_of(told),
-        Fault::Told(told) => parts_of(told),
+        Fault::Rows(reason) => parts_of(reason),
+        Fault::Refused(reason) => parts_of(reason),
     }
 }
 
-/// The end of a fault's line: its number, where it has one.
+/// The end of a fault's line: its number, if it has one.
 fn end_of(number: Option<u64>) -> Line
     ensures { result ≡ end_text number }
 {

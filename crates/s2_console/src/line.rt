@@ -9,8 +9,8 @@ use std::marker::Model;
 /// The most bytes of a line.
 pub const LINE_ROOM: usize = 256;
 
-/// A line in the making. Its value is its bytes. It takes no memory, so that none can lack once a command has
-/// done what the line tells.
+/// A line in the making. Its value is its bytes. It takes no memory, so a command that has done its work can
+/// always report it.
 pub struct Line {
     text: ArrayString<LINE_ROOM>,
 }
@@ -30,7 +30,7 @@ impl Model for Line {
 }
 
 impl Line {
-    /// The line with nothing on it.
+    /// An empty line.
     pub fn new() -> Line
         ensures { result ≡ [] }
     {
@@ -39,7 +39,7 @@ impl Line {
         }
     }
 
-    /// Puts words behind it.
+    /// Appends words.
     pub fn push(&mut self, words: &str)
         requires { length self.old + length words.now ≤ line_room }
         ensures { self.new ≡ self.old ++ words.now }
@@ -47,7 +47,7 @@ impl Line {
         self.text.push_str(words);
     }
 
-    /// Puts words and a number behind it, in decimal digits, of which there are at most 40.
+    /// Appends words and a number, in at most 40 decimal digits.
     pub fn push_number<I: Integer>(&mut self, words: &str, number: I)
         requires { length self.old + (length words.now + 40) ≤ line_room }
         ensures bytes { self.new ≡ self.old ++ (words.now ++ I.text number) }

@@ -1,4 +1,4 @@
-//! What a command that holds its output back prints.
+//! The output of a command that holds it back.
 ghost use Rattle.std.specs.Prelude.{◌≡◌, ◌≢◌, ◌+◌, Err};
 ghost use Rattle.s2_mode.specs.Counts.{CanCount};
 ghost use Rattle.s2_console.specs.Exits.{Prints};
@@ -8,7 +8,7 @@ use crate::fault::Fault;
 use crate::line::Line;
 use s2_mode::{CountedWrite, write_full};
 
-/// Prints bytes, whole and at once, and ends so.
+/// Prints bytes, all at once, and returns this exit.
 pub fn print<O: CountedWrite>(out: &mut O, exit: Exit, bytes: &[u8]) -> Result<Exit, Fault<'static>>
     requires { CanCount (O.count out.old) }
     ensures prints { Prints exit bytes.now result (O.contents out.old) (O.contents out.new) }
@@ -22,7 +22,7 @@ pub fn print<O: CountedWrite>(out: &mut O, exit: Exit, bytes: &[u8]) -> Result<E
     }
 }
 
-/// The line that a command has to print, and its exit.
+/// The line that a command prints, and its exit.
 pub struct Printed {
     pub exit: Exit,
     pub text: Line,
@@ -35,7 +35,7 @@ impl Drop for Printed {
 }
 
 impl Printed {
-    /// Prints it, whole and at once.
+    /// Prints the line, all at once.
     pub fn print<O: CountedWrite>(self, out: &mut O) -> Result<Exit, Fault<'static>>
         requires { CanCount (O.count out.old) }
         ensures prints { Prints self.exit self.text result (O.contents out.old) (O.contents out.new) }

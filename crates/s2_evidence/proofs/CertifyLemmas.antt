@@ -11,7 +11,7 @@ use Rattle.s2_console.specs.Exits.{CommandAnswers, Prints}
 use Rattle.s2_evidence.specs.Files.{Written}
 use Rattle.s2_evidence.specs.Inputs.{IsOnly}
 use Rattle.s2_evidence.specs.Judging.{IsJudged}
-use Rattle.s2_evidence.specs.Certifying.{Wrote, WrotePart, IsToldAndCertified, LeavesCertificate}
+use Rattle.s2_evidence.specs.Certifying.{Wrote, WrotePart, IsJudgedAndCertified, LeavesCertificate}
 
 -- no writer failed, and the file is unchanged
 pub unchanged : {T : Type 0} → (tuning : Tuning) (IsInput : Result (Rows × List ℤ) Fault → Type 0) (f : Fault) (file : Written) → f ≢ faults.Write → LeavesCertificate {T = T} tuning IsInput (Err f) file file
@@ -20,9 +20,9 @@ unchanged tuning IsInput f file other = record { failed = λ e. absurd (other cc
 module _ (rows : Rows) (asked : Tuning) (soft : List ℤ) (old new : Written) where
   -- a judge that tries as much as is asked for says of these bits, and certifies them
   pub told : (tuning : Tuning) (p : Printed) → tuning ≡ asked → IsJudged tuning (rows, soft) p.exit p.text → IsShown rows soft (decided rows tuning soft)
-      → Wrote (decided rows tuning soft).certificate old new → CommandAnswers (IsToldAndCertified asked old new) (IsOnly (rows, soft)) (Ok p)
+      → Wrote (decided rows tuning soft).certificate old new → CommandAnswers (IsJudgedAndCertified asked old new) (IsOnly (rows, soft)) (Ok p)
   told tuning p same said shown wrote =
-      let P : Tuning → Type 0 = λ t. IsToldAndCertified t old new (rows, soft) p.exit p.text in
+      let P : Tuning → Type 0 = λ t. IsJudgedAndCertified t old new (rows, soft) p.exit p.text in
       ((rows, soft), refl, subst P same (said, record { shown = shown; done = wrote }))
 
   -- its writer failed
@@ -50,7 +50,7 @@ only_write exit text (Err (faults.Open name)) old new h = absurd h
 only_write exit text (Err (faults.UsedTwice name)) old new h = absurd h
 only_write exit text (Err faults.TooLong) old new h = absurd h
 only_write exit text (Err (faults.Rows words)) old new h = absurd h
-only_write exit text (Err (faults.Told words)) old new h = absurd h
+only_write exit text (Err (faults.Refused words)) old new h = absurd h
 
 writes_only : {T : Type 0} (ended : Result T Fault) (P : Type 0) → OnErr ended (ended ≡ Err faults.Write) → OnErr ended (ended ≢ Err faults.Write → P)
 writes_only (Ok x) P h = tt
@@ -58,7 +58,7 @@ writes_only (Err f) P h = λ other. absurd (other h)
 
 -- the verdict was printed behind the certificate, or could not be
 pub printed_behind : (tuning : Tuning) (IsInput : Result (Rows × List ℤ) Fault → Type 0) (p : Printed) (ended : Result Exit Fault) (out out' : Option (List ℕ)) (old new : Written)
-    → CommandAnswers (IsToldAndCertified tuning old new) IsInput (Ok p) → Prints p.exit p.text ended out out' → LeavesCertificate tuning IsInput ended old new
+    → CommandAnswers (IsJudgedAndCertified tuning old new) IsInput (Ok p) → Prints p.exit p.text ended out out' → LeavesCertificate tuning IsInput ended old new
 printed_behind tuning IsInput p ended out out' old new (input, is, (said, certified)) prints = record {
   failed = λ e. (input, is, record { shown = certified.shown; done = inl certified.done });
   other = writes_only ended (new ≡ old) (only_write p.exit p.text ended out out' prints);

@@ -53,7 +53,7 @@ refused_inputs Says view shape known_rows known_soft (faults.Open name) h = h
 refused_inputs Says view shape known_rows known_soft (faults.UsedTwice name) h = h
 refused_inputs Says view shape known_rows known_soft faults.TooLong h = h
 refused_inputs Says view shape known_rows known_soft (faults.Rows words) h = h
-refused_inputs Says view shape known_rows known_soft (faults.Told words) h = h
+refused_inputs Says view shape known_rows known_soft (faults.Refused words) h = h
 
 -- a command on files that were read
 pub on_inputs : (Says : Rows × List ℤ → Exit → List ℕ → Type 0) (shape : Shape) (known_rows known_soft : Option (List ℕ)) (rows : Rows) (soft : List ℤ) (made : Result Printed Fault)
@@ -72,7 +72,7 @@ is_refused Says IsInput (faults.Open name) h = h
 is_refused Says IsInput (faults.UsedTwice name) h = h
 is_refused Says IsInput faults.TooLong h = h
 is_refused Says IsInput (faults.Rows words) h = h
-is_refused Says IsInput (faults.Told words) h = h
+is_refused Says IsInput (faults.Refused words) h = h
 
 -- what two files in memory say, where this is the certificate
 pub parts_of : (text certificate : List ℕ) (file : File) (shape : Shape) → certificate_said (file_of_bytes certificate) ≡ Ok file → shape ≡ file.shape

@@ -43,7 +43,7 @@ own_broken verdicts.MostLikely e = cc
 own_broken verdicts.Parity e = cc
 own_broken verdicts.Broken e = refl
 
--- a judge that tries as much as the program without words answers
+-- a judge that tries as much as the program without arguments answers
 pub own_answers : (rows : Rows) (tuning : Tuning) (soft : List ℤ) (p : Printed) → tuning ≡ tuning_of default_rounds 0 → SaysOwn (decided rows tuning soft) rows soft p.exit p.text → CommandAnswers IsOwn (IsOnly (rows, soft)) (Ok p)
 own_answers rows tuning soft p same said =
     ((rows, soft), refl, subst (λ (t : Tuning). SaysOwn (decided rows t soft) rows soft p.exit p.text) same said)

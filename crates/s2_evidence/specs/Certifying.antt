@@ -42,15 +42,15 @@ pub record WrotePart (view : Option View) (old new : Written) : Type 0 where
   pub counted : new.failed ≡ old.failed + 1
   pub bytes : WritesPart view old.contents new.contents
 
--- This is done with the certificate of the bits that are decided on an input. It is accepted, and there is one exactly where they are
--- called sole or most likely.
+-- This is done with the certificate of the bits that are decided on an input. It is accepted. There is one exactly if
+-- the bits are called sole or most likely
 pub record IsCertified (tuning : Tuning) (input : Rows × List ℤ) (Done : Option View → Type 0) : Type 0 where
   pub shown : IsShown input.0 input.1 (decided input.0 tuning input.1)
   pub done : Done (decided input.0 tuning input.1).certificate
 
 -- the text printed for an input, and the bytes written before it
-abbrev pub IsToldAndCertified : Tuning → Written → Written → Rows × List ℤ → Exit → List ℕ → Type 0
-IsToldAndCertified tuning old new input exit text =
+abbrev pub IsJudgedAndCertified : Tuning → Written → Written → Rows × List ℤ → Exit → List ℕ → Type 0
+IsJudgedAndCertified tuning old new input exit text =
     IsJudged tuning input exit text × IsCertified tuning input (λ view. Wrote view old new)
 
 -- What a failed command leaves of the file. If a writer failed, the input was accepted and the file begun: it has the
@@ -63,10 +63,10 @@ pub record LeavesCertificate {T : Type 0} (tuning : Tuning) (IsInput : Result (R
 
 -- `judge` has ended. The verdict on its files' input is printed, and the certificate written before it. Only failed
 -- calls were counted, and the line of a fault is on the errors
-abbrev pub JudgeEnds : Tuning → Shape → JudgeFiles → JudgeFiles → Screen → Screen → Exit → Type 0
-JudgeEnds tuning shape files files_after old new exit =
+abbrev pub JudgeExits : Tuning → Shape → JudgeFiles → JudgeFiles → Screen → Screen → Exit → Type 0
+JudgeExits tuning shape files files_after old new exit =
     (ended : Result Exit Fault) × (exit ≡ exit_of ended)
-    × CommandRuns (IsToldAndCertified tuning files.certificate files_after.certificate) (AreInputs shape files.rows files.soft) ended old.output new.output
+    × CommandRuns (IsJudgedAndCertified tuning files.certificate files_after.certificate) (AreInputs shape files.rows files.soft) ended old.output new.output
     × LeavesCertificate tuning (AreInputs shape files.rows files.soft) ended files.certificate files_after.certificate
     × CommandCounts ended (files.rows_failed + files.soft_failed) (files_after.rows_failed + files_after.soft_failed)
     (files.certificate.failed + old.output_failed) (files_after.certificate.failed + new.output_failed)

@@ -20,7 +20,7 @@ use Rattle.s2_console.specs.declared.exit.Exit.{Exit}
 use Rattle.s2_console.specs.declared.exit.Exit.TheVariants as exits
 use Rattle.s2_console.specs.declared.fault.Fault.{Fault}
 use Rattle.s2_console.specs.declared.fault.Fault.TheVariants as faults
-use Rattle.s2_console.specs.Exits.{CommandEnds}
+use Rattle.s2_console.specs.Exits.{CommandExits}
 use Rattle.s2_console.specs.Screens.{Screen}
 use Rattle.s2_evidence.specs.Inputs.{taken, rows_said}
 use Rattle.s2_evidence.specs.Lines.{answer_line, examined_line}
@@ -29,7 +29,7 @@ use Rattle.s2_evidence.specs.Lines.{answer_line, examined_line}
 
 abbrev pub certificate_said : Result File CertFault → Result File Fault
 certificate_said (Ok file) = Ok file
-certificate_said (Err e) = Err (faults.Told (codes "certificate: " ++ certificate_fault_text e))
+certificate_said (Err e) = Err (faults.Refused (codes "certificate: " ++ certificate_fault_text e))
 
 abbrev pub beside : File → Result Rows Fault → Result (Rows × File) Fault
 beside file (Ok rows) = Ok (rows, file)
@@ -40,7 +40,7 @@ abbrev pub with_rows : List ℕ → Result File Fault → Result (Rows × File) 
 with_rows text (Ok file) = beside file (rows_said file.shape (row_files.rows_of_text text file.shape))
 with_rows text (Err f) = Err f
 
--- what two files in memory say: first the certificate is taken apart
+-- the contents of two files in memory: the certificate is parsed first
 abbrev pub parts_in : List ℕ → List ℕ → Result (Rows × File) Fault
 parts_in rows certificate = with_rows rows (certificate_said (file_of_bytes certificate))
 
@@ -68,8 +68,8 @@ abbrev pub answer_exit : Answer → Exit
 answer_exit answers.Yes = exits.Fine
 answer_exit (answers.No refusal) = exits.No
 
--- what the checker finds, its line with the cost of the certificate's word, and its exit; the word of a yes is most likely, that of
--- a strict one sole
+-- The checker's result, its line with the cost of the certificate's bits, and its exit. After a yes the bits are most
+-- likely, and sole if the certificate is strict
 pub record SaysAnswer (rows : Rows) (view : View) (exit : Exit) (text : List ℕ) : Type 0 where
   pub found : Examined
   pub checked : Checks rows view found.answer
@@ -91,6 +91,6 @@ IsAnswered input exit text =
     (Suits input.0 input.1 × SaysAnswer input.0 (view_of input.0 input.1) exit text) ⊎ SaysNoShape input.0 input.1 exit text
 
 -- `check` has ended: it ran on the contents of its files, with these counts of failed reads before and after
-abbrev pub CheckEnds : Option (List ℕ) → Option (List ℕ) → Screen → Screen → Exit → ℕ → ℕ → Type 0
-CheckEnds rows certificate old new exit reads reads_after =
-    CommandEnds IsAnswered (AreCheckInputs rows certificate) reads reads_after old new exit
+abbrev pub CheckExits : Option (List ℕ) → Option (List ℕ) → Screen → Screen → Exit → ℕ → ℕ → Type 0
+CheckExits rows certificate old new exit reads reads_after =
+    CommandExits IsAnswered (AreCheckInputs rows certificate) reads reads_after old new exit

@@ -1,8 +1,8 @@
 -- The contents of a command's files, or the fault that is reported (own).
 use Rattle.std.specs.Prelude.{◌≡◌, ℕ, ℤ, nat_le, Option, IfSome, List, ◌++◌, codes, length, Result, Ok, Err, if◌then◌else◌}
 use Rattle.s2_mode.specs.Shape.{Shape, code_bits}
-use Rattle.s2_mode.specs.declared.whole.FileFault.{FileFault}
-use Rattle.s2_mode.specs.declared.whole.FileFault.TheVariants as files
+use Rattle.s2_mode.specs.declared.read_all.FileFault.{FileFault}
+use Rattle.s2_mode.specs.declared.read_all.FileFault.TheVariants as files
 use Rattle.s2_rows.specs.Rows.{Rows, rows_value}
 use Rattle.s2_rows.specs.RowFiles as row_files
 use Rattle.s2_rows.specs.Values as values
@@ -36,7 +36,7 @@ rows_in shape bytes = if nat_le (length bytes) max_bytes then rows_said shape (r
 
 abbrev pub values_said : Result (List ℤ) ValueFault → Result (List ℤ) Fault
 values_said (Ok vs) = Ok vs
-values_said (Err e) = Err (faults.Told (codes "values: " ++ value_fault_text e))
+values_said (Err e) = Err (faults.Refused (codes "values: " ++ value_fault_text e))
 
 -- the values of a value file, at most 16,777,216 bytes
 abbrev pub values_in : Shape → List ℕ → Result (List ℤ) Fault

@@ -12,7 +12,7 @@ use Rattle.s2_judge.specs.Deciding.{Decided, decided}
 use Rattle.s2_console.specs.declared.exit.Exit.{Exit}
 use Rattle.s2_console.specs.declared.exit.Exit.TheVariants as exits
 use Rattle.s2_mode.specs.Shape.{shape_of}
-use Rattle.s2_console.specs.Exits.{CommandEnds}
+use Rattle.s2_console.specs.Exits.{CommandExits}
 use Rattle.s2_console.specs.Screens.{Screen}
 use Rattle.s2_evidence.specs.Inputs.{AreInputs}
 use Rattle.s2_evidence.specs.Lines.{sole_line, most_likely_line, parity_line, broken_line}
@@ -49,7 +49,7 @@ Says verdicts.MostLikely rows soft bits exit text = SaysMostLikely rows soft bit
 Says verdicts.Parity rows soft bits exit text = SaysParity rows soft bits exit text
 Says verdicts.Broken rows soft bits exit text = SaysBroken rows soft bits exit text
 
--- the exit and the text say what was decided
+-- the exit and the text are those of a decision
 abbrev pub SaysDecided : Decided → Rows → List ℤ → Exit → List ℕ → Type 0
 SaysDecided d rows soft exit text = Says d.verdict rows soft d.bits exit text
 
@@ -57,7 +57,7 @@ SaysDecided d rows soft exit text = Says d.verdict rows soft d.bits exit text
 abbrev pub IsJudged : Tuning → Rows × List ℤ → Exit → List ℕ → Type 0
 IsJudged tuning input exit text = SaysDecided (decided input.0 tuning input.1) input.0 input.1 exit text
 
--- what the program without words calls it: most likely also where it is sole
+-- the verdict that the program without arguments prints: most likely, also if the bits are sole
 abbrev pub own_verdict : Verdict → Verdict
 own_verdict verdicts.Sole = verdicts.MostLikely
 own_verdict verdicts.MostLikely = verdicts.MostLikely
@@ -71,7 +71,7 @@ SaysOwn d rows soft exit text = Says (own_verdict d.verdict) rows soft d.bits ex
 abbrev pub IsOwn : Rows × List ℤ → Exit → List ℕ → Type 0
 IsOwn input exit text = SaysOwn (decided input.0 (tuning_of default_rounds 0) input.1) input.0 input.1 exit text
 
--- the program without words has ended: so it ran on the values of its input under the toy rows
-abbrev pub OwnEnds : Option (List ℕ) → ℕ → ℕ → Screen → Screen → Exit → Type 0
-OwnEnds soft reads reads_after old new exit =
-    CommandEnds IsOwn (AreInputs (shape_of 4 2 3) (Some (codes "0 4 8\n0 1 2\n")) soft) reads reads_after old new exit
+-- the program without arguments has ended: so it ran on the values of its input under the toy rows
+abbrev pub OwnExits : Option (List ℕ) → ℕ → ℕ → Screen → Screen → Exit → Type 0
+OwnExits soft reads reads_after old new exit =
+    CommandExits IsOwn (AreInputs (shape_of 4 2 3) (Some (codes "0 4 8\n0 1 2\n")) soft) reads reads_after old new exit

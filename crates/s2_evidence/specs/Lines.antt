@@ -13,7 +13,7 @@ use Rattle.s2_check.specs.declared.checker.Refusal.TheVariants as refusals
 abbrev pub cost_text : Verdict → ℤ → List ℕ
 cost_text verdict cost = verdict_word verdict ++ (codes " cost " ++ signed_decimal cost)
 
--- of a word that is more likely than any other
+-- of bits that are more likely than any other codeword
 abbrev pub sole_line : ℤ → List ℕ
 sole_line cost = cost_text verdicts.Sole cost ++ codes "\n"
 
@@ -25,11 +25,11 @@ most_likely_line cost = cost_text verdicts.MostLikely cost ++ codes "\n"
 abbrev pub parity_line : ℤ → List ℕ
 parity_line cost = cost_text verdicts.Parity cost ++ codes "\n"
 
--- of a word that is no codeword: its cost, and its first odd check
+-- of bits that are not a codeword: their cost, and their first odd check
 abbrev pub broken_line : ℤ → ℕ → List ℕ
 broken_line cost check = cost_text verdicts.Broken cost ++ (codes " check " ++ decimal check) ++ codes "\n"
 
--- the checker's result, with the cost of the word
+-- the checker's result, with the cost of the bits
 abbrev pub answer_text : ℤ → Answer → List ℕ
 answer_text cost answers.Yes = codes "yes cost " ++ signed_decimal cost
 answer_text cost (answers.No refusals.OtherShape) = codes "no shape"

@@ -1,10 +1,10 @@
-//! `check`: certificates checked.
+//! `check`: checks a certificate.
 ghost use Rattle.std.specs.Prelude.{◌≡◌, ◌≢◌, ◌+◌, Result, Err, IsOk};
 ghost use Rattle.s2_mode.specs.Counts.{CanCount};
 ghost use Rattle.s2_certfile.specs.Format.{file_of_bytes};
 ghost use Rattle.s2_console.specs.Screens.{CanShow};
 ghost use Rattle.s2_console.specs.Exits.{Follows, CommandAnswers, CommandRuns, CommandCounts};
-ghost use Rattle.s2_evidence.specs.Checking.{certificate_said, ArePartsIn, AreCheckInputs, answer_exit, SaysAnswer, IsAnswered, CheckEnds};
+ghost use Rattle.s2_evidence.specs.Checking.{certificate_said, ArePartsIn, AreCheckInputs, answer_exit, SaysAnswer, IsAnswered, CheckExits};
 
 use crate::lines::{answer_line, examined_line};
 use crate::reading::{matrix_of, read_bytes};
@@ -24,7 +24,7 @@ fn exit_of_answer(answer: Answer) -> Exit
     }
 }
 
-/// Checks a certificate that suits the matrix.
+/// Checks a certificate that has the matrix's shape.
 fn examined(matrix: &Matrix, view: &CertView<'_>) -> Printed
     ensures { SaysAnswer matrix.now view.now result.exit result.text }
 {
@@ -61,7 +61,7 @@ fn certificate_of(alloc: Global, bytes: &[u8]) -> Result<Certificate, Fault<'sta
     }
 }
 
-/// Takes two files in memory apart, first the certificate, and checks.
+/// Parses two files in memory, the certificate first, and checks.
 fn check_parts(alloc: Global, rows: &[u8], certificate: &[u8]) -> Result<Printed, Fault<'static>>
     ensures answers { CommandAnswers IsAnswered (ArePartsIn rows.now certificate.now) result }
     ensures read { result ≢ Err Fault.Read }
@@ -108,7 +108,7 @@ fn print_check<R: CountedRead, O: CountedWrite>(
     check_read(alloc, rows, certificate)?.print(out)
 }
 
-/// `check`: whether a certificate shows its word to be sole, or most likely, under the code of a row file.
+/// `check`: whether a certificate shows that its bits are sole, or most likely, under the code of a row file.
 pub fn check_command<R: CountedRead, O: CountedWrite, E: CountedWrite>(
     alloc: Global,
     rows: &mut R,
@@ -120,7 +120,7 @@ pub fn check_command<R: CountedRead, O: CountedWrite, E: CountedWrite>(
     requires console { CanShow console.old }
     ensures quiet { result ≢ Exit.Fault → console.new.errors_failed ≡ console.old.errors_failed }
     ensures whole { result ≢ Exit.Fault → console.new.output_failed ≡ console.old.output_failed }
-    ensures run { CheckEnds (R.remaining rows.old) (R.remaining certificate.old) console.old console.new result
+    ensures run { CheckExits (R.remaining rows.old) (R.remaining certificate.old) console.old console.new result
         (R.count rows.old + R.count certificate.old) (R.count rows.new + R.count certificate.new) }
 {
     let ended = print_check(alloc, rows, certificate, &mut console.output);

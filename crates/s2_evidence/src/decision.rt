@@ -1,4 +1,4 @@
-//! What is decided on soft values: its line, its exit and its certificate.
+//! The decision on soft values: its line, its exit and its certificate.
 ghost use Rattle.std.specs.Prelude.{◌≡◌, ◌≢◌, IsTrue, All, IfOk, OnOk, OnErr, length, true, false};
 ghost use Rattle.s2_mode.specs.Counts.{CanCount, CountsFault};
 ghost use Rattle.s2_matrix.specs.Code.{code_of, IsCodeword};
@@ -31,10 +31,10 @@ fn judgement(matrix: &Matrix, soft: &[i16], word: &Bits, verdict: Verdict) -> Pr
     requires broken { verdict ≡ Verdict.Broken → IsCodeword (code_of matrix.now) word.now → ⊥ }
     ensures says { Says verdict matrix.now soft.now word.now result.exit result.text }
 {
-    // at most 64800, so that the cost fits
+    // at most 64800 bits, so the cost fits
     let _ = matrix.bits();
     let cost = cost(soft, word);
-    // a word is broken just where a check is odd
+    // the bits are broken exactly if a check is odd
     match (matrix.odd_check(word), verdict) {
         (Some(check), _) => Printed {
             exit: Exit::No,
@@ -55,7 +55,7 @@ fn judgement(matrix: &Matrix, soft: &[i16], word: &Bits, verdict: Verdict) -> Pr
     }
 }
 
-/// What a judge decides on soft values: its line and its exit.
+/// A judge's decision on soft values: its line and its exit.
 fn decision(matrix: &Matrix, judge: &mut Judge<'_>, soft: &[i16]) -> Printed
     requires rows { judge.old.rows ≡ matrix.now }
     requires long { length soft.now ≡ (code_of matrix.now).bits }
@@ -68,7 +68,7 @@ fn decision(matrix: &Matrix, judge: &mut Judge<'_>, soft: &[i16]) -> Printed
     judgement(matrix, soft, judge.word(), verdict)
 }
 
-/// The verdict that the program without words tells: most likely also where it is sole.
+/// The verdict that the program without arguments prints: most likely, also if the bits are sole.
 fn own_verdict(verdict: Verdict) -> Verdict
     ensures { result ≡ own_verdict verdict }
 {
@@ -79,7 +79,7 @@ fn own_verdict(verdict: Verdict) -> Verdict
     }
 }
 
-/// What a judge decides on soft values, as the program without words tells it.
+/// A judge's decision on soft values, as the program without arguments prints it.
 pub(crate) fn own_decision(matrix: &Matrix, judge: &mut Judge<'_>, soft: &[i16]) -> Printed
     requires rows { judge.old.rows ≡ matrix.now }
     requires long { length soft.now ≡ (code_of matrix.now).bits }
@@ -90,8 +90,8 @@ pub(crate) fn own_decision(matrix: &Matrix, judge: &mut Judge<'_>, soft: &[i16])
     judgement(matrix, soft, judge.word(), own_verdict(verdict))
 }
 
-/// Begins a file, and writes a certificate, if there is one. After a failed write a part of it is written; where the file could
-/// not be truncated, nothing.
+/// Truncates a file, and writes a certificate, if there is one. If a write fails, a part of the certificate was
+/// written. If the file cannot be truncated, nothing is written.
 fn write_certificate<C: Output>(
     view: Option<CertView<'_>>,
     file: &mut Destination<C>,
@@ -103,14 +103,14 @@ fn write_certificate<C: Output>(
     ensures part { OnErr result (WritesPart view.entry (C.contents file.old.to) (C.contents file.new.to)) }
     ensures cause { CountsFault (C.count file.old.to) (C.count file.new.to) result }
 {
-    file.begin()?;
+    file.truncate()?;
     match view {
         Some(view) => view.write(file.writer()),
         None => Ok(()),
     }
 }
 
-/// The same if a file is asked for.
+/// The same, if there is a file.
 fn certify<C: Output>(
     view: Option<CertView<'_>>,
     certificate: &mut Option<Destination<C>>,
@@ -126,7 +126,7 @@ fn certify<C: Output>(
     }
 }
 
-/// Decides by a judge, and writes the certificate of what is decided, if there is one, to a file that is asked for.
+/// A judge's decision. Its certificate, if there is one, is written to the file, if there is one.
 pub(crate) fn decide_by<C: Output>(
     judged: &Judged,
     judge: &mut Judge<'_>,

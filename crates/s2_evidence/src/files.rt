@@ -3,9 +3,10 @@ use s2_files::{Destination, Output};
 use s2_mode::CountedRead;
 use std::marker::Model;
 
-/// The files of `judge`: its row file, its value file, and the file for a certificate, where one is asked for.
-/// To contracts they are what is still to be read of the first two, what stands in the third and whether it was begun, and how many
-/// calls of each have failed. Of a file that is not asked for nothing is known, and no call of it fails.
+/// The files of `judge`: its row file, its value file, and the file for a certificate, if there is one.
+///
+/// In contracts they are the unread bytes of the first two, the contents of the third and whether it was begun, and the
+/// number of failed calls of each. If there is no third file, its contents are unknown, and no call of it fails.
 pub struct JudgeFiles<R: CountedRead, C: Output> {
     pub rows: R,
     pub soft: R,

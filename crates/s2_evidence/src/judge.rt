@@ -1,4 +1,4 @@
-//! `judge`: soft values judged.
+//! `judge`: decides on soft values.
 ghost use Rattle.std.specs.Prelude.{◌≡◌, ◌≢◌, ◌+◌, All, IsOk, Result, Err, length};
 ghost use Rattle.s2_mode.specs.Counts.{CanCount};
 ghost use Rattle.s2_matrix.specs.Code.{code_of};
@@ -7,7 +7,7 @@ ghost use Rattle.s2_console.specs.Screens.{CanShow};
 ghost use Rattle.s2_console.specs.Exits.{CommandAnswers, CommandRuns, CommandCounts};
 ghost use Rattle.s2_evidence.specs.Files.{written, CanBegin, CanJudge};
 ghost use Rattle.s2_evidence.specs.Inputs.{AreInputs, IsOnly};
-ghost use Rattle.s2_evidence.specs.Certifying.{IsToldAndCertified, LeavesCertificate, JudgeEnds};
+ghost use Rattle.s2_evidence.specs.Certifying.{IsJudgedAndCertified, LeavesCertificate, JudgeExits};
 
 use crate::decision::decide_by;
 use crate::files::JudgeFiles;
@@ -19,7 +19,7 @@ use s2_link::Tuning;
 use s2_mode::{CountedRead, CountedWrite, Shape};
 use std::alloc::Global;
 
-/// Judges soft values, and writes the certificate of what is decided, if there is one, to a file that is asked for.
+/// Decides on soft values. The certificate, if there is one, is written to the file, if there is one.
 fn judge_soft<C: Output>(
     alloc: Global,
     tuning: Tuning,
@@ -29,7 +29,7 @@ fn judge_soft<C: Output>(
     requires long { length judged.now.soft.items ≡ (code_of judged.now.matrix).bits }
     requires range { All IsSoft judged.now.soft.items }
     requires certificate { CanBegin (written C.contents C.count certificate.old) }
-    ensures answers { CommandAnswers (IsToldAndCertified tuning (written C.contents C.count certificate.old) (written C.contents C.count certificate.new))
+    ensures answers { CommandAnswers (IsJudgedAndCertified tuning (written C.contents C.count certificate.old) (written C.contents C.count certificate.new))
         (IsOnly (judged.now.matrix, judged.now.soft.items)) result }
     ensures leaves { LeavesCertificate tuning (IsOnly (judged.now.matrix, judged.now.soft.items)) result
         (written C.contents C.count certificate.old) (written C.contents C.count certificate.new) }
@@ -46,7 +46,7 @@ fn judge_soft<C: Output>(
     }
 }
 
-/// Reads rows and soft values, and judges.
+/// Reads rows and soft values, and decides.
 fn judge_files<R: CountedRead, C: Output>(
     alloc: Global,
     shape: Shape,
@@ -54,7 +54,7 @@ fn judge_files<R: CountedRead, C: Output>(
     files: &mut JudgeFiles<R, C>,
 ) -> Result<Printed, Fault<'static>>
     requires { CanJudge files.old }
-    ensures answers { CommandAnswers (IsToldAndCertified tuning files.old.certificate files.new.certificate) (AreInputs shape files.old.rows files.old.soft) result }
+    ensures answers { CommandAnswers (IsJudgedAndCertified tuning files.old.certificate files.new.certificate) (AreInputs shape files.old.rows files.old.soft) result }
     ensures leaves { LeavesCertificate tuning (AreInputs shape files.old.rows files.old.soft) result files.old.certificate files.new.certificate }
     ensures read { result ≡ Err Fault.Read → files.new.rows_failed + files.new.soft_failed ≡ files.old.rows_failed + files.old.soft_failed + 1 }
     ensures no_read { result ≢ Err Fault.Read → files.new.rows_failed + files.new.soft_failed ≡ files.old.rows_failed + files.old.soft_failed }
@@ -65,7 +65,7 @@ fn judge_files<R: CountedRead, C: Output>(
     judge_soft(alloc, tuning, &judged, &mut files.certificate)
 }
 
-/// Reads rows and soft values, judges, certifies, and then prints the verdict.
+/// Reads rows and soft values, decides, writes the certificate, and then prints the verdict.
 fn print_judgement<R: CountedRead, C: Output, O: CountedWrite>(
     alloc: Global,
     shape: Shape,
@@ -76,7 +76,7 @@ fn print_judgement<R: CountedRead, C: Output, O: CountedWrite>(
     requires files { CanJudge files.old }
     requires out { CanCount (O.count out.old) }
     ensures whole { IsOk result → O.count out.new ≡ O.count out.old }
-    ensures run { CommandRuns (IsToldAndCertified tuning files.old.certificate files.new.certificate) (AreInputs shape files.old.rows files.old.soft) result
+    ensures run { CommandRuns (IsJudgedAndCertified tuning files.old.certificate files.new.certificate) (AreInputs shape files.old.rows files.old.soft) result
         (O.contents out.old) (O.contents out.new) }
     ensures leaves { LeavesCertificate tuning (AreInputs shape files.old.rows files.old.soft) result files.old.certificate files.new.certificate }
     ensures causes { CommandCounts result (files.old.rows_failed + files.old.soft_failed) (files.new.rows_failed + files.new.soft_failed)
@@ -85,10 +85,10 @@ fn print_judgement<R: CountedRead, C: Output, O: CountedWrite>(
     judge_files(alloc, shape, tuning, files)?.print(out)
 }
 
-/// `judge`: what a receiver that tries so much decides on the soft values of a file under the code of a row
-/// file, and what is known of it. If a file for it is asked for, the certificate of the decided bits is
-/// written if they are sole or most likely, before the verdict is printed; if its writer fails, a part of it
-/// is written. The file is begun exactly if the input is accepted and there is memory to judge it.
+/// `judge`: prints the verdict of a receiver with this tuning on the soft values of a file, under the code of a row
+/// file. If there is a file for the certificate, and the decided bits are sole or most likely, their certificate is
+/// written before the verdict is printed. If its writer fails, a part of it was written. The file is begun exactly if
+/// the input is accepted and there is memory to judge it.
 pub fn judge_command<R: CountedRead, C: Output, O: CountedWrite, E: CountedWrite>(
     alloc: Global,
     shape: Shape,
@@ -100,7 +100,7 @@ pub fn judge_command<R: CountedRead, C: Output, O: CountedWrite, E: CountedWrite
     requires console { CanShow console.old }
     ensures quiet { result ≢ Exit.Fault → console.new.errors_failed ≡ console.old.errors_failed }
     ensures whole { result ≢ Exit.Fault → console.new.output_failed ≡ console.old.output_failed }
-    ensures run { JudgeEnds tuning shape files.old files.new console.old console.new result }
+    ensures run { JudgeExits tuning shape files.old files.new console.old console.new result }
 {
     let ended = print_judgement(alloc, shape, tuning, files, &mut console.output);
     console.conclude(ended)

@@ -1,12 +1,14 @@
-//! What files show of decided bits: `judge` and `check`, over any readers and writers.
+//! The commands `judge` and `check`, over any readers and writers.
 //!
-//! Of a row file and a value file [`judge_command`] prints the verdict on the bits that a receiver decides, and
-//! writes their certificate if a file for it is asked for; of a row file and a certificate's file
-//! [`check_command`] prints the checker's answer. The exit is that of the verdict or the answer. A file that is
-//! refused is told by one line on the errors, and so is a reader or a writer that failed, or want of memory; the counts of failed
-//! calls rise where a reader or a writer failed. The certificate's file is begun once the input is accepted and there is memory to
-//! judge it, and is otherwise unchanged. [`self_command`] judges its input under the toy rows, and says most likely also where a
-//! word is sole. The files of `judge` are one value ([`JudgeFiles`]), and [`read_matrix`] reads rows for other commands too.
+//! [`judge_command`] reads a row file and a value file, and prints the verdict on the bits that a receiver decides. It
+//! writes their certificate, if there is a file for it. [`check_command`] reads a row file and a certificate, and
+//! prints the checker's result. The exit is that of the verdict or of the result. If a file is refused, a reader or a
+//! writer fails, or memory runs out, one line on the errors reports it. Only failed calls are counted. The
+//! certificate's file is begun after the input was accepted, if there is memory to judge it; otherwise it is unchanged.
+//! [`self_command`] judges its input under the toy rows, and prints most likely also if the bits are sole. The files of
+//! `judge` are one value ([`JudgeFiles`]). [`read_matrix`] reads rows for other commands too.
+//!
+//! In the literature, soft values are quantized LLRs, and a certificate is an ML certificate.
 //!
 //! ```text
 //! let mut files = JudgeFiles { rows, soft, certificate: Some(Destination::new(file)) };

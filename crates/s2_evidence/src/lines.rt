@@ -1,11 +1,11 @@
-//! The lines of verdicts and of answers. They take no memory.
+//! The lines of verdicts and of the checker's results. They take no memory.
 ghost use Rattle.std.specs.Prelude.{◌≡◌, ◌≤◌, length};
 ghost use Rattle.s2_evidence.specs.Lines.{cost_text, sole_line, most_likely_line, parity_line, broken_line, answer_text, answer_line, examined_line};
 
 use s2_check::{Answer, Examined, Refusal, Verdict};
 use s2_console::Line;
 
-/// What is known of bits, and their cost.
+/// A verdict on bits, and their cost.
 fn with_cost(verdict: Verdict, cost: i64) -> Line
     ensures text { result ≡ cost_text verdict cost }
     ensures short { length result ≤ 57 }
@@ -16,7 +16,7 @@ fn with_cost(verdict: Verdict, cost: i64) -> Line
     line
 }
 
-/// The line of a word that is more likely than any other.
+/// The line of bits that are more likely than any other codeword.
 pub(crate) fn sole_line(cost: i64) -> Line
     ensures { result ≡ sole_line cost }
 {
@@ -25,7 +25,7 @@ pub(crate) fn sole_line(cost: i64) -> Line
     line
 }
 
-/// The line of a word that is most likely.
+/// The line of bits that are most likely.
 pub(crate) fn most_likely_line(cost: i64) -> Line
     ensures { result ≡ most_likely_line cost }
 {
@@ -43,7 +43,7 @@ pub(crate) fn parity_line(cost: i64) -> Line
     line
 }
 
-/// The line of a word that is no codeword, with its first odd check.
+/// The line of bits that are not a codeword, with their first odd check.
 pub(crate) fn broken_line(cost: i64, check: usize) -> Line
     ensures { result ≡ broken_line cost check }
 {
@@ -53,7 +53,7 @@ pub(crate) fn broken_line(cost: i64, check: usize) -> Line
     line
 }
 
-/// What a checker answers.
+/// The checker's result, without LF.
 fn answer_text(cost: i64, answer: Answer) -> Line
     ensures text { result ≡ answer_text cost answer }
     ensures short { length result ≤ 49 }
@@ -68,7 +68,7 @@ fn answer_text(cost: i64, answer: Answer) -> Line
     line
 }
 
-/// The line of an answer, with the cost of the word that was asked about.
+/// The line of the checker's result, with the cost of the certificate's bits.
 pub(crate) fn answer_line(cost: i64, answer: Answer) -> Line
     ensures { result ≡ answer_line cost answer }
 {
@@ -77,7 +77,7 @@ pub(crate) fn answer_line(cost: i64, answer: Answer) -> Line
     line
 }
 
-/// The line of what is found of a certificate, with the cost of its word: of a strict one that the word is sole.
+/// The line of a certificate, with the cost of its bits: `sole` if it is strict, else the checker's result.
 pub(crate) fn examined_line(cost: i64, found: Examined) -> Line
     ensures { result ≡ examined_line cost found }
 {

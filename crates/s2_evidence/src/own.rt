@@ -1,4 +1,4 @@
-//! The program without words.
+//! The program without arguments.
 ghost use Rattle.std.specs.Prelude.{◌≡◌, ◌≢◌, ◌+◌, All, IsOk, Result, Err, codes, Some, length};
 ghost use Rattle.s2_mode.specs.Counts.{CanCount};
 ghost use Rattle.s2_mode.specs.Shape.{shape_of};
@@ -9,7 +9,7 @@ ghost use Rattle.s2_link.specs.Tuning.{tuning_of};
 ghost use Rattle.s2_console.specs.Screens.{CanShow};
 ghost use Rattle.s2_console.specs.Exits.{CommandAnswers, CommandRuns, CommandCounts};
 ghost use Rattle.s2_evidence.specs.Inputs.{AreInputs, IsOnly};
-ghost use Rattle.s2_evidence.specs.Judging.{IsOwn, OwnEnds};
+ghost use Rattle.s2_evidence.specs.Judging.{IsOwn, OwnExits};
 
 use crate::decision::own_decision;
 use crate::reading::{Judged, read_judged};
@@ -22,14 +22,14 @@ use std::alloc::Global;
 /// The row file of the toy shape.
 pub const TOY_ROWS: &[u8] = b"0 4 8\n0 1 2\n";
 
-/// How much is tried where nothing is named: the default rounds, and no passes.
+/// The tuning without options: the default rounds, and no passes.
 fn default_tuning() -> Tuning
     ensures { result ≡ tuning_of default_rounds 0 }
 {
     Tuning::new(DEFAULT_ROUNDS, 0).unwrap()
 }
 
-/// Judges soft values.
+/// Decides on soft values.
 fn judge_own(alloc: Global, judged: &Judged) -> Result<Printed, Fault<'static>>
     requires long { length judged.now.soft.items ≡ (code_of judged.now.matrix).bits }
     requires range { All IsSoft judged.now.soft.items }
@@ -43,7 +43,7 @@ fn judge_own(alloc: Global, judged: &Judged) -> Result<Printed, Fault<'static>>
     Ok(own_decision(&judged.matrix, &mut judge, &judged.soft))
 }
 
-/// Reads rows and soft values, and judges.
+/// Reads rows and soft values, and decides.
 fn own_read<R: CountedRead, S: CountedRead>(
     alloc: Global,
     shape: Shape,
@@ -61,7 +61,7 @@ fn own_read<R: CountedRead, S: CountedRead>(
     judge_own(alloc, &judged)
 }
 
-/// Judges soft values under the toy rows, and prints the verdict.
+/// Decides on soft values under the toy rows, and prints the verdict.
 fn print_own<S: CountedRead, O: CountedWrite>(
     alloc: Global,
     soft: &mut S,
@@ -78,8 +78,8 @@ fn print_own<S: CountedRead, O: CountedWrite>(
     own_read(alloc, shape, &mut rows, soft)?.print(out)
 }
 
-/// The program without words: `judge` of its input under the toy rows, but a word that is sole is called most
-/// likely, as it also is.
+/// The program without arguments: `judge` of its input under the toy rows. Bits that are sole are called most likely,
+/// which they also are.
 pub fn self_command<S: CountedRead, O: CountedWrite, E: CountedWrite>(
     alloc: Global,
     soft: &mut S,
@@ -89,7 +89,7 @@ pub fn self_command<S: CountedRead, O: CountedWrite, E: CountedWrite>(
     requires console { CanShow console.old }
     ensures quiet { result ≢ Exit.Fault → console.new.errors_failed ≡ console.old.errors_failed }
     ensures whole { result ≢ Exit.Fault → console.new.output_failed ≡ console.old.output_failed }
-    ensures run { OwnEnds (S.remaining soft.old) (S.count soft.old) (S.count soft.new) console.old console.new result }
+    ensures run { OwnExits (S.remaining soft.old) (S.count soft.old) (S.count soft.new) console.old console.new result }
 {
     let ended = print_own(alloc, soft, &mut console.output);
     console.conclude(ended)

@@ -1,4 +1,4 @@
-//! Row files, their matrices, value files, and what is judged.
+//! Row files, their matrices, value files, and the input of a judge.
 ghost use Rattle.std.specs.Prelude.{◌≡◌, ◌≢◌, ◌+◌, ◌≤◌, All, Err, IfOk, IfSome, IsOkUnless, length, vec_len, vec_capacity};
 ghost use Rattle.s2_check.specs.Views.{IsSoft};
 ghost use Rattle.s2_mode.specs.Counts.{CanCount};
@@ -27,7 +27,7 @@ fn room(alloc: Global) -> Result<Vec<u8>, Fault<'static>>
     Vec::with_capacity(alloc, MAX_BYTES).map_err(|_| Fault::NoMemory)
 }
 
-/// A fault of a file, as a command's.
+/// The command's fault for a fault of a file.
 fn file_fault(fault: FileFault) -> Fault<'static>
     ensures { result ≡ fault_of_file fault }
 {
@@ -38,7 +38,7 @@ fn file_fault(fault: FileFault) -> Fault<'static>
     }
 }
 
-/// Puts the bytes of a file into room for them. It takes no memory.
+/// Reads the bytes of a file into a buffer with room for them. It takes no memory.
 fn fill<R: CountedRead>(reader: &mut R, bytes: &mut Vec<u8>) -> Result<(), Fault<'static>>
     requires count { CanCount (R.count reader.old) }
     requires empty { vec_len bytes.old ≡ 0 }
@@ -113,7 +113,7 @@ pub fn read_matrix<R: CountedRead>(
     matrix_of(alloc, &text, shape)
 }
 
-/// The values of a value file in memory, as many as a codeword has bits.
+/// The values of a value file in memory, one for each bit of a codeword.
 fn values_of(alloc: Global, text: &[u8], shape: Shape) -> Result<Vec<i16>, Fault<'static>>
     ensures says { Follows (λ v. v.items) result (values_said (values.values_of_text text.now (code_bits shape))) }
     ensures long { IfOk result (λ v. length v.items ≡ code_bits shape) }
@@ -146,7 +146,7 @@ fn read_value_file<R: CountedRead>(
     values_of(alloc, &text, shape)
 }
 
-/// What is judged: the matrix of rows, and a soft value for each of its bits.
+/// The input of a judge: the matrix of rows, and a soft value for each of its bits.
 pub(crate) struct Judged {
     pub(crate) matrix: Matrix,
     pub(crate) soft: Vec<i16>,

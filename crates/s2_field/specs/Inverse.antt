@@ -109,7 +109,7 @@ module _ (m low : ℕ) (positive : 0 < m) (low_fits : low < 2 ^ m) where
       ap (squared m low k) (square-xor a b ha hb)
       ∙ squared-xor k (times m low a a) (times m low b b) (times-below a a ha) (times-below b b hb)
 
-  -- each element is its own 2^m-th power, where that holds of each power of two
+  -- each element is its own 2^m-th power, if each power of two is
   pub squared-all : agree_at_powers m (squared m low m) (λ a. a) ≡ true → (a : ℕ) → a < 2 ^ m → squared m low m a ≡ a
   squared-all h a ha = same_additive m (squared m low m) (λ a. a) (squared-xor m) (λ a b _ _. refl) h a ha
 

@@ -26,7 +26,7 @@ pub trait Field: Copy + Drop {
     fn one() -> Self
         ensures { result ≡ field.one };
 
-    /// The root of the field's polynomial of which all elements but zero are powers.
+    /// The root of the field's polynomial. Its powers are all elements but zero.
     fn alpha() -> Self
         ensures { result ≡ alpha };
 
@@ -52,7 +52,7 @@ pub trait Field: Copy + Drop {
         requires { self ≢ field.zero }
         ensures { result ≡ field.inverse self };
 
-    /// The number from 0 to `ORDER` that stands for the element.
+    /// The number of the element, from 0 to `ORDER`.
     fn number(self) -> usize
         ensures { result ≡ number self };
 

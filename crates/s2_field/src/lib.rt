@@ -1,10 +1,10 @@
 //! The fields of 2^16 and 2^14 elements of the BCH code (EN 302 307-1, 5.3.1), and polynomials
 //! over them.
 //!
-//! The BCH encoder and decoder of `s2_bch` stand on this crate. It promises that `add`, `mul` and
-//! `inv` satisfy the laws of a field (the trait's law `laws`), that `alpha` has as many different
-//! powers as there are elements but zero (`laws::order`), hence all of them, and that `pow`, `eval`
-//! and `degree` are what they are in any algebra book.
+//! The BCH encoder and decoder (`s2_bch`) compute in these fields. `add`, `mul` and `inv` satisfy
+//! the laws of a field (the trait's law `laws`). The powers of `alpha` are all elements but zero,
+//! and no two of them are equal below the order (`laws::order`). `pow`, `eval` and `degree` are
+//! those of algebra.
 //!
 //! ```
 //! let a = Gf16::alpha();

@@ -17,7 +17,7 @@ pub fn eval<F: Field>(polynomial: &[F], x: F) -> F
     value
 }
 
-/// The polynomial's degree. `None` where all coefficients are zero.
+/// The polynomial's degree. `None` if all coefficients are zero.
 pub fn degree<F: Field>(polynomial: &[F]) -> Option<usize>
     ensures some { IfSome result (λ d. IsDegree F.field.zero d polynomial.now) }
     ensures none { IfNone result (IsZeroFrom F.field.zero 0 polynomial.now) }

@@ -1,11 +1,12 @@
-//! The files that a command names: each is opened once, and an output keeps what it holds until the command begins to write.
+//! The files that a command names: each is opened once, and an output keeps its contents until the command begins to write.
 //!
-//! An [`Opener`] opens them in the order in which they are asked for. `-` is standard input or standard output, and so are
-//! `/dev/stdin` and `/dev/stdout`. It refuses what is used twice: an output that is also an input, two outputs that are one
-//! file, and a standard stream that is named twice. Two names are one file if device and number are the same;
-//! pipes, sockets and character devices hold nothing that could be lost, and are no such files. An output is opened without
-//! being truncated. A command gets it as a [`Destination`]: [`Destination::begin`] truncates it, and only then there is a writer.
-//! [`Target::finish`] writes what is left in a buffer.
+//! An [`Opener`] opens them in the order of the calls. `-` is standard input or standard output, and so are `/dev/stdin`
+//! and `/dev/stdout`. It refuses a file that is used twice: an output that is also an input, two outputs that are one
+//! file, and a standard stream that is named twice. Two names are one file if device and inode number are the same. This
+//! leaves out pipes, sockets and character devices, which hold nothing that could be lost.
+//!
+//! An output is opened without being truncated. A command gets it as a [`Destination`]. Only after
+//! [`Destination::truncate`] there is a writer. [`Target::finish`] writes the bytes that are left in a buffer.
 //!
 //! ```text
 //! let mut opener = Opener::new(rt);
@@ -13,7 +14,7 @@
 //! let mut packets = opener.read_buffered(words.packets)?;
 //! let mut symbols = Destination::new(opener.write(words.symbols)?);
 //! // the rows are accepted
-//! symbols.begin()?;
+//! symbols.truncate()?;
 //! write_full(symbols.writer(), frame)?;
 //! symbols.into_inner().finish()?;
 //! ```

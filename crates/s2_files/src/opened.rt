@@ -1,4 +1,4 @@
-//! What was opened.
+//! Opened files.
 use std::fs::OpenFile;
 use std::io;
 use std::io::{Read, Write};

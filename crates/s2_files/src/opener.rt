@@ -162,8 +162,8 @@ impl<'r, R: Disk> Opener<'r, R> {
     }
 }
 
-/// Puts an input behind a buffer, if there is memory for it. The buffer is made around standard input, since without memory what it is
-/// made around is dropped.
+/// Gives an input a buffer, if there is memory for it. The buffer is made around standard input first: without memory,
+/// its reader is dropped.
 fn buffered<R: Disk + AllocGlobal>(
     rt: &R,
     file: Opened<R::File, R::Input>,

@@ -1,4 +1,4 @@
-//! Outputs, which may hold something from before.
+//! Outputs, whose files may have contents from before.
 ghost use Rattle.std.specs.Prelude.{◌≡◌, true, false};
 ghost use Rattle.s2_mode.specs.Counts.{CanCount, CountsFault};
 ghost use Rattle.s2_files.specs.Lending.{LendsWriter};
@@ -7,24 +7,24 @@ ghost use Rattle.std.specs.Borrow.{sem};
 use s2_mode::{CountedWrite, Counting, WriteFault};
 use std::io::Write;
 
-/// A writer that may stand on a file which holds something from before.
+/// A writer to a file that may have contents from before.
 pub trait Output: CountedWrite {
-    /// Truncates the file. What the writer has taken is unchanged.
+    /// Truncates the file. The contents of the writer are unchanged.
     fn truncate(&mut self) -> Result<(), WriteFault>
         requires { CanCount (Self.count self.old) }
         ensures kept { Self.contents self.new ≡ Self.contents self.old }
         ensures cause { CountsFault (Self.count self.old) (Self.count self.new) result };
 }
 
-/// Memory holds nothing from before.
+/// Memory has no contents from before.
 impl<W: Write> Output for Counting<W> {
     fn truncate(&mut self) -> Result<(), WriteFault> {
         Ok(())
     }
 }
 
-/// An output that a command was given. It keeps what it holds until the command begins to write, which it does once; nothing can be written
-/// before.
+/// An output of a command. It keeps its contents until the command begins to write, which it does once. Nothing can be
+/// written before.
 #[derive(Drop)]
 pub struct Destination<W> {
     to: W,
@@ -58,8 +58,8 @@ impl<W> Destination<W> {
 }
 
 impl<W: Output> Destination<W> {
-    /// Begins it: what the file held is gone. If it cannot be truncated, it counts as begun all the same.
-    pub fn begin(&mut self) -> Result<(), WriteFault>
+    /// Truncates the file. If that fails, the output counts as begun all the same.
+    pub fn truncate(&mut self) -> Result<(), WriteFault>
         requires once { self.old.begun ≡ false }
         requires count { CanCount (W.count self.old.to) }
         ensures begun { self.new.begun ≡ true }

@@ -3,7 +3,7 @@ use crate::uses::Role;
 use std::io::{IsTerminal, Read, Write};
 use std::rt::{Stderr, Stdin, Stdout};
 
-/// Where the standard streams come from.
+/// The standard streams of the program.
 pub trait StandardStreams {
     type Input: Read + Drop;
 

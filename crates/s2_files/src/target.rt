@@ -12,7 +12,7 @@ use std::fs::OpenFile;
 use std::io;
 use std::io::{BufWriter, Write};
 
-/// An opened file behind a buffer, or without one.
+/// An opened file with a buffer, or without one.
 pub(crate) type MaybeBuffered<F, S> = Either<BufWriter<Opened<F, S>>, Opened<F, S>>;
 
 /// A file that was opened for writing and is not truncated yet, or a standard stream. It counts its failed calls.
@@ -24,7 +24,7 @@ pub struct Target<F: Write + Drop, S: Write + Drop> {
 }
 
 impl<F: Write + Drop, S: Write + Drop> Target<F, S> {
-    /// `holds` says whether it is a regular file, which may hold something.
+    /// `holds` says whether it is a regular file, which may have contents.
     pub(crate) fn new(to: MaybeBuffered<F, S>, holds: bool) -> Target<F, S>
         ensures { result.failed ≡ 0 }
     {
@@ -35,7 +35,7 @@ impl<F: Write + Drop, S: Write + Drop> Target<F, S> {
         }
     }
 
-    /// Writes what is still in the buffer. After a failed write nothing more is written.
+    /// Writes the bytes that are still in the buffer. After a failed write nothing more is written.
     pub fn finish(self) -> Result<(), WriteFault> {
         let Target {
             to,
@@ -87,7 +87,7 @@ impl<F: Write + Drop, S: Write + Drop> CountedWrite for Target<F, S> {
     }
 }
 
-/// Truncates the file, in whose buffer there is nothing so far.
+/// Truncates the file. Its buffer is empty so far.
 fn cut<F: Write + OpenFile + Drop, S: Write + Drop>(to: &MaybeBuffered<F, S>) -> io::Result<()> {
     match to {
         Left(buffered) => buffered.get_ref().cut(),

@@ -1,15 +1,15 @@
-//! What a command has opened, and what goes together.
+//! The files that a command has opened, and which of them clash.
 ghost use Rattle.std.specs.Prelude.{◌≡◌};
 ghost use Rattle.s2_files.specs.Uses.{clashes, clashes_any, same_node};
 
-/// By what a file system knows a file: its device, and its number there.
+/// The identity of a file in its file system: its device, and its inode number there.
 #[derive(Clone, Copy, Debug, PartialEq, Eq)]
 pub struct Node {
     pub device: u64,
     pub number: u64,
 }
 
-/// What the file system tells of an open file: which one it is, where it holds bytes, and how many it holds, where it is a regular one.
+/// What the file system says of an open file: its identity, if it holds bytes, and its length, if it is a regular file.
 #[derive(Clone, Copy, Debug, PartialEq, Eq)]
 pub struct Stat {
     pub node: Option<Node>,
@@ -23,8 +23,8 @@ pub enum Role {
     Output,
 }
 
-/// How a command uses a file: whether it is read or written, whether it is a standard stream, and by what its file system
-/// knows it, where it is a file that holds bytes.
+/// How a command uses a file: whether it is read or written, whether it is a standard stream, and its identity, if it is
+/// a file that holds bytes.
 #[derive(Clone, Copy, Debug, PartialEq, Eq)]
 pub struct Use {
     pub role: Role,
@@ -42,7 +42,7 @@ impl Default for Use {
     }
 }
 
-/// Whether both are there and one.
+/// Whether both are there and the same.
 fn same_node(one: Option<Node>, other: Option<Node>) -> bool
     ensures { result ≡ same_node one other }
 {
@@ -52,7 +52,7 @@ fn same_node(one: Option<Node>, other: Option<Node>) -> bool
     }
 }
 
-/// Whether two uses don't go together: of one file one of which writes, or of one standard stream.
+/// Whether two uses clash: they are of one standard stream, or of one file that one of them writes.
 fn clashes(one: Use, other: Use) -> bool
     ensures { result ≡ clashes one other }
 {
@@ -65,7 +65,7 @@ fn clashes(one: Use, other: Use) -> bool
     }
 }
 
-/// Whether a use goes together with none or not with some of those before it.
+/// Whether a use clashes with one of those before it.
 pub(crate) fn clashes_any(before: &[Use], new: Use) -> bool
     ensures { result ≡ clashes_any before.now new }
 {

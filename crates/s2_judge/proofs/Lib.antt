@@ -3,5 +3,5 @@ pub mod Certificates
 pub mod DecidingLemmas
 pub mod Scattering
 pub mod DecidedLengths
-mod Grounds
+mod EvidenceLemmas
 mod Mends

@@ -7,8 +7,8 @@ use Rattle.s2_settle.specs.Holding.{Settling}
 use Rattle.s2_judge.specs.declared.certifier.Holder.{Holder}
 use Rattle.s2_judge.specs.declared.certifier.Holder.TheVariants.{Nobody, Maker, Settler}
 
--- the rows of its matrix, how many passes of settling it runs, the word that what it found is bound to, if it is, what it found, and
--- whether that is strict
+-- the rows of its matrix, its number of passes of settling, the word that is stored with the shares it found, if it is,
+-- these shares, and whether they are strict
 pub record Certifying : Type 0 where
   pub rows : Rows
   pub passes : ℕ

@@ -72,7 +72,8 @@ abbrev pub view_for : Rows → ℕ → List ℤ → List Bool → Option View
 view_for r passes soft bits =
     if passes == 0 then made_view r soft bits else or_else (greedy_view r soft bits) (settled r soft bits passes)
 
--- the certificate that is made for a codeword that min-sum found: without passes of settling the same, with passes by these alone
+-- the certificate that is made for a codeword that min-sum found: without passes of settling the same, with passes by
+-- these alone
 abbrev pub decoded_view : Rows → ℕ → List ℤ → List Bool → Option View
 decoded_view r passes soft bits =
     if passes == 0 then made_view r soft bits else settled r soft bits passes
@@ -127,7 +128,7 @@ abbrev pub LikelyLaw : Type 0
 LikelyLaw =
     (r : Rows) (tuning : Tuning) (soft : List ℤ) → length soft ≡ (code_of r).bits → IsTrue (is_certified (decided r tuning soft).verdict) → IsMostLikely (code_of r) soft (decided r tuning soft).bits
 
--- where they are called sole, each other codeword costs more
+-- if bits are called sole, each other codeword costs more
 abbrev pub SoleLaw : Type 0
 SoleLaw =
     (r : Rows) (tuning : Tuning) (soft : List ℤ) → length soft ≡ (code_of r).bits → (decided r tuning soft).verdict ≡ Sole → IsSole (code_of r) soft (decided r tuning soft).bits

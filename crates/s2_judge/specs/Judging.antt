@@ -8,8 +8,8 @@ use Rattle.s2_check.specs.declared.verdict.Verdict.TheVariants.{Parity, Broken}
 use Rattle.s2_split.specs.Making.{Shared, shared_views}
 use Rattle.s2_minsum.specs.Decoding.{Decoding}
 use Rattle.s2_link.specs.Tuning.{Tuning}
-use Rattle.s2_judge.specs.declared.ground.Ground.{Ground}
-use Rattle.s2_judge.specs.declared.ground.Ground.TheVariants.{HardDecision, Found, Checks, Nothing}
+use Rattle.s2_judge.specs.declared.evidence.Evidence.{Evidence}
+use Rattle.s2_judge.specs.declared.evidence.Evidence.TheVariants.{HardDecision, Found, Checks, Nothing}
 use Rattle.s2_judge.specs.Deciding.{Decided, verdict_by}
 use Rattle.s2_judge.specs.Certifying.{Certifying}
 
@@ -21,38 +21,38 @@ pub record Judging : Type 0 where
   pub bits : List Bool
   pub certificate : Option View
 
--- the verdict on a ground
-abbrev pub verdict_of : Ground → Verdict
+-- the verdict on some evidence
+abbrev pub verdict_of : Evidence → Verdict
 verdict_of (HardDecision strict) = verdict_by strict
 verdict_of (Found strict) = verdict_by strict
 verdict_of Checks = Parity
 verdict_of Nothing = Broken
 
--- the certificate on a ground: without shares, or with those that were found
-abbrev pub view_by : Rows → List ℤ → List Bool → Option Shared → Ground → Option View
+-- the certificate in the evidence: without shares, or with those that were found
+abbrev pub view_by : Rows → List ℤ → List Bool → Option Shared → Evidence → Option View
 view_by r soft bits found (HardDecision strict) = Some (unsplit_view r soft bits)
 view_by r soft bits found (Found strict) = shared_views r soft bits found
 view_by r soft bits found Checks = None
 view_by r soft bits found Nothing = None
 
--- the decision on a ground
-abbrev pub shown_by : Rows → List ℤ → List Bool → Option Shared → Ground → Decided
-shown_by r soft bits found ground =
-    record { verdict = verdict_of ground; bits = bits; certificate = view_by r soft bits found ground }
+-- the decision on some evidence
+abbrev pub shown_by : Rows → List ℤ → List Bool → Option Shared → Evidence → Decided
+shown_by r soft bits found evidence =
+    record { verdict = verdict_of evidence; bits = bits; certificate = view_by r soft bits found evidence }
 
--- on a ground with a certificate the values are soft values, and the certificate is of these bits
-abbrev pub IsGround : List ℤ → List Bool → Certifying → Ground → Type 0
-IsGround soft bits certifier (HardDecision strict) = All IsSoft soft
-IsGround soft bits certifier (Found strict) = All IsSoft soft × IfSome certifier.word (λ w. w ≡ bits)
-IsGround soft bits certifier Checks = Unit
-IsGround soft bits certifier Nothing = Unit
+-- if the evidence is a certificate, the values are soft values, and the certificate is for these bits
+abbrev pub IsEvidence : List ℤ → List Bool → Certifying → Evidence → Type 0
+IsEvidence soft bits certifier (HardDecision strict) = All IsSoft soft
+IsEvidence soft bits certifier (Found strict) = All IsSoft soft × IfSome certifier.word (λ w. w ≡ bits)
+IsEvidence soft bits certifier Checks = Unit
+IsEvidence soft bits certifier Nothing = Unit
 
 -- the invariant of a judge
-pub record IsJudge (tuning : Tuning) (certifier : Certifying) (decoder : Decoding) (soft : List ℤ) (repair bits : List Bool) (ground : Ground) : Type 0 where
+pub record IsJudge (tuning : Tuning) (certifier : Certifying) (decoder : Decoding) (soft : List ℤ) (repair bits : List Bool) (evidence : Evidence) : Type 0 where
   pub some : 1 ≤ tuning.rounds
   pub passes : certifier.passes ≡ tuning.passes
   pub decoder_rows : decoder.rows ≡ certifier.rows
   pub soft_long : length soft ≡ (code_of certifier.rows).bits
   pub repair_long : length repair ≡ (code_of certifier.rows).bits
   pub bits_long : length bits ≡ (code_of certifier.rows).bits
-  pub by : IsGround soft bits certifier ground
+  pub by : IsEvidence soft bits certifier evidence

@@ -15,7 +15,7 @@ use s2_split::Maker;
 use std::alloc::{AllocError, Global};
 use std::marker::Model;
 
-/// Who holds the certificate that was found last.
+/// The owner of the last certificate found.
 #[derive(Clone, Copy)]
 pub(crate) enum Holder {
     Nobody,
@@ -35,8 +35,8 @@ impl Holder {
     }
 }
 
-/// Looks for a certificate of the repair, by so many passes of settling if any: who then holds it, and whether it is
-/// strict.
+/// Looks for a certificate of the repair, in at most `passes` passes of settling, if that is not 0. Returns the owner
+/// of the certificate, and whether it is strict.
 fn find_for_repair(
     maker: &mut Maker<'_>,
     settler: &mut Settler<'_>,
@@ -70,8 +70,9 @@ fn find_for_repair(
     (Holder::Nobody, false)
 }
 
-/// Looks for a certificate of a codeword that min-sum found, by so many passes of settling if any: who then holds it,
-/// and whether it is strict. Greedy amounts reach few of these, and to try them first takes longer.
+/// Looks for a certificate of a codeword that min-sum found, in at most `passes` passes of settling, if that is not 0.
+/// Returns the owner of the certificate, and whether it is strict. Greedy amounts succeed for few of these codewords,
+/// and trying them first takes longer.
 fn find_for_decoded(
     maker: &mut Maker<'_>,
     settler: &mut Settler<'_>,
@@ -102,11 +103,11 @@ fn find_for_decoded(
     (Holder::Nobody, false)
 }
 
-/// Finds certificates of codewords: with no passes by the maker's greedy amounts, else by its spreading; with
-/// passes by so many at most of the settler, and of a repair by greedy amounts before.
+/// Finds certificates of codewords. Without passes it tries the maker's greedy amounts, then its spreading. With
+/// passes it runs at most that many of the settler; for a repair it tries greedy amounts first.
 ///
-/// To contracts it is the rows of its matrix, how many passes it runs, the word that what it found is bound to, if
-/// it is, what it found, and whether that is strict.
+/// In contracts it has five parts: the rows of its matrix, its number of passes, the shares found last, their word if
+/// it is stored with them, and whether they are strict.
 pub(crate) struct Certifier<'a> {
     matrix: &'a Matrix,
     passes: u32,
@@ -140,8 +141,8 @@ impl<'a> Model for Certifier<'a> {
 }
 
 impl<'a> Certifier<'a> {
-    /// A certifier for the codewords of this matrix, of so many passes or of none, which has found nothing yet.
-    /// It takes all its memory here: `AllocError` only where memory is refused.
+    /// A certifier for the codewords of this matrix, with this number of passes, which has found nothing yet.
+    /// It takes all its memory here: `AllocError` only if memory is refused.
     pub(crate) fn new(
         alloc: Global,
         matrix: &'a Matrix,
@@ -170,7 +171,7 @@ impl<'a> Certifier<'a> {
     }
 
     /// Writes the repaired hard decision: each bit that is in at least two checks, all of them odd under the hard
-    /// decision, is flipped. What was found stays.
+    /// decision, is flipped. The last certificate is kept.
     pub(crate) fn repair_into(&mut self, soft: &[i16], word: &mut Bits)
         requires soft { length soft.now ≡ (code_of self.old.rows).bits }
         requires word { length word.old ≡ (code_of self.old.rows).bits }
@@ -180,7 +181,7 @@ impl<'a> Certifier<'a> {
         self.maker.repair_into(soft, word);
     }
 
-    /// Looks for a certificate of a repair that is a codeword: whether there is one.
+    /// Looks for a certificate of a repair that is a codeword, and returns whether it found one.
     pub(crate) fn certify_repair(&mut self, soft: &[i16], codeword: &Bits) -> bool
         requires soft { length soft.now ≡ (code_of self.old.rows).bits }
         requires range { All IsSoft soft.now }
@@ -204,7 +205,7 @@ impl<'a> Certifier<'a> {
         self.holder.is_some()
     }
 
-    /// Looks for a certificate of a codeword that min-sum found: whether there is one.
+    /// Looks for a certificate of a codeword that min-sum found, and returns whether it found one.
     pub(crate) fn certify_decoded(&mut self, soft: &[i16], codeword: &Bits) -> bool
         requires soft { length soft.now ≡ (code_of self.old.rows).bits }
         requires range { All IsSoft soft.now }
@@ -228,14 +229,14 @@ impl<'a> Certifier<'a> {
         self.holder.is_some()
     }
 
-    /// Whether what was found last is strict.
+    /// Whether the last certificate found is strict.
     pub(crate) fn is_strict(&self) -> bool
         ensures { result ≡ self.now.strict }
     {
         self.strict
     }
 
-    /// The certificate of these values and this word by what was found.
+    /// The certificate of these values and this word with the shares found last.
     pub(crate) fn held<'s>(&'s self, soft: &'s [i16], word: &'s Bits) -> Option<CertView<'s>>
         requires soft { length soft.now ≡ (code_of self.now.rows).bits }
         requires range { All IsSoft soft.now }

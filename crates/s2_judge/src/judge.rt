@@ -12,8 +12,8 @@ ghost use Rattle.s2_judge.specs.Deciding.{decided, IsShown};
 ghost use Rattle.s2_judge.specs.Lending.{LendsSoft};
 
 use crate::certifier::Certifier;
-use crate::ground::Ground;
-use crate::steps::decide;
+use crate::evidence::Evidence;
+use crate::steps::decide_by_steps;
 use s2_bits::Bits;
 use s2_check::{CertView, Verdict};
 use s2_link::Tuning;
@@ -25,20 +25,20 @@ use std::marker::Model;
 /// The receiver's decision on the soft values of one frame, with all the memory that it takes.
 ///
 /// The first of four steps that succeeds decides:
-/// 1. the hard decision satisfies every check: it is most likely, by its unsplit certificate;
-/// 2. its repair does (each bit flipped that is in at least two checks, all of them odd), and a
-///    certificate is found for it: it is most likely;
-/// 3. the hard decision after one of the rounds of min-sum does, and no further round is run: it is
-///    most likely if a certificate is found for it, else it is said to satisfy the checks;
-/// 4. the repair where it satisfies every check; if not, min-sum's last hard decision, broken.
+/// 1. The hard decision satisfies every check. It is most likely, by its unsplit certificate.
+/// 2. Its repair satisfies every check, and a certificate is found for it. The repair is most likely. It flips each bit
+///    that is in at least two checks, all of them odd.
+/// 3. The hard decision after a round of min-sum satisfies every check. No further round is run. It is most likely if
+///    a certificate is found for it, else its verdict is parity.
+/// 4. The repair, if it satisfies every check. Otherwise min-sum's last hard decision, which is broken.
 ///
-/// Without passes a certificate is found by greedy amounts, else by spreading. With passes it is found by so
-/// many at most of settling, and is then strict; for a repair greedy amounts are tried before. For what min-sum
-/// found none is looked for where the tuning leaves that uncertified. Where a certificate is strict, the verdict is sole in the place of most
-/// likely: every other codeword costs more. In step 1 that is where no soft value is 0.
+/// Without passes the judge tries greedy amounts for a certificate, then spreading. With passes it runs at most that
+/// many of settling, and a certificate from these is strict; for a repair it tries greedy amounts first. It looks for
+/// no certificate of min-sum's codeword if the tuning leaves these uncertified. If a certificate is strict, the verdict
+/// is sole instead of most likely: every other codeword costs more. In step 1 it is strict if no soft value is 0.
 ///
-/// To contracts a judge is its matrix's rows, its tuning, its soft values, the bits that were
-/// last decided, and their certificate.
+/// In contracts a judge is its matrix's rows, its tuning, its soft values, the bits that were last decided, and their
+/// certificate.
 pub struct Judge<'a> {
     tuning: Tuning,
     certifier: Certifier<'a>,
@@ -46,7 +46,7 @@ pub struct Judge<'a> {
     soft: Vec<i16>,
     repair: Bits,
     bits: Bits,
-    ground: Ground,
+    evidence: Evidence,
 }
 
 impl<'a> Drop for Judge<'a> {
@@ -58,7 +58,7 @@ impl<'a> Drop for Judge<'a> {
             soft: _,
             repair: _,
             bits: _,
-            ground: _,
+            evidence: _,
         } = self;
     }
 }
@@ -73,14 +73,14 @@ impl<'a> Model for Judge<'a> {
       tuning = j.tuning;
       soft = j.soft.items;
       bits = j.bits;
-      certificate = view_by j.certifier.rows j.soft.items j.bits j.certifier.found j.ground;
+      certificate = view_by j.certifier.rows j.soft.items j.bits j.certifier.found j.evidence;
     } };
 
-    ghost invariant = { λ j. IsJudge j.tuning j.certifier j.decoder j.soft.items j.repair j.bits j.ground };
+    ghost invariant = { λ j. IsJudge j.tuning j.certifier j.decoder j.soft.items j.repair j.bits j.evidence };
 }
 
 impl<'a> Judge<'a> {
-    /// A judge for this matrix that tries so much. `AllocError` only where memory is refused.
+    /// A judge for this matrix and this tuning. `AllocError` only if memory is refused.
     pub fn new(alloc: Global, matrix: &'a Matrix, tuning: Tuning) -> Result<Judge<'a>, AllocError>
         ensures rows { IfOk result (λ j. j.rows ≡ matrix.now) }
         ensures tuning { IfOk result (λ j. j.tuning ≡ tuning) }
@@ -88,7 +88,7 @@ impl<'a> Judge<'a> {
         ensures bits { IfOk result (λ j. j.bits ≡ replicate (code_of matrix.now).bits false) }
         ensures none { IfOk result (λ j. j.certificate ≡ None) }
     {
-        // what it promises of the rounds is a part of what a judge is
+        // its postcondition on the rounds is part of a judge's invariant
         let _rounds = tuning.rounds();
         let n = matrix.bits();
         let certifier = Certifier::new(alloc, matrix, tuning.passes())?;
@@ -103,7 +103,7 @@ impl<'a> Judge<'a> {
             soft,
             repair,
             bits,
-            ground: Ground::Nothing,
+            evidence: Evidence::Nothing,
         })
     }
 
@@ -115,19 +115,19 @@ impl<'a> Judge<'a> {
         &self.soft
     }
 
-    /// The soft values to be written anew, n of them, n the codeword's length. The decided bits stay until the
-    /// next decision, without their certificate.
+    /// The soft values, to be overwritten: n of them, the codeword's length. The decided bits are kept until the next
+    /// decision, but without their certificate.
     pub fn soft_mut(&mut self) -> &mut [i16]
         ensures* writes_back { sem 𝓛 (LendsSoft self.entry result) }
         ensures is { result.now ≡ self.old.soft }
         ensures long { length result.now ≡ (code_of self.old.rows).bits }
     {
-        self.ground = Ground::Nothing;
+        self.evidence = Evidence::Nothing;
         &mut self.soft
     }
 
-    /// Decides on the soft values that were written, each from -511 to 511. It takes no memory, and depends on
-    /// these values alone.
+    /// Decides on the soft values that were written, each from -511 to 511. It takes no memory. The decision depends
+    /// only on these values.
     pub fn decide(&mut self) -> Verdict
         requires range { All IsSoft self.old.soft }
         ensures rows { self.new.rows ≡ self.old.rows }
@@ -148,7 +148,7 @@ impl<'a> Judge<'a> {
         ensures clean { IsCodeword (code_of self.old.rows) (hard_decision self.old.soft) → IsTrue (is_certified result)
             × (self.new.bits ≡ hard_decision self.old.soft) × ((result ≡ Verdict.Sole) ↔ NoneIsZero self.old.soft) }
     {
-        self.ground = decide(
+        self.evidence = decide_by_steps(
             &mut self.certifier,
             &mut self.decoder,
             &self.soft,
@@ -156,11 +156,11 @@ impl<'a> Judge<'a> {
             &mut self.repair,
             &mut self.bits,
         );
-        self.ground.verdict()
+        self.evidence.verdict()
     }
 
-    /// Decides on n soft values from -511 to 511, n the codeword's length, which it copies. It takes no memory, and
-    /// depends on these values alone.
+    /// Decides on n soft values from -511 to 511, n the codeword's length, which it copies. It takes no memory. The
+    /// decision depends only on these values.
     pub fn judge(&mut self, soft: &[i16]) -> Verdict
         requires long { length soft.now ≡ (code_of self.old.rows).bits }
         requires range { All IsSoft soft.now }
@@ -193,19 +193,19 @@ impl<'a> Judge<'a> {
         &self.bits
     }
 
-    /// The certificate of the bits that were last decided: `Some` exactly where the verdict was
-    /// sole or most likely, and no soft values were asked for since to be written.
+    /// The certificate of the bits that were last decided: `Some` exactly if the verdict was sole or most likely, and
+    /// `soft_mut` was not called since.
     pub fn certificate(&self) -> Option<CertView<'_>>
         ensures { result ≡ self.now.certificate }
     {
-        match self.ground {
-            Ground::HardDecision(_) => Some(CertView::unsplit(
+        match self.evidence {
+            Evidence::HardDecision(_) => Some(CertView::unsplit(
                 self.certifier.matrix(),
                 &self.soft,
                 &self.bits,
             )),
-            Ground::Found(_) => self.certifier.held(&self.soft, &self.bits),
-            Ground::Checks | Ground::Nothing => None,
+            Evidence::Found(_) => self.certifier.held(&self.soft, &self.bits),
+            Evidence::Checks | Evidence::Nothing => None,
         }
     }
 }

@@ -1,5 +1,5 @@
-//! Whether the repair of a hard decision leaves a check odd, by a few checks: most repairs that mend nothing leave one
-//! of these odd, and need not be made.
+//! A quick test whether the repair of a hard decision leaves a check odd, by a few checks. Most repairs that are not
+//! codewords leave one of these odd, and need not be made.
 ghost use Rattle.std.specs.Prelude.{◌≡◌, ◌%◌, ◌==◌, ◌<◌, All, IsTrue, List, ℤ, length, count_by};
 ghost use Rattle.std.specs.List.{list_all};
 ghost use Rattle.s2_bits.specs.Bits.{bit_at};

@@ -1,5 +1,5 @@
-//! Whether a hard decision has an odd check, by a few checks: most that are no codeword have one among these, and need
-//! not be written.
+//! A quick test whether a hard decision has an odd check, by a few checks. Most hard decisions that are not codewords
+//! have an odd one among these, and need not be written.
 ghost use Rattle.std.specs.Prelude.{◌≡◌, ◌%◌, ◌==◌, ◌<◌, All, IsTrue, count_by, pos, int_lt};
 ghost use Rattle.s2_mode.specs.Shape.{code_bits};
 ghost use Rattle.s2_matrix.specs.Code.{code_of, IsCodeword};
@@ -9,7 +9,7 @@ ghost use Rattle.s2_minsum.specs.Decoding.{decoded};
 use s2_matrix::Matrix;
 use s2_minsum::Decoder;
 
-/// How many checks are looked at.
+/// The number of checks that are tested.
 pub(crate) const FIRST_CHECKS: usize = 64;
 
 /// Whether an odd number of these places have a negative posterior.

@@ -8,10 +8,10 @@ ghost use Rattle.s2_check.specs.Views.{IsSoft};
 ghost use Rattle.s2_split.specs.Making.{shared_view, shared_views};
 ghost use Rattle.s2_split.specs.Scattered.{repaired};
 ghost use Rattle.s2_judge.specs.Deciding.{is_strict, satisfies, decoded_bits, first_codeword, repair_view, by_min_sum, decided};
-ghost use Rattle.s2_judge.specs.Judging.{shown_by, IsGround};
+ghost use Rattle.s2_judge.specs.Judging.{shown_by, IsEvidence};
 
 use crate::certifier::Certifier;
-use crate::ground::Ground;
+use crate::evidence::Evidence;
 use crate::mending::mends_nothing;
 use crate::odd::has_odd_check;
 use s2_bits::Bits;
@@ -20,8 +20,8 @@ use s2_link::Tuning;
 use s2_matrix::Matrix;
 use s2_minsum::{Decoder, Factor};
 
-/// Looks for a certificate of the repair: whether there is one, and whether the repair satisfies every check, where it
-/// is written. Where a few checks of the hard decision show that it does not, it is not made.
+/// Looks for a certificate of the repair. Returns whether it found one, and whether the repair satisfies every check.
+/// If so, the repair is written. If a few checks of the hard decision show that it does not, the repair is not made.
 fn try_repair(
     certifier: &mut Certifier<'_>,
     soft: &[i16],
@@ -54,8 +54,8 @@ fn try_repair(
     }
 }
 
-/// Whether a decoder's hard decision satisfies every check. If so it is written; where a few checks show that it does
-/// not, it is not.
+/// Whether a decoder's hard decision satisfies every check. If so, it is written. If a few checks show that it does
+/// not, it is not written.
 fn is_decoded(matrix: &Matrix, decoder: &Decoder<'_>, bits: &mut Bits) -> bool
     requires decoder { decoder.now.rows ≡ matrix.now }
     requires bits { length bits.old ≡ (code_of matrix.now).bits }
@@ -70,8 +70,8 @@ fn is_decoded(matrix: &Matrix, decoder: &Decoder<'_>, bits: &mut Bits) -> bool
     matrix.satisfied(bits)
 }
 
-/// Runs min-sum by a factor, at most so many rounds, until its hard decision satisfies every check: whether it
-/// does. The bits are its last hard decision.
+/// Runs at most `rounds` rounds of min-sum with a factor, until its hard decision satisfies every check. Returns
+/// whether it does. The bits are its last hard decision.
 fn decode(
     matrix: &Matrix,
     decoder: &mut Decoder<'_>,
@@ -101,7 +101,7 @@ fn decode(
     false
 }
 
-/// Steps 3 and 4, where there is no certificate for the repair. It is told whether the repair satisfies every check.
+/// Steps 3 and 4, if there is no certificate for the repair. `is_even`: the repair satisfies every check.
 fn decide_by_min_sum(
     certifier: &mut Certifier<'_>,
     decoder: &mut Decoder<'_>,
@@ -110,7 +110,7 @@ fn decide_by_min_sum(
     is_even: bool,
     repair: &Bits,
     bits: &mut Bits,
-) -> Ground
+) -> Evidence
     requires decoder { decoder.old.rows ≡ certifier.old.rows }
     requires soft { length soft.now ≡ (code_of certifier.old.rows).bits }
     requires range { All IsSoft soft.now }
@@ -122,35 +122,35 @@ fn decide_by_min_sum(
     ensures passes { certifier.new.passes ≡ certifier.old.passes }
     ensures decoder { decoder.new.rows ≡ certifier.old.rows }
     ensures long { length bits.new ≡ (code_of certifier.old.rows).bits }
-    ensures ground { IsGround soft.now bits.new certifier.new result }
+    ensures evidence { IsEvidence soft.now bits.new certifier.new result }
     ensures decided { by_min_sum certifier.old.rows tuning soft.now (first_codeword certifier.old.rows tuning.factor tuning.rounds soft.now) ≡ shown_by certifier.old.rows soft.now bits.new certifier.new.found result }
 {
     let (rounds, factor) = (tuning.rounds(), tuning.factor());
     if decode(certifier.matrix(), decoder, soft, rounds, factor, bits) {
         if tuning.is_uncertified() {
-            return Ground::Checks;
+            return Evidence::Checks;
         }
         if certifier.certify_decoded(soft, bits) {
-            return Ground::Found(certifier.is_strict());
+            return Evidence::Found(certifier.is_strict());
         }
-        return Ground::Checks;
+        return Evidence::Checks;
     }
     if is_even {
         bits.copy_prefix(repair, repair.len());
-        return Ground::Checks;
+        return Evidence::Checks;
     }
-    Ground::Nothing
+    Evidence::Nothing
 }
 
-/// The four steps, the first two here.
-pub(crate) fn decide(
+/// The four steps. The first two are here.
+pub(crate) fn decide_by_steps(
     certifier: &mut Certifier<'_>,
     decoder: &mut Decoder<'_>,
     soft: &[i16],
     tuning: Tuning,
     repair: &mut Bits,
     bits: &mut Bits,
-) -> Ground
+) -> Evidence
     requires decoder { decoder.old.rows ≡ certifier.old.rows }
     requires soft { length soft.now ≡ (code_of certifier.old.rows).bits }
     requires range { All IsSoft soft.now }
@@ -162,16 +162,16 @@ pub(crate) fn decide(
     ensures decoder { decoder.new.rows ≡ certifier.old.rows }
     ensures repair { length repair.new ≡ (code_of certifier.old.rows).bits }
     ensures long { length bits.new ≡ (code_of certifier.old.rows).bits }
-    ensures ground { IsGround soft.now bits.new certifier.new result }
+    ensures evidence { IsEvidence soft.now bits.new certifier.new result }
     ensures decided { decided certifier.old.rows tuning soft.now ≡ shown_by certifier.old.rows soft.now bits.new certifier.new.found result }
 {
     if judge_unsplit(certifier.matrix(), soft, bits) {
-        return Ground::HardDecision(none_is_zero(soft));
+        return Evidence::HardDecision(none_is_zero(soft));
     }
     let (is_certified, is_even) = try_repair(certifier, soft, bits, repair);
     if is_certified {
         bits.copy_prefix(repair, repair.len());
-        return Ground::Found(certifier.is_strict());
+        return Evidence::Found(certifier.is_strict());
     }
     decide_by_min_sum(certifier, decoder, soft, tuning, is_even, repair, bits)
 }

@@ -7,7 +7,7 @@ ghost use Rattle.s2_ldpc.specs.Encoding.{IsCodewordOf};
 use s2_bits::Bits;
 use s2_matrix::Matrix;
 
-/// Writes a codeword over a slice.
+/// Writes a codeword to a slice.
 fn encode(matrix: &Matrix, info: &[bool], codeword: &mut [bool])
     requires info { length info.now ≡ information_bits matrix.now.shape }
     requires codeword { length codeword.old ≡ (code_of matrix.now).bits }
@@ -21,7 +21,7 @@ fn encode(matrix: &Matrix, info: &[bool], codeword: &mut [bool])
 /// Writes the codeword that begins with the information bits (EN 302 307-1, 5.3.2).
 ///
 /// `info` has the k information bits of the matrix's shape, group * groups of them. `codeword` has
-/// n bits, group * (groups + q): for the standard's codes 64800 or 16200. Each is written, the n - k
+/// n bits, group * (groups + q): for the standard's codes 64800 or 16200. All are written, the n - k
 /// parity bits after the information bits.
 pub fn encode_into(matrix: &Matrix, info: &Bits, codeword: &mut Bits)
     requires info { length info.now ≡ information_bits matrix.now.shape }

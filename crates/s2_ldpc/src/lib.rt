@@ -1,8 +1,8 @@
 //! Codewords of a code by parity checks (EN 302 307-1, 5.3.2): the encoder.
 //!
-//! [`encode_into`] writes the codeword that begins with given information bits: its contract says
-//! that it is a codeword of the matrix and begins with them, and [`laws::unique`] that no
-//! other does. It takes no memory.
+//! [`encode_into`] writes the codeword (FECFRAME) that begins with given information bits. Its contract says
+//! that the result is a codeword of the matrix and begins with them. [`laws::unique`] says that no
+//! other does. It allocates nothing.
 //!
 //! ```
 //! let mut codeword = Bits::zeroed(alloc, matrix.bits())?;

@@ -2,37 +2,37 @@
 use Rattle.std.specs.Prelude.{◌≡◌, IsTrue, Bool, false, ℕ, ◌<◌, ◌≤◌, ◌⊎◌}
 use Rattle.s2_soft.specs.Divisors.{IsDivisor, default_divisor}
 use Rattle.s2_minsum.specs.Factors.{IsFactor, default_factor}
-use Rattle.s2_plframe.specs.Constants.{max_wrong}
+use Rattle.s2_plframe.specs.Constants.{header_threshold}
 use Rattle.s2_plframe.specs.Search.{IsLock}
 use Rattle.s2_link.specs.declared.fault.SetupFault.{SetupFault}
 use Rattle.s2_link.specs.declared.fault.SetupFault.TheVariants as faults
 use Rattle.s2_link.specs.Limits.{max_rounds, max_passes}
 
--- The parameters of a receiver: rounds of min-sum, passes of settling, the divisor of soft values, the factor of
--- min-sum's messages, the lock, and whether what min-sum finds stays uncertified. With no passes a certificate comes
--- from greedy amounts and spreading
+-- The parameters of a receiver: rounds of min-sum, passes of settling, the divisor of soft values, and the factor of
+-- min-sum's messages. Then the most bits of a header that may be wrong right after a frame, and whether what min-sum
+-- finds stays uncertified. With no passes a certificate comes from greedy amounts and spreading
 pub record Tuning : Type 0 where
   pub rounds : ℕ
   pub passes : ℕ
   pub divisor : ℕ
   pub factor : ℕ
-  pub lock : ℕ
+  pub max_header_errors : ℕ
   pub uncertified : Bool
 
--- these rounds and passes, and the default divisor, factor and lock, with certificates
+-- these rounds and passes, and the default divisor, factor and limit of wrong header bits, with certificates
 abbrev pub tuning_of : ℕ → ℕ → Tuning
 tuning_of rounds passes =
-    record { rounds = rounds; passes = passes; divisor = default_divisor; factor = default_factor; lock = max_wrong; uncertified = false }
+    record { rounds = rounds; passes = passes; divisor = default_divisor; factor = default_factor; max_header_errors = header_threshold; uncertified = false }
 
--- At least one round of min-sum, and rounds and passes within their limits. A divisor, a factor and a lock in their
--- ranges. No passes if min-sum's words stay uncertified
+-- At least one round of min-sum, and rounds and passes within their limits. A divisor, a factor and a limit of
+-- wrong header bits in their ranges. No passes if min-sum's words stay uncertified
 pub record IsTuning (tuning : Tuning) : Type 0 where
   pub some : 1 ≤ tuning.rounds
   pub most : tuning.rounds ≤ max_rounds
   pub passes : tuning.passes ≤ max_passes
   pub divisor : IsDivisor tuning.divisor
   pub factor : IsFactor tuning.factor
-  pub lock : IsLock tuning.lock
+  pub max_header_errors : IsLock tuning.max_header_errors
   pub uncertified : IsTrue tuning.uncertified → tuning.passes ≡ 0
 
 -- when rounds and passes are refused: the first of two

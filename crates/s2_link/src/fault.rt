@@ -1,7 +1,7 @@
-//! Why no end of a link can be made.
+//! Why neither end of a link can be made.
 use thiserror::Error;
 
-/// Why no end of a link can be made. Of several causes the first is answered.
+/// Why an end of a link cannot be made. If there are several causes, the first is returned.
 #[derive(Clone, Copy, Debug, PartialEq, Eq, Error)]
 pub enum SetupFault {
     /// The matrix is not of the mode's shape.

@@ -1,11 +1,13 @@
 //! What both ends of a DVB-S2 link agree on, and how a receiver is tuned.
 //!
-//! A [`Setup`] is a mode, a scrambling number and a roll-off as they come, and [`Link::new`] refuses one that
-//! makes no end of a link, beside the matrix of the address rows: the first of `OtherShape`, `BadNumber` and
-//! `BadRollOff`. A [`Link`] is what came through, and no end refuses it; nor is anything refused where numbers
-//! are known to be in their ranges, as a [`LinkSetup`] has them ([`Link::of`]). A [`Tuning`] is how much a
-//! receiver tries, rounds of min-sum and passes that look for a certificate, what its soft values are divided by, and
-//! how much of a size min-sum's messages have.
+//! A [`Setup`] is a mode, a scrambling number and a roll-off that are not tested yet. [`Link::new`] tests them and
+//! the matrix of the address rows. It returns the first refusal of `OtherShape`, `BadNumber` and `BadRollOff`, or a
+//! [`Link`], which both ends accept. Nothing is refused if the numbers are known to be in their ranges, as those of a
+//! [`LinkSetup`] ([`Link::of`]).
+//!
+//! A [`Tuning`] has the parameters of a receiver: the rounds (iterations) of min-sum, the passes of settling, and the
+//! divisor of soft values (LLRs). It also has the factor of min-sum's messages, and how many bits of a header may be
+//! wrong right after a frame. Settling looks for a certificate by dual coordinate ascent, layer by layer.
 //!
 //! ```text
 //! let link = Link::new(Setup { mode, number: 0, roll_off: 0 }, &matrix)?;

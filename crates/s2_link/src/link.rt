@@ -1,4 +1,4 @@
-//! A link that no end refuses.
+//! A link that both ends accept.
 ghost use Rattle.std.specs.Prelude.{◌≡◌, ◌≤◌, IfOk, IfErr};
 ghost use Rattle.s2_mode.specs.Mode.{shape_in};
 ghost use Rattle.s2_scramble.specs.Gold.{max_number};
@@ -13,7 +13,7 @@ use s2_mode::Mode;
 use s2_scramble::ScramblingNumber;
 use std::marker::Model;
 
-/// What both ends of a link share, of which either can be made: a setup, and the matrix of the address rows.
+/// What both ends of a link share: a setup, and the matrix of the address rows. Either end can be made from it.
 #[derive(Drop)]
 pub struct Link<'a> {
     setup: LinkSetup,
@@ -33,9 +33,11 @@ impl<'a> Model for Link<'a> {
 }
 
 impl<'a> Link<'a> {
-    /// The link of a setup and a matrix. Of several refusals the first is answered: `OtherShape` where the
-    /// matrix is not of the shape of the mode's code, `BadNumber` where the scrambling number is over 262141,
-    /// `BadRollOff` where the roll-off is over 2. It takes no memory.
+    /// The link of a setup and a matrix. If there are several refusals, it returns the first. It takes no memory.
+    ///
+    /// - `OtherShape`: the matrix is not of the shape of the mode's code.
+    /// - `BadNumber`: the scrambling number is over 262141.
+    /// - `BadRollOff`: the roll-off is over 2.
     pub fn new(setup: Setup, matrix: &'a Matrix) -> Result<Link<'a>, SetupFault>
         ensures is { IfOk result (λ l. l ≡ link_of setup matrix.now) }
         ensures set_up { IfOk result (λ _. IsSetUp setup matrix.now) }
@@ -82,7 +84,7 @@ impl<'a> Link<'a> {
         ensures is { result ≡ self.now.setup.number }
         ensures most { result ≤ max_number }
     {
-        // what it promises of the number is a part of what is promised here
+        // the promise on the number is a part of this promise
         let _number = self.setup.number.get();
         self.setup.number
     }

@@ -7,7 +7,7 @@ use std::marker::Model;
 /// The highest number of a roll-off (EN 302 307-1, 5.1.6): 0 is 0.35, 1 is 0.25 and 2 is 0.20.
 pub const MAX_ROLL_OFF: u8 = 2;
 
-/// A roll-off, by the number that headers tell (EN 302 307-1, 5.1.6). Its value is that number.
+/// A roll-off, by its number in headers (EN 302 307-1, 5.1.6). Its value is that number.
 #[derive(Clone, Copy, Debug, PartialEq, Eq)]
 pub struct RollOff {
     number: u8,

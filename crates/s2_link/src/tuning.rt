@@ -12,25 +12,26 @@ use s2_plframe::Lock;
 use s2_soft::Divisor;
 use std::marker::Model;
 
-/// How many rounds of min-sum a receiver runs at most.
+/// The most rounds of min-sum of a receiver.
 pub const MAX_ROUNDS: u32 = 200;
 
-/// How many rounds of min-sum it runs at most where none are named.
+/// The default number of rounds of min-sum.
 pub const DEFAULT_ROUNDS: u32 = 50;
 
-/// How many passes of settling it runs at most.
+/// The most passes of settling of a receiver.
 pub const MAX_PASSES: u32 = 1000;
 
-/// How a receiver is tuned: so many rounds of min-sum, 1 to 200, so many passes of settling, 0 to 1000, what soft
-/// values are divided by, how many sixteenths of the least size min-sum's messages have, and how many bits of a header
-/// may be wrong right behind a frame. Uncertified, with no passes, no certificate is looked for of what min-sum finds.
+/// How a receiver is tuned: the rounds of min-sum, 1 to 200, the passes of settling, 0 to 1000, and the divisor of soft
+/// values. The factor of min-sum's messages is in sixteenths of the least magnitude. The lock is how many bits of a
+/// header may be wrong right after a frame. If it is uncertified, there are no passes, and no certificate is looked for
+/// when min-sum finds a codeword.
 #[derive(Clone, Copy, Debug, PartialEq, Eq)]
 pub struct Tuning {
     rounds: u32,
     passes: u32,
     divisor: Divisor,
     factor: Factor,
-    lock: Lock,
+    max_header_errors: Lock,
     uncertified: bool,
 }
 
@@ -44,7 +45,7 @@ impl Model for Tuning {
       passes = t.passes;
       divisor = t.divisor;
       factor = t.factor;
-      lock = t.lock;
+      max_header_errors = t.max_header_errors;
       uncertified = t.uncertified;
     } };
 
@@ -53,7 +54,7 @@ impl Model for Tuning {
       passes = t.passes;
       divisor = t.divisor;
       factor = t.factor;
-      lock = t.lock;
+      max_header_errors = t.max_header_errors;
       uncertified = t.uncertified;
     }) };
 
@@ -62,15 +63,15 @@ impl Model for Tuning {
       passes = v.passes;
       divisor = v.divisor;
       factor = v.factor;
-      lock = v.lock;
+      max_header_errors = v.max_header_errors;
       uncertified = v.uncertified;
     } };
 }
 
 impl Tuning {
-    /// So many rounds and passes, the usual divisor, 4096, the usual factor, 12, and the usual lock, 12, with certificates.
-    /// Of two refusals the first is answered: `BadRounds` where the rounds are not 1 to 200, `BadPasses` where the
-    /// passes are over 1000.
+    /// These rounds and passes, the usual divisor, 4096, and the usual factor, 12. At most 12 bits of a header may be
+    /// wrong right after a frame. Certificates are looked for. If there are two refusals, it returns the first:
+    /// `BadRounds` if the rounds are not 1 to 200, `BadPasses` if the passes are over 1000.
     pub fn new(rounds: u32, passes: u32) -> Result<Tuning, SetupFault>
         ensures is { IfOk result (λ t. t ≡ tuning_of rounds passes) }
         ensures tuned { IfOk result (λ _. IsTuning (tuning_of rounds passes)) }
@@ -87,7 +88,7 @@ impl Tuning {
             passes,
             divisor: Divisor::usual(),
             factor: Factor::usual(),
-            lock: Lock::usual(),
+            max_header_errors: Lock::usual(),
             uncertified: false,
         })
     }
@@ -101,7 +102,7 @@ impl Tuning {
             passes: self.passes,
             divisor,
             factor: self.factor,
-            lock: self.lock,
+            max_header_errors: self.max_header_errors,
             uncertified: self.uncertified,
         }
     }
@@ -115,26 +116,26 @@ impl Tuning {
             passes: self.passes,
             divisor: self.divisor,
             factor,
-            lock: self.lock,
+            max_header_errors: self.max_header_errors,
             uncertified: self.uncertified,
         }
     }
 
-    /// The same, but with this lock.
-    pub fn with_lock(self, lock: Lock) -> Tuning
-        ensures { result ≡ record self { lock = lock } }
+    /// The same, but with this limit of wrong header bits.
+    pub fn with_max_header_errors(self, max_header_errors: Lock) -> Tuning
+        ensures { result ≡ record self { max_header_errors = max_header_errors } }
     {
         Tuning {
             rounds: self.rounds,
             passes: self.passes,
             divisor: self.divisor,
             factor: self.factor,
-            lock,
+            max_header_errors,
             uncertified: self.uncertified,
         }
     }
 
-    /// The same, but without passes, and without looking for a certificate of what min-sum finds.
+    /// The same, but without passes, and without looking for certificates of the codewords that min-sum finds.
     pub fn without_certificates(self) -> Tuning
         ensures { result ≡ record self { passes = 0; uncertified = true } }
     {
@@ -143,12 +144,12 @@ impl Tuning {
             passes: 0,
             divisor: self.divisor,
             factor: self.factor,
-            lock: self.lock,
+            max_header_errors: self.max_header_errors,
             uncertified: true,
         }
     }
 
-    /// How many rounds of min-sum.
+    /// The number of rounds of min-sum.
     pub fn rounds(self) -> u32
         ensures is { result ≡ self.rounds }
         ensures some { 1 ≤ result }
@@ -157,7 +158,7 @@ impl Tuning {
         self.rounds
     }
 
-    /// How many passes of settling.
+    /// The number of passes of settling.
     pub fn passes(self) -> u32
         ensures is { result ≡ self.passes }
         ensures most { result ≤ max_passes }
@@ -165,37 +166,37 @@ impl Tuning {
         self.passes
     }
 
-    /// What soft values are divided by.
+    /// The divisor of soft values.
     pub fn divisor(self) -> Divisor
         ensures is { result ≡ self.divisor }
         ensures known { IsDivisor result }
     {
-        // what it promises of the number is a part of what is promised here
+        // the promise on the number is a part of this promise
         let _number = self.divisor.get();
         self.divisor
     }
 
-    /// How many sixteenths of the least size min-sum's messages have.
+    /// The factor of min-sum's messages, in sixteenths of the least magnitude.
     pub fn factor(self) -> Factor
         ensures is { result ≡ self.factor }
         ensures known { IsFactor result }
     {
-        // what it promises of the number is a part of what is promised here
+        // the promise on the number is a part of this promise
         let _number = self.factor.get();
         self.factor
     }
 
-    /// How many bits of a header may be wrong right behind a frame.
-    pub fn lock(self) -> Lock
-        ensures is { result ≡ self.lock }
+    /// How many bits of a header may be wrong right after a frame.
+    pub fn max_header_errors(self) -> Lock
+        ensures is { result ≡ self.max_header_errors }
         ensures known { IsLock result }
     {
-        // what it promises of the number is a part of what is promised here
-        let _number = self.lock.get();
-        self.lock
+        // the promise on the number is a part of this promise
+        let _number = self.max_header_errors.get();
+        self.max_header_errors
     }
 
-    /// Whether no certificate is looked for of what min-sum finds.
+    /// Whether no certificate is looked for when min-sum finds a codeword.
     pub fn is_uncertified(self) -> bool
         ensures { result ≡ self.uncertified }
     {

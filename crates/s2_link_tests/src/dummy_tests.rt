@@ -1,4 +1,4 @@
-//! A receiver of streams in which dummy frames of each TYPE stand, made here by the numbers of the standard.
+//! A receiver of streams with dummy frames of each TYPE, made here from the numbers of the standard.
 use super::hearing::{assert_reported, hear};
 use super::modem_tests::frame;
 use s2_mode::{ByOne, Endless, MAX_SYMBOLS, Symbol};
@@ -16,8 +16,8 @@ const FRAME: usize = 4 * 8190;
 
 const DUMMY: usize = 4 * 3330;
 
-/// The 64 bits of the headers of dummy frames, of TYPE 0 to 3: those sent for zeros, for zeros each second of which
-/// is turned, for ones, and for ones each second of which is turned.
+/// The 64 bits of the headers of dummy frames, of TYPE 0 to 3: those sent for zeros, for zeros with each second bit
+/// inverted, for ones, and for ones with each second bit inverted.
 const CODES: [u64; 4] = [
     0x719D_83C9_5342_2DFA,
     0x24C8_D69C_0617_78AF,
@@ -36,7 +36,7 @@ fn put_dummy(bytes: &mut Vec<u8>, code: u64) -> Result<(), AllocError> {
     Ok(())
 }
 
-/// The two frames of a sample, with a dummy frame before the first, two between, and the first bytes of one behind.
+/// The two frames of a sample, with a dummy frame before the first, two between, and the first bytes of one after them.
 fn with_dummies(
     alloc: Global,
     sample: &Sample,
@@ -60,7 +60,7 @@ fn with_dummies(
 const REPORT: &str =
     "frame 1 at 3330 sole fixed 0\nframe 2 at 18180 sole fixed 0\nend frames 2 delivered 2 packets 2 bad 0\n";
 
-/// Asserts what is told where the last dummy frame has so many bytes.
+/// Asserts the report if the last dummy frame has this number of bytes.
 fn assert_passed<A: Abort>(
     rt: &A,
     alloc: Global,
@@ -91,7 +91,7 @@ fn passes_dummy_frames_of_each_type(rt: HostRuntime) -> Result<(), Fail> {
     Ok(())
 }
 
-/// Asserts what is told of two packets that were sent with a dummy frame behind every so many frames.
+/// Asserts the report of two packets that were sent with a dummy frame after each group of this many frames.
 fn assert_across<A: Abort>(
     rt: &A,
     alloc: Global,
@@ -131,7 +131,7 @@ fn receives_what_was_sent_with_dummy_frames(rt: HostRuntime) -> Result<(), Fail>
     Ok(())
 }
 
-/// What five calls answer where after so many there is a fault.
+/// The results of five calls, if there is a fault after this number of them.
 fn answers(well: usize) -> Steps {
     let mut steps = [
         Ok(frame(1, 3330)),
@@ -150,7 +150,7 @@ fn answers(well: usize) -> Steps {
     steps
 }
 
-/// What is heard of the two frames among dummy frames, within so many symbols, where so many reads pass.
+/// Receives the two frames among dummy frames, with a limit of symbols, if this number of reads succeeds.
 fn hear_passes(
     alloc: Global,
     sample: &Sample,
@@ -166,7 +166,7 @@ fn assert_read<A: Abort>(rt: &A, heard: &Heard, well: usize) {
     assert_eq!(rt; heard.steps, answers(well));
 }
 
-/// Each look reads once: two up to each frame's end, the fifth finds the last dummy frame, the sixth the end.
+/// Each search reads once: two up to each frame's end, the fifth finds the last dummy frame, the sixth the end.
 #[test]
 fn each_read_fails_among_dummy_frames(rt: HostRuntime) -> Result<(), Fail> {
     let sample = two_frames(rt.alloc())?;

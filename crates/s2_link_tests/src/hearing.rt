@@ -1,5 +1,5 @@
-//! What is received of small links' streams, for tests. As in `streams`, what has a large contract is called here and
-//! nowhere else in the tests, each such call by a function that has none.
+//! Receives the streams of small links, for tests. As in `streams`, calls with a large contract are made only here, each
+//! in a function without a contract.
 ghost use Rattle.std.specs.Prelude.{◌≡◌, ◌≤◌, IfOk, length};
 ghost use Rattle.s2_receive.specs.Receiving.{IsLive, begun};
 
@@ -20,7 +20,7 @@ use std::alloc::{AllocError, Global};
 use std::process::Abort;
 use std::test::Fail;
 
-/// What is received of symbols in memory.
+/// The reception of symbols in memory: steps, report and packets.
 pub(crate) struct Demodulated {
     pub(crate) answer: Result<Totals, DemodFault>,
     pub(crate) packets: Vec<u8>,
@@ -61,7 +61,7 @@ fn receive_into(
     )
 }
 
-/// Receives symbols in memory, where so many writes of packets and so many of lines pass.
+/// Receives symbols in memory, if this number of writes of packets and of lines succeeds.
 pub(crate) fn receive(
     alloc: Global,
     link: &Sides,
@@ -83,7 +83,7 @@ pub(crate) fn received(alloc: Global, link: &Sides, symbols: &[u8]) -> Demodulat
     receive(alloc, link, symbols, [ALL, ALL])
 }
 
-/// Asserts what was reported, and the packets.
+/// Asserts the report and the packets.
 pub(crate) fn assert_received<A: Abort>(
     rt: &A,
     received: &Demodulated,
@@ -94,7 +94,7 @@ pub(crate) fn assert_received<A: Abort>(
     assert_eq!(rt; received.packets.as_slice(), packets);
 }
 
-/// Asserts what is reported of symbols in memory, and the packets.
+/// Asserts the report of symbols in memory, and the packets.
 pub(crate) fn assert_reported<A: Abort>(
     rt: &A,
     alloc: Global,
@@ -106,7 +106,7 @@ pub(crate) fn assert_reported<A: Abort>(
     assert_received(rt, &received(alloc, link, symbols), report, packets);
 }
 
-/// Asserts what is reported of a sample, and the packets.
+/// Asserts the report of a sample, and the packets.
 pub(crate) fn assert_sample<A: Abort>(
     rt: &A,
     alloc: Global,
@@ -117,7 +117,7 @@ pub(crate) fn assert_sample<A: Abort>(
     assert_reported(rt, alloc, &sample.link, &sample.symbols, report, packets);
 }
 
-/// Lets a receiver run to the end of what is read.
+/// Runs a receiver to the end of its reader.
 fn run_receiver(
     receiver: &mut Receiver<'_>,
     reader: &mut Reader<'_>,
@@ -147,7 +147,7 @@ fn run_to_end(
     run_receiver(receiver, &mut reader, &mut packets, &mut report)
 }
 
-/// What a receiver of a link, with so many passes, takes of symbols by a single call.
+/// The result of a receiver of a link, with this number of passes, on symbols in memory by a single call.
 pub(crate) fn received_whole(
     alloc: Global,
     link: &Sides,
@@ -160,7 +160,7 @@ pub(crate) fn received_whole(
     }
 }
 
-/// The receiver of a link, of so many rounds and passes.
+/// The receiver of a link, with these numbers of rounds and passes.
 pub(crate) fn receiver_of<'a>(
     alloc: Global,
     link: &'a Sides,
@@ -172,7 +172,7 @@ pub(crate) fn receiver_of<'a>(
     Receiver::new(alloc, link.setup, &link.matrix, rounds, passes)
 }
 
-/// The receiver of a link that is tuned so.
+/// The receiver of a link with this tuning.
 fn receiver_tuned<'a>(
     alloc: Global,
     link: &'a Sides,
@@ -187,7 +187,7 @@ fn receiver_by<'a>(alloc: Global, link: &'a Sides, divisor: Divisor) -> Result<R
     receiver_tuned(alloc, link, Tuning::new(ROUNDS, 0)?.with_divisor(divisor))
 }
 
-/// Lets a receiver take at most so many symbols.
+/// Sets a receiver's limit of symbols.
 fn limit_receiver(receiver: &mut Receiver<'_>, symbols: u64)
     requires { receiver.old.state ≡ begun }
 {
@@ -208,7 +208,7 @@ fn step(
     receiver.next(reader, packets, report)
 }
 
-/// Gives a receiver the first of these bytes, as many as it has room for. Returns how many these are, and the step.
+/// Gives a receiver the first of these bytes, up to its room. Returns their number, and the step.
 fn feed(receiver: &mut Receiver<'_>, bytes: &[u8]) -> (usize, Option<Step>)
     ensures { result.0 ≤ length bytes.now }
 {
@@ -263,7 +263,7 @@ fn heard_by(
     }
 }
 
-/// The same of a receiver that takes at most so many symbols.
+/// The same of a receiver with a limit of symbols.
 fn heard_within(
     alloc: Global,
     receiver: &mut Receiver<'_>,
@@ -277,8 +277,8 @@ fn heard_within(
     heard_by(alloc, receiver, source, passes)
 }
 
-/// Calls a new receiver five times, which takes at most so many symbols, and where so many reads, writes
-/// of packets and writes of lines pass.
+/// Calls a new receiver with a limit of symbols five times, if these numbers of reads, of writes of packets and of
+/// writes of lines succeed.
 pub(crate) fn hear(
     alloc: Global,
     link: &Sides,
@@ -292,7 +292,7 @@ pub(crate) fn hear(
     }
 }
 
-/// What a new receiver by this divisor answers to five calls on symbols in memory.
+/// The results of five calls of a new receiver with this divisor, on symbols in memory.
 pub(crate) fn hear_by(
     alloc: Global,
     link: &Sides,
@@ -310,14 +310,18 @@ pub(crate) fn hear_by(
     }
 }
 
-/// What a new receiver with this lock answers to five calls on symbols in memory.
+/// The results of five calls of a new receiver with this lock, on symbols in memory.
 pub(crate) fn hear_locked(
     alloc: Global,
     link: &Sides,
     lock: Lock,
     symbols: &[u8],
 ) -> Result<Heard, Fail> {
-    match receiver_tuned(alloc, link, Tuning::new(ROUNDS, 0)?.with_lock(lock)) {
+    match receiver_tuned(
+        alloc,
+        link,
+        Tuning::new(ROUNDS, 0)?.with_max_header_errors(lock),
+    ) {
         Ok(mut receiver) => Ok(heard_by(
             alloc,
             &mut receiver,
@@ -328,13 +332,13 @@ pub(crate) fn hear_locked(
     }
 }
 
-/// What a receiver shows of a frame.
+/// The values that a receiver returns for a frame.
 pub(crate) struct Shown {
     pub(crate) soft: Vec<i16>,
     /// The word's first 32 bits.
     pub(crate) word: [u8; 4],
     pub(crate) message: Vec<bool>,
-    /// What the checker answers of its certificate, where there is one.
+    /// The checker's result for its certificate, if there is one.
     pub(crate) answer: Option<Answer>,
 }
 
@@ -349,7 +353,7 @@ impl Drop for Shown {
     }
 }
 
-/// What the checker answers of the certificate that a receiver shows.
+/// The checker's result for the certificate of a receiver.
 fn answer_on(matrix: &Matrix, receiver: &Receiver<'_>) -> Option<Answer> {
     match receiver.certificate() {
         Some(view) => Some(check(matrix, &view)),
@@ -443,7 +447,7 @@ pub(crate) fn show_by(
     }
 }
 
-/// What comes of symbols by so many rooms, and what a receiver shows then.
+/// The steps of a receiver on symbols room by room, and its values then.
 fn shown_by_rooms(
     alloc: Global,
     link: &Sides,

@@ -32,7 +32,7 @@ fn lines(count: usize) -> &'static str {
     LINES[count.min(3)]
 }
 
-/// What five calls answer on two packets, if after so many there is this fault.
+/// The results of five calls on two packets, if there is this fault after this number of them.
 fn answers(well: usize, fault: Fault) -> Steps {
     let mut steps = [
         Ok(frame(1, 0)),
@@ -60,14 +60,14 @@ fn front(source: &[[u8; 188]; 2], count: usize) -> &[u8] {
     }
 }
 
-/// Asserts what five calls answered and wrote where a fault came after so many, and so many packets.
+/// Asserts the results and the output of five calls, if a fault came after these numbers of calls and packets.
 fn assert_heard<A: Abort>(rt: &A, heard: &Heard, fault: Fault, well: usize, packets: usize) {
     assert_eq!(rt; heard.steps, answers(well, fault), "after {well}");
     assert_eq!(rt; heard.report.as_slice(), lines(well).as_bytes());
     assert_eq!(rt; heard.packets.as_slice(), front(&two_packets(), packets));
 }
 
-/// What a receiver hears of a sample, where so many reads, writes of packets and writes of lines pass.
+/// Receives a sample, if these numbers of reads, of writes of packets and of writes of lines succeed.
 fn hear_sample(
     alloc: Global,
     sample: &Sample,
@@ -77,7 +77,7 @@ fn hear_sample(
     hear(alloc, &sample.link, MAX_SYMBOLS, source, passes)
 }
 
-/// Asserts what is heard of the two frames.
+/// Asserts the reception of the two frames.
 fn assert_sample_heard<A: Abort>(
     rt: &A,
     alloc: Global,
@@ -109,7 +109,7 @@ fn each_read_fails_in_turn(rt: HostRuntime) -> Result<(), Fail> {
     assert_reads_fail(&rt, rt.alloc(), &sample)
 }
 
-/// Asserts what is heard where the read of a byte fails.
+/// Asserts the reception if the read of a byte fails.
 fn assert_byte_fails<A: Abort>(rt: &A, alloc: Global, sample: &Sample) -> Result<(), Fail> {
     let source = Source::Bytes(ByOne::new(&sample.symbols));
     let cases = [
@@ -155,8 +155,8 @@ fn each_line_fails_in_turn(rt: HostRuntime) -> Result<(), Fail> {
     assert_lines_fail(&rt, rt.alloc(), &sample)
 }
 
-/// Asserts that a packet's write that fails is answered, that a part of that packet stands, and nothing
-/// else; answers after how many frames it came, or 5 where it did not.
+/// Asserts that a failed write of a packet is returned, and that a part of that packet is written, and nothing else.
+/// Returns the number of frames before it, or 5 if it did not fail.
 fn assert_packet_fails<A: Abort>(rt: &A, heard: &Heard) -> usize {
     let well = match heard.packets.len() / 188 {
         0 => 0,
@@ -169,7 +169,7 @@ fn assert_packet_fails<A: Abort>(rt: &A, heard: &Heard) -> usize {
     well
 }
 
-/// Asserts it where so many writes of packets pass.
+/// Asserts it if this number of writes of packets succeeds.
 fn assert_write_fails<A: Abort>(
     rt: &A,
     alloc: Global,
@@ -181,7 +181,7 @@ fn assert_write_fails<A: Abort>(
     Ok(assert_packet_fails(rt, &heard))
 }
 
-/// In how many writes a packet goes out is left open.
+/// The number of writes for a packet is not fixed.
 fn assert_writes_fail<A: Abort>(rt: &A, alloc: Global, sample: &Sample) -> Result<(), Fail> {
     let mut well = 0;
     for at in 0..9u64 {
@@ -198,7 +198,7 @@ fn each_write_of_a_packet_fails_in_turn(rt: HostRuntime) -> Result<(), Fail> {
     assert_writes_fail(&rt, rt.alloc(), &sample)
 }
 
-/// Asserts that the failed write of a line is told, and that what came before it stands.
+/// Asserts that the failed write of a line is returned, and that everything before it is written.
 fn assert_line_fails<A: Abort>(rt: &A, alloc: Global, sample: &Sample, at: usize, packets: usize) {
     let received = receive(alloc, &sample.link, &sample.symbols, [ALL, at as u64]);
     assert_eq!(rt; received.answer, Err(DemodFault::Write));
@@ -256,7 +256,7 @@ fn drops_what_is_no_whole_symbol(rt: HostRuntime) -> Result<(), Fail> {
     Ok(())
 }
 
-/// Asserts that a packet's frame of 32490 symbols is cut where its last symbol lacks 1 to 3 bytes.
+/// Asserts that a packet's frame of 32490 symbols is cut if its last symbol lacks 1 to 3 bytes.
 fn assert_cut<A: Abort>(rt: &A, alloc: Global, sample: &Sample) {
     let report = "cut at 0 symbols 32489\nend frames 0 delivered 0 packets 0 bad 0\n";
     assert_eq!(rt; sample.symbols.len(), 4 * 32490);
@@ -281,7 +281,7 @@ fn drops_what_is_left_of_a_cut_frame(rt: HostRuntime) -> Result<(), Fail> {
     Ok(())
 }
 
-/// The report of a frame that has so many symbols.
+/// The report of a frame with this number of symbols.
 fn cut_report(alloc: Global, count: usize) -> Result<String, Fail> {
     if count < 90 {
         return Ok(format!(in alloc; "{NONE}")?);
@@ -294,14 +294,14 @@ fn is_reported(received: &Demodulated, report: &str) -> bool {
     received.packets.is_empty() && received.report.as_slice() == report.as_bytes()
 }
 
-/// Whether so much is reported of the first symbols of a packet's frame, and no packet.
+/// Whether this is reported for the first symbols of a packet's frame, and no packet comes.
 fn is_cut(alloc: Global, sample: &Sample, count: usize) -> Result<bool, Fail> {
     let report = cut_report(alloc, count)?;
     let front = &sample.symbols[..sample.symbols.len().min(4 * count.min(32490))];
     Ok(is_reported(&received(alloc, &sample.link, front), &report))
 }
 
-/// The first number of symbols in a range of which something else is reported than that the frame is cut.
+/// The first number of symbols in a range for which the report is not a cut frame.
 fn first_of(
     alloc: Global,
     sample: &Sample,
@@ -346,7 +346,7 @@ fn cuts_of_up_to_32489_symbols_end(rt: HostRuntime) -> Result<(), Fail> {
     Ok(())
 }
 
-/// The header of a short frame of QPSK 1/4 with so many bits of data, whose first packet ends at this place.
+/// The header of a short frame of QPSK 1/4 with this number of data bits. Its first packet ends at this place.
 fn header(dfl: u16, syncd: u16) -> Header {
     Header {
         roll_off: 0,
@@ -356,7 +356,7 @@ fn header(dfl: u16, syncd: u16) -> Header {
     }
 }
 
-/// The bytes of two packets as frames carry them, each with its CRC-8 behind it in place of its sync byte.
+/// The bytes of two packets as frames carry them: without the sync byte, and with the CRC-8 after each.
 fn data_stream() -> [u8; 377] {
     let mut stream = [0u8; 377];
     for p in 0..2u8 {
@@ -432,7 +432,7 @@ fn a_forged_second_header_loses_its_packet(rt: HostRuntime) -> Result<(), Fail> 
     Ok(())
 }
 
-/// What five calls answer where the first header is forged.
+/// The results of five calls if the first header is forged.
 fn told() -> Steps {
     let lost = Step::Frame(Report {
         number: 1,
@@ -444,7 +444,7 @@ fn told() -> Steps {
     [Ok(lost), Ok(frame(2, 8190)), end, end, end]
 }
 
-/// Asserts that the forged first header of a sample is told.
+/// Asserts that the forged first header of a sample is reported.
 fn assert_told<A: Abort>(rt: &A, alloc: Global, sample: &Sample) -> Result<(), Fail> {
     let source = Source::Slice(&sample.symbols);
     let heard = hear_sample(alloc, sample, source, [ALL, ALL, ALL])?;

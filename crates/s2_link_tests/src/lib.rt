@@ -1,7 +1,7 @@
 //! Tests of both ends of a link together, over public calls alone, with the numbers of the standard.
 //!
-//! What several of them need stands in `hearing` (what is received of a stream), and in `streams` of `s2_stream_tests`
-//! (small links, and what is sent on them).
+//! Shared helpers are in `hearing` (the reception of a stream), and in `streams` of `s2_stream_tests` (small links, and
+//! the symbols sent on them).
 #![tactic(auto)]
 
 #[cfg(test)]

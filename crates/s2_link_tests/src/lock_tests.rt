@@ -1,4 +1,4 @@
-//! Headers of which many bits are wrong: what passes right behind a frame and nowhere else, by a receiver's lock.
+//! Headers with many wrong bits: they pass right after a frame and nowhere else, by a receiver's lock.
 use super::hearing::hear_locked;
 use s2_plframe::Lock;
 use s2_stream_tests::streams::{
@@ -13,7 +13,7 @@ const FRAME: usize = 8190;
 
 const DUMMY: usize = 3330;
 
-/// Turns a component of two bytes to its negative.
+/// Negates a component of two bytes.
 fn negate(component: &mut [u8]) {
     if let [high, low] = component {
         let value = i16::from_be_bytes([*high, *low]).wrapping_neg();
@@ -21,7 +21,7 @@ fn negate(component: &mut [u8]) {
     }
 }
 
-/// Negates the first symbols of a header, so that as many of its bits are wrong.
+/// Negates the first n symbols of a header, so that n of its bits are wrong.
 fn spoil(symbols: &mut [u8], place: usize, wrong: usize) {
     let first = place.min(1 << 20);
     for symbol in 0..wrong.min(90) {
@@ -33,16 +33,16 @@ fn spoil(symbols: &mut [u8], place: usize, wrong: usize) {
     }
 }
 
-/// Asserts what is told of symbols with a lock, and the packets.
+/// Asserts the report of symbols with a lock, and the packets.
 fn assert_locked<A: Abort>(
     rt: &A,
     alloc: Global,
     sample: &Sample,
-    lock: u32,
+    max_header_errors: u32,
     report: &str,
     packets: &[u8],
 ) -> Result<(), Fail> {
-    let lock = Lock::new(lock).ok_or("no lock")?;
+    let lock = Lock::new(max_header_errors).ok_or("no lock")?;
     let heard = hear_locked(alloc, &sample.link, lock, &sample.symbols)?;
     assert_eq!(rt; heard.report.as_slice(), report.as_bytes());
     assert_eq!(rt; heard.packets.as_slice(), packets);
@@ -54,7 +54,7 @@ fn four_packets() -> [[u8; 188]; 4] {
     [packet_of(0), packet_of(1), packet_of(2), packet_of(3)]
 }
 
-/// The three frames of four packets, with so many wrong bits in each header.
+/// The three frames of four packets, with these numbers of wrong bits in their headers.
 fn three_frames(alloc: Global, wrong: [usize; 3]) -> Result<Sample, Fail> {
     let packets = four_packets();
     let mut sample = sample_of(alloc, 1, true, packets.as_flattened())?;
@@ -100,7 +100,7 @@ fn finds_headers_right_behind_frames(rt: HostRuntime) -> Result<(), Fail> {
     Ok(())
 }
 
-/// Behind a frame that is lost no frame ended, so the next header passes with 12 wrong bits and not with 13.
+/// A missed frame does not count as a frame. So the next header passes with 12 wrong bits and not with 13.
 #[test]
 fn finds_the_header_behind_a_lost_frame_by_the_search(rt: HostRuntime) -> Result<(), Fail> {
     let packets = four_packets();
@@ -129,8 +129,8 @@ fn finds_the_first_header_by_the_search(rt: HostRuntime) -> Result<(), Fail> {
     Ok(())
 }
 
-/// Two frames with a dummy frame behind each, where the first dummy frame's header and that of the frame behind it
-/// have so many wrong bits.
+/// Two frames with a dummy frame after each. The header of the first dummy frame and that of the frame after it have
+/// these numbers of wrong bits.
 fn with_dummies(alloc: Global, wrong: usize) -> Result<Sample, Fail> {
     let mut sample = two_frames(alloc)?;
     let packets = two_packets();

@@ -1,5 +1,5 @@
-//! Each call that takes memory, where memory may be refused once: then it says so, and the same call
-//! again answers. Made rows have weight 3 and seed 1; writers have their room beforehand.
+//! Each call that allocates, if an allocation may be refused once. Then it reports it, and the same call succeeds
+//! again. Made rows have weight 3 and seed 1; the writers' memory is allocated before.
 ghost use Rattle.std.specs.Prelude.{◌≡◌, IfOk};
 ghost use Rattle.s2_receive.specs.Receiving.{begun};
 
@@ -135,7 +135,7 @@ fn sample(alloc: Global, packet: &[u8]) -> Result<Sample, Fail> {
     Ok(Sample { link, symbols })
 }
 
-/// Writes what a receiver makes of symbols.
+/// Writes the packets and the report of a receiver for symbols.
 fn receive_into(
     receiver: &mut Receiver<'_>,
     symbols: &[u8],
@@ -150,7 +150,7 @@ fn receive_into(
     receiver.run(&mut InMemory::new(symbols), packets, report)
 }
 
-/// What a receiver writes of symbols, in this room.
+/// The output of a receiver for symbols, in this room.
 fn receive(
     receiver: &mut Receiver<'_>,
     symbols: &[u8],
@@ -169,7 +169,7 @@ fn receive(
     }
 }
 
-/// What a receiver makes of symbols.
+/// The output of a receiver for symbols.
 fn received_by(alloc: Global, receiver: &mut Receiver<'_>, symbols: &[u8]) -> Result<Written, Fail>
     requires { receiver.old.state ≡ begun }
 {
@@ -177,7 +177,7 @@ fn received_by(alloc: Global, receiver: &mut Receiver<'_>, symbols: &[u8]) -> Re
     Ok(receive(receiver, symbols, room)?)
 }
 
-/// What a new receiver makes of a sample.
+/// The output of a new receiver for a sample.
 fn received(alloc: Global, sample: &Sample) -> Result<Written, Fail> {
     let mut receiver = receiver(alloc, &sample.link)?;
     received_by(alloc, &mut receiver, &sample.symbols)
@@ -220,7 +220,7 @@ fn demodulated(alloc: Global, sample: &Sample, room: Written) -> Result<Written,
     }
 }
 
-/// The same, or `None` where there was no memory.
+/// The same, or `None` if memory was refused.
 fn demodulated_once(alloc: Global, sample: &Sample) -> Result<Option<Written>, Fail> {
     let room = rooms(alloc)?;
     match demodulated(alloc, sample, room) {

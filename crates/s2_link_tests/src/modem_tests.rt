@@ -36,22 +36,22 @@ fn one_packet_arrives(rt: HostRuntime) -> Result<(), Fail> {
     Ok(())
 }
 
-/// The totals of so many frames with a packet each.
+/// The totals of this number of frames with a packet each.
 fn totals(frames: u64, cut: bool) -> Totals {
     Totals {
         frames,
         delivered: frames,
         packets: frames,
         bad: 0,
-        torn: 0,
+        incomplete: 0,
         cut,
-        passed: 0,
+        skipped: 0,
         places: 0,
         first: 0,
     }
 }
 
-/// Asserts the totals of the first bytes of a frame's symbols, which are so many.
+/// Asserts the totals of this number of first bytes of a frame's symbols.
 fn assert_totals<A: Abort>(rt: &A, alloc: Global, sample: &Sample, whole: usize) {
     assert_eq!(rt; sample.symbols.len(), whole);
     let cases = [
@@ -101,7 +101,7 @@ fn two_packets_arrive(rt: HostRuntime) -> Result<(), Fail> {
     Ok(())
 }
 
-/// Asserts what is heard of the two packets' frames where their bytes are read one by one.
+/// Asserts the reception of the two packets' frames if their bytes are read one by one.
 fn assert_heard_by_one<A: Abort>(rt: &A, alloc: Global, sample: &Sample) -> Result<(), Fail> {
     let source = Source::Bytes(ByOne::new(&sample.symbols));
     let heard = hear(alloc, &sample.link, MAX_SYMBOLS, source, [ALL, ALL, ALL])?;
@@ -127,7 +127,7 @@ fn assert_clean<A: Abort>(rt: &A, soft: &[i16]) {
     }
 }
 
-/// Asserts what is shown of the frame of a packet of zeros, and what the checker answers of its certificate.
+/// Asserts the decision on the frame of a packet of zeros, and the checker's result for its certificate.
 fn assert_shown<A: Abort>(rt: &A, shown: &Shown, answer: Option<Answer>) {
     assert_clean(rt, &shown.soft);
     assert_eq!(rt; shown.answer, answer);
@@ -137,7 +137,7 @@ fn assert_shown<A: Abort>(rt: &A, shown: &Shown, answer: Option<Answer>) {
     assert!(rt; shown.message.starts_with(&begins));
 }
 
-/// Asserts what a receiver shows of a sample.
+/// Asserts the values that a receiver returns for a sample.
 fn assert_sample_shown<A: Abort>(rt: &A, alloc: Global, sample: &Sample) -> Result<(), Fail> {
     let shown = show(alloc, &sample.link, &sample.symbols)?;
     assert_shown(rt, &shown, Some(Answer::Yes));
@@ -150,7 +150,7 @@ fn shows_the_last_frame(rt: HostRuntime) -> Result<(), Fail> {
     assert_sample_shown(&rt, rt.alloc(), &sample)
 }
 
-/// Asserts that after a step that came to no frame a receiver shows the last one, and no certificate.
+/// Asserts that after a step that is no frame a receiver still has the last decision, and no certificate.
 fn assert_uncertified<A: Abort>(
     rt: &A,
     alloc: Global,
@@ -176,8 +176,8 @@ fn shows_no_certificate_behind_a_cut_frame(rt: HostRuntime) -> Result<(), Fail> 
     assert_uncertified(&rt, rt.alloc(), &sample, 4 * 90)
 }
 
-/// Asserts what a receiver shows of a sample after the room of its frame, before the packet is written; and after so many
-/// more, which end the stream: no certificate, and all else stays.
+/// Asserts the values of a receiver after the bytes of a sample's frame, before the packet is written. Then some more
+/// bytes end the stream: there is no certificate, and all other values are unchanged.
 fn assert_shown_by_rooms<A: Abort>(
     rt: &A,
     alloc: Global,
@@ -200,7 +200,7 @@ fn shows_a_frame_before_its_packet_is_written(rt: HostRuntime) -> Result<(), Fai
     Ok(())
 }
 
-/// Asserts that a new receiver shows zeros, and no certificate.
+/// Asserts that the values of a new receiver are zeros, without a certificate.
 fn assert_nothing_shown<A: Abort>(rt: &A, alloc: Global, link: &Sides) -> Result<(), Fail> {
     let shown = show_nothing(alloc, link)?;
     assert_eq!(rt; shown.soft.len(), 16200);
@@ -252,14 +252,14 @@ fn two_packets_arrive_by_rooms(rt: HostRuntime) -> Result<(), Fail> {
     assert_rooms(&rt, rt.alloc(), &sample)
 }
 
-/// Asserts what a run with so many passes tells of a packet's frame, and of the same without its last byte.
+/// Asserts the result of a run with this number of passes on a packet's frame, and on the same without its last byte.
 fn assert_told<A: Abort>(rt: &A, alloc: Global, sample: &Sample, passes: u32) -> Result<(), Fail> {
     let size = sample.symbols.len();
     let whole = received_whole(alloc, &sample.link, &sample.symbols, passes)?;
-    assert!(rt; whole.well && whole.totals.packets == 1);
+    assert!(rt; whole.all_certified && whole.totals.packets == 1);
     let front = &sample.symbols[..size.saturating_sub(1)];
     let cut = received_whole(alloc, &sample.link, front, passes)?;
-    assert!(rt; !cut.well && cut.totals.cut);
+    assert!(rt; !cut.all_certified && cut.totals.cut);
     Ok(())
 }
 
@@ -302,7 +302,7 @@ fn behind_zeros(alloc: Global, symbols: &[u8]) -> Result<Vec<u8>, AllocError> {
     Ok(stream)
 }
 
-/// Asserts that a sample arrives behind zeros.
+/// Asserts that a sample arrives after zeros.
 fn assert_passed_over<A: Abort>(rt: &A, alloc: Global, sample: &Sample) -> Result<(), Fail> {
     let stream = behind_zeros(alloc, &sample.symbols)?;
     let report = "frame 1 at 1000 sole fixed 0\nend frames 1 delivered 1 packets 1 bad 0\n";
@@ -361,12 +361,12 @@ fn corrects_twelve_wrong_bits(rt: HostRuntime) -> Result<(), Fail> {
     assert_corrected(&rt, rt.alloc(), &link)
 }
 
-/// Why there is no receiver of this link, of so many rounds and passes.
+/// The refusal of a receiver of this link, with these numbers of rounds and passes.
 fn refusal(alloc: Global, link: &Sides, rounds: u32, passes: u32) -> Option<SetupFault> {
     receiver_of(alloc, link, rounds, passes).err()
 }
 
-/// Why there is none with this number, roll-off, and so many rounds and passes, or on checks of another shape.
+/// The refusal with this number, this roll-off, and these numbers of rounds and passes, or on checks of another shape.
 fn refusal_of(
     alloc: Global,
     numbers: (u32, u8, u32, u32),

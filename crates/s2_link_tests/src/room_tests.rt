@@ -1,5 +1,4 @@
-//! That memory is enough for each mode, with pilots and without, and for the largest scrambling number: nothing is
-//! refused where it is there.
+//! Memory suffices for each mode, with pilots and without, and for the largest scrambling number: nothing is refused.
 use super::hearing::{assert_reported, hear};
 use s2_bbframe::{Slicer, field_bytes};
 use s2_mode::{MAX_SYMBOLS, Mode};
@@ -10,7 +9,7 @@ use std::alloc::Global;
 use std::process::Abort;
 use std::test::Fail;
 
-/// What is reported of no symbols.
+/// The report of no symbols.
 const NONE: &str = "end frames 0 delivered 0 packets 0 bad 0\n";
 
 /// Asserts that a slicer has room for a mode's full fields.
@@ -26,7 +25,7 @@ fn transmitter_has_room(alloc: Global, link: &Sides) -> Result<(), SetupFault> {
     Ok(())
 }
 
-/// Asserts that all that is made for a link has room, a receiver of no symbols among it.
+/// Asserts that memory suffices for all parts of a link, also for a receiver of no symbols.
 fn assert_has_room<A: Abort>(rt: &A, alloc: Global, link: &Sides) -> Result<(), Fail> {
     assert_slicer_has_room(rt, alloc, link.setup.mode)?;
     transmitter_has_room(alloc, link)?;
@@ -96,7 +95,7 @@ fn have_room_for_short_frames_of_8psk(rt: HostRuntime) -> Result<(), Fail> {
     assert_have_room(&rt, rt.alloc(), true, &[12, 13, 14, 15, 16])
 }
 
-/// Asserts that a receiver which takes so few symbols hears the end of none.
+/// Asserts that a receiver with this low limit of symbols reports the end of a stream without symbols.
 fn assert_hears_the_end<A: Abort>(
     rt: &A,
     alloc: Global,
@@ -125,7 +124,7 @@ fn heaviest_link(alloc: Global, mode: Mode) -> Result<Sides, Fail> {
     Ok(Sides { setup, matrix })
 }
 
-/// Asserts that all that is made for a mode by the heaviest rows has room.
+/// Asserts that memory suffices for all parts of a mode by the heaviest rows.
 fn assert_heaviest_has_room<A: Abort>(rt: &A, alloc: Global, mode: Mode) -> Result<(), Fail> {
     let link = heaviest_link(alloc, mode)?;
     assert_has_room(rt, alloc, &link)?;

@@ -9,7 +9,7 @@ use std::alloc::{AllocError, Global};
 use std::process::Abort;
 use std::test::Fail;
 
-/// How many checks of a bit have a wrong member.
+/// The number of checks of a bit with a wrong member.
 fn touching(matrix: &Matrix, touched: &[bool], bit: usize) -> usize {
     let mut count = 0usize;
     if bit < matrix.bits() {
@@ -22,7 +22,7 @@ fn touching(matrix: &Matrix, touched: &[bool], bit: usize) -> usize {
     count
 }
 
-/// Marks the checks of a wrong bit. Whether there are two at least, and none had a wrong member.
+/// Marks the checks of a wrong bit. Returns whether there are two at least, and none had a wrong member.
 fn touch(matrix: &Matrix, touched: &mut [bool], bit: usize) -> bool {
     if bit >= matrix.bits() {
         return false;
@@ -42,7 +42,7 @@ fn touch(matrix: &Matrix, touched: &mut [bool], bit: usize) -> bool {
 }
 
 /// Whether no check has two of these wrong bits, each is in two checks at least, and no other bit is in two
-/// checks that have one. Where all values are of one size, a wrong bit's checks then have enough to give.
+/// checks that have one. If all values have the same magnitude, a wrong bit's checks can then move enough to it.
 fn are_scattered(alloc: Global, matrix: &Matrix, wrong: &[usize]) -> Result<bool, AllocError> {
     let mut touched = vec![in alloc; false; matrix.check_count()]?;
     let mut scattered = true;
@@ -75,7 +75,7 @@ fn three_symbols(alloc: Global, matrix: &Matrix) -> Result<[u8; 3], Fail> {
     Ok(symbols)
 }
 
-/// Turns a component of two bytes to its negative.
+/// Negates a component of two bytes.
 fn negate(component: &mut [u8]) {
     if let [high, low] = component {
         let value = i16::from_be_bytes([*high, *low]).wrapping_neg();
@@ -103,7 +103,7 @@ fn link(alloc: Global) -> Result<Sides, Fail> {
 const REPAIRED: &str =
     "frame 1 at 0 most-likely fixed 0\nend frames 1 delivered 1 packets 1 bad 0\n";
 
-/// The symbols of a packet of zeros, of which so many of three are negated.
+/// The symbols of a packet of zeros, with this number of three symbols negated.
 fn negated(alloc: Global, link: &Sides, count: usize) -> Result<Vec<u8>, Fail> {
     let wrong = three_symbols(alloc, &link.matrix)?;
     let mut symbols = symbols_of(alloc, link, &packet_of_zeros())?;
@@ -125,7 +125,7 @@ fn assert_repaired<A: Abort>(
     Ok(())
 }
 
-/// Asserts that it arrives where the symbols are read byte by byte.
+/// Asserts that it arrives if the symbols are read byte by byte.
 fn assert_repaired_by_one<A: Abort>(
     rt: &A,
     alloc: Global,

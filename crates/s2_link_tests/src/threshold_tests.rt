@@ -1,5 +1,5 @@
-//! The least noise at which the repair of a frame's hard decision is no codeword, so that min-sum has to
-//! find the bits that were sent.
+//! The least noise at which the repair of a frame's hard decision is no codeword. Then min-sum has to find the bits
+//! that were sent.
 ghost use Rattle.std.specs.Prelude.{◌≡◌, IfOk, length};
 ghost use Rattle.s2_mode.specs.Shape.{information_bits};
 
@@ -50,7 +50,7 @@ fn codeword_of(alloc: Global, matrix: &Matrix) -> Result<Bits, AllocError> {
     Ok(codeword)
 }
 
-/// So many symbols.
+/// This number of symbols.
 fn symbols(alloc: Global, count: usize) -> Result<Vec<Symbol>, AllocError>
     ensures { IfOk result (λ v. length v.items ≡ count) }
 {
@@ -78,7 +78,7 @@ fn frame_of(alloc: Global, mode: Mode, payload: &[Symbol]) -> Result<Vec<Symbol>
     Ok(frame)
 }
 
-/// Symbols behind noise of this level and seed 1.
+/// Symbols with noise of this level and seed 1 added.
 fn behind_noise(alloc: Global, sent: &[Symbol], level: u16) -> Result<Vec<Symbol>, AllocError> {
     let mut noisy = symbols(alloc, sent.len())?;
     let mut noise = Noise::new(1, level);
@@ -109,7 +109,7 @@ fn soft_of(alloc: Global, mode: Mode, payload: &[Symbol]) -> Result<Vec<i16>, Fa
     Ok(soft)
 }
 
-/// The soft values of a frame behind noise of this level.
+/// The soft values of a frame with noise of this level added.
 fn soft_behind_noise(
     alloc: Global,
     mode: Mode,
@@ -132,7 +132,7 @@ fn wants_min_sum(alloc: Global, matrix: &Matrix, soft: &[i16]) -> Result<bool, F
     Ok(!matrix.satisfied(&repair))
 }
 
-/// The verdict by at most 50 rounds, and in how many places the decided bits are not those sent.
+/// The verdict by at most 50 rounds, and the number of decided bits that are not those sent.
 fn judged(
     alloc: Global,
     matrix: &Matrix,
@@ -147,8 +147,8 @@ fn judged(
     Ok((verdict, judge.word().distance(sent)))
 }
 
-/// Behind noise of this level the verdict, and in how many places the decided bits are not those sent.
-/// `None` where the repair of the hard decision is a codeword.
+/// The verdict with noise of this level added, and the number of decided bits that are not those sent. `None` if the
+/// repair of the hard decision is a codeword.
 fn decided(
     alloc: Global,
     mode: Mode,
@@ -164,7 +164,7 @@ fn decided(
     Ok(Some(judged(alloc, matrix, &soft, sent)?))
 }
 
-/// The same behind the least noise where the repair is no codeword. No gain of 1020 * 175 / 256 changes the
+/// The same with the least noise at which the repair is no codeword. No gain of 1020 * 175 / 256 changes the
 /// sign of a component of 700.
 fn decided_behind_least_noise(
     alloc: Global,

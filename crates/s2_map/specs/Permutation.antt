@@ -9,7 +9,7 @@ pub record IsPermutation (n : ℕ) (place : ℕ → ℕ) : Type 0 where
   pub each : (b : ℕ) → b < n → (i : ℕ) × (i < n) × (place i ≡ b)
   pub once : (i j : ℕ) → i < n → j < n → place i ≡ place j → i ≡ j
 
--- each bit of the codeword is the place of exactly one payload bit, which is the one that it is sent as
+-- each bit of the codeword is the place of exactly one payload bit: the one that it is sent as
 pub record IsInterleaver (m : Mode) : Type 0 where
   pub permutes : IsPermutation (n_of m) (place_of m)
   pub sent : (i : ℕ) → i < n_of m → sent_as m (place_of m i) ≡ i

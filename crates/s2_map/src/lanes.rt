@@ -64,7 +64,7 @@ fn words(first: &[bool], second: &[bool], third: &[bool], at: usize) -> u16x16
     i.shuffle(q, [0, 8, 1, 9, 2, 10, 3, 11, 4, 12, 5, 13, 6, 14, 7, 15])
 }
 
-/// Writes the points of eight rows from a place on, where those before it are written.
+/// Writes the points of eight rows from a place on; those before it are already written.
 #[inline(always)]
 pub(crate) fn map_eight(
     first: &[bool],

@@ -1,8 +1,8 @@
 //! The bit interleaver and the constellations of QPSK and 8PSK (EN 302 307-1, 5.3.3 and 5.4),
-//! between the encoder and the physical frame.
+//! between the encoder and the physical frame. They make an XFECFRAME, the payload, of a FECFRAME, the codeword.
 //!
-//! [`place`] says which bit of a codeword is sent as payload bit `i`, and [`point`] which symbol a
-//! label is sent as. [`map_into`] writes exactly the payload of a codeword: symbol `s` is the point
+//! [`place`] returns the bit of a codeword that is sent as payload bit `i`. [`point`] returns the symbol of a label.
+//! [`map_into`] writes exactly the payload of a codeword: symbol `s` is the point
 //! whose label is the bits of the codeword at the places of its two or three payload bits.
 //! [`laws::interleaver`] says that each bit of a codeword is sent once. No call takes memory.
 //!

@@ -1,4 +1,4 @@
-//! Codewords to payload symbols (EN 302 307-1, 5.4).
+//! Codewords (FECFRAMEs) to payload symbols (XFECFRAMEs) (EN 302 307-1, 5.4).
 ghost use Rattle.std.specs.Prelude.{◌≡◌, ℕ, ◌+◌, ◌*◌, ◌/◌, ◌<◌, false, pos, neg_ℤ, length, if◌then◌else◌};
 ghost use Rattle.s2_mode.specs.Mode.{is_qpsk, n_of, slots_of};
 ghost use Rattle.s2_mode.specs.Symbols.{symbol_at};

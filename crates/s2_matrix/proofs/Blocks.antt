@@ -9,7 +9,7 @@ use Rattle.s2_bits.specs.Lanes.{eight}
 use Rattle.s2_bits.proofs.Sums.{xor_assoc}
 use Rattle.s2_matrix.specs.Sums.{sum_of}
 use Rattle.s2_matrix.specs.Planes.{plane_place}
-use Rattle.s2_matrix.specs.Turning.{eight_rows, carry_at, accumulated, Fills, FillsEight}
+use Rattle.s2_matrix.specs.Transpose.{eight_rows, carry_at, accumulated, Fills, FillsEight}
 use Rattle.s2_matrix.proofs.Sums.{sum_of-same, sum_of-add}
 use Rattle.s2_matrix.proofs.Joins.{div_below}
 use Rattle.s2_matrix.proofs.Lanes.{lane_place, lane_sum}
@@ -149,9 +149,9 @@ accumulated_at group q planes lane r low =
     ap₂ xor (ap (carry_at group q planes) (div-mul-add lane q r low)) (ap (bit_at planes) (lane_place group q lane r low))
 
 -- a bit of a block
-pub turned_place : (group q : ℕ) (planes : List Bool) (lane plane l r : ℕ) → plane + r < q
+pub transposed_place : (group q : ℕ) (planes : List Bool) (lane plane l r : ℕ) → plane + r < q
     → xor (carry_at group q planes (lane + l)) (bit_at planes (plane * group + lane + r * group + l)) ≡ accumulated group q planes (lane * q + plane + l * q + r)
-turned_place group q planes lane plane l r low =
+transposed_place group q planes lane plane l r low =
     let place : plane * group + lane + r * group + l ≡ (plane + r) * group + (lane + l) = omega arith in
     let index : (lane + l) * q + (plane + r) ≡ lane * q + plane + l * q + r = omega arith in
     ap (λ k. xor (carry_at group q planes (lane + l)) (bit_at planes k)) place

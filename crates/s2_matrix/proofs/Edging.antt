@@ -12,8 +12,8 @@ use Rattle.s2_matrix.specs.Total.{upto}
 use Rattle.s2_rows.specs.Rows.{Rows, row_of}
 use Rattle.s2_matrix.specs.Code.{Code, code_of}
 use Rattle.s2_matrix.proofs.Totals.{upto_more}
-use Rattle.s2_matrix.specs.Share.{shared}
-use Rattle.s2_matrix.proofs.Counts.{shared-append}
+use Rattle.s2_matrix.specs.CountingSort.{with_key}
+use Rattle.s2_matrix.proofs.Counts.{with_key-append}
 use Rattle.s2_matrix.specs.Edges.{Gains, AreEdges}
 
 pub gains_none : (count bit : ℕ) (cs bs : List ℕ) → length bs ≡ length cs → All (λ k. k < count) cs → Gains count cs bs cs bs (λ _. false) bit 0
@@ -21,7 +21,7 @@ gains_none count bit cs bs paired below = record {
   paired = paired;
   below = below;
   few = omega arith;
-  gained = λ j h. sym (append-nil (shared cs bs j));
+  gained = λ j h. sym (append-nil (with_key cs bs j));
 }
 
 All-push : (P : ℕ → Type 0) (xs : List ℕ) (x : ℕ) → All P xs → P x → All P (xs ++ x ∷ [])
@@ -44,7 +44,7 @@ gains_both count bit m n cs bs cs1 bs1 cs2 bs2 p s r one two either apart = reco
   paired = two.paired;
   below = two.below;
   few = omega (arith, one.few, two.few);
-  gained = λ j h. (two.gained j h ∙ ap (λ (xs : List ℕ). xs ++ cond (s j) (bit ∷ []) []) (one.gained j h) ∙ joined bit (p j) (s j) (r j) (either j h) (apart j) (shared cs bs j));
+  gained = λ j h. (two.gained j h ∙ ap (λ (xs : List ℕ). xs ++ cond (s j) (bit ∷ []) []) (one.gained j h) ∙ joined bit (p j) (s j) (r j) (either j h) (apart j) (with_key cs bs j));
 }
 
 -- one edge more
@@ -53,7 +53,7 @@ gains_push count bit most c cs bs cs' bs' p r g low either apart = record {
   paired = omega (arith, length-append cs' (c ∷ []), length-append bs' (bit ∷ []), g.paired);
   below = All-push (λ k. k < count) cs' c g.below low;
   few = omega (arith, length-append cs' (c ∷ []), g.few);
-  gained = λ j h. (shared-append cs' bs' (c ∷ []) (bit ∷ []) j g.paired ∙ ap (λ (xs : List ℕ). xs ++ cond (c == j) (bit ∷ []) []) (g.gained j h) ∙ joined bit (p j) (c == j) (r j) (either j h) (apart j) (shared cs bs j));
+  gained = λ j h. (with_key-append cs' bs' (c ∷ []) (bit ∷ []) j g.paired ∙ ap (λ (xs : List ℕ). xs ++ cond (c == j) (bit ∷ []) []) (g.gained j h) ∙ joined bit (p j) (c == j) (r j) (either j h) (apart j) (with_key cs bs j));
 }
 
 -- another spelling of the test
@@ -62,7 +62,7 @@ gains_same count bit most more cs bs cs' bs' p r g le same = record {
   paired = g.paired;
   below = g.below;
   few = omega (arith, g.few);
-  gained = λ j h. (g.gained j h ∙ ap (λ b. shared cs bs j ++ cond b (bit ∷ []) []) (sym (same j h)));
+  gained = λ j h. (g.gained j h ∙ ap (λ b. with_key cs bs j ++ cond b (bit ∷ []) []) (sym (same j h)));
 }
 
 -- the edges of one bit more

@@ -7,7 +7,7 @@ use Rattle.s2_rows.specs.Rows.{Rows}
 use Rattle.s2_matrix.specs.Total.{upto}
 use Rattle.s2_matrix.specs.Code.{Code, members, checks_of, first_edge}
 use Rattle.s2_matrix.proofs.Members.{upto_below}
-use Rattle.s2_matrix.specs.Share.{places_before}
+use Rattle.s2_matrix.specs.CountingSort.{places_before}
 use Rattle.s2_matrix.specs.Joined.{joined}
 use Rattle.s2_matrix.specs.Edges.{IsMatrix}
 use Rattle.s2_matrix.proofs.Flats.{at_upto, flat_first, length-flat}

@@ -14,9 +14,9 @@ use Rattle.s2_matrix.specs.Code.{first_edge, edge_of}
 use Rattle.s2_matrix.specs.Code.{edges_at}
 use Rattle.s2_matrix.proofs.Totals.{upto_more}
 use Rattle.s2_matrix.proofs.Members.{first_edge_more, members_below, members_rising, place_in_members}
-use Rattle.s2_matrix.specs.Share.{shared, places_before}
+use Rattle.s2_matrix.specs.CountingSort.{with_key, places_before}
 use Rattle.s2_matrix.specs.Joined.{joined}
-use Rattle.s2_matrix.proofs.Counts.{shared-append}
+use Rattle.s2_matrix.proofs.Counts.{with_key-append}
 use Rattle.s2_matrix.proofs.Cuts.{joined-append}
 use Rattle.s2_mode.specs.Limits.{max_bits}
 use Rattle.s2_matrix.specs.Limits.{max_edges}
@@ -60,33 +60,33 @@ flat_below code (suc n) =
 
 -- ---- what the members of one check share out
 
-shared_none : (ms vs : List ℕ) (i : ℕ) → ((k : ℕ) → k < length ms → get_or ms k 0 ≢ i) → shared ms vs i ≡ []
-shared_none [] vs i none = refl
-shared_none (m ∷ ms) [] i none = refl
-shared_none (m ∷ ms) (v ∷ vs) i none =
+with_key_none : (ms vs : List ℕ) (i : ℕ) → ((k : ℕ) → k < length ms → get_or ms k 0 ≢ i) → with_key ms vs i ≡ []
+with_key_none [] vs i none = refl
+with_key_none (m ∷ ms) [] i none = refl
+with_key_none (m ∷ ms) (v ∷ vs) i none =
     let not : (m == i) ≡ false = ne_eqb m i (none 0 (omega arith)) in
-    rw not (shared_none ms vs i (λ k h. none (suc k) (omega arith)))
+    rw not (with_key_none ms vs i (λ k h. none (suc k) (omega arith)))
 
-shared_once : (ms vs : List ℕ) (i : ℕ) → AllPairs (λ a b. a < b) ms → length vs ≡ length ms → position_or_len (λ m. m == i) ms < length ms → shared ms vs i ≡ get_or vs (position_or_len (λ m. m == i) ms) 0 ∷ []
-shared_once [] vs i rising long h = absurd (omega arith)
-shared_once (m ∷ ms) [] i rising long h = absurd (omega arith)
-shared_once (m ∷ ms) (v ∷ vs) i rising long h =
+with_key_once : (ms vs : List ℕ) (i : ℕ) → AllPairs (λ a b. a < b) ms → length vs ≡ length ms → position_or_len (λ m. m == i) ms < length ms → with_key ms vs i ≡ get_or vs (position_or_len (λ m. m == i) ms) 0 ∷ []
+with_key_once [] vs i rising long h = absurd (omega arith)
+with_key_once (m ∷ ms) [] i rising long h = absurd (omega arith)
+with_key_once (m ∷ ms) (v ∷ vs) i rising long h =
     elim (cases_Bool (m == i)) [
-      | inl same ↦ (let rest = shared_none ms vs i (λ k less. (λ e. (let up = rising 0 (suc k) 0 (omega arith) (omega arith) in let here = eqb-true m i same in omega arith))) in rw same (ap (λ l. v ∷ l) rest))
+      | inl same ↦ (let rest = with_key_none ms vs i (λ k less. (λ e. (let up = rising 0 (suc k) 0 (omega arith) (omega arith) in let here = eqb-true m i same in omega arith))) in rw same (ap (λ l. v ∷ l) rest))
       | inr other ↦ (
           let more : position_or_len (λ m. m == i) ms < length ms = (let h' = rw other at h in omega arith) in
           let p = position_or_len (λ m. m == i) ms in
           let one : suc p ≡ 1 + p = omega arith in
-          rw other (shared_once ms vs i (λ a b d low high. rising (suc a) (suc b) d (omega arith) (omega arith)) (omega arith) more ∙ ap (λ k. get_or (v ∷ vs) k 0 ∷ []) one)
+          rw other (with_key_once ms vs i (λ a b d low high. rising (suc a) (suc b) d (omega arith) (omega arith)) (omega arith) more ∙ ap (λ k. get_or (v ∷ vs) k 0 ∷ []) one)
           )
     ]
 
 -- bit i takes its value from check j, if it is a member
-pub shared_members : (code : Code) (j i : ℕ) (vs : List ℕ) → i < code.bits → length vs ≡ length (members code j) → shared (members code j) vs i ≡ cond (code.has j i) (get_or vs (position_or_len (λ m. m == i) (members code j)) 0 ∷ []) []
-shared_members code j i vs low long =
+pub with_key_members : (code : Code) (j i : ℕ) (vs : List ℕ) → i < code.bits → length vs ≡ length (members code j) → with_key (members code j) vs i ≡ cond (code.has j i) (get_or vs (position_or_len (λ m. m == i) (members code j)) 0 ∷ []) []
+with_key_members code j i vs low long =
     elim (cases_Bool (code.has j i)) [
-      | inl has ↦ rw has (shared_once (members code j) vs i (members_rising code j) long (place_in_members code i j low has))
-      | inr lacks ↦ rw lacks (shared_none (members code j) vs i (λ k h e. (
+      | inl has ↦ rw has (with_key_once (members code j) vs i (members_rising code j) long (place_in_members code i j low has))
+      | inr lacks ↦ rw lacks (with_key_none (members code j) vs i (λ k h e. (
           let passes = filter_passes (code.has j) (upto code.bits) k 0 h in
           let clash = sym passes ∙ ap (code.has j) e ∙ lacks in
           cc clash
@@ -115,7 +115,7 @@ pushed f b (x ∷ xs) n = ap (λ l. f x ∷ l) (pushed f b xs n)
 filter_more : (p : ℕ → Bool) (n : ℕ) → filter p (upto (n + 1)) ≡ filter p (upto n) ++ cond (p n) (n ∷ []) []
 filter_more p n = ap (filter p) (upto_more n) ∙ filter-append p (upto n) (n ∷ [])
 
-pub flat_edges : (code : Code) (i n : ℕ) → i < code.bits → shared (flat code n) (upto (first_edge code n)) i ≡ map (λ j. edge_of code j i) (filter (λ j. code.has j i) (upto n))
+pub flat_edges : (code : Code) (i n : ℕ) → i < code.bits → with_key (flat code n) (upto (first_edge code n)) i ≡ map (λ j. edge_of code j i) (filter (λ j. code.has j i) (upto n))
 flat_edges code i zero low = refl
 flat_edges code i (suc n) low =
     let one : suc n ≡ n + 1 = omega arith in
@@ -125,10 +125,10 @@ flat_edges code i (suc n) low =
     let ms = members code n in
     let split : upto (first_edge code (n + 1)) ≡ upto first ++ range_with_len first (length ms) = ap upto (first_edge_more code n) ∙ upto_add first (length ms) in
     let size : length (upto first) ≡ length (flat code n) = length-range_with_len 0 first ∙ sym (length-flat code n) in
-    let here : shared ms (range_with_len first (length ms)) i ≡ cond (code.has n i) (f n ∷ []) [] =
-    shared_members code n i (range_with_len first (length ms)) low (length-range_with_len first (length ms)) ∙ place (code.has n i) refl
+    let here : with_key ms (range_with_len first (length ms)) i ≡ cond (code.has n i) (f n ∷ []) [] =
+    with_key_members code n i (range_with_len first (length ms)) low (length-range_with_len first (length ms)) ∙ place (code.has n i) refl
     in
-    ap (λ k. shared (flat code k) (upto (first_edge code k)) i) one ∙ ap₂ (λ x y. shared x y i) (flat_more code n) split ∙ shared-append (flat code n) (upto first) ms (range_with_len first (length ms)) i size ∙ ap₂ (λ (x y : List ℕ). x ++ y) (flat_edges code i n low) here ∙ pushed f (p n) (filter p (upto n)) n ∙ ap (map f) (sym (filter_more p n) ∙ ap (λ k. filter p (upto k)) (sym one))
+    ap (λ k. with_key (flat code k) (upto (first_edge code k)) i) one ∙ ap₂ (λ x y. with_key x y i) (flat_more code n) split ∙ with_key-append (flat code n) (upto first) ms (range_with_len first (length ms)) i size ∙ ap₂ (λ (x y : List ℕ). x ++ y) (flat_edges code i n low) here ∙ pushed f (p n) (filter p (upto n)) n ∙ ap (map f) (sym (filter_more p n) ∙ ap (λ k. filter p (upto k)) (sym one))
   where
     place : (b : Bool) → code.has n i ≡ b → cond b (get_or (range_with_len (first_edge code n) (length (members code n))) (position_or_len (λ m. m == i) (members code n)) 0 ∷ []) [] ≡ cond b (edge_of code n i ∷ []) []
     place true has = ap (λ k. k ∷ []) (get_or-range_with_len (first_edge code n) (length (members code n)) (position_or_len (λ m. m == i) (members code n)) 0 (place_in_members code i n low has))
@@ -145,7 +145,7 @@ length-owners code lists (suc n) are =
     let one : suc n ≡ n + 1 = omega arith in
     omega (arith, ap (λ k. length (owners lists k)) one, ap length (owners_more lists n), length-append (owners lists n) (replicate (length (get_or lists n [])) n), length-replicate (length (get_or lists n [])) n, ap length (are n (omega arith)), length-owners code lists n (λ j h. are j (omega arith)), first_edge_more code n, ap (first_edge code) one)
 
-pub flat_checks : (code : Code) (lists : List (List ℕ)) (i n : ℕ) → i < code.bits → ((j : ℕ) → j < n → get_or lists j [] ≡ members code j) → shared (flat code n) (owners lists n) i ≡ filter (λ j. code.has j i) (upto n)
+pub flat_checks : (code : Code) (lists : List (List ℕ)) (i n : ℕ) → i < code.bits → ((j : ℕ) → j < n → get_or lists j [] ≡ members code j) → with_key (flat code n) (owners lists n) i ≡ filter (λ j. code.has j i) (upto n)
 flat_checks code lists i zero low are = refl
 flat_checks code lists i (suc n) low are =
     let one : suc n ≡ n + 1 = omega arith in
@@ -153,10 +153,10 @@ flat_checks code lists i (suc n) low are =
     let ms = members code n in
     let split : owners lists (n + 1) ≡ owners lists n ++ replicate (length ms) n = owners_more lists n ∙ ap (λ (l : List ℕ). owners lists n ++ replicate (length l) n) (are n (omega arith)) in
     let size : length (owners lists n) ≡ length (flat code n) = length-owners code lists n (λ j h. are j (omega arith)) ∙ sym (length-flat code n) in
-    let here : shared ms (replicate (length ms) n) i ≡ cond (code.has n i) (n ∷ []) [] =
-    shared_members code n i (replicate (length ms) n) low (length-replicate (length ms) n) ∙ place (code.has n i) refl
+    let here : with_key ms (replicate (length ms) n) i ≡ cond (code.has n i) (n ∷ []) [] =
+    with_key_members code n i (replicate (length ms) n) low (length-replicate (length ms) n) ∙ place (code.has n i) refl
     in
-    ap (λ k. shared (flat code k) (owners lists k) i) one ∙ ap₂ (λ x y. shared x y i) (flat_more code n) split ∙ shared-append (flat code n) (owners lists n) ms (replicate (length ms) n) i size ∙ ap₂ (λ (x y : List ℕ). x ++ y) (flat_checks code lists i n low (λ j h. are j (omega arith))) here ∙ sym (filter_more p n) ∙ ap (λ k. filter p (upto k)) (sym one)
+    ap (λ k. with_key (flat code k) (owners lists k) i) one ∙ ap₂ (λ x y. with_key x y i) (flat_more code n) split ∙ with_key-append (flat code n) (owners lists n) ms (replicate (length ms) n) i size ∙ ap₂ (λ (x y : List ℕ). x ++ y) (flat_checks code lists i n low (λ j h. are j (omega arith))) here ∙ sym (filter_more p n) ∙ ap (λ k. filter p (upto k)) (sym one)
   where
     place : (b : Bool) → code.has n i ≡ b → cond b (get_or (replicate (length (members code n)) n) (position_or_len (λ m. m == i) (members code n)) 0 ∷ []) [] ≡ cond b (n ∷ []) []
     place true has = ap (λ k. k ∷ []) (get_or-replicate (length (members code n)) (position_or_len (λ m. m == i) (members code n)) n 0 (place_in_members code i n low has))
@@ -178,16 +178,16 @@ upto_same f g (suc n) same =
     ap (λ k. map f (upto k)) one ∙ map-push f n ∙ ap₂ (λ xs x. xs ++ x ∷ []) (upto_same f g n (λ j h. same j (omega arith))) (same n (omega arith)) ∙ sym (ap (λ k. map g (upto k)) one ∙ map-push g n)
 
 -- the members that the edges of all bits give
-pub members_given : (code : Code) (cs bs : List ℕ) → AreEdges code code.bits cs bs → map (shared cs bs) (upto code.checks) ≡ map (members code) (upto code.checks)
-members_given code cs bs edges = upto_same (shared cs bs) (members code) code.checks edges.are
+pub members_given : (code : Code) (cs bs : List ℕ) → AreEdges code code.bits cs bs → map (with_key cs bs) (upto code.checks) ≡ map (members code) (upto code.checks)
+members_given code cs bs edges = upto_same (with_key cs bs) (members code) code.checks edges.are
 
-pub edges_given : (code : Code) (numbers : List ℕ) → numbers ≡ upto (first_edge code code.checks) → map (shared (flat code code.checks) numbers) (upto code.bits) ≡ map (edges_at code) (upto code.bits)
+pub edges_given : (code : Code) (numbers : List ℕ) → numbers ≡ upto (first_edge code code.checks) → map (with_key (flat code code.checks) numbers) (upto code.bits) ≡ map (edges_at code) (upto code.bits)
 edges_given code numbers is =
-    upto_same (shared (flat code code.checks) numbers) (edges_at code) code.bits (λ i low. ap (λ vs. shared (flat code code.checks) vs i) is ∙ flat_edges code i code.checks low)
+    upto_same (with_key (flat code code.checks) numbers) (edges_at code) code.bits (λ i low. ap (λ vs. with_key (flat code code.checks) vs i) is ∙ flat_edges code i code.checks low)
 
-pub checks_given : (code : Code) (lists : List (List ℕ)) → lists ≡ map (members code) (upto code.checks) → map (shared (flat code code.checks) (owners lists code.checks)) (upto code.bits) ≡ map (checks_of code) (upto code.bits)
+pub checks_given : (code : Code) (lists : List (List ℕ)) → lists ≡ map (members code) (upto code.checks) → map (with_key (flat code code.checks) (owners lists code.checks)) (upto code.bits) ≡ map (checks_of code) (upto code.bits)
 checks_given code lists is =
-    upto_same (shared (flat code code.checks) (owners lists code.checks)) (checks_of code) code.bits (λ i low. flat_checks code lists i code.checks low (λ j h. ap (λ l. get_or l j []) is ∙ at_upto (members code) code.checks j [] h))
+    upto_same (with_key (flat code code.checks) (owners lists code.checks)) (checks_of code) code.bits (λ i low. flat_checks code lists i code.checks low (λ j h. ap (λ l. get_or l j []) is ∙ at_upto (members code) code.checks j [] h))
 
 -- ---- the program's numbers
 

@@ -8,8 +8,8 @@ use Rattle.std.proofs.lemmas.List.FromFn.{length-range_with_len, get_or-range_wi
 use Rattle.std.proofs.lemmas.List.Recursion.{or_push, or_from_places}
 use Rattle.std.proofs.Common.{get_or-take}
 use Rattle.std.proofs.lemmas.Nat.{div-mul-add, mod-mul-add}
-use Rattle.s2_bits.specs.Turns.{turned}
-use Rattle.s2_bits.proofs.Pieces.{turned_low, turned_high, turned_below}
+use Rattle.s2_bits.specs.Rotations.{rotated}
+use Rattle.s2_bits.proofs.Pieces.{rotated_low, rotated_high, rotated_below}
 use Rattle.s2_mode.specs.Shape.{information_bits, check_count}
 use Rattle.s2_rows.specs.Rows.{Rows, IsRows, row_of}
 use Rattle.s2_matrix.specs.Total.{upto}
@@ -124,7 +124,7 @@ module _ (rows : Rows) (r c : ℕ) (accepted : IsRows rows) (layer : r < rows.sh
       let q = rows.shape.q in
       let below : x < check_count rows.shape = subst (λ y. y < check_count rows.shape) at.2 ((accepted.each g low).below at.0 x at.1) in
       let same : x % q ≡ r = sym (hit_layer n q x m (r + c * q) gives) ∙ check_layer in
-      let place : m ≡ turned n (x / q) c = hit_only n q x (r + c * q) m (omega (arith, layer)) below check_low short gives ∙ ap (turned n (x / q)) check_lane in
+      let place : m ≡ rotated n (x / q) c = hit_only n q x (r + c * q) m (omega (arith, layer)) below check_low short gives ∙ ap (rotated n (x / q)) check_lane in
       by_entry (record { group = g; shift = x / q }) (has_entry g x low below at same) (is ∙ ap (λ v. g * n + v) place)
   to_layer b (parity is) = own is
   to_layer b (next high is) = before high is
@@ -152,11 +152,11 @@ module _ (rows : Rows) (r c : ℕ) (accepted : IsRows rows) (layer : r < rows.sh
       let some : 1 ≤ q = omega (arith, layer) in
       let x_lane : x / q ≡ s = ap (λ v. v / q) x_is ∙ div-mul-add s q r layer in
       let x_layer : x % q ≡ r = ap (λ v. v % q) x_is ∙ mod-mul-add s q r layer in
-      let m = turned n s c in
+      let m = rotated n s c in
       let one : 1 ≤ n = accepted.shaped.group_some in
-      let gives : (x + turned n (x / q) ((r + c * q) / q) * q) % (n * q) ≡ r + c * q = hit_place n q x (r + c * q) some below check_low (check_layer ∙ sym x_layer) in
-      let gives' : (x + m * q) % (n * q) ≡ r + c * q = ap₂ (λ (u v : ℕ). (x + turned n u v * q) % (n * q)) (sym x_lane) (sym check_lane) ∙ gives in
-      by_row g m x g_low (turned_below n s c one) (Contains-get_or row x_at.0 0 x_at.1) (is ∙ ap (λ e. shown rows e c) is_entry) gives'
+      let gives : (x + rotated n (x / q) ((r + c * q) / q) * q) % (n * q) ≡ r + c * q = hit_place n q x (r + c * q) some below check_low (check_layer ∙ sym x_layer) in
+      let gives' : (x + m * q) % (n * q) ≡ r + c * q = ap₂ (λ (u v : ℕ). (x + rotated n u v * q) % (n * q)) (sym x_lane) (sym check_lane) ∙ gives in
+      by_row g m x g_low (rotated_below n s c one) (Contains-get_or row x_at.0 0 x_at.1) (is ∙ ap (λ e. shown rows e c) is_entry) gives'
   from_layer b (own is) = parity is
   from_layer b (before high is) = next high is
 
@@ -165,26 +165,26 @@ module _ (rows : Rows) (r c : ℕ) (accepted : IsRows rows) (layer : r < rows.sh
   shown_apart p p' less e =
       let n = rows.shape.group in
       let some = accepted.shaped.group_some in
-      let t = turned n (p % n) c in
-      let t' = turned n (p' % n) c in
-      let low = turned_below n (p % n) c some in
-      let low' = turned_below n (p' % n) c some in
+      let t = rotated n (p % n) c in
+      let t' = rotated n (p' % n) c in
+      let low = rotated_below n (p % n) c some in
+      let low' = rotated_below n (p' % n) c some in
       let same_group : p / n ≡ p' / n = sym (div-mul-add (p / n) n t low) ∙ ap (λ v. v / n) e ∙ div-mul-add (p' / n) n t' low' in
       let same_turn : t ≡ t' = sym (mod-mul-add (p / n) n t low) ∙ ap (λ v. v % n) e ∙ mod-mul-add (p' / n) n t' low' in
-      let same_shift : p % n ≡ p' % n = turned_one n (p % n) (p' % n) c (omega (arith, some)) (omega (arith, some)) lane same_turn in
+      let same_shift : p % n ≡ p' % n = rotated_one n (p % n) (p' % n) c (omega (arith, some)) (omega (arith, some)) lane same_turn in
       let whole : p ≡ p / n * n + p % n = omega (arith, some) in
       let whole' : p' ≡ p' / n * n + p' % n = omega (arith, some) in
       omega (arith, less, whole, whole', ap (λ v. v * n) same_group, same_shift)
     where
-      turned_one : (n s s' k : ℕ) → s < n → s' < n → k < n → turned n s k ≡ turned n s' k → s ≡ s'
-      turned_one n s s' k a b h is = elim (cases_lt k s) [
+      rotated_one : (n s s' k : ℕ) → s < n → s' < n → k < n → rotated n s k ≡ rotated n s' k → s ≡ s'
+      rotated_one n s s' k a b h is = elim (cases_lt k s) [
         | inl x ↦ elim (cases_lt k s') [
-          | inl y ↦ omega (arith, is, turned_low n s k x (omega arith), turned_low n s' k y (omega arith))
-          | inr y ↦ omega (arith, is, turned_low n s k x (omega arith), turned_high n s' k y h)
+          | inl y ↦ omega (arith, is, rotated_low n s k x (omega arith), rotated_low n s' k y (omega arith))
+          | inr y ↦ omega (arith, is, rotated_low n s k x (omega arith), rotated_high n s' k y h)
         ]
         | inr x ↦ elim (cases_lt k s') [
-          | inl y ↦ omega (arith, is, turned_high n s k x h, turned_low n s' k y (omega arith))
-          | inr y ↦ omega (arith, is, turned_high n s k x h, turned_high n s' k y h)
+          | inl y ↦ omega (arith, is, rotated_high n s k x h, rotated_low n s' k y (omega arith))
+          | inr y ↦ omega (arith, is, rotated_high n s k x h, rotated_high n s' k y h)
         ]
       ]
 

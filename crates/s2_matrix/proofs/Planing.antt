@@ -8,15 +8,15 @@ use Rattle.s2_matrix.proofs.Joins.{div_below, mod_cancel}
 use Rattle.s2_bits.proofs.Steps.{by_order}
 use Rattle.s2_matrix.specs.Sums.{sum_of}
 use Rattle.s2_matrix.specs.Planes.{plane_place}
-use Rattle.s2_bits.specs.Turns.{turned}
+use Rattle.s2_bits.specs.Rotations.{rotated}
 use Rattle.s2_bits.proofs.Sums.{xor_none}
-use Rattle.s2_bits.proofs.Pieces.{turned_low, turned_high, turned_below}
+use Rattle.s2_bits.proofs.Pieces.{rotated_low, rotated_high, rotated_below}
 use Rattle.s2_matrix.proofs.Sums.{sum_of-none, sum_of-one}
 
 -- ---- what one address gives
 
 -- which bit of the group an address brings to check j
-pub hit_place : (n q x j : ℕ) → 1 ≤ q → x < n * q → j < n * q → j % q ≡ x % q → (x + turned n (x / q) (j / q) * q) % (n * q) ≡ j
+pub hit_place : (n q x j : ℕ) → 1 ≤ q → x < n * q → j < n * q → j % q ≡ x % q → (x + rotated n (x / q) (j / q) * q) % (n * q) ≡ j
 hit_place n q x j some hx hj same =
     let s = x / q in
     let c = j / q in
@@ -28,14 +28,14 @@ hit_place n q x j some hx hj same =
     by_order c s
     (λ less. (
     let d = n - s + c in
-    let e : turned n s c ≡ n - s + c = turned_low n s c less (omega arith) in
+    let e : rotated n s c ≡ n - s + c = rotated_low n s c less (omega arith) in
     let whole : s + (n - s + c) ≡ n + c = omega arith in
     let many : (s + (n - s + c)) * q ≡ (n + c) * q = ap (λ k. k * q) whole in
     let sum : x + (n - s + c) * q ≡ j + n * q = omega (arith, ex, ej, same, many) in
     ap (λ m. (x + m * q) % (n * q)) e ∙ ap (λ k. k % (n * q)) sum ∙ add-mod_right j (n * q) ∙ mod-eq_of_lt hj
     ))
     (λ more. (
-    let e : turned n s c ≡ c - s = turned_high n s c more hc in
+    let e : rotated n s c ≡ c - s = rotated_high n s c more hc in
     let whole : s + (c - s) ≡ c = omega arith in
     let many : (s + (c - s)) * q ≡ c * q = ap (λ k. k * q) whole in
     let sum : x + (c - s) * q ≡ j = omega (arith, ex, ej, same, many) in
@@ -58,11 +58,11 @@ times_cancel a b q some e =
     ]
 
 -- and only that bit
-pub hit_only : (n q x j m : ℕ) → 1 ≤ q → x < n * q → j < n * q → m < n → (x + m * q) % (n * q) ≡ j → m ≡ turned n (x / q) (j / q)
+pub hit_only : (n q x j m : ℕ) → 1 ≤ q → x < n * q → j < n * q → m < n → (x + m * q) % (n * q) ≡ j → m ≡ rotated n (x / q) (j / q)
 hit_only n q x j m some hx hj less e =
-    let m0 = turned n (x / q) (j / q) in
+    let m0 = rotated n (x / q) (j / q) in
     let one : 1 ≤ n = omega (arith, less) in
-    let low : m0 < n = turned_below n (x / q) (j / q) one in
+    let low : m0 < n = rotated_below n (x / q) (j / q) one in
     let at = hit_place n q x j some hx hj (hit_layer n q x m j e) in
     let left : (m * q + x) % (n * q) ≡ (m0 * q + x) % (n * q) = ap (λ k. k % (n * q)) (plus (m * q) x) ∙ e ∙ sym at ∙ ap (λ k. k % (n * q)) (plus x (m0 * q)) in
     times_cancel m m0 q some (mod_cancel (m * q) (m0 * q) x (n * q) (small m less) (small m0 low) left)
@@ -74,10 +74,10 @@ hit_only n q x j m some hx hj less e =
     small m' below = let big = mul-le-mul_right q below in omega (arith, big)
 
 -- the bits of a group that an address adds to check j: one bit of its layer's checks, and none of others
-pub hits_same : (w : ℕ → Bool) (n q x j : ℕ) → 1 ≤ q → x < n * q → j < n * q → j % q ≡ x % q → sum_of (λ m. ((x + m * q) % (n * q) == j) && w m) n ≡ w (turned n (x / q) (j / q))
+pub hits_same : (w : ℕ → Bool) (n q x j : ℕ) → 1 ≤ q → x < n * q → j < n * q → j % q ≡ x % q → sum_of (λ m. ((x + m * q) % (n * q) == j) && w m) n ≡ w (rotated n (x / q) (j / q))
 hits_same w n q x j some hx hj same =
-    let m0 = turned n (x / q) (j / q) in
-    let low : m0 < n = turned_below n (x / q) (j / q) (positive n hx) in
+    let m0 = rotated n (x / q) (j / q) in
+    let low : m0 < n = rotated_below n (x / q) (j / q) (positive n hx) in
     let at = hit_place n q x j some hx hj same in
     sum_of-one (λ m. ((x + m * q) % (n * q) == j) && w m) m0 n low (λ m less other. ap (λ b. b && w m) (ne_eqb ((x + m * q) % (n * q)) j (λ e. other (hit_only n q x j m some hx hj less e))))
     ∙ ap (λ b. b && w m0) (eq-eqb ((x + m0 * q) % (n * q)) j at)
@@ -100,7 +100,7 @@ place_within n q j some h =
     let big = mul-le-mul_right n layer in
     omega (arith, big)
 
-pub plane_added : (w : ℕ → Bool) (planes before plane plane' after : List Bool) (n q x j : ℕ) → 1 ≤ q → x < n * q → j < n * q → n * q ≤ length planes → before ≡ take (x % q * n) planes → plane ≡ take n (drop (x % q * n) planes) → after ≡ drop n (drop (x % q * n) planes) → length plane' ≡ n → ((c : ℕ) → c < n → bit_at plane' c ≡ xor (bit_at plane c) (w (turned n (x / q) c))) → bit_at (before ++ (plane' ++ after)) (plane_place n q j) ≡ xor (bit_at planes (plane_place n q j)) (sum_of (λ m. ((x + m * q) % (n * q) == j) && w m) n)
+pub plane_added : (w : ℕ → Bool) (planes before plane plane' after : List Bool) (n q x j : ℕ) → 1 ≤ q → x < n * q → j < n * q → n * q ≤ length planes → before ≡ take (x % q * n) planes → plane ≡ take n (drop (x % q * n) planes) → after ≡ drop n (drop (x % q * n) planes) → length plane' ≡ n → ((c : ℕ) → c < n → bit_at plane' c ≡ xor (bit_at plane c) (w (rotated n (x / q) c))) → bit_at (before ++ (plane' ++ after)) (plane_place n q j) ≡ xor (bit_at planes (plane_place n q j)) (sum_of (λ m. ((x + m * q) % (n * q) == j) && w m) n)
 plane_added w planes before plane plane' after n q x j some hx hj room eb ep ea long added =
     let a = x % q in
     let r = j % q in
@@ -139,27 +139,27 @@ plane_added w planes before plane plane' after n q x j some hx hj room eb ep ea 
           )
     ]
 
--- a piece of the bits twice over is the bits turned
-pub twice_turned : (bits : List Bool) (s k : ℕ) → s ≤ length bits → k < length bits → bit_at (bits ++ bits) (length bits - s + k) ≡ bit_at bits (turned (length bits) s k)
-twice_turned bits s k le lt =
+-- a piece of the bits twice over is the bits rotated
+pub twice_rotated : (bits : List Bool) (s k : ℕ) → s ≤ length bits → k < length bits → bit_at (bits ++ bits) (length bits - s + k) ≡ bit_at bits (rotated (length bits) s k)
+twice_rotated bits s k le lt =
     let n = length bits in
     by_order k s
     (λ less. (
     let within : n - s + k < n = omega arith in
-    get_or_append_left bits bits false (n - s + k) within ∙ ap (bit_at bits) (sym (turned_low n s k less le))
+    get_or_append_left bits bits false (n - s + k) within ∙ ap (bit_at bits) (sym (rotated_low n s k less le))
     ))
     (λ more. (
     let past : n ≤ n - s + k = omega arith in
     let at : n - s + k - n ≡ k - s = omega arith in
-    get_or-append_right bits bits n (n - s + k) false refl past ∙ ap (bit_at bits) (at ∙ sym (turned_high n s k more lt))
+    get_or-append_right bits bits n (n - s + k) false refl past ∙ ap (bit_at bits) (at ∙ sym (rotated_high n s k more lt))
     ))
 
--- turned by no place
-pub not_turned : (n k : ℕ) → k < n → turned n 0 k ≡ k
-not_turned n k lt =
+-- rotated by no place
+pub not_rotated : (n k : ℕ) → k < n → rotated n 0 k ≡ k
+not_rotated n k lt =
     let none : 0 ≤ k = omega arith in
     let same : k - 0 ≡ k = omega arith in
-    turned_high n 0 k none lt ∙ same
+    rotated_high n 0 k none lt ∙ same
 
 -- planes of zeros are empty
 pub empty_planes : (n k : ℕ) → bit_at (replicate n false) k ≡ false

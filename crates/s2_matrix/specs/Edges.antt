@@ -4,7 +4,7 @@ use Rattle.s2_matrix.specs.Total.{upto}
 use Rattle.s2_rows.specs.Rows.{Rows, IsRows}
 use Rattle.s2_rows.specs.Limits.{max_addresses}
 use Rattle.s2_matrix.specs.Code.{Code, code_of, members, checks_of, first_edge, edges_at}
-use Rattle.s2_matrix.specs.Share.{shared}
+use Rattle.s2_matrix.specs.CountingSort.{with_key}
 use Rattle.s2_matrix.specs.Joined.{joined}
 use Rattle.s2_matrix.specs.Limits.{max_edges}
 use Rattle.s2_matrix.specs.Layers.{layer_places}
@@ -14,14 +14,14 @@ pub record Gains (count : ℕ) (cs bs cs' bs' : List ℕ) (test : ℕ → Bool) 
   pub paired : length bs' ≡ length cs'
   pub below : All (λ k. k < count) cs'
   pub few : length cs' ≤ length cs + most
-  pub gained : (j : ℕ) → j < count → shared cs' bs' j ≡ shared cs bs j ++ (if test j then bit ∷ [] else [])
+  pub gained : (j : ℕ) → j < count → with_key cs' bs' j ≡ with_key cs bs j ++ (if test j then bit ∷ [] else [])
 
 -- the edges of the bits below n
 pub record AreEdges (code : Code) (n : ℕ) (cs bs : List ℕ) : Type 0 where
   pub paired : length bs ≡ length cs
   pub below : All (λ k. k < code.checks) cs
   pub few : length cs ≤ max_addresses * n
-  pub are : (j : ℕ) → j < code.checks → shared cs bs j ≡ filter (code.has j) (upto n)
+  pub are : (j : ℕ) → j < code.checks → with_key cs bs j ≡ filter (code.has j) (upto n)
 
 -- the checks of all edges, in the order of the edges of the checks below n
 abbrev pub owners : List (List ℕ) → ℕ → List ℕ

@@ -1,7 +1,7 @@
 -- The checks by layers (EN 302 307-1, 5.3.2): layer r has the checks r + q c, one for each lane c of a group.
 use Rattle.std.specs.Prelude.{◌≡◌, ◌≢◌, ◌↔◌, ℕ, ◌+◌, ◌*◌, ◌/◌, ◌%◌, ◌<◌, ◌≤◌, Bool, ◌==◌, IsTrue, AllPairs, Contains, List, filter, map}
 use Rattle.std.specs.List.{list_any}
-use Rattle.s2_bits.specs.Turns.{turned}
+use Rattle.s2_bits.specs.Rotations.{rotated}
 use Rattle.s2_mode.specs.Shape.{information_bits}
 use Rattle.s2_rows.specs.Rows.{Rows, IsRows, row_of}
 use Rattle.s2_matrix.specs.Total.{upto}
@@ -27,9 +27,10 @@ layer_entries rows r = map (entry_of rows) (layer_places rows r)
 
 -- the bit that an entry shows to the check in lane c: the group's bits, rotated by the shift
 abbrev pub shown : Rows → LayerEntry → ℕ → ℕ
-shown rows entry c = entry.group * rows.shape.group + turned rows.shape.group entry.shift c
+shown rows entry c = entry.group * rows.shape.group + rotated rows.shape.group entry.shift c
 
--- by_entry: check r + q c has a bit of each entry; own: it has the parity bit of its number; before: and the one before that
+-- the bits of check r + q c: `by_entry`, a bit of each entry; `own`, the parity bit of its number; `before`, the one
+-- before that
 pub data IsInLayer (rows : Rows) (r c b : ℕ) : Type 0 where
   by_entry : (entry : LayerEntry) → Contains (layer_entries rows r) entry → b ≡ shown rows entry c → IsInLayer rows r c b
   own : b ≡ information_bits rows.shape + (r + c * rows.shape.q) → IsInLayer rows r c b

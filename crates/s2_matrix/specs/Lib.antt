@@ -4,9 +4,9 @@ pub mod Code
 pub mod Relation
 pub mod Joined
 pub mod Cut
-pub mod Share
+pub mod CountingSort
 pub mod Edges
 pub mod Sums
 pub mod Planes
-pub mod Turning
+pub mod Transpose
 pub mod Layers

@@ -1,13 +1,13 @@
-//! The accumulator: sums of checks added up in the order of the checks (EN 302 307-1, 5.3.2).
+//! The accumulator: the sums of the checks are added up in the order of the checks (EN 302 307-1, 5.3.2).
 ghost use Rattle.std.specs.Prelude.{◌≡◌, ℕ, ◌+◌, ◌-◌, ◌*◌, ◌<◌, ◌≤◌, false, length};
 ghost use Rattle.s2_bits.specs.Bits.{xor, bit_at};
 ghost use Rattle.s2_matrix.specs.Sums.{sum_of};
 ghost use Rattle.s2_matrix.specs.Planes.{plane_place};
-ghost use Rattle.s2_matrix.specs.Turning.{carry_at, accumulated};
+ghost use Rattle.s2_matrix.specs.Transpose.{carry_at, accumulated};
 
-use crate::turning::{BLOCK, write_eight_lanes};
+use crate::transpose::{BLOCK, write_eight_lanes};
 
-/// Adds to the plane that begins at a place the plane before it.
+/// Adds the previous plane to the plane that begins at a place.
 fn add_plane_before(planes: &mut [bool], group: usize, at: usize)
     requires before { group ≤ at }
     requires room { at + group ≤ length planes.old }
@@ -32,8 +32,8 @@ fn add_planes_up(planes: &mut [bool], group: usize, q: usize)
     }
 }
 
-/// Writes a lane's checks, which follow one another: the planes' sums, added to the sum of all
-/// checks before.
+/// Writes a lane's checks, which follow one another. Each is the planes' sum plus the sum of all
+/// checks before the lane.
 fn write_lane(
     planes: &[bool],
     group: usize,
@@ -54,7 +54,7 @@ fn write_lane(
     }
 }
 
-/// Writes the checks lane by lane, where there are few lanes or few planes.
+/// Writes the checks lane by lane, for few lanes or few planes.
 fn write_lanes(planes: &[bool], group: usize, q: usize, parities: &mut [bool])
     requires some { 1 ≤ q }
     requires size { length parities.old ≡ group * q }
@@ -78,7 +78,7 @@ fn bit_before(bits: &[bool], at: usize) -> bool
     if at == 0 { false } else { bits[at - 1] }
 }
 
-/// Writes the checks by blocks of lanes. The last block may lie over the one before it.
+/// Writes the checks by blocks of lanes. The last block may overlap the one before it.
 fn write_blocks(planes: &[bool], group: usize, q: usize, parities: &mut [bool])
     requires lanes { 8 ≤ group }
     requires planes { 8 ≤ q }

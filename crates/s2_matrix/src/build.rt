@@ -1,4 +1,4 @@
-//! The edges that rows give.
+//! The edges that address rows define.
 ghost use Rattle.std.specs.Prelude.{◌≡◌, ℕ, ◌+◌, ◌*◌, ◌/◌, ◌%◌, ◌<◌, ◌≤◌, ◌^◌, ◌==◌, ◌||◌, ◌++◌, ◌∷◌, [], All, OnOk, IfOk, length, vec_len};
 ghost use Rattle.std.specs.List.{list_any};
 ghost use Rattle.s2_matrix.specs.Total.{upto};

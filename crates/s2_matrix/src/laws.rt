@@ -2,7 +2,7 @@
 ghost use Rattle.s2_matrix.specs.Layers.{LayerLaw};
 ghost use Rattle.s2_matrix.specs.Relation.{MemberLaw};
 
-/// A bit is a member of a check exactly where the standard puts it there.
+/// A bit is a member of a check exactly if the standard puts it there.
 pub fn members()
     ensures { MemberLaw }
 {}

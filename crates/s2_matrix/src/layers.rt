@@ -1,4 +1,4 @@
-//! The places that each layer of checks meets.
+//! The places of each layer: the groups and shifts that its checks have.
 ghost use Rattle.std.specs.Prelude.{◌≡◌, ◌≢◌, ◌+◌, ◌<◌, ◌^◌, ◌==◌, OnOk, IfOk, All, AllPairs, length, map};
 ghost use Rattle.std.specs.List.{list_any};
 ghost use Rattle.s2_mode.specs.Shape.{information_bits};
@@ -7,9 +7,9 @@ ghost use Rattle.s2_matrix.specs.Edges.{Gains, AreEdges};
 ghost use Rattle.s2_matrix.specs.Layers.{layer_places, layer_code};
 
 use crate::build::join;
+use crate::counting_sort::sort_by_key;
+use crate::jagged_list::JaggedList;
 use crate::lists::address_count;
-use crate::share::share_out;
-use crate::table::Table;
 use s2_rows::Rows;
 use std::alloc::{AllocError, Global};
 
@@ -75,7 +75,7 @@ fn join_places(layers: &mut Vec<u32>, places: &mut Vec<u32>, rows: &Rows) -> Res
 }
 
 /// The places that the layers meet, layer by layer.
-pub(crate) fn layers(alloc: Global, rows: &Rows) -> Result<Table, AllocError>
+pub(crate) fn layers(alloc: Global, rows: &Rows) -> Result<JaggedList, AllocError>
     ensures { IfOk result (λ t. t ≡ map (layer_places rows.now) (upto rows.now.shape.q)) }
 {
     let count = address_count(rows);
@@ -84,6 +84,6 @@ pub(crate) fn layers(alloc: Global, rows: &Rows) -> Result<Table, AllocError>
     join_places(&mut layers, &mut places, rows)?;
     let shape = rows.shape();
     let q = shape.q();
-    let by_layer = share_out(alloc, &layers, &places, q)?;
+    let by_layer = sort_by_key(alloc, &layers, &places, q)?;
     Ok(by_layer)
 }

@@ -9,8 +9,8 @@ ghost use Rattle.s2_matrix.specs.Joined.{joined};
 ghost use Rattle.s2_matrix.specs.Edges.{owners};
 
 use crate::build::{join_info, join_parities};
-use crate::share::share_out;
-use crate::table::Table;
+use crate::counting_sort::sort_by_key;
+use crate::jagged_list::JaggedList;
 use s2_rows::{Row, Rows};
 use std::alloc::{AllocError, Global};
 
@@ -50,8 +50,8 @@ pub(crate) fn address_count(rows: &Rows) -> usize
     count
 }
 
-/// The members of the checks. All storage is taken before the first edge is written.
-pub(crate) fn members(alloc: Global, rows: &Rows) -> Result<Table, AllocError>
+/// The members of the checks. The memory for all edges is allocated before the first one is written.
+pub(crate) fn members(alloc: Global, rows: &Rows) -> Result<JaggedList, AllocError>
     ensures are { IfOk result (λ t. t ≡ map (members (code_of rows.now)) (upto (code_of rows.now).checks)) }
     ensures few { IfOk result (λ t. length (joined t) ≤ max_edges) }
 {
@@ -62,7 +62,7 @@ pub(crate) fn members(alloc: Global, rows: &Rows) -> Result<Table, AllocError>
     let mut bits = Vec::with_capacity(alloc, edges)?;
     join_info(&mut checks, &mut bits, rows)?;
     join_parities(&mut checks, &mut bits, rows)?;
-    let by_check = share_out(alloc, &checks, &bits, count)?;
+    let by_check = sort_by_key(alloc, &checks, &bits, count)?;
     Ok(by_check)
 }
 
@@ -79,7 +79,7 @@ fn numbers(alloc: Global, n: usize) -> Result<Vec<u32>, AllocError>
 }
 
 /// The check of each edge.
-fn owners_of(alloc: Global, by_check: &Table) -> Result<Vec<u32>, AllocError>
+fn owners_of(alloc: Global, by_check: &JaggedList) -> Result<Vec<u32>, AllocError>
     requires { length by_check.now < 2 ^ 32 }
     ensures { IfOk result (λ v. v.items ≡ owners by_check.now (length by_check.now)) }
 {
@@ -92,7 +92,11 @@ fn owners_of(alloc: Global, by_check: &Table) -> Result<Vec<u32>, AllocError>
 }
 
 /// The edges of the bits.
-pub(crate) fn edges(alloc: Global, rows: &Rows, by_check: &Table) -> Result<Table, AllocError>
+pub(crate) fn edges(
+    alloc: Global,
+    rows: &Rows,
+    by_check: &JaggedList,
+) -> Result<JaggedList, AllocError>
     requires are { by_check.now ≡ map (members (code_of rows.now)) (upto (code_of rows.now).checks) }
     requires few { length (joined by_check.now) ≤ max_edges }
     ensures { IfOk result (λ t. t ≡ map (edges_at (code_of rows.now)) (upto (code_of rows.now).bits)) }
@@ -100,18 +104,22 @@ pub(crate) fn edges(alloc: Global, rows: &Rows, by_check: &Table) -> Result<Tabl
     let bits = rows.shape().n();
     let all = by_check.all();
     let numbers = numbers(alloc, all.len())?;
-    let edges = share_out(alloc, all, &numbers, bits)?;
+    let edges = sort_by_key(alloc, all, &numbers, bits)?;
     Ok(edges)
 }
 
 /// The checks of the bits.
-pub(crate) fn checks(alloc: Global, rows: &Rows, by_check: &Table) -> Result<Table, AllocError>
+pub(crate) fn checks(
+    alloc: Global,
+    rows: &Rows,
+    by_check: &JaggedList,
+) -> Result<JaggedList, AllocError>
     requires are { by_check.now ≡ map (members (code_of rows.now)) (upto (code_of rows.now).checks) }
     requires few { length (joined by_check.now) ≤ max_edges }
     ensures { IfOk result (λ t. t ≡ map (checks_of (code_of rows.now)) (upto (code_of rows.now).bits)) }
 {
     let bits = rows.shape().n();
     let owners = owners_of(alloc, by_check)?;
-    let checks = share_out(alloc, by_check.all(), &owners, bits)?;
+    let checks = sort_by_key(alloc, by_check.all(), &owners, bits)?;
     Ok(checks)
 }

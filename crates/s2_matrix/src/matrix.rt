@@ -7,22 +7,22 @@ ghost use Rattle.s2_rows.specs.Rows.{AreAddresses, row_of};
 ghost use Rattle.s2_matrix.specs.Code.{code_of, members, checks_of, edges_at, first_edge};
 ghost use Rattle.s2_matrix.specs.Limits.{max_edges};
 
-use crate::table::Table;
+use crate::jagged_list::JaggedList;
 use crate::{layers, lists};
 use s2_mode::Shape;
 use s2_rows::{Row, Rows};
 use std::alloc::{AllocError, Global};
 use std::marker::Model;
 
-/// The parity checks that accepted rows give (EN 302 307-1, 5.3.2), in flat lists. To contracts it
+/// The parity checks that accepted rows define (EN 302 307-1, 5.3.2), in flat lists. In contracts it
 /// is the rows.
 pub struct Matrix {
     shape: Shape,
     rows: Vec<Row>,
-    members: Table,
-    edges: Table,
-    checks: Table,
-    pub(crate) layers: Table,
+    members: JaggedList,
+    edges: JaggedList,
+    checks: JaggedList,
+    pub(crate) layers: JaggedList,
 }
 
 impl Drop for Matrix {
@@ -52,8 +52,8 @@ impl Model for Matrix {
 }
 
 impl Matrix {
-    /// The matrix of these rows: their n - k checks over n bits. `AllocError` only where memory is
-    /// refused, and then none is held.
+    /// The matrix of these rows: their n - k checks over n bits. `AllocError` only if memory is
+    /// refused; then no memory is held.
     pub fn build(alloc: Global, rows: &Rows) -> Result<Matrix, AllocError>
         ensures { IfOk result (λ m. m ≡ rows.now) }
     {
@@ -100,7 +100,7 @@ impl Matrix {
         self.edges.len()
     }
 
-    /// n - k, how many checks there are, and as many parity bits.
+    /// n - k, the number of checks, which is that of the parity bits.
     pub fn check_count(&self) -> usize
         ensures is { result ≡ (code_of self.now).checks }
         ensures few { result ≤ max_bits }

@@ -13,11 +13,11 @@ use crate::planes::{add_row, part};
 use s2_bits::{Bits, xor_first};
 use s2_mode::{MAX_BITS, MAX_GROUP};
 
-/// How many checks are looked at one by one before all are at once: bits that are far from a
-/// codeword have an odd check among so many.
+/// The number of checks that are tested one by one before all are tested at once. Bits that are far from a codeword
+/// have an odd check among them.
 const FIRST_CHECKS: usize = 64;
 
-/// Adds up the information bits of each check, in planes that are empty.
+/// Adds up the information bits of each check, in planes that are zero.
 fn add_groups(matrix: &Matrix, info: &[bool], planes: &mut [bool])
     requires info { length info.now ≡ information_bits matrix.now.shape }
     requires room { check_count matrix.now.shape ≤ length planes.old }
@@ -64,7 +64,7 @@ fn first_difference(a: &[bool], b: &[bool]) -> Option<usize>
     None
 }
 
-/// Writes the sum of each bit and the one before it. Before the first stands none.
+/// Writes the sum of each bit and the one before it; the first bit has none before it.
 fn add_neighbours(bits: &[bool], sums: &mut [bool])
     requires some { 1 ≤ length sums.old }
     requires same { length bits.now ≡ length sums.old }
@@ -92,8 +92,8 @@ fn ones_in(word: &[bool], places: &[u32]) -> usize
 
 impl Matrix {
     /// Writes the parity bits of k information bits: those that make a codeword of them. `info` has
-    /// the k information bits of the shape, and `parities` n - k bits, which are all written. It takes
-    /// no memory.
+    /// the k information bits of the shape, and `parities` n - k bits, which are all written. It
+    /// allocates nothing.
     pub fn parities_into(&self, info: &[bool], parities: &mut [bool])
         requires info { length info.now ≡ information_bits self.now.shape }
         requires parities { length parities.old ≡ check_count self.now.shape }
@@ -120,7 +120,7 @@ impl Matrix {
         None
     }
 
-    /// The first odd check: that of the first parity bit that the information bits do not make.
+    /// The first odd check: that of the first parity bit that differs from the one computed from the information bits.
     fn odd_by_parities(&self, codeword: &[bool]) -> Option<usize>
         requires { length codeword.now ≡ (code_of self.now).bits }
         ensures { MatchOption result (IsCodeword (code_of self.now) codeword.now) (IsOddCheck (code_of self.now) codeword.now) }
@@ -132,9 +132,9 @@ impl Matrix {
         first_difference(parities, made)
     }
 
-    /// Writes which checks have an odd number of ones in n bits. `codeword` has n bits, and `odd` n - k,
-    /// which are all written. It takes no memory. A check is odd where either its own parity bit or the one before
-    /// it differs from what the information bits ask for, and the other doesn't.
+    /// Writes which checks have an odd number of ones in n bits (the syndrome). `codeword` has n bits, and `odd` n - k,
+    /// which are all written. It allocates nothing. The parity bits are compared with those computed from the
+    /// information bits. A check is odd if exactly one of the two differs: its parity bit, or the one before it.
     pub fn odd_into(&self, codeword: &[bool], odd: &mut [bool])
         requires codeword { length codeword.now ≡ (code_of self.now).bits }
         requires odd { length odd.old ≡ (code_of self.now).checks }
@@ -150,9 +150,9 @@ impl Matrix {
         add_neighbours(apart, odd);
     }
 
-    /// The first check with an odd number of ones in n bits. `None` exactly for a codeword. It takes
-    /// no memory. Where the first few checks are even, the parity bits are compared with those that
-    /// the information bits ask for.
+    /// The first check with an odd number of ones in n bits. `None` exactly for a codeword. It allocates
+    /// nothing. If the first few checks are even, the parity bits are compared with those computed from
+    /// the information bits.
     pub fn odd_check(&self, codeword: &Bits) -> Option<usize>
         requires { length codeword.now ≡ (code_of self.now).bits }
         ensures { MatchOption result (IsCodeword (code_of self.now) codeword.now)

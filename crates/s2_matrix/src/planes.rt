@@ -7,9 +7,9 @@ ghost use Rattle.s2_rows.specs.Rows.{AreAddresses};
 ghost use Rattle.s2_matrix.specs.Sums.{sum_of};
 ghost use Rattle.s2_matrix.specs.Planes.{plane_place};
 
-use s2_bits::add_turned;
+use s2_bits::add_rotated;
 
-/// So many bits from a place on.
+/// `len` bits from a place on.
 pub(crate) fn part(bits: &[bool], start: usize, len: usize) -> &[bool]
     requires { start + len ≤ length bits.now }
     ensures long { length result.now ≡ len }
@@ -18,7 +18,7 @@ pub(crate) fn part(bits: &[bool], start: usize, len: usize) -> &[bool]
     &bits[start..start + len]
 }
 
-/// Writes the bits twice, so that each turn of them stands in one piece.
+/// Writes the bits twice, so that each rotation of them is one piece.
 fn put_twice(twice: &mut [bool], bits: &[bool])
     requires { length twice.old ≡ 2 * length bits.now }
     ensures { twice.new ≡ bits.now ++ bits.now }
@@ -28,7 +28,7 @@ fn put_twice(twice: &mut [bool], bits: &[bool])
     second.copy_from_slice(bits);
 }
 
-/// Adds a group of bits to the checks that one address of its row gives: one plane. The bits are given
+/// Adds a group of bits to the checks of one address of its row, which are one plane. The bits are given
 /// once, and twice in one piece.
 fn add_address(planes: &mut [bool], q: usize, bits: &[bool], twice: &[bool], address: usize)
     requires some { 1 ≤ q }
@@ -43,7 +43,7 @@ fn add_address(planes: &mut [bool], q: usize, bits: &[bool], twice: &[bool], add
     let piece = part(twice, n - address / q, n);
     let (_, rest) = planes.split_at_mut(address % q * n);
     let (plane, _) = rest.split_at_mut(n);
-    add_turned(plane, piece, 0);
+    add_rotated(plane, piece, 0);
 }
 
 /// Adds a group of bits to all its checks. `twice` has room for the bits twice.

@@ -9,8 +9,8 @@ ghost use Rattle.s2_matrix.specs.Layers.{layer_places, layer_entries};
 
 use crate::matrix::Matrix;
 
-/// An address of a group's row: the layer of checks that it meets, and by how many lanes the group
-/// is turned there.
+/// An address of a group's row: the layer of checks that it meets, and the number of lanes by which the group is
+/// rotated there. It is a circulant of the matrix, by its group.
 #[derive(Clone, Copy, Debug, PartialEq, Eq)]
 pub struct GroupEntry {
     /// x mod q for the address x.
@@ -19,8 +19,9 @@ pub struct GroupEntry {
     pub shift: usize,
 }
 
-/// A group of information bits that a layer of checks meets, and by how many lanes it is turned
-/// there: the check in lane c has the group's bit (c + group size - shift) mod group size.
+/// A group of information bits that a layer of checks meets, and the number of lanes by which it is rotated there. The
+/// check in lane c has the group's bit (c + group size - shift) mod group size. It is a circulant of the matrix, by its
+/// layer.
 #[derive(Clone, Copy, Debug, PartialEq, Eq)]
 pub struct LayerEntry {
     /// The group, counted from 0.
@@ -30,7 +31,7 @@ pub struct LayerEntry {
 }
 
 impl Matrix {
-    /// How many addresses the row of a group has: at most 24. Groups count from 0.
+    /// The number of addresses of a group's row: at most 24. Groups count from 0.
     pub fn group_len(&self, group: usize) -> usize
         requires { group < self.now.shape.groups }
         ensures is { result ≡ length (row_of self.now group) }
@@ -66,8 +67,8 @@ impl Matrix {
         self.layers.row(layer)
     }
 
-    /// How many entries a layer has: as many as its checks have information bits. Layers count from
-    /// 0 to q - 1.
+    /// The number of entries of a layer, which is the number of information bits of each of its checks. Layers count
+    /// from 0 to q - 1.
     pub fn layer_len(&self, layer: usize) -> usize
         requires { layer < self.now.shape.q }
         ensures { result ≡ length (layer_entries self.now layer) }

@@ -13,12 +13,12 @@ use Rattle.s2_rows.specs.Rows.{Rows}
 use Rattle.s2_matrix.specs.Total.{upto}
 use Rattle.s2_matrix.specs.Code.{Code, code_of, members}
 use Rattle.s2_matrix.proofs.Members.{members_rising, members_below, place_in_members, place_of_upto}
-use Rattle.s2_minsum.specs.Plain.{size_cap, State, input, others, reduced, with_sign, made}
+use Rattle.s2_minsum.specs.Plain.{max_magnitude, State, input, others, reduced, with_sign, made}
 use Rattle.s2_minsum.specs.Nodes.{sent}
 use Rattle.s2_minsum.specs.Rows.{is_lacking}
 use Rattle.s2_minsum.specs.Layout.{row_of_bit, lane_of_bit, last_check, forth, back, entry_of, lacked_row}
 use Rattle.s2_minsum.proofs.Places
-use Rattle.s2_minsum.proofs.Turning
+use Rattle.s2_minsum.proofs.RotationFacts
 use Rattle.s2_minsum.proofs.Others.{made_is}
 use Rattle.s2_minsum.proofs.Orders.{Within, in_filter, made_same}
 
@@ -47,8 +47,8 @@ members_apart code j a b d less inside same =
 
 -- ---- inputs of the cap change nothing
 
-module _ (h : ℕ → Bool) (g : ℕ → ℤ) (capped : (x : ℕ) → h x ≡ false → g x ≡ pos size_cap) where
-  least_capped : (p : ℕ → Bool) (a : ℕ) (xs : List ℕ) → a ≤ size_cap → fold (λ least k. min least (unsigned_abs (g k))) a (filter p xs) ≡ fold (λ least k. min least (unsigned_abs (g k))) a (filter p (filter h xs))
+module _ (h : ℕ → Bool) (g : ℕ → ℤ) (capped : (x : ℕ) → h x ≡ false → g x ≡ pos max_magnitude) where
+  least_capped : (p : ℕ → Bool) (a : ℕ) (xs : List ℕ) → a ≤ max_magnitude → fold (λ least k. min least (unsigned_abs (g k))) a (filter p xs) ≡ fold (λ least k. min least (unsigned_abs (g k))) a (filter p (filter h xs))
   least_capped p a [] small = refl
   least_capped p a (x ∷ xs) small = elim (cases_Bool (h x)) [
     | inl has ↦ elim (cases_Bool (p x)) [
@@ -87,7 +87,7 @@ module _ (h : ℕ → Bool) (g : ℕ → ℤ) (capped : (x : ℕ) → h x ≡ fa
   pub made_capped : (factor : ℕ) (xs : List ℕ) (i : ℕ) → made factor g (others xs i) ≡ made factor g (others (filter h xs) i)
   made_capped factor xs i =
       let p = λ (k : ℕ). not (k == i) in
-      let least = least_capped p size_cap xs (omega arith) in
+      let least = least_capped p max_magnitude xs (omega arith) in
       let count = count_capped p xs in
       λ x. with_sign (count x % 2 == 1) (reduced factor (least x))
 
@@ -123,7 +123,7 @@ module _ (rows : Rows) (shaped : IsShape rows.shape) (r : ℕ) (layer : r < rows
               let test : eqb r 0 ≡ true = eq-eqb r 0 first in
               let at : row ≡ s.groups + s.q - 1 = here ∙ ap (λ t. cond t (s.groups + s.q - 1) (s.groups + s.q)) test in
               let lane0 : r + c * s.q ≡ 0 = (λ i. first i + zero' i * s.q) ∙ omega arith in
-              (first, (zero', (λ i. is_member rows (lane0 i) (forth s (zero' i) b)) ∙ Turning.has_absent rows shaped b low at (eqb-true turn 1 two.1)))
+              (first, (zero', (λ i. is_member rows (lane0 i) (forth s (zero' i) b)) ∙ RotationFacts.has_absent rows shaped b low at (eqb-true turn 1 two.1)))
               )
           | inr other ↦ (
               let test : eqb r 0 ≡ false = ne_eqb r 0 other in
@@ -137,7 +137,7 @@ module _ (rows : Rows) (shaped : IsShape rows.shape) (r : ℕ) (layer : r < rows
         let s = rows.shape in
         let row = row_of_bit s b in
         let turn = s.group - 1 - lane_of_bit s b in
-        Turning.has_forth rows shaped r c layer small b low has (λ first zero' at one.
+        RotationFacts.has_forth rows shaped r c layer small b low has (λ first zero' at one.
         let test : eqb r 0 ≡ true = eq-eqb r 0 first in
         let here : eqb row (lacked_row s r) ≡ true = eq-eqb row (lacked_row s r) (at ∙ sym (ap (λ t. cond t (s.groups + s.q - 1) (s.groups + s.q)) test)) in
         let turn' : eqb turn 1 ≡ true = eq-eqb turn 1 one in
@@ -147,7 +147,7 @@ module _ (rows : Rows) (shaped : IsShape rows.shape) (r : ℕ) (layer : r < rows
 
     pub place_in : (x : ℕ) → x < code_bits rows.shape → is_member rows (r + c * rows.shape.q) x ≡ true → position_or_len (λ m. m == back rows.shape c x) (members (code_of rows) (last_check rows.shape r)) < length (members (code_of rows) (last_check rows.shape r))
     place_in x low has =
-        place_in_members (code_of rows) (back rows.shape c x) (last_check rows.shape r) (Places.back_below rows.shape shaped c x low) (Turning.has_back rows shaped r c layer small x low has)
+        place_in_members (code_of rows) (back rows.shape c x) (last_check rows.shape r) (Places.back_below rows.shape shaped c x low) (RotationFacts.has_back rows shaped r c layer small x low has)
 
     bits_apart : AllPairs (λ a b. a ≢ b) (map (forth rows.shape c) (members (code_of rows) (last_check rows.shape r)))
     bits_apart a b d less inside same =
@@ -162,7 +162,7 @@ module _ (rows : Rows) (shaped : IsShape rows.shape) (r : ℕ) (layer : r < rows
         members_apart (code_of rows) (last_check s r) a b 0 less lb (sym (again a la) ∙ ap (back s c) (sym one ∙ same ∙ two) ∙ again b lb)
 
     pub lane_sent : (factor : ℕ) (state : State) (f : ℕ → ℤ) (x : ℕ) → x < code_bits rows.shape → is_member rows (r + c * rows.shape.q) x ≡ true
-        → ((k : ℕ) → k < length (members (code_of rows) (last_check rows.shape r)) → f k ≡ cond (is_lacking (lacked_row rows.shape r) (entry_of rows.shape (get_or (members (code_of rows) (last_check rows.shape r)) k 0)) c) (pos size_cap) (input (code_of rows) state (r + c * rows.shape.q) (forth rows.shape c (get_or (members (code_of rows) (last_check rows.shape r)) k 0))))
+        → ((k : ℕ) → k < length (members (code_of rows) (last_check rows.shape r)) → f k ≡ cond (is_lacking (lacked_row rows.shape r) (entry_of rows.shape (get_or (members (code_of rows) (last_check rows.shape r)) k 0)) c) (pos max_magnitude) (input (code_of rows) state (r + c * rows.shape.q) (forth rows.shape c (get_or (members (code_of rows) (last_check rows.shape r)) k 0))))
         → sent factor f (length (members (code_of rows) (last_check rows.shape r))) (position_or_len (λ m. m == back rows.shape c x) (members (code_of rows) (last_check rows.shape r))) ≡ made factor (input (code_of rows) state (r + c * rows.shape.q)) (others (members (code_of rows) (r + c * rows.shape.q)) x)
     lane_sent factor state f x low has gives =
         let s = rows.shape in
@@ -173,7 +173,7 @@ module _ (rows : Rows) (shaped : IsShape rows.shape) (r : ℕ) (layer : r < rows
         let e = position_or_len (λ m. m == back s c x) ms in
         let h = is_member rows j in
         let g = input code state j in
-        let g' = λ (y : ℕ). cond (h y) (g y) (pos size_cap) in
+        let g' = λ (y : ℕ). cond (h y) (g y) (pos max_magnitude) in
         let long : length bits ≡ length ms = length-map ms (forth s c) in
         let at = λ (k : ℕ) (lt : k < length ms). get_or-map (forth s c) ms k 0 0 lt in
         let within = place_in x low has in
@@ -182,7 +182,7 @@ module _ (rows : Rows) (shaped : IsShape rows.shape) (r : ℕ) (layer : r < rows
         let gives' : (k : ℕ) → k < length bits → f k ≡ g' (get_or bits k 0) = λ k lt'.
         let lt : k < length ms = omega arith in
         let b = get_or ms k 0 in
-        gives k lt ∙ choose (is_lacking (lacked_row s r) (entry_of s b) c) (h (forth s c b)) (pos size_cap) (g (forth s c b)) (λ yes'. (lacks b (member_below k lt) yes').1.1) (λ no'. present b (member_below k lt) (member_has k lt) no') ∙ ap g' (sym (at k lt))
+        gives k lt ∙ choose (is_lacking (lacked_row s r) (entry_of s b) c) (h (forth s c b)) (pos max_magnitude) (g (forth s c b)) (λ yes'. (lacks b (member_below k lt) yes').1.1) (λ no'. present b (member_below k lt) (member_has k lt) no') ∙ ap g' (sym (at k lt))
         in
         let ys = members code j in
         let place = place_in_members code x j low has in
@@ -208,8 +208,8 @@ module _ (rows : Rows) (shaped : IsShape rows.shape) (r : ℕ) (layer : r < rows
         ap (λ n. sent factor f n e) (sym long)
         ∙ sym (made_is factor g' f bits e bits_apart within' gives')
         ∙ ap (λ b. made factor g' (others bits b)) shows
-        ∙ made_capped h g' (λ z lacks'. ap (λ t. cond t (g z) (pos size_cap)) lacks') factor bits x
+        ∙ made_capped h g' (λ z lacks'. ap (λ t. cond t (g z) (pos max_magnitude)) lacks') factor bits x
         ∙ made_same factor g' (filter h bits) ys x (AllPairs-filter (λ a b. a ≢ b) h bits bits_apart) (members_apart code j) bits_in ys_in
         ∙ ap (λ b. made factor g' (others ys b)) (sym shown)
-        ∙ made_congr factor g' g ys y (members_apart code j) place (λ k lt. ap (λ t. cond t (g (get_or ys k 0)) (pos size_cap)) (filter_passes h (upto code.bits) k 0 lt))
+        ∙ made_congr factor g' g ys y (members_apart code j) place (λ k lt. ap (λ t. cond t (g (get_or ys k 0)) (pos max_magnitude)) (filter_passes h (upto code.bits) k 0 lt))
         ∙ ap (λ b. made factor g (others ys b)) shown

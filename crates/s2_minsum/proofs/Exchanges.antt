@@ -4,9 +4,9 @@ use Rattle.std.proofs.Math.Nat.{mul-le-mul_right}
 use Rattle.std.proofs.lemmas.Bool.{cases_lt, cases_eq}
 use Rattle.std.proofs.lemmas.Simd.{get_or-put_chunk_below, get_or-put_chunk_at, get_or-put_chunk_above}
 use Rattle.std.specs.Simd.Lanes.{put_chunk}
-use Rattle.s2_bits.specs.Lanes16.{minus16, size16}
+use Rattle.s2_bits.specs.Lanes16.{minus16, magnitude16}
 use Rattle.s2_bits.proofs.RowParts.{row_before, row_room}
-use Rattle.s2_minsum.specs.Plain.{size_cap}
+use Rattle.s2_minsum.specs.Plain.{max_magnitude}
 use Rattle.s2_minsum.specs.Rows.{cell, reduced16}
 use Rattle.s2_minsum.specs.Exchange.{renewed, AreSent, AreExchanged}
 use Rattle.s2_minsum.proofs.Sames.{least_from-same, next_from-same, signs_of-same}
@@ -103,8 +103,8 @@ set_chunk (suc i) (y ∷ xs) x = ap (λ t. y ∷ t) (set_chunk i xs x)
 
 renewed-same : (factor n count : ℕ) (xs ys : List ℕ) (e c : ℕ) → e < count → ((x : ℕ) → x < count → cell xs n x c ≡ cell ys n x c) → renewed factor n count xs e c ≡ renewed factor n count ys e c
 renewed-same factor n count xs ys e c lt same =
-    let first = least_from-same size_cap (λ x. size16 (cell xs n x c)) (λ x. size16 (cell ys n x c)) count count (omega arith) (λ x l. ap size16 (same x l)) in
-    let second = next_from-same size_cap (λ x. size16 (cell xs n x c)) (λ x. size16 (cell ys n x c)) count count (omega arith) (λ x l. ap size16 (same x l)) in
+    let first = least_from-same max_magnitude (λ x. magnitude16 (cell xs n x c)) (λ x. magnitude16 (cell ys n x c)) count count (omega arith) (λ x l. ap magnitude16 (same x l)) in
+    let second = next_from-same max_magnitude (λ x. magnitude16 (cell xs n x c)) (λ x. magnitude16 (cell ys n x c)) count count (omega arith) (λ x l. ap magnitude16 (same x l)) in
     let signs = signs_of-same (λ x. cell xs n x c) (λ x. cell ys n x c) count count (omega arith) same in
     λ i. reduced16 factor (same e lt i) (first i) (second i) (signs i)
 

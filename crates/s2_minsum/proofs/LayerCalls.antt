@@ -9,10 +9,10 @@ use Rattle.s2_rows.specs.Rows.{Rows}
 use Rattle.s2_minsum.proofs.Places
 use Rattle.s2_minsum.proofs.Columns.{member_below}
 use Rattle.s2_matrix.specs.Code.{code_of, members}
-use Rattle.s2_minsum.specs.declared.rows.Entry.{Entry}
+use Rattle.s2_minsum.specs.declared.kernels.Circulant.{Circulant}
 use Rattle.s2_minsum.specs.Plain.{layer as after_layer}
-use Rattle.s2_minsum.specs.Nodes.{first_of, second_of, signs_of}
-use Rattle.s2_bits.specs.Lanes16.{size16}
+use Rattle.s2_minsum.specs.Nodes.{min1_of, min2_of, signs_of}
+use Rattle.s2_bits.specs.Lanes16.{magnitude16}
 use Rattle.s2_minsum.specs.Rows.{cell, no_entry, entry_at, AreIn, reduced16, received, change_of, changed}
 use Rattle.s2_minsum.specs.Layout.{row_of_bit, last_check, entry_of, entries_of, entry_count, first_row, kept_of, state_of, lacked_row}
 use Rattle.s2_minsum.specs.Decoding.{AreFit, AreNumbers, AreMessages}
@@ -34,12 +34,12 @@ pub length-entries : (rows : Rows) (r : ℕ) → length (entries_of rows r) ≡ 
 length-entries rows r = length-map (members (code_of rows) (last_check rows.shape r)) (entry_of rows.shape)
 
 -- what the rows' layer ensures
-pub record Ran (factor : ℕ) (es : List Entry) (messages posteriors ys posteriors' : List ℕ) (n start count last m : ℕ) : Type 0 where
+pub record Ran (factor : ℕ) (es : List Circulant) (messages posteriors ys posteriors' : List ℕ) (n start count last m : ℕ) : Type 0 where
   pub long : length ys ≡ length (rows_part messages n start count)
   pub posteriors_long : length posteriors' ≡ length posteriors
   pub fits : (k : ℕ) → get_or (rows_put messages ys n start count) k 0 < 65536
   pub posteriors_fit : (k : ℕ) → get_or posteriors' k 0 < 65536
-  pub sends : (e c : ℕ) → e < m → c < n → cell ys n e c ≡ reduced16 factor (received n es last posteriors (rows_part messages n start count) e c) (first_of (λ k. size16 (received n es last posteriors (rows_part messages n start count) k c)) m) (second_of (λ k. size16 (received n es last posteriors (rows_part messages n start count) k c)) m) (signs_of (λ k. received n es last posteriors (rows_part messages n start count) k c) m)
+  pub sends : (e c : ℕ) → e < m → c < n → cell ys n e c ≡ reduced16 factor (received n es last posteriors (rows_part messages n start count) e c) (min1_of (λ k. magnitude16 (received n es last posteriors (rows_part messages n start count) k c)) m) (min2_of (λ k. magnitude16 (received n es last posteriors (rows_part messages n start count) k c)) m) (signs_of (λ k. received n es last posteriors (rows_part messages n start count) k c) m)
   pub changes : (p : ℕ) → p < length posteriors → get_or posteriors' p 0 ≡ changed n es posteriors (change_of n es last (rows_part messages n start count) ys) m p
 
 pub record Gives (rows : Rows) (factor : ℕ) (soft : List ℤ) (messages ys posteriors' : List ℕ) (r n start count : ℕ) : Type 0 where
@@ -110,7 +110,7 @@ module _ (rows : Rows) (factor : ℕ) (soft : List ℤ) (messages posteriors : L
         state = state_is rows factor soft messages posteriors l d d.fits d.posteriors_fit r layer es ms ys messages' fit_new es_are ms_are new_are others_are ran.sends;
       }
 
-  pub gives : (es : List Entry) (n start count last : ℕ) → entries_of rows r ≡ es → rows.shape.group ≡ n → first_row rows r ≡ start → entry_count rows r ≡ count → lacked_row rows.shape r ≡ last → Ran factor es messages posteriors ys posteriors' n start count last (length es) → Gives rows factor soft messages ys posteriors' r n start count
+  pub gives : (es : List Circulant) (n start count last : ℕ) → entries_of rows r ≡ es → rows.shape.group ≡ n → first_row rows r ≡ start → entry_count rows r ≡ count → lacked_row rows.shape r ≡ last → Ran factor es messages posteriors ys posteriors' n start count last (length es) → Gives rows factor soft messages ys posteriors' r n start count
   gives es n start count last es_is n_is start_is count_is last_is =
       let long = length-entries rows r in
       subst (λ e'. Ran factor e' messages posteriors ys posteriors' n start count last (length e') → Gives rows factor soft messages ys posteriors' r n start count) es_is
@@ -121,7 +121,7 @@ module _ (rows : Rows) (factor : ℕ) (soft : List ℤ) (messages posteriors : L
       (subst (λ m'. Ran factor (entries_of rows r) messages posteriors ys posteriors' rows.shape.group (first_row rows r) (entry_count rows r) (lacked_row rows.shape r) m' → Gives rows factor soft messages ys posteriors' r rows.shape.group (first_row rows r) (entry_count rows r)) (sym long) ran_gives)))))
 
 -- the entries of a layer are rows of the posteriors
-pub are_in : (rows : Rows) → AreFit rows → (r : ℕ) → r < rows.shape.q → (places : ℕ) → places ≡ code_bits rows.shape → (es : List Entry) (n : ℕ) → entries_of rows r ≡ es → rows.shape.group ≡ n → AreIn n es places
+pub are_in : (rows : Rows) → AreFit rows → (r : ℕ) → r < rows.shape.q → (places : ℕ) → places ≡ code_bits rows.shape → (es : List Circulant) (n : ℕ) → entries_of rows r ≡ es → rows.shape.group ≡ n → AreIn n es places
 are_in rows l r layer places all es n es_is n_is =
     let in_places : AreIn rows.shape.group (entries_of rows r) places = record {
       some = l.shaped.group_some;
@@ -132,7 +132,7 @@ are_in rows l r layer places all es n es_is n_is =
           let row = Places.row_below rows.shape l.shaped b (member_below rows l.shaped r layer e lt) in
           let more : suc (row_of_bit rows.shape b) * rows.shape.group ≤ (rows.shape.groups + rows.shape.q) * rows.shape.group = mul-le-mul_right rows.shape.group row in
           rw (entries_are rows r e lt) (omega (arith, more, all));
-      turns = λ e lt'.
+      rotations = λ e lt'.
           let lt : e < entry_count rows r = omega (arith, length-entries rows r) in
           rw (entries_are rows r e lt) (omega arith);
     }

@@ -11,12 +11,12 @@ use Rattle.s2_rows.specs.Rows.{Rows}
 use Rattle.s2_matrix.specs.Code.{code_of, members, is_member}
 use Rattle.s2_matrix.proofs.Members.{members_rising, place_of}
 use Rattle.s2_matrix.proofs.Joins.{div_below}
-use Rattle.s2_minsum.specs.declared.rows.Entry.{Entry}
+use Rattle.s2_minsum.specs.declared.kernels.Circulant.{Circulant}
 use Rattle.s2_mode.specs.Limits.{max_soft}
-use Rattle.s2_minsum.specs.Plain.{size_cap, max_message, max_posterior, is_edge, input, posterior, others, made, layer as after_layer}
-use Rattle.s2_minsum.specs.Nodes.{first_of, second_of, signs_of, sent}
-use Rattle.s2_bits.specs.Lanes16.{signed16, plus16, minus16, size16}
-use Rattle.s2_minsum.specs.Rows.{cell, entry_at, reduced16, turned, turned_back, is_lacking, received, change_of, changed}
+use Rattle.s2_minsum.specs.Plain.{max_magnitude, max_message, max_posterior, is_edge, input, posterior, others, made, layer as after_layer}
+use Rattle.s2_minsum.specs.Nodes.{min1_of, min2_of, signs_of, sent}
+use Rattle.s2_bits.specs.Lanes16.{signed16, plus16, minus16, magnitude16}
+use Rattle.s2_minsum.specs.Rows.{cell, entry_at, reduced16, rotated, rotated_back, is_lacking, received, change_of, changed}
 use Rattle.s2_minsum.specs.Layout.{row_of_bit, lane_of_bit, bit_of, last_check, forth, back, entry_of, entry_count, first_row, place_at, message_of, state_of, kept_of, lacked_row}
 use Rattle.s2_minsum.specs.Decoding.{AreFit, AreNumbers, AreMessages}
 use Rattle.s2_minsum.proofs.Places
@@ -46,7 +46,7 @@ none_taken : (b : Bool) (p x y : ℕ) → cond (b && nat_lt p 0) x y ≡ y
 none_taken true p x y = let test = le-ltb p 0 (omega arith) in rw test refl
 none_taken false p x y = refl
 
-fits_either : (b : Bool) (v : ℕ) → cond b size_cap (v % 65536) < 65536
+fits_either : (b : Bool) (v : ℕ) → cond b max_magnitude (v % 65536) < 65536
 fits_either true v = omega arith
 fits_either false v = omega arith
 
@@ -66,17 +66,17 @@ either_word true v z e = refl
 either_word false v z e = e
 
 module _ (rows : Rows) (factor : ℕ) (soft : List ℤ) (messages posteriors : List ℕ) (l : AreFit rows) (d : AreNumbers rows soft messages posteriors) (fit : (k : ℕ) → get_or messages k 0 < 65536) (fit_posteriors : (k : ℕ) → get_or posteriors k 0 < 65536)
-    (r : ℕ) (layer : r < rows.shape.q) (es : List Entry) (ms ys messages' : List ℕ) (fit_new : (k : ℕ) → get_or ys k 0 < 65536)
+    (r : ℕ) (layer : r < rows.shape.q) (es : List Circulant) (ms ys messages' : List ℕ) (fit_new : (k : ℕ) → get_or ys k 0 < 65536)
     (es_are : (e : ℕ) → e < entry_count rows r → entry_at es e ≡ entry_of rows.shape (get_or (members (code_of rows) (last_check rows.shape r)) e 0))
     (ms_are : (e c : ℕ) → e < entry_count rows r → c < rows.shape.group → cell ms rows.shape.group e c ≡ kept_of rows messages r e c)
     (new_are : (e c : ℕ) → e < entry_count rows r → c < rows.shape.group → kept_of rows messages' r e c ≡ cell ys rows.shape.group e c)
     (others_are : (r' e c : ℕ) → r' < rows.shape.q → r' ≢ r → e < entry_count rows r' → c < rows.shape.group → kept_of rows messages' r' e c ≡ kept_of rows messages r' e c)
-    (sends : (e c : ℕ) → e < entry_count rows r → c < rows.shape.group → cell ys rows.shape.group e c ≡ reduced16 factor (received rows.shape.group es (lacked_row rows.shape r) posteriors ms e c) (first_of (λ k. size16 (received rows.shape.group es (lacked_row rows.shape r) posteriors ms k c)) (entry_count rows r)) (second_of (λ k. size16 (received rows.shape.group es (lacked_row rows.shape r) posteriors ms k c)) (entry_count rows r)) (signs_of (λ k. received rows.shape.group es (lacked_row rows.shape r) posteriors ms k c) (entry_count rows r)))
+    (sends : (e c : ℕ) → e < entry_count rows r → c < rows.shape.group → cell ys rows.shape.group e c ≡ reduced16 factor (received rows.shape.group es (lacked_row rows.shape r) posteriors ms e c) (min1_of (λ k. magnitude16 (received rows.shape.group es (lacked_row rows.shape r) posteriors ms k c)) (entry_count rows r)) (min2_of (λ k. magnitude16 (received rows.shape.group es (lacked_row rows.shape r) posteriors ms k c)) (entry_count rows r)) (signs_of (λ k. received rows.shape.group es (lacked_row rows.shape r) posteriors ms k c) (entry_count rows r)))
   where
     given : ℕ → ℕ → ℤ
     given c k =
         let b = get_or (members (code_of rows) (last_check rows.shape r)) k 0 in
-        cond (is_lacking (lacked_row rows.shape r) (entry_of rows.shape b) c) (pos size_cap) (input (code_of rows) (state_of rows soft (kept_of rows messages)) (r + c * rows.shape.q) (forth rows.shape c b))
+        cond (is_lacking (lacked_row rows.shape r) (entry_of rows.shape b) c) (pos max_magnitude) (input (code_of rows) (state_of rows soft (kept_of rows messages)) (r + c * rows.shape.q) (forth rows.shape c b))
 
     kept_small : (r' e c : ℕ) → unsigned_abs (signed16 (kept_of rows messages r' e c)) ≤ max_message
     kept_small r' e c = small_at messages d.messages_small ((first_row rows r' + e) * rows.shape.group + c)
@@ -89,7 +89,7 @@ module _ (rows : Rows) (factor : ℕ) (soft : List ℤ) (messages posteriors : L
         posterior_small (code_of rows) (state_of rows soft (kept_of rows messages)) i (l.few i low) (soft_small i low) (λ j. message_small rows (kept_of rows messages) kept_small j i)
 
     received_fits : (c k : ℕ) → received rows.shape.group es (lacked_row rows.shape r) posteriors ms k c < 65536
-    received_fits c k = fits_either (is_lacking (lacked_row rows.shape r) (entry_at es k) c) (cell posteriors rows.shape.group (entry_at es k).row (turned rows.shape.group (entry_at es k).shift c) + (65536 - cell ms rows.shape.group k c))
+    received_fits c k = fits_either (is_lacking (lacked_row rows.shape r) (entry_at es k) c) (cell posteriors rows.shape.group (entry_at es k).row (rotated rows.shape.group (entry_at es k).shift c) + (65536 - cell ms rows.shape.group k c))
 
     -- the signed16 that an entry's member gives
     received_is : (c k : ℕ) → c < rows.shape.group → k < entry_count rows r → signed16 (received rows.shape.group es (lacked_row rows.shape r) posteriors ms k c) ≡ given c k
@@ -107,9 +107,9 @@ module _ (rows : Rows) (factor : ℕ) (soft : List ℤ) (messages posteriors : L
         let x = forth s c b in
         let x_low = Places.forth_below s l.shaped c b b_low in
         let now = state_of rows soft (kept_of rows messages) in
-        let turn : turned n (n - 1 - lane) c ≡ (lane + 1 + c) % n = ap (λ v. v % n) (omega arith) in
+        let turn : rotated n (n - 1 - lane) c ≡ (lane + 1 + c) % n = ap (λ v. v % n) (omega arith) in
         let to_low : (lane + 1 + c) % n < n = (let some = l.shaped.group_some in omega arith) in
-        (λ i. signed16 (cond (is_lacking (lacked_row s r) (es_are k lt i) c) size_cap (minus16 (cell posteriors n (es_are k lt i).row (turned n (es_are k lt i).shift c)) (ms_are k c lt small i))))
+        (λ i. signed16 (cond (is_lacking (lacked_row s r) (es_are k lt i) c) max_magnitude (minus16 (cell posteriors n (es_are k lt i).row (rotated n (es_are k lt i).shift c)) (ms_are k c lt small i))))
         ∙ elim (cases_Bool lacking) [
           | inl lack ↦ rw lack refl
           | inr shown ↦ (
@@ -119,10 +119,10 @@ module _ (rows : Rows) (factor : ℕ) (soft : List ℤ) (messages posteriors : L
               let again = Places.back_forth s l.shaped c b small b_low in
               let place : place_at rows j x ≡ k = (λ i. position_or_len (λ m. m == back s (lane_of rows l.shaped r layer c i) x) (members code (last_check s (layer_of rows l.shaped r layer c i)))) ∙ ap (λ y. position_or_len (λ m. m == y) (members code (last_check s r))) again ∙ place_of (members code (last_check s r)) k (members_rising code (last_check s r)) lt in
               let message : now.message j x ≡ signed16 (kept_of rows messages r k c) = (λ i. cond (edge i) (signed16 (kept_of rows messages (layer_of rows l.shaped r layer c i) (place i) (lane_of rows l.shaped r layer c i))) (pos 0)) in
-              let gave : signed16 (cell posteriors n (row_of_bit s b) (turned n (n - 1 - lane) c)) ≡ posterior code now x = ap (λ v. signed16 (cell posteriors n (row_of_bit s b) v)) turn ∙ d.posteriors_are (row_of_bit s b) ((lane + 1 + c) % n) (Places.row_below s l.shaped b b_low) to_low in
+              let gave : signed16 (cell posteriors n (row_of_bit s b) (rotated n (n - 1 - lane) c)) ≡ posterior code now x = ap (λ v. signed16 (cell posteriors n (row_of_bit s b) v)) turn ∙ d.posteriors_are (row_of_bit s b) ((lane + 1 + c) % n) (Places.row_below s l.shaped b b_low) to_low in
               let one = before_small x x_low in
               let two = kept_small r k c in
-              let minus = word_minus (cell posteriors n (row_of_bit s b) (turned n (n - 1 - lane) c)) (kept_of rows messages r k c) (fit_posteriors (row_of_bit s b * n + turned n (n - 1 - lane) c)) (fit ((first_row rows r + k) * n + c)) (omega (arith, ints, gave, one, two)) in
+              let minus = word_minus (cell posteriors n (row_of_bit s b) (rotated n (n - 1 - lane) c)) (kept_of rows messages r k c) (fit_posteriors (row_of_bit s b * n + rotated n (n - 1 - lane) c)) (fit ((first_row rows r + k) * n + c)) (omega (arith, ints, gave, one, two)) in
               rw shown (minus ∙ (λ i. gave i -ℤ sym message i))
               )
         ]
@@ -207,7 +207,7 @@ module _ (rows : Rows) (factor : ℕ) (soft : List ℤ) (messages posteriors : L
 
         changed_fits : (m p : ℕ) → changed rows.shape.group es posteriors (change_of rows.shape.group es (lacked_row rows.shape r) ms ys) m p < 65536
         changed_fits zero p = fit_posteriors p
-        changed_fits (suc m) p = fits_choice ((entry_at es m).row == p / rows.shape.group) (changed rows.shape.group es posteriors (change_of rows.shape.group es (lacked_row rows.shape r) ms ys) m p + change_of rows.shape.group es (lacked_row rows.shape r) ms ys m (turned_back rows.shape.group (entry_at es m).shift (p % rows.shape.group))) (changed rows.shape.group es posteriors (change_of rows.shape.group es (lacked_row rows.shape r) ms ys) m p) (changed_fits m p)
+        changed_fits (suc m) p = fits_choice ((entry_at es m).row == p / rows.shape.group) (changed rows.shape.group es posteriors (change_of rows.shape.group es (lacked_row rows.shape r) ms ys) m p + change_of rows.shape.group es (lacked_row rows.shape r) ms ys m (rotated_back rows.shape.group (entry_at es m).shift (p % rows.shape.group))) (changed rows.shape.group es posteriors (change_of rows.shape.group es (lacked_row rows.shape r) ms ys) m p) (changed_fits m p)
 
         -- a place of the list as row and lane
         row_low : (p : ℕ) → p < code_bits rows.shape → p / rows.shape.group < rows.shape.groups + rows.shape.q

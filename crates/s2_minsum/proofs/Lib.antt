@@ -1,6 +1,6 @@
 pub mod RowLemmas
 pub mod Places
-pub mod Turning
+pub mod RotationFacts
 pub mod Nodes
 pub mod Others
 pub mod WordLemmas

@@ -17,7 +17,7 @@ use Rattle.s2_minsum.specs.Rows.{is_lacking}
 use Rattle.s2_minsum.specs.Layout.{row_of_bit, lane_of_bit, bit_of, last_check, forth, back, entry_of, place_at, message_of, state_of, lacked_row}
 use Rattle.s2_minsum.proofs.Places
 use Rattle.s2_minsum.proofs.Columns.{found, member_below, member_has, lacks, present, place_in}
-use Rattle.s2_minsum.proofs.Turning.{lane_cases}
+use Rattle.s2_minsum.proofs.RotationFacts.{lane_cases}
 use Rattle.s2_minsum.proofs.Posteriors.{posterior_same, posterior_change}
 
 -- what is kept once the entries of layer r below e are replaced

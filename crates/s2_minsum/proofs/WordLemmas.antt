@@ -8,10 +8,10 @@ use Rattle.std.proofs.lemmas.Nat.{xor_of_16}
 use mir.Syntax.{w16}
 use Rattle.s2_minsum.specs.Plain.{with_sign, reduced}
 use Rattle.s2_bits.proofs.Words16.{word_low, word_high, negative_word}
-use Rattle.s2_bits.specs.Lanes16.{signed16, minus16, plus16, size16, sign16}
+use Rattle.s2_bits.specs.Lanes16.{signed16, minus16, plus16, magnitude16, sign16}
 use Rattle.s2_minsum.specs.Rows.{reduced16}
 use Rattle.s2_minsum.proofs.Nodes.{least_is, least_but_small, negatives_are, reduced_small}
-use Rattle.s2_minsum.specs.Nodes.{first_of, second_of, negatives_of, negatives_but, least_but, signs_of, sizes, sent}
+use Rattle.s2_minsum.specs.Nodes.{min1_of, min2_of, negatives_of, negatives_but, least_but, signs_of, magnitudes, sent}
 
 pub word_minus : (a b : ℕ) → a < 65536 → b < 65536 → unsigned_abs (signed16 a -ℤ signed16 b) < 32768 → signed16 (minus16 a b) ≡ signed16 a -ℤ signed16 b
 word_minus a b low low' small = wrapping_sub-bits w16 a b low low' ∙ int_wrap_fits w16 (signed16 a -ℤ signed16 b) (fits_signed_from_abs w16 (signed16 a -ℤ signed16 b) small)
@@ -19,7 +19,7 @@ word_minus a b low low' small = wrapping_sub-bits w16 a b low low' ∙ int_wrap_
 pub word_plus : (a b : ℕ) → a < 65536 → b < 65536 → unsigned_abs (signed16 a +ℤ signed16 b) < 32768 → signed16 (plus16 a b) ≡ signed16 a +ℤ signed16 b
 word_plus a b low low' small = wrapping_add-bits w16 a b low low' ∙ int_wrap_fits w16 (signed16 a +ℤ signed16 b) (fits_signed_from_abs w16 (signed16 a +ℤ signed16 b) small)
 
-pub size_is : (v : ℕ) → v < 65536 → size16 v ≡ unsigned_abs (signed16 v)
+pub size_is : (v : ℕ) → v < 65536 → magnitude16 v ≡ unsigned_abs (signed16 v)
 size_is v low = elim (cases_lt v 32768) [
   | inl lt ↦ rw (word_low v lt) (omega (arith, ints))
   | inr le ↦ rw (word_high v le low) (omega (arith, ints))
@@ -51,7 +51,7 @@ negative_is v low = elim (cases_lt v 32768) [
       )
 ]
 
-pub size_small : (v : ℕ) → v < 65536 → size16 v ≤ 32768
+pub size_small : (v : ℕ) → v < 65536 → magnitude16 v ≤ 32768
 size_small v low = omega arith
 
 -- the sign of words that are joined bit by bit
@@ -68,21 +68,21 @@ signed : (negative : Bool) (m : ℕ) → m < 32768 → signed16 (cond negative (
 signed false m small = word_low m small
 signed true m small = negative_word m small
 
--- what is kept of the one that is chosen of two sizes
+-- what is kept of the one that is chosen of two magnitudes
 chosen_reduced : (factor : ℕ) (b : Bool) (x y : ℕ) → cond b (reduced factor x) (reduced factor y) ≡ reduced factor (cond b x y)
 chosen_reduced factor true x y = refl
 chosen_reduced factor false x y = refl
 
 -- the message of a member, by words
 module _ (g : ℕ → ℕ) (f : ℕ → ℤ) (n : ℕ) (fits : (k : ℕ) → k < n → g k < 65536) (is : (k : ℕ) → k < n → signed16 (g k) ≡ f k) where
-  size_same : (k : ℕ) → k < n → size16 (g k) ≡ unsigned_abs (f k)
+  size_same : (k : ℕ) → k < n → magnitude16 (g k) ≡ unsigned_abs (f k)
   size_same k lt = size_is (g k) (fits k lt) ∙ ap unsigned_abs (is k lt)
 
-  first_same : (m : ℕ) → m ≤ n → first_of (λ k. size16 (g k)) m ≡ first_of (sizes f) m
+  first_same : (m : ℕ) → m ≤ n → min1_of (λ k. magnitude16 (g k)) m ≡ min1_of (magnitudes f) m
   first_same zero h = refl
   first_same (suc m) h = λ i. min (first_same m (omega arith) i) (size_same m (omega arith) i)
 
-  second_same : (m : ℕ) → m ≤ n → second_of (λ k. size16 (g k)) m ≡ second_of (sizes f) m
+  second_same : (m : ℕ) → m ≤ n → min2_of (λ k. magnitude16 (g k)) m ≡ min2_of (magnitudes f) m
   second_same zero h = refl
   second_same (suc m) h = λ i. min (second_same m (omega arith) i) (max (first_same m (omega arith) i) (size_same m (omega arith) i))
 
@@ -111,17 +111,17 @@ module _ (g : ℕ → ℕ) (f : ℕ → ℤ) (n : ℕ) (fits : (k : ℕ) → k <
       let joined = sign_xor (signs_of g n) (g e) (signs_fit n (omega arith)) (fits e lt) in
       joined ∙ (λ i. (signs i + own i) % 2) ∙ even_out (negatives_of f n) (negatives_but f e n) count all
 
-  pub sent_word : (factor e : ℕ) → e < n → signed16 (reduced16 factor (g e) (first_of (λ k. size16 (g k)) n) (second_of (λ k. size16 (g k)) n) (signs_of g n)) ≡ sent factor f n e
+  pub sent_word : (factor e : ℕ) → e < n → signed16 (reduced16 factor (g e) (min1_of (λ k. magnitude16 (g k)) n) (min2_of (λ k. magnitude16 (g k)) n) (signs_of g n)) ≡ sent factor f n e
   sent_word factor e lt =
       let first = first_same n (omega arith) in
       let second = second_same n (omega arith) in
       let own = size_same e lt in
       let parity = parity_same e lt in
-      let least = cond (unsigned_abs (f e) == first_of (sizes f) n) (second_of (sizes f) n) (first_of (sizes f) n) in
-      let least' = least_is (sizes f) n e lt in
-      let chosen : cond (size16 (g e) == first_of (λ k. size16 (g k)) n) (second_of (λ k. size16 (g k)) n) (first_of (λ k. size16 (g k)) n) ≡ least_but (sizes f) e n = (λ i. cond (own i == first i) (second i) (first i)) ∙ least' in
-      let small = least_but_small (sizes f) e n in
-      let kept = chosen_reduced factor (size16 (g e) == first_of (λ k. size16 (g k)) n) (second_of (λ k. size16 (g k)) n) (first_of (λ k. size16 (g k)) n) ∙ ap (reduced factor) chosen in
-      let below = reduced_small factor (least_but (sizes f) e n) in
+      let least = cond (unsigned_abs (f e) == min1_of (magnitudes f) n) (min2_of (magnitudes f) n) (min1_of (magnitudes f) n) in
+      let least' = least_is (magnitudes f) n e lt in
+      let chosen : cond (magnitude16 (g e) == min1_of (λ k. magnitude16 (g k)) n) (min2_of (λ k. magnitude16 (g k)) n) (min1_of (λ k. magnitude16 (g k)) n) ≡ least_but (magnitudes f) e n = (λ i. cond (own i == first i) (second i) (first i)) ∙ least' in
+      let small = least_but_small (magnitudes f) e n in
+      let kept = chosen_reduced factor (magnitude16 (g e) == min1_of (λ k. magnitude16 (g k)) n) (min2_of (λ k. magnitude16 (g k)) n) (min1_of (λ k. magnitude16 (g k)) n) ∙ ap (reduced factor) chosen in
+      let below = reduced_small factor (least_but (magnitudes f) e n) in
       (λ i. signed16 (cond (parity i == 1) (minus16 0 (kept i)) (kept i)))
-      ∙ signed (negatives_but f e n % 2 == 1) (reduced factor (least_but (sizes f) e n)) (omega (arith, small, below))
+      ∙ signed (negatives_but f e n % 2 == 1) (reduced factor (least_but (magnitudes f) e n)) (omega (arith, small, below))

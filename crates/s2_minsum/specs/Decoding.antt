@@ -4,7 +4,7 @@ use Rattle.s2_mode.specs.Shape.{Shape, IsShape, code_bits}
 use Rattle.s2_rows.specs.Limits.{max_addresses}
 use Rattle.s2_rows.specs.Rows.{Rows}
 use Rattle.s2_matrix.specs.Code.{code_of, members, checks_of}
-use Rattle.s2_minsum.specs.declared.rows.Entry.{Entry}
+use Rattle.s2_minsum.specs.declared.kernels.Circulant.{Circulant}
 use Rattle.s2_mode.specs.Limits.{max_soft}
 use Rattle.s2_minsum.specs.Plain.{max_message, State, posterior}
 use Rattle.s2_bits.specs.Lanes16.{signed16}
@@ -21,25 +21,26 @@ pub record Decoding : Type 0 where
 abbrev pub decoded : Decoding → State
 decoded d = state_of d.rows d.soft (kept_of d.rows d.messages)
 
--- no value is larger in size than a number
+-- no value is larger in magnitude than a number
 abbrev pub AreWithin : ℕ → List ℤ → Type 0
 AreWithin n vs = All (λ v. unsigned_abs v ≤ n) vs
 
 abbrev pub AreMessages : List ℕ → Type 0
 AreMessages vs = All (λ v. unsigned_abs (signed16 v) ≤ max_message) vs
 
--- the rows of a code as the standard's are: of a valid shape, and no bit in more checks than a row has addresses at most
+-- the rows of a code as the standard's are: of a valid shape, and no bit in more checks than a row has addresses at
+-- most
 pub record AreFit (rows : Rows) : Type 0 where
   pub shaped : IsShape rows.shape
   pub few : (i : ℕ) → i < code_bits rows.shape → length (checks_of (code_of rows) i) ≤ max_addresses
 
 -- the lists of the entries of all layers, and of the first entry of each
-pub record AreLayers (rows : Rows) (entries : List Entry) (firsts : List ℕ) : Type 0 where
+pub record AreLayers (rows : Rows) (entries : List Circulant) (layer_starts : List ℕ) : Type 0 where
   pub fit : AreFit rows
   pub entries_long : length entries ≡ first_row rows rows.shape.q
   pub entries_are : (r e : ℕ) → r < rows.shape.q → e < entry_count rows r → entry_at entries (first_row rows r + e) ≡ entry_of rows.shape (get_or (members (code_of rows) (last_check rows.shape r)) e 0)
-  pub firsts_long : length firsts ≡ rows.shape.q + 1
-  pub firsts_are : (r : ℕ) → r ≤ rows.shape.q → get_or firsts r 0 ≡ first_row rows r
+  pub layer_starts_long : length layer_starts ≡ rows.shape.q + 1
+  pub layer_starts_are : (r : ℕ) → r ≤ rows.shape.q → get_or layer_starts r 0 ≡ first_row rows r
 
 -- the ranges of the numbers
 pub record AreNumbers (rows : Rows) (soft : List ℤ) (messages posteriors : List ℕ) : Type 0 where

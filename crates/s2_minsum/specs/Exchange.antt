@@ -1,13 +1,13 @@
 -- What a layer's checks exchange with their members, by rows of inputs and of messages, one check a lane (own).
 use Rattle.std.specs.Prelude.{◌≡◌, ℕ, ◌+◌, ◌<◌, ◌≤◌, List}
-use Rattle.s2_bits.specs.Lanes16.{minus16, size16}
+use Rattle.s2_bits.specs.Lanes16.{minus16, magnitude16}
 use Rattle.s2_minsum.specs.Rows.{cell, reduced16}
-use Rattle.s2_minsum.specs.Nodes.{first_of, second_of, signs_of}
+use Rattle.s2_minsum.specs.Nodes.{min1_of, min2_of, signs_of}
 
 -- the message of the check in lane c to its member at entry e, by its inputs
 abbrev pub renewed : ℕ → ℕ → ℕ → List ℕ → ℕ → ℕ → ℕ
 renewed factor n count inputs e c =
-    reduced16 factor (cell inputs n e c) (first_of (λ x. size16 (cell inputs n x c)) count) (second_of (λ x. size16 (cell inputs n x c)) count) (signs_of (λ x. cell inputs n x c) count)
+    reduced16 factor (cell inputs n e c) (min1_of (λ x. magnitude16 (cell inputs n x c)) count) (min2_of (λ x. magnitude16 (cell inputs n x c)) count) (signs_of (λ x. cell inputs n x c) count)
 
 -- all lanes but those from one to another are unchanged
 abbrev pub AreLeft : ℕ → ℕ → ℕ → ℕ → List ℕ → List ℕ → Type 0

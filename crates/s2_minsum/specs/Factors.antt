@@ -1,4 +1,4 @@
--- How many sixteenths of a size a message keeps (own).
+-- How many sixteenths of a magnitude a message keeps (own).
 use Rattle.std.specs.Prelude.{◌≡◌, ℕ, ◌≤◌}
 use Rattle.s2_minsum.specs.declared.factor.TheConstants.{LEAST_FACTOR, MAX_FACTOR, DEFAULT_FACTOR}
 

@@ -4,7 +4,7 @@ use Rattle.std.specs.List.{position_or_len}
 use Rattle.s2_mode.specs.Shape.{Shape, information_bits}
 use Rattle.s2_rows.specs.Rows.{Rows}
 use Rattle.s2_matrix.specs.Code.{code_of, members}
-use Rattle.s2_minsum.specs.declared.rows.Entry.{Entry}
+use Rattle.s2_minsum.specs.declared.kernels.Circulant.{Circulant}
 use Rattle.s2_minsum.specs.Plain.{State, is_edge}
 use Rattle.s2_bits.specs.Lanes16.{signed16}
 use Rattle.s2_minsum.specs.Rows.{cell}
@@ -42,11 +42,11 @@ abbrev pub back : Shape → ℕ → ℕ → ℕ
 back s c i = bit_of s (row_of_bit s i) ((lane_of_bit s i + s.group - 1 - c) % s.group)
 
 -- the row and the rotation that show such a member to all checks of the layer
-abbrev pub entry_of : Shape → ℕ → Entry
+abbrev pub entry_of : Shape → ℕ → Circulant
 entry_of s b = record { row = row_of_bit s b; shift = s.group - 1 - lane_of_bit s b }
 
 -- the entries of a layer
-abbrev pub entries_of : Rows → ℕ → List Entry
+abbrev pub entries_of : Rows → ℕ → List Circulant
 entries_of rows r = map (entry_of rows.shape) (members (code_of rows) (last_check rows.shape r))
 
 -- the place of a bit among the entries of its check's layer

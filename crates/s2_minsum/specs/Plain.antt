@@ -1,5 +1,5 @@
--- Layered min-sum over a code (this project's own: the standard leaves decoding free). Each check sends a message to each of its
--- members; a message above 0 speaks for a zero, one below 0 for a one.
+-- Layered min-sum over a code (this project's own: the standard leaves decoding free). Each check sends a message to
+-- each of its members; a message above 0 speaks for a zero, one below 0 for a one.
 use Rattle.std.specs.Prelude.{ℕ, ◌+◌, ◌-◌, ◌*◌, ◌/◌, ◌%◌, ◌==◌, min, nat_lt, Bool, not, ◌&&◌, if◌then◌else◌, List, map, filter, fold, count_by, get_or, ℤ, pos, neg_ℤ, ◌+ℤ◌, ◌-ℤ◌, int_lt, unsigned_abs}
 use Rattle.s2_mode.specs.Limits.{max_soft}
 use Rattle.s2_rows.specs.Limits.{max_addresses}
@@ -9,19 +9,19 @@ use Rattle.s2_minsum.specs.Factors.{max_factor}
 
 -- ---- the numbers
 
--- the size of an input that is larger counts as this
-abbrev pub size_cap : ℕ
-size_cap = 1023
+-- the largest magnitude: that of a larger input counts as this
+abbrev pub max_magnitude : ℕ
+max_magnitude = 1023
 
--- f sixteenths of a size, rounded up
+-- f sixteenths of a magnitude, rounded up
 abbrev pub reduced : ℕ → ℕ → ℕ
 reduced factor m = m - m * (max_factor - factor) / max_factor
 
--- the largest size of a message, with any factor: a check of one member sends it if sizes are kept whole
+-- the largest magnitude of a message, with any factor: a check of one member sends it if magnitudes are kept whole
 abbrev pub max_message : ℕ
-max_message = size_cap
+max_message = max_magnitude
 
--- the largest size of a posterior: a bit is in at most `max_addresses` checks
+-- the largest magnitude of a posterior: a bit is in at most `max_addresses` checks
 abbrev pub max_posterior : ℕ
 max_posterior = max_soft + max_addresses * max_message
 
@@ -55,21 +55,21 @@ input code s j i = posterior code s i -ℤ s.message j i
 abbrev pub others : List ℕ → ℕ → List ℕ
 others ms i = filter (λ k. not (k == i)) ms
 
--- the least of the cap and the sizes of some inputs
-abbrev pub least_size : (ℕ → ℤ) → List ℕ → ℕ
-least_size f ms = fold (λ least k. min least (unsigned_abs (f k))) size_cap ms
+-- the least of `max_magnitude` and the magnitudes of some inputs
+abbrev pub least_magnitude : (ℕ → ℤ) → List ℕ → ℕ
+least_magnitude f ms = fold (λ least k. min least (unsigned_abs (f k))) max_magnitude ms
 
 -- whether the product of some inputs is negative, 0 taken as positive
 abbrev pub is_product_negative : (ℕ → ℤ) → List ℕ → Bool
 is_product_negative f ms = count_by (λ k. int_lt (f k) (pos 0)) ms % 2 == 1
 
 abbrev pub with_sign : Bool → ℕ → ℤ
-with_sign negative size = if negative then neg_ℤ (pos size) else pos size
+with_sign negative magnitude = if negative then neg_ℤ (pos magnitude) else pos magnitude
 
 -- the message that the inputs of the other members make: the sign of their product, with 0 as positive, and their least
--- size, at most the cap, reduced by a factor
+-- magnitude, at most `max_magnitude`, reduced by a factor
 abbrev pub made : ℕ → (ℕ → ℤ) → List ℕ → ℤ
-made factor f ms = with_sign (is_product_negative f ms) (reduced factor (least_size f ms))
+made factor f ms = with_sign (is_product_negative f ms) (reduced factor (least_magnitude f ms))
 
 -- ---- layers
 

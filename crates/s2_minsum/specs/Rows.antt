@@ -1,56 +1,56 @@
 -- Rows of words of 16 bits, one word for each lane, and the entries that rotate them (own).
 use Rattle.std.specs.Prelude.{ℕ, zero, suc, ◌+◌, ◌*◌, ◌/◌, ◌%◌, ◌==◌, ◌&&◌, ◌<◌, ◌≤◌, Bool, if◌then◌else◌, List, length, get_or, bit_xor}
-use Rattle.s2_minsum.specs.Plain.{size_cap, reduced}
+use Rattle.s2_minsum.specs.Plain.{max_magnitude, reduced}
 use Rattle.s2_mode.specs.Limits.{max_group}
-use Rattle.s2_bits.specs.Lanes16.{minus16, plus16, size16, sign16}
-pub use Rattle.s2_bits.specs.Turns.{turned, turned_back, cell}
-use Rattle.s2_minsum.specs.declared.rows.Entry.{Entry}
+use Rattle.s2_bits.specs.Lanes16.{minus16, plus16, magnitude16, sign16}
+pub use Rattle.s2_bits.specs.Rotations.{rotated, rotated_back, cell}
+use Rattle.s2_minsum.specs.declared.kernels.Circulant.{Circulant}
 
--- The message to a member with input v. Its size is high if v has the least size, else low. It is negative if an odd
--- number of the other inputs are
+-- The message to a member with input v. Its magnitude is high if v has the least magnitude, else low. It is negative if
+-- an odd number of the other inputs are
 abbrev pub sent16 : ℕ → ℕ → ℕ → ℕ → ℕ → ℕ
-sent16 v first low high signs =
-    let m = (if size16 v == first then high else low) in
+sent16 v min1 low high signs =
+    let m = (if magnitude16 v == min1 then high else low) in
     (if sign16 (bit_xor signs v) == 1 then minus16 0 m else m)
 
--- the same by the check's two least sizes, both reduced
+-- the same by the check's two least magnitudes, both reduced
 abbrev pub reduced16 : ℕ → ℕ → ℕ → ℕ → ℕ → ℕ
-reduced16 factor v first second signs =
-    sent16 v first (reduced factor first) (reduced factor second) signs
+reduced16 factor v min1 min2 signs =
+    sent16 v min1 (reduced factor min1) (reduced factor min2) signs
 
-abbrev pub no_entry : Entry
+abbrev pub no_entry : Circulant
 no_entry = record { row = 0; shift = 0 }
 
 -- the entry at a place of a list
-abbrev pub entry_at : List Entry → ℕ → Entry
+abbrev pub entry_at : List Circulant → ℕ → Circulant
 entry_at entries e = get_or entries e no_entry
 
 -- the rows of entries are within a list, and no rotation is longer than a row
-pub record AreIn (n : ℕ) (entries : List Entry) (places : ℕ) : Type 0 where
+pub record AreIn (n : ℕ) (entries : List Circulant) (places : ℕ) : Type 0 where
   pub some : 1 ≤ n
   pub few : n ≤ max_group
   pub rows : (e : ℕ) → e < length entries → (entry_at entries e).row * n + n ≤ places
-  pub turns : (e : ℕ) → e < length entries → (entry_at entries e).shift ≤ n
+  pub rotations : (e : ℕ) → e < length entries → (entry_at entries e).shift ≤ n
 
 -- what place p holds once the changes of the first entries are added by such an operation
-abbrev pub changed_by : (ℕ → ℕ → ℕ) → ℕ → List Entry → List ℕ → (ℕ → ℕ → ℕ) → ℕ → ℕ → ℕ
+abbrev pub changed_by : (ℕ → ℕ → ℕ) → ℕ → List Circulant → List ℕ → (ℕ → ℕ → ℕ) → ℕ → ℕ → ℕ
 changed_by plus n entries old change zero p = get_or old p 0
 changed_by plus n entries old change (suc e) p =
-    if (entry_at entries e).row == p / n then plus (changed_by plus n entries old change e p) (change e (turned_back n (entry_at entries e).shift (p % n))) else changed_by plus n entries old change e p
+    if (entry_at entries e).row == p / n then plus (changed_by plus n entries old change e p) (change e (rotated_back n (entry_at entries e).shift (p % n))) else changed_by plus n entries old change e p
 
-abbrev pub changed : ℕ → List Entry → List ℕ → (ℕ → ℕ → ℕ) → ℕ → ℕ → ℕ
+abbrev pub changed : ℕ → List Circulant → List ℕ → (ℕ → ℕ → ℕ) → ℕ → ℕ → ℕ
 changed = changed_by plus16
 
 -- whether lane c lacks the bit of an entry
-abbrev pub is_lacking : ℕ → Entry → ℕ → Bool
+abbrev pub is_lacking : ℕ → Circulant → ℕ → Bool
 is_lacking last entry c = (c == 0) && ((entry.row == last) && (entry.shift == 1))
 
--- the input that an entry's member gives to the check in lane c; the cap if the check lacks it
-abbrev pub received : ℕ → List Entry → ℕ → List ℕ → List ℕ → ℕ → ℕ → ℕ
+-- the input that an entry's member gives to the check in lane c; `max_magnitude` if the check lacks it
+abbrev pub received : ℕ → List Circulant → ℕ → List ℕ → List ℕ → ℕ → ℕ → ℕ
 received n entries last posteriors messages e c =
-    if is_lacking last (entry_at entries e) c then size_cap else minus16 (cell posteriors n (entry_at entries e).row (turned n (entry_at entries e).shift c)) (cell messages n e c)
+    if is_lacking last (entry_at entries e) c then max_magnitude else minus16 (cell posteriors n (entry_at entries e).row (rotated n (entry_at entries e).shift c)) (cell messages n e c)
 
 -- the change of the message of an entry in lane c
-abbrev pub change_of : ℕ → List Entry → ℕ → List ℕ → List ℕ → ℕ → ℕ → ℕ
+abbrev pub change_of : ℕ → List Circulant → ℕ → List ℕ → List ℕ → ℕ → ℕ → ℕ
 change_of n entries last old new e c =
     if is_lacking last (entry_at entries e) c then 0 else minus16 (cell new n e c) (cell old n e c)

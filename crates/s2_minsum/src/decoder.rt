@@ -12,15 +12,15 @@ use crate::factor::Factor;
 use crate::hard::decide;
 use crate::layers::Layers;
 use crate::layout::place_of;
-use crate::loading::put_posteriors;
+use crate::loading::init_posteriors;
 use crate::one_layer::run_layer;
 use s2_bits::Bits;
 use s2_matrix::Matrix;
 use std::alloc::{AllocError, Global};
 use std::marker::Model;
 
-/// A decoder of layered min-sum. To contracts it is the address rows, the soft values, and the messages;
-/// `decoded` is the state that they are.
+/// A decoder by layered min-sum. To contracts it is the address rows, the soft values, and the messages. `decoded` is
+/// the state that they make up.
 pub struct Decoder<'a> {
     matrix: &'a Matrix,
     layers: Layers<'a>,
@@ -56,15 +56,15 @@ impl<'a> Model for Decoder<'a> {
 }
 
 impl<'a> Decoder<'a> {
-    /// A decoder over the checks of a matrix, with all the memory that it needs. All soft values and
-    /// messages are 0. `AllocError` only where memory is refused, and then none is held.
+    /// A decoder over the checks of a matrix, with all the memory that it needs. All soft values and messages are 0.
+    /// Returns `AllocError` only if memory is refused; then none is held.
     pub fn new(alloc: Global, matrix: &'a Matrix) -> Result<Self, AllocError>
         ensures rows { IfOk result (λ d. d.rows ≡ matrix.now) }
         ensures state { IfOk result (λ d. decoded d ≡ start (replicate (code_bits matrix.now.shape) (pos 0))) }
     {
         let layers = Layers::of(alloc, matrix)?;
         let group = matrix.shape().group();
-        let rows = layers.first(matrix.shape().q());
+        let rows = layers.start(matrix.shape().q());
         let soft = vec![in alloc; 0i16; matrix.bits()]?;
         let messages = vec![in alloc; 0u16; rows * group]?;
         let posteriors = vec![in alloc; 0u16; matrix.bits()]?;
@@ -88,10 +88,11 @@ impl<'a> Decoder<'a> {
     {
         self.soft.copy_from_slice(soft);
         self.messages.fill(0);
-        put_posteriors(self.matrix, &self.soft, &mut self.posteriors);
+        init_posteriors(self.matrix, &self.soft, &mut self.posteriors);
     }
 
-    /// Renews the messages of the checks j with j mod q = r, all by the state before; of sizes they have so much.
+    /// Renews the messages of the checks j with j mod q = r, all by the state before. The factor reduces their
+    /// magnitudes.
     pub fn layer(&mut self, r: usize, factor: Factor)
         requires { r < self.old.rows.shape.q }
         ensures rows { self.new.rows ≡ self.old.rows }
@@ -130,7 +131,7 @@ impl<'a> Decoder<'a> {
         self.posteriors[place_of(self.matrix.shape(), bit)].cast_signed()
     }
 
-    /// Writes the hard decision of the posteriors into n bits: a one exactly where one is negative.
+    /// Writes the hard decision of the posteriors into n bits: a one exactly if the posterior is negative.
     pub fn hard_into(&self, word: &mut Bits)
         requires { length word.old ≡ code_bits self.now.rows.shape }
         ensures { word.new ≡ decision (code_of self.now.rows) (decoded self.now) }
@@ -138,8 +139,8 @@ impl<'a> Decoder<'a> {
         decide(self.matrix.shape(), &self.posteriors, word.truths_mut());
     }
 
-    /// The message on an edge: what its check last sent to its member. Edges count from 0, check by check,
-    /// the members of a check rising, as those of the matrix.
+    /// The last message of a check to its member, on their edge. Edges count from 0, check by check, the members of a
+    /// check rising, as those of the matrix.
     pub fn message(&self, edge: usize) -> i16
         requires { edge < first_edge (code_of self.now.rows) (code_of self.now.rows).checks }
         ensures { (j i : ℕ) → is_edge (code_of self.now.rows) j i ≡ true → edge_of (code_of self.now.rows) j i ≡ edge

@@ -1,4 +1,4 @@
-//! Where the message of a check to a member stands.
+//! The place of the message of a check to a member.
 ghost use Rattle.std.specs.Prelude.{◌≡◌, ◌<◌, ◌+◌, ◌*◌, ◌/◌, ◌%◌, length, get_or};
 ghost use Rattle.s2_matrix.specs.Code.{code_of, members};
 ghost use Rattle.s2_minsum.specs.Layout.{place_at, first_row};
@@ -8,7 +8,7 @@ use crate::layers::Layers;
 use crate::layout::{back_to, place_among};
 use s2_matrix::Matrix;
 
-/// Where the message of a check to its member at a place stands.
+/// The place of the message of a check to its member at a place.
 pub(crate) fn message_place(
     matrix: &Matrix,
     layers: &Layers<'_>,
@@ -27,7 +27,7 @@ pub(crate) fn message_place(
     let shape = matrix.shape();
     let r = check % shape.q();
     let lane = check / shape.q();
-    let start = layers.first(r);
+    let start = layers.start(r);
     let last = matrix.members_at(r + (shape.group() - 1) * shape.q());
     let place = place_among(last, back_to(shape, lane, matrix.members(check, at)) as u32);
     (start + place) * shape.group() + lane

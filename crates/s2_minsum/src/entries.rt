@@ -1,11 +1,11 @@
-//! The entries of each layer: which rows its checks read, and how far turned.
+//! The entries of each layer, which are circulants: the rows that its checks read, and their rotations.
 ghost use Rattle.std.specs.Prelude.{◌≡◌, ◌++◌, ℕ, ◌<◌, ◌≤◌, OnOk};
 ghost use Rattle.s2_mode.specs.Limits.{max_bits};
 ghost use Rattle.s2_minsum.specs.Layout.{entries_of, entry_count};
 ghost use Rattle.s2_minsum.specs.Decoding.{HasRoom, HasDecoderRoom};
 
+use crate::kernels::Circulant;
 use crate::layout::entry_of;
-use crate::rows::Entry;
 use s2_matrix::Matrix;
 use std::alloc::{AllocError, Global};
 
@@ -13,7 +13,7 @@ use std::alloc::{AllocError, Global};
 pub(crate) fn add_entries(
     matrix: &Matrix,
     r: usize,
-    entries: &mut Vec<Entry>,
+    entries: &mut Vec<Circulant>,
 ) -> Result<(), AllocError>
     requires { r < matrix.now.shape.q }
     ensures { OnOk result (entries.new.items ≡ entries.old.items ++ entries_of matrix.now r) }
@@ -26,7 +26,7 @@ pub(crate) fn add_entries(
     Ok(())
 }
 
-/// How many entries the largest layer has.
+/// The number of entries of the largest layer.
 fn max_entries(matrix: &Matrix) -> usize
     ensures most { (r : ℕ) → r < matrix.now.shape.q → entry_count matrix.now r ≤ result }
     ensures reached { (most : ℕ) → ((r : ℕ) → r < matrix.now.shape.q → entry_count matrix.now r ≤ most) → result ≤ most }
@@ -43,8 +43,8 @@ fn max_entries(matrix: &Matrix) -> usize
     most
 }
 
-/// How many words each layer works in at most: a row for each of its entries, and three rows more. Fewer are too
-/// few for some layer.
+/// The number of words that is enough for the work on each layer: a row for each of its entries, and three rows more.
+/// Fewer are not enough for some layer.
 pub fn scratch_len(matrix: &Matrix) -> usize
     ensures room { HasRoom matrix.now result }
     ensures least { (words : ℕ) → HasRoom matrix.now words → result ≤ words }
@@ -52,7 +52,7 @@ pub fn scratch_len(matrix: &Matrix) -> usize
     (max_entries(matrix) + 3) * matrix.shape().group()
 }
 
-/// How many words a decoder works in at most: a row for each entry of a layer.
+/// The number of words that is enough for a decoder's work on each layer: a row for each of its entries.
 pub(crate) fn decoder_len(matrix: &Matrix) -> usize
     ensures { HasDecoderRoom matrix.now result }
 {

@@ -1,55 +1,55 @@
-//! The exchange of a layer's checks, one check a lane: of each check all inputs are gone through, and then its
-//! messages are written, and in place of its inputs by how much they change.
+//! The exchange of a layer's checks, one check a lane. It reads all inputs of a check, then writes its messages. The
+//! change of each message replaces the input.
 ghost use Rattle.std.specs.Prelude.{◌≡◌, ℕ, ◌≤◌, ◌<◌, ◌+◌, ◌*◌, ◌/◌, length};
 ghost use Rattle.s2_bits.specs.Lanes.{HasLanes, lane};
-ghost use Rattle.s2_bits.specs.Lanes16.{size16};
+ghost use Rattle.s2_bits.specs.Lanes16.{magnitude16};
 ghost use Rattle.s2_minsum.specs.Rows.{cell, sent16};
-ghost use Rattle.s2_minsum.specs.Nodes.{first_of, second_of, signs_of};
+ghost use Rattle.s2_minsum.specs.Nodes.{min1_of, min2_of, signs_of};
 ghost use Rattle.s2_minsum.specs.Exchange.{AreSent, AreExchanged};
 
 use crate::factor::Factor;
+use crate::kernels::{message, shorten, update_two_min};
 use crate::lanes;
-use crate::limits::SIZE_CAP;
-use crate::rows::{message, shorten, take};
+use crate::limits::MAX_MAGNITUDE;
 use s2_bits::lanes16::{all, minus};
 use std::simd::prelude::*;
 
-/// Goes through the inputs of eight checks: their two least sizes, and the products of their signs.
+/// Finds the two least magnitudes of the inputs of eight checks, and the products of their signs.
 #[inline(always)]
-fn track_eight(
+fn two_min_of_eight(
     inputs: &[u16],
     n: usize,
     count: usize,
     at: usize,
-    first: &mut u16x8,
-    second: &mut u16x8,
+    min1: &mut u16x8,
+    min2: &mut u16x8,
     signs: &mut u16x8,
 )
     requires lanes { at + 8 ≤ n }
     requires long { length inputs.now ≡ count * n }
-    ensures first { HasLanes 8 (λ k. first_of (λ e. size16 (cell inputs.now n e (at + k))) count) first.new }
-    ensures second { HasLanes 8 (λ k. second_of (λ e. size16 (cell inputs.now n e (at + k))) count) second.new }
+    ensures min1 { HasLanes 8 (λ k. min1_of (λ e. magnitude16 (cell inputs.now n e (at + k))) count) min1.new }
+    ensures min2 { HasLanes 8 (λ k. min2_of (λ e. magnitude16 (cell inputs.now n e (at + k))) count) min2.new }
     ensures signs { HasLanes 8 (λ k. signs_of (λ e. cell inputs.now n e (at + k)) count) signs.new }
 {
-    *first = all(SIZE_CAP);
-    *second = all(SIZE_CAP);
+    *min1 = all(MAX_MAGNITUDE);
+    *min2 = all(MAX_MAGNITUDE);
     *signs = all(0);
     for e in 0..count {
         let place = e * n + at;
-        lanes::take(first, second, signs, lanes::load(inputs, place));
+        lanes::update_two_min(min1, min2, signs, lanes::load(inputs, place));
     }
 }
 
-/// Writes the messages of eight checks, by their least sizes, by the sizes of messages to whom is not the least and to
-/// whom is, and by the products of their signs.
+/// Writes the messages of eight checks. `min1` has the least magnitudes. `low` is the magnitude of messages to members
+/// whose input is not the least, `high` of those to the least. `signs` has the products of the signs.
 #[inline(always)]
-fn send_eight(
+fn write_messages_of_eight(
     inputs: &mut [u16],
     messages: &mut [u16],
     n: usize,
     count: usize,
     at: usize,
-    first: u16x8,
+    min1: u16x8,
     low: u16x8,
     high: u16x8,
     signs: u16x8,
@@ -57,11 +57,11 @@ fn send_eight(
     requires lanes { at + 8 ≤ n }
     requires long { length inputs.old ≡ count * n }
     requires same { length messages.old ≡ count * n }
-    ensures { AreSent n count at 8 (λ e k. sent16 (cell inputs.old n e (at + k)) (lane first k) (lane low k) (lane high k) (lane signs k)) inputs.old messages.old inputs.new messages.new }
+    ensures { AreSent n count at 8 (λ e k. sent16 (cell inputs.old n e (at + k)) (lane min1 k) (lane low k) (lane high k) (lane signs k)) inputs.old messages.old inputs.new messages.new }
 {
     for e in 0..count {
         let place = e * n + at;
-        let new = lanes::message(lanes::load(inputs, place), first, low, high, signs);
+        let new = lanes::message(lanes::load(inputs, place), min1, low, high, signs);
         let change = minus(new, lanes::load(messages, place));
         change.copy_to_slice(&mut inputs[place..]);
         new.copy_to_slice(&mut messages[place..]);
@@ -84,47 +84,47 @@ fn exchange_eight(
     ensures { AreExchanged factor n count at (at + 8) inputs.old messages.old inputs.new messages.new }
 {
     let lacks = factor.lacks();
-    let mut first = all(0);
-    let mut second = all(0);
+    let mut min1 = all(0);
+    let mut min2 = all(0);
     let mut signs = all(0);
-    track_eight(inputs, n, count, at, &mut first, &mut second, &mut signs);
-    let low = lanes::shorten(first, lacks);
-    let high = lanes::shorten(second, lacks);
-    send_eight(inputs, messages, n, count, at, first, low, high, signs);
+    two_min_of_eight(inputs, n, count, at, &mut min1, &mut min2, &mut signs);
+    let low = lanes::shorten(min1, lacks);
+    let high = lanes::shorten(min2, lacks);
+    write_messages_of_eight(inputs, messages, n, count, at, min1, low, high, signs);
 }
 
-/// Goes through the inputs of one check: its two least sizes, and the product of its signs.
-fn track_one(
+/// Finds the two least magnitudes of the inputs of one check, and the product of their signs.
+fn two_min_of_one(
     inputs: &[u16],
     n: usize,
     count: usize,
     at: usize,
-    first: &mut u16,
-    second: &mut u16,
+    min1: &mut u16,
+    min2: &mut u16,
     signs: &mut u16,
 )
     requires lanes { at < n }
     requires long { length inputs.now ≡ count * n }
-    ensures first { first.new ≡ first_of (λ e. size16 (cell inputs.now n e at)) count }
-    ensures second { second.new ≡ second_of (λ e. size16 (cell inputs.now n e at)) count }
+    ensures min1 { min1.new ≡ min1_of (λ e. magnitude16 (cell inputs.now n e at)) count }
+    ensures min2 { min2.new ≡ min2_of (λ e. magnitude16 (cell inputs.now n e at)) count }
     ensures signs { signs.new ≡ signs_of (λ e. cell inputs.now n e at) count }
 {
-    *first = SIZE_CAP;
-    *second = SIZE_CAP;
+    *min1 = MAX_MAGNITUDE;
+    *min2 = MAX_MAGNITUDE;
     *signs = 0;
     for e in 0..count {
-        take(first, second, signs, inputs[e * n + at]);
+        update_two_min(min1, min2, signs, inputs[e * n + at]);
     }
 }
 
-/// Writes the messages of one check, as [`send_eight`] those of eight.
-fn send_one(
+/// Writes the messages of one check, as [`write_messages_of_eight`] does for eight.
+fn write_messages_of_one(
     inputs: &mut [u16],
     messages: &mut [u16],
     n: usize,
     count: usize,
     at: usize,
-    first: u16,
+    min1: u16,
     low: u16,
     high: u16,
     signs: u16,
@@ -132,11 +132,11 @@ fn send_one(
     requires lanes { at < n }
     requires long { length inputs.old ≡ count * n }
     requires same { length messages.old ≡ count * n }
-    ensures { AreSent n count at 1 (λ e k. sent16 (cell inputs.old n e (at + k)) first low high signs) inputs.old messages.old inputs.new messages.new }
+    ensures { AreSent n count at 1 (λ e k. sent16 (cell inputs.old n e (at + k)) min1 low high signs) inputs.old messages.old inputs.new messages.new }
 {
     for e in 0..count {
         let place = e * n + at;
-        let new = message(inputs[place], first, low, high, signs);
+        let new = message(inputs[place], min1, low, high, signs);
         inputs[place] = new.wrapping_sub(messages[place]);
         messages[place] = new;
     }
@@ -157,11 +157,11 @@ fn exchange_one(
     ensures { AreExchanged factor n count at (at + 1) inputs.old messages.old inputs.new messages.new }
 {
     let lacks = factor.lacks();
-    let (mut first, mut second, mut signs) = (0u16, 0u16, 0u16);
-    track_one(inputs, n, count, at, &mut first, &mut second, &mut signs);
-    let low = shorten(first, lacks);
-    let high = shorten(second, lacks);
-    send_one(inputs, messages, n, count, at, first, low, high, signs);
+    let (mut min1, mut min2, mut signs) = (0u16, 0u16, 0u16);
+    two_min_of_one(inputs, n, count, at, &mut min1, &mut min2, &mut signs);
+    let low = shorten(min1, lacks);
+    let high = shorten(min2, lacks);
+    write_messages_of_one(inputs, messages, n, count, at, min1, low, high, signs);
 }
 
 /// The exchange of the checks in whole vectors of lanes.

@@ -1,22 +1,22 @@
-//! How much of a size a message keeps.
+//! The factor of normalized min-sum: the part of a magnitude that a message keeps.
 ghost use Rattle.std.specs.Prelude.{◌≡◌, ◌↔◌, ◌-◌, ◌≤◌, IsSome, IfSome};
 ghost use Rattle.s2_minsum.specs.Factors.{IsFactor, default_factor, max_factor};
 
 use std::marker::Model;
 
-/// The factor that keeps least of a size: half of it.
+/// The least factor: half of the magnitude.
 pub const LEAST_FACTOR: u32 = 8;
 
-/// The factor that keeps all of it.
+/// The largest factor: all of the magnitude.
 pub const MAX_FACTOR: u32 = 16;
 
-/// The factor where none is named: three quarters.
+/// The default factor: three quarters.
 pub const DEFAULT_FACTOR: u32 = 12;
 
-/// How many sixteenths of the least size of the others a message has, 8 to 16. Its value is that number.
+/// The number of sixteenths of the least magnitude of the others that a message has, 8 to 16. Its value is that number.
 ///
-/// Min-sum takes the least size for what all others together say, which is too much: a part of it decodes more.
-/// At high code rates three quarters do well, at rates of 2/5 and less more of it.
+/// Min-sum takes the least magnitude for what all others together say, which is too much: a part of it decodes more. At
+/// high code rates three quarters do well, at rates of 2/5 and less a larger part.
 #[derive(Clone, Copy, Debug, PartialEq, Eq)]
 pub struct Factor {
     number: u32,
@@ -48,7 +48,7 @@ impl Factor {
         }
     }
 
-    /// The factor where none is named.
+    /// The default factor.
     pub fn usual() -> Factor
         ensures { result ≡ default_factor }
     {
@@ -65,7 +65,7 @@ impl Factor {
         self.number
     }
 
-    /// How many sixteenths a message lacks.
+    /// The number of sixteenths that a message lacks.
     pub(crate) fn lacks(self) -> u16
         ensures is { result ≡ max_factor - self }
         ensures few { result ≤ 8 }

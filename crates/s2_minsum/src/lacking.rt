@@ -3,18 +3,18 @@ ghost use Rattle.std.specs.Prelude.{◌≡◌, ℕ, ◌≤◌, ◌<◌, ◌+◌,
 ghost use Rattle.s2_mode.specs.Limits.{max_group};
 ghost use Rattle.s2_minsum.specs.Rows.{entry_at, is_lacking};
 
-use crate::rows::Entry;
+use crate::kernels::Circulant;
 
 /// Whether an entry is the one that the first check lacks.
-fn is_absent(entry: Entry, last: usize) -> bool
+fn is_absent(entry: Circulant, last: usize) -> bool
     ensures { result ≡ ((entry.row == last) && (entry.shift == 1)) }
 {
     entry.row as usize == last && entry.shift == 1
 }
 
-/// Writes a value in lane 0 of the row of the entry that the first check lacks, if it lacks one. Each entry
-/// of the layer has a row of `n` lanes, one a check; `last` is what [`crate::last_row`] answers.
-pub fn mask_lacking<T: Copy>(entries: &[Entry], n: usize, last: usize, rows: &mut [T], value: T)
+/// Writes a value in lane 0 of the row of the entry that the first check lacks, if it lacks one. Each entry of the
+/// layer has a row of `n` lanes, one a check. `last` is the result of [`crate::last_row`].
+pub fn mask_lacking<T: Copy>(entries: &[Circulant], n: usize, last: usize, rows: &mut [T], value: T)
     requires some { 1 ≤ n }
     requires few { n ≤ max_group }
     requires long { length rows.old ≡ length entries.now * n }

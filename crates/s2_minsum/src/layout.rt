@@ -1,21 +1,21 @@
-//! Where a decoder keeps its numbers: bits in rows of a group, one bit a lane.
+//! The places of a decoder's numbers: bits in rows of a group, one bit a lane.
 ghost use Rattle.std.specs.Prelude.{◌≡◌, ℕ, ◌+◌, ◌*◌, ◌<◌, ◌≤◌, ◌==◌};
 ghost use Rattle.std.specs.List.{position_or_len};
 ghost use Rattle.s2_mode.specs.Limits.{max_bits};
 ghost use Rattle.s2_mode.specs.Shape.{code_bits};
 ghost use Rattle.s2_minsum.specs.Layout.{entry_of, row_of_bit, lane_of_bit, bit_of, step_of_row, lacked_row, back};
 
-use crate::rows::Entry;
+use crate::kernels::Circulant;
 use s2_mode::Shape;
 
-/// Where a bit stands: its row, and its lane there.
+/// The place of a bit: its row, and its lane there.
 #[derive(Clone, Copy, Drop)]
 struct Spot {
     row: usize,
     lane: usize,
 }
 
-/// Where a bit stands.
+/// The place of a bit.
 fn spot_of(shape: Shape, bit: usize) -> Spot
     requires { bit < code_bits shape }
     ensures row { result.row ≡ row_of_bit shape bit }
@@ -38,19 +38,19 @@ fn spot_of(shape: Shape, bit: usize) -> Spot
     }
 }
 
-/// The row and the turn that show a member of a layer's last check to all checks of the layer.
-pub(crate) fn entry_of(shape: Shape, bit: usize) -> Entry
+/// The row and the rotation that show a member of a layer's last check to all checks of the layer.
+pub(crate) fn entry_of(shape: Shape, bit: usize) -> Circulant
     requires { bit < code_bits shape }
     ensures { result ≡ entry_of shape bit }
 {
     let spot = spot_of(shape, bit);
-    Entry {
+    Circulant {
         row: spot.row as u32,
         shift: (shape.group() - 1 - spot.lane) as u32,
     }
 }
 
-/// Where a bit's posterior stands.
+/// The place of a bit's posterior.
 pub(crate) fn place_of(shape: Shape, bit: usize) -> usize
     requires { bit < code_bits shape }
     ensures { result ≡ row_of_bit shape bit * shape.group + lane_of_bit shape bit }
@@ -71,7 +71,7 @@ pub fn first_bit(shape: Shape, row: usize) -> usize
     }
 }
 
-/// How far apart the bits of a row are.
+/// The distance of the bits of a row.
 pub fn step_of(shape: Shape, row: usize) -> usize
     ensures is { result ≡ step_of_row shape row }
     ensures few { result ≤ max_bits }
@@ -90,7 +90,7 @@ pub fn last_row(shape: Shape, r: usize) -> usize
     }
 }
 
-/// The member of a layer's last check that stands where a bit stands in the check of this lane.
+/// The member of a layer's last check that corresponds to a bit of the check in this lane.
 pub(crate) fn back_to(shape: Shape, check_lane: usize, bit: usize) -> usize
     requires bit { bit < code_bits shape }
     requires lane { check_lane < shape.group }
@@ -101,7 +101,7 @@ pub(crate) fn back_to(shape: Shape, check_lane: usize, bit: usize) -> usize
     first_bit(shape, spot.row) + (spot.lane + n - 1 - check_lane) % n * step_of(shape, spot.row)
 }
 
-/// The place of a number in a list; its length where it has none.
+/// The place of a number in a list; the list's length if it is not there.
 pub fn place_among(members: &[u32], bit: u32) -> usize
     ensures { result ≡ position_or_len (λ m. m == bit) members.now }
 {

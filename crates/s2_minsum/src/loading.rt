@@ -9,7 +9,7 @@ ghost use Rattle.s2_minsum.specs.Layout.{bit_of};
 use crate::layout::{first_bit, step_of};
 use s2_matrix::Matrix;
 
-/// Writes the soft values that follow one another from a place on.
+/// Writes consecutive soft values, from a place on.
 fn put_near(row: &mut [u16], soft: &[i16], first: usize)
     requires few { length soft.now ≤ max_bits }
     requires within { (c : ℕ) → c < length row.old → first + c < length soft.now }
@@ -20,7 +20,7 @@ fn put_near(row: &mut [u16], soft: &[i16], first: usize)
     }
 }
 
-/// Writes the soft values that stand `step` places apart, one by one.
+/// Writes soft values `step` places apart, one by one.
 fn put_apart(row: &mut [u16], soft: &[i16], first: usize, step: usize)
     requires few { length soft.now ≤ max_bits }
     requires lanes { length row.old ≤ max_group }
@@ -33,7 +33,7 @@ fn put_apart(row: &mut [u16], soft: &[i16], first: usize, step: usize)
     }
 }
 
-/// Writes the soft values that stand `step` places apart.
+/// Writes soft values `step` places apart.
 fn put_row(row: &mut [u16], soft: &[i16], first: usize, step: usize)
     requires few { length soft.now ≤ max_bits }
     requires lanes { length row.old ≤ max_group }
@@ -49,7 +49,7 @@ fn put_row(row: &mut [u16], soft: &[i16], first: usize, step: usize)
 }
 
 /// Writes soft values as posteriors.
-pub(crate) fn put_posteriors(matrix: &Matrix, soft: &[i16], posteriors: &mut [u16])
+pub(crate) fn init_posteriors(matrix: &Matrix, soft: &[i16], posteriors: &mut [u16])
     requires long { length soft.now ≡ code_bits matrix.now.shape }
     requires same { length posteriors.old ≡ code_bits matrix.now.shape }
     ensures fits { (k : ℕ) → slice_index posteriors.new k < 65536 }

@@ -33,7 +33,7 @@ pub(crate) fn run_layer(
     let n = shape.group();
     let last = last_row(shape, r);
     let entries = layers.entries(r);
-    let at = layers.first(r) * n;
+    let at = layers.start(r) * n;
     let width = entries.len() * n;
     run(
         entries,

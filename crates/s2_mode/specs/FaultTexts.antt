@@ -1,4 +1,4 @@
--- What a fault says (own).
+-- The texts of faults (own).
 use Rattle.std.specs.Prelude.{ℕ, List, ◌++◌, decimal, Option, Some, None}
 use Rattle.s2_mode.specs.declared.fault_text.FaultText.{FaultText}
 
@@ -7,6 +7,6 @@ abbrev pub with_number : List ℕ → Option ℕ → List ℕ
 with_number words None = words
 with_number words (Some number) = words ++ decimal number
 
--- what a text says
+-- the bytes of a text
 abbrev pub said : FaultText → List ℕ
 said text = with_number text.words.now text.number

@@ -1,4 +1,4 @@
--- What bounds codes, soft values, headers and streams (own).
+-- The limits of codes, soft values, headers and streams (own).
 use Rattle.std.specs.Prelude.{◌≡◌, ◌+◌, ◌*◌, ◌^◌, ℕ}
 use Rattle.s2_mode.specs.declared.limits.TheConstants.{DUMMY_SYMBOLS, HEADER_SYMBOLS, MAX_BITS, MAX_GROUP, MAX_MODCOD, MAX_SOFT, MAX_SYMBOLS}
 

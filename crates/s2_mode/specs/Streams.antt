@@ -24,9 +24,9 @@ NoneFailed p p' w w' = (p' ≡ p) × (w' ≡ w)
 abbrev pub OneFailed : (packets_old packets_new report_old report_new : ℕ) → Type 0
 OneFailed p p' w w' = ((p' ≡ p + 1) × (w' ≡ w)) ⊎ ((p' ≡ p) × (w' ≡ w + 1))
 
--- Only failed calls were counted. A count rises only if its fault is reported. If a fault of writing is reported,
--- exactly one of the two writers failed, once
+-- Only failed calls were counted. A count is incremented only if its fault is reported. If a fault of writing is
+-- reported, exactly one of the two writers failed, once
 pub record OnlyFailed (read write : Type 0) (old new : Streams) : Type 0 where
   pub no_read : (read → ⊥) → new.reads ≡ old.reads
-  pub write_told : write → OneFailed old.writes new.writes old.prints new.prints
+  pub write_reported : write → OneFailed old.writes new.writes old.prints new.prints
   pub no_write : (write → ⊥) → NoneFailed old.writes new.writes old.prints new.prints

@@ -1,4 +1,4 @@
-//! Readers and writers by what one call into them answers.
+//! Readers and writers with a name for what one call returns.
 ghost use Rattle.std.specs.Prelude.{◌<◌, ◌≤◌, ℕ, List, Option, Result, ⊤, length, IfOk};
 ghost use Rattle.std.specs.Io.KnownBytes.{ReadConsumes, WriteAppends};
 ghost use Rattle.s2_mode.specs.declared.counts.ReadFault.{ReadFault};
@@ -7,8 +7,8 @@ ghost use Rattle.s2_mode.specs.declared.counts.WriteFault.{WriteFault};
 use crate::counts::{ReadFault, WriteFault};
 use std::io::{Read, Write};
 
-/// A reader, with a name for what one call into it answers: from the one state to the other, by this answer, with this left in the buffer.
-/// So what passes calls on can promise that a call was made, and that its answer is the one passed on.
+/// A reader. `answers` relates its state before and after a call, the result, and what the buffer then holds.
+/// So a wrapper can promise that it made a call and returned that call's result.
 pub trait Source {
     ghost left: { Self → Option (List ℕ) };
 
@@ -20,13 +20,13 @@ pub trait Source {
         ensures answers { answers self.old self.new result buf.new };
 }
 
-/// A writer, with a name for what one call into it answers: from the one state to the other, by this answer, of these bytes.
+/// A writer. `answers` relates its state before and after a call, the result, and the bytes to write.
 pub trait Sink {
     ghost taken: { Self → Option (List ℕ) };
 
     ghost answers: { Self → Self → Result ℕ WriteFault → List ℕ → Type 0 };
 
-    /// Takes at least one byte of a slice that is not empty; where it took none, it failed.
+    /// Takes at least one byte of a slice that is not empty, or else fails.
     fn write_once(&mut self, buf: &[u8]) -> Result<usize, WriteFault>
         ensures bound { IfOk result (λ n. n ≤ length buf.now) }
         ensures progress { IfOk result (λ n. 0 < length buf.now → 0 < n) }
@@ -34,7 +34,7 @@ pub trait Sink {
         ensures answers { answers self.old self.new result buf.now };
 }
 
-/// Each reader of std, whose contract has no name for what a call answers.
+/// Each reader of std. Its contract has no name for what a call returns.
 impl<R: Read> Source for R {
     ghost left = { R.remaining };
 
@@ -45,7 +45,7 @@ impl<R: Read> Source for R {
     }
 }
 
-/// Each writer of std, whose contract has no name for what a call answers.
+/// Each writer of std. Its contract has no name for what a call returns.
 impl<W: Write> Sink for W {
     ghost taken = { W.contents };
 

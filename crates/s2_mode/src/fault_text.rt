@@ -1,9 +1,9 @@
-//! What faults say.
+//! The text of faults.
 ghost use Rattle.std.specs.Prelude.{◌≡◌, Some, None};
 
 use std::fmt::{Display, Formatter, Result, Write};
 
-/// What a fault says: words, and for some the number of a line or a packet behind them.
+/// The text of a fault: words, and for some faults then the number of a line or a packet.
 #[derive(Clone, Copy, Debug, PartialEq, Eq)]
 pub struct FaultText {
     pub words: &'static str,
@@ -21,7 +21,7 @@ impl FaultText {
         }
     }
 
-    /// These words, and behind them the number of a line.
+    /// These words, and after them the number of a line.
     pub fn in_line(words: &'static str, line: u64) -> FaultText
         ensures { result ≡ record { words = words.entry; number = Some line } }
     {

@@ -1,16 +1,21 @@
 //! What every other crate begins with: the modes of a DVB-S2 modem, the shape of a code, symbols, and
 //! readers and writers that count their failed calls.
 //!
-//! A [`Mode`] is made by [`Mode::of`] alone, so it is one that EN 302 307-1 has. What it says stands in one
-//! table: a line for each MODCOD ([`Mode::modulation`] to [`Mode::tuned_factor`]), and one for the sizes of each
-//! code rate ([`Mode::kbch`] to [`Mode::symbols`]). [`Mode::shape`] is the shape of its LDPC code. [`Shape::new`] makes any other shape of at most 64800
-//! bits. A call that reads or writes takes what is [`Counted`]: over memory its contract names the
-//! bytes, and a failed call raises the count, so no fault is answered where nothing failed.
-//! [`Counting`] counts for any [`Source`] and [`Sink`], which each reader and each writer of std is, and fails only
-//! where a call into it failed; [`InMemory`] reads a slice. A [`Symbol`] has four
-//! bytes in a file, and what is written is read back ([`laws::symbols_back`]); [`bytes_into`] writes those of
-//! many into a slice, and [`symbols_into`] reads them. Four symbols fill a vector's lanes ([`words_from`], [`symbols_from`], [`put_four`]).
-//! What a fault of any crate says is a [`FaultText`]; a stream that was not passed on to its end ends by a [`StreamFault`].
+//! A [`Mode`] is made by [`Mode::of`] alone, so it is one that EN 302 307-1 has. One table has a line for each MODCOD
+//! ([`Mode::modulation`] to [`Mode::tuned_factor`]), another the sizes of each code rate ([`Mode::kbch`] to
+//! [`Mode::symbols`]). [`Mode::shape`] is the shape of its LDPC code. [`Shape::new`] makes any other shape of at most
+//! 64800 bits. A soft value (LLR, log-likelihood ratio) is an integer from -[`MAX_SOFT`] to [`MAX_SOFT`]; it is
+//! positive for a 0.
+//!
+//! A call that reads or writes takes a [`Counted`] reader or writer. Over memory its contract names the bytes. A failed
+//! call increments the count, so no fault is returned unless a call failed. [`Counting`] counts for any [`Source`] or
+//! [`Sink`], which each reader and each writer of std is, and fails only if a call into it failed. [`InMemory`] reads a
+//! slice.
+//!
+//! A [`Symbol`] has four bytes in a file, and is read back from the bytes that were written ([`laws::symbols_back`]).
+//! [`bytes_into`] writes the bytes of many symbols into a slice, and [`symbols_into`] reads them. Four symbols fill a
+//! vector's lanes ([`words_from`], [`symbols_from`], [`put_four`]). The text of any crate's fault is a [`FaultText`]. A
+//! [`StreamFault`] says why a stream was not copied to its end.
 //!
 //! ```
 //! let mode = Mode::of(4, true, false)?;
@@ -30,10 +35,10 @@ mod memory;
 mod modcods;
 mod mode;
 mod rates;
+mod read_all;
 mod shape;
 mod stream_fault;
 mod symbols;
-mod whole;
 mod wrapped;
 
 pub use counts::{
@@ -49,8 +54,8 @@ pub use limits::{
 pub use memory::InMemory;
 pub use modcods::Modulation;
 pub use mode::Mode;
+pub use read_all::{FileFault, read_all, read_into};
 pub use shape::Shape;
 pub use stream_fault::StreamFault;
 pub use symbols::{Symbol, bytes_into, read_symbol, symbols_into, write_symbol};
-pub use whole::{FileFault, read_all, read_into};
 pub use wrapped::Counting;

@@ -12,7 +12,7 @@ pub const MAX_MODCOD: u8 = 17;
 /// The largest soft value. The least is its negative.
 pub const MAX_SOFT: u16 = 511;
 
-/// The symbols of a physical layer header (PLHEADER, EN 302 307-1, 5.5.2), and as many bits.
+/// The symbols of a physical layer header (PLHEADER, EN 302 307-1, 5.5.2). It has the same number of bits.
 pub const HEADER_SYMBOLS: usize = 90;
 
 /// The symbols of a dummy frame (dummy PLFRAME, EN 302 307-1, 5.5.1): a header and 36 slots of 90.

@@ -9,7 +9,7 @@ pub enum Modulation {
     Psk8,
 }
 
-/// What a MODCOD says.
+/// The line of a MODCOD.
 #[derive(Clone, Copy)]
 pub(crate) struct Modcod {
     pub(crate) modulation: Modulation,

@@ -9,7 +9,7 @@ use crate::rates::{CodeRate, RATES, line_at};
 use crate::shape::Shape;
 use std::marker::Model;
 
-/// A mode.
+/// A mode: a MODCOD, whether frames are short, and whether they have pilot blocks.
 #[derive(Clone, Copy, Debug, PartialEq, Eq)]
 pub struct Mode {
     modcod: u8,
@@ -30,8 +30,8 @@ impl Model for Mode {
 }
 
 impl Mode {
-    /// The mode of these words. `None` for a MODCOD outside 1 to 17, and for rate 9/10 with short
-    /// frames, which the standard does not have.
+    /// The mode of a MODCOD, short or normal frames, with or without pilots. `None` for a MODCOD outside 1 to 17, and
+    /// for rate 9/10 with short frames, which the standard does not have.
     pub fn of(modcod: u8, short: bool, pilots: bool) -> Option<Mode>
         ensures found { IsSome result ↔ IsMode (mode_of modcod short pilots) }
         ensures value { IfSome result (λ m. m ≡ mode_of modcod short pilots) }
@@ -103,8 +103,8 @@ impl Mode {
         self.rate().text
     }
 
-    /// The Es/N0 at which quasi error free reception begins over a channel with noise alone, in hundredths of a dB: that of
-    /// normal frames (EN 302 307-1, table 13).
+    /// The Es/N0 at which quasi error free reception begins over a channel with noise alone, in hundredths of a dB. It
+    /// is that of normal frames (EN 302 307-1, table 13).
     #[tactic(auto, unfolding(crate::specs::Mode::ideal_of))]
     pub fn ideal(&self) -> i16
         ensures is { result ≡ ideal_of self.now }

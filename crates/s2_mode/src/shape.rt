@@ -5,9 +5,8 @@ ghost use Rattle.s2_mode.specs.Shape.{information_bits, check_count, code_bits, 
 use crate::limits::{MAX_BITS, MAX_GROUP};
 use std::marker::Model;
 
-/// The shape of a code whose rows are repeated by groups (EN 302 307-1, 5.3.2): the size of a
-/// group, how many groups of information bits there are, and by how many checks each next bit of
-/// a group moves on.
+/// The shape of a code whose rows are repeated by groups (EN 302 307-1, 5.3.2). It has the size of a group, the number
+/// of groups of information bits, and q: the checks of a group's next bit are q further.
 #[derive(Clone, Copy, Debug, PartialEq, Eq)]
 pub struct Shape {
     group: usize,
@@ -86,7 +85,7 @@ impl Shape {
         self.group * self.groups
     }
 
-    /// How many checks there are, and as many parity bits.
+    /// The number of checks, which is that of the parity bits.
     pub fn checks(&self) -> usize
         ensures is { result ≡ check_count self.now }
         ensures valid { IsShape self.now }

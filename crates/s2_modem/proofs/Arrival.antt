@@ -1,9 +1,9 @@
 -- What is sent arrives.
-use Rattle.s2_modem.proofs.Names.{⊤, nat_eq, if◌then◌else◌, ◌≡◌, ℕ, ◌+◌, ◌*◌, IsTrue, Bool, true, false, List, [], ◌∷◌, ◌++◌, All, Option, Some, None, length, refl, sym, ap, ap₂, ◌∙◌, subst, append_assoc, append-nil, length-append, arith, All-nil, All-cons, Appends, Consumes, IsAtEnd, Mode, IsMode, HasCodeSizes, symbols_of, symbol_bytes, bytes_of_symbols, Symbol, field_bytes, stream_of, fields_of, dummy_frame, Link, sent_behind, Transmitter, is_due, AreUnits, Met, frame, ended, nothing_over, met_from, Meets, Rules, State, Standing, at_start, passes, begun, left_in, left_known, after, after_all, all_packets, all_lines, frame_line, end_line, Piece, coded, dummy, joined, stream_symbols, Spells, AreReceived, frames_at, PassedNone, Report, Totals, Verdict, is_certified, Delivered, Outcome, gives, after-append, packets-append, lines-append, symbols-append, AreBytes, Hears, certified_lines, run_places, totals_of, sent_symbols, places_in, max_symbols, ArrivalLaw, link_rules}
+use Rattle.s2_modem.proofs.Names.{⊤, nat_eq, if◌then◌else◌, ◌≡◌, ℕ, ◌+◌, ◌*◌, IsTrue, Bool, true, false, List, [], ◌∷◌, ◌++◌, All, Option, Some, None, length, refl, sym, ap, ap₂, ◌∙◌, subst, append_assoc, append-nil, length-append, arith, All-nil, All-cons, Appends, Consumes, IsAtEnd, Mode, IsMode, HasCodeSizes, symbols_of, symbol_bytes, bytes_of_symbols, Symbol, field_bytes, stream_of, fields_of, dummy_frame, Link, sent_behind, Transmitter, is_due, AreUnits, Met, frame, ended, no_gap, met_from, Meets, Rules, State, Standing, at_start, with_gap, begun, left_in, left_known, after, after_all, all_packets, all_lines, frame_line, end_line, Piece, coded, dummy, joined, stream_symbols, SpellSymbols, AreReceived, frames_at, SkippedNone, Report, Totals, Verdict, is_certified, Delivered, Outcome, gives, after-append, packets-append, lines-append, symbols-append, AreBytes, ReceivesAll, certified_lines, run_places, totals_of, sent_symbols, places_in, max_symbols, ArrivalLaw, link_rules}
 use Rattle.s2_modem.proofs.Names.phases
 use Rattle.s2_modem.proofs.SymbolsBack.{frame_read, dummy_read}
 use Rattle.s2_modem.proofs.ByteStreams.{AreFields, front_fields}
-use Rattle.s2_modem.proofs.CleanFrames.{hears_law}
+use Rattle.s2_modem.proofs.CleanFrames.{receives_all_law}
 
 length_bytes : (symbols : List Symbol) → length (bytes_of_symbols symbols) ≡ 4 * length symbols
 length_bytes [] = refl
@@ -28,7 +28,7 @@ AllCoded holds [] = ⊤
 AllCoded holds (coded symbols ∷ pieces) = holds symbols × AllCoded holds pieces
 AllCoded holds (dummy symbols ∷ pieces) = AllCoded holds pieces
 
-module _ (t : Transmitter) (rules : Rules) (hears : Hears t.link rules) where
+module _ (t : Transmitter) (rules : Rules) (receives_all : ReceivesAll t.link rules) where
   abbrev link : Link
   link = t.link
 
@@ -46,7 +46,7 @@ module _ (t : Transmitter) (rules : Rules) (hears : Hears t.link rules) where
   dummy_before false at fields bytes places h = h
   dummy_before true at fields bytes places h = record {
     pieces = dummy (dummy_frame link.setup.number) ∷ h.pieces;
-    are = λ b. (hears.dummies b, h.are true);
+    are = λ b. (receives_all.dummies b, h.are true);
     certified = h.certified;
     places_are = λ place. h.places_are (place + 3330);
     symbols = λ rest. frame_before (dummy_frame link.setup.number) (stream_symbols h.pieces) bytes rest (dummy_read link.setup.number) (h.symbols rest);
@@ -63,7 +63,7 @@ module _ (t : Transmitter) (rules : Rules) (hears : Hears t.link rules) where
       let codeword = unit.is_frame.codeword in
       let s = sent_symbols link codeword in
       let (bytes, place, fits) = each.0 in
-      let one = hears.frames at f codeword bytes place fits unit.is_frame.is_codeword in
+      let one = receives_all.frames at f codeword bytes place fits unit.is_frame.is_codeword in
       let more = dummy_before (is_due t.dummy_every number) (at + length f) fs (joined us) _ (heard (number + 1) (at + length f) fs us each.1 sent.1) in
       record {
         pieces = coded s ∷ more.pieces;
@@ -84,7 +84,7 @@ called rules at [] s c = (refl, All-nil (λ (place : ℕ × Verdict). IsTrue (is
 called rules at (coded l ∷ ps) s c =
     let verdict = (rules.decide l).verdict in
     let report : Outcome → Report = λ o. record { number = s.totals.frames + 1; at = at; verdict = verdict; outcome = o } in
-    let more = called rules (at + rules.size) ps (after rules s (frame at nothing_over l)) c.1 in (
+    let more = called rules (at + rules.size) ps (after rules s (frame at no_gap l)) c.1 in (
       ap₂ (λ (o : Outcome) (lines : List ℕ). frame_line (report o) ++ lines) c.0.outcome more.0,
       All-cons (λ (place : ℕ × Verdict). IsTrue (is_certified place.1)) (at, verdict) (places_in rules (at + rules.size) ps) c.0.verdict more.1,
     )
@@ -96,48 +96,48 @@ all_read source bytes None consumes end = absurd consumes
 all_read source bytes (Some left) consumes end = consumes ∙ ap (λ l. bytes ++ l) end ∙ append-nil bytes
 
 -- all that was met
-pub all_met : (rules : Rules) (symbols : List Symbol) (new : State) (taken left : Option (List ℕ)) (met : List Met) → Spells taken symbols → new.phase ≡ phases.Ended
-    → Meets (left_in rules begun taken) (left_in rules new left) met → met_from rules.finds rules.size 0 0 false nothing_over symbols ≡ met
+pub all_met : (rules : Rules) (symbols : List Symbol) (new : State) (taken left : Option (List ℕ)) (met : List Met) → SpellSymbols taken symbols → new.phase ≡ phases.Ended
+    → Meets (left_in rules begun taken) (left_in rules new left) met → met_from rules.finds rules.size 0 0 false no_gap symbols ≡ met
 all_met rules symbols new None left met spelt phase h = absurd spelt
 all_met rules symbols new (Some bytes) left met spelt phase h =
     let whole = subst (λ x. Meets (left_in rules begun (Some bytes)) (left_known rules x new.window left) met) phase h in
-    ap (met_from rules.finds rules.size 0 0 false nothing_over) (sym spelt) ∙ whole ∙ append-nil met
+    ap (met_from rules.finds rules.size 0 0 false no_gap) (sym spelt) ∙ whole ∙ append-nil met
 
--- the end adds nothing where nothing was passed over before it
-passed_at_end : (t : Totals) → PassedNone t → PassedNone (passes t nothing_over)
+-- the end adds nothing where nothing was skipped before it
+passed_at_end : (t : Totals) → SkippedNone t → SkippedNone (with_gap t no_gap)
 passed_at_end t over = (omega (arith, over.0), omega (arith, over.1), ap (λ n. if nat_eq n 0 then 0 else t.first) over.1)
 
 -- the receiver wrote what the transmitter read, reported each coded frame as sole, and then the end
 pub arrival_law : (m : Mode) → IsMode m → HasCodeSizes m → ArrivalLaw m
 arrival_law m valid sizes t tuning count_old count_new source written counts totals source_left before behind linked ro known are_bytes runs spelt (state, got) =
     let rules = link_rules t.link tuning max_symbols in
-    let hears = hears_law m valid sizes t.link tuning max_symbols linked ro known in
-    let (met, went) = got.runs_out.1 in
+    let receives_all = receives_all_law m valid sizes t.link tuning max_symbols linked ro known in
+    let (met, processed) = got.runs_out.1 in
     let size = field_bytes t.link.setup.mode in
     let from : source ≡ joined runs.packets =
     all_read source (joined runs.packets ++ runs.rest) source_left runs.read runs.ends ∙ ap (λ l. joined runs.packets ++ l) runs.outcome.1 ∙ append-nil (joined runs.packets) in
     let all_fields : runs.fields ++ [] ≡ fields_of size (stream_of runs.packets) = append-nil runs.fields ∙ runs.outcome.2 in
-    let fields = front_fields size runs.packets runs.fields [] hears.field_least runs.each_is_packet (subst AreBytes from are_bytes) all_fields in
-    let h = heard t rules hears 1 0 runs.fields runs.units fields runs.are_units in
-    let g = gives rules t.link.setup.roll_off size runs.packets runs.fields [] h.pieces [] hears.least hears.field_least runs.each_is_packet all_fields (h.are false) in
+    let fields = front_fields size runs.packets runs.fields [] receives_all.field_least runs.each_is_packet (subst AreBytes from are_bytes) all_fields in
+    let h = heard t rules receives_all 1 0 runs.fields runs.units fields runs.are_units in
+    let g = gives rules t.link.setup.roll_off size runs.packets runs.fields [] h.pieces [] receives_all.least receives_all.field_least runs.each_is_packet all_fields (h.are false) in
     let just = frames_at rules.size 0 h.pieces in
     let sent : symbols_of written ≡ stream_symbols h.pieces ++ [] = ap symbols_of (runs.written ∙ ap (λ l. joined runs.units ++ l) runs.begins) ∙ h.symbols [] in
-    let met_is : met ≡ just ++ ended nothing_over ∷ [] =
-    sym (all_met rules (symbols_of written) state before.taken got.left met spelt got.runs_out.0 went.left) ∙ ap (met_from rules.finds rules.size 0 0 false nothing_over) sent ∙ g.met in
+    let met_is : met ≡ just ++ ended no_gap ∷ [] =
+    sym (all_met rules (symbols_of written) state before.taken got.left met spelt got.runs_out.0 processed.left) ∙ ap (met_from rules.finds rules.size 0 0 false no_gap) sent ∙ g.met in
     let end = after_all rules at_start just in
-    let last = passes end.totals nothing_over in
+    let last = with_gap end.totals no_gap in
     let all = g.all refl in
     let framed = sym runs.outcome.4 in
-    let over = passed_at_end end.totals g.over in
+    let over = passed_at_end end.totals g.skipped in
     let counted : last ≡ totals_of counts =
-    λ i. record { frames = (g.frames_count ∙ framed) i; delivered = (g.delivered ∙ framed) i; packets = (g.packets_count ∙ ap length all ∙ sym runs.outcome.3) i; bad = g.bad i; torn = g.torn_none i; cut = g.cut i; passed = over.0 i; places = over.1 i; first = over.2 i } in
+    λ i. record { frames = (g.frames_count ∙ framed) i; delivered = (g.delivered ∙ framed) i; packets = (g.packets_count ∙ ap length all ∙ sym runs.outcome.3) i; bad = g.bad i; incomplete = g.incomplete_none i; cut = g.cut i; skipped = over.0 i; places = over.1 i; first = over.2 i } in
     let packets : all_packets rules at_start met ≡ source =
-    ap (all_packets rules at_start) met_is ∙ packets-append rules just (ended nothing_over ∷ []) at_start ∙ append-nil (all_packets rules at_start just) ∙ g.written ∙ ap joined all ∙ sym from in
+    ap (all_packets rules at_start) met_is ∙ packets-append rules just (ended no_gap ∷ []) at_start ∙ append-nil (all_packets rules at_start just) ∙ g.written ∙ ap joined all ∙ sym from in
     let lines : all_lines rules at_start met ≡ certified_lines 0 (run_places rules.size t.dummy_every 1 0 counts.frames) ++ end_line (totals_of counts) =
-    ap (all_lines rules at_start) met_is ∙ lines-append rules just (ended nothing_over ∷ []) at_start
+    ap (all_lines rules at_start) met_is ∙ lines-append rules just (ended no_gap ∷ []) at_start
     ∙ ap₂ (λ (a : List ℕ) (b : List ℕ). a ++ b) ((called rules 0 h.pieces at_start h.certified).0 ∙ ap (certified_lines 0) (h.places_are 0 ∙ ap (run_places rules.size t.dummy_every 1 0) framed)) (append-nil (end_line last) ∙ ap end_line counted) in
     record {
-      packets = subst (Appends before.given behind.given) packets went.packets;
-      totals_are = got.totals_are ∙ ap (λ (x : Standing). x.totals) (went.standing ∙ ap (after_all rules at_start) met_is ∙ after-append rules just (ended nothing_over ∷ []) at_start) ∙ counted;
-      lines = subst (Appends before.out behind.out) lines went.lines;
+      packets = subst (Appends before.given behind.given) packets processed.packets;
+      totals_are = got.totals_are ∙ ap (λ (x : Standing). x.totals) (processed.standing ∙ ap (after_all rules at_start) met_is ∙ after-append rules just (ended no_gap ∷ []) at_start) ∙ counted;
+      lines = subst (Appends before.out behind.out) lines processed.lines;
     }

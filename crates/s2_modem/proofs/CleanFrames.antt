@@ -1,5 +1,5 @@
 -- A frame without noise is delivered, certified, with nothing changed.
-use Rattle.s2_modem.proofs.Names.{ap₂, xor_same, number, or_right, ◌≡◌, ℕ, zero, suc, ◌+◌, ◌-◌, ◌*◌, ◌/◌, ◌%◌, ◌<◌, ◌≤◌, Bool, true, false, List, [], ◌∷◌, ◌++◌, length, take, drop, map, get_or, Option, Some, None, Result, Ok, Err, refl, sym, ap, subst, ◌∙◌, arith, length-append, length-take, length-drop, ℤ, pos, int_lt, le-leb, eq-eqb, length-map, ext_get_or, get_or-take, get_or-drop, take_at, drop_at, take_all, fill_by_all, length-map-range_with_len, All-head, All-tail, All-append, All-from_recursion, Mode, IsMode, HasCodeSizes, k_of, kbch_of, n_of, t_of, slots_of, symbols_in, Symbol, symbols_least, Rows, bit_at, bits_of_byte, bits_of_bytes, byte_at, byte_of, bytes_from, differences, byte_back, code_of, IsCodeword, hard_decision, NoneIsZero, is_certified, IsSole, HeaderFault, Decision, header_bytes, has_valid_lengths, header_of_bytes, signalling, header_at, to_place, field_bytes, header_of_bytes-header_bytes, divided, scrambled, scrambled-scrambled, IsWithin, nearest, within_is_nearest, nearest_is_within, no_nearest, payload_symbol, payload_of, frame_symbol, frame_symbols, decision, found, clean_behind, IsDivisor, soft_bit, soft_values, Says, clean_says, payload_again, clean_passes, IsCleanFrame, IsReceived, Link, padded_bits, baseband_frame, IsCodewordFor, found_as, Decided, decided, IsShown, Tuning, frame_soft, received_word, message_of, header_in, field_in, outcome_by, delivered_by, decision_by, frame_decision, AllAsLikely, AllTold, IsCertifiedBy, IsCorrected, link_rules, IsLinkOf, IsByte, AreBytes, sent_symbols, IsDelivered, IsDeliveredCertified, HearsLaw, ScatteredFrameLaw, BothCodesLaw, IsSent, IsMostLikely, received_payload, Sole, clean_lem, certified_lem, likely_lem, sole_lem, scattered_lem, decided_long, length-baseband_frame, length-bch_word, symbol, Header, count_of, cond, is_delivered}
+use Rattle.s2_modem.proofs.Names.{ap₂, xor_same, number, or_right, ◌≡◌, ℕ, zero, suc, ◌+◌, ◌-◌, ◌*◌, ◌/◌, ◌%◌, ◌<◌, ◌≤◌, Bool, true, false, List, [], ◌∷◌, ◌++◌, length, take, drop, map, get_or, Option, Some, None, Result, Ok, Err, refl, sym, ap, subst, ◌∙◌, arith, length-append, length-take, length-drop, ℤ, pos, int_lt, le-leb, eq-eqb, length-map, ext_get_or, get_or-take, get_or-drop, take_at, drop_at, take_all, fill_by_all, length-map-range_with_len, All-head, All-tail, All-append, All-from_recursion, Mode, IsMode, HasCodeSizes, k_of, kbch_of, n_of, t_of, slots_of, symbols_in, Symbol, symbols_least, Rows, bit_at, bits_of_byte, bits_of_bytes, byte_at, byte_of, bytes_from, differences, byte_back, code_of, IsCodeword, hard_decision, NoneIsZero, is_certified, IsSole, HeaderFault, Decision, header_bytes, has_valid_lengths, header_of_bytes, signalling, header_at, to_place, field_bytes, header_of_bytes-header_bytes, divided, scrambled, scrambled-scrambled, IsWithin, nearest, within_is_nearest, nearest_is_within, no_nearest, payload_symbol, payload_of, frame_symbol, frame_symbols, decision, found, clean_behind, IsDivisor, soft_bit, soft_values, DecidesTo, clean_says, payload_again, clean_passes, IsCleanFrame, IsReceived, Link, padded_bits, baseband_frame, IsCodewordFor, found_as, Decided, decided, IsShown, Tuning, frame_soft, received_word, message_of, header_in, field_in, outcome_by, delivered_by, decision_by, frame_decision, AllAsLikely, AllTold, IsCertifiedBy, IsCorrected, link_rules, IsLinkOf, IsByte, AreBytes, sent_symbols, IsDelivered, IsDeliveredCertified, ReceivesAllLaw, ScatteredFrameLaw, BothCodesLaw, IsSent, IsMostLikely, received_payload, Sole, clean_lem, certified_lem, likely_lem, sole_lem, scattered_lem, decided_long, length-baseband_frame, length-bch_word, symbol, Header, count_of, cond, is_delivered}
 use Rattle.s2_modem.proofs.Names.founds
 use Rattle.s2_modem.proofs.DecisionLemmas.{code_is}
 use Rattle.s2_modem.proofs.Dummies.{dummy_is}
@@ -13,7 +13,7 @@ received divisor m number word known is long =
     let again : received_payload m number (frame_symbols m number (payload_of m word)) ≡ payload_of m word = payload_again m number (payload_of m word) is sized (λ s lt. payload_back m word s (symbol (pos 0) (pos 0)) lt) in
     record {
       header = clean_passes m number (payload_of m word) is;
-      soft = subst (λ p. Says (soft_values divisor m p) word) (sym again) (clean_says divisor known m word is long);
+      soft = subst (λ p. DecidesTo (soft_values divisor m p) word) (sym again) (clean_says divisor known m word is long);
     }
 
 -- ---- bytes out of their bits
@@ -216,9 +216,9 @@ module _ (m : Mode) (valid : IsMode m) (sizes : HasCodeSizes m) (link : Link) (l
 
   module _ (ro : link.setup.roll_off ≤ 2) (tuning : Tuning) (known : IsDivisor tuning.divisor) (limit : ℕ) where
     found_sent : (codeword : List Bool) → found mode (map decision (take 90 (sent_symbols link codeword))) ≡ founds.Coded
-        → (behind : Bool) → found_as mode tuning.lock behind (take 90 (sent_symbols link codeword)) ≡ founds.Coded
+        → (behind : Bool) → found_as mode tuning.max_header_errors behind (take 90 (sent_symbols link codeword)) ≡ founds.Coded
     unfolding found_as
-    found_sent codeword coded true = clean_behind mode tuning.lock link.setup.number (payload_of mode codeword) is_mode
+    found_sent codeword coded true = clean_behind mode tuning.max_header_errors link.setup.number (payload_of mode codeword) is_mode
     found_sent codeword coded false = coded
 
     hears_frame : (at : ℕ) (field : List ℕ) (codeword : List Bool) → AreBytes field → to_place at < length field → length field ≤ field_bytes mode
@@ -245,12 +245,12 @@ module _ (m : Mode) (valid : IsMode m) (sizes : HasCodeSizes m) (link : Link) (l
 -- ---- the laws
 
 module _ (m : Mode) (valid : IsMode m) (sizes : HasCodeSizes m) where
-  pub hears_law : HearsLaw m
-  hears_law link tuning limit linked ro known = record {
+  pub receives_all_law : ReceivesAllLaw m
+  receives_all_law link tuning limit linked ro known = record {
     size = refl;
     least = symbols_least link.setup.mode;
     field_least = omega (arith, (has_sizes m valid sizes link linked).field_least);
-    dummies = dummy_is link.setup.mode tuning.lock link.setup.number (is_mode m valid sizes link linked);
+    dummies = dummy_is link.setup.mode tuning.max_header_errors link.setup.number (is_mode m valid sizes link linked);
     frames = hears_frame m valid sizes link linked ro tuning known limit;
   }
 

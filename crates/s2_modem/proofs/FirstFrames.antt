@@ -1,6 +1,6 @@
 -- The first frames of a stream arrive, and one stream gives the same however it is read.
-use Rattle.s2_modem.proofs.Names.{◌≡◌, Bool, true, false, ℕ, ◌+◌, ◌≤◌, inl, inr, List, [], ◌∷◌, length, refl, sym, ap, ◌∙◌, subst, Appends, Mode, IsMode, HasCodeSizes, Symbol, header_at, field_bytes, Rules, at_start, after_all, all_packets, all_lines, all_well, Piece, coded, dummy, IsReceived, AreReceived, gives, front, same_met, IsDivisor, Tuning, Link, IsLinkOf, message_of, frame_decision, link_rules, IsDeliveredCertified, IsSent, IsWholeFrame, IsClear, IsHeard, AreEach, FirstFramesLaw, OneStreamLaw, AllHeard}
-use Rattle.s2_modem.proofs.CleanFrames.{is_mode, has_sizes, hears_law, scattered_law, both_codes_law}
+use Rattle.s2_modem.proofs.Names.{◌≡◌, Bool, true, false, ℕ, ◌+◌, ◌≤◌, inl, inr, List, [], ◌∷◌, length, refl, sym, ap, ◌∙◌, subst, Appends, Mode, IsMode, HasCodeSizes, Symbol, header_at, field_bytes, Rules, at_start, after_all, all_packets, all_lines, are_all_certified, Piece, coded, dummy, IsReceived, AreReceived, gives, front, same_met, IsDivisor, Tuning, Link, IsLinkOf, message_of, frame_decision, link_rules, IsDeliveredCertified, IsSent, IsWholeFrame, IsClear, IsHeard, AreEach, FirstFramesLaw, OneStreamLaw, AllHeard}
+use Rattle.s2_modem.proofs.CleanFrames.{is_mode, has_sizes, receives_all_law, scattered_law, both_codes_law}
 use Rattle.s2_modem.proofs.ByteStreams.{IsField, AreFields, front_fields}
 use Rattle.s2_modem.proofs.Arrival.{IsCertifiedFrame, AllCoded, called}
 
@@ -12,7 +12,7 @@ module _ (m : Mode) (valid : IsMode m) (sizes : HasCodeSizes m) (link : Link) (t
   pub clear_one : (behind : Bool) (at : ℕ) (field : List ℕ) (codeword : List Bool) (symbols : List Symbol) (sent : IsSent m link at field codeword) → IsClear link tuning behind codeword symbols
       → IsWholeFrame link tuning behind symbols × IsDeliveredCertified (frame_decision link tuning symbols) codeword (message_of link.setup.mode sent.codeword_is.bch_word) (header_at link.setup.roll_off at field) field
   clear_one behind at field codeword symbols sent (inl clean) =
-      let h = (hears_law m valid sizes link tuning limit linked ro known).frames at field codeword sent.bytes sent.place sent.fits sent.codeword_is in
+      let h = (receives_all_law m valid sizes link tuning limit linked ro known).frames at field codeword sent.bytes sent.place sent.fits sent.codeword_is in
       let one = h.0 behind in
       let message = message_of link.setup.mode sent.codeword_is.bch_word in
       subst (λ l. IsWholeFrame link tuning behind l × IsDeliveredCertified (frame_decision link tuning l) codeword message (header_at link.setup.roll_off at field) field) (sym clean) ((one.0, one.1), h.1)
@@ -48,23 +48,23 @@ all_heard m valid sizes link tuning linked ro known =
     record { clear = clear_one link.setup.mode valid' sizes' link tuning 0 (refl, linked.1) ro known; corrected = both_codes_law link.setup.mode valid' sizes' link tuning }
 
 pub first_frames_law : (m : Mode) → IsMode m → HasCodeSizes m → FirstFramesLaw m
-first_frames_law m valid sizes = λ link tuning limit packets fields later pieces rest mid before behind met linked ro known each are_bytes cut_so heard spelt count went.
+first_frames_law m valid sizes = λ link tuning limit packets fields later pieces rest mid before behind met linked ro known each are_bytes cut_so heard spelt count processed.
     let size = field_bytes link.setup.mode in
     let rules = link_rules link tuning limit in
-    let hears = hears_law m valid sizes link tuning limit linked ro known in
-    let are_fields = front_fields size packets fields later hears.field_least each are_bytes cut_so in
+    let receives_all = receives_all_law m valid sizes link tuning limit linked ro known in
+    let are_fields = front_fields size packets fields later receives_all.field_least each are_bytes cut_so in
     let h = received_each (IsHeard link tuning) (IsCertifiedFrame rules) rules link.setup.roll_off size (heard_one m valid sizes link tuning limit linked ro known) false 0 pieces fields are_fields heard in
-    let f = front rules link.setup.roll_off size packets fields later pieces rest mid before behind met hears.least hears.field_least each cut_so h.0 spelt count went in
+    let f = front rules link.setup.roll_off size packets fields later pieces rest mid before behind met receives_all.least receives_all.field_least each cut_so h.0 spelt count processed in
     let lines = called rules 0 pieces at_start h.1 in
     record {
       written = f.1;
-      lines = subst (Appends before.out behind.out) (ap (all_lines rules at_start) f.0 ∙ lines.0) went.lines;
+      lines = subst (Appends before.out behind.out) (ap (all_lines rules at_start) f.0 ∙ lines.0) processed.lines;
       certified = lines.1;
-      all = (gives rules link.setup.roll_off size packets fields later pieces rest hears.least hears.field_least each cut_so h.0).all;
+      all = (gives rules link.setup.roll_off size packets fields later pieces rest receives_all.least receives_all.field_least each cut_so h.0).all;
     }
 
 pub one_stream_law : OneStreamLaw
-one_stream_law link tuning limit old first second symbols before behind other_before other_behind well other_well spelt other_spelt a b =
+one_stream_law link tuning limit old first second symbols before behind other_before other_behind certified other_certified spelt other_spelt a b =
     let rules = link_rules link tuning limit in
     let (met, one) = a.runs_out.1 in
     let two = b.runs_out.1.1 in
@@ -72,7 +72,7 @@ one_stream_law link tuning limit old first second symbols before behind other_be
     same_met rules old first second symbols before.taken other_before.taken behind.taken other_behind.taken met b.runs_out.1.0 spelt other_spelt a.runs_out.0 b.runs_out.0 one.left two.left in
     record {
       totals = ap (λ s. s.totals) (one.standing ∙ ap (after_all rules old.standing) (sym same) ∙ sym two.standing);
-      answer = a.is_well ∙ ap (all_well rules old.standing) (sym same) ∙ sym b.is_well;
+      answer = a.certified_is ∙ ap (are_all_certified rules old.standing) (sym same) ∙ sym b.certified_is;
       packets = (all_packets rules old.standing met, one.packets, subst (λ l. Appends other_before.given other_behind.given (all_packets rules old.standing l)) same two.packets);
       lines = (all_lines rules old.standing met, one.lines, subst (λ l. Appends other_before.out other_behind.out (all_lines rules old.standing l)) same two.lines);
     }

@@ -1,8 +1,8 @@
 -- The headline holds.
-use Rattle.s2_modem.proofs.Names.{◌≡◌, ℕ, zero, suc, ◌+◌, ◌<◌, ◌≤◌, ◌⊎◌, IsTrue, Bool, true, false, cond, List, [], ◌∷◌, ◌++◌, All, Option, Some, None, length, map, range_with_len, count_by, sum_by-cons, inl, inr, refl, sym, ap, ◌∙◌, subst, append_assoc, append-nil, Result, Ok, Err, ⊤, nat_lt, lt-leb, flat_map, All-nil, All-cons, arith, Mode, IsMode, HasCodeSizes, symbols_of, Streams, Symbol, code_of, header_at, field_bytes, IsDivisor, Found, Tuning, Link, IsLinkOf, Stretch, Report, frame_line, cut_line, end_line, Met, frame, cut, ended, nothing_over, passed, begins, by_found, met_from, Rules, State, Standing, at_start, at_end, passes, report_of, after, after_all, all_packets, all_lines, begun, RunsOut, Piece, joined, stream_symbols, Spells, IsReceived, frames_at, gives, all_joined, packets-append, frame_soft, IsAsLikely, IsCorrected, link_rules, AllAsLikely, AllTold, Receiver, rules_for, IsSent, is_certified, Delivered, frame_from, decision_from, is_delivered, stands, IsCutAt, IsReadable, Arriving, closed_packets, wrong_bits, Headline, KeepsHeadline, FramePromises, IsHeadline, RunsHeadline, RunAnswers, ReceivesTo, Received, Totals, StreamFault, max_symbols}
+use Rattle.s2_modem.proofs.Names.{◌≡◌, ℕ, zero, suc, ◌+◌, ◌<◌, ◌≤◌, ◌⊎◌, IsTrue, Bool, true, false, cond, List, [], ◌∷◌, ◌++◌, All, Option, Some, None, length, map, range_with_len, count_by, sum_by-cons, inl, inr, refl, sym, ap, ◌∙◌, subst, append_assoc, append-nil, Result, Ok, Err, ⊤, nat_lt, lt-leb, flat_map, All-nil, All-cons, arith, Mode, IsMode, HasCodeSizes, symbols_of, Streams, Symbol, code_of, header_at, field_bytes, IsDivisor, Found, Tuning, Link, IsLinkOf, Gap, Report, frame_line, cut_line, end_line, Met, frame, cut, ended, no_gap, extended, begins, by_found, met_from, Rules, State, Standing, at_start, at_end, with_gap, report_of, after, after_all, all_packets, all_lines, begun, RunsOut, Piece, joined, stream_symbols, SpellSymbols, IsReceived, frames_at, gives, all_joined, packets-append, frame_soft, IsAsLikely, IsCorrected, link_rules, AllAsLikely, AllTold, Receiver, rules_for, IsSent, is_certified, Delivered, frame_from, decision_from, is_delivered, stands, IsCutAt, IsReadable, Arriving, closed_packets, wrong_bits, Headline, KeepsHeadline, FramePromises, IsHeadline, RunsHeadline, RunAnswers, ReceivesTo, Received, Totals, StreamFault, max_symbols}
 use Rattle.s2_modem.proofs.Names.founds
 use Rattle.s2_modem.proofs.Arrival.{all_met}
-use Rattle.s2_modem.proofs.CleanFrames.{all_as_likely, all_told, counts, hears_law, both_codes_law}
+use Rattle.s2_modem.proofs.CleanFrames.{all_as_likely, all_told, counts, receives_all_law, both_codes_law}
 use Rattle.s2_modem.proofs.Moves.{reports_of, cut_of, AreMet, are_met, at_frame, at_cut}
 use Rattle.s2_modem.proofs.FirstFrames.{received_each, heard_one, all_heard}
 use Rattle.s2_modem.proofs.ByteStreams.{IsField, front_fields}
@@ -35,10 +35,10 @@ module _ (link : Link) (tuning : Tuning) (stream : List Symbol) (limit : ℕ) wh
   module _ (all_likely : AllAsLikely link tuning) (all_told : AllTold link tuning) where
     tell : (met : List Met) (s : Standing) → AreMet link tuning stream met → Lines met s (reports_of rules s met)
     tell [] s h = absurd h
-    tell (frame at over symbols ∷ later) s h =
+    tell (frame at skipped symbols ∷ later) s h =
         let r = report_of rules s.totals at symbols in
         let here = frame_from link stream at in
-        let t = after rules s (frame at over symbols) in
+        let t = after rules s (frame at skipped symbols) in
         let others = reports_of rules t later in
         let more = tell later t h.1 in
         let end = end_line (after_all rules t later).totals in
@@ -52,28 +52,28 @@ module _ (link : Link) (tuning : Tuning) (stream : List Symbol) (limit : ℕ) wh
           likely = All-cons IsLikely r others (subst (λ l. IsLikely (report_of rules s.totals at l)) (sym h.0) (all_likely here)) more.likely;
           within = All-cons IsWithin r others (subst (λ l. IsWithin (report_of rules s.totals at l)) (sym h.0) (all_told here).within) more.within;
         }
-    tell (cut at over count ∷ later) s h =
-        let t = after rules s (cut at over count) in
-        let lines = ap (λ l. cut_line at count ++ l) (append-nil (end_line (passes t.totals (at_end h.1.0)))) in
-        subst (λ l. Lines (cut at over count ∷ l) s []) (sym h.1.1)
+    tell (cut at skipped count ∷ later) s h =
+        let t = after rules s (cut at skipped count) in
+        let lines = ap (λ l. cut_line at count ++ l) (append-nil (end_line (with_gap t.totals (at_end h.1.0)))) in
+        subst (λ l. Lines (cut at skipped count ∷ l) s []) (sym h.1.1)
         (record { lines = lines; numbers = refl; frames_are = omega arith; delivered_are = omega arith; cut_only = inr h.0; likely = All-nil IsLikely; within = All-nil IsWithin })
-    tell (ended over ∷ later) s h =
-        let lines = append-nil (end_line (passes s.totals (at_end over))) in
-        subst (λ l. Lines (ended over ∷ l) s []) (sym h)
+    tell (ended skipped ∷ later) s h =
+        let lines = append-nil (end_line (with_gap s.totals (at_end skipped))) in
+        subst (λ l. Lines (ended skipped ∷ l) s []) (sym h)
         (record { lines = lines; numbers = refl; frames_are = omega arith; delivered_are = omega arith; cut_only = inl refl; likely = All-nil IsLikely; within = All-nil IsWithin })
 
 -- fewer symbols than a frame has give no packet
-none_given : (rules : Rules) (at inside : ℕ) (behind : Bool) (over : Stretch) (symbols : List Symbol) (s : Standing) → length symbols < rules.size
-    → all_packets rules s (met_from rules.finds rules.size at inside behind over symbols) ≡ []
-none_given rules at inside behind over [] s few = refl
-none_given rules at (suc inside) behind over (x ∷ symbols) s few = none_given rules (at + 1) inside true over symbols s (omega arith)
-none_given rules at zero behind over (x ∷ symbols) s few =
-    by (begins (rules.finds behind) (x ∷ symbols)) _ (lt-leb rules.size (length (x ∷ symbols)) few) _ _ _ (none_given rules (at + 1) 3329 true over symbols s (omega arith))
-    (none_given rules (at + 1) 0 false (passed over at 1) symbols s (omega arith))
+none_given : (rules : Rules) (at inside : ℕ) (behind : Bool) (skipped : Gap) (symbols : List Symbol) (s : Standing) → length symbols < rules.size
+    → all_packets rules s (met_from rules.finds rules.size at inside behind skipped symbols) ≡ []
+none_given rules at inside behind skipped [] s few = refl
+none_given rules at (suc inside) behind skipped (x ∷ symbols) s few = none_given rules (at + 1) inside true skipped symbols s (omega arith)
+none_given rules at zero behind skipped (x ∷ symbols) s few =
+    by (begins (rules.finds behind) (x ∷ symbols)) _ (lt-leb rules.size (length (x ∷ symbols)) few) _ _ _ (none_given rules (at + 1) 3329 true skipped symbols s (omega arith))
+    (none_given rules (at + 1) 0 false (extended skipped at 1) symbols s (omega arith))
   where
     by : (f : Found) (whole : Bool) → whole ≡ false → (one dummies none : List Met) → all_packets rules s dummies ≡ [] → all_packets rules s none ≡ []
-        → all_packets rules s (by_found f (cond whole one (cut at over (length (x ∷ symbols)) ∷ (ended nothing_over ∷ []))) dummies none) ≡ []
-    by founds.Coded whole is one dummies none d n = ap (λ w. all_packets rules s (cond w one (cut at over (length (x ∷ symbols)) ∷ (ended nothing_over ∷ [])))) is
+        → all_packets rules s (by_found f (cond whole one (cut at skipped (length (x ∷ symbols)) ∷ (ended no_gap ∷ []))) dummies none) ≡ []
+    by founds.Coded whole is one dummies none d n = ap (λ w. all_packets rules s (cond w one (cut at skipped (length (x ∷ symbols)) ∷ (ended no_gap ∷ [])))) is
     by founds.Dummy whole is one dummies none d n = d
     by founds.Nothing whole is one dummies none d n = n
 
@@ -92,7 +92,7 @@ module _ (m : Mode) (valid : IsMode m) (sizes : HasCodeSizes m) (link : Link) (t
         ((whole.0, whole.1, (both_codes_law m valid sizes link tuning symbols at field codeword sent few).delivered), tt)
 
     abbrev met_on : List Symbol → List Met
-    met_on symbols = met_from by.finds by.size 0 0 false nothing_over symbols
+    met_on symbols = met_from by.finds by.size 0 0 false no_gap symbols
 
     -- their packets are written first, and no other ones where no whole frame follows
     heard : (symbols : List Symbol) (packets fields later : List (List ℕ)) (pieces : List Piece) (rest : List Symbol) → Arriving link tuning symbols packets fields later pieces rest
@@ -100,23 +100,23 @@ module _ (m : Mode) (valid : IsMode m) (sizes : HasCodeSizes m) (link : Link) (t
         × (later ≡ [] → closed_packets packets fields ≡ joined packets)
     heard symbols packets fields later pieces rest a =
         let size = field_bytes link.setup.mode in
-        let hears = hears_law m valid sizes link tuning limit linked ro known in
-        let each = front_fields size packets fields later hears.field_least a.each a.bytes a.fields_are in
+        let receives_all = receives_all_law m valid sizes link tuning limit linked ro known in
+        let each = front_fields size packets fields later receives_all.field_least a.each a.bytes a.fields_are in
         let received = received_each (IsReadable link tuning) (λ symbols. ⊤) by link.setup.roll_off size read_one false 0 pieces fields each a.frames in
-        let g = gives by link.setup.roll_off size packets fields later pieces rest hears.least hears.field_least a.each a.fields_are received.0 in
+        let g = gives by link.setup.roll_off size packets fields later pieces rest receives_all.least receives_all.field_least a.each a.fields_are received.0 in
         let just = frames_at by.size 0 pieces in
         let n = length (stream_symbols pieces) in
         let s = after_all by at_start just in
-        let more = met_from by.finds by.size n 0 (nat_lt 0 n) nothing_over rest in
+        let more = met_from by.finds by.size n 0 (nat_lt 0 n) no_gap rest in
         let is = ap (all_packets by at_start) (ap met_on a.spelt ∙ g.met) ∙ packets-append by just more at_start ∙ ap (λ l. l ++ all_packets by s more) g.written in
-        ((all_packets by s more, is, none_given by n 0 (nat_lt 0 n) nothing_over rest s), λ none. ap joined (g.all none))
+        ((all_packets by s more, is, none_given by n 0 (nat_lt 0 n) no_gap rest s), λ none. ap joined (g.all none))
 
     headline : (symbols : List Symbol) → Headline link tuning symbols (all_packets by at_start (met_on symbols)) (all_lines by at_start (met_on symbols))
     headline symbols =
         let met = met_on symbols in
         let all = all_heard m valid sizes link tuning linked ro known in
         let said = tell link tuning symbols limit (all_as_likely m valid sizes link linked tuning) (all_told m valid sizes link linked tuning) met at_start
-        (are_met link tuning symbols (suc (length symbols)) 0 (stands link tuning symbols 0) nothing_over refl (omega arith)) in
+        (are_met link tuning symbols (suc (length symbols)) 0 (stands link tuning symbols 0) no_gap refl (omega arith)) in
         let join = all_joined by at_start met in
         record {
           frames = reports_of by at_start met;
@@ -151,13 +151,13 @@ module _ (m : Mode) (valid : IsMode m) (sizes : HasCodeSizes m) (link : Link) (t
     known_bytes : (state : State) (before behind : Streams) (taken : Option (List ℕ)) → before.taken ≡ taken → RunsOut by begun state before behind → IsHeadline link tuning (record before { taken = taken }) behind
     known_bytes state before behind None e out = tt
     known_bytes state before behind (Some bytes) e out =
-        let (met, went) = out.1 in
-        let spelt : Spells before.taken (symbols_of bytes) = subst (λ t. Spells t (symbols_of bytes)) (sym e) refl in
-        let is = all_met by (symbols_of bytes) state before.taken behind.taken met spelt out.0 went.left in (
+        let (met, processed) = out.1 in
+        let spelt : SpellSymbols before.taken (symbols_of bytes) = subst (λ t. SpellSymbols t (symbols_of bytes)) (sym e) refl in
+        let is = all_met by (symbols_of bytes) state before.taken behind.taken met spelt out.0 processed.left in (
           all_packets by at_start met,
           all_lines by at_start met,
-          went.packets,
-          went.lines,
+          processed.packets,
+          processed.lines,
           subst (λ l. Headline link tuning (symbols_of bytes) (all_packets by at_start l) (all_lines by at_start l)) is (headline (symbols_of bytes)),
         )
 

@@ -1,19 +1,19 @@
 -- Where a search stands after some moves, and what is met from there on.
-use Rattle.s2_modem.proofs.Names.{◌≡◌, ℕ, zero, suc, ◌+◌, ◌-◌, ◌<◌, ◌≤◌, Bool, true, false, List, [], ◌∷◌, ◌++◌, length, take, drop, inl, inr, cases_lt, refl, sym, ap, ◌∙◌, subst, append_assoc, length-append, length-drop, length-take, length-take-le, take-take, take-append-drop, drop-drop, drop_all, cond-true, le-leb, and-true, and_right, arith, ◌&&◌, nat_eq, Mode, symbols_in, Symbol, Found, Tuning, Link, Stretch, Report, cut_line, Met, frame, cut, ended, nothing_over, passed, begins, met_from, met-passed, met-dummy, whole_frame, cut_frame, symbols_least, Rules, Standing, at_start, report_of, after, found_as, link_rules, frame_from, Place, found_at, past, stands, IsCutAt, IsNext, IsWholeFrame}
+use Rattle.s2_modem.proofs.Names.{◌≡◌, ℕ, zero, suc, ◌+◌, ◌-◌, ◌<◌, ◌≤◌, Bool, true, false, List, [], ◌∷◌, ◌++◌, length, take, drop, inl, inr, cases_lt, refl, sym, ap, ◌∙◌, subst, append_assoc, length-append, length-drop, length-take, length-take-le, take-take, take-append-drop, drop-drop, drop_all, cond-true, le-leb, and-true, and_right, arith, ◌&&◌, nat_eq, Mode, symbols_in, Symbol, Found, Tuning, Link, Gap, Report, cut_line, Met, frame, cut, ended, no_gap, extended, begins, met_from, met-extended, met-dummy, whole_frame, cut_frame, symbols_least, Rules, Standing, at_start, report_of, after, found_as, link_rules, frame_from, Place, found_at, past, stands, IsCutAt, IsNext, IsWholeFrame}
 use Rattle.s2_modem.proofs.Names.founds
 
 -- the reports of frames that were met, and the line of one that is cut
 abbrev pub reports_of : Rules → Standing → List Met → List Report
 reports_of rules s [] = []
-reports_of rules s (frame at over symbols ∷ later) = report_of rules s.totals at symbols ∷ reports_of rules (after rules s (frame at over symbols)) later
-reports_of rules s (cut at over count ∷ later) = []
-reports_of rules s (ended over ∷ later) = []
+reports_of rules s (frame at skipped symbols ∷ later) = report_of rules s.totals at symbols ∷ reports_of rules (after rules s (frame at skipped symbols)) later
+reports_of rules s (cut at skipped count ∷ later) = []
+reports_of rules s (ended skipped ∷ later) = []
 
 abbrev pub cut_of : List Met → List ℕ
 cut_of [] = []
-cut_of (frame at over symbols ∷ later) = cut_of later
-cut_of (cut at over count ∷ later) = cut_line at count
-cut_of (ended over ∷ later) = []
+cut_of (frame at skipped symbols ∷ later) = cut_of later
+cut_of (cut at skipped count ∷ later) = cut_line at count
+cut_of (ended skipped ∷ later) = []
 
 module _ (link : Link) (tuning : Tuning) (stream : List Symbol) where
   abbrev mode : Mode
@@ -23,72 +23,72 @@ module _ (link : Link) (tuning : Tuning) (stream : List Symbol) where
   size = symbols_in mode
 
   abbrev finds : Bool → List Symbol → Found
-  finds = found_as mode tuning.lock
+  finds = found_as mode tuning.max_header_errors
 
   abbrev left : Place → List Symbol
   left p = drop p.at stream
 
   -- what is met from there on
-  abbrev pub met_at : Place → Stretch → List Met
-  met_at p over = met_from finds size p.at 0 p.behind over (left p)
+  abbrev pub met_at : Place → Gap → List Met
+  met_at p skipped = met_from finds size p.at 0 p.behind skipped (left p)
 
   -- ---- a move
 
-  pub coded_move : (p : Place) (over : Stretch) → found_at link tuning stream p ≡ founds.Coded → p.at + size ≤ length stream
-      → met_at p over ≡ frame p.at over (frame_from link stream p.at) ∷ met_at (past mode p founds.Coded) nothing_over
-  coded_move p over here long =
+  pub coded_move : (p : Place) (skipped : Gap) → found_at link tuning stream p ≡ founds.Coded → p.at + size ≤ length stream
+      → met_at p skipped ≡ frame p.at skipped (frame_from link stream p.at) ∷ met_at (past mode p founds.Coded) no_gap
+  coded_move p skipped here long =
       let all = left p in
       let least = symbols_least mode in
       let enough : size ≤ length all = omega (arith, length-drop p.at stream) in
       let header = ap (finds p.behind) (take-take 90 size all least) ∙ sym (cond-true _ _ _ (le-leb 90 (length all) (omega arith))) ∙ here in
-      ap (met_from finds size p.at 0 p.behind over) (sym (take-append-drop size all))
-      ∙ whole_frame finds size (take size all) (drop size all) p.at p.behind over (length-take-le size all enough) least header
-      ∙ ap (λ l. frame p.at over (take size all) ∷ met_from finds size (p.at + size) 0 true nothing_over l) (drop-drop size p.at stream)
+      ap (met_from finds size p.at 0 p.behind skipped) (sym (take-append-drop size all))
+      ∙ whole_frame finds size (take size all) (drop size all) p.at p.behind skipped (length-take-le size all enough) least header
+      ∙ ap (λ l. frame p.at skipped (take size all) ∷ met_from finds size (p.at + size) 0 true no_gap l) (drop-drop size p.at stream)
 
-  dummy_move : (p : Place) (over : Stretch) → found_at link tuning stream p ≡ founds.Dummy → met_at p over ≡ met_at (past mode p founds.Dummy) over
-  dummy_move p over here = met-dummy finds size p.at p.behind over (left p) here ∙ ap (met_from finds size (p.at + 3330) 0 true over) (drop-drop 3330 p.at stream)
+  dummy_move : (p : Place) (skipped : Gap) → found_at link tuning stream p ≡ founds.Dummy → met_at p skipped ≡ met_at (past mode p founds.Dummy) skipped
+  dummy_move p skipped here = met-dummy finds size p.at p.behind skipped (left p) here ∙ ap (met_from finds size (p.at + 3330) 0 true skipped) (drop-drop 3330 p.at stream)
 
-  next_move : (p : Place) (over : Stretch) → found_at link tuning stream p ≡ founds.Nothing → p.at < length stream → met_at p over ≡ met_at (past mode p founds.Nothing) (passed over p.at 1)
-  next_move p over here more =
+  next_move : (p : Place) (skipped : Gap) → found_at link tuning stream p ≡ founds.Nothing → p.at < length stream → met_at p skipped ≡ met_at (past mode p founds.Nothing) (extended skipped p.at 1)
+  next_move p skipped here more =
       let none : (i : ℕ) → i < 1 → begins (finds (p.behind && nat_eq i 0)) (drop i (left p)) ≡ founds.Nothing =
       λ i low. (let first : 0 ≡ i = omega arith in
       subst (λ k. begins (finds (p.behind && nat_eq k 0)) (drop k (left p)) ≡ founds.Nothing) first (ap (λ b. begins (finds b) (left p)) (and-true p.behind) ∙ here)) in
-      met-passed finds size 1 p.at p.behind over (left p) (omega (arith, length-drop p.at stream)) none
-      ∙ ap (λ b. met_from finds size (p.at + 1) 0 b (passed over p.at 1) (drop 1 (left p))) (and_right p.behind false refl)
-      ∙ ap (met_from finds size (p.at + 1) 0 false (passed over p.at 1)) (drop-drop 1 p.at stream)
+      met-extended finds size 1 p.at p.behind skipped (left p) (omega (arith, length-drop p.at stream)) none
+      ∙ ap (λ b. met_from finds size (p.at + 1) 0 b (extended skipped p.at 1) (drop 1 (left p))) (and_right p.behind false refl)
+      ∙ ap (met_from finds size (p.at + 1) 0 false (extended skipped p.at 1)) (drop-drop 1 p.at stream)
 
-  cut_move : (p : Place) (over : Stretch) → IsCutAt link tuning stream p → met_at p over ≡ cut p.at over (length (left p)) ∷ ended nothing_over ∷ []
-  cut_move p over (here, few) = cut_frame finds size (left p) p.at p.behind over (omega (arith, length-drop p.at stream, symbols_least mode)) here
+  cut_move : (p : Place) (skipped : Gap) → IsCutAt link tuning stream p → met_at p skipped ≡ cut p.at skipped (length (left p)) ∷ ended no_gap ∷ []
+  cut_move p skipped (here, few) = cut_frame finds size (left p) p.at p.behind skipped (omega (arith, length-drop p.at stream, symbols_least mode)) here
 
   -- ---- all that is met
 
   -- frames, each of the symbols at its place, and then one that is cut, where the search comes to it, or the end
   abbrev pub AreMet : List Met → Type 0
   AreMet [] = ⊥
-  AreMet (frame at over symbols ∷ later) = (symbols ≡ frame_from link stream at) × AreMet later
-  AreMet (cut at over count ∷ later) = ((n : ℕ) × IsCutAt link tuning stream (stands link tuning stream n)) × ((o : Stretch) × (later ≡ ended o ∷ []))
-  AreMet (ended over ∷ later) = later ≡ []
+  AreMet (frame at skipped symbols ∷ later) = (symbols ≡ frame_from link stream at) × AreMet later
+  AreMet (cut at skipped count ∷ later) = ((n : ℕ) × IsCutAt link tuning stream (stands link tuning stream n)) × ((o : Gap) × (later ≡ ended o ∷ []))
+  AreMet (ended skipped ∷ later) = later ≡ []
 
-  nothing_left : (p : Place) (over : Stretch) → length stream ≤ p.at → AreMet (met_at p over)
-  nothing_left p over done = subst (λ l. AreMet (met_from finds size p.at 0 p.behind over l)) (sym (drop_all p.at stream done)) refl
+  nothing_left : (p : Place) (skipped : Gap) → length stream ≤ p.at → AreMet (met_at p skipped)
+  nothing_left p skipped done = subst (λ l. AreMet (met_from finds size p.at 0 p.behind skipped l)) (sym (drop_all p.at stream done)) refl
 
   next_place : (n : ℕ) (p : Place) (f : Found) → p ≡ stands link tuning stream n → found_at link tuning stream p ≡ f → past mode p f ≡ stands link tuning stream (suc n)
   next_place n p f is e = ap (past mode p) (sym e) ∙ ap (λ q. past mode q (found_at link tuning stream q)) is
 
-  one_met : (k n : ℕ) (p : Place) (over : Stretch) → p ≡ stands link tuning stream n → length stream < p.at + suc k → p.at < length stream
-      → ((q : Place) (o : Stretch) → q ≡ stands link tuning stream (suc n) → length stream < q.at + k → AreMet (met_at q o)) → (f : Found) → found_at link tuning stream p ≡ f → AreMet (met_at p over)
-  one_met k n p over is h more later founds.Coded e = elim (cases_lt (length stream) (p.at + size)) [
-    | inl few ↦ subst AreMet (sym (cut_move p over (e, few))) ((n, subst (IsCutAt link tuning stream) is (e, few)), (nothing_over, refl))
-    | inr whole ↦ subst AreMet (sym (coded_move p over e whole)) (refl, later (past mode p founds.Coded) nothing_over (next_place n p founds.Coded is e) (omega (arith, symbols_least mode)))
+  one_met : (k n : ℕ) (p : Place) (skipped : Gap) → p ≡ stands link tuning stream n → length stream < p.at + suc k → p.at < length stream
+      → ((q : Place) (o : Gap) → q ≡ stands link tuning stream (suc n) → length stream < q.at + k → AreMet (met_at q o)) → (f : Found) → found_at link tuning stream p ≡ f → AreMet (met_at p skipped)
+  one_met k n p skipped is h more later founds.Coded e = elim (cases_lt (length stream) (p.at + size)) [
+    | inl few ↦ subst AreMet (sym (cut_move p skipped (e, few))) ((n, subst (IsCutAt link tuning stream) is (e, few)), (no_gap, refl))
+    | inr whole ↦ subst AreMet (sym (coded_move p skipped e whole)) (refl, later (past mode p founds.Coded) no_gap (next_place n p founds.Coded is e) (omega (arith, symbols_least mode)))
   ]
-  one_met k n p over is h more later founds.Dummy e = subst AreMet (sym (dummy_move p over e)) (later (past mode p founds.Dummy) over (next_place n p founds.Dummy is e) (omega arith))
-  one_met k n p over is h more later founds.Nothing e = subst AreMet (sym (next_move p over e more)) (later (past mode p founds.Nothing) (passed over p.at 1) (next_place n p founds.Nothing is e) (omega arith))
+  one_met k n p skipped is h more later founds.Dummy e = subst AreMet (sym (dummy_move p skipped e)) (later (past mode p founds.Dummy) skipped (next_place n p founds.Dummy is e) (omega arith))
+  one_met k n p skipped is h more later founds.Nothing e = subst AreMet (sym (next_move p skipped e more)) (later (past mode p founds.Nothing) (extended skipped p.at 1) (next_place n p founds.Nothing is e) (omega arith))
 
-  pub are_met : (k n : ℕ) (p : Place) (over : Stretch) → p ≡ stands link tuning stream n → length stream < p.at + k → AreMet (met_at p over)
-  are_met zero n p over is h = nothing_left p over (omega arith)
-  are_met (suc k) n p over is h = elim (cases_lt p.at (length stream)) [
-    | inl more ↦ one_met k n p over is h more (are_met k (suc n)) (found_at link tuning stream p) refl
-    | inr done ↦ nothing_left p over done
+  pub are_met : (k n : ℕ) (p : Place) (skipped : Gap) → p ≡ stands link tuning stream n → length stream < p.at + k → AreMet (met_at p skipped)
+  are_met zero n p skipped is h = nothing_left p skipped (omega arith)
+  are_met (suc k) n p skipped is h = elim (cases_lt p.at (length stream)) [
+    | inl more ↦ one_met k n p skipped is h more (are_met k (suc n)) (found_at link tuning stream p) refl
+    | inr done ↦ nothing_left p skipped done
   ]
 
   -- ---- what was told when the search stands there
@@ -98,35 +98,35 @@ module _ (link : Link) (tuning : Tuning) (stream : List Symbol) where
     rules = link_rules link tuning limit
 
     abbrev first : List Met
-    first = met_at (stands link tuning stream 0) nothing_over
+    first = met_at (stands link tuning stream 0) no_gap
 
     record Walk (p : Place) : Type 0 where
-      over : Stretch
+      skipped : Gap
       s : Standing
       before : List Report
-      reports : reports_of rules at_start first ≡ before ++ reports_of rules s (met_at p over)
+      reports : reports_of rules at_start first ≡ before ++ reports_of rules s (met_at p skipped)
       many : length before ≡ p.frames
-      cut_is : cut_of first ≡ cut_of (met_at p over)
+      cut_is : cut_of first ≡ cut_of (met_at p skipped)
 
-    goes : (p q : Place) (w : Walk p) (over : Stretch) → p.frames ≡ q.frames → met_at p w.over ≡ met_at q over → Walk q
-    goes p q w over same met =
+    goes : (p q : Place) (w : Walk p) (skipped : Gap) → p.frames ≡ q.frames → met_at p w.skipped ≡ met_at q skipped → Walk q
+    goes p q w skipped same met =
         let reports = w.reports ∙ ap (λ l. w.before ++ reports_of rules w.s l) met in
-        record { over = over; s = w.s; before = w.before; reports = reports; many = w.many ∙ same; cut_is = w.cut_is ∙ ap cut_of met }
+        record { skipped = skipped; s = w.s; before = w.before; reports = reports; many = w.many ∙ same; cut_is = w.cut_is ∙ ap cut_of met }
 
     walks : (p : Place) (f : Found) → found_at link tuning stream p ≡ f → (past mode p f).at ≤ length stream → (p.at ≤ length stream → Walk p) → Walk (past mode p f)
     walks p founds.Coded e h walked =
         let w = walked (omega arith) in
-        let met = coded_move p w.over e h in
+        let met = coded_move p w.skipped e h in
         let here = frame_from link stream p.at in
         let r = report_of rules w.s.totals p.at here in
         let reports = w.reports ∙ ap (λ l. w.before ++ reports_of rules w.s l) met ∙ sym (append_assoc w.before (r ∷ []) _) in
         let many : length (w.before ++ r ∷ []) ≡ p.frames + 1 = omega (arith, length-append w.before (r ∷ []), w.many) in
-        record { over = nothing_over; s = after rules w.s (frame p.at w.over here); before = w.before ++ r ∷ []; reports = reports; many = many; cut_is = w.cut_is ∙ ap cut_of met }
-    walks p founds.Dummy e h walked = let w = walked (omega arith) in goes p (past mode p founds.Dummy) w w.over refl (dummy_move p w.over e)
-    walks p founds.Nothing e h walked = let w = walked (omega arith) in goes p (past mode p founds.Nothing) w (passed w.over p.at 1) refl (next_move p w.over e (omega arith))
+        record { skipped = no_gap; s = after rules w.s (frame p.at w.skipped here); before = w.before ++ r ∷ []; reports = reports; many = many; cut_is = w.cut_is ∙ ap cut_of met }
+    walks p founds.Dummy e h walked = let w = walked (omega arith) in goes p (past mode p founds.Dummy) w w.skipped refl (dummy_move p w.skipped e)
+    walks p founds.Nothing e h walked = let w = walked (omega arith) in goes p (past mode p founds.Nothing) w (extended w.skipped p.at 1) refl (next_move p w.skipped e (omega arith))
 
     walk : (n : ℕ) → (stands link tuning stream n).at ≤ length stream → Walk (stands link tuning stream n)
-    walk zero h = record { over = nothing_over; s = at_start; before = []; reports = refl; many = refl; cut_is = refl }
+    walk zero h = record { skipped = no_gap; s = at_start; before = []; reports = refl; many = refl; cut_is = refl }
     walk (suc n) h = walks (stands link tuning stream n) (found_at link tuning stream (stands link tuning stream n)) refl h (walk n)
 
     -- where it stands at a whole frame, the next report is that frame's
@@ -141,7 +141,7 @@ module _ (link : Link) (tuning : Tuning) (stream : List Symbol) where
         let long : p.at + size ≤ length stream = omega (arith, length-drop p.at stream) in
         let here : found_at link tuning stream p ≡ founds.Coded = cond-true _ _ _ (le-leb 90 (length all) (omega arith)) ∙ sym (ap (finds p.behind) (take-take 90 size all least)) ∙ whole.1 in
         let w = walk n (omega arith) in
-        (w.before, report_of rules w.s.totals p.at (frame_from link stream p.at), _, w.reports ∙ ap (λ l. w.before ++ reports_of rules w.s l) (coded_move p w.over here long), w.many, refl, each w.s)
+        (w.before, report_of rules w.s.totals p.at (frame_from link stream p.at), _, w.reports ∙ ap (λ l. w.before ++ reports_of rules w.s l) (coded_move p w.skipped here long), w.many, refl, each w.s)
 
     -- and where it stands at a frame that is cut, that one's line tells how many symbols were there
     pub at_cut : (n : ℕ) → IsCutAt link tuning stream (stands link tuning stream n) → cut_of first ≡ cut_line (stands link tuning stream n).at (length stream - (stands link tuning stream n).at)
@@ -150,4 +150,4 @@ module _ (link : Link) (tuning : Tuning) (stream : List Symbol) where
         let none : length stream < p.at → p.at ≤ length stream = λ gone. (let never : founds.Nothing ≡ founds.Coded = sym (ap (begins (finds p.behind)) (drop_all p.at stream (omega arith))) ∙ is_cut.0 in cc) in
         let some : p.at ≤ length stream = elim (cases_lt (length stream) p.at) [ inl gone ↦ none gone | inr there ↦ there ] in
         let w = walk n some in
-        w.cut_is ∙ ap cut_of (cut_move p w.over is_cut) ∙ ap (cut_line p.at) (length-drop p.at stream)
+        w.cut_is ∙ ap cut_of (cut_move p w.skipped is_cut) ∙ ap (cut_line p.at) (length-drop p.at stream)

@@ -31,7 +31,7 @@ pub use Rattle.s2_bch.specs.Decoding.{nearest}
 pub use Rattle.s2_bch.proofs.NearestWords.{nearest_is_within, no_nearest, within_is_nearest}
 pub use Rattle.s2_scramble.specs.Baseband.{scrambled}
 pub use Rattle.s2_scramble.specs.Gold.{quarter_turns}
-pub use Rattle.s2_scramble.specs.Turns.{CanTurnBack, HasNegative, negative, turned}
+pub use Rattle.s2_scramble.specs.Rotations.{CanRotateBack, HasNegative, negative, rotated}
 pub use Rattle.s2_scramble.proofs.Blocks.{scrambled-scrambled}
 pub use Rattle.s2_bbframe.specs.Crc.{crc8}
 pub use Rattle.s2_bbframe.specs.DataStream.{IsPacket, closed_body, cuts, field_bytes, fields_of, header_at, stream_of, to_place}
@@ -52,7 +52,7 @@ pub use Rattle.s2_plframe.specs.declared.receive.found.Found.{Found}
 pub use Rattle.s2_plframe.proofs.HeaderFacts.{clean_passes, dummy_found}
 pub use Rattle.s2_plframe.proofs.HeadersBehind.{clean_behind, dummy_behind}
 pub use Rattle.s2_plframe.proofs.Payloads.{payload_again}
-pub use Rattle.s2_soft.specs.Clean.{Says}
+pub use Rattle.s2_soft.specs.Clean.{DecidesTo}
 pub use Rattle.s2_soft.specs.Divisors.{IsDivisor}
 pub use Rattle.s2_soft.specs.Soft.{soft_bit, soft_values}
 pub use Rattle.s2_soft.proofs.Clean.{clean_says}
@@ -76,10 +76,10 @@ pub use Rattle.s2_send.specs.Sending.{AreUnits, is_due}
 pub use Rattle.s2_send.specs.Transmitter.{Transmitter}
 pub use Rattle.s2_send.proofs.OnlyFrames.{length-baseband_frame, length-bch_word}
 pub use Rattle.s2_receive.specs.Answers.{ReceivesTo, RunAnswers}
-pub use Rattle.s2_receive.specs.Laws.{AreReceived, IsDummy, IsReceived, PassedNone, Piece, Spells, coded, dummy, frames_at, joined, stream_symbols}
-pub use Rattle.s2_receive.specs.Meeting.{Met, begins, by_found, cut, ended, frame, met_from, nothing_over, passed}
+pub use Rattle.s2_receive.specs.Laws.{AreReceived, IsDummy, IsReceived, Piece, SkippedNone, SpellSymbols, coded, dummy, frames_at, joined, stream_symbols}
+pub use Rattle.s2_receive.specs.Meeting.{Met, begins, by_found, cut, ended, extended, frame, met_from, no_gap}
 pub use Rattle.s2_receive.specs.Parts.{delivered_of}
-pub use Rattle.s2_receive.specs.Receiving.{Decision, Meets, Rules, RunsOut, Standing, State, after, after_all, all_lines, all_packets, all_well, at_end, at_start, begun, count_of, left_in, left_known, passes, report_of, step_of}
+pub use Rattle.s2_receive.specs.Receiving.{Decision, Meets, Rules, RunsOut, Standing, State, after, after_all, all_lines, all_packets, are_all_certified, at_end, at_start, begun, count_of, left_in, left_known, report_of, step_of, with_gap}
 pub use Rattle.s2_receive.specs.ReportLines.{cut_line, end_line, frame_line}
 unfoldable pub use Rattle.s2_receive.specs.Windows.{found_as}
 pub use Rattle.s2_receive.specs.declared.parts.Decided.{Decided as Answer}
@@ -88,17 +88,17 @@ pub use Rattle.s2_receive.specs.declared.report.Outcome.TheVariants.{Delivered, 
 pub use Rattle.s2_receive.specs.declared.report.Received.{Received}
 pub use Rattle.s2_receive.specs.declared.report.Report.{Report}
 pub use Rattle.s2_receive.specs.declared.report.Totals.{Totals}
-pub use Rattle.s2_receive.specs.declared.stretch.Stretch.{Stretch}
+pub use Rattle.s2_receive.specs.declared.gap.Gap.{Gap}
 pub use Rattle.s2_receive.proofs.FieldPlaces.{placed_fields, placed_front}
 pub use Rattle.s2_receive.proofs.JoinLemmas.{all_joined}
-pub use Rattle.s2_receive.proofs.MetLemmas.{cut_frame, met-dummy, met-passed, whole_frame}
+pub use Rattle.s2_receive.proofs.MetLemmas.{cut_frame, met-dummy, met-extended, whole_frame}
 pub use Rattle.s2_receive.proofs.Reception.{front, gives}
 pub use Rattle.s2_receive.proofs.RunLemmas.{after-append, lines-append, packets-append}
 pub use Rattle.s2_receive.proofs.SameSymbols.{same_met}
 pub use Rattle.s2_receive.proofs.StepLemmas.{symbols_least}
-pub use Rattle.s2_modem.specs.Both.{AreBytes, Hears, IsByte, IsDelivered, IsDeliveredCertified, certified_lines, run_places, sent_symbols, totals_of}
+pub use Rattle.s2_modem.specs.Both.{AreBytes, IsByte, IsDelivered, IsDeliveredCertified, ReceivesAll, certified_lines, run_places, sent_symbols, totals_of}
 pub use Rattle.s2_modem.specs.Front.{IsCleanFrame}
-pub use Rattle.s2_modem.specs.Headline.{ArrivalLaw, BothCodesLaw, CorrectsWithin, HearsLaw, HearsScattered, IsSent, ScatteredFrameLaw}
+pub use Rattle.s2_modem.specs.Headline.{ArrivalLaw, BothCodesLaw, CorrectsWithin, IsSent, ReceivesAllLaw, ReceivesScattered, ScatteredFrameLaw}
 pub use Rattle.s2_modem.specs.Listening.{FindsWord, Listening, Reads, decides, decision_held}
 pub use Rattle.s2_modem.specs.Promise.{Arriving, Headline, IsCutAt, IsHeadline, IsNext, IsReadable, FramePromises, KeepsHeadline, Place, RunsHeadline, closed_packets, decision_from, found_at, frame_from, is_delivered, past, stands, wrong_bits}
 pub use Rattle.s2_modem.specs.Reception.{AllAsLikely, AllTold, IsAsLikely, IsCertifiedBy, IsCorrected, Receiver, link_rules, rules_for}

@@ -10,7 +10,7 @@ use Rattle.s2_matrix.specs.Code.{code_of}
 use Rattle.s2_check.specs.Cost.{IsMostLikely}
 use Rattle.s2_split.specs.Scattered.{IsScattered}
 use Rattle.s2_bbframe.specs.DataStream.{header_at, to_place, field_bytes}
-use Rattle.s2_receive.specs.Laws.{Spells}
+use Rattle.s2_receive.specs.Laws.{SpellSymbols}
 use Rattle.s2_receive.specs.Receiving.{Decision}
 use Rattle.s2_receive.specs.declared.report.Totals.{Totals}
 use Rattle.s2_check.specs.Strict.{IsSole}
@@ -28,8 +28,8 @@ use Rattle.s2_send.specs.Sending.{TransmitterRuns}
 use Rattle.s2_send.specs.Frames.{IsCodewordFor}
 use Rattle.s2_modem.specs.Reports.{frame_soft, received_word, message_of, frame_decision}
 use Rattle.s2_receive.specs.ReportLines.{end_line}
-use Rattle.s2_modem.specs.Reception.{link_rules, Receives}
-use Rattle.s2_modem.specs.Both.{AreBytes, IsDelivered, IsDeliveredCertified, Hears, certified_lines, run_places, totals_of}
+use Rattle.s2_modem.specs.Reception.{link_rules, ReceivesTotals}
+use Rattle.s2_modem.specs.Both.{AreBytes, IsDelivered, IsDeliveredCertified, ReceivesAll, certified_lines, run_places, totals_of}
 
 -- a frame that has a certificate: no codeword costs less under its soft values than its bits
 abbrev pub LikelyFrameLaw : Mode → Type 0
@@ -72,19 +72,19 @@ BothCodesLaw m = (link : Link) (tuning : Tuning) → AllCorrected m link tuning
 
 -- if a frame's soft values are scattered about the codeword that was sent, that codeword is decided, certified, with no
 -- bit changed
-abbrev pub HearsScattered : Mode → Link → Tuning → List Symbol → (last : Decision) → Type 0
-HearsScattered m link tuning symbols last =
+abbrev pub ReceivesScattered : Mode → Link → Tuning → List Symbol → (last : Decision) → Type 0
+ReceivesScattered m link tuning symbols last =
     (at : ℕ) (field : List ℕ) (codeword : List Bool) (sent : IsSent m link at field codeword) → IsScattered (code_of link.rows) (frame_soft link tuning symbols) codeword
     → IsDeliveredCertified last codeword (message_of link.setup.mode sent.codeword_is.bch_word) (header_at link.setup.roll_off at field) field
 
--- `HearsScattered` holds for each link, tuning and symbols of a mode
+-- `ReceivesScattered` holds for each link, tuning and symbols of a mode
 abbrev pub ScatteredFrameLaw : Mode → Type 0
-ScatteredFrameLaw m = (link : Link) (tuning : Tuning) (symbols : List Symbol) → HearsScattered m link tuning symbols (frame_decision link tuning symbols)
+ScatteredFrameLaw m = (link : Link) (tuning : Tuning) (symbols : List Symbol) → ReceivesScattered m link tuning symbols (frame_decision link tuning symbols)
 
--- each frame of a link is received as it was sent, with each divisor
-abbrev pub HearsLaw : Mode → Type 0
-HearsLaw m =
-    (link : Link) (tuning : Tuning) (limit : ℕ) → IsLinkOf m link → link.setup.roll_off ≤ max_roll_off → IsDivisor tuning.divisor → Hears link (link_rules link tuning limit)
+-- each frame of a link is received unchanged, with each divisor
+abbrev pub ReceivesAllLaw : Mode → Type 0
+ReceivesAllLaw m =
+    (link : Link) (tuning : Tuning) (limit : ℕ) → IsLinkOf m link → link.setup.roll_off ≤ max_roll_off → IsDivisor tuning.divisor → ReceivesAll link (link_rules link tuning limit)
 
 -- all packets, a line for each frame, sole, and the end's
 pub record AllArrives (t : Transmitter) (source : List ℕ) (counts : Counts) (totals : Totals) (before behind : Streams) : Type 0 where
@@ -92,9 +92,9 @@ pub record AllArrives (t : Transmitter) (source : List ℕ) (counts : Counts) (t
   pub totals_are : totals ≡ totals_of counts
   pub lines : Appends before.out behind.out (certified_lines 0 (run_places (symbols_in t.link.setup.mode) t.dummy_every 1 0 counts.frames) ++ end_line (totals_of counts))
 
--- what a run of the transmitter writes, the frames and the dummy frames among them, received whole, by each divisor
+-- the frames and dummy frames that a run of the transmitter writes are received completely, with each divisor
 abbrev pub ArrivalLaw : Mode → Type 0
 ArrivalLaw m =
     (t : Transmitter) (tuning : Tuning) (count_old count_new : ℕ) (source written : List ℕ) (counts : Counts) (totals : Totals) (source_left : Option (List ℕ)) (before behind : Streams)
     → IsLinkOf m t.link → t.link.setup.roll_off ≤ max_roll_off → IsDivisor tuning.divisor → AreBytes source → TransmitterRuns t (ReadFails t.limit count_old count_new) (Some source) source_left (Some []) (Some written) (Ok counts)
-    → Spells before.taken (symbols_of written) → Receives (link_rules t.link tuning max_symbols) before behind totals → AllArrives t source counts totals before behind
+    → SpellSymbols before.taken (symbols_of written) → ReceivesTotals (link_rules t.link tuning max_symbols) before behind totals → AllArrives t source counts totals before behind

@@ -1,4 +1,4 @@
--- What the parts of a receiver hold (EN 302 307-1, 5.1 to 5.5).
+-- The values of a receiver's parts (EN 302 307-1, 5.1 to 5.5).
 use Rattle.std.specs.Prelude.{◌≡◌, ℕ, Bool, List, Option, Some, None, IfSome, ℤ}
 use Rattle.s2_mode.specs.Mode.{Mode, IsMode, k_of, shape_in, HasCodeSizes}
 use Rattle.s2_mode.specs.declared.symbols.Symbol.{Symbol}
@@ -30,18 +30,18 @@ Reads m bch_word (Some fixed) outcome delivered =
     × (delivered ≡ delivered_by (scrambled (message_of m bch_word)) (header_of_bytes m (header_in (scrambled (message_of m bch_word)))))
 Reads m bch_word None outcome delivered = (outcome ≡ NoWord) × (delivered ≡ None)
 
--- a decider of frames: its link, how it is tuned, what it decided last, and the data field that came of that
+-- a decider of frames: its link, its tuning, its last decision, and the data field of that decision
 pub record Listening : Type 0 where
   pub link : Link
   pub tuning : Tuning
   pub last : Decision
   pub field : List ℕ
 
--- what it decides of a frame's symbols
+-- its decision on a frame's symbols
 abbrev pub decides : Listening → List Symbol → Decision
 decides d = frame_decision d.link d.tuning
 
--- what its stages hold: a mode, what soft values are divided by, and a scrambling number
+-- the values of its stages: a mode, the divisor of soft values, and a scrambling number
 pub record Demodulating : Type 0 where
   pub mode : Mode
   pub divisor : ℕ
@@ -57,7 +57,7 @@ pub record Reading : Type 0 where
   pub mode : Mode
   pub field : List ℕ
 
--- what the stages show
+-- the last decision, from the values of the stages
 abbrev pub decision_held : Mode → List ℤ → List Bool → Option View → List Bool → Decided → List ℕ → Decision
 decision_held m soft bits certificate bch_word d field = record {
   soft = soft;

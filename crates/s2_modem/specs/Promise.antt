@@ -1,4 +1,4 @@
--- The headline (EN 302 307-1, 5.1 to 5.5): what a receiver of a link promises of a whole stream, of the packets and of
+-- The headline (EN 302 307-1, 5.1 to 5.5): the promise of a receiver of a link for a whole stream, for the packets and
 -- the report that it writes. It is the clause `headline` of `demodulate`, and of `Receiver::run` for a new receiver and
 -- a reader whose bytes are known, if the call returns no fault. `laws::headline` says it of a caller that takes all
 -- steps one by one.
@@ -26,7 +26,7 @@ use Rattle.s2_send.specs.Laws.{IsLinkOf}
 use Rattle.s2_receive.specs.Windows.{found_as}
 use Rattle.s2_receive.specs.ReportLines.{frame_line, cut_line, end_line}
 use Rattle.s2_receive.specs.Receiving.{State, Decision, RunsOut, begun}
-use Rattle.s2_receive.specs.Meeting.{nothing_over, begins, met_from}
+use Rattle.s2_receive.specs.Meeting.{no_gap, begins, met_from}
 use Rattle.s2_receive.specs.Laws.{Piece, joined, stream_symbols, events_of}
 use Rattle.s2_receive.specs.declared.report.Outcome.{Outcome}
 use Rattle.s2_receive.specs.declared.report.Outcome.TheVariants.{Delivered}
@@ -47,26 +47,27 @@ frame_from link symbols at = take (symbols_in link.setup.mode) (drop at symbols)
 abbrev pub decision_from : Link → Tuning → List Symbol → ℕ → Decision
 decision_from link tuning symbols at = frame_decision link tuning (frame_from link symbols at)
 
--- ---- where the search stands
+-- ---- the place of the search
 
--- at which symbol of a stream, after how many coded frames, and whether a frame ended right before
+-- a place of the search: the symbol of the stream, the number of coded frames before it, and whether a frame ended right
+-- before it
 pub record Place : Type 0 where
   pub at : ℕ
   pub frames : ℕ
   pub behind : Bool
 
--- what begins there: the header of a coded frame passes, that of a dummy frame, or neither
+-- what begins there: a coded frame, a dummy frame, or neither
 abbrev pub found_at : Link → Tuning → List Symbol → Place → Found
-found_at link tuning symbols place = begins (found_as link.setup.mode tuning.lock place.behind) (drop place.at symbols)
+found_at link tuning symbols place = begins (found_as link.setup.mode tuning.max_header_errors place.behind) (drop place.at symbols)
 
--- where the search continues: after the coded frame, after the dummy frame, or at the next symbol
+-- the place at which the search continues: after the coded frame, after the dummy frame, or at the next symbol
 abbrev pub past : Mode → Place → Found → Place
 past m place founds.Coded = record { at = place.at + symbols_in m; frames = place.frames + 1; behind = true }
 past m place founds.Dummy = record { at = place.at + dummy_symbols; frames = place.frames; behind = true }
 past m place founds.Nothing = record { at = place.at + 1; frames = place.frames; behind = false }
 
--- where the search is after so many moves: first at the stream's first symbol, then after each frame that it came to,
--- and at the next symbol if no header passes
+-- The place of the search after n moves. It begins at the stream's first symbol. It continues after each frame that it
+-- finds, and at the next symbol if it finds none
 abbrev pub stands : Link → Tuning → List Symbol → (moves : ℕ) → Place
 stands link tuning symbols zero = record { at = 0; frames = 0; behind = false }
 stands link tuning symbols (suc moves) = past link.setup.mode (stands link tuning symbols moves) (found_at link tuning symbols (stands link tuning symbols moves))
@@ -75,7 +76,7 @@ stands link tuning symbols (suc moves) = past link.setup.mode (stands link tunin
 abbrev pub IsCutAt : Link → Tuning → List Symbol → Place → Type 0
 IsCutAt link tuning symbols place = (found_at link tuning symbols place ≡ founds.Coded) × (length symbols < place.at + symbols_in link.setup.mode)
 
--- ---- frames as they come
+-- ---- received frames
 
 -- in how many places the first Nbch decided bits of a frame's symbols differ from a BCH word
 abbrev pub wrong_bits : Link → Tuning → List Symbol → List Bool → ℕ
@@ -90,7 +91,7 @@ IsReadable link tuning behind at field symbols =
 
 -- those of consecutive data fields, and dummy frames among them
 abbrev pub AreReadable : Link → Tuning → Bool → ℕ → List Piece → List (List ℕ) → Type 0
-AreReadable link tuning = AreEach (IsReadable link tuning) (found_as link.setup.mode tuning.lock)
+AreReadable link tuning = AreEach (IsReadable link tuning) (found_as link.setup.mode tuning.max_header_errors)
 
 -- Symbols that begin with the first frames that a transmitter of the link makes of these packets, as they come. The
 -- frames are those of these data fields; other symbols follow
@@ -107,7 +108,7 @@ closed_packets packets fields = joined (take (closed_in (length (joined fields))
 
 -- ---- the report
 
--- the line after so many others is that of a frame at this symbol, of which this holds
+-- the line with this number is that of a frame at this symbol, and this fact holds for it
 abbrev pub IsNext : List Report → Place → (Report → Type 0) → Type 0
 IsNext frames place so =
     (before : List Report) × (report : Report) × (later : List Report)
@@ -118,11 +119,11 @@ abbrev pub is_delivered : Outcome → Bool
 is_delivered (Delivered fixed) = true
 is_delivered outcome = false
 
--- What the joiner gives of a stream of symbols. Each frame that is met gives it a data field, or a gap if it is not
--- delivered. Symbols that were passed over and a cut frame give a gap too
+-- The packets of the joiner for a stream of symbols. Each frame that is met gives it a data field, or a gap if it is not
+-- delivered. Skipped symbols and a cut frame give a gap too
 abbrev pub joined_on : Link → Tuning → List Symbol → Joined
 joined_on link tuning symbols =
-    joining None (events_of (frame_decision link tuning) (met_from (found_as link.setup.mode tuning.lock) (symbols_in link.setup.mode) 0 0 false nothing_over symbols))
+    joining None (events_of (frame_decision link tuning) (met_from (found_as link.setup.mode tuning.max_header_errors) (symbols_in link.setup.mode) 0 0 false no_gap symbols))
 
 -- The report has a line for each of these frames, numbered from 1. Then comes the line of a cut frame, exactly if the
 -- search comes to one, with its symbol and the number of symbols left. Then comes the last line, with the numbers of
@@ -161,8 +162,8 @@ pub record Headline (link : Link) (tuning : Tuning) (symbols : List Symbol) (pac
       → let place = stands link tuning symbols moves in let here = frame_from link symbols place.at in let wrong = wrong_bits link tuning here sent.codeword_is.bch_word in
       (IsClear link tuning place.behind codeword here → IsNext frames place (λ frame. IsTrue (is_certified frame.verdict) × (frame.outcome ≡ Delivered 0)))
       × (IsWholeFrame link tuning place.behind here → wrong ≤ t_of link.setup.mode → IsNext frames place (λ frame. frame.outcome ≡ Delivered wrong))
-  -- If the symbols begin with the first frames that a transmitter of the link makes of some packets, with or without
-  -- dummy frames, the packets written begin with exactly those whose closing CRC-8 is in the data fields of these
+  -- The symbols may begin with the first frames that a transmitter of the link makes of some packets, with or without
+  -- dummy frames. Then the packets written begin with exactly those whose closing CRC-8 is in the data fields of these
   -- frames. If these are all frames, they begin with all packets
   pub heard : (sent fields later : List (List ℕ)) (pieces : List Piece) (rest : List Symbol) → Arriving link tuning symbols sent fields later pieces rest
       → (more : List ℕ) × (packets ≡ closed_packets sent fields ++ more) × (later ≡ [] → closed_packets sent fields ≡ joined sent)
@@ -175,11 +176,11 @@ abbrev pub IsHeadline : Link → Tuning → (before behind : Streams) → Type 0
 IsHeadline link tuning before behind =
     IfSome before.taken (λ bytes. (packets : List ℕ) × (report : List ℕ) × Appends before.given behind.given packets × Appends before.out behind.out report × Headline link tuning (symbols_of bytes) packets report)
 
--- of a run, which ended, from a new receiver
+-- the same for a run from a new receiver to the end
 abbrev pub RunsHeadline : {T E : Type 0} → Receiver → (before behind : Streams) → Result T E → Type 0
 RunsHeadline r before behind result = OnOk result (r.state ≡ begun → IsHeadline r.link r.tuning before behind)
 
--- the headline holds of every run that goes by the link's rules from the beginning to the end
+-- the headline holds for every run by the link's rules from the beginning to the end
 abbrev pub KeepsHeadline : Link → Tuning → Type 0
 KeepsHeadline link tuning =
     (limit : ℕ) (state : State) (before behind : Streams) → RunsOut (link_rules link tuning limit) begun state before behind → IsHeadline link tuning before behind
@@ -188,8 +189,8 @@ KeepsHeadline link tuning =
 abbrev pub HeadlineLaw : Mode → Type 0
 HeadlineLaw m = (link : Link) (tuning : Tuning) → IsLinkOf m link → link.setup.roll_off ≤ max_roll_off → IsDivisor tuning.divisor → KeepsHeadline link tuning
 
--- The facts about each frame of a link, for any symbols. Its bits are as likely as its verdict says, and certified. BCH decoding changes at most t of
--- them. A frame that was sent is delivered.
+-- The facts about each frame of a link, for any symbols. Its bits are as likely as its verdict says, and certified. BCH
+-- decoding changes at most t of them. A frame that was sent is delivered.
 pub record FramePromises (link : Link) (tuning : Tuning) : Type 0 where
   pub as_likely : AllAsLikely link tuning
   pub told : AllTold link tuning

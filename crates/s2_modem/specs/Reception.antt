@@ -1,4 +1,4 @@
--- What a receiver of a link reads, reports and writes, and which setups it refuses (EN 302 307-1, 5.1 to 5.5).
+-- The input, the report and the output of a receiver of a link, and the setups that it refuses (EN 302 307-1, 5.1 to 5.5).
 use Rattle.std.specs.Prelude.{◌≡◌, IsTrue, ℕ, ℤ, Bool, if◌then◌else◌, List, Option, None, Result, Ok, Err, ⊤}
 use Rattle.s2_mode.specs.Mode.{Mode, k_of, symbols_in}
 use Rattle.s2_mode.specs.Streams.{Streams}
@@ -20,8 +20,8 @@ use Rattle.s2_mode.specs.Limits.{max_symbols}
 use Rattle.s2_link.specs.declared.setup.Setup.{Setup}
 use Rattle.s2_link.specs.declared.fault.SetupFault.{SetupFault}
 use Rattle.s2_link.specs.declared.fault.SetupFault.TheVariants as faults
-use Rattle.s2_modem.specs.declared.whole.DemodFault.{DemodFault}
-use Rattle.s2_modem.specs.declared.whole.DemodFault.TheVariants as demod_faults
+use Rattle.s2_modem.specs.declared.demodulate.DemodFault.{DemodFault}
+use Rattle.s2_modem.specs.declared.demodulate.DemodFault.TheVariants as demod_faults
 use Rattle.s2_link.specs.Tuning.{Tuning, IsTuning, RefusesTuning}
 use Rattle.s2_link.specs.Link.{Link, link_of, IsSetUp, RefusesLink}
 use Rattle.s2_receive.specs.Windows.{found_as}
@@ -34,7 +34,7 @@ use Rattle.s2_modem.specs.Reports.{frame_soft, frame_decision, received_word, me
 
 -- a link's rules: its header, its frame size, the decision on its frames, and the limit of symbols
 abbrev pub link_rules : Link → Tuning → ℕ → Rules
-link_rules link tuning limit = record { finds = found_as link.setup.mode tuning.lock; size = symbols_in link.setup.mode; decide = frame_decision link tuning; limit = limit }
+link_rules link tuning limit = record { finds = found_as link.setup.mode tuning.max_header_errors; size = symbols_in link.setup.mode; decide = frame_decision link tuning; limit = limit }
 
 -- a receiver: its link, its tuning, its limit of symbols, its state, and its last decision
 pub record Receiver : Type 0 where
@@ -49,13 +49,13 @@ pub record Receiver : Type 0 where
 abbrev pub rules_for : Receiver → Rules
 rules_for r = link_rules r.link r.tuning r.limit
 
--- what is seen of a receiver: its rules, its state, and its last decision
+-- a receiver's rules, its state, its last decision, and its packets
 abbrev pub seen : Receiver → Seen
 seen r = record { rules = rules_for r; state = r.state; last = r.last; packets = r.packets }
 
--- a run of all that is left
-abbrev pub Runs : (old new : Receiver) → (before behind : Streams) → Result Received StreamFault → Type 0
-Runs old new before behind result = RunAnswers (rules_for old) old.state new.state before behind result
+-- a run to the end of the stream, from a receiver's state to another
+abbrev pub RunsReceiver : (old new : Receiver) → (before behind : Streams) → Result Received StreamFault → Type 0
+RunsReceiver old new before behind result = RunAnswers (rules_for old) old.state new.state before behind result
 
 -- the certificate that it shows: that of the last decision, if the last step came to that frame; else none
 abbrev pub certificate_of : Receiver → Option View
@@ -77,7 +77,7 @@ AllAsLikely link tuning =
 abbrev pub IsCertifiedBy : Rows → Verdict → Decision → Type 0
 IsCertifiedBy rows verdict d = IsShown rows d.soft (record { verdict = verdict; bits = d.bits; certificate = d.certificate })
 
--- The outcome of a frame is what BCH decoding finds of its first Nbch decided bits. It finds a word of the code that
+-- The outcome of a frame follows from BCH decoding of its first Nbch decided bits. It finds a word of the code that
 -- differs from them in exactly the reported number of places, at most t, and begins with the message. Or there is none
 -- within t places
 abbrev pub IsCorrected : Mode → Decision → Outcome → Type 0
@@ -86,24 +86,24 @@ IsCorrected m d (Delivered fixed) =
 IsCorrected m d (BadHeader fault) = (word : List Bool) × IsWithin m (received_word m d.bits) word × (d.message ≡ message_of m word)
 IsCorrected m d NoWord = (word : List Bool) → IsWithin m (received_word m d.bits) word → ⊥
 
--- what a report says of a frame is so
+-- the report of a frame is true
 pub record IsTold (link : Link) (verdict : Verdict) (outcome : Outcome) (d : Decision) : Type 0 where
   pub certified : IsCertifiedBy link.rows verdict d
   pub within : IsCorrected link.setup.mode d outcome
 
--- and so it is of any frame's symbols
+-- it is true for any frame's symbols
 abbrev pub AllTold : Link → Tuning → Type 0
 AllTold link tuning =
     (symbols : List Symbol) → IsTold link (frame_decision link tuning symbols).verdict (frame_decision link tuning symbols).outcome (frame_decision link tuning symbols)
 
--- when each refusal comes: the first of five; "out of memory" only if none of them does
+-- the cause of each refusal; the first of five is returned, and "out of memory" only if none of them applies
 abbrev pub Refuses : Setup → Rows → Tuning → SetupFault → Type 0
 Refuses setup rows tuning faults.BadRounds = IsSetUp setup rows × RefusesTuning tuning faults.BadRounds
 Refuses setup rows tuning faults.BadPasses = IsSetUp setup rows × RefusesTuning tuning faults.BadPasses
 Refuses setup rows tuning faults.NoMemory = IsSetUp setup rows × IsTuning tuning
 Refuses setup rows tuning fault = RefusesLink setup rows fault
 
--- a new receiver of a link, tuned so
+-- a new receiver of a link with this tuning
 pub record IsNew (link : Link) (tuning : Tuning) (r : Receiver) : Type 0 where
   pub link_is : r.link ≡ link
   pub tuning_is : r.tuning ≡ tuning
@@ -111,28 +111,28 @@ pub record IsNew (link : Link) (tuning : Tuning) (r : Receiver) : Type 0 where
   pub state : r.state ≡ begun
   pub undecided : IsUndecided link.setup.mode r.last
 
--- the answer for a setup, rows and a tuning
+-- the result for a setup, rows and a tuning
 abbrev pub Makes : Setup → Rows → Tuning → Result Receiver SetupFault → Type 0
 Makes setup rows tuning (Ok r) = IsSetUp setup rows × IsTuning tuning × IsNew (link_of setup rows) tuning r
 Makes setup rows tuning (Err fault) = Refuses setup rows tuning fault
 
 -- ---- whole streams in memory
 
--- all of the symbols of bytes in memory were received to the end, and the totals are theirs
-abbrev pub Receives : Rules → (before behind : Streams) → Totals → Type 0
-Receives rules before behind totals = (state : State) × ReceivesTo rules state before behind totals
+-- all symbols of bytes in memory were received to the end, with these totals
+abbrev pub ReceivesTotals : Rules → (before behind : Streams) → Totals → Type 0
+ReceivesTotals rules before behind totals = (state : State) × ReceivesTo rules state before behind totals
 
--- the answer for bytes on a link: all that they spell, or the beginning of it up to a write that failed, or nothing since there
--- is no memory
+-- the result for bytes on a link: they were received to the end, or up to a failed write, or not at all, since memory
+-- was refused
 abbrev pub DemodulatesOn : Link → Tuning → (before behind : Streams) → Result Totals DemodFault → Type 0
-DemodulatesOn link tuning before behind (Ok totals) = Receives (link_rules link tuning max_symbols) before behind totals
+DemodulatesOn link tuning before behind (Ok totals) = ReceivesTotals (link_rules link tuning max_symbols) before behind totals
 DemodulatesOn link tuning before behind (Err demod_faults.Write) = BreaksIn (link_rules link tuning max_symbols) before behind
 DemodulatesOn link tuning before behind (Err (demod_faults.Setup fault)) = (fault ≡ faults.NoMemory) × (behind.given ≡ before.given) × (behind.out ≡ before.out)
 
--- the answer for bytes: all that they spell, or the beginning of it up to a write that failed, or a refusal that writes nothing
+-- the result for bytes: they were received to the end, or up to a failed write, or refused, and then nothing was written
 abbrev pub Demodulates : Setup → Rows → Tuning → (before behind : Streams) → Result Totals DemodFault → Type 0
 Demodulates setup rows tuning before behind (Ok totals) =
-    IsSetUp setup rows × IsTuning tuning × Receives (link_rules (link_of setup rows) tuning max_symbols) before behind totals
+    IsSetUp setup rows × IsTuning tuning × ReceivesTotals (link_rules (link_of setup rows) tuning max_symbols) before behind totals
 Demodulates setup rows tuning before behind (Err demod_faults.Write) =
     IsSetUp setup rows × IsTuning tuning × BreaksIn (link_rules (link_of setup rows) tuning max_symbols) before behind
 Demodulates setup rows tuning before behind (Err (demod_faults.Setup fault)) = Refuses setup rows tuning fault × (behind.given ≡ before.given) × (behind.out ≡ before.out)

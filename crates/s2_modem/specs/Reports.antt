@@ -1,4 +1,4 @@
--- The decision on a frame's symbols, and what is delivered (EN 302 307-1, 5.1 to 5.5).
+-- The decision on a frame's symbols, and the message delivered (EN 302 307-1, 5.1 to 5.5).
 use Rattle.std.specs.Prelude.{◌≡◌, ℕ, ◌/◌, Bool, false, List, replicate, take, Option, Some, None, Result, Ok, Err, ℤ, pos}
 use Rattle.s2_mode.specs.Mode.{Mode, kbch_of, k_of, n_of}
 use Rattle.s2_mode.specs.declared.symbols.Symbol.{Symbol}

@@ -12,8 +12,8 @@ use Rattle.s2_split.specs.Scattered.{IsScattered}
 use Rattle.s2_bbframe.specs.DataStream.{IsPacket, stream_of, fields_of, field_bytes, header_at}
 use Rattle.s2_bbframe.specs.Joining.{closed_in}
 use Rattle.s2_receive.specs.Meeting.{Met}
-use Rattle.s2_receive.specs.Receiving.{Rules, State, Went, RunsTo, begun}
-use Rattle.s2_receive.specs.Laws.{Piece, coded, dummy, IsDummy, Spells, joined, stream_symbols}
+use Rattle.s2_receive.specs.Receiving.{Rules, State, Processed, RunsTo, begun}
+use Rattle.s2_receive.specs.Laws.{Piece, coded, dummy, IsDummy, SpellSymbols, joined, stream_symbols}
 use Rattle.s2_check.specs.Verdicts.{is_certified}
 use Rattle.s2_check.specs.declared.verdict.Verdict.{Verdict}
 use Rattle.s2_soft.specs.Divisors.{IsDivisor}
@@ -30,10 +30,10 @@ use Rattle.s2_modem.specs.Both.{AreBytes, sent_symbols, certified_lines}
 -- the symbols of a whole frame of the link, with a header that passes there, right after a frame or not
 abbrev pub IsWholeFrame : Link → Tuning → Bool → List Symbol → Type 0
 IsWholeFrame link tuning behind symbols =
-    (length symbols ≡ symbols_in link.setup.mode) × (found_as link.setup.mode tuning.lock behind (take header_symbols symbols) ≡ founds.Coded)
+    (length symbols ≡ symbols_in link.setup.mode) × (found_as link.setup.mode tuning.max_header_errors behind (take header_symbols symbols) ≡ founds.Coded)
 
--- a frame came clear: as it was sent; or whole, with a header that passes there and soft values that are scattered
--- about the codeword
+-- a frame came clear: unchanged; or whole, with a header that passes there and soft values that are scattered about the
+-- codeword
 abbrev pub IsClear : Link → Tuning → Bool → List Bool → List Symbol → Type 0
 IsClear link tuning behind codeword symbols =
     (symbols ≡ sent_symbols link codeword) ⊎ (IsWholeFrame link tuning behind symbols × IsScattered (code_of link.rows) (frame_soft link tuning symbols) codeword)
@@ -54,7 +54,7 @@ AreEach holds finds behind at (dummy symbols ∷ pieces) fields = IsDummy finds 
 
 -- the frames of consecutive data fields, with dummy frames among them: each is clear, and its header is found
 abbrev pub AreHeard : Link → Tuning → Bool → ℕ → List Piece → List (List ℕ) → Type 0
-AreHeard link tuning = AreEach (IsHeard link tuning) (found_as link.setup.mode tuning.lock)
+AreHeard link tuning = AreEach (IsHeard link tuning) (found_as link.setup.mode tuning.max_header_errors)
 
 -- the places of the coded frames, from a position on, and their verdicts by these rules
 abbrev pub places_in : Rules → ℕ → List Piece → List (ℕ × Verdict)
@@ -70,28 +70,28 @@ pub record FrontArrives (link : Link) (tuning : Tuning) (limit : ℕ) (packets f
   pub certified : All (λ (place : ℕ × Verdict). IsTrue (is_certified place.1)) (places_in (link_rules link tuning limit) 0 pieces)
   pub all : later ≡ [] → take (closed_in (length (joined fields))) packets ≡ packets
 
--- What a receiver, with any divisor, has written after the first coded frames of a stream of packets, if they came
--- clear. Dummy frames may be among them, and anything may follow
+-- The output of a receiver, with any divisor, after the first coded frames of a stream of packets, if they came clear.
+-- Dummy frames may be among them, and anything may follow
 abbrev pub FirstFramesLaw : Mode → Type 0
 FirstFramesLaw m =
     (link : Link) (tuning : Tuning) (limit : ℕ) (packets fields later : List (List ℕ)) (pieces : List Piece) (rest : List Symbol) (mid : State) (before behind : Streams) (met : List Met)
     → IsLinkOf m link → link.setup.roll_off ≤ max_roll_off → IsDivisor tuning.divisor → All IsPacket packets → AreBytes (joined packets)
     → fields ++ later ≡ fields_of (field_bytes link.setup.mode) (stream_of packets) → AreHeard link tuning false 0 pieces fields
-    → Spells before.taken (stream_symbols pieces ++ rest) → length met ≡ length fields → Went (link_rules link tuning limit) begun mid before behind met
+    → SpellSymbols before.taken (stream_symbols pieces ++ rest) → length met ≡ length fields → Processed (link_rules link tuning limit) begun mid before behind met
     → FrontArrives link tuning limit packets fields later pieces before behind
 
--- two runs came to the same totals and the same answer, and wrote the same
-pub record GiveTheSame (first second : State) (well other_well : Bool) (before behind other_before other_behind : Streams) : Type 0 where
+-- two runs have the same totals and the same result, and wrote the same
+pub record GiveTheSame (first second : State) (certified other_certified : Bool) (before behind other_before other_behind : Streams) : Type 0 where
   pub totals : first.standing.totals ≡ second.standing.totals
-  pub answer : well ≡ other_well
+  pub answer : certified ≡ other_certified
   pub packets : (gained : List ℕ) × Appends before.given behind.given gained × Appends other_before.given other_behind.given gained
   pub lines : (gained : List ℕ) × Appends before.out behind.out gained × Appends other_before.out other_behind.out gained
 
--- Two receivers of a link, in the same state, that run to the end over bytes that spell the same symbols give the same.
--- How their readers cut the bytes and which bytes are left over does not matter
+-- Two receivers of a link in the same state, over bytes that spell the same symbols, run to the end with the same result.
+-- It does not matter how their readers cut the bytes, nor which bytes come after the last symbol
 abbrev pub OneStreamLaw : Type 0
 OneStreamLaw =
-    (link : Link) (tuning : Tuning) (limit : ℕ) (old first second : State) (symbols : List Symbol) (before behind other_before other_behind : Streams) (well other_well : Bool)
-    → Spells before.taken symbols → Spells other_before.taken symbols
-    → RunsTo (link_rules link tuning limit) old first before behind well → RunsTo (link_rules link tuning limit) old second other_before other_behind other_well
-    → GiveTheSame first second well other_well before behind other_before other_behind
+    (link : Link) (tuning : Tuning) (limit : ℕ) (old first second : State) (symbols : List Symbol) (before behind other_before other_behind : Streams) (certified other_certified : Bool)
+    → SpellSymbols before.taken symbols → SpellSymbols other_before.taken symbols
+    → RunsTo (link_rules link tuning limit) old first before behind certified → RunsTo (link_rules link tuning limit) old second other_before other_behind other_certified
+    → GiveTheSame first second certified other_certified before behind other_before other_behind

@@ -10,8 +10,8 @@ use s2_mode::Mode;
 use std::alloc::{AllocError, Global};
 use std::marker::Model;
 
-/// Takes the first bits of a word through BCH decoding, and says in how many places the BCH word that
-/// is found differs, or that there is none.
+/// Decodes the first bits of a word. Returns in how many places the BCH word found differs, or `None` if there is
+/// none near enough.
 fn find_word(mode: Mode, bch: &mut Bch, bits: &Bits, bch_word: &mut Bits) -> Option<u32>
     requires code { bch.old ≡ mode }
     requires bits { k_of mode ≤ length bits.now }
@@ -24,7 +24,7 @@ fn find_word(mode: Mode, bch: &mut Bch, bits: &Bits, bch_word: &mut Bits) -> Opt
     bch.decode_in_place(bch_word)
 }
 
-/// Corrects the decided bits of frames. To contracts it is its mode, and the word that it left last.
+/// Corrects the decided bits of frames. In contracts, it is its mode, and the word that it left last.
 pub(crate) struct Corrector {
     mode: Mode,
     bch: Bch,

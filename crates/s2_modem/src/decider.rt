@@ -66,7 +66,7 @@ impl<'a> Decider<'a> {
         ensures undecided { IfOk result (λ d. IsUndecided link.now.setup.mode d.last) }
     {
         let mode = link.mode();
-        // the promise on the mode is a part of this promise
+        // the clauses of the mode are a part of these clauses
         let _k = mode.k();
         let last = Decided {
             verdict: Verdict::Broken,
@@ -128,12 +128,12 @@ impl<'a> Decide for Decider<'a> {
 
     ghost last = { λ d. d.last };
 
-    /// Decides a frame: exactly what the definition says of its symbols.
+    /// Decides a frame, exactly as the definition says for its symbols.
     fn decide(&mut self, symbols: &[Symbol]) {
         self.demodulator.find_soft(symbols, self.judge.soft_mut());
         let verdict = self.judge.decide();
         let found = self.corrector.correct(self.judge.word());
-        self.last = self.reader.decide(verdict, found, self.corrector.word());
+        self.last = self.reader.read_outcome(verdict, found, self.corrector.word());
     }
 
     fn decided(&self) -> Decided {

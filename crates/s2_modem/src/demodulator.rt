@@ -32,8 +32,8 @@ fn find_soft(
     soft_into(mode, divisor, payload, soft);
 }
 
-/// The demodulating half of a receiver, with its buffer. To contracts it is its mode, its divisor and its
-/// scrambling number.
+/// The demodulator of a receiver, with its buffer. In contracts, it is its mode, its divisor and its scrambling
+/// number.
 pub(crate) struct Demodulator {
     mode: Mode,
     divisor: Divisor,

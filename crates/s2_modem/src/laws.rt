@@ -1,6 +1,6 @@
-//! What the definitions determine: each a call that does nothing, whose clause is the law.
+//! Laws, which follow from the definitions alone. Each is the clause of a call that does nothing.
 ghost use Rattle.s2_modem.specs.Front.{CleanFrameLaw};
-ghost use Rattle.s2_modem.specs.Headline.{LikelyFrameLaw, SoleFrameLaw, BothCodesLaw, ScatteredFrameLaw, HearsLaw, ArrivalLaw};
+ghost use Rattle.s2_modem.specs.Headline.{LikelyFrameLaw, SoleFrameLaw, BothCodesLaw, ScatteredFrameLaw, ReceivesAllLaw, ArrivalLaw};
 ghost use Rattle.s2_modem.specs.Streams.{FirstFramesLaw, OneStreamLaw};
 ghost use Rattle.s2_modem.specs.Promise.{FramesLaw, HeadlineLaw};
 
@@ -31,10 +31,10 @@ pub fn both_codes(mode: Mode)
     let _ = mode.k();
 }
 
-/// Facts about each frame, for any symbols. Its bits are as likely as its verdict says, by a certificate that is accepted. Its
-/// BCH word differs from the decided bits in exactly the reported number of places, at most t. A frame that was sent, and came
-/// without noise or scattered, is delivered, certified, with no bit changed. With at most t wrong bits of the outer code's
-/// word exactly these are corrected.
+/// Facts about each frame, for any symbols. Its bits are as likely as its verdict says, by a certificate that is
+/// accepted. Its BCH word differs from the decided bits in exactly the reported number of places, at most t. If a frame
+/// was sent, and came without noise or scattered, it is delivered, certified, with no bit changed. If at most t bits of
+/// its BCH word are wrong, exactly these are corrected.
 pub fn frames(mode: Mode)
     ensures { FramesLaw mode }
 {
@@ -58,8 +58,8 @@ pub fn clean_frame()
 /// A frame without noise is found at its first symbol, right after a frame and elsewhere, and delivered, sole,
 /// with no bit changed. Its codeword, message and data field are those that were sent, with each divisor and
 /// each lock. A dummy frame without noise is found as one.
-pub fn hears(mode: Mode)
-    ensures { HearsLaw mode }
+pub fn receives_all(mode: Mode)
+    ensures { ReceivesAllLaw mode }
 {
     let _ = mode.k();
 }

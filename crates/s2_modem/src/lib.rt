@@ -1,8 +1,9 @@
-//! Both ends of a DVB-S2 link (EN 302 307-1, 5.1 to 5.5): transport stream packets in and symbols
-//! out, two bytes for I and two for Q; and symbols in and packets out. It puts together the stages of
-//! the crates below.
+//! Both ends of a DVB-S2 link (EN 302 307-1, 5.1 to 5.5). The transmitter takes transport stream packets and writes the
+//! symbols of PLFRAMEs, two bytes for I and two for Q. The receiver takes symbols and writes packets. They put together
+//! the stages of the crates below. Soft values are LLRs in fixed point; rounds are iterations of min-sum; settling is
+//! dual coordinate ascent by layers.
 //!
-//! [`Transmitter::new`] and [`Receiver::new`] take all the memory that will be needed, or return the first of
+//! [`Transmitter::new`] and [`Receiver::new`] allocate all memory that will be needed, or return the first of
 //! their refusals. [`Transmitter::on_link`] and [`Receiver::on_link`] do the same on a [`Link`], which none
 //! refuses. [`Transmitter::run`] reads packets to the reader's end. `Ok` means that the writer has gained
 //! exactly the frames of the data stream's fields, in order, and a dummy frame after each for which
@@ -11,21 +12,23 @@
 //! failed write may leave fewer, and a part of the next frame or dummy frame. [`Transmitter::limit`] and
 //! [`Receiver::limit`] lower the limits.
 //!
-//! [`Receiver::advance`] takes the bytes that [`Receiver::room`] asks for, just those up to the end of the next frame. A frame
-//! stands at the first header that is not before the last frame's end and in no dummy frame; right after a frame or a dummy frame
-//! a header passes with as many wrong bits as the tuning's lock says. The dummy frames of any modulator are passed, and packets are
-//! joined across them. Then soft values, bits, certificate, message and packets of the frame can be looked at. They are exactly what
-//! the definitions say of its symbols: soft values, decided bits with a verdict, the nearest BCH word, its message's header, and the
-//! packets that the joiner makes of its data field. [`Receiver::next`] reads and writes around it. Soft values are divided by
-//! [`DEFAULT_DIVISOR`], or by what the [`Tuning`] of [`Receiver::on_link`] says.
+//! [`Receiver::advance`] takes the bytes that [`Receiver::room`] wants. They end at the end of the next frame. A frame
+//! begins at the first header that is not before the last frame's end and in no dummy frame. Right after a frame or a
+//! dummy frame, the [`Tuning`] sets the number of wrong bits that a header may have. The dummy frames of any modulator are
+//! left out, and packets are joined across them. Then the decision on the frame can be read. It is exactly that of the
+//! definitions for its symbols: soft values, decided bits with verdict and certificate, the message of the nearest BCH
+//! word, and its header. So are the packets that the joiner makes of its data field. [`Receiver::next`] also reads and
+//! writes. Soft values are divided by [`DEFAULT_DIVISOR`], or by the divisor of the [`Tuning`] of
+//! [`Receiver::on_link`].
 //!
-//! Of each frame [`laws::frames`] holds. Bits that are called sole or most likely satisfy every check, and no bits that do cost
-//! less, nor as little if they are called sole. A frame that was sent, and at which the search stands, is delivered, certified, with
-//! no bit changed, if it came without noise or scattered; with at most t wrong bits of its outer word just these are corrected.
-//! [`Receiver::run`] goes on to the end of the symbols, and [`demodulate`] does it for a whole stream in memory.
+//! For each frame [`laws::frames`] holds. Bits that are called sole or most likely satisfy every check, and no bits that
+//! do cost less. If they are called sole, all other bits that do cost more. If the search is at a frame that was sent, and
+//! it came without noise or scattered, it is delivered, certified, with no bit changed. If at most t bits of its BCH word
+//! are wrong, exactly these are corrected. [`Receiver::run`] continues to the end of the symbols, and [`demodulate`] does
+//! it for a whole stream in memory.
 //!
-//! The decided bits of a frame, n of them, are called its word, whether they are a codeword or not. Their
-//! first Nbch bits are the received word, and what BCH decoding finds for that is a BCH word.
+//! The n decided bits of a frame are called its word, whether they are a codeword or not. Their first Nbch bits are the
+//! received word. The word that BCH decoding finds for it is a BCH word.
 //!
 //! ```text
 //! let setup = Setup { mode, number: 0, roll_off: 0 };
@@ -38,12 +41,13 @@
 
 mod corrector;
 mod decider;
+mod demodulate;
 mod demodulator;
 pub mod laws;
 mod message;
 mod receiver;
-mod whole;
 
+pub use demodulate::{DemodFault, demodulate};
 pub use receiver::Receiver;
 pub use s2_judge::Judge;
 pub use s2_link::{
@@ -51,4 +55,3 @@ pub use s2_link::{
 };
 pub use s2_send::{Counts, MAX_PACKETS, SendFault, Transmitter};
 pub use s2_soft::{DEFAULT_DIVISOR, DIVISORS, Divisor};
-pub use whole::{DemodFault, demodulate};

@@ -1,4 +1,5 @@
-//! From a BCH word to the header and the data field of its message: the inverse of EN 302 307-1, 5.1 and 5.2.
+//! From a BCH word to the BBHEADER and the data field of its message (a BBFRAME): the inverse of EN 302 307-1, 5.1 and
+//! 5.2.
 ghost use Rattle.std.specs.Prelude.{◌≡◌, ◌/◌, ◌≤◌, length, take, IfOk, IfSome, true};
 ghost use Rattle.s2_mode.specs.Mode.{kbch_of, k_of};
 ghost use Rattle.s2_bbframe.specs.DataStream.{field_bytes};
@@ -48,7 +49,7 @@ fn read_message(
     }
 }
 
-/// The same, and how many bytes the data field has.
+/// The same. It also sets the number of bytes of the data field.
 fn read_into(
     mode: Mode,
     bch_word: &Bits,
@@ -75,7 +76,7 @@ fn read_into(
     }
 }
 
-/// Reads the messages of BCH words. To contracts it is its mode, and the data field that it took out last.
+/// Reads the messages of BCH words. In contracts, it is its mode, and the data field that it took out last.
 pub(crate) struct MessageReader {
     mode: Mode,
     frame: Bits,
@@ -139,7 +140,7 @@ impl MessageReader {
     }
 
     /// The outcome of decided bits after BCH decoding left this word.
-    pub(crate) fn decide(
+    pub(crate) fn read_outcome(
         &mut self,
         verdict: Verdict,
         found: Option<u32>,

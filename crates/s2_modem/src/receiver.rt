@@ -11,7 +11,7 @@ ghost use Rattle.s2_receive.specs.Answers.{Advances, OnlyStreamFaults, StepsBy};
 ghost use Rattle.s2_link.specs.Tuning.{tuning_of};
 ghost use Rattle.s2_modem.specs.Reports.{IsUndecided};
 ghost use Rattle.s2_modem.specs.Listening.{decides};
-ghost use Rattle.s2_modem.specs.Reception.{IsNew, Makes, Runs, certificate_of, link_rules, rules_for, seen};
+ghost use Rattle.s2_modem.specs.Reception.{IsNew, Makes, RunsReceiver, certificate_of, link_rules, rules_for, seen};
 ghost use Rattle.s2_modem.specs.Promise.{KeepsHeadline, RunsHeadline};
 
 use crate::decider::Decider;
@@ -24,11 +24,11 @@ use s2_receive::{Fault, Received, Step, receive_all};
 use std::alloc::{AllocError, Global};
 use std::marker::Model;
 
-/// A receiver over the parts of a link.
+/// The generic receiver with the decider of a link.
 pub(crate) type Inner<'a> = s2_receive::Receiver<Decider<'a>>;
 
 /// Makes the parts of a receiver.
-pub(crate) fn tune<'a>(
+pub(crate) fn build<'a>(
     alloc: Global,
     link: &Link<'a>,
     tuning: Tuning,
@@ -40,12 +40,18 @@ pub(crate) fn tune<'a>(
     ensures undecided { IfOk result (λ r. IsUndecided link.now.setup.mode r.decider.last) }
 {
     let mode = link.mode();
-    // the promises on the mode and on numbers are a part of this promise
+    // the clauses of the mode and of numbers are a part of these clauses
     let _k = mode.k();
     let _roll_off = link.roll_off();
     let _divisor = tuning.divisor();
     let decider = Decider::new(alloc, link, tuning)?;
-    s2_receive::Receiver::new(alloc, mode, tuning.lock(), decider, MAX_SYMBOLS)
+    s2_receive::Receiver::new(
+        alloc,
+        mode,
+        tuning.max_header_errors(),
+        decider,
+        MAX_SYMBOLS,
+    )
 }
 
 /// Receives the frames of one link, and writes the packets that they carry.
@@ -111,8 +117,8 @@ impl<'a> Receiver<'a> {
         Receiver::on_link(alloc, &link, tuning).map_err(|_| SetupFault::NoMemory)
     }
 
-    /// A receiver of a link with this tuning, with any divisor, with all the memory that it needs. `AllocError`
-    /// only if memory does not suffice.
+    /// A receiver of a link with this tuning, which may have any divisor, with all the memory that it needs.
+    /// `AllocError` only if memory does not suffice.
     pub fn on_link(
         alloc: Global,
         link: &Link<'a>,
@@ -120,7 +126,7 @@ impl<'a> Receiver<'a> {
     ) -> Result<Receiver<'a>, AllocError>
         ensures { IfOk result (IsNew link.now tuning) }
     {
-        let inner = tune(alloc, link, tuning)?;
+        let inner = build(alloc, link, tuning)?;
         Ok(Receiver {
             setup: link.setup(),
             matrix: link.matrix(),
@@ -138,8 +144,8 @@ impl<'a> Receiver<'a> {
         self.inner.limit(symbols);
     }
 
-    /// How many bytes are asked for next: four for each symbol that the frame at hand lacks, up to the limit. None where no
-    /// symbols are needed: after a cut frame and the end, after a fault, and where as many symbols were taken as may be.
+    /// The number of bytes wanted next: four for each symbol that the next frame lacks, up to the limit. It is 0 if no
+    /// symbols are needed: after a cut frame and the end, after a fault, and when the limit is reached.
     pub fn room(&self) -> usize
         ensures is { result ≡ asked (rules_for self.now) self.now.state }
         ensures few { result ≤ 4 * symbols_in self.now.link.setup.mode }
@@ -147,15 +153,15 @@ impl<'a> Receiver<'a> {
         self.inner.room()
     }
 
-    /// Takes the next bytes of the stream, as many as [`Receiver::room`] asks for. Fewer mean that the stream ends with them; up to
-    /// three bytes that make no whole symbol are dropped then. `Some` is the next step, and comes as soon as all its symbols are
-    /// there: the next frame, a cut one, or the end. `None` means that more symbols are needed. It takes no memory.
+    /// Takes the next bytes of the stream, in the number that [`Receiver::room`] returns. Fewer bytes mean that the stream
+    /// ends with them. Then up to three bytes that make no whole symbol are dropped. `Some` is the next step, as soon as all
+    /// its symbols are there: the next frame, a cut one, or the end. `None` means that more symbols are needed. It allocates
+    /// no memory.
     ///
-    /// Dummy frames before it, known by a header of any TYPE, are passed, and so is what there is of a last one that lacks
-    /// symbols: nothing is reported of them, and they are no gap. What is decided of a frame is what the definitions say of its
-    /// symbols: soft values, bits, verdict and certificate, message, and the packets that end in it. [`crate::laws`] has what holds of
-    /// that: the bits are as likely as the verdict says ([`crate::laws::frames`]), and a frame that was sent is delivered, certified,
-    /// if it came without noise, or scattered.
+    /// Dummy frames with a header of any TYPE, also a last one that lacks symbols, are not reported and are no gap. The
+    /// decision on a frame is exactly that of the definitions for its symbols: soft values, bits, verdict and certificate,
+    /// message, and the packets that end in it. Two laws hold for it ([`crate::laws::frames`]). The bits are as likely as
+    /// the verdict says. A frame that was sent is delivered, certified, if it came without noise or scattered.
     pub fn advance(&mut self, bytes: &[u8]) -> Option<Step>
         requires room { length bytes.now ≤ asked (rules_for self.old) self.old.state }
         ensures advances { Advances (seen self.old) (seen self.new) bytes.now result }
@@ -172,8 +178,8 @@ impl<'a> Receiver<'a> {
         self.inner.packets()
     }
 
-    /// Reads up to the next step, makes it, and writes its packets, and then its line of the report, as [`s2_receive::Receiver::next`]
-    /// does. It takes no memory.
+    /// Reads up to the next step, makes it, and writes its packets, and then its line of the report, as
+    /// [`s2_receive::Receiver::next`] does. It allocates no memory.
     pub fn next<R: CountedRead, P: CountedWrite, W: CountedWrite>(
         &mut self,
         reader: &mut R,
@@ -194,16 +200,16 @@ impl<'a> Receiver<'a> {
         self.inner.next(reader, packets, report)
     }
 
-    /// Takes all steps that are left, up to the end line, and answers the totals and whether each frame
-    /// was delivered with bits that are most likely and none was cut. Of a new receiver, which takes a whole stream,
-    /// the headline holds if no fault is answered: also that each frame that a transmitter of the link sent has its line,
-    /// delivered, wherever the search stands at it, certified if it is clear; that the first frames, clear or with at most t wrong
-    /// bits of the outer code's word, give their packets, and a stream of nothing else no others. Not to be called after the end
-    /// or a fault. It takes no memory.
+    /// Takes all remaining steps, up to the end line. Returns the totals, and whether each frame was delivered with bits
+    /// that are sole or most likely and none was cut. If a new receiver takes a whole stream and no fault is returned, the
+    /// headline holds. If the search is at a frame that a transmitter of the link sent, that frame has its line and is
+    /// delivered, and certified if it is clear. The first frames, clear or with at most t wrong bits of the BCH word, give
+    /// their packets, and a stream of nothing else no others. Not to be called after the end or a fault. It allocates no
+    /// memory.
     ///
-    /// After a fault what was met before it is written whole: after `Read`, which comes as in
-    /// [`Receiver::next`], nothing else is, after `Write` a part of the next packets or line is; and the receiver counts as
-    /// failed. No certificate is lent after it, since its last step came to no frame.
+    /// After a fault, everything met before it is written whole. `Read` comes as in [`Receiver::next`], and nothing else is
+    /// written. After `Write`, a part of the next packets or line may be written. The receiver counts as failed after both.
+    /// Then there is no certificate, since the last step was no frame.
     pub fn run<R: CountedRead, P: CountedWrite, W: CountedWrite>(
         &mut self,
         reader: &mut R,
@@ -214,7 +220,7 @@ impl<'a> Receiver<'a> {
         requires packets { CanCount (P.count packets.old) }
         requires report { CanCount (W.count report.old) }
         requires live { IsLive self.old.state.phase }
-        ensures runs { let ends = streams_by R.remaining R.count P.contents P.count W.contents W.count in Runs
+        ensures runs { let ends = streams_by R.remaining R.count P.contents P.count W.contents W.count in RunsReceiver
             self.old self.new (ends reader.old packets.old report.old) (ends reader.new packets.new report.new) result }
         ensures stopped { OnErr result (self.new.state.phase ≡ phases.Failed) }
         ensures uncertified { certificate_of self.new ≡ None }
@@ -229,24 +235,25 @@ impl<'a> Receiver<'a> {
         receive_all(&mut self.inner, reader, packets, report)
     }
 
-    /// The soft values of the codeword of the last frame; they stay after a cut frame, the end and a failed
-    /// read. Zeros before the first frame.
+    /// The soft values of the codeword of the last frame. They are kept after a cut frame, the end and a failed
+    /// read. They are zeros before the first frame.
     pub fn soft(&self) -> &[i16]
         ensures { result.now ≡ self.now.last.soft }
     {
         self.inner.decider().soft()
     }
 
-    /// The decided bits of the last frame's codeword, which stay as its soft values do; zeros before the first frame.
+    /// The decided bits of the last frame's codeword. They are kept like its soft values. They are zeros before the first
+    /// frame.
     pub fn word(&self) -> &Bits
         ensures { result.now ≡ self.now.last.bits }
     {
         self.inner.decider().word()
     }
 
-    /// The certificate of the decided bits of the frame that the last step came to: `Some` exactly where that step reported
-    /// a frame as sole or most likely. It can be checked ([`s2_check::check`]), and written to a file.
-    /// Before the first step, after a cut frame, the end and a fault it is `None`.
+    /// The certificate of the decided bits of the last step's frame. It is `Some` exactly if that step reported a frame as
+    /// sole or most likely. It can be checked ([`s2_check::check`]), and written to a file. It is `None` before the first
+    /// step, and after a cut frame, the end and a fault.
     pub fn certificate(&self) -> Option<CertView<'_>>
         ensures { result ≡ certificate_of self.now }
     {
@@ -257,8 +264,8 @@ impl<'a> Receiver<'a> {
         }
     }
 
-    /// The message that BCH decoding left of the last frame's decided bits, Kbch bits, still scrambled; it stays as they do.
-    /// Zeros before the first frame.
+    /// The message of Kbch bits that BCH decoding left of the last frame's decided bits, still scrambled. It is kept like
+    /// them. It is zeros before the first frame.
     pub fn message(&self) -> &[bool]
         ensures { result.now ≡ self.now.last.message }
     {

@@ -1,7 +1,7 @@
 //! `modes`: the modes listed.
 ghost use Rattle.std.specs.Prelude.{◌≡◌, ◌≢◌, ⊤, Result, Ok, IsOk};
 ghost use Rattle.s2_mode.specs.Counts.{CanCount};
-ghost use Rattle.s2_console.specs.Exits.{CommandRuns, CommandCounts, CommandEnds};
+ghost use Rattle.s2_console.specs.Exits.{CommandRuns, CommandCounts, CommandExits};
 ghost use Rattle.s2_console.specs.Screens.{CanShow};
 ghost use Rattle.s2_names.specs.ModeLines.{IsListed, IsAsked};
 
@@ -28,7 +28,8 @@ fn print_modes<O: CountedWrite>(
     }
 }
 
-/// `modes`: prints a line for each code, and in it what a transport stream has in a second at a symbol rate, where one is told.
+/// `modes`: prints a line for each code. If a symbol rate is given, the line has the bits of the transport stream per
+/// second too.
 pub fn modes_command<O: CountedWrite, E: CountedWrite>(
     alloc: Global,
     rate: &Option<SymbolRate>,
@@ -37,7 +38,7 @@ pub fn modes_command<O: CountedWrite, E: CountedWrite>(
     requires console { CanShow console.old }
     ensures quiet { result ≢ Exit.Fault → console.new.errors_failed ≡ console.old.errors_failed }
     ensures whole { result ≢ Exit.Fault → console.new.output_failed ≡ console.old.output_failed }
-    ensures run { CommandEnds IsListed (IsAsked rate.now) 0 0 console.old console.new result }
+    ensures run { CommandExits IsListed (IsAsked rate.now) 0 0 console.old console.new result }
 {
     let ended = print_modes(alloc, rate, &mut console.output);
     console.conclude(ended)

@@ -1,9 +1,9 @@
-//! The modes by name, and what each is.
+//! The names of the modes, and what each mode is.
 //!
 //! A mode is named by its constellation and its code rate, as `qpsk3/4` or `QPSK3/4`: [`modcod_of`] reads such a name,
-//! and [`constellation`] says its first part. [`write_code`] writes the code of a mode in words.
-//! [`modes_text`] has a line for each code, and in it, where a [`SymbolRate`] is told, what a transport stream has in a
-//! second; [`modes_command`] prints it.
+//! and [`constellation`] returns its first part. [`write_code`] writes the code of a mode in words.
+//! [`modes_text`] has a line for each code. If a [`SymbolRate`] is given, the line has the bits of the transport stream
+//! per second too. [`modes_command`] prints it.
 //!
 //! ```text
 //! assert_eq!(modcod_of("8psk2/3"), Some(13));

@@ -30,7 +30,7 @@ fn symbol_millionths(mode: &Mode) -> usize
     (2_000_000 * stream_bits(mode) + symbols) / (2 * symbols)
 }
 
-/// The whole bits of a transport stream in a second.
+/// The whole bits of the transport stream per second.
 fn stream_rate(mode: &Mode, rate: SymbolRate) -> usize
     ensures { result ≡ rates.stream_rate rate mode.now }
 {
@@ -76,7 +76,7 @@ fn push_frames(text: &mut Vec<u8>, plain: &Mode, piloted: &Mode) -> Result<(), A
     push_millionths(text, " ", symbol_millionths(piloted))
 }
 
-/// What is added to the Es/N0 of normal frames.
+/// The text after the Es/N0 of normal frames.
 fn added(mode: &Mode) -> &'static str
     ensures { result.now ≡ (if mode.now.short then codes "+0.2..0.3" else []) }
 {
@@ -92,7 +92,7 @@ fn push_ideal(text: &mut Vec<u8>, mode: &Mode) -> Result<(), AllocError>
     push(text, added(mode))
 }
 
-/// The bits of a transport stream in a second, where a symbol rate is told.
+/// The bits of the transport stream per second, if a symbol rate is given.
 #[tactic(auto, unfolding(crate::specs::ModeLines::rates_of))]
 fn push_rates(
     text: &mut Vec<u8>,
@@ -128,7 +128,7 @@ fn push_modes(
     push(text, "\n")
 }
 
-/// The line of a code, where there is one of this MODCOD and length.
+/// The line of a code, if there is one of this MODCOD and length.
 #[tactic(auto, using(crate::proofs::Codes::piloted_is, crate::proofs::Codes::code_line, crate::proofs::Codes::no_code_line))]
 fn push_line(
     text: &mut Vec<u8>,
@@ -160,10 +160,12 @@ fn push_lines(text: &mut Vec<u8>, short: bool, rate: &Option<SymbolRate>) -> Res
     Ok(())
 }
 
-/// A line for each code, those of normal frames before those of short ones: the MODCOD, the name, the length, Kbch and k, and
-/// without and with pilot blocks the symbols of a frame and the bits of a transport stream that each carries, to the nearest
-/// millionth; the Es/N0 of the standard's table 13, behind which `+0.2..0.3` stands for short frames; and where a symbol rate is
-/// told the bits of a transport stream in a second, rounded down, without and with pilot blocks.
+/// A line for each code, those of normal frames before those of short ones.
+///
+/// A line has the MODCOD, the name, the length, Kbch and k. Then, without and with pilot blocks, it has the symbols of a frame
+/// and the bits of the transport stream that each symbol carries, to the nearest millionth. The Es/N0 of the standard's table
+/// 13 follows, and `+0.2..0.3` after it for short frames. If a symbol rate is given, the line ends with the bits of the
+/// transport stream per second, rounded down, without and with pilot blocks.
 #[tactic(auto, unfolding(crate::specs::ModeLines::modes_text))]
 pub fn modes_text(alloc: Global, rate: &Option<SymbolRate>) -> Result<Vec<u8>, AllocError>
     ensures { IfOk result (λ text. text.items ≡ lines.modes_text rate.now) }

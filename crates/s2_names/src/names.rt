@@ -42,8 +42,8 @@ fn is_named(mode: &Mode, case: Case, name: &[u8]) -> bool
     is_joined(name, front.as_bytes(), mode.code_rate().as_bytes())
 }
 
-/// The MODCOD of a name: of a constellation, all in small letters or all in capitals, and a code rate. `None` where it is no
-/// mode's.
+/// The MODCOD of a name: a constellation, all in small letters or all in capitals, and a code rate. `None` if no mode
+/// has this name.
 pub fn modcod_of(name: &str) -> Option<u8>
     ensures found { IsSome result ↔ IsName name.now }
     ensures value { IfSome result

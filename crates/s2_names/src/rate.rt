@@ -4,10 +4,10 @@ ghost use Rattle.s2_names.specs.Rates.{IsRate};
 
 use std::marker::Model;
 
-/// The most symbols a second that are asked for.
+/// The highest symbol rate, in symbols per second.
 pub const MAX_RATE: usize = 1_000_000_000;
 
-/// A symbol rate, 1 to 1,000,000,000 symbols a second. Its value is that number.
+/// A symbol rate, 1 to 1,000,000,000 symbols per second. Its value is that number.
 #[derive(Clone, Copy, Debug, PartialEq, Eq)]
 pub struct SymbolRate {
     symbols: usize,
@@ -27,7 +27,7 @@ impl Model for SymbolRate {
 }
 
 impl SymbolRate {
-    /// The rate of so many symbols a second, if it is in the range.
+    /// The rate of this number of symbols per second, if it is in the range.
     pub fn new(symbols: usize) -> Option<SymbolRate>
         ensures found { IsSome result ↔ IsRate symbols }
         ensures value { IfSome result (λ r. r ≡ symbols) }

@@ -6,14 +6,14 @@ ghost use Rattle.s2_names.specs.ModeLines.{millionths_text};
 use itoa::Buffer;
 use std::alloc::AllocError;
 
-/// Puts words behind a text.
+/// Appends words to a text.
 pub(crate) fn push(text: &mut Vec<u8>, words: &str) -> Result<(), AllocError>
     ensures { OnOk result (text.new.items ≡ text.old.items ++ words.now) }
 {
     text.extend_from_slice(words.as_bytes())
 }
 
-/// Puts words and a number behind a text.
+/// Appends words and a number to a text.
 pub(crate) fn push_number(text: &mut Vec<u8>, words: &str, number: usize) -> Result<(), AllocError>
     ensures { OnOk result (text.new.items ≡ text.old.items ++ (words.now ++ decimal number)) }
 {
@@ -22,7 +22,7 @@ pub(crate) fn push_number(text: &mut Vec<u8>, words: &str, number: usize) -> Res
     push(text, digits.format(number))
 }
 
-/// Puts the digits of a number but the first one behind a text.
+/// Appends the digits of a number, except the first one, to a text.
 fn push_fraction(text: &mut Vec<u8>, number: usize) -> Result<(), AllocError>
     ensures { OnOk result (text.new.items ≡ text.old.items ++ drop 1 (decimal number)) }
 {
@@ -34,7 +34,7 @@ fn push_fraction(text: &mut Vec<u8>, number: usize) -> Result<(), AllocError>
     text.extend_from_slice(&shown[1..])
 }
 
-/// Puts words and a number of millionths behind a text, with six digits behind the point.
+/// Appends words and a number of millionths to a text, with six digits after the point.
 pub(crate) fn push_millionths(
     text: &mut Vec<u8>,
     words: &str,
@@ -47,7 +47,7 @@ pub(crate) fn push_millionths(
     push_fraction(text, 1_000_000 + number % 1_000_000)
 }
 
-/// Puts a number of hundredths behind a text, with two digits behind the point.
+/// Appends a number of hundredths to a text, with two digits after the point.
 pub(crate) fn push_hundredths(text: &mut Vec<u8>, number: i16) -> Result<(), AllocError>
     ensures { OnOk result (text.new.items ≡ text.old.items ++ hundredths_text number) }
 {

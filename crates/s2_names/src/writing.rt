@@ -7,7 +7,7 @@ ghost use Rattle.s2_names.specs.Names.{mode_words};
 use crate::names::{Case, constellation};
 use s2_mode::{CountedWrite, Mode, WriteFault, write_full};
 
-/// The words of a frame's length, behind a code rate.
+/// The words of a frame's length, after a code rate.
 fn length_behind(mode: &Mode) -> &'static str
     ensures { result.now ≡ (if mode.now.short then codes ", short" else codes ", normal") }
 {
@@ -18,7 +18,7 @@ fn length_behind(mode: &Mode) -> &'static str
     }
 }
 
-/// Writes the code of a mode in words, as `QPSK 3/4, normal`. A fault is answered only where a write failed.
+/// Writes the code of a mode in words, as `QPSK 3/4, normal`. It returns a fault only if a write failed.
 pub fn write_code<W: CountedWrite>(out: &mut W, mode: &Mode) -> Result<(), WriteFault>
     requires { CanCount (W.count out.old) }
     ensures words { OnOk result (Appends (W.contents out.old) (W.contents out.new) (mode_words mode.now)) }

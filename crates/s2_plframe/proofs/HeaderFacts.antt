@@ -13,12 +13,12 @@ use Rattle.s2_bits.specs.Bits.{xor, number}
 use Rattle.s2_bits.proofs.Sums.{xor_same}
 use Rattle.s2_plframe.specs.Header.{header_bit, header_point, header_symbol, header_of, dummy_mode, sum_of_rows}
 use Rattle.s2_plframe.specs.Frame.{frame_symbol, frame_symbols}
-use Rattle.s2_plframe.specs.Search.{Decision, decision, decided, mismatches, passes, passes_dummy, wrong_bits, wrong_bits_dummy, found, found_behind, recent}
+use Rattle.s2_plframe.specs.Search.{Decision, decision, decided, mismatches, matches_header, matches_dummy, wrong_bits, wrong_bits_dummy, found, found_behind, recent}
 use Rattle.s2_plframe.specs.Inside.{behind_by}
 use Rattle.s2_plframe.specs.declared.receive.found.Found.{Found}
 use Rattle.s2_plframe.specs.HeaderLaws.{seen_of, differences, HoldsFrame}
 use Rattle.s2_plframe.specs.declared.receive.found.Found.TheVariants as founds
-use Rattle.s2_plframe.specs.Payload.{AllTurnBack}
+use Rattle.s2_plframe.specs.Payload.{AllRotateBack}
 use Rattle.s2_plframe.proofs.Payloads.{payload_again}
 use Rattle.s2_plframe.proofs.Mismatches.{decided_symbols}
 
@@ -64,7 +64,7 @@ clean_passes m n payload is =
     let full : 90 ≤ length window = omega arith in
     let none : mismatches (header_bit m) window 90 ≡ 0 = no_mismatch (header_bit m) window 90
     (λ k lt. sym (decided_symbols symbols k) ∙ ((λ t. if k % 2 == 0 then (decision (header_at m n payload k is lt t)).odd else (decision (header_at m n payload k is lt t)).even) ∙ point_says k (header_bit m k))) in
-    rw (le-ltb (length window) 90 full) (λ t. if nat_le (none t) 12 then founds.Coded else (if passes_dummy window then founds.Dummy else founds.Nothing))
+    rw (le-ltb (length window) 90 full) (λ t. if nat_le (none t) 12 then founds.Coded else (if matches_dummy window then founds.Dummy else founds.Nothing))
 
 -- ---- two headers
 
@@ -100,7 +100,7 @@ pub dummies_apart_is : (m : Mode) (short pilots : Bool) → IsMode m → 32 ≤ 
 unfolding far
 dummies_apart_is m short pilots is = leb-true 32 (differences (header_bit m) (header_bit (dummy_mode short pilots)) 90) (all_far short pilots m is)
 
-one_fails : (short pilots : Bool) (m : Mode) (window : List Decision) → IsMode m → passes (header_bit m) window ≡ true → passes (header_bit (dummy_mode short pilots)) window ≡ false
+one_fails : (short pilots : Bool) (m : Mode) (window : List Decision) → IsMode m → matches_header (header_bit m) window ≡ true → matches_header (header_bit (dummy_mode short pilots)) window ≡ false
 one_fails short pilots m window is passed =
     let least : 32 ≤ differences (header_bit m) (header_bit (dummy_mode short pilots)) 90 = dummies_apart_is m short pilots is in
     let most : mismatches (header_bit m) window 90 ≤ 12 = leb-true (mismatches (header_bit m) window 90) 12 passed in
@@ -108,7 +108,7 @@ one_fails short pilots m window is passed =
     let over : 12 < mismatches (header_bit (dummy_mode short pilots)) window 90 = omega arith in
     lt-leb (mismatches (header_bit (dummy_mode short pilots)) window 90) 12 over
 
-pub apart_is : (m : Mode) (window : List Decision) → IsMode m → passes (header_bit m) window ≡ true → passes_dummy window ≡ false
+pub apart_is : (m : Mode) (window : List Decision) → IsMode m → matches_header (header_bit m) window ≡ true → matches_dummy window ≡ false
 apart_is m window is passed =
     λ t. one_fails false false m window is passed t || (one_fails false true m window is passed t || (one_fails true false m window is passed t || one_fails true true m window is passed t))
 
@@ -128,7 +128,7 @@ or_together : (a b c d : Bool) → (a || (b || (c || d))) ≡ ((a || b) || (c ||
 or_together true b c d = refl
 or_together false b c d = refl
 
-dummy_passes : (window : List Decision) → passes_dummy window ≡ nat_le (wrong_bits_dummy window) 12
+dummy_passes : (window : List Decision) → matches_dummy window ≡ nat_le (wrong_bits_dummy window) 12
 dummy_passes window =
     let a = wrong_bits (header_bit (dummy_mode false false)) window in
     let b = wrong_bits (header_bit (dummy_mode false true)) window in
@@ -159,7 +159,7 @@ found_by_wrong : (m : Mode) (window : List Decision) → length window ≡ 90 �
 unfolding found_of
 found_by_wrong m window long =
     let full : 90 ≤ length window = omega arith in
-    rw (le-ltb (length window) 90 full) (λ t. if passes (header_bit m) window then founds.Coded else (if dummy_passes window t then founds.Dummy else founds.Nothing))
+    rw (le-ltb (length window) 90 full) (λ t. if matches_header (header_bit m) window then founds.Coded else (if dummy_passes window t then founds.Dummy else founds.Nothing))
 
 coded_near : (c d lock : ℕ) → 12 ≤ lock → 32 ≤ c + d → c ≤ 12 → behind_by c d lock ≡ founds.Coded
 coded_near c d lock least apart near =
@@ -256,7 +256,7 @@ header_no_mismatch m =
     let at : symbol_at symbols k ≡ header_symbol m k = get_or-map-range_with_len (header_symbol m) 0 90 k k (symbol (pos 0) (pos 0)) lt here in
     sym (decided_symbols symbols k) ∙ ((λ t. if k % 2 == 0 then (decision (at t)).odd else (decision (at t)).even) ∙ point_says k (header_bit m k)))
 
-header_passes : (m : Mode) → passes (header_bit m) (map decision (header_of m)) ≡ true
+header_passes : (m : Mode) → matches_header (header_bit m) (map decision (header_of m)) ≡ true
 header_passes m = ap (λ n. nat_le n 12) (header_no_mismatch m)
 
 first_passes : (a b c d : Bool) → a ≡ true → (a || (b || (c || d))) ≡ true
@@ -278,11 +278,11 @@ last_passes false false true d e = refl
 last_passes false false false d e = e
 
 -- a header of dummy frames is one of the four
-known : (short pilots : Bool) (window : List Decision) → passes (header_bit (dummy_mode short pilots)) window ≡ true → passes_dummy window ≡ true
-known false false window e = first_passes _ (passes (header_bit (dummy_mode false true)) window) (passes (header_bit (dummy_mode true false)) window) (passes (header_bit (dummy_mode true true)) window) e
-known false true window e = second_passes (passes (header_bit (dummy_mode false false)) window) _ (passes (header_bit (dummy_mode true false)) window) (passes (header_bit (dummy_mode true true)) window) e
-known true false window e = third_passes (passes (header_bit (dummy_mode false false)) window) (passes (header_bit (dummy_mode false true)) window) _ (passes (header_bit (dummy_mode true true)) window) e
-known true true window e = last_passes (passes (header_bit (dummy_mode false false)) window) (passes (header_bit (dummy_mode false true)) window) (passes (header_bit (dummy_mode true false)) window) _ e
+known : (short pilots : Bool) (window : List Decision) → matches_header (header_bit (dummy_mode short pilots)) window ≡ true → matches_dummy window ≡ true
+known false false window e = first_passes _ (matches_header (header_bit (dummy_mode false true)) window) (matches_header (header_bit (dummy_mode true false)) window) (matches_header (header_bit (dummy_mode true true)) window) e
+known false true window e = second_passes (matches_header (header_bit (dummy_mode false false)) window) _ (matches_header (header_bit (dummy_mode true false)) window) (matches_header (header_bit (dummy_mode true true)) window) e
+known true false window e = third_passes (matches_header (header_bit (dummy_mode false false)) window) (matches_header (header_bit (dummy_mode false true)) window) _ (matches_header (header_bit (dummy_mode true true)) window) e
+known true true window e = last_passes (matches_header (header_bit (dummy_mode false false)) window) (matches_header (header_bit (dummy_mode false true)) window) (matches_header (header_bit (dummy_mode true false)) window) _ e
 
 not_both : (a d : Bool) → (a ≡ true → d ≡ false) → d ≡ true → a ≡ false
 not_both true d h e = absurd (false≢true (sym (h refl) ∙ e))
@@ -294,13 +294,13 @@ dummy_found m short pilots is =
     let window = map decision symbols in
     let long : length window ≡ 90 = length-map symbols decision ∙ length-map-range_with_len (header_symbol (dummy_mode short pilots)) 0 90 in
     let full : 90 ≤ length window = omega arith in
-    let dummy : passes_dummy window ≡ true = known short pilots window (header_passes (dummy_mode short pilots)) in
-    let coded : passes (header_bit m) window ≡ false = not_both (passes (header_bit m) window) (passes_dummy window) (apart_is m window is) dummy in
+    let dummy : matches_dummy window ≡ true = known short pilots window (header_passes (dummy_mode short pilots)) in
+    let coded : matches_header (header_bit m) window ≡ false = not_both (matches_header (header_bit m) window) (matches_dummy window) (apart_is m window is) dummy in
     rw (le-ltb (length window) 90 full) (λ t. if coded t then founds.Coded else (if dummy t then founds.Dummy else founds.Nothing))
 
 -- ---- a frame, taken apart
 
-pub taken_out_is : (m : Mode) (n : ℕ) (payload : List Symbol) → IsMode m → length payload ≡ 90 * slots_of m → AllTurnBack payload → HoldsFrame m n payload (frame_symbols m n payload)
+pub taken_out_is : (m : Mode) (n : ℕ) (payload : List Symbol) → IsMode m → length payload ≡ 90 * slots_of m → AllRotateBack payload → HoldsFrame m n payload (frame_symbols m n payload)
 taken_out_is m n payload is long can =
     let whole : length (frame_symbols m n payload) ≡ symbols_in m = length-map-range_with_len (frame_symbol m n payload) 0 (symbols_in m) in
     let some : 90 ≤ symbols_in m = omega (arith, (frame_sizes m is).symbols) in

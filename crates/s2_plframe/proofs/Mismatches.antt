@@ -25,7 +25,7 @@ use Rattle.s2_mode.specs.Symbols.{symbol, symbol_at}
 use Rattle.s2_mode.specs.Mode.{Mode}
 use Rattle.s2_plframe.specs.Header.{header_bit, dummy_mode}
 use Rattle.s2_plframe.specs.declared.receive.found.Found.TheVariants as founds
-use Rattle.s2_plframe.specs.Search.{Decision, decision, decided, mismatches, passes, recent, decision_at, found}
+use Rattle.s2_plframe.specs.Search.{Decision, decision, decided, mismatches, matches_header, recent, decision_at, found}
 use Rattle.s2_plframe.specs.Inside.{held, held_list, is_near, found_by, AreHeaders, IsHeader, IsWindow}
 
 -- ---- differences
@@ -54,7 +54,7 @@ unfolding ones ones_in
 ones_none = refl
 
 -- the highest n digits of x
-counted : (header : ℕ → Bool) (window : List Decision) (h w n : ℕ) → IsHeader header h → IsWindow window w → n ≤ 90 → mismatches header window n ≡ count_ones (bit_xor h w / 2 ^ (90 - n))
+pub counted : (header : ℕ → Bool) (window : List Decision) (h w n : ℕ) → IsHeader header h → IsWindow window w → n ≤ 90 → mismatches header window n ≡ count_ones (bit_xor h w / 2 ^ (90 - n))
 unfolding mismatches
 counted header window h w zero is_h is_w le =
     let small : bit_xor h w < 2 ^ 90 = xor_lt 90 h w is_h.small is_w.small in
@@ -79,7 +79,7 @@ wrong_is header window h w is_h is_w =
     sym (counted header window h w 90 is_h is_w all ∙ ap count_ones whole)
 
 -- and so is the test
-pub test_is : (header : ℕ → Bool) (window : List Decision) (h w : ℕ) → IsHeader header h → IsWindow window w → is_near h w ≡ passes header window
+pub test_is : (header : ℕ → Bool) (window : List Decision) (h w : ℕ) → IsHeader header h → IsWindow window w → is_near h w ≡ matches_header header window
 test_is header window h w is_h is_w = ap (λ n. nat_le n 12) (wrong_is header window h w is_h is_w)
 
 -- ---- counted one by one

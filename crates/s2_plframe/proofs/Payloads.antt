@@ -9,9 +9,9 @@ use Rattle.s2_mode.specs.Mode.{Mode, IsMode, slots_of, pilot_blocks_of, symbols_
 use Rattle.s2_mode.proofs.Modes.{frame_sizes}
 use Rattle.s2_bits.specs.Bits.{number}
 use Rattle.s2_scramble.specs.Gold.{z, quarter_turns}
-use Rattle.s2_scramble.specs.Turns.{negative, turned, turned_back, HasNegative, CanTurnBack}
+use Rattle.s2_scramble.specs.Rotations.{negative, rotated, rotated_back, HasNegative, CanRotateBack}
 use Rattle.s2_plframe.specs.Frame.{slot_symbol, frame_symbol, frame_symbols}
-use Rattle.s2_plframe.specs.Payload.{slot_place, received_symbol, received_payload, AllTurnBack}
+use Rattle.s2_plframe.specs.Payload.{slot_place, received_symbol, received_payload, AllRotateBack}
 use Rattle.s2_plframe.specs.Inside.{place_behind}
 
 -- ---- places
@@ -64,12 +64,12 @@ place_within m false s is e lt =
     let whole : symbols_in m ≡ 90 + 90 * slots_of m + 36 * pilot_blocks_of m = sizes.symbols in
     omega arith
 
--- ---- turned and turned back
+-- ---- rotated and rotated back
 
 twice_negative : (c : ℤ) → HasNegative c → negative (negative c) ≡ c
 twice_negative c h = omega (arith, ints, clamps, h.0, h.1)
 
-pub undone : (n : ℕ) (s : Symbol) → n < 4 → CanTurnBack s → turned_back n (turned n s) ≡ s
+pub undone : (n : ℕ) (s : Symbol) → n < 4 → CanRotateBack s → rotated_back n (rotated n s) ≡ s
 undone zero s lt can = refl
 undone (suc zero) s lt can = λ t. symbol (s.i) (twice_negative s.q can.q t)
 undone (suc (suc zero)) s lt can = λ t. symbol (twice_negative s.i can.i t) (twice_negative s.q can.q t)
@@ -93,25 +93,25 @@ slot_is m true sent s e =
     ap (slot_symbol m sent) (with_pilots m s e) ∙ rw (e, lt-ltb (u % 1476) 1440 column) (ap (symbol_at sent) same)
 slot_is m false sent s e = ap (slot_symbol m sent) (without_pilots m s e) ∙ rw e refl
 
-behind_header : (m : Mode) (number : ℕ) (sent : List Symbol) (u : ℕ) → frame_symbol m number sent (90 + u) ≡ turned (quarter_turns number u) (slot_symbol m sent u)
+behind_header : (m : Mode) (number : ℕ) (sent : List Symbol) (u : ℕ) → frame_symbol m number sent (90 + u) ≡ rotated (quarter_turns number u) (slot_symbol m sent u)
 behind_header m number sent u =
     let past : 90 ≤ 90 + u = omega arith in
     let same : 90 + u - 90 ≡ u = omega arith in
-    rw (le-ltb (90 + u) 90 past) (ap (λ v. turned (quarter_turns number v) (slot_symbol m sent v)) same)
+    rw (le-ltb (90 + u) 90 past) (ap (λ v. rotated (quarter_turns number v) (slot_symbol m sent v)) same)
 
-received_is : (m : Mode) (number : ℕ) (sent : List Symbol) (s : ℕ) → IsMode m → s < 90 * slots_of m → CanTurnBack (symbol_at sent s)
+received_is : (m : Mode) (number : ℕ) (sent : List Symbol) (s : ℕ) → IsMode m → s < 90 * slots_of m → CanRotateBack (symbol_at sent s)
     → received_symbol m number (frame_symbols m number sent) s ≡ symbol_at sent s
 received_is m number sent s is lt can =
     let u = slot_place m s in
     let within : 90 + u < symbols_in m = place_within m m.pilots s is refl lt in
     let here : 0 + (90 + u) ≡ 90 + u = omega arith in
-    let at : symbol_at (frame_symbols m number sent) (90 + u) ≡ turned (quarter_turns number u) (symbol_at sent s) =
+    let at : symbol_at (frame_symbols m number sent) (90 + u) ≡ rotated (quarter_turns number u) (symbol_at sent s) =
     get_or-map-range_with_len (frame_symbol m number sent) 0 (symbols_in m) (90 + u) (90 + u) (symbol (pos 0) (pos 0)) within here
-    ∙ (behind_header m number sent u ∙ ap (turned (quarter_turns number u)) (slot_is m m.pilots sent s refl)) in
-    ap (turned_back (quarter_turns number u)) at ∙ undone (quarter_turns number u) (symbol_at sent s) (quarters_small number u) can
+    ∙ (behind_header m number sent u ∙ ap (rotated (quarter_turns number u)) (slot_is m m.pilots sent s refl)) in
+    ap (rotated_back (quarter_turns number u)) at ∙ undone (quarter_turns number u) (symbol_at sent s) (quarters_small number u) can
 
 -- what was framed is received
-pub payload_again : (m : Mode) (number : ℕ) (sent : List Symbol) → IsMode m → length sent ≡ 90 * slots_of m → AllTurnBack sent
+pub payload_again : (m : Mode) (number : ℕ) (sent : List Symbol) → IsMode m → length sent ≡ 90 * slots_of m → AllRotateBack sent
     → received_payload m number (frame_symbols m number sent) ≡ sent
 payload_again m number sent is long can =
     sym (fill_by_all (received_symbol m number (frame_symbols m number sent)) sent (90 * slots_of m) (symbol (pos 0) (pos 0)) long

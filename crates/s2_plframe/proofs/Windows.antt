@@ -24,18 +24,18 @@ use Rattle.s2_mode.specs.Symbols.{symbol, symbol_at}
 use Rattle.s2_mode.specs.Mode.{Mode}
 use Rattle.s2_plframe.specs.Header.{header_bit, dummy_mode}
 use Rattle.s2_plframe.specs.declared.receive.found.Found.TheVariants as founds
-use Rattle.s2_plframe.specs.Search.{Decision, decision, decided, mismatches, passes, recent, decision_at, found, found_behind}
+use Rattle.s2_plframe.specs.Search.{Decision, decision, decided, mismatches, matches_header, recent, decision_at, found, found_behind}
 use Rattle.s2_plframe.specs.Inside.{held, held_list, is_near, found_by, wrong_in, wrong_in_dummy, behind_by, AreHeaders, IsHeader, IsWindow}
 use Rattle.s2_plframe.proofs.Mismatches.{bit_number, test_is, wrong_is}
 
-held_next : (odd even odd' even' j : ℕ) → ((i : ℕ) → i < 127 → digit odd' (i + 1) ≡ digit odd i) → ((i : ℕ) → i < 127 → digit even' (i + 1) ≡ digit even i) → j < 127 → held odd' even' (j + 1) ≡ held odd even j
+pub held_next : (odd even odd' even' j : ℕ) → ((i : ℕ) → i < 127 → digit odd' (i + 1) ≡ digit odd i) → ((i : ℕ) → i < 127 → digit even' (i + 1) ≡ digit even i) → j < 127 → held odd' even' (j + 1) ≡ held odd even j
 held_next odd even odd' even' j a b lt = λ t. record { odd = a j lt t == 1; even = b j lt t == 1 }
 
 number_one : (b : Bool) → (number b == 1) ≡ b
 number_one true = refl
 number_one false = refl
 
-held_last : (odd' even' : ℕ) (d : Decision) → digit odd' 0 ≡ number d.odd → digit even' 0 ≡ number d.even → held odd' even' 0 ≡ d
+pub held_last : (odd' even' : ℕ) (d : Decision) → digit odd' 0 ≡ number d.odd → digit even' 0 ≡ number d.even → held odd' even' 0 ≡ d
 held_last odd' even' d a b = λ t. record { odd = (ap (λ n. n == 1) a ∙ number_one d.odd) t; even = (ap (λ n. n == 1) b ∙ number_one d.even) t }
 
 pub seen_next : (odd even odd' even' count : ℕ) (d : Decision) → count ≤ 90

@@ -6,7 +6,7 @@ use Rattle.s2_mode.specs.declared.symbols.Symbol.{Symbol}
 use Rattle.s2_mode.specs.Symbols.{symbol}
 use Rattle.s2_mode.specs.Limits.{header_symbols, dummy_symbols}
 use Rattle.s2_scramble.specs.Gold.{quarter_turns}
-use Rattle.s2_scramble.specs.Turns.{turned}
+use Rattle.s2_scramble.specs.Rotations.{rotated}
 use Rattle.s2_map.specs.Constants.{diagonal}
 use Rattle.s2_plframe.specs.Header.{header_symbol, dummy_mode}
 
@@ -19,7 +19,7 @@ abbrev pub dummy_symbol : ℕ → ℕ → Symbol
 dummy_symbol number i =
     if nat_lt i header_symbols
     then header_symbol (dummy_mode false false) i
-    else turned (quarter_turns number (i - header_symbols)) carrier
+    else rotated (quarter_turns number (i - header_symbols)) carrier
 
 -- all symbols of the frame
 unfoldable pub dummy_frame : ℕ → List Symbol

@@ -1,4 +1,5 @@
--- The header of a physical frame (EN 302 307-1, 5.5.2), the PLHEADER: 26 bits that mark the start of a frame (SOF), and 64 bits that code MODCOD and TYPE (PLSCODE).
+-- The header of a physical layer frame, the PLHEADER (EN 302 307-1, 5.5.2): the start of frame (SOF), 26 bits, and the
+-- code of MODCOD and TYPE (PLSCODE), 64 bits.
 use Rattle.std.specs.Prelude.{ℕ, zero, suc, ◌+◌, ◌-◌, ◌/◌, ◌%◌, ◌==◌, ◌&&◌, Bool, false, List, [], ◌∷◌, pos, neg_ℤ, slice_index, map, nat_lt, if◌then◌else◌}
 use Rattle.std.specs.List.{range_with_len}
 use Rattle.s2_mode.specs.declared.symbols.Symbol.{Symbol}

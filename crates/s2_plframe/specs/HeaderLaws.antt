@@ -5,31 +5,31 @@ use Rattle.s2_mode.specs.Limits.{header_symbols}
 use Rattle.s2_mode.specs.Mode.{Mode, IsMode, slots_of}
 use Rattle.s2_bits.specs.Bits.{xor, number}
 use Rattle.s2_plframe.specs.Header.{header_bit, header_of, dummy_mode}
-use Rattle.s2_plframe.specs.Constants.{max_wrong}
+use Rattle.s2_plframe.specs.Constants.{header_threshold}
 use Rattle.s2_plframe.specs.Frame.{frame_symbols}
-use Rattle.s2_plframe.specs.Payload.{received_payload, AllTurnBack}
-use Rattle.s2_plframe.specs.Search.{Decision, decision, passes, passes_dummy, found, found_behind, recent}
+use Rattle.s2_plframe.specs.Payload.{received_payload, AllRotateBack}
+use Rattle.s2_plframe.specs.Search.{Decision, decision, matches_header, matches_dummy, found, found_behind, recent}
 use Rattle.s2_plframe.specs.declared.receive.found.Found.TheVariants as founds
 
--- a frame is a header, and a payload that can be taken out again
+-- a frame begins with its mode's header, and its payload can be taken out again
 pub record HoldsFrame (m : Mode) (number : ℕ) (payload frame : List Symbol) : Type 0 where
   pub header : take header_symbols frame ≡ header_of m
   pub payload_again : received_payload m number frame ≡ payload
 
 -- a frame begins with its mode's header, and gives its payload back if no component is -32768
 abbrev pub TakenOutLaw : Type 0
-TakenOutLaw = (m : Mode) (number : ℕ) (payload : List Symbol) → IsMode m → length payload ≡ 90 * slots_of m → AllTurnBack payload
+TakenOutLaw = (m : Mode) (number : ℕ) (payload : List Symbol) → IsMode m → length payload ≡ 90 * slots_of m → AllRotateBack payload
     → HoldsFrame m number payload (frame_symbols m number payload)
 
--- what the last of some symbols say, at most 90
+-- the decisions on the last 90 symbols
 abbrev pub seen_of : List Symbol → List Decision
 seen_of symbols = recent (map decision symbols)
 
--- a search that took some symbols and one more has seen these
+-- a search that took some symbols and then one more has seen the decisions on the last 90
 abbrev pub SeenLaw : Type 0
 SeenLaw = (symbols : List Symbol) (next : Symbol) → recent (seen_of symbols ++ decision next ∷ []) ≡ seen_of (symbols ++ next ∷ [])
 
--- what the last symbols say is what the last symbols are
+-- the decisions on the last 90 are those of the last 90 symbols
 abbrev pub LastLaw : Type 0
 LastLaw = (symbols : List Symbol) → seen_of symbols ≡ map decision (drop (length symbols - header_symbols) symbols)
 
@@ -50,15 +50,15 @@ differences a b (suc n) = differences a b n + number (xor (a n) (b n))
 abbrev pub DummiesApartLaw : Type 0
 DummiesApartLaw = (m : Mode) (short pilots : Bool) → IsMode m → 32 ≤ differences (header_bit m) (header_bit (dummy_mode short pilots)) header_symbols
 
--- with a lock of 12 the test right after a frame is the test elsewhere
+-- with a lock of 12 the test right after a frame is the usual test
 abbrev pub BehindLaw : Type 0
-BehindLaw = (m : Mode) (window : List Decision) → IsMode m → length window ≡ header_symbols → found_behind m max_wrong window ≡ found m window
+BehindLaw = (m : Mode) (window : List Decision) → IsMode m → length window ≡ header_symbols → found_behind m header_threshold window ≡ found m window
 
--- a header that is found elsewhere is found right after a frame too
+-- a header that passes the usual test passes right after a frame too
 abbrev pub StillFoundLaw : Type 0
-StillFoundLaw = (m : Mode) (lock : ℕ) (window : List Decision) → IsMode m → max_wrong ≤ lock → length window ≡ header_symbols
+StillFoundLaw = (m : Mode) (lock : ℕ) (window : List Decision) → IsMode m → header_threshold ≤ lock → length window ≡ header_symbols
     → (found m window ≡ founds.Coded → found_behind m lock window ≡ founds.Coded) × (found m window ≡ founds.Dummy → found_behind m lock window ≡ founds.Dummy)
 
 -- no window passes as a header of a mode and as one of a dummy frame
 abbrev pub ApartLaw : Type 0
-ApartLaw = (m : Mode) (window : List Decision) → IsMode m → passes (header_bit m) window ≡ true → passes_dummy window ≡ false
+ApartLaw = (m : Mode) (window : List Decision) → IsMode m → matches_header (header_bit m) window ≡ true → matches_dummy window ≡ false

@@ -1,5 +1,4 @@
--- What only the clauses of the code itself speak of (own): bits of headers in numbers, whose lowest digit is the last
--- one's, and places counted by blocks..
+-- Headers and decisions in numbers, whose lowest digit is the last symbol's, and places counted by blocks (own).
 use Rattle.std.specs.Prelude.{ℕ, ◌+◌, ◌-◌, ◌*◌, ◌/◌, ◌%◌, ◌^◌, ◌≡◌, ◌<◌, ◌≤◌, ◌==◌, ◌||◌, min, Bool, true, false, List, map, nat_lt, nat_le, if◌then◌else◌}
 use Rattle.std.specs.List.{range_with_len}
 use Rattle.std.specs.Int.{bit_at as digit}
@@ -7,7 +6,7 @@ use Rattle.std.specs.Int.RustNames.{count_ones, bit_xor}
 use Rattle.s2_mode.specs.Limits.{header_symbols}
 use Rattle.s2_mode.specs.Mode.{Mode}
 use Rattle.s2_bits.specs.Bits.{number}
-use Rattle.s2_plframe.specs.Constants.{max_wrong, sixteen_slots, pilot_block, spaced_slots}
+use Rattle.s2_plframe.specs.Constants.{header_threshold, pilot_spacing, pilot_block, pilot_period}
 use Rattle.s2_plframe.specs.Header.{header_bit, dummy_mode}
 use Rattle.s2_plframe.specs.Search.{Decision, decided}
 use Rattle.s2_plframe.specs.declared.receive.found.Found.{Found}
@@ -15,13 +14,13 @@ use Rattle.s2_plframe.specs.declared.receive.found.Found.TheVariants as founds
 
 -- the place of symbol s with n pilot blocks among the slots
 abbrev pub place_behind : ℕ → ℕ → ℕ
-place_behind blocks s = if nat_lt s (sixteen_slots * blocks) then spaced_slots * (s / sixteen_slots) + s % sixteen_slots else s + pilot_block * blocks
+place_behind blocks s = if nat_lt s (pilot_spacing * blocks) then pilot_period * (s / pilot_spacing) + s % pilot_spacing else s + pilot_block * blocks
 
--- what the symbol n before the last one says
+-- the decision on the symbol j before the last one
 abbrev pub held : ℕ → ℕ → ℕ → Decision
 held odd even j = record { odd = digit odd j == 1; even = digit even j == 1 }
 
--- the decisions that two numbers hold, the latest last
+-- the last decisions that two numbers hold; the latest is the last
 abbrev pub held_list : ℕ → ℕ → ℕ → List Decision
 held_list odd even count = map (λ k. held odd even (count - 1 - k)) (range_with_len 0 count)
 
@@ -30,14 +29,14 @@ pub record IsHeader (header : ℕ → Bool) (value : ℕ) : Type 0 where
   pub small : value < 2 ^ header_symbols
   pub bits : (k : ℕ) → k < header_symbols → digit value (header_symbols - 1 - k) ≡ number (header k)
 
--- the bits of a window as a number
+-- the decided bits of a window as a number, the first bit the highest
 pub record IsWindow (window : List Decision) (value : ℕ) : Type 0 where
   pub small : value < 2 ^ header_symbols
   pub bits : (k : ℕ) → k < header_symbols → digit value (header_symbols - 1 - k) ≡ number (decided window k)
 
 -- the same tests on numbers
 abbrev pub is_near : ℕ → ℕ → Bool
-is_near header window = nat_le (count_ones (bit_xor header window)) max_wrong
+is_near header window = nat_le (count_ones (bit_xor header window)) header_threshold
 
 abbrev pub is_dummy : ℕ → ℕ → ℕ → ℕ → ℕ → Bool
 is_dummy dummy dummy_pilots dummy_short dummy_both window =
@@ -47,7 +46,7 @@ abbrev pub found_by : ℕ → ℕ → ℕ → ℕ → ℕ → ℕ → Found
 found_by coded dummy dummy_pilots dummy_short dummy_both window =
     if is_near coded window then founds.Coded else (if is_dummy dummy dummy_pilots dummy_short dummy_both window then founds.Dummy else founds.Nothing)
 
--- the test right after a frame
+-- how many bits of a window differ from a header, as numbers
 abbrev pub wrong_in : ℕ → ℕ → ℕ
 wrong_in header window = count_ones (bit_xor header window)
 

@@ -1,15 +1,15 @@
--- The header test and the search for frames (own): the bits that a header's symbols are decided as, and how many differ.
+-- The header test and the search for frames (own): the decided bits of a header's symbols, and how many are wrong.
 use Rattle.std.specs.Prelude.{ℕ, zero, suc, ◌+◌, ◌-◌, ◌%◌, ◌==◌, ◌||◌, ◌≤◌, min, Bool, true, false, List, length, drop, slice_index_or, pos, ◌+ℤ◌, ◌-ℤ◌, int_lt, nat_lt, nat_le, if◌then◌else◌}
 use Rattle.s2_mode.specs.declared.symbols.Symbol.{Symbol}
 use Rattle.s2_mode.specs.Limits.{header_symbols}
 use Rattle.s2_mode.specs.Mode.{Mode}
 use Rattle.s2_bits.specs.Bits.{xor, number}
 use Rattle.s2_plframe.specs.Header.{header_bit, dummy_mode}
-use Rattle.s2_plframe.specs.Constants.{max_wrong, max_lock}
+use Rattle.s2_plframe.specs.Constants.{header_threshold, max_lock}
 use Rattle.s2_plframe.specs.declared.receive.found.Found.{Found}
 use Rattle.s2_plframe.specs.declared.receive.found.Found.TheVariants as founds
 
--- what a symbol would say at each place of a header
+-- a symbol's bit at an odd and at an even place of a header
 pub record Decision : Type 0 where
   pub odd : Bool
   pub even : Bool
@@ -32,13 +32,13 @@ mismatches header window zero = 0
 mismatches header window (suc n) = mismatches header window n + number (xor (decided window n) (header n))
 
 -- at most 12 of the 90 bits of a header differ
-abbrev pub passes : (ℕ → Bool) → List Decision → Bool
-passes header window = nat_le (mismatches header window header_symbols) max_wrong
+abbrev pub matches_header : (ℕ → Bool) → List Decision → Bool
+matches_header header window = nat_le (mismatches header window header_symbols) header_threshold
 
--- the headers of dummy frames have MODCOD 0, and one of them each TYPE
-abbrev pub passes_dummy : List Decision → Bool
-passes_dummy window =
-    passes (header_bit (dummy_mode false false)) window || (passes (header_bit (dummy_mode false true)) window || (passes (header_bit (dummy_mode true false)) window || passes (header_bit (dummy_mode true true)) window))
+-- the same for the four headers of dummy frames: MODCOD 0 with each TYPE
+abbrev pub matches_dummy : List Decision → Bool
+matches_dummy window =
+    matches_header (header_bit (dummy_mode false false)) window || (matches_header (header_bit (dummy_mode false true)) window || (matches_header (header_bit (dummy_mode true false)) window || matches_header (header_bit (dummy_mode true true)) window))
 
 -- what the last 90 symbols are: Coded if they pass the mode's header, else Dummy if they pass as a dummy header, else
 -- Nothing; Nothing for fewer symbols
@@ -46,20 +46,20 @@ abbrev pub found : Mode → List Decision → Found
 found m window =
     if nat_lt (length window) header_symbols
     then founds.Nothing
-    else (if passes (header_bit m) window then founds.Coded else (if passes_dummy window then founds.Dummy else founds.Nothing))
+    else (if matches_header (header_bit m) window then founds.Coded else (if matches_dummy window then founds.Dummy else founds.Nothing))
 
 -- how many bits of a window differ from a header
 abbrev pub wrong_bits : (ℕ → Bool) → List Decision → ℕ
 wrong_bits header window = mismatches header window header_symbols
 
--- and from the one of dummy frames from which the fewest differ
+-- the same for the nearest of the four dummy headers
 abbrev pub wrong_bits_dummy : List Decision → ℕ
 wrong_bits_dummy window =
     min (min (wrong_bits (header_bit (dummy_mode false false)) window) (wrong_bits (header_bit (dummy_mode false true)) window))
     (min (wrong_bits (header_bit (dummy_mode true false)) window) (wrong_bits (header_bit (dummy_mode true true)) window))
 
--- What 90 symbols right after a frame are. The header from which the fewest bits differ passes, if these are at most as
--- many as the lock says; on a tie the mode's wins
+-- What 90 symbols right after a frame are. The nearest header passes, if its wrong bits are at most the lock's number;
+-- on a tie the mode's wins
 abbrev pub found_behind : Mode → ℕ → List Decision → Found
 found_behind m lock window =
     if nat_le (wrong_bits (header_bit m) window) (wrong_bits_dummy window)
@@ -68,13 +68,13 @@ found_behind m lock window =
 
 -- the number of wrong bits that a header may have right after a frame: 12 to 40
 abbrev pub IsLock : ℕ → Type 0
-IsLock lock = (max_wrong ≤ lock) × (lock ≤ max_lock)
+IsLock lock = (header_threshold ≤ lock) × (lock ≤ max_lock)
 
 -- the last 90 of a list
 abbrev pub recent : List Decision → List Decision
 recent seen = drop (length seen - header_symbols) seen
 
--- a mode, and what the last symbols say, at most 90
+-- a mode, and the decisions on the last symbols, at most 90
 pub record Search : Type 0 where
   pub mode : Mode
   pub seen : List Decision

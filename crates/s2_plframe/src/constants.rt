@@ -1,19 +1,19 @@
-//! The numbers of a physical frame (EN 302 307-1, 5.5), and the one of this profile's header test.
+//! The numbers of a physical layer frame (EN 302 307-1, 5.5), and those of this profile's header test.
 
-/// How many of a header's bits may be decided as the other bit.
-pub const MAX_WRONG: u32 = 12;
+/// The largest number of wrong bits with which a header passes.
+pub const HEADER_THRESHOLD: u32 = 12;
 
-/// How many of them may be allowed to be right behind a frame.
+/// The largest number of wrong bits that a [`crate::Lock`] may allow right after a frame.
 pub const MAX_LOCK: u32 = 40;
 
-/// The symbols of 16 slots, behind which a pilot block stands.
-pub(crate) const SIXTEEN_SLOTS: usize = 1440;
+/// The symbols of 16 slots; a pilot block follows them.
+pub(crate) const PILOT_SPACING: usize = 1440;
 
 /// The symbols of a pilot block.
 pub(crate) const PILOT_BLOCK: usize = 36;
 
-/// Both together.
-pub(crate) const SPACED_SLOTS: usize = 1476;
+/// The symbols of 16 slots and their pilot block.
+pub(crate) const PILOT_PERIOD: usize = 1476;
 
 /// The symbols of a slot.
 pub(crate) const SLOT: usize = 90;

@@ -1,4 +1,4 @@
-//! The bits of a frame's header (EN 302 307-1, 5.5.2).
+//! The bits of a frame's header, the PLHEADER (EN 302 307-1, 5.5.2): SOF, then PLSCODE.
 ghost use Rattle.std.specs.Prelude.{◌≡◌, ◌<◌};
 ghost use Rattle.s2_mode.specs.Limits.{header_symbols};
 ghost use Rattle.s2_mode.specs.Mode.{mode_of};
@@ -6,10 +6,10 @@ ghost use Rattle.s2_plframe.specs.Header.{chosen, sum_of_rows, code_bit, dummy_m
 
 use s2_mode::Mode;
 
-/// The mark of a frame's start (SOF), 26 bits.
+/// The start of frame (SOF), 26 bits.
 const START_OF_FRAME: u32 = 0x018D_2E82;
 
-/// The rows of the code of MODCOD and TYPE.
+/// The generator matrix of the PLSCODE.
 const GENERATOR: [u32; 6] = [
     0x5555_5555,
     0x3333_3333,
@@ -19,19 +19,19 @@ const GENERATOR: [u32; 6] = [
     0xFFFF_FFFF,
 ];
 
-/// What is added to the code.
+/// The scrambling sequence of the PLSCODE.
 const SCRAMBLING: u64 = 0x719D_83C9_5342_2DFA;
 
-/// What a header says (its PLSCODE): a MODCOD, and a TYPE, which is whether frames are short and
-/// whether they have pilots. MODCOD 0 says that a frame is a dummy.
-#[derive(Clone, Copy)]
-pub(crate) struct PlsCode {
-    pub(crate) modcod: u8,
-    pub(crate) short: bool,
-    pub(crate) pilots: bool,
+/// The content of a header (its PLSCODE): the MODCOD, and TYPE's two bits. They are whether frames are short, and
+/// whether they have pilots. The standard has MODCOD 0, which is a dummy frame's, and 1 to 28.
+#[derive(Clone, Copy, Debug, PartialEq, Eq)]
+pub struct PlsCode {
+    pub modcod: u8,
+    pub short: bool,
+    pub pilots: bool,
 }
 
-/// What the headers of a mode's frames say.
+/// The code in the headers of a mode's frames.
 pub(crate) fn pls_code(mode: Mode) -> PlsCode
     ensures { mode_of result.modcod result.short result.pilots ≡ mode }
 {
@@ -42,7 +42,7 @@ pub(crate) fn pls_code(mode: Mode) -> PlsCode
     }
 }
 
-/// What the header of a dummy frame says.
+/// The code in the header of a dummy frame.
 pub(crate) fn dummy_code(short: bool, pilots: bool) -> PlsCode
     ensures { mode_of result.modcod result.short result.pilots ≡ dummy_mode short pilots }
 {
@@ -53,7 +53,7 @@ pub(crate) fn dummy_code(short: bool, pilots: bool) -> PlsCode
     }
 }
 
-/// The bits of a header: those of the mark, and then those of the code.
+/// A header's bit: the SOF, then the scrambled code.
 pub(crate) fn header_bit(code: PlsCode, k: usize) -> bool
     requires { k < header_symbols }
     ensures { result ≡ header_bit (mode_of code.modcod code.short code.pilots) k }
@@ -66,7 +66,7 @@ pub(crate) fn header_bit(code: PlsCode, k: usize) -> bool
     }
 }
 
-/// The code of MODCOD and TYPE, before it is scrambled.
+/// A bit of the PLSCODE before scrambling.
 fn code_bit(code: PlsCode, j: usize) -> bool
     requires { j < 64 }
     ensures { result ≡ code_bit (mode_of code.modcod code.short code.pilots) j }
@@ -75,7 +75,7 @@ fn code_bit(code: PlsCode, j: usize) -> bool
     sum ^ (j % 2 == 1 && code.pilots)
 }
 
-/// A bit of the sum of the chosen rows.
+/// A bit of the sum of the chosen rows of the matrix.
 fn sum_of_rows(code: PlsCode, k: usize) -> bool
     requires { k < 32 }
     ensures { result ≡ sum_of_rows (mode_of code.modcod code.short code.pilots) 6 k }

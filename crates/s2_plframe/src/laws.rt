@@ -1,22 +1,21 @@
 //! Laws of frames, of the header test and of the search.
 ghost use Rattle.std.specs.Prelude.{◌≡◌};
-ghost use Rattle.s2_plframe.specs.Constants.{max_wrong, max_lock};
+ghost use Rattle.s2_plframe.specs.Constants.{header_threshold, max_lock};
 ghost use Rattle.s2_plframe.specs.HeaderLaws.{TakenOutLaw, SeenLaw, LastLaw, CleanHeaderLaw, DummyHeaderLaw, DummiesApartLaw, ApartLaw, BehindLaw, StillFoundLaw};
 
-use crate::constants::{MAX_LOCK, MAX_WRONG};
+use crate::constants::{HEADER_THRESHOLD, MAX_LOCK};
 
-/// A frame is its mode's header, and a payload that can be taken out again.
+/// A frame begins with its mode's header, and its payload can be taken out again.
 pub fn taken_out()
     ensures { TakenOutLaw }
 {}
 
-/// A search that took some symbols and then one more has seen what all of them say, at most the
-/// last 90.
+/// A search that took some symbols and then one more has seen the decisions on the last 90 of all of them.
 pub fn seen()
     ensures { SeenLaw }
 {}
 
-/// What a search has seen is what the last 90 symbols say.
+/// A search has seen the decisions on the last 90 symbols.
 pub fn last()
     ensures { LastLaw }
 {}
@@ -26,7 +25,7 @@ pub fn clean_header()
     ensures { CleanHeaderLaw }
 {}
 
-/// The header of a dummy frame without noise is found as one, whatever the mode and its TYPE.
+/// The header of a dummy frame without noise is found as one, with every mode and TYPE.
 pub fn dummy_header()
     ensures { DummyHeaderLaw }
 {}
@@ -41,19 +40,18 @@ pub fn apart()
     ensures { ApartLaw }
 {}
 
-/// With a lock of 12 the test right behind a frame is the test elsewhere.
+/// With a lock of 12 the test right after a frame is the usual test.
 pub fn behind()
     ensures { BehindLaw }
 {}
 
-/// What is found elsewhere is found right behind a frame as well, with each lock.
+/// A header that passes the usual test passes right after a frame too, with each lock.
 pub fn still_found()
     ensures { StillFoundLaw }
 {}
 
-/// How many bits of a header may be wrong, [`crate::MAX_WRONG`], and how many may be allowed to be right behind a
-/// frame, [`crate::MAX_LOCK`], are the numbers of the definitions.
+/// [`crate::HEADER_THRESHOLD`] and [`crate::MAX_LOCK`] are the numbers of the definitions.
 pub fn limits()
-    ensures wrong { MAX_WRONG ≡ max_wrong }
+    ensures wrong { HEADER_THRESHOLD ≡ header_threshold }
     ensures lock { MAX_LOCK ≡ max_lock }
 {}

@@ -1,10 +1,13 @@
-//! Physical frames (EN 302 307-1, 5.5), between the constellation and the line, in both directions.
+//! Physical layer frames (PLFRAME, EN 302 307-1, 5.5), between the constellation and the line, in both directions.
 //!
-//! [`frame_into`] writes exactly the frame of a payload: the header of its mode, the slots with
-//! their pilot blocks, and everything after the header turned by the scrambler of the physical
-//! layer; [`dummy_into`] writes a dummy frame, which carries nothing. [`Search`] finds the headers in a stream of symbols, of which at most 12 bits may be wrong,
-//! and knows dummy frames; [`payload_of`] takes the payload out again, exactly, whatever symbols came.
-//! [`laws`] join the two ends. No call takes memory.
+//! [`frame_into`] writes exactly the frame of a payload: its mode's header (PLHEADER), then the slots with
+//! their pilot blocks. The physical layer's scrambler rotates all symbols after the header. [`dummy_into`]
+//! writes a dummy frame, which carries nothing. [`Search`] finds the headers in a stream of symbols. A header
+//! passes with at most 12 wrong bits. Dummy frames are found too. [`payload_of`] takes the payload out again,
+//! exactly, whatever symbols came. The [`laws`] join the two ends. No call takes memory.
+//!
+//! For receivers of other modes: [`header_number`] gives the 90 header bits of any MODCOD and TYPE
+//! ([`PlsCode`]), [`Signs`] hold the decisions on the last symbols, and [`wrong_in`] counts the wrong bits.
 //!
 //! ```text
 //! frame_into(mode, &gold, &payload, &mut frame);
@@ -22,6 +25,9 @@ pub mod laws;
 mod receive;
 mod send;
 
-pub use constants::{MAX_LOCK, MAX_WRONG};
-pub use receive::{Found, Lock, Search, header_matches, payload_of};
+pub use constants::{HEADER_THRESHOLD, MAX_LOCK};
+pub use header::PlsCode;
+pub use receive::{
+    Found, Lock, Search, Signs, header_matches, header_number, payload_of, wrong_in,
+};
 pub use send::{dummy_into, frame_into};

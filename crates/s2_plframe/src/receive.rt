@@ -8,4 +8,5 @@ mod search;
 pub use found::Found;
 pub use lock::Lock;
 pub use payload::payload_of;
+pub use registers::{Signs, header_number, wrong_in};
 pub use search::{Search, header_matches};

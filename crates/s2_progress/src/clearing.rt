@@ -1,11 +1,11 @@
-//! A writer beside a line that is shown.
+//! A writer that clears the terminal's line first.
 ghost use Rattle.std.specs.Prelude.{◌≡◌};
 
 use crate::terminal::Terminal;
 use s2_files::StandardStreams;
 use s2_mode::{Counted, CountedWrite, WriteFault};
 
-/// A writer before whose writes what is shown on a terminal is taken away. To contracts it is the one that it holds.
+/// A writer that clears the terminal's line before each write. To contracts it is the writer that it holds.
 #[derive(Drop)]
 pub struct Clearing<'t, 'r, W, R> {
     inner: W,
@@ -13,7 +13,7 @@ pub struct Clearing<'t, 'r, W, R> {
 }
 
 impl<'t, 'r, W, R> Clearing<'t, 'r, W, R> {
-    /// This writer beside this terminal.
+    /// This writer, with the terminal whose line it clears.
     pub fn new(inner: W, terminal: &'t Terminal<'r, R>) -> Clearing<'t, 'r, W, R>
         ensures { result.inner ≡ inner }
     {

@@ -1,9 +1,10 @@
 //! How far a command is: one line on standard error, rewritten at most once a second.
 //!
-//! A [`Watched`] reader or writer is to contracts the one that it holds, and tells a [`Meter`] how many bytes have passed. The meter of
-//! the program is a [`Show`], whose line stands on a [`Terminal`]: the last line of standard error, which is taken away as the command
-//! ends, and before what a [`Clearing`] writer writes, so that it never stands among lines of a report. What the line says is
-//! determined by how many bytes have passed in which time: [`numbers_at`] gives the numbers, [`line_of`] the words.
+//! A [`Watched`] reader or writer is to contracts the one that it holds. It reports to a [`Meter`] how many bytes have passed.
+//! The meter of the program is a [`Show`], whose line is shown on a [`Terminal`]: it is the last line of standard error. The
+//! line is cleared when the command ends, and before each write of a [`Clearing`] writer. So it never gets between the lines
+//! of a report. The line depends only on the bytes that have passed and on the time: [`numbers_at`] returns its numbers,
+//! [`line_of`] its words.
 //!
 //! ```text
 //! let terminal = Terminal::new(rt);

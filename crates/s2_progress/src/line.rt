@@ -8,7 +8,7 @@ use s2_console::Line;
 /// The most characters of a line.
 pub(crate) const WIDEST: usize = 191;
 
-/// Puts a number behind a line between words.
+/// Appends a number between words to a line.
 fn push_between(line: &mut Line, before: &str, number: u64, after: &str)
     requires { length line.old + (length before.now + 40) + length after.now ≤ line_room }
     ensures bytes { line.new ≡ line.old ++ (before.now ++ decimal number ++ after.now) }
@@ -18,7 +18,7 @@ fn push_between(line: &mut Line, before: &str, number: u64, after: &str)
     line.push(after);
 }
 
-/// The same where there is a number.
+/// The same if there is a number.
 fn push_part(line: &mut Line, before: &str, number: Option<u64>, after: &str)
     requires { length line.old + (length before.now + 40) + length after.now ≤ line_room }
     ensures room { length line.new ≤ length line.old + (length before.now + 20) + length after.now }
@@ -28,7 +28,7 @@ fn push_part(line: &mut Line, before: &str, number: Option<u64>, after: &str)
     }
 }
 
-/// Puts megabytes behind a line, of which so many tenths are there.
+/// Appends megabytes to a line, from their number of tenths.
 fn push_megabytes(line: &mut Line, tenths: u64)
     requires { length line.old + 84 ≤ line_room }
     ensures room { length line.new ≤ length line.old + 44 }
@@ -37,7 +37,7 @@ fn push_megabytes(line: &mut Line, tenths: u64)
     push_between(line, "", tenths % 10, " MB");
 }
 
-/// Puts behind a line how much has passed.
+/// Appends to a line the frames, packets and bytes that have passed.
 fn push_counts(line: &mut Line, numbers: Numbers)
     requires { length line.old ≤ 1 }
     ensures room { length line.new ≤ length line.old + 107 }
@@ -48,7 +48,7 @@ fn push_counts(line: &mut Line, numbers: Numbers)
     push_megabytes(line, numbers.tenths);
 }
 
-/// Puts behind a line how fast it goes, and how far it has gone.
+/// Appends to a line the pace, the share that is done, and the time left.
 fn push_pace(line: &mut Line, numbers: Numbers)
     requires { length line.old ≤ 108 }
     ensures room { length line.new ≤ length line.old + 84 }
@@ -58,7 +58,7 @@ fn push_pace(line: &mut Line, numbers: Numbers)
     push_part(line, ", ", numbers.left, " s left");
 }
 
-/// Puts the words of these numbers behind a line.
+/// Appends the words of these numbers to a line.
 fn push_numbers(line: &mut Line, numbers: Numbers)
     requires { length line.old ≤ 1 }
     ensures room { length line.new ≤ length line.old + 191 }
@@ -82,7 +82,7 @@ fn fits(numbers: Numbers) -> bool {
     line_of(numbers).as_bytes().len() <= COLUMNS
 }
 
-/// What is shown of these numbers: where their words don't fit on a line, no frames, and where those don't fit either, no packets.
+/// The numbers that are shown: without frames if the line is too long, and also without packets if it is still too long.
 fn fitted(numbers: Numbers) -> Numbers {
     let few = Numbers {
         frames: None,
@@ -100,7 +100,7 @@ fn fitted(numbers: Numbers) -> Numbers {
     }
 }
 
-/// Puts so many blanks behind a line.
+/// Appends `count` blanks to a line.
 fn push_blanks(line: &mut Line, count: usize)
     requires { length line.old + count ≤ line_room }
     ensures { length line.new ≡ length line.old + count }
@@ -110,7 +110,7 @@ fn push_blanks(line: &mut Line, count: usize)
     }
 }
 
-/// The words of what is shown of these numbers, over those that stand on the line before, of which there are so many characters.
+/// The words that are shown of these numbers. They overwrite the line before, which has `width` characters.
 pub(crate) fn shown(numbers: Numbers, width: usize) -> Line
     requires { width ≤ 191 }
 {
@@ -122,7 +122,7 @@ pub(crate) fn shown(numbers: Numbers, width: usize) -> Line
     line
 }
 
-/// Blanks over what stands on the line before, of which there are so many characters.
+/// Blanks that overwrite the line before, which has `width` characters.
 pub(crate) fn wiped(width: usize) -> Line
     requires { width ≤ 191 }
 {

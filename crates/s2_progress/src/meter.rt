@@ -1,13 +1,13 @@
-//! What is told how many bytes have passed.
+//! Counting of the bytes that have passed.
 
-/// What is told how many bytes have passed.
+/// It is called with the number of bytes that have passed.
 pub trait Meter {
-    /// So many bytes are to be read, where that is known.
+    /// The number of bytes that are to be read, if it is known.
     fn expect(&self, length: Option<u64>);
 
-    /// So many bytes were read.
+    /// This number of bytes was read.
     fn took(&self, bytes: usize);
 
-    /// So many bytes were written.
+    /// This number of bytes was written.
     fn gave(&self, bytes: usize);
 }

@@ -1,19 +1,19 @@
 //! The numbers of a line.
 
-/// What of a command's bytes are packets, and what are symbols. `frame` tells the symbols of a frame.
+/// Which of a command's bytes are packets, and which are symbols. `frame` is the number of symbols of a frame.
 #[derive(Clone, Copy, Debug, PartialEq, Eq)]
 pub enum Pace {
     /// Packets come in, symbols go out.
     Sending { frame: u64 },
     /// Symbols come in, packets go out.
     Receiving { frame: u64 },
-    /// Symbols come in, and go out.
-    Spoiling,
-    /// Packets come in, and once all have come they go out.
+    /// Symbols come in, and go out with noise.
+    AddingNoise,
+    /// Packets come in. After the last one they go out.
     Looping,
 }
 
-/// How many bytes were taken and given in how many milliseconds, and how many there are to take, where that is known.
+/// The bytes that were taken and given so far, the time in milliseconds, and the bytes to be taken in all, if that is known.
 #[derive(Clone, Copy, Debug, PartialEq, Eq)]
 pub struct Passed {
     pub taken: u64,
@@ -22,8 +22,8 @@ pub struct Passed {
     pub length: Option<u64>,
 }
 
-/// The numbers of a line: frames, packets, tenths of a megabyte, symbols in a second, hundredths of the whole, and the seconds that
-/// are left. A number over 2^64 - 1 is given as that.
+/// The numbers of a line: frames, packets, tenths of a megabyte, symbols per second, percent done, and seconds left. A number
+/// over 2^64 - 1 is capped to that.
 #[derive(Clone, Copy, Debug, PartialEq, Eq)]
 pub struct Numbers {
     pub frames: Option<u64>,
@@ -43,7 +43,7 @@ pub(crate) fn capped(number: u128) -> u64 {
     number.min(u64::MAX as u128) as u64
 }
 
-/// So many in so many, at this number: the rule of three. None in nothing.
+/// The product of `number` and `many`, divided by `per`. `None` if `per` is 0.
 fn ratio(number: u64, many: u64, per: u64) -> Option<u64> {
     if per == 0 {
         return None;
@@ -55,17 +55,17 @@ fn ratio(number: u64, many: u64, per: u64) -> Option<u64> {
 fn symbols_of(pace: Pace, passed: Passed) -> Option<u64> {
     match pace {
         Pace::Sending { frame: _ } => Some(passed.given / SYMBOL_BYTES),
-        Pace::Receiving { frame: _ } | Pace::Spoiling => Some(passed.taken / SYMBOL_BYTES),
+        Pace::Receiving { frame: _ } | Pace::AddingNoise => Some(passed.taken / SYMBOL_BYTES),
         Pace::Looping => None,
     }
 }
 
-/// The packets that have passed. Of those that go round they are the ones that came back, once there are such.
+/// The packets that have passed. In a loop, they are the packets that came back, as soon as there are any.
 fn packets_of(pace: Pace, passed: Passed) -> Option<u64> {
     match pace {
         Pace::Sending { frame: _ } => Some(passed.taken / PACKET_BYTES),
         Pace::Receiving { frame: _ } => Some(passed.given / PACKET_BYTES),
-        Pace::Spoiling => None,
+        Pace::AddingNoise => None,
         Pace::Looping if passed.given == 0 => Some(passed.taken / PACKET_BYTES),
         Pace::Looping => Some(passed.given / PACKET_BYTES),
     }
@@ -76,11 +76,11 @@ fn frames_of(pace: Pace, passed: Passed) -> Option<u64> {
     match pace {
         Pace::Sending { frame } => ratio(passed.given / SYMBOL_BYTES, 1, frame),
         Pace::Receiving { frame } => ratio(passed.taken / SYMBOL_BYTES, 1, frame),
-        Pace::Spoiling | Pace::Looping => None,
+        Pace::AddingNoise | Pace::Looping => None,
     }
 }
 
-/// How many bytes are done: those that were taken, and of packets that go round those that came back too.
+/// How many bytes are done: those that were taken, and in a loop also those that came back.
 fn done_of(pace: Pace, passed: Passed) -> u64 {
     match pace {
         Pace::Looping => passed.taken.saturating_add(passed.given),
@@ -96,7 +96,7 @@ fn whole_of(pace: Pace, length: u64) -> u64 {
     }
 }
 
-/// The hundredths that are done, at most all.
+/// The percentage that is done, at most 100.
 fn share_of(pace: Pace, passed: Passed) -> Option<u64> {
     let whole = whole_of(pace, passed.length?);
     let share = ratio(done_of(pace, passed), 100, whole)?;
@@ -116,7 +116,7 @@ fn tenths_of(passed: Passed) -> u64 {
     capped((passed.taken as u128 + passed.given as u128) / 100_000)
 }
 
-/// The numbers of so many bytes in so much time.
+/// The numbers of the line after these bytes and this time.
 pub fn numbers_at(pace: Pace, passed: Passed) -> Numbers {
     Numbers {
         frames: frames_of(pace, passed),

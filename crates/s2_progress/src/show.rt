@@ -6,17 +6,17 @@ use s2_files::StandardStreams;
 use std::cell::Cell;
 use std::time::{Clock, Instant};
 
-/// The clock is read once so many bytes have passed.
+/// The clock is read each time this number of bytes has passed.
 const PIECE: u64 = 1 << 16;
 
-/// The same of packets that go round, where symbols pass unseen between them.
+/// The same in a loop: symbols pass unseen between the packets.
 const LOOPED_PIECE: u64 = 1 << 11;
 
-/// The milliseconds for which a line stands at least, and before the first.
-const STANDS: u64 = 1000;
+/// The shortest time between two lines, and before the first one, in milliseconds.
+const MIN_MILLIS: u64 = 1000;
 
-/// How far a command is, shown on a terminal: a line a second at most, and none in the first. Where nothing is to be shown, it does
-/// nothing.
+/// How far a command is, shown on a terminal: at most one line per second, and none in the first. If nothing is to be shown, it
+/// does nothing.
 #[derive(Drop)]
 pub struct Show<'t, 'r, R> {
     terminal: &'t Terminal<'r, R>,
@@ -30,7 +30,7 @@ pub struct Show<'t, 'r, R> {
 }
 
 impl<'t, 'r, R: Clock + StandardStreams> Show<'t, 'r, R> {
-    /// Nothing has passed so far. `wanted` tells whether it is to be shown; without a clock it cannot be.
+    /// Nothing has passed so far. `wanted` says whether it is to be shown. Without a clock it cannot be.
     pub fn new(terminal: &'t Terminal<'r, R>, pace: Pace, wanted: bool) -> Show<'t, 'r, R> {
         let start = if wanted {
             Instant::now(terminal.host()).ok()
@@ -49,12 +49,12 @@ impl<'t, 'r, R: Clock + StandardStreams> Show<'t, 'r, R> {
         }
     }
 
-    /// Takes away what is shown.
+    /// Clears the line.
     pub fn finish(&self) {
         self.terminal.clear();
     }
 
-    /// Counts bytes that passed, and looks at the clock once a piece.
+    /// Counts bytes that passed, and reads the clock once per piece.
     fn pass(&self, count: &Cell<u64>, bytes: usize) {
         let Some(start) = self.start else {
             return;
@@ -77,13 +77,13 @@ impl<'t, 'r, R: Clock + StandardStreams> Show<'t, 'r, R> {
         }
     }
 
-    /// Shows a line, where the one before has stood for a second.
+    /// Shows a line, if the one before was shown for at least a second.
     fn look(&self, start: Instant) {
         let Ok(now) = Instant::now(self.terminal.host()) else {
             return;
         };
         let millis = capped(now.duration_since(start).as_millis());
-        if millis.saturating_sub(self.shown_at.get()) >= STANDS {
+        if millis.saturating_sub(self.shown_at.get()) >= MIN_MILLIS {
             self.shown_at.set(millis);
             self.terminal.show(numbers_at(
                 self.pace,

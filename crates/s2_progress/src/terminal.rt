@@ -7,7 +7,7 @@ use s2_mode::{Counting, write_full};
 use std::cell::Cell;
 use std::io::IsTerminal;
 
-/// The last line of standard error, on which numbers are shown, and of which so many characters are shown on.
+/// The last line of standard error, on which numbers are shown. `width` is the number of its characters.
 #[derive(Drop)]
 pub struct Terminal<'r, R> {
     rt: &'r R,
@@ -15,7 +15,7 @@ pub struct Terminal<'r, R> {
 }
 
 impl<'r, R: StandardStreams> Terminal<'r, R> {
-    /// Nothing is shown on it so far.
+    /// Nothing is shown so far.
     pub fn new(rt: &'r R) -> Terminal<'r, R> {
         Terminal {
             rt,
@@ -23,7 +23,7 @@ impl<'r, R: StandardStreams> Terminal<'r, R> {
         }
     }
 
-    /// What it is the terminal of.
+    /// The host of this terminal.
     pub fn host(&self) -> &'r R {
         self.rt
     }
@@ -33,14 +33,14 @@ impl<'r, R: StandardStreams> Terminal<'r, R> {
         self.rt.errors().is_terminal()
     }
 
-    /// Shows numbers in place of what is shown.
+    /// Shows numbers in place of those that are shown.
     pub(crate) fn show(&self, numbers: Numbers) {
         let line = shown(numbers, self.width.get().min(WIDEST));
         self.width.set(line.as_bytes().len().saturating_sub(1));
         self.write(&line);
     }
 
-    /// Takes away what is shown.
+    /// Clears the line.
     pub fn clear(&self) {
         let width = self.width.replace(0).min(WIDEST);
         if width > 0 {
@@ -48,7 +48,7 @@ impl<'r, R: StandardStreams> Terminal<'r, R> {
         }
     }
 
-    /// Writes a line. Where it cannot be written nobody is to be told.
+    /// Writes a line. A fault of this is not reported.
     fn write(&self, line: &Line) {
         let _ = write_full(&mut Counting::new(self.rt.errors()), line.as_bytes());
     }

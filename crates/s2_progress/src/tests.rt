@@ -10,7 +10,7 @@ use std::io::{ErrorKind, IsTerminal, Write};
 use std::test::Fail;
 use std::time::{Clock, Duration};
 
-/// What was written onto standard error.
+/// The bytes that were written to standard error.
 #[derive(Clone, Copy)]
 struct Screen<'a> {
     bytes: &'a RefCell<Vec<u8>>,
@@ -38,7 +38,7 @@ impl IsTerminal for Screen<'_> {
     }
 }
 
-/// A host whose clock stands at so many milliseconds.
+/// A host whose clock is at `millis`.
 #[derive(Drop)]
 struct Host<'a> {
     millis: &'a Cell<u64>,
@@ -75,7 +75,7 @@ impl<'a> StandardStreams for Host<'a> {
     }
 }
 
-/// How many bytes it was told of, and how often.
+/// Counts the bytes and the calls that are reported to it.
 #[derive(Drop)]
 struct Tally {
     took: Cell<usize>,
@@ -115,7 +115,7 @@ impl Meter for Tally {
     }
 }
 
-/// An output that cannot be begun.
+/// An output that cannot be truncated.
 #[derive(Drop)]
 struct Stuck {
     failed: u64,
@@ -220,12 +220,12 @@ fn numbers_of_a_receiver(rt: HostRuntime) {
         left: None,
     };
     assert_eq!(rt; numbers_at(Pace::Receiving { frame: 8190 }, now), want);
-    let spoilt = Numbers {
+    let noisy = Numbers {
         frames: None,
         packets: None,
         ..want
     };
-    assert_eq!(rt; numbers_at(Pace::Spoiling, now), spoilt);
+    assert_eq!(rt; numbers_at(Pace::AddingNoise, now), noisy);
 }
 
 #[test]
@@ -264,7 +264,7 @@ fn nothing_is_divided_by_nothing(rt: HostRuntime) {
     let most = passed(u64::MAX, u64::MAX, u64::MAX, Some(u64::MAX));
     let all = numbers_at(Pace::Looping, most);
     assert_eq!(rt; (all.share, all.left), (Some(100), Some(0)));
-    let first = numbers_at(Pace::Spoiling, passed(1, 0, u64::MAX, Some(u64::MAX)));
+    let first = numbers_at(Pace::AddingNoise, passed(1, 0, u64::MAX, Some(u64::MAX)));
     assert_eq!(rt; (first.share, first.left), (Some(0), Some(u64::MAX / 1000)));
 }
 
@@ -323,7 +323,7 @@ fn shows_a_line_a_second(rt: HostRuntime) {
     };
     let terminal = Terminal::new(&host);
     assert!(rt; terminal.is_there());
-    let show = Show::new(&terminal, Pace::Spoiling, true);
+    let show = Show::new(&terminal, Pace::AddingNoise, true);
     show.took(400_000);
     millis.set(5999);
     show.took(400_000);
@@ -396,7 +396,7 @@ fn a_hidden_line_is_not_shown(rt: HostRuntime) {
         screen,
     };
     let terminal = Terminal::new(&host);
-    let show = Show::new(&terminal, Pace::Spoiling, false);
+    let show = Show::new(&terminal, Pace::AddingNoise, false);
     millis.set(5000);
     show.took(400_000);
     show.gave(400_000);
@@ -413,7 +413,7 @@ fn a_report_stands_alone(rt: HostRuntime) {
         screen,
     };
     let terminal = Terminal::new(&host);
-    let show = Show::new(&terminal, Pace::Spoiling, true);
+    let show = Show::new(&terminal, Pace::AddingNoise, true);
     let mut report = Clearing::new(Counting::new(screen), &terminal);
     assert_eq!(rt; report.write(b"a line\n"), Ok(7));
     millis.set(1000);

@@ -1,11 +1,11 @@
-//! A reader or writer whose bytes are told to a meter.
+//! A reader or writer whose bytes are counted by a meter.
 ghost use Rattle.std.specs.Prelude.{◌≡◌};
 
 use crate::meter::Meter;
 use s2_files::Output;
 use s2_mode::{Counted, CountedRead, CountedWrite, ReadFault, WriteFault};
 
-/// A reader or writer whose meter is told how many bytes have passed. To contracts it is the one that it holds.
+/// A reader or writer whose bytes are counted by a meter. To contracts it is the reader or writer that it holds.
 #[derive(Drop)]
 pub struct Watched<'m, T, M> {
     inner: T,
@@ -20,7 +20,7 @@ impl<'m, T, M> Watched<'m, T, M> {
         Watched { inner, meter }
     }
 
-    /// What it holds.
+    /// The reader or writer that it holds.
     pub fn into_inner(self) -> T
         ensures { result ≡ self.entry.inner }
     {

@@ -24,23 +24,23 @@ pub use Rattle.s2_plframe.proofs.HeaderFacts.{seen_more, seen_last}
 pub use Rattle.s2_plframe.specs.HeaderLaws.{seen_of}
 pub use Rattle.s2_plframe.specs.Search.{Search, search_of, decision, found, found_behind, recent}
 pub use Rattle.s2_plframe.specs.declared.receive.found.Found.{Found}
-pub use Rattle.s2_bbframe.proofs.Events.{none-and_then, joining-append, joining-one, torn-append}
+pub use Rattle.s2_bbframe.proofs.Events.{none-and_then, joining-append, joining-one, incomplete-append}
 pub use Rattle.s2_bbframe.proofs.RoundTrips.{round_trip}
 pub use Rattle.s2_bbframe.proofs.Runs.{length_closed}
 pub use Rattle.s2_bbframe.specs.DataStream.{IsPacket, closed_body, stream_of, cuts, fields_of, header_at}
-pub use Rattle.s2_bbframe.specs.Joining.{Placed, closed_in, gap, Joined, step, still, begun_body, torn_in, torn, and_then, joining, field, events_from}
+pub use Rattle.s2_bbframe.specs.Joining.{Placed, closed_in, gap, Joined, step, still, begun_body, incomplete_in, incomplete, and_then, joining, field, events_from}
 pub use Rattle.s2_receive.specs.Answers.{RunAnswers, BreaksIn, OnFrame, IsSame, KeepsLast, KeepsDecision, Reads, Seen, Finds, FindsNone, NextAnswers, bytes_by, seen_by}
 pub use Rattle.s2_receive.specs.Faults.{fault_of}
 pub use Rattle.s2_receive.specs.Finding.{Window, window_at, window_of, reached, wanted, met_within, met_then, Follows, Takes, Scans, IsBehind, met_of, place_after, found_last, NoHeader}
-pub use Rattle.s2_receive.specs.Laws.{joined, met_events, events_of, IsJoined, Piece, coded, dummy, stream_symbols, AreReceived, frames_at, PassedNone, Gives, FrontLaw, Spells, GoOn, HasGiven, SameRunLaw, SameStepLaw, NoneBegins, SearchLaw, behind_at}
-pub use Rattle.s2_receive.specs.Meeting.{Met, frame, cut, ended, nothing_over, passed, begins, by_found, met_from, is_over}
-pub use Rattle.s2_receive.specs.Receiving.{Rules, Standing, after, all_packets, packets_of, delivery, joined_after, at_start, after_all, count_of, State, taken, left_by, left_known, met_left, left_in, asked, asked_by, Spell, EndsAt, Steps, Waits, YieldsSymbols, Reaches, Meets, EndsBehind, StopsShort, Stops, Went, StepAnswers, IsLive, all_lines, line_of, step_of, is_well, all_well, rank, RunsTo, BreaksOff, BreaksAfter, phase_after, Receiver, Decision, Tells, MetFrame, IsDecided, IsDecidedBy, begun, is_at_frame, report_for, rules_of, frame_totals, given_after, passes, state_of}
+pub use Rattle.s2_receive.specs.Laws.{joined, met_events, events_of, IsJoined, Piece, coded, dummy, stream_symbols, AreReceived, frames_at, SkippedNone, Gives, FrontLaw, SpellSymbols, GoOn, HasGiven, SameRunLaw, SameStepLaw, NoneBegins, SearchLaw, behind_at}
+pub use Rattle.s2_receive.specs.Meeting.{Met, frame, cut, ended, no_gap, extended, begins, by_found, met_from, is_gap}
+pub use Rattle.s2_receive.specs.Receiving.{Rules, Standing, after, all_packets, packets_of, delivery, joined_after, at_start, after_all, count_of, State, taken, left_by, left_known, met_left, left_in, asked, asked_by, YieldsMet, EndsAt, Steps, Waits, YieldsSymbols, Reaches, Meets, EndsBehind, StopsShort, Stops, Processed, StepAnswers, IsLive, all_lines, line_of, step_of, is_certified_step, are_all_certified, rank, RunsTo, BreaksOff, BreaksAfter, phase_after, Receiver, Decision, Handles, MetFrame, IsDecided, IsDecidedBy, begun, is_at_frame, report_for, rules_of, frame_totals, counts_after, with_gap, state_of}
 pub use Rattle.s2_receive.specs.Parts.{delivered_of}
 pub use Rattle.s2_receive.specs.ReportLines.{frame_line, step_line}
 pub use Rattle.s2_receive.specs.Stepping.{FailsIn, Fits, IsSound, CanCountIn}
-pub use Rattle.s2_receive.specs.Telling.{Filled, filled_by, joined_by, given_by, counted, answer_for, TellsNext, Searches, KeepsWithout}
+pub use Rattle.s2_receive.specs.Telling.{Filled, filled_by, joined_by, counts_by, counted, answer_for, HandlesNext, Searches, KeepsWithout}
 unfoldable pub use Rattle.s2_receive.specs.Windows.{Saw, found_as}
-pub use Rattle.s2_receive.specs.declared.delivering.Given.{Given}
+pub use Rattle.s2_receive.specs.declared.delivering.StepCounts.{StepCounts}
 pub use Rattle.s2_receive.specs.declared.finding.Held.{Held}
 pub use Rattle.s2_receive.specs.declared.finding.Next.{Next}
 pub use Rattle.s2_receive.specs.declared.report.Fault.{Fault}
@@ -49,7 +49,7 @@ pub use Rattle.s2_receive.specs.declared.report.Report.{Report}
 pub use Rattle.s2_receive.specs.declared.report.Step.{Step}
 pub use Rattle.s2_receive.specs.declared.report.Totals.{Totals}
 pub use Rattle.s2_receive.specs.declared.scanning.Scan.{Scan}
-pub use Rattle.s2_receive.specs.declared.stretch.Stretch.{Stretch}
+pub use Rattle.s2_receive.specs.declared.gap.Gap.{Gap}
 pub use Rattle.s2_plframe.specs.declared.receive.found.Found.TheVariants as founds
 pub use Rattle.s2_receive.specs.declared.finding.Next.TheVariants as next
 pub use Rattle.s2_mode.specs.declared.stream_fault.StreamFault.TheVariants as stream_faults

@@ -1,5 +1,5 @@
 -- One step of a receiver, from a reader to two writers.
-use Rattle.s2_receive.proofs.Names.{◌≡◌, ◌≤◌, ◌⊎◌, inl, inr, ℕ, [], ◌∷◌, Some, Result, Ok, Err, refl, sym, ap, ◌∙◌, subst, append-nil, Appends, Streams, NoneFailed, OneFailed, Met, frame, cut, ended, FailsIn, Rules, State, Decision, IsDecided, IsLive, Tells, EndsAt, Seen, Finds, FindsNone, KeepsLast, KeepsDecision, NextAnswers, Went, MetFrame, taken, packets_of, line_of, report_for, step_of, step_line, Fault, Step, Report}
+use Rattle.s2_receive.proofs.Names.{◌≡◌, ◌≤◌, ◌⊎◌, inl, inr, ℕ, [], ◌∷◌, Some, Result, Ok, Err, refl, sym, ap, ◌∙◌, subst, append-nil, Appends, Streams, NoneFailed, OneFailed, Met, frame, cut, ended, FailsIn, Rules, State, Decision, IsDecided, IsLive, Handles, EndsAt, Seen, Finds, FindsNone, KeepsLast, KeepsDecision, NextAnswers, Processed, MetFrame, taken, packets_of, line_of, report_for, step_of, step_line, Fault, Step, Report}
 use Rattle.s2_receive.proofs.Names.faults
 use Rattle.s2_receive.proofs.Names.phases
 use Rattle.s2_receive.proofs.Names.steps
@@ -7,9 +7,9 @@ use Rattle.s2_receive.proofs.StepLemmas.{on_frame}
 use Rattle.s2_receive.specs.Receiving.{StandsBehind}
 
 stands_behind : (rules : Rules) (old : State) (met : Met) (step : Step) (place : ℕ) → step ≡ step_of rules old.standing met → EndsAt rules.size met place → StandsBehind {E = Fault} rules.size place (Ok step)
-stands_behind rules old (frame at over symbols) step place is ends = subst (λ x. StandsBehind {E = Fault} rules.size place (Ok x)) (sym is) ends
-stands_behind rules old (cut at over count) step place is ends = subst (λ x. StandsBehind {E = Fault} rules.size place (Ok x)) (sym is) ends
-stands_behind rules old (ended over) step place is ends = subst (λ x. StandsBehind {E = Fault} rules.size place (Ok x)) (sym is) tt
+stands_behind rules old (frame at skipped symbols) step place is ends = subst (λ x. StandsBehind {E = Fault} rules.size place (Ok x)) (sym is) ends
+stands_behind rules old (cut at skipped count) step place is ends = subst (λ x. StandsBehind {E = Fault} rules.size place (Ok x)) (sym is) ends
+stands_behind rules old (ended skipped) step place is ends = subst (λ x. StandsBehind {E = Fault} rules.size place (Ok x)) (sym is) tt
 
 keeps : (step : Step) (old new : Decision) → KeepsLast (Some step) old new → KeepsDecision (Ok step) old new
 keeps (steps.Frame report) old new kept = tt
@@ -23,20 +23,20 @@ live_still : (s : State) → IsLive s.phase → s.phase ≡ phases.Ended → ⊥
 live_still s live over = subst IsLive over live
 
 -- where it is a frame, it is the one that was met
-met_frame : (rules : Rules) (old new : State) (before behind : Streams) (met : Met) (step : Step) (last : Decision) (report : Report) → Went rules old new before behind (met ∷ []) → step ≡ step_of rules old.standing met
+met_frame : (rules : Rules) (old new : State) (before behind : Streams) (met : Met) (step : Step) (last : Decision) (report : Report) → Processed rules old new before behind (met ∷ []) → step ≡ step_of rules old.standing met
     → IsDecided rules met last → step ≡ steps.Frame report → MetFrame rules old new before behind report last
-met_frame rules old new before behind (frame at over symbols) step last report one is decided frame_is =
+met_frame rules old new before behind (frame at skipped symbols) step last report one is decided frame_is =
     let told : report ≡ report_for (rules.decide symbols) old.standing.totals at = cc in
     let at_is : at ≡ report.at = ap (λ r. r.at) (sym told) in
     record {
-      over = over;
+      skipped = skipped;
       symbols = symbols;
-      went = subst (λ n. Went rules old new before behind (frame n over symbols ∷ [])) at_is one;
+      processed = subst (λ n. Processed rules old new before behind (frame n skipped symbols ∷ [])) at_is one;
       is_last = decided;
       told = told ∙ (ap (λ d. report_for d old.standing.totals at) (sym decided) ∙ ap (report_for last old.standing.totals) at_is);
     }
-met_frame rules old new before behind (cut at over count) step last report one is decided frame_is = cc
-met_frame rules old new before behind (ended over) step last report one is decided frame_is = cc
+met_frame rules old new before behind (cut at skipped count) step last report one is decided frame_is = cc
+met_frame rules old new before behind (ended skipped) step last report one is decided frame_is = cc
 
 abbrev answer : Step → Result Step Fault
 answer step = Ok step
@@ -45,37 +45,37 @@ step_same : {step : Step} {report : Report} → answer step ≡ answer (steps.Fr
 step_same is = cc
 
 module _ (old mid : Seen) (before behind : Streams) (live : IsLive old.state.phase) where
-  line_is : {met : Met} {step : Step} → Tells old.rules old.state mid.state met mid.packets step → step_line step mid.state.standing.totals ≡ line_of old.rules old.state.standing met
-  line_is {met} {step} tells = ap (λ s. step_line s mid.state.standing.totals) tells.step_is ∙ ap (λ s. step_line (step_of old.rules old.state.standing met) s.totals) tells.standing
+  line_is : {met : Met} {step : Step} → Handles old.rules old.state mid.state met mid.packets step → step_line step mid.state.standing.totals ≡ line_of old.rules old.state.standing met
+  line_is {met} {step} handles = ap (λ s. step_line s mid.state.standing.totals) handles.step_is ∙ ap (λ s. step_line (step_of old.rules old.state.standing met) s.totals) handles.standing
 
   -- it was found, and written
   pub wrote : (step : Step) → Finds old mid before.taken behind.taken before.reads behind.reads (Ok step) → Appends before.given behind.given mid.packets
       → Appends before.out behind.out (step_line step mid.state.standing.totals) → NoneFailed before.writes behind.writes before.prints behind.prints → NextAnswers old mid before behind (Ok step)
-  wrote step (met, tells, decided, kept, meets, (front, read, place), ends, reads, within) given line none =
-      let went : Went old.rules old.state mid.state before behind (met ∷ []) = record {
+  wrote step (met, handles, decided, kept, meets, (front, read, place), ends, reads, within) given line none =
+      let processed : Processed old.rules old.state mid.state before behind (met ∷ []) = record {
         left = meets;
         front = front;
         read = read;
         taken_are = place;
-        standing = tells.standing;
-        packets = subst (Appends before.given behind.given) (tells.packets_are ∙ sym (append-nil (packets_of old.rules old.state.standing met))) given;
-        lines = subst (Appends before.out behind.out) (line_is tells ∙ sym (append-nil (line_of old.rules old.state.standing met))) line;
+        standing = handles.standing;
+        packets = subst (Appends before.given behind.given) (handles.packets_are ∙ sym (append-nil (packets_of old.rules old.state.standing met))) given;
+        lines = subst (Appends before.out behind.out) (line_is handles ∙ sym (append-nil (line_of old.rules old.state.standing met))) line;
       } in record {
-        live = λ still. (met, tells.step_is, tells.phase, went);
-        frame = on_frame (Ok step) _ (λ report is. met_frame old.rules old.state mid.state before behind met step mid.last report went tells.step_is decided (step_same is));
+        live = λ still. (met, handles.step_is, handles.phase, processed);
+        frame = on_frame (Ok step) _ (λ report is. met_frame old.rules old.state mid.state before behind met step mid.last report processed handles.step_is decided (step_same is));
         kept = keeps step old.last mid.last kept;
-        taken_are = stands_behind old.rules old.state met step (taken mid.state) tells.step_is ends;
+        taken_are = stands_behind old.rules old.state met step (taken mid.state) handles.step_is ends;
         bounded = within;
         ended = λ over. absurd (live_still old.state live over);
         failed = (λ is. cc, λ failed. absurd (live_only old.state live failed));
-        counts = record { no_read = λ _. reads; write_told = λ is. cc; no_write = λ _. none };
+        counts = record { no_read = λ _. reads; write_reported = λ is. cc; no_write = λ _. none };
       }
 
   -- or a write failed on the way
   pub broke : (step : Step) (new : Seen) → Finds old mid before.taken behind.taken before.reads behind.reads (Ok step) → new.state ≡ record mid.state { phase = phases.Failed }
       → FailsIn mid.packets (step_line step mid.state.standing.totals) before.given behind.given before.out behind.out → OneFailed before.writes behind.writes before.prints behind.prints
       → NextAnswers old new before behind (Err faults.Write)
-  broke step new (met, tells, decided, kept, meets, reaches, ends, reads, within) is part one = record {
+  broke step new (met, handles, decided, kept, meets, reaches, ends, reads, within) is part one = record {
     live = λ still. (
       ap (λ (s : State). s.phase) is,
       record {
@@ -84,8 +84,8 @@ module _ (old mid : Seen) (before behind : Streams) (live : IsLive old.state.pha
         left = meets;
         reaches = reaches;
         within = within;
-        part = subst (λ l. FailsIn (packets_of old.rules old.state.standing met) l before.given behind.given before.out behind.out) (line_is tells)
-            (subst (λ l. FailsIn l (step_line step mid.state.standing.totals) before.given behind.given before.out behind.out) tells.packets_are part);
+        part = subst (λ l. FailsIn (packets_of old.rules old.state.standing met) l before.given behind.given before.out behind.out) (line_is handles)
+            (subst (λ l. FailsIn l (step_line step mid.state.standing.totals) before.given behind.given before.out behind.out) handles.packets_are part);
       },
     );
     frame = tt;
@@ -94,7 +94,7 @@ module _ (old mid : Seen) (before behind : Streams) (live : IsLive old.state.pha
     bounded = subst (λ (s : State). taken s ≤ old.rules.limit) (sym is) within;
     ended = λ over. absurd (live_still old.state live over);
     failed = (λ told. cc, λ failed. absurd (live_only old.state live failed));
-    counts = record { no_read = λ _. reads; write_told = λ _. one; no_write = λ other. absurd (other refl) };
+    counts = record { no_read = λ _. reads; write_reported = λ _. one; no_write = λ other. absurd (other refl) };
   }
 
   -- or nothing was found
@@ -108,7 +108,7 @@ module _ (old mid : Seen) (before behind : Streams) (live : IsLive old.state.pha
     bounded = subst (λ (s : State). taken s ≤ old.rules.limit) (sym is) within;
     ended = λ over. absurd (live_still old.state live over);
     failed = (λ told. cc, λ failed. absurd (live_only old.state live failed));
-    counts = record { no_read = λ other. absurd (other refl); write_told = λ told. cc; no_write = λ _. none };
+    counts = record { no_read = λ other. absurd (other refl); write_reported = λ told. cc; no_write = λ _. none };
   }
 
 -- it rests, after the end or a fault
@@ -122,7 +122,7 @@ rested old at result within (inl (over, is)) = subst (NextAnswers old old at at)
   bounded = within;
   ended = λ _. refl;
   failed = (λ told. cc, λ failed. absurd (ended_failed (sym over ∙ failed)));
-  counts = record { no_read = λ _. refl; write_told = λ told. cc; no_write = λ _. (refl, refl) };
+  counts = record { no_read = λ _. refl; write_reported = λ told. cc; no_write = λ _. (refl, refl) };
 })
   where
     ended_failed : phases.Ended ≡ phases.Failed → ⊥
@@ -135,7 +135,7 @@ rested old at result within (inr (failed, is)) = subst (NextAnswers old old at a
   bounded = within;
   ended = λ over. absurd (failed_ended (sym failed ∙ over));
   failed = (λ told. failed, λ _. refl);
-  counts = record { no_read = λ _. refl; write_told = λ told. cc; no_write = λ _. (refl, refl) };
+  counts = record { no_read = λ _. refl; write_reported = λ told. cc; no_write = λ _. (refl, refl) };
 })
   where
     failed_ended : phases.Failed ≡ phases.Ended → ⊥

@@ -1,5 +1,5 @@
 -- What is read up to a step.
-use Rattle.s2_receive.proofs.Names.{◌≡◌, ◌≢◌, ℕ, ◌+◌, ◌-◌, ◌*◌, ◌/◌, ◌<◌, arith, inl, inr, ◌⊎◌, min, min-le_right, le-min, ◌≤◌, nat_eq, eqb-true, eq-eqb, ne_eqb, cases_eq, true, List, [], ◌∷◌, ◌++◌, length, length-append, Option, Some, None, Ok, Err, refl, sym, ap, ◌∙◌, subst, Consumes, Consumes-trans, IsAtEnd, Symbol, symbols_of, Met, ended, nothing_over, Bool, false, Window, Follows, Rules, State, Decision, Phase, Spell, EndsAt, Steps, Waits, Tells, IsDecided, left_by, left_known, met_left, left_in, met_within, phase_after, taken, asked, asked_by, after, packets_of, step_of, Meets, Reaches, EndsBehind, StopsShort, Step, Receiver, Reads, Finds, FindsNone, Seen, KeepsLast, IsLive, is_at_frame, rules_of, seen_by, wanted}
+use Rattle.s2_receive.proofs.Names.{◌≡◌, ◌≢◌, ℕ, ◌+◌, ◌-◌, ◌*◌, ◌/◌, ◌<◌, arith, inl, inr, ◌⊎◌, min, min-le_right, le-min, ◌≤◌, nat_eq, eqb-true, eq-eqb, ne_eqb, cases_eq, true, List, [], ◌∷◌, ◌++◌, length, length-append, Option, Some, None, Ok, Err, refl, sym, ap, ◌∙◌, subst, Consumes, Consumes-trans, IsAtEnd, Symbol, symbols_of, Met, ended, no_gap, Bool, false, Window, Follows, Rules, State, Decision, Phase, YieldsMet, EndsAt, Steps, Waits, Handles, IsDecided, left_by, left_known, met_left, left_in, met_within, phase_after, taken, asked, asked_by, after, packets_of, step_of, Meets, Reaches, EndsBehind, StopsShort, Step, Receiver, Reads, Finds, FindsNone, Seen, KeepsLast, IsLive, is_at_frame, rules_of, seen_by, wanted}
 use Rattle.s2_mode.specs.Mode.{symbols_in}
 use Rattle.s2_mode.specs.declared.counts.ReadFault.{ReadFault}
 use Rattle.s2_receive.proofs.Names.phases
@@ -36,7 +36,7 @@ module _ (rules : Rules) (old new : State) (bytes : List ℕ) where
   come r r' read end place =
       let (n, is) = asked_four rules old.phase old.window in (symbols_of bytes, yields r r' bytes n read (λ other. end (λ e. other (e ∙ is))), sym place)
 
-  pub spelt : (met : List Met) (r r' : Option (List ℕ)) → old.phase ≡ phases.Searching → Spell rules old new (symbols_of bytes) (nat_eq (length bytes) (asked rules old)) met → Consumes r r' bytes
+  pub spelt : (met : List Met) (r r' : Option (List ℕ)) → old.phase ≡ phases.Searching → YieldsMet rules old new (symbols_of bytes) (nat_eq (length bytes) (asked rules old)) met → Consumes r r' bytes
       → (length bytes ≢ asked rules old → IsAtEnd r') → Meets (left_in rules old r) (left_in rules new r') met
   spelt met r r' searching spell read end = subst (λ p. Meets (left_known rules p old.window r) (left_in rules new r') met) (sym searching) (known r r' read end)
     where
@@ -50,15 +50,15 @@ module _ (rules : Rules) (old new : State) (bytes : List ℕ) where
           ∙ sym (ap (λ p. left_by rules p old.window (symbols_of bytes ++ symbols_of ys)) searching) ∙ spell (symbols_of ys) (may ys end (cases_eq (length bytes) (asked rules old))))
 
   -- after a cut frame the end is known
-  pub closes_known : (met : Met) (r r' : Option (List ℕ)) → old.phase ≡ phases.Closing → new.phase ≡ phase_after met → Spell rules old new (symbols_of bytes) (nat_eq (length bytes) (asked rules old)) (met ∷ [])
+  pub closes_known : (met : Met) (r r' : Option (List ℕ)) → old.phase ≡ phases.Closing → new.phase ≡ phase_after met → YieldsMet rules old new (symbols_of bytes) (nat_eq (length bytes) (asked rules old)) (met ∷ [])
       → Meets (left_in rules old r) (left_in rules new r') (met ∷ [])
   closes_known met r r' closing phase spell =
-      let one : ended nothing_over ∷ [] ≡ met ∷ met_left rules new [] =
+      let one : ended no_gap ∷ [] ≡ met ∷ met_left rules new [] =
       sym (ap (λ p. left_by rules p old.window (symbols_of bytes ++ [])) closing) ∙ spell [] (none (nat_eq (length bytes) (asked rules old))) in
-      let is : ended nothing_over ≡ met = cc in
+      let is : ended no_gap ≡ met = cc in
       let over : new.phase ≡ phases.Ended = phase ∙ ap phase_after (sym is) in
       subst (λ p. Meets (left_known rules p old.window r) (left_in rules new r') (met ∷ [])) (sym closing)
-      (subst (λ p. Meets (Some (ended nothing_over ∷ [])) (left_known rules p new.window r') (met ∷ [])) (sym over) (ap (λ m. m ∷ []) is))
+      (subst (λ p. Meets (Some (ended no_gap ∷ [])) (left_known rules p new.window r') (met ∷ [])) (sym over) (ap (λ m. m ∷ []) is))
     where
       none : (whole : Bool) → Follows whole []
       none true = tt
@@ -90,7 +90,7 @@ module _ (rules : Rules) (old cur new : State) (a b c : Option (List ℕ)) (so :
       let end = λ (other : length bytes ≢ asked rules cur). absurd (other all) in
       let (n, is) = asked_four rules cur.phase cur.window in
       let here = come rules cur new bytes b c read end waits.taken_are in
-      let spell = subst (λ w. Spell rules cur new (symbols_of bytes) w []) (sym waits.all) waits.spell in
+      let spell = subst (λ w. YieldsMet rules cur new (symbols_of bytes) w []) (sym waits.all) waits.spell in
       let far : taken old + length so.reaches.0 ≡ taken cur = so.reaches.2 in
       record {
         phase = waits.phase ∙ so.phase;
@@ -105,10 +105,10 @@ module _ (rules : Rules) (old cur new : State) (a b c : Option (List ℕ)) (so :
   -- a step
   pub stepped : (bytes : List ℕ) (last : Decision) (packets : List ℕ) (step : Step) → Steps rules cur new (symbols_of bytes) (nat_eq (length bytes) (asked rules cur)) last packets step → Consumes b c bytes
       → (length bytes ≢ asked rules cur → IsAtEnd c) → IsLive cur.phase
-      → (met : Met) × Tells rules old new met packets step × IsDecided rules met last × Meets (left_in rules old a) (left_in rules new c) (met ∷ []) × Reaches (taken new) (taken old) a c
+      → (met : Met) × Handles rules old new met packets step × IsDecided rules met last × Meets (left_in rules old a) (left_in rules new c) (met ∷ []) × Reaches (taken new) (taken old) a c
       × EndsAt rules.size met (taken new)
   stepped bytes last packets step steps read end live =
-      let told = steps.tells in
+      let told = steps.handles in
       let met = steps.met in (
         met,
         record {
@@ -125,7 +125,7 @@ module _ (rules : Rules) (old cur new : State) (a b c : Option (List ℕ)) (so :
     where
       next_met : (phase : Phase) → cur.phase ≡ phase → Meets (left_in rules cur b) (left_in rules new c) (steps.met ∷ [])
       next_met phases.Searching is = spelt rules cur new bytes (steps.met ∷ []) b c is steps.spell read end
-      next_met phases.Closing is = closes_known rules cur new bytes steps.met b c is steps.tells.phase steps.spell
+      next_met phases.Closing is = closes_known rules cur new bytes steps.met b c is steps.handles.phase steps.spell
       next_met phases.Ended is = absurd (subst IsLive is live)
       next_met phases.Failed is = absurd (subst IsLive is live)
 
@@ -206,8 +206,8 @@ module _ {D : Type 0} (decide : D → List Symbol → Decision) (last : D → De
   steps_now step n n' (bytes, read, end, advances) count =
       let steps = subst (λ (x : Rules). Steps x cur.state new.state (symbols_of bytes) (nat_eq (length bytes) (asked x cur.state)) (last new.decider) new.packets step) same (advances.live live) in
       let ended = subst (λ (x : Rules). length bytes ≢ asked x cur.state → IsAtEnd c) same end in
-      let (met, tells, decided, meets, reaches, ends) = stepped rules first.state cur.state new.state a b c so bytes (last new.decider) new.packets step steps read ended live in
-      (met, tells, decided, subst (λ l. KeepsLast (Some step) l (last new.decider)) kept advances.kept, meets, reaches, ends, count, subst (λ (x : Rules). taken new.state ≤ x.limit) same advances.bounded)
+      let (met, handles, decided, meets, reaches, ends) = stepped rules first.state cur.state new.state a b c so bytes (last new.decider) new.packets step steps read ended live in
+      (met, handles, decided, subst (λ l. KeepsLast (Some step) l (last new.decider)) kept advances.kept, meets, reaches, ends, count, subst (λ (x : Rules). taken new.state ≤ x.limit) same advances.bounded)
 
   module _ (few : length cur.state.window.symbols < symbols_in cur.mode) (within : taken cur.state ≤ cur.limit) (n n' : ℕ) where
     small : length cur.state.window.symbols < rules.size

@@ -1,10 +1,10 @@
 -- What known bytes spell determines what is met.
-use Rattle.s2_receive.proofs.Names.{◌≡◌, ℕ, List, [], ◌∷◌, ◌++◌, Option, Some, None, refl, sym, ap, ◌∙◌, subst, append-nil, Streams, Symbol, Met, Window, met_within, Meets, Rules, State, Went, left_by, left_in, left_known, met_left, after, step_of, phase_after, HasGiven, SameRunLaw, SameStepLaw, Spells, Phase}
+use Rattle.s2_receive.proofs.Names.{◌≡◌, ℕ, List, [], ◌∷◌, ◌++◌, Option, Some, None, refl, sym, ap, ◌∙◌, subst, append-nil, Streams, Symbol, Met, Window, met_within, Meets, Rules, State, Processed, left_by, left_in, left_known, met_left, after, step_of, phase_after, HasGiven, SameRunLaw, SameStepLaw, SpellSymbols, Phase}
 use Rattle.s2_receive.proofs.Names.phases
 
 module _ (rules : Rules) where
   -- in known bytes it is known what is left
-  pub spelled : (phase : Phase) (window : Window) (symbols : List Symbol) (known : Option (List ℕ)) → Spells known symbols → left_known rules phase window known ≡ Some (left_by rules phase window symbols)
+  pub spelled : (phase : Phase) (window : Window) (symbols : List Symbol) (known : Option (List ℕ)) → SpellSymbols known symbols → left_known rules phase window known ≡ Some (left_by rules phase window symbols)
   spelled phase window symbols None spelt = absurd spelt
   spelled phases.Searching window symbols (Some bytes) spelt = ap (λ l. Some (met_within rules.finds rules.size window l)) spelt
   spelled phases.Closing window symbols (Some bytes) spelt = refl
@@ -24,11 +24,11 @@ module _ (rules : Rules) where
   meets_first known None all met e meets = absurd (subst (λ a. Meets a None (met ∷ [])) e meets)
   meets_first known (Some rest) all met e meets = (rest, subst (λ a. Meets a (Some rest) (met ∷ [])) e meets)
 
-  given : (old new : State) (before behind : Streams) (met : List Met) → Went rules old new before behind met → HasGiven rules old new before behind met
-  given old new before behind met went = record { standing = went.standing; packets = went.packets; lines = went.lines }
+  given : (old new : State) (before behind : Streams) (met : List Met) → Processed rules old new before behind met → HasGiven rules old new before behind met
+  given old new before behind met processed = record { standing = processed.standing; packets = processed.packets; lines = processed.lines }
 
 -- two runs to the end meet the same
-pub same_met : (rules : Rules) (old first second : State) (symbols : List Symbol) (known other left other_left : Option (List ℕ)) (met met' : List Met) → Spells known symbols → Spells other symbols
+pub same_met : (rules : Rules) (old first second : State) (symbols : List Symbol) (known other left other_left : Option (List ℕ)) (met met' : List Met) → SpellSymbols known symbols → SpellSymbols other symbols
     → first.phase ≡ phases.Ended → second.phase ≡ phases.Ended
     → Meets (left_in rules old known) (left_in rules first left) met
     → Meets (left_in rules old other) (left_in rules second other_left) met' → met' ≡ met
@@ -38,24 +38,24 @@ same_met rules old first second symbols known other left other_left met met' spe
     meets_all rules old second other other_left all met' (is other other_spelt) end' meets' ∙ sym (meets_all rules old first known left all met (is known spelt) end meets)
 
 pub same_run : SameRunLaw
-same_run rules old first second symbols before behind other_before other_behind spelt other_spelt (end, (met, went)) (end', (met', went')) =
-    let same : met' ≡ met = same_met rules old first second symbols before.taken other_before.taken behind.taken other_behind.taken met met' spelt other_spelt end end' went.left went'.left in
-    (met, given rules old first before behind met went, subst (HasGiven rules old second other_before other_behind) same (given rules old second other_before other_behind met' went'))
+same_run rules old first second symbols before behind other_before other_behind spelt other_spelt (end, (met, processed)) (end', (met', processed')) =
+    let same : met' ≡ met = same_met rules old first second symbols before.taken other_before.taken behind.taken other_behind.taken met met' spelt other_spelt end end' processed.left processed'.left in
+    (met, given rules old first before behind met processed, subst (HasGiven rules old second other_before other_behind) same (given rules old second other_before other_behind met' processed'))
 
 pub same_step : SameStepLaw
-same_step rules old first second symbols before behind other_before other_behind step other_step spelt other_spelt (met, is, phase, went) (met', is', phase', went') =
+same_step rules old first second symbols before behind other_before other_behind step other_step spelt other_spelt (met, is, phase, processed) (met', is', phase', processed') =
     let all = met_left rules old symbols in
     let known = spelled rules old.phase old.window symbols in
-    let one = meets_first rules (left_in rules old before.taken) (left_in rules first behind.taken) all met (known before.taken spelt) went.left in
-    let two = meets_first rules (left_in rules old other_before.taken) (left_in rules second other_behind.taken) all met' (known other_before.taken other_spelt) went'.left in
+    let one = meets_first rules (left_in rules old before.taken) (left_in rules first behind.taken) all met (known before.taken spelt) processed.left in
+    let two = meets_first rules (left_in rules old other_before.taken) (left_in rules second other_behind.taken) all met' (known other_before.taken other_spelt) processed'.left in
     let whole : met ∷ one.0 ≡ met' ∷ two.0 = sym one.1 ∙ two.1 in
     let same : met' ≡ met = cc in (
       is ∙ ap (step_of rules old.standing) (sym same) ∙ sym is',
       phase ∙ ap phase_after (sym same) ∙ sym phase',
-      went.standing ∙ ap (after rules old.standing) (sym same) ∙ sym went'.standing,
+      processed.standing ∙ ap (after rules old.standing) (sym same) ∙ sym processed'.standing,
       (
         met ∷ [],
-        given rules old first before behind (met ∷ []) went,
-        subst (λ m. HasGiven rules old second other_before other_behind (m ∷ [])) same (given rules old second other_before other_behind (met' ∷ []) went'),
+        given rules old first before behind (met ∷ []) processed,
+        subst (λ m. HasGiven rules old second other_before other_behind (m ∷ [])) same (given rules old second other_before other_behind (met' ∷ []) processed'),
       ),
     )

@@ -1,4 +1,4 @@
--- What follows from the definitions alone (own).
+-- Laws, which follow from the definitions alone (own).
 use Rattle.std.specs.Prelude.{Bool, true, nat_lt, nat_eq, ◌&&◌, ◌≡◌, ℕ, ◌+◌, ◌-◌, ◌<◌, ◌≤◌, false, if◌then◌else◌, List, [], ◌∷◌, ◌++◌, length, take, drop, All, Option, Some, None, Ok, ⊤}
 use Rattle.std.specs.List.{flat_map}
 use Rattle.s2_mode.specs.declared.symbols.Symbol.{Symbol}
@@ -8,10 +8,10 @@ use Rattle.s2_plframe.specs.declared.receive.found.Found.{Found}
 use Rattle.s2_plframe.specs.declared.receive.found.Found.TheVariants as founds
 use Rattle.s2_bbframe.specs.Limits.{packet_bytes}
 use Rattle.s2_bbframe.specs.DataStream.{IsPacket, stream_of, fields_of, header_at}
-use Rattle.s2_bbframe.specs.Joining.{Event, gap, joining, torn, closed_in}
-use Rattle.s2_receive.specs.declared.stretch.Stretch.{Stretch}
-use Rattle.s2_receive.specs.Meeting.{Met, frame, cut, ended, nothing_over, is_over, begins, met_from, passed}
-use Rattle.s2_receive.specs.Receiving.{Rules, Decision, Standing, State, Went, StepAnswers, RunsOut, RunsTo, begun, delivery, at_start, after_all, all_packets, all_lines, all_well}
+use Rattle.s2_bbframe.specs.Joining.{Event, gap, joining, incomplete, closed_in}
+use Rattle.s2_receive.specs.declared.gap.Gap.{Gap}
+use Rattle.s2_receive.specs.Meeting.{Met, frame, cut, ended, no_gap, is_gap, begins, met_from, extended}
+use Rattle.s2_receive.specs.Receiving.{Rules, Decision, Standing, State, Processed, StepAnswers, RunsOut, RunsTo, begun, delivery, at_start, after_all, all_packets, all_lines, are_all_certified}
 use Rattle.s2_mode.specs.Streams.{Streams}
 use Rattle.s2_receive.specs.declared.report.Step.{Step}
 use Rattle.s2_receive.specs.declared.report.Totals.{Totals}
@@ -26,9 +26,9 @@ joined lists = flat_map (λ list. list) lists
 
 -- the joiner's event for something met
 abbrev pub met_events : (List Symbol → Decision) → Met → List Event
-met_events decide (frame at over symbols) = (if is_over over then gap ∷ [] else []) ++ (delivery (decide symbols).delivered ∷ [])
-met_events decide (cut at over count) = gap ∷ []
-met_events decide (ended over) = []
+met_events decide (frame at skipped symbols) = (if is_gap skipped then gap ∷ [] else []) ++ (delivery (decide symbols).delivered ∷ [])
+met_events decide (cut at skipped count) = gap ∷ []
+met_events decide (ended skipped) = []
 
 abbrev pub events_of : (List Symbol → Decision) → List Met → List Event
 events_of decide [] = []
@@ -40,13 +40,13 @@ pub record IsJoined (rules : Rules) (s : Standing) (met : List Met) : Type 0 whe
   pub packets : all_packets rules s met ≡ joined (joining s.held (events_of rules.decide met)).good
   pub good : (after_all rules s met).totals.packets ≡ s.totals.packets + length (joining s.held (events_of rules.decide met)).good
   pub bad : (after_all rules s met).totals.bad ≡ s.totals.bad + (joining s.held (events_of rules.decide met)).bad
-  pub torn_is : (after_all rules s met).totals.torn ≡ s.totals.torn + torn s.held (events_of rules.decide met)
+  pub incomplete_is : (after_all rules s met).totals.incomplete ≡ s.totals.incomplete + incomplete s.held (events_of rules.decide met)
 
 -- packets and totals are those of `joining`, over all fields and gaps that came to the joiner
 abbrev pub JoiningLaw : Type 0
 JoiningLaw = (rules : Rules) (s : Standing) (met : List Met) → IsJoined rules s met
 
--- ---- frames that are received as they were sent
+-- ---- frames that are received unchanged
 
 -- a frame in a stream, coded or dummy, and its symbols
 pub data Piece : Type 0 where
@@ -81,31 +81,31 @@ AreReceived rules roll_off behind at (coded symbols ∷ pieces) (field ∷ field
     IsReceived rules behind (header_at roll_off at field) field symbols × AreReceived rules roll_off true (at + length field) pieces fields
 AreReceived rules roll_off behind at (dummy symbols ∷ pieces) fields = IsDummy rules.finds behind symbols × AreReceived rules roll_off true at pieces fields
 
--- exactly these coded frames, one after another from a position on, with no symbol passed over
+-- exactly these coded frames, one after another from a position on, with no symbol skipped
 abbrev pub frames_at : ℕ → ℕ → List Piece → List Met
 frames_at size at [] = []
-frames_at size at (coded symbols ∷ pieces) = frame at nothing_over symbols ∷ frames_at size (at + size) pieces
+frames_at size at (coded symbols ∷ pieces) = frame at no_gap symbols ∷ frames_at size (at + size) pieces
 frames_at size at (dummy symbols ∷ pieces) = frames_at size (at + dummy_symbols) pieces
 
--- no symbol was passed over
-abbrev pub PassedNone : Totals → Type 0
-PassedNone t = (t.passed ≡ 0) × (t.places ≡ 0) × (t.first ≡ 0)
+-- no symbol was skipped
+abbrev pub SkippedNone : Totals → Type 0
+SkippedNone t = (t.skipped ≡ 0) × (t.places ≡ 0) × (t.first ≡ 0)
 
--- Coded frames received as sent, the first of a stream, are met as exactly these, and no packet is torn. The packets
+-- Coded frames received as sent, the first of a stream, are met as exactly these, and no packet is incomplete. The packets
 -- written then are those whose closing CRC-8 is in the fields of these frames; all packets if these are all fields
 pub record Gives (rules : Rules) (packets fields later : List (List ℕ)) (pieces : List Piece) (rest : List Symbol) : Type 0 where
-  pub met : met_from rules.finds rules.size 0 0 false nothing_over (stream_symbols pieces ++ rest) ≡ frames_at rules.size 0 pieces ++ met_from rules.finds rules.size (length (stream_symbols pieces)) 0 (nat_lt 0 (length (stream_symbols pieces))) nothing_over rest
+  pub met : met_from rules.finds rules.size 0 0 false no_gap (stream_symbols pieces ++ rest) ≡ frames_at rules.size 0 pieces ++ met_from rules.finds rules.size (length (stream_symbols pieces)) 0 (nat_lt 0 (length (stream_symbols pieces))) no_gap rest
   pub written : all_packets rules at_start (frames_at rules.size 0 pieces) ≡ joined (take (closed_in (length (joined fields))) packets)
   pub frames_count : (after_all rules at_start (frames_at rules.size 0 pieces)).totals.frames ≡ length fields
   pub delivered : (after_all rules at_start (frames_at rules.size 0 pieces)).totals.delivered ≡ length fields
   pub packets_count : (after_all rules at_start (frames_at rules.size 0 pieces)).totals.packets ≡ length (take (closed_in (length (joined fields))) packets)
   pub bad : (after_all rules at_start (frames_at rules.size 0 pieces)).totals.bad ≡ 0
-  pub torn_none : (after_all rules at_start (frames_at rules.size 0 pieces)).totals.torn ≡ 0
+  pub incomplete_none : (after_all rules at_start (frames_at rules.size 0 pieces)).totals.incomplete ≡ 0
   pub cut : (after_all rules at_start (frames_at rules.size 0 pieces)).totals.cut ≡ false
-  pub over : PassedNone (after_all rules at_start (frames_at rules.size 0 pieces)).totals
+  pub skipped : SkippedNone (after_all rules at_start (frames_at rules.size 0 pieces)).totals
   pub all : later ≡ [] → take (closed_in (length (joined fields))) packets ≡ packets
 
--- Coded frames received as they were sent, the first of a data stream, are met as these. The packets whose closing
+-- If the first coded frames of a data stream are received unchanged, they are met as these. The packets whose closing
 -- CRC-8 is in their fields are written
 abbrev pub ReceptionLaw : Type 0
 ReceptionLaw =
@@ -114,19 +114,19 @@ ReceptionLaw =
     → Gives rules packets fields later pieces rest
 
 -- bytes that are known, and that spell these symbols
-abbrev pub Spells : Option (List ℕ) → List Symbol → Type 0
-Spells None symbols = ⊥
-Spells (Some bytes) symbols = symbols_of bytes ≡ symbols
+abbrev pub SpellSymbols : Option (List ℕ) → List Symbol → Type 0
+SpellSymbols None symbols = ⊥
+SpellSymbols (Some bytes) symbols = symbols_of bytes ≡ symbols
 
--- What a receiver wrote when it had met the first coded frames of a known stream, received as sent: the packets whose
--- closing CRC-8 is in the fields of these frames, and nothing else
+-- A receiver has met the first coded frames of a known stream, received unchanged. It wrote the packets whose closing
+-- CRC-8 is in the fields of these frames, and nothing else
 abbrev pub FrontLaw : Type 0
 FrontLaw =
     (rules : Rules) (roll_off size : ℕ) (packets fields later : List (List ℕ)) (pieces : List Piece) (rest : List Symbol)
     (mid : State) (before behind : Streams) (met : List Met)
     → header_symbols ≤ rules.size → packet_bytes ≤ size → All IsPacket packets → fields ++ later ≡ fields_of size (stream_of packets) → AreReceived rules roll_off false 0 pieces fields
-    → Spells before.taken (stream_symbols pieces ++ rest) → length met ≡ length fields
-    → Went rules begun mid before behind met
+    → SpellSymbols before.taken (stream_symbols pieces ++ rest) → length met ≡ length fields
+    → Processed rules begun mid before behind met
     → (met ≡ frames_at rules.size 0 pieces) × Appends before.given behind.given (joined (take (closed_in (length (joined fields))) packets))
 
 -- whether a frame ended right before symbol n: only for n = 0, as given
@@ -141,20 +141,20 @@ NoneBegins finds behind n symbols = (i : ℕ) → i < n → begins (finds (behin
 -- next frame is there. It has its symbols, and the search continues after them, or it is cut. If a dummy frame's header
 -- begins there, the search continues after its symbols, or the end comes if it lacks some. If no header begins
 -- anywhere, the end comes
-pub record Searches (finds : Bool → List Symbol → Found) (size at : ℕ) (behind : Bool) (over : Stretch) (symbols : List Symbol) : Type 0 where
+pub record SearchRules (finds : Bool → List Symbol → Found) (size at : ℕ) (behind : Bool) (skipped : Gap) (symbols : List Symbol) : Type 0 where
   pub found : (n : ℕ) → n + size ≤ length symbols → NoneBegins finds behind n symbols → begins (finds (behind_at behind n)) (drop n symbols) ≡ founds.Coded
-      → met_from finds size at 0 behind over symbols ≡ frame (at + n) (passed over at n) (take size (drop n symbols)) ∷ met_from finds size (at + n + size) 0 true nothing_over (drop (n + size) symbols)
+      → met_from finds size at 0 behind skipped symbols ≡ frame (at + n) (extended skipped at n) (take size (drop n symbols)) ∷ met_from finds size (at + n + size) 0 true no_gap (drop (n + size) symbols)
   pub lacks : (n : ℕ) → n < length symbols → length symbols < n + size → NoneBegins finds behind n symbols → begins (finds (behind_at behind n)) (drop n symbols) ≡ founds.Coded
-      → met_from finds size at 0 behind over symbols ≡ cut (at + n) (passed over at n) (length symbols - n) ∷ (ended nothing_over ∷ [])
+      → met_from finds size at 0 behind skipped symbols ≡ cut (at + n) (extended skipped at n) (length symbols - n) ∷ (ended no_gap ∷ [])
   pub goes_on : (n : ℕ) → n + dummy_symbols ≤ length symbols → NoneBegins finds behind n symbols → begins (finds (behind_at behind n)) (drop n symbols) ≡ founds.Dummy
-      → met_from finds size at 0 behind over symbols ≡ met_from finds size (at + n + dummy_symbols) 0 true (passed over at n) (drop (n + dummy_symbols) symbols)
+      → met_from finds size at 0 behind skipped symbols ≡ met_from finds size (at + n + dummy_symbols) 0 true (extended skipped at n) (drop (n + dummy_symbols) symbols)
   pub breaks_off : (n : ℕ) → n < length symbols → length symbols < n + dummy_symbols → NoneBegins finds behind n symbols → begins (finds (behind_at behind n)) (drop n symbols) ≡ founds.Dummy
-      → met_from finds size at 0 behind over symbols ≡ ended (passed over at n) ∷ []
-  pub none : NoneBegins finds behind (length symbols) symbols → met_from finds size at 0 behind over symbols ≡ ended (passed over at (length symbols)) ∷ []
+      → met_from finds size at 0 behind skipped symbols ≡ ended (extended skipped at n) ∷ []
+  pub none : NoneBegins finds behind (length symbols) symbols → met_from finds size at 0 behind skipped symbols ≡ ended (extended skipped at (length symbols)) ∷ []
 
--- the search, in its own words, is as `Searches` says
+-- the search, in its own words, is as `SearchRules` says
 abbrev pub SearchLaw : Type 0
-SearchLaw = (finds : Bool → List Symbol → Found) (size at : ℕ) (behind : Bool) (over : Stretch) (symbols : List Symbol) → header_symbols ≤ size → Searches finds size at behind over symbols
+SearchLaw = (finds : Bool → List Symbol → Found) (size at : ℕ) (behind : Bool) (skipped : Gap) (symbols : List Symbol) → header_symbols ≤ size → SearchRules finds size at behind skipped symbols
 
 -- ---- one stream of symbols, read in two ways
 
@@ -164,19 +164,20 @@ pub record HasGiven (rules : Rules) (old new : State) (before behind : Streams) 
   pub packets : Appends before.given behind.given (all_packets rules old.standing met)
   pub lines : Appends before.out behind.out (all_lines rules old.standing met)
 
--- Two runs from one state to the end, over bytes that spell the same symbols, met the same. So they wrote the same
--- packets and lines and have the same totals. How a reader cuts the bytes changes nothing, nor do left-over bytes
+-- If two runs from one state to the end have bytes that spell the same symbols, they met the same. So they wrote the
+-- same packets and lines and have the same totals. How a reader cuts the bytes changes nothing, nor do bytes after the
+-- last symbol
 abbrev pub SameRunLaw : Type 0
 SameRunLaw =
     (rules : Rules) (old first second : State) (symbols : List Symbol) (before behind other_before other_behind : Streams)
-    → Spells before.taken symbols → Spells other_before.taken symbols → RunsOut rules old first before behind → RunsOut rules old second other_before other_behind
+    → SpellSymbols before.taken symbols → SpellSymbols other_before.taken symbols → RunsOut rules old first before behind → RunsOut rules old second other_before other_behind
     → (met : List Met) × HasGiven rules old first before behind met × HasGiven rules old second other_before other_behind met
 
 -- and so does a single step
 abbrev pub SameStepLaw : Type 0
 SameStepLaw =
     (rules : Rules) (old first second : State) (symbols : List Symbol) (before behind other_before other_behind : Streams) (step other_step : Step)
-    → Spells before.taken symbols → Spells other_before.taken symbols
+    → SpellSymbols before.taken symbols → SpellSymbols other_before.taken symbols
     → StepAnswers rules old first before behind (Ok step) → StepAnswers rules old second other_before other_behind (Ok other_step)
     → (step ≡ other_step) × (first.phase ≡ second.phase) × (first.standing ≡ second.standing)
     × ((met : List Met) × HasGiven rules old first before behind met × HasGiven rules old second other_before other_behind met)
@@ -185,9 +186,9 @@ SameStepLaw =
 
 -- two runs in a row are one run, which met the things of both; if the second came to the end, so did the one
 pub record GoOn (rules : Rules) (old mid new : State) (before between behind : Streams) (met : List Met) : Type 0 where
-  pub further : (later : List Met) → Went rules mid new between behind later → Went rules old new before behind (met ++ later)
-  pub to_the_end : (well : Bool) → RunsTo rules mid new between behind well → RunsTo rules old new before behind (all_well rules old.standing met && well)
+  pub further : (later : List Met) → Processed rules mid new between behind later → Processed rules old new before behind (met ++ later)
+  pub to_the_end : (certified : Bool) → RunsTo rules mid new between behind certified → RunsTo rules old new before behind (are_all_certified rules old.standing met && certified)
 
 -- two runs in a row are one run
 abbrev pub TwoRunsLaw : Type 0
-TwoRunsLaw = (rules : Rules) (old mid new : State) (before between behind : Streams) (met : List Met) → Went rules old mid before between met → GoOn rules old mid new before between behind met
+TwoRunsLaw = (rules : Rules) (old mid new : State) (before between behind : Streams) (met : List Met) → Processed rules old mid before between met → GoOn rules old mid new before between behind met

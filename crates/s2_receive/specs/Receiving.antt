@@ -1,4 +1,4 @@
--- What a receiver does with what it meets (own).
+-- The steps of a receiver, by the things that it meets (own).
 use Rattle.std.specs.Prelude.{◌≡◌, ◌≢◌, ℕ, ℤ, ◌+◌, ◌-◌, ◌*◌, ◌/◌, ◌<◌, ◌≤◌, Bool, true, false, ◌&&◌, nat_eq, nat_lt, if◌then◌else◌, List, [], ◌∷◌, ◌++◌, length, Option, Some, None, Result, Ok, Err, ⊤}
 use Rattle.std.specs.List.{flat_map}
 use Rattle.std.specs.Io.KnownBytes.{Appends, Consumes}
@@ -9,10 +9,10 @@ use Rattle.s2_mode.specs.Limits.{header_symbols}
 use Rattle.s2_mode.specs.Mode.{Mode, symbols_in}
 use Rattle.s2_mode.specs.Streams.{Streams}
 use Rattle.s2_mode.specs.Symbols.{symbols_of}
-use Rattle.s2_bbframe.specs.Joining.{Event, field, gap, Joined, step, begun_body, torn_in}
-use Rattle.s2_receive.specs.declared.delivering.Given.{Given}
-use Rattle.s2_receive.specs.declared.stretch.Stretch.{Stretch}
-use Rattle.s2_receive.specs.Meeting.{Met, frame, cut, ended, nothing_over, is_over}
+use Rattle.s2_bbframe.specs.Joining.{Event, field, gap, Joined, step, begun_body, incomplete_in}
+use Rattle.s2_receive.specs.declared.delivering.StepCounts.{StepCounts}
+use Rattle.s2_receive.specs.declared.gap.Gap.{Gap}
+use Rattle.s2_receive.specs.Meeting.{Met, frame, cut, ended, no_gap, is_gap}
 use Rattle.s2_receive.specs.Finding.{Window, Follows, met_within, reached, wanted, window_at}
 use Rattle.s2_receive.specs.Windows.{found_as}
 use Rattle.s2_receive.specs.ReportLines.{step_line}
@@ -47,14 +47,13 @@ abbrev pub delivery : Option (Header × List ℕ) → Event
 delivery (Some pair) = field pair.0 pair.1
 delivery None = gap
 
--- what a receiver goes by: what headers are found as, the size of a frame, the decision on a frame, and the limit of
--- symbols
+-- the rules of a receiver: the header test, the size of a frame, the decision on a frame, and the limit of symbols
 pub record Rules : Type 0 where
-  -- what a header is found as, right after a frame (`true`) and elsewhere
+  -- the header test, right after a frame (`true`) and elsewhere
   pub finds : Bool → List Symbol → Found
   pub size : ℕ
   pub decide : List Symbol → Decision
-  -- how many symbols it takes at most
+  -- the limit of symbols in all
   pub limit : ℕ
 
 -- the joiner and the totals so far
@@ -64,49 +63,49 @@ pub record Standing : Type 0 where
 
 -- no frame so far
 abbrev pub at_start : Standing
-at_start = record { held = None; totals = record { frames = 0; delivered = 0; packets = 0; bad = 0; torn = 0; cut = false; passed = 0; places = 0; first = 0 } }
+at_start = record { held = None; totals = record { frames = 0; delivered = 0; packets = 0; bad = 0; incomplete = 0; cut = false; skipped = 0; places = 0; first = 0 } }
 
--- what the joiner holds when a frame comes: a gap comes first if symbols were passed over
-abbrev pub held_before : Option (List ℕ) → Stretch → Option (List ℕ)
-held_before held over = if is_over over then None else held
+-- what the joiner holds when a frame comes: a gap comes first if symbols were skipped
+abbrev pub held_before : Option (List ℕ) → Gap → Option (List ℕ)
+held_before held skipped = if is_gap skipped then None else held
 
--- how many bodies that gap drops
-abbrev pub torn_before : Option (List ℕ) → Stretch → ℕ
-torn_before held over = if is_over over then begun_body held else 0
+-- the number of bodies that this gap drops
+abbrev pub incomplete_before : Option (List ℕ) → Gap → ℕ
+incomplete_before held skipped = if is_gap skipped then begun_body held else 0
 
 -- the joiner after the frame
-abbrev pub joined_after : Option (List ℕ) → Stretch → Option (Header × List ℕ) → Joined
-joined_after held over delivered = step (held_before held over) (delivery delivered)
+abbrev pub joined_after : Option (List ℕ) → Gap → Option (Header × List ℕ) → Joined
+joined_after held skipped delivered = step (held_before held skipped) (delivery delivered)
 
--- and how many bodies that were begun it dropped
-abbrev pub torn_after : Option (List ℕ) → Stretch → Option (Header × List ℕ) → ℕ
-torn_after held over delivered = torn_before held over + torn_in (held_before held over) (delivery delivered)
+-- and the number of incomplete bodies that it dropped
+abbrev pub incomplete_after : Option (List ℕ) → Gap → Option (Header × List ℕ) → ℕ
+incomplete_after held skipped delivered = incomplete_before held skipped + incomplete_in (held_before held skipped) (delivery delivered)
 
 abbrev pub count_of : Option (Header × List ℕ) → ℕ
 count_of (Some pair) = 1
 count_of None = 0
 
--- the totals with the symbols passed over in one more place, or in none; the first place is kept
-abbrev pub passes : Totals → Stretch → Totals
-passes t over = record t { passed = t.passed + over.symbols; places = t.places + (if is_over over then 1 else 0); first = if nat_eq t.places 0 then over.first else t.first }
+-- the totals with the skipped symbols of one more gap, or of none; the position of the first one is kept
+abbrev pub with_gap : Totals → Gap → Totals
+with_gap t skipped = record t { skipped = t.skipped + skipped.symbols; places = t.places + (if is_gap skipped then 1 else 0); first = if nat_eq t.places 0 then skipped.first else t.first }
 
--- the symbols passed over after the last frame, at the stream's end; fewer symbols than a header has count as none
-abbrev pub at_end : Stretch → Stretch
-at_end over = if nat_lt over.symbols header_symbols then nothing_over else over
+-- the gap after the last frame, at the stream's end; fewer symbols than a header has count as none
+abbrev pub at_end : Gap → Gap
+at_end skipped = if nat_lt skipped.symbols header_symbols then no_gap else skipped
 
 -- the numbers to be counted for the frame
-abbrev pub given_after : Option (List ℕ) → Stretch → Option (Header × List ℕ) → Given
-given_after held over delivered =
-    record { delivered = count_of delivered; good = length (joined_after held over delivered).good; bad = (joined_after held over delivered).bad; torn = torn_after held over delivered }
+abbrev pub counts_after : Option (List ℕ) → Gap → Option (Header × List ℕ) → StepCounts
+counts_after held skipped delivered =
+    record { delivered = count_of delivered; good = length (joined_after held skipped delivered).good; bad = (joined_after held skipped delivered).bad; incomplete = incomplete_after held skipped delivered }
 
--- the totals with a frame more, which gave this
-abbrev pub frame_totals : Totals → Given → Totals
-frame_totals t given =
-    record t { frames = t.frames + 1; delivered = t.delivered + given.delivered; packets = t.packets + given.good; bad = t.bad + given.bad; torn = t.torn + given.torn }
+-- the totals with one more frame, with these counts
+abbrev pub frame_totals : Totals → StepCounts → Totals
+frame_totals t counts =
+    record t { frames = t.frames + 1; delivered = t.delivered + counts.delivered; packets = t.packets + counts.good; bad = t.bad + counts.bad; incomplete = t.incomplete + counts.incomplete }
 
 -- and with a cut one
 abbrev pub cut_totals : Totals → ℕ → Totals
-cut_totals t torn = record t { torn = t.torn + torn; cut = true }
+cut_totals t incomplete = record t { incomplete = t.incomplete + incomplete; cut = true }
 
 abbrev pub report_for : Decision → Totals → ℕ → Report
 report_for decision t at = record { number = t.frames + 1; at = at; verdict = decision.verdict; outcome = decision.outcome }
@@ -116,30 +115,30 @@ report_of rules t at symbols = report_for (rules.decide symbols) t at
 
 -- the joiner's body and the totals after something met
 abbrev pub after : Rules → Standing → Met → Standing
-after rules s (frame at over symbols) =
+after rules s (frame at skipped symbols) =
     record {
-      held = (joined_after s.held over (rules.decide symbols).delivered).held;
-      totals = frame_totals (passes s.totals over) (given_after s.held over (rules.decide symbols).delivered);
+      held = (joined_after s.held skipped (rules.decide symbols).delivered).held;
+      totals = frame_totals (with_gap s.totals skipped) (counts_after s.held skipped (rules.decide symbols).delivered);
     }
-after rules s (cut at over count) = record { held = None; totals = cut_totals (passes s.totals over) (begun_body s.held) }
-after rules s (ended over) = record { held = s.held; totals = passes s.totals (at_end over) }
+after rules s (cut at skipped count) = record { held = None; totals = cut_totals (with_gap s.totals skipped) (begun_body s.held) }
+after rules s (ended skipped) = record { held = s.held; totals = with_gap s.totals (at_end skipped) }
 
 -- the bytes of the packets that it gives
 abbrev pub packets_of : Rules → Standing → Met → List ℕ
-packets_of rules s (frame at over symbols) = flat_map (λ packet. packet) (joined_after s.held over (rules.decide symbols).delivered).good
+packets_of rules s (frame at skipped symbols) = flat_map (λ packet. packet) (joined_after s.held skipped (rules.decide symbols).delivered).good
 packets_of rules s met = []
 
--- the answer
+-- the step
 abbrev pub step_of : Rules → Standing → Met → Step
-step_of rules s (frame at over symbols) = steps.Frame (report_of rules s.totals at symbols)
-step_of rules s (cut at over count) = steps.Cut at count
-step_of rules s (ended over) = steps.End
+step_of rules s (frame at skipped symbols) = steps.Frame (report_of rules s.totals at symbols)
+step_of rules s (cut at skipped count) = steps.Cut at count
+step_of rules s (ended skipped) = steps.End
 
 -- its line of the report, with the totals after it
 abbrev pub line_of : Rules → Standing → Met → List ℕ
 line_of rules s met = step_line (step_of rules s met) (after rules s met).totals
 
--- the same for all that is met
+-- the joiner's body and the totals after all these things
 abbrev pub after_all : Rules → Standing → List Met → Standing
 after_all rules s [] = s
 after_all rules s (met ∷ later) = after_all rules (after rules s met) later
@@ -154,48 +153,48 @@ abbrev pub all_lines : Rules → Standing → List Met → List ℕ
 all_lines rules s [] = []
 all_lines rules s (met ∷ later) = line_of rules s met ++ all_lines rules (after rules s met) later
 
--- a frame that was delivered with bits that are sole or most likely, or the end; a cut one is not well
+-- whether a frame was delivered with bits that are sole or most likely
 abbrev pub is_sure : Outcome → Verdict → Bool
 is_sure (outcomes.Delivered fixed) verdict = is_certified verdict
 is_sure outcome verdict = false
 
--- a frame is well if it was delivered with certified bits; the end is well, a cut frame is not
-abbrev pub is_well : Step → Bool
-is_well (steps.Frame report) = is_sure report.outcome report.verdict
-is_well (steps.Cut at count) = false
-is_well steps.End = true
+-- whether a step is a frame that was delivered with certified bits, or the end; a cut frame is not
+abbrev pub is_certified_step : Step → Bool
+is_certified_step (steps.Frame report) = is_sure report.outcome report.verdict
+is_certified_step (steps.Cut at count) = false
+is_certified_step steps.End = true
 
--- all that was met is well
-abbrev pub all_well : Rules → Standing → List Met → Bool
-all_well rules s [] = true
-all_well rules s (met ∷ later) = is_well (step_of rules s met) && all_well rules (after rules s met) later
+-- whether this holds of all steps
+abbrev pub are_all_certified : Rules → Standing → List Met → Bool
+are_all_certified rules s [] = true
+are_all_certified rules s (met ∷ later) = is_certified_step (step_of rules s met) && are_all_certified rules (after rules s met) later
 
 -- ---- a receiver between two calls
 
--- a receiver between two calls: its phase, how many symbols it took, and its totals
+-- a receiver between two calls: its phase, the symbols held, and its joiner and totals
 pub record State : Type 0 where
   pub phase : Phase
   pub window : Window
   pub standing : Standing
 
--- how many symbols it took
+-- the number of symbols taken
 abbrev pub taken : State → ℕ
 taken s = reached s.window
 
 -- a receiver: the mode of its frames, its lock, its decider, its limit of symbols, and its state
 pub record Receiver (D : Type 0) : Type 0 where
   pub mode : Mode
-  pub lock : ℕ
+  pub max_header_errors : ℕ
   pub decider : D
   pub limit : ℕ
   pub state : State
   pub packets : List ℕ
 
--- its rules, by what its decider decides
+-- its rules, by the decision of its decider
 abbrev pub rules_of : {D : Type 0} → (D → List Symbol → Decision) → Receiver D → Rules
-rules_of decide r = record { finds = found_as r.mode r.lock; size = symbols_in r.mode; decide = decide r.decider; limit = r.limit }
+rules_of decide r = record { finds = found_as r.mode r.max_header_errors; size = symbols_in r.mode; decide = decide r.decider; limit = r.limit }
 
--- a receiver's state: its phase, how many symbols it took, the body that its joiner holds, and its totals
+-- a receiver's state, from its phase, the symbols held, the body that its joiner holds, and its totals
 abbrev pub state_of : Phase → Window → Option (List ℕ) → Totals → State
 state_of phase window held totals = record { phase = phase; window = window; standing = record { held = held; totals = totals } }
 
@@ -203,7 +202,7 @@ state_of phase window held totals = record { phase = phase; window = window; sta
 abbrev pub begun : State
 begun = record { phase = phases.Searching; window = window_at 0 false; standing = at_start }
 
--- more can be met: not after the end or a fault, and not before the last thing met is delivered
+-- more can be met: not after the end or a fault
 abbrev pub IsLive : Phase → Type 0
 IsLive phases.Searching = ⊤
 IsLive phases.Closing = ⊤
@@ -211,26 +210,26 @@ IsLive phases.Ended = ⊥
 IsLive phases.Failed = ⊥
 
 abbrev pub phase_after : Met → Phase
-phase_after (frame at over symbols) = phases.Searching
-phase_after (cut at over count) = phases.Closing
-phase_after (ended over) = phases.Ended
+phase_after (frame at skipped symbols) = phases.Searching
+phase_after (cut at skipped count) = phases.Closing
+phase_after (ended skipped) = phases.Ended
 
--- the last step came to a frame, met or delivered, or there was no step yet: the last decision is on that frame
+-- the last step was a frame, so that the last decision is on it; or there was no step yet
 abbrev pub is_at_frame : Phase → Bool
 is_at_frame phases.Searching = true
 is_at_frame phase = false
 
--- whether no frame comes any more
+-- a number that grows as a receiver approaches its end
 abbrev pub rank : Phase → ℕ
 rank phases.Searching = 0
 rank phases.Closing = 1
 rank phases.Ended = 2
 rank phases.Failed = 2
 
--- what is still to be met in the symbols to come
+-- the things still to be met in the symbols to come
 abbrev pub left_by : Rules → Phase → Window → List Symbol → List Met
 left_by rules phases.Searching window coming = met_within rules.finds rules.size window coming
-left_by rules phases.Closing window coming = ended nothing_over ∷ []
+left_by rules phases.Closing window coming = ended no_gap ∷ []
 left_by rules phases.Ended window coming = []
 left_by rules phases.Failed window coming = []
 
@@ -238,11 +237,11 @@ left_by rules phases.Failed window coming = []
 abbrev pub met_left : Rules → State → List Symbol → List Met
 met_left rules s coming = left_by rules s.phase s.window coming
 
--- the same of bytes to come, where it is known
+-- the same of the bytes to come, if they are known
 abbrev pub left_known : Rules → Phase → Window → Option (List ℕ) → Option (List Met)
 left_known rules phases.Searching window None = None
 left_known rules phases.Searching window (Some bytes) = Some (met_within rules.finds rules.size window (symbols_of bytes))
-left_known rules phases.Closing window bytes = Some (ended nothing_over ∷ [])
+left_known rules phases.Closing window bytes = Some (ended no_gap ∷ [])
 left_known rules phases.Ended window bytes = Some []
 left_known rules phases.Failed window bytes = Some []
 
@@ -251,60 +250,61 @@ left_in rules s bytes = left_known rules s.phase s.window bytes
 
 -- ---- symbols that come
 
--- how many bytes are asked for: those of the symbols that a frame lacks, up to the limit; none where it does not search
+-- the number of bytes wanted next: those of the symbols that a frame lacks, up to the limit; 0 if it does not search
 abbrev pub asked_by : Rules → Phase → Window → ℕ
 asked_by rules phases.Searching window = 4 * wanted rules.limit rules.size window
 asked_by rules phase window = 0
 
--- how many bytes a receiver that stands so asks for
+-- the same for a receiver in this state
 abbrev pub asked : Rules → State → ℕ
 asked rules s = asked_by rules s.phase s.window
 
--- what these symbols and those that were held spell, whatever may follow: this, and then what is still to be met
-abbrev pub Spell : Rules → (old new : State) → (symbols : List Symbol) → (whole : Bool) → List Met → Type 0
-Spell rules old new symbols whole met = (coming : List Symbol) → Follows whole coming → met_left rules old (symbols ++ coming) ≡ met ++ met_left rules new coming
+-- in these symbols and those held, this is met, whatever may follow; and then the things still to be met
+abbrev pub YieldsMet : Rules → (old new : State) → (symbols : List Symbol) → (whole : Bool) → List Met → Type 0
+YieldsMet rules old new symbols whole met = (coming : List Symbol) → Follows whole coming → met_left rules old (symbols ++ coming) ≡ met ++ met_left rules new coming
 
--- where it was a frame, what is decided of its symbols was decided last
+-- if it was a frame, the last decision is the one on its symbols
 abbrev pub IsDecidedBy : (List Symbol → Decision) → Met → Decision → Type 0
-IsDecidedBy decide (frame at over symbols) last = last ≡ decide symbols
+IsDecidedBy decide (frame at skipped symbols) last = last ≡ decide symbols
 IsDecidedBy decide met last = ⊤
 
 -- if it was a frame, the last decision is on its symbols
 abbrev pub IsDecided : Rules → Met → Decision → Type 0
 IsDecided rules met last = IsDecidedBy rules.decide met last
 
--- This was met: it is counted, its packets are these, and it is the answer.
-pub record Tells (rules : Rules) (old new : State) (met : Met) (packets : List ℕ) (step : Step) : Type 0 where
+-- This was met, and the receiver handled it: it is counted, these are its packets, and it is the step returned.
+pub record Handles (rules : Rules) (old new : State) (met : Met) (packets : List ℕ) (step : Step) : Type 0 where
   pub step_is : step ≡ step_of rules old.standing met
   pub phase : new.phase ≡ phase_after met
   pub standing : new.standing ≡ after rules old.standing met
   pub packets_are : packets ≡ packets_of rules old.standing met
 
--- it ends at this place of the stream
+-- it ends at this position of the stream
 abbrev pub EndsAt : ℕ → Met → ℕ → Type 0
-EndsAt size (frame at over symbols) place = place ≡ at + size
-EndsAt size (cut at over count) place = place ≡ at + count
-EndsAt size (ended over) place = ⊤
+EndsAt size (frame at skipped symbols) place = place ≡ at + size
+EndsAt size (cut at skipped count) place = place ≡ at + count
+EndsAt size (ended skipped) place = ⊤
 
--- A step: symbols came, all that were asked for or the last ones of the stream, and this was met in them. They were taken, and no others.
+-- A step: symbols came, all wanted ones or the last ones of the stream, and this was met in them. They were taken, and no
+-- others.
 pub record Steps (rules : Rules) (old new : State) (symbols : List Symbol) (whole : Bool) (last : Decision) (packets : List ℕ) (step : Step) : Type 0 where
   pub met : Met
-  pub tells : Tells rules old new met packets step
-  pub spell : Spell rules old new symbols whole (met ∷ [])
+  pub handles : Handles rules old new met packets step
+  pub spell : YieldsMet rules old new symbols whole (met ∷ [])
   pub taken_are : taken new ≡ taken old + length symbols
   pub ends : EndsAt rules.size met (taken new)
   pub decided : IsDecided rules met last
 
--- No step yet: all symbols that were asked for came, and nothing is met in them. They were taken.
+-- No step yet: all wanted symbols came, and nothing is met in them. They were taken.
 pub record Waits (rules : Rules) (old new : State) (symbols : List Symbol) (whole : Bool) : Type 0 where
   pub all : whole ≡ true
   pub searching : old.phase ≡ phases.Searching
   pub phase : new.phase ≡ old.phase
   pub standing : new.standing ≡ old.standing
-  pub spell : Spell rules old new symbols true []
+  pub spell : YieldsMet rules old new symbols true []
   pub taken_are : taken new ≡ taken old + length symbols
 
--- ---- what is read and written
+-- ---- reads and writes
 
 -- these symbols are the next ones of known bytes
 abbrev pub YieldsSymbols : Option (List ℕ) → Option (List ℕ) → List Symbol → Type 0
@@ -312,7 +312,7 @@ YieldsSymbols None new front = ⊤
 YieldsSymbols (Some old) None front = ⊥
 YieldsSymbols (Some old) (Some new) front = symbols_of old ≡ front ++ symbols_of new
 
--- the symbols from one place of the stream up to another were read
+-- the symbols from one position of the stream up to another were read
 abbrev pub Reaches : ℕ → ℕ → Option (List ℕ) → Option (List ℕ) → Type 0
 Reaches to at reader_old reader_new = (front : List Symbol) × YieldsSymbols reader_old reader_new front × (at + length front ≡ to)
 
@@ -322,16 +322,16 @@ Meets None new front = ⊤
 Meets (Some old) None front = ⊥
 Meets (Some old) (Some new) front = old ≡ front ++ new
 
--- the next coded frame of what is known, where one comes next, ends after a place
+-- if the next thing of those known is a coded frame, it ends after this position
 abbrev pub EndsBehind : ℕ → ℕ → Option (List Met) → Type 0
 EndsBehind size place None = ⊤
 EndsBehind size place (Some []) = ⊤
-EndsBehind size place (Some (frame at over symbols ∷ later)) = place < at + size
-EndsBehind size place (Some (cut at over count ∷ later)) = ⊤
-EndsBehind size place (Some (ended over ∷ later)) = ⊤
+EndsBehind size place (Some (frame at skipped symbols ∷ later)) = place < at + size
+EndsBehind size place (Some (cut at skipped count ∷ later)) = ⊤
+EndsBehind size place (Some (ended skipped ∷ later)) = ⊤
 
--- Nothing was met, since a read failed or the limit was reached. The next frame of what is known to come ends after what was read. If no read
--- failed, it ends after the limit, and exactly the bytes up to the limit were read.
+-- Nothing was met, since a read failed or the limit was reached. The next frame, if it is known, ends after the bytes
+-- that were read. If no read failed, it ends after the limit, and exactly the bytes up to the limit were read.
 pub record StopsShort (rules : Rules) (old : State) (reader_old reader_new : Option (List ℕ)) (reads_old reads_new : ℕ) : Type 0 where
   pub bytes : List ℕ
   pub read : Consumes reader_old reader_new bytes
@@ -350,9 +350,9 @@ pub record Stops (rules : Rules) (old new : State) (reader_old reader_new : Opti
 
 -- ---- steps
 
--- From one state to another this was met: it is what known bytes spell next, its symbols and no others were read, its packets
--- and its lines were written and nothing else.
-pub record Went (rules : Rules) (old new : State) (before behind : Streams) (met : List Met) : Type 0 where
+-- From one state to another, these things were met and processed. They come next in the known bytes. Their symbols and no
+-- others were read. Their packets and lines and nothing else were written.
+pub record Processed (rules : Rules) (old new : State) (before behind : Streams) (met : List Met) : Type 0 where
   pub left : Meets (left_in rules old before.taken) (left_in rules new behind.taken) met
   pub front : List Symbol
   pub read : YieldsSymbols before.taken behind.taken front
@@ -361,16 +361,16 @@ pub record Went (rules : Rules) (old new : State) (before behind : Streams) (met
   pub packets : Appends before.given behind.given (all_packets rules old.standing met)
   pub lines : Appends before.out behind.out (all_lines rules old.standing met)
 
--- The frame of this report was met, the last decision is on its symbols, and the report says that decision
+-- the frame of this report was met, the last decision is on its symbols, and the report has that decision
 pub record MetFrame (rules : Rules) (old new : State) (before behind : Streams) (report : Report) (last : Decision) : Type 0 where
-  pub over : Stretch
+  pub skipped : Gap
   pub symbols : List Symbol
-  pub went : Went rules old new before behind (frame report.at over symbols ∷ [])
+  pub processed : Processed rules old new before behind (frame report.at skipped symbols ∷ [])
   pub is_last : last ≡ rules.decide symbols
   pub told : report ≡ report_for last old.standing.totals report.at
 
--- A write failed when this was to be written, which was met: it is what known bytes spell next, and its symbols and no others were read, no
--- more than may be taken. Of its packets a part was written and not all; or its packets whole, and of its line a part and not all.
+-- This was met, and then a write failed. It comes next in the known bytes. Its symbols and no others were read, up to the
+-- limit at most. A part of its packets was written and not all; or all its packets, and a part of its line and not all.
 pub record BreaksOff (rules : Rules) (old : State) (before behind : Streams) : Type 0 where
   pub met : Met
   pub mid : State
@@ -382,12 +382,12 @@ pub record BreaksOff (rules : Rules) (old : State) (before behind : Streams) : T
 -- the result of a call if more could be met
 abbrev pub StepAnswers : Rules → State → State → (before behind : Streams) → Result Step Fault → Type 0
 StepAnswers rules old new before behind (Ok step) =
-    (met : Met) × (step ≡ step_of rules old.standing met) × (new.phase ≡ phase_after met) × Went rules old new before behind (met ∷ [])
+    (met : Met) × (step ≡ step_of rules old.standing met) × (new.phase ≡ phase_after met) × Processed rules old new before behind (met ∷ [])
 StepAnswers rules old new before behind (Err faults.Read) = Stops rules old new before.taken behind.taken before.reads behind.reads
 StepAnswers rules old new before behind (Err faults.Write) = (new.phase ≡ phases.Failed) × BreaksOff rules old before behind
 StepAnswers rules old new before behind (Err faults.Failed) = ⊥
 
--- how many symbols were taken after a step: up to the frame's end, or to the end of what there is of a cut one
+-- the number of symbols taken after a step: up to the end of the frame, or of the symbols of a cut one
 abbrev pub StandsBehind : {E : Type 0} → ℕ → ℕ → Result Step E → Type 0
 StandsBehind size at (Ok (steps.Frame report)) = at ≡ report.at + size
 StandsBehind size at (Ok (steps.Cut place count)) = at ≡ place + count
@@ -395,36 +395,36 @@ StandsBehind size at result = ⊤
 
 -- ---- whole runs
 
--- A run from one state to its end: all that was still to be met was met, and it was met and written as it should be.
+-- A run from one state to the end: everything was met and processed.
 abbrev pub RunsOut : Rules → State → State → (before behind : Streams) → Type 0
-RunsOut rules old new before behind = (new.phase ≡ phases.Ended) × ((met : List Met) × Went rules old new before behind met)
+RunsOut rules old new before behind = (new.phase ≡ phases.Ended) × ((met : List Met) × Processed rules old new before behind met)
 
--- and whether all of it was well
-pub record RunsTo (rules : Rules) (old new : State) (before behind : Streams) (well : Bool) : Type 0 where
+-- and whether all of it is certified
+pub record RunsTo (rules : Rules) (old new : State) (before behind : Streams) (certified : Bool) : Type 0 where
   pub runs_out : RunsOut rules old new before behind
-  pub is_well : well ≡ all_well rules old.standing runs_out.1.0
+  pub certified_is : certified ≡ are_all_certified rules old.standing runs_out.1.0
 
--- a read failed, or the limit of symbols, counted from a place on, was reached
+-- a read failed, or the limit of symbols was reached, counted from a position on
 abbrev pub MayStop : ℕ → ℕ → (before behind : Streams) → Type 0
 MayStop limit at before behind = behind.reads ≢ before.reads + 1 → (behind.reads ≡ before.reads) × Reaches limit at before.taken behind.taken
 
--- A run from one state to a failed read or the limit of symbols. All that was met before is written, and nothing else.
+-- A run from one state to a failed read or the limit of symbols. Everything met before is written, and nothing else.
 -- No further frame ends in the bytes that were read
 pub record StopsAfter (rules : Rules) (old new : State) (before behind : Streams) : Type 0 where
   pub met : List Met
   pub mid : State
   pub between : Streams
-  pub went : Went rules old mid before between met
+  pub processed : Processed rules old mid before between met
   pub stops : Stops rules mid new between.taken behind.taken between.reads behind.reads
   pub cause : MayStop rules.limit (taken old) before behind
   pub no_read : between.reads ≡ before.reads
   pub packets : behind.given ≡ between.given
   pub lines : behind.out ≡ between.out
 
--- A run from one state to a failed write. All that was met before is written, and a part of the next thing
+-- A run from one state to a failed write. Everything met before is written, and a part of the next thing
 pub record BreaksAfter (rules : Rules) (old : State) (before behind : Streams) : Type 0 where
   pub met : List Met
   pub mid : State
   pub between : Streams
-  pub went : Went rules old mid before between met
+  pub processed : Processed rules old mid before between met
   pub breaks : BreaksOff rules mid between behind

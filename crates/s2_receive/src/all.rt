@@ -1,10 +1,10 @@
-//! A receiver's way to the end of its stream.
+//! Receives a stream up to its end.
 ghost use Rattle.std.specs.Prelude.{◌≡◌, ◌*◌, ◌<◌, ◌≤◌, OnOk, OnErr, length};
 ghost use Rattle.s2_mode.specs.Counts.{CanCount};
 ghost use Rattle.s2_mode.specs.Streams.{streams_by, NoneFailed, OneFailed};
-ghost use Rattle.s2_receive.specs.Receiving.{IsLive, begun, is_well, taken};
+ghost use Rattle.s2_receive.specs.Receiving.{IsLive, begun, is_certified_step, taken};
 ghost use Rattle.s2_receive.specs.declared.report.Phase.TheVariants as phases;
-ghost use Rattle.s2_receive.specs.Answers.{Between, IsSame, Runs, OnlyStreamFaults, ReceivesBytes, bytes_by};
+ghost use Rattle.s2_receive.specs.Answers.{Between, IsSame, RunsSteps, OnlyStreamFaults, ReceivesBytes, bytes_by};
 
 use crate::parts::Decide;
 use crate::receiver::Receiver;
@@ -12,8 +12,8 @@ use crate::report::{Outcome, Received, Step, Totals};
 use s2_mode::{CountedRead, CountedWrite, InMemory, StreamFault, WriteFault};
 
 /// Whether a step is a frame that was delivered with bits that are sole or most likely, or the end.
-fn is_well(step: Step) -> bool
-    ensures { result ≡ is_well step }
+fn is_certified_step(step: Step) -> bool
+    ensures { result ≡ is_certified_step step }
 {
     match step {
         Step::Frame(report) => match report.outcome {
@@ -25,9 +25,9 @@ fn is_well(step: Step) -> bool
     }
 }
 
-/// Takes all remaining steps, up to the end line, and returns the totals and whether all was well. After a
-/// fault all that was met before it is written whole. `Write`: a packet or a line could not be written, which
-/// then has a part. `Read`: a read failed or the limit was reached.
+/// Takes all remaining steps, up to the end line. Returns the totals, and whether all frames were delivered with
+/// certified bits and none was cut. After a fault, everything met before it is written whole. `Write`: a packet or a
+/// line could not be written, or only a part of it. `Read`: a read failed or the limit was reached.
 pub fn receive_all<D: Decide, R: CountedRead, P: CountedWrite, W: CountedWrite>(
     receiver: &mut Receiver<D>,
     reader: &mut R,
@@ -38,7 +38,7 @@ pub fn receive_all<D: Decide, R: CountedRead, P: CountedWrite, W: CountedWrite>(
     requires packets { CanCount (P.count packets.old) }
     requires report { CanCount (W.count report.old) }
     requires live { IsLive receiver.old.state.phase }
-    ensures runs { Between (Runs D.decide receiver.old receiver.new) R.remaining R.count P.contents P.count
+    ensures runs { Between (RunsSteps D.decide receiver.old receiver.new) R.remaining R.count P.contents P.count
         W.contents W.count reader.old packets.old report.old reader.new packets.new report.new result }
     ensures counts { let ends = streams_by R.remaining R.count P.contents P.count W.contents W.count in
         OnlyStreamFaults result (ends reader.old packets.old report.old) (ends reader.new packets.new report.new) }
@@ -46,7 +46,7 @@ pub fn receive_all<D: Decide, R: CountedRead, P: CountedWrite, W: CountedWrite>(
     ensures bounded { taken receiver.new.state ≤ receiver.old.limit }
     ensures same { IsSame D.decide receiver.old receiver.new }
 {
-    let mut well = true;
+    let mut all_certified = true;
     'steps: loop {
         match receiver.next(reader, packets, report) {
             Ok(step) => {
@@ -55,11 +55,11 @@ pub fn receive_all<D: Decide, R: CountedRead, P: CountedWrite, W: CountedWrite>(
                     let symbols = receiver.taken();
                     return Ok(Received {
                         totals,
-                        well,
+                        all_certified,
                         symbols,
                     });
                 }
-                well &= is_well(step);
+                all_certified &= is_certified_step(step);
             }
             Err(fault) => return Err(fault.of_stream()),
         }
@@ -67,7 +67,7 @@ pub fn receive_all<D: Decide, R: CountedRead, P: CountedWrite, W: CountedWrite>(
 }
 
 /// Receives a whole stream that is in memory and shorter than the limit, from its first symbol to the end
-/// line. Only a write can fail; one to three bytes that are left over at the end are dropped.
+/// line. Only a write can fail. One to three bytes after the last symbol are dropped.
 pub fn receive_bytes<D: Decide, P: CountedWrite, W: CountedWrite>(
     receiver: &mut Receiver<D>,
     bytes: &[u8],

@@ -1,4 +1,4 @@
-//! What finds the frames of one mode.
+//! The finder of one mode's frames.
 ghost use Rattle.std.specs.Prelude.{◌≡◌, ◌*◌, ◌≤◌, nat_eq, IfOk, length, false};
 ghost use Rattle.s2_mode.specs.Limits.{header_symbols, max_symbols};
 ghost use Rattle.s2_mode.specs.Mode.{symbols_in};
@@ -15,7 +15,7 @@ use std::marker::Model;
 /// Finds the frames of a mode in a stream of symbols, in its own buffers.
 pub(crate) struct Finder {
     search: Search,
-    lock: Lock,
+    max_header_errors: Lock,
     frame: Vec<Symbol>,
     held: Held,
 }
@@ -24,7 +24,7 @@ impl Drop for Finder {
     fn drop(self) {
         let Finder {
             search: _,
-            lock: _,
+            max_header_errors: _,
             frame: _,
             held: _,
         } = self;
@@ -39,7 +39,7 @@ impl Model for Finder {
 
     ghost view = { λ f. record {
       mode = f.search.mode;
-      lock = f.lock;
+      max_header_errors = f.max_header_errors;
       window = window_of f.held f.frame.items;
       frame = f.frame.items;
     } };
@@ -48,21 +48,25 @@ impl Model for Finder {
 }
 
 impl Finder {
-    /// With the memory that it needs. `AllocError` only if an allocation was refused.
-    pub(crate) fn new(alloc: Global, mode: Mode, lock: Lock) -> Result<Finder, AllocError>
-        ensures { IfOk result (λ f. (f.mode ≡ mode) × (f.lock ≡ lock) × (f.window ≡ window_at 0 false)) }
+    /// A finder with the memory that it needs. `AllocError` only if an allocation was refused.
+    pub(crate) fn new(
+        alloc: Global,
+        mode: Mode,
+        max_header_errors: Lock,
+    ) -> Result<Finder, AllocError>
+        ensures { IfOk result (λ f. (f.mode ≡ mode) × (f.max_header_errors ≡ max_header_errors) × (f.window ≡ window_at 0 false)) }
     {
         let size = mode.symbols();
         let frame = vec![in alloc; Symbol { i: 0, q: 0 }; size]?;
         Ok(Finder {
             search: Search::new(mode),
-            lock,
+            max_header_errors,
             frame,
             held: Held::nothing(0, false),
         })
     }
 
-    /// Up to which symbol of the stream symbols came.
+    /// The number of symbols of the stream that were taken so far.
     pub(crate) fn reached(&self) -> u64
         requires { reached self.now.window ≤ max_symbols }
         ensures { result ≡ reached self.now.window }
@@ -70,7 +74,7 @@ impl Finder {
         self.held.at + self.held.count as u64
     }
 
-    /// How many symbols are asked for: those that a frame lacks, and no more than up to the limit.
+    /// The number of symbols wanted next: those that a frame lacks, but no more than the limit leaves.
     pub(crate) fn wanted(&self, limit: u64) -> usize
         requires { reached self.now.window ≤ limit }
         ensures is { result ≡ wanted limit (symbols_in self.now.mode) self.now.window }
@@ -80,21 +84,21 @@ impl Finder {
         left.min((self.frame.len() - self.held.count) as u64) as usize
     }
 
-    /// Takes the symbols of these bytes: all that were asked for up to the limit, or the last ones of the stream. What is met, or
-    /// nothing where more symbols are needed.
+    /// Takes the symbols of these bytes: all that are wanted, or the last ones of the stream. Returns the next
+    /// frame or the end, or nothing if more symbols are needed.
     pub(crate) fn take(&mut self, bytes: &[u8], limit: u64) -> Option<Next>
         requires room { length bytes.now ≤ 4 * wanted limit (symbols_in self.old.mode) self.old.window }
         requires limit { (reached self.old.window ≤ limit) × (limit ≤ max_symbols) }
-        requires over { self.old.window.over.symbols ≤ self.old.window.at }
-        ensures takes { Takes (found_as self.old.mode self.old.lock) (symbols_in self.old.mode) self.old.window self.new.window (symbols_of bytes.now)
+        requires skipped { self.old.window.skipped.symbols ≤ self.old.window.at }
+        ensures takes { Takes (found_as self.old.mode self.old.max_header_errors) (symbols_in self.old.mode) self.old.window self.new.window (symbols_of bytes.now)
             (nat_eq (length bytes.now) (4 * wanted limit (symbols_in self.old.mode) self.old.window)) self.new.frame result }
         ensures mode { self.new.mode ≡ self.old.mode }
-        ensures lock { self.new.lock ≡ self.old.lock }
+        ensures max_header_errors { self.new.max_header_errors ≡ self.old.max_header_errors }
     {
         let whole = bytes.len() == 4 * self.wanted(limit);
         take_symbols(
             &mut self.search,
-            self.lock,
+            self.max_header_errors,
             bytes,
             &mut self.frame,
             &mut self.held,

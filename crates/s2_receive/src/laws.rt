@@ -1,14 +1,14 @@
-//! What follows from the definitions alone: each a call that does nothing, whose clause is the law.
+//! Laws, which follow from the definitions alone. Each is the clause of a call that does nothing.
 ghost use Rattle.s2_receive.specs.Laws.{JoiningLaw, ReceptionLaw, FrontLaw, SearchLaw, SameRunLaw, SameStepLaw, TwoRunsLaw};
 
-/// The packets that are written are those of all fields and gaps that came to the joiner, one after
-/// another, and the totals count them.
+/// The packets written are those of all fields and gaps that came to the joiner, one after another. The totals
+/// count them.
 pub fn joining()
     ensures { JoiningLaw }
 {}
 
-/// Frames received as they were sent, the first ones of a data stream, are met as exactly these. They give
-/// exactly the packets whose closing CRC-8 is in their fields, with any dummy frames among them.
+/// If the first frames of a data stream are received unchanged, exactly these are met. They give exactly the
+/// packets whose closing CRC-8 is in their fields, with any dummy frames among them.
 pub fn reception()
     ensures { ReceptionLaw }
 {}
@@ -33,7 +33,7 @@ pub fn same_bytes()
     ensures steps { SameStepLaw }
 {}
 
-/// Two runs in a row are one run: so single steps come to what a run to the end comes to.
+/// Two runs in a row are one run. So single steps give the same as a run to the end.
 pub fn two_runs()
     ensures { TwoRunsLaw }
 {}

@@ -1,4 +1,4 @@
-//! What decides a receiver's frames.
+//! The interface of a decider of frames.
 ghost use Rattle.std.specs.Prelude.{◌≡◌, ◌/◌, ◌<◌, ◌≤◌, ◌⊎◌, ℕ, List, IfSome, length};
 ghost use Rattle.s2_mode.specs.declared.symbols.Symbol.{Symbol as SymbolValue};
 ghost use Rattle.s2_receive.specs.Receiving.{Decision};
@@ -19,8 +19,8 @@ pub struct Decided {
 
 /// Decides frames, in its own buffers. Its decision is a function of a frame's symbols alone.
 ///
-/// It is a trait though the modem's is the only one, so that the receiver's loop is proved beside decoder and
-/// judge, and not after them.
+/// It is a trait, although only the modem implements it. So the receiver's loop is proved independently of decoder
+/// and judge.
 pub trait Decide {
     ghost use Rattle.s2_receive.specs.Parts.{delivered_of, HasPlace};
 

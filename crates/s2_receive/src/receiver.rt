@@ -18,8 +18,8 @@ use std::marker::Model;
 
 /// Takes a stream of symbols frame by frame (EN 302 307-1, 5.5.2).
 ///
-/// To contracts a receiver is what it was made of, how many symbols it takes at most, where it stands, and the packets of
-/// its last step.
+/// In contracts, a receiver is its mode, its lock, its decider, its limit of symbols, its state, and the packets of its
+/// last step.
 pub struct Receiver<D: Decide> {
     stepper: Stepper<D>,
     bytes: Vec<u8>,
@@ -46,7 +46,7 @@ impl<D: Decide> Model for Receiver<D> {
     ghost invariant = { λ r. length r.bytes.items ≡ 4 * symbols_in r.stepper.mode };
 }
 
-/// Reads the bytes that are asked for, and gives them on.
+/// Reads the wanted bytes, and passes them on.
 fn read_on<D: Decide, R: CountedRead>(
     stepper: &mut Stepper<D>,
     reader: &mut R,
@@ -82,12 +82,12 @@ fn read_step<D: Decide, R: CountedRead>(
 
 impl<D: Decide> Receiver<D> {
     /// A receiver of the frames of a mode that takes at most `limit` symbols in all, with the memory that
-    /// its steps use. Right after a frame so many bits of a header may be wrong as the lock says. `AllocError`
-    /// only where a growth was refused.
+    /// its steps use. Right after a frame, `max_header_errors` is the number of wrong bits that a header may have.
+    /// `AllocError` only if an allocation was refused.
     pub fn new(
         alloc: Global,
         mode: Mode,
-        lock: Lock,
+        max_header_errors: Lock,
         decider: D,
         limit: u64,
     ) -> Result<Receiver<D>, AllocError>
@@ -95,16 +95,16 @@ impl<D: Decide> Receiver<D> {
         D: Drop,
         requires takes { symbols_in mode ≡ D.size decider }
         requires limit { limit ≤ max_symbols }
-        ensures parts { IfOk result
-            (λ r. (r.mode ≡ mode) × (r.lock ≡ lock) × (r.decider ≡ decider) × (r.limit ≡ limit)) }
+        ensures parts { IfOk result (λ r. (r.mode ≡ mode) × (r.max_header_errors ≡ max_header_errors)
+            × (r.decider ≡ decider) × (r.limit ≡ limit)) }
         ensures begun { IfOk result (λ r. r.state ≡ begun) }
     {
         let bytes = vec![in alloc; 0u8; 4 * mode.symbols()]?;
-        let stepper = Stepper::new(alloc, mode, lock, decider, limit)?;
+        let stepper = Stepper::new(alloc, mode, max_header_errors, decider, limit)?;
         Ok(Receiver { stepper, bytes })
     }
 
-    /// The frames so far, with those that were not delivered; a cut one is no frame.
+    /// The totals so far. They count all frames, also those not delivered; a cut frame is not counted.
     pub fn totals(&self) -> Totals
         ensures is { result ≡ self.now.state.standing.totals }
         ensures counted { result.frames ≤ max_symbols }
@@ -112,14 +112,14 @@ impl<D: Decide> Receiver<D> {
         self.stepper.totals()
     }
 
-    /// How many symbols were taken so far.
+    /// The number of symbols taken so far.
     pub fn taken(&self) -> u64
         ensures { result ≡ taken self.now.state }
     {
         self.stepper.taken()
     }
 
-    /// Sets the limit of symbols in all; it has not taken more yet.
+    /// Sets the limit of symbols in all. The receiver must not have taken more yet.
     pub fn limit(&mut self, symbols: u64)
         requires { (taken self.old.state ≤ symbols) × (symbols ≤ max_symbols) }
         ensures { self.new ≡ record self.old { limit = symbols } }
@@ -127,7 +127,7 @@ impl<D: Decide> Receiver<D> {
         self.stepper.limit(symbols);
     }
 
-    /// What decides its frames.
+    /// The decider of its frames.
     pub fn decider(&self) -> &D
         ensures { result.now ≡ self.now.decider }
     {
@@ -141,16 +141,16 @@ impl<D: Decide> Receiver<D> {
         self.stepper.joiner.packets()
     }
 
-    /// Whether the last step came to a frame, which then is what was decided last: not after a cut frame, the end, or a
-    /// fault. So it is, too, before the first step.
+    /// Whether the last step was a frame, so that the last decision is on this frame. It is false after a cut frame,
+    /// after the end, and after a fault. It is true before the first step.
     pub fn is_at_frame(&self) -> bool
         ensures { result ≡ is_at_frame self.now.state.phase }
     {
         matches!(self.stepper.phase(), Phase::Searching)
     }
 
-    /// How many bytes are asked for next: four for each symbol that the frame at hand lacks, up to the limit. None where no symbols are
-    /// needed: after a cut frame and the end, after a fault, and where as many symbols were taken as may be.
+    /// The number of bytes wanted next: four for each symbol that the next frame lacks, up to the limit. It is 0 if no
+    /// symbols are needed: after a cut frame and the end, after a fault, and when the limit is reached.
     pub fn room(&self) -> usize
         ensures is { result ≡ asked (rules_of D.decide self.now) self.now.state }
         ensures few { result ≤ 4 * symbols_in self.now.mode }
@@ -160,15 +160,16 @@ impl<D: Decide> Receiver<D> {
         self.stepper.room()
     }
 
-    /// Takes the next bytes of the stream, as many as [`Receiver::room`] asks for: four for each symbol, I before Q, each in two bytes, the higher
-    /// one first. Fewer mean that the stream ends with them; up to three bytes that make no whole symbol are dropped then.
+    /// Takes the next bytes of the stream, in the number that [`Receiver::room`] returns. A symbol has four bytes: I before
+    /// Q, each in two bytes, the higher one first. Fewer bytes mean that the stream ends with them. Then up to three bytes
+    /// that make no whole symbol are dropped.
     ///
-    /// `Some` is the next step, and comes as soon as all its symbols are there: a frame, which is decided, a cut one, or the
-    /// end. `None` means that more symbols are needed. A frame stands at the first coded header that is not before the last
-    /// frame's end and in no dummy frame: of these the symbols are passed, and nothing is reported. The packets that end in
-    /// a frame are [`Receiver::packets`] then. There is a gap for the joiner where symbols were passed over that are no dummy
-    /// frame's, where a frame isn't delivered, and after a cut one. After `Cut` comes `End`, after `End` again `End`, and after a fault
-    /// `None`. Where no frame comes, what was decided last stays. It takes no memory.
+    /// `Some` is the next step, as soon as all its symbols are there: a frame, which is decided, a cut one, or the end.
+    /// `None` means that more symbols are needed. A frame begins at the first header of a coded frame that is not before the
+    /// last frame's end and in no dummy frame. Dummy frames are not reported. After a frame, [`Receiver::packets`] are those
+    /// that end in it. The joiner gets a gap if symbols were skipped that belong to no dummy frame, if a frame is not
+    /// delivered, and after a cut frame. After `Cut` comes `End`, after `End` again `End`, and after a fault `None`. If the
+    /// step is no frame, the last decision is kept. It allocates no memory.
     pub fn advance(&mut self, bytes: &[u8]) -> Option<Step>
         requires room { length bytes.now ≤ asked (rules_of D.decide self.old) self.old.state }
         ensures same { IsSame D.decide self.old self.new }
@@ -199,11 +200,11 @@ impl<D: Decide> Receiver<D> {
 
     /// Reads up to the next step, makes it, and writes its packets, and then its line of the report.
     ///
-    /// `Read` comes, never after a cut frame, where a read failed or where the limit was reached and the next frame would end
-    /// after it; nothing is written then. `Write` means that one of the two writers failed, which then has a part of the
-    /// packets or of the line. From a fault on every call answers `Failed` and reads and writes nothing. After `Cut` comes
-    /// `End`, after `End` comes `End`, and nothing is read or written. Where no frame comes and no write fails, what was
-    /// decided last stays.
+    /// `Read` means that a read failed, or that the limit was reached and the next frame would end after it. It never
+    /// comes after a cut frame. Then nothing is written. `Write` means that one of the two writers failed; it may have a
+    /// part of the packets or of the line. After a fault, every call returns `Failed`, and reads and writes nothing. After
+    /// `Cut` comes `End`, and after `End` again `End`; then nothing is read or written. If the step is no frame and no write
+    /// fails, the last decision is kept.
     pub fn next<R: CountedRead, P: CountedWrite, W: CountedWrite>(
         &mut self,
         reader: &mut R,
@@ -235,7 +236,7 @@ impl<D: Decide> Receiver<D> {
         }
     }
 
-    /// Counts as failed from now on.
+    /// Marks the receiver as failed.
     fn fail(&mut self, fault: Fault) -> Fault
         ensures state { self.new ≡ record self.old { state = record self.old.state { phase = phases.Failed } } }
         ensures fault { result ≡ fault }

@@ -1,11 +1,11 @@
 //! A receiver's results and counts.
 ghost use Rattle.std.specs.Prelude.{◌≡◌, ◌≢◌, ◌+◌, ◌^◌, ◌<◌, ◌≤◌};
 ghost use Rattle.s2_receive.specs.Faults.{fault_of};
-ghost use Rattle.s2_receive.specs.Receiving.{at_start, passes, cut_totals, frame_totals};
+ghost use Rattle.s2_receive.specs.Receiving.{at_start, with_gap, cut_totals, frame_totals};
 ghost use Rattle.s2_receive.specs.Telling.{IsFew};
 
-use crate::delivering::Given;
-use crate::stretch::Stretch;
+use crate::delivering::StepCounts;
+use crate::gap::Gap;
 use s2_bbframe::HeaderFault;
 use s2_check::Verdict;
 use s2_mode::StreamFault;
@@ -38,22 +38,22 @@ pub struct Totals {
     pub delivered: u64,
     pub packets: u64,
     pub bad: u64,
-    /// Packets with a body that was begun, with at least a byte, and dropped: by a gap, or by a header that
-    /// names another place than the next one.
-    pub torn: u64,
+    /// Incomplete packets. The body of such a packet was begun, with at least a byte, and dropped: by a gap, or by a
+    /// header that names another place than the next one.
+    pub incomplete: u64,
     pub cut: bool,
-    /// The symbols that belong to no frame, to no cut one and to no dummy frame; after the last frame fewer
-    /// than 90 in all are none.
-    pub passed: u64,
-    /// The number of places with such symbols, each before a frame or a cut one, or after the last frame. A
-    /// dummy frame divides none.
+    /// The skipped symbols: those that belong to no frame, to no cut one and to no dummy frame. Fewer than 90 after
+    /// the last frame count as none.
+    pub skipped: u64,
+    /// The number of gaps: places with skipped symbols before a frame or a cut one, or after the last frame. A dummy
+    /// frame divides no gap.
     pub places: u64,
-    /// The place of the first of them, 0 if there is none.
+    /// The position of the first skipped symbol, 0 if there is none.
     pub first: u64,
 }
 
 impl Totals {
-    /// Nothing.
+    /// No frames and no symbols.
     pub(crate) fn none() -> Totals
         ensures { result ≡ at_start.totals }
     {
@@ -62,25 +62,25 @@ impl Totals {
             delivered: 0,
             packets: 0,
             bad: 0,
-            torn: 0,
+            incomplete: 0,
             cut: false,
-            passed: 0,
+            skipped: 0,
             places: 0,
             first: 0,
         }
     }
 
-    /// With the symbols passed over in one place more, or in none.
-    pub(crate) fn passes(self, over: Stretch) -> Totals
-        requires symbols { self.passed + over.symbols < 2 ^ 63 }
+    /// The totals with the skipped symbols of one more gap, or of none.
+    pub(crate) fn with_gap(self, skipped: Gap) -> Totals
+        requires symbols { self.skipped + skipped.symbols < 2 ^ 63 }
         requires places { self.places < 2 ^ 63 }
-        ensures { result ≡ passes self over }
+        ensures { result ≡ with_gap self skipped }
     {
         Totals {
-            passed: self.passed + over.symbols,
-            places: self.places + u64::from(over.is_over()),
+            skipped: self.skipped + skipped.symbols,
+            places: self.places + u64::from(skipped.is_gap()),
             first: if self.places == 0 {
-                over.first
+                skipped.first
             } else {
                 self.first
             },
@@ -88,49 +88,48 @@ impl Totals {
         }
     }
 
-    /// With a frame more, which gave this.
-    pub(crate) fn with_frame(self, given: Given) -> Totals
+    /// The totals with one more frame, with these counts.
+    pub(crate) fn with_frame(self, counts: StepCounts) -> Totals
         requires frames { (self.frames < 2 ^ 62) × (self.delivered < 2 ^ 62) }
         requires packets { (self.packets < 2 ^ 62) × (self.bad < 2 ^ 62) }
-        requires torn { self.torn < 2 ^ 62 }
-        requires few { IsFew given }
-        ensures { result ≡ frame_totals self given }
+        requires incomplete { self.incomplete < 2 ^ 62 }
+        requires few { IsFew counts }
+        ensures { result ≡ frame_totals self counts }
     {
         Totals {
             frames: self.frames + 1,
-            delivered: self.delivered + given.delivered,
-            packets: self.packets + given.good,
-            bad: self.bad + given.bad,
-            torn: self.torn + given.torn,
+            delivered: self.delivered + counts.delivered,
+            packets: self.packets + counts.good,
+            bad: self.bad + counts.bad,
+            incomplete: self.incomplete + counts.incomplete,
             ..self
         }
     }
 
-    /// With a cut frame, before which this number of bodies was torn.
-    pub(crate) fn with_cut(self, torn: u64) -> Totals
-        requires { self.torn + torn < 2 ^ 63 }
-        ensures { result ≡ cut_totals self torn }
+    /// The totals with a cut frame, which dropped this number of incomplete bodies.
+    pub(crate) fn with_cut(self, incomplete: u64) -> Totals
+        requires { self.incomplete + incomplete < 2 ^ 63 }
+        ensures { result ≡ cut_totals self incomplete }
     {
         Totals {
-            torn: self.torn + torn,
+            incomplete: self.incomplete + incomplete,
             cut: true,
             ..self
         }
     }
 }
 
-/// What a run to the end came to: its totals, how many symbols it took, and whether each frame was delivered with bits that are most
-/// likely, and none was cut.
+/// The result of a run to the end: its totals, whether all is certified, and the number of symbols.
 #[derive(Clone, Copy, Debug, PartialEq, Eq)]
 pub struct Received {
     pub totals: Totals,
-    pub well: bool,
-    /// How many symbols were taken in all.
+    /// Whether each frame was delivered with bits that are sole or most likely, and none was cut.
+    pub all_certified: bool,
+    /// The number of symbols taken in all.
     pub symbols: u64,
 }
 
-/// What a step came to: a frame; a frame that lacks symbols, at which symbol it begins and how many it has; or
-/// the end.
+/// A step: a frame; a cut frame, with the symbol at which it begins and the number of its symbols; or the end.
 #[derive(Clone, Copy, Debug, PartialEq, Eq)]
 pub enum Step {
     Frame(Report),
@@ -138,7 +137,7 @@ pub enum Step {
     End,
 }
 
-/// Why a receiver stopped. From a fault on every call returns `Failed`.
+/// Why a receiver stopped. After a fault, every call returns `Failed`.
 #[derive(Clone, Copy, Debug, PartialEq, Eq, Error)]
 pub enum Fault {
     /// A read failed, or the limit of symbols was reached.
@@ -153,7 +152,7 @@ pub enum Fault {
 }
 
 impl Fault {
-    /// The same as a fault of a stream, if no call came after an earlier one.
+    /// The same, as a fault of a stream. It must not be `Failed`.
     pub(crate) fn of_stream(self) -> StreamFault
         requires { self ≢ Fault.Failed }
         ensures { fault_of result ≡ self }
@@ -166,7 +165,7 @@ impl Fault {
     }
 }
 
-/// What a receiver does next.
+/// The phase of a receiver: what it does next.
 #[derive(Clone, Copy, PartialEq, Eq)]
 pub enum Phase {
     Searching,

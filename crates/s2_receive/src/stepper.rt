@@ -13,17 +13,17 @@ ghost use Rattle.s2_receive.specs.Windows.{found_as};
 use crate::delivering::PacketBuffer;
 use crate::finder::Finder;
 use crate::finding::Next;
+use crate::gap::Gap;
 use crate::parts::Decide;
 use crate::report::{Phase, Step, Totals};
-use crate::stretch::Stretch;
 use s2_mode::Mode;
 use s2_plframe::Lock;
 use std::alloc::{AllocError, Global};
 use std::marker::Model;
 
-/// What a receiver does next, and what came so far.
+/// The status of a receiver: its phase, and its totals so far.
 #[derive(Clone, Copy)]
-pub(crate) struct Place {
+pub(crate) struct Status {
     pub(crate) phase: Phase,
     pub(crate) totals: Totals,
 }
@@ -33,7 +33,7 @@ pub(crate) struct Stepper<D: Decide> {
     pub(crate) finder: Finder,
     pub(crate) decider: D,
     pub(crate) joiner: PacketBuffer,
-    pub(crate) place: Place,
+    pub(crate) status: Status,
     limit: u64,
 }
 
@@ -43,7 +43,7 @@ impl<D: Decide + Drop> Drop for Stepper<D> {
             finder: _,
             decider: _,
             joiner: _,
-            place: _,
+            status: _,
             limit: _,
         } = self;
     }
@@ -57,17 +57,17 @@ impl<D: Decide> Model for Stepper<D> {
 
     ghost view = { λ r. record {
       mode = r.finder.mode;
-      lock = r.finder.lock;
+      max_header_errors = r.finder.max_header_errors;
       decider = r.decider;
       limit = r.limit;
-      state = state_of r.place.phase r.finder.window r.joiner.held r.place.totals;
+      state = state_of r.status.phase r.finder.window r.joiner.held r.status.totals;
       packets = r.joiner.packets;
     } };
 
-    ghost invariant = { λ r. IsSound r.finder.mode (D.size r.decider) r.limit r.finder.window r.place.totals };
+    ghost invariant = { λ r. IsSound r.finder.mode (D.size r.decider) r.limit r.finder.window r.status.totals };
 }
 
-/// Looks for what comes next in the symbols of these bytes, and decides a frame.
+/// Looks for the next frame or the end in the symbols of these bytes. If it is a frame, it is decided.
 fn find_next<D: Decide>(
     finder: &mut Finder,
     decider: &mut D,
@@ -77,12 +77,12 @@ fn find_next<D: Decide>(
     requires frames { symbols_in finder.old.mode ≡ D.size decider.old }
     requires room { length bytes.now ≤ 4 * wanted limit (symbols_in finder.old.mode) finder.old.window }
     requires limit { (reached finder.old.window ≤ limit) × (limit ≤ max_symbols) }
-    requires over { finder.old.window.over.symbols ≤ finder.old.window.at }
-    ensures takes { Takes (found_as finder.old.mode finder.old.lock) (symbols_in finder.old.mode) finder.old.window finder.new.window (symbols_of bytes.now)
+    requires skipped { finder.old.window.skipped.symbols ≤ finder.old.window.at }
+    ensures takes { Takes (found_as finder.old.mode finder.old.max_header_errors) (symbols_in finder.old.mode) finder.old.window finder.new.window (symbols_of bytes.now)
         (nat_eq (length bytes.now) (4 * wanted limit (symbols_in finder.old.mode) finder.old.window)) finder.new.frame result }
     ensures decided { IfSome result (λ next. IsDecidedBy (D.decide decider.old) (met_of next finder.new.frame) (D.last decider.new)) }
     ensures kept { KeepsWithout result (D.last decider.old) (D.last decider.new) }
-    ensures same { (finder.new.mode ≡ finder.old.mode) × (finder.new.lock ≡ finder.old.lock) × (D.decide decider.new ≡ D.decide decider.old) × (D.size decider.new ≡ D.size decider.old) }
+    ensures same { (finder.new.mode ≡ finder.old.mode) × (finder.new.max_header_errors ≡ finder.old.max_header_errors) × (D.decide decider.new ≡ D.decide decider.old) × (D.size decider.new ≡ D.size decider.old) }
 {
     let next = finder.take(bytes, limit)?;
     if let Next::Frame { .. } = next {
@@ -95,7 +95,7 @@ impl<D: Decide> Stepper<D> {
     pub(crate) fn new(
         alloc: Global,
         mode: Mode,
-        lock: Lock,
+        max_header_errors: Lock,
         decider: D,
         limit: u64,
     ) -> Result<Stepper<D>, AllocError>
@@ -103,15 +103,15 @@ impl<D: Decide> Stepper<D> {
         D: Drop,
         requires takes { symbols_in mode ≡ D.size decider }
         requires limit { limit ≤ max_symbols }
-        ensures parts { IfOk result
-            (λ r. (r.mode ≡ mode) × (r.lock ≡ lock) × (r.decider ≡ decider) × (r.limit ≡ limit)) }
+        ensures parts { IfOk result (λ r. (r.mode ≡ mode) × (r.max_header_errors ≡ max_header_errors)
+            × (r.decider ≡ decider) × (r.limit ≡ limit)) }
         ensures begun { IfOk result (λ r. r.state ≡ begun) }
     {
         Ok(Stepper {
-            finder: Finder::new(alloc, mode, lock)?,
+            finder: Finder::new(alloc, mode, max_header_errors)?,
             decider,
             joiner: PacketBuffer::new(alloc)?,
-            place: Place {
+            status: Status {
                 phase: Phase::Searching,
                 totals: Totals::none(),
             },
@@ -119,13 +119,13 @@ impl<D: Decide> Stepper<D> {
         })
     }
 
-    /// What it does next.
+    /// Its phase.
     pub(crate) fn phase(&self) -> Phase
         ensures is { result ≡ self.now.state.phase }
         ensures within { taken self.now.state ≤ self.now.limit }
         ensures counted { self.now.state.standing.totals.frames ≤ max_symbols }
     {
-        self.place.phase
+        self.status.phase
     }
 
     /// The totals so far.
@@ -133,17 +133,17 @@ impl<D: Decide> Stepper<D> {
         ensures is { result ≡ self.now.state.standing.totals }
         ensures counted { result.frames ≤ max_symbols }
     {
-        self.place.totals
+        self.status.totals
     }
 
-    /// How many symbols were taken so far.
+    /// The number of symbols taken so far.
     pub(crate) fn taken(&self) -> u64
         ensures { result ≡ taken self.now.state }
     {
         self.finder.reached()
     }
 
-    /// Takes at most so many symbols in all.
+    /// Sets the limit of symbols in all.
     pub(crate) fn limit(&mut self, symbols: u64)
         requires { (taken self.old.state ≤ symbols) × (symbols ≤ max_symbols) }
         ensures { self.new ≡ record self.old { limit = symbols } }
@@ -151,19 +151,19 @@ impl<D: Decide> Stepper<D> {
         self.limit = symbols;
     }
 
-    /// How many bytes are asked for.
+    /// The number of bytes wanted next.
     pub(crate) fn room(&self) -> usize
         ensures is { result ≡ asked (rules_of D.decide self.now) self.now.state }
         ensures few { result ≤ 4 * symbols_in self.now.mode }
         ensures held { (length self.now.state.window.symbols < symbols_in self.now.mode) × (taken self.now.state ≤ self.now.limit) }
     {
-        match self.place.phase {
+        match self.status.phase {
             Phase::Searching => 4 * self.finder.wanted(self.limit),
             Phase::Closing | Phase::Ended | Phase::Failed => 0,
         }
     }
 
-    /// Looks for what comes next in the symbols of these bytes, and decides a frame.
+    /// Looks for the next frame or the end in the symbols of these bytes. If it is a frame, it is decided.
     fn search(&mut self, bytes: &[u8]) -> Option<Next>
         requires searching { self.old.state.phase ≡ phases.Searching }
         requires room { length bytes.now ≤ asked (rules_of D.decide self.old) self.old.state }
@@ -177,17 +177,17 @@ impl<D: Decide> Stepper<D> {
         find_next(&mut self.finder, &mut self.decider, bytes, self.limit)
     }
 
-    /// Takes bytes, no more than are asked for, up to the next step.
+    /// Takes bytes, no more than are wanted, up to the next step.
     pub(crate) fn advance(&mut self, bytes: &[u8]) -> Option<Step>
         requires room { length bytes.now ≤ asked (rules_of D.decide self.old) self.old.state }
         ensures same { IsSame D.decide self.old self.new }
         ensures advances { Advances (seen_by D.decide D.last self.old) (seen_by D.decide D.last self.new) bytes.now result }
     {
-        let next = match self.place.phase {
+        let next = match self.status.phase {
             Phase::Searching => self.search(bytes)?,
             Phase::Closing => Next::End {
                 at: self.finder.reached(),
-                over: Stretch::none(),
+                skipped: Gap::none(),
             },
             Phase::Ended => return Some(Step::End),
             Phase::Failed => return None,
@@ -195,10 +195,10 @@ impl<D: Decide> Stepper<D> {
         Some(self.step_to(next))
     }
 
-    /// Counts as failed from now on.
+    /// Marks the receiver as failed.
     pub(crate) fn fail(&mut self)
         ensures { self.new ≡ record self.old { state = record self.old.state { phase = phases.Failed } } }
     {
-        self.place.phase = Phase::Failed;
+        self.status.phase = Phase::Failed;
     }
 }

@@ -1,4 +1,4 @@
-//! What was met: it is decided and joined, its answer, where the receiver stands then, and what is written of it.
+//! The rest of a step: its report, its packets and counts, the receiver's status after it, and its output.
 ghost use Rattle.std.specs.Prelude.{◌≡◌, ◌+◌, ◌-◌, [], ◌*◌, ◌^◌, ◌<◌, ◌≤◌, OnOk, OnErr};
 ghost use Rattle.std.specs.Io.KnownBytes.{Appends};
 ghost use Rattle.s2_mode.specs.Counts.{CanCount};
@@ -8,14 +8,14 @@ ghost use Rattle.s2_receive.specs.Receiving.{phase_after, rules_of};
 ghost use Rattle.s2_receive.specs.ReportLines.{step_line};
 ghost use Rattle.s2_receive.specs.Stepping.{CanCountIn, FailsIn, IsSound};
 ghost use Rattle.s2_receive.specs.Answers.{IsSame};
-ghost use Rattle.s2_receive.specs.Telling.{IsFew, TellsNext, answer_for, counted};
+ghost use Rattle.s2_receive.specs.Telling.{HandlesNext, IsFew, answer_for, counted};
 
-use crate::delivering::Given;
+use crate::delivering::StepCounts;
 use crate::finding::Next;
 use crate::lines::line_of;
 use crate::parts::Decide;
 use crate::report::{Phase, Report, Step, Totals};
-use crate::stepper::{Place, Stepper};
+use crate::stepper::{Status, Stepper};
 use s2_mode::{CountedWrite, WriteFault, write_full};
 
 /// Writes the packets of a step, and then its line, each with one write if the writer takes it whole.
@@ -39,66 +39,70 @@ pub(crate) fn write_step<P: CountedWrite, W: CountedWrite>(
 }
 
 impl<D: Decide> Stepper<D> {
-    /// The result if this was met, and a frame decided.
+    /// The step. If it is a frame, the decider has decided it.
     fn step_of(&self, next: Next) -> Step
         ensures { result ≡ answer_for (D.last self.now.decider) self.now.state.standing.totals next }
     {
         match next {
-            Next::Frame { at, over: _ } => {
+            Next::Frame { at, skipped: _ } => {
                 let decided = self.decider.decided();
                 Step::Frame(Report {
-                    number: self.place.totals.frames + 1,
+                    number: self.status.totals.frames + 1,
                     at,
                     verdict: decided.verdict,
                     outcome: decided.outcome,
                 })
             }
-            Next::Cut { at, over: _, count } => Step::Cut { at, symbols: count },
-            Next::End { at: _, over: _ } => Step::End,
+            Next::Cut {
+                at,
+                skipped: _,
+                count,
+            } => Step::Cut { at, symbols: count },
+            Next::End { at: _, skipped: _ } => Step::End,
         }
     }
 
-    /// What the receiver does after what was met, which gave this, and its totals then.
-    fn place_then(&self, next: Next, given: Given) -> Place
+    /// The receiver's status after a step with these counts.
+    fn status_after(&self, next: Next, counts: StepCounts) -> Status
         requires room { CanCountIn self.now.state.window self.now.state.standing.totals next }
-        requires few { IsFew given }
+        requires few { IsFew counts }
         ensures phase { result.phase ≡ phase_after (met_of next []) }
-        ensures totals { result.totals ≡ counted self.now.state.standing.totals next given }
+        ensures totals { result.totals ≡ counted self.now.state.standing.totals next counts }
         ensures sound { IsSound self.now.mode (D.size self.now.decider) self.now.limit self.now.state.window result.totals }
     {
-        let totals = self.place.totals;
+        let totals = self.status.totals;
         match next {
-            Next::Frame { at: _, over } => Place {
+            Next::Frame { at: _, skipped } => Status {
                 phase: Phase::Searching,
-                totals: totals.passes(over).with_frame(given),
+                totals: totals.with_gap(skipped).with_frame(counts),
             },
             Next::Cut {
                 at: _,
-                over,
+                skipped,
                 count: _,
-            } => Place {
+            } => Status {
                 phase: Phase::Closing,
-                totals: totals.passes(over).with_cut(given.torn),
+                totals: totals.with_gap(skipped).with_cut(counts.incomplete),
             },
-            Next::End { at: _, over } => Place {
+            Next::End { at: _, skipped } => Status {
                 phase: Phase::Ended,
-                totals: totals.passes(over.at_end()),
+                totals: totals.with_gap(skipped.at_end()),
             },
         }
     }
 
-    /// Gives what was met, of which a frame was decided last, to the joiner, and counts it. The answer.
+    /// Passes a step to the joiner, and counts it. A frame was decided before. Returns the step.
     pub(crate) fn step_to(&mut self, next: Next) -> Step
         requires room { CanCountIn self.old.state.window self.old.state.standing.totals next }
         ensures same { IsSame D.decide self.old self.new }
         ensures decider { self.new.decider ≡ self.old.decider }
         ensures window { self.new.state.window ≡ self.old.state.window }
-        ensures tells { TellsNext (rules_of D.decide self.old) self.old.state self.new.state (D.last self.old.decider) next self.new.packets result }
+        ensures handles { HandlesNext (rules_of D.decide self.old) self.old.state self.new.state (D.last self.old.decider) next self.new.packets result }
     {
         let header = self.decider.decided().header;
-        let given = self.joiner.give(next, header, self.decider.field());
+        let counts = self.joiner.give(next, header, self.decider.field());
         let step = self.step_of(next);
-        self.place = self.place_then(next, given);
+        self.status = self.status_after(next, counts);
         step
     }
 }

@@ -11,7 +11,7 @@ use Rattle.s2_rows.specs.Numbers.{natural_of}
 use Rattle.s2_rows.specs.Readings.{ok_cons}
 use Rattle.s2_rows.specs.Rows.{AreAddresses, IsRows, rows_value}
 use Rattle.s2_rows.specs.RowFiles.{address_of, with_address, with_token, row_from, row_in, rows_of, rows_of_text}
-use Rattle.s2_rows.specs.Text.{tokens_of, lines_of, is_passed_over}
+use Rattle.s2_rows.specs.Text.{tokens_of, lines_of, is_ignored}
 use Rattle.s2_rows.specs.declared.row_file.RowFault.{RowFault}
 
 -- a test whose other answer is a fault
@@ -98,7 +98,7 @@ row_grows checks line (token ∷ tokens) (Ok r) row last same h part =
     let (whole, all) = row_grows checks line tokens (with_token checks line r token) next last ok h longer in
     (whole, omega arith)
 
--- a row of a line that isn't passed over
+-- a row of a line that is not ignored
 pub record IsRow (checks : ℕ) (row : List ℕ) : Type 0 where
   pub are : AreAddresses checks row
   pub some : 1 ≤ length row
@@ -107,11 +107,11 @@ pub record IsRow (checks : ℕ) (row : List ℕ) : Type 0 where
 empty : (checks : ℕ) → IsPart checks []
 empty checks = record { are = record { below = λ i d h. absurd (omega arith); apart = λ i j d lt h. absurd (omega arith) }; short = omega arith }
 
-some_tokens : (tokens : List (List ℕ)) → is_passed_over tokens ≡ false → 1 ≤ length tokens
+some_tokens : (tokens : List (List ℕ)) → is_ignored tokens ≡ false → 1 ≤ length tokens
 some_tokens [] h = absurd (cc)
 some_tokens (token ∷ tokens) h = omega arith
 
-line_is_row : (checks line : ℕ) (tokens : List (List ℕ)) (row : List ℕ) → is_passed_over tokens ≡ false → row_in checks line tokens ≡ Ok row → IsRow checks row
+line_is_row : (checks line : ℕ) (tokens : List (List ℕ)) (row : List ℕ) → is_ignored tokens ≡ false → row_in checks line tokens ≡ Ok row → IsRow checks row
 line_is_row checks line tokens row spoken h =
     let (part, long) = row_grows checks line tokens (Ok []) [] row refl h (empty checks) in
     let some = some_tokens tokens spoken in
@@ -144,12 +144,12 @@ line_by_line checks [] left n rows h =
     let same : [] ≡ rows = cc in
     subst (AreRows checks left) same (no_rows checks left (eqb-true left 0 none))
 line_by_line checks (line ∷ lines) left n rows h =
-    let on_over : is_passed_over (tokens_of line) ≡ true → AreRows checks left rows = λ over. line_by_line checks lines left (n + 1) rows (sym (passes_over checks left n line lines (sym over)) ∙ h) in
-    let on_spoken : is_passed_over (tokens_of line) ≡ false → AreRows checks left rows = λ over.
+    let on_over : is_ignored (tokens_of line) ≡ true → AreRows checks left rows = λ over. line_by_line checks lines left (n + 1) rows (sym (passes_over checks left n line lines (sym over)) ∙ h) in
+    let on_spoken : is_ignored (tokens_of line) ≡ false → AreRows checks left rows = λ over.
     let (some, read) = this_fails _ (ok_cons (row_in checks n (tokens_of line)) (rows_of checks (left - 1) (n + 1) lines)) rows (left == 0) (sym (cond-false _ _ _ over) ∙ h) in
     let (row, others, first, rest, all) = cons_ok (row_in checks n (tokens_of line)) (rows_of checks (left - 1) (n + 1) lines) rows read in
     subst (AreRows checks left) all (one_more_row checks left row others (above_zero left some) (line_is_row checks n (tokens_of line) row over first) (line_by_line checks lines (left - 1) (n + 1) others rest)) in
-    bool_cases (is_passed_over (tokens_of line)) on_over on_spoken
+    bool_cases (is_ignored (tokens_of line)) on_over on_spoken
 
 pub are_rows : (shape : Shape) (rows : List (List ℕ)) → IsShape shape → AreRows (check_count shape) shape.groups rows → IsRows (rows_value shape rows)
 are_rows shape rows shaped are = record { shaped = shaped; long = are.long; each = λ g below. (are.each g below).are; some = λ g below. (are.each g below).some; short = λ g below. (are.each g below).short }

@@ -1,8 +1,8 @@
 -- The tokens of a line, however it is laid out.
 use Rattle.std.proofs.Common.{◌≡◌, ℕ, ◌<◌, true, List, [], ◌∷◌, ◌++◌, filter, length, inl, inr, refl, sym, ap, ◌∙◌, append-nil}
 use Rattle.std.proofs.lemmas.Bool.{cond-true}
-use Rattle.s2_rows.specs.Layouts.{AreSpaces, EndsToken, IsSilent}
-use Rattle.s2_rows.specs.Text.{is_space, is_token, in_front, pieces_of, tokens_of, is_passed_over}
+use Rattle.s2_rows.specs.Layouts.{AreSpaces, EndsToken, IsIgnored}
+use Rattle.s2_rows.specs.Text.{is_space, is_token, in_front, pieces_of, tokens_of, is_ignored}
 use Rattle.s2_rows.proofs.Decimals.{Lacks}
 use Rattle.s2_rows.proofs.Pieces.{token_first}
 use Rattle.s2_rows.proofs.WrittenRows.{piece_is_cut, one_token}
@@ -16,18 +16,18 @@ pub no_tokens_alone : (gap : List ℕ) → AreSpaces gap → tokens_of gap ≡ [
 unfolding pieces_of
 no_tokens_alone gap are = ap tokens_of (sym (append-nil gap)) ∙ tokens_after_gap gap [] are
 
-comment_passed : (comment : List ℕ) → is_passed_over (tokens_of (35 ∷ comment)) ≡ true
+comment_passed : (comment : List ℕ) → is_ignored (tokens_of (35 ∷ comment)) ≡ true
 unfolding pieces_of
 comment_passed comment = first (pieces_of is_space comment)
   where
-    first : (pieces : List (List ℕ)) → is_passed_over (filter is_token (in_front 35 pieces)) ≡ true
+    first : (pieces : List (List ℕ)) → is_ignored (filter is_token (in_front 35 pieces)) ≡ true
     first [] = refl
     first (piece ∷ pieces) = refl
 
-pub silent_passed : (line : List ℕ) → IsSilent line → is_passed_over (tokens_of line) ≡ true
-silent_passed line (inl are) = ap is_passed_over (no_tokens_alone line are)
+pub silent_passed : (line : List ℕ) → IsIgnored line → is_ignored (tokens_of line) ≡ true
+silent_passed line (inl are) = ap is_ignored (no_tokens_alone line are)
 silent_passed line (inr (gap, comment, is, are)) =
-    ap (λ l. is_passed_over (tokens_of l)) is ∙ ap is_passed_over (tokens_after_gap gap (35 ∷ comment) are) ∙ comment_passed comment
+    ap (λ l. is_ignored (tokens_of l)) is ∙ ap is_ignored (tokens_after_gap gap (35 ∷ comment) are) ∙ comment_passed comment
 
 pub token_then : (token rest : List ℕ) → 0 < length token → Lacks is_space token → EndsToken rest → tokens_of (token ++ rest) ≡ token ∷ tokens_of rest
 unfolding pieces_of

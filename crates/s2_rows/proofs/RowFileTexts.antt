@@ -6,7 +6,7 @@ use Rattle.s2_rows.specs.Readings.{ok_cons}
 use Rattle.s2_rows.specs.RowFiles.{row_from, rows_of}
 use Rattle.s2_rows.specs.Layouts.{digits_of}
 use Rattle.s2_rows.specs.RowTexts.{IsLineOf, AreLinesOf, RowFileLaw}
-use Rattle.s2_rows.specs.Text.{tokens_of, lines_of, is_passed_over}
+use Rattle.s2_rows.specs.Text.{tokens_of, lines_of, is_ignored}
 use Rattle.s2_rows.proofs.Accepted.{IsRow}
 use Rattle.s2_rows.proofs.Decimals.{natural_of_says, zeros_say, no_space}
 use Rattle.s2_rows.proofs.LineTokens.{tokens_after_gap, no_tokens_alone, silent_passed, token_then}
@@ -33,10 +33,10 @@ line_adds checks n (x ∷ row) front line few is are short =
     ∙ ap (λ r. row_from checks n r (tokens_of is.2)) (adds_said checks n front x row (digits_of is.1 x) (natural_of_says (digits_of is.1 x) x s) are short)
     ∙ line_adds checks n row (front ++ x ∷ []) is.2 few.1 is.6 (subst P (sym same) are) (subst Q (sym same) short) ∙ ap Ok same
 
-line_spoken : (line row : List ℕ) → 1 ≤ length row → Few row → IsLineOf line row → is_passed_over (tokens_of line) ≡ false
+line_spoken : (line row : List ℕ) → 1 ≤ length row → Few row → IsLineOf line row → is_ignored (tokens_of line) ≡ false
 line_spoken line [] some few is = absurd (omega arith)
 line_spoken line (x ∷ row) some few is =
-    ap is_passed_over (address_then line x row few is) ∙ begins_with_digit x (digits_of is.1 x) (tokens_of is.2) (zeros_say is.1 x few.0)
+    ap is_ignored (address_then line x row few is) ∙ begins_with_digit x (digits_of is.1 x) (tokens_of is.2) (zeros_say is.1 x few.0)
 
 -- ---- all lines
 

@@ -5,7 +5,7 @@ use Rattle.s2_rows.proofs.Pieces.{token_first, no_tokens}
 use Rattle.s2_rows.proofs.Afters.{after_cons}
 use Rattle.s2_rows.specs.Readings.{ok_cons, after}
 use Rattle.s2_rows.specs.RowFiles.{with_token, row_from, row_in, rows_of}
-use Rattle.s2_rows.specs.Text.{is_space, pieces_of, tokens_of, lines_of, is_passed_over}
+use Rattle.s2_rows.specs.Text.{is_space, pieces_of, tokens_of, lines_of, is_ignored}
 use Rattle.s2_rows.specs.declared.row_file.RowFault.{RowFault}
 use Rattle.s2_rows.specs.declared.row_file.RowFault.TheVariants as faults
 
@@ -28,22 +28,22 @@ row_ends checks line row rest e = ap (row_from checks line (Ok row)) (no_tokens 
 
 -- a line more
 module _ (checks left n : ℕ) (line : List ℕ) (lines : List (List ℕ)) where
-  pub passes_over : true ≡ is_passed_over (tokens_of line) → rows_of checks left n (line ∷ lines) ≡ rows_of checks left (n + 1) lines
+  pub passes_over : true ≡ is_ignored (tokens_of line) → rows_of checks left n (line ∷ lines) ≡ rows_of checks left (n + 1) lines
   unfolding rows_of
   passes_over h = cond-true _ _ _ (sym h)
 
-  pub too_many_rows : false ≡ is_passed_over (tokens_of line) → left ≡ 0 → rows_of checks left n (line ∷ lines) ≡ Err faults.TooManyRows
+  pub too_many_rows : false ≡ is_ignored (tokens_of line) → left ≡ 0 → rows_of checks left n (line ∷ lines) ≡ Err faults.TooManyRows
   unfolding rows_of
   too_many_rows h none = cond-false _ _ _ (sym h) ∙ cond-true _ _ _ (eq-eqb left 0 none)
 
-  pub one_row : false ≡ is_passed_over (tokens_of line) → 0 < left → rows_of checks left n (line ∷ lines) ≡ ok_cons (row_in checks n (tokens_of line)) (rows_of checks (left - 1) (n + 1) lines)
+  pub one_row : false ≡ is_ignored (tokens_of line) → 0 < left → rows_of checks left n (line ∷ lines) ≡ ok_cons (row_in checks n (tokens_of line)) (rows_of checks (left - 1) (n + 1) lines)
   unfolding rows_of
   one_row h some = cond-false _ _ _ (sym h) ∙ cond-false _ _ _ (ne_eqb left 0 (λ e. omega arith))
 
-  pub adds_row : (front : List (List ℕ)) (row : List ℕ) → false ≡ is_passed_over (tokens_of line) → 0 < left → row_in checks n (tokens_of line) ≡ Ok row → after front (rows_of checks left n (line ∷ lines)) ≡ after (front ++ row ∷ []) (rows_of checks (left - 1) (n + 1) lines)
+  pub adds_row : (front : List (List ℕ)) (row : List ℕ) → false ≡ is_ignored (tokens_of line) → 0 < left → row_in checks n (tokens_of line) ≡ Ok row → after front (rows_of checks left n (line ∷ lines)) ≡ after (front ++ row ∷ []) (rows_of checks (left - 1) (n + 1) lines)
   adds_row front row h some e = ap (after front) (one_row h some ∙ ap (λ r. ok_cons r (rows_of checks (left - 1) (n + 1) lines)) e) ∙ after_cons front row _
 
-  pub refuses_row : (front : List (List ℕ)) (fault : RowFault) → false ≡ is_passed_over (tokens_of line) → 0 < left → row_in checks n (tokens_of line) ≡ Err fault → after front (rows_of checks left n (line ∷ lines)) ≡ Err fault
+  pub refuses_row : (front : List (List ℕ)) (fault : RowFault) → false ≡ is_ignored (tokens_of line) → 0 < left → row_in checks n (tokens_of line) ≡ Err fault → after front (rows_of checks left n (line ∷ lines)) ≡ Err fault
   refuses_row front fault h some e = ap (after front) (one_row h some ∙ ap (λ r. ok_cons r (rows_of checks (left - 1) (n + 1) lines)) e)
 
 -- at the end of the text

@@ -6,7 +6,7 @@ use Rattle.std.specs.Option.{option_map}
 use Rattle.s2_mode.specs.Limits.{max_soft}
 use Rattle.s2_rows.specs.Layouts.{digits_of}
 use Rattle.s2_rows.specs.Readings.{ok_cons}
-use Rattle.s2_rows.specs.Text.{is_space, tokens_of, lines_of, is_passed_over}
+use Rattle.s2_rows.specs.Text.{is_space, tokens_of, lines_of, is_ignored}
 use Rattle.s2_rows.specs.Values.{signed, number_of, is_value, in_range, tokens_at, tokens_from, value_of, values_of}
 use Rattle.s2_rows.specs.ValueTexts.{IsWritten, plain, minus, IsLineWith, AreLinesWith, ValueTextLaw}
 use Rattle.s2_rows.proofs.Decimals.{Says, natural_of_says, zeros_say, Lacks, no_space}
@@ -25,7 +25,7 @@ in_limits v n few is =
 record Speaks (token : List ℕ) (v : ℤ) : Type 0 where
   some : 0 < length token
   apart : Lacks is_space token
-  spoken : (tokens : List (List ℕ)) → is_passed_over (token ∷ tokens) ≡ false
+  spoken : (tokens : List (List ℕ)) → is_ignored (token ∷ tokens) ≡ false
   value : (line : ℕ) → value_of line token ≡ Ok v
 
 valued : (line : ℕ) (token : List ℕ) (v : ℤ) → number_of token ≡ Some v → is_value v ≡ true → value_of line token ≡ Ok v
@@ -79,14 +79,14 @@ line_adds (v ∷ here) later n line more is behind =
     ∙ ap (λ k. ok_cons (Ok v) (values_of k tokens)) left
     ∙ ap (ok_cons (Ok v)) (line_adds here later n is.2 more is.7 behind)
 
-adds_nothing : (n : ℕ) (line : List ℕ) (more : List (ℕ × List ℕ)) → is_passed_over (tokens_of line) ≡ true → tokens_at n (tokens_of line) ++ more ≡ more
+adds_nothing : (n : ℕ) (line : List ℕ) (more : List (ℕ × List ℕ)) → is_ignored (tokens_of line) ≡ true → tokens_at n (tokens_of line) ++ more ≡ more
 adds_nothing n line more passed = ap (λ tokens. tokens ++ more) (cond-true _ _ _ passed)
 
 line_is_read : (here later : List ℤ) (n : ℕ) (line : List ℕ) (more : List (ℕ × List ℕ)) → IsLineWith line here → values_of (length later) more ≡ Ok later
     → values_of (length (here ++ later)) (tokens_at n (tokens_of line) ++ more) ≡ Ok (here ++ later)
-line_is_read [] later n line more is behind = ap (values_of (length later)) (adds_nothing n line more (ap is_passed_over (no_tokens_alone line is))) ∙ behind
+line_is_read [] later n line more is behind = ap (values_of (length later)) (adds_nothing n line more (ap is_ignored (no_tokens_alone line is))) ∙ behind
 line_is_read (v ∷ here) later n line more is behind =
-    let spoken : is_passed_over (tokens_of line) ≡ false = ap is_passed_over (value_then line v here is) ∙ (speaks is.1 v is.5).spoken (tokens_of is.2) in
+    let spoken : is_ignored (tokens_of line) ≡ false = ap is_ignored (value_then line v here is) ∙ (speaks is.1 v is.5).spoken (tokens_of is.2) in
     ap (values_of (suc (length (here ++ later)))) (not_passed_over n (tokens_of line) more (sym spoken)) ∙ line_adds (v ∷ here) later n line more is behind
 
 -- ---- all lines

@@ -15,7 +15,7 @@ use Rattle.s2_rows.specs.Readings.{ok_cons}
 use Rattle.s2_rows.specs.Rows.{AreAddresses, row_of}
 use Rattle.s2_rows.specs.RowFiles.{address_of, with_address, with_token, row_from, row_in, rows_of}
 use Rattle.s2_rows.specs.RowTexts.{row_text, rows_text, ReadBackLaw}
-use Rattle.s2_rows.specs.Text.{is_space, is_line_feed, in_front, pieces_of, tokens_of, lines_of, is_passed_over}
+use Rattle.s2_rows.specs.Text.{is_space, is_line_feed, in_front, pieces_of, tokens_of, lines_of, is_ignored}
 
 -- a piece ends at its separator
 pub piece_is_cut : (p : ℕ → Bool) (piece : List ℕ) (s : ℕ) (rest : List ℕ) → Lacks p piece → p s ≡ true → pieces_of p (piece ++ s ∷ rest) ≡ piece ∷ pieces_of p rest
@@ -75,13 +75,13 @@ tokens_of_body (x ∷ y ∷ row) few =
     let s = decimal_says x few.0 in
     token_first (decimal x ++ 32 ∷ row_body (y ∷ row)) (decimal x) (row_body (y ∷ row)) (piece_is_cut is_space (decimal x) 32 (row_body (y ∷ row)) (no_space (decimal x) s.digits) refl) s.some ∙ ap (λ tokens. decimal x ∷ tokens) (tokens_of_body (y ∷ row) few.1)
 
-pub begins_with_digit : (n : ℕ) (ds : List ℕ) (tokens : List (List ℕ)) → Says n ds → is_passed_over (ds ∷ tokens) ≡ false
+pub begins_with_digit : (n : ℕ) (ds : List ℕ) (tokens : List (List ℕ)) → Says n ds → is_ignored (ds ∷ tokens) ≡ false
 begins_with_digit n [] tokens s = absurd (omega (arith, s.some))
 begins_with_digit n (d ∷ ds) tokens s = ne_eqb d 35 (λ e. omega (arith, s.digits.0))
 
-is_spoken : (row : List ℕ) → 1 ≤ length row → Few row → is_passed_over (tokens_of (row_body row)) ≡ false
+is_spoken : (row : List ℕ) → 1 ≤ length row → Few row → is_ignored (tokens_of (row_body row)) ≡ false
 is_spoken [] some few = absurd (omega arith)
-is_spoken (x ∷ row) some few = ap is_passed_over (tokens_of_body (x ∷ row) few) ∙ begins_with_digit x (decimal x) (map decimal row) (decimal_says x few.0)
+is_spoken (x ∷ row) some few = ap is_ignored (tokens_of_body (x ∷ row) few) ∙ begins_with_digit x (decimal x) (map decimal row) (decimal_says x few.0)
 
 -- the last of some addresses is none of those before it
 not_before : (front : List ℕ) (x : ℕ) (row : List ℕ) → AllPairs (λ x y. x ≢ y) (front ++ x ∷ row) → list_any (λ y. y == x) front ≡ false

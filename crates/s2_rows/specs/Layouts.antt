@@ -13,8 +13,8 @@ EndsToken [] = ⊤
 EndsToken (b ∷ bytes) = IsTrue (is_space b)
 
 -- an ignored line: separators alone, or separators and a comment, which begins with #
-abbrev pub IsSilent : List ℕ → Type 0
-IsSilent line = AreSpaces line ⊎ ((gap : List ℕ) × (comment : List ℕ) × (line ≡ gap ++ 35 ∷ comment) × AreSpaces gap)
+abbrev pub IsIgnored : List ℕ → Type 0
+IsIgnored line = AreSpaces line ⊎ ((gap : List ℕ) × (comment : List ℕ) × (line ≡ gap ++ 35 ∷ comment) × AreSpaces gap)
 
 -- some zeros, then the digits of a number
 abbrev pub digits_of : ℕ → ℕ → List ℕ

@@ -48,8 +48,8 @@ Makes view (Ok v) shape weight seed = making shape weight seed ≡ Ok (view v)
 Makes view (Err faults.NoMemory) shape weight seed = IsTrue (is_weight shape weight)
 Makes view (Err faults.BadWeight) shape weight seed = making shape weight seed ≡ Err faults.BadWeight
 
--- Properties of made rows, whatever the rule that draws them. Each group has a row with as many addresses as the
--- weight, all below n - k and none twice. The first address of all is the generator's first word modulo n - k
+-- Properties of made rows, whatever the rule that draws them. The number of addresses in each row is the weight. All
+-- are below n - k, and none is in a row twice. The first address of all is the generator's first word modulo n - k
 pub record AreMadeRows (shape : Shape) (weight seed : ℕ) (rows : List (List ℕ)) : Type 0 where
   pub long : length rows ≡ shape.groups
   pub weights : (g : ℕ) → g < shape.groups → length (get_or rows g []) ≡ weight

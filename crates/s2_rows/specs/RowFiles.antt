@@ -7,7 +7,7 @@ use Rattle.s2_rows.specs.declared.row_file.RowFault.{RowFault}
 use Rattle.s2_rows.specs.declared.row_file.RowFault.TheVariants as faults
 use Rattle.s2_rows.specs.Numbers.{natural_of}
 use Rattle.s2_rows.specs.Readings.{ok_cons}
-use Rattle.s2_rows.specs.Text.{lines_of, tokens_of, is_passed_over}
+use Rattle.s2_rows.specs.Text.{lines_of, tokens_of, is_ignored}
 
 -- an address, unless it is none or too large
 abbrev pub address_of : ℕ → ℕ → Option ℕ → Result ℕ RowFault
@@ -38,7 +38,7 @@ row_in checks line tokens = row_from checks line (Ok []) tokens
 unfoldable pub rows_of : ℕ → ℕ → ℕ → List (List ℕ) → Result (List (List ℕ)) RowFault
 rows_of checks left number [] = if left == 0 then Ok [] else Err faults.TooFewRows
 rows_of checks left number (line ∷ lines) =
-    if is_passed_over (tokens_of line) then rows_of checks left (number + 1) lines
+    if is_ignored (tokens_of line) then rows_of checks left (number + 1) lines
     else (if left == 0 then Err faults.TooManyRows
     else ok_cons (row_in checks number (tokens_of line)) (rows_of checks (left - 1) (number + 1) lines))
 

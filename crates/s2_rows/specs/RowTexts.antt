@@ -3,7 +3,7 @@ use Rattle.std.specs.Prelude.{◌≡◌, ℕ, ◌⊎◌, List, [], ◌∷◌, �
 use Rattle.std.specs.List.{flat_map}
 use Rattle.s2_rows.specs.Rows.{Rows, IsRows}
 use Rattle.s2_rows.specs.RowFiles.{rows_of_text}
-use Rattle.s2_rows.specs.Layouts.{AreSpaces, EndsToken, IsSilent, digits_of}
+use Rattle.s2_rows.specs.Layouts.{AreSpaces, EndsToken, IsIgnored, digits_of}
 use Rattle.s2_rows.specs.Text.{lines_of}
 
 -- after an address: a space if another follows, else LF
@@ -24,7 +24,7 @@ rows_text rows = flat_map row_text rows
 abbrev pub ReadBackLaw : Type 0
 ReadBackLaw = (r : Rows) → IsRows r → rows_of_text (rows_text r.rows) r.shape ≡ Ok r.rows
 
--- ---- row files however they are laid out
+-- ---- row files with any layout
 
 -- the addresses of a row in their order, in decimal, some zeros before them and some separators between them
 abbrev pub IsLineOf : List ℕ → List ℕ → Type 0
@@ -32,12 +32,12 @@ IsLineOf line [] = AreSpaces line
 IsLineOf line (x ∷ row) =
     (gap : List ℕ) × (zeros : ℕ) × (rest : List ℕ) × (line ≡ gap ++ (digits_of zeros x ++ rest)) × AreSpaces gap × EndsToken rest × IsLineOf rest row
 
--- the rows in their order, each on its line, and between them lines that say nothing
+-- the rows in their order, each on its line, and between them ignored lines
 abbrev pub AreLinesOf : List (List ℕ) → List (List ℕ) → Type 0
 AreLinesOf [] [] = ⊤
 AreLinesOf [] (row ∷ rows) = ⊥
-AreLinesOf (line ∷ lines) [] = IsSilent line × AreLinesOf lines []
-AreLinesOf (line ∷ lines) (row ∷ rows) = (IsSilent line × AreLinesOf lines (row ∷ rows)) ⊎ (IsLineOf line row × AreLinesOf lines rows)
+AreLinesOf (line ∷ lines) [] = IsIgnored line × AreLinesOf lines []
+AreLinesOf (line ∷ lines) (row ∷ rows) = (IsIgnored line × AreLinesOf lines (row ∷ rows)) ⊎ (IsLineOf line row × AreLinesOf lines rows)
 
 -- a file of such lines is accepted, as these rows
 abbrev pub RowFileLaw : Type 0

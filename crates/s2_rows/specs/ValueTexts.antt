@@ -1,7 +1,7 @@
 -- The text of values, as it may be laid out (own).
 use Rattle.std.specs.Prelude.{◌≡◌, ℕ, ◌≤◌, ◌⊎◌, List, [], ◌∷◌, ◌++◌, length, ℤ, pos, neg_ℤ, Ok}
 use Rattle.s2_mode.specs.Limits.{max_soft}
-use Rattle.s2_rows.specs.Layouts.{AreSpaces, EndsToken, IsSilent, digits_of}
+use Rattle.s2_rows.specs.Layouts.{AreSpaces, EndsToken, IsIgnored, digits_of}
 use Rattle.s2_rows.specs.Text.{lines_of}
 use Rattle.s2_rows.specs.Values.{values_of_text}
 
@@ -16,11 +16,11 @@ IsLineWith line [] = AreSpaces line
 IsLineWith line (v ∷ values) =
     (gap : List ℕ) × (token : List ℕ) × (rest : List ℕ) × (line ≡ gap ++ (token ++ rest)) × AreSpaces gap × IsWritten token v × EndsToken rest × IsLineWith rest values
 
--- the values in their order, on each line the next ones, however many, and between these lines others that say nothing
+-- the values in their order, on each line any number of the next ones, and between these lines ignored ones
 abbrev pub AreLinesWith : List (List ℕ) → List ℤ → Type 0
 AreLinesWith [] values = values ≡ []
 AreLinesWith (line ∷ lines) values =
-    (IsSilent line × AreLinesWith lines values) ⊎ ((here : List ℤ) × (later : List ℤ) × (values ≡ here ++ later) × IsLineWith line here × AreLinesWith lines later)
+    (IsIgnored line × AreLinesWith lines values) ⊎ ((here : List ℤ) × (later : List ℤ) × (values ≡ here ++ later) × IsLineWith line here × AreLinesWith lines later)
 
 -- a text of such lines is read as these values
 abbrev pub ValueTextLaw : Type 0

@@ -9,21 +9,20 @@ pub fn read_back()
     ensures { ReadBackLaw }
 {}
 
-/// A file of rows is accepted however it is laid out: with spaces, tabs and CRs between and around the
-/// addresses, leading zeros, empty lines, and comments on lines of their own.
+/// A file of rows is accepted with any layout: spaces, tabs and CRs between and around the addresses, leading zeros,
+/// empty lines, and lines of comment.
 pub fn row_files()
     ensures { RowFileLaw }
 {}
 
-/// A text of numbers from -511 to 511 is read as these numbers however it is laid out: with any number of
-/// them on a line, spaces, tabs and CRs between and around them, leading zeros, empty lines, and
-/// comments on lines of their own.
+/// A text of numbers from -511 to 511 is read as these numbers with any layout. A line has any number of them. There
+/// may be spaces, tabs and CRs between and around them, leading zeros, empty lines, and lines of comment.
 pub fn value_texts()
     ensures { ValueTextLaw }
 {}
 
-/// Made rows have their weight, their addresses are below n - k, and none stands twice in a row; the
-/// first address of all is the generator's first word modulo n - k.
+/// Made rows have their weight, and their addresses are below n - k, each once in its row. The first address of all is
+/// the generator's first word modulo n - k.
 pub fn made_rows()
     ensures { MadeRowsLaw }
 {}

@@ -1,11 +1,13 @@
 //! Row files and value files: the address rows of an LDPC code (EN 302 307-1, 5.3.2) and the soft
 //! values of a codeword, as text.
 //!
-//! It stands on the shapes of `s2_mode`, and `s2_matrix` builds a code's checks of its `Rows`.
-//! `read_rows` and `read_values` answer exactly what the formats say of every text: what it holds,
-//! or its first fault in reading order. They take storage first, so `NoMemory` comes before every other fault.
-//! `make_rows` gives the rows that a shape, a weight and a seed determine ([`laws::made_rows`]), and
-//! `write_rows` writes exactly their text, which is read again as the same rows ([`laws::read_back`]).
+//! An address row has the check addresses of a group's first bit, as in the standard's annexes B and C. A soft value is
+//! an LLR (log-likelihood ratio), here an integer. `s2_matrix` builds a code's checks from [`Rows`].
+//!
+//! [`read_rows`] and [`read_values`] return what a text holds, or its first fault in reading order. They allocate
+//! before they read, so `NoMemory` comes before every other fault. [`make_rows`] returns the rows that a shape, a
+//! weight and a seed determine ([`laws::made_rows`]). [`write_rows`] writes their text, which is read back as the same
+//! rows ([`laws::read_back`]).
 //!
 //! ```text
 //! let shape = Shape::new(4, 2, 3).ok_or(..)?;

@@ -20,14 +20,14 @@ use thiserror::Error;
 #[derive(Clone, Copy, Debug, PartialEq, Eq, Error)]
 #[error("{}", self.text())]
 pub enum MakeFault {
-    /// A row has one to 24 addresses, and at most n - k.
+    /// The weight is not 1 to 24, or is over n - k.
     BadWeight,
-    /// A growth was refused.
+    /// Memory was refused.
     NoMemory,
 }
 
 impl MakeFault {
-    /// What this fault says.
+    /// The text of this fault.
     pub fn text(self) -> FaultText
         ensures { said result ≡ make_fault_text self }
     {
@@ -56,7 +56,7 @@ fn free_from(row: &[u32], checks: u32, x: u32) -> u32
     x
 }
 
-/// A row of so many addresses, each drawn in its turn.
+/// A row of `weight` addresses, drawn one after another.
 fn draw_row(generator: &mut Pcg32, checks: u32, weight: usize) -> Row
     requires few { weight ≤ max_addresses }
     requires free { weight ≤ checks }
@@ -93,10 +93,9 @@ pub fn draw_rows<A: Allocator>(
     Ok(rows)
 }
 
-/// The rows that a shape, a weight and a seed determine: one `Pcg32` of the seed, and row by row
-/// `weight` addresses, each the next word modulo n - k; an address that is in its row already
-/// moves up by one, wrapping at n - k, until it is free. `BadWeight` unless the weight is 1 to 24
-/// and at most n - k; `NoMemory` only for a weight that is such.
+/// The rows that a shape, a weight and a seed determine. One `Pcg32` with that seed makes them row by row, `weight`
+/// addresses each. An address is the next word modulo n - k. While its row has it already, it is increased by one
+/// modulo n - k. `BadWeight` unless the weight is 1 to 24 and at most n - k; `NoMemory` only if the weight is valid.
 pub fn make_rows(alloc: Global, shape: Shape, weight: usize, seed: u64) -> Result<Rows, MakeFault>
     ensures made { Makes (λ r. r.rows) result shape weight seed }
     ensures shape { IfOk result (λ r. r.shape ≡ shape) }

@@ -1,5 +1,5 @@
-//! Each call that takes memory, where memory may be refused once: then it says so, and the same call
-//! again answers. The made rows are those of another program.
+//! Each call that allocates. If an allocation is refused it returns `NoMemory`, and the same call then
+//! succeeds. The made rows are those of another program.
 use crate::{MakeFault, RowFault, Rows, ValueFault, make_rows, read_rows, read_values};
 use s2_mode::{Mode, Shape};
 use std::alloc::Global;

@@ -3,7 +3,7 @@ ghost use Rattle.std.specs.Prelude.{◌≡◌, ◌≤◌, min, IfSome};
 ghost use Rattle.std.specs.Option.{option_map};
 ghost use Rattle.s2_rows.specs.Numbers.{is_digit, natural_of};
 
-/// Larger than any number that a file may hold. Larger ones still are read as this one.
+/// Larger than any number that a file may hold. Still larger numbers are read as this one.
 const TOO_LARGE: u32 = 1_000_000;
 
 fn is_digit(b: u8) -> bool
@@ -12,8 +12,7 @@ fn is_digit(b: u8) -> bool
     b >= b'0' && b <= b'9'
 }
 
-/// The number of these digits, or `TOO_LARGE` where it is larger. `None` unless there is a byte
-/// and all are digits.
+/// The number of these digits, or `TOO_LARGE` if it is larger. `None` unless there is a byte and all bytes are digits.
 pub fn natural(digits: &[u8]) -> Option<u32>
     ensures value { result ≡ option_map (min TOO_LARGE) (natural_of digits.now) }
     ensures most { IfSome result (λ n. n ≤ TOO_LARGE) }

@@ -11,7 +11,7 @@ ghost use Rattle.s2_rows.specs.Text.{tokens_of};
 
 use crate::numbers::natural;
 use crate::rows::{Row, Rows};
-use crate::text::{cut_line, cut_token, is_passed_over};
+use crate::text::{cut_line, cut_token, is_ignored};
 use s2_mode::{FaultText, Shape};
 use std::alloc::{Allocator, Global};
 use thiserror::Error;
@@ -30,7 +30,7 @@ pub enum RowFault {
 }
 
 impl RowFault {
-    /// What this fault says.
+    /// The text of this fault.
     pub fn text(self) -> FaultText
         ensures { said result ≡ row_fault_text self }
     {
@@ -48,7 +48,7 @@ impl RowFault {
     }
 }
 
-/// The address that a token says.
+/// The address that a token spells.
 fn address(checks: usize, line: u64, token: &[u8]) -> Result<u32, RowFault>
     requires { checks ≤ max_bits }
     ensures { result ≡ address_of checks line (natural_of token.now) }
@@ -60,7 +60,7 @@ fn address(checks: usize, line: u64, token: &[u8]) -> Result<u32, RowFault>
     }
 }
 
-/// Adds the address that a token says to its row.
+/// Adds the address that a token spells to its row.
 fn add_token(row: &mut Row, checks: usize, line: u64, token: &[u8]) -> Result<(), RowFault>
     requires { checks ≤ max_bits }
     ensures { MatchResult result
@@ -97,7 +97,7 @@ fn read_row(checks: usize, number: u64, line: &[u8]) -> Result<Row, RowFault>
     Ok(row)
 }
 
-/// Reads a line behind the rows so far.
+/// Reads a line, and adds its row to those before it.
 fn read_line<A: Allocator>(
     rows: &mut Vec<Row, A>,
     shape: Shape,
@@ -112,7 +112,7 @@ fn read_line<A: Allocator>(
     ensures room { shape.groups ≤ vec_capacity rows.new }
     ensures most { vec_len rows.new ≤ shape.groups }
 {
-    if is_passed_over(line) {
+    if is_ignored(line) {
         return Ok(());
     }
     if rows.len() >= shape.groups() {
@@ -123,7 +123,7 @@ fn read_line<A: Allocator>(
     Ok(())
 }
 
-/// The rows of a text, as many as the shape has groups.
+/// The rows of a text, one for each group of the shape.
 pub fn read_lines<A: Allocator>(
     alloc: A,
     text: &[u8],
@@ -148,9 +148,9 @@ pub fn read_lines<A: Allocator>(
 }
 
 /// The rows that a text holds for a shape, or its first fault in reading order. A line that has no
-/// tokens, or whose first token begins with #, is passed over; each other line is the row of the
-/// next group of information bits. Its tokens, between spaces, tabs and CR, are decimal addresses:
-/// 1 to 24 of them, below n - k, each once. Storage is taken before the text is read, so `NoMemory` comes
+/// tokens, or whose first token begins with #, is ignored. Each other line is the row of the
+/// next group of information bits. Its tokens, separated by spaces, tabs and CR, are decimal addresses:
+/// 1 to 24 of them, below n - k, each once. Memory is allocated before the text is read, so `NoMemory` comes
 /// before every other fault.
 pub fn read_rows(alloc: Global, text: &[u8], shape: Shape) -> Result<Rows, RowFault>
     ensures rows { RowsAnswer (λ r. r.rows) result (rows_of_text text.now shape) }

@@ -37,7 +37,7 @@ impl Model for Rows {
 }
 
 impl Rows {
-    /// The rows of a shape, once they are known to be such.
+    /// The rows of a shape, when they are known to be valid.
     pub(crate) fn from_parts(shape: Shape, rows: Vec<Row>) -> Rows
         requires { IsRows (rows_value shape (map (λ row. row.items) rows.items)) }
         ensures { result ≡ rows_value shape (map (λ row. row.items) rows.items) }

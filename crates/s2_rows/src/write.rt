@@ -1,4 +1,4 @@
-//! Row files written.
+//! Writing row files.
 ghost use Rattle.std.specs.Prelude.{◌≡◌, Ok, OnOk};
 ghost use Rattle.std.specs.Io.KnownBytes.{Appends};
 ghost use Rattle.s2_mode.specs.Counts.{CanCount, CountsFault};
@@ -30,8 +30,8 @@ fn write_row<W: CountedWrite>(row: &[u32], out: &mut W) -> Result<(), WriteFault
     Ok(())
 }
 
-/// Writes each row on its line: its addresses in their order, one space between them and LF behind
-/// the last. [`read_rows`] accepts this text as the same rows. `WriteFault` where a write fails;
+/// Writes each row on its line: its addresses in their order, one space between them and LF after
+/// the last. [`read_rows`] accepts this text as the same rows. `WriteFault` if a write fails;
 /// the writer may then hold a part of the text.
 ///
 /// [`read_rows`]: crate::read_rows

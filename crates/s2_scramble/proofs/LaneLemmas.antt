@@ -1,4 +1,4 @@
--- What each lane of four turned symbols holds.
+-- What each lane of four rotated symbols holds.
 use Rattle.std.proofs.Common.{◌≡◌, ℕ, zero, suc, ◌+◌, ◌-◌, ◌%◌, ◌<◌, ℤ, pos, negsuc, cond, eqb, ltb, bit_and, false, List, [], ◌∷◌, ◌++◌, map, replicate, refl, ap, subst, ◌∙◌, inl, inr, arith, le-ltb}
 use Rattle.std.specs.Int.{cast_unsigned}
 use Rattle.std.specs.Int.RustNames.{FitsSigned}
@@ -8,7 +8,7 @@ use lib.Lanes.{top, zip2, sel_l, pick_l}
 use mir.Syntax.{w16}
 use Rattle.s2_mode.specs.declared.symbols.Symbol.{Symbol}
 use Rattle.s2_mode.specs.Symbols.{IsSymbol, symbol_at}
-use Rattle.s2_scramble.specs.Turns.{negative, turned}
+use Rattle.s2_scramble.specs.Rotations.{negative, rotated}
 use Rattle.s2_mode.specs.Lanes.{words_of}
 use Rattle.s2_scramble.specs.Lanes.{twice}
 
@@ -16,7 +16,7 @@ use Rattle.s2_scramble.specs.Lanes.{twice}
 abbrev pub negated : ℕ → ℕ
 negated w = ((0 + (65536 - w)) % 65536 + cond (top 15 (cond (eqb w 32768) 65535 0)) 65535 0) % 65536
 
--- what a lane holds whose symbol is turned by k quarters
+-- what a lane holds whose symbol is rotated by k quarters
 abbrev pub lane : ℕ → ℕ → ℕ → ℕ → ℕ
 lane offset k own other =
     let chosen = cond (top 15 (cond (eqb (bit_and k 1) 1) 65535 0)) other own in
@@ -39,14 +39,14 @@ negated_is (negsuc n) fits =
           )
     ]
 
-i_is : (k : ℕ) (s : Symbol) → k < 4 → IsSymbol s → lane 1 k (cast_unsigned w16 s.i) (cast_unsigned w16 s.q) ≡ cast_unsigned w16 (turned k s).i
+i_is : (k : ℕ) (s : Symbol) → k < 4 → IsSymbol s → lane 1 k (cast_unsigned w16 s.i) (cast_unsigned w16 s.q) ≡ cast_unsigned w16 (rotated k s).i
 i_is zero s lt fits = refl
 i_is (suc zero) s lt fits = negated_is s.q fits.q
 i_is (suc (suc zero)) s lt fits = negated_is s.i fits.i
 i_is (suc (suc (suc zero))) s lt fits = refl
 i_is (suc (suc (suc (suc k)))) s lt fits = absurd (omega arith)
 
-q_is : (k : ℕ) (s : Symbol) → k < 4 → IsSymbol s → lane 0 k (cast_unsigned w16 s.q) (cast_unsigned w16 s.i) ≡ cast_unsigned w16 (turned k s).q
+q_is : (k : ℕ) (s : Symbol) → k < 4 → IsSymbol s → lane 0 k (cast_unsigned w16 s.q) (cast_unsigned w16 s.i) ≡ cast_unsigned w16 (rotated k s).q
 q_is zero s lt fits = refl
 q_is (suc zero) s lt fits = refl
 q_is (suc (suc zero)) s lt fits = negated_is s.q fits.q
@@ -56,9 +56,9 @@ q_is (suc (suc (suc (suc k)))) s lt fits = absurd (omega arith)
 abbrev pub both : ℕ → Symbol → List ℕ → List ℕ
 both k s rest = lane 1 k (cast_unsigned w16 s.i) (cast_unsigned w16 s.q) ∷ lane 0 k (cast_unsigned w16 s.q) (cast_unsigned w16 s.i) ∷ rest
 
-pub four_turned : (k l m n : ℕ) (a b c d : Symbol) → k < 4 → l < 4 → m < 4 → n < 4 → IsSymbol a → IsSymbol b → IsSymbol c → IsSymbol d
-    → both k a (both l b (both m c (both n d []))) ≡ words_of (turned k a) (turned l b) (turned m c) (turned n d)
-four_turned k l m n a b c d lk ll lm ln fa fb fc fd =
+pub four_rotated : (k l m n : ℕ) (a b c d : Symbol) → k < 4 → l < 4 → m < 4 → n < 4 → IsSymbol a → IsSymbol b → IsSymbol c → IsSymbol d
+    → both k a (both l b (both m c (both n d []))) ≡ words_of (rotated k a) (rotated l b) (rotated m c) (rotated n d)
+four_rotated k l m n a b c d lk ll lm ln fa fb fc fd =
     λ t. i_is k a lk fa t ∷ q_is k a lk fa t ∷ i_is l b ll fb t ∷ q_is l b ll fb t ∷ i_is m c lm fc t ∷ q_is m c lm fc t ∷ i_is n d ln fd t ∷ q_is n d ln fd t ∷ []
 
 -- all ones where two numbers are the same
@@ -80,8 +80,8 @@ signed quarters xs =
     (zip2 (λ a b. (a + b) % 65536) (zip2 (λ a b. (a + (65536 - b)) % 65536) (replicate 8 0) xs) (where_same xs (replicate 8 32768) (replicate 8 65535) (replicate 8 0)))
     xs
 
-abbrev pub turned_lanes : List ℕ → List ℕ → List ℕ
-turned_lanes quarters words = signed quarters (chosen quarters words)
+abbrev pub rotated_lanes : List ℕ → List ℕ → List ℕ
+rotated_lanes quarters words = signed quarters (chosen quarters words)
 
 negative-fits : (z : ℤ) → FitsSigned w16 z → FitsSigned w16 (negative z)
 negative-fits (pos zero) fits = record { sfits = omega arith }
@@ -93,12 +93,12 @@ negative-fits (negsuc n) fits =
       | inr ne ↦ (let low : ltb 32767 (suc n) ≡ false = le-ltb 32767 (suc n) (omega arith) in rw low (record { sfits = omega arith }))
     ]
 
-pub turned-fits : (k : ℕ) (s : Symbol) → k < 4 → IsSymbol s → IsSymbol (turned k s)
-turned-fits zero s lt fits = fits
-turned-fits (suc zero) s lt fits = record { i = negative-fits s.q fits.q; q = fits.i }
-turned-fits (suc (suc zero)) s lt fits = record { i = negative-fits s.i fits.i; q = negative-fits s.q fits.q }
-turned-fits (suc (suc (suc zero))) s lt fits = record { i = fits.q; q = negative-fits s.i fits.i }
-turned-fits (suc (suc (suc (suc k)))) s lt fits = absurd (omega arith)
+pub rotated-fits : (k : ℕ) (s : Symbol) → k < 4 → IsSymbol s → IsSymbol (rotated k s)
+rotated-fits zero s lt fits = fits
+rotated-fits (suc zero) s lt fits = record { i = negative-fits s.q fits.q; q = fits.i }
+rotated-fits (suc (suc zero)) s lt fits = record { i = negative-fits s.i fits.i; q = negative-fits s.q fits.q }
+rotated-fits (suc (suc (suc zero))) s lt fits = record { i = fits.q; q = negative-fits s.i fits.i }
+rotated-fits (suc (suc (suc (suc k)))) s lt fits = absurd (omega arith)
 
 -- the number of quarters back, by words
 back_word : ℕ → ℕ

@@ -2,17 +2,17 @@
 ghost use Rattle.std.specs.Prelude.{◌≡◌, ℕ, ◌+◌, ◌-◌, ◌%◌, ◌<◌, ◌≤◌, length, slice_index, [], ◌∷◌};
 ghost use Rattle.s2_mode.specs.declared.symbols.Symbol.{Symbol};
 ghost use Rattle.s2_mode.specs.Symbols.{IsSymbol, symbol_at};
-ghost use Rattle.s2_scramble.specs.Turns.{turned};
+ghost use Rattle.s2_scramble.specs.Rotations.{rotated};
 ghost use Rattle.s2_mode.specs.Lanes.{words_of};
 ghost use Rattle.s2_scramble.specs.Lanes.{twice};
 
 use s2_mode::{Symbol, symbols_from, words_from};
 use std::simd::prelude::*;
 
-/// Turns four symbols. Each number of quarters stands in both lanes of its symbol.
+/// Rotates four symbols. Each number of quarters is in both lanes of its symbol.
 #[inline(always)]
-fn turned_words(quarters: u16x8, words: u16x8) -> u16x8
-    ensures { (k l m n : ℕ) (a b c d : Symbol) → k < 4 → l < 4 → m < 4 → n < 4 → IsSymbol a → IsSymbol b → IsSymbol c → IsSymbol d → quarters ≡ twice k l m n → words ≡ words_of a b c d → result ≡ words_of (turned k a) (turned l b) (turned m c) (turned n d) }
+fn rotated_words(quarters: u16x8, words: u16x8) -> u16x8
+    ensures { (k l m n : ℕ) (a b c d : Symbol) → k < 4 → l < 4 → m < 4 → n < 4 → IsSymbol a → IsSymbol b → IsSymbol c → IsSymbol d → quarters ≡ twice k l m n → words ≡ words_of a b c d → result ≡ words_of (rotated k a) (rotated l b) (rotated m c) (rotated n d) }
 {
     let odd = (quarters & u16x8::splat(1)).simd_eq(u16x8::splat(1));
     let chosen = odd.select(words.swizzle([1, 0, 3, 2, 5, 4, 7, 6]), words);
@@ -38,7 +38,7 @@ pub(crate) fn quarters_of(quarters: &[u16], at: usize) -> u16x8
     .swizzle([0, 0, 1, 1, 2, 2, 3, 3])
 }
 
-/// The numbers of quarters that turn back what so many turn.
+/// The numbers of quarters that undo a rotation by these numbers.
 #[inline(always)]
 pub(crate) fn back(quarters: u16x8) -> u16x8
     ensures { (k l m n : ℕ) → k < 4 → l < 4 → m < 4 → n < 4 → quarters ≡ twice k l m n → result ≡ twice ((4 - k) % 4) ((4 - l) % 4) ((4 - m) % 4) ((4 - n) % 4) }
@@ -46,11 +46,11 @@ pub(crate) fn back(quarters: u16x8) -> u16x8
     (u16x8::splat(4) - quarters) & u16x8::splat(3)
 }
 
-/// The four symbols from a place on, turned.
+/// The four symbols from a place on, rotated.
 #[inline(always)]
-pub(crate) fn turn_four(quarters: u16x8, symbols: &[Symbol], at: usize) -> [Symbol; 4]
+pub(crate) fn rotate_four(quarters: u16x8, symbols: &[Symbol], at: usize) -> [Symbol; 4]
     requires { at + 4 ≤ length symbols.now }
-    ensures { (k l m n : ℕ) → k < 4 → l < 4 → m < 4 → n < 4 → quarters ≡ twice k l m n → result ≡ turned k (symbol_at symbols.now at) ∷ turned l (symbol_at symbols.now (at + 1)) ∷ turned m (symbol_at symbols.now (at + 2)) ∷ turned n (symbol_at symbols.now (at + 3)) ∷ [] }
+    ensures { (k l m n : ℕ) → k < 4 → l < 4 → m < 4 → n < 4 → quarters ≡ twice k l m n → result ≡ rotated k (symbol_at symbols.now at) ∷ rotated l (symbol_at symbols.now (at + 1)) ∷ rotated m (symbol_at symbols.now (at + 2)) ∷ rotated n (symbol_at symbols.now (at + 3)) ∷ [] }
 {
-    symbols_from(turned_words(quarters, words_from(symbols, at)))
+    symbols_from(rotated_words(quarters, words_from(symbols, at)))
 }

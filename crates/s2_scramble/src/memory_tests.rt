@@ -1,4 +1,4 @@
-//! A scrambler, where memory may be refused once: then it says so, and the same call again answers.
+//! A scrambler if memory is refused once: the call says so, and the same call succeeds when repeated.
 use crate::{Gold, GoldFault};
 use s2_mode::Symbol;
 use std::alloc::Global;

@@ -34,7 +34,8 @@ ReadFails most old new packets = (new ≡ old + 1) ⊎ ((new ≡ old) × (packet
 abbrev pub NoneFailed : Result Counts SendFault → Type 0
 NoneFailed result = (result ≢ Err Read) × (result ≢ Err Write)
 
--- two runs over the same bytes, in which neither a read nor a write failed, answer the same, and writers that held the same hold the same again
+-- two runs over the same bytes, in which neither a read nor a write failed, return the same, and writers that held the
+-- same hold the same again
 abbrev pub RunLaw : Mode → Type 0
 RunLaw m =
     (t : Transmitter) (bytes held : List ℕ) (count_a count_b new_a new_b : ℕ) (reader_a reader_b writer_a writer_b : Option (List ℕ)) (a b : Result Counts SendFault)

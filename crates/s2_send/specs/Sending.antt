@@ -1,4 +1,5 @@
--- What a run of the transmitter reads and writes (EN 302 307-1, 5.1): the frames of the data fields of the packets' stream, and dummy frames among them.
+-- What a run of the transmitter reads and writes (EN 302 307-1, 5.1): the frames of the data fields of the packets' stream,
+-- and dummy frames among them.
 use Rattle.std.specs.Prelude.{◌≡◌, ◌≢◌, ℕ, ◌+◌, ◌<◌, ◌≤◌, ◌⊎◌, ◌%◌, ◌==◌, Bool, true, false, if◌then◌else◌, List, [], ◌∷◌, ◌++◌, length, take, All, slice_index, Option, Result, Ok, Err, ⊤}
 use Rattle.std.specs.List.{flat_map}
 use Rattle.std.specs.Io.KnownBytes.{Consumes, Appends, IsAtEnd}

@@ -4,7 +4,7 @@ ghost use Rattle.s2_send.specs.Frames.{padded_bits};
 
 use s2_bits::bits_into;
 
-/// Writes the bits of a header and of its data field, each byte's highest first, and zeros behind them to the end.
+/// Writes the bits of a header and of its data field, each byte's highest first, and then zeros to the end.
 pub fn frame_bits_into(header: &[u8; 10], field: &[u8], bits: &mut [bool])
     requires { 80 + 8 * length field.now ≤ length bits.old }
     ensures { bits.new ≡ padded_bits (length bits.old) header.now field.now }

@@ -14,7 +14,7 @@ use s2_scramble::bb_xor_in_place;
 use std::alloc::{AllocError, Global};
 use std::marker::Model;
 
-/// Makes the codewords of one link, in buffers of its own. Its value is the mode, the address rows and the last
+/// Makes the codewords of one link, in its own buffers. Its value is the mode, the address rows and the last
 /// codeword.
 pub struct Coder<'a> {
     matrix: &'a Matrix,
@@ -48,8 +48,8 @@ impl<'a> Model for Coder<'a> {
 }
 
 impl<'a> Coder<'a> {
-    /// The coder of a link, whose codeword is zeros before the first. `AllocError` only where memory does not
-    /// suffice.
+    /// The coder of a link. Before the first codeword is made, its codeword is all zeros. `AllocError` only if it
+    /// is out of memory.
     pub fn new(alloc: Global, link: &Link<'a>) -> Result<Coder<'a>, AllocError>
         ensures mode { IfOk result (λ c. c.mode ≡ link.now.setup.mode) }
         ensures rows { IfOk result (λ c. c.rows ≡ link.now.rows) }
@@ -64,8 +64,8 @@ impl<'a> Coder<'a> {
         })
     }
 
-    /// Makes the codeword of a header and its data field: of the BCH word of the scrambled baseband frame. It takes
-    /// no memory.
+    /// Makes the codeword (FECFRAME) of a header and its data field: that of the BCH word of the scrambled baseband
+    /// frame (BBFRAME). It takes no memory.
     pub fn encode(&mut self, header: &Header, field: &[u8])
         requires roll_off { header.now.roll_off ≤ 3 }
         requires field { length field.now ≤ field_bytes self.old.mode }

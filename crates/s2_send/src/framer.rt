@@ -49,7 +49,7 @@ impl<'a> Model for Framer<'a> {
 }
 
 impl<'a> Framer<'a> {
-    /// The maker of a link's frames. `AllocError` only where memory does not suffice.
+    /// The maker of a link's frames. `AllocError` only if it is out of memory.
     pub fn new(alloc: Global, link: &Link<'a>) -> Result<Framer<'a>, AllocError>
         ensures { IfOk result (λ f. f ≡ link.now) }
     {
@@ -63,7 +63,7 @@ impl<'a> Framer<'a> {
         })
     }
 
-    /// The roll-off that headers tell.
+    /// The roll-off that is written to headers.
     pub fn roll_off(&self) -> RollOff
         ensures is { result ≡ self.now.setup.roll_off }
         ensures most { result ≤ max_roll_off }
@@ -71,7 +71,7 @@ impl<'a> Framer<'a> {
         self.roll_off
     }
 
-    /// Writes the frame of a header and its data field, or where a write fails a part of it. It takes no memory.
+    /// Writes the frame of a header and its data field, or a part of it if a write fails. It takes no memory.
     pub fn write_frame<W: CountedWrite>(
         &mut self,
         header: &Header,
@@ -91,7 +91,7 @@ impl<'a> Framer<'a> {
         write_full(writer, self.modulator.bytes())
     }
 
-    /// Writes a dummy frame, or where a write fails a part of it. It takes no memory.
+    /// Writes a dummy frame, or a part of it if a write fails. It takes no memory.
     pub fn write_dummy<W: CountedWrite>(&self, writer: &mut W) -> Result<(), WriteFault>
         requires count { CanCount (W.count writer.old) }
         ensures bytes { OnOk result
@@ -103,8 +103,8 @@ impl<'a> Framer<'a> {
         write_full(writer, self.modulator.dummy())
     }
 
-    /// Writes the unit of a header and its data field: their frame, and a dummy frame behind it where one is due; or
-    /// where a write fails a part of it. It takes no memory.
+    /// Writes the unit of a header and its data field: their frame, and then a dummy frame if one is due. If a write
+    /// fails, a part of the unit is written. It takes no memory.
     pub fn write_unit<W: CountedWrite>(
         &mut self,
         header: &Header,

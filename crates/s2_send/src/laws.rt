@@ -1,4 +1,4 @@
-//! What the definitions determine: each a call that does nothing, whose clause is the law.
+//! Laws of the definitions: each a call that does nothing, whose clause is the law.
 ghost use Rattle.s2_send.specs.Limits.{LimitsLaw};
 ghost use Rattle.s2_send.specs.Laws.{FrameLaw, NoDummiesLaw, RunLaw};
 
@@ -12,13 +12,13 @@ pub fn one_frame(mode: Mode)
     let _ = mode.k();
 }
 
-/// Where a transmitter sends no dummy frames, what it sends for a header and its data field is their frame.
+/// If a transmitter sends no dummy frames, the unit of a header and its data field is their frame.
 pub fn no_dummies()
     ensures { NoDummiesLaw }
 {}
 
-/// Packets, setup, rows and the number of frames from dummy to dummy determine what a run answers and writes: two runs over the same bytes, in
-/// which neither a read nor a write failed, answer the same and write the same.
+/// Packets, setup, rows and the number of frames between dummy frames determine a run's result and output. Two runs
+/// over the same bytes, in which neither a read nor a write failed, return the same and write the same.
 pub fn one_run(mode: Mode)
     ensures { RunLaw mode }
 {

@@ -1,18 +1,20 @@
 //! The sending end of a DVB-S2 link (EN 302 307-1, 5.1 to 5.5): transport stream packets in, and symbols out,
 //! two bytes for I and two for Q.
 //!
-//! [`Transmitter::new`] takes all the memory that will be needed, or answers the first of its refusals;
-//! [`Transmitter::on_link`] does the same on a [`s2_link::Link`], where only memory can lack.
-//! [`Transmitter::run`] reads packets to the reader's end. `Ok` means that the writer has gained exactly the
-//! frames of the codewords of the BCH words of the scrambled baseband frames of the data stream's fields, in
-//! order. A refusal comes exactly where the packets give cause for it, or a read or a write failed; it leaves
-//! exactly the frames of the full fields of the packets accepted before, and only a failed write may leave fewer
-//! of them, and a part of the next one. [`Transmitter::limit`] lowers how many packets are taken at most, and with
-//! [`Transmitter::dummy_every`] a dummy frame stands behind every so many frames.
+//! [`Transmitter::new`] allocates all the memory that will be needed, or returns the first of its refusals.
+//! [`Transmitter::on_link`] does the same on a [`s2_link::Link`]; it fails only if it is out of memory.
 //!
-//! Its stages can be used by themselves: [`frame_bits_into`] spells a header and its data field as bits,
-//! [`Coder`] makes their codeword, [`Modulator`] the bytes of a codeword's symbols, and [`Framer`] writes the
-//! frame of a header and its data field, which is both.
+//! [`Transmitter::run`] reads packets to the reader's end. After `Ok` the writer has gained exactly the frames of
+//! the data fields, in order. The baseband frame (BBFRAME) of each field is scrambled and encoded as a BCH word,
+//! and that as a codeword (FECFRAME), which is sent as a physical layer frame (PLFRAME). A run fails exactly if
+//! the packets are faulty, or if a read or a write failed. It leaves exactly the frames of the full fields of the
+//! packets accepted before. Only after a failed write there may be fewer, and a part of the next one.
+//! [`Transmitter::limit`] sets the most packets of a run. [`Transmitter::dummy_every`] sets after how many frames
+//! a dummy frame is sent.
+//!
+//! The stages can be used by themselves. [`frame_bits_into`] writes the bits of a header and its data field.
+//! [`Coder`] makes their codeword, and [`Modulator`] the bytes of a codeword's symbols. [`Framer`] does both: it
+//! writes the frame of a header and its data field.
 //!
 //! ```text
 //! let setup = Setup { mode, number: 0, roll_off: 0 };

@@ -22,7 +22,7 @@ fn dummy_bytes(alloc: Global, gold: &Gold) -> Result<Vec<u8>, AllocError>
     Ok(bytes)
 }
 
-/// Makes the symbols of codewords, as bytes, in buffers of its own, and has those of a dummy frame. Its value is the
+/// Makes the symbols of codewords, as bytes, in its own buffers, and has those of a dummy frame. Its value is the
 /// mode, the scrambling number and the bytes of the last frame.
 pub struct Modulator {
     mode: Mode,
@@ -60,7 +60,7 @@ impl Model for Modulator {
 }
 
 impl Modulator {
-    /// The modulator of a mode and a scrambler. `AllocError` only where memory does not suffice.
+    /// The modulator of a mode and a scrambler. `AllocError` only if it is out of memory.
     pub fn new(alloc: Global, mode: Mode, gold: Gold) -> Result<Modulator, AllocError>
         ensures mode { IfOk result (λ m. m.mode ≡ mode) }
         ensures number { IfOk result (λ m. m.number ≡ gold) }
@@ -77,7 +77,8 @@ impl Modulator {
         })
     }
 
-    /// Makes the bytes of a codeword's frame: of its points, between header and pilots, scrambled. It takes no memory.
+    /// Makes the bytes of a codeword's physical layer frame (PLFRAME): header, scrambled payload (XFECFRAME) and pilots.
+    /// It takes no memory.
     pub fn modulate(&mut self, codeword: &Bits)
         requires { length codeword.now ≡ n_of self.old.mode }
         ensures { self.new ≡ record self.old { bytes = frame_bytes self.old.mode self.old.number codeword.now } }

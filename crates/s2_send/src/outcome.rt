@@ -1,4 +1,4 @@
-//! What a run of the transmitter answers.
+//! The result of a run of the transmitter.
 ghost use Rattle.std.specs.Prelude.{◌≡◌};
 ghost use Rattle.s2_mode.specs.FaultTexts.{said};
 ghost use Rattle.s2_send.specs.FaultTexts.{send_fault_text};
@@ -6,7 +6,7 @@ ghost use Rattle.s2_send.specs.FaultTexts.{send_fault_text};
 use s2_mode::FaultText;
 use thiserror::Error;
 
-/// How many packets a run accepted, and how many frames it wrote, dummy frames not counted.
+/// How many packets a run accepted, and how many frames it wrote. Dummy frames are not counted.
 #[derive(Clone, Copy, Debug, PartialEq, Eq)]
 pub struct Counts {
     pub packets: u64,
@@ -17,11 +17,11 @@ pub struct Counts {
 #[derive(Clone, Copy, Debug, PartialEq, Eq, Error)]
 #[error("{}", self.text())]
 pub enum SendFault {
-    /// 1 to 187 bytes were left behind the last packet.
+    /// 1 to 187 bytes were left after the last packet.
     NotWholePacket,
     /// This packet, counted from 1, does not begin with 47 hexadecimal.
     NoSync { packet: u64 },
-    /// A read failed, or as many packets were accepted as a run takes.
+    /// A read failed, or the limit of packets was reached.
     Read,
     /// A write failed.
     Write,

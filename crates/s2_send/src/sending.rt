@@ -11,26 +11,25 @@ use crate::outcome::{Counts, SendFault};
 use s2_bbframe::{PACKET_BYTES, Slicer};
 use s2_mode::{CountedRead, CountedWrite, WriteFault, read_full};
 
-/// How many packets one run accepts at most, unless it is made to accept fewer.
+/// The most packets that one run accepts, unless a lower limit is set.
 pub const MAX_PACKETS: u64 = 1 << 32;
 
-/// How a run goes: how many packets it takes at most, and behind every how many frames it writes a dummy frame, 0
-/// for none.
+/// The plan of a run: the most packets that it takes, and after how many frames it writes a dummy frame, 0 for none.
 #[derive(Clone, Copy)]
 pub(crate) struct Plan {
     pub limit: u64,
     pub dummy_every: u16,
 }
 
-/// Whether a dummy frame is due behind a run's frame of this number, counted from 1.
+/// Whether a dummy frame is due after a run's frame of this number, counted from 1.
 fn is_due(dummy_every: u16, number: u64) -> bool
     ensures { result ≡ is_due dummy_every number }
 {
     dummy_every != 0 && number % u64::from(dummy_every) == 0
 }
 
-/// Reads the next packet, the first behind so many, and gives it to the slicer; at the reader's end it closes that.
-/// It says whether a packet was there.
+/// Reads the packet after the first `packets`, and puts it into the slicer. At the reader's end it closes the slicer.
+/// Returns whether there was a packet.
 fn accept_next<R: CountedRead>(
     slicer: &mut Slicer,
     packets: u64,
@@ -65,8 +64,8 @@ fn accept_next<R: CountedRead>(
     Ok(true)
 }
 
-/// Writes the next data field's unit where a field can be taken, its frame and a dummy frame where one is due behind
-/// it, and says whether it did. Where a write fails, a part of the unit is written.
+/// Writes the unit of the next data field, if a field can be taken: its frame, and then a dummy frame if one is due.
+/// Returns whether it did. If a write fails, a part of the unit is written.
 fn send_ready<W: CountedWrite>(
     framer: &mut Framer<'_>,
     slicer: &mut Slicer,
@@ -91,7 +90,7 @@ fn send_ready<W: CountedWrite>(
     Ok(true)
 }
 
-/// Sends the packets of a reader to its end, as frames of a new stream, by a plan.
+/// Sends the packets of a reader, up to its end, as frames of a new stream, using a plan.
 pub(crate) fn send_all<R: CountedRead, W: CountedWrite>(
     framer: &mut Framer<'_>,
     slicer: &mut Slicer,

@@ -16,8 +16,8 @@ use s2_mode::{CountedRead, CountedWrite};
 use std::alloc::{AllocError, Global};
 use std::marker::Model;
 
-/// Sends packets as frames of symbols. To contracts it is the link that it sends on, how many packets a run takes
-/// at most, and behind every how many frames a run sends a dummy frame.
+/// Sends packets as frames of symbols. To contracts it is its link, the most packets of a run, and after how many
+/// frames a run sends a dummy frame.
 pub struct Transmitter<'a> {
     framer: Framer<'a>,
     slicer: Slicer,
@@ -51,10 +51,14 @@ impl<'a> Model for Transmitter<'a> {
 }
 
 impl<'a> Transmitter<'a> {
-    /// A transmitter with all the memory that it needs. Of several refusals the first is answered:
-    /// `OtherShape` where the matrix is not of the shape of the mode's code, `BadNumber` where the
-    /// scrambling number is over 262141, `BadRollOff` where the roll-off is over 2, and then
-    /// `NoMemory` where memory does not suffice. `BadRounds` and `BadPasses` are never answered here.
+    /// A transmitter with all the memory that it needs. If there are several refusals, it returns the first.
+    ///
+    /// - `OtherShape`: the matrix is not of the shape of the mode's code.
+    /// - `BadNumber`: the scrambling number is over 262141.
+    /// - `BadRollOff`: the roll-off is over 2.
+    /// - `NoMemory`: it is out of memory.
+    ///
+    /// It never returns `BadRounds` or `BadPasses`.
     pub fn new(
         alloc: Global,
         setup: Setup,
@@ -66,7 +70,7 @@ impl<'a> Transmitter<'a> {
         Transmitter::on_link(alloc, &link).map_err(|_| SetupFault::NoMemory)
     }
 
-    /// A transmitter on a link, with all the memory that it needs. `AllocError` only where memory does not suffice.
+    /// A transmitter on a link, with all the memory that it needs. `AllocError` only if it is out of memory.
     pub fn on_link(alloc: Global, link: &Link<'a>) -> Result<Transmitter<'a>, AllocError>
         ensures is { IfOk result (λ t. t ≡ new_transmitter link.now) }
     {
@@ -84,7 +88,7 @@ impl<'a> Transmitter<'a> {
         })
     }
 
-    /// Lets each run take at most so many packets, 1 to [`MAX_PACKETS`].
+    /// Sets the most packets of each run, 1 to [`MAX_PACKETS`].
     pub fn limit(&mut self, packets: u64)
         requires { (1 ≤ packets) × (packets ≤ max_packets) }
         ensures { self.new ≡ record self.old { limit = packets } }
@@ -92,8 +96,8 @@ impl<'a> Transmitter<'a> {
         self.plan.limit = packets;
     }
 
-    /// Lets each run write a dummy frame behind every so many frames, the last of the run among them; 0, as in a new
-    /// transmitter, lets it write none. It takes no memory.
+    /// Sets after how many frames each run writes a dummy frame. One may follow the last frame of the run too. With 0,
+    /// as in a new transmitter, there are no dummy frames. It takes no memory.
     pub fn dummy_every(&mut self, frames: u16)
         ensures { self.new ≡ record self.old { dummy_every = frames } }
     {
@@ -101,18 +105,19 @@ impl<'a> Transmitter<'a> {
     }
 
     /// Reads packets of 188 bytes to the reader's end, and writes the frames of their data stream,
-    /// which begins anew with each run. It takes no memory, and reads and writes piece by piece: a
-    /// packet, and a frame. A packet is accepted where it is whole and begins with 47 hexadecimal, at
-    /// most [`MAX_PACKETS`] of them, or as many as [`Transmitter::limit`] said. Where
-    /// [`Transmitter::dummy_every`] said so a dummy frame stands behind a frame; it belongs to that
-    /// frame in what follows, and is not counted.
+    /// which begins anew with each run. It takes no memory. It reads packet by packet, and writes
+    /// frame by frame. A packet is accepted if it is whole and begins with 47 hexadecimal. At most
+    /// [`MAX_PACKETS`] are accepted, or fewer if [`Transmitter::limit`] was called. A dummy frame
+    /// follows a frame if [`Transmitter::dummy_every`] says so. Below, it belongs to that frame, and
+    /// is not counted.
     ///
     /// After `Ok` the reader is at its end, and the writer has gained exactly the frames of all data
-    /// fields. `NotWholePacket` and `NoSync` tell what the packets lack, and `Read` that a read failed
-    /// or that as many packets were accepted as may be, where nothing more is read: then the writer
-    /// has gained exactly the frames of the full data fields of the packets accepted before. After
-    /// `Write` it has gained the frames of the fields before the one whose frame failed, each whole,
-    /// and of that frame a beginning.
+    /// fields. `NotWholePacket` and `NoSync` report a faulty packet. `Read` reports that a read
+    /// failed, or that the limit of packets was reached; then nothing more is read. After these three
+    /// the writer has gained exactly the frames of the full data fields of the packets accepted
+    /// before. After `Write` it has gained the whole frames of the fields before the one whose frame
+    /// failed, and the beginning of that frame.
+    ///
     /// In each case the reader has given the packets that were accepted, then the bytes that were
     /// refused or that came before a failed read, at most 188, and no more.
     pub fn run<R: CountedRead, W: CountedWrite>(

@@ -8,7 +8,7 @@ use Rattle.s2_matrix.proofs.Members.{place_in_filter}
 use Rattle.s2_minsum.specs.Plain.{others}
 use Rattle.s2_minsum.proofs.Columns.{found}
 use Rattle.s2_settle.specs.Rests.{gap}
-use Rattle.s2_settle.specs.Nodes.{first_of, second_of, least_at}
+use Rattle.s2_settle.specs.Nodes.{min1_of, min2_of, least_at}
 use Rattle.s2_settle.specs.Plain.{first_reserve, least_of, half_gap, amount_to}
 use Rattle.s2_settle.proofs.Least.{first_le, first_at, second_le, second_at}
 use Rattle.s2_settle.proofs.LeastMember.{least_each, least_holds}
@@ -57,7 +57,7 @@ module _ (f : ℕ → ℕ) (n : ℕ) (g : ℕ → ℤ) (ms : List ℕ) (bit : �
     | inr shown ↦ shown
   ]
 
-  first_low : first_of f n < 4294967295
+  first_low : min1_of f n < 4294967295
   first_low =
       let le = first_le f n (entry t) (l.entry_low t t_in) in
       let is = of_member t t_in in
@@ -67,13 +67,13 @@ module _ (f : ℕ → ℕ) (n : ℕ) (g : ℕ → ℤ) (ms : List ℕ) (bit : �
   at_low : at < n
   at_low = (first_at f n first_low).0
 
-  at_first : f at ≡ first_of f n
+  at_first : f at ≡ min1_of f n
   at_first = (first_at f n first_low).1
 
   at_there : absent at ≡ false
   at_there = there at at_low (omega (arith, at_first, first_low))
 
-  first_is : pos (first_of f n) ≡ pos 2147483648 +ℤ g t
+  first_is : pos (min1_of f n) ≡ pos 2147483648 +ℤ g t
   first_is =
       let le = first_le f n (entry t) (l.entry_low t t_in) in
       let is = of_member t t_in in
@@ -87,7 +87,7 @@ module _ (f : ℕ → ℕ) (n : ℕ) (g : ℕ → ℤ) (ms : List ℕ) (bit : �
   in_others y has other = place_in_filter (λ k. not (k == t)) y (ap not (ne_eqb y t other)) ms has
 
   -- the second number is the least of the other members
-  second_is : (k : ℕ) (ks : List ℕ) → others ms t ≡ k ∷ ks → pos (second_of f n) ≡ pos 2147483648 +ℤ g (least_of g (k ∷ ks))
+  second_is : (k : ℕ) (ks : List ℕ) → others ms t ≡ k ∷ ks → pos (min2_of f n) ≡ pos 2147483648 +ℤ g (least_of g (k ∷ ks))
   second_is k ks is =
       let y = least_of g (k ∷ ks) in
       let all : All (Has ms) (k ∷ ks) = subst (All (Has ms)) is (All-filter (λ i. not (i == t)) (Has ms) ms l.members) in
@@ -100,7 +100,7 @@ module _ (f : ℕ → ℕ) (n : ℕ) (g : ℕ → ℤ) (ms : List ℕ) (bit : �
       let small = l.small y has in
       let first = first_is in
       let gt = t_least y has in
-      let le : second_of f n ≤ f (entry y) = elim (cases_eq (entry y) at) [
+      let le : min2_of f n ≤ f (entry y) = elim (cases_eq (entry y) at) [
         | inr other ↦ second_le f n (entry y) (l.entry_low y has) other
         | inl same ↦ (
             -- then the target is another member, of the same number
@@ -138,8 +138,8 @@ module _ (f : ℕ → ℕ) (n : ℕ) (g : ℕ → ℤ) (ms : List ℕ) (bit : �
           subst (λ w. g (least_of g (k ∷ ks)) ≤ℤ g w) (found (k ∷ ks) z has') (least_each g (k ∷ ks) (position_or_len (λ m. m == z) (k ∷ ks)) has')
 
   -- no other member: no second number
-  second_none : others ms t ≡ [] → second_of f n ≡ 4294967295
-  second_none is = elim (cases_lt (second_of f n) 4294967295) [
+  second_none : others ms t ≡ [] → min2_of f n ≡ 4294967295
+  second_none is = elim (cases_lt (min2_of f n) 4294967295) [
     | inr high ↦ top (second_high f n) high
     | inl less ↦ second_at f n less (λ e low other e_is.
         let e_there = there e low (omega (arith, e_is, less)) in
@@ -156,22 +156,22 @@ module _ (f : ℕ → ℕ) (n : ℕ) (g : ℕ → ℤ) (ms : List ℕ) (bit : �
       none : (z : ℕ) → Has (others ms t) z → ⊥
       none z has = (let has' : Has [] z = subst (λ xs. Has xs z) is has in omega arith)
 
-      top : second_of f n ≤ 4294967295 → 4294967295 ≤ second_of f n → second_of f n ≡ 4294967295
+      top : min2_of f n ≤ 4294967295 → 4294967295 ≤ min2_of f n → min2_of f n ≡ 4294967295
       top one two = omega arith
 
-      second_high : (f : ℕ → ℕ) (n : ℕ) → second_of f n ≤ 4294967295
+      second_high : (f : ℕ → ℕ) (n : ℕ) → min2_of f n ≤ 4294967295
       second_high f zero = omega arith
       second_high f (suc n) = (let rest = second_high f n in omega arith)
 
-  pub amount_is : (reserve : ℕ) → reserve ≤ first_reserve → gap reserve (first_of f n) (second_of f n) ≡ amount_to reserve g t (others ms t)
+  pub amount_is : (reserve : ℕ) → reserve ≤ first_reserve → gap reserve (min1_of f n) (min2_of f n) ≡ amount_to reserve g t (others ms t)
   amount_is reserve few = go (others ms t) refl
     where
-      go : (xs : List ℕ) → others ms t ≡ xs → gap reserve (first_of f n) (second_of f n) ≡ amount_to reserve g t xs
-      go [] is = ap (gap reserve (first_of f n)) (second_none is) ∙ gap_alone reserve (first_of f n) (g t) first_is (l.small t t_in) few
+      go : (xs : List ℕ) → others ms t ≡ xs → gap reserve (min1_of f n) (min2_of f n) ≡ amount_to reserve g t xs
+      go [] is = ap (gap reserve (min1_of f n)) (second_none is) ∙ gap_alone reserve (min1_of f n) (g t) first_is (l.small t t_in) few
       go (k ∷ ks) is =
           let all : All (Has ms) (k ∷ ks) = subst (All (Has ms)) is (All-filter (λ i. not (i == t)) (Has ms) ms l.members) in
           let has : Has ms (least_of g (k ∷ ks)) = least_holds g (Has ms) (k ∷ ks) (omega arith) all in
-          gap_is reserve (first_of f n) (second_of f n) (g t) (g (least_of g (k ∷ ks))) first_is (second_is k ks is) (l.small t t_in) (l.small (least_of g (k ∷ ks)) has) few (t_least (least_of g (k ∷ ks)) has)
+          gap_is reserve (min1_of f n) (min2_of f n) (g t) (g (least_of g (k ∷ ks))) first_is (second_is k ks is) (l.small t t_in) (l.small (least_of g (k ∷ ks)) has) few (t_least (least_of g (k ∷ ks)) has)
 
   pub target_low : at < n
   target_low = at_low

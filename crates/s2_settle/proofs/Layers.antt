@@ -9,13 +9,13 @@ use borrow.Rule.Slice.PartMut.{put_mid}
 use Rattle.s2_rows.specs.Rows.{Rows}
 use Rattle.s2_matrix.specs.Total.{upto}
 use Rattle.s2_matrix.proofs.Totals.{upto_more}
-use Rattle.s2_minsum.specs.declared.rows.Entry.{Entry}
+use Rattle.s2_minsum.specs.declared.kernels.Circulant.{Circulant}
 use Rattle.s2_minsum.specs.Rows.{entry_at, is_lacking}
 use Rattle.s2_minsum.specs.Layout.{lacked_row, entries_of}
 use Rattle.s2_bits.proofs.RowParts.{row_before, put_mid_below, put_mid_at, put_mid_above, length-put_mid}
 use Rattle.s2_bits.specs.Lanes32.{plus32}
 use Rattle.s2_settle.specs.Rests.{received, change, changed, gap}
-use Rattle.s2_settle.specs.Nodes.{first_of, second_of, least_at}
+use Rattle.s2_settle.specs.Nodes.{min1_of, min2_of, least_at}
 use Rattle.s2_settle.specs.Layer.{Held, held, AreLong, of_layer, with_layer, new_target, new_amount, change_in, layer}
 use Rattle.s2_minsum.proofs.Sames.{changed-same}
 
@@ -75,12 +75,12 @@ layer_put n r w q xs ys f some lt long width ylen are =
     ))
 
 -- what the rows' layer ensures
-pub record Ran (es : List Entry) (rests ts as' rests' ts' as'' : List ℕ) (n last reserve m : ℕ) : Type 0 where
+pub record Ran (es : List Circulant) (rests ts as' rests' ts' as'' : List ℕ) (n last reserve m : ℕ) : Type 0 where
   pub rests_long : length rests' ≡ length rests
   pub targets_long : length ts' ≡ n
   pub amounts_long : length as'' ≡ n
   pub targets : (c : ℕ) → c < n → get_or ts' c 0 ≡ least_at (λ e. received n es last rests ts as' e c) m
-  pub amounts : (c : ℕ) → c < n → get_or as'' c 0 ≡ gap reserve (first_of (λ e. received n es last rests ts as' e c) m) (second_of (λ e. received n es last rests ts as' e c) m)
+  pub amounts : (c : ℕ) → c < n → get_or as'' c 0 ≡ gap reserve (min1_of (λ e. received n es last rests ts as' e c) m) (min2_of (λ e. received n es last rests ts as' e c) m)
   pub changes : (p : ℕ) → p < length rests → get_or rests' p 0 ≡ changed n es rests (λ e c. cond (is_lacking last (entry_at es e) c) 0 (change (get_or ts c 0) (get_or as' c 0) (get_or ts' c 0) (get_or as'' c 0) e)) m p
 
 pub layer_is : (rows : Rows) (rests targets amounts rests' ts' as'' : List ℕ) (reserve r w : ℕ) → 1 ≤ rows.shape.group → AreLong rows (held rests targets amounts) → r < rows.shape.q → w ≡ rows.shape.group
@@ -99,13 +99,13 @@ layer_is rows rests targets amounts rests' ts' as'' reserve r w some long lt wid
     let a = layer_put n r w rows.shape.q amounts as'' (new_amount rows reserve r h) some lt long.amounts_long width ran.amounts_long ran.amounts in
     λ i. held (p i) (t i) (a i)
 
-pub gives : (rows : Rows) (rests targets amounts rests' ts' as'' : List ℕ) (reserve r n w last : ℕ) (es : List Entry) (ts as' : List ℕ) → 1 ≤ rows.shape.group → AreLong rows (held rests targets amounts) → r < rows.shape.q
+pub gives : (rows : Rows) (rests targets amounts rests' ts' as'' : List ℕ) (reserve r n w last : ℕ) (es : List Circulant) (ts as' : List ℕ) → 1 ≤ rows.shape.group → AreLong rows (held rests targets amounts) → r < rows.shape.q
     → rows.shape.group ≡ n → w ≡ n → lacked_row rows.shape r ≡ last → entries_of rows r ≡ es → of_layer n r targets ≡ ts → of_layer n r amounts ≡ as'
     → Ran es rests ts as' rests' ts' as'' n last reserve (length es)
     → held rests' (put_mid (r * n) w targets ts') (put_mid (r * n) w amounts as'') ≡ layer rows reserve (held rests targets amounts) r
 gives rows rests targets amounts rests' ts' as'' reserve r n w last es ts as' some long lt n_is width last_is es_is ts_is as_is ran =
     let g = rows.shape.group in
-    let r1 = subst (λ (x : List Entry). Ran x rests ts as' rests' ts' as'' n last reserve (length x)) (sym es_is) ran in
+    let r1 = subst (λ (x : List Circulant). Ran x rests ts as' rests' ts' as'' n last reserve (length x)) (sym es_is) ran in
     let r2 = subst (λ (x : ℕ). Ran (entries_of rows r) rests ts as' rests' ts' as'' n x reserve (length (entries_of rows r))) (sym last_is) r1 in
     let r3 = subst (λ (x : List ℕ). Ran (entries_of rows r) rests x as' rests' ts' as'' n (lacked_row rows.shape r) reserve (length (entries_of rows r))) (sym ts_is) r2 in
     let r4 = subst (λ (x : List ℕ). Ran (entries_of rows r) rests (of_layer n r targets) x rests' ts' as'' n (lacked_row rows.shape r) reserve (length (entries_of rows r))) (sym as_is) r3 in

@@ -9,7 +9,7 @@ use Rattle.s2_rows.specs.Rows.{Rows}
 use Rattle.s2_matrix.specs.Total.{total}
 use Rattle.s2_matrix.specs.Code.{code_of, members, checks_of}
 use Rattle.s2_matrix.proofs.Totals.{total-same, total-add}
-use Rattle.s2_minsum.specs.declared.rows.Entry.{Entry}
+use Rattle.s2_minsum.specs.declared.kernels.Circulant.{Circulant}
 use Rattle.s2_minsum.specs.Plain.{others}
 use Rattle.s2_minsum.specs.Rows.{is_lacking}
 use Rattle.s2_minsum.specs.Layout.{row_of_bit, lane_of_bit, forth, entry_of, entry_count, lacked_row, entries_of}
@@ -171,7 +171,7 @@ module _ (rows : Rows) (fit : AreFit rows) (reserve : ℕ) (few : reserve ≤ fi
       let bound = LayerSums.sum_small rows fit.shaped r layer gain 2097152 gain_small e i in
       let few' = fit.few i low in
       let own = rest_small rows fit st within i low in
-      let x : Entry = entry_of s b in
+      let x : Circulant = entry_of s b in
       let given : changed n es h.rests (change_in rows reserve r h) (suc e) p ≡ cond (row_of_bit s b == row) (plus32 so_far (cond lacking 0 (change (get_or h.targets (r * n + c) 0) (get_or h.amounts (r * n + c) 0) (new_target rows r h c) (new_amount rows reserve r h c) e))) so_far =
       (λ t. cond ((entry t).row == row_is t) (plus32 so_far (cond (is_lacking (lacked_row s r) (entry t) ((lane_is t + (entry t).shift) % n)) 0 (change (get_or h.targets (r * n + (lane_is t + (entry t).shift) % n) 0) (get_or h.amounts (r * n + (lane_is t + (entry t).shift) % n) 0) (new_target rows r h ((lane_is t + (entry t).shift) % n)) (new_amount rows reserve r h ((lane_is t + (entry t).shift) % n)) e))) so_far)
       in

@@ -14,7 +14,7 @@ use Rattle.s2_minsum.specs.Plain as minsum
 use Rattle.s2_minsum.proofs.Posteriors.{posterior_change}
 use Rattle.s2_minsum.specs.Layout.{row_of_bit, lane_of_bit, entry_count}
 use Rattle.s2_minsum.specs.Decoding.{AreFit}
-use Rattle.s2_minsum.proofs.Turning.{same_tests}
+use Rattle.s2_minsum.proofs.RotationFacts.{same_tests}
 use Rattle.s2_minsum.proofs.StepStates.{of_lane, lane_small}
 use Rattle.s2_bits.specs.Lanes32.{minus32, plus32}
 use Rattle.s2_settle.specs.declared.serving.Moved.{Moved}

@@ -6,7 +6,7 @@ use Rattle.std.proofs.Math.Nat.{mul-le-mul_right}
 use Rattle.s2_mode.specs.Shape.{Shape, IsShape, check_count}
 use Rattle.s2_matrix.proofs.Joins.{div_below}
 use Rattle.s2_matrix.specs.Code.{code_of, members}
-use Rattle.s2_minsum.specs.Rows.{no_entry, entry_at, turned}
+use Rattle.s2_minsum.specs.Rows.{no_entry, entry_at, rotated}
 use Rattle.s2_minsum.specs.Layout.{last_check, entry_of, entry_count, bit_of, entries_of}
 use Rattle.s2_minsum.specs.Decoding.{AreFit}
 use Rattle.s2_minsum.proofs.Places
@@ -26,15 +26,15 @@ module _ (rows : Rows) (l : AreFit rows) (r : ℕ) (layer : r < rows.shape.q) wh
   pub shift_low : (e : ℕ) → e < entry_count rows r → (entry_at (entries_of rows r) e).shift < rows.shape.group
   shift_low e lt = let some = l.shaped.group_some in rw (own e lt) (omega arith)
 
-  pub shown_some : (c e : ℕ) → e < entry_count rows r → shown rows r c e ≡ bit_of rows.shape (entry_at (entries_of rows r) e).row (turned rows.shape.group (entry_at (entries_of rows r) e).shift c)
+  pub shown_some : (c e : ℕ) → e < entry_count rows r → shown rows r c e ≡ bit_of rows.shape (entry_at (entries_of rows r) e).row (rotated rows.shape.group (entry_at (entries_of rows r) e).shift c)
   shown_some c e lt =
       let long = length-map (members (code_of rows) (last_check rows.shape r)) (entry_of rows.shape) in
-      ap (λ b. cond b (bit_of rows.shape (entry_at (entries_of rows r) e).row (turned rows.shape.group (entry_at (entries_of rows r) e).shift c)) 0) (lt-ltb e (length (entries_of rows r)) (omega (arith, long)))
+      ap (λ b. cond b (bit_of rows.shape (entry_at (entries_of rows r) e).row (rotated rows.shape.group (entry_at (entries_of rows r) e).shift c)) 0) (lt-ltb e (length (entries_of rows r)) (omega (arith, long)))
 
   pub shown_none : (c e : ℕ) → entry_count rows r ≤ e → shown rows r c e ≡ 0
   shown_none c e le =
       let long = length-map (members (code_of rows) (last_check rows.shape r)) (entry_of rows.shape) in
-      ap (λ b. cond b (bit_of rows.shape (entry_at (entries_of rows r) e).row (turned rows.shape.group (entry_at (entries_of rows r) e).shift c)) 0) (le-ltb e (length (entries_of rows r)) (omega (arith, long)))
+      ap (λ b. cond b (bit_of rows.shape (entry_at (entries_of rows r) e).row (rotated rows.shape.group (entry_at (entries_of rows r) e).shift c)) 0) (le-ltb e (length (entries_of rows r)) (omega (arith, long)))
 
 pub lane_low : (s : Shape) → IsShape s → (j : ℕ) → j < check_count s → j / s.q < s.group
 lane_low s shaped j lt = div_below j s.q s.group shaped.q_some (omega arith)

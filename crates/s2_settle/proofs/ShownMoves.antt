@@ -11,19 +11,19 @@ use Rattle.s2_rows.specs.Rows.{Rows}
 use Rattle.s2_matrix.specs.Total.{upto}
 use Rattle.s2_matrix.specs.Code.{code_of, members, checks_of, is_member}
 use Rattle.s2_matrix.proofs.Members.{members_rising, members_below, place_of, place_in_members}
-use Rattle.s2_minsum.specs.declared.rows.Entry.{Entry}
+use Rattle.s2_minsum.specs.declared.kernels.Circulant.{Circulant}
 use Rattle.s2_mode.specs.Limits.{max_soft}
-use Rattle.s2_minsum.specs.Rows.{no_entry, entry_at, cell, turned, is_lacking}
+use Rattle.s2_minsum.specs.Rows.{no_entry, entry_at, cell, rotated, is_lacking}
 use Rattle.s2_minsum.specs.Layout.{row_of_bit, lane_of_bit, bit_of, last_check, forth, back, entry_of, entry_count, lacked_row, entries_of}
 use Rattle.s2_minsum.proofs.Places
-use Rattle.s2_minsum.proofs.Turning.{same_tests}
+use Rattle.s2_minsum.proofs.RotationFacts.{same_tests}
 use Rattle.s2_minsum.proofs.Columns.{found, member_below, member_has, lacks, present, place_in}
 use Rattle.s2_minsum.proofs.Posteriors.{total_small}
 use Rattle.s2_minsum.proofs.StepStates.{lane_of, layer_of}
 use Rattle.s2_settle.specs.Rests.{given}
 use Rattle.s2_check.specs.Moves.{max_moved}
 use Rattle.s2_settle.specs.Plain.{settling_scale, first_reserve, State, raise, rest, input, new_target as to_target, new_amount as to_amount}
-use Rattle.s2_settle.specs.Layer.{Held, of_layer, gifts, new_target, new_amount}
+use Rattle.s2_settle.specs.Layer.{Held, of_layer, layer_inputs, new_target, new_amount}
 use Rattle.s2_settle.specs.Placing.{shown, place_of_check}
 use Rattle.s2_minsum.specs.Decoding.{AreFit}
 use Rattle.s2_settle.specs.Shows.{ShowsMoves, Shows, IsWithin}
@@ -71,7 +71,7 @@ module _ (rows : Rows) (fit : AreFit rows) (r : ℕ) (layer : r < rows.shape.q) 
   pub entry_is : (e : ℕ) → e < entry_count rows r → entry_at (entries_of rows r) e ≡ entry_of rows.shape (bit e)
   entry_is e lt = get_or-map (entry_of rows.shape) (members (code_of rows) (last_check rows.shape r)) e 0 no_entry lt
 
-  pub turn_is : (c e : ℕ) → e < entry_count rows r → turned rows.shape.group (rows.shape.group - 1 - lane_of_bit rows.shape (bit e)) c ≡ (lane_of_bit rows.shape (bit e) + 1 + c) % rows.shape.group
+  pub turn_is : (c e : ℕ) → e < entry_count rows r → rotated rows.shape.group (rows.shape.group - 1 - lane_of_bit rows.shape (bit e)) c ≡ (lane_of_bit rows.shape (bit e) + 1 + c) % rows.shape.group
   turn_is c e lt =
       let low = Places.lane_below rows.shape fit.shaped (bit e) (member_below rows fit.shaped r layer e lt) in
       ap (λ v. v % rows.shape.group) (omega arith)
@@ -79,7 +79,7 @@ module _ (rows : Rows) (fit : AreFit rows) (r : ℕ) (layer : r < rows.shape.q) 
   pub shown_is : (c e : ℕ) → e < entry_count rows r → shown rows r c e ≡ forth rows.shape c (bit e)
   shown_is c e lt =
       let s = rows.shape in
-      (λ i. cond (lt-ltb e (length (entries_of rows r)) (omega (arith, entries_long)) i) (bit_of s (entry_is e lt i).row (turned s.group (entry_is e lt i).shift c)) 0)
+      (λ i. cond (lt-ltb e (length (entries_of rows r)) (omega (arith, entries_long)) i) (bit_of s (entry_is e lt i).row (rotated s.group (entry_is e lt i).shift c)) 0)
       ∙ ap (bit_of s (row_of_bit s (bit e))) (turn_is c e lt)
 
   -- entries show other bits to one check
@@ -133,7 +133,7 @@ module _ (rows : Rows) (fit : AreFit rows) (r : ℕ) (layer : r < rows.shape.q) 
 
     -- what an entry's member gives
     abbrev own : ℕ → ℕ
-    own e = given (cell h.rests rows.shape.group (row_of_bit rows.shape (bit e)) (turned rows.shape.group (rows.shape.group - 1 - lane_of_bit rows.shape (bit e)) c)) target amount e
+    own e = given (cell h.rests rows.shape.group (row_of_bit rows.shape (bit e)) (rotated rows.shape.group (rows.shape.group - 1 - lane_of_bit rows.shape (bit e)) c)) target amount e
 
     pub target_kept : get_or h.targets (r * rows.shape.group + c) 0 ≡ target
     target_kept = sym (upto_at 0 (λ x. get_or h.targets (r * rows.shape.group + x) 0) rows.shape.group c small)
@@ -147,9 +147,9 @@ module _ (rows : Rows) (fit : AreFit rows) (r : ℕ) (layer : r < rows.shape.q) 
     bit_low : (e : ℕ) → e < entry_count rows r → bit e < code_bits rows.shape
     bit_low e lt = member_below rows fit.shaped r layer e lt
 
-    gift : (e : ℕ) → e < entry_count rows r → gifts rows r h c e ≡ cond (is_lacking (lacked_row rows.shape r) (entry_of rows.shape (bit e)) c) 4294967295 (own e)
+    gift : (e : ℕ) → e < entry_count rows r → layer_inputs rows r h c e ≡ cond (is_lacking (lacked_row rows.shape r) (entry_of rows.shape (bit e)) c) 4294967295 (own e)
     gift e lt =
-        ap (λ (x : Entry). cond (is_lacking (lacked_row rows.shape r) x c) 4294967295 (given (cell h.rests rows.shape.group x.row (turned rows.shape.group x.shift c)) target amount e)) (entry_is e lt)
+        ap (λ (x : Circulant). cond (is_lacking (lacked_row rows.shape r) x c) 4294967295 (given (cell h.rests rows.shape.group x.row (rotated rows.shape.group x.shift c)) target amount e)) (entry_is e lt)
 
     gave : (e : ℕ) → e < entry_count rows r → pos (own e) ≡ pos 2147483648 +ℤ input (code_of rows) st (r + c * rows.shape.q) (forth rows.shape c (bit e))
     gave e lt =
@@ -159,11 +159,11 @@ module _ (rows : Rows) (fit : AreFit rows) (r : ℕ) (layer : r < rows.shape.q) 
         let x_low = Places.forth_below s fit.shaped c (bit e) (bit_low e lt) in
         let row = Places.row_forth s fit.shaped c (bit e) (bit_low e lt) in
         let lane = Places.lane_forth s fit.shaped c (bit e) (bit_low e lt) ∙ sym (turn_is c e lt) in
-        let at : pos (cell h.rests n (row_of_bit s (bit e)) (turned n (n - 1 - lane_of_bit s (bit e)) c)) ≡ pos 2147483648 +ℤ rest (code_of rows) st x = sym (λ i. pos (cell h.rests n (row i) (lane i))) ∙ shows.rests x x_low in
+        let at : pos (cell h.rests n (row_of_bit s (bit e)) (rotated n (n - 1 - lane_of_bit s (bit e)) c)) ≡ pos 2147483648 +ℤ rest (code_of rows) st x = sym (λ i. pos (cell h.rests n (row i) (lane i))) ∙ shows.rests x x_low in
         let raised = raise_shown h.targets h.amounts st shows.moves c e target amount small lt target_kept amount_kept in
         let few : amount ≤ 1048576 = omega (arith, raised.0, within.amounts (r + c * s.q)) in
         let bound = rest_small rows fit st within x x_low in
-        given_is (cell h.rests n (row_of_bit s (bit e)) (turned n (n - 1 - lane_of_bit s (bit e)) c)) amount (rest (code_of rows) st x) (target == e) at (omega (arith, bound)) few
+        given_is (cell h.rests n (row_of_bit s (bit e)) (rotated n (n - 1 - lane_of_bit s (bit e)) c)) amount (rest (code_of rows) st x) (target == e) at (omega (arith, bound)) few
         ∙ ap (λ z. pos 2147483648 +ℤ (rest (code_of rows) st x -ℤ z)) raised.1
 
     -- the entry that shows a member
@@ -199,7 +199,7 @@ module _ (rows : Rows) (fit : AreFit rows) (r : ℕ) (layer : r < rows.shape.q) 
         omega (arith, ints, one, two)
 
     -- the inputs that a lane takes are those of its check's members
-    pub lanes : Lanes (gifts rows r h c) (length (entries_of rows r)) (input (code_of rows) st (r + c * rows.shape.q)) (members (code_of rows) (r + c * rows.shape.q)) (λ e. forth rows.shape c (bit e)) (λ e. is_lacking (lacked_row rows.shape r) (entry_of rows.shape (bit e)) c) (λ y. position_or_len (λ m. m == back rows.shape c y) (members (code_of rows) (last_check rows.shape r)))
+    pub lanes : Lanes (layer_inputs rows r h c) (length (entries_of rows r)) (input (code_of rows) st (r + c * rows.shape.q)) (members (code_of rows) (r + c * rows.shape.q)) (λ e. forth rows.shape c (bit e)) (λ e. is_lacking (lacked_row rows.shape r) (entry_of rows.shape (bit e)) c) (λ y. position_or_len (λ m. m == back rows.shape c y) (members (code_of rows) (last_check rows.shape r)))
     lanes =
         let j = r + c * rows.shape.q in
         let ms = members (code_of rows) j in
@@ -218,13 +218,13 @@ module _ (rows : Rows) (fit : AreFit rows) (r : ℕ) (layer : r < rows.shape.q) 
 
     pub lane_amount : (reserve : ℕ) → reserve ≤ first_reserve → new_amount rows reserve r h c ≡ to_amount (code_of rows) reserve st (r + c * rows.shape.q)
     lane_amount reserve few =
-        amount_is (gifts rows r h c) (length (entries_of rows r)) (input (code_of rows) st (r + c * rows.shape.q)) (members (code_of rows) (r + c * rows.shape.q)) (λ e. forth rows.shape c (bit e)) (λ e. is_lacking (lacked_row rows.shape r) (entry_of rows.shape (bit e)) c) (λ y. position_or_len (λ m. m == back rows.shape c y) (members (code_of rows) (last_check rows.shape r))) lanes reserve few
+        amount_is (layer_inputs rows r h c) (length (entries_of rows r)) (input (code_of rows) st (r + c * rows.shape.q)) (members (code_of rows) (r + c * rows.shape.q)) (λ e. forth rows.shape c (bit e)) (λ e. is_lacking (lacked_row rows.shape r) (entry_of rows.shape (bit e)) c) (λ y. position_or_len (λ m. m == back rows.shape c y) (members (code_of rows) (last_check rows.shape r))) lanes reserve few
 
     pub lane_within : new_target rows r h c < entry_count rows r
     lane_within =
-        omega (arith, entries_long, target_low (gifts rows r h c) (length (entries_of rows r)) (input (code_of rows) st (r + c * rows.shape.q)) (members (code_of rows) (r + c * rows.shape.q)) (λ e. forth rows.shape c (bit e)) (λ e. is_lacking (lacked_row rows.shape r) (entry_of rows.shape (bit e)) c) (λ y. position_or_len (λ m. m == back rows.shape c y) (members (code_of rows) (last_check rows.shape r))) lanes)
+        omega (arith, entries_long, target_low (layer_inputs rows r h c) (length (entries_of rows r)) (input (code_of rows) st (r + c * rows.shape.q)) (members (code_of rows) (r + c * rows.shape.q)) (λ e. forth rows.shape c (bit e)) (λ e. is_lacking (lacked_row rows.shape r) (entry_of rows.shape (bit e)) c) (λ y. position_or_len (λ m. m == back rows.shape c y) (members (code_of rows) (last_check rows.shape r))) lanes)
 
     pub lane_target : (reserve : ℕ) → reserve ≤ first_reserve → 0 < to_amount (code_of rows) reserve st (r + c * rows.shape.q) → shown rows r c (new_target rows r h c) ≡ to_target (code_of rows) st (r + c * rows.shape.q)
     lane_target reserve few some =
         shown_is c (new_target rows r h c) lane_within
-        ∙ target_is (gifts rows r h c) (length (entries_of rows r)) (input (code_of rows) st (r + c * rows.shape.q)) (members (code_of rows) (r + c * rows.shape.q)) (λ e. forth rows.shape c (bit e)) (λ e. is_lacking (lacked_row rows.shape r) (entry_of rows.shape (bit e)) c) (λ y. position_or_len (λ m. m == back rows.shape c y) (members (code_of rows) (last_check rows.shape r))) lanes reserve few some
+        ∙ target_is (layer_inputs rows r h c) (length (entries_of rows r)) (input (code_of rows) st (r + c * rows.shape.q)) (members (code_of rows) (r + c * rows.shape.q)) (λ e. forth rows.shape c (bit e)) (λ e. is_lacking (lacked_row rows.shape r) (entry_of rows.shape (bit e)) c) (λ y. position_or_len (λ m. m == back rows.shape c y) (members (code_of rows) (last_check rows.shape r))) lanes reserve few some

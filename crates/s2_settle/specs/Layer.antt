@@ -6,7 +6,7 @@ use Rattle.s2_matrix.specs.Total.{upto}
 use Rattle.s2_minsum.specs.Rows.{entry_at, is_lacking}
 use Rattle.s2_minsum.specs.Layout.{entries_of, lacked_row}
 use Rattle.s2_settle.specs.Rests.{change, changed, gap, received}
-use Rattle.s2_settle.specs.Nodes.{first_of, second_of, least_at}
+use Rattle.s2_settle.specs.Nodes.{min1_of, min2_of, least_at}
 
 -- the rest of each place, as a word of 32 bits that is 2^31 higher; of each check, layer by layer, the entry of its
 -- target and its amount
@@ -28,18 +28,18 @@ abbrev pub with_layer : ℕ → ℕ → List ℕ → (ℕ → ℕ) → List ℕ
 with_layer n r xs f =
     map (λ k. if k / n == r then f (k % n) else get_or xs k 0) (upto (length xs))
 
--- what the members of layer r give to the check in lane c
-abbrev pub gifts : Rows → ℕ → Held → ℕ → ℕ → ℕ
-gifts rows r h c e =
+-- the inputs of the check in lane c of layer r, by the entry of each member
+abbrev pub layer_inputs : Rows → ℕ → Held → ℕ → ℕ → ℕ
+layer_inputs rows r h c e =
     received rows.shape.group (entries_of rows r) (lacked_row rows.shape r) h.rests (of_layer rows.shape.group r h.targets) (of_layer rows.shape.group r h.amounts) e c
 
 -- the entry to which the check in lane c moves, and the amount
 abbrev pub new_target : Rows → ℕ → Held → ℕ → ℕ
-new_target rows r h c = least_at (gifts rows r h c) (length (entries_of rows r))
+new_target rows r h c = least_at (layer_inputs rows r h c) (length (entries_of rows r))
 
 abbrev pub new_amount : Rows → ℕ → ℕ → Held → ℕ → ℕ
 new_amount rows reserve r h c =
-    gap reserve (first_of (gifts rows r h c) (length (entries_of rows r))) (second_of (gifts rows r h c) (length (entries_of rows r)))
+    gap reserve (min1_of (layer_inputs rows r h c) (length (entries_of rows r))) (min2_of (layer_inputs rows r h c) (length (entries_of rows r)))
 
 -- the change of the rest of its member at entry e
 abbrev pub change_in : Rows → ℕ → ℕ → Held → ℕ → ℕ → ℕ

@@ -4,7 +4,7 @@ use Rattle.s2_mode.specs.Shape.{Shape}
 use Rattle.s2_rows.specs.Rows.{Rows}
 use Rattle.s2_matrix.specs.Total.{upto}
 use Rattle.s2_matrix.specs.Code.{code_of, members}
-use Rattle.s2_minsum.specs.Rows.{turned, entry_at}
+use Rattle.s2_minsum.specs.Rows.{rotated, entry_at}
 use Rattle.s2_minsum.specs.Layout.{bit_of, entries_of}
 use Rattle.s2_check.specs.Moves.{Move, max_moved}
 use Rattle.s2_settle.specs.Plain.{State}
@@ -13,7 +13,7 @@ use Rattle.s2_settle.specs.Settled.{move_to, moves_in}
 -- the bit that an entry of layer r shows to the check in lane c; 0 without such an entry
 abbrev pub shown : Rows → ℕ → ℕ → ℕ → ℕ
 shown rows r c e = if nat_lt e (length (entries_of rows r)) then
-    bit_of rows.shape (entry_at (entries_of rows r) e).row (turned rows.shape.group (entry_at (entries_of rows r) e).shift c) else 0
+    bit_of rows.shape (entry_at (entries_of rows r) e).row (rotated rows.shape.group (entry_at (entries_of rows r) e).shift c) else 0
 
 -- the place of the target and the amount of check j
 abbrev pub place_of_check : Shape → ℕ → ℕ

@@ -1,5 +1,5 @@
--- Settling over a code (this project's own: the standard leaves decoding free). Each check moves an amount to one of its members from
--- its others, until no bit lacks: until each rest in favour of the word is at least 1.
+-- Settling over a code (this project's own: the standard leaves decoding free). Each check moves an amount to one of
+-- its members from its others, until no bit lacks: until each rest in favour of the word is at least 1.
 use Rattle.std.specs.Prelude.{ℕ, zero, suc, ◌+◌, ◌-◌, ◌*◌, ◌/◌, ◌%◌, ◌==◌, ◌&&◌, ◌||◌, min, max, nat_lt, nat_le, Bool, if◌then◌else◌, List, [], ◌∷◌, ◌++◌, fold, filter, count_by, ℤ, pos, neg_ℤ, ◌+ℤ◌, ◌-ℤ◌, ◌*ℤ◌, int_lt, unsigned_abs, Option, None, Some}
 use Rattle.std.specs.List.{list_any}
 use Rattle.s2_matrix.specs.Total.{total, upto}
@@ -15,7 +15,7 @@ use Rattle.s2_settle.specs.declared.course.Course.{Course}
 abbrev pub settling_scale : ℕ
 settling_scale = 16
 
--- the reserve of the first passes, and the number of these passes
+-- the reserve of the first passes
 abbrev pub first_reserve : ℕ
 first_reserve = 256
 
@@ -39,7 +39,7 @@ max_fall = 64
 abbrev pub bits_a_few : ℕ
 bits_a_few = 200
 
--- the first pass before which settling can be given up, and by which part the lacking bits grow where it is
+-- the first pass before which settling can be given up
 abbrev pub first_end : ℕ
 first_end = 3
 
@@ -95,7 +95,7 @@ abbrev pub least_of : (ℕ → ℤ) → List ℕ → ℕ
 least_of f [] = 0
 least_of f (m ∷ ms) = fold (λ k i. if int_lt (f i) (f k) then i else k) m ms
 
--- half of what input b is above input a and the reserve, at most `max_moved`; nothing where it is not above
+-- half of the amount by which input b exceeds input a and the reserve, at most `max_moved`; nothing if it does not
 abbrev pub half_gap : ℕ → ℤ → ℤ → ℕ
 half_gap reserve a b =
     if int_lt (a +ℤ pos reserve) b then min (unsigned_abs (b -ℤ a -ℤ pos reserve) / 2) max_moved else 0

@@ -1,9 +1,9 @@
 -- Rests as words of 32 bits, each 2^31 higher than it is, and how a check's moves change them (own).
 use Rattle.std.specs.Prelude.{ℕ, ◌/◌, ◌==◌, min, max, nat_lt, not, ◌&&◌, Bool, if◌then◌else◌, List, get_or, count_by}
 use Rattle.s2_bits.specs.Lanes32.{minus32, plus32}
-use Rattle.s2_minsum.specs.declared.rows.Entry.{Entry}
+use Rattle.s2_minsum.specs.declared.kernels.Circulant.{Circulant}
 use Rattle.s2_check.specs.Moves.{max_moved}
-use Rattle.s2_minsum.specs.Rows.{turned, cell, entry_at, is_lacking, changed_by}
+use Rattle.s2_minsum.specs.Rows.{rotated, cell, entry_at, is_lacking, changed_by}
 
 -- the word of a rest of 0
 abbrev pub zero_rest : ℕ
@@ -27,8 +27,8 @@ given rest target amount e = if target == e then minus32 rest amount else plus32
 
 -- the amount moved to the least rest, by the least other one and the reserve
 abbrev pub gap : ℕ → ℕ → ℕ → ℕ
-gap reserve first second =
-    min (minus32 (max (minus32 second first) reserve) reserve / 2) max_moved
+gap reserve min1 min2 =
+    min (minus32 (max (minus32 min2 min1) reserve) reserve / 2) max_moved
 
 -- the change of the rest of member e
 abbrev pub change : ℕ → ℕ → ℕ → ℕ → ℕ → ℕ
@@ -37,20 +37,20 @@ change old_target old_amount target amount e =
 
 -- the place of the least number so far
 abbrev pub seen_at : ℕ → ℕ → ℕ → ℕ → ℕ
-seen_at at first x e = if min first x == first then at else e
+seen_at at min1 x e = if min min1 x == min1 then at else e
 
 -- what place p holds once the changes of the first entries are added
-abbrev pub changed : ℕ → List Entry → List ℕ → (ℕ → ℕ → ℕ) → ℕ → ℕ → ℕ
+abbrev pub changed : ℕ → List Circulant → List ℕ → (ℕ → ℕ → ℕ) → ℕ → ℕ → ℕ
 changed = changed_by plus32
 
 -- the input that the member at entry e gives to the check in lane c, by the check's target and amount; more than any
 -- rest if there is no member
-abbrev pub received_by : ℕ → List Entry → ℕ → List ℕ → ℕ → ℕ → ℕ → ℕ → ℕ
+abbrev pub received_by : ℕ → List Circulant → ℕ → List ℕ → ℕ → ℕ → ℕ → ℕ → ℕ
 received_by n entries last rests target amount c e =
-    if is_lacking last (entry_at entries e) c then no_rest else given (cell rests n (entry_at entries e).row (turned n (entry_at entries e).shift c)) target amount e
+    if is_lacking last (entry_at entries e) c then no_rest else given (cell rests n (entry_at entries e).row (rotated n (entry_at entries e).shift c)) target amount e
 
 -- the same with the targets and amounts of all lanes
-abbrev pub received : ℕ → List Entry → ℕ → List ℕ → List ℕ → List ℕ → ℕ → ℕ → ℕ
+abbrev pub received : ℕ → List Circulant → ℕ → List ℕ → List ℕ → List ℕ → ℕ → ℕ → ℕ
 received n entries last rests targets amounts e c =
     received_by n entries last rests (get_or targets c 0) (get_or amounts c 0) c e
 

@@ -1,5 +1,5 @@
 -- The certificate that passes find (own): their moves check by check, if their bound reaches the scaled cost and every
--- rest is at least 1..
+-- rest is at least 1.
 use Rattle.std.specs.Prelude.{ℕ, ◌==◌, nat_lt, Bool, not, ◌&&◌, if◌then◌else◌, List, map, length, ℤ, pos, ◌*ℤ◌, int_lt, Option, None, Some}
 use Rattle.std.specs.List.{position_or_len, list_all}
 use Rattle.s2_rows.specs.Rows.{Rows}

@@ -12,7 +12,7 @@ use crate::limits::LEAST_REST;
 use crate::waiting::Waiting;
 use s2_matrix::Matrix;
 
-/// The checks of a bit are called.
+/// Calls the checks of a bit.
 fn call_checks(matrix: &Matrix, bit: usize, waiting: &mut Waiting)
     requires bit { bit < (code_of matrix.now).bits }
     requires room { waiting.old.room ≡ (code_of matrix.now).checks }
@@ -23,7 +23,7 @@ fn call_checks(matrix: &Matrix, bit: usize, waiting: &mut Waiting)
     }
 }
 
-/// The checks of a bit are called if its rest is below 1.
+/// Calls the checks of a bit if its rest is below 1.
 pub(crate) fn call_if_lacking(matrix: &Matrix, rest: u32, bit: usize, waiting: &mut Waiting)
     requires bit { bit < (code_of matrix.now).bits }
     requires room { waiting.old.room ≡ (code_of matrix.now).checks }
@@ -34,7 +34,7 @@ pub(crate) fn call_if_lacking(matrix: &Matrix, rest: u32, bit: usize, waiting: &
     }
 }
 
-/// The checks of the information bits that lack are called, whose rests stand in their order.
+/// Calls the checks of the information bits that lack. Their rests are in the bits' order.
 fn call_information(matrix: &Matrix, rests: &[u32], waiting: &mut Waiting)
     requires long { length rests.now ≡ code_bits matrix.now.shape }
     requires room { waiting.old.room ≡ (code_of matrix.now).checks }
@@ -46,8 +46,8 @@ fn call_information(matrix: &Matrix, rests: &[u32], waiting: &mut Waiting)
     }
 }
 
-/// The checks of the parity bits that lack are called: bit by bit, each behind the one before in the next row, and
-/// behind the last row in the next lane.
+/// Calls the checks of the parity bits that lack, bit by bit. The next bit is in the next row, and after the last row
+/// in the next lane.
 fn call_parity(matrix: &Matrix, rests: &[u32], waiting: &mut Waiting)
     requires long { length rests.now ≡ code_bits matrix.now.shape }
     requires room { waiting.old.room ≡ (code_of matrix.now).checks }
@@ -70,7 +70,7 @@ fn call_parity(matrix: &Matrix, rests: &[u32], waiting: &mut Waiting)
     }
 }
 
-/// The checks of the bits that lack are called.
+/// Calls the checks of the bits that lack.
 pub(crate) fn call_lacking(matrix: &Matrix, rests: &[u32], waiting: &mut Waiting)
     requires long { length rests.now ≡ code_bits matrix.now.shape }
     requires room { waiting.old.room ≡ (code_of matrix.now).checks }

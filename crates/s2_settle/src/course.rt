@@ -1,15 +1,14 @@
-//! The course of settling: what is held in reserve, when there is a queue, and when settling is given up.
+//! The course of settling: the reserve, when there is a queue, and when settling is given up.
 ghost use Rattle.std.specs.Prelude.{◌≡◌, ◌≤◌, ◌-◌, nat_lt, if◌then◌else◌};
 ghost use Rattle.s2_mode.specs.Limits.{max_bits};
 ghost use Rattle.s2_matrix.specs.Code.{Code};
 ghost use Rattle.s2_settle.specs.Plain.{full_passes, fall, is_hopeless, is_time, at_first, after};
 
 use crate::limits::{
-    BITS_A_FEW, FALL_PART, FIRST_END, FIRST_RESERVE, FULL_PASSES, GROWTH_PART, LEAST_FALL,
-    MAX_FALL,
+    BITS_A_FEW, FALL_PART, FIRST_END, FIRST_RESERVE, FULL_PASSES, GROWTH_PART, LEAST_FALL, MAX_FALL,
 };
 
-/// What is held in reserve, how many bits lacked before the last pass, and how many before the last queue.
+/// The reserve, and the numbers of bits that lacked before the last pass and before the last queue.
 #[derive(Clone, Copy)]
 pub(crate) struct Course {
     pub(crate) reserve: u32,
@@ -17,7 +16,7 @@ pub(crate) struct Course {
     pub(crate) tried: usize,
 }
 
-/// By how much the reserve falls where so many bits lacked before, and lack now.
+/// The fall of the reserve, by the numbers of bits that lacked before, and that lack now.
 fn fall(before: usize, now: usize) -> u32
     requires { before ≤ max_bits }
     ensures { result ≡ fall before now }
@@ -47,7 +46,7 @@ pub(crate) fn is_time(bits: usize, tried: usize, now: usize) -> bool
 }
 
 impl Course {
-    /// The course of a code of so many bits before the first pass.
+    /// The course before the first pass, for a code with this number of bits.
     pub(crate) fn at_first(bits: usize) -> Course
         ensures { (code : Code) → code.bits ≡ bits → result ≡ at_first code }
     {
@@ -58,7 +57,7 @@ impl Course {
         }
     }
 
-    /// The reserve from a pass on before which so many bits lack.
+    /// The reserve from a pass on, by the number of bits that lack before it.
     fn next_reserve(self, pass: u32, now: usize) -> u32
         requires { self.before ≤ max_bits }
         ensures { result ≡ (if nat_lt pass full_passes then self.reserve else self.reserve - fall self.before now) }
@@ -70,7 +69,7 @@ impl Course {
         }
     }
 
-    /// The course from a pass on before which so many bits lack.
+    /// The course from a pass on, by the number of bits that lack before it.
     pub(crate) fn after(self, bits: usize, pass: u32, now: usize) -> Course
         requires before { self.before ≤ max_bits }
         requires now { now ≤ max_bits }

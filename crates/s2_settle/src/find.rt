@@ -16,7 +16,7 @@ use s2_check::Move;
 use s2_matrix::Matrix;
 use s2_minsum::Layers;
 
-/// Finds moves in at most so many passes, and writes them check by check: whether there are.
+/// Finds moves in at most this number of passes, and writes them check by check. Returns whether it found them.
 pub(crate) fn find_moves(
     matrix: &Matrix,
     layers: &Layers<'_>,

@@ -27,7 +27,7 @@ use s2_minsum::Layers;
 use std::alloc::{AllocError, Global};
 use std::marker::Model;
 
-/// The rest of each place, and of each check, layer by layer, the entry of its target and its amount. To contracts it
+/// The rest of each place; and of each check, layer by layer, the entry of its target and its amount. To contracts it
 /// is these three lists.
 pub(crate) struct Held {
     rests: Vec<u32>,
@@ -119,7 +119,7 @@ impl Held {
         count_lacking(&self.rests)
     }
 
-    /// The checks of the bits that lack are called.
+    /// Calls the checks of the bits that lack.
     pub(crate) fn call_lacking(&self, matrix: &Matrix, waiting: &mut Waiting)
         requires long { AreLong matrix.now self.now }
         requires room { waiting.old.room ≡ (code_of matrix.now).checks }
@@ -128,8 +128,8 @@ impl Held {
         call_lacking(matrix, &self.rests, waiting);
     }
 
-    /// A check takes its move back and moves anew, with no reserve, and calls the checks of its members that then lack
-    /// and whose rests that changed.
+    /// A check takes its move back and moves anew, with no reserve. It calls the checks of its members whose rests
+    /// changed and that then lack.
     pub(crate) fn serve(
         &mut self,
         matrix: &Matrix,

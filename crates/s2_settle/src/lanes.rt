@@ -1,4 +1,4 @@
-//! Four words at a time, beside what [`s2_bits::lanes32`] has of them.
+//! Operations on four words at a time that [`s2_bits::lanes32`] does not have.
 ghost use Rattle.std.specs.Prelude.{◌/◌, ◌==◌, if◌then◌else◌};
 ghost use Rattle.s2_bits.specs.Lanes.{HasLanes, lane};
 ghost use Rattle.s2_bits.specs.Lanes32.{minus32};
@@ -15,7 +15,7 @@ pub(crate) fn half(a: u32x4) -> u32x4
     a / u32x4::splat(2)
 }
 
-/// What members e give.
+/// The inputs of members e: their rests with the checks' moves taken back.
 #[inline(always)]
 pub(crate) fn given(rest: u32x4, target: u32x4, amount: u32x4, e: u32x4) -> u32x4
     ensures { HasLanes 4 (λ k. given (lane rest k) (lane target k) (lane amount k) (lane e k)) result }
@@ -23,12 +23,12 @@ pub(crate) fn given(rest: u32x4, target: u32x4, amount: u32x4, e: u32x4) -> u32x
     where_same(target, e, minus(rest, amount), plus(rest, amount))
 }
 
-/// What is moved.
+/// The amount that is moved.
 #[inline(always)]
-pub(crate) fn gap(reserve: u32x4, first: u32x4, second: u32x4) -> u32x4
-    ensures { HasLanes 4 (λ k. gap (lane reserve k) (lane first k) (lane second k)) result }
+pub(crate) fn gap(reserve: u32x4, min1: u32x4, min2: u32x4) -> u32x4
+    ensures { HasLanes 4 (λ k. gap (lane reserve k) (lane min1 k) (lane min2 k)) result }
 {
-    let free = minus(most(minus(second, first), reserve), reserve);
+    let free = minus(most(minus(min2, min1), reserve), reserve);
     least(half(free), all(MAX_MOVED))
 }
 
@@ -40,7 +40,7 @@ pub(crate) fn moved(target: u32x4, amount: u32x4, e: u32x4) -> u32x4
     where_same(target, e, amount, minus(all(0), amount))
 }
 
-/// By how much the rests of members e change.
+/// The changes of the rests of members e.
 #[inline(always)]
 pub(crate) fn change(
     old_target: u32x4,

@@ -8,7 +8,7 @@ use crate::limits::{
     MAX_FALL, MAX_SERVED, SETTLING_SCALE,
 };
 
-/// What is settled for a codeword is a strict certificate of these values and this word.
+/// A certificate settled for a codeword is strict, and of these values and this word.
 pub fn settled()
     ensures { SettledLaw }
 {}
@@ -18,13 +18,13 @@ pub fn start()
     ensures { StartLaw }
 {}
 
-/// Where rows and lanes show a state of checks and members, they show its layer after their layer.
+/// If rows and lanes show a state of checks and members, they show its layer after their layer.
 pub fn layer()
     ensures { LayerLaw }
 {}
 
-/// Where a check is served over rows and lanes that show a state, they show the state in which it is served, and just
-/// the checks that it calls there are called.
+/// If rows and lanes show a state and a check is served there, they show the state in which it is served. The same
+/// checks are called as in that state.
 pub fn serve()
     ensures { ServeLaw }
 {}

@@ -1,21 +1,26 @@
 //! Certificates for noisy frames: settling, the second maker of splits.
 //!
-//! It stands beside the maker of greedy amounts (`s2_split`), in the place of its spreading: where links run,
-//! it finds a certificate for nearly every codeword that min-sum decodes. Each check moves an amount to the
-//! least of its members' rests from the others, layer by layer; how far a rest must lie below the next one
-//! before anything is moved is held in reserve, which falls as fast as the number of lacking bits. So a rest is
-//! lifted above zero, and its neighbours are not dragged to exactly zero. When few bits lack, a queue serves only
-//! the checks around them, one after another. An attempt ends early when the lacking bits grow. The rule is this
-//! project's own and stands in `specs/Plain.antt`, by checks and their members.
+//! It works beside the maker of greedy amounts (`s2_split`), and replaces its spreading. On links that work, it
+//! finds a certificate for nearly every codeword that min-sum decodes. Each check moves an amount from its
+//! other members to the one with the least rest, layer by layer. Nothing is moved unless the least rest is
+//! below the next one by more than a reserve. The reserve falls as fast as the number of lacking bits, those
+//! whose rest is below 1. So a rest is lifted above zero, and its neighbours are not dragged to exactly zero.
+//! When few bits lack, a queue serves only the checks around them, one after another. An attempt ends early
+//! when the lacking bits grow. This project's own rule is in `specs/Plain.antt`, by checks and their members.
 //!
-//! [`Settler::certify`] finds exactly what the definition `settled` says of its arguments and the matrix, and
-//! only what the checker of certificates accepts and finds strict; a refusal of the checker is a `false`. That
-//! passes lead to a certificate is not promised. [`Settler::held`] shows what was found. Only [`Settler::new`]
-//! takes memory.
+//! In the literature's words, settling is dual coordinate ascent by layers, with the reserve as a margin. The
+//! certificate is a dual solution of LP decoding. Its rests are the reduced costs: the slack of the dual
+//! constraints.
 //!
-//! The settler keeps rests in rows of a group, and a layer's targets and amounts in rows of as many lanes, one
-//! check a lane, so that all checks of a layer go at once. That the rows and lanes are the checks and members is
-//! said by laws ([`laws::start`], [`laws::layer`], [`laws::serve`]); none of it shows in a clause of [`Settler`].
+//! [`Settler::certify`] finds exactly what the definition `settled` says of its arguments and the matrix. It
+//! returns `true` only if the checker of certificates accepts the result and finds it strict. It is not
+//! promised that passes lead to a certificate. [`Settler::held`] shows the certificate found. Only
+//! [`Settler::new`] takes memory.
+//!
+//! The settler keeps rests in rows of a group, and a layer's targets and amounts in rows of the same number of
+//! lanes. There is one check a lane, so all checks of a layer are processed at once. Laws say that the rows and
+//! lanes are the checks and members ([`laws::start`], [`laws::layer`], [`laws::serve`]). None of it shows in a
+//! clause of [`Settler`].
 //!
 //! ```text
 //! let mut settler = Settler::new(alloc, &matrix)?;
@@ -29,6 +34,7 @@ mod calling;
 mod course;
 mod find;
 mod held;
+mod kernels;
 mod lacking;
 mod lanes;
 pub mod laws;
@@ -38,7 +44,6 @@ mod moves;
 mod one_layer;
 mod passes;
 mod queue;
-mod rows;
 mod serving;
 mod settler;
 mod start;

@@ -1,34 +1,34 @@
 //! The numbers of the settling rule, all in one place.
 
-/// What a soft value is multiplied by: rests, reserves and amounts count in sixteenths of one. With soft values up to 511
-/// and at most 24 moves of 2^20 a rest's size stays below 2^25, well within 32 bits.
+/// The factor of soft values: rests, reserves and amounts count in sixteenths of one. With soft values up to 511 and at
+/// most 24 moves of 2^20 a rest's magnitude stays below 2^25, well within 32 bits.
 pub const SETTLING_SCALE: u16 = 16;
 
-/// What is held in reserve at first.
+/// The first reserve.
 pub const FIRST_RESERVE: u32 = 256;
 
-/// In so many passes.
+/// The number of passes with the first reserve.
 pub const FULL_PASSES: u32 = 2;
 
 /// Before each later pass the reserve falls by this part of the share by which the lacking bits became fewer.
 pub const FALL_PART: usize = 320;
 
-/// By no less than this.
+/// The least fall.
 pub const LEAST_FALL: usize = 12;
 
-/// By no more than this.
+/// The largest fall.
 pub const MAX_FALL: usize = 64;
 
-/// Few bits lack where at most one in so many does.
+/// Few bits lack if at most one in this number does.
 pub const BITS_A_FEW: usize = 200;
 
 /// The first pass before which settling can be given up.
 pub const FIRST_END: u32 = 3;
 
-/// It is given up where the lacking bits have grown by one in so many since the pass before.
+/// It is given up if the lacking bits have grown by one in this number since the pass before.
 pub const GROWTH_PART: usize = 64;
 
-/// How many checks a queue serves at most.
+/// The largest number of checks that a queue serves.
 pub const MAX_SERVED: u32 = 4000;
 
 /// The word of a rest of 0.

@@ -3,7 +3,7 @@ ghost use Rattle.std.specs.Prelude.{◌≡◌, ℕ, ◌≤◌, ◌<◌, ◌+◌,
 ghost use Rattle.s2_mode.specs.Limits.{max_bits};
 ghost use Rattle.s2_mode.specs.Shape.{code_bits};
 ghost use Rattle.s2_matrix.specs.Code.{code_of};
-ghost use Rattle.s2_minsum.specs.Rows.{turned};
+ghost use Rattle.s2_minsum.specs.Rows.{rotated};
 ghost use Rattle.s2_minsum.specs.Layout.{bit_of};
 ghost use Rattle.s2_settle.specs.Settled.{move_to};
 ghost use Rattle.s2_settle.specs.Placing.{shown, moves_of};
@@ -11,24 +11,24 @@ ghost use Rattle.s2_settle.specs.Holding.{AreMoves};
 
 use s2_check::{MAX_MOVED, Move};
 use s2_matrix::Matrix;
-use s2_minsum::{Entry, Layers, first_bit, place_among, step_of};
+use s2_minsum::{Circulant, Layers, first_bit, place_among, step_of};
 use s2_mode::Shape;
 
 /// The bit that an entry shows to the check in a lane.
-fn shown_by(shape: Shape, entry: Entry, lane: usize) -> usize
+fn shown_by(shape: Shape, entry: Circulant, lane: usize) -> usize
     requires row { entry.row < shape.groups + shape.q }
-    requires turn { entry.shift < shape.group }
+    requires rotation { entry.shift < shape.group }
     requires lane { lane < shape.group }
-    ensures is { result ≡ bit_of shape entry.row (turned shape.group entry.shift lane) }
+    ensures is { result ≡ bit_of shape entry.row (rotated shape.group entry.shift lane) }
     ensures few { result < code_bits shape }
 {
     let n = shape.group();
     let row = entry.row as usize;
-    let turned = (lane + n - entry.shift as usize) % n;
-    first_bit(shape, row) + turned * step_of(shape, row)
+    let rotated = (lane + n - entry.shift as usize) % n;
+    first_bit(shape, row) + rotated * step_of(shape, row)
 }
 
-/// The bit that an entry of a layer shows to the check in a lane; 0 where there is no such entry.
+/// The bit that an entry of a layer shows to the check in a lane; 0 if there is no such entry.
 pub(crate) fn target_of(
     matrix: &Matrix,
     layers: &Layers<'_>,

@@ -35,7 +35,7 @@ fn run_pass(
     }
 }
 
-/// Runs a queue if it is time, and says how many bits lack then.
+/// Runs a queue if it is time, and returns the number of bits that lack then.
 fn begin(
     matrix: &Matrix,
     layers: &Layers<'_>,
@@ -61,7 +61,7 @@ fn begin(
     held.lacking()
 }
 
-/// At most so many passes, until no bit lacks: whether none does then.
+/// Runs at most this number of passes, until no bit lacks. Returns whether none lacks then.
 pub(crate) fn run_passes(
     matrix: &Matrix,
     layers: &Layers<'_>,

@@ -12,7 +12,7 @@ use crate::waiting::Waiting;
 use s2_matrix::Matrix;
 use s2_minsum::Layers;
 
-/// Serves the checks that wait, one after another, so many at most.
+/// Serves the checks that wait, one after another, at most [`MAX_SERVED`] of them.
 fn serve_waiting(matrix: &Matrix, layers: &Layers<'_>, held: &mut Held, waiting: &mut Waiting)
     requires layers { layers.now ≡ matrix.now }
     requires fit { AreFit matrix.now }

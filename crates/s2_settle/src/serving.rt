@@ -4,10 +4,10 @@ ghost use Rattle.s2_mode.specs.Limits.{max_bits};
 ghost use Rattle.s2_mode.specs.Shape.{code_bits};
 ghost use Rattle.s2_matrix.specs.Code.{code_of};
 ghost use Rattle.s2_bits.specs.Lanes32.{minus32};
-ghost use Rattle.s2_minsum.specs.Rows.{turned, AreIn};
+ghost use Rattle.s2_minsum.specs.Rows.{rotated, AreIn};
 ghost use Rattle.s2_minsum.specs.Layout.{row_of_bit, lane_of_bit};
 ghost use Rattle.s2_settle.specs.Rests.{gap, received_by};
-ghost use Rattle.s2_settle.specs.Nodes.{first_of, second_of, least_at};
+ghost use Rattle.s2_settle.specs.Nodes.{min1_of, min2_of, least_at};
 ghost use Rattle.s2_settle.specs.Layer.{held, AreLong};
 ghost use Rattle.s2_settle.specs.Placing.{shown};
 ghost use Rattle.s2_settle.specs.Serving.{IsShifted, IsServed};
@@ -17,10 +17,10 @@ use crate::moves::target_of;
 use crate::waiting::Waiting;
 use s2_check::MAX_MOVED;
 use s2_matrix::Matrix;
-use s2_minsum::{Entry, Layers, last_row};
+use s2_minsum::{Circulant, Layers, last_row};
 use s2_mode::Shape;
 
-/// A move of a check: to which of its members, and how much.
+/// A move of a check: its target among the members, and its amount.
 #[derive(Clone, Copy)]
 pub(crate) struct Moved {
     target: u32,
@@ -28,7 +28,7 @@ pub(crate) struct Moved {
 }
 
 impl Moved {
-    /// By how much it raises the rest of a member.
+    /// The amount by which it raises the rest of a member.
     fn raise(self, member: u32) -> u32
         ensures { result ≡ (if self.target == member then self.amount else minus32 0 self.amount) }
     {
@@ -41,25 +41,25 @@ impl Moved {
 }
 
 /// The place that an entry shows to the check in a lane.
-fn place_of_entry(entry: Entry, n: usize, lane: usize) -> usize
+fn place_of_entry(entry: Circulant, n: usize, lane: usize) -> usize
     requires few { n ≤ max_bits }
     requires rows { entry.row * n + n ≤ max_bits }
-    requires turn { entry.shift ≤ n }
+    requires rotation { entry.shift ≤ n }
     requires lane { lane < n }
-    ensures { result ≡ entry.row * n + turned n entry.shift lane }
+    ensures { result ≡ entry.row * n + rotated n entry.shift lane }
 {
     let shift = entry.shift as usize;
-    let turned = if lane < shift {
+    let rotated = if lane < shift {
         lane + n - shift
     } else {
         lane - shift
     };
-    entry.row as usize * n + turned
+    entry.row as usize * n + rotated
 }
 
-/// What the member at an entry gives to the check in a lane; more than any rest where it lacks one.
-fn receive_one(
-    entries: &[Entry],
+/// The input of the member at an entry to the check in a lane; more than any rest if the check lacks it.
+fn gather_one(
+    entries: &[Circulant],
     n: usize,
     last: usize,
     rests: &[u32],
@@ -86,9 +86,9 @@ fn receive_one(
     }
 }
 
-/// The move of the check in a lane, to an entry, by what its members give.
+/// The move of the check in a lane, to an entry, by its inputs.
 fn choose(
-    entries: &[Entry],
+    entries: &[Circulant],
     n: usize,
     last: usize,
     rests: &[u32],
@@ -100,25 +100,25 @@ fn choose(
     requires many { length entries.now ≤ max_bits }
     requires lane { lane < n }
     ensures target { result.target ≡ least_at (received_by n entries.now last rests.now before.target before.amount lane) (length entries.now) }
-    ensures amount { result.amount ≡ gap 0 (first_of (received_by n entries.now last rests.now before.target before.amount lane) (length entries.now)) (second_of (received_by n entries.now last rests.now before.target before.amount lane) (length entries.now)) }
+    ensures amount { result.amount ≡ gap 0 (min1_of (received_by n entries.now last rests.now before.target before.amount lane) (length entries.now)) (min2_of (received_by n entries.now last rests.now before.target before.amount lane) (length entries.now)) }
 {
-    let mut first = u32::MAX;
-    let mut second = u32::MAX;
+    let mut min1 = u32::MAX;
+    let mut min2 = u32::MAX;
     let mut target = 0u32;
     for e in 0..entries.len() {
-        let given = receive_one(entries, n, last, rests, before, lane, e);
-        let lower = first.min(given);
-        target = if lower == first { target } else { e as u32 };
-        second = second.min(first.max(given));
-        first = lower;
+        let given = gather_one(entries, n, last, rests, before, lane, e);
+        let lower = min1.min(given);
+        target = if lower == min1 { target } else { e as u32 };
+        min2 = min2.min(min1.max(given));
+        min1 = lower;
     }
     Moved {
         target,
-        amount: (second.wrapping_sub(first) / 2).min(MAX_MOVED),
+        amount: (min2.wrapping_sub(min1) / 2).min(MAX_MOVED),
     }
 }
 
-/// Where the rest of a bit stands.
+/// The place of a bit's rest.
 fn place_of(shape: Shape, bit: usize) -> usize
     requires { bit < code_bits shape }
     ensures is { result ≡ row_of_bit shape bit * shape.group + lane_of_bit shape bit }
@@ -132,7 +132,7 @@ fn place_of(shape: Shape, bit: usize) -> usize
     (shape.groups() + j % shape.q()) * shape.group() + j / shape.q()
 }
 
-/// The rests of a check's members change by its moves, and the checks of those that change and then lack are called.
+/// Changes the rests of a check's members by its moves. Calls the checks of those that change and then lack.
 fn shift(
     matrix: &Matrix,
     check: usize,
@@ -159,8 +159,8 @@ fn shift(
     }
 }
 
-/// A check takes its move back and moves anew, with no reserve, and calls the checks of its members that then lack and
-/// whose rests that changed.
+/// A check takes its move back and moves anew, with no reserve. It calls the checks of its members whose rests changed
+/// and that then lack.
 pub(crate) fn serve(
     matrix: &Matrix,
     layers: &Layers<'_>,

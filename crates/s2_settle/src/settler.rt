@@ -53,8 +53,8 @@ impl<'a> Model for Settler<'a> {
 }
 
 impl<'a> Settler<'a> {
-    /// A settler for the words of this matrix. It takes all its memory here: `AllocError` only where
-    /// memory is refused.
+    /// A settler for the words of this matrix. It takes all its memory here. Returns `AllocError` only if memory is
+    /// refused.
     pub fn new(alloc: Global, matrix: &'a Matrix) -> Result<Settler<'a>, AllocError>
         ensures { IfOk result (λ s. s.rows ≡ matrix.now) }
     {
@@ -78,8 +78,8 @@ impl<'a> Settler<'a> {
         })
     }
 
-    /// Whether at most so many passes find a certificate for a codeword, which is strict. The moves that are then
-    /// held are its moves.
+    /// Returns whether at most this number of passes find a certificate for a codeword, which is strict. The held moves
+    /// are then its moves.
     pub fn certify(&mut self, soft: &[i16], word: &Bits, passes: u32) -> bool
         requires soft { length soft.now ≡ (code_of self.old.rows).bits }
         requires range { All IsSoft soft.now }

@@ -26,7 +26,7 @@ fn started(soft: &[i16], word: &[bool], i: usize) -> u32
     }
 }
 
-/// Writes the rests of the bits that stand `step` places apart.
+/// Writes the rests of bits `step` places apart.
 fn put_row(row: &mut [u32], soft: &[i16], word: &[bool], first: usize, step: usize)
     requires range { All IsSoft soft.now }
     requires few { length soft.now ≤ max_bits }

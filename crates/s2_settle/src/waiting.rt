@@ -48,7 +48,7 @@ impl Model for Waiting {
 }
 
 impl Waiting {
-    /// Room for so many checks, of which none waits.
+    /// Room for this number of checks; none waits.
     pub(crate) fn of(alloc: Global, checks: usize) -> Result<Waiting, AllocError>
         requires some { 1 ≤ checks }
         requires few { checks ≤ max_bits }
@@ -64,7 +64,7 @@ impl Waiting {
         })
     }
 
-    /// A check comes behind those that wait, unless it waits.
+    /// Adds a check after those that wait, unless it waits already.
     pub(crate) fn call(&mut self, check: u32)
         requires { check < self.old.room }
         ensures { self.new ≡ waiting self.old.room (call self.old.checks check) }

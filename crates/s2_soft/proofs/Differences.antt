@@ -9,7 +9,7 @@ use Rattle.s2_bits.proofs.Words16.{word_low, negative_word}
 use Rattle.s2_mode.specs.Limits.{max_soft}
 use Rattle.s2_soft.specs.Divisors.{IsDivisor}
 use Rattle.s2_soft.specs.Soft.{quantized}
-use Rattle.s2_soft.specs.Lanes.{number, times32, size32}
+use Rattle.s2_soft.specs.Lanes.{number, times32, magnitude32}
 use Rattle.s2_soft.specs.Closed.{along, across, axis, nearest, IsInner, IsNearest, first_difference, second_difference, third_difference}
 use Rattle.s2_soft.proofs.DivisorLemmas.{by_divisors}
 use Rattle.s2_soft.proofs.Sizes.{along_inner, across_inner, axis_inner, neg_inner, nearest_is}
@@ -53,7 +53,7 @@ sum_holds v w y z u h g sum inner = record { fits = omega arith; is = omega (ari
 difference_holds : (v w : ℕ) (y z u : ℤ) → Holds v y → Holds w z → u ≡ y -ℤ z → IsInner u → Holds (minus32 v w) u
 difference_holds v w y z u h g sum inner = record { fits = omega arith; is = omega (arith, ints, h.is, g.is, h.fits, g.fits, sum, inner); inner = inner }
 
-size_is : (w : ℕ) (z : ℤ) → Holds w z → pos (size32 w) ≡ int_max z (neg_ℤ z)
+size_is : (w : ℕ) (z : ℤ) → Holds w z → pos (magnitude32 w) ≡ int_max z (neg_ℤ z)
 size_is w z h = omega (arith, ints, clamps, h.is, h.fits, h.inner)
 
 raised_is : (w c : ℕ) (z : ℤ) → Holds w z → 100000000 ≤ c → c ≤ 1000000000 → pos (plus32 w c) ≡ z +ℤ pos c
@@ -108,7 +108,7 @@ abbrev pub on_axis : ℕ → ℕ
 on_axis w = times32 w 1980
 
 abbrev pub beside : ℕ → ℕ
-beside w = plus32 (size32 (between w)) 134217828
+beside w = plus32 (magnitude32 (between w)) 134217828
 
 abbrev pub above : ℕ → ℕ
 above w = plus32 (on_axis w) 134217728
@@ -118,8 +118,8 @@ below w = minus32 134217728 (on_axis w)
 
 abbrev pub first_word : ℕ → ℕ → ℕ
 first_word a b =
-    minus32 (max (plus32 (size32 (plus32 (between a) (between b))) 100) (size32 (on_axis a)))
-    (max (plus32 (size32 (minus32 (between a) (between b))) 100) (size32 (on_axis b)))
+    minus32 (max (plus32 (magnitude32 (plus32 (between a) (between b))) 100) (magnitude32 (on_axis a)))
+    (max (plus32 (magnitude32 (minus32 (between a) (between b))) 100) (magnitude32 (on_axis b)))
 
 abbrev pub second_word : ℕ → ℕ → ℕ
 second_word a b =
@@ -208,7 +208,7 @@ third_is a b ca cb =
 
 -- the word of 16 bits of the soft value of a difference
 abbrev pub soft_size : ℕ → ℕ → ℕ
-soft_size d x = min (size32 x / d) max_soft
+soft_size d x = min (magnitude32 x / d) max_soft
 
 abbrev pub soft_word : ℕ → ℕ → ℕ
 soft_word d x = cond (eqb (x / 2147483648) 1) (minus32 65536 (soft_size d x)) (soft_size d x) % 65536
@@ -233,12 +233,12 @@ opposite q = omega arith
 
 pub soft_word_is : (d : ℕ) → IsDivisor d → (x : ℕ) → x < 4294967296 → signed16 (soft_word d x) ≡ quantized d (number x)
 soft_word_is d known x fits =
-    let q = size32 x / d in
+    let q = magnitude32 x / d in
     elim (cases_lt x 2147483648) [
       | inl lt ↦ (
           let plain : x / 2147483648 ≢ 1 = omega arith in
           let test : eqb (x / 2147483648) 1 ≡ false = ne_eqb (x / 2147483648) 1 plain in
-          let size : size32 x ≡ x = omega arith in
+          let size : magnitude32 x ≡ x = omega arith in
           ap (λ b. signed16 (cond b (minus32 65536 (soft_size d x)) (soft_size d x) % 65536)) test
           ∙ ap signed16 (whole q)
           ∙ word_low (soft_size d x) (small q)
@@ -249,7 +249,7 @@ soft_word_is d known x fits =
       | inr le ↦ (
           let one : x / 2147483648 ≡ 1 = omega arith in
           let test : eqb (x / 2147483648) 1 ≡ true = eq-eqb (x / 2147483648) 1 one in
-          let size : size32 x ≡ 4294967296 - x = omega arith in
+          let size : magnitude32 x ≡ 4294967296 - x = omega arith in
           ap (λ b. signed16 (cond b (minus32 65536 (soft_size d x)) (soft_size d x) % 65536)) test
           ∙ ap signed16 (opposite q)
           ∙ negative_word (soft_size d x) (small q)

@@ -2,7 +2,7 @@
 use Rattle.std.proofs.Common.{◌≡◌, ◌≢◌, ℕ, ◌-◌, ◌*◌, ◌/◌, ◌<◌, min, cond, eqb, true, false, pos, neg_ℤ, ap, ◌∙◌, sym, inl, inr, arith}
 use Rattle.std.proofs.lemmas.Bool.{cases_lt, eq-eqb, ne_eqb}
 use Rattle.std.proofs.lemmas.Int.{ints, clamps}
-use Rattle.s2_bits.specs.Lanes16.{signed16, minus16, size16}
+use Rattle.s2_bits.specs.Lanes16.{signed16, minus16, magnitude16}
 use Rattle.s2_bits.proofs.Words16.{word_low, word_high, negative_word}
 use Rattle.s2_mode.specs.Limits.{max_soft}
 use Rattle.s2_soft.specs.Divisors.{IsDivisor, factor_of}
@@ -28,7 +28,7 @@ below d known s =
 -- the word of a soft value
 abbrev pub value_word : ℕ → ℕ → ℕ
 value_word f v =
-    cond (eqb (v / 32768) 1) (minus16 0 (value_size f (size16 v))) (value_size f (size16 v))
+    cond (eqb (v / 32768) 1) (minus16 0 (value_size f (magnitude16 v))) (value_size f (magnitude16 v))
 
 pub value_word_is : (d : ℕ) → IsDivisor d → (v : ℕ) → v < 65536 → signed16 (value_word (factor_of d) v) ≡ quantized d (component_difference (signed16 v))
 value_word_is d known v low =
@@ -37,9 +37,9 @@ value_word_is d known v low =
       | inl lt ↦ (
           let plain : v / 32768 ≢ 1 = omega arith in
           let test : eqb (v / 32768) 1 ≡ false = ne_eqb (v / 32768) 1 plain in
-          let size : size16 v ≡ v = omega arith in
-          ap (λ b. signed16 (cond b (minus16 0 (value_size f (size16 v))) (value_size f (size16 v)))) test
-          ∙ word_low (value_size f (size16 v)) (small (size16 v * f / 65536))
+          let size : magnitude16 v ≡ v = omega arith in
+          ap (λ b. signed16 (cond b (minus16 0 (value_size f (magnitude16 v))) (value_size f (magnitude16 v)))) test
+          ∙ word_low (value_size f (magnitude16 v)) (small (magnitude16 v * f / 65536))
           ∙ ap (λ s. pos (value_size f s)) size
           ∙ above d known v
           ∙ ap (λ z. quantized d (component_difference z)) (sym (word_low v lt))
@@ -47,9 +47,9 @@ value_word_is d known v low =
       | inr le ↦ (
           let one : v / 32768 ≡ 1 = omega arith in
           let test : eqb (v / 32768) 1 ≡ true = eq-eqb (v / 32768) 1 one in
-          let size : size16 v ≡ 65536 - v = omega arith in
-          ap (λ b. signed16 (cond b (minus16 0 (value_size f (size16 v))) (value_size f (size16 v)))) test
-          ∙ negative_word (value_size f (size16 v)) (small (size16 v * f / 65536))
+          let size : magnitude16 v ≡ 65536 - v = omega arith in
+          ap (λ b. signed16 (cond b (minus16 0 (value_size f (magnitude16 v))) (value_size f (magnitude16 v)))) test
+          ∙ negative_word (value_size f (magnitude16 v)) (small (magnitude16 v * f / 65536))
           ∙ ap (λ s. neg_ℤ (pos (value_size f s))) size
           ∙ below d known (65536 - v)
           ∙ ap (λ z. quantized d (component_difference z)) (sym (word_high v le low))

@@ -1,4 +1,4 @@
--- What only the clauses of the code itself speak of: the differences of least squared distances in closed form (own).
+-- The differences of least squared distances in closed form, for the clauses of the code itself (own).
 use Rattle.std.specs.Prelude.{ℕ, ◌*◌, ◌-◌, ℤ, pos, neg_ℤ, ◌+ℤ◌, ◌-ℤ◌, ◌*ℤ◌, ◌≤ℤ◌}
 use Rattle.std.specs.Int.{int_max}
 use Rattle.s2_map.specs.Constants.{diagonal, axis as on_axis}
@@ -35,7 +35,7 @@ second_difference i q = nearest (along i q) (across i q) (axis i) (axis q) -ℤ 
 abbrev pub third_difference : ℤ → ℤ → ℤ
 third_difference i q = nearest (along i q) (neg_ℤ (across i q)) (neg_ℤ (axis i)) (axis q) -ℤ nearest (neg_ℤ (along i q)) (across i q) (axis i) (neg_ℤ (axis q))
 
--- what twice an inner product with a symbol of 16 bits lies in
+-- the range of twice an inner product with a symbol of 16 bits
 pub record IsInner (z : ℤ) : Type 0 where
   pub low : neg_ℤ (pos 100000000) ≤ℤ z
   pub high : z ≤ℤ pos 100000000

@@ -1,9 +1,9 @@
--- By what differences of squared distances are divided (own).
+-- Divisors of differences of squared distances (own).
 use Rattle.std.specs.Prelude.{◌≡◌, ℕ, ◌*◌, ◌/◌, List, [], ◌∷◌, Contains}
 use Rattle.s2_map.specs.Constants.{diagonal}
 use Rattle.s2_soft.specs.declared.divisor.TheConstants.{DEFAULT_DIVISOR, DIVISORS}
 
--- the divisors that there are, from the finest soft values to the coarsest
+-- the divisors, from the finest soft values to the coarsest
 abbrev pub divisors : List ℕ
 divisors = 4096 ∷ 8192 ∷ 16384 ∷ 32768 ∷ 65536 ∷ []
 

@@ -1,4 +1,4 @@
--- What lanes hold of symbols: their components, and inner products, as words in two's complement (own).
+-- The lanes of symbols: their components, and inner products, as words in two's complement (own).
 use Rattle.std.specs.Prelude.{◌<◌, ℕ, ◌*◌, ◌%◌, ◌/◌, ◌==◌, min, if◌then◌else◌, List, ℤ}
 use Rattle.std.specs.Int.{cast_signed}
 use Rattle.s2_mode.specs.declared.symbols.Symbol.{Symbol}
@@ -20,9 +20,9 @@ number v = cast_signed w32 v
 abbrev pub times32 : ℕ → ℕ → ℕ
 times32 a b = a * b % 4294967296
 
--- how far a word of 32 bits is from 0
-abbrev pub size32 : ℕ → ℕ
-size32 v = min v (minus32 0 v)
+-- the magnitude of a word of 32 bits
+abbrev pub magnitude32 : ℕ → ℕ
+magnitude32 v = min v (minus32 0 v)
 
 -- the lanes represent components of 16 bits
 abbrev pub AreComponents : List ℕ → Type 0

@@ -31,7 +31,7 @@ abbrev pub least_distance : Mode → Symbol → ℕ → Bool → ℤ
 least_distance m s j b =
     least (map (λ l. squared_distance s (point_of m l)) (with_bit (width_of m) j b (range_with_len 0 (2 ^ width_of m))))
 
--- Divided toward zero by a divisor, and limited to -511 .. 511
+-- divided toward zero by a divisor, and limited to -511 .. 511
 abbrev pub quantized : ℕ → ℤ → ℤ
 quantized divisor d = int_max (neg_ℤ (pos max_soft)) (int_min (pos max_soft) (int_div d (pos divisor)))
 

@@ -1,21 +1,21 @@
-//! By what differences of squared distances are divided.
+//! Divisors of differences of squared distances.
 ghost use Rattle.std.specs.Prelude.{◌≡◌, ◌↔◌, ◌≤◌, ◌^◌, IsSome, IfSome};
 ghost use Rattle.s2_soft.specs.Divisors.{IsDivisor, default_divisor, factor_of};
 
 use s2_map::DIAGONAL;
 use std::marker::Model;
 
-/// The divisors that there are, from the finest soft values to the coarsest.
+/// The divisors, from the finest soft values to the coarsest.
 pub const DIVISORS: [u32; 5] = [4096, 8192, 16384, 32768, 65536];
 
-/// The divisor where none is named.
+/// The divisor if none is named.
 pub const DEFAULT_DIVISOR: u32 = 4096;
 
-/// By what differences of squared distances are divided: one of [`DIVISORS`]. Its value is that number.
+/// A divisor of differences of squared distances: one of [`DIVISORS`]. Its value is that number.
 ///
-/// Twice the divisor halves the soft values. By 4096 a QPSK point of 700 has the soft value 478, and what is
-/// over 1.07 times as large is cut off at [`s2_mode::MAX_SOFT`]; where noise is strong, as at low rates, 8192
-/// loses less. Symbols of a larger amplitude want a larger one in proportion.
+/// Twice the divisor halves the soft values. With 4096, a QPSK point of 700 has the soft value 478, and components over
+/// 1.07 times as large are clipped to [`s2_mode::MAX_SOFT`]. If noise is strong, as at low rates, 8192 loses less.
+/// Symbols of a larger amplitude need a divisor that is larger in proportion.
 #[derive(Clone, Copy, Debug, PartialEq, Eq)]
 pub struct Divisor {
     number: u32,
@@ -38,7 +38,7 @@ impl Model for Divisor {
     ghost inverse_ok = { λ d held. λ t. record { number = d.number; factor = sym held.1 t } };
 }
 
-/// What multiplies a component of QPSK where 65536 divides the product.
+/// The multiplier of a QPSK component if 65536 divides the product.
 fn factor_of(number: u32) -> u16
     requires { IsDivisor number }
     ensures { result ≡ factor_of number }
@@ -70,7 +70,7 @@ impl Divisor {
         }
     }
 
-    /// The divisor where none is named.
+    /// The divisor if none is named.
     pub fn usual() -> Divisor
         ensures { result ≡ default_divisor }
     {
@@ -85,7 +85,7 @@ impl Divisor {
         self.number
     }
 
-    /// Which power of two it is.
+    /// Its logarithm to base 2.
     pub(crate) fn shift(self) -> u32
         ensures power { self ≡ 2 ^ result }
         ensures most { result ≤ 16 }
@@ -100,7 +100,7 @@ impl Divisor {
         }
     }
 
-    /// What multiplies a component of QPSK where 65536 divides the product.
+    /// The multiplier of a QPSK component if 65536 divides the product.
     pub(crate) fn factor(self) -> u16
         ensures is { result ≡ factor_of self }
         ensures known { IsDivisor self }

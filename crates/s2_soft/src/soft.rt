@@ -1,4 +1,4 @@
-//! Soft values of a payload.
+//! Soft values (quantized LLRs) of a payload.
 ghost use Rattle.std.specs.Prelude.{◌≡◌, ℕ, ◌+◌, ◌*◌, ◌/◌, ◌%◌, ◌<◌, false, length};
 ghost use Rattle.s2_mode.specs.Mode.{is_qpsk, n_of, slots_of, width_of};
 ghost use Rattle.s2_mode.specs.Symbols.{symbol_at};
@@ -8,19 +8,19 @@ ghost use Rattle.s2_soft.specs.Lanes.{component_at};
 ghost use Rattle.s2_soft.specs.Closed.{component_difference, first_difference, second_difference, third_difference};
 
 use crate::divisor::Divisor;
-use crate::lanes::{component_values, components, store};
-use crate::quads::{
+use crate::psk8::{
     self, first_differences, numbers, pairs, second_differences, third_differences, upper_numbers,
 };
+use crate::qpsk::{component_values, components, store};
 use crate::values::{component_value, psk_values};
 use s2_map::PSK_3_5;
 use s2_mode::{Mode, Symbol};
 
 /// Writes the soft values of a payload whose scrambling is undone, in the order of the codeword's bits.
-/// A value is how much nearer the symbol is to the points with 0 at the bit's place of their labels
-/// (EN 302 307-1, 5.4) than to those with 1: the difference of the least squared distances, divided
-/// by `divisor` toward zero and held within -[`s2_mode::MAX_SOFT`] to
-/// [`s2_mode::MAX_SOFT`]. Any components are taken.
+///
+/// The value of a bit is the least squared distance to a point whose label has 1 at the bit's place (EN 302 307-1,
+/// 5.4), less that to a point with 0 there. This difference is divided by `divisor` toward zero and limited to
+/// -[`s2_mode::MAX_SOFT`] to [`s2_mode::MAX_SOFT`]. Any components are accepted.
 ///
 /// `payload` has 90 symbols for each slot of the mode: 32400 or 8100 for QPSK, 21600 or 5400 for 8PSK.
 /// `soft` has a value for each of the codeword's 64800 bits (normal frames) or 16200 (short ones).
@@ -34,14 +34,14 @@ pub fn soft_into(mode: Mode, divisor: Divisor, payload: &[Symbol], soft: &mut [i
     ensures range { (k : ℕ) → InRange (value_at soft.new k) }
 {
     if mode.is_qpsk() {
-        pairs_into(divisor, payload, soft);
+        qpsk_into(divisor, payload, soft);
     } else {
-        rows_into(mode, divisor, payload, soft);
+        psk8_into(mode, divisor, payload, soft);
     }
 }
 
 /// QPSK: each component of whole fours of symbols is the soft value of a bit.
-fn pairs_by_fours(divisor: Divisor, payload: &[Symbol], soft: &mut [i16])
+fn qpsk_by_fours(divisor: Divisor, payload: &[Symbol], soft: &mut [i16])
     requires { length soft.old ≡ 2 * length payload.now }
     ensures { (b : ℕ) → b < length payload.now / 4 * 8 → value_at soft.new b ≡ quantized divisor (component_difference (component_at payload.now b)) }
 {
@@ -53,11 +53,11 @@ fn pairs_by_fours(divisor: Divisor, payload: &[Symbol], soft: &mut [i16])
 }
 
 /// QPSK: each component is the soft value of a bit.
-pub(crate) fn pairs_into(divisor: Divisor, payload: &[Symbol], soft: &mut [i16])
+pub(crate) fn qpsk_into(divisor: Divisor, payload: &[Symbol], soft: &mut [i16])
     requires { length soft.old ≡ 2 * length payload.now }
     ensures { (b : ℕ) → b < 2 * length payload.now → value_at soft.new b ≡ quantized divisor (component_difference (component_at payload.now b)) }
 {
-    pairs_by_fours(divisor, payload, soft);
+    qpsk_by_fours(divisor, payload, soft);
     for s in payload.len() / 4 * 4..payload.len() {
         let Symbol { i, q } = payload[s];
         soft[2 * s] = component_value(divisor, i);
@@ -65,8 +65,8 @@ pub(crate) fn pairs_into(divisor: Divisor, payload: &[Symbol], soft: &mut [i16])
     }
 }
 
-/// 8PSK: the codeword is three columns, which are sent from the first or from the last one.
-fn rows_into(mode: Mode, divisor: Divisor, payload: &[Symbol], soft: &mut [i16])
+/// 8PSK: the codeword is three columns, sent from the first one or from the last one.
+fn psk8_into(mode: Mode, divisor: Divisor, payload: &[Symbol], soft: &mut [i16])
     requires psk { is_qpsk mode ≡ false }
     requires codeword { length soft.old ≡ n_of mode }
     requires rows { n_of mode ≡ 3 * length payload.now }
@@ -102,13 +102,9 @@ fn columns_by_fours(
         let pairs = pairs(payload, at);
         let i = numbers(pairs);
         let q = upper_numbers(pairs);
-        quads::store(quads::quantized(first_differences(i, q), shift), first, at);
-        quads::store(
-            quads::quantized(second_differences(i, q), shift),
-            second,
-            at,
-        );
-        quads::store(quads::quantized(third_differences(i, q), shift), third, at);
+        psk8::store(psk8::quantized(first_differences(i, q), shift), first, at);
+        psk8::store(psk8::quantized(second_differences(i, q), shift), second, at);
+        psk8::store(psk8::quantized(third_differences(i, q), shift), third, at);
     }
 }
 

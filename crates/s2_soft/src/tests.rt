@@ -2,7 +2,7 @@
 ghost use Rattle.std.specs.Prelude.{◌≡◌, ◌*◌, ◌<◌, length};
 
 use crate::divisor::Divisor;
-use crate::soft::{columns_into, pairs_into};
+use crate::soft::{columns_into, qpsk_into};
 use crate::soft_into;
 use s2_mode::{MAX_SOFT, Mode, Symbol};
 use std::test::Fail;
@@ -281,7 +281,7 @@ fn qpsk_of_each_length(rt: HostRuntime) -> Result<(), Fail> {
         let symbols = edges(step, cap);
         for n in 0..14usize {
             let values = &mut soft[..2 * n];
-            pairs_into(divisor, &symbols[..n], values);
+            qpsk_into(divisor, &symbols[..n], values);
             assert!(rt; are_of_qpsk(number, &symbols[..n], values));
         }
     }

@@ -7,16 +7,16 @@ use crate::divisor::Divisor;
 use s2_map::{AXIS, DIAGONAL};
 use s2_mode::{MAX_SOFT, Symbol};
 
-/// What multiplies a component of QPSK in a difference of squared distances.
+/// The multiplier of a QPSK component in a difference of squared distances.
 const ALONG: i32 = 4 * DIAGONAL as i32;
 
-/// What multiplies both components in twice an inner product with a point between the axes.
+/// The multiplier of both components in twice an inner product with a point between the axes.
 pub(crate) const BETWEEN: i32 = 2 * DIAGONAL as i32;
 
-/// What multiplies a component in twice an inner product with a point on an axis.
+/// The multiplier of a component in twice an inner product with a point on an axis.
 pub(crate) const ON_AXIS: i32 = 2 * AXIS as i32;
 
-/// By how much the squared length of a point on an axis is larger than that of one between them.
+/// The squared length of a point on an axis less that of a point between the axes.
 pub(crate) const LONGER: i32 = AXIS as i32 * AXIS as i32 - 2 * DIAGONAL as i32 * DIAGONAL as i32;
 
 /// A difference of squared distances as a soft value.
@@ -114,7 +114,7 @@ fn nearest(a: i32, b: i32, x: i32, y: i32) -> i32
     (a.max(b) + LONGER).max(x.max(y))
 }
 
-/// By how much a symbol is nearer to the points of a zero than to those of a one, as a soft value.
+/// The soft value of a bit, from `nearest` of the points with 0 and of those with 1.
 #[inline(always)]
 fn nearer(divisor: Divisor, zero: i32, one: i32) -> i16
     requires zero { IsNearest zero }

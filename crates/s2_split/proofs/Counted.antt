@@ -82,9 +82,9 @@ counted_same code rests later counts counted same = record {
   each = λ j low. counted.each j low ∙ sym (count_same (is_negative_at rests) (is_negative_at later) (members code j) (λ k d _. same (get_or (members code j) k d)));
 }
 
--- the count of a check of a bit whose sign turns
+-- the count of a check of a bit whose sign changes
 abbrev pub turned_at : Bool → List ℕ → ℕ → ℕ
-turned_at turns_negative counts j = cond turns_negative (get_or counts j 0 + 1) (get_or counts j 0 - 1)
+turned_at becomes_negative counts j = cond becomes_negative (get_or counts j 0 + 1) (get_or counts j 0 - 1)
 
 module _ (code : Code) (rests later : List ℤ) (bit : ℕ) (below : bit < code.bits) (same : (k : ℕ) → k ≢ bit → get_or later k (pos 0) ≡ get_or rests k (pos 0)) where
   same_sign : (k : ℕ) → k ≢ bit → is_negative_at later k ≡ is_negative_at rests k
@@ -94,7 +94,7 @@ module _ (code : Code) (rests later : List ℤ) (bit : ℕ) (below : bit < code.
   in_others j none =
       count_same (is_negative_at rests) (is_negative_at later) (members code j) (λ k d within. same_sign (get_or (members code j) k d) (λ here. both_ways (code.has j bit) none (sym (ap (code.has j) here) ∙ filter_passes (code.has j) (upto code.bits) k d within)))
 
-  in_its : (turns_negative : Bool) (j n : ℕ) → code.has j bit ≡ true → n ≡ negatives_in code rests j → is_negative_at rests bit ≡ not turns_negative → is_negative_at later bit ≡ turns_negative → cond turns_negative (n + 1) (n - 1) ≡ negatives_in code later j
+  in_its : (becomes_negative : Bool) (j n : ℕ) → code.has j bit ≡ true → n ≡ negatives_in code rests j → is_negative_at rests bit ≡ not becomes_negative → is_negative_at later bit ≡ becomes_negative → cond becomes_negative (n + 1) (n - 1) ≡ negatives_in code later j
   in_its true j n has is was will =
       let more = count_turned (is_negative_at rests) (is_negative_at later) bit (members code j) (members_rising code j) (among_members code bit j below ∙ has) was will same_sign in
       omega (arith, more, is)
@@ -102,16 +102,16 @@ module _ (code : Code) (rests later : List ℤ) (bit : ℕ) (below : bit < code.
       let less = count_turned (is_negative_at later) (is_negative_at rests) bit (members code j) (members_rising code j) (among_members code bit j below ∙ has) will was (λ k other. sym (same_sign k other)) in
       omega (arith, less, is)
 
--- the sign of one bit's rest turns
-pub counted_turned : (code : Code) (rests later : List ℤ) (bit : ℕ) (turns_negative : Bool) (old new : List ℕ) → bit < code.bits → ((k : ℕ) → k ≢ bit → get_or later k (pos 0) ≡ get_or rests k (pos 0)) → int_lt (get_or rests bit (pos 0)) (pos 0) ≡ not turns_negative → int_lt (get_or later bit (pos 0)) (pos 0) ≡ turns_negative → AreCounted code rests old → length new ≡ length old → IsWrittenAt 0 (turned_at turns_negative old) (checks_of code bit) old new → AreCounted code later new
-counted_turned code rests later bit turns_negative old new below same was will counted long is = record {
+-- the sign of one bit's rest changes
+pub counted_turned : (code : Code) (rests later : List ℤ) (bit : ℕ) (becomes_negative : Bool) (old new : List ℕ) → bit < code.bits → ((k : ℕ) → k ≢ bit → get_or later k (pos 0) ≡ get_or rests k (pos 0)) → int_lt (get_or rests bit (pos 0)) (pos 0) ≡ not becomes_negative → int_lt (get_or later bit (pos 0)) (pos 0) ≡ becomes_negative → AreCounted code rests old → length new ≡ length old → IsWrittenAt 0 (turned_at becomes_negative old) (checks_of code bit) old new → AreCounted code later new
+counted_turned code rests later bit becomes_negative old new below same was will counted long is = record {
   long = long ∙ counted.long;
   each = λ j low. (
       let among = among_checks code bit j low in
       let n = get_or old j 0 in
       elim (cases_Bool (code.has j bit)) [
-        | inl has ↦ is j ∙ ap (λ b. cond b (turned_at turns_negative old j) n) (among ∙ has) ∙ in_its code rests later bit below same turns_negative j n has (counted.each j low) was will
-        | inr none ↦ is j ∙ ap (λ b. cond b (turned_at turns_negative old j) n) (among ∙ none) ∙ counted.each j low ∙ sym (in_others code rests later bit below same j none)
+        | inl has ↦ is j ∙ ap (λ b. cond b (turned_at becomes_negative old j) n) (among ∙ has) ∙ in_its code rests later bit below same becomes_negative j n has (counted.each j low) was will
+        | inr none ↦ is j ∙ ap (λ b. cond b (turned_at becomes_negative old j) n) (among ∙ none) ∙ counted.each j low ∙ sym (in_others code rests later bit below same j none)
       ]
       );
 }

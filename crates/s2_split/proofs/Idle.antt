@@ -76,7 +76,7 @@ bits_idle code soft word from (suc n) rests ms kept within none =
     let before = bits_idle code soft word from n rests ms kept (omega arith) (λ k low high. none k low (omega arith)) in
     subst (λ k. AreKept code soft word 1 (served code soft word k) rests ms) more (bit_idle code soft word (from + n) rests ms before (omega arith) (none (from + n) (omega arith) (omega arith)))
 
--- what a check takes turns no sign but its target's
+-- what a check takes changes no sign but its target's
 pub sign_after : (b : Bool) (e k d : ℕ) (old new : ℤ) → new ≡ old -ℤ cond b (cond (k == e) (neg_ℤ (pos d)) (pos d)) (pos 0) → k ≢ e → (b ≡ true → 0 < d → pos d ≤ℤ old) → HaveOneSign old new
 sign_after false e k d old new is other spared = (λ h. omega (arith, ints), λ h. omega (arith, ints))
 sign_after true e k d old new is other spared =

@@ -21,7 +21,7 @@ passes v h = grind (arith, ints)
 passed : (v : ℤ) → int_le (pos 0) v ≡ true → pos 0 ≤ℤ v
 passed v h = grind (arith, ints)
 
--- one bit more is looked at, after what turned no other sign
+-- one bit more is looked at, after a step that changed no other sign
 pub none_more : (from e : ℕ) (old new : List ℤ) (b : Bool) (v : ℤ) → v ≡ get_or new e (pos 0) → from ≤ e → ((k : ℕ) → k ≢ e → HaveOneSign (get_or old k (pos 0)) (get_or new k (pos 0))) → (IsTrue b ↔ NoneIsNegative from e old) → IsTrue (b && int_le (pos 0) v) ↔ NoneIsNegative from (e + 1) new
 none_more from e old new b v is low same test =
     (to, back)
@@ -35,7 +35,7 @@ none_more from e old new b v is low same test =
     back : NoneIsNegative from (e + 1) new → IsTrue (b && int_le (pos 0) v)
     back all = both_pass b (int_le (pos 0) v) (test.1 (λ k above below. (same k (λ same'. omega arith)).1 (all k above (omega arith)))) (passes v (subst (λ n. pos 0 ≤ℤ n) (sym is) (all e low (omega arith))))
 
--- a block more, after what turned no sign before it
+-- a block more, after a step that changed no sign before it
 pub none_joined : (from to : ℕ) (old new : List ℤ) (a b : Bool) → ((k : ℕ) → k < from → HaveOneSign (get_or old k (pos 0)) (get_or new k (pos 0))) → (IsTrue a ↔ NoneIsNegative from to new) → (IsTrue b ↔ NoneIsNegative 0 from old) → from ≤ to → IsTrue (a && b) ↔ NoneIsNegative 0 to new
 none_joined from to old new a b same here before rises =
     (on, back)

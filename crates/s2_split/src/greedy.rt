@@ -1,5 +1,6 @@
-//! The greedy amounts: each bit where the hard decision differs from the word takes from its
-//! checks, rising, what it lacks and what is free there.
+//! The greedy amounts: each wrong bit, in rising order, takes from its checks, in rising order,
+//! what it lacks and they can spare. A bit is wrong if the hard decision differs from the word
+//! there.
 ghost use Rattle.std.specs.Prelude.{◌≡◌, ◌≢◌, ◌↔◌, IsTrue, ℕ, ◌^◌, ◌<◌, ◌≤◌, Bool, List, true, All, length, get_or, ℤ, pos, neg_ℤ, ◌≤ℤ◌};
 ghost use Rattle.s2_matrix.specs.Code.{code_of, members};
 ghost use Rattle.s2_check.specs.Views.{IsSoft};
@@ -11,8 +12,8 @@ use crate::start::{differs, none_negative_between};
 use s2_check::Move;
 use s2_matrix::Matrix;
 
-/// A check that holds no amount moves one to a bit of its, which stands at this place: none where
-/// the bit lacks none.
+/// A check that holds no amount moves one to its member at this place, or none if the bit lacks
+/// none.
 fn take_from(
     matrix: &Matrix,
     rests: &mut [i32],
@@ -75,11 +76,11 @@ fn serve(
     }
 }
 
-/// How many bits are looked at together for one with a negative rest.
+/// The number of bits that are tested together for a negative rest.
 const BLOCK: usize = 32;
 
-/// Each bit between two places where the hard decision differs, rising, takes from its checks:
-/// whether none of them then has a negative rest.
+/// Each wrong bit between two places, rising, takes from its checks. Returns whether no bit between
+/// them then has a negative rest.
 fn serve_between(
     matrix: &Matrix,
     soft: &[i16],
@@ -113,8 +114,8 @@ fn serve_between(
     none
 }
 
-/// The greedy amounts, from rests at scale 1 and no moves: whether they leave no negative rest. Most
-/// blocks of bits have none, and a rest that is not negative stays so.
+/// Moves the greedy amounts, from rests at scale 1 and no moves. Returns whether they leave no
+/// negative rest. Most blocks of bits have none, and a rest that is not negative stays so.
 pub(crate) fn greedy(
     matrix: &Matrix,
     soft: &[i16],

@@ -2,14 +2,18 @@
 //! that shows a codeword to be most likely. A word is a bit for each place of a codeword, whether or
 //! not it is one.
 //!
-//! A [`Maker`] stands above the parity checks and the checker of certificates, and below the
-//! receiver's decision. It takes all its memory when it is made: one rest for each bit, one move and
-//! one count for each check. [`Maker::repair_into`] flips each bit that is in at least two checks,
-//! all of them odd. [`Maker::make`] first lets each wrong bit take what it lacks from its
-//! checks (greedy amounts), and where that leaves a rest below zero it spreads: check by check, the
-//! least rest gains half of what lies between it and the next. What it answers depends on its
-//! arguments alone; each split that it makes is accepted, so its word is most likely; and where the
-//! soft values are scattered about a codeword, the repair is that codeword and a split is found.
+//! A [`Maker`] uses the parity checks and the checker of certificates; the receiver's decision uses
+//! it. It takes all its memory when it is made: one rest for each bit, one move and one count for
+//! each check. [`Maker::repair_into`] flips each bit that is in at least two checks, all of them
+//! odd. [`Maker::make`] first lets each wrong bit take what it lacks from its checks (greedy
+//! amounts). If a rest below zero is left, it spreads: check by check, the least rest gains half of
+//! the difference to the next. The result depends on the arguments alone. Each split that it makes
+//! is accepted, so its word is most likely. If the soft values are scattered about a codeword, the
+//! repair is that codeword and a split is found.
+//!
+//! In the literature's words, a split is a dual solution of LP decoding, and its rests are the
+//! reduced costs: the slack of the dual constraints. Spreading is dual coordinate ascent, one check
+//! at a time; the repair is bit flipping.
 //!
 //! ```text
 //! let mut maker = Maker::new(alloc, &matrix)?;

@@ -51,7 +51,7 @@ fn begin(
     clear(moves);
 }
 
-/// Moves the greedy amounts: whether they leave no negative rest.
+/// Moves the greedy amounts. Returns whether they leave no negative rest.
 fn try_greedily(
     matrix: &Matrix,
     soft: &[i16],
@@ -77,11 +77,11 @@ fn try_greedily(
 pub(crate) enum Ways {
     /// By the greedy amounts alone.
     Greedy,
-    /// By the greedy amounts, and where they leave a negative rest, by spreading.
+    /// By the greedy amounts, and by spreading if they leave a negative rest.
     GreedyThenSpreading,
 }
 
-/// Makes the split of a codeword in these ways: its scale, or 0 where none is found.
+/// Makes the split of a codeword in these ways. Returns its scale, or 0 if none is found.
 pub(crate) fn make_moves(
     matrix: &Matrix,
     soft: &[i16],

@@ -55,7 +55,7 @@ impl<'a> Model for Maker<'a> {
 
 impl<'a> Maker<'a> {
     /// A maker for the words of this matrix, which has made nothing yet. It takes all its memory
-    /// here: `AllocError` only where memory is refused.
+    /// here. Returns `AllocError` only if memory is refused.
     pub fn new(alloc: Global, matrix: &'a Matrix) -> Result<Maker<'a>, AllocError>
         ensures rows { IfOk result (λ m. m.rows ≡ matrix.now) }
         ensures none { IfOk result (λ m. m.made ≡ None) }
@@ -82,8 +82,8 @@ impl<'a> Maker<'a> {
         })
     }
 
-    /// Writes the repaired hard decision: each bit that is in at least two checks, all of them odd
-    /// under the hard decision, is flipped. What was made stays.
+    /// Writes the repaired hard decision: each bit is flipped that is in at least two checks, all
+    /// of them odd under the hard decision. The split made last is kept.
     pub fn repair_into(&mut self, soft: &[i16], word: &mut Bits)
         requires soft { length soft.now ≡ (code_of self.old.rows).bits }
         requires word { length word.old ≡ (code_of self.old.rows).bits }
@@ -97,7 +97,7 @@ impl<'a> Maker<'a> {
         repair(self.matrix, &mut self.odd, word.truths_mut());
     }
 
-    /// The certificate of a codeword, or `None` where none is found or the word has an odd check.
+    /// The certificate of a codeword. `None` if none is found or the word has an odd check.
     pub fn make<'s>(&'s mut self, soft: &'s [i16], word: &'s Bits) -> Option<CertView<'s>>
         requires soft { length soft.now ≡ (code_of self.old.rows).bits }
         requires range { All IsSoft soft.now }
@@ -114,7 +114,7 @@ impl<'a> Maker<'a> {
         }
     }
 
-    /// Makes the split for a codeword, and says whether there is one. The rests that are then held are
+    /// Makes the split for a codeword, and returns whether there is one. The held rests are then
     /// what the split leaves of each bit, in favour of the word.
     pub fn certify(&mut self, soft: &[i16], word: &Bits) -> bool
         requires soft { length soft.now ≡ (code_of self.old.rows).bits }
@@ -167,7 +167,7 @@ impl<'a> Maker<'a> {
         self.certify_in(Ways::Greedy, soft, word)
     }
 
-    /// Makes the split for a codeword in these ways, and says whether there is one.
+    /// Makes the split for a codeword in these ways, and returns whether there is one.
     fn certify_in(&mut self, ways: Ways, soft: &[i16], word: &Bits) -> bool
         requires soft { length soft.now ≡ (code_of self.old.rows).bits }
         requires range { All IsSoft soft.now }
@@ -191,7 +191,8 @@ impl<'a> Maker<'a> {
         self.scale > 0
     }
 
-    /// Whether every rest that is held is at least 1. Where a split was made, just then its certificate is strict.
+    /// Whether every held rest is at least 1. If a split was made, its certificate is strict
+    /// exactly then.
     pub fn is_strict(&self) -> bool
         ensures { IsTrue result ↔ AreSome (code_of self.now.rows) self.now.rests }
     {

@@ -33,19 +33,25 @@ pub(crate) fn count_negatives(matrix: &Matrix, rests: &[i32], negatives: &mut [u
     }
 }
 
-/// The sign of a bit's rest turns: each of its checks counts the bit, or no longer does.
-fn turn(matrix: &Matrix, rests: &[i32], negatives: &mut [u32], bit: usize, turns_negative: bool)
+/// The sign of a bit's rest changes: each of its checks counts the bit, or no longer does.
+fn change_sign(
+    matrix: &Matrix,
+    rests: &[i32],
+    negatives: &mut [u32],
+    bit: usize,
+    becomes_negative: bool,
+)
     requires bit { bit < (code_of matrix.now).bits }
     requires counted { AreCounted (code_of matrix.now) rests.now negatives.old }
-    requires turns { int_lt (get_or rests.now bit (pos 0)) (pos 0) ≡ not turns_negative }
-    ensures counted { (later : List ℤ) → ((k : ℕ) → k ≢ bit → get_or later k (pos 0) ≡ get_or rests.now k (pos 0)) → int_lt (get_or later bit (pos 0)) (pos 0) ≡ turns_negative → AreCounted (code_of matrix.now) later negatives.new }
+    requires changes { int_lt (get_or rests.now bit (pos 0)) (pos 0) ≡ not becomes_negative }
+    ensures counted { (later : List ℤ) → ((k : ℕ) → k ≢ bit → get_or later k (pos 0) ≡ get_or rests.now k (pos 0)) → int_lt (get_or later bit (pos 0)) (pos 0) ≡ becomes_negative → AreCounted (code_of matrix.now) later negatives.new }
 {
     let _rests = rests;
     let _bits = matrix.bits();
     let checks = matrix.checks_at(bit);
     for check in checks {
         let check = *check as usize;
-        if turns_negative {
+        if becomes_negative {
             negatives[check] += 1;
         } else {
             negatives[check] -= 1;
@@ -67,9 +73,9 @@ pub(crate) fn set_rest(
     ensures rests { rests.new ≡ set rests.old bit rest }
     ensures counted { AreCounted (code_of matrix.now) rests.new negatives.new }
 {
-    let turns_negative = rest < 0;
-    if (rests[bit] < 0) != turns_negative {
-        turn(matrix, rests, negatives, bit, turns_negative);
+    let becomes_negative = rest < 0;
+    if (rests[bit] < 0) != becomes_negative {
+        change_sign(matrix, rests, negatives, bit, becomes_negative);
     }
     rests[bit] = rest;
 }

@@ -46,8 +46,8 @@ pub(crate) fn least_other(rests: &[i32], members: &[u32], bit: u32) -> i32
     least
 }
 
-/// What the other members of a check can give a bit: the lesser of what it lacks and of what they
-/// all have left.
+/// What the other members of a check can give a bit: the lesser of what it lacks and of what all of
+/// them have left.
 pub(crate) fn free_amount(rests: &[i32], members: &[u32], bit: u32) -> u32
     requires below { All (λ i. i < length rests.now) members.now }
     requires rising { AllPairs (λ a b. a < b) members.now }
@@ -111,8 +111,8 @@ pub(crate) fn least_two(rests: &[i32], members: &[u32], held: Move) -> Least
     }
 }
 
-/// What is moved to the least rest of so many members: half of what lies between it and the least
-/// other, no more than it lacks, and no more than [`MAX_MOVED`].
+/// The amount moved to the least rest: half of the difference to the least other, no more than the
+/// rest lacks, and no more than [`MAX_MOVED`]. A check of one member moves nothing.
 fn half_gap(count: usize, rest: i32, other: i32) -> u32
     ensures { result ≡ (if nat_lt 1 count then spread_amount rest other else 0) }
 {
@@ -137,7 +137,7 @@ pub(crate) fn are_some(rests: &[i32]) -> bool
     true
 }
 
-/// The move of an amount to the member at a place; where nothing is moved the place is 0.
+/// The move of an amount to the member at a place. If nothing is moved the place is 0.
 pub(crate) fn move_of(place: usize, amount: u32) -> Move
     requires { place < 65536 }
     ensures amount { result.amount ≡ amount }
@@ -154,8 +154,7 @@ pub(crate) fn move_of(place: usize, amount: u32) -> Move
     }
 }
 
-/// What the members of a check move to the one with the least rest, once the move that it holds is
-/// given back.
+/// The move of a check to the member with the least rest, after the held move is given back.
 pub(crate) fn spread_move(rests: &[i32], members: &[u32], held: Move) -> Move
     requires below { All (λ i. i < length rests.now) members.now }
     requires rising { AllPairs (λ a b. a < b) members.now }

@@ -1,5 +1,5 @@
-//! Spreading: check by check, half of what lies between the least rest and the next is moved to the
-//! least, as long as one is negative.
+//! Spreading: check by check, half of the difference between the least rest and the next is moved
+//! to the least, as long as one is negative.
 ghost use Rattle.std.specs.List.{AllPairs};
 ghost use Rattle.std.specs.Prelude.{◌≡◌, ℕ, ◌<◌, ◌≤◌, IsTrue, Bool, List, All, length, get_or, ℤ, pos, ◌≤ℤ◌, ◌-ℤ◌};
 ghost use Rattle.s2_matrix.specs.Code.{code_of, members};
@@ -16,7 +16,7 @@ use crate::start::none_negative;
 use s2_check::Move;
 use s2_matrix::Matrix;
 
-/// The move that a check holds is given back, and another is made. The counts follow where they are kept.
+/// Gives back the held move of a check, and makes another. The counts follow if they are kept.
 fn move_rests<const BY_COUNTS: bool>(
     matrix: &Matrix,
     rests: &mut [i32],
@@ -46,7 +46,8 @@ fn move_rests<const BY_COUNTS: bool>(
     }
 }
 
-/// A check gives its amount back, and moves one to its least rest: whether it moves as before.
+/// A check gives its amount back, and moves one to its least rest. Returns whether it moves as
+/// before.
 fn spread_check<const BY_COUNTS: bool>(
     matrix: &Matrix,
     rests: &mut [i32],
@@ -89,7 +90,7 @@ fn none_negative_at(rests: &[i32], places: &[u32]) -> bool
     none
 }
 
-/// Whether no member of a check has a negative rest: by its count where the counts are kept.
+/// Whether no member of a check has a negative rest, by its count if the counts are kept.
 fn is_idle<const BY_COUNTS: bool>(
     matrix: &Matrix,
     rests: &[i32],
@@ -108,8 +109,8 @@ fn is_idle<const BY_COUNTS: bool>(
     }
 }
 
-/// A check in its turn: whether it moves as before. One that holds no amount, and none of whose
-/// members has a negative rest, moves nothing: it is passed over.
+/// Visits a check, and returns whether it moves as before. A check that holds no amount, and has no
+/// member with a negative rest, moves nothing: it is skipped.
 fn visit<const BY_COUNTS: bool>(
     matrix: &Matrix,
     rests: &mut [i32],
@@ -137,7 +138,7 @@ fn visit<const BY_COUNTS: bool>(
     spread_check::<BY_COUNTS>(matrix, rests, negatives, moves, check)
 }
 
-/// All checks in their turn, rising: how many of them move otherwise than before.
+/// Visits all checks, rising, and returns how many of them move otherwise than before.
 fn spread_pass<const BY_COUNTS: bool>(
     matrix: &Matrix,
     rests: &mut [i32],
@@ -161,8 +162,8 @@ fn spread_pass<const BY_COUNTS: bool>(
     changed
 }
 
-/// A pass over all checks, by counts or by a look at the members: how many of them move otherwise than
-/// before.
+/// A pass over all checks, by counts or by a look at the members. Returns how many checks move
+/// otherwise than before.
 fn next_pass(
     matrix: &Matrix,
     rests: &mut [i32],
@@ -185,7 +186,7 @@ fn next_pass(
     }
 }
 
-/// Counts anew where the next pass goes by counts and the last one did not.
+/// Counts anew if the next pass uses counts and the last one did not.
 fn bring_counts(
     matrix: &Matrix,
     rests: &[i32],
@@ -206,13 +207,13 @@ fn bring_counts(
     }
 }
 
-/// Where fewer checks than one in so many moved otherwise than before, the next pass goes by counts.
+/// If fewer checks than one in this number moved otherwise than before, the next pass uses counts.
 const FEW: usize = 8;
 
-/// At most [`MAX_SPREAD_PASSES`] passes over all checks, rising, until no rest is negative: whether none is
-/// then. A pass in which each check moves as before is the last, since all later ones would be the
-/// same. While many checks move, a pass looks at the members of those that hold no amount; once few
-/// do, it goes by how many of a check's members have a negative rest.
+/// Runs at most [`MAX_SPREAD_PASSES`] passes over all checks, rising, until no rest is negative.
+/// Returns whether none is then. A pass in which each check moves as before is the last, since all
+/// later ones would be the same. While many checks move, a pass looks at the members of those that
+/// hold no amount. Once few do, it counts the members of each check that have a negative rest.
 pub(crate) fn spread(
     matrix: &Matrix,
     soft: &[i16],

@@ -8,7 +8,7 @@ use Rattle.s2_receive.specs.Receiving.{Decision}
 use Rattle.s2_check.specs.declared.verdict.Verdict.TheVariants.{MostLikely, Broken}
 use Rattle.s2_receive.specs.declared.report.Outcome.TheVariants.{Delivered, NoWord}
 
--- which place the header names, in a frame that brings a field
+-- the place that the header names, in a frame with a field
 abbrev pub place_for : ℤ → Option ℕ
 place_for q = if int_lt q (pos 0) then None else (if int_lt q (pos 2) then Some 0 else Some 704)
 
@@ -18,6 +18,6 @@ decision_for bytes (Some place) =
     record { soft = []; bits = []; verdict = MostLikely; certificate = None; message = []; outcome = Delivered 0; delivered = Some (record { roll_off = 0; second = 0; dfl = 800; syncd = place }, bytes) }
 decision_for bytes None = record { soft = []; bits = []; verdict = Broken; certificate = None; message = []; outcome = NoWord; delivered = None }
 
--- what a frame's symbols say
-abbrev pub told_by : List Symbol → ℤ
-told_by symbols = (symbol_at symbols header_symbols).q
+-- the content that a frame's symbols give
+abbrev pub content_of : List Symbol → ℤ
+content_of symbols = (symbol_at symbols header_symbols).q

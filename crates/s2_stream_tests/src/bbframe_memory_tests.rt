@@ -1,4 +1,4 @@
-//! A slicer, where memory may be refused once: then it says so, and the same call again answers.
+//! A slicer if memory is refused once: the call says so, and the same call succeeds when repeated.
 ghost use Rattle.std.specs.Prelude.{◌≡◌, IfOk};
 ghost use Rattle.s2_bbframe.specs.DataStream.{starting, field_bytes};
 

@@ -2,7 +2,7 @@
 ghost use Rattle.std.specs.Prelude.{◌≡◌, ◌/◌, ◌<◌, ◌⊎◌, ◌≤◌, false, length};
 
 use super::streams::packet_of_zeros;
-use s2_bbframe::{Fed, Header, HeaderFault, Joiner, NO_PLACE, NoSync, Slicer, crc8};
+use s2_bbframe::{Fed, Header, HeaderFault, Joiner, NO_SYNCD, NoSync, Slicer, crc8};
 use s2_mode::Mode;
 use std::process::Abort;
 use std::test::Fail;
@@ -35,7 +35,7 @@ fn reads_and_writes_a_header(rt: HostRuntime) -> Result<(), Fail> {
         roll_off: 2,
         second: 0x5a,
         dfl: 15928,
-        syncd: NO_PLACE,
+        syncd: NO_SYNCD,
     };
     header.write(&mut bytes);
     assert_eq!(rt;
@@ -114,7 +114,7 @@ fn accepts_forged_headers(rt: HostRuntime) -> Result<(), Fail> {
     let cases = [
         (
             [0xf0, 0, 0x05, 0xe0, 0x0b, 0xb0, 0x47, 0xff, 0xff],
-            (0, 0, 2992, NO_PLACE),
+            (0, 0, 2992, NO_SYNCD),
         ),
         (
             [0xf0, 0, 0x05, 0xe0, 0x00, 0x00, 0x47, 0, 0x04],
@@ -191,7 +191,7 @@ fn slices_one_packet(rt: HostRuntime) -> Result<(), Fail> {
     slice_one_packet(&rt, &mut slicer)
 }
 
-// Two packets in a full field and a last one, whatever was put before.
+// Two packets in a full field and a last one, after any earlier packets.
 fn slice_two_packets(rt: &impl Abort, slicer: &mut Slicer) -> Result<(), Fail> {
     slicer.restart();
     let mut packet = [1; 188];
@@ -255,9 +255,9 @@ const LAST: Header = Header {
     syncd: 16,
 };
 
-/// Asserts that a packet of zeros comes of a field.
+/// Asserts that a field gives a packet of zeros.
 fn assert_one_packet(rt: &impl Abort, joiner: &mut Joiner, header: &Header, field: &[u8])
-    requires syncd { (length field.now ≡ 0) ⊎ ((header.now.syncd ≡ NO_PLACE) ⊎ (header.now.syncd / 8 < length field.now)) }
+    requires syncd { (length field.now ≡ 0) ⊎ ((header.now.syncd ≡ NO_SYNCD) ⊎ (header.now.syncd / 8 < length field.now)) }
     requires room { length field.now ≤ 374 }
 {
     let mut packets = [0xff; 561];
@@ -265,7 +265,7 @@ fn assert_one_packet(rt: &impl Abort, joiner: &mut Joiner, header: &Header, fiel
     let one = Fed {
         good: 1,
         bad: 0,
-        torn: 0,
+        incomplete: 0,
     };
     assert_eq!(rt; fed, one);
     assert!(rt; packets.starts_with(&packet_of_zeros()));

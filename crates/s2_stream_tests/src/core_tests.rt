@@ -1,4 +1,4 @@
-//! A receiver without input and output, on made-up frames: bytes are given room by room, and `next` goes on from there.
+//! A receiver without input and output, on made-up frames: bytes are given room by room, and `next` continues.
 use super::streams::{ALL, Event, Fed, Heard, Source, Steps, packet_of_zeros};
 use super::toy::{
     DUMMY, FRAME, Toy, feed, feed_rooms, frame, heard_by, losing, lost, put_dummy, put_frame,
@@ -10,7 +10,8 @@ use std::alloc::{AllocError, Global};
 use std::process::Abort;
 use std::test::Fail;
 
-/// A part of a stream: a frame that brings this, a header, so many symbols of a dummy frame or others, or up to three bytes.
+/// A part of a stream: a frame with this content, a header, a number of symbols of a dummy frame or of others, or up to
+/// three bytes.
 #[derive(Clone, Copy)]
 enum Part {
     Frame(i16),
@@ -43,8 +44,8 @@ fn stream_of(alloc: Global, parts: &[Part]) -> Result<Vec<u8>, AllocError> {
     Ok(bytes)
 }
 
-/// What comes of a stream by some rooms, and of the rest by five calls of `next` that read byte by byte; and then the
-/// room, and the step of no bytes.
+/// The results of a stream: of its first bytes by some rooms, and of the rest by five calls of `next` that read byte by
+/// byte. After that, the room and the step of no bytes.
 struct Mixed {
     fed: Fed,
     heard: Heard,
@@ -84,7 +85,7 @@ fn mix_by(
     })
 }
 
-/// The same of a new receiver that takes at most so many symbols.
+/// The same for a new receiver that takes at most this number of symbols.
 fn mix(
     alloc: Global,
     limit: u64,
@@ -98,7 +99,7 @@ fn mix(
     }
 }
 
-/// What is to come of a stream of so many bytes: these steps, and then the end again and again; and the totals. A packet
+/// The expected results of a stream of this length: these steps, then the end at each call, and the totals. A packet
 /// ends in the second frame, or none does.
 #[derive(Clone, Copy)]
 struct Want<'a> {
@@ -145,7 +146,7 @@ fn assert_steps<A: Abort>(rt: &A, mixed: &Mixed, want: Want<'_>) {
     assert_eq!(rt; mixed.after, (0, Some(Step::End)));
 }
 
-/// Asserts what comes of a stream by so many rooms, from none to all, and that the packet comes by rooms or is written.
+/// Asserts the results of a stream by each number of rooms, from none to all. The packet is given by rooms or written.
 fn assert_mixed<A: Abort>(rt: &A, alloc: Global, bytes: &[u8], want: Want<'_>) -> Result<(), Fail> {
     let packet = packet_of_zeros();
     let packets = if want.totals.packets == 1 {
@@ -185,7 +186,7 @@ fn assert_stream<A: Abort>(
     )
 }
 
-/// Bytes that make no symbol are dropped. Dummy frames are passed, and what there is of a last one; they are no gap.
+/// Bytes that make no symbol are dropped. Dummy frames, and the part of a last one, are passed; they are no gap.
 #[test]
 fn steps_come_with_their_last_symbol(rt: HostRuntime) -> Result<(), Fail> {
     let alloc = rt.alloc();
@@ -214,8 +215,8 @@ fn steps_come_with_their_last_symbol(rt: HostRuntime) -> Result<(), Fail> {
 fn symbols_passed_over_are_a_gap(rt: HostRuntime) -> Result<(), Fail> {
     let steps = [frame(1, 0), frame(2, FRAME + 1)];
     let parts = [FIRST, Part::Symbols(1), SECOND];
-    let torn = losing(totals(2, 2, 0), 1, FRAME, 1);
-    assert_stream(&rt, rt.alloc(), &parts, &steps, torn)
+    let incomplete = losing(totals(2, 2, 0), 1, FRAME, 1);
+    assert_stream(&rt, rt.alloc(), &parts, &steps, incomplete)
 }
 
 /// A header alone; and after frames of all other kinds one that lacks its last byte.
@@ -250,7 +251,7 @@ fn a_cut_frame_comes_with_the_last_byte(rt: HostRuntime) -> Result<(), Fail> {
     assert_stream(&rt, alloc, &parts, &steps, want)
 }
 
-/// What five calls return where these frames of two come, and then a fault.
+/// The results of five calls if these frames of two come, and then a fault.
 fn stopped(before: usize, frames: usize, fault: Fault) -> Steps {
     let mut steps = [Err(Fault::Failed); 5];
     let parts = [frame(1, 0), frame(2, FRAME)];
@@ -261,14 +262,15 @@ fn stopped(before: usize, frames: usize, fault: Fault) -> Steps {
     steps
 }
 
-/// Asserts that of the two parts of a packet so many frames come, and then a fault; that nothing is asked for then, and no step made.
+/// Asserts that this number of frames of the two parts of a packet comes, and then a fault. After it no bytes are
+/// requested, and no step is made.
 fn assert_stops<A: Abort>(rt: &A, mixed: &Mixed, frames: usize, fault: Fault) {
     let before = mixed.fed.events.len();
     assert_eq!(rt; mixed.heard.steps, stopped(before, frames, fault));
     assert_eq!(rt; mixed.after, (0, None));
 }
 
-/// Asserts it where a write fails: how many bytes of the packet and how many of the lines are written.
+/// Asserts it if a write fails: the numbers of written bytes of the packet and of the lines.
 fn assert_write_fails<A: Abort>(rt: &A, alloc: Global, bytes: &[u8]) -> Result<(), Fail> {
     let line = "frame 1 at 0 most-likely fixed 0\n".len();
     for (rooms, passes, frames, written) in [
@@ -290,8 +292,8 @@ fn assert_write_fails<A: Abort>(rt: &A, alloc: Global, bytes: &[u8]) -> Result<(
     Ok(())
 }
 
-/// Asserts it where the read of a byte fails, at a frame's start, within its header, or before its last byte: a step reads the bytes up to its
-/// frame's end, and no more.
+/// Asserts it if the read of a byte fails, at a frame's start, within its header, or before its last byte. A step reads
+/// the bytes up to its frame's end, and no more.
 fn assert_read_fails<A: Abort>(rt: &A, alloc: Global, bytes: &[u8]) -> Result<(), Fail> {
     let size = 4 * FRAME;
     for at in [0, 1, 359, 360, size / 2, size - 1] {
@@ -303,7 +305,7 @@ fn assert_read_fails<A: Abort>(rt: &A, alloc: Global, bytes: &[u8]) -> Result<()
     Ok(())
 }
 
-/// Asserts it where just so many symbols are asked for: the frames come that end in them.
+/// Asserts it if exactly this number of symbols is requested: the frames that end in them are returned.
 fn assert_limits<A: Abort>(rt: &A, alloc: Global, bytes: &[u8]) -> Result<(), Fail> {
     for (symbols, frames) in [
         (0, 0),

@@ -1,8 +1,8 @@
 //! Tests of a stream's parts, over public calls alone, with the numbers of the standard: baseband frames, physical
 //! frames, the transmitter, and a receiver's way through symbols.
 //!
-//! Each crate's tests stand in a module of its name. What several need stands in `streams` (small links, and what is
-//! sent on them), which the tests of both ends take too, and in `toy` (a receiver of made-up frames).
+//! Each crate's tests are in a module of its name. Two modules are shared: `streams` (small links, and the streams sent
+//! on them), which the tests of both ends use too, and `toy` (a receiver of made-up frames).
 #![tactic(auto)]
 
 #[cfg(test)]

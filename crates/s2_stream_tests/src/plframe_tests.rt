@@ -40,7 +40,7 @@ fn writes_a_header(rt: HostRuntime) -> Result<(), Fail> {
     Ok(())
 }
 
-/// A frame whose first symbols are negated, as many as said.
+/// A frame whose first `count` symbols are negated.
 fn negated(rt: &HostRuntime, mode: Mode, count: usize) -> Result<Vec<Symbol>, Fail> {
     let gold = Gold::new(rt.alloc(), 0)?;
     let payload = vec![in rt.alloc(); PILOT; 90 * mode.slots()]?;
@@ -56,7 +56,7 @@ fn negated(rt: &HostRuntime, mode: Mode, count: usize) -> Result<Vec<Symbol>, Fa
     Ok(frame)
 }
 
-/// What a search says of symbols: the first answer that is not nothing, and after how many.
+/// The first header that a search finds, and the number of symbols up to its end.
 fn first_found(mode: Mode, symbols: &[Symbol]) -> (Found, usize) {
     let mut search = Search::new(mode);
     let mut fed = 0usize;
@@ -70,7 +70,7 @@ fn first_found(mode: Mode, symbols: &[Symbol]) -> (Found, usize) {
     (Found::Nothing, fed)
 }
 
-/// What a header with so many of its symbols negated is right behind a frame, with a lock, and what it is elsewhere.
+/// The result for a header with this number of symbols negated: directly after a frame, with a lock, and elsewhere.
 fn found_with(
     rt: &HostRuntime,
     mode: Mode,
@@ -86,7 +86,8 @@ fn found_with(
     Ok(Lock::new(lock).map(|lock| (search.behind(lock), elsewhere)))
 }
 
-/// Whether a lock of 12 changes nothing, and one of 30 lets a header pass right behind a frame with up to 30 wrong bits.
+/// Whether a lock of 12 changes nothing, and one of 30 accepts a header directly after a frame with up to 30 wrong
+/// bits.
 fn is_locked(rt: &HostRuntime, mode: Mode) -> Result<bool, Fail> {
     let mut right = true;
     for (wrong, lock, behind, elsewhere) in [
@@ -148,7 +149,7 @@ fn writes_dummy_frames(rt: HostRuntime) -> Result<(), Fail> {
     Ok(())
 }
 
-/// What a search says of a dummy frame as it is written.
+/// The result of a search on a dummy frame as it is written.
 fn found_of_dummy(rt: &HostRuntime, mode: Mode) -> Result<(Found, usize), Fail> {
     let gold = Gold::new(rt.alloc(), 0)?;
     let mut dummy = vec![in rt.alloc(); PILOT; DUMMY_SYMBOLS]?;

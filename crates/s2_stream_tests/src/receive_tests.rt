@@ -1,4 +1,4 @@
-//! A receiver's way through a stream, on made-up frames.
+//! A receiver on streams of made-up frames.
 use super::streams::{ALL, Source, Steps, packet_of_zeros};
 use super::toy::{
     DUMMY, FRAME, InBytes, Taken, Whole, frame, losing, lost, put_dummy, put_frame, put_header,
@@ -10,7 +10,7 @@ use std::alloc::{AllocError, Global};
 use std::process::Abort;
 use std::test::Fail;
 
-/// Asserts what five calls answered, and the report.
+/// Asserts the results of five calls, and the report.
 fn assert_steps<A: Abort>(rt: &A, taken: &Taken, steps: Steps, report: &str) {
     assert_eq!(rt; taken.heard.steps, steps);
     assert_eq!(rt; taken.heard.report.as_slice(), report.as_bytes());
@@ -22,7 +22,7 @@ fn assert_came<A: Abort>(rt: &A, taken: &Taken, packets: &[u8], totals: Totals) 
     assert_eq!(rt; taken.totals, totals);
 }
 
-/// What five calls answer where these come, and then the end.
+/// The results of five calls if these come, and then the end.
 fn steps_of(met: &[Step]) -> Steps {
     let mut steps = [Ok(Step::End); 5];
     for (step, met) in steps.iter_mut().zip(met.iter()) {
@@ -31,7 +31,7 @@ fn steps_of(met: &[Step]) -> Steps {
     steps
 }
 
-/// Two frames, a third one behind ten symbols, and 40 symbols and a byte.
+/// Two frames, a third one after ten symbols, and 40 symbols and a byte.
 fn three_frames(alloc: Global) -> Result<Vec<u8>, AllocError> {
     let mut bytes = Vec::new(alloc);
     put_frame(&mut bytes, 1)?;
@@ -43,7 +43,7 @@ fn three_frames(alloc: Global) -> Result<Vec<u8>, AllocError> {
     Ok(bytes)
 }
 
-/// What five calls answer on these.
+/// The results of five calls on these.
 fn three_steps() -> Steps {
     steps_of(&[frame(1, 0), frame(2, FRAME), frame(3, 2 * FRAME + 10)])
 }
@@ -52,7 +52,7 @@ fn three_steps() -> Steps {
 const THREE: &str =
     "frame 1 at 0 most-likely fixed 0\nframe 2 at 5490 most-likely fixed 0\nframe 3 at 10990 most-likely fixed 0\nend frames 3 delivered 3 packets 0 bad 0\n";
 
-/// Asserts what comes of three frames.
+/// Asserts the results of three frames.
 fn assert_three<A: Abort>(rt: &A, alloc: Global, source: Source<'_>) -> Result<(), Fail> {
     let taken = take(alloc, source)?;
     assert_steps(rt, &taken, three_steps(), THREE);
@@ -67,7 +67,7 @@ fn takes_frames_and_the_end_byte_by_byte(rt: HostRuntime) -> Result<(), Fail> {
     assert_three(&rt, rt.alloc(), Source::Slice(&bytes))
 }
 
-/// Frames that bring these, with so many symbols before the last one.
+/// Frames with these contents, and a number of symbols before the last one.
 fn frames_of(alloc: Global, firsts: &[i16], passed: u32, last: i16) -> Result<Vec<u8>, AllocError> {
     let mut bytes = Vec::new(alloc);
     for first in firsts {
@@ -78,7 +78,7 @@ fn frames_of(alloc: Global, firsts: &[i16], passed: u32, last: i16) -> Result<Ve
     Ok(bytes)
 }
 
-/// What comes of these.
+/// Their results.
 fn received(alloc: Global, firsts: &[i16], passed: u32, last: i16) -> Result<Received, Fail> {
     let bytes = frames_of(alloc, firsts, passed, last)?;
     receive(alloc, &bytes)
@@ -88,21 +88,21 @@ fn received(alloc: Global, firsts: &[i16], passed: u32, last: i16) -> Result<Rec
 fn joins_the_parts_of_a_packet_and_none_across_a_gap(rt: HostRuntime) -> Result<(), Fail> {
     let joined = received(rt.alloc(), &[1], 0, 2)?;
     assert_eq!(rt; joined.totals, totals(2, 2, 1));
-    assert!(rt; joined.well);
+    assert!(rt; joined.all_certified);
     let parted = received(rt.alloc(), &[1, -1], 0, 2)?;
-    let torn = Totals {
-        torn: 1,
+    let incomplete = Totals {
+        incomplete: 1,
         ..totals(3, 2, 0)
     };
-    assert_eq!(rt; parted.totals, torn);
-    assert!(rt; !parted.well);
+    assert_eq!(rt; parted.totals, incomplete);
+    assert!(rt; !parted.all_certified);
     let passed = received(rt.alloc(), &[1], 1, 2)?;
     assert_eq!(rt; passed.totals, losing(totals(2, 2, 0), 1, FRAME, 1));
-    assert!(rt; passed.well && passed.symbols == 2 * FRAME + 1);
+    assert!(rt; passed.all_certified && passed.symbols == 2 * FRAME + 1);
     Ok(())
 }
 
-/// What five calls answer on a frame that is lost and the two parts of a packet.
+/// The results of five calls on a frame that is lost and the two parts of a packet.
 fn lost_and_joined() -> Steps {
     steps_of(&[lost(1, 0), frame(2, FRAME), frame(3, 2 * FRAME)])
 }
@@ -111,7 +111,7 @@ fn lost_and_joined() -> Steps {
 const LOST_AND_JOINED: &str =
     "frame 1 at 0 broken lost\nframe 2 at 5490 most-likely fixed 0\nframe 3 at 10980 most-likely fixed 0\nend frames 3 delivered 2 packets 1 bad 0\n";
 
-/// Asserts what comes of these.
+/// Asserts their results.
 fn assert_joined<A: Abort>(rt: &A, alloc: Global, bytes: &[u8]) -> Result<(), Fail> {
     let taken = take(alloc, Source::Slice(bytes))?;
     assert_steps(rt, &taken, lost_and_joined(), LOST_AND_JOINED);
@@ -136,7 +136,7 @@ fn keeps_its_laws(_rt: HostRuntime) -> Result<(), Fail> {
     Ok(())
 }
 
-/// A frame behind 1100 symbols that lacks its last byte.
+/// A frame after 1100 symbols that lacks its last byte.
 fn cut_frame(alloc: Global) -> Result<Vec<u8>, AllocError> {
     let mut bytes = Vec::new(alloc);
     put_symbols(&mut bytes, 1100)?;
@@ -145,7 +145,7 @@ fn cut_frame(alloc: Global) -> Result<Vec<u8>, AllocError> {
     Ok(bytes)
 }
 
-/// What five calls answer on it.
+/// The results of five calls on it.
 fn cut_steps() -> Steps {
     steps_of(&[Step::Cut {
         at: 1100,
@@ -153,7 +153,7 @@ fn cut_steps() -> Steps {
     }])
 }
 
-/// Asserts what comes of it.
+/// Asserts its results.
 fn assert_cut<A: Abort>(rt: &A, alloc: Global, bytes: &[u8]) -> Result<(), Fail> {
     let taken = take(alloc, Source::Slice(bytes))?;
     let report = "cut at 1100 symbols 5489\nend frames 0 delivered 0 packets 0 bad 0\n";
@@ -170,7 +170,7 @@ fn cuts_a_frame_and_ends(rt: HostRuntime) -> Result<(), Fail> {
 /// The line of a frame at the start.
 const FIRST: &str = "frame 1 at 0 most-likely fixed 0\n";
 
-/// What five calls answer where the second finds no frame within the limit: after a fault no call helps.
+/// The results of five calls if the second finds no frame within the limit: after a fault each call fails.
 fn stopped() -> Steps {
     let mut steps = [Err(Fault::Failed); 5];
     steps[0] = Ok(frame(1, 0));
@@ -178,7 +178,7 @@ fn stopped() -> Steps {
     steps
 }
 
-/// Asserts that of two frames just the first comes within so many symbols.
+/// Asserts that only the first of two frames is returned within this number of symbols.
 fn assert_stops<A: Abort>(rt: &A, alloc: Global, limit: u64, bytes: &[u8]) -> Result<(), Fail> {
     let taken = take_within(alloc, limit, Source::Slice(bytes))?;
     assert_steps(rt, &taken, stopped(), FIRST);
@@ -199,7 +199,7 @@ fn stops_at_its_limit(rt: HostRuntime) -> Result<(), Fail> {
     assert_each_stops(&rt, rt.alloc(), &bytes)
 }
 
-/// The totals of a new receiver that takes at most so many symbols.
+/// The totals of a new receiver that takes at most this number of symbols.
 fn totals_before(alloc: Global, limit: u64) -> Result<Totals, Fail> {
     let receiver = toy(alloc, limit.min(MAX_SYMBOLS))?;
     Ok(receiver.totals())
@@ -216,7 +216,7 @@ fn has_room_within_any_limit(rt: HostRuntime) -> Result<(), Fail> {
     Ok(())
 }
 
-/// Asserts that a failed write of packets is told.
+/// Asserts that a failed write of packets is reported.
 fn assert_told<A: Abort>(rt: &A, received: &InBytes) {
     assert_eq!(rt; received.answer, Err(WriteFault));
     assert!(rt; received.packets.is_empty());
@@ -236,7 +236,7 @@ fn tells_a_failed_write(rt: HostRuntime) -> Result<(), Fail> {
     assert_write_fails(&rt, rt.alloc(), &bytes)
 }
 
-/// The two parts of a packet, with dummy frames before, between and behind them.
+/// The two parts of a packet, with dummy frames before, between and after them.
 fn parts(alloc: Global, last: u32) -> Result<Vec<u8>, AllocError> {
     let mut bytes = Vec::new(alloc);
     put_dummy(&mut bytes, 3330)?;
@@ -248,7 +248,7 @@ fn parts(alloc: Global, last: u32) -> Result<Vec<u8>, AllocError> {
     Ok(bytes)
 }
 
-/// Where the second part stands.
+/// The position of the second part.
 const SECOND: u64 = FRAME + 3 * DUMMY;
 
 /// The first lines of the report of the two parts.
@@ -259,12 +259,12 @@ const LINES: [&str; 4] = [
     "frame 1 at 3330 most-likely fixed 0\nframe 2 at 15480 most-likely fixed 0\nend frames 2 delivered 2 packets 1 bad 0\n",
 ];
 
-/// What five calls answer on the two parts.
+/// The results of five calls on the two parts.
 fn parts_steps() -> Steps {
     steps_of(&[frame(1, DUMMY), frame(2, SECOND)])
 }
 
-/// Asserts what comes of the two parts.
+/// Asserts the results of the two parts.
 fn assert_parts<A: Abort>(rt: &A, alloc: Global, bytes: &[u8]) -> Result<(), Fail> {
     let taken = take(alloc, Source::Bytes(ByOne::new(bytes)))?;
     assert_steps(rt, &taken, parts_steps(), LINES[3]);
@@ -272,7 +272,7 @@ fn assert_parts<A: Abort>(rt: &A, alloc: Global, bytes: &[u8]) -> Result<(), Fai
     Ok(())
 }
 
-/// The same where the last dummy frame has so many symbols.
+/// The same if the last dummy frame has this number of symbols.
 fn assert_parts_with<A: Abort>(rt: &A, alloc: Global, last: u32) -> Result<(), Fail> {
     let bytes = parts(alloc, last)?;
     assert_parts(rt, alloc, &bytes)
@@ -286,7 +286,7 @@ fn joins_across_dummy_frames_byte_by_byte(rt: HostRuntime) -> Result<(), Fail> {
     Ok(())
 }
 
-/// The two parts of a packet with a dummy frame between them, before and behind which stand so many symbols.
+/// The two parts of a packet with a dummy frame between them, and numbers of symbols before and after the dummy frame.
 fn parts_around(alloc: Global, before: u32, behind: u32) -> Result<Vec<u8>, AllocError> {
     let mut bytes = Vec::new(alloc);
     put_frame(&mut bytes, 1)?;
@@ -313,8 +313,8 @@ fn keeps_a_gap_across_a_dummy_frame(rt: HostRuntime) -> Result<(), Fail> {
     Ok(())
 }
 
-/// Behind 20 symbols a false header of a dummy frame, 1000 symbols before a frame, which it hides; and behind 70
-/// symbols the two parts of a packet.
+/// After 20 symbols a false header of a dummy frame, 1000 symbols before a frame, which it hides. After 70 more symbols
+/// the two parts of a packet.
 fn hidden_frame(alloc: Global) -> Result<Vec<u8>, AllocError> {
     let mut bytes = Vec::new(alloc);
     put_symbols(&mut bytes, 20)?;
@@ -326,10 +326,10 @@ fn hidden_frame(alloc: Global) -> Result<Vec<u8>, AllocError> {
     Ok(bytes)
 }
 
-/// Where the first part stands.
+/// The position of the first part.
 const BEHIND_HIDDEN: u64 = 20 + 1000 + FRAME + 70;
 
-/// What five calls answer on these.
+/// The results of five calls on these.
 fn found_steps() -> Steps {
     steps_of(&[frame(1, BEHIND_HIDDEN), frame(2, BEHIND_HIDDEN + FRAME)])
 }
@@ -338,7 +338,7 @@ fn found_steps() -> Steps {
 const FOUND: &str =
     "frame 1 at 6580 most-likely fixed 0\nframe 2 at 12070 most-likely fixed 0\nend frames 2 delivered 2 packets 1 bad 0\n";
 
-/// Asserts what comes of these: what of the hidden frame stands behind the dummy frame's end is passed over.
+/// Asserts their results: the symbols of the hidden frame after the dummy frame's end are skipped.
 fn assert_found<A: Abort>(rt: &A, alloc: Global, bytes: &[u8]) -> Result<(), Fail> {
     let taken = take(alloc, Source::Slice(bytes))?;
     assert_steps(rt, &taken, found_steps(), FOUND);
@@ -353,7 +353,7 @@ fn finds_a_frame_behind_a_false_dummy_header(rt: HostRuntime) -> Result<(), Fail
     assert_found(&rt, rt.alloc(), &bytes)
 }
 
-/// Whole dummy frames, so many.
+/// A number of whole dummy frames.
 fn dummies(alloc: Global, count: u32) -> Result<Vec<u8>, AllocError> {
     let mut bytes = Vec::new(alloc);
     for _ in 0..count {
@@ -362,7 +362,7 @@ fn dummies(alloc: Global, count: u32) -> Result<Vec<u8>, AllocError> {
     Ok(bytes)
 }
 
-/// What comes of them.
+/// Their results.
 fn received_of_dummies(alloc: Global, count: u32) -> Result<Received, Fail> {
     let bytes = dummies(alloc, count)?;
     receive(alloc, &bytes)
@@ -372,11 +372,11 @@ fn received_of_dummies(alloc: Global, count: u32) -> Result<Received, Fail> {
 fn ends_behind_dummy_frames_alone(rt: HostRuntime) -> Result<(), Fail> {
     let received = received_of_dummies(rt.alloc(), 30)?;
     assert_eq!(rt; received.totals, totals(0, 0, 0));
-    assert!(rt; received.well);
+    assert!(rt; received.all_certified);
     Ok(())
 }
 
-/// A frame, and so many symbols behind it.
+/// A frame, and a number of symbols after it.
 fn frame_before(alloc: Global, passed: u32) -> Result<Vec<u8>, AllocError> {
     let mut bytes = Vec::new(alloc);
     put_frame(&mut bytes, 1)?;
@@ -398,7 +398,7 @@ fn counts_what_is_passed_over_at_the_end(rt: HostRuntime) -> Result<(), Fail> {
     Ok(())
 }
 
-/// A frame, and behind three symbols the header of another.
+/// A frame, and after three symbols the header of another.
 fn header_alone(alloc: Global) -> Result<Vec<u8>, AllocError> {
     let mut bytes = Vec::new(alloc);
     put_frame(&mut bytes, 1)?;
@@ -429,7 +429,7 @@ fn assert_stopped<A: Abort>(rt: &A, whole: &Whole, report: &str) {
     assert_eq!(rt; whole.report.as_slice(), report.as_bytes());
 }
 
-/// Asserts that so many lines come within so many symbols.
+/// Asserts that this number of lines is written within this number of symbols.
 fn assert_limited<A: Abort>(
     rt: &A,
     alloc: Global,

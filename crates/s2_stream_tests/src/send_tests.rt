@@ -24,18 +24,18 @@ fn counts(packets: u64, frames: u64) -> Counts {
     Counts { packets, frames }
 }
 
-/// The counts of a stream that was sent whole, how many bytes it has, and their sum.
+/// The counts of a stream that was sent whole, the number of its bytes, and their sum.
 fn summed(sent: &Sent) -> Result<(Counts, usize, u64), SendFault> {
     Ok((sent.answer?, sent.symbols.len(), sum_of(&sent.symbols)))
 }
 
-/// The same of what is sent of these packets.
+/// The same for the stream of these packets.
 fn sum_of_sent(alloc: Global, link: &Sides, packets: &[u8]) -> Result<(Counts, usize, u64), Fail> {
     let sent = send_packets(alloc, link, packets)?;
     Ok(summed(&sent)?)
 }
 
-/// The same of a packet of zeros.
+/// The same for a packet of zeros.
 fn sum_of_zeros(alloc: Global, setup: Setup) -> Result<(Counts, usize, u64), Fail> {
     let link = link_in(alloc, setup)?;
     sum_of_sent(alloc, &link, &packet_of_zeros())
@@ -61,7 +61,7 @@ fn sends_a_single_packet(rt: HostRuntime) -> Result<(), Fail> {
     Ok(())
 }
 
-/// Asserts what is sent of no packet and of two.
+/// Asserts the streams of no packet and of two.
 fn assert_none_and_two<A: Abort>(rt: &A, alloc: Global, link: &Sides) -> Result<(), Fail> {
     let none = sum_of_sent(alloc, link, &[])?;
     assert_eq!(rt; none, (counts(0, 0), 0, 0));
@@ -76,7 +76,7 @@ fn sends_none_or_two_packets(rt: HostRuntime) -> Result<(), Fail> {
     assert_none_and_two(&rt, rt.alloc(), &link)
 }
 
-/// Asserts what a transmitter answers on a stream, that no read or write failed, and the symbols' sum.
+/// Asserts the result of a transmitter on a stream, that no read or write failed, and the symbols' sum.
 fn assert_run<A: Abort>(
     rt: &A,
     alloc: Global,
@@ -89,7 +89,7 @@ fn assert_run<A: Abort>(
     assert_eq!(rt; sent.failed, [0, 0]);
 }
 
-/// Asserts what one transmitter makes of two streams that it refuses and a good one.
+/// Asserts the results of one transmitter on two streams that it refuses and a good one.
 fn assert_begins_anew<A: Abort>(rt: &A, alloc: Global, transmitter: &mut Transmitter<'_>) {
     let mut no_sync = [0x47; 376];
     no_sync[188] = 0x48;
@@ -114,17 +114,17 @@ fn begins_a_new_stream_after_a_refusal(rt: HostRuntime) -> Result<(), Fail> {
     assert_begins_anew_on(&rt, rt.alloc(), &link)
 }
 
-/// What a transmitter answers, how many reads and writes failed, and how much it wrote.
+/// The result of a transmitter, and the numbers of failed reads, failed writes and written bytes.
 type Outcome = (Result<Counts, SendFault>, [u64; 2], usize);
 
-/// Asserts what a transmitter answered, and that it wrote so much of these symbols.
+/// Asserts the result of a transmitter, and that it wrote the first bytes of these symbols, of this number.
 fn assert_sent<A: Abort>(rt: &A, sent: &Sent, symbols: &[u8], want: Outcome, at: u64) {
     let outcome = (sent.answer, sent.failed, sent.symbols.len());
     assert_eq!(rt; outcome, want, "call {at}");
     assert!(rt; symbols.starts_with(&sent.symbols));
 }
 
-/// Asserts what comes of the two packets where so many reads and so many writes pass.
+/// Asserts the result of the two packets if these numbers of reads and of writes succeed.
 fn assert_fails<A: Abort>(
     rt: &A,
     alloc: Global,
@@ -138,7 +138,7 @@ fn assert_fails<A: Abort>(
     Ok(())
 }
 
-/// The first frame is full once both packets are accepted, so it stands where the end can't be read.
+/// The first frame is full after both packets, so it is written although the end can't be read.
 fn assert_reads_fail<A: Abort>(rt: &A, alloc: Global, sample: &Sample) -> Result<(), Fail> {
     let packets = two_packets();
     let source = Source::Bytes(ByOne::new(packets.as_flattened()));
@@ -159,7 +159,7 @@ fn each_read_fails_in_turn(rt: HostRuntime) -> Result<(), Fail> {
     assert_reads_fail(&rt, rt.alloc(), &sample)
 }
 
-/// Asserts what comes of the two packets where the first write, the second or none fails.
+/// Asserts the result of the two packets if the first write, the second or none fails.
 fn assert_writes_fail<A: Abort>(rt: &A, alloc: Global, sample: &Sample) -> Result<(), Fail> {
     let packets = two_packets();
     let source = Source::Slice(packets.as_flattened());
@@ -185,7 +185,7 @@ fn eight_packets() -> [[u8; 188]; 8] {
     [0, 1, 2, 3, 4, 5, 6, 7].map(packet_of)
 }
 
-/// Frames with a dummy frame behind every so many.
+/// Frames with a dummy frame after every n-th frame.
 fn with_dummies(
     alloc: Global,
     frames: &[u8],
@@ -204,7 +204,7 @@ fn with_dummies(
     Ok(symbols)
 }
 
-/// Asserts where dummy frames stand among the five frames, and that they are not counted.
+/// Asserts the positions of dummy frames among the five frames, and that they are not counted.
 fn assert_dummies<A: Abort>(rt: &A, alloc: Global, sample: &Sample) -> Result<(), Fail> {
     let packets = eight_packets();
     let source = Source::Slice(packets.as_flattened());
@@ -239,7 +239,7 @@ fn sends_dummy_frames(rt: HostRuntime) -> Result<(), Fail> {
     assert_dummies(&rt, rt.alloc(), &sample)
 }
 
-/// Asserts what comes of the two packets with a dummy frame behind each frame, where so many writes pass.
+/// Asserts the result of the two packets with a dummy frame after each frame, if this number of writes succeeds.
 fn assert_dummies_fail<A: Abort>(
     rt: &A,
     alloc: Global,
@@ -317,7 +317,7 @@ fn refuses_setups_in_order(rt: HostRuntime) -> Result<(), Fail> {
     Ok(())
 }
 
-/// The scrambled frame of 189 bytes of zeros behind these ten.
+/// The scrambled frame of 189 bytes of zeros after these ten.
 fn scrambled(alloc: Global, header: &[u8; 10]) -> Result<Bits, AllocError> {
     let mut frame = Bits::zeroed(alloc, 16008)?;
     frame_bits_into(header, &[0; 189], frame.truths_mut());

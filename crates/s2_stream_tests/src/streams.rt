@@ -1,5 +1,5 @@
-//! Small links and their streams, for the tests here and in `s2_link_tests`. What has a large contract is called here
-//! and nowhere else in the tests, each such call by a function that has none, so that a test's own proof stays small.
+//! Small links and their streams, for the tests here and in `s2_link_tests`. In the tests, calls with a large contract
+//! are made only here, each in a function without a contract. So a test's own proof stays small.
 ghost use Rattle.std.specs.Prelude.{◌≡◌, ◌≤◌, IfOk, IsTrue, length};
 ghost use Rattle.s2_mode.specs.Mode.{n_of};
 ghost use Rattle.s2_bbframe.specs.DataStream.{field_bytes};
@@ -25,7 +25,7 @@ use std::test::Fail;
 /// The rounds of a receiver here.
 pub const ROUNDS: u32 = 50;
 
-/// Where no write fails.
+/// No write fails.
 pub const ALL: u64 = u64::MAX;
 
 /// A setup, and the matrix of made rows.
@@ -109,7 +109,7 @@ pub fn two_packets() -> [[u8; 188]; 2] {
     [packet_of(0), packet_of(1)]
 }
 
-/// What is read: a slice, all at once or byte by byte, or one that repeats for ever.
+/// The input: a slice, all at once or byte by byte, or one that repeats for ever.
 #[derive(Clone, Copy)]
 pub enum Source<'a> {
     Slice(&'a [u8]),
@@ -127,10 +127,10 @@ impl Read for Source<'_> {
     }
 }
 
-/// A reader of which so many reads pass.
+/// A reader that fails after this number of reads.
 pub type Reader<'a> = FailAt<Counting<Source<'a>>>;
 
-/// A writer of which so many writes pass.
+/// A writer that fails after this number of writes.
 pub type Writer = FailAt<Counting<Vec<u8>>>;
 
 pub fn reader_of(source: Source<'_>, passes: u64) -> Reader<'_> {
@@ -141,15 +141,15 @@ pub fn writer_of(alloc: Global, passes: u64) -> Writer {
     FailAt::new(Counting::new(Vec::new(alloc)), passes)
 }
 
-/// What a writer has taken.
+/// The bytes that a writer has taken.
 pub fn taken(writer: Writer) -> Vec<u8> {
     writer.into_inner().into_inner()
 }
 
-/// What five calls of a receiver return.
+/// The results of five calls of a receiver.
 pub type Steps = [Result<Step, Fault>; 5];
 
-/// What five calls of a receiver return and write.
+/// The results of five calls of a receiver, and the bytes that they write.
 pub struct Heard {
     pub steps: Steps,
     pub packets: Vec<u8>,
@@ -166,8 +166,8 @@ impl Drop for Heard {
     }
 }
 
-/// A step of a receiver without input and output: how many bytes of the stream were given up to it, and how many
-/// bytes its packets have.
+/// A step of a receiver without input and output: the number of bytes of the stream that were given up to it, and the
+/// number of bytes of its packets.
 #[derive(Clone, Copy, Debug, PartialEq, Eq)]
 pub struct Event {
     pub step: Step,
@@ -175,11 +175,11 @@ pub struct Event {
     pub packets: usize,
 }
 
-/// What comes of bytes that are given room by room.
+/// The results of bytes that are given room by room.
 pub struct Fed {
     pub events: Vec<Event>,
     pub packets: Vec<u8>,
-    /// How many bytes were given.
+    /// The number of bytes that were given.
     pub given: usize,
 }
 
@@ -203,7 +203,7 @@ impl Fed {
         }
     }
 
-    /// So many bytes more were given, a step came, or none, and a receiver has these packets then.
+    /// This number of bytes more was given, a step came, or none, and the receiver has these packets after it.
     pub fn put(
         &mut self,
         given: usize,
@@ -224,11 +224,11 @@ impl Fed {
     }
 }
 
-/// What a run of a transmitter came to.
+/// The results of a run of a transmitter.
 #[derive(Drop)]
 pub struct Sent {
     pub answer: Result<Counts, SendFault>,
-    /// How many reads, and how many writes failed.
+    /// The numbers of failed reads and of failed writes.
     pub failed: [u64; 2],
     pub symbols: Vec<u8>,
 }
@@ -249,7 +249,7 @@ fn run(
     transmitter.run(reader, writer)
 }
 
-/// What a transmitter sends of what is read, where so many reads and so many writes pass.
+/// The results of a transmitter on an input, if these numbers of reads and of writes succeed.
 pub fn sent_by(
     alloc: Global,
     transmitter: &mut Transmitter<'_>,
@@ -266,13 +266,13 @@ pub fn sent_by(
     }
 }
 
-/// Lets a transmitter take at most so many packets.
+/// Limits a transmitter to this number of packets.
 fn limit(transmitter: &mut Transmitter<'_>, packets: u32) {
     transmitter.limit(u64::from(packets.max(1)));
 }
 
-/// What is sent on a link of what is read, at most so many packets, where so many reads and so many
-/// writes pass.
+/// The results of a link's transmitter on an input, for at most this number of packets, if these numbers of reads and
+/// of writes succeed.
 pub fn send(
     alloc: Global,
     link: &Sides,
@@ -289,13 +289,13 @@ pub fn send(
     }
 }
 
-/// Lets a transmitter send a dummy frame behind every so many frames.
+/// Makes a transmitter send a dummy frame after every n-th frame.
 fn dummy_every(transmitter: &mut Transmitter<'_>, frames: u16) {
     transmitter.dummy_every(frames);
 }
 
-/// What is sent on a link of what is read, with a dummy frame behind every so many frames, where so many reads and so
-/// many writes pass.
+/// The results of a link's transmitter on an input, with a dummy frame after every n-th frame, if these numbers of
+/// reads and of writes succeed.
 pub fn send_with_dummies(
     alloc: Global,
     link: &Sides,
@@ -318,7 +318,7 @@ pub fn put_symbol(bytes: &mut Vec<u8>, symbol: Symbol) -> Result<(), AllocError>
     bytes.extend_from_slice(&symbol.q.to_be_bytes())
 }
 
-/// The header that begins with the mark and goes on with these bits, as symbols.
+/// The header that begins with the mark and continues with these bits, as symbols.
 pub fn header_of(code: u64) -> [Symbol; 90] {
     let bits = (0x018D_2E82u128 << 64) | u128::from(code);
     let mut symbols = [Symbol { i: 700, q: 700 }; 90];
@@ -355,7 +355,7 @@ pub fn sum_of(bytes: &[u8]) -> u64 {
     sum
 }
 
-/// What is sent of packets on a link.
+/// The stream of packets on a link.
 pub fn send_packets(alloc: Global, link: &Sides, packets: &[u8]) -> Result<Sent, SetupFault> {
     send(alloc, link, u32::MAX, Source::Slice(packets), [ALL, ALL])
 }
@@ -453,7 +453,7 @@ fn is_frame_of(mode: Mode, header: &Header, field: &[u8]) -> bool
     header.roll_off <= 3 && field.len() <= s2_bbframe::field_bytes(mode)
 }
 
-/// The symbols of the frame of a header, whatever it says, and of the bytes behind it.
+/// The symbols of the frame of any header and of the bytes after it.
 pub fn frame_of(
     alloc: Global,
     link: &Sides,

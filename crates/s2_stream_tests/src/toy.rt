@@ -1,10 +1,10 @@
-//! A receiver with a made-up decider, for tests: it takes frames of 8PSK 3/5 in short frames, with or without what a
-//! code would make of them. The first symbol behind a frame's header tells what it brings; its field has 100 bytes of zeros.
-//! As in `streams`, what has a large contract is called here and nowhere else in the tests.
+//! A receiver with a made-up decider, for tests. It takes frames of 8PSK 3/5 in short frames, with or without the
+//! results of a code. The first symbol after a frame's header gives its content; its field has 100 bytes of zeros.
+//! As in `streams`, calls with a large contract are made only here in the tests.
 ghost use Rattle.std.specs.Prelude.{◌≡◌, ◌≤◌, IfOk, length};
 ghost use Rattle.s2_mode.specs.Limits.{max_symbols};
 ghost use Rattle.s2_receive.specs.Receiving.{IsLive, begun};
-ghost use Rattle.s2_stream_tests.specs.Toy.{told_by};
+ghost use Rattle.s2_stream_tests.specs.Toy.{content_of};
 
 use super::streams::{
     ALL, Fed, Heard, Reader, Source, Steps, Writer, header_of, put_symbol, reader_of, taken,
@@ -26,44 +26,44 @@ pub(crate) const FRAME: u64 = 5490;
 
 pub(crate) const DUMMY: u64 = 3330;
 
-/// The 64 bits of a frame's header behind the mark, and those of a dummy frame's.
+/// The 64 bits of a frame's header after the mark, and those of a dummy frame's.
 const CODED_CODE: u64 = 0x8192_73C6_A34D_DDF5;
 
 const DUMMY_CODE: u64 = 0x719D_83C9_5342_2DFA;
 
-/// Decides by what a frame's symbols tell: below 0 nothing, else a field that goes to the place named.
+/// Decides by a frame's content: below 0 nothing, else a field whose header names a place.
 #[derive(Drop)]
 pub(crate) struct HalfPackets {
     mode: Mode,
     field: [u8; 100],
-    told: i16,
+    content: i16,
 }
 
-/// What a frame's symbols tell.
-fn told_by(symbols: &[Symbol]) -> i16
-    ensures { result ≡ told_by symbols.now }
+/// The content of a frame: Q of its first symbol after the header.
+fn content_of(symbols: &[Symbol]) -> i16
+    ensures { result ≡ content_of symbols.now }
 {
     if symbols.len() > 90 { symbols[90].q } else { 0 }
 }
 
 impl Decide for HalfPackets {
     ghost use Rattle.s2_mode.specs.Mode.{symbols_in};
-    ghost use Rattle.s2_stream_tests.specs.Toy.{told_by, place_for, decision_for};
+    ghost use Rattle.s2_stream_tests.specs.Toy.{content_of, place_for, decision_for};
 
     ghost size = { λ d. symbols_in d.mode };
 
-    ghost decide = { λ d symbols. decision_for d.field (place_for (told_by symbols)) };
+    ghost decide = { λ d symbols. decision_for d.field (place_for (content_of symbols)) };
 
     ghost field = { λ d. d.field };
 
-    ghost last = { λ d. decision_for d.field (place_for d.told) };
+    ghost last = { λ d. decision_for d.field (place_for d.content) };
 
     fn decide(&mut self, symbols: &[Symbol]) {
-        self.told = told_by(symbols);
+        self.content = content_of(symbols);
     }
 
     fn decided(&self) -> Decided {
-        if self.told < 0 {
+        if self.content < 0 {
             return Decided {
                 verdict: Verdict::Broken,
                 outcome: Outcome::NoWord,
@@ -77,7 +77,7 @@ impl Decide for HalfPackets {
                 roll_off: 0,
                 second: 0,
                 dfl: 800,
-                syncd: if self.told < 2 { 0 } else { 704 },
+                syncd: if self.content < 2 { 0 } else { 704 },
             }),
         }
     }
@@ -90,7 +90,7 @@ impl Decide for HalfPackets {
 /// A receiver of these frames.
 pub(crate) type Toy = Receiver<HalfPackets>;
 
-/// A receiver that takes at most so many symbols.
+/// A receiver that takes at most this number of symbols.
 pub(crate) fn toy(alloc: Global, limit: u64) -> Result<Toy, Fail>
     requires { limit ≤ MAX_SYMBOLS }
     ensures limit { IfOk result (λ r. r.limit ≡ limit) }
@@ -100,12 +100,12 @@ pub(crate) fn toy(alloc: Global, limit: u64) -> Result<Toy, Fail>
     let decider = HalfPackets {
         mode,
         field: [0; 100],
-        told: 0,
+        content: 0,
     };
     Ok(Receiver::new(alloc, mode, Lock::usual(), decider, limit)?)
 }
 
-/// So many symbols at which nothing begins.
+/// A number of symbols at which nothing begins.
 pub(crate) fn put_symbols(bytes: &mut Vec<u8>, count: u32) -> Result<(), AllocError> {
     for _ in 0..count {
         put_symbol(bytes, Symbol { i: 1, q: 1 })?;
@@ -126,14 +126,14 @@ pub(crate) fn put_header(bytes: &mut Vec<u8>) -> Result<(), AllocError> {
     put_code(bytes, CODED_CODE)
 }
 
-/// A frame whose first symbol behind the header has this Q.
+/// A frame whose first symbol after the header has this Q.
 pub(crate) fn put_frame(bytes: &mut Vec<u8>, first: i16) -> Result<(), AllocError> {
     put_header(bytes)?;
     put_symbol(bytes, Symbol { i: 1, q: first })?;
     put_symbols(bytes, 5399)
 }
 
-/// A dummy frame, or as many symbols of one, 90 at least.
+/// A dummy frame, or its first symbols, 90 at least.
 pub(crate) fn put_dummy(bytes: &mut Vec<u8>, symbols: u32) -> Result<(), AllocError> {
     put_code(bytes, DUMMY_CODE)?;
     put_symbols(bytes, symbols.saturating_sub(90))
@@ -166,21 +166,21 @@ pub(crate) fn totals(frames: u64, delivered: u64, packets: u64) -> Totals {
         delivered,
         packets,
         bad: 0,
-        torn: 0,
+        incomplete: 0,
         cut: false,
-        passed: 0,
+        skipped: 0,
         places: 0,
         first: 0,
     }
 }
 
-/// Totals with so many symbols passed over in one place, which begins there, and so many packets torn.
-pub(crate) fn losing(totals: Totals, passed: u64, first: u64, torn: u64) -> Totals {
+/// Totals with a number of skipped symbols in one gap, its start, and a number of incomplete packets.
+pub(crate) fn losing(totals: Totals, skipped: u64, first: u64, incomplete: u64) -> Totals {
     Totals {
-        passed,
+        skipped,
         places: 1,
         first,
-        torn,
+        incomplete,
         ..totals
     }
 }
@@ -199,7 +199,7 @@ fn step(
     receiver.next(reader, packets, report)
 }
 
-/// Gives a receiver the first of these bytes, as many as it has room for. Returns how many these are, and the step.
+/// Gives a receiver the first of these bytes, up to its room. Returns their number, and the step.
 pub(crate) fn feed(receiver: &mut Toy, bytes: &[u8]) -> (usize, Option<Step>)
     ensures { result.0 ≤ length bytes.now }
 {
@@ -207,7 +207,7 @@ pub(crate) fn feed(receiver: &mut Toy, bytes: &[u8]) -> (usize, Option<Step>)
     (count, receiver.advance(&bytes[..count]))
 }
 
-/// Gives a receiver bytes room by room, so often.
+/// Gives a receiver bytes room by room, this number of times.
 pub(crate) fn feed_rooms(
     alloc: Global,
     receiver: &mut Toy,
@@ -237,7 +237,7 @@ fn five_steps(
     steps
 }
 
-/// Calls a receiver five times, where so many reads, writes of packets and writes of lines pass.
+/// Calls a receiver five times, if these numbers of reads, writes of packets and writes of lines succeed.
 pub(crate) fn heard_by(
     alloc: Global,
     receiver: &mut Toy,
@@ -255,7 +255,7 @@ pub(crate) fn heard_by(
     }
 }
 
-/// What five calls of a receiver returned and wrote, and its totals after them.
+/// The results of five calls of a receiver, the bytes that they wrote, and the totals after them.
 pub(crate) struct Taken {
     pub(crate) heard: Heard,
     pub(crate) totals: Totals,
@@ -278,7 +278,7 @@ fn taken_by(alloc: Global, receiver: &mut Toy, source: Source<'_>) -> Taken {
     }
 }
 
-/// Calls a new receiver five times, which takes at most so many symbols.
+/// Calls a new receiver, which takes at most this number of symbols, five times.
 pub(crate) fn take_within(alloc: Global, limit: u64, source: Source<'_>) -> Result<Taken, Fail> {
     match toy(alloc, limit.min(MAX_SYMBOLS)) {
         Ok(mut receiver) => Ok(taken_by(alloc, &mut receiver, source)),
@@ -291,7 +291,7 @@ pub(crate) fn take(alloc: Global, source: Source<'_>) -> Result<Taken, Fail> {
     take_within(alloc, MAX_SYMBOLS, source)
 }
 
-/// Lets a receiver run to the end of what is read.
+/// Runs a receiver to the end of its input.
 fn run_receiver(
     receiver: &mut Toy,
     reader: &mut Reader<'_>,
@@ -307,7 +307,7 @@ fn run_receiver(
     receive_all(receiver, reader, packets, report)
 }
 
-/// What a run came to, and its report.
+/// The results of a run, and its report.
 pub(crate) struct Whole {
     pub(crate) answer: Result<Received, StreamFault>,
     pub(crate) report: Vec<u8>,
@@ -335,7 +335,7 @@ fn whole_by(alloc: Global, receiver: &mut Toy, bytes: &[u8]) -> Whole
     }
 }
 
-/// What comes of all of these bytes by a single call of a receiver that takes at most so many symbols.
+/// The results of all of these bytes by a single call of a receiver that takes at most this number of symbols.
 pub(crate) fn receive_within(alloc: Global, limit: u64, bytes: &[u8]) -> Result<Whole, Fail> {
     match toy(alloc, limit.min(MAX_SYMBOLS)) {
         Ok(mut receiver) => Ok(whole_by(alloc, &mut receiver, bytes)),
@@ -343,7 +343,7 @@ pub(crate) fn receive_within(alloc: Global, limit: u64, bytes: &[u8]) -> Result<
     }
 }
 
-/// The same of one without a limit of its own, where nothing fails.
+/// The same for a receiver without its own limit, if nothing fails.
 pub(crate) fn receive(alloc: Global, bytes: &[u8]) -> Result<Received, Fail> {
     Ok(receive_within(alloc, MAX_SYMBOLS, bytes)?.answer?)
 }
@@ -365,7 +365,7 @@ fn receive_into(
     receive_bytes(receiver, bytes, packets, report)
 }
 
-/// What comes of bytes in memory.
+/// The results of bytes in memory.
 pub(crate) struct InBytes {
     pub(crate) answer: Result<Totals, WriteFault>,
     pub(crate) packets: Vec<u8>,
@@ -396,7 +396,7 @@ fn in_bytes_by(alloc: Global, receiver: &mut Toy, bytes: &[u8], writes: [u64; 2]
     }
 }
 
-/// What comes of bytes in memory, where so many writes of packets and so many of lines pass.
+/// The results of bytes in memory, if these numbers of writes of packets and of lines succeed.
 pub(crate) fn receive_in_bytes(
     alloc: Global,
     bytes: &[u8],

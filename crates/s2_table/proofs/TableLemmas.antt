@@ -20,7 +20,7 @@ itself (faults.Open name) = refl
 itself (faults.UsedTwice name) = refl
 itself faults.TooLong = refl
 itself (faults.Rows text) = refl
-itself (faults.Told text) = refl
+itself (faults.Refused text) = refl
 
 pub refused_rows : (Says : Rows → Exit → List ℕ → Type 0) (shape : Shape) (known : Option (List ℕ)) (f : Fault)
     → IfSome known (λ text. Follows {V = Rows} (λ r. r) (Err f) (rows_in shape text)) → CommandAnswers Says (AreRowsIn shape known) (Err f)

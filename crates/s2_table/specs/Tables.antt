@@ -27,7 +27,7 @@ answer_exit true = exits.Fine
 answer_exit false = exits.No
 
 -- whether rows are the standard's for the code of a mode, and the exit of that
-pub record IsTold (mode : Mode) (rows : Rows) (exit : Exit) (text : List ℕ) : Type 0 where
+pub record SaysStandard (mode : Mode) (rows : Rows) (exit : Exit) (text : List ℕ) : Type 0 where
   pub answer : Bool
   pub has : HasSum rows (standard_sum mode) answer
   pub line : text ≡ answer_line answer

@@ -9,9 +9,9 @@ use Rattle.s2_console.specs.declared.fault.Fault.TheVariants as faults
 use Rattle.s2_console.specs.Exits.{exit_of, CommandRuns, CommandCounts}
 use Rattle.s2_console.specs.Notes.{Remarks}
 use Rattle.s2_console.specs.Screens.{Screen}
-use Rattle.s2_table.specs.Tables.{AreRowsIn, IsTold}
+use Rattle.s2_table.specs.Tables.{AreRowsIn, SaysStandard}
 
--- how many rows, of addresses below which number
+-- the number of rows, and the limit of their addresses
 unfoldable pub wanted_end : ℕ → ℕ → List ℕ
 wanted_end rows checks = (codes " wants " ++ decimal rows) ++ (codes " rows of addresses below " ++ decimal checks) ++ codes "\n"
 
@@ -31,7 +31,7 @@ notes_on quiet m (Err f) = if quiet then [] else fault_note m f
 
 -- `table` has ended. The result for the rows in its file is printed. Only failed calls were counted. The note and the
 -- line of a fault are on the errors
-abbrev pub TableEnds : Mode → Bool → Option (List ℕ) → ℕ → ℕ → Screen → Screen → Exit → Type 0
-TableEnds m quiet rows reads reads_after old new exit =
-    (ended : Result Exit Fault) × (exit ≡ exit_of ended) × CommandRuns (IsTold m) (AreRowsIn (shape_in m) rows) ended old.output new.output
+abbrev pub TableExits : Mode → Bool → Option (List ℕ) → ℕ → ℕ → Screen → Screen → Exit → Type 0
+TableExits m quiet rows reads reads_after old new exit =
+    (ended : Result Exit Fault) × (exit ≡ exit_of ended) × CommandRuns (SaysStandard m) (AreRowsIn (shape_in m) rows) ended old.output new.output
     × CommandCounts ended reads reads_after old.output_failed new.output_failed × Remarks (notes_on quiet m ended) ended old new

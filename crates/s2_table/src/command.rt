@@ -4,8 +4,8 @@ ghost use Rattle.s2_mode.specs.Counts.{CanCount};
 ghost use Rattle.s2_mode.specs.Mode.{shape_in};
 ghost use Rattle.s2_console.specs.Exits.{CommandAnswers, CommandRuns, CommandCounts};
 ghost use Rattle.s2_console.specs.Screens.{CanNote};
-ghost use Rattle.s2_table.specs.Wanted.{TableEnds};
-ghost use Rattle.s2_table.specs.Tables.{AreRowsIn, IsTold, answer_line, answer_exit};
+ghost use Rattle.s2_table.specs.Wanted.{TableExits};
+ghost use Rattle.s2_table.specs.Tables.{AreRowsIn, SaysStandard, answer_line, answer_exit};
 
 use crate::standard::is_standard;
 use crate::wanted::conclude_noted;
@@ -15,14 +15,14 @@ use s2_matrix::Matrix;
 use s2_mode::{CountedRead, CountedWrite, Mode};
 use std::alloc::Global;
 
-/// The exit of an answer.
+/// Exit 0 for the standard's rows, else 2.
 fn exit_of_answer(answer: bool) -> Exit
     ensures { result ≡ answer_exit answer }
 {
     if answer { Exit::Fine } else { Exit::No }
 }
 
-/// The line of an answer.
+/// `standard` or `other`, with LF.
 fn line_of_answer(answer: bool) -> Line
     ensures { result ≡ answer_line answer }
 {
@@ -32,8 +32,8 @@ fn line_of_answer(answer: bool) -> Line
 }
 
 /// Whether rows are the standard's for the code of a mode.
-fn told(mode: &Mode, matrix: &Matrix) -> Printed
-    ensures { IsTold mode.now matrix.now result.exit result.text }
+fn answered(mode: &Mode, matrix: &Matrix) -> Printed
+    ensures { SaysStandard mode.now matrix.now result.exit result.text }
 {
     let answer = is_standard(mode, matrix);
     Printed {
@@ -42,20 +42,20 @@ fn told(mode: &Mode, matrix: &Matrix) -> Printed
     }
 }
 
-/// Reads rows, and tells whether they are the standard's.
+/// Reads rows, and tests whether they are the standard's.
 fn table_read<R: CountedRead>(
     alloc: Global,
     mode: &Mode,
     rows: &mut R,
 ) -> Result<Printed, Fault<'static>>
     requires { CanCount (R.count rows.old) }
-    ensures answers { CommandAnswers (IsTold mode.now) (AreRowsIn (shape_in mode.now) (R.remaining rows.old)) result }
+    ensures answers { CommandAnswers (SaysStandard mode.now) (AreRowsIn (shape_in mode.now) (R.remaining rows.old)) result }
     ensures read { result ≡ Err Fault.Read → R.count rows.new ≡ R.count rows.old + 1 }
     ensures no_read { result ≢ Err Fault.Read → R.count rows.new ≡ R.count rows.old }
     ensures write { result ≢ Err Fault.Write }
 {
     let matrix = read_matrix(alloc, rows, mode.shape())?;
-    Ok(told(mode, &matrix))
+    Ok(answered(mode, &matrix))
 }
 
 /// Reads rows, and prints whether they are the standard's.
@@ -68,14 +68,14 @@ fn print_table<R: CountedRead, O: CountedWrite>(
     requires rows { CanCount (R.count rows.old) }
     requires out { CanCount (O.count out.old) }
     ensures whole { IsOk result → O.count out.new ≡ O.count out.old }
-    ensures run { CommandRuns (IsTold mode.now) (AreRowsIn (shape_in mode.now) (R.remaining rows.old)) result (O.contents out.old) (O.contents out.new) }
+    ensures run { CommandRuns (SaysStandard mode.now) (AreRowsIn (shape_in mode.now) (R.remaining rows.old)) result (O.contents out.old) (O.contents out.new) }
     ensures causes { CommandCounts result (R.count rows.old) (R.count rows.new) (O.count out.old) (O.count out.new) }
 {
     table_read(alloc, mode, rows)?.print(out)
 }
 
-/// `table`: whether the rows of a file are the standard's for the code of a mode, whatever the order within each row. Of rows that
-/// are refused it is noted which ones the mode wants, unless notes are left out.
+/// `table`: whether the rows of a file are the standard's for the code of a mode, whatever the order within each row.
+/// If the rows are refused, a note says which ones the mode wants, unless notes are left out.
 pub fn table_command<R: CountedRead, O: CountedWrite, E: CountedWrite>(
     alloc: Global,
     mode: &Mode,
@@ -87,7 +87,7 @@ pub fn table_command<R: CountedRead, O: CountedWrite, E: CountedWrite>(
     requires console { CanNote console.old }
     ensures quiet { result ≢ Exit.Fault → console.new.errors_failed ≡ console.old.errors_failed }
     ensures whole { result ≢ Exit.Fault → console.new.output_failed ≡ console.old.output_failed }
-    ensures run { TableEnds mode.now quiet (R.remaining rows.old)
+    ensures run { TableExits mode.now quiet (R.remaining rows.old)
         (R.count rows.old) (R.count rows.new) console.old console.new result }
 {
     let ended = print_table(alloc, mode, rows, &mut console.output);

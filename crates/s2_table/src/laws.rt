@@ -1,8 +1,8 @@
 //! Laws of the definitions, each the contract of a function that does nothing.
 ghost use Rattle.s2_table.specs.Rising.{OneRisenLaw, OneAnswerLaw};
 
-/// Rows have one digest, whatever the order within each row: their addresses rise in one way, so whether rows have a SHA-256 has one
-/// answer.
+/// Rows have one digest, whatever the order within each row: their addresses have one rising order. So rows either have
+/// a SHA-256 or not.
 pub fn one_digest()
     ensures risen { OneRisenLaw }
     ensures answer { OneAnswerLaw }

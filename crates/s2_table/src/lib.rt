@@ -1,9 +1,9 @@
-//! Whether rows are the standard's (EN 302 307-1, annexes B and C), of which this repository has none: it has the
-//! SHA-256 of each code's, by which they are told.
+//! Whether rows are the standard's (EN 302 307-1, annexes B and C). This repository does not have these rows. It has
+//! the SHA-256 of each code's rows, and recognizes them by it.
 //!
-//! What is hashed is the rows as a row file has them, with the addresses of each row rising. [`table_command`] prints
-//! whether they have the digest of a mode's code, and [`read_noted`] reads rows for a command, and notes on its errors where
-//! they are others. Where rows are refused, [`conclude_noted`] notes which ones the mode wants.
+//! The text of a row file is hashed, with the addresses of each row in rising order. [`table_command`] prints whether
+//! rows have the digest of a mode's code. [`read_noted`] reads rows for a command, and writes a note to its errors if
+//! they are not the standard's. If rows are refused, [`conclude_noted`] notes which ones the mode wants.
 //!
 //! ```text
 //! let matrix = read_noted(alloc, &mode, &mut file, quiet, &mut console.errors)?;
@@ -20,7 +20,7 @@ mod wanted;
 
 pub use command::table_command;
 pub use note::{read_noted, write_note};
-pub use wanted::{conclude_noted, tell_noted};
+pub use wanted::{conclude_noted, report_noted};
 
 #[cfg(test)]
 mod tests;

@@ -1,4 +1,4 @@
-//! Rows read for a command, and the note of those that are others than the standard's.
+//! Reads rows for a command, and notes if they are not the standard's.
 ghost use Rattle.std.specs.Prelude.{◌≡◌, ◌≢◌, ◌+◌, ◌≤◌, ◌++◌, Err, IfOk, IfSome, OnOk};
 ghost use Rattle.std.specs.Io.KnownBytes.{Appends};
 ghost use Rattle.s2_mode.specs.Counts.{CanCount, CountsFault};
@@ -16,21 +16,21 @@ use s2_mode::{CountedRead, CountedWrite, Mode, WriteFault, write_full};
 use s2_names::write_code;
 use std::alloc::Global;
 
-/// Writes a note that names the code of a mode: what stands in front of its words, they, and what stands behind them.
+/// Writes a note that names the code of a mode: the text before the mode's words, the words, and the text after them.
 pub fn write_note<E: CountedWrite>(
     errors: &mut E,
     front: &str,
     mode: &Mode,
-    behind: &[u8],
+    ending: &[u8],
 ) -> Result<(), WriteFault>
     requires { CanCount (E.count errors.old) }
     ensures line { OnOk result
-        (Appends (E.contents errors.old) (E.contents errors.new) (front.now ++ (mode_words mode.now ++ behind.now))) }
+        (Appends (E.contents errors.old) (E.contents errors.new) (front.now ++ (mode_words mode.now ++ ending.now))) }
     ensures cause { CountsFault (E.count errors.old) (E.count errors.new) result }
 {
     write_full(errors, front.as_bytes())?;
     write_code(errors, mode)?;
-    write_full(errors, behind)
+    write_full(errors, ending)
 }
 
 /// Writes the note of rows that are not the standard's.
@@ -43,7 +43,7 @@ fn write_other<E: CountedWrite>(errors: &mut E, mode: &Mode) -> Result<(), Write
     write_note(errors, front, mode, "\n".as_bytes())
 }
 
-/// The note of rows that are not the standard's, by the answer whether they are.
+/// The note of rows that are not the standard's, given whether they are.
 fn note_answer<E: CountedWrite>(errors: &mut E, mode: &Mode, standard: bool)
     requires { CanCount (E.count errors.old) }
     ensures noted { E.count errors.new ≡ E.count errors.old → Notes mode.now standard (E.contents errors.old) (E.contents errors.new) }
@@ -54,7 +54,7 @@ fn note_answer<E: CountedWrite>(errors: &mut E, mode: &Mode, standard: bool)
     }
 }
 
-/// Notes that rows are not the standard's for the code of a mode, where they are not. Where the note cannot be written, the command
+/// Notes that rows are not the standard's for the code of a mode, if so. If the note cannot be written, the command
 /// goes on without it.
 fn note_rows<E: CountedWrite>(errors: &mut E, mode: &Mode, matrix: &Matrix)
     requires { CanCount (E.count errors.old) }
@@ -65,8 +65,8 @@ fn note_rows<E: CountedWrite>(errors: &mut E, mode: &Mode, matrix: &Matrix)
     note_answer(errors, mode, is_standard(mode, matrix));
 }
 
-/// The matrix of the rows of a mode's row file, which is read to its end, with the note where it belongs, unless notes are to be left
-/// out. Where the file is refused, the fault says why, and nothing is noted.
+/// The matrix of the rows of a mode's row file, which is read to its end. If they are not the standard's, that is
+/// noted, unless notes are left out. If the file is refused, the fault says why, and nothing is noted.
 pub fn read_noted<R: CountedRead, E: CountedWrite>(
     alloc: Global,
     mode: &Mode,

@@ -33,14 +33,14 @@ fn risen(row: &[u32]) -> Row
     risen
 }
 
-/// What follows an address, before these others.
+/// The byte after an address, before these other ones.
 fn after_address(others: &[u32]) -> &'static [u8]
     ensures { result.now ≡ after_address others.now }
 {
     if others.is_empty() { b"\n" } else { b" " }
 }
 
-/// Hashes the line of a row behind what came before.
+/// Appends the line of a row to the hashed text.
 fn hash_row(hasher: &mut Sha256, row: &[u32])
     ensures { (text : List ℕ) → Holds256 hasher.old text → Holds256 hasher.new (text ++ row_text row.now) }
 {
@@ -51,7 +51,8 @@ fn hash_row(hasher: &mut Sha256, row: &[u32])
     }
 }
 
-/// The SHA-256 of the rows' text, each row on its line with its addresses rising, one space between them and LF behind the last.
+/// The SHA-256 of the rows' text: one line for each row, its addresses rising, one space between them, and LF after the
+/// last.
 pub(crate) fn digest_of(matrix: &Matrix) -> [u8; 32]
     ensures { (rows : List (List ℕ)) × AreRisen matrix.now rows × (result ≡ sha256 (rows_text rows)) }
 {

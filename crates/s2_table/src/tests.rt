@@ -1,4 +1,4 @@
-//! Digests of small rows are those that `sha256sum` gives of their text, where this has rising addresses.
+//! Digests of small rows are those that `sha256sum` prints for their text with rising addresses.
 use crate::standard::{has_sum, is_standard};
 use s2_matrix::Matrix;
 use s2_mode::{Mode, Shape};

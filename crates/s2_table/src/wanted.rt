@@ -1,4 +1,4 @@
-//! The note of rows that are refused: which ones a mode wants.
+//! The note after rows were refused: which ones the mode wants.
 ghost use Rattle.std.specs.Prelude.{◌≡◌, ◌≢◌, ◌≤◌, ◌+◌, [], if◌then◌else◌, Err, IsOk, OnOk};
 ghost use Rattle.std.specs.Io.KnownBytes.{Appends};
 ghost use Rattle.s2_mode.specs.Counts.{CanCount, CountsFault};
@@ -11,7 +11,7 @@ use crate::note::write_note;
 use s2_console::{Console, Exit, Fault, Line};
 use s2_mode::{CountedWrite, Mode, WriteFault};
 
-/// The end of the note of which rows a mode wants.
+/// The end of the note: the number of rows, and the limit of their addresses.
 #[tactic(auto, unfolding(crate::specs::Wanted::wanted_end))]
 fn wanted_end(rows: u64, checks: u64) -> Line
     ensures { result ≡ wanted_end rows checks }
@@ -30,8 +30,8 @@ fn write_wanted<W: CountedWrite>(mode: &Mode, out: &mut W) -> Result<(), WriteFa
     ensures cause { CountsFault (W.count out.old) (W.count out.new) result }
 {
     let shape = mode.shape();
-    let behind = wanted_end(shape.groups() as u64, shape.checks() as u64);
-    write_note(out, "s2: note: ", mode, behind.as_bytes())
+    let ending = wanted_end(shape.groups() as u64, shape.checks() as u64);
+    write_note(out, "s2: note: ", mode, ending.as_bytes())
 }
 
 /// Writes the note of a fault, unless notes are left out. One that cannot be written is lost.
@@ -49,8 +49,8 @@ fn note_fault<W: CountedWrite>(quiet: bool, mode: &Mode, fault: &Fault<'_>, out:
     }
 }
 
-/// Tells a fault behind its note: of rows that are refused the mode's wants, unless notes are left out.
-pub fn tell_noted<O: CountedWrite, E: CountedWrite>(
+/// Reports a fault, and before it the note on refused rows, unless notes are left out.
+pub fn report_noted<O: CountedWrite, E: CountedWrite>(
     quiet: bool,
     mode: &Mode,
     fault: Fault<'_>,
@@ -60,14 +60,14 @@ pub fn tell_noted<O: CountedWrite, E: CountedWrite>(
     ensures exit { result ≡ Exit.Fault }
     ensures output { (console.new.output ≡ console.old.output)
         × (console.new.output_failed ≡ console.old.output_failed) }
-    ensures told { Remarks (if quiet then [] else fault_note mode.now fault.entry)
+    ensures reported { Remarks (if quiet then [] else fault_note mode.now fault.entry)
         (Err fault.entry) console.old console.new }
 {
     note_fault(quiet, mode, &fault, &mut console.errors);
     console.complain(fault)
 }
 
-/// The exit of a command that ended so. A fault is told behind its note.
+/// The exit of a command that ended so. A fault is reported after its note.
 pub fn conclude_noted<O: CountedWrite, E: CountedWrite>(
     quiet: bool,
     mode: &Mode,
@@ -80,10 +80,10 @@ pub fn conclude_noted<O: CountedWrite, E: CountedWrite>(
     ensures quiet { result ≢ Exit.Fault → console.new.errors_failed ≡ console.old.errors_failed }
     ensures output { (console.new.output ≡ console.old.output)
         × (console.new.output_failed ≡ console.old.output_failed) }
-    ensures told { Remarks (notes_on quiet mode.now ended.entry) ended.entry console.old console.new }
+    ensures reported { Remarks (notes_on quiet mode.now ended.entry) ended.entry console.old console.new }
 {
     match ended {
         Ok(exit) => exit,
-        Err(fault) => tell_noted(quiet, mode, fault, console),
+        Err(fault) => report_noted(quiet, mode, fault, console),
     }
 }

@@ -15,7 +15,7 @@ module _ {T : Type 0} (Does : LinkCommand T) (Noted : Result Rows Fault → Type
         rows_failed = λ e. failed cc;
         rows_whole = λ e. whole (λ q. e (ap Err q));
         does = (no_write, (unbegun, refl, refl));
-        causes = record { no_read = λ e. refl; write_told = λ e. absurd (no_write cc); no_write = λ e. (refl, refl) };
+        causes = record { no_read = λ e. refl; write_reported = λ e. absurd (no_write cc); no_write = λ e. (refl, refl) };
       }
 
   -- the command does this on the link of these rows, which were read before

@@ -27,9 +27,9 @@ remarks_from (byte ∷ notes) (Err f) old mid new same count h =
     λ e. subst (λ errors. Appends errors new.errors ((byte ∷ notes) ++ fault_line f)) same (h (e ∙ sym count))
 
 -- so a command that received finishes
-pub finishes_from : (words : NoteWords) (m : Mode) (heard : Result Received Fault) (exit : Exit) (old mid new : Screen) → mid.errors ≡ old.errors → mid.errors_failed ≡ old.errors_failed
-    → Finishes words m heard exit mid new → Finishes words m heard exit old new
-finishes_from words m heard exit old mid new same count h =
+pub finishes_from : (words : NoteWords) (m : Mode) (reception : Result Received Fault) (exit : Exit) (old mid new : Screen) → mid.errors ≡ old.errors → mid.errors_failed ≡ old.errors_failed
+    → Finishes words m reception exit mid new → Finishes words m reception exit old new
+finishes_from words m reception exit old mid new same count h =
     record {
       ended = h.ended;
       notes = h.notes;

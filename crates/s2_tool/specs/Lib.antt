@@ -1,7 +1,7 @@
 pub mod Links
 pub mod Losses
 pub mod Sending
-pub mod Spoiling
+pub mod AddingNoise
 pub mod Receptions
 pub mod Looping
 pub mod Making

@@ -37,7 +37,7 @@ CannotBegin old new ended = (ended ≡ Err faults.Write) × (new ≡ record old 
 abbrev pub Begins : {T : Type 0} → (Streams → Streams → Result T Fault → Type 0) → (begun : Bool) → Streams → Streams → Result T Fault → Type 0
 Begins Does begun old new ended = (begun ≡ true) × (Does old new ended ⊎ CannotBegin old new ended)
 
--- Without a link it reports why there is none, and does nothing else. On one it does what it does, unless there is no memory for it.
+-- Without a link it only reports why there is none. On a link it does its work, unless memory runs out
 abbrev pub DoesOn : {T : Type 0} → LinkCommand T → Result Link Fault → (begun : Bool) → Streams → Streams → Result T Fault → Type 0
 DoesOn Does (Ok link) begun old new ended = Does link begun old new ended ⊎ OnlyFails faults.NoMemory begun old new ended
 DoesOn Does (Err f) begun old new ended = (f ≢ faults.Write) × OnlyFails f begun old new ended

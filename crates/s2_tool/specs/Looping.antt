@@ -19,9 +19,9 @@ use Rattle.s2_words.specs.declared.request.ChannelWords.{ChannelWords}
 use Rattle.s2_words.specs.declared.request.RunWords.{RunWords}
 use Rattle.s2_tool.specs.Links.{CannotBegin, LinkCommand, OnLink}
 use Rattle.s2_tool.specs.Losses.{Finishes}
-use Rattle.s2_tool.specs.Sending.{Runs, transmitter_on, refusal_fault}
-use Rattle.s2_tool.specs.Spoiling.{Spoils}
-use Rattle.s2_tool.specs.Receptions.{Receives}
+use Rattle.s2_tool.specs.Sending.{RunsTransmitter, transmitter_on, refusal_fault}
+use Rattle.s2_tool.specs.AddingNoise.{AddsNoise}
+use Rattle.s2_tool.specs.Receptions.{ReceivesToEnd}
 
 -- a fault of a part whose output is kept in memory: a write fails only if there is none
 abbrev pub kept_fault : Fault → Fault
@@ -33,38 +33,38 @@ abbrev pub EndsAll : Fault → (begun : Bool) → Streams → Streams → Result
 EndsAll f begun old new ended = (begun ≡ false) × (ended ≡ Err f) × (new.given ≡ old.given) × (new.out ≡ old.out)
 
 -- the symbols with noise are received, and the output was begun before
-abbrev pub HearsAll : Rules → List ℕ → Result Exit Fault → (begun : Bool) → Streams → Streams → Result Received Fault → Type 0
-HearsAll rules heard (Ok exit) begun old new ended =
-    (begun ≡ true) × ((left : Option (List ℕ)) × (Receives rules (record old { taken = Some heard; reads = 0 }) (record new { taken = left; reads = 0 }) ended
+abbrev pub ReceivesNoisy : Rules → List ℕ → Result Exit Fault → (begun : Bool) → Streams → Streams → Result Received Fault → Type 0
+ReceivesNoisy rules noisy (Ok exit) begun old new ended =
+    (begun ≡ true) × ((left : Option (List ℕ)) × (ReceivesToEnd rules (record old { taken = Some noisy; reads = 0 }) (record new { taken = left; reads = 0 }) ended
     ⊎ CannotBegin (record old { taken = left; reads = 0 }) (record new { taken = left; reads = 0 }) ended))
-HearsAll rules heard (Err f) begun old new ended = EndsAll (kept_fault f) begun old new ended
+ReceivesNoisy rules noisy (Err f) begun old new ended = EndsAll (kept_fault f) begun old new ended
 
 -- noise is added to symbols in memory, and the result is received
-abbrev pub Passes : Rules → ChannelWords → List ℕ → (begun : Bool) → Streams → Streams → Result Received Fault → Type 0
-Passes rules channel symbols begun old new ended =
-    (spoilt : Result Exit Fault) × (left heard : List ℕ) × (failed : ℕ)
-    × Spoils channel (piped (Some symbols) 0 (Some []) 0) (piped (Some left) 0 (Some heard) failed) spoilt × HearsAll rules heard spoilt begun old new ended
+abbrev pub ReceivesWithNoise : Rules → ChannelWords → List ℕ → (begun : Bool) → Streams → Streams → Result Received Fault → Type 0
+ReceivesWithNoise rules channel symbols begun old new ended =
+    (added : Result Exit Fault) × (left noisy : List ℕ) × (failed : ℕ)
+    × AddsNoise channel (piped (Some symbols) 0 (Some []) 0) (piped (Some left) 0 (Some noisy) failed) added × ReceivesNoisy rules noisy added begun old new ended
 
 -- the symbols of packets that are all sent pass the channel; what the transmitter refuses is reported
-abbrev pub PassesOn : Rules → ChannelWords → Result Counts SendFault → List ℕ → (begun : Bool) → Streams → Streams → Result Received Fault → Type 0
-PassesOn rules channel (Ok counts) symbols begun old new ended = Passes rules channel symbols begun old new ended
-PassesOn rules channel (Err refusal) symbols begun old new ended = EndsAll (kept_fault (refusal_fault refusal)) begun old new ended
+abbrev pub ReceivesIfSent : Rules → ChannelWords → Result Counts SendFault → List ℕ → (begun : Bool) → Streams → Streams → Result Received Fault → Type 0
+ReceivesIfSent rules channel (Ok counts) symbols begun old new ended = ReceivesWithNoise rules channel symbols begun old new ended
+ReceivesIfSent rules channel (Err refusal) symbols begun old new ended = EndsAll (kept_fault (refusal_fault refusal)) begun old new ended
 
 -- a transmitter sends packets into memory, and what becomes of their symbols is received by these rules
 abbrev pub LoopsBy : Transmitter → Rules → ChannelWords → (begun : Bool) → Streams → Streams → Result Received Fault → Type 0
 LoopsBy t rules channel begun old new ended =
     (sent : Result Counts SendFault) × (symbols : List ℕ) × (failed : ℕ)
-    × Runs t (record old { given = Some []; writes = 0 }) (record new { given = Some symbols; writes = failed }) sent
-    × PassesOn rules channel sent symbols begun old new ended
+    × RunsTransmitter t (record old { given = Some []; writes = 0 }) (record new { given = Some symbols; writes = failed }) sent
+    × ReceivesIfSent rules channel sent symbols begun old new ended
 
--- `run` on a link, with the dummy frames, the tuning and the channel of its words
+-- `run` on a link, with the dummy frames, the tuning and the channel of its options
 abbrev pub Loops : RunWords → LinkCommand Received
 Loops words link begun old new ended =
     LoopsBy (transmitter_on link words.dummy) (link_rules link words.tuning max_symbols) words.channel begun old new ended
 
 -- `run` has ended with this exit: so it did on its files, and so it reported how it ended
-abbrev pub RunEnds : Setup → RunWords → (Result Rows Fault → Type 0) → Files → Files → Screen → Screen → Exit → Type 0
-RunEnds setup words Noted files left old new exit =
-    (heard : Result Received Fault)
-    × OnLink (Loops words) Noted setup files left (reporting files old) (reporting left new) heard
-    × Finishes words.notes setup.mode heard exit old new
+abbrev pub RunExits : Setup → RunWords → (Result Rows Fault → Type 0) → Files → Files → Screen → Screen → Exit → Type 0
+RunExits setup words Noted files left old new exit =
+    (reception : Result Received Fault)
+    × OnLink (Loops words) Noted setup files left (reporting files old) (reporting left new) reception
+    × Finishes words.notes setup.mode reception exit old new

@@ -16,41 +16,42 @@ use Rattle.s2_console.specs.Notes.{Remarks}
 use Rattle.s2_console.specs.Screens.{Screen}
 
 -- no frame was found, nor a cut one, in enough symbols for a header
-abbrev pub is_deaf : Received → Bool
-is_deaf r = nat_eq r.totals.frames 0 && not r.totals.cut && nat_le header_symbols r.symbols
+abbrev pub no_sync : Received → Bool
+no_sync r = nat_eq r.totals.frames 0 && not r.totals.cut && nat_le header_symbols r.symbols
 
--- no symbol was passed over, and no packet was bad or torn
+-- no symbol was skipped, and no packet was bad or incomplete
 abbrev pub is_clean : Totals → Bool
-is_clean t = nat_eq t.passed 0 && nat_eq t.bad 0 && nat_eq t.torn 0
+is_clean t = nat_eq t.skipped 0 && nat_eq t.bad 0 && nat_eq t.incomplete 0
 
--- the exit of a stream that was received to its end: by whether all was well, and of a strict command whether nothing was lost
+-- the exit of a stream that was received to its end: 0 if all frames were certified and, for a strict command, nothing
+-- was lost
 abbrev pub exit_by : Bool → Received → Exit
-exit_by strict r = if r.well && (not strict || (is_clean r.totals && not (is_deaf r))) then exits.Fine else exits.No
+exit_by strict r = if r.all_certified && (not strict || (is_clean r.totals && not (no_sync r))) then exits.Fine else exits.No
 
 -- N symbols passed over in M places, the first at S
-unfoldable pub passed_note : Totals → List ℕ
-passed_note t =
-    (codes "s2: note: " ++ decimal t.passed) ++ (codes " symbols passed over in " ++ decimal t.places) ++ (codes " places, the first at " ++ decimal t.first) ++ codes "\n"
+unfoldable pub skipped_note : Totals → List ℕ
+skipped_note t =
+    (codes "s2: note: " ++ decimal t.skipped) ++ (codes " symbols passed over in " ++ decimal t.places) ++ (codes " places, the first at " ++ decimal t.first) ++ codes "\n"
 
 -- the end of the note that no frame was found: whether the mode has pilot blocks, and the number of symbols
-unfoldable pub deaf_end : Bool → ℕ → List ℕ
-deaf_end pilots symbols = ((if pilots then codes ", pilots in " else codes " in ") ++ decimal symbols) ++ codes " symbols\n"
+unfoldable pub no_sync_end : Bool → ℕ → List ℕ
+no_sync_end pilots symbols = ((if pilots then codes ", pilots in " else codes " in ") ++ decimal symbols) ++ codes " symbols\n"
 
 -- no frame of a mode in N symbols
-abbrev pub deaf_note : Mode → ℕ → List ℕ
-deaf_note m symbols = codes "s2: note: no frame of " ++ (mode_words m ++ deaf_end m.pilots symbols)
+abbrev pub no_sync_note : Mode → ℕ → List ℕ
+no_sync_note m symbols = codes "s2: note: no frame of " ++ (mode_words m ++ no_sync_end m.pilots symbols)
 
 -- N packets torn
-unfoldable pub torn_note : Totals → List ℕ
-torn_note t = (codes "s2: note: " ++ decimal t.torn) ++ codes " packets torn\n"
+unfoldable pub incomplete_note : Totals → List ℕ
+incomplete_note t = (codes "s2: note: " ++ decimal t.incomplete) ++ codes " packets torn\n"
 
--- one where it is so
+-- a note if this is so
 abbrev pub note_if : Bool → List ℕ → List ℕ
 note_if so note = if so then note else []
 
 -- the notes of a stream that was received to its end
 abbrev pub notes_of : Mode → Received → List ℕ
-notes_of m r = note_if (not (nat_eq r.totals.passed 0)) (passed_note r.totals) ++ note_if (is_deaf r) (deaf_note m r.symbols) ++ note_if (not (nat_eq r.totals.torn 0)) (torn_note r.totals)
+notes_of m r = note_if (not (nat_eq r.totals.skipped 0)) (skipped_note r.totals) ++ note_if (no_sync r) (no_sync_note m r.symbols) ++ note_if (not (nat_eq r.totals.incomplete 0)) (incomplete_note r.totals)
 
 -- The end of a command that received this, and its notes. If they cannot be written, that is its fault
 abbrev pub Answered : NoteWords → Mode → Result Received Fault → Result Exit Fault → List ℕ → Type 0
@@ -58,9 +59,9 @@ Answered words m (Ok r) ended notes = (notes ≡ (if words.quiet then [] else no
 Answered words m (Err f) ended notes = (notes ≡ (if words.quiet then [] else fault_note m f)) × (ended ≡ Err f)
 
 -- The end of a command that received this, and its exit: its notes, and the line of a fault, are on the errors
-pub record Finishes (words : NoteWords) (m : Mode) (heard : Result Received Fault) (exit : Exit) (old new : Screen) : Type 0 where
+pub record Finishes (words : NoteWords) (m : Mode) (reception : Result Received Fault) (exit : Exit) (old new : Screen) : Type 0 where
   pub ended : Result Exit Fault
   pub notes : List ℕ
   pub exit_is : exit ≡ exit_of ended
-  pub answered : Answered words m heard ended notes
+  pub answered : Answered words m reception ended notes
   pub remarks : Remarks notes ended old new

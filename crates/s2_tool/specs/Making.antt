@@ -9,12 +9,12 @@ use Rattle.s2_console.specs.declared.exit.Exit.{Exit}
 use Rattle.s2_console.specs.declared.exit.Exit.TheVariants as exits
 use Rattle.s2_console.specs.declared.fault.Fault.{Fault}
 use Rattle.s2_console.specs.declared.fault.Fault.TheVariants as faults
-use Rattle.s2_console.specs.Exits.{CommandEnds}
+use Rattle.s2_console.specs.Exits.{CommandExits}
 use Rattle.s2_console.specs.Screens.{Screen}
 
 -- the rows that a shape, a weight and a seed determine
 abbrev pub rows_made : Shape → ℕ → ℕ → Result (List (List ℕ)) Fault
-rows_made shape weight seed = if is_weight shape weight then Ok (made_rows shape weight seed) else Err (faults.Told (make_fault_text making.BadWeight))
+rows_made shape weight seed = if is_weight shape weight then Ok (made_rows shape weight seed) else Err (faults.Refused (make_fault_text making.BadWeight))
 
 -- the result is the rows that a shape, a weight and a seed determine
 abbrev pub AreMadeRows : Shape → ℕ → ℕ → Result (List (List ℕ)) Fault → Type 0
@@ -25,5 +25,5 @@ abbrev pub IsRowFile : List (List ℕ) → Exit → List ℕ → Type 0
 IsRowFile rows exit text = (exit ≡ exits.Fine) × (text ≡ rows_text rows)
 
 -- `rows` has ended with this exit
-abbrev pub RowsEnds : Shape → ℕ → ℕ → Screen → Screen → Exit → Type 0
-RowsEnds shape weight seed old new exit = CommandEnds IsRowFile (AreMadeRows shape weight seed) 0 0 old new exit
+abbrev pub RowsExits : Shape → ℕ → ℕ → Screen → Screen → Exit → Type 0
+RowsExits shape weight seed old new exit = CommandExits IsRowFile (AreMadeRows shape weight seed) 0 0 old new exit

@@ -19,21 +19,21 @@ use Rattle.s2_tool.specs.Links.{Begins, LinkCommand, OnLink}
 use Rattle.s2_tool.specs.Losses.{Finishes}
 
 -- All is received to the end: the packets of each frame and its line are written, then the end line. If a read fails,
--- exactly what was found before is written. If a write fails, a part of the next packets or of the next line is written
--- too
-abbrev pub Receives : Rules → Streams → Streams → Result Received Fault → Type 0
-Receives rules old new (Ok received) = (state : State) × RunAnswers rules begun state old new (Ok received)
-Receives rules old new (Err faults.Read) = (state : State) × StopsAfter rules begun state old new
-Receives rules old new (Err faults.Write) = BreaksAfter rules begun old new
-Receives rules old new (Err f) = ⊥
+-- exactly the packets and lines before it are written. If a write fails, a part of the next packets or of the next line
+-- is written too
+abbrev pub ReceivesToEnd : Rules → Streams → Streams → Result Received Fault → Type 0
+ReceivesToEnd rules old new (Ok received) = (state : State) × RunAnswers rules begun state old new (Ok received)
+ReceivesToEnd rules old new (Err faults.Read) = (state : State) × StopsAfter rules begun state old new
+ReceivesToEnd rules old new (Err faults.Write) = BreaksAfter rules begun old new
+ReceivesToEnd rules old new (Err f) = ⊥
 
 -- `demod` on a link: what a new receiver makes of the symbols
 abbrev pub Demodulates : Tuning → LinkCommand Received
-Demodulates tuning link begun old new ended = Begins (Receives (link_rules link tuning max_symbols)) begun old new ended
+Demodulates tuning link begun old new ended = Begins (ReceivesToEnd (link_rules link tuning max_symbols)) begun old new ended
 
 -- `demod` has ended with this exit: so it did on its files, and so it reported how it ended
-abbrev pub DemodEnds : Setup → DemodWords → (Result Rows Fault → Type 0) → Files → Files → Screen → Screen → Exit → Type 0
-DemodEnds setup words Noted files left old new exit =
-    (heard : Result Received Fault)
-    × OnLink (Demodulates words.tuning) Noted setup files left (reporting files old) (reporting left new) heard
-    × Finishes words.notes setup.mode heard exit old new
+abbrev pub DemodExits : Setup → DemodWords → (Result Rows Fault → Type 0) → Files → Files → Screen → Screen → Exit → Type 0
+DemodExits setup words Noted files left old new exit =
+    (reception : Result Received Fault)
+    × OnLink (Demodulates words.tuning) Noted setup files left (reporting files old) (reporting left new) reception
+    × Finishes words.notes setup.mode reception exit old new

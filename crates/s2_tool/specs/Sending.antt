@@ -29,20 +29,20 @@ sent_line counts = codes "packets " ++ decimal counts.packets ++ codes " frames 
 abbrev pub refusal_fault : SendFault → Fault
 refusal_fault refusals.Read = faults.Read
 refusal_fault refusals.Write = faults.Write
-refusal_fault refusal = faults.Told (codes "packets: " ++ send_fault_text refusal)
+refusal_fault refusal = faults.Refused (codes "packets: " ++ send_fault_text refusal)
 
 -- After a whole run the line of its counts is printed. A refusal is reported, and nothing is printed.
-abbrev pub Tells : Result Counts SendFault → Result Exit Fault → Option (List ℕ) → Option (List ℕ) → Type 0
-Tells (Ok counts) ended old new = Prints exits.Fine (sent_line counts) ended old new
-Tells (Err refusal) ended old new = (ended ≡ Err (refusal_fault refusal)) × (new ≡ old)
+abbrev pub PrintsCounts : Result Counts SendFault → Result Exit Fault → Option (List ℕ) → Option (List ℕ) → Type 0
+PrintsCounts (Ok counts) ended old new = Prints exits.Fine (sent_line counts) ended old new
+PrintsCounts (Err refusal) ended old new = (ended ≡ Err (refusal_fault refusal)) × (new ≡ old)
 
 -- a transmitter runs and returns this; `Read` only if a read failed, or the limit of packets was reached
-abbrev pub Runs : Transmitter → Streams → Streams → Result Counts SendFault → Type 0
-Runs t old new answer = TransmitterRuns t (ReadFails t.limit old.reads new.reads) old.taken new.taken old.given new.given answer
+abbrev pub RunsTransmitter : Transmitter → Streams → Streams → Result Counts SendFault → Type 0
+RunsTransmitter t old new answer = TransmitterRuns t (ReadFails t.limit old.reads new.reads) old.taken new.taken old.given new.given answer
 
 -- a transmitter runs, and its answer is reported
 abbrev pub SendsBy : Transmitter → Streams → Streams → Result Exit Fault → Type 0
-SendsBy t old new ended = (answer : Result Counts SendFault) × Runs t old new answer × Tells answer ended old.out new.out
+SendsBy t old new ended = (answer : Result Counts SendFault) × RunsTransmitter t old new answer × PrintsCounts answer ended old.out new.out
 
 -- a new transmitter on a link, which sends a dummy frame after every n-th frame
 abbrev pub transmitter_on : Link → ℕ → Transmitter
@@ -53,8 +53,8 @@ abbrev pub Modulates : ℕ → LinkCommand Exit
 Modulates dummy link begun old new ended = Begins (SendsBy (transmitter_on link dummy)) begun old new ended
 
 -- `mod` has ended with this exit on its files; the note and the line of a fault are on the errors
-abbrev pub ModEnds : Setup → ModWords → (Result Rows Fault → Type 0) → Files → Files → Screen → Screen → Exit → Type 0
-ModEnds setup words Noted files left old new exit =
+abbrev pub ModExits : Setup → ModWords → (Result Rows Fault → Type 0) → Files → Files → Screen → Screen → Exit → Type 0
+ModExits setup words Noted files left old new exit =
     (ended : Result Exit Fault) × (exit ≡ exit_of ended)
     × OnLink (Modulates words.dummy) Noted setup files left (reporting files old) (reporting left new) ended
     × Remarks (notes_on words.quiet setup.mode ended) ended old new

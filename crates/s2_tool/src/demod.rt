@@ -1,4 +1,4 @@
-//! `demod`: symbols received.
+//! `demod`: receives symbols.
 ghost use Rattle.std.specs.Prelude.{◌≡◌, ◌≢◌, Ok, false};
 ghost use Rattle.s2_mode.specs.Counts.{CanCount};
 ghost use Rattle.s2_mode.specs.Streams.{streams_by};
@@ -8,10 +8,10 @@ ghost use Rattle.s2_modem.specs.Reception.{rules_for};
 ghost use Rattle.s2_console.specs.Files.{CanStart, reporting};
 ghost use Rattle.s2_console.specs.Screens.{CanNote};
 ghost use Rattle.s2_tool.specs.Links.{Begins, Causes, DoesOn, OnLink, noted_by};
-ghost use Rattle.s2_tool.specs.Receptions.{Receives, Demodulates, DemodEnds};
+ghost use Rattle.s2_tool.specs.Receptions.{ReceivesToEnd, Demodulates, DemodExits};
 
 use crate::link_files::LinkFiles;
-use crate::losses::conclude_heard;
+use crate::losses::conclude_reception;
 use s2_console::{Console, Exit, Fault};
 use s2_files::{Destination, Output};
 use s2_link::{Link, LinkSetup, Tuning};
@@ -34,7 +34,7 @@ fn receive_frames<S: CountedRead, P: CountedWrite, O: CountedWrite>(
     requires out { CanCount (O.count out.old) }
     requires begun { receiver.old.state ≡ begun }
     ensures receives { let ends = streams_by S.remaining S.count P.contents P.count O.contents O.count in
-        Receives (rules_for receiver.old)
+        ReceivesToEnd (rules_for receiver.old)
         (ends symbols.old packets.old out.old) (ends symbols.new packets.new out.new) result }
     ensures causes { let ends = streams_by S.remaining S.count P.contents P.count O.contents O.count in
         Causes (ends symbols.old packets.old out.old) (ends symbols.new packets.new out.new) result }
@@ -46,7 +46,7 @@ fn receive_frames<S: CountedRead, P: CountedWrite, O: CountedWrite>(
     }
 }
 
-/// Begins the packets' file, and receives.
+/// Truncates the packets' file, and receives.
 pub(crate) fn receive_begun<S: CountedRead, W: Output, O: CountedWrite>(
     receiver: &mut Receiver<'_>,
     symbols: &mut S,
@@ -59,12 +59,12 @@ pub(crate) fn receive_begun<S: CountedRead, W: Output, O: CountedWrite>(
     requires out { CanCount (O.count out.old) }
     requires begun { receiver.old.state ≡ begun }
     ensures receives { let ends = streams_by S.remaining S.count W.contents W.count O.contents O.count in
-        Begins (Receives (rules_for receiver.old)) packets.new.begun
+        Begins (ReceivesToEnd (rules_for receiver.old)) packets.new.begun
         (ends symbols.old packets.old.to out.old) (ends symbols.new packets.new.to out.new) result }
     ensures causes { let ends = streams_by S.remaining S.count W.contents W.count O.contents O.count in
         Causes (ends symbols.old packets.old.to out.old) (ends symbols.new packets.new.to out.new) result }
 {
-    match packets.begin() {
+    match packets.truncate() {
         Ok(()) => receive_frames(receiver, symbols, packets.writer(), out),
         Err(_) => Err(Fault::Write),
     }
@@ -143,8 +143,8 @@ pub fn demod_command<R: CountedRead, W: Output, O: CountedWrite, E: CountedWrite
     ensures quiet { result ≢ Exit.Fault → console.new.errors_failed ≡ console.old.errors_failed }
     ensures whole { result ≢ Exit.Fault → console.new.output_failed ≡ console.old.output_failed }
     ensures run { let noted = noted_by E.contents E.count words.now.notes.quiet setup.mode notes.old notes.new in
-        DemodEnds (setup_of setup) words.now noted files.old files.new console.old console.new result }
+        DemodExits (setup_of setup) words.now noted files.old files.new console.old console.new result }
 {
-    let heard = receive_files(alloc, setup, words, files, console, notes);
-    conclude_heard(words.notes, &setup.mode, heard, console)
+    let reception = receive_files(alloc, setup, words, files, console, notes);
+    conclude_reception(words.notes, &setup.mode, reception, console)
 }

@@ -2,67 +2,67 @@
 ghost use Rattle.std.specs.Prelude.{◌≡◌, ◌≢◌, ◌+◌, [], IsOk, OnOk, not, nat_eq};
 ghost use Rattle.std.specs.Io.KnownBytes.{Appends};
 ghost use Rattle.s2_mode.specs.Counts.{CanCount, CountsFault};
-ghost use Rattle.s2_tool.specs.Losses.{is_deaf, is_clean, exit_by, passed_note, deaf_end, deaf_note, torn_note, note_if, notes_of, Finishes};
+ghost use Rattle.s2_tool.specs.Losses.{no_sync, is_clean, exit_by, skipped_note, no_sync_end, no_sync_note, incomplete_note, note_if, notes_of, Finishes};
 
 use s2_console::{Console, Exit, Fault, Line};
 use s2_mode::{CountedWrite, HEADER_SYMBOLS, Mode, WriteFault, write_full};
 use s2_receive::{Received, Totals};
-use s2_table::{tell_noted, write_note};
+use s2_table::{report_noted, write_note};
 use s2_words::NoteWords;
 
 /// Whether no frame was found, nor a cut one, in enough symbols for a header.
-fn is_deaf(received: Received) -> bool
-    ensures { result ≡ is_deaf received }
+fn no_sync(received: Received) -> bool
+    ensures { result ≡ no_sync received }
 {
     received.totals.frames == 0 && !received.totals.cut && received.symbols >= HEADER_SYMBOLS as u64
 }
 
-/// Whether no symbol was passed over, and no packet was bad or torn.
+/// Whether no symbol was skipped, and no packet was bad or incomplete.
 fn is_clean(totals: Totals) -> bool
     ensures { result ≡ is_clean totals }
 {
-    totals.passed == 0 && totals.bad == 0 && totals.torn == 0
+    totals.skipped == 0 && totals.bad == 0 && totals.incomplete == 0
 }
 
 /// The exit of a stream that was received to its end.
 fn exit_by(strict: bool, received: Received) -> Exit
     ensures { result ≡ exit_by strict received }
 {
-    if received.well && (!strict || (is_clean(received.totals) && !is_deaf(received))) {
+    if received.all_certified && (!strict || (is_clean(received.totals) && !no_sync(received))) {
         Exit::Fine
     } else {
         Exit::No
     }
 }
 
-/// The note of symbols that were passed over.
-#[tactic(auto, unfolding(crate::specs::Losses::passed_note))]
-fn passed_note(totals: Totals) -> Line
-    ensures { result ≡ passed_note totals }
+/// The note of symbols that were skipped.
+#[tactic(auto, unfolding(crate::specs::Losses::skipped_note))]
+fn skipped_note(totals: Totals) -> Line
+    ensures { result ≡ skipped_note totals }
 {
     let mut line = Line::new();
-    line.push_number("s2: note: ", totals.passed);
+    line.push_number("s2: note: ", totals.skipped);
     line.push_number(" symbols passed over in ", totals.places);
     line.push_number(" places, the first at ", totals.first);
     line.push("\n");
     line
 }
 
-/// The note of torn packets.
-#[tactic(auto, unfolding(crate::specs::Losses::torn_note))]
-fn torn_note(totals: Totals) -> Line
-    ensures { result ≡ torn_note totals }
+/// The note of incomplete packets.
+#[tactic(auto, unfolding(crate::specs::Losses::incomplete_note))]
+fn incomplete_note(totals: Totals) -> Line
+    ensures { result ≡ incomplete_note totals }
 {
     let mut line = Line::new();
-    line.push_number("s2: note: ", totals.torn);
+    line.push_number("s2: note: ", totals.incomplete);
     line.push(" packets torn\n");
     line
 }
 
 /// The end of the note that no frame was found in n symbols.
-#[tactic(auto, unfolding(crate::specs::Losses::deaf_end))]
-fn deaf_end(pilots: bool, symbols: u64) -> Line
-    ensures { result ≡ deaf_end pilots symbols }
+#[tactic(auto, unfolding(crate::specs::Losses::no_sync_end))]
+fn no_sync_end(pilots: bool, symbols: u64) -> Line
+    ensures { result ≡ no_sync_end pilots symbols }
 {
     let mut line = Line::new();
     line.push_number(if pilots { ", pilots in " } else { " in " }, symbols);
@@ -71,58 +71,58 @@ fn deaf_end(pilots: bool, symbols: u64) -> Line
 }
 
 /// Writes the note that no frame of a mode was found in n symbols.
-fn write_deaf<W: CountedWrite>(mode: &Mode, symbols: u64, out: &mut W) -> Result<(), WriteFault>
+fn write_no_sync<W: CountedWrite>(mode: &Mode, symbols: u64, out: &mut W) -> Result<(), WriteFault>
     requires { CanCount (W.count out.old) }
-    ensures bytes { OnOk result (Appends (W.contents out.old) (W.contents out.new) (deaf_note mode.now symbols)) }
+    ensures bytes { OnOk result (Appends (W.contents out.old) (W.contents out.new) (no_sync_note mode.now symbols)) }
     ensures cause { CountsFault (W.count out.old) (W.count out.new) result }
 {
-    let behind = deaf_end(mode.has_pilots(), symbols);
-    write_note(out, "s2: note: no frame of ", mode, behind.as_bytes())
+    let ending = no_sync_end(mode.has_pilots(), symbols);
+    write_note(out, "s2: note: no frame of ", mode, ending.as_bytes())
 }
 
-/// Writes the note of symbols that were passed over, if there are any.
-#[tactic(auto, unfolding(crate::specs::Losses::passed_note))]
-fn write_passed<W: CountedWrite>(totals: Totals, out: &mut W) -> Result<(), WriteFault>
+/// Writes the note of symbols that were skipped, if there are any.
+#[tactic(auto, unfolding(crate::specs::Losses::skipped_note))]
+fn write_skipped<W: CountedWrite>(totals: Totals, out: &mut W) -> Result<(), WriteFault>
     requires { CanCount (W.count out.old) }
-    ensures bytes { OnOk result (Appends (W.contents out.old) (W.contents out.new) (note_if (not (nat_eq totals.passed 0)) (passed_note totals))) }
-    ensures none { note_if (not (nat_eq totals.passed 0)) (passed_note totals) ≡ [] → out.new ≡ out.old }
+    ensures bytes { OnOk result (Appends (W.contents out.old) (W.contents out.new) (note_if (not (nat_eq totals.skipped 0)) (skipped_note totals))) }
+    ensures none { note_if (not (nat_eq totals.skipped 0)) (skipped_note totals) ≡ [] → out.new ≡ out.old }
     ensures cause { CountsFault (W.count out.old) (W.count out.new) result }
 {
-    if totals.passed == 0 {
+    if totals.skipped == 0 {
         return Ok(());
     }
-    write_full(out, passed_note(totals).as_bytes())
+    write_full(out, skipped_note(totals).as_bytes())
 }
 
-/// Writes the note that no frame was found, where it is so.
-fn write_deafness<W: CountedWrite>(
+/// Writes the note that no frame was found, if that is so.
+fn write_if_no_sync<W: CountedWrite>(
     mode: &Mode,
     received: Received,
     out: &mut W,
 ) -> Result<(), WriteFault>
     requires { CanCount (W.count out.old) }
-    ensures bytes { OnOk result (Appends (W.contents out.old) (W.contents out.new) (note_if (is_deaf received) (deaf_note mode.now received.symbols))) }
-    ensures none { note_if (is_deaf received) (deaf_note mode.now received.symbols) ≡ [] → out.new ≡ out.old }
+    ensures bytes { OnOk result (Appends (W.contents out.old) (W.contents out.new) (note_if (no_sync received) (no_sync_note mode.now received.symbols))) }
+    ensures none { note_if (no_sync received) (no_sync_note mode.now received.symbols) ≡ [] → out.new ≡ out.old }
     ensures cause { CountsFault (W.count out.old) (W.count out.new) result }
 {
-    if !is_deaf(received) {
+    if !no_sync(received) {
         return Ok(());
     }
-    write_deaf(mode, received.symbols, out)
+    write_no_sync(mode, received.symbols, out)
 }
 
-/// Writes the note of torn packets, if there are any.
-#[tactic(auto, unfolding(crate::specs::Losses::torn_note))]
-fn write_torn<W: CountedWrite>(totals: Totals, out: &mut W) -> Result<(), WriteFault>
+/// Writes the note of incomplete packets, if there are any.
+#[tactic(auto, unfolding(crate::specs::Losses::incomplete_note))]
+fn write_incomplete<W: CountedWrite>(totals: Totals, out: &mut W) -> Result<(), WriteFault>
     requires { CanCount (W.count out.old) }
-    ensures bytes { OnOk result (Appends (W.contents out.old) (W.contents out.new) (note_if (not (nat_eq totals.torn 0)) (torn_note totals))) }
-    ensures none { note_if (not (nat_eq totals.torn 0)) (torn_note totals) ≡ [] → out.new ≡ out.old }
+    ensures bytes { OnOk result (Appends (W.contents out.old) (W.contents out.new) (note_if (not (nat_eq totals.incomplete 0)) (incomplete_note totals))) }
+    ensures none { note_if (not (nat_eq totals.incomplete 0)) (incomplete_note totals) ≡ [] → out.new ≡ out.old }
     ensures cause { CountsFault (W.count out.old) (W.count out.new) result }
 {
-    if totals.torn == 0 {
+    if totals.incomplete == 0 {
         return Ok(());
     }
-    write_full(out, torn_note(totals).as_bytes())
+    write_full(out, incomplete_note(totals).as_bytes())
 }
 
 /// Writes the notes of a stream that was received to its end.
@@ -137,31 +137,31 @@ fn write_notes<W: CountedWrite>(
     ensures none { notes_of mode.now received ≡ [] → out.new ≡ out.old }
     ensures cause { CountsFault (W.count out.old) (W.count out.new) result }
 {
-    write_passed(received.totals, out)?;
-    write_deafness(mode, received, out)?;
-    write_torn(received.totals, out)
+    write_skipped(received.totals, out)?;
+    write_if_no_sync(mode, received, out)?;
+    write_incomplete(received.totals, out)
 }
 
-/// The exit of a command that received so. Its notes are written, unless they are to be left out; a fault is reported. If a
-/// note cannot be written, that is the fault.
-pub(crate) fn conclude_heard<O: CountedWrite, E: CountedWrite>(
+/// The exit of a command after its reception. Its notes are written, unless they are left out. A fault is reported. If
+/// a note cannot be written, that is the fault.
+pub(crate) fn conclude_reception<O: CountedWrite, E: CountedWrite>(
     words: NoteWords,
     mode: &Mode,
-    heard: Result<Received, Fault<'_>>,
+    reception: Result<Received, Fault<'_>>,
     console: &mut Console<O, E>,
 ) -> Exit
     requires { CanCount (console.old.errors_failed + 1) }
-    ensures fine { result ≢ Exit.Fault → IsOk heard.entry }
+    ensures fine { result ≢ Exit.Fault → IsOk reception.entry }
     ensures quiet { result ≢ Exit.Fault → console.new.errors_failed ≡ console.old.errors_failed }
     ensures output { (console.new.output ≡ console.old.output) × (console.new.output_failed ≡ console.old.output_failed) }
-    ensures finishes { Finishes words mode.now heard.entry result console.old console.new }
+    ensures finishes { Finishes words mode.now reception.entry result console.old console.new }
 {
-    match heard {
+    match reception {
         Ok(received) if words.quiet => exit_by(words.strict, received),
         Ok(received) => match write_notes(mode, received, &mut console.errors) {
             Ok(()) => exit_by(words.strict, received),
             Err(_) => console.complain(Fault::Write),
         },
-        Err(fault) => tell_noted(words.quiet, mode, fault, console),
+        Err(fault) => report_noted(words.quiet, mode, fault, console),
     }
 }

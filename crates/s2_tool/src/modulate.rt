@@ -1,4 +1,4 @@
-//! `mod`: packets sent.
+//! `mod`: sends packets.
 ghost use Rattle.std.specs.Prelude.{◌≡◌, ◌≢◌, Ok, false};
 ghost use Rattle.s2_mode.specs.Counts.{CanCount};
 ghost use Rattle.s2_mode.specs.Streams.{streams_by};
@@ -6,7 +6,7 @@ ghost use Rattle.s2_link.specs.Link.{setup_of};
 ghost use Rattle.s2_console.specs.Files.{CanStart, reporting};
 ghost use Rattle.s2_console.specs.Screens.{CanNote};
 ghost use Rattle.s2_tool.specs.Links.{Begins, Causes, DoesOn, OnLink, noted_by};
-ghost use Rattle.s2_tool.specs.Sending.{sent_line, refusal_fault, SendsBy, Modulates, ModEnds};
+ghost use Rattle.s2_tool.specs.Sending.{sent_line, refusal_fault, SendsBy, Modulates, ModExits};
 
 use crate::link_files::LinkFiles;
 use s2_console::{Console, Exit, Fault, Line, print};
@@ -63,7 +63,7 @@ fn send_packets<S: CountedRead, W: CountedWrite, O: CountedWrite>(
     }
 }
 
-/// Begins the symbols' file, and sends packets.
+/// Truncates the symbols' file, and sends packets.
 fn send_begun<S: CountedRead, W: Output, O: CountedWrite>(
     transmitter: &mut Transmitter<'_>,
     packets: &mut S,
@@ -80,7 +80,7 @@ fn send_begun<S: CountedRead, W: Output, O: CountedWrite>(
     ensures causes { let ends = streams_by S.remaining S.count W.contents W.count O.contents O.count in
         Causes (ends packets.old symbols.old.to out.old) (ends packets.new symbols.new.to out.new) result }
 {
-    match symbols.begin() {
+    match symbols.truncate() {
         Ok(()) => send_packets(transmitter, packets, symbols.writer(), out),
         Err(_) => Err(Fault::Write),
     }
@@ -159,7 +159,7 @@ pub fn mod_command<R: CountedRead, W: Output, O: CountedWrite, E: CountedWrite>(
     ensures quiet { result ≢ Exit.Fault → console.new.errors_failed ≡ console.old.errors_failed }
     ensures whole { result ≢ Exit.Fault → console.new.output_failed ≡ console.old.output_failed }
     ensures run { let noted = noted_by E.contents E.count words.now.quiet setup.mode notes.old notes.new in
-        ModEnds (setup_of setup) words.now noted files.old files.new console.old console.new result }
+        ModExits (setup_of setup) words.now noted files.old files.new console.old console.new result }
 {
     let ended = send_files(alloc, setup, words, files, console, notes);
     conclude_noted(words.quiet, &setup.mode, ended, console)

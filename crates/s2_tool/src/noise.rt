@@ -1,8 +1,8 @@
-//! `noise`: noise added to symbols.
+//! `noise`: adds noise to symbols.
 ghost use Rattle.std.specs.Prelude.{◌≡◌, ◌≢◌, false};
 ghost use Rattle.s2_mode.specs.Counts.{CanCount};
 ghost use Rattle.s2_tool.specs.Links.{Begins};
-ghost use Rattle.s2_tool.specs.Spoiling.{piped_by, Spoils, NoiseEnds};
+ghost use Rattle.s2_tool.specs.AddingNoise.{piped_by, AddsNoise, NoiseExits};
 
 use s2_channel::{Noise, add_to_all};
 use s2_console::{Console, Exit, Fault};
@@ -11,7 +11,7 @@ use s2_mode::{CountedRead, CountedWrite, StreamFault};
 use s2_words::ChannelWords;
 
 /// Writes the symbols of a reader with noise.
-pub(crate) fn spoil<R: CountedRead, W: CountedWrite>(
+pub(crate) fn add_noise<R: CountedRead, W: CountedWrite>(
     channel: ChannelWords,
     from: &mut R,
     to: &mut W,
@@ -19,7 +19,7 @@ pub(crate) fn spoil<R: CountedRead, W: CountedWrite>(
     requires from { CanCount (R.count from.old) }
     requires to { CanCount (W.count to.old) }
     ensures { let ends = piped_by R.remaining R.count W.contents W.count in
-        Spoils channel (ends from.old to.old) (ends from.new to.new) result }
+        AddsNoise channel (ends from.old to.old) (ends from.new to.new) result }
 {
     let mut noise = Noise::of(channel.seed, channel.strength);
     match add_to_all(&mut noise, from, to) {
@@ -29,8 +29,8 @@ pub(crate) fn spoil<R: CountedRead, W: CountedWrite>(
     }
 }
 
-/// Begins the file that is written, and writes the symbols of a reader with noise.
-fn spoil_begun<R: CountedRead, W: Output>(
+/// Truncates the output, and writes the symbols of a reader with noise.
+fn add_noise_begun<R: CountedRead, W: Output>(
     channel: ChannelWords,
     from: &mut R,
     to: &mut Destination<W>,
@@ -39,16 +39,16 @@ fn spoil_begun<R: CountedRead, W: Output>(
     requires to { CanCount (W.count to.old.to) }
     requires unbegun { to.old.begun ≡ false }
     ensures { let ends = piped_by R.remaining R.count W.contents W.count in
-        Begins (Spoils channel) to.new.begun (ends from.old to.old.to) (ends from.new to.new.to) result }
+        Begins (AddsNoise channel) to.new.begun (ends from.old to.old.to) (ends from.new to.new.to) result }
 {
-    match to.begin() {
-        Ok(()) => spoil(channel, from, to.writer()),
+    match to.truncate() {
+        Ok(()) => add_noise(channel, from, to.writer()),
         Err(_) => Err(Fault::Write),
     }
 }
 
-/// `noise`: writes the symbols of a reader with the noise that a seed and a strength, a level or an Es/N0, determine. It prints
-/// nothing. One to three bytes that are left at the end are dropped.
+/// `noise`: writes the symbols of a reader with noise. A seed and a strength, which is a level or an Es/N0, determine
+/// the noise. It prints nothing. One to three bytes that are left at the end are dropped.
 pub fn noise_command<R: CountedRead, W: Output, O: CountedWrite, E: CountedWrite>(
     channel: ChannelWords,
     from: &mut R,
@@ -62,9 +62,9 @@ pub fn noise_command<R: CountedRead, W: Output, O: CountedWrite, E: CountedWrite
     ensures quiet { result ≢ Exit.Fault → console.new.errors_failed ≡ console.old.errors_failed }
     ensures output { console.new.output ≡ console.old.output }
     ensures whole { console.new.output_failed ≡ console.old.output_failed }
-    ensures run { let ends = piped_by R.remaining R.count W.contents W.count in NoiseEnds channel to.new.begun
+    ensures run { let ends = piped_by R.remaining R.count W.contents W.count in NoiseExits channel to.new.begun
         (ends from.old to.old.to) (ends from.new to.new.to) console.old console.new result }
 {
-    let ended = spoil_begun(channel, from, to);
+    let ended = add_noise_begun(channel, from, to);
     console.conclude(ended)
 }

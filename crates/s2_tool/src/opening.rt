@@ -1,4 +1,4 @@
-//! Files opened in the order of a command's words, and the command's output.
+//! Opens files in the order of the command line, and the command's output.
 ghost use Rattle.std.specs.Prelude.{◌≡◌, ◌≤◌, false, IfOk, IfSome, OnOk, [], length};
 ghost use Rattle.s2_console.specs.Files.{CanStart};
 ghost use Rattle.s2_console.specs.Screens.{CanNote};
@@ -116,8 +116,8 @@ pub(crate) fn open_judge<'a, R: Disk>(
     })
 }
 
-/// Opens the files of a command on a link: the row file, the file that is read after it, with a buffer if one is wanted, and the
-/// file that is written. Of the rows' bytes nothing is shown.
+/// Opens the files of a command on a link: the row file, the input, with a buffer if one is wanted, and the output.
+/// The progress line does not count the rows' bytes.
 pub(crate) fn open_link<'a, 'm, 't, 'r, R: Disk + Clock + AllocGlobal>(
     rt: &R,
     show: &'m Show<'t, 'r, R>,

@@ -1,10 +1,10 @@
-//! `rows`: rows made.
+//! `rows`: makes rows.
 ghost use Rattle.std.specs.Prelude.{◌≡◌, ◌≢◌, Err, IfOk, IsOk, IsOkUnless};
 ghost use Rattle.s2_mode.specs.Counts.{CanCount};
 ghost use Rattle.s2_rows.specs.RowTexts.{rows_text};
 ghost use Rattle.s2_console.specs.Exits.{Follows, CommandRuns, CommandCounts};
 ghost use Rattle.s2_console.specs.Screens.{CanShow};
-ghost use Rattle.s2_tool.specs.Making.{rows_made, AreMadeRows, IsRowFile, RowsEnds};
+ghost use Rattle.s2_tool.specs.Making.{rows_made, AreMadeRows, IsRowFile, RowsExits};
 
 use s2_console::{Console, Exit, Fault, print};
 use s2_mode::{CountedWrite, Counting, Shape};
@@ -32,7 +32,7 @@ fn made_rows(alloc: Global, shape: Shape, weight: usize, seed: u64) -> Result<Ro
     match make_rows(alloc, shape, weight, seed) {
         Ok(rows) => Ok(rows),
         Err(MakeFault::NoMemory) => Err(Fault::NoMemory),
-        Err(fault) => Err(Fault::told(fault.text())),
+        Err(fault) => Err(Fault::refused(fault.text())),
     }
 }
 
@@ -65,7 +65,7 @@ pub fn rows_command<O: CountedWrite, E: CountedWrite>(
     requires console { CanShow console.old }
     ensures quiet { result ≢ Exit.Fault → console.new.errors_failed ≡ console.old.errors_failed }
     ensures whole { result ≢ Exit.Fault → console.new.output_failed ≡ console.old.output_failed }
-    ensures run { RowsEnds shape weight seed console.old console.new result }
+    ensures run { RowsExits shape weight seed console.old console.new result }
 {
     let ended = print_rows(alloc, shape, weight, seed, &mut console.output);
     console.conclude(ended)

@@ -1,4 +1,4 @@
-//! `run`: packets sent, noise added to their symbols, and these received. The symbols are kept in memory.
+//! `run`: sends packets, adds noise to their symbols, and receives the result. The symbols are kept in memory.
 ghost use Rattle.std.specs.Prelude.{◌≡◌, ◌≢◌, [], Ok, Some, false};
 ghost use Rattle.s2_mode.specs.Counts.{CanCount};
 ghost use Rattle.s2_mode.specs.Streams.{streams_by};
@@ -8,13 +8,13 @@ ghost use Rattle.s2_modem.specs.Reception.{rules_for};
 ghost use Rattle.s2_console.specs.Files.{CanStart, reporting};
 ghost use Rattle.s2_console.specs.Screens.{CanNote};
 ghost use Rattle.s2_tool.specs.Links.{Causes, DoesOn, OnLink, noted_by};
-ghost use Rattle.s2_tool.specs.Looping.{kept_fault, Passes, LoopsBy, Loops, RunEnds};
+ghost use Rattle.s2_tool.specs.Looping.{kept_fault, ReceivesWithNoise, LoopsBy, Loops, RunExits};
 
 use crate::demod::receive_begun;
 use crate::link_files::LinkFiles;
-use crate::losses::conclude_heard;
+use crate::losses::conclude_reception;
 use crate::modulate::fault_of;
-use crate::noise::spoil;
+use crate::noise::add_noise;
 use s2_console::{Console, Exit, Fault};
 use s2_files::{Destination, Output};
 use s2_link::{Link, LinkSetup};
@@ -49,17 +49,17 @@ fn receive_noisy<W: Output, O: CountedWrite>(
     requires unbegun { packets.old.begun ≡ false }
     requires out { CanCount (O.count out.old) }
     requires begun { receiver.old.state ≡ begun }
-    ensures passes { let ends = streams_by (λ b. Some b) (λ b. 0) W.contents W.count O.contents O.count in
-        Passes (rules_for receiver.old) channel symbols.now packets.new.begun
+    ensures receives { let ends = streams_by (λ b. Some b) (λ b. 0) W.contents W.count O.contents O.count in
+        ReceivesWithNoise (rules_for receiver.old) channel symbols.now packets.new.begun
         (ends symbols.now packets.old.to out.old) (ends symbols.now packets.new.to out.new) result }
     ensures causes { let ends = streams_by (λ b. Some b) (λ b. 0) W.contents W.count O.contents O.count in
         Causes (ends symbols.now packets.old.to out.old) (ends symbols.now packets.new.to out.new) result }
 {
-    let mut heard = Counting::new(Vec::new(alloc));
-    match spoil(channel, &mut InMemory::new(symbols), &mut heard) {
+    let mut noisy = Counting::new(Vec::new(alloc));
+    match add_noise(channel, &mut InMemory::new(symbols), &mut noisy) {
         Ok(_) => receive_begun(
             receiver,
-            &mut InMemory::new(&heard.into_inner()),
+            &mut InMemory::new(&noisy.into_inner()),
             packets,
             out,
         ),
@@ -160,10 +160,10 @@ fn loop_files<R: CountedRead, W: Output, O: CountedWrite, E: CountedWrite>(
     )
 }
 
-/// `run`: sends the packets of a stream on the link of a setup and a row file, with the dummy frames that its words
-/// ask for, adds the noise of a seed and a strength to their symbols, and receives these: it prints the report of `demod`, and writes
-/// the packets that come out. The symbols are kept in memory. If a packet is refused, nothing is printed, and the file that is
-/// written is not begun. The note on rows that are not the standard's is written to `notes`.
+/// `run`: sends the packets of a stream on the link of a setup and a row file, with dummy frames if the options say so.
+/// It adds the noise of a seed and a strength to their symbols, and receives the result. It prints the report of
+/// `demod`, and writes the packets that were received. The symbols are kept in memory. If a packet is refused, nothing
+/// is printed, and the output file is not begun. The note on rows that are not the standard's is written to `notes`.
 pub fn run_command<R: CountedRead, W: Output, O: CountedWrite, E: CountedWrite>(
     alloc: Global,
     setup: LinkSetup,
@@ -178,8 +178,8 @@ pub fn run_command<R: CountedRead, W: Output, O: CountedWrite, E: CountedWrite>(
     ensures quiet { result ≢ Exit.Fault → console.new.errors_failed ≡ console.old.errors_failed }
     ensures whole { result ≢ Exit.Fault → console.new.output_failed ≡ console.old.output_failed }
     ensures run { let noted = noted_by E.contents E.count words.now.notes.quiet setup.mode notes.old notes.new in
-        RunEnds (setup_of setup) words.now noted files.old files.new console.old console.new result }
+        RunExits (setup_of setup) words.now noted files.old files.new console.old console.new result }
 {
-    let heard = loop_files(alloc, setup, words, files, console, notes);
-    conclude_heard(words.notes, &setup.mode, heard, console)
+    let reception = loop_files(alloc, setup, words, files, console, notes);
+    conclude_reception(words.notes, &setup.mode, reception, console)
 }

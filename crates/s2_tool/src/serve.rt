@@ -1,4 +1,4 @@
-//! The request of the command line, served. This is plain code: the contract of each command is at the command.
+//! Serves the request of the command line. This is plain code: the contract of each command is at the command.
 ghost use Rattle.std.specs.Prelude.{◌≡◌, OnErr};
 ghost use Rattle.s2_mode.specs.Counts.{CanCount};
 ghost use Rattle.s2_console.specs.Screens.{CanNote};
@@ -55,14 +55,14 @@ pub(crate) fn serve<R: Disk + Env + Clock + Print + Eprint + AllocGlobal>(
     }
 }
 
-/// Reports that there was no memory for the words.
+/// Reports that there was no memory for the arguments.
 fn lacks_memory<O: CountedWrite, E: CountedWrite>(console: &mut Console<O, E>) -> Exit
     requires { CanNote console.old }
 {
     console.complain(Fault::NoMemory)
 }
 
-/// The words of the command line, if there is memory for them.
+/// The arguments of the command line, if there is memory for them.
 fn words_given<R: Env + AllocGlobal>(rt: &R) -> Option<Vec<String>> {
     env::args(rt).ok()?.collect(rt.alloc()).ok()
 }
@@ -130,18 +130,18 @@ fn run_request<'a, R: Disk + Clock + AllocGlobal, O: CountedWrite, E: CountedWri
     }
 }
 
-/// The shape of three words.
+/// The shape of three options.
 fn shape_of(words: ShapeWords) -> Result<Shape, Fault<'static>> {
     let [group, groups, q] = [words.group, words.groups, words.q].map(usize::from);
-    Shape::new(group, groups, q).ok_or(Fault::told(FaultText::of("no such shape")))
+    Shape::new(group, groups, q).ok_or(Fault::refused(FaultText::of("no such shape")))
 }
 
-/// The mode of words.
+/// The mode of a MODCOD and two flags.
 fn mode_of(modcod: u8, short: bool, pilots: bool) -> Result<Mode, Fault<'static>> {
-    Mode::of(modcod, short, pilots).ok_or(Fault::told(FaultText::of("no such mode")))
+    Mode::of(modcod, short, pilots).ok_or(Fault::refused(FaultText::of("no such mode")))
 }
 
-/// The setup of a link's words.
+/// The setup of a link's options.
 fn setup_of(words: &LinkWords) -> Result<LinkSetup, Fault<'static>> {
     Ok(LinkSetup {
         mode: mode_of(words.modcod, words.short, words.pilots)?,
@@ -253,7 +253,7 @@ fn serve_noise<'a, R: Disk + Clock + AllocGlobal, O: CountedWrite, E: CountedWri
     requires { CanNote console.old }
     ensures { OnErr result (console.new.errors_failed ≡ console.old.errors_failed) }
 {
-    let show = show_on(terminal, Pace::Spoiling, words.progress);
+    let show = show_on(terminal, Pace::AddingNoise, words.progress);
     let (mut from, mut to) = open_noise(rt, &show, words.from, words.to)?;
     let exit = noise_command(words.channel, &mut from, &mut to, console);
     show.finish();

@@ -1,3 +1,3 @@
 pub mod Defaults
-pub mod Told
+pub mod Options
 pub mod Tuned

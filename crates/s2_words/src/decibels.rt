@@ -1,4 +1,4 @@
-//! Es/N0 as it stands on the command line.
+//! Es/N0 as a text of the command line.
 ghost use Rattle.std.specs.Prelude.{◌≤ℤ◌, pos, IfSome};
 
 use s2_channel::EsN0;
@@ -26,7 +26,7 @@ fn hundredths(text: &str) -> Option<i32>
 }
 
 /// An Es/N0 in dB, with a sign or without.
-pub(crate) fn esn0_told(text: &str) -> Option<EsN0> {
+pub(crate) fn read_esn0(text: &str) -> Option<EsN0> {
     match text.strip_prefix("-") {
         Some(size) => EsN0::new(-hundredths(size)?),
         None => EsN0::new(hundredths(text.strip_prefix("+").unwrap_or(text))?),

@@ -1,8 +1,8 @@
-//! The command line of the program: words in, a [`Request`] out.
+//! The command line of the program: arguments in, a [`Request`] out.
 //!
-//! One table has each command's options, their ranges and their help. [`read_words`] lets clap read by it, and
-//! returns the request with every option in its place, or clap's error, which is help, the version, a usage
-//! fault or that memory ran out.
+//! One table has each command's options, their ranges and their help. [`read_words`] parses the arguments with
+//! clap, using this table. It returns the request, with every option in its place, or clap's error. This is help,
+//! the version, a usage fault, or out of memory.
 //!
 //! ```text
 //! match read_words(alloc, &words)? {
@@ -13,12 +13,12 @@
 
 mod decibels;
 pub mod laws;
+mod options;
 mod parser;
 mod reading;
 mod refusal;
 mod request;
 mod table;
-mod told;
 
 pub use reading::read_words;
 pub use request::{

@@ -1,5 +1,7 @@
 //! The parser that the table describes.
-use crate::table::{ABOUT, Entry, Form, MORE, Word, choice_of, commands, more_of, words_of};
+use crate::table::{
+    ABOUT, Argument, Entry, Form, MORE, arguments_of, choice_of, commands, more_of,
+};
 use clap::builder::ValueParser;
 use clap::{Arg, ArgAction, ArgGroup, Command};
 use std::alloc::{AllocError, Global};
@@ -16,50 +18,54 @@ pub(crate) enum Values {
 /// An option with a value, which is required if it has no default.
 fn valued<'a>(
     arg: Arg<'a>,
-    word: Word,
+    argument: Argument,
     value: &'static str,
     allowed: ValueParser<'static>,
     default: Option<&'static str>,
 ) -> Arg<'a> {
-    let arg = arg.long(word.name).value_name(value).value_parser(allowed);
+    let arg = arg
+        .long(argument.name)
+        .value_name(value)
+        .value_parser(allowed);
     match default {
         Some(text) => arg.default_value(text),
         None => arg.required(true),
     }
 }
 
-fn arg_of<'a>(alloc: Global, word: Word, values: Values) -> Result<Arg<'a>, AllocError> {
-    let arg = Arg::new(alloc, word.name).help(word.help);
-    let arg = match word.form {
-        Form::Flag => arg.long(word.name).action(ArgAction::SetTrue),
+fn arg_of<'a>(alloc: Global, argument: Argument, values: Values) -> Result<Arg<'a>, AllocError> {
+    let arg = Arg::new(alloc, argument.name).help(argument.help);
+    let arg = match argument.form {
+        Form::Flag => arg.long(argument.name).action(ArgAction::SetTrue),
         Form::FlagWithout(other) => arg
-            .long(word.name)
+            .long(argument.name)
             .action(ArgAction::SetTrue)
             .conflicts_with(other)?,
         Form::Number {
             value,
             allowed,
             default,
-        } => valued(arg, word, value, allowed, default),
-        Form::Told {
+        } => valued(arg, argument, value, allowed, default),
+        Form::NumberOrText {
             value,
             allowed,
             default,
         } => {
             let arg = arg.allow_negative_numbers(true);
             match values {
-                Values::Numbers => valued(arg, word, value, allowed, default),
-                Values::Texts => valued(arg, word, value, ValueParser::String, default),
+                Values::Numbers => valued(arg, argument, value, allowed, default),
+                Values::Texts => valued(arg, argument, value, ValueParser::String, default),
             }
         }
-        Form::NamedNumber { value, allowed } => {
-            arg.long(word.name).value_name(value).value_parser(allowed)
-        }
+        Form::NamedNumber { value, allowed } => arg
+            .long(argument.name)
+            .value_name(value)
+            .value_parser(allowed),
         Form::NamedDecimal { value } => arg
-            .long(word.name)
+            .long(argument.name)
             .value_name(value)
             .allow_negative_numbers(true),
-        Form::NamedFile => arg.long(word.name).value_name("FILE"),
+        Form::NamedFile => arg.long(argument.name).value_name("FILE"),
         Form::File => arg.required(true),
     };
     Ok(arg)
@@ -73,13 +79,13 @@ pub(crate) fn command_of<'a>(
     let mut command = Command::new(alloc, entry.name)
         .about(entry.about)
         .after_help(more_of(entry.command));
-    for word in words_of(entry.command) {
-        command = command.arg(arg_of(alloc, *word, values)?)?;
+    for argument in arguments_of(entry.command) {
+        command = command.arg(arg_of(alloc, *argument, values)?)?;
     }
     with_choice(alloc, command, choice_of(entry.command))
 }
 
-/// A command of whose words just one of these has to stand, where there are some.
+/// A command with a choice of options: exactly one of them is required. If there are none, it is unchanged.
 fn with_choice<'a>(
     alloc: Global,
     command: Command<'a>,
@@ -110,7 +116,7 @@ fn without_commands<'a>(alloc: Global) -> Command<'a> {
         .after_help(MORE)
 }
 
-/// The parser of all that the program understands.
+/// The parser of all commands.
 pub(crate) fn program<'a>(alloc: Global, values: Values) -> Result<Command<'a>, AllocError> {
     let mut program = without_commands(alloc);
     for entry in commands() {

@@ -1,12 +1,12 @@
 //! The request of the command line.
-use crate::decibels::esn0_told;
+use crate::decibels::read_esn0;
+use crate::options::{Number, TuningWords, judging_by, progress_by, read_modcod, tuning_by};
 use crate::parser::program;
 use crate::refusal::{misused, not_understood, values_in};
 use crate::request::{
     ChannelWords, CheckWords, DemodWords, JudgeWords, LinkWords, ModWords, ModesWords, NoiseWords,
     NoteWords, Progress, Request, RowsWords, RunWords, ShapeWords, TableWords,
 };
-use crate::told::{Number, TuningWords, judging_told, modcod_told, progress_told, tuning_told};
 use clap::parser::ValueSource;
 use clap::{ArgMatches, Error};
 use s2_channel::Strength;
@@ -26,7 +26,7 @@ fn shape_of(m: &ArgMatches<'_>) -> Option<ShapeWords> {
 
 fn link_of(m: &ArgMatches<'_>) -> Option<LinkWords> {
     Some(LinkWords {
-        modcod: modcod_told(m.get_str("modcod")?)?,
+        modcod: read_modcod(m.get_str("modcod")?)?,
         short: m.get_flag("short"),
         pilots: m.get_flag("pilots"),
         number: ScramblingNumber::new(m.get_one::<u32>("number")?)?,
@@ -34,7 +34,7 @@ fn link_of(m: &ArgMatches<'_>) -> Option<LinkWords> {
     })
 }
 
-fn stands(m: &ArgMatches<'_>, name: &str) -> bool {
+fn is_given(m: &ArgMatches<'_>, name: &str) -> bool {
     match m.value_source(name) {
         Some(ValueSource::CommandLine) => true,
         _ => false,
@@ -43,28 +43,28 @@ fn stands(m: &ArgMatches<'_>, name: &str) -> bool {
 
 fn number_of(m: &ArgMatches<'_>, name: &str) -> Option<Number> {
     Some(Number {
-        stands: stands(m, name),
+        is_given: is_given(m, name),
         value: m.get_one::<u32>(name)?,
     })
 }
 
 fn tuning_of(m: &ArgMatches<'_>) -> Option<Tuning> {
-    let mode = Mode::of(modcod_told(m.get_str("modcod")?)?, false, false)?;
+    let mode = Mode::of(read_modcod(m.get_str("modcod")?)?, false, false)?;
     let words = TuningWords {
         rounds: m.get_one::<u32>("rounds")?,
         passes: number_of(m, "passes")?,
         divisor: number_of(m, "divisor")?,
         factor: number_of(m, "factor")?,
-        lock: number_of(m, "lock")?,
+        max_header_errors: number_of(m, "lock")?,
         tuned: m.get_flag("tuned"),
         uncertified: m.get_flag("uncertified"),
     };
-    tuning_told(&mode, words)
+    tuning_by(&mode, words)
 }
 
 fn strength_of(m: &ArgMatches<'_>) -> Option<Strength> {
     match m.get_str("esn0") {
-        Some(text) => esn0_told(text).map(Strength::EsN0),
+        Some(text) => read_esn0(text).map(Strength::EsN0),
         None => m.get_one::<u16>("level").map(Strength::Level),
     }
 }
@@ -84,7 +84,7 @@ fn notes_of(m: &ArgMatches<'_>) -> NoteWords {
 }
 
 fn progress_of(m: &ArgMatches<'_>) -> Progress {
-    progress_told(m.get_flag("progress"), m.get_flag("quiet"))
+    progress_by(m.get_flag("progress"), m.get_flag("quiet"))
 }
 
 fn rows_of<'a>(m: &ArgMatches<'a>) -> Option<Request<'a>> {
@@ -97,7 +97,7 @@ fn rows_of<'a>(m: &ArgMatches<'a>) -> Option<Request<'a>> {
 
 fn table_of<'a>(m: &ArgMatches<'a>) -> Option<Request<'a>> {
     Some(Request::Table(TableWords {
-        modcod: modcod_told(m.get_str("modcod")?)?,
+        modcod: read_modcod(m.get_str("modcod")?)?,
         short: m.get_flag("short"),
         quiet: m.get_flag("quiet"),
         rows: m.get_str("ROWS")?,
@@ -116,7 +116,7 @@ fn judge_of<'a>(m: &ArgMatches<'a>) -> Option<Request<'a>> {
     let (passes, factor) = (m.get_one::<u32>("passes")?, m.get_one::<u32>("factor")?);
     Some(Request::Judge(JudgeWords {
         shape: shape_of(m)?,
-        tuning: judging_told(passes, factor, m.get_flag("uncertified"))?,
+        tuning: judging_by(passes, factor, m.get_flag("uncertified"))?,
         certificate: m.get_str("cert"),
         rows: m.get_str("ROWS")?,
         soft: m.get_str("SOFT")?,
@@ -192,12 +192,12 @@ fn request_of<'a>(name: &str, m: &ArgMatches<'a>) -> Option<Request<'a>> {
     }
 }
 
-/// The request of the command line. The parser accepts only words from which a request can be made, except
-/// values that are given by a name. Any other word that it accepted, and an unknown name, are a usage fault.
-pub fn read_words<'a>(alloc: Global, words: &'a [String]) -> Result<Request<'a>, Error> {
-    let matches = match program(alloc, values_in(words))?.try_get_matches_from(words) {
+/// The request of the command line. The parser accepts only arguments from which a request can be made, except
+/// values that are given by a name. Any other argument that it accepted, and an unknown name, are a usage fault.
+pub fn read_words<'a>(alloc: Global, arguments: &'a [String]) -> Result<Request<'a>, Error> {
+    let matches = match program(alloc, values_in(arguments))?.try_get_matches_from(arguments) {
         Ok(matches) => matches,
-        Err(error) => return Err(misused(alloc, words, error)?),
+        Err(error) => return Err(misused(alloc, arguments, error)?),
     };
     match matches.subcommand() {
         None => Ok(Request::Own),

@@ -1,8 +1,8 @@
 //! Usage faults with the accepted values, for a value given by an unknown name.
-use crate::decibels::esn0_told;
+use crate::decibels::read_esn0;
+use crate::options::read_modcod;
 use crate::parser::{Values, command_of, program};
 use crate::table::{Entry, commands};
-use crate::told::modcod_told;
 use clap::error::ErrorKind;
 use clap::{ArgMatches, Error};
 use s2_link::RollOff;
@@ -10,12 +10,12 @@ use s2_mode::{MAX_MODCOD, Mode, Modulation};
 use s2_names::{Case, constellation};
 use std::alloc::{AllocError, Global};
 
-/// The value of an option: the next word, or the text after its equals sign.
-fn given<'a>(words: &'a [String], name: &str) -> Option<&'a str> {
-    for (at, word) in words.iter().enumerate() {
-        if let Some(rest) = word.as_str().strip_prefix(name) {
+/// The value of an option: the next argument, or the text after its equals sign.
+fn given<'a>(arguments: &'a [String], name: &str) -> Option<&'a str> {
+    for (at, argument) in arguments.iter().enumerate() {
+        if let Some(rest) = argument.as_str().strip_prefix(name) {
             if rest.is_empty() {
-                return Some(words.get(at + 1)?.as_str());
+                return Some(arguments.get(at + 1)?.as_str());
             }
             if let Some(value) = rest.strip_prefix("=") {
                 return Some(value);
@@ -37,8 +37,8 @@ fn is_numeral(text: &str) -> bool {
 }
 
 /// Whether `--modcod` is given a name.
-fn is_named(words: &[String]) -> bool {
-    match given(words, "--modcod") {
+fn is_named(arguments: &[String]) -> bool {
+    match given(arguments, "--modcod") {
         Some(text) => !is_numeral(text),
         None => false,
     }
@@ -48,16 +48,16 @@ fn is_named(words: &[String]) -> bool {
 const ROLL_OFFS: [&str; 3] = ["0", "1", "2"];
 
 /// Whether `--ro` is given something else than such a number.
-fn is_other_roll_off(words: &[String]) -> bool {
-    match given(words, "--ro") {
+fn is_other_roll_off(arguments: &[String]) -> bool {
+    match given(arguments, "--ro") {
         Some(text) => !ROLL_OFFS.contains(&text),
         None => false,
     }
 }
 
 /// The values that may be given by a name, to be read.
-pub(crate) fn values_in(words: &[String]) -> Values {
-    if is_named(words) || is_other_roll_off(words) {
+pub(crate) fn values_in(arguments: &[String]) -> Values {
+    if is_named(arguments) || is_other_roll_off(arguments) {
         Values::Texts
     } else {
         Values::Numbers
@@ -118,7 +118,7 @@ fn begins_with(name: &str, small: &str, capital: &str) -> bool {
 /// The accepted values in place of unknown ones, if there are any.
 fn message_of(alloc: Global, m: &ArgMatches<'_>) -> Result<Option<String>, AllocError> {
     if let Some(name) = m.get_str("modcod") {
-        if modcod_told(name).is_none() {
+        if read_modcod(name).is_none() {
             let mut text = format!(in alloc; "invalid value '{name}' for '--modcod <M>': ")?;
             push_modes(&mut text, name)?;
             return Ok(Some(text));
@@ -133,7 +133,7 @@ fn message_of(alloc: Global, m: &ArgMatches<'_>) -> Result<Option<String>, Alloc
         }
     }
     if let Some(number) = m.get_str("esn0") {
-        if esn0_told(number).is_none() {
+        if read_esn0(number).is_none() {
             let text = format!(in alloc;
                 "invalid value '{number}' for '--esn0 <DB>': it is -10 to 40, with at most two digits after the point"
             )?;
@@ -143,7 +143,7 @@ fn message_of(alloc: Global, m: &ArgMatches<'_>) -> Result<Option<String>, Alloc
     Ok(None)
 }
 
-/// The usage fault of words that make no request.
+/// The usage fault of arguments from which no request can be made.
 pub(crate) fn not_understood(
     alloc: Global,
     name: &str,
@@ -159,8 +159,8 @@ pub(crate) fn not_understood(
 const SWITCHES: [&str; 8] = ["on", "off", "yes", "no", "true", "false", "1", "0"];
 
 /// Whether such a value follows `--pilots`.
-fn is_switched(words: &[String]) -> bool {
-    let Some(value) = given(words, "--pilots") else {
+fn is_switched(arguments: &[String]) -> bool {
+    let Some(value) = given(arguments, "--pilots") else {
         return false;
     };
     for switch in SWITCHES {
@@ -172,9 +172,9 @@ fn is_switched(words: &[String]) -> bool {
 }
 
 /// Whether `--pilots` is given a value by an equals sign.
-fn is_assigned(words: &[String]) -> bool {
-    for word in words {
-        if word.as_str().starts_with("--pilots=") {
+fn is_assigned(arguments: &[String]) -> bool {
+    for argument in arguments {
+        if argument.as_str().starts_with("--pilots=") {
             return true;
         }
     }
@@ -182,18 +182,22 @@ fn is_assigned(words: &[String]) -> bool {
 }
 
 /// Whether a fault of this kind comes from a value that `--pilots` is given.
-fn has_switch(words: &[String], kind: ErrorKind) -> bool {
+fn has_switch(arguments: &[String], kind: ErrorKind) -> bool {
     match kind {
-        ErrorKind::UnknownArgument => is_switched(words),
-        ErrorKind::TooManyValues => is_assigned(words),
+        ErrorKind::UnknownArgument => is_switched(arguments),
+        ErrorKind::TooManyValues => is_assigned(arguments),
         _ => false,
     }
 }
 
 /// A usage fault, or in its place one that says that `--pilots` takes no value, if it was given one.
-pub(crate) fn misused(alloc: Global, words: &[String], error: Error) -> Result<Error, AllocError> {
-    match words.get(1) {
-        Some(name) if has_switch(words, error.kind()) => fault_in(
+pub(crate) fn misused(
+    alloc: Global,
+    arguments: &[String],
+    error: Error,
+) -> Result<Error, AllocError> {
+    match arguments.get(1) {
+        Some(name) if has_switch(arguments, error.kind()) => fault_in(
             alloc,
             name.as_str(),
             "'--pilots' takes no value: frames have pilot blocks where it stands, and none where it does not",

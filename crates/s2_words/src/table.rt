@@ -4,7 +4,7 @@ use s2_link::{MAX_PASSES, MAX_ROLL_OFF, MAX_ROUNDS};
 use s2_minsum::{LEAST_FACTOR, MAX_FACTOR};
 use s2_mode::{MAX_BITS, MAX_GROUP, MAX_MODCOD};
 use s2_names::MAX_RATE;
-use s2_plframe::{MAX_LOCK, MAX_WRONG};
+use s2_plframe::{HEADER_THRESHOLD, MAX_LOCK};
 use s2_rows::MAX_ADDRESSES;
 use s2_scramble::MAX_NUMBER;
 
@@ -201,8 +201,8 @@ pub(crate) enum Form {
         allowed: ValueParser<'static>,
         default: Option<&'static str>,
     },
-    /// The same; for words that are no number the reader says what they are, or which values are accepted.
-    Told {
+    /// The same. If the value is not a number, the reader interprets it, or reports which values are accepted.
+    NumberOrText {
         value: &'static str,
         allowed: ValueParser<'static>,
         default: Option<&'static str>,
@@ -222,9 +222,9 @@ pub(crate) enum Form {
     File,
 }
 
-/// A word of a command.
+/// An argument of a command: an option, or a file.
 #[derive(Clone, Copy)]
-pub(crate) struct Word {
+pub(crate) struct Argument {
     pub name: &'static str,
     pub form: Form,
     pub help: &'static str,
@@ -255,7 +255,7 @@ pub(crate) struct Entry {
 /// Any number of 64 bits.
 const ANY: ValueParser<'static> = ValueParser::Unsigned(0, u64::MAX);
 
-const GROUP: Word = Word {
+const GROUP: Argument = Argument {
     name: "group",
     form: Form::Number {
         value: "G",
@@ -265,7 +265,7 @@ const GROUP: Word = Word {
     help: "Bits of a group, 1 to 360",
 };
 
-const GROUPS: Word = Word {
+const GROUPS: Argument = Argument {
     name: "groups",
     form: Form::Number {
         value: "N",
@@ -275,7 +275,7 @@ const GROUPS: Word = Word {
     help: "Groups of information bits, 1 to 64799",
 };
 
-const Q: Word = Word {
+const Q: Argument = Argument {
     name: "q",
     form: Form::Number {
         value: "Q",
@@ -285,7 +285,7 @@ const Q: Word = Word {
     help: "Checks by which a group's next bit moves on, 1 to 64799",
 };
 
-const WEIGHT: Word = Word {
+const WEIGHT: Argument = Argument {
     name: "weight",
     form: Form::Number {
         value: "W",
@@ -295,9 +295,9 @@ const WEIGHT: Word = Word {
     help: "Addresses of each row, 1 to 24",
 };
 
-const MODCOD: Word = Word {
+const MODCOD: Argument = Argument {
     name: "modcod",
-    form: Form::Told {
+    form: Form::NumberOrText {
         value: "M",
         allowed: ValueParser::Signed(1, MAX_MODCOD as i64),
         default: None,
@@ -305,19 +305,19 @@ const MODCOD: Word = Word {
     help: "MODCOD, 1 to 17, or the mode's name, in small letters or in capitals, as qpsk3/4 or 8PSK2/3: `s2 modes` lists them",
 };
 
-const SHORT: Word = Word {
+const SHORT: Argument = Argument {
     name: "short",
     form: Form::Flag,
     help: "Frames of 16200 bits, and not of 64800",
 };
 
-const PILOTS: Word = Word {
+const PILOTS: Argument = Argument {
     name: "pilots",
     form: Form::Flag,
     help: "Frames with pilot blocks; takes no value",
 };
 
-const NUMBER: Word = Word {
+const NUMBER: Argument = Argument {
     name: "number",
     form: Form::Number {
         value: "N",
@@ -327,9 +327,9 @@ const NUMBER: Word = Word {
     help: "Scrambling number, 0 to 262141",
 };
 
-const ROLL_OFF: Word = Word {
+const ROLL_OFF: Argument = Argument {
     name: "ro",
-    form: Form::Told {
+    form: Form::NumberOrText {
         value: "R",
         allowed: ValueParser::Signed(0, MAX_ROLL_OFF as i64),
         default: Some("0"),
@@ -337,7 +337,7 @@ const ROLL_OFF: Word = Word {
     help: "Roll-off that headers tell: 0 for 0.35, 1 for 0.25, 2 for 0.20",
 };
 
-const DUMMY: Word = Word {
+const DUMMY: Argument = Argument {
     name: "dummy",
     form: Form::Number {
         value: "D",
@@ -347,7 +347,7 @@ const DUMMY: Word = Word {
     help: "A dummy frame behind every D-th frame, 0 to 65535: 0 for none",
 };
 
-const ROUNDS: Word = Word {
+const ROUNDS: Argument = Argument {
     name: "rounds",
     form: Form::Number {
         value: "K",
@@ -357,7 +357,7 @@ const ROUNDS: Word = Word {
     help: "Rounds of min-sum at most for each frame, 1 to 200",
 };
 
-const PASSES: Word = Word {
+const PASSES: Argument = Argument {
     name: "passes",
     form: Form::Number {
         value: "P",
@@ -367,7 +367,7 @@ const PASSES: Word = Word {
     help: "Passes at most that look for a certificate of what has none yet, 0 to 1000",
 };
 
-const DIVISOR: Word = Word {
+const DIVISOR: Argument = Argument {
     name: "divisor",
     form: Form::Number {
         value: "D",
@@ -377,7 +377,7 @@ const DIVISOR: Word = Word {
     help: "What soft values are divided by: 8192 at low code rates, more for stronger symbols",
 };
 
-const FACTOR: Word = Word {
+const FACTOR: Argument = Argument {
     name: "factor",
     form: Form::Number {
         value: "F",
@@ -387,29 +387,29 @@ const FACTOR: Word = Word {
     help: "Sixteenths of a size that messages of min-sum have, 8 to 16: more at low code rates",
 };
 
-const LOCK: Word = Word {
+const LOCK: Argument = Argument {
     name: "lock",
     form: Form::Number {
         value: "H",
-        allowed: ValueParser::Signed(MAX_WRONG as i64, MAX_LOCK as i64),
+        allowed: ValueParser::Signed(HEADER_THRESHOLD as i64, MAX_LOCK as i64),
         default: Some(DEFAULT_LOCK_TEXT),
     },
     help: "Bits of a header that may be wrong right behind a frame, 12 to 40; elsewhere 12 may",
 };
 
-const UNCERTIFIED: Word = Word {
+const UNCERTIFIED: Argument = Argument {
     name: "uncertified",
     form: Form::FlagWithout("passes"),
     help: "No certificate is looked for of what min-sum finds, which is `parity` then; not with --passes",
 };
 
-const TUNED: Word = Word {
+const TUNED: Argument = Argument {
     name: "tuned",
     form: Form::Flag,
     help: "The factor that is best for the mode, --lock 30, --divisor 8192 and --passes 96; words that stand beside it win",
 };
 
-const SEED: Word = Word {
+const SEED: Argument = Argument {
     name: "seed",
     form: Form::Number {
         value: "S",
@@ -419,7 +419,7 @@ const SEED: Word = Word {
     help: "Seed of the generator, any number of 64 bits",
 };
 
-const LEVEL: Word = Word {
+const LEVEL: Argument = Argument {
     name: "level",
     form: Form::NamedNumber {
         value: "L",
@@ -428,13 +428,13 @@ const LEVEL: Word = Word {
     help: "Level of the noise, 0 to 65535: a standard deviation of 0.816 L in each component, where a QPSK point has 700",
 };
 
-const ESN0: Word = Word {
+const ESN0: Argument = Argument {
     name: "esn0",
     form: Form::NamedDecimal { value: "DB" },
     help: "Es/N0 in dB, -10 to 40 with two decimals at most: Gaussian noise, for symbols of the amplitude that `mod` sends",
 };
 
-const RATE: Word = Word {
+const RATE: Argument = Argument {
     name: "rate",
     form: Form::NamedNumber {
         value: "R",
@@ -443,40 +443,40 @@ const RATE: Word = Word {
     help: "Symbols a second, 1 to 1000000000: adds the bits a second of the transport stream",
 };
 
-const STRICT: Word = Word {
+const STRICT: Argument = Argument {
     name: "strict",
     form: Form::Flag,
     help: "Exit 2 also where symbols were passed over, a packet was bad or torn, or no frame was found in 90 symbols or more",
 };
 
-const QUIET: Word = Word {
+const QUIET: Argument = Argument {
     name: "quiet",
     form: Form::Flag,
     help: "No notes on standard error",
 };
 
-/// The same word of a command that shows progress.
-const QUIET_AND_STILL: Word = Word {
+/// The same option, for a command that shows progress.
+const QUIET_AND_STILL: Argument = Argument {
     help: "No notes on standard error, and no progress but by --progress",
     ..QUIET
 };
 
-const PROGRESS: Word = Word {
+const PROGRESS: Argument = Argument {
     name: "progress",
     form: Form::Flag,
     help: "Progress on standard error, also where that is no terminal: a line that is rewritten once a second",
 };
 
-const CERTIFICATE: Word = Word {
+const CERTIFICATE: Argument = Argument {
     name: "cert",
     form: Form::NamedFile,
     help: "File for the certificate of a word that is sole or most likely: none is made without it",
 };
 
-/// A word that is the name of a file.
+/// An argument that is the name of a file.
 macro_rules! file {
     ($name:literal, $help:literal) => {
-        Word {
+        Argument {
             name: $name,
             form: Form::File,
             help: $help,
@@ -484,9 +484,9 @@ macro_rules! file {
     };
 }
 
-const ROWS: Word = file!("ROWS", "Row file");
+const ROWS: Argument = file!("ROWS", "Row file");
 
-const PACKETS: Word = file!("PACKETS", "Transport stream, packets of 188 bytes");
+const PACKETS: Argument = file!("PACKETS", "Transport stream, packets of 188 bytes");
 
 /// All commands.
 static COMMANDS: [Entry; 9] = [
@@ -542,17 +542,17 @@ pub(crate) fn commands() -> &'static [Entry] {
     &COMMANDS
 }
 
-/// The words of `modes`, in order.
-static MODES_WORDS: [Word; 2] = [RATE, QUIET];
+/// The arguments of `modes`, in order.
+static MODES_ARGUMENTS: [Argument; 2] = [RATE, QUIET];
 
-/// The words of `rows`, in order.
-static ROWS_WORDS: [Word; 6] = [GROUP, GROUPS, Q, WEIGHT, SEED, QUIET];
+/// The arguments of `rows`, in order.
+static ROWS_ARGUMENTS: [Argument; 6] = [GROUP, GROUPS, Q, WEIGHT, SEED, QUIET];
 
-/// The words of `table`, in order.
-static TABLE_WORDS: [Word; 4] = [MODCOD, SHORT, QUIET, ROWS];
+/// The arguments of `table`, in order.
+static TABLE_ARGUMENTS: [Argument; 4] = [MODCOD, SHORT, QUIET, ROWS];
 
-/// The words of `judge`, in order.
-static JUDGE_WORDS: [Word; 10] = [
+/// The arguments of `judge`, in order.
+static JUDGE_ARGUMENTS: [Argument; 10] = [
     GROUP,
     GROUPS,
     Q,
@@ -565,11 +565,11 @@ static JUDGE_WORDS: [Word; 10] = [
     file!("SOFT", "Value file, one value for each bit of a codeword"),
 ];
 
-/// The words of `check`, in order.
-static CHECK_WORDS: [Word; 3] = [QUIET, ROWS, file!("CERT", "Certificate file")];
+/// The arguments of `check`, in order.
+static CHECK_ARGUMENTS: [Argument; 3] = [QUIET, ROWS, file!("CERT", "Certificate file")];
 
-/// The words of `mod`, in order.
-static MOD_WORDS: [Word; 11] = [
+/// The arguments of `mod`, in order.
+static MOD_ARGUMENTS: [Argument; 11] = [
     MODCOD,
     SHORT,
     PILOTS,
@@ -586,8 +586,8 @@ static MOD_WORDS: [Word; 11] = [
     ),
 ];
 
-/// The words of `noise`, in order.
-static NOISE_WORDS: [Word; 7] = [
+/// The arguments of `noise`, in order.
+static NOISE_ARGUMENTS: [Argument; 7] = [
     SEED,
     LEVEL,
     ESN0,
@@ -597,8 +597,8 @@ static NOISE_WORDS: [Word; 7] = [
     file!("OUT", "File for the symbols with noise"),
 ];
 
-/// The words of `demod`, in order.
-static DEMOD_WORDS: [Word; 18] = [
+/// The arguments of `demod`, in order.
+static DEMOD_ARGUMENTS: [Argument; 18] = [
     MODCOD,
     SHORT,
     PILOTS,
@@ -622,8 +622,8 @@ static DEMOD_WORDS: [Word; 18] = [
     file!("PACKETS", "File for the packets"),
 ];
 
-/// The words of `run`, in order.
-static RUN_WORDS: [Word; 22] = [
+/// The arguments of `run`, in order.
+static RUN_ARGUMENTS: [Argument; 22] = [
     MODCOD,
     SHORT,
     PILOTS,
@@ -648,22 +648,22 @@ static RUN_WORDS: [Word; 22] = [
     file!("OUT", "File for the packets that are received"),
 ];
 
-/// The words of a command.
-pub(crate) fn words_of(command: Name) -> &'static [Word] {
+/// The arguments of a command.
+pub(crate) fn arguments_of(command: Name) -> &'static [Argument] {
     match command {
-        Name::Modes => &MODES_WORDS,
-        Name::Rows => &ROWS_WORDS,
-        Name::Table => &TABLE_WORDS,
-        Name::Judge => &JUDGE_WORDS,
-        Name::Check => &CHECK_WORDS,
-        Name::Mod => &MOD_WORDS,
-        Name::Noise => &NOISE_WORDS,
-        Name::Demod => &DEMOD_WORDS,
-        Name::Run => &RUN_WORDS,
+        Name::Modes => &MODES_ARGUMENTS,
+        Name::Rows => &ROWS_ARGUMENTS,
+        Name::Table => &TABLE_ARGUMENTS,
+        Name::Judge => &JUDGE_ARGUMENTS,
+        Name::Check => &CHECK_ARGUMENTS,
+        Name::Mod => &MOD_ARGUMENTS,
+        Name::Noise => &NOISE_ARGUMENTS,
+        Name::Demod => &DEMOD_ARGUMENTS,
+        Name::Run => &RUN_ARGUMENTS,
     }
 }
 
-/// Words of a command of which just one has to stand, if there are any.
+/// The choice of options of a command: exactly one of them is required, if there are any.
 pub(crate) fn choice_of(command: Name) -> &'static [&'static str] {
     match command {
         Name::Noise | Name::Run => &["level", "esn0"],

@@ -1,12 +1,12 @@
-//! How far a header is trusted right behind a frame.
+//! How many wrong bits a header may have right after a frame.
 ghost use Rattle.std.specs.Prelude.{◌≡◌, ◌↔◌, IsSome, IfSome};
-ghost use Rattle.s2_plframe.specs.Constants.{max_wrong};
+ghost use Rattle.s2_plframe.specs.Constants.{header_threshold};
 ghost use Rattle.s2_plframe.specs.Search.{IsLock};
 
-use crate::constants::{MAX_LOCK, MAX_WRONG};
+use crate::constants::{HEADER_THRESHOLD, MAX_LOCK};
 use std::marker::Model;
 
-/// How many bits of a header may be wrong right behind a frame, 12 to 40.
+/// The largest number of wrong bits that a header may have right after a frame, 12 to 40.
 #[derive(Clone, Copy, Debug, PartialEq, Eq)]
 pub struct Lock {
     number: u32,
@@ -26,26 +26,28 @@ impl Model for Lock {
 }
 
 impl Lock {
-    /// So many, where they are 12 to 40.
+    /// This number, if it is 12 to 40.
     pub fn new(number: u32) -> Option<Lock>
         ensures found { IsSome result ↔ IsLock number }
         ensures value { IfSome result (λ l. l ≡ number) }
     {
-        if number >= MAX_WRONG && number <= MAX_LOCK {
+        if number >= HEADER_THRESHOLD && number <= MAX_LOCK {
             Some(Lock { number })
         } else {
             None
         }
     }
 
-    /// As many as anywhere, 12.
+    /// The number of the usual test, 12.
     pub fn usual() -> Lock
-        ensures { result ≡ max_wrong }
+        ensures { result ≡ header_threshold }
     {
-        Lock { number: MAX_WRONG }
+        Lock {
+            number: HEADER_THRESHOLD,
+        }
     }
 
-    /// How many.
+    /// The number.
     pub fn get(self) -> u32
         ensures is { result ≡ self }
         ensures known { IsLock result }

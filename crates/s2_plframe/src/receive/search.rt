@@ -3,11 +3,11 @@ ghost use Rattle.std.specs.Prelude.{◌≡◌, ℕ, ◌<◌, ◌%◌, ◌==◌, 
 ghost use Rattle.s2_mode.specs.declared.symbols.Symbol.{Symbol};
 ghost use Rattle.s2_mode.specs.Limits.{header_symbols};
 ghost use Rattle.s2_plframe.specs.Header.{header_bit};
-ghost use Rattle.s2_plframe.specs.Search.{decision, found, found_behind, passes};
+ghost use Rattle.s2_plframe.specs.Search.{decision, found, found_behind, matches_header};
 ghost use Rattle.s2_plframe.specs.declared.receive.found.Found.TheVariants as founds;
 ghost use Rattle.s2_plframe.specs.Inside.{AreHeaders, is_dummy, found_by, wrong_in_dummy, behind_by};
 
-use crate::constants::MAX_WRONG;
+use crate::constants::HEADER_THRESHOLD;
 use crate::header::{dummy_code, header_bit, pls_code};
 use crate::receive::found::Found;
 use crate::receive::lock::Lock;
@@ -15,7 +15,7 @@ use crate::receive::registers::{header_number, is_near, mixed, pushed, wrong_in}
 use s2_mode::{HEADER_SYMBOLS, Mode, Symbol};
 use std::marker::Model;
 
-/// Whether a symbol says one in the first, third and so on place of a header.
+/// A symbol's bit as the first, third and so on of a header.
 #[inline(always)]
 pub(crate) fn says_odd(symbol: Symbol) -> bool
     ensures { result ≡ (decision symbol).odd }
@@ -23,7 +23,7 @@ pub(crate) fn says_odd(symbol: Symbol) -> bool
     i32::from(symbol.i) + i32::from(symbol.q) < 0
 }
 
-/// Whether it says one in the others.
+/// A symbol's bit as one of the others.
 #[inline(always)]
 pub(crate) fn says_even(symbol: Symbol) -> bool
     ensures { result ≡ (decision symbol).even }
@@ -31,7 +31,7 @@ pub(crate) fn says_even(symbol: Symbol) -> bool
     i32::from(symbol.q) - i32::from(symbol.i) < 0
 }
 
-/// What a symbol says at place `k` of a header.
+/// A symbol's bit as symbol `k` of a header.
 fn says_at(k: usize, symbol: Symbol) -> bool
     ensures { result ≡ (if k % 2 == 0 then (decision symbol).odd else (decision symbol).even) }
 {
@@ -42,17 +42,17 @@ fn says_at(k: usize, symbol: Symbol) -> bool
     }
 }
 
-/// Whether 90 symbols pass as a header of this mode: at most 12 of the bits that they are decided as
-/// differ from it. Bit `k`, counted from 1, is one where I + Q < 0 (odd `k`) or Q - I < 0 (even `k`).
+/// Whether 90 symbols pass as a header of this mode: at most 12 of their decided bits differ from it. Bit `k`,
+/// counted from 1, is decided as one if I + Q < 0 (odd `k`) or Q - I < 0 (even `k`).
 pub fn header_matches(mode: Mode, symbols: &[Symbol; HEADER_SYMBOLS]) -> bool
-    ensures { result ≡ passes (header_bit mode) (map decision symbols.now) }
+    ensures { result ≡ matches_header (header_bit mode) (map decision symbols.now) }
 {
     let code = pls_code(mode);
     let mut different = 0u32;
     for k in 0..HEADER_SYMBOLS {
         different += u32::from(says_at(k, symbols[k]) ^ header_bit(code, k));
     }
-    different <= MAX_WRONG
+    different <= HEADER_THRESHOLD
 }
 
 /// The headers of a mode and of dummy frames, as numbers.
@@ -78,7 +78,7 @@ fn headers_of(mode: Mode) -> Headers
     }
 }
 
-/// Whether a window is a header of dummy frames.
+/// Whether a window passes as a header of dummy frames.
 #[inline(always)]
 fn is_dummy(headers: &Headers, window: u128) -> bool
     ensures { result ≡ is_dummy headers.now.dummy headers.now.dummy_pilots headers.now.dummy_short headers.now.dummy_both window }
@@ -103,7 +103,7 @@ fn found_by(headers: &Headers, window: u128) -> Found
     }
 }
 
-/// How many bits of a window differ from that header of dummy frames from which the fewest do.
+/// The number of wrong bits for the nearest header of dummy frames.
 fn wrong_in_dummy(headers: &Headers, window: u128) -> u32
     ensures { result ≡ wrong_in_dummy headers.now.dummy headers.now.dummy_pilots headers.now.dummy_short headers.now.dummy_both window }
 {
@@ -112,8 +112,8 @@ fn wrong_in_dummy(headers: &Headers, window: u128) -> u32
     long.min(short)
 }
 
-/// The header that passes right behind a frame, where so many bits differ from the mode's, so many from a dummy
-/// frame's, and so many may.
+/// The header that passes right after a frame, from the numbers of wrong bits for the mode's header and for a
+/// dummy frame's, and the largest number allowed.
 fn behind_by(coded: u32, dummy: u32, lock: u32) -> Found
     ensures { result ≡ behind_by coded dummy lock }
 {
@@ -130,8 +130,8 @@ fn behind_by(coded: u32, dummy: u32, lock: u32) -> Found
     }
 }
 
-/// The search for the header of a mode's frames, symbol by symbol. Its value is the mode and what the
-/// last symbols say, at most 90 of them, since it was made or begun again.
+/// The search for the header of a mode's frames, symbol by symbol. Its value is the mode, and the decisions on
+/// the last symbols, at most 90, since it was made or restarted.
 #[derive(Drop)]
 pub struct Search {
     mode: Mode,
@@ -177,9 +177,9 @@ impl Search {
         self.count = 0;
     }
 
-    /// Takes the next symbol, and says what the last 90 are: a header of the mode's frames, one of
-    /// dummy frames of any TYPE, or nothing, which is said too where fewer came. A header passes with at
-    /// most 12 wrong bits; no symbols pass as both ([`crate::laws::apart`]).
+    /// Takes the next symbol, and returns what the last 90 are: a header of the mode's frames, one of dummy
+    /// frames of any TYPE, or nothing. If fewer came, it is nothing. A header passes with at most 12 wrong bits;
+    /// no symbols pass as both ([`crate::laws::apart`]).
     pub fn feed(&mut self, symbol: Symbol) -> Found
         ensures seen { self.new ≡ search_of self.old.mode (recent (self.old.seen ++ decision symbol ∷ [])) }
         ensures found { result ≡ found self.old.mode (recent (self.old.seen ++ decision symbol ∷ [])) }
@@ -193,8 +193,8 @@ impl Search {
         found_by(&self.headers, mixed(self.odd, self.even))
     }
 
-    /// What the last 90 symbols are where they stand right behind a frame: the header from which the fewest bits
-    /// differ passes, with at most so many wrong ones as the lock says. Nothing where fewer came.
+    /// What the last 90 symbols are if they come right after a frame: the nearest header passes, if its wrong
+    /// bits are at most the lock's number. If fewer symbols came, it is nothing.
     pub fn behind(&self, lock: Lock) -> Found
         ensures found { length self.now.seen ≡ header_symbols → result ≡ found_behind self.now.mode lock self.now.seen }
         ensures early { length self.now.seen < header_symbols → result ≡ founds.Nothing }

@@ -1,4 +1,4 @@
-//! The symbols of a frame's header (EN 302 307-1, 5.5.2).
+//! The symbols of a frame's header, the PLHEADER (EN 302 307-1, 5.5.2).
 ghost use Rattle.std.specs.Prelude.{◌≡◌, ℕ, ◌<◌, length};
 ghost use Rattle.s2_mode.specs.Limits.{header_symbols};
 ghost use Rattle.s2_mode.specs.Mode.{mode_of};
@@ -9,7 +9,7 @@ use crate::header::{PlsCode, header_bit};
 use s2_map::DIAGONAL;
 use s2_mode::{HEADER_SYMBOLS, Symbol};
 
-/// Writes the header that says this.
+/// Writes the header of a PLSCODE.
 pub(crate) fn write_header(code: PlsCode, out: &mut [Symbol])
     requires { length out.old ≡ header_symbols }
     ensures { (i : ℕ) → i < header_symbols → symbol_at out.new i ≡ header_symbol (mode_of code.modcod code.short code.pilots) i }

@@ -10,8 +10,8 @@ use Rattle.s2_bch.proofs.GeneratorFacts.{generator_facts}
 use Rattle.s2_bch.proofs.RestFacts.{zero_rest, none_left}
 use Rattle.s2_bch.proofs.bch.correct.Goals as goal
 
-pub flip_near-count-requires-clause-rest : goal.flip_near-count-requires-clause-rest
-flip_near-count-requires-clause-rest c =
+pub correct_errors-count-requires-clause-rest : goal.correct_errors-count-requires-clause-rest
+correct_errors-count-requires-clause-rest c =
     c.requires.bits ∙ ap (rest_of (drop 1 (generator_of c.args.mode)) (kbch_of c.args.mode)) (sym c.copy_from_slice.ensures.after)
 
 pub rest-requires : goal.rest-requires
@@ -20,34 +20,34 @@ rest-requires c =
     record {
       table = c.requires.table.size;
       whole_bytes = omega (arith, c.kbch.ensures.is, c.requires.sizes.field);
-      more = omega (arith, c.kbch.ensures.is, made.size, c.flip_near-count.ensures.size);
-      few = omega (arith, c.kbch.ensures.is, made.size, c.requires.table.fits, c.flip_near-count.ensures.size);
+      more = omega (arith, c.kbch.ensures.is, made.size, c.correct_errors-count.ensures.size);
+      few = omega (arith, c.kbch.ensures.is, made.size, c.requires.table.fits, c.correct_errors-count.ensures.size);
     }
 
 pub returns-then-not-is_zero-clause-none : goal.returns-then-not-is_zero-clause-none
 returns-then-not-is_zero-clause-none c v word =
     let made = generator_facts c.args.mode c.requires.valid c.requires.sizes in
     let t = drop 1 (generator_of c.args.mode) in
-    let w = c.flip_near-count.new.candidate in
-    let size : length w ≡ c.kbch.result + length t = omega (arith, c.kbch.ensures.is, made.size, c.flip_near-count.ensures.size) in
+    let w = c.correct_errors-count.new.candidate in
+    let size : length w ≡ c.kbch.result + length t = omega (arith, c.kbch.ensures.is, made.size, c.correct_errors-count.ensures.size) in
     none_left (t_of c.args.mode) c.kbch.result t c.args.word.now w v c.rest.result size (c.rest.ensures t c.requires.table size)
     (λ z. true≢false (sym (c.is_zero.ensures.1 z) ∙ c.if-not-is_zero.true))
     (subst (λ g. IsMultiple g v) made.begins word.multiple)
-    (λ near. c.flip_near-count.ensures.only v word (omega (arith, near, ap (λ u. differences (length u) u v) c.copy_from_slice.ensures.after)))
+    (λ near. c.correct_errors-count.ensures.only v word (omega (arith, near, ap (λ u. differences (length u) u v) c.copy_from_slice.ensures.after)))
 
 pub returns-clause-some : goal.returns-clause-some
 returns-clause-some c =
     let made = generator_facts c.args.mode c.requires.valid c.requires.sizes in
     let t = drop 1 (generator_of c.args.mode) in
-    let w = c.flip_near-count.new.candidate in
-    let size : length w ≡ c.kbch.result + length t = omega (arith, c.kbch.ensures.is, made.size, c.flip_near-count.ensures.size) in
+    let w = c.correct_errors-count.new.candidate in
+    let size : length w ≡ c.kbch.result + length t = omega (arith, c.kbch.ensures.is, made.size, c.correct_errors-count.ensures.size) in
     let put : c.copy_from_slice-2.new.self ≡ w = c.copy_from_slice-2.ensures.after in
     let multiple = zero_rest t c.kbch.result w size c.rest.result (c.rest.ensures t c.requires.table size)
     (c.is_zero.ensures.0 c.if-not-is_zero.false) in (
       record {
-        size = omega (arith, ap length put, c.flip_near-count.ensures.size);
+        size = omega (arith, ap length put, c.correct_errors-count.ensures.size);
         multiple = subst (λ u. IsMultiple (generator_of c.args.mode) u) (sym put) (subst (λ g. IsMultiple g w) (sym made.begins) multiple);
       },
-      c.flip_near-count.ensures.count ∙ ap₂ (λ u v. differences (length u) u v) c.copy_from_slice.ensures.after (sym put),
+      c.correct_errors-count.ensures.count ∙ ap₂ (λ u v. differences (length u) u v) c.copy_from_slice.ensures.after (sym put),
       omega (arith, c.if-count-t.false, c.t.ensures.is),
     )

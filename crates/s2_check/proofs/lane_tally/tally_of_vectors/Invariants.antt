@@ -2,4 +2,4 @@ use Rattle.s2_check.proofs.LaneTallies.{AreTallies}
 use Rattle.s2_check.proofs.lane_tally.tally_of_vectors.Given as goal
 
 abbrev pub invariant-loop-block : goal.invariant-loop-block
-invariant-loop-block l = AreTallies l.sums l.counts l.sizes l.block l.shares
+invariant-loop-block l = AreTallies l.sums l.counts l.magnitudes l.block l.shares

@@ -7,7 +7,7 @@ use Rattle.s2_split.proofs.Repairs.{length-repaired}
 use Rattle.s2_judge.specs.Deciding.{is_strict, decoded_bits, first_codeword, with_made, decoded_view}
 use Rattle.s2_judge.proofs.Certificates.{found_nothing}
 use Rattle.s2_judge.proofs.Decisions.{found_codeword}
-use Rattle.s2_judge.proofs.Grounds.{with_found, with_none, step_three, step_four, step_none}
+use Rattle.s2_judge.proofs.EvidenceLemmas.{with_found, with_none, step_three, step_four, step_none}
 use Rattle.s2_judge.proofs.steps.decide_by_min_sum.Goals as goal
 
 pub certify_decoded-requires-clause-codeword : goal.certify_decoded-requires-clause-codeword

@@ -4,7 +4,7 @@ use Rattle.s2_minsum.specs.Plain.{decision}
 use Rattle.s2_minsum.specs.Decoding.{decoded}
 use Rattle.s2_judge.specs.Deciding.{satisfies, decoded_bits}
 use Rattle.s2_judge.proofs.Decisions.{first_from, first_now, first_later, length-decoded}
-use Rattle.s2_judge.proofs.Grounds.{soft_within, round_step, bits_step}
+use Rattle.s2_judge.proofs.EvidenceLemmas.{soft_within, round_step, bits_step}
 use Rattle.s2_judge.proofs.steps.decode.Goals as goal
 
 pub load-requires-clause-small : goal.load-requires-clause-small

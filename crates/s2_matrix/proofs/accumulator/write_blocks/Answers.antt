@@ -2,7 +2,7 @@ use Rattle.std.proofs.Common.{◌≡◌, ◌+◌, ◌-◌, ◌*◌, ◌<◌, ◌
 use Rattle.std.proofs.Math.Nat.{mul-le-mul_right}
 use Rattle.std.proofs.lemmas.Bool.{cases_lt, cases_eq}
 use Rattle.s2_bits.specs.Bits.{bit_at}
-use Rattle.s2_matrix.specs.Turning.{carry_at, accumulated}
+use Rattle.s2_matrix.specs.Transpose.{carry_at, accumulated}
 use Rattle.s2_matrix.proofs.Blocks.{carry_next, by_lanes}
 use Rattle.s2_matrix.proofs.accumulator.write_blocks.Goals as goal
 

@@ -1,6 +1,6 @@
 use Rattle.std.proofs.Common.{◌≡◌, ℕ, ◌+◌, ◌*◌, ◌<◌, length}
 use Rattle.s2_bits.specs.Bits.{bit_at}
-use Rattle.s2_matrix.specs.Turning.{accumulated}
+use Rattle.s2_matrix.specs.Transpose.{accumulated}
 use Rattle.s2_matrix.proofs.accumulator.write_blocks.Given as goal
 
 abbrev pub invariant-loop-block : goal.invariant-loop-block

@@ -1,7 +1,7 @@
 use Rattle.std.proofs.Common.{◌≡◌, ℕ, ◌+◌, ◌-◌, ◌*◌, ◌<◌, inl, inr, refl, sym, ap, ◌∙◌, arith}
 use Rattle.std.proofs.lemmas.Bool.{cases_lt}
 use Rattle.s2_bits.specs.Bits.{xor, bit_at}
-use Rattle.s2_matrix.specs.Turning.{accumulated}
+use Rattle.s2_matrix.specs.Transpose.{accumulated}
 use Rattle.s2_matrix.proofs.Blocks.{accumulated_at, carry_next}
 use Rattle.s2_matrix.proofs.accumulator.write_lanes.Goals as goal
 

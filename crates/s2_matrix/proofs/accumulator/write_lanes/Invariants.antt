@@ -1,6 +1,6 @@
 use Rattle.std.proofs.Common.{◌≡◌, ℕ, ◌*◌, ◌<◌, length}
 use Rattle.s2_bits.specs.Bits.{bit_at}
-use Rattle.s2_matrix.specs.Turning.{carry_at, accumulated}
+use Rattle.s2_matrix.specs.Transpose.{carry_at, accumulated}
 use Rattle.s2_matrix.proofs.accumulator.write_lanes.Given as goal
 
 abbrev pub invariant-loop-lane : goal.invariant-loop-lane

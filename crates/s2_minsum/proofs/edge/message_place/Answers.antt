@@ -28,7 +28,7 @@ overflow_add-result c =
     let s_is = c.shape-shape.ensures.is in
     let q = ap (λ (x : Shape). x.q) s_is in
     let place = same_place rows c.args.check i c.shape-shape.result c.q.result c.q-2.result c.q-3.result c.group.result c.members.result c.back_to.result c.place_among-place.result c.members_at-last.result.now s_is c.q.ensures.is c.q-2.ensures.is c.q-3.ensures.is c.group.ensures.is c.members_at-last.ensures.are c.back_to.ensures c.members.ensures.is c.place_among-place.ensures in
-    let start = c.first-start.ensures.is ∙ ap (λ (x : Rows). first_row x (c.args.check % c.q.result)) c.requires.layers ∙ ap (λ x. first_row rows (c.args.check % x)) (c.q.ensures.is ∙ q) in
+    let start = c.start-start.ensures.is ∙ ap (λ (x : Rows). first_row x (c.args.check % c.q.result)) c.requires.layers ∙ ap (λ x. first_row rows (c.args.check % x)) (c.q.ensures.is ∙ q) in
     let low = place_low rows c.args.check c.args.at shaped c.requires.check c.requires.at in
     let within = place_within rows c.args.check (place_at rows c.args.check i) shaped c.requires.check low in
     let few = rows_few rows shaped in
@@ -45,12 +45,12 @@ overflow_mul-result c =
     let s_is = c.shape-shape.ensures.is in
     let q = ap (λ (x : Shape). x.q) s_is in
     let place = same_place rows c.args.check i c.shape-shape.result c.q.result c.q-2.result c.q-3.result c.group.result c.members.result c.back_to.result c.place_among-place.result c.members_at-last.result.now s_is c.q.ensures.is c.q-2.ensures.is c.q-3.ensures.is c.group.ensures.is c.members_at-last.ensures.are c.back_to.ensures c.members.ensures.is c.place_among-place.ensures in
-    let start = c.first-start.ensures.is ∙ ap (λ (x : Rows). first_row x (c.args.check % c.q.result)) c.requires.layers ∙ ap (λ x. first_row rows (c.args.check % x)) (c.q.ensures.is ∙ q) in
+    let start = c.start-start.ensures.is ∙ ap (λ (x : Rows). first_row x (c.args.check % c.q.result)) c.requires.layers ∙ ap (λ x. first_row rows (c.args.check % x)) (c.q.ensures.is ∙ q) in
     let low = place_low rows c.args.check c.args.at shaped c.requires.check c.requires.at in
     let within = place_within rows c.args.check (place_at rows c.args.check i) shaped c.requires.check low in
     let few = rows_few rows shaped in
     let few' : first_row rows rows.shape.q * rows.shape.group ≤ 4199040000 * rows.shape.group = mul-le-mul_right rows.shape.group few in
-    let product : (c.first-start.result + c.place_among-place.result) * c.group-2.result ≡ (first_row rows (c.args.check % rows.shape.q) + place_at rows c.args.check i) * rows.shape.group = λ x. (start x + place x) * (c.group-2.ensures.is ∙ ap (λ (y : Shape). y.group) s_is) x in
+    let product : (c.start-start.result + c.place_among-place.result) * c.group-2.result ≡ (first_row rows (c.args.check % rows.shape.q) + place_at rows c.args.check i) * rows.shape.group = λ x. (start x + place x) * (c.group-2.ensures.is ∙ ap (λ (y : Shape). y.group) s_is) x in
     record { fits = omega (arith, product, within, few', shaped.group_most) }
 
 pub overflow_add-result-2 : goal.overflow_add-result-2
@@ -61,12 +61,12 @@ overflow_add-result-2 c =
     let s_is = c.shape-shape.ensures.is in
     let q = ap (λ (x : Shape). x.q) s_is in
     let place = same_place rows c.args.check i c.shape-shape.result c.q.result c.q-2.result c.q-3.result c.group.result c.members.result c.back_to.result c.place_among-place.result c.members_at-last.result.now s_is c.q.ensures.is c.q-2.ensures.is c.q-3.ensures.is c.group.ensures.is c.members_at-last.ensures.are c.back_to.ensures c.members.ensures.is c.place_among-place.ensures in
-    let start = c.first-start.ensures.is ∙ ap (λ (x : Rows). first_row x (c.args.check % c.q.result)) c.requires.layers ∙ ap (λ x. first_row rows (c.args.check % x)) (c.q.ensures.is ∙ q) in
+    let start = c.start-start.ensures.is ∙ ap (λ (x : Rows). first_row x (c.args.check % c.q.result)) c.requires.layers ∙ ap (λ x. first_row rows (c.args.check % x)) (c.q.ensures.is ∙ q) in
     let low = place_low rows c.args.check c.args.at shaped c.requires.check c.requires.at in
     let within = place_within rows c.args.check (place_at rows c.args.check i) shaped c.requires.check low in
     let few = rows_few rows shaped in
     let few' : first_row rows rows.shape.q * rows.shape.group ≤ 4199040000 * rows.shape.group = mul-le-mul_right rows.shape.group few in
-    let product : (c.first-start.result + c.place_among-place.result) * c.group-2.result ≡ (first_row rows (c.args.check % rows.shape.q) + place_at rows c.args.check i) * rows.shape.group = λ x. (start x + place x) * (c.group-2.ensures.is ∙ ap (λ (y : Shape). y.group) s_is) x in
+    let product : (c.start-start.result + c.place_among-place.result) * c.group-2.result ≡ (first_row rows (c.args.check % rows.shape.q) + place_at rows c.args.check i) * rows.shape.group = λ x. (start x + place x) * (c.group-2.ensures.is ∙ ap (λ (y : Shape). y.group) s_is) x in
     let lane : c.args.check / c.q-2.result ≡ c.args.check / rows.shape.q = ap (λ x. c.args.check / x) (c.q-2.ensures.is ∙ q) in
     record { fits = omega (arith, product, lane, within, few', shaped.group_most) }
 
@@ -77,7 +77,7 @@ returns-clause-is c =
     let s_is = c.shape-shape.ensures.is in
     let q = ap (λ (x : Shape). x.q) s_is in
     let place = same_place rows c.args.check i c.shape-shape.result c.q.result c.q-2.result c.q-3.result c.group.result c.members.result c.back_to.result c.place_among-place.result c.members_at-last.result.now s_is c.q.ensures.is c.q-2.ensures.is c.q-3.ensures.is c.group.ensures.is c.members_at-last.ensures.are c.back_to.ensures c.members.ensures.is c.place_among-place.ensures in
-    let start = c.first-start.ensures.is ∙ ap (λ (x : Rows). first_row x (c.args.check % c.q.result)) c.requires.layers ∙ ap (λ x. first_row rows (c.args.check % x)) (c.q.ensures.is ∙ q) in
+    let start = c.start-start.ensures.is ∙ ap (λ (x : Rows). first_row x (c.args.check % c.q.result)) c.requires.layers ∙ ap (λ x. first_row rows (c.args.check % x)) (c.q.ensures.is ∙ q) in
     λ x. (start x + place x) * (c.group-2.ensures.is ∙ ap (λ (y : Shape). y.group) s_is) x + c.args.check / (c.q-2.ensures.is ∙ q) x
 
 pub returns-clause-within : goal.returns-clause-within

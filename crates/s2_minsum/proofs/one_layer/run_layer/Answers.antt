@@ -2,7 +2,7 @@ use Rattle.std.proofs.Common.{◌≡◌, ◌*◌, ◌≤◌, List, length, ap, s
 use Rattle.std.proofs.Math.Nat.{mul-le-mul_right}
 use Rattle.s2_mode.specs.Shape.{Shape}
 use Rattle.s2_rows.specs.Rows.{Rows}
-use Rattle.s2_minsum.specs.declared.rows.Entry.{Entry}
+use Rattle.s2_minsum.specs.declared.kernels.Circulant.{Circulant}
 use Rattle.s2_minsum.specs.Layout.{entries_of, entry_count, first_row, lacked_row}
 use Rattle.s2_minsum.specs.Decoding.{AreFit}
 use Rattle.s2_minsum.proofs.FirstRows.{lanes_before}
@@ -17,10 +17,10 @@ overflow_add-at c =
     let all = first_row rows rows.shape.q in
     let g = c.group-n.ensures.is ∙ ap (λ (s : Shape). s.group) c.shape-shape.ensures.is in
     let fit = subst AreFit c.requires.layers c.entries-entries.ensures.fit in
-    let start = c.first.ensures.is ∙ ap (λ (x : Rows). first_row x c.args.r) c.requires.layers in
+    let start = c.start.ensures.is ∙ ap (λ (x : Rows). first_row x c.args.r) c.requires.layers in
     let es_is = c.entries-entries.ensures.are ∙ ap (λ (x : Rows). entries_of x c.args.r) c.requires.layers in
-    let count = ap (λ (es : List Entry). length es) es_is ∙ length-entries rows c.args.r in
-    let lanes = lanes_before rows c.args.r n c.first.result (length c.entries-entries.result.now) c.requires.layer start count in
+    let count = ap (λ (es : List Circulant). length es) es_is ∙ length-entries rows c.args.r in
+    let lanes = lanes_before rows c.args.r n c.start.result (length c.entries-entries.result.now) c.requires.layer start count in
     let few : all * n ≤ 4199040000 * n = mul-le-mul_right n (rows_few rows fit.shaped) in
     record { fits = omega (arith, lanes, few, g, fit.shaped.group_most) }
 
@@ -30,10 +30,10 @@ slice_bounds-run-end c =
     let n = c.group-n.result in
     let all = first_row rows rows.shape.q in
     let g = c.group-n.ensures.is ∙ ap (λ (s : Shape). s.group) c.shape-shape.ensures.is in
-    let start = c.first.ensures.is ∙ ap (λ (x : Rows). first_row x c.args.r) c.requires.layers in
+    let start = c.start.ensures.is ∙ ap (λ (x : Rows). first_row x c.args.r) c.requires.layers in
     let es_is = c.entries-entries.ensures.are ∙ ap (λ (x : Rows). entries_of x c.args.r) c.requires.layers in
-    let count = ap (λ (es : List Entry). length es) es_is ∙ length-entries rows c.args.r in
-    let lanes = lanes_before rows c.args.r n c.first.result (length c.entries-entries.result.now) c.requires.layer start count in
+    let count = ap (λ (es : List Circulant). length es) es_is ∙ length-entries rows c.args.r in
+    let lanes = lanes_before rows c.args.r n c.start.result (length c.entries-entries.result.now) c.requires.layer start count in
     let product : all * n ≡ all * rows.shape.group = ap (λ x. all * x) g in
     omega (arith, lanes, product, c.requires.numbers.messages_long)
 
@@ -42,7 +42,7 @@ run-requires-clause-room c =
     let rows = c.args.matrix.now in
     let g = c.group-n.ensures.is ∙ ap (λ (s : Shape). s.group) c.shape-shape.ensures.is in
     let es_is = c.entries-entries.ensures.are ∙ ap (λ (x : Rows). entries_of x c.args.r) c.requires.layers in
-    let count = ap (λ (es : List Entry). length es) es_is ∙ length-entries rows c.args.r in
+    let count = ap (λ (es : List Circulant). length es) es_is ∙ length-entries rows c.args.r in
     let product : length c.entries-entries.result.now * c.group-n.result ≡ entry_count rows c.args.r * rows.shape.group = λ i. count i * g i in
     omega (arith, product, c.requires.room c.args.r c.requires.layer)
 
@@ -60,11 +60,11 @@ returns-clause-numbers c =
     let g = c.group-n.ensures.is ∙ ap (λ (s : Shape). s.group) c.shape-shape.ensures.is in
     let fit = subst AreFit c.requires.layers c.entries-entries.ensures.fit in
     let es_is = c.entries-entries.ensures.are ∙ ap (λ (x : Rows). entries_of x c.args.r) c.requires.layers in
-    let start = c.first.ensures.is ∙ ap (λ (x : Rows). first_row x c.args.r) c.requires.layers in
-    let count = ap (λ (es : List Entry). length es) es_is ∙ length-entries rows c.args.r in
+    let start = c.start.ensures.is ∙ ap (λ (x : Rows). first_row x c.args.r) c.requires.layers in
+    let count = ap (λ (es : List Circulant). length es) es_is ∙ length-entries rows c.args.r in
     let last = c.last_row-last.ensures ∙ ap (λ (s : Shape). lacked_row s c.args.r) c.shape-shape.ensures.is in
     (gives rows c.args.factor c.args.soft.now c.args.messages.now c.args.posteriors.now fit c.requires.numbers c.args.r c.requires.layer c.run.new.messages c.run.new.posteriors
-    c.entries-entries.result.now c.group-n.result c.first.result (length c.entries-entries.result.now) c.last_row-last.result (sym es_is) (sym g) (sym start) (sym count) (sym last)
+    c.entries-entries.result.now c.group-n.result c.start.result (length c.entries-entries.result.now) c.last_row-last.result (sym es_is) (sym g) (sym start) (sym count) (sym last)
     (record {
       long = c.run.auto.messages;
       posteriors_long = c.run.auto.posteriors;
@@ -80,11 +80,11 @@ returns-clause-state c =
     let g = c.group-n.ensures.is ∙ ap (λ (s : Shape). s.group) c.shape-shape.ensures.is in
     let fit = subst AreFit c.requires.layers c.entries-entries.ensures.fit in
     let es_is = c.entries-entries.ensures.are ∙ ap (λ (x : Rows). entries_of x c.args.r) c.requires.layers in
-    let start = c.first.ensures.is ∙ ap (λ (x : Rows). first_row x c.args.r) c.requires.layers in
-    let count = ap (λ (es : List Entry). length es) es_is ∙ length-entries rows c.args.r in
+    let start = c.start.ensures.is ∙ ap (λ (x : Rows). first_row x c.args.r) c.requires.layers in
+    let count = ap (λ (es : List Circulant). length es) es_is ∙ length-entries rows c.args.r in
     let last = c.last_row-last.ensures ∙ ap (λ (s : Shape). lacked_row s c.args.r) c.shape-shape.ensures.is in
     (gives rows c.args.factor c.args.soft.now c.args.messages.now c.args.posteriors.now fit c.requires.numbers c.args.r c.requires.layer c.run.new.messages c.run.new.posteriors
-    c.entries-entries.result.now c.group-n.result c.first.result (length c.entries-entries.result.now) c.last_row-last.result (sym es_is) (sym g) (sym start) (sym count) (sym last)
+    c.entries-entries.result.now c.group-n.result c.start.result (length c.entries-entries.result.now) c.last_row-last.result (sym es_is) (sym g) (sym start) (sym count) (sym last)
     (record {
       long = c.run.auto.messages;
       posteriors_long = c.run.auto.posteriors;

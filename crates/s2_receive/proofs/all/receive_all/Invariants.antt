@@ -2,12 +2,12 @@ use Rattle.s2_receive.proofs.Names.{◌≡◌, ◌+◌, ◌-◌, max_symbols, st
 use Rattle.s2_receive.proofs.RunLemmas.{Came}
 use Rattle.s2_receive.proofs.all.receive_all.Given as goal
 
--- what was met so far, and no more, is written, and whether all of it was well; no call failed
+-- what was met so far, and no more, is written, and whether all of it is certified; no call failed
 abbrev pub invariant-steps : goal.invariant-steps
 invariant-steps g l =
     let ends = streams_by g.R.CountedRead.remaining g.R.Counted.count g.P.CountedWrite.contents g.P.Counted.count g.W.CountedWrite.contents g.W.Counted.count in
     record {
-      came : Came (rules_of g.D.Decide.decide l.fn.receiver) l.fn.receiver.state l.receiver.state (ends l.fn.reader l.fn.packets l.fn.report) (ends l.reader l.packets l.report) l.well;
+      came : Came (rules_of g.D.Decide.decide l.fn.receiver) l.fn.receiver.state l.receiver.state (ends l.fn.reader l.fn.packets l.fn.report) (ends l.reader l.packets l.report) l.all_certified;
       same : IsSame g.D.Decide.decide l.fn.receiver l.receiver;
       live : IsLive l.receiver.state.phase;
       counts :

@@ -6,7 +6,7 @@ use Rattle.s2_receive.proofs.scanning.look_through.Given as goal
 abbrev pub invariant-look : goal.invariant-look
 invariant-look l =
     Saw l.search (drop l.start (take l.at l.symbols))
-    × Looked (found_as l.fn.search.mode l.lock) l.symbols l.from l.inside l.fn.behind l.fn.over l.start l.at l.behind l.over
+    × Looked (found_as l.fn.search.mode l.max_header_errors) l.symbols l.from l.inside l.fn.behind l.fn.skipped l.start l.at l.behind l.skipped
     × (l.search.mode ≡ l.fn.search.mode)
 
 abbrev pub decreases-look : goal.decreases-look

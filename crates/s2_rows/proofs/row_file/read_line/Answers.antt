@@ -5,8 +5,8 @@ use Rattle.s2_rows.proofs.Afters.{map_push}
 use Rattle.s2_rows.proofs.RowLines.{passes_over, too_many_rows, adds_row, refuses_row}
 use Rattle.s2_rows.proofs.row_file.read_line.Goals as goal
 
-pub returns-then-is_passed_over-clause-read : goal.returns-then-is_passed_over-clause-read
-returns-then-is_passed_over-clause-read g c = λ lines. ap (after _) (passes_over _ _ _ _ lines (search rules))
+pub returns-then-is_ignored-clause-read : goal.returns-then-is_ignored-clause-read
+returns-then-is_ignored-clause-read g c = λ lines. ap (after _) (passes_over _ _ _ _ lines (search rules))
 
 pub returns-then-len-groups-clause-read : goal.returns-then-len-groups-clause-read
 returns-then-len-groups-clause-read g c = λ lines. ap (after _) (too_many_rows _ _ _ _ lines (search rules) (omega arith))

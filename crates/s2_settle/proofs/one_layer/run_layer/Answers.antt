@@ -3,7 +3,7 @@ use Rattle.std.proofs.Math.Nat.{mul-le-mul_right}
 use Rattle.std.proofs.lemmas.List.{length-take-le, length-drop}
 use Rattle.s2_mode.specs.Shape.{Shape}
 use Rattle.s2_rows.specs.Rows.{Rows}
-use Rattle.s2_minsum.specs.declared.rows.Entry.{Entry}
+use Rattle.s2_minsum.specs.declared.kernels.Circulant.{Circulant}
 use Rattle.s2_minsum.specs.Layout.{entries_of, entry_count, lacked_row}
 use Rattle.s2_minsum.specs.Decoding.{AreFit}
 use Rattle.s2_minsum.proofs.FirstRows.{few_entries}
@@ -24,14 +24,14 @@ run-requires-clause-many c =
     let rows = c.args.matrix.now in
     let fit = subst AreFit c.requires.layers c.entries-entries.ensures.fit in
     let es_is = c.entries-entries.ensures.are ∙ ap (λ (x : Rows). entries_of x c.args.r) c.requires.layers in
-    omega (arith, ap (λ (es : List Entry). length es) es_is, length-entries rows c.args.r, few_entries rows fit.shaped c.args.r)
+    omega (arith, ap (λ (es : List Circulant). length es) es_is, length-entries rows c.args.r, few_entries rows fit.shaped c.args.r)
 
 pub run-requires-clause-room : goal.run-requires-clause-room
 run-requires-clause-room c =
     let rows = c.args.matrix.now in
     let g = c.group-n.ensures.is ∙ ap (λ (s : Shape). s.group) c.shape-shape.ensures.is in
     let es_is = c.entries-entries.ensures.are ∙ ap (λ (x : Rows). entries_of x c.args.r) c.requires.layers in
-    let count = ap (λ (es : List Entry). length es) es_is ∙ length-entries rows c.args.r in
+    let count = ap (λ (es : List Circulant). length es) es_is ∙ length-entries rows c.args.r in
     let product : (length c.entries-entries.result.now + 3) * c.group-n.result ≡ (entry_count rows c.args.r + 3) * rows.shape.group = λ i. (count i + 3) * g i in
     omega (arith, product, c.requires.room c.args.r c.requires.layer)
 

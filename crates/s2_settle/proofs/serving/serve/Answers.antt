@@ -1,14 +1,14 @@
 use Rattle.std.proofs.Common.{◌≡◌, ℕ, ◌+◌, ◌*◌, ◌/◌, ◌%◌, ◌<◌, ◌≤◌, List, length, get_or, set, ap, sym, subst, ◌∙◌, arith}
 use Rattle.s2_mode.specs.Shape.{Shape}
 use Rattle.s2_rows.specs.Rows.{Rows}
-use Rattle.s2_minsum.specs.declared.rows.Entry.{Entry}
+use Rattle.s2_minsum.specs.declared.kernels.Circulant.{Circulant}
 use Rattle.s2_minsum.specs.Layout.{entries_of, lacked_row}
 use Rattle.s2_minsum.specs.Decoding.{AreFit}
 use Rattle.s2_minsum.proofs.FirstRows.{few_entries}
 use Rattle.s2_minsum.proofs.LayerCalls.{are_in, length-entries}
 use Rattle.s2_settle.specs.declared.serving.Moved.{Moved}
 use Rattle.s2_settle.specs.Rests.{gap, received_by}
-use Rattle.s2_settle.specs.Nodes.{first_of, second_of, least_at}
+use Rattle.s2_settle.specs.Nodes.{min1_of, min2_of, least_at}
 use Rattle.s2_settle.specs.Layer.{held, of_layer, new_target, new_amount}
 use Rattle.s2_settle.specs.Placing.{shown, place_of_check}
 use Rattle.s2_settle.specs.Serving.{by_member, IsShifted}
@@ -33,7 +33,7 @@ choose-now-requires-clause-many c =
     let fit = subst AreFit c.requires.layers c.entries.ensures.fit in
     let r = c.args.check % c.q.result in
     let es_is = c.entries.ensures.are ∙ ap (λ (x : Rows). entries_of x r) c.requires.layers in
-    omega (arith, ap (λ (es : List Entry). length es) es_is, length-entries rows r, few_entries rows fit.shaped r)
+    omega (arith, ap (λ (es : List Circulant). length es) es_is, length-entries rows r, few_entries rows fit.shaped r)
 
 pub bounds-targets-at-2 : goal.bounds-targets-at-2
 bounds-targets-at-2 c =
@@ -78,7 +78,7 @@ returns-clause-is c =
     let es_is : c.entries.result.now ≡ entries_of rows r = c.entries.ensures.are ∙ (λ i. entries_of (c.requires.layers i) (j % q i)) in
     let last = c.last_row.ensures ∙ (λ i. lacked_row (c.shape-shape.ensures.is i) (j % q i)) in
     let target : c.choose-now.result.target ≡ new_target rows r h lane = c.choose-now.ensures.target ∙ (λ i. least_at (received_by (n i) (es_is i) (last i) rests (t_is i) (a_is i) (j / q' i)) (length (es_is i))) in
-    let amount : c.choose-now.result.amount ≡ new_amount rows 0 r h lane = c.choose-now.ensures.amount ∙ (λ i. gap 0 (first_of (received_by (n i) (es_is i) (last i) rests (t_is i) (a_is i) (j / q' i)) (length (es_is i))) (second_of (received_by (n i) (es_is i) (last i) rests (t_is i) (a_is i) (j / q' i)) (length (es_is i)))) in
+    let amount : c.choose-now.result.amount ≡ new_amount rows 0 r h lane = c.choose-now.ensures.amount ∙ (λ i. gap 0 (min1_of (received_by (n i) (es_is i) (last i) rests (t_is i) (a_is i) (j / q' i)) (length (es_is i))) (min2_of (received_by (n i) (es_is i) (last i) rests (t_is i) (a_is i) (j / q' i)) (length (es_is i)))) in
     let before_target = c.by_member.ensures.target ∙ (λ i. shown rows (j % q i) (j / q' i) (t_at i)) in
     let before_amount = c.by_member.ensures.amount ∙ a_at in
     let now_target = c.by_member-2.ensures.target ∙ (λ i. shown rows (j % q i) (j / q' i) (target i)) in

@@ -23,7 +23,7 @@ returns-clause-counted c =
     let low : bit < length rests = omega (arith, c.requires.bit, c.requires.rests) in
     elim c.if-rests-bit.branch [
       | then-rests-bit w ↦ (
-          let turned = w.turn.ensures.counted (set rests bit v) (set_turned rests bit v) (ap (λ u. int_lt u (pos 0)) (get_or-set_same rests bit v (pos 0) low)) in
+          let turned = w.change_sign.ensures.counted (set rests bit v) (set_turned rests bit v) (ap (λ u. int_lt u (pos 0)) (get_or-set_same rests bit v (pos 0) low)) in
           subst (AreCounted code (set rests bit v)) (sym w.negatives-is) turned
           )
       | else-rests-bit w ↦ (

@@ -11,4 +11,4 @@ returns-clause-line g c =
     let words = g.E.CountedWrite.contents c.write_code.new.out in
     let d = g.E.CountedWrite.contents c.write_full-2.new.writer in
     let first = subst (λ (xs : List ℕ). Appends a b xs) c.as_bytes.ensures.value c.in_ok-write_full.ensures.bytes in
-    note_written c.write_full-2.result a b words d c.args.front.now (mode_words c.args.mode.now) c.args.behind.now first c.in_ok-write_code.ensures.words c.write_full-2.ensures.bytes
+    note_written c.write_full-2.result a b words d c.args.front.now (mode_words c.args.mode.now) c.args.ending.now first c.in_ok-write_code.ensures.words c.write_full-2.ensures.bytes

@@ -13,7 +13,7 @@ use Rattle.s2_judge.specs.Judging.{Judging}
 use Rattle.s2_judge.proofs.DecidingLemmas.{clean_lem, likely_lem, sole_lem, certified_lem, broken_lem}
 use Rattle.s2_judge.proofs.Scattering.{scattered_lem}
 use Rattle.s2_judge.proofs.Decisions.{certified_by}
-use Rattle.s2_judge.proofs.Grounds.{as_shown}
+use Rattle.s2_judge.proofs.EvidenceLemmas.{as_shown}
 use Rattle.s2_judge.proofs.judge.Judge.decide.Goals as goal
 
 pub returns : goal.returns
@@ -22,7 +22,7 @@ returns c =
     let n = c.args.self.now.tuning in
     let soft = c.args.self.now.soft in
     let inside = c.self.inside in
-    let decide = c.decide-self-inside in
+    let decide = c.decide_by_steps-self-inside in
     let was = inside.certifier in
     let now = decide.new.certifier in
     let rows = ap (λ (v : Judging). v.rows) c.self.view_is in

@@ -10,18 +10,18 @@ pub invariant_of-self : goal.invariant_of-self
 invariant_of-self c =
     let d = c.self.inside in
     let rows = d.matrix.now in
-    let ys = c.put_posteriors.new.posteriors in
+    let ys = c.init_posteriors.new.posteriors in
     let soft = c.copy_from_slice.new.self.items in
     let copied = c.copy_from_slice.ensures.items in
     let filled = c.fill.ensures.items (λ y same. same) in
     let none = λ (k : ℕ). ap (λ xs. get_or xs k 0) filled ∙ zeros (vec_len d.messages) k in
-    let same = rewritten d.posteriors.len ys d.posteriors.items (omega (arith, c.put_posteriors.auto.posteriors, c.deref_mut.ensures.value)) in
+    let same = rewritten d.posteriors.len ys d.posteriors.items (omega (arith, c.init_posteriors.auto.posteriors, c.deref_mut.ensures.value)) in
     rw same
     (record {
       layers = c.self.invariant.layers;
       fit = c.self.invariant.fit;
-      numbers = started rows soft c.fill.new.self.items ys (omega (arith, c.self.invariant.numbers.soft_long)) (subst (AreWithin max_soft) (sym copied) c.requires.small) none (omega (arith, c.self.invariant.numbers.messages_long)) (omega (arith, c.self.invariant.numbers.posteriors_long)) c.put_posteriors.ensures.fits
-          (λ row lane high low. c.put_posteriors.ensures.are row lane high low ∙ ap (λ xs. get_or xs (bit_of rows.shape row lane) (pos 0)) c.deref.ensures.value);
+      numbers = started rows soft c.fill.new.self.items ys (omega (arith, c.self.invariant.numbers.soft_long)) (subst (AreWithin max_soft) (sym copied) c.requires.small) none (omega (arith, c.self.invariant.numbers.messages_long)) (omega (arith, c.self.invariant.numbers.posteriors_long)) c.init_posteriors.ensures.fits
+          (λ row lane high low. c.init_posteriors.ensures.are row lane high low ∙ ap (λ xs. get_or xs (bit_of rows.shape row lane) (pos 0)) c.deref.ensures.value);
       room = c.self.invariant.room;
     })
 

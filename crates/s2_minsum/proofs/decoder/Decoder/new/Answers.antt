@@ -12,7 +12,7 @@ use Rattle.s2_minsum.proofs.decoder.Decoder.new.Goals as goal
 pub overflow_mul-rows : goal.overflow_mul-rows
 overflow_mul-rows c =
     let g = c.group-group.ensures.valid.group_most in
-    let one : c.first-rows.result * c.group-group.result ≤ 4199040000 * c.group-group.result = mul-le-mul_right c.group-group.result (omega (arith, c.first-rows.ensures.few)) in
+    let one : c.start-rows.result * c.group-group.result ≤ 4199040000 * c.group-group.result = mul-le-mul_right c.group-group.result (omega (arith, c.start-rows.ensures.few)) in
     record { fits = omega (arith, one, g, c.group-group.ensures.is) }
 
 pub invariant_of-result : goal.invariant_of-result
@@ -24,9 +24,9 @@ invariant_of-result c =
     let posteriors = c.in_ok-posteriors.ensures.items_if_clones_equal (λ y same. same) in
     let g = c.group-group.ensures.is ∙ ap (λ (s : Shape). s.group) c.shape.ensures.is in
     let q = c.q.ensures.is ∙ ap (λ (s : Shape). s.q) c.shape-2.ensures.is in
-    let rows_are : c.first-rows.result ≡ first_row rows rows.shape.q = c.first-rows.ensures.is ∙ (λ i. first_row (layers i) (q i)) in
-    let product : c.first-rows.result * c.group-group.result ≡ first_row rows rows.shape.q * rows.shape.group = λ i. rows_are i * g i in
-    let none = λ (k : ℕ). ap (λ xs. get_or xs k 0) messages ∙ zeros (c.first-rows.result * c.group-group.result) k in
+    let rows_are : c.start-rows.result ≡ first_row rows rows.shape.q = c.start-rows.ensures.is ∙ (λ i. first_row (layers i) (q i)) in
+    let product : c.start-rows.result * c.group-group.result ≡ first_row rows rows.shape.q * rows.shape.group = λ i. rows_are i * g i in
+    let none = λ (k : ℕ). ap (λ xs. get_or xs k 0) messages ∙ zeros (c.start-rows.result * c.group-group.result) k in
     let none' = λ (k : ℕ). ap (λ xs. get_or xs k 0) posteriors ∙ zeros c.bits-2.result k in
     let none'' = λ (k : ℕ). ap (λ xs. get_or xs k (pos 0)) soft ∙ zeros_ℤ c.bits.result k in
     record {
@@ -48,5 +48,5 @@ returns-clause-state c =
     let rows = c.args.matrix.now in
     let soft = c.in_ok-soft.ensures.items_if_clones_equal (λ y same. same) in
     let messages = c.in_ok-messages.ensures.items_if_clones_equal (λ y same. same) in
-    let none = λ (k : ℕ). ap (λ xs. get_or xs k 0) messages ∙ zeros (c.first-rows.result * c.group-group.result) k in
+    let none = λ (k : ℕ). ap (λ xs. get_or xs k 0) messages ∙ zeros (c.start-rows.result * c.group-group.result) k in
     start_is rows c.in_ok-soft.soft.items c.in_ok-messages.messages.items none ∙ ap start (soft ∙ ap (λ n. replicate n (pos 0)) c.bits.ensures.is)

@@ -3,7 +3,7 @@ use Rattle.std.proofs.lemmas.List.FromFn.{fill_by_all}
 use Rattle.s2_mode.specs.Symbols.{symbol, symbol_at}
 use Rattle.s2_mode.specs.Mode.{slots_of, symbols_in}
 use Rattle.s2_scramble.specs.Gold.{quarter_turns}
-use Rattle.s2_scramble.specs.Turns.{turned_back}
+use Rattle.s2_scramble.specs.Rotations.{rotated_back}
 use Rattle.s2_scramble.proofs.Pieces.{get_or-mid_of}
 use Rattle.s2_plframe.specs.Payload.{slot_place, received_symbol, received_payload}
 use Rattle.s2_plframe.specs.Inside.{place_behind}
@@ -27,7 +27,7 @@ returns-clause-is c =
     let within : 90 + slot_place m s < symbols_in m = place_within m m.pilots s valid (λ r. m.pilots) lt in
     let inside : slot_place m s < n = omega arith in
     c.read_slots.ensures s (omega arith)
-    ∙ (λ t. turned_back (quarter_turns gold (place t)) (((λ r. symbol_at (mid_of 90 n frame) (place r)) ∙ get_or-mid_of none 90 n frame (slot_place m s) inside) t)))
+    ∙ (λ t. rotated_back (quarter_turns gold (place t)) (((λ r. symbol_at (mid_of 90 n frame) (place r)) ∙ get_or-mid_of none 90 n frame (slot_place m s) inside) t)))
 
 pub returns-clause-undoes : goal.returns-clause-undoes
 returns-clause-undoes c = λ sent long can framed.

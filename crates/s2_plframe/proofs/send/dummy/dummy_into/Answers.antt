@@ -5,7 +5,7 @@ use Rattle.std.proofs.lemmas.List.FromFn.{fill_by_all}
 use Rattle.s2_mode.specs.declared.symbols.Symbol.{Symbol}
 use Rattle.s2_mode.specs.Symbols.{symbol, symbol_at}
 use Rattle.s2_scramble.specs.Gold.{quarter_turns}
-use Rattle.s2_scramble.specs.Turns.{turned}
+use Rattle.s2_scramble.specs.Rotations.{rotated}
 use Rattle.s2_plframe.specs.Header.{header_symbol, dummy_mode}
 use Rattle.s2_plframe.specs.Dummy.{carrier, dummy_symbol, dummy_frame}
 use Rattle.s2_plframe.proofs.send.dummy.dummy_into.Goals as goal
@@ -13,7 +13,7 @@ use Rattle.s2_plframe.proofs.send.dummy.dummy_into.Goals as goal
 -- a header and the slots behind it
 joined_dummy : (number : ℕ) (header slots : List Symbol) → length header ≡ 90
     → ((i : ℕ) → i < 90 → symbol_at header i ≡ header_symbol (dummy_mode false false) i)
-    → ((u : ℕ) → u < 3240 → symbol_at slots u ≡ turned (quarter_turns number u) carrier)
+    → ((u : ℕ) → u < 3240 → symbol_at slots u ≡ rotated (quarter_turns number u) carrier)
     → (i : ℕ) → i < 3330 → symbol_at (header ++ slots) i ≡ dummy_symbol number i
 joined_dummy number header slots long front back i lt =
     let none = symbol (pos 0) (pos 0) in

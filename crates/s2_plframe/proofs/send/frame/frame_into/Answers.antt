@@ -4,7 +4,7 @@ use Rattle.std.proofs.lemmas.List.FromFn.{fill_by_all}
 use Rattle.s2_mode.specs.Symbols.{symbol, symbol_at}
 use Rattle.s2_mode.specs.Mode.{symbols_in, slots_of, pilot_blocks_of}
 use Rattle.s2_scramble.specs.Gold.{quarter_turns}
-use Rattle.s2_scramble.specs.Turns.{turned}
+use Rattle.s2_scramble.specs.Rotations.{rotated}
 use Rattle.s2_plframe.specs.Header.{header_symbol}
 use Rattle.s2_plframe.specs.Frame.{frame_symbol}
 use Rattle.s2_plframe.proofs.Blocks.{joined_frame}
@@ -25,5 +25,5 @@ returns c =
     fill_by_all (frame_symbol m gold payload) _ (symbols_in m) (symbol (pos 0) (pos 0)) (length-append header slots ∙ omega arith)
     (joined_frame m gold payload header slots c.pilot_blocks-blocks.ensures.valid front (λ i lt. c.write_header.ensures i lt ∙ ap (λ n. header_symbol n i) c.pls_code.ensures)
     (λ u lt. c.write_slots.ensures.blocks u (omega arith))
-    (subst (λ (b : ℕ). (u : ℕ) → 1476 * b ≤ u → u < 90 * slots_of m + 36 * pilot_blocks_of m → symbol_at slots u ≡ turned (quarter_turns gold u) (symbol_at payload (u - 36 * b))) same
+    (subst (λ (b : ℕ). (u : ℕ) → 1476 * b ≤ u → u < 90 * slots_of m + 36 * pilot_blocks_of m → symbol_at slots u ≡ rotated (quarter_turns gold u) (symbol_at payload (u - 36 * b))) same
     (λ u past lt. c.write_slots.ensures.rest u past (omega arith))))

@@ -1,4 +1,4 @@
-use Rattle.s2_receive.proofs.Names.{◌≡◌, [], refl, sym, subst, length, nat_eq, symbols_of, IsLive, Rules, TellsNext, Receiver, taken, nothing_over, ◌≤◌, reached, asked, rules_of, rules as common}
+use Rattle.s2_receive.proofs.Names.{◌≡◌, [], refl, sym, subst, length, nat_eq, symbols_of, IsLive, Rules, HandlesNext, Receiver, taken, no_gap, ◌≤◌, reached, asked, rules_of, rules as common}
 use Rattle.s2_receive.proofs.Names.phases
 use Rattle.s2_receive.proofs.Names.next
 use Rattle.s2_receive.proofs.StepLemmas.{closes, kept_so, steps_to}
@@ -29,27 +29,27 @@ returns-clause-advances g c =
           let ensured = w.in_ok-next-in-Searching.ensures in
           let some = w.in_ok-next-in-Searching.next in
           let searching : old.state.phase ≡ phases.Searching = search common in
-          let told = rw (w.self-is, w.next-is) at c.step_to.ensures.tells in
+          let told = rw (w.self-is, w.next-is) at c.step_to.ensures.handles in
           let window = rw w.self-is at c.step_to.ensures.window in
           let decider = rw w.self-is at c.step_to.ensures.decider in
-          let tells = subst (λ (x : Rules). TellsNext x mid.state new.state (g.D.Decide.last mid.decider) some new.packets c.step_to.result) ensured.same.rules told in
+          let handles = subst (λ (x : Rules). HandlesNext x mid.state new.state (g.D.Decide.last mid.decider) some new.packets c.step_to.result) ensured.same.rules told in
           let all = nat_eq (length bytes) (asked rules old.state) in
           record {
-            live = λ live. rw decider (steps_to rules old.state mid.state new.state (symbols_of bytes) all (g.D.Decide.last mid.decider) some new.packets c.step_to.result ensured.searches tells window);
+            live = λ live. rw decider (steps_to rules old.state mid.state new.state (symbols_of bytes) all (g.D.Decide.last mid.decider) some new.packets c.step_to.result ensured.searches handles window);
             rests = λ dead. absurd (dead (subst IsLive (sym searching) tt));
             kept = rw decider (kept_so rules mid.state.standing some ensured.searches.0 c.step_to.result (g.D.Decide.last old.decider) (g.D.Decide.last mid.decider)
-                (tells ensured.searches.0 ensured.searches.1).step_is ensured.kept);
+                (handles ensured.searches.0 ensured.searches.1).step_is ensured.kept);
             bounded = subst (λ v. reached v ≤ old.limit) (sym window) ensured.bounded;
           })
       | in-Closing w ↦
           (let closing : old.state.phase ≡ phases.Closing = search common in
-          let told = rw (w.self-is, w.next-is, w.none.ensures) at c.step_to.ensures.tells in
+          let told = rw (w.self-is, w.next-is, w.none.ensures) at c.step_to.ensures.handles in
           let window = rw w.self-is at c.step_to.ensures.window in
           let decider = rw w.self-is at c.step_to.ensures.decider in
           record {
             live = λ live. rw decider (closes rules old.state new.state bytes _ (g.D.Decide.last old.decider) w.reached.result new.packets c.step_to.result closing c.requires.room told window);
             rests = λ dead. absurd (dead (subst IsLive (sym closing) tt));
-            kept = rw decider (kept_so rules old.state.standing (next.End w.reached.result nothing_over) [] c.step_to.result (g.D.Decide.last old.decider) (g.D.Decide.last old.decider) (told [] tt).step_is refl);
+            kept = rw decider (kept_so rules old.state.standing (next.End w.reached.result no_gap) [] c.step_to.result (g.D.Decide.last old.decider) (g.D.Decide.last old.decider) (told [] tt).step_is refl);
             bounded = subst (λ v. reached v ≤ old.limit) (sym window) (subst (λ (r : Receiver g.row.D.Denot). taken r.state ≤ r.limit) c.self.view_is c.self.invariant.fits.place);
           })
     ]

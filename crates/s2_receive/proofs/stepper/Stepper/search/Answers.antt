@@ -10,7 +10,7 @@ returns-clause-searches g c =
     let rules = rules_of g.D.Decide.decide old in
     let sound = subst (λ (r : Receiver g.row.D.Denot). IsSound r.mode (g.D.Decide.size r.decider) r.limit r.state.window r.state.standing.totals) c.self.view_is c.self.invariant in
     let takes = subst
-    (λ (r : Receiver g.row.D.Denot). Takes (found_as r.mode r.lock) (symbols_in r.mode) r.state.window found.finder.window (symbols_of c.args.bytes.now)
+    (λ (r : Receiver g.row.D.Denot). Takes (found_as r.mode r.max_header_errors) (symbols_in r.mode) r.state.window found.finder.window (symbols_of c.args.bytes.now)
     (nat_eq (length c.args.bytes.now) (4 * wanted r.limit (symbols_in r.mode) r.state.window)) found.finder.frame c.find_next.result) c.self.view_is c.find_next.ensures.takes in
     let decided = subst (λ (r : Receiver g.row.D.Denot). IfSome c.find_next.result (λ next. IsDecidedBy (g.D.Decide.decide r.decider) (met_of next found.finder.frame) (g.D.Decide.last found.decider)))
     c.self.view_is c.find_next.ensures.decided in
@@ -24,14 +24,14 @@ invariant_of-self g c =
     let old = c.args.self.now in
     let inside = c.self.inside in
     let found = c.find_next.new in
-    let (mode, lock, decides, size) = c.find_next.ensures.same in
+    let (mode, max_header_errors, decides, size) = c.find_next.ensures.same in
     let all = subst (λ n. length c.args.bytes.now ≤ n) (asked_then (rules_of g.D.Decide.decide old) old.state c.requires.searching) c.requires.room in
     let room = subst (λ (r : Receiver g.row.D.Denot). length c.args.bytes.now ≤ 4 * wanted r.limit (symbols_in r.mode) r.state.window) (sym c.self.view_is) all in
     let few = few_come c.args.bytes.now inside.limit (symbols_in inside.finder.mode) inside.finder.window c.self.invariant.fits.place room in
-    let sound = sound_on (found_as inside.finder.mode inside.finder.lock) inside.finder.mode (g.D.Decide.size inside.decider) inside.limit inside.finder.window found.finder.window inside.place.totals
+    let sound = sound_on (found_as inside.finder.mode inside.finder.max_header_errors) inside.finder.mode (g.D.Decide.size inside.decider) inside.limit inside.finder.window found.finder.window inside.status.totals
     (symbols_of c.args.bytes.now) _ found.finder.frame c.find_next.result c.self.invariant few c.find_next.ensures.takes in
-    subst (λ m. IsSound m (g.D.Decide.size found.decider) inside.limit found.finder.window inside.place.totals) (sym mode)
-    (subst (λ k. IsSound inside.finder.mode k inside.limit found.finder.window inside.place.totals) (sym size) sound)
+    subst (λ m. IsSound m (g.D.Decide.size found.decider) inside.limit found.finder.window inside.status.totals) (sym mode)
+    (subst (λ k. IsSound inside.finder.mode k inside.limit found.finder.window inside.status.totals) (sym size) sound)
 
 pub returns-clause-bounded : goal.returns-clause-bounded
 returns-clause-bounded g c =

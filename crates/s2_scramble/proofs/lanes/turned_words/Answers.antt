@@ -1,6 +1,0 @@
-use Rattle.std.proofs.Common.{◌∙◌}
-use Rattle.s2_scramble.proofs.LaneLemmas.{four_turned, turned_lanes}
-use Rattle.s2_scramble.proofs.lanes.turned_words.Goals as goal
-
-pub returns : goal.returns
-returns c k l m n a b c' d lk ll lm ln fa fb fc fd qs ws = (λ t. turned_lanes (qs t) (ws t)) ∙ four_turned k l m n a b c' d lk ll lm ln fa fb fc fd

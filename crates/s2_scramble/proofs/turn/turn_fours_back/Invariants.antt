@@ -1,7 +1,0 @@
-use Rattle.std.proofs.Common.{◌≡◌, ℕ, ◌*◌, ◌<◌, slice_index}
-use Rattle.s2_mode.specs.Symbols.{symbol_at}
-use Rattle.s2_scramble.specs.Turns.{turned_back}
-use Rattle.s2_scramble.proofs.turn.turn_fours_back.Given as goal
-
-abbrev pub invariant-loop-block : goal.invariant-loop-block
-invariant-loop-block l = (j : ℕ) → j < 4 * l.block → symbol_at l.out j ≡ turned_back (slice_index l.quarters j) (symbol_at l.symbols j)
