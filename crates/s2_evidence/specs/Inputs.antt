@@ -1,8 +1,8 @@
 -- The contents of a command's files, or the fault that is reported (own).
 use Rattle.std.specs.Prelude.{◌≡◌, ℕ, ℤ, nat_le, Option, IfSome, List, ◌++◌, codes, length, Result, Ok, Err, if◌then◌else◌}
 use Rattle.s2_mode.specs.Shape.{Shape, code_bits}
-use Rattle.s2_mode.specs.declared.read_all.FileFault.{FileFault}
-use Rattle.s2_mode.specs.declared.read_all.FileFault.TheVariants as files
+use Rattle.s2_mode.specs.declared.reading.FileFault.{FileFault}
+use Rattle.s2_mode.specs.declared.reading.FileFault.TheVariants as files
 use Rattle.s2_rows.specs.Rows.{Rows, rows_value}
 use Rattle.s2_rows.specs.RowFiles as row_files
 use Rattle.s2_rows.specs.Values as values

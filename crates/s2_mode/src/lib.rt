@@ -35,7 +35,7 @@ mod memory;
 mod modcods;
 mod mode;
 mod rates;
-mod read_all;
+mod reading;
 mod shape;
 mod stream_fault;
 mod symbols;
@@ -54,7 +54,7 @@ pub use limits::{
 pub use memory::InMemory;
 pub use modcods::Modulation;
 pub use mode::Mode;
-pub use read_all::{FileFault, read_all, read_into};
+pub use reading::{FileFault, read_all, read_into};
 pub use shape::Shape;
 pub use stream_fault::StreamFault;
 pub use symbols::{Symbol, bytes_into, read_symbol, symbols_into, write_symbol};

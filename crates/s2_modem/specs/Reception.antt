@@ -20,8 +20,8 @@ use Rattle.s2_mode.specs.Limits.{max_symbols}
 use Rattle.s2_link.specs.declared.setup.Setup.{Setup}
 use Rattle.s2_link.specs.declared.fault.SetupFault.{SetupFault}
 use Rattle.s2_link.specs.declared.fault.SetupFault.TheVariants as faults
-use Rattle.s2_modem.specs.declared.demodulate.DemodFault.{DemodFault}
-use Rattle.s2_modem.specs.declared.demodulate.DemodFault.TheVariants as demod_faults
+use Rattle.s2_modem.specs.declared.demodulation.DemodFault.{DemodFault}
+use Rattle.s2_modem.specs.declared.demodulation.DemodFault.TheVariants as demod_faults
 use Rattle.s2_link.specs.Tuning.{Tuning, IsTuning, RefusesTuning}
 use Rattle.s2_link.specs.Link.{Link, link_of, IsSetUp, RefusesLink}
 use Rattle.s2_receive.specs.Windows.{found_as}

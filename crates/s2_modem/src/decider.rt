@@ -133,7 +133,9 @@ impl<'a> Decide for Decider<'a> {
         self.demodulator.find_soft(symbols, self.judge.soft_mut());
         let verdict = self.judge.decide();
         let found = self.corrector.correct(self.judge.word());
-        self.last = self.reader.read_outcome(verdict, found, self.corrector.word());
+        self.last = self
+            .reader
+            .read_outcome(verdict, found, self.corrector.word());
     }
 
     fn decided(&self) -> Decided {

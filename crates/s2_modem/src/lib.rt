@@ -41,17 +41,15 @@
 
 mod corrector;
 mod decider;
-mod demodulate;
+mod demodulation;
 mod demodulator;
 pub mod laws;
 mod message;
 mod receiver;
 
-pub use demodulate::{DemodFault, demodulate};
+pub use demodulation::{DemodFault, demodulate};
 pub use receiver::Receiver;
 pub use s2_judge::Judge;
-pub use s2_link::{
-    Link, MAX_PASSES, MAX_ROLL_OFF, MAX_ROUNDS, RollOff, Setup, SetupFault, Tuning,
-};
+pub use s2_link::{Link, MAX_PASSES, MAX_ROLL_OFF, MAX_ROUNDS, RollOff, Setup, SetupFault, Tuning};
 pub use s2_send::{Counts, MAX_PACKETS, SendFault, Transmitter};
 pub use s2_soft::{DEFAULT_DIVISOR, DIVISORS, Divisor};

@@ -1,6 +1,6 @@
 use Rattle.std.proofs.Common.{◌≡◌, ◌-◌, ◌≤◌, vec_len, vec_capacity}
 use Rattle.std.specs.Io.KnownBytes.{Consumes}
-use Rattle.s2_mode.proofs.read_all.read_into.Given as goal
+use Rattle.s2_mode.proofs.reading.read_into.Given as goal
 
 abbrev pub invariant-fill : goal.invariant-fill
 invariant-fill g l = Consumes (g.R.CountedRead.remaining l.initial.reader) (g.R.CountedRead.remaining l.reader) l.bytes.items

@@ -1,5 +1,5 @@
 use Rattle.s2_modem.proofs.HeadlineLemmas.{bytes_headline}
-use Rattle.s2_modem.proofs.demodulate.demodulate_link.Goals as goal
+use Rattle.s2_modem.proofs.demodulation.demodulate_link.Goals as goal
 
 pub returns-in-Ok-receive_bytes-clause-headline : goal.returns-in-Ok-receive_bytes-clause-headline
 returns-in-Ok-receive_bytes-clause-headline g c =
