@@ -1,15 +1,13 @@
 -- A recording that is read block by block.
-use Rattle.std.proofs.Common.{◌≡◌, ℕ, zero, suc, ◌+◌, ◌-◌, ◌*◌, ◌/◌, ◌^◌, ◌<◌, ◌≤◌, Bool, true, false, List, [], ◌∷◌, ◌++◌, Option, None, Some, Ok, Err, length, take, drop, length-append, length-drop, append-nil, append_assoc, ap, sym, ◌∙◌, subst, refl, inl, inr, arith}
+use Rattle.std.proofs.Common.{◌≡◌, ℕ, zero, suc, ◌+◌, ◌-◌, ◌*◌, ◌/◌, ◌^◌, ◌<◌, ◌≤◌, Bool, List, [], ◌++◌, Option, None, Some, Ok, Err, length, take, drop, length-append, length-drop, append-nil, append_assoc, ap, sym, ◌∙◌, subst, refl, inl, inr, arith}
 use Rattle.std.specs.Io.KnownBytes.{Consumes, IsAtEnd}
-use Rattle.std.specs.Prelude.{nat_lt, if◌then◌else◌}
-use Rattle.std.specs.List.{flat_map, range_with_len}
+use Rattle.std.specs.Prelude.{if◌then◌else◌}
 use Rattle.std.proofs.KnownBytes.{Consumes-nil, Consumes-trans}
 use Rattle.std.proofs.lemmas.Bool.{cases_lt, lt-ltb, le-ltb}
-use Rattle.std.proofs.lemmas.List.{take-append-le, drop-append-le, drop-drop, take_all, drop_all}
-use Rattle.s2_console.specs.declared.fault.Fault.{Fault}
+use Rattle.std.proofs.lemmas.List.{take-append-le, drop-append-le, drop-drop, take_all}
 use Rattle.s2_console.specs.declared.fault.Fault.TheVariants as faults
 use Rattle.s2_scan.specs.Inside.{Fed, Filled}
-use Rattle.s2_scan.specs.Passing.{all_passes, passes_at, passes_below, positions_in, window_at}
+use Rattle.s2_scan.specs.Passing.{passes_at, passes_below, positions_in, window_at}
 use Rattle.s2_scan.specs.Scanning.{ArePasses, IsRecording, max_bytes, recorded}
 use Rattle.s2_scan.specs.declared.passes.Pass.{Pass}
 use Rattle.s2_scan.proofs.Ranges.{flat_more}

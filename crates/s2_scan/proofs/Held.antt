@@ -1,11 +1,10 @@
 -- What registers hold of the last symbols and of a window.
-use Rattle.std.proofs.Common.{◌≡◌, ℕ, zero, suc, ◌+◌, ◌-◌, ◌*◌, ◌<◌, ◌≤◌, Bool, true, false, List, get_or, take, drop, ap, sym, ◌∙◌, subst, refl, arith}
+use Rattle.std.proofs.Common.{◌≡◌, ℕ, zero, suc, ◌+◌, ◌-◌, ◌*◌, ◌<◌, Bool, true, false, List, drop, ap, sym, ◌∙◌, subst, arith}
 use Rattle.std.specs.Prelude.{if◌then◌else◌}
 use Rattle.std.proofs.lemmas.List.{get_or-take, get_or-drop}
-use Rattle.s2_mode.specs.declared.symbols.Symbol.{Symbol}
 use Rattle.s2_mode.specs.Symbols.{symbol_of}
-use Rattle.s2_plframe.specs.Search.{Decision, decision}
-use Rattle.s2_plframe.specs.Inside.{held, held_list}
+use Rattle.s2_plframe.specs.Search.{decision}
+use Rattle.s2_plframe.specs.Inside.{held}
 use Rattle.s2_plframe.specs.declared.receive.registers.Signs.{Signs}
 use Rattle.s2_scan.specs.Forms.{byte_at, symbol_in, set_right, is_little, way_of}
 use Rattle.s2_scan.specs.Inside.{HoldsLast, HoldsWindow, decisions_by}

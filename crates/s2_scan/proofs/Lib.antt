@@ -9,3 +9,4 @@ pub mod Roots
 pub mod Tallies
 pub mod Pieces
 pub mod Runs
+pub mod Orientations

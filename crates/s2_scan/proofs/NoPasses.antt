@@ -1,10 +1,10 @@
 -- Windows with no pass.
-use Rattle.std.proofs.Common.{◌≡◌, ℕ, ◌+◌, ◌-◌, ◌%◌, ◌<◌, ◌≤◌, Bool, true, false, List, [], ap, sym, ◌∙◌, subst, refl, inl, inr, arith}
-use Rattle.std.specs.Prelude.{nat_le, if◌then◌else◌}
+use Rattle.std.proofs.Common.{◌≡◌, ℕ, ◌+◌, ◌-◌, ◌<◌, ◌≤◌, Bool, true, false, List, [], ap, sym, ◌∙◌, subst, inl, inr, arith}
+use Rattle.std.specs.Prelude.{if◌then◌else◌}
 use Rattle.std.specs.List.{flat_map}
 use Rattle.std.proofs.lemmas.Bool.{cases_Bool}
 use Rattle.s2_scan.specs.Forms.{forms, is_little, way_of}
-use Rattle.s2_scan.specs.Inside.{HoldsLast, HoldsWindow, NoneMatches, decisions_by}
+use Rattle.s2_scan.specs.Inside.{HoldsLast, HoldsWindow, NoneMatches}
 use Rattle.s2_scan.specs.Passing.{headers, matches_sof, passes_as, passes_at, passes_in_form, seen_as, window_at}
 use Rattle.s2_scan.proofs.Held.{seen_is, window_held}
 use Rattle.s2_scan.proofs.Ranges.{flat_empty}

@@ -1,5 +1,5 @@
 -- Definitions that count up, one step at a time.
-use Rattle.std.proofs.Common.{◌≡◌, ℕ, suc, ◌+◌, ◌*◌, ◌≤◌, List, add-one, ap, sym, ◌∙◌, refl, arith}
+use Rattle.std.proofs.Common.{◌≡◌, ℕ, ◌+◌, ◌*◌, List, add-one, ap, refl}
 use Rattle.std.specs.Prelude.{nat_le, if◌then◌else◌, Bool}
 use Rattle.s2_scan.specs.Forms.{symbol_in}
 use Rattle.s2_scan.specs.Passing.{energy_below, energy_of}

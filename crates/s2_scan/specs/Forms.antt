@@ -1,4 +1,4 @@
--- The sixteen forms of a recording (own): the byte order, and how the symbols were turned and mirrored.
+-- The sixteen forms of a recording (own): the byte order, and how the symbols were rotated and conjugated.
 use Rattle.std.specs.Prelude.{ℕ, ◌+◌, ◌-◌, ◌*◌, ◌%◌, ◌==◌, Bool, not, nat_lt, nat_le, List, slice_index_or, if◌then◌else◌}
 use Rattle.std.specs.List.{range_with_len}
 use Rattle.s2_mode.specs.declared.symbols.Symbol.{Symbol}

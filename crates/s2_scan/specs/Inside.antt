@@ -1,5 +1,5 @@
 -- What only the clauses of the code itself speak of (own): decisions in registers, and headers as numbers.
-use Rattle.std.specs.Prelude.{◌≡◌, ℕ, ◌+◌, ◌-◌, ◌*◌, ◌/◌, ◌^◌, ◌<◌, Bool, false, List, ◌++◌, map, take, drop, get_or, nat_le, length, Option}
+use Rattle.std.specs.Prelude.{◌≡◌, ℕ, ◌+◌, ◌-◌, ◌*◌, ◌/◌, ◌^◌, ◌<◌, ◌≤◌, Bool, false, List, ◌++◌, map, take, drop, get_or, nat_le, length, Option}
 use Rattle.std.specs.Io.KnownBytes.{Consumes}
 use Rattle.std.specs.List.{range_with_len}
 use Rattle.std.specs.Int.RustNames.{count_ones, bit_xor}
@@ -9,7 +9,9 @@ use Rattle.s2_plframe.specs.Search.{Decision, decision}
 use Rattle.s2_plframe.specs.Inside.{held, IsHeader}
 use Rattle.s2_scan.specs.Forms.{set_right, symbol_in}
 use Rattle.s2_scan.specs.Passing.{code_at, header_count, matches_sof, passes_below, sof_threshold}
+use Rattle.s2_scan.specs.Scanning.{ArePasses}
 use Rattle.s2_scan.specs.declared.passes.Pass.{Pass}
+use Rattle.s2_scan.specs.declared.reading.Feed.{Feed}
 
 -- the decisions on the last 90 symbols that two registers hold, set right
 unfoldable pub decisions_by : ℕ → ℕ → ℕ → List Decision
@@ -42,8 +44,8 @@ pub record Filled (old new : Option (List ℕ)) (before after : List ℕ) (held 
   pub size : held + length piece ≡ total
   pub joined : take total after ≡ take held before ++ piece
 
--- What is read so far: its bytes, of which the block holds the last ones at its front; and the passes of the positions before
--- the first of these
+-- The state of reading: the bytes read so far, and the passes of all positions but the last ones. Their bytes are at the
+-- front of the block
 pub record Fed (origin rest : Option (List ℕ)) (block : List ℕ) (held first : ℕ) (passes : List Pass) : Type 0 where
   pub bytes : List ℕ
   pub consumed : Consumes origin rest bytes
@@ -51,3 +53,15 @@ pub record Fed (origin rest : Option (List ℕ)) (block : List ℕ) (held first 
   pub kept : take held block ≡ drop (4 * first) bytes
   pub found : passes ≡ passes_below 0 bytes first
   pub early : held < 356 → first ≡ 0
+
+-- a feed is in that state
+abbrev pub FedBy : Option (List ℕ) → Option (List ℕ) → Feed → Type 0
+FedBy origin rest feed = Fed origin rest feed.block.items feed.held feed.first feed.passes.items
+
+-- a feed stays in that state over a block
+abbrev pub GoesOn : Option (List ℕ) → Feed → Option (List ℕ) → Feed → Type 0
+GoesOn rest feed rest' feed' = (origin : Option (List ℕ)) → FedBy origin rest feed → FedBy origin rest' feed'
+
+-- a recording ends with a block, and these are its passes, if it is not too long
+abbrev pub Completes : Option (List ℕ) → Feed → List Pass → Type 0
+Completes rest feed passes = (origin : Option (List ℕ)) → FedBy origin rest feed → feed.first + 8192 ≤ 2 ^ 40 → ArePasses origin passes

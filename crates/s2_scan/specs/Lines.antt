@@ -20,10 +20,11 @@ names =
 unfoldable pub name_at : ℕ → List ℕ
 name_at header = get_or names (header / 4) []
 
--- whether a header is of short frames, and of frames with pilots
+-- whether a header is of short frames
 abbrev pub is_short : ℕ → Bool
 is_short header = header / 2 % 2 == 1
 
+-- whether a header is of frames with pilots
 abbrev pub has_pilots : ℕ → Bool
 has_pilots header = header % 2 == 1
 
@@ -31,10 +32,11 @@ has_pilots header = header % 2 == 1
 abbrev pub is_conjugate : ℕ → Bool
 is_conjugate form = not (nat_lt (way_of form) 4)
 
--- the quarter turns that set a form right, and those that the recording was turned by
+-- the quarter turns that set a form right
 abbrev pub turns_back : ℕ → ℕ
 turns_back form = form % 4
 
+-- the quarter turns of the recording, before it was conjugated
 abbrev pub turns_of : ℕ → ℕ
 turns_of form = (4 - form % 4) % 4
 
@@ -43,7 +45,7 @@ unfoldable pub header_words : ℕ → List ℕ
 header_words header =
     name_at header ++ ((if is_short header then codes " short" else codes " normal") ++ (if has_pilots header then codes " pilots" else codes " no-pilots"))
 
--- where it was seen
+-- the positions in words
 unfoldable pub place_words : Sighting → List ℕ
 place_words s =
     (codes " seen " ++ decimal s.seen) ++ ((codes " first " ++ decimal s.first) ++ (codes " every " ++ decimal s.every))

@@ -132,7 +132,7 @@ all_sighted passes = flat_map (sighted_as passes) forms
 
 -- ---- the likeliest first
 
--- a sighting is likelier than another: it has more pairs, or as many and a smaller amplitude
+-- a sighting is likelier than another if it has more pairs, or the same number and a smaller amplitude
 abbrev pub is_likelier : Sighting → Sighting → Bool
 is_likelier s t = nat_lt t.pairs s.pairs || ((s.pairs == t.pairs) && nat_lt s.amplitude t.amplitude)
 

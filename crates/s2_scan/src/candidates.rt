@@ -9,7 +9,7 @@ use crate::passes::Pass;
 use crate::sighting::{Sighting, push_sighted};
 use std::alloc::{AllocError, Global};
 
-/// Puts the sighting of a header in a form behind others, if there is one.
+/// Appends the sighting of a header in a form to others, if there is one.
 #[tactic(auto, unfolding(crate::specs::Sightings::sighted_in))]
 fn push_header(
     alloc: Global,
@@ -24,7 +24,7 @@ fn push_header(
     push_sighted(alloc, form, header, &picked, sightings)
 }
 
-/// Puts the sightings of all headers in a form behind others.
+/// Appends the sightings of all headers in a form to others.
 fn push_form(
     alloc: Global,
     passes: &[Pass],

@@ -1,4 +1,4 @@
-//! `scan`: what a recording contains.
+//! `scan`: the contents of a recording.
 ghost use Rattle.std.specs.Prelude.{◌≡◌, ◌≢◌, ◌+◌, Err, IfErr, IfOk, IsOk};
 ghost use Rattle.s2_mode.specs.Counts.{CanCount};
 ghost use Rattle.s2_console.specs.Exits.{CommandRuns, CommandCounts, CommandExits};
@@ -15,7 +15,7 @@ use s2_console::{Console, Exit, Fault, print};
 use s2_mode::{CountedRead, CountedWrite};
 use std::alloc::{AllocError, Global};
 
-/// What is printed, and the exit.
+/// The printed text, and the exit.
 struct Report {
     exit: Exit,
     text: Vec<u8>,
@@ -27,7 +27,7 @@ impl Drop for Report {
     }
 }
 
-/// What is printed of passes.
+/// The text and the exit for passes.
 fn report_by(alloc: Global, passes: &[Pass]) -> Result<Report, AllocError>
     ensures exit { IfOk result (λ s. s.exit ≡ scan_exit (sightings_of passes.now)) }
     ensures text { IfOk result (λ s. s.text.items ≡ scan_text (sightings_of passes.now)) }
@@ -40,7 +40,7 @@ fn report_by(alloc: Global, passes: &[Pass]) -> Result<Report, AllocError>
     })
 }
 
-/// What is printed of a recording.
+/// The text and the exit for a recording.
 fn report_of<R: CountedRead>(alloc: Global, symbols: &mut R) -> Result<Report, Fault<'static>>
     requires { CanCount (R.count symbols.old) }
     ensures is { IfOk result (λ s. IsScanned (R.remaining symbols.old) s.exit s.text.items) }
@@ -55,7 +55,7 @@ fn report_of<R: CountedRead>(alloc: Global, symbols: &mut R) -> Result<Report, F
     }
 }
 
-/// Prints what a recording contains.
+/// Prints the contents of a recording.
 fn print_scan<R: CountedRead, O: CountedWrite>(
     alloc: Global,
     symbols: &mut R,

@@ -13,13 +13,8 @@ fn is_of(form: usize, header: usize, pass: &Pass) -> bool
     pass.form == form && pass.header == header
 }
 
-/// Puts a pass behind others, if it is of a header in a form.
-fn pick(
-    form: usize,
-    header: usize,
-    pass: &Pass,
-    picked: &mut Vec<Pass>,
-) -> Result<(), AllocError>
+/// Appends a pass to others, if it is of a header in a form.
+fn pick(form: usize, header: usize, pass: &Pass, picked: &mut Vec<Pass>) -> Result<(), AllocError>
     ensures { OnOk result (picked.new.items ≡ picked.old.items ++ filter (is_of form header) (pass.now ∷ [])) }
 {
     if is_of(form, header, pass) {

@@ -98,7 +98,7 @@ fn push_header(text: &mut Vec<u8>, header: usize) -> Result<(), AllocError>
     push(text, choose(has_pilots(header), " pilots", " no-pilots"))
 }
 
-/// Where a header was seen.
+/// The positions of a header in words.
 #[tactic(auto, unfolding(crate::specs::Lines::place_words))]
 fn push_places(text: &mut Vec<u8>, sighting: &Sighting) -> Result<(), AllocError>
     ensures { OnOk result (text.new.items ≡ text.old.items ++ lines.place_words sighting.now) }
@@ -114,7 +114,10 @@ fn push_form(text: &mut Vec<u8>, form: usize) -> Result<(), AllocError>
     ensures { OnOk result (text.new.items ≡ text.old.items ++ lines.form_words form) }
 {
     push_number(text, " turn ", ((4 - form % 4) % 4) as u64)?;
-    push(text, choose(is_conjugate(form), " conjugate yes", " conjugate no"))?;
+    push(
+        text,
+        choose(is_conjugate(form), " conjugate yes", " conjugate no"),
+    )?;
     push(text, choose(form >= 8, " bytes little", " bytes big"))
 }
 

@@ -43,7 +43,7 @@ fn window_energy(little: bool, window: &[u8]) -> u64
     energy
 }
 
-/// Puts the pass of a window as a header behind others.
+/// Appends the pass of a window as a header to others.
 fn push_pass(
     position: u64,
     form: usize,
@@ -64,7 +64,7 @@ fn push_pass(
     Ok(())
 }
 
-/// Puts the pass of a window as a header behind others, if it is near enough.
+/// Appends the pass of a window as a header to others, if it is near enough.
 fn push_near(
     near: bool,
     position: u64,
@@ -83,7 +83,7 @@ fn push_near(
     }
 }
 
-/// Puts the passes of a window in a form behind others, whose start of frame matches.
+/// Appends the passes of a window whose start of frame matches, in a form, to others.
 fn push_headers(
     numbers: &[u128; HEADERS],
     seen: u128,
@@ -104,7 +104,7 @@ fn push_headers(
     Ok(())
 }
 
-/// Puts the passes of a window in a form behind others.
+/// Appends the passes of a window in a form to others.
 pub(crate) fn push_form(
     numbers: &[u128; HEADERS],
     seen: u128,

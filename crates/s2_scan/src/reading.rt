@@ -1,8 +1,8 @@
 //! A recording that is read block by block.
-ghost use Rattle.std.specs.Prelude.{◌≡◌, ◌≢◌, ◌+◌, ◌*◌, ◌^◌, ◌<◌, ◌≤◌, ◌++◌, ℕ, List, Option, [], true, false, take, drop, Err, IfErr, IfOk, IsOkUnless, OnOk, vec_len};
+ghost use Rattle.std.specs.Prelude.{◌≡◌, ◌≢◌, ◌+◌, ◌*◌, ◌^◌, ◌<◌, ◌≤◌, ◌++◌, [], true, false, take, drop, Err, IfErr, IfOk, IsOkUnless, OnOk, vec_len};
 ghost use Rattle.std.specs.Io.KnownBytes.{IsAtEnd};
 ghost use Rattle.s2_mode.specs.Counts.{CanCount};
-ghost use Rattle.s2_scan.specs.Inside.{AreHeaders, Fed, Filled};
+ghost use Rattle.s2_scan.specs.Inside.{AreHeaders, Completes, Filled, GoesOn};
 ghost use Rattle.s2_scan.specs.Passing.{passes_below, positions_in};
 ghost use Rattle.s2_scan.specs.Scanning.{ArePasses, IsOutside, MayFail};
 
@@ -25,7 +25,7 @@ const BLOCK: usize = 33_124;
 /// The most blocks of a recording.
 const MAX_BLOCKS: u32 = 134_217_728;
 
-/// What is read so far: the passes, the bytes kept, and the position of the first of these.
+/// The state of reading: the passes so far, the bytes kept, and the position of the first of these.
 struct Feed {
     passes: Vec<Pass>,
     block: Vec<u8>,
@@ -100,12 +100,8 @@ fn fill<R: CountedRead>(
     }
 }
 
-/// Puts the passes of a block that is filled up to a place behind those before it.
-fn push_held(
-    numbers: &[u128; HEADERS],
-    feed: &mut Feed,
-    total: usize,
-) -> Result<(), Fault<'static>>
+/// Appends the passes of a block, filled up to a place, to those before it.
+fn push_held(numbers: &[u128; HEADERS], feed: &mut Feed, total: usize) -> Result<(), Fault<'static>>
     requires headers { AreHeaders numbers.now }
     requires size { vec_len feed.old.block ≡ 33124 }
     requires total { total ≤ 33124 }
@@ -151,8 +147,8 @@ fn read_block<R: CountedRead>(
     ensures size { vec_len feed.new.block ≡ 33124 }
     ensures held { feed.new.held ≤ 356 }
     ensures first { IfOk result (λ ended. ended ≡ false → feed.new.first ≡ feed.old.first + 8192) }
-    ensures on { IfOk result (λ ended. ended ≡ false → (origin : Option (List ℕ)) → Fed origin (R.remaining reader.old) feed.old.block.items feed.old.held feed.old.first feed.old.passes.items → Fed origin (R.remaining reader.new) feed.new.block.items feed.new.held feed.new.first feed.new.passes.items) }
-    ensures end { IfOk result (λ ended. ended ≡ true → (origin : Option (List ℕ)) → Fed origin (R.remaining reader.old) feed.old.block.items feed.old.held feed.old.first feed.old.passes.items → feed.old.first + 8192 ≤ 2 ^ 40 → ArePasses origin feed.new.passes.items) }
+    ensures on { IfOk result (λ ended. ended ≡ false → GoesOn (R.remaining reader.old) feed.old (R.remaining reader.new) feed.new) }
+    ensures end { IfOk result (λ ended. ended ≡ true → Completes (R.remaining reader.old) feed.old feed.new.passes.items) }
     ensures read { result ≡ Err Fault.Read → R.count reader.new ≡ R.count reader.old + 1 }
     ensures no_other { result ≢ Err Fault.Read → R.count reader.new ≡ R.count reader.old }
     ensures told { IfErr result IsOutside }

@@ -9,8 +9,8 @@ use crate::passes::Pass;
 use crate::tally::usual_distance;
 use std::alloc::{AllocError, Global};
 
-/// A header in a form: how often it was seen, how often at its frame's distance from the one before, where first, its
-/// most frequent distance, and its amplitude.
+/// A header in a form. It has the number of passes, the number of those at the frame's distance from the one before,
+/// the first position, the most frequent distance, and the amplitude.
 #[derive(Clone, Copy)]
 pub(crate) struct Sighting {
     pub(crate) form: usize,
@@ -22,7 +22,7 @@ pub(crate) struct Sighting {
     pub(crate) amplitude: u64,
 }
 
-/// Puts the sighting of passes behind others, if two have their frame's distance.
+/// Appends the sighting of passes to others, if two passes have their frame's distance.
 pub(crate) fn push_sighted(
     alloc: Global,
     form: usize,

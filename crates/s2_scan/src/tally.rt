@@ -29,7 +29,11 @@ fn add(table: &mut Vec<Tally>, distance: u64) -> Result<(), AllocError>
 fn better(best: Tally, other: Tally) -> Tally
     ensures { result ≡ (if nat_lt best.times other.times then other else best) }
 {
-    if best.times < other.times { other } else { best }
+    if best.times < other.times {
+        other
+    } else {
+        best
+    }
 }
 
 /// The most frequent distance of a table.

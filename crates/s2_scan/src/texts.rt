@@ -4,14 +4,14 @@ ghost use Rattle.std.specs.Prelude.{◌≡◌, ◌++◌, drop, decimal, OnOk};
 use itoa::Buffer;
 use std::alloc::AllocError;
 
-/// Puts words behind a text.
+/// Appends words to a text.
 pub(crate) fn push(text: &mut Vec<u8>, words: &str) -> Result<(), AllocError>
     ensures { OnOk result (text.new.items ≡ text.old.items ++ words.now) }
 {
     text.extend_from_slice(words.as_bytes())
 }
 
-/// Puts words and a number behind a text.
+/// Appends words and a number to a text.
 pub(crate) fn push_number(text: &mut Vec<u8>, words: &str, number: u64) -> Result<(), AllocError>
     ensures { OnOk result (text.new.items ≡ text.old.items ++ (words.now ++ decimal number)) }
 {
@@ -20,7 +20,7 @@ pub(crate) fn push_number(text: &mut Vec<u8>, words: &str, number: u64) -> Resul
     push(text, digits.format(number))
 }
 
-/// Puts words and the digits of a number but the first one behind a text.
+/// Appends words, and the digits of a number after its first one, to a text.
 pub(crate) fn push_fraction(text: &mut Vec<u8>, words: &str, number: u64) -> Result<(), AllocError>
     ensures { OnOk result (text.new.items ≡ text.old.items ++ (words.now ++ drop 1 (decimal number))) }
 {

@@ -78,7 +78,7 @@ fn window_at(position: usize, bytes: &[u8]) -> &[u8]
     &bytes[from..from + WINDOW]
 }
 
-/// Puts the passes of a window behind others.
+/// Appends the passes of a window to others.
 fn push_window(
     numbers: &[u128; HEADERS],
     position: u64,
@@ -109,7 +109,7 @@ fn may_pass(header: u128, orders: Orders) -> bool
     may_match(header, orders.big) | may_match(header, orders.little)
 }
 
-/// Puts the passes of the position whose last symbol this is behind others, if there is one.
+/// Appends the passes of the position whose header ends with symbol `k` to others, if there is one.
 #[inline(always)]
 fn push_last(
     numbers: &[u128; HEADERS],
@@ -134,7 +134,7 @@ fn push_last(
     push_window(numbers, first + at as u64, window, orders, passes)
 }
 
-/// Puts the passes of bytes behind others. The bytes begin at the position `first` of the recording.
+/// Appends the passes of bytes to others. The bytes begin at the position `first` of the recording.
 pub(crate) fn push_block(
     numbers: &[u128; HEADERS],
     first: u64,

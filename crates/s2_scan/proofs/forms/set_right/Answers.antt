@@ -1,4 +1,4 @@
-use Rattle.std.proofs.Common.{◌≡◌, ap, sym, ◌∙◌, arith}
+use Rattle.std.proofs.Common.{◌≡◌, arith}
 use Rattle.s2_scan.proofs.Ways.{way_1, way_2, way_3, way_4, way_5, way_6, way_7}
 use Rattle.s2_scan.proofs.forms.set_right.Goals as goal
 

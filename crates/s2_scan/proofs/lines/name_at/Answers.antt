@@ -1,4 +1,4 @@
-use Rattle.std.proofs.Common.{◌/◌, [], sym, arith}
+use Rattle.std.proofs.Common.{◌/◌, [], sym}
 use Rattle.std.proofs.lemmas.List.{get_or_past}
 use Rattle.s2_scan.specs.Lines.{name_at, names}
 use Rattle.s2_scan.proofs.lines.name_at.Goals as goal

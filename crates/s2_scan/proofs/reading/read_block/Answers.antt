@@ -1,5 +1,4 @@
-use Rattle.std.proofs.Common.{◌≡◌, ◌+◌, ◌++◌, List, length, take, drop, vec_len, ap, sym, ◌∙◌, arith}
-use Rattle.s2_scan.specs.Passing.{passes_below, positions_in}
+use Rattle.std.proofs.Common.{◌≡◌, ◌+◌, length, drop, vec_len, ap, ◌∙◌, arith}
 use Rattle.s2_scan.proofs.Feeds.{ends, fed_as, goes_on}
 use Rattle.s2_scan.proofs.reading.read_block.Goals as goal
 

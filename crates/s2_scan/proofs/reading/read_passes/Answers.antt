@@ -1,4 +1,4 @@
-use Rattle.std.proofs.Common.{◌≡◌, ◌+◌, ◌≤◌, ◌^◌, Vec, Global, refl, sym, subst, ◌∙◌, arith}
+use Rattle.std.proofs.Common.{◌+◌, ◌≤◌, ◌^◌, Vec, Global, refl, sym, subst, ◌∙◌, arith}
 use Rattle.s2_scan.specs.Scanning.{ArePasses}
 use Rattle.s2_scan.specs.declared.passes.Pass.{Pass}
 use Rattle.s2_scan.proofs.Feeds.{none_fed}

@@ -1,4 +1,4 @@
-use Rattle.std.proofs.Common.{List, subst, ◌∙◌, ◌%◌}
+use Rattle.std.proofs.Common.{List, subst, ◌∙◌}
 use Rattle.s2_plframe.specs.Search.{Decision}
 use Rattle.s2_plframe.specs.Inside.{IsWindow}
 use Rattle.s2_scan.specs.Forms.{is_little, way_of}
