@@ -1,0 +1,12 @@
+pub mod Ranges
+pub mod Ways
+pub mod Held
+pub mod NoPasses
+pub mod Blocks
+pub mod Feeds
+pub mod Gaps
+pub mod Roots
+pub mod Tallies
+pub mod Pieces
+pub mod Runs
+pub mod Orientations

@@ -1,0 +1,10 @@
+use Rattle.std.proofs.Common.{◌≡◌, drop}
+use Rattle.s2_scan.specs.Lines.{advice_of}
+use Rattle.s2_scan.proofs.advice.push_advice.Given as goal
+
+-- none of those before is received
+abbrev pub invariant-loop-k : goal.invariant-loop-k
+invariant-loop-k l = record {
+  same : l.text.items ≡ l.initial.text.items;
+  rest : advice_of (drop l.k l.sightings) ≡ advice_of l.sightings;
+}

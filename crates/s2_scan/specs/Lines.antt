@@ -1,0 +1,120 @@
+-- What `scan` prints (own).
+use Rattle.std.specs.Prelude.{ℕ, ◌+◌, ◌-◌, ◌*◌, ◌/◌, ◌%◌, ◌==◌, ◌&&◌, ◌||◌, Bool, not, nat_lt, max, min, List, [], ◌∷◌, ◌++◌, get_or, drop, codes, decimal, if◌then◌else◌}
+use Rattle.s2_console.specs.declared.exit.Exit.{Exit}
+use Rattle.s2_console.specs.declared.exit.Exit.TheVariants as exits
+use Rattle.s2_scan.specs.Forms.{is_little, way_of}
+use Rattle.s2_scan.specs.declared.sighting.Sighting.{Sighting}
+
+-- the names of MODCOD 0 to 28
+abbrev pub names : List (List ℕ)
+names =
+    codes "dummy"
+    ∷ codes "qpsk1/4" ∷ codes "qpsk1/3" ∷ codes "qpsk2/5" ∷ codes "qpsk1/2" ∷ codes "qpsk3/5" ∷ codes "qpsk2/3"
+    ∷ codes "qpsk3/4" ∷ codes "qpsk4/5" ∷ codes "qpsk5/6" ∷ codes "qpsk8/9" ∷ codes "qpsk9/10"
+    ∷ codes "8psk3/5" ∷ codes "8psk2/3" ∷ codes "8psk3/4" ∷ codes "8psk5/6" ∷ codes "8psk8/9" ∷ codes "8psk9/10"
+    ∷ codes "16apsk2/3" ∷ codes "16apsk3/4" ∷ codes "16apsk4/5" ∷ codes "16apsk5/6" ∷ codes "16apsk8/9" ∷ codes "16apsk9/10"
+    ∷ codes "32apsk3/4" ∷ codes "32apsk4/5" ∷ codes "32apsk5/6" ∷ codes "32apsk8/9" ∷ codes "32apsk9/10"
+    ∷ []
+
+-- the name of a header's MODCOD
+unfoldable pub name_at : ℕ → List ℕ
+name_at header = get_or names (header / 4) []
+
+-- whether a header is of short frames
+abbrev pub is_short : ℕ → Bool
+is_short header = header / 2 % 2 == 1
+
+-- whether a header is of frames with pilots
+abbrev pub has_pilots : ℕ → Bool
+has_pilots header = header % 2 == 1
+
+-- whether setting a form right begins with conjugation
+abbrev pub is_conjugate : ℕ → Bool
+is_conjugate form = not (nat_lt (way_of form) 4)
+
+-- the quarter turns that set a form right
+abbrev pub turns_back : ℕ → ℕ
+turns_back form = form % 4
+
+-- the quarter turns of the recording, before it was conjugated
+abbrev pub turns_of : ℕ → ℕ
+turns_of form = (4 - form % 4) % 4
+
+-- a header in words
+unfoldable pub header_words : ℕ → List ℕ
+header_words header =
+    name_at header ++ ((if is_short header then codes " short" else codes " normal") ++ (if has_pilots header then codes " pilots" else codes " no-pilots"))
+
+-- the positions in words
+unfoldable pub place_words : Sighting → List ℕ
+place_words s =
+    (codes " seen " ++ decimal s.seen) ++ ((codes " first " ++ decimal s.first) ++ (codes " every " ++ decimal s.every))
+
+-- the form in words
+unfoldable pub form_words : ℕ → List ℕ
+form_words form =
+    (codes " turn " ++ decimal (turns_of form))
+    ++ ((if is_conjugate form then codes " conjugate yes" else codes " conjugate no") ++ (if is_little form then codes " bytes little" else codes " bytes big"))
+
+-- the line of a sighting
+unfoldable pub line_of : Sighting → List ℕ
+line_of s = header_words s.header ++ (place_words s ++ (form_words s.form ++ ((codes " amplitude " ++ decimal s.amplitude) ++ codes "\n")))
+
+-- the lines of sightings
+abbrev pub lines_of : List Sighting → List ℕ
+lines_of [] = []
+lines_of (s ∷ ss) = line_of s ++ lines_of ss
+
+-- ---- what to do
+
+-- whether this program receives the frames of a header: MODCOD 1 to 17; 9/10, which is 11 and 17, has no short frames
+abbrev pub is_received : ℕ → Bool
+is_received header =
+    nat_lt 0 (header / 4) && (nat_lt (header / 4) 18 && not (is_short header && ((header / 4 == 11) || (header / 4 == 17))))
+
+-- an amplitude, at least 1 and at most 46341
+abbrev pub within : ℕ → ℕ
+within amplitude = max (min amplitude 46341) 1
+
+-- 990 divided by an amplitude, in ten-thousandths, rounded
+abbrev pub gain_of : ℕ → ℕ
+gain_of amplitude = (19800000 + within amplitude) / (2 * within amplitude)
+
+-- the gain in digits, four after the point
+unfoldable pub gain_words : ℕ → List ℕ
+gain_words gain = (codes " --gain " ++ decimal (gain / 10000)) ++ (codes "." ++ drop 1 (decimal (10000 + gain % 10000)))
+
+-- the quarter turns that set a form right, if there are any
+unfoldable pub turn_words : ℕ → List ℕ
+turn_words turns = if turns == 0 then [] else codes " --turn " ++ decimal turns
+
+-- the command that sets a form right
+unfoldable pub convert_words : ℕ → List ℕ
+convert_words form =
+    (if is_little form then codes "tools/convert ci16_le ci16_be" else codes "tools/convert ci16_be ci16_be")
+    ++ ((if is_conjugate form then codes " --conjugate" else []) ++ turn_words (turns_back form))
+
+-- the command that receives the frames of a header
+unfoldable pub demod_words : ℕ → List ℕ
+demod_words header =
+    codes " recording | ./s2 demod --modcod "
+    ++ (name_at header ++ ((if is_short header then codes " --short" else []) ++ (if has_pilots header then codes " --pilots" else [])))
+
+-- the line that says how a sighting's frames are received
+unfoldable pub command_line : Sighting → List ℕ
+command_line s = convert_words s.form ++ (gain_words (gain_of s.amplitude) ++ (demod_words s.header ++ codes " rows - received.ts\n"))
+
+-- the last line: how the likeliest frames that this program receives are received
+abbrev pub advice_of : List Sighting → List ℕ
+advice_of [] = codes "s2 demod receives none of these\n"
+advice_of (s ∷ ss) = if is_received s.header then command_line s else advice_of ss
+
+-- all that is printed
+abbrev pub scan_text : List Sighting → List ℕ
+scan_text [] = codes "nothing found\n"
+scan_text (s ∷ ss) = lines_of (s ∷ ss) ++ advice_of (s ∷ ss)
+
+-- exit 0 if there is a sighting, else 2
+abbrev pub scan_exit : List Sighting → Exit
+scan_exit [] = exits.No
+scan_exit (s ∷ ss) = exits.Fine

@@ -1,0 +1,46 @@
+-- A recording that is scanned, and what the command does with it (own).
+use Rattle.std.specs.Prelude.{◌≡◌, ℕ, ⊤, ◌+◌, ◌*◌, nat_lt, List, length, Option, IfSome, Result, Ok, Err, if◌then◌else◌}
+use Rattle.s2_mode.specs.Limits.{max_symbols}
+use Rattle.s2_console.specs.declared.exit.Exit.{Exit}
+use Rattle.s2_console.specs.declared.fault.Fault.{Fault}
+use Rattle.s2_console.specs.declared.fault.Fault.TheVariants as faults
+use Rattle.s2_scan.specs.Passing.{all_passes}
+use Rattle.s2_scan.specs.Sightings.{sightings_of}
+use Rattle.s2_scan.specs.Lines.{scan_text, scan_exit}
+use Rattle.s2_scan.specs.declared.passes.Pass.{Pass}
+
+-- the limit of a recording's bytes: 2^40 positions
+abbrev pub max_bytes : ℕ
+max_bytes = 4 * (max_symbols + 89)
+
+-- a recording, unless it is too long
+abbrev pub recorded : List ℕ → Result (List ℕ) Fault
+recorded bytes = if nat_lt (length bytes) max_bytes then Ok bytes else Err faults.TooLong
+
+-- the result is this recording, if its bytes are known
+abbrev pub IsRecording : Option (List ℕ) → Result (List ℕ) Fault → Type 0
+IsRecording known said = IfSome known (λ bytes. recorded bytes ≡ said)
+
+-- these are the passes of the recording
+abbrev pub ArePasses : Option (List ℕ) → List Pass → Type 0
+ArePasses known passes = (bytes : List ℕ) × IsRecording known (Ok bytes) × (passes ≡ all_passes bytes)
+
+-- a read failed, or memory was refused
+abbrev pub IsOutside : Fault → Type 0
+IsOutside faults.Read = ⊤
+IsOutside faults.NoMemory = ⊤
+IsOutside f = ⊥
+
+-- why a recording was not scanned: a read failed, memory was refused, or it is too long
+abbrev pub MayFail : Option (List ℕ) → Fault → Type 0
+MayFail known faults.TooLong = IsRecording known (Err faults.TooLong)
+MayFail known f = IsOutside f
+
+-- `scan` prints this of a recording
+pub record SaysScan (bytes : List ℕ) (exit : Exit) (text : List ℕ) : Type 0 where
+  pub line : text ≡ scan_text (sightings_of (all_passes bytes))
+  pub ends : exit ≡ scan_exit (sightings_of (all_passes bytes))
+
+-- `scan` prints this of the recording
+abbrev pub IsScanned : Option (List ℕ) → Exit → List ℕ → Type 0
+IsScanned known exit text = (bytes : List ℕ) × IsRecording known (Ok bytes) × SaysScan bytes exit text

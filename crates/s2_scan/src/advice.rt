@@ -1,0 +1,96 @@
+//! The line that says how frames are received.
+ghost use Rattle.std.specs.Prelude.{◌≡◌, ◌++◌, OnOk};
+ghost use Rattle.s2_scan.specs.Lines as lines;
+
+use crate::amplitude::MAX_AMPLITUDE;
+use crate::lines::{choose, has_pilots, is_conjugate, is_short, name_at};
+use crate::sighting::Sighting;
+use crate::texts::{push, push_fraction, push_number};
+use std::alloc::AllocError;
+
+/// Whether this program receives the frames of a header.
+fn is_received(header: usize) -> bool
+    ensures { result ≡ lines.is_received header }
+{
+    let modcod = header / 4;
+    0 < modcod && modcod < 18 && !(is_short(header) && (modcod == 11 || modcod == 17))
+}
+
+/// 990 divided by an amplitude, in ten-thousandths, rounded.
+fn gain_of(amplitude: u64) -> u64
+    ensures { result ≡ lines.gain_of amplitude }
+{
+    let amplitude = amplitude.min(MAX_AMPLITUDE).max(1);
+    (19_800_000 + amplitude) / (2 * amplitude)
+}
+
+/// The option for a gain.
+#[tactic(auto, unfolding(crate::specs::Lines::gain_words))]
+fn push_gain(text: &mut Vec<u8>, gain: u64) -> Result<(), AllocError>
+    ensures { OnOk result (text.new.items ≡ text.old.items ++ lines.gain_words gain) }
+{
+    push_number(text, " --gain ", gain / 10_000)?;
+    push_fraction(text, ".", 10_000 + gain % 10_000)
+}
+
+/// The option for quarter turns, if there are any.
+#[tactic(auto, unfolding(crate::specs::Lines::turn_words))]
+fn push_turn(text: &mut Vec<u8>, turns: usize) -> Result<(), AllocError>
+    ensures { OnOk result (text.new.items ≡ text.old.items ++ lines.turn_words turns) }
+{
+    if turns == 0 {
+        return Ok(());
+    }
+    push_number(text, " --turn ", turns as u64)
+}
+
+/// The command that sets a form right.
+#[tactic(auto, unfolding(crate::specs::Lines::convert_words))]
+fn push_convert(text: &mut Vec<u8>, form: usize) -> Result<(), AllocError>
+    ensures { OnOk result (text.new.items ≡ text.old.items ++ lines.convert_words form) }
+{
+    push(
+        text,
+        choose(
+            form >= 8,
+            "tools/convert ci16_le ci16_be",
+            "tools/convert ci16_be ci16_be",
+        ),
+    )?;
+    push(text, choose(is_conjugate(form), " --conjugate", ""))?;
+    push_turn(text, form % 4)
+}
+
+/// The command that receives the frames of a header.
+#[tactic(auto, unfolding(crate::specs::Lines::demod_words))]
+fn push_demod(text: &mut Vec<u8>, header: usize) -> Result<(), AllocError>
+    ensures { OnOk result (text.new.items ≡ text.old.items ++ lines.demod_words header) }
+{
+    push(text, " recording | ./s2 demod --modcod ")?;
+    push(text, name_at(header))?;
+    push(text, choose(is_short(header), " --short", ""))?;
+    push(text, choose(has_pilots(header), " --pilots", ""))
+}
+
+/// The line that says how a sighting's frames are received.
+#[tactic(auto, unfolding(crate::specs::Lines::command_line))]
+fn push_command(text: &mut Vec<u8>, sighting: &Sighting) -> Result<(), AllocError>
+    ensures { OnOk result (text.new.items ≡ text.old.items ++ lines.command_line sighting.now) }
+{
+    push_convert(text, sighting.form)?;
+    push_gain(text, gain_of(sighting.amplitude))?;
+    push_demod(text, sighting.header)?;
+    push(text, " rows - received.ts\n")
+}
+
+/// The last line: how the likeliest frames that this program receives are received.
+pub(crate) fn push_advice(text: &mut Vec<u8>, sightings: &[Sighting]) -> Result<(), AllocError>
+    ensures { OnOk result (text.new.items ≡ text.old.items ++ lines.advice_of sightings.now) }
+{
+    for k in 0..sightings.len() {
+        if is_received(sightings[k].header) {
+            return push_command(text, &sightings[k]);
+        }
+    }
+    push(text, "s2 demod receives none of these\n")
+}

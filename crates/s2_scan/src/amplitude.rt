@@ -1,0 +1,49 @@
+//! The amplitude of passes.
+ghost use Rattle.std.specs.Prelude.{◌≡◌, ◌*◌, ◌^◌, ◌<◌, ◌≤◌, length, if◌then◌else◌};
+ghost use Rattle.s2_scan.specs.Sightings.{energy_in, roots_below, max_amplitude, amplitude_of};
+
+use crate::passes::Pass;
+use s2_mode::HEADER_SYMBOLS;
+
+/// The amplitude of (-32768, -32768).
+pub(crate) const MAX_AMPLITUDE: u64 = 46341;
+
+/// The energy of passes.
+fn energy_in(passes: &[Pass]) -> u128
+    ensures { result ≡ energy_in passes.now }
+{
+    let mut energy = 0u128;
+    for k in 0..passes.len() {
+        energy += u128::from(passes[k].energy);
+    }
+    energy
+}
+
+/// One, if a number counts.
+fn one_if(counts: bool) -> u64
+    ensures is { result ≡ (if counts then 1 else 0) }
+    ensures most { result ≤ 1 }
+{
+    if counts { 1 } else { 0 }
+}
+
+/// The rounded root of a mean, at most 46341.
+fn rounded_root(mean: u128) -> u64
+    requires { mean < 2 ^ 125 }
+    ensures { result ≡ roots_below mean max_amplitude }
+{
+    let mut root = 0u64;
+    for k in 0..MAX_AMPLITUDE {
+        root += one_if(u128::from((2 * k + 1) * (2 * k + 1)) <= 4 * mean);
+    }
+    root
+}
+
+/// The root of the mean of I * I + Q * Q over the headers that passed, rounded.
+pub(crate) fn amplitude_of(passes: &[Pass]) -> u64
+    requires { 0 < length passes.now }
+    ensures { result ≡ amplitude_of passes.now }
+{
+    let symbols = HEADER_SYMBOLS as u128 * passes.len() as u128;
+    rounded_root(energy_in(passes) / symbols)
+}

@@ -1,0 +1,34 @@
+//! The contents of an unknown recording: its headers, their modes, and how to set it right.
+//!
+//! A recording may be in either byte order, conjugated and rotated. [`scan_command`] tests each position in all sixteen
+//! forms for each header of the standard (PLHEADER, EN 302 307-1, 5.5.2): MODCOD 0 to 28 with every TYPE. A position
+//! passes with at most 4 wrong bits of the 26 of the SOF and at most 12 of all 90. A header that comes twice at its
+//! frame's distance has a line. The last line is the command that receives the likeliest frames.
+//!
+//! ```text
+//! let exit = scan_command(rt.alloc(), &mut symbols, &mut console);
+//! ```
+#![tactic(auto)]
+
+mod advice;
+mod amplitude;
+mod candidates;
+mod codes;
+mod command;
+mod distances;
+mod forms;
+pub mod laws;
+mod lines;
+mod passes;
+mod ranking;
+mod reading;
+mod sighting;
+mod tally;
+mod text;
+mod texts;
+mod windows;
+
+pub use command::scan_command;
+
+#[cfg(test)]
+mod tests;

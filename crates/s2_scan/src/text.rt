@@ -1,0 +1,45 @@
+//! All that is printed.
+ghost use Rattle.std.specs.Prelude.{◌≡◌, ◌++◌, IfOk, OnOk};
+ghost use Rattle.s2_scan.specs.Lines as lines;
+
+use crate::advice::push_advice;
+use crate::lines::push_line;
+use crate::sighting::Sighting;
+use crate::texts::push;
+use s2_console::Exit;
+use std::alloc::{AllocError, Global};
+
+/// The lines of sightings.
+fn push_lines(text: &mut Vec<u8>, sightings: &[Sighting]) -> Result<(), AllocError>
+    ensures { OnOk result (text.new.items ≡ text.old.items ++ lines.lines_of sightings.now) }
+{
+    for k in 0..sightings.len() {
+        push_line(text, &sightings[k])?;
+    }
+    Ok(())
+}
+
+/// All that is printed of sightings.
+pub(crate) fn scan_text(alloc: Global, sightings: &[Sighting]) -> Result<Vec<u8>, AllocError>
+    ensures { IfOk result (λ text. text.items ≡ lines.scan_text sightings.now) }
+{
+    let mut text = Vec::new(alloc);
+    if sightings.is_empty() {
+        push(&mut text, "nothing found\n")?;
+        return Ok(text);
+    }
+    push_lines(&mut text, sightings)?;
+    push_advice(&mut text, sightings)?;
+    Ok(text)
+}
+
+/// The exit for sightings.
+pub(crate) fn scan_exit(sightings: &[Sighting]) -> Exit
+    ensures { result ≡ lines.scan_exit sightings.now }
+{
+    if sightings.is_empty() {
+        Exit::No
+    } else {
+        Exit::Fine
+    }
+}
