@@ -6,6 +6,7 @@ pub mod FindSteps
 pub mod StepLemmas
 pub mod ReadLemmas
 pub mod NextLemmas
+pub mod SinkFolds
 pub mod RunLemmas
 pub mod JoinLemmas
 pub mod FieldPlaces

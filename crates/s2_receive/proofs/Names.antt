@@ -4,7 +4,7 @@ pub use Rattle.std.proofs.KnownBytes.{Consumes-trans, Appends-nil, Appends-trans
 pub use Rattle.std.proofs.Math.Bool.{and-true, and_assoc}
 pub use Rattle.std.proofs.Math.Nat.{div-mul-le_self, lt-div-mul-add, min-le_left, min-le_right, le-min}
 pub use Rattle.std.proofs.Math.Seq.{take-append-add}
-pub use Rattle.std.proofs.lemmas.Bool.{cases_lt, le-leb, lt-leb, lt-ltb, eqb-true, eq-eqb, ne_eqb, cases_eq, cases_Bool, and_right, and_parts, cond-true, cond-false, cond_both}
+pub use Rattle.std.proofs.lemmas.Bool.{cases_lt, le-leb, lt-leb, lt-ltb, le-ltb, eqb-true, eq-eqb, ne_eqb, cases_eq, cases_Bool, and_right, and_parts, cond-true, cond-false, cond_both}
 pub use Rattle.std.proofs.lemmas.Bool.Decides.{eqb_tells}
 pub use Rattle.std.proofs.lemmas.List.{take_rest, take_all, nil_from_length, take_at, take-take, length-map, drop-take, drop-drop, drop_all, drop-append-le, take-append-le, take_more, drop_at}
 pub use Rattle.std.proofs.lemmas.List.Concat.{flat_map-append}
@@ -37,6 +37,7 @@ pub use Rattle.s2_receive.specs.Meeting.{Met, frame, cut, ended, no_gap, extende
 pub use Rattle.s2_receive.specs.Receiving.{Rules, Standing, after, all_packets, packets_of, delivery, joined_after, at_start, after_all, count_of, State, taken, left_by, left_known, met_left, left_in, asked, asked_by, YieldsMet, EndsAt, Steps, Waits, YieldsSymbols, Reaches, Meets, EndsBehind, StopsShort, Stops, Processed, StepAnswers, IsLive, all_lines, line_of, step_of, is_certified_step, are_all_certified, rank, RunsTo, BreaksOff, BreaksAfter, phase_after, Receiver, Decision, Handles, MetFrame, IsDecided, IsDecidedBy, begun, is_at_frame, report_for, rules_of, frame_totals, counts_after, with_gap, state_of}
 pub use Rattle.s2_receive.specs.Parts.{delivered_of}
 pub use Rattle.s2_receive.specs.ReportLines.{frame_line, step_line}
+pub use Rattle.s2_receive.specs.Sinks.{Taking, TakesFrames, TakesStep, FailsStep, frames_of, IsNotTaken, BreaksTaken, StepAnswersWith, RunAnswersWith, NextWith, OnlyFailedWith}
 pub use Rattle.s2_receive.specs.Stepping.{FailsIn, Fits, IsSound, CanCountIn}
 pub use Rattle.s2_receive.specs.Telling.{Filled, filled_by, joined_by, counts_by, counted, answer_for, HandlesNext, Searches, KeepsWithout}
 unfoldable pub use Rattle.s2_receive.specs.Windows.{Saw, found_as}
@@ -45,6 +46,7 @@ pub use Rattle.s2_receive.specs.declared.finding.Held.{Held}
 pub use Rattle.s2_receive.specs.declared.finding.Next.{Next}
 pub use Rattle.s2_receive.specs.declared.report.Fault.{Fault}
 pub use Rattle.s2_receive.specs.declared.report.Phase.{Phase}
+pub use Rattle.s2_receive.specs.declared.report.Received.{Received}
 pub use Rattle.s2_receive.specs.declared.report.Report.{Report}
 pub use Rattle.s2_receive.specs.declared.report.Step.{Step}
 pub use Rattle.s2_receive.specs.declared.report.Totals.{Totals}

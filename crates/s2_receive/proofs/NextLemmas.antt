@@ -1,5 +1,5 @@
--- One step of a receiver, from a reader to two writers.
-use Rattle.s2_receive.proofs.Names.{◌≡◌, ◌≤◌, ◌⊎◌, inl, inr, ℕ, [], ◌∷◌, Some, Result, Ok, Err, refl, sym, ap, ◌∙◌, subst, append-nil, Appends, Streams, NoneFailed, OneFailed, Met, frame, cut, ended, FailsIn, Rules, State, Decision, IsDecided, IsLive, Handles, EndsAt, Seen, Finds, FindsNone, KeepsLast, KeepsDecision, NextAnswers, Processed, MetFrame, taken, packets_of, line_of, report_for, step_of, step_line, Fault, Step, Report}
+-- One step of a receiver, from a reader to two writers, and to a sink.
+use Rattle.s2_receive.proofs.Names.{◌≡◌, ◌≤◌, ◌⊎◌, inl, inr, ℕ, [], ◌∷◌, Some, Result, Ok, Err, refl, sym, ap, ◌∙◌, subst, append-nil, Appends, Streams, NoneFailed, OneFailed, Met, frame, cut, ended, FailsIn, Rules, State, Decision, IsDecided, IsLive, Handles, EndsAt, Seen, Finds, FindsNone, KeepsLast, KeepsDecision, NextAnswers, Processed, MetFrame, taken, packets_of, line_of, report_for, step_of, step_line, Fault, Step, Report, ◌+◌, Bool, true, false, nat_lt, if◌then◌else◌, List, arith, lt-ltb, le-ltb, is_gap, Taking, TakesFrames, TakesStep, FailsStep, frames_of, IsNotTaken, NextWith}
 use Rattle.s2_receive.proofs.Names.faults
 use Rattle.s2_receive.proofs.Names.phases
 use Rattle.s2_receive.proofs.Names.steps
@@ -49,7 +49,7 @@ module _ (old mid : Seen) (before behind : Streams) (live : IsLive old.state.pha
   line_is {met} {step} handles = ap (λ s. step_line s mid.state.standing.totals) handles.step_is ∙ ap (λ s. step_line (step_of old.rules old.state.standing met) s.totals) handles.standing
 
   -- it was found, and written
-  pub wrote : (step : Step) → Finds old mid before.taken behind.taken before.reads behind.reads (Ok step) → Appends before.given behind.given mid.packets
+  wrote : (step : Step) → Finds old mid before.taken behind.taken before.reads behind.reads (Ok step) → Appends before.given behind.given mid.packets
       → Appends before.out behind.out (step_line step mid.state.standing.totals) → NoneFailed before.writes behind.writes before.prints behind.prints → NextAnswers old mid before behind (Ok step)
   wrote step (met, handles, decided, kept, meets, (front, read, place), ends, reads, within) given line none =
       let processed : Processed old.rules old.state mid.state before behind (met ∷ []) = record {
@@ -72,7 +72,7 @@ module _ (old mid : Seen) (before behind : Streams) (live : IsLive old.state.pha
       }
 
   -- or a write failed on the way
-  pub broke : (step : Step) (new : Seen) → Finds old mid before.taken behind.taken before.reads behind.reads (Ok step) → new.state ≡ record mid.state { phase = phases.Failed }
+  broke : (step : Step) (new : Seen) → Finds old mid before.taken behind.taken before.reads behind.reads (Ok step) → new.state ≡ record mid.state { phase = phases.Failed }
       → FailsIn mid.packets (step_line step mid.state.standing.totals) before.given behind.given before.out behind.out → OneFailed before.writes behind.writes before.prints behind.prints
       → NextAnswers old new before behind (Err faults.Write)
   broke step new (met, handles, decided, kept, meets, reaches, ends, reads, within) is part one = record {
@@ -98,7 +98,7 @@ module _ (old mid : Seen) (before behind : Streams) (live : IsLive old.state.pha
   }
 
   -- or nothing was found
-  pub stuck : (new : Seen) → FindsNone old mid before.taken behind.taken before.reads behind.reads → new.state ≡ record mid.state { phase = phases.Failed } → new.last ≡ mid.last
+  stuck : (new : Seen) → FindsNone old mid before.taken behind.taken before.reads behind.reads → new.state ≡ record mid.state { phase = phases.Failed } → new.last ≡ mid.last
       → NoneFailed before.writes behind.writes before.prints behind.prints → NextAnswers old new before behind (Err faults.Read)
   stuck new (searching, standing, last, short, within) is same none = record {
     live = λ still. record { searching = searching; failed = ap (λ (s : State). s.phase) is; standing = ap (λ (s : State). s.standing) is ∙ standing; stops = short };
@@ -112,7 +112,7 @@ module _ (old mid : Seen) (before behind : Streams) (live : IsLive old.state.pha
   }
 
 -- it rests, after the end or a fault
-pub rested : (old : Seen) (at : Streams) (result : Result Step Fault) → taken old.state ≤ old.rules.limit → ((old.state.phase ≡ phases.Ended) × (result ≡ Ok steps.End)) ⊎ ((old.state.phase ≡ phases.Failed) × (result ≡ Err faults.Failed))
+rested : (old : Seen) (at : Streams) (result : Result Step Fault) → taken old.state ≤ old.rules.limit → ((old.state.phase ≡ phases.Ended) × (result ≡ Ok steps.End)) ⊎ ((old.state.phase ≡ phases.Failed) × (result ≡ Err faults.Failed))
     → NextAnswers old old at at result
 rested old at result within (inl (over, is)) = subst (NextAnswers old old at at) (sym is) (record {
   live = λ still. absurd (live_still old.state still over);
@@ -140,3 +140,108 @@ rested old at result within (inr (failed, is)) = subst (NextAnswers old old at a
   where
     failed_ended : phases.Failed ≡ phases.Ended → ⊥
     failed_ended is = cc
+
+-- ---- with a sink
+
+-- the number of gaps rises exactly if there is one more
+rises : (n : ℕ) (more : Bool) → nat_lt n (n + (if more then 1 else 0)) ≡ more
+rises n true = lt-ltb n (n + 1) (omega arith)
+rises n false = le-ltb n (n + 0) (omega arith)
+
+module _ {S : Type 0} (rules : Rules) (old new : State) (packets : List ℕ) (step : Step) (last : Decision) (k l : S) (after_gap : Bool) (gap : after_gap ≡ nat_lt old.standing.totals.places new.standing.totals.places) where
+  gap_is : (met : Met) (more : Bool) → Handles rules old new met packets step → nat_lt old.standing.totals.places new.standing.totals.places ≡ nat_lt old.standing.totals.places (old.standing.totals.places + (if more then 1 else 0)) → after_gap ≡ more
+  gap_is met more handles places = gap ∙ places ∙ rises old.standing.totals.places more
+
+  -- the sink took the frame that was met, if it is one
+  took : (takes : Taking S) (met : Met) → Handles rules old new met packets step → IsDecided rules met last → TakesStep takes step k l after_gap last → TakesFrames takes k l (frames_of rules (met ∷ []))
+  took takes (frame at skipped symbols) handles decided done =
+      let so = gap_is (frame at skipped symbols) (is_gap skipped) handles (ap (λ s. nat_lt old.standing.totals.places s.totals.places) handles.standing) in
+      let taken_is = subst (λ s. TakesStep takes s k l after_gap last) handles.step_is done in
+      (l, subst (λ g. takes k l g (rules.decide symbols)) so (subst (λ d. takes k l after_gap d) decided taken_is), refl)
+  took takes (cut at skipped count) handles decided done = subst (λ s. TakesStep takes s k l after_gap last) handles.step_is done
+  took takes (ended skipped) handles decided done = subst (λ s. TakesStep takes s k l after_gap last) handles.step_is done
+
+module _ {S : Type 0} (takes fails : Taking S) (count : S → ℕ) (old mid : Seen) (before behind : Streams) (live : IsLive old.state.phase) (k l : S) where
+  -- it was found, its frame was taken, and it was written
+  pub wrote_with : (step : Step) (after_gap : Bool) → after_gap ≡ nat_lt old.state.standing.totals.places mid.state.standing.totals.places → Finds old mid before.taken behind.taken before.reads behind.reads (Ok step)
+      → Appends before.given behind.given mid.packets → Appends before.out behind.out (step_line step mid.state.standing.totals) → NoneFailed before.writes behind.writes before.prints behind.prints
+      → TakesStep takes step k l after_gap mid.last → count l ≡ count k → NextWith takes fails count old mid k l before behind (Ok step)
+  unfolding wrote
+  wrote_with step after_gap gap (met, handles, decided, kept, meets, (front, read, place), ends, reads, within) given line none done counted =
+      let plain = wrote old mid before behind live step (met, handles, decided, kept, meets, (front, read, place), ends, reads, within) given line none in record {
+        live = λ still. (plain.live still, took old.rules old.state mid.state mid.packets step mid.last k l after_gap gap takes met handles decided done);
+        not_failed = λ _. plain;
+        bounded = plain.bounded;
+        counts = record { no_read = plain.counts.no_read; write_reported = λ told. inl (plain.counts.write_reported told, counted); no_write = λ other. (plain.counts.no_write other, counted) };
+      }
+
+  -- or its frame was taken, and a write failed on the way
+  pub broke_with : (step : Step) (after_gap : Bool) → after_gap ≡ nat_lt old.state.standing.totals.places mid.state.standing.totals.places → (new : Seen) → Finds old mid before.taken behind.taken before.reads behind.reads (Ok step)
+      → new.state ≡ record mid.state { phase = phases.Failed } → FailsIn mid.packets (step_line step mid.state.standing.totals) before.given behind.given before.out behind.out
+      → OneFailed before.writes behind.writes before.prints behind.prints → TakesStep takes step k l after_gap mid.last → count l ≡ count k → NextWith takes fails count old new k l before behind (Err faults.Write)
+  unfolding broke
+  broke_with step after_gap gap new (met, handles, decided, kept, meets, reaches, ends, reads, within) is part one done counted =
+      let plain = broke old mid before behind live step new (met, handles, decided, kept, meets, reaches, ends, reads, within) is part one in record {
+        live = λ still. ((plain.live still).0, inl ((plain.live still).1, took old.rules old.state mid.state mid.packets step mid.last k l after_gap gap takes met handles decided done));
+        not_failed = λ _. plain;
+        bounded = plain.bounded;
+        counts = record { no_read = plain.counts.no_read; write_reported = λ told. inl (plain.counts.write_reported told, counted); no_write = λ other. (plain.counts.no_write other, counted) };
+      }
+
+  -- or the sink failed to take its frame
+  refused_at : (step : Step) (after_gap : Bool) → after_gap ≡ nat_lt old.state.standing.totals.places mid.state.standing.totals.places → Finds old mid before.taken behind.taken before.reads behind.reads (Ok step)
+      → behind.given ≡ before.given → behind.out ≡ before.out → FailsStep fails step k l after_gap mid.last → IsNotTaken fails old.rules old.state k l before behind
+  refused_at step after_gap gap (frame at skipped symbols, handles, decided, kept, meets, reaches, ends, reads, within) given out failed =
+      let so = gap_is old.rules old.state mid.state mid.packets step mid.last k l after_gap gap (frame at skipped symbols) (is_gap skipped) handles (ap (λ s. nat_lt old.state.standing.totals.places s.totals.places) handles.standing) in
+      let failed_is = subst (λ s. FailsStep fails s k l after_gap mid.last) handles.step_is failed in
+      record {
+        at = at;
+        skipped = skipped;
+        symbols = symbols;
+        mid = mid.state;
+        left = meets;
+        reaches = reaches;
+        within = within;
+        failed = subst (λ g. fails k l g (old.rules.decide symbols)) so (subst (λ d. fails k l after_gap d) decided failed_is);
+        packets = given;
+        lines = out;
+      }
+  refused_at step after_gap gap (cut at skipped count, handles, decided, kept, meets, reaches, ends, reads, within) given out failed = absurd (subst (λ s. FailsStep fails s k l after_gap mid.last) handles.step_is failed)
+  refused_at step after_gap gap (ended skipped, handles, decided, kept, meets, reaches, ends, reads, within) given out failed = absurd (subst (λ s. FailsStep fails s k l after_gap mid.last) handles.step_is failed)
+
+  pub refused : (step : Step) (after_gap : Bool) → after_gap ≡ nat_lt old.state.standing.totals.places mid.state.standing.totals.places → (new : Seen) → Finds old mid before.taken behind.taken before.reads behind.reads (Ok step)
+      → new.state ≡ record mid.state { phase = phases.Failed } → behind.given ≡ before.given → behind.out ≡ before.out → NoneFailed before.writes behind.writes before.prints behind.prints
+      → FailsStep fails step k l after_gap mid.last → count l ≡ count k + 1 → NextWith takes fails count old new k l before behind (Err faults.Write)
+  refused step after_gap gap new found is given out none failed counted =
+      let (met, handles, decided, kept, meets, reaches, ends, reads, within) = found in record {
+        live = λ still. (ap (λ (s : State). s.phase) is, inr (refused_at step after_gap gap found given out failed));
+        not_failed = λ same. absurd (omega (arith, same, counted));
+        bounded = subst (λ (s : State). taken s ≤ old.rules.limit) (sym is) within;
+        counts = record { no_read = λ _. reads; write_reported = λ _. inr (none, counted); no_write = λ other. absurd (other refl) };
+      }
+
+  -- or nothing was found
+  pub stuck_with : (new : Seen) → FindsNone old mid before.taken behind.taken before.reads behind.reads → new.state ≡ record mid.state { phase = phases.Failed } → new.last ≡ mid.last
+      → NoneFailed before.writes behind.writes before.prints behind.prints → l ≡ k → NextWith takes fails count old new k l before behind (Err faults.Read)
+  stuck_with new found is same none kept =
+      let plain = stuck old mid before behind live new found is same none in record {
+        live = λ still. (plain.live still, kept);
+        not_failed = λ _. plain;
+        bounded = plain.bounded;
+        counts = record { no_read = plain.counts.no_read; write_reported = λ told. cc; no_write = λ other. (plain.counts.no_write other, ap count kept) };
+      }
+
+-- it rests, after the end or a fault
+pub rested_with : {S : Type 0} (takes fails : Taking S) (count : S → ℕ) (old : Seen) (at : Streams) (k : S) (result : Result Step Fault) → taken old.state ≤ old.rules.limit
+    → ((old.state.phase ≡ phases.Ended) × (result ≡ Ok steps.End)) ⊎ ((old.state.phase ≡ phases.Failed) × (result ≡ Err faults.Failed)) → NextWith takes fails count old old k k at at result
+rested_with takes fails count old at k result within rests =
+    let plain = rested old at result within rests in record {
+      live = λ still. absurd (not_live still rests);
+      not_failed = λ _. plain;
+      bounded = plain.bounded;
+      counts = record { no_read = plain.counts.no_read; write_reported = λ told. inl (plain.counts.write_reported told, refl); no_write = λ other. (plain.counts.no_write other, refl) };
+    }
+  where
+    not_live : IsLive old.state.phase → ((old.state.phase ≡ phases.Ended) × (result ≡ Ok steps.End)) ⊎ ((old.state.phase ≡ phases.Failed) × (result ≡ Err faults.Failed)) → ⊥
+    not_live still (inl (over, is)) = live_still old.state still over
+    not_live still (inr (failed, is)) = live_only old.state still failed

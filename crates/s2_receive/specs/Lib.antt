@@ -3,6 +3,7 @@ pub mod Finding
 pub mod Faults
 pub mod Receiving
 pub mod Answers
+pub mod Sinks
 pub mod Parts
 pub mod Stepping
 pub mod Telling

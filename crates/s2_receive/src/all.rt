@@ -5,10 +5,12 @@ ghost use Rattle.s2_mode.specs.Streams.{streams_by, NoneFailed, OneFailed};
 ghost use Rattle.s2_receive.specs.Receiving.{IsLive, begun, is_certified_step, taken};
 ghost use Rattle.s2_receive.specs.declared.report.Phase.TheVariants as phases;
 ghost use Rattle.s2_receive.specs.Answers.{Between, IsSame, RunsSteps, OnlyStreamFaults, ReceivesBytes, bytes_by};
+ghost use Rattle.s2_receive.specs.Sinks.{OnlyFaultsWith, RunsWith};
 
 use crate::parts::Decide;
 use crate::receiver::Receiver;
 use crate::report::{Outcome, Received, Step, Totals};
+use crate::sinks::Sink;
 use s2_mode::{CountedRead, CountedWrite, InMemory, StreamFault, WriteFault};
 
 /// Whether a step is a frame that was delivered with bits that are sole or most likely, or the end.
@@ -46,9 +48,38 @@ pub fn receive_all<D: Decide, R: CountedRead, P: CountedWrite, W: CountedWrite>(
     ensures bounded { taken receiver.new.state ≤ receiver.old.limit }
     ensures same { IsSame D.decide receiver.old receiver.new }
 {
+    receive_with(receiver, reader, &mut (), packets, report)
+}
+
+/// As [`receive_all`], with a sink that takes each frame before its packets and its line are written.
+///
+/// After `Ok` and after `Read`, the sink took all frames that were met, in order. `Write` has two causes. A packet or a
+/// line could not be written: then the sink took all frames up to the one at hand. Or the sink failed at a frame: then it
+/// took all frames before, and nothing of this frame is in the packets or in the report. Everything met before is written
+/// whole.
+pub fn receive_with<D: Decide, K: Sink<D>, R: CountedRead, P: CountedWrite, W: CountedWrite>(
+    receiver: &mut Receiver<D>,
+    reader: &mut R,
+    sink: &mut K,
+    packets: &mut P,
+    report: &mut W,
+) -> Result<Received, StreamFault>
+    requires reader { CanCount (R.count reader.old) }
+    requires sink { CanCount (K.count sink.old) }
+    requires packets { CanCount (P.count packets.old) }
+    requires report { CanCount (W.count report.old) }
+    requires live { IsLive receiver.old.state.phase }
+    ensures runs { Between (RunsWith D.decide K.takes K.fails receiver.old receiver.new sink.old sink.new) R.remaining R.count
+        P.contents P.count W.contents W.count reader.old packets.old report.old reader.new packets.new report.new result }
+    ensures counts { Between (OnlyFaultsWith (K.count sink.old) (K.count sink.new)) R.remaining R.count
+        P.contents P.count W.contents W.count reader.old packets.old report.old reader.new packets.new report.new result }
+    ensures stopped { OnErr result (receiver.new.state.phase ≡ phases.Failed) }
+    ensures bounded { taken receiver.new.state ≤ receiver.old.limit }
+    ensures same { IsSame D.decide receiver.old receiver.new }
+{
     let mut all_certified = true;
     'steps: loop {
-        match receiver.next(reader, packets, report) {
+        match receiver.next_with(reader, sink, packets, report) {
             Ok(step) => {
                 if step == Step::End {
                     let totals = receiver.totals();

@@ -43,10 +43,12 @@ mod parts;
 mod receiver;
 mod report;
 mod scanning;
+mod sinks;
 mod stepper;
 mod telling;
 
-pub use all::{receive_all, receive_bytes};
+pub use all::{receive_all, receive_bytes, receive_with};
 pub use parts::{Decide, Decided};
 pub use receiver::Receiver;
 pub use report::{Fault, Outcome, Received, Report, Step, Totals};
+pub use sinks::Sink;

@@ -5,10 +5,12 @@ ghost use Rattle.s2_mode.specs.Limits.{max_symbols};
 ghost use Rattle.s2_mode.specs.Mode.{symbols_in};
 ghost use Rattle.s2_receive.specs.declared.report.Phase.TheVariants as phases;
 ghost use Rattle.s2_receive.specs.Receiving.{IsLive, asked, begun, is_at_frame, rules_of, taken};
-ghost use Rattle.s2_receive.specs.Answers.{Advances, Finds, IsSame, Reads, StepsBy, seen_by};
+ghost use Rattle.s2_receive.specs.Answers.{Advances, Between, Finds, IsSame, Reads, StepsBy, seen_by};
+ghost use Rattle.s2_receive.specs.Sinks.{NextWith};
 
 use crate::parts::Decide;
 use crate::report::{Fault, Phase, Step, Totals};
+use crate::sinks::{Sink, give_frame};
 use crate::stepper::Stepper;
 use crate::telling::write_step;
 use s2_mode::{CountedRead, CountedWrite, Mode, ReadFault, read_full};
@@ -222,13 +224,42 @@ impl<D: Decide> Receiver<D> {
         ensures unwritten { IsErrOf result Fault.Read → (packets.new ≡ packets.old) × (report.new ≡ report.old) }
         ensures counted { IfOk result (λ _. self.new.state.standing.totals.frames ≤ max_symbols) }
     {
+        self.next_with(reader, &mut (), packets, report)
+    }
+
+    /// The same, with a sink that takes the step's frame before its packets and its line are written. `Write` also
+    /// means that the sink failed; then nothing of this frame is written.
+    pub(crate) fn next_with<K: Sink<D>, R: CountedRead, P: CountedWrite, W: CountedWrite>(
+        &mut self,
+        reader: &mut R,
+        sink: &mut K,
+        packets: &mut P,
+        report: &mut W,
+    ) -> Result<Step, Fault>
+        requires reader { CanCount (R.count reader.old) }
+        requires sink { CanCount (K.count sink.old) }
+        requires packets { CanCount (P.count packets.old) }
+        requires report { CanCount (W.count report.old) }
+        ensures same { IsSame D.decide self.old self.new }
+        ensures steps { Between (NextWith K.takes K.fails K.count (seen_by D.decide D.last self.old) (seen_by D.decide D.last self.new) sink.old sink.new)
+            R.remaining R.count P.contents P.count W.contents W.count reader.old packets.old report.old reader.new packets.new report.new result }
+        ensures nothing { (IsLive self.old.state.phase → ⊥) → (self.new ≡ self.old) × (reader.new ≡ reader.old)
+            × (packets.new ≡ packets.old) × (report.new ≡ report.old) }
+        ensures unwritten { IsErrOf result Fault.Read → (packets.new ≡ packets.old) × (report.new ≡ report.old) }
+        ensures counted { IfOk result (λ _. self.new.state.standing.totals.frames ≤ max_symbols) }
+    {
         match self.stepper.phase() {
             Phase::Searching | Phase::Closing => {}
             Phase::Ended => return Ok(Step::End),
             Phase::Failed => return Err(Fault::Failed),
         }
+        let places = self.totals().places;
         let Ok(step) = self.find(reader) else {
             return Err(self.fail(Fault::Read));
+        };
+        let after_gap = self.totals().places > places;
+        let Ok(()) = give_frame(step, after_gap, self.decider(), sink) else {
+            return Err(self.fail(Fault::Write));
         };
         match write_step(self.packets(), step, self.totals(), packets, report) {
             Ok(()) => Ok(step),

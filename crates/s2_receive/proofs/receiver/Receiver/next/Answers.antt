@@ -1,46 +1,5 @@
-use Rattle.s2_receive.proofs.Names.{◌≤◌, refl, ap, subst, inl, inr, Ok, Err, Receiver, streams_by, IsLive, seen_by, taken, rules as common}
-use Rattle.s2_receive.proofs.Names.faults
-use Rattle.s2_receive.proofs.Names.steps
-use Rattle.s2_receive.proofs.NextLemmas.{broke, rested, stuck, wrote}
+use Rattle.s2_receive.proofs.Names.{refl}
 use Rattle.s2_receive.proofs.receiver.Receiver.next.Goals as goal
 
-pub returns-in-Ok-write_step-clause-steps : goal.returns-in-Ok-write_step-clause-steps
-returns-in-Ok-write_step-clause-steps g c =
-    let see = seen_by g.D.Decide.decide g.D.Decide.last in
-    let ends = streams_by g.R.CountedRead.remaining g.R.Counted.count g.P.CountedWrite.contents g.P.Counted.count g.W.CountedWrite.contents g.W.Counted.count in
-    let live : IsLive c.args.self.now.state.phase = search common in
-    let told = c.in-Ok-write_step.ensures in
-    wrote (see c.args.self.now) (see c.find.new.self) (ends c.args.reader.now c.args.packets.now c.args.report.now) (ends c.find.new.reader c.write_step.new.packets c.write_step.new.report) live
-    c.in-Ok.step c.in-Ok.ensures.finds (rw c.packets.ensures at told.packets) (rw c.totals.ensures.is at told.line) told.no_write
-
-pub returns-in-Err-clause-steps : goal.returns-in-Err-clause-steps
-returns-in-Err-clause-steps g c =
-    let see = seen_by g.D.Decide.decide g.D.Decide.last in
-    let ends = streams_by g.R.CountedRead.remaining g.R.Counted.count g.P.CountedWrite.contents g.P.Counted.count g.W.CountedWrite.contents g.W.Counted.count in
-    let live : IsLive c.args.self.now.state.phase = search common in
-    let told = c.in-Err.ensures in
-    rw c.fail-in-Err.ensures.fault
-    (broke (see c.args.self.now) (see c.find.new.self) (ends c.args.reader.now c.args.packets.now c.args.report.now) (ends c.find.new.reader c.write_step.new.packets c.write_step.new.report) live
-    c.in-Ok.step (see c.fail-in-Err.new.self) c.in-Ok.ensures.finds (ap (λ (r : Receiver g.row.D.Denot). r.state) c.fail-in-Err.ensures.state)
-    (rw (c.packets.ensures, c.totals.ensures.is) at told.part) told.write)
-
-pub returns-in-Ended-clause-steps : goal.returns-in-Ended-clause-steps
-returns-in-Ended-clause-steps g c =
-    let ends = streams_by g.R.CountedRead.remaining g.R.Counted.count g.P.CountedWrite.contents g.P.Counted.count g.W.CountedWrite.contents g.W.Counted.count in
-    rested (seen_by g.D.Decide.decide g.D.Decide.last c.args.self.now) (ends c.args.reader.now c.args.packets.now c.args.report.now) (Ok steps.End)
-    (subst (λ (r : Receiver g.row.D.Denot). taken r.state ≤ r.limit) c.self.view_is c.phase.ensures.within) (inl (search common, refl))
-
-pub returns-in-Failed-clause-steps : goal.returns-in-Failed-clause-steps
-returns-in-Failed-clause-steps g c =
-    let ends = streams_by g.R.CountedRead.remaining g.R.Counted.count g.P.CountedWrite.contents g.P.Counted.count g.W.CountedWrite.contents g.W.Counted.count in
-    rested (seen_by g.D.Decide.decide g.D.Decide.last c.args.self.now) (ends c.args.reader.now c.args.packets.now c.args.report.now) (Err faults.Failed)
-    (subst (λ (r : Receiver g.row.D.Denot). taken r.state ≤ r.limit) c.self.view_is c.phase.ensures.within) (inr (search common, refl))
-
-pub returns-in_default-clause-steps : goal.returns-in_default-clause-steps
-returns-in_default-clause-steps g c =
-    let see = seen_by g.D.Decide.decide g.D.Decide.last in
-    let ends = streams_by g.R.CountedRead.remaining g.R.Counted.count g.P.CountedWrite.contents g.P.Counted.count g.W.CountedWrite.contents g.W.Counted.count in
-    let live : IsLive c.args.self.now.state.phase = search common in
-    rw c.fail.ensures.fault
-    (stuck (see c.args.self.now) (see c.find.new.self) (ends c.args.reader.now c.args.packets.now c.args.report.now) (ends c.find.new.reader c.args.packets.now c.args.report.now) live
-    (see c.fail.new.self) c.in_default.ensures.finds (ap (λ (r : Receiver g.row.D.Denot). r.state) c.fail.ensures.state) (ap (λ (r : Receiver g.row.D.Denot). g.D.Decide.last r.decider) c.fail.ensures.state) (refl, refl))
+pub returns-clause-steps : goal.returns-clause-steps
+returns-clause-steps g c = c.next_with.ensures.steps.not_failed refl

@@ -1,0 +1,90 @@
+//! Sinks: they take each frame before its packets and its line are written.
+ghost use Rattle.std.specs.Prelude.{◌≡◌, ℕ, ◌+◌, Bool, OnOk, OnErr};
+ghost use Rattle.s2_mode.specs.Counts.{CanCount, CountsFault};
+ghost use Rattle.s2_receive.specs.Receiving.{Decision};
+ghost use Rattle.s2_receive.specs.Sinks.{BothTake, FailsStep, OneFails, TakesStep, WantedFails, WantedTakes, wanted_count};
+
+use crate::parts::Decide;
+use crate::report::Step;
+use s2_mode::WriteFault;
+
+/// A sink: it takes each frame that a receiver decided, before its packets and its line are written.
+///
+/// `()` is a sink that does nothing. A pair of sinks gives each frame to the first one, and then to the second. An
+/// `Option` without a sink does nothing.
+pub trait Sink<D: Decide> {
+    /// The sink after it took a frame, by whether symbols were skipped before the frame, and by the decision on it.
+    ghost takes: { Self → Self → Bool → Decision → Type 0 };
+
+    /// The sink after it failed to take a frame.
+    ghost fails: { Self → Self → Bool → Decision → Type 0 };
+
+    /// The number of its failed calls.
+    ghost count: { Self → ℕ };
+
+    /// Takes the frame that was decided last. `after_gap` says whether symbols were skipped before it. `WriteFault`
+    /// means that a write failed; a part of what the frame gives may be written.
+    fn take(&mut self, after_gap: bool, decider: &D) -> Result<(), WriteFault>
+        requires { CanCount (count self.old) }
+        ensures takes { OnOk result (takes self.old self.new after_gap (D.last decider.now)) }
+        ensures fails { OnErr result (fails self.old self.new after_gap (D.last decider.now)) }
+        ensures cause { CountsFault (count self.old) (count self.new) result };
+}
+
+impl<D: Decide> Sink<D> for () {
+    ghost takes = { λ old new after_gap decision. new ≡ old };
+
+    ghost fails = { λ old new after_gap decision. ⊥ };
+
+    ghost count = { λ sink. 0 };
+
+    fn take(&mut self, _after_gap: bool, _decider: &D) -> Result<(), WriteFault> {
+        Ok(())
+    }
+}
+
+impl<D: Decide, A: Sink<D>, B: Sink<D>> Sink<D> for (A, B) {
+    ghost takes = { BothTake A.takes B.takes };
+
+    ghost fails = { OneFails A.takes A.fails B.fails };
+
+    ghost count = { λ sinks. A.count sinks.0 + B.count sinks.1 };
+
+    fn take(&mut self, after_gap: bool, decider: &D) -> Result<(), WriteFault> {
+        self.0.take(after_gap, decider)?;
+        self.1.take(after_gap, decider)
+    }
+}
+
+impl<D: Decide, A: Sink<D>> Sink<D> for Option<A> {
+    ghost takes = { WantedTakes A.takes };
+
+    ghost fails = { WantedFails A.fails };
+
+    ghost count = { wanted_count A.count };
+
+    fn take(&mut self, after_gap: bool, decider: &D) -> Result<(), WriteFault> {
+        match self {
+            None => Ok(()),
+            Some(sink) => sink.take(after_gap, decider),
+        }
+    }
+}
+
+/// Gives the frame of a step to a sink. If the step is no frame, it does nothing.
+pub(crate) fn give_frame<D: Decide, K: Sink<D>>(
+    step: Step,
+    after_gap: bool,
+    decider: &D,
+    sink: &mut K,
+) -> Result<(), WriteFault>
+    requires { CanCount (K.count sink.old) }
+    ensures takes { OnOk result (TakesStep K.takes step sink.old sink.new after_gap (D.last decider.now)) }
+    ensures fails { OnErr result (FailsStep K.fails step sink.old sink.new after_gap (D.last decider.now)) }
+    ensures cause { CountsFault (K.count sink.old) (K.count sink.new) result }
+{
+    match step {
+        Step::Frame(_) => sink.take(after_gap, decider),
+        Step::Cut { .. } | Step::End => Ok(()),
+    }
+}
