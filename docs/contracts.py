@@ -63,8 +63,10 @@ def without_generics(head):
 
 
 def owner_of(head):
-    """The type of `Type` or `Trait for Type`, or the trait."""
-    return NAME.findall(head.split(" where")[0].split(" for ")[-1].split(":")[0])[-1]
+    """The type of `Type` or `Trait for Type`, or the trait, also if the type is a tuple."""
+    trait, _, type_name = head.split(" where")[0].rpartition(" for ")
+    names = [] if type_name.startswith("(") else NAME.findall(type_name.split(":")[0])
+    return (names or NAME.findall(trait))[-1]
 
 
 def functions(text, owner=None, of_trait=False, within=None):
