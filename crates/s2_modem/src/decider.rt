@@ -133,9 +133,12 @@ impl<'a> Decide for Decider<'a> {
         self.demodulator.find_soft(symbols, self.judge.soft_mut());
         let verdict = self.judge.decide();
         let found = self.corrector.correct(self.judge.word());
-        self.last = self
-            .reader
-            .read_outcome(verdict, found, self.corrector.word());
+        let (outcome, header) = self.reader.read_outcome(found, self.corrector.word());
+        self.last = Decided {
+            verdict,
+            outcome,
+            header,
+        };
     }
 
     fn decided(&self) -> Decided {

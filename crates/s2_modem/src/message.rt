@@ -11,9 +11,8 @@ ghost use Rattle.s2_modem.specs.Listening.{Reads};
 
 use s2_bbframe::{Header, HeaderFault, field_bytes};
 use s2_bits::{Bits, bytes_from};
-use s2_check::Verdict;
 use s2_mode::Mode;
-use s2_receive::{Decided, Outcome};
+use s2_receive::Outcome;
 use s2_scramble::bb_xor_in_place;
 use std::alloc::{AllocError, Global};
 use std::marker::Model;
@@ -139,37 +138,23 @@ impl MessageReader {
         )
     }
 
-    /// The outcome of decided bits after BCH decoding left this word.
+    /// The outcome of decided bits after BCH decoding left this word, and the header if it is accepted.
     pub(crate) fn read_outcome(
         &mut self,
-        verdict: Verdict,
         found: Option<u32>,
         bch_word: &Bits,
-    ) -> Decided
+    ) -> (Outcome, Option<Header>)
         requires bch_word { length bch_word.now ≡ k_of self.old.mode }
         ensures mode { self.new.mode ≡ self.old.mode }
-        ensures verdict { result.verdict ≡ verdict }
-        ensures reads { Reads self.old.mode bch_word.now found result.outcome (delivered_of result.header self.new.field) }
-        ensures place { IfSome result.header (HasPlace self.new.field) }
+        ensures reads { Reads self.old.mode bch_word.now found result.0 (delivered_of result.1 self.new.field) }
+        ensures place { IfSome result.1 (HasPlace self.new.field) }
     {
         let Some(fixed) = found else {
-            return Decided {
-                verdict,
-                outcome: Outcome::NoWord,
-                header: None,
-            };
+            return (Outcome::NoWord, None);
         };
         match self.read(bch_word) {
-            Ok(header) => Decided {
-                verdict,
-                outcome: Outcome::Delivered { fixed },
-                header: Some(header),
-            },
-            Err(fault) => Decided {
-                verdict,
-                outcome: Outcome::BadHeader(fault),
-                header: None,
-            },
+            Ok(header) => (Outcome::Delivered { fixed }, Some(header)),
+            Err(fault) => (Outcome::BadHeader(fault), None),
         }
     }
 

@@ -6,6 +6,7 @@ ghost use Rattle.s2_receive.specs.Telling.{IsFew};
 
 use crate::delivering::StepCounts;
 use crate::gap::Gap;
+use crate::parts::Decided;
 use s2_bbframe::HeaderFault;
 use s2_check::Verdict;
 use s2_mode::StreamFault;
@@ -29,6 +30,21 @@ pub struct Report {
     pub at: u64,
     pub verdict: Verdict,
     pub outcome: Outcome,
+}
+
+impl Report {
+    /// The report of a decided frame.
+    pub(crate) fn of(number: u64, at: u64, decided: Decided) -> Report
+        ensures place { (result.number ≡ number) × (result.at ≡ at) }
+        ensures decided { (result.verdict ≡ decided.verdict) × (result.outcome ≡ decided.outcome) }
+    {
+        Report {
+            number,
+            at,
+            verdict: decided.verdict,
+            outcome: decided.outcome,
+        }
+    }
 }
 
 /// The totals so far.

@@ -45,13 +45,8 @@ impl<D: Decide> Stepper<D> {
     {
         match next {
             Next::Frame { at, skipped: _ } => {
-                let decided = self.decider.decided();
-                Step::Frame(Report {
-                    number: self.status.totals.frames + 1,
-                    at,
-                    verdict: decided.verdict,
-                    outcome: decided.outcome,
-                })
+                let number = self.status.totals.frames + 1;
+                Step::Frame(Report::of(number, at, self.decider.decided()))
             }
             Next::Cut {
                 at,

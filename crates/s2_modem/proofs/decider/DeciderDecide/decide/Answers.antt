@@ -15,7 +15,7 @@ module _ (c : After-read_outcome-self-inside) where
       c.decide-verdict.ensures.soft ∙ values ∙ c.find_soft.ensures.is ∙ (λ i. soft_values (so.divisor i) (so.demodulator i) (received_payload (so.demodulator i) c.self.inside.demodulator.number c.args.symbols.now))
 
   abbrev decision : Decision
-  decision = decision_held c.self.inside.mode c.decide-verdict.new.self.soft c.decide-verdict.new.self.bits c.decide-verdict.new.self.certificate c.correct-found.new.self.word c.read_outcome-self-inside.result c.read_outcome-self-inside.new.self.field
+  decision = decision_held c.self.inside.mode c.decide-verdict.new.self.soft c.decide-verdict.new.self.bits c.decide-verdict.new.self.certificate c.correct-found.new.self.word (record { verdict = c.decide-verdict.result; outcome = c.read_outcome-self-inside.result.0; header = c.read_outcome-self-inside.result.1 }) c.read_outcome-self-inside.new.self.field
 
   finds : FindsWord c.self.inside.mode (received_word c.self.inside.mode c.decide-verdict.new.self.bits) c.correct-found.new.self.word c.correct-found.result
   finds = rw (c.self.invariant.corrector, c.word.ensures.is) at c.correct-found.ensures.nearest
@@ -26,9 +26,9 @@ module _ (c : After-read_outcome-self-inside) where
   is_decided : decision ≡ decides c.args.self.now c.args.symbols.now
   is_decided =
       let was = c.decide-verdict in
-      frame_decided link c.self.inside.judge.tuning c.args.symbols.now was.new.self.soft _ was.new.self.bits c.read_outcome-self-inside.result.verdict was.new.self.certificate
+      frame_decided link c.self.inside.judge.tuning c.args.symbols.now was.new.self.soft _ was.new.self.bits was.result was.new.self.certificate
       c.correct-found.new.self.word c.correct-found.result decision.outcome decision.delivered
-      was.ensures.soft (sym was.ensures.soft ∙ soft_is) (c.read_outcome-self-inside.ensures.verdict ∙ was.ensures.verdict) was.ensures.bits was.ensures.certificate finds reads
+      was.ensures.soft (sym was.ensures.soft ∙ soft_is) was.ensures.verdict was.ensures.bits was.ensures.certificate finds reads
       ∙ ap (λ (l : Listening). frame_decision l.link l.tuning c.args.symbols.now) c.self.view_is
 
 pub returns-clause-last : goal.returns-clause-last
