@@ -1,5 +1,5 @@
 -- The input, the report and the output of a receiver of a link, and the setups that it refuses (EN 302 307-1, 5.1 to 5.5).
-use Rattle.std.specs.Prelude.{◌≡◌, IsTrue, ℕ, ℤ, Bool, if◌then◌else◌, List, Option, None, Result, Ok, Err, ⊤}
+use Rattle.std.specs.Prelude.{◌≡◌, IsTrue, ℕ, ℤ, Bool, if◌then◌else◌, List, Option, None, Result, Ok, Err}
 use Rattle.s2_mode.specs.Mode.{Mode, k_of, symbols_in}
 use Rattle.s2_mode.specs.Streams.{Streams}
 use Rattle.s2_mode.specs.declared.symbols.Symbol.{Symbol}
