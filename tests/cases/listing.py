@@ -49,12 +49,20 @@ SWITCH = "error: '--pilots' takes no value: frames have pilot blocks where it st
 MORE = "\nFor more information, try '--help'.\n"
 USAGES = {
     "table": "s2 table [OPTIONS] --modcod <M> <ROWS>",
+    "judge": "s2 judge [OPTIONS] <--group <G>|--modcod <M>> <ROWS> <SOFT>",
     "join": "s2 join [OPTIONS] --modcod <M> <BBFRAMES> <PACKETS>",
     "mod": "s2 mod [OPTIONS] --modcod <M> <ROWS> <PACKETS> <SYMBOLS>",
     "demod": "s2 demod [OPTIONS] --modcod <M> <ROWS> <SYMBOLS> <PACKETS>",
     "run": "s2 run [OPTIONS] --modcod <M> --seed <S> <--level <L>|--esn0 <DB>> <ROWS> <PACKETS> <OUT>",
 }
-REST = {"table": "made", "join": "packets out", "mod": "made packets out", "demod": "made packets out", "run": "--seed 1 --level 1 made packets out"}
+REST = {
+    "table": "made",
+    "judge": "toy stored",
+    "join": "packets out",
+    "mod": "made packets out",
+    "demod": "made packets out",
+    "run": "--seed 1 --level 1 made packets out",
+}
 
 
 def no_mode(name, text):
@@ -125,7 +133,7 @@ CASES = [
     Case("run --help", out=option("2  ", "a frame is lost, cut, parity or broken")),
 ]
 # Their files, where the first is not there.
-NONE_READ = {name: rest.replace("made", "none") for name, rest in REST.items()} | {"join": "none out"}
+NONE_READ = {name: rest.replace("made", "none") for name, rest in REST.items()} | {"judge": "none stored", "join": "none out"}
 # Commands by a name, and by its number.
 ALIKE = [
     tuple(fault(f"{name} --modcod {mode} {NONE_READ[name]}", "cannot open none") for mode in modes)

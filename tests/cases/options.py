@@ -4,12 +4,14 @@ import re
 from dataclasses import dataclass, field
 
 from cases import links, listing, progress, records
-from cases.common import ANY, FINE, LINK, NO, PACKET, PAIR, STORED_MOVED, TOY, TWO, WANTED, Case, Rule, digest, noted
+from cases.common import (
+    ANY, FINE, LINK, NO, PACKET, PAIR, STORED, STORED_CERTIFICATE, STORED_MOVED, TOY, TWO, WANTED, Case, Rule, digest, first_line, noted,
+)  # fmt: skip
 from cases.drawn import gaussian, made_rows, spoilt
 from cases.judging import LEFT
 from cases.links import NOISY, NONE, PARITY, SAMPLES, wrong_headers
 from cases.modes import PACKETS, WORDS
-from cases.words import WANTED_NORMAL
+from cases.words import LACKS, WANTED_NORMAL
 
 
 @dataclass
@@ -47,6 +49,7 @@ def by_default(option, default, other, usual, changed):
 
 
 ROWS_NOTE = "these rows are not the standard's for QPSK 1/4, short"
+HARD_NOTE = "these look like hard decisions: use --hard"
 TOO_FEW = "rows: too few rows"
 
 
@@ -70,11 +73,21 @@ def rows_effects():
 
 
 def judge_effects():
-    sole, parity = ended("sole cost -45\n"), ended("parity cost -2\n", NO)
+    sole, parity, lacks = ended("sole cost -45\n"), ended("parity cost -2\n", NO), ended("", 1, first_line(LACKS))
     shapes = {"group": (4, 2, "rows: address too large in line 1"), "groups": (2, 1, "rows: too many rows"), "q": (3, 4, "values: too few")}
     for name, (usual, other, text) in shapes.items():
         words = TOY.replace(f"--{name} {usual}", "{}")
-        yield Effect(f"--{name}", f"judge {words} toy stored", each(f"--{name}", (usual, other), (sole, refused(text))))
+        yield Effect(f"--{name}", f"judge {words} toy stored", {"": lacks} | each(f"--{name}", (usual, other), (sole, refused(text))))
+    zero, many = ended("sole cost 0\n"), {"reads": {"values": 16_200 * b"10 "}}
+    yield Effect("--modcod", "judge {} --short made values", each("--modcod", (1, "qpsk1/4", 2), (zero, zero, refused(OTHER_SHORT[0]))), many)
+    yield Effect("--short", "judge --modcod 1 {} made values", {"": refused(TOO_FEW), "--short": zero}, many)
+    two = {"reads": {"values": STORED + b"\n" + STORED}}
+    yield Effect("--each", f"judge {TOY} {{}} toy values", {"": refused("values: too many"), "--each": ended(2 * "sole cost -45\n")}, two)
+    # the bits of the stored word
+    hard = {"reads": {"values": re.sub(rb"-5|7", lambda it: b"%d" % (it[0] == b"-5"), STORED)}, "noted": True}
+    as_soft, likely = ended("most-likely cost 0\n", errors=noted(HARD_NOTE)), ended("most-likely cost 0\n")
+    yield Effect("--hard", f"judge {TOY} {{}} toy values", {"": as_soft, "--hard": ended("sole cost -9\n")}, hard)
+    yield Effect("--quiet", f"judge {TOY} {{}} toy values", {"": as_soft, "--quiet": likely}, hard)
     yield Effect("--cert", f"judge {TOY} {{}} toy stored", {"": sole, "--cert out": ended("sole cost -45\n", out=STORED_MOVED)})
     (shape, rows), passes, values, line, *_ = LEFT[0]
     ends, soft = (ended(line.replace("sole", "most-likely")), ended(line)), {"reads": {"rows": rows, "values": values}}
@@ -83,13 +96,14 @@ def judge_effects():
     yield Effect("--uncertified", f"judge {PAIR} {{}} pair values", {"": ended("most-likely cost -2\n"), "--uncertified": parity}, values)
     broken, likely = ended("broken cost -5 check 0\n", NO), ended("most-likely cost 0\n")
     yield Effect("--factor", f"judge {PAIR} {{}} pair odd", by_default("--factor", 12, 13, broken, likely))
-    yield Effect("--quiet", f"judge {TOY} {{}} toy stored", dict.fromkeys(("", "--quiet"), sole))
 
 
 def few_effects():
     """Commands with few options."""
     yield Effect("--rate", "modes {}", {"": ended(listing.listed()), "--rate 27500000": ended(listing.listed(27500000))})
     yield Effect("--quiet", "modes {}", dict.fromkeys(("", "--quiet"), ended(listing.listed())))
+    two = {"reads": {"two": 2 * STORED_CERTIFICATE}}
+    yield Effect("--each", "check toy two {}", {"": refused("certificate: extra"), "--each": ended(2 * "sole cost -45\n")}, two)
     yield Effect("--quiet", "check toy certificate {}", dict.fromkeys(("", "--quiet"), ended("sole cost -45\n")))
     other = ended("other\n", NO)
     yield Effect("--modcod", "table {} --short made", each("--modcod", (1, "qpsk1/4", 2), (other, other, refused(*OTHER_SHORT))))
@@ -261,7 +275,7 @@ def unshown(name, text, found):
 
 
 # Options without a visible effect: these commands write no notes, and a receiver accepts any roll-off.
-SAME = {("modes", "--quiet"), ("rows", "--quiet"), ("judge", "--quiet"), ("check", "--quiet"), ("join", "--quiet"), ("demod", "--ro")}
+SAME = {("modes", "--quiet"), ("rows", "--quiet"), ("check", "--quiet"), ("join", "--quiet"), ("demod", "--ro")}
 
 
 def has_difference(effect):

@@ -41,10 +41,11 @@ Arguments:
   <CERT>  Certificate file
 
 Options:
+      --each   Certificates of any number of frames, one after the other: a line of the report for each
       --quiet  No notes on standard error
   -h, --help   Print help
 
-The report:
+The report, a line for each certificate:
   sole cost C           accepted: the word costs C, every other codeword costs more
   yes cost C            accepted: the word costs C, no codeword costs less
   no shape              the certificate is of other rows: give those that it was made by
@@ -54,10 +55,11 @@ The report:
 Exits:
   0  sole or yes: the certificate is accepted
   1  a usage fault, or a fault that standard error tells
-  2  no: it is not accepted
+  2  no: it is not accepted; with --each one of them is not
 
 Example:
   s2 check rows certificate
+  s2 check --each rows certificates
 """
 SCAN_HELP = """Tells which modes a recording has, and how to receive it
 
@@ -114,8 +116,8 @@ def no_ratio(text):
 RATIOS = ["-10.01", "40.01", "-11", "41", "655.36", "6.205", "6.", ".5", "6.2.1", "6,2", "1e1", "x", "+", "+-6", "6.-2", "6.+2", "99999999999"]
 # The options of demod and run that name a file for records, and what each file takes.
 RECORDS = {
-    "--certificates": "for the certificates of all frames that are sole or most likely, one after the other",
-    "--values": "for the soft values of each frame, a line each",
+    "--certificates": "for the certificates of all frames that are sole or most likely, as `check --each` reads them",
+    "--values": "for the soft values of each frame, a line each, as `judge --each` reads them",
     "--codewords": "for the decided bits of each frame, eight to a byte, the first one highest",
     "--bbframes": "for the BBFRAMEs, as `join` reads them: zeros for a frame that is lost, and before one that follows a gap",
 }
@@ -124,6 +126,17 @@ NOT_BOTH = "error: the argument '--uncertified' cannot be used with '--passes <P
 MISUSES = [
     ("send", "error: unrecognized subcommand 'send'"),
     ("judge toy stored", LACKS),
+    ("judge --group 4 toy stored", LACKS),
+    ("judge --group 4 --groups 2 toy stored", LACKS),
+    ("judge --groups 2 --q 3 toy stored", LACKS),
+    ("judge --short toy stored", LACKS),
+    (f"judge {TOY} --modcod 1 toy stored", "error: the argument '--group <G>' cannot be used with '--modcod <M>'"),
+    (f"judge {TOY} --short toy stored", "?"),
+    ("judge --modcod 1 --q 3 toy stored", "?"),
+    ("judge --modcod 1 --groups 2 toy stored", "?"),
+    ("judge --modcod 18 toy stored", beyond(18, "modcod <M>", 1, 17)),
+    (f"judge {TOY} --each=2 toy stored", "error: unexpected value '2' for '--each' found; no more were expected"),
+    ("check --hard toy certificate", "error: unexpected argument '--hard' found"),
     (f"judge {TOY} toy", LACKS),
     ("judge --group 361 --groups 2 --q 3 toy stored", beyond(361, "group <G>", 1, 360)),
     ("judge --group 4 --groups 0 --q 3 toy stored", beyond(0, "groups <N>", 1, 64799)),
@@ -250,6 +263,11 @@ WORDS = [
     ("demod", "--rounds <K>", "Rounds of min-sum at most for each frame, 1 to 200 [default: 50]"),
     ("demod", "--passes <P>", "0 to 1000 [default: 0]"),
     *((name, "--uncertified", "which is `parity` then; not with --passes") for name in ("judge", "demod", "run")),
+    ("judge", "--group <G>", "Bits of a group, 1 to 360"),
+    ("judge", "--modcod <M>", "as qpsk3/4 or 8PSK2/3: `s2 modes` lists them"),
+    ("judge", "--short", "Frames of 16200 bits, and not of 64800"),
+    ("judge", "--each", "Values of any number of frames, one after the other: a line of the report for each"),
+    ("judge", "--hard", "in the place of soft values: 0 is the value 1, and 1 is -1"),
     *((name, f"{option} <FILE>", says) for name in ("demod", "run") for option, says in RECORDS.items()),
     ("demod", "A frame's records", "A file keeps its contents until the rows are accepted."),
     ("run", "A frame's records", "A file keeps its contents until the rows are accepted, and the packets."),
@@ -343,6 +361,8 @@ MISSING = [
 REFUSED = [
     ("rows --group 360 --groups 90 --q 91 --weight 8 --seed 1", "no such shape"),
     ("judge --group 360 --groups 90 --q 91 none none", "no such shape"),
+    ("judge --modcod 11 --short none none", "no such mode"),
+    ("judge --modcod 17 --short --cert old none none", "no such mode"),
     ("judge --group 360 --groups 90 --q 91 --cert old none none", "no such shape"),
     ("mod --modcod 11 --short none none none", "no such mode"),
     ("mod --modcod 11 --short made packets old", "no such mode"),

@@ -1,6 +1,6 @@
 //! The parser that the table describes.
 use crate::table::{
-    ABOUT, Argument, Entry, Form, MORE, arguments_of, choice_of, commands, more_of,
+    ABOUT, Argument, Entry, Form, MORE, Rule, arguments_of, choice_of, commands, more_of, rules_of,
 };
 use clap::builder::ValueParser;
 use clap::{Arg, ArgAction, ArgGroup, Command};
@@ -61,6 +61,16 @@ fn arg_of<'a>(alloc: Global, argument: Argument, values: Values) -> Result<Arg<'
             .long(argument.name)
             .value_name(value)
             .value_parser(allowed),
+        Form::NamedNumberOrText { value, allowed } => {
+            let arg = arg
+                .allow_negative_numbers(true)
+                .long(argument.name)
+                .value_name(value);
+            match values {
+                Values::Numbers => arg.value_parser(allowed),
+                Values::Texts => arg.value_parser(ValueParser::String),
+            }
+        }
         Form::NamedDecimal { value } => arg
             .long(argument.name)
             .value_name(value)
@@ -82,7 +92,24 @@ pub(crate) fn command_of<'a>(
     for argument in arguments_of(entry.command) {
         command = command.arg(arg_of(alloc, *argument, values)?)?;
     }
+    for rule in rules_of(entry.command) {
+        command = with_rule(alloc, command, *rule)?;
+    }
     with_choice(alloc, command, choice_of(entry.command))
+}
+
+/// A command with one more rule.
+fn with_rule<'a>(
+    alloc: Global,
+    command: Command<'a>,
+    rule: Rule,
+) -> Result<Command<'a>, AllocError> {
+    let group = ArgGroup::new(alloc, rule.name)
+        .args(rule.given)?
+        .multiple(true)
+        .requires_all(rule.needed)?
+        .conflicts_with_all(rule.excluded)?;
+    command.group(group)
 }
 
 /// A command with a choice of options: exactly one of them is required. If there are none, it is unchanged.

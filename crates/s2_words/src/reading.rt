@@ -4,9 +4,9 @@ use crate::options::{Number, TuningWords, judging_by, progress_by, read_modcod, 
 use crate::parser::program;
 use crate::refusal::{misused, not_understood, values_in};
 use crate::request::{
-    ChannelWords, CheckWords, DemodWords, JoinWords, JudgeWords, LinkWords, ModWords, ModesWords,
-    NoiseWords, NoteWords, Progress, RecordWords, Request, RowsWords, RunWords, ScanWords,
-    ShapeWords, TableWords,
+    ChannelWords, CheckWords, CodeWords, DemodWords, JoinWords, JudgeWords, LinkWords, ModWords,
+    ModesWords, NoiseWords, NoteWords, Progress, RecordWords, Request, RowsWords, RunWords,
+    ScanWords, ShapeWords, TableWords,
 };
 use clap::parser::ValueSource;
 use clap::{ArgMatches, Error};
@@ -23,6 +23,16 @@ fn shape_of(m: &ArgMatches<'_>) -> Option<ShapeWords> {
         groups: m.get_one::<u16>("groups")?,
         q: m.get_one::<u16>("q")?,
     })
+}
+
+fn code_of(m: &ArgMatches<'_>) -> Option<CodeWords> {
+    match m.get_str("modcod") {
+        Some(text) => Some(CodeWords::Mode {
+            modcod: read_modcod(text)?,
+            short: m.get_flag("short"),
+        }),
+        None => Some(CodeWords::Shape(shape_of(m)?)),
+    }
 }
 
 fn link_of(m: &ArgMatches<'_>) -> Option<LinkWords> {
@@ -125,7 +135,10 @@ fn modes_of<'a>(m: &ArgMatches<'a>) -> Option<Request<'a>> {
 fn judge_of<'a>(m: &ArgMatches<'a>) -> Option<Request<'a>> {
     let (passes, factor) = (m.get_one::<u32>("passes")?, m.get_one::<u32>("factor")?);
     Some(Request::Judge(JudgeWords {
-        shape: shape_of(m)?,
+        code: code_of(m)?,
+        each: m.get_flag("each"),
+        hard: m.get_flag("hard"),
+        quiet: m.get_flag("quiet"),
         tuning: judging_by(passes, factor, m.get_flag("uncertified"))?,
         certificate: m.get_str("cert"),
         rows: m.get_str("ROWS")?,
@@ -135,6 +148,7 @@ fn judge_of<'a>(m: &ArgMatches<'a>) -> Option<Request<'a>> {
 
 fn check_of<'a>(m: &ArgMatches<'a>) -> Option<Request<'a>> {
     Some(Request::Check(CheckWords {
+        each: m.get_flag("each"),
         rows: m.get_str("ROWS")?,
         certificate: m.get_str("CERT")?,
     }))

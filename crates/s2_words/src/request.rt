@@ -37,10 +37,21 @@ pub struct RowsWords {
     pub seed: u64,
 }
 
-/// `judge`: a shape, the tuning, and the files.
+/// A code, by the numbers of its shape or by a mode.
+#[derive(Clone, Copy, PartialEq, Eq)]
+pub enum CodeWords {
+    Shape(ShapeWords),
+    Mode { modcod: u8, short: bool },
+}
+
+/// `judge`: a code, whether there are values of many frames, whether they are decided bits, whether notes are left
+/// out, the tuning, and the files.
 #[derive(Clone, Copy, PartialEq, Eq)]
 pub struct JudgeWords<'a> {
-    pub shape: ShapeWords,
+    pub code: CodeWords,
+    pub each: bool,
+    pub hard: bool,
+    pub quiet: bool,
     pub tuning: Tuning,
     pub certificate: Option<&'a str>,
     pub rows: &'a str,
@@ -56,9 +67,10 @@ pub struct TableWords<'a> {
     pub rows: &'a str,
 }
 
-/// `check`: the files.
+/// `check`: whether there are many certificates, and the files.
 #[derive(Clone, Copy, PartialEq, Eq)]
 pub struct CheckWords<'a> {
+    pub each: bool,
     pub rows: &'a str,
     pub certificate: &'a str,
 }

@@ -85,7 +85,7 @@ Example:
 
 /// The text below the options of `judge`.
 const JUDGE_MORE: &str = "\
-The report:
+The report, a line for each frame:
   sole cost C              the decided bits cost C, every other codeword costs more
   most-likely cost C       the decided bits cost C, no codeword costs less
   parity cost C            all parity checks hold, no certificate was found: try --passes 96
@@ -94,14 +94,18 @@ The report:
 Exits:
   0  sole or most-likely: nothing is to be done
   1  a usage fault, or a fault that standard error tells
-  2  parity or broken
+  2  parity or broken; with --each one of the frames is
+
+Notes, on standard error:
+  these look like hard decisions: use --hard    all values are 0 or 1, which speak for the word of zeros
 
 Example:
-  s2 judge --group 4 --groups 2 --q 3 --cert certificate rows soft";
+  s2 judge --group 4 --groups 2 --q 3 --cert certificate rows soft
+  s2 judge --modcod qpsk1/2 --each --cert certificates rows values";
 
 /// The text below the options of `check`.
 const CHECK_MORE: &str = "\
-The report:
+The report, a line for each certificate:
   sole cost C           accepted: the word costs C, every other codeword costs more
   yes cost C            accepted: the word costs C, no codeword costs less
   no shape              the certificate is of other rows: give those that it was made by
@@ -111,10 +115,11 @@ The report:
 Exits:
   0  sole or yes: the certificate is accepted
   1  a usage fault, or a fault that standard error tells
-  2  no: it is not accepted
+  2  no: it is not accepted; with --each one of them is not
 
 Example:
-  s2 check rows certificate";
+  s2 check rows certificate
+  s2 check --each rows certificates";
 
 /// The text below the options of `mod`.
 const MOD_MORE: &str = "\
@@ -260,6 +265,11 @@ pub(crate) enum Form {
         value: &'static str,
         allowed: ValueParser<'static>,
     },
+    /// The same. If the value is not a number, the reader interprets it, or reports which values are accepted.
+    NamedNumberOrText {
+        value: &'static str,
+        allowed: ValueParser<'static>,
+    },
     /// `--name VALUE`, a number with a sign and a decimal point or without, which may be left out.
     NamedDecimal {
         value: &'static str,
@@ -335,6 +345,31 @@ const Q: Argument = Argument {
     help: "Checks by which a group's next bit moves on, 1 to 64799",
 };
 
+/// The numbers of a shape, for a command that takes a mode in their place.
+const GROUP_OR_MODE: Argument = Argument {
+    form: Form::NamedNumber {
+        value: "G",
+        allowed: ValueParser::Signed(1, MAX_GROUP as i64),
+    },
+    ..GROUP
+};
+
+const GROUPS_OR_MODE: Argument = Argument {
+    form: Form::NamedNumber {
+        value: "N",
+        allowed: ValueParser::Signed(1, MAX_BITS as i64 - 1),
+    },
+    ..GROUPS
+};
+
+const Q_OR_MODE: Argument = Argument {
+    form: Form::NamedNumber {
+        value: "Q",
+        allowed: ValueParser::Signed(1, MAX_BITS as i64 - 1),
+    },
+    ..Q
+};
+
 const WEIGHT: Argument = Argument {
     name: "weight",
     form: Form::Number {
@@ -353,6 +388,15 @@ const MODCOD: Argument = Argument {
         default: None,
     },
     help: "MODCOD, 1 to 17, or the mode's name, in small letters or in capitals, as qpsk3/4 or 8PSK2/3: `s2 modes` lists them",
+};
+
+/// The same option, for a command that can do without it.
+const MODCOD_OR_NONE: Argument = Argument {
+    form: Form::NamedNumberOrText {
+        value: "M",
+        allowed: ValueParser::Signed(1, MAX_MODCOD as i64),
+    },
+    ..MODCOD
 };
 
 const SHORT: Argument = Argument {
@@ -517,6 +561,24 @@ const PROGRESS: Argument = Argument {
     help: "Progress on standard error, also where that is no terminal: a line that is rewritten once a second",
 };
 
+const EACH_VALUES: Argument = Argument {
+    name: "each",
+    form: Form::Flag,
+    help: "Values of any number of frames, one after the other: a line of the report for each",
+};
+
+const HARD: Argument = Argument {
+    name: "hard",
+    form: Form::Flag,
+    help: "Decided bits, 0 and 1, in the place of soft values: 0 is the value 1, and 1 is -1",
+};
+
+const EACH_CERTIFICATE: Argument = Argument {
+    name: "each",
+    form: Form::Flag,
+    help: "Certificates of any number of frames, one after the other: a line of the report for each",
+};
+
 const CERTIFICATE: Argument = Argument {
     name: "cert",
     form: Form::NamedFile,
@@ -526,13 +588,13 @@ const CERTIFICATE: Argument = Argument {
 const CERTIFICATES: Argument = Argument {
     name: "certificates",
     form: Form::NamedFile,
-    help: "File for the certificates of all frames that are sole or most likely, one after the other",
+    help: "File for the certificates of all frames that are sole or most likely, as `check --each` reads them",
 };
 
 const VALUES: Argument = Argument {
     name: "values",
     form: Form::NamedFile,
-    help: "File for the soft values of each frame, a line each",
+    help: "File for the soft values of each frame, a line each, as `judge --each` reads them",
 };
 
 const CODEWORDS: Argument = Argument {
@@ -636,10 +698,14 @@ static ROWS_ARGUMENTS: [Argument; 6] = [GROUP, GROUPS, Q, WEIGHT, SEED, QUIET];
 static TABLE_ARGUMENTS: [Argument; 4] = [MODCOD, SHORT, QUIET, ROWS];
 
 /// The arguments of `judge`, in order.
-static JUDGE_ARGUMENTS: [Argument; 10] = [
-    GROUP,
-    GROUPS,
-    Q,
+static JUDGE_ARGUMENTS: [Argument; 14] = [
+    GROUP_OR_MODE,
+    GROUPS_OR_MODE,
+    Q_OR_MODE,
+    MODCOD_OR_NONE,
+    SHORT,
+    EACH_VALUES,
+    HARD,
     CERTIFICATE,
     PASSES,
     UNCERTIFIED,
@@ -650,7 +716,12 @@ static JUDGE_ARGUMENTS: [Argument; 10] = [
 ];
 
 /// The arguments of `check`, in order.
-static CHECK_ARGUMENTS: [Argument; 3] = [QUIET, ROWS, file!("CERT", "Certificate file")];
+static CHECK_ARGUMENTS: [Argument; 4] = [
+    EACH_CERTIFICATE,
+    QUIET,
+    ROWS,
+    file!("CERT", "Certificate file"),
+];
 
 /// The arguments of `mod`, in order.
 static MOD_ARGUMENTS: [Argument; 11] = [
@@ -778,7 +849,44 @@ pub(crate) fn arguments_of(command: Name) -> &'static [Argument] {
 /// The choice of options of a command: exactly one of them is required, if there are any.
 pub(crate) fn choice_of(command: Name) -> &'static [&'static str] {
     match command {
+        Name::Judge => &["group", "modcod"],
         Name::Noise | Name::Run => &["level", "esn0"],
+        _ => &[],
+    }
+}
+
+/// What must stand beside options, and what must not.
+#[derive(Clone, Copy)]
+pub(crate) struct Rule {
+    pub name: &'static str,
+    /// If one of these is given,
+    pub given: &'static [&'static str],
+    /// so are all of these,
+    pub needed: &'static [&'static str],
+    /// and none of these.
+    pub excluded: &'static [&'static str],
+}
+
+/// A shape has three numbers, and stands in the place of a mode.
+const WHOLE_SHAPE: Rule = Rule {
+    name: "shape",
+    given: &["group", "groups", "q"],
+    needed: &["group", "groups", "q"],
+    excluded: &["modcod", "short"],
+};
+
+/// The length is that of a mode's frames.
+const LENGTH_OF_MODE: Rule = Rule {
+    name: "length",
+    given: &["short"],
+    needed: &["modcod"],
+    excluded: &[],
+};
+
+/// The rules for a command's options.
+pub(crate) fn rules_of(command: Name) -> &'static [Rule] {
+    match command {
+        Name::Judge => &[WHOLE_SHAPE, LENGTH_OF_MODE],
         _ => &[],
     }
 }
