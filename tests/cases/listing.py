@@ -51,6 +51,7 @@ USAGES = {
     "table": "s2 table [OPTIONS] --modcod <M> <ROWS>",
     "judge": "s2 judge [OPTIONS] <--group <G>|--modcod <M>> <ROWS> <SOFT>",
     "join": "s2 join [OPTIONS] --modcod <M> <BBFRAMES> <PACKETS>",
+    "audit": "s2 audit [OPTIONS] --modcod <M> <ROWS> <SYMBOLS> <REPORT> <CERTIFICATES>",
     "mod": "s2 mod [OPTIONS] --modcod <M> <ROWS> <PACKETS> <SYMBOLS>",
     "demod": "s2 demod [OPTIONS] --modcod <M> <ROWS> <SYMBOLS> <PACKETS>",
     "run": "s2 run [OPTIONS] --modcod <M> --seed <S> <--level <L>|--esn0 <DB>> <ROWS> <PACKETS> <OUT>",
@@ -59,6 +60,7 @@ REST = {
     "table": "made",
     "judge": "toy stored",
     "join": "packets out",
+    "audit": "made packets packets packets",
     "mod": "made packets out",
     "demod": "made packets out",
     "run": "--seed 1 --level 1 made packets out",
@@ -93,7 +95,7 @@ NO_NAMES = [
     ("Qpsk3/4", FORMS),
     ("3/4", FORMS),
 ]
-LINKED = ("mod", "demod", "run")
+LINKED = ("audit", "mod", "demod", "run")
 SWITCHES = [f"--pilots {text}" for text in ("on", "off", "yes", "no", "true", "false", "1", "0", "OFF", "True", "FALSE")]
 SWITCHES += ["--pilots=1", "--pilots=0", "--pilots=off", "--pilots=false", "--pilots="]
 MISUSES = [

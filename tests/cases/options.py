@@ -5,7 +5,7 @@ from dataclasses import dataclass, field
 
 from cases import links, listing, progress, records
 from cases.common import (
-    ANY, FINE, LINK, NO, PACKET, PAIR, STORED, STORED_CERTIFICATE, STORED_MOVED, TOY, TWO, WANTED, Case, Rule, digest, first_line, noted,
+    ANY, FINE, LINK, NO, PACKET, PAIR, STORED, STORED_CERTIFICATE, STORED_MOVED, TOY, TWO, WANTED, Case, Rule, digest, ending, first_line, noted,
 )  # fmt: skip
 from cases.drawn import gaussian, made_rows, spoilt
 from cases.judging import LEFT
@@ -128,6 +128,24 @@ def join_effects():
     yield Effect("--quiet", f"join {LINK} {{}} in out", dict.fromkeys(("", "--quiet"), lost), zeros)
 
 
+def audit_effects(two):
+    """Two frames and their certificates."""
+    costs = [sum(value for value in soft if value < 0) for soft, _ in records.decided(two)]
+    lines = "".join(f"frame {at + 1} at {8190 * at} sole cost {cost}\n" for at, cost in enumerate(costs))
+    fine, other = ended(f"{lines}audit frames 2 sole 2 most-likely 0\n"), ended("frame 1 at 0 other values\n", NO)
+    few, large = ({"code": 1, "out": "", "errors": ending(f"s2: {text}\n"), "writes": {}} for text in (TOO_FEW, OTHER_SHORT[0]))
+    reads = {"reads": {"in": two, "report": TWO.encode(), "certificates": records.records(two)["--certificates"]}}
+    files = "made in report certificates"
+    yield Effect("--modcod", f"audit {{}} --short {files}", each("--modcod", (1, "qpsk1/4", 2), (fine, fine, large)), reads)
+    yield Effect("--short", f"audit --modcod 1 {{}} {files}", {"": few, "--short": fine}, reads)
+    yield Effect("--pilots", f"audit {LINK} {{}} {files}", {"": fine, "--pilots": other}, reads)
+    yield Effect("--number", f"audit {LINK} {{}} {files}", by_default("--number", 0, 7, fine, other), reads)
+    # a receiver accepts any roll-off
+    yield Effect("--ro", f"audit {LINK} {{}} {files}", dict.fromkeys(("", "--ro 0", "--ro 1", "--ro 2"), fine), reads)
+    yield Effect("--divisor", f"audit {LINK} {{}} {files}", by_default("--divisor", 4096, 8192, fine, other), reads)
+    yield Effect("--quiet", f"audit {LINK} {{}} {files}", dict.fromkeys(("", "--quiet"), fine), reads)
+
+
 def mod_effects(two, dummy):
     by_words = {words: ended("packets 2 frames 1\n", out=digest(number)) for words, _, _, number in WORDS if words != "--short"}
     usual, reads = by_words[""], {"reads": {"in": PACKETS, "rows": made_rows(360, 90, 90, 3, 1)}}
@@ -240,7 +258,7 @@ def run_effects(report, others):
 
 def effects(two, pilots, dummy, report, others):
     found = [*rows_effects(), *judge_effects(), *few_effects(), *join_effects(), *mod_effects(two, dummy), *tuning_effects(two, report)]
-    return found + [*link_effects(two), *record_effects(two), *demod_effects(two, pilots), *run_effects(report, others)]
+    return found + [*link_effects(two), *record_effects(two), *audit_effects(two), *demod_effects(two, pilots), *run_effects(report, others)]
 
 
 # Options with cases in progress.py.
@@ -275,7 +293,7 @@ def unshown(name, text, found):
 
 
 # Options without a visible effect: these commands write no notes, and a receiver accepts any roll-off.
-SAME = {("modes", "--quiet"), ("rows", "--quiet"), ("check", "--quiet"), ("join", "--quiet"), ("demod", "--ro")}
+SAME = {("modes", "--quiet"), ("rows", "--quiet"), ("check", "--quiet"), ("join", "--quiet"), ("audit", "--quiet"), ("audit", "--ro"), ("demod", "--ro")}
 
 
 def has_difference(effect):

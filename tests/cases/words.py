@@ -1,4 +1,6 @@
 """The words of the command line, and the files that they name."""
+import itertools
+
 from cases.common import DIVISORS, FAULT, LINK, NO, PACKET, PAIR, STORED, TOY, TWO, Case, fault, first_line, option, size
 
 HELP = """A DVB-S2 modem with maximum-likelihood certificates. \
@@ -18,6 +20,7 @@ Commands:
   run    Sends packets, adds noise, and receives them
   scan   Tells which modes a recording has, and how to receive it
   join   Joins the packets of BBFRAMEs
+  audit  Checks a report by the certificates of its frames, without decoding
   help   Print this message or the help of the given subcommand(s)
 
 Options:
@@ -212,6 +215,12 @@ MISUSES = [
     ("join --modcod 0 frames out", beyond(0, "modcod <M>", 1, 17)),
     ("join --modcod 18 frames out", beyond(18, "modcod <M>", 1, 17)),
     ("join --modcod 1 --pilots frames out", "error: unexpected argument '--pilots' found"),
+    ("audit --modcod 1 made in report", LACKS),
+    ("audit made in report certificates", LACKS),
+    ("audit --modcod 18 made in report certificates", beyond(18, "modcod <M>", 1, 17)),
+    ("audit --modcod 1 --number 262142 made in report certificates", beyond(262142, "number <N>", 0, 262141)),
+    ("audit --modcod 1 --tuned made in report certificates", "error: unexpected argument '--tuned' found"),
+    ("audit --modcod 1 --rounds 50 made in report certificates", "error: unexpected argument '--rounds' found"),
     (f"rows {PAIR} --weight 0 --seed 1", beyond(0, "weight <W>", 1, 24)),
     (f"rows {PAIR} --weight 25 --seed 1", beyond(25, "weight <W>", 1, 24)),
     (f"rows {PAIR} --weight 1 --seed -1", "error: unexpected argument '-1' found"),
@@ -231,6 +240,7 @@ ABOUTS = {
     "demod": "Receives the packets of symbols",
     "run": "Sends packets, adds noise, and receives them",
     "join": "Joins the packets of BBFRAMEs",
+    "audit": "Checks a report by the certificates of its frames, without decoding",
 }
 RECEIVING = ("demod --modcod 1", RUN)
 ENDS = {
@@ -245,6 +255,7 @@ ENDS = {
     "run": "every frame is delivered, and sole or most-likely",
     "scan": "some header came twice at its frame's distance",
     "join": "every frame has a good header, and no packet is bad",
+    "audit": "all are proved, and no certificate is left over",
 }
 # What a word says, and the value where it is left out.
 WORDS = [
@@ -276,6 +287,9 @@ WORDS = [
     ("join", "--modcod <M>", "as qpsk3/4 or 8PSK2/3: `s2 modes` lists them"),
     ("join", "--short", "Frames of 16200 bits, and not of 64800"),
     ("join", "cut at BYTE bytes COUNT", "the file ends within a frame, of which COUNT bytes are there"),
+    ("audit", "--number <N>", "Scrambling number, 0 to 262141 [default: 0]"),
+    ("audit", "frame I at SYMBOL sole cost C", "proved: the decided bits cost C, every other codeword costs more"),
+    ("audit", "other values", "of another recording, or of another --divisor"),
     ("mod", "packets P frames F", "P packets were taken, and F frames written, dummy frames not counted"),
 ]
 # The commands that show how far they are, those that may be strict, those that decide, and a line of each command with what it
@@ -293,6 +307,7 @@ LINES = {
     "run": f"run {LINK} --seed 1 --level 0 made packets out",
     "scan": "scan packets",
     "join": f"join {LINK} empty out",
+    "audit": f"audit {LINK} made empty empty empty",
 }
 # The commands that take --quiet.
 QUIET = [name for name in LINES if name != "scan"]
@@ -318,6 +333,7 @@ ENDED = {
     "noise": {"writes": {"out": 2 * PACKET}},
     "demod": {"out": "end frames 0 delivered 0 packets 0 bad 0\n", "reads": {"empty": b""}, "writes": {"out": b""}},
     "run": {"out": TWO, "writes": {"out": 2 * PACKET}},
+    "audit": {"out": "audit frames 0 sole 0 most-likely 0\n", "reads": {"empty": b""}},
     "join": {"out": "end frames 0 delivered 0 packets 0 bad 0\n", "reads": {"empty": b""}, "writes": {"out": b""}},
 }
 
@@ -355,6 +371,7 @@ MISSING = [
     *((f"{command} {option} file none packets old", "none") for command in RECEIVING for option in RECORDS),
     ("scan none", "none"),
     ("join --modcod 1 none old", "none"),
+    *((f"audit --modcod 1 {' '.join(files)}", "none") for files in itertools.permutations(["none", "made", "packets", "stored"])),
     ("join --modcod 1 packets none/out", "none/out"),
 ]
 # Commands whose words are refused before a file is opened.
@@ -370,6 +387,7 @@ REFUSED = [
     ("demod --modcod 17 --short none none old", "no such mode"),
     ("run --modcod 11 --short --seed 1 --level 1 none none old", "no such mode"),
     ("join --modcod 11 --short none old", "no such mode"),
+    ("audit --modcod 11 --short none none none none", "no such mode"),
 ]
 # Commands that read a file without an end, and what they leave.
 ENDLESS = [
@@ -421,8 +439,8 @@ CASES = [
     *(Case(words, FAULT, errors=f"{line}\n{MORE}") for words, line in MISUSES if " is not in " in line),
     *(Case(words, FAULT, errors=first_line(line)) for words, line in MISUSES),
     *(no_divisor(command, *pair) for command in RECEIVING for pair in NO_DIVISORS),
-    *(Case(f"{command} made packets old --divisor", FAULT, errors=LACKS_DIVISOR) for command in RECEIVING),
-    *(Case(f"{name} --help", out=option("--divisor <D>", f" [default: 4096] {POSSIBLE}")) for name in ("demod", "run")),
+    *(Case(f"{command} made packets old --divisor", FAULT, errors=LACKS_DIVISOR) for command in (*RECEIVING, "audit --modcod 1")),
+    *(Case(f"{name} --help", out=option("--divisor <D>", f" [default: 4096] {POSSIBLE}")) for name in ("demod", "run", "audit")),
     *(Case(f"{name} --help", out=option("--factor <F>", " [default: 12]")) for name in DECIDING),
     *(Case(f"{name} --help", out=option("--lock <H>", "12 to 40; elsewhere 12 may [default: 12]")) for name in STRICT),
     *(fault(words, f"cannot open {name}") for words, name in MISSING),

@@ -22,7 +22,7 @@ mod table;
 
 pub use reading::read_words;
 pub use request::{
-    ChannelWords, CheckWords, CodeWords, DemodWords, JoinWords, JudgeWords, LinkWords, ModWords,
-    ModesWords, NoiseWords, NoteWords, Progress, RecordWords, Request, RowsWords, RunWords,
-    ScanWords, ShapeWords, TableWords,
+    AuditWords, ChannelWords, CheckWords, CodeWords, DemodWords, JoinWords, JudgeWords, LinkWords,
+    ModWords, ModesWords, NoiseWords, NoteWords, Progress, RecordWords, Request, RowsWords,
+    RunWords, ScanWords, ShapeWords, TableWords,
 };

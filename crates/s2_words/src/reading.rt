@@ -4,9 +4,9 @@ use crate::options::{Number, TuningWords, judging_by, progress_by, read_modcod, 
 use crate::parser::program;
 use crate::refusal::{misused, not_understood, values_in};
 use crate::request::{
-    ChannelWords, CheckWords, CodeWords, DemodWords, JoinWords, JudgeWords, LinkWords, ModWords,
-    ModesWords, NoiseWords, NoteWords, Progress, RecordWords, Request, RowsWords, RunWords,
-    ScanWords, ShapeWords, TableWords,
+    AuditWords, ChannelWords, CheckWords, CodeWords, DemodWords, JoinWords, JudgeWords, LinkWords,
+    ModWords, ModesWords, NoiseWords, NoteWords, Progress, RecordWords, Request, RowsWords,
+    RunWords, ScanWords, ShapeWords, TableWords,
 };
 use clap::parser::ValueSource;
 use clap::{ArgMatches, Error};
@@ -15,6 +15,7 @@ use s2_link::{RollOff, Tuning};
 use s2_mode::Mode;
 use s2_names::SymbolRate;
 use s2_scramble::ScramblingNumber;
+use s2_soft::Divisor;
 use std::alloc::Global;
 
 fn shape_of(m: &ArgMatches<'_>) -> Option<ShapeWords> {
@@ -218,6 +219,17 @@ fn join_of<'a>(m: &ArgMatches<'a>) -> Option<Request<'a>> {
     }))
 }
 
+fn audit_of<'a>(m: &ArgMatches<'a>) -> Option<Request<'a>> {
+    Some(Request::Audit(AuditWords {
+        link: link_of(m)?,
+        divisor: Divisor::new(m.get_one::<u32>("divisor")?)?,
+        rows: m.get_str("ROWS")?,
+        symbols: m.get_str("SYMBOLS")?,
+        report: m.get_str("REPORT")?,
+        certificates: m.get_str("CERTIFICATES")?,
+    }))
+}
+
 fn request_of<'a>(name: &str, m: &ArgMatches<'a>) -> Option<Request<'a>> {
     match name {
         "modes" => modes_of(m),
@@ -231,6 +243,7 @@ fn request_of<'a>(name: &str, m: &ArgMatches<'a>) -> Option<Request<'a>> {
         "run" => run_of(m),
         "scan" => scan_of(m),
         "join" => join_of(m),
+        "audit" => audit_of(m),
         _ => None,
     }
 }

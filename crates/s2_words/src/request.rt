@@ -3,6 +3,7 @@ use s2_channel::Strength;
 use s2_link::{RollOff, Tuning};
 use s2_names::SymbolRate;
 use s2_scramble::ScramblingNumber;
+use s2_soft::Divisor;
 
 /// The numbers of a shape.
 #[derive(Clone, Copy, PartialEq, Eq)]
@@ -169,6 +170,17 @@ pub struct JoinWords<'a> {
     pub packets: &'a str,
 }
 
+/// `audit`: a link, the divisor of soft values, and the files.
+#[derive(Clone, Copy, PartialEq, Eq)]
+pub struct AuditWords<'a> {
+    pub link: LinkWords,
+    pub divisor: Divisor,
+    pub rows: &'a str,
+    pub symbols: &'a str,
+    pub report: &'a str,
+    pub certificates: &'a str,
+}
+
 /// `modes`: a symbol rate, if the bits of a transport stream per second are to be listed.
 #[derive(Clone, Copy, PartialEq, Eq)]
 pub struct ModesWords {
@@ -190,4 +202,5 @@ pub enum Request<'a> {
     Run(RunWords<'a>),
     Scan(ScanWords<'a>),
     Join(JoinWords<'a>),
+    Audit(AuditWords<'a>),
 }

@@ -241,6 +241,31 @@ Exits:
 Example:
   s2 join --modcod qpsk1/2 bbframes packets.ts";
 
+/// The text below the options of `audit`.
+const AUDIT_MORE: &str = "\
+The report, a line for each frame that REPORT calls sole or most-likely, and one for the end:
+  frame I at SYMBOL sole cost C           proved: the decided bits cost C, every other codeword costs more
+  frame I at SYMBOL most-likely cost C    proved: the decided bits cost C, no codeword costs less
+  frame I at SYMBOL REASON                not proved: the last line
+  certificates left over                  after the last frame
+  audit frames F sole A most-likely B     REPORT has F frames, and all that it calls sole (A) or most-likely (B) are proved
+
+Reasons:
+  no certificate    CERTIFICATES ends before this frame's
+  no symbols        SYMBOLS ends before the end of this frame
+  other values      the certificate is of other soft values than this frame's: of another recording, or of another --divisor
+  not accepted      the certificate proves nothing under these rows
+  not sole          the certificate proves that the bits are most likely, and no more
+
+Exits:
+  0  all are proved, and no certificate is left over
+  1  a usage fault, or a fault that standard error tells
+  2  a frame is not proved, or certificates are left over
+
+Example:
+  s2 demod --modcod qpsk1/2 --tuned --certificates certificates rows noisy received.ts > report
+  s2 audit --modcod qpsk1/2 --divisor 8192 rows noisy report certificates";
+
 /// The form of an option on the command line.
 #[derive(Clone, Copy)]
 pub(crate) enum Form {
@@ -302,6 +327,7 @@ pub(crate) enum Name {
     Run,
     Scan,
     Join,
+    Audit,
 }
 
 /// A command, and its name. Its options and its help are apart, so that no proof has the texts of all.
@@ -471,6 +497,12 @@ const DIVISOR: Argument = Argument {
     help: "What soft values are divided by: 8192 at low code rates, more for stronger symbols",
 };
 
+/// The same option, for a report that was made with it.
+const DIVISOR_OF_REPORT: Argument = Argument {
+    help: "What soft values were divided by: that of the reception, with --tuned 8192",
+    ..DIVISOR
+};
+
 const FACTOR: Argument = Argument {
     name: "factor",
     form: Form::Number {
@@ -625,7 +657,7 @@ const ROWS: Argument = file!("ROWS", "Row file");
 const PACKETS: Argument = file!("PACKETS", "Transport stream, packets of 188 bytes");
 
 /// All commands.
-static COMMANDS: [Entry; 11] = [
+static COMMANDS: [Entry; 12] = [
     Entry {
         command: Name::Modes,
         name: "modes",
@@ -680,6 +712,11 @@ static COMMANDS: [Entry; 11] = [
         command: Name::Join,
         name: "join",
         about: "Joins the packets of BBFRAMEs",
+    },
+    Entry {
+        command: Name::Audit,
+        name: "audit",
+        about: "Checks a report by the certificates of its frames, without decoding",
     },
 ];
 
@@ -829,6 +866,27 @@ static JOIN_ARGUMENTS: [Argument; 5] = [
     file!("PACKETS", "File for the packets"),
 ];
 
+/// The arguments of `audit`, in order.
+static AUDIT_ARGUMENTS: [Argument; 11] = [
+    MODCOD,
+    SHORT,
+    PILOTS,
+    NUMBER,
+    ROLL_OFF,
+    DIVISOR_OF_REPORT,
+    QUIET,
+    ROWS,
+    file!(
+        "SYMBOLS",
+        "File of symbols, four bytes each: I and Q, signed, high byte first"
+    ),
+    file!("REPORT", "Report of `demod`"),
+    file!(
+        "CERTIFICATES",
+        "Certificates that `demod --certificates` wrote"
+    ),
+];
+
 /// The arguments of a command.
 pub(crate) fn arguments_of(command: Name) -> &'static [Argument] {
     match command {
@@ -843,6 +901,7 @@ pub(crate) fn arguments_of(command: Name) -> &'static [Argument] {
         Name::Run => &RUN_ARGUMENTS,
         Name::Scan => &SCAN_ARGUMENTS,
         Name::Join => &JOIN_ARGUMENTS,
+        Name::Audit => &AUDIT_ARGUMENTS,
     }
 }
 
@@ -905,5 +964,6 @@ pub(crate) fn more_of(command: Name) -> &'static str {
         Name::Run => RUN_MORE,
         Name::Scan => SCAN_MORE,
         Name::Join => JOIN_MORE,
+        Name::Audit => AUDIT_MORE,
     }
 }
