@@ -100,7 +100,11 @@ def judge_effects():
 
 def few_effects():
     """Commands with few options."""
-    yield Effect("--rate", "modes {}", {"": ended(listing.listed()), "--rate 27500000": ended(listing.listed(27500000))})
+    every, by_rate = ended(listing.listed()), ended(listing.listed(27500000))
+    yield Effect("--rate", "modes {}", {"": every} | each("--rate", ("27500000", "27.5M", "27.5e6", "27500k"), 4 * [by_rate]))
+    one, short = (ended(listing.listed(only=(7, words))) for words in ("", "--short"))
+    yield Effect("--modcod", "modes {}", {"": every, "--modcod 7": one, "--modcod qpsk3/4": one})
+    yield Effect("--short", "modes --modcod 7 {}", {"": one, "--short": short})
     yield Effect("--quiet", "modes {}", dict.fromkeys(("", "--quiet"), ended(listing.listed())))
     two = {"reads": {"two": 2 * STORED_CERTIFICATE}}
     yield Effect("--each", "check toy two {}", {"": refused("certificate: extra"), "--each": ended(2 * "sole cost -45\n")}, two)

@@ -244,7 +244,7 @@ ABOUTS = {
 }
 RECEIVING = ("demod --modcod 1", RUN)
 ENDS = {
-    "modes": "all modes are listed",
+    "modes": "all modes are listed, or the one of --modcod",
     "rows": "the rows are printed",
     "table": "standard",
     "judge": "sole or most-likely: nothing is to be done",
@@ -283,7 +283,9 @@ WORDS = [
     ("demod", "A frame's records", "A file keeps its contents until the rows are accepted."),
     ("run", "A frame's records", "A file keeps its contents until the rows are accepted, and the packets."),
     *((name, "--tuned", "words that stand beside it win") for name in ("demod", "run")),
-    ("modes", "--rate <R>", "Symbols a second, 1 to 1000000000: adds the bits a second of the transport stream"),
+    ("modes", "--rate <R>", "also as 27.5M, 27.5e6 or 27500k: adds the bits a second of the transport stream"),
+    ("modes", "--modcod <M>", "as qpsk3/4 or 8PSK2/3: `s2 modes` lists them"),
+    ("modes", "--short", "Frames of 16200 bits, and not of 64800"),
     ("join", "--modcod <M>", "as qpsk3/4 or 8PSK2/3: `s2 modes` lists them"),
     ("join", "--short", "Frames of 16200 bits, and not of 64800"),
     ("join", "cut at BYTE bytes COUNT", "the file ends within a frame, of which COUNT bytes are there"),

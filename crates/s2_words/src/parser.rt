@@ -1,6 +1,7 @@
 //! The parser that the table describes.
 use crate::table::{
-    ABOUT, Argument, Entry, Form, MORE, Rule, arguments_of, choice_of, commands, more_of, rules_of,
+    ABOUT, Argument, Choice, Entry, Form, MORE, Rule, arguments_of, choices_of, commands, more_of,
+    rules_of,
 };
 use clap::builder::ValueParser;
 use clap::{Arg, ArgAction, ArgGroup, Command};
@@ -71,7 +72,7 @@ fn arg_of<'a>(alloc: Global, argument: Argument, values: Values) -> Result<Arg<'
                 Values::Texts => arg.value_parser(ValueParser::String),
             }
         }
-        Form::NamedDecimal { value } => arg
+        Form::NamedText { value } => arg
             .long(argument.name)
             .value_name(value)
             .allow_negative_numbers(true),
@@ -95,7 +96,10 @@ pub(crate) fn command_of<'a>(
     for rule in rules_of(entry.command) {
         command = with_rule(alloc, command, *rule)?;
     }
-    with_choice(alloc, command, choice_of(entry.command))
+    for choice in choices_of(entry.command) {
+        command = with_choice(alloc, command, *choice)?;
+    }
+    Ok(command)
 }
 
 /// A command with one more rule.
@@ -112,16 +116,14 @@ fn with_rule<'a>(
     command.group(group)
 }
 
-/// A command with a choice of options: exactly one of them is required. If there are none, it is unchanged.
+/// A command with one more choice.
 fn with_choice<'a>(
     alloc: Global,
     command: Command<'a>,
-    choice: &[&'static str],
+    choice: Choice,
 ) -> Result<Command<'a>, AllocError> {
-    if choice.is_empty() {
-        return Ok(command);
-    }
-    command.group(ArgGroup::new(alloc, "choice").args(choice)?.required(true))
+    let group = ArgGroup::new(alloc, choice.name).args(choice.options)?;
+    command.group(group.required(true))
 }
 
 /// A program with one more command.

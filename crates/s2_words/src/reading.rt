@@ -125,12 +125,25 @@ fn table_of<'a>(m: &ArgMatches<'a>) -> Option<Request<'a>> {
     }))
 }
 
+fn rate_of(m: &ArgMatches<'_>) -> Option<Option<SymbolRate>> {
+    match m.get_str("rate") {
+        Some(text) => SymbolRate::read(text).map(Some),
+        None => Some(None),
+    }
+}
+
+fn mode_of(m: &ArgMatches<'_>) -> Option<Option<(u8, bool)>> {
+    match m.get_str("modcod") {
+        Some(text) => read_modcod(text).map(|modcod| Some((modcod, m.get_flag("short")))),
+        None => Some(None),
+    }
+}
+
 fn modes_of<'a>(m: &ArgMatches<'a>) -> Option<Request<'a>> {
-    let rate = match m.get_str("rate") {
-        Some(_) => Some(SymbolRate::new(m.get_one::<usize>("rate")?)?),
-        None => None,
-    };
-    Some(Request::Modes(ModesWords { rate }))
+    Some(Request::Modes(ModesWords {
+        rate: rate_of(m)?,
+        mode: mode_of(m)?,
+    }))
 }
 
 fn judge_of<'a>(m: &ArgMatches<'a>) -> Option<Request<'a>> {

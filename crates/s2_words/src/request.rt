@@ -181,10 +181,12 @@ pub struct AuditWords<'a> {
     pub certificates: &'a str,
 }
 
-/// `modes`: a symbol rate, if the bits of a transport stream per second are to be listed.
+/// `modes`: a symbol rate, if the bits of a transport stream per second are to be listed; and MODCOD and whether frames
+/// are short, if one mode is to be listed.
 #[derive(Clone, Copy, PartialEq, Eq)]
 pub struct ModesWords {
     pub rate: Option<SymbolRate>,
+    pub mode: Option<(u8, bool)>,
 }
 
 /// The request: `Own` without a command, else the command with its options.

@@ -3,7 +3,6 @@ use clap::builder::ValueParser;
 use s2_link::{MAX_PASSES, MAX_ROLL_OFF, MAX_ROUNDS};
 use s2_minsum::{LEAST_FACTOR, MAX_FACTOR};
 use s2_mode::{MAX_BITS, MAX_GROUP, MAX_MODCOD};
-use s2_names::MAX_RATE;
 use s2_plframe::{HEADER_THRESHOLD, MAX_LOCK};
 use s2_rows::MAX_ADDRESSES;
 use s2_scramble::MAX_NUMBER;
@@ -50,11 +49,12 @@ Each line:
   ts S P                with --rate: bits a second of the transport stream, rounded down
 
 Exits:
-  0  all modes are listed
+  0  all modes are listed, or the one of --modcod
   1  a usage fault, or a fault that standard error tells
 
 Example:
-  s2 modes --rate 27500000";
+  s2 modes --rate 27.5M
+  s2 modes --modcod qpsk3/4 --short";
 
 /// The text below the options of `rows`.
 const ROWS_MORE: &str = "\
@@ -295,8 +295,8 @@ pub(crate) enum Form {
         value: &'static str,
         allowed: ValueParser<'static>,
     },
-    /// `--name VALUE`, a number with a sign and a decimal point or without, which may be left out.
-    NamedDecimal {
+    /// `--name VALUE`, which the reader interprets, and which may be left out. It may begin with a minus.
+    NamedText {
         value: &'static str,
     },
     /// `--name FILE`.
@@ -556,17 +556,14 @@ const LEVEL: Argument = Argument {
 
 const ESN0: Argument = Argument {
     name: "esn0",
-    form: Form::NamedDecimal { value: "DB" },
+    form: Form::NamedText { value: "DB" },
     help: "Es/N0 in dB, -10 to 40 with two decimals at most: Gaussian noise, for symbols of the amplitude that `mod` sends",
 };
 
 const RATE: Argument = Argument {
     name: "rate",
-    form: Form::NamedNumber {
-        value: "R",
-        allowed: ValueParser::Signed(1, MAX_RATE as i64),
-    },
-    help: "Symbols a second, 1 to 1000000000: adds the bits a second of the transport stream",
+    form: Form::NamedText { value: "R" },
+    help: "Symbols a second, 1 to 1000000000, also as 27.5M, 27.5e6 or 27500k: adds the bits a second of the transport stream",
 };
 
 const STRICT: Argument = Argument {
@@ -726,7 +723,7 @@ pub(crate) fn commands() -> &'static [Entry] {
 }
 
 /// The arguments of `modes`, in order.
-static MODES_ARGUMENTS: [Argument; 2] = [RATE, QUIET];
+static MODES_ARGUMENTS: [Argument; 4] = [RATE, MODCOD_OR_NONE, SHORT, QUIET];
 
 /// The arguments of `rows`, in order.
 static ROWS_ARGUMENTS: [Argument; 6] = [GROUP, GROUPS, Q, WEIGHT, SEED, QUIET];
@@ -905,11 +902,30 @@ pub(crate) fn arguments_of(command: Name) -> &'static [Argument] {
     }
 }
 
-/// The choice of options of a command: exactly one of them is required, if there are any.
-pub(crate) fn choice_of(command: Name) -> &'static [&'static str] {
+/// A choice of options, of which exactly one is required, and its name.
+#[derive(Clone, Copy)]
+pub(crate) struct Choice {
+    pub name: &'static str,
+    pub options: &'static [&'static str],
+}
+
+/// A code, by its shape or by a mode.
+const CODE: Choice = Choice {
+    name: "code",
+    options: &["group", "modcod"],
+};
+
+/// How strong noise is.
+const STRENGTH: Choice = Choice {
+    name: "strength",
+    options: &["level", "esn0"],
+};
+
+/// The choices of a command.
+pub(crate) fn choices_of(command: Name) -> &'static [Choice] {
     match command {
-        Name::Judge => &["group", "modcod"],
-        Name::Noise | Name::Run => &["level", "esn0"],
+        Name::Judge => &[CODE],
+        Name::Noise | Name::Run => &[STRENGTH],
         _ => &[],
     }
 }
@@ -945,6 +961,7 @@ const LENGTH_OF_MODE: Rule = Rule {
 /// The rules for a command's options.
 pub(crate) fn rules_of(command: Name) -> &'static [Rule] {
     match command {
+        Name::Modes => &[LENGTH_OF_MODE],
         Name::Judge => &[WHOLE_SHAPE, LENGTH_OF_MODE],
         _ => &[],
     }
