@@ -545,6 +545,21 @@ const SEED: Argument = Argument {
     help: "Seed of the generator, any number of 64 bits",
 };
 
+/// The same option, for a command that takes a range of seeds in its place.
+const SEED_OR_SEEDS: Argument = Argument {
+    form: Form::NamedNumber {
+        value: "S",
+        allowed: ANY,
+    },
+    ..SEED
+};
+
+const SEEDS: Argument = Argument {
+    name: "seeds",
+    form: Form::NamedText { value: "A..B" },
+    help: "A run for each seed from A to B, both included, and a line of sums at the end",
+};
+
 const LEVEL: Argument = Argument {
     name: "level",
     form: Form::NamedNumber {
@@ -816,7 +831,7 @@ static DEMOD_ARGUMENTS: [Argument; 22] = [
 ];
 
 /// The arguments of `run`, in order.
-static RUN_ARGUMENTS: [Argument; 26] = [
+static RUN_ARGUMENTS: [Argument; 27] = [
     MODCOD,
     SHORT,
     PILOTS,
@@ -830,7 +845,8 @@ static RUN_ARGUMENTS: [Argument; 26] = [
     FACTOR,
     LOCK,
     TUNED,
-    SEED,
+    SEED_OR_SEEDS,
+    SEEDS,
     LEVEL,
     ESN0,
     STRICT,
@@ -921,11 +937,18 @@ const STRENGTH: Choice = Choice {
     options: &["level", "esn0"],
 };
 
+/// One run, or one for each seed of a range.
+const RUNS: Choice = Choice {
+    name: "runs",
+    options: &["seed", "seeds"],
+};
+
 /// The choices of a command.
 pub(crate) fn choices_of(command: Name) -> &'static [Choice] {
     match command {
         Name::Judge => &[CODE],
-        Name::Noise | Name::Run => &[STRENGTH],
+        Name::Noise => &[STRENGTH],
+        Name::Run => &[RUNS, STRENGTH],
         _ => &[],
     }
 }
