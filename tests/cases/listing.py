@@ -36,24 +36,40 @@ def line(modcod, words, groups, rate=None):
     return f"{text}\n"
 
 
-def listed(rate=None):
+def listed(rate=None, only=None):
+    """The lines of all modes, or only that of a MODCOD with these words."""
     codes = sorted(MODES, key=lambda it: (it[1], it[0]))
-    return "".join(line(modcod, words, groups, rate) for modcod, words, groups, *_ in codes)
+    return "".join(line(modcod, words, groups, rate) for modcod, words, groups, *_ in codes if only in (None, (modcod, words)))
 
 
 assert [f"{(kbch(m, False, 360 * g) - 80) / frame(m, False, 0):.6f}" for m, words, g, *_ in MODES if not words] == [f"{it:.6f}" for it in EFFICIENCIES]
 
+# One rate in several ways.
+RATE_TEXTS = "27500000 27.5M 27500k 27500K 27.5e6 27.5E6 275e5 27500000.0 0027.500M 0.0275e9".split()
 QPSK, PSK = ", ".join(NAMES[:11]), ", ".join(NAMES[11:])
 FORMS = "it is 1 to 17, or qpsk or 8psk with a code rate, as qpsk3/4 or 8psk2/3"
 SWITCH = "error: '--pilots' takes no value: frames have pilot blocks where it stands, and none where it does not"
 MORE = "\nFor more information, try '--help'.\n"
 USAGES = {
+    "modes": "s2 modes [OPTIONS]",
     "table": "s2 table [OPTIONS] --modcod <M> <ROWS>",
+    "judge": "s2 judge [OPTIONS] <--group <G>|--modcod <M>> <ROWS> <SOFT>",
+    "join": "s2 join [OPTIONS] --modcod <M> <BBFRAMES> <PACKETS>",
+    "audit": "s2 audit [OPTIONS] --modcod <M> <ROWS> <SYMBOLS> <REPORT> <CERTIFICATES>",
     "mod": "s2 mod [OPTIONS] --modcod <M> <ROWS> <PACKETS> <SYMBOLS>",
     "demod": "s2 demod [OPTIONS] --modcod <M> <ROWS> <SYMBOLS> <PACKETS>",
-    "run": "s2 run [OPTIONS] --modcod <M> --seed <S> <--level <L>|--esn0 <DB>> <ROWS> <PACKETS> <OUT>",
+    "run": "s2 run [OPTIONS] --modcod <M> <--seed <S>|--seeds <A..B>> <--level <L>|--esn0 <DB>> <ROWS> <PACKETS> <OUT>",
 }
-REST = {"table": "made", "mod": "made packets out", "demod": "made packets out", "run": "--seed 1 --level 1 made packets out"}
+REST = {
+    "modes": "",
+    "table": "made",
+    "judge": "toy stored",
+    "join": "packets out",
+    "audit": "made packets packets packets",
+    "mod": "made packets out",
+    "demod": "made packets out",
+    "run": "--seed 1 --level 1 made packets out",
+}
 
 
 def no_mode(name, text):
@@ -62,6 +78,14 @@ def no_mode(name, text):
 
 def no_roll_off(name):
     return f"error: invalid value '{name}' for '--ro <R>': it is 0 for 0.35, 1 for 0.25, or 2 for 0.20"
+
+
+def no_rate(text):
+    return f"error: invalid value '{text}' for '--rate <R>': it is a whole number, 1 to 1000000000, also as 27.5M, 27.5e6 or 27500k"
+
+
+# What is no symbol rate: beyond the range, no whole number, and not written so.
+NO_RATES = "0 1000000001 x -1 27.5 0.5 1.5555k 1000.0000001M 1001M 1e10 .5M 5.M 27,5M 1G 1MM M 1e 1e-3 0x10".split()
 
 
 def misused(name, words, line):
@@ -84,7 +108,7 @@ NO_NAMES = [
     ("Qpsk3/4", FORMS),
     ("3/4", FORMS),
 ]
-LINKED = ("mod", "demod", "run")
+LINKED = ("audit", "mod", "demod", "run")
 SWITCHES = [f"--pilots {text}" for text in ("on", "off", "yes", "no", "true", "false", "1", "0", "OFF", "True", "FALSE")]
 SWITCHES += ["--pilots=1", "--pilots=0", "--pilots=off", "--pilots=false", "--pilots="]
 MISUSES = [
@@ -99,9 +123,10 @@ MISUSES = [
     ("noise --seed 1 --level 1 --pilots packets out", "error: unexpected argument '--pilots' found"),
     ("noise --seed 1 --level 1 --ro 0 packets out", "error: unexpected argument '--ro' found"),
     ("table --modcod 1 --ro 0 made", "error: unexpected argument '--ro' found"),
-    ("modes --rate 0", "error: invalid value '0' for '--rate <R>': 0 is not in 1..=1000000000"),
-    ("modes --rate 1000000001", "error: invalid value '1000000001' for '--rate <R>': 1000000001 is not in 1..=1000000000"),
-    ("modes --rate x", "error: invalid value 'x' for '--rate <R>': invalid digit found in string"),
+    *((f"modes --rate {text}", no_rate(text)) for text in NO_RATES),
+    ("modes --short", "error: the following required arguments were not provided:"),
+    ("modes --modcod 18", "error: invalid value '18' for '--modcod <M>': 18 is not in 1..=17"),
+    ("modes --modcod 7 --pilots", "error: unexpected argument '--pilots' found"),
     ("modes --rate", "error: a value is required for '--rate <R>' but none was supplied"),
     ("modes all", "error: unexpected argument 'all' found"),
 ]
@@ -111,6 +136,11 @@ CASES = [
     *(Case(f"modes --rate {rate}", out=listed(rate)) for rate in (1, 27500000, 10**9)),
     Case("modes --quiet", out=listed()),
     Case("modes --quiet --rate 27500000", out=listed(27500000)),
+    *(Case(f"modes --rate {text}", out=listed(27500000)) for text in RATE_TEXTS),
+    Case("modes --rate 1e9", out=listed(10**9)),
+    *(Case(f"modes --modcod {modcod} {words}", out=listed(only=(modcod, words))) for modcod, words, *_ in MODES),
+    *(Case(f"modes --rate 27.5M --modcod {NAMES[modcod - 1]} {words}", out=listed(27500000, (modcod, words))) for modcod, words, *_ in MODES),
+    *(fault(f"modes --modcod {modcod} --short", "no such mode") for modcod in (11, 17)),
     fault("modes", "cannot write", to="/dev/full"),
     *(misused(name, f"--modcod {text}", no_mode(text, says)) for name in USAGES for text, says in NO_NAMES),
     *(misused(name, f"--modcod={text}", no_mode(text, says)) for name in USAGES for text, says in [*NO_NAMES, ("", FORMS)]),
@@ -123,9 +153,12 @@ CASES = [
     Case("judge --help", out=option("broken cost C check J", "this is no codeword")),
     Case("run --help", out=option("2  ", "a frame is lost, cut, parity or broken")),
 ]
+# Their files, where the first is not there.
+NONE_READ = {name: rest.replace("made", "none") for name, rest in REST.items()} | {"judge": "none stored", "join": "none out"}
 # Commands by a name, and by its number.
 ALIKE = [
-    tuple(fault(f"{name} --modcod {mode} {REST[name].replace('made', 'none')}", "cannot open none") for mode in modes)
+    tuple(fault(f"{name} --modcod {mode} {NONE_READ[name]}", "cannot open none") for mode in modes)
     for name in USAGES
+    if name != "modes"
     for modes in [(1, "qpsk1/4"), (7, "QPSK3/4"), (11, "QPSK9/10"), (12, "8psk3/5"), (17, "8PSK9/10")]
 ]

@@ -3,13 +3,15 @@
 import re
 from dataclasses import dataclass, field
 
-from cases import links, listing, progress
-from cases.common import ANY, FINE, LINK, NO, PACKET, PAIR, STORED_MOVED, TOY, TWO, WANTED, Case, Rule, digest, noted
+from cases import links, listing, progress, records
+from cases.common import (
+    ANY, FINE, LINK, NO, PACKET, PAIR, STORED, STORED_CERTIFICATE, STORED_MOVED, TOY, TWO, WANTED, Case, Rule, digest, ending, first_line, noted,
+)  # fmt: skip
 from cases.drawn import gaussian, made_rows, spoilt
 from cases.judging import LEFT
 from cases.links import NOISY, NONE, PARITY, SAMPLES, wrong_headers
 from cases.modes import PACKETS, WORDS
-from cases.words import WANTED_NORMAL
+from cases.words import LACKS, WANTED_NORMAL
 
 
 @dataclass
@@ -47,6 +49,7 @@ def by_default(option, default, other, usual, changed):
 
 
 ROWS_NOTE = "these rows are not the standard's for QPSK 1/4, short"
+HARD_NOTE = "these look like hard decisions: use --hard"
 TOO_FEW = "rows: too few rows"
 
 
@@ -70,11 +73,21 @@ def rows_effects():
 
 
 def judge_effects():
-    sole, parity = ended("sole cost -45\n"), ended("parity cost -2\n", NO)
+    sole, parity, lacks = ended("sole cost -45\n"), ended("parity cost -2\n", NO), ended("", 1, first_line(LACKS))
     shapes = {"group": (4, 2, "rows: address too large in line 1"), "groups": (2, 1, "rows: too many rows"), "q": (3, 4, "values: too few")}
     for name, (usual, other, text) in shapes.items():
         words = TOY.replace(f"--{name} {usual}", "{}")
-        yield Effect(f"--{name}", f"judge {words} toy stored", each(f"--{name}", (usual, other), (sole, refused(text))))
+        yield Effect(f"--{name}", f"judge {words} toy stored", {"": lacks} | each(f"--{name}", (usual, other), (sole, refused(text))))
+    zero, many = ended("sole cost 0\n"), {"reads": {"values": 16_200 * b"10 "}}
+    yield Effect("--modcod", "judge {} --short made values", each("--modcod", (1, "qpsk1/4", 2), (zero, zero, refused(OTHER_SHORT[0]))), many)
+    yield Effect("--short", "judge --modcod 1 {} made values", {"": refused(TOO_FEW), "--short": zero}, many)
+    two = {"reads": {"values": STORED + b"\n" + STORED}}
+    yield Effect("--each", f"judge {TOY} {{}} toy values", {"": refused("values: too many"), "--each": ended(2 * "sole cost -45\n")}, two)
+    # the bits of the stored word
+    hard = {"reads": {"values": re.sub(rb"-5|7", lambda it: b"%d" % (it[0] == b"-5"), STORED)}, "noted": True}
+    as_soft, likely = ended("most-likely cost 0\n", errors=noted(HARD_NOTE)), ended("most-likely cost 0\n")
+    yield Effect("--hard", f"judge {TOY} {{}} toy values", {"": as_soft, "--hard": ended("sole cost -9\n")}, hard)
+    yield Effect("--quiet", f"judge {TOY} {{}} toy values", {"": as_soft, "--quiet": likely}, hard)
     yield Effect("--cert", f"judge {TOY} {{}} toy stored", {"": sole, "--cert out": ended("sole cost -45\n", out=STORED_MOVED)})
     (shape, rows), passes, values, line, *_ = LEFT[0]
     ends, soft = (ended(line.replace("sole", "most-likely")), ended(line)), {"reads": {"rows": rows, "values": values}}
@@ -83,13 +96,18 @@ def judge_effects():
     yield Effect("--uncertified", f"judge {PAIR} {{}} pair values", {"": ended("most-likely cost -2\n"), "--uncertified": parity}, values)
     broken, likely = ended("broken cost -5 check 0\n", NO), ended("most-likely cost 0\n")
     yield Effect("--factor", f"judge {PAIR} {{}} pair odd", by_default("--factor", 12, 13, broken, likely))
-    yield Effect("--quiet", f"judge {TOY} {{}} toy stored", dict.fromkeys(("", "--quiet"), sole))
 
 
 def few_effects():
     """Commands with few options."""
-    yield Effect("--rate", "modes {}", {"": ended(listing.listed()), "--rate 27500000": ended(listing.listed(27500000))})
+    every, by_rate = ended(listing.listed()), ended(listing.listed(27500000))
+    yield Effect("--rate", "modes {}", {"": every} | each("--rate", ("27500000", "27.5M", "27.5e6", "27500k"), 4 * [by_rate]))
+    one, short = (ended(listing.listed(only=(7, words))) for words in ("", "--short"))
+    yield Effect("--modcod", "modes {}", {"": every, "--modcod 7": one, "--modcod qpsk3/4": one})
+    yield Effect("--short", "modes --modcod 7 {}", {"": one, "--short": short})
     yield Effect("--quiet", "modes {}", dict.fromkeys(("", "--quiet"), ended(listing.listed())))
+    two = {"reads": {"two": 2 * STORED_CERTIFICATE}}
+    yield Effect("--each", "check toy two {}", {"": refused("certificate: extra"), "--each": ended(2 * "sole cost -45\n")}, two)
     yield Effect("--quiet", "check toy certificate {}", dict.fromkeys(("", "--quiet"), ended("sole cost -45\n")))
     other = ended("other\n", NO)
     yield Effect("--modcod", "table {} --short made", each("--modcod", (1, "qpsk1/4", 2), (other, other, refused(*OTHER_SHORT))))
@@ -102,6 +120,34 @@ def few_effects():
     ends |= {text: ends[same] for text, same in {"+6.20": "6.2", "06.2": "6.2", "-0.00": "0", "40.0": "40"}.items()}
     values, made = [f"--esn0 {text}" for text in ends] + ["--esn0=-2.35"], [*ends.values(), ends["-2.35"]]
     yield Effect("--esn0", "noise --seed 1 {} in out", dict(zip(values, made)), {"reads": {"in": SAMPLES}})
+
+
+def join_effects():
+    """A frame of zeros, as long as the BBFRAMEs of the one mode: its header is refused."""
+    end = "end frames {} delivered 0 packets 0 bad 0\n"
+    lost, cut = ended(end.format(1), NO, out=b""), ended(f"cut at 0 bytes 384\n{end.format(0)}", NO, out=b"")
+    zeros = {"reads": {"in": bytes(listing.kbch(1, True, 3240) // 8)}}
+    yield Effect("--modcod", "join {} --short in out", each("--modcod", (1, "QPSK1/4", 2), (lost, lost, cut)), zeros)
+    yield Effect("--short", "join --modcod 1 {} in out", {"--short": lost, "": cut}, zeros)
+    yield Effect("--quiet", f"join {LINK} {{}} in out", dict.fromkeys(("", "--quiet"), lost), zeros)
+
+
+def audit_effects(two):
+    """Two frames and their certificates."""
+    costs = [sum(value for value in soft if value < 0) for soft, _ in records.decided(two)]
+    lines = "".join(f"frame {at + 1} at {8190 * at} sole cost {cost}\n" for at, cost in enumerate(costs))
+    fine, other = ended(f"{lines}audit frames 2 sole 2 most-likely 0\n"), ended("frame 1 at 0 other values\n", NO)
+    few, large = ({"code": 1, "out": "", "errors": ending(f"s2: {text}\n"), "writes": {}} for text in (TOO_FEW, OTHER_SHORT[0]))
+    reads = {"reads": {"in": two, "report": TWO.encode(), "certificates": records.records(two)["--certificates"]}}
+    files = "made in report certificates"
+    yield Effect("--modcod", f"audit {{}} --short {files}", each("--modcod", (1, "qpsk1/4", 2), (fine, fine, large)), reads)
+    yield Effect("--short", f"audit --modcod 1 {{}} {files}", {"": few, "--short": fine}, reads)
+    yield Effect("--pilots", f"audit {LINK} {{}} {files}", {"": fine, "--pilots": other}, reads)
+    yield Effect("--number", f"audit {LINK} {{}} {files}", by_default("--number", 0, 7, fine, other), reads)
+    # a receiver accepts any roll-off
+    yield Effect("--ro", f"audit {LINK} {{}} {files}", dict.fromkeys(("", "--ro 0", "--ro 1", "--ro 2"), fine), reads)
+    yield Effect("--divisor", f"audit {LINK} {{}} {files}", by_default("--divisor", 4096, 8192, fine, other), reads)
+    yield Effect("--quiet", f"audit {LINK} {{}} {files}", dict.fromkeys(("", "--quiet"), fine), reads)
 
 
 def mod_effects(two, dummy):
@@ -165,6 +211,13 @@ def link_effects(two):
     yield Effect("--quiet", f"run {LINK} {{}} --seed 1 --level 0 made packets out", {"": received(TWO, notes=[ROWS_NOTE]), "--quiet": WELL}, {"noted": True})
 
 
+def record_effects(two):
+    """Each option of records makes its file, and changes nothing else."""
+    for option, text in records.records(two).items():
+        ends = {"": WELL, f"{option} record": ended(TWO, out=2 * PACKET, record=text)}
+        yield from both(option, f"{LINK} {{}}", ends, (1, 0), {"reads": {"in": two}})
+
+
 def demod_effects(two, pilots):
     words, end = f"{LINK} --pilots", "end frames 2 delivered {0} packets {0} bad 0\n"
     no_sync = received(NONE, FINE, b"", ["16740 symbols passed over in 1 places, the first at 0", "no frame of QPSK 1/4, short in 16740 symbols"])
@@ -193,6 +246,10 @@ def run_effects(report, others):
     yield Effect("--esn0", f"{words} --seed {seed} {{}} made packets out", each("--esn0", (decibels, 40), (gaussian_noise, WELL)))
     other = {"code": ANY, "out": ANY, "errors": "", "writes": {"out": ANY}}
     yield Effect("--seed", f"{words} --level {NOISY[1]} {{}} made packets out", each("--seed", (NOISY[0], 15), (usual, other)))
+    # a run for each seed: the lines of both, and one more
+    both_told = Rule("two runs and a line of sums", lambda got: got.decode().startswith(2 * TWO) and got.count(b"\n") == 7)
+    two_runs = {"code": FINE, "out": both_told, "errors": "", "writes": {"out": ANY}}
+    yield Effect("--seeds", f"run {LINK} --level 0 {{}} made packets out", {"--seed 1": WELL, "--seeds 3..4": two_runs})
     yield Effect("--pilots", f"run {LINK} --seed 1 --level 0 {{}} made packets out", {"": WELL, "--pilots": received(TWO.replace("8190", "8370"))})
     apart = received(TWO.replace("8190", "11520"))
     yield Effect("--dummy", f"run {LINK} --seed 1 --level 0 {{}} made packets out", by_default("--dummy", 0, 1, WELL, apart))
@@ -208,8 +265,8 @@ def run_effects(report, others):
 
 
 def effects(two, pilots, dummy, report, others):
-    found = [*rows_effects(), *judge_effects(), *few_effects(), *mod_effects(two, dummy), *tuning_effects(two, report)]
-    return found + [*link_effects(two), *demod_effects(two, pilots), *run_effects(report, others)]
+    found = [*rows_effects(), *judge_effects(), *few_effects(), *join_effects(), *mod_effects(two, dummy), *tuning_effects(two, report)]
+    return found + [*link_effects(two), *record_effects(two), *audit_effects(two), *demod_effects(two, pilots), *run_effects(report, others)]
 
 
 # Options with cases in progress.py.
@@ -244,7 +301,7 @@ def unshown(name, text, found):
 
 
 # Options without a visible effect: these commands write no notes, and a receiver accepts any roll-off.
-SAME = {("modes", "--quiet"), ("rows", "--quiet"), ("judge", "--quiet"), ("check", "--quiet"), ("demod", "--ro")}
+SAME = {("modes", "--quiet"), ("rows", "--quiet"), ("check", "--quiet"), ("join", "--quiet"), ("audit", "--quiet"), ("audit", "--ro"), ("demod", "--ro")}
 
 
 def has_difference(effect):

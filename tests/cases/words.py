@@ -1,4 +1,6 @@
 """The words of the command line, and the files that they name."""
+import itertools
+
 from cases.common import DIVISORS, FAULT, LINK, NO, PACKET, PAIR, STORED, TOY, TWO, Case, fault, first_line, option, size
 
 HELP = """A DVB-S2 modem with maximum-likelihood certificates. \
@@ -16,6 +18,9 @@ Commands:
   noise  Adds noise that a seed determines to symbols
   demod  Receives the packets of symbols
   run    Sends packets, adds noise, and receives them
+  scan   Tells which modes a recording has, and how to receive it
+  join   Joins the packets of BBFRAMEs
+  audit  Checks a report by the certificates of its frames, without decoding
   help   Print this message or the help of the given subcommand(s)
 
 Options:
@@ -39,10 +44,11 @@ Arguments:
   <CERT>  Certificate file
 
 Options:
+      --each   Certificates of any number of frames, one after the other: a line of the report for each
       --quiet  No notes on standard error
   -h, --help   Print help
 
-The report:
+The report, a line for each certificate:
   sole cost C           accepted: the word costs C, every other codeword costs more
   yes cost C            accepted: the word costs C, no codeword costs less
   no shape              the certificate is of other rows: give those that it was made by
@@ -52,13 +58,46 @@ The report:
 Exits:
   0  sole or yes: the certificate is accepted
   1  a usage fault, or a fault that standard error tells
-  2  no: it is not accepted
+  2  no: it is not accepted; with --each one of them is not
 
 Example:
   s2 check rows certificate
+  s2 check --each rows certificates
+"""
+SCAN_HELP = """Tells which modes a recording has, and how to receive it
+
+Usage: s2 scan <SYMBOLS>
+
+Arguments:
+  <SYMBOLS>  Recording, four bytes a symbol: I and Q, signed, in either byte order
+
+Options:
+  -h, --help  Print help
+
+The report, a line for each mode, the likeliest first:
+  MODE LENGTH PILOTS         the mode, as qpsk3/4; normal or short; pilots or no-pilots
+  seen N first S             headers that were found, and the symbol of the first, from 0 on
+  every D                    the usual distance from one to the next
+  turn K conjugate yes|no    the symbols were multiplied by the K-th power of i, and then conjugated, or not
+  bytes big|little           the byte order
+  amplitude A                of the headers' symbols; `mod` sends 990
+
+The last line:
+  tools/convert .. | ./s2 demod ..    receives the first mode of the list that `demod` takes; rows is the mode's row file
+  s2 demod receives none of these     16APSK, 32APSK or dummy frames alone
+  nothing found                       no header came twice at its frame's distance: try a longer recording
+
+Exits:
+  0  some header came twice at its frame's distance
+  1  a usage fault, or a fault that standard error tells
+  2  nothing found
+
+Example:
+  s2 scan recording
 """
 LACKS = "error: the following required arguments were not provided:"
 MORE = "\nFor more information, try '--help'.\n"
+NO_BBFRAMES = f"{LACKS}\n  --modcod <M>\n  <BBFRAMES>\n  <PACKETS>\n\nUsage: s2 join --modcod <M> <BBFRAMES> <PACKETS>\n{MORE}"
 NO_CERT = f"{LACKS}\n  <CERT>\n\nUsage: s2 check <ROWS> <CERT>\n{MORE}"
 RUN = "run --modcod 1 --seed 1 --level 1"
 WANTED_NORMAL = "QPSK 1/4, normal wants 45 rows of addresses below 48600"
@@ -78,11 +117,33 @@ def no_ratio(text):
 
 # What is no Es/N0 that there is: beyond the range, by more than two decimals, and not written so.
 RATIOS = ["-10.01", "40.01", "-11", "41", "655.36", "6.205", "6.", ".5", "6.2.1", "6,2", "1e1", "x", "+", "+-6", "6.-2", "6.+2", "99999999999"]
+# The options of demod and run that name a file for records, and what each file takes.
+RECORDS = {
+    "--certificates": "for the certificates of all frames that are sole or most likely, as `check --each` reads them",
+    "--values": "for the soft values of each frame, a line each, as `judge --each` reads them",
+    "--codewords": "for the decided bits of each frame, eight to a byte, the first one highest",
+    "--bbframes": "for the BBFRAMEs, as `join` reads them: zeros for a frame that is lost, and before one that follows a gap",
+}
+# What is no range of seeds, and why.
+NO_RANGE = "it is two numbers of 64 bits, as 1..100"
+RANGES = {text: NO_RANGE for text in ("1", "1.2", "1..", "..2", "..", "1...2", "1..2..3", "-1..2", "1..-2", "+1..2", "1,2", "a..b", f"0..{2**64}")}
+RANGES |= {"2..1": "2 is greater than 1", f"{2**64 - 1}..0": f"{2**64 - 1} is greater than 0"}
 NOT_BOTH = "error: the argument '--uncertified' cannot be used with '--passes <P>'"
 # Words that no command has, and the first line on standard error.
 MISUSES = [
     ("send", "error: unrecognized subcommand 'send'"),
     ("judge toy stored", LACKS),
+    ("judge --group 4 toy stored", LACKS),
+    ("judge --group 4 --groups 2 toy stored", LACKS),
+    ("judge --groups 2 --q 3 toy stored", LACKS),
+    ("judge --short toy stored", LACKS),
+    (f"judge {TOY} --modcod 1 toy stored", "error: the argument '--group <G>' cannot be used with '--modcod <M>'"),
+    (f"judge {TOY} --short toy stored", "?"),
+    ("judge --modcod 1 --q 3 toy stored", "?"),
+    ("judge --modcod 1 --groups 2 toy stored", "?"),
+    ("judge --modcod 18 toy stored", beyond(18, "modcod <M>", 1, 17)),
+    (f"judge {TOY} --each=2 toy stored", "error: unexpected value '2' for '--each' found; no more were expected"),
+    ("check --hard toy certificate", "error: unexpected argument '--hard' found"),
     (f"judge {TOY} toy", LACKS),
     ("judge --group 361 --groups 2 --q 3 toy stored", beyond(361, "group <G>", 1, 360)),
     ("judge --group 4 --groups 0 --q 3 toy stored", beyond(0, "groups <N>", 1, 64799)),
@@ -128,6 +189,9 @@ MISUSES = [
     ("demod --modcod 1 --lock 41 made packets out", beyond(41, "lock <H>", 12, 40)),
     ("demod --modcod 1 --lock x made packets out", invalid("x", "lock <H>", "invalid digit found in string")),
     ("demod --modcod 1 --uncertified --passes 96 made packets out", NOT_BOTH),
+    *((f"demod --modcod 1 made in out {option}", f"error: a value is required for '{option} <FILE>' but none was supplied") for option in RECORDS),
+    *((f"mod --modcod 1 made packets out {option} file", f"error: unexpected argument '{option}' found") for option in RECORDS),
+    ("demod --modcod 1 --values one --values two made in out", "error: the argument '--values <FILE>' cannot be used multiple times"),
     ("demod --modcod 1 --dummy 1 made packets out", "error: unexpected argument '--dummy' found"),
     ("demod --modcod 1 --seed 1 made packets out", "error: unexpected argument '--seed' found"),
     ("run --modcod 1 --seed 1 made packets out", LACKS),
@@ -136,6 +200,10 @@ MISUSES = [
     (f"{RUN} --esn0 1 made packets out", "error: the argument '--level <L>' cannot be used with '--esn0 <DB>'"),
     *((f"run --modcod 1 --seed 1 --esn0 {text} made packets out", no_ratio(text)) for text in RATIOS),
     ("run --seed 1 --level 1 made packets out", LACKS),
+    ("run --modcod 1 --seed 1 --seeds 1..2 --level 1 made packets out", "error: the argument '--seed <S>' cannot be used with '--seeds <A..B>'"),
+    ("run --modcod 1 --seeds 1..2 made packets out", LACKS),
+    *((f"run --modcod 1 --level 1 --seeds {text} made packets out", invalid(text, "seeds <A..B>", why)) for text, why in RANGES.items()),
+    ("noise --seeds 1..2 --level 1 packets out", "error: unexpected argument '--seeds' found"),
     (f"{RUN} made packets", LACKS),
     (f"{RUN} --dummy 65536 made packets out", beyond(65536, "dummy <D>", 0, 65535)),
     (f"{RUN} --rounds 201 made packets out", beyond(201, "rounds <K>", 1, 200)),
@@ -146,6 +214,21 @@ MISUSES = [
     (f"{RUN} --lock 41 made packets out", beyond(41, "lock <H>", 12, 40)),
     (f"{RUN} --uncertified --passes 0 made packets out", NOT_BOTH),
     (f"{RUN} --tuned=1 made packets out", "error: unexpected value '1' for '--tuned' found; no more were expected"),
+    ("scan", LACKS),
+    ("scan one other", "error: unexpected argument 'other' found"),
+    ("scan --quiet one", "error: unexpected argument '--quiet' found"),
+    ("scan --modcod 1 one", "error: unexpected argument '--modcod' found"),
+    ("join frames out", LACKS),
+    ("join --modcod 1 frames", LACKS),
+    ("join --modcod 0 frames out", beyond(0, "modcod <M>", 1, 17)),
+    ("join --modcod 18 frames out", beyond(18, "modcod <M>", 1, 17)),
+    ("join --modcod 1 --pilots frames out", "error: unexpected argument '--pilots' found"),
+    ("audit --modcod 1 made in report", LACKS),
+    ("audit made in report certificates", LACKS),
+    ("audit --modcod 18 made in report certificates", beyond(18, "modcod <M>", 1, 17)),
+    ("audit --modcod 1 --number 262142 made in report certificates", beyond(262142, "number <N>", 0, 262141)),
+    ("audit --modcod 1 --tuned made in report certificates", "error: unexpected argument '--tuned' found"),
+    ("audit --modcod 1 --rounds 50 made in report certificates", "error: unexpected argument '--rounds' found"),
     (f"rows {PAIR} --weight 0 --seed 1", beyond(0, "weight <W>", 1, 24)),
     (f"rows {PAIR} --weight 25 --seed 1", beyond(25, "weight <W>", 1, 24)),
     (f"rows {PAIR} --weight 1 --seed -1", "error: unexpected argument '-1' found"),
@@ -164,10 +247,12 @@ ABOUTS = {
     "noise": "Adds noise that a seed determines to symbols",
     "demod": "Receives the packets of symbols",
     "run": "Sends packets, adds noise, and receives them",
+    "join": "Joins the packets of BBFRAMEs",
+    "audit": "Checks a report by the certificates of its frames, without decoding",
 }
 RECEIVING = ("demod --modcod 1", RUN)
 ENDS = {
-    "modes": "all modes are listed",
+    "modes": "all modes are listed, or the one of --modcod",
     "rows": "the rows are printed",
     "table": "standard",
     "judge": "sole or most-likely: nothing is to be done",
@@ -176,6 +261,9 @@ ENDS = {
     "noise": "all symbols are written, and nothing is printed",
     "demod": "every frame is delivered, and sole or most-likely",
     "run": "every frame is delivered, and sole or most-likely",
+    "scan": "some header came twice at its frame's distance",
+    "join": "every frame has a good header, and no packet is bad",
+    "audit": "all are proved, and no certificate is left over",
 }
 # What a word says, and the value where it is left out.
 WORDS = [
@@ -194,8 +282,26 @@ WORDS = [
     ("demod", "--rounds <K>", "Rounds of min-sum at most for each frame, 1 to 200 [default: 50]"),
     ("demod", "--passes <P>", "0 to 1000 [default: 0]"),
     *((name, "--uncertified", "which is `parity` then; not with --passes") for name in ("judge", "demod", "run")),
+    ("judge", "--group <G>", "Bits of a group, 1 to 360"),
+    ("judge", "--modcod <M>", "as qpsk3/4 or 8PSK2/3: `s2 modes` lists them"),
+    ("judge", "--short", "Frames of 16200 bits, and not of 64800"),
+    ("judge", "--each", "Values of any number of frames, one after the other: a line of the report for each"),
+    ("judge", "--hard", "in the place of soft values: 0 is the value 1, and 1 is -1"),
+    ("run", "--seed <S>", "Seed of the generator, any number of 64 bits"),
+    ("run", "--seeds <A..B>", "A run for each seed from A to B, both included, and a line of sums at the end"),
+    *((name, f"{option} <FILE>", says) for name in ("demod", "run") for option, says in RECORDS.items()),
+    ("demod", "A frame's records", "A file keeps its contents until the rows are accepted."),
+    ("run", "A frame's records", "A file keeps its contents until the rows are accepted, and the packets."),
     *((name, "--tuned", "words that stand beside it win") for name in ("demod", "run")),
-    ("modes", "--rate <R>", "Symbols a second, 1 to 1000000000: adds the bits a second of the transport stream"),
+    ("modes", "--rate <R>", "also as 27.5M, 27.5e6 or 27500k: adds the bits a second of the transport stream"),
+    ("modes", "--modcod <M>", "as qpsk3/4 or 8PSK2/3: `s2 modes` lists them"),
+    ("modes", "--short", "Frames of 16200 bits, and not of 64800"),
+    ("join", "--modcod <M>", "as qpsk3/4 or 8PSK2/3: `s2 modes` lists them"),
+    ("join", "--short", "Frames of 16200 bits, and not of 64800"),
+    ("join", "cut at BYTE bytes COUNT", "the file ends within a frame, of which COUNT bytes are there"),
+    ("audit", "--number <N>", "Scrambling number, 0 to 262141 [default: 0]"),
+    ("audit", "frame I at SYMBOL sole cost C", "proved: the decided bits cost C, every other codeword costs more"),
+    ("audit", "other values", "of another recording, or of another --divisor"),
     ("mod", "packets P frames F", "P packets were taken, and F frames written, dummy frames not counted"),
 ]
 # The commands that show how far they are, those that may be strict, those that decide, and a line of each command with what it
@@ -211,7 +317,12 @@ LINES = {
     "noise": "noise --seed 1 --level 0 packets out",
     "demod": f"demod {LINK} made empty out",
     "run": f"run {LINK} --seed 1 --level 0 made packets out",
+    "scan": "scan packets",
+    "join": f"join {LINK} empty out",
+    "audit": f"audit {LINK} made empty empty empty",
 }
+# The commands that take --quiet.
+QUIET = [name for name in LINES if name != "scan"]
 
 
 def refused(word, name):
@@ -234,6 +345,8 @@ ENDED = {
     "noise": {"writes": {"out": 2 * PACKET}},
     "demod": {"out": "end frames 0 delivered 0 packets 0 bad 0\n", "reads": {"empty": b""}, "writes": {"out": b""}},
     "run": {"out": TWO, "writes": {"out": 2 * PACKET}},
+    "audit": {"out": "audit frames 0 sole 0 most-likely 0\n", "reads": {"empty": b""}},
+    "join": {"out": "end frames 0 delivered 0 packets 0 bad 0\n", "reads": {"empty": b""}, "writes": {"out": b""}},
 }
 
 
@@ -266,17 +379,28 @@ MISSING = [
     (f"{RUN} made packets none/out", "none/out"),
     ("mod --modcod 11 --pilots none none none", "none"),
     ("demod --modcod 1 /dev/null none none", "none"),
+    *((f"{command} {option} none/file made packets old", "none/file") for command in RECEIVING for option in RECORDS),
+    *((f"{command} {option} file none packets old", "none") for command in RECEIVING for option in RECORDS),
+    ("scan none", "none"),
+    ("join --modcod 1 none old", "none"),
+    *((f"audit --modcod 1 {' '.join(files)}", "none") for files in itertools.permutations(["none", "made", "packets", "stored"])),
+    ("join --modcod 1 packets none/out", "none/out"),
 ]
 # Commands whose words are refused before a file is opened.
 REFUSED = [
     ("rows --group 360 --groups 90 --q 91 --weight 8 --seed 1", "no such shape"),
     ("judge --group 360 --groups 90 --q 91 none none", "no such shape"),
+    ("judge --modcod 11 --short none none", "no such mode"),
+    ("judge --modcod 17 --short --cert old none none", "no such mode"),
     ("judge --group 360 --groups 90 --q 91 --cert old none none", "no such shape"),
     ("mod --modcod 11 --short none none none", "no such mode"),
     ("mod --modcod 11 --short made packets old", "no such mode"),
     ("demod --modcod 11 --short made packets old", "no such mode"),
     ("demod --modcod 17 --short none none old", "no such mode"),
     ("run --modcod 11 --short --seed 1 --level 1 none none old", "no such mode"),
+    ("run --modcod 11 --short --seeds 1..2 --level 1 none none old", "no such mode"),
+    ("join --modcod 11 --short none old", "no such mode"),
+    ("audit --modcod 11 --short none none none none", "no such mode"),
 ]
 # Commands that read a file without an end, and what they leave.
 ENDLESS = [
@@ -304,12 +428,13 @@ CASES = [
     Case("--version", out="s2 0.1\n"),
     Case("--help", out=HELP),
     Case("check --help", out=CHECK_HELP),
+    Case("scan --help", out=SCAN_HELP),
     *(Case(f"{name} --help", out=first_line(about)) for name, about in ABOUTS.items()),
     *(Case(f"{name} --help", out=option("0  ", end)) for name, end in ENDS.items()),
     *(Case(f"{name} --help", out=option(word, says)) for name, word, says in WORDS),
     *(
         Case(f"{name} --help", out=option("--quiet", f"No notes on standard error{', and no progress but by --progress' * (name in SHOWING)}"))
-        for name in LINES
+        for name in QUIET
     ),
     *(Case(f"{name} --help", out=option("--progress", "a line that is rewritten once a second")) for name in SHOWING),
     *(Case(f"{name} --help", out=option("--strict", "or no frame was found in 90 symbols or more")) for name in STRICT),
@@ -323,11 +448,12 @@ CASES = [
     *(refused("--rate", name) for name in LINES if name != "modes"),
     Case("--help", FAULT, to="/dev/full"),
     Case("check toy", FAULT, errors=NO_CERT),
+    Case("join", FAULT, errors=NO_BBFRAMES),
     *(Case(words, FAULT, errors=f"{line}\n{MORE}") for words, line in MISUSES if " is not in " in line),
     *(Case(words, FAULT, errors=first_line(line)) for words, line in MISUSES),
     *(no_divisor(command, *pair) for command in RECEIVING for pair in NO_DIVISORS),
-    *(Case(f"{command} made packets old --divisor", FAULT, errors=LACKS_DIVISOR) for command in RECEIVING),
-    *(Case(f"{name} --help", out=option("--divisor <D>", f" [default: 4096] {POSSIBLE}")) for name in ("demod", "run")),
+    *(Case(f"{command} made packets old --divisor", FAULT, errors=LACKS_DIVISOR) for command in (*RECEIVING, "audit --modcod 1")),
+    *(Case(f"{name} --help", out=option("--divisor <D>", f" [default: 4096] {POSSIBLE}")) for name in ("demod", "run", "audit")),
     *(Case(f"{name} --help", out=option("--factor <F>", " [default: 12]")) for name in DECIDING),
     *(Case(f"{name} --help", out=option("--lock <H>", "12 to 40; elsewhere 12 may [default: 12]")) for name in STRICT),
     *(fault(words, f"cannot open {name}") for words, name in MISSING),

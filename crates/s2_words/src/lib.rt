@@ -18,10 +18,12 @@ mod parser;
 mod reading;
 mod refusal;
 mod request;
+mod seeds;
 mod table;
 
 pub use reading::read_words;
 pub use request::{
-    ChannelWords, CheckWords, DemodWords, JudgeWords, LinkWords, ModWords, ModesWords, NoiseWords,
-    NoteWords, Progress, Request, RowsWords, RunWords, ShapeWords, TableWords,
+    AuditWords, ChannelWords, CheckWords, CodeWords, DemodWords, JoinWords, JudgeWords, LinkWords,
+    ModWords, ModesWords, NoiseWords, NoteWords, Progress, RecordWords, Request, RowsWords,
+    RunWords, ScanWords, SeedWords, ShapeWords, TableWords,
 };

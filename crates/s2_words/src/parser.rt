@@ -1,6 +1,7 @@
 //! The parser that the table describes.
 use crate::table::{
-    ABOUT, Argument, Entry, Form, MORE, arguments_of, choice_of, commands, more_of,
+    ABOUT, Argument, Choice, Entry, Form, MORE, Rule, arguments_of, choices_of, commands, more_of,
+    rules_of,
 };
 use clap::builder::ValueParser;
 use clap::{Arg, ArgAction, ArgGroup, Command};
@@ -61,7 +62,17 @@ fn arg_of<'a>(alloc: Global, argument: Argument, values: Values) -> Result<Arg<'
             .long(argument.name)
             .value_name(value)
             .value_parser(allowed),
-        Form::NamedDecimal { value } => arg
+        Form::NamedNumberOrText { value, allowed } => {
+            let arg = arg
+                .allow_negative_numbers(true)
+                .long(argument.name)
+                .value_name(value);
+            match values {
+                Values::Numbers => arg.value_parser(allowed),
+                Values::Texts => arg.value_parser(ValueParser::String),
+            }
+        }
+        Form::NamedText { value } => arg
             .long(argument.name)
             .value_name(value)
             .allow_negative_numbers(true),
@@ -82,19 +93,37 @@ pub(crate) fn command_of<'a>(
     for argument in arguments_of(entry.command) {
         command = command.arg(arg_of(alloc, *argument, values)?)?;
     }
-    with_choice(alloc, command, choice_of(entry.command))
+    for rule in rules_of(entry.command) {
+        command = with_rule(alloc, command, *rule)?;
+    }
+    for choice in choices_of(entry.command) {
+        command = with_choice(alloc, command, *choice)?;
+    }
+    Ok(command)
 }
 
-/// A command with a choice of options: exactly one of them is required. If there are none, it is unchanged.
+/// A command with one more rule.
+fn with_rule<'a>(
+    alloc: Global,
+    command: Command<'a>,
+    rule: Rule,
+) -> Result<Command<'a>, AllocError> {
+    let group = ArgGroup::new(alloc, rule.name)
+        .args(rule.given)?
+        .multiple(true)
+        .requires_all(rule.needed)?
+        .conflicts_with_all(rule.excluded)?;
+    command.group(group)
+}
+
+/// A command with one more choice.
 fn with_choice<'a>(
     alloc: Global,
     command: Command<'a>,
-    choice: &[&'static str],
+    choice: Choice,
 ) -> Result<Command<'a>, AllocError> {
-    if choice.is_empty() {
-        return Ok(command);
-    }
-    command.group(ArgGroup::new(alloc, "choice").args(choice)?.required(true))
+    let group = ArgGroup::new(alloc, choice.name).args(choice.options)?;
+    command.group(group.required(true))
 }
 
 /// A program with one more command.

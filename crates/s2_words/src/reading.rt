@@ -4,9 +4,11 @@ use crate::options::{Number, TuningWords, judging_by, progress_by, read_modcod, 
 use crate::parser::program;
 use crate::refusal::{misused, not_understood, values_in};
 use crate::request::{
-    ChannelWords, CheckWords, DemodWords, JudgeWords, LinkWords, ModWords, ModesWords, NoiseWords,
-    NoteWords, Progress, Request, RowsWords, RunWords, ShapeWords, TableWords,
+    AuditWords, ChannelWords, CheckWords, CodeWords, DemodWords, JoinWords, JudgeWords, LinkWords,
+    ModWords, ModesWords, NoiseWords, NoteWords, Progress, RecordWords, Request, RowsWords,
+    RunWords, ScanWords, SeedWords, ShapeWords, TableWords,
 };
+use crate::seeds::read_seeds;
 use clap::parser::ValueSource;
 use clap::{ArgMatches, Error};
 use s2_channel::Strength;
@@ -14,6 +16,7 @@ use s2_link::{RollOff, Tuning};
 use s2_mode::Mode;
 use s2_names::SymbolRate;
 use s2_scramble::ScramblingNumber;
+use s2_soft::Divisor;
 use std::alloc::Global;
 
 fn shape_of(m: &ArgMatches<'_>) -> Option<ShapeWords> {
@@ -22,6 +25,16 @@ fn shape_of(m: &ArgMatches<'_>) -> Option<ShapeWords> {
         groups: m.get_one::<u16>("groups")?,
         q: m.get_one::<u16>("q")?,
     })
+}
+
+fn code_of(m: &ArgMatches<'_>) -> Option<CodeWords> {
+    match m.get_str("modcod") {
+        Some(text) => Some(CodeWords::Mode {
+            modcod: read_modcod(text)?,
+            short: m.get_flag("short"),
+        }),
+        None => Some(CodeWords::Shape(shape_of(m)?)),
+    }
 }
 
 fn link_of(m: &ArgMatches<'_>) -> Option<LinkWords> {
@@ -69,6 +82,13 @@ fn strength_of(m: &ArgMatches<'_>) -> Option<Strength> {
     }
 }
 
+fn seeds_of(m: &ArgMatches<'_>) -> Option<Option<SeedWords>> {
+    match m.get_str("seeds") {
+        Some(text) => read_seeds(text).map(Some),
+        None => Some(None),
+    }
+}
+
 fn channel_of(m: &ArgMatches<'_>) -> Option<ChannelWords> {
     Some(ChannelWords {
         seed: m.get_one::<u64>("seed")?,
@@ -76,10 +96,30 @@ fn channel_of(m: &ArgMatches<'_>) -> Option<ChannelWords> {
     })
 }
 
+/// The channel of the first of a range of seeds, if there is one.
+fn channel_from(seeds: Option<SeedWords>, m: &ArgMatches<'_>) -> Option<ChannelWords> {
+    match seeds {
+        Some(seeds) => Some(ChannelWords {
+            seed: seeds.first,
+            strength: strength_of(m)?,
+        }),
+        None => channel_of(m),
+    }
+}
+
 fn notes_of(m: &ArgMatches<'_>) -> NoteWords {
     NoteWords {
         strict: m.get_flag("strict"),
         quiet: m.get_flag("quiet"),
+    }
+}
+
+fn records_of<'a>(m: &ArgMatches<'a>) -> RecordWords<'a> {
+    RecordWords {
+        certificates: m.get_str("certificates"),
+        values: m.get_str("values"),
+        codewords: m.get_str("codewords"),
+        bbframes: m.get_str("bbframes"),
     }
 }
 
@@ -104,18 +144,34 @@ fn table_of<'a>(m: &ArgMatches<'a>) -> Option<Request<'a>> {
     }))
 }
 
+fn rate_of(m: &ArgMatches<'_>) -> Option<Option<SymbolRate>> {
+    match m.get_str("rate") {
+        Some(text) => SymbolRate::read(text).map(Some),
+        None => Some(None),
+    }
+}
+
+fn mode_of(m: &ArgMatches<'_>) -> Option<Option<(u8, bool)>> {
+    match m.get_str("modcod") {
+        Some(text) => read_modcod(text).map(|modcod| Some((modcod, m.get_flag("short")))),
+        None => Some(None),
+    }
+}
+
 fn modes_of<'a>(m: &ArgMatches<'a>) -> Option<Request<'a>> {
-    let rate = match m.get_str("rate") {
-        Some(_) => Some(SymbolRate::new(m.get_one::<usize>("rate")?)?),
-        None => None,
-    };
-    Some(Request::Modes(ModesWords { rate }))
+    Some(Request::Modes(ModesWords {
+        rate: rate_of(m)?,
+        mode: mode_of(m)?,
+    }))
 }
 
 fn judge_of<'a>(m: &ArgMatches<'a>) -> Option<Request<'a>> {
     let (passes, factor) = (m.get_one::<u32>("passes")?, m.get_one::<u32>("factor")?);
     Some(Request::Judge(JudgeWords {
-        shape: shape_of(m)?,
+        code: code_of(m)?,
+        each: m.get_flag("each"),
+        hard: m.get_flag("hard"),
+        quiet: m.get_flag("quiet"),
         tuning: judging_by(passes, factor, m.get_flag("uncertified"))?,
         certificate: m.get_str("cert"),
         rows: m.get_str("ROWS")?,
@@ -125,6 +181,7 @@ fn judge_of<'a>(m: &ArgMatches<'a>) -> Option<Request<'a>> {
 
 fn check_of<'a>(m: &ArgMatches<'a>) -> Option<Request<'a>> {
     Some(Request::Check(CheckWords {
+        each: m.get_flag("each"),
         rows: m.get_str("ROWS")?,
         certificate: m.get_str("CERT")?,
     }))
@@ -157,6 +214,7 @@ fn demod_of<'a>(m: &ArgMatches<'a>) -> Option<Request<'a>> {
         tuning: tuning_of(m)?,
         notes: notes_of(m),
         progress: progress_of(m),
+        records: records_of(m),
         rows: m.get_str("ROWS")?,
         symbols: m.get_str("SYMBOLS")?,
         packets: m.get_str("PACKETS")?,
@@ -164,16 +222,45 @@ fn demod_of<'a>(m: &ArgMatches<'a>) -> Option<Request<'a>> {
 }
 
 fn run_of<'a>(m: &ArgMatches<'a>) -> Option<Request<'a>> {
+    let seeds = seeds_of(m)?;
     Some(Request::Run(RunWords {
         link: link_of(m)?,
         dummy: m.get_one::<u16>("dummy")?,
         tuning: tuning_of(m)?,
-        channel: channel_of(m)?,
+        channel: channel_from(seeds, m)?,
+        seeds,
         notes: notes_of(m),
         progress: progress_of(m),
+        records: records_of(m),
         rows: m.get_str("ROWS")?,
         packets: m.get_str("PACKETS")?,
         to: m.get_str("OUT")?,
+    }))
+}
+
+fn scan_of<'a>(m: &ArgMatches<'a>) -> Option<Request<'a>> {
+    Some(Request::Scan(ScanWords {
+        symbols: m.get_str("SYMBOLS")?,
+    }))
+}
+
+fn join_of<'a>(m: &ArgMatches<'a>) -> Option<Request<'a>> {
+    Some(Request::Join(JoinWords {
+        modcod: read_modcod(m.get_str("modcod")?)?,
+        short: m.get_flag("short"),
+        bbframes: m.get_str("BBFRAMES")?,
+        packets: m.get_str("PACKETS")?,
+    }))
+}
+
+fn audit_of<'a>(m: &ArgMatches<'a>) -> Option<Request<'a>> {
+    Some(Request::Audit(AuditWords {
+        link: link_of(m)?,
+        divisor: Divisor::new(m.get_one::<u32>("divisor")?)?,
+        rows: m.get_str("ROWS")?,
+        symbols: m.get_str("SYMBOLS")?,
+        report: m.get_str("REPORT")?,
+        certificates: m.get_str("CERTIFICATES")?,
     }))
 }
 
@@ -188,6 +275,9 @@ fn request_of<'a>(name: &str, m: &ArgMatches<'a>) -> Option<Request<'a>> {
         "noise" => noise_of(m),
         "demod" => demod_of(m),
         "run" => run_of(m),
+        "scan" => scan_of(m),
+        "join" => join_of(m),
+        "audit" => audit_of(m),
         _ => None,
     }
 }

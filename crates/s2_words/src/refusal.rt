@@ -2,12 +2,13 @@
 use crate::decibels::read_esn0;
 use crate::options::read_modcod;
 use crate::parser::{Values, command_of, program};
+use crate::seeds::read_range;
 use crate::table::{Entry, commands};
 use clap::error::ErrorKind;
 use clap::{ArgMatches, Error};
 use s2_link::RollOff;
 use s2_mode::{MAX_MODCOD, Mode, Modulation};
-use s2_names::{Case, constellation};
+use s2_names::{Case, SymbolRate, constellation};
 use std::alloc::{AllocError, Global};
 
 /// The value of an option: the next argument, or the text after its equals sign.
@@ -115,32 +116,82 @@ fn begins_with(name: &str, small: &str, capital: &str) -> bool {
     name.starts_with(small) || name.starts_with(capital)
 }
 
-/// The accepted values in place of unknown ones, if there are any.
-fn message_of(alloc: Global, m: &ArgMatches<'_>) -> Result<Option<String>, AllocError> {
-    if let Some(name) = m.get_str("modcod") {
-        if read_modcod(name).is_none() {
+/// What is said of an unknown name of a mode.
+fn modcod_message(alloc: Global, m: &ArgMatches<'_>) -> Result<Option<String>, AllocError> {
+    match m.get_str("modcod") {
+        Some(name) if read_modcod(name).is_none() => {
             let mut text = format!(in alloc; "invalid value '{name}' for '--modcod <M>': ")?;
             push_modes(&mut text, name)?;
-            return Ok(Some(text));
+            Ok(Some(text))
         }
+        _ => Ok(None),
     }
-    if let Some(name) = m.get_str("ro") {
-        if m.get_one::<u8>("ro").and_then(RollOff::new).is_none() {
-            let text = format!(in alloc;
+}
+
+/// What is said of a number that is no roll-off.
+fn roll_off_message(alloc: Global, m: &ArgMatches<'_>) -> Result<Option<String>, AllocError> {
+    match m.get_str("ro") {
+        Some(name) if m.get_one::<u8>("ro").and_then(RollOff::new).is_none() => Ok(Some(
+            format!(in alloc;
                 "invalid value '{name}' for '--ro <R>': it is 0 for 0.35, 1 for 0.25, or 2 for 0.20"
-            )?;
-            return Ok(Some(text));
-        }
+            )?,
+        )),
+        _ => Ok(None),
     }
-    if let Some(number) = m.get_str("esn0") {
-        if read_esn0(number).is_none() {
-            let text = format!(in alloc;
-                "invalid value '{number}' for '--esn0 <DB>': it is -10 to 40, with at most two digits after the point"
-            )?;
-            return Ok(Some(text));
-        }
+}
+
+/// What is said of a number that is no Es/N0.
+fn esn0_message(alloc: Global, m: &ArgMatches<'_>) -> Result<Option<String>, AllocError> {
+    match m.get_str("esn0") {
+        Some(number) if read_esn0(number).is_none() => Ok(Some(format!(in alloc;
+            "invalid value '{number}' for '--esn0 <DB>': it is -10 to 40, with at most two digits after the point"
+        )?)),
+        _ => Ok(None),
     }
-    Ok(None)
+}
+
+/// What is said of a text that is no symbol rate.
+fn rate_message(alloc: Global, m: &ArgMatches<'_>) -> Result<Option<String>, AllocError> {
+    match m.get_str("rate") {
+        Some(text) if SymbolRate::read(text).is_none() => Ok(Some(format!(in alloc;
+            "invalid value '{text}' for '--rate <R>': it is a whole number, 1 to 1000000000, also as 27.5M, 27.5e6 or 27500k"
+        )?)),
+        _ => Ok(None),
+    }
+}
+
+/// What is said of a text that is no range of seeds.
+fn seeds_message(alloc: Global, m: &ArgMatches<'_>) -> Result<Option<String>, AllocError> {
+    let Some(text) = m.get_str("seeds") else {
+        return Ok(None);
+    };
+    match read_range(text) {
+        Some(seeds) if seeds.first <= seeds.last => Ok(None),
+        Some(seeds) => Ok(Some(format!(in alloc;
+            "invalid value '{text}' for '--seeds <A..B>': {} is greater than {}",
+            seeds.first, seeds.last
+        )?)),
+        None => Ok(Some(format!(in alloc;
+            "invalid value '{text}' for '--seeds <A..B>': it is two numbers of 64 bits, as 1..100"
+        )?)),
+    }
+}
+
+/// The accepted values in place of unknown ones, if there are any.
+fn message_of(alloc: Global, m: &ArgMatches<'_>) -> Result<Option<String>, AllocError> {
+    if let Some(text) = modcod_message(alloc, m)? {
+        return Ok(Some(text));
+    }
+    if let Some(text) = roll_off_message(alloc, m)? {
+        return Ok(Some(text));
+    }
+    if let Some(text) = esn0_message(alloc, m)? {
+        return Ok(Some(text));
+    }
+    if let Some(text) = rate_message(alloc, m)? {
+        return Ok(Some(text));
+    }
+    seeds_message(alloc, m)
 }
 
 /// The usage fault of arguments from which no request can be made.

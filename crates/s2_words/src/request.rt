@@ -3,6 +3,7 @@ use s2_channel::Strength;
 use s2_link::{RollOff, Tuning};
 use s2_names::SymbolRate;
 use s2_scramble::ScramblingNumber;
+use s2_soft::Divisor;
 
 /// The numbers of a shape.
 #[derive(Clone, Copy, PartialEq, Eq)]
@@ -29,6 +30,13 @@ pub struct ChannelWords {
     pub strength: Strength,
 }
 
+/// The first and the last of a range of seeds.
+#[derive(Clone, Copy, Debug, PartialEq, Eq)]
+pub struct SeedWords {
+    pub first: u64,
+    pub last: u64,
+}
+
 /// `rows`: the numbers of made rows.
 #[derive(Clone, Copy, PartialEq, Eq)]
 pub struct RowsWords {
@@ -37,10 +45,21 @@ pub struct RowsWords {
     pub seed: u64,
 }
 
-/// `judge`: a shape, the tuning, and the files.
+/// A code, by the numbers of its shape or by a mode.
+#[derive(Clone, Copy, PartialEq, Eq)]
+pub enum CodeWords {
+    Shape(ShapeWords),
+    Mode { modcod: u8, short: bool },
+}
+
+/// `judge`: a code, whether there are values of many frames, whether they are decided bits, whether notes are left
+/// out, the tuning, and the files.
 #[derive(Clone, Copy, PartialEq, Eq)]
 pub struct JudgeWords<'a> {
-    pub shape: ShapeWords,
+    pub code: CodeWords,
+    pub each: bool,
+    pub hard: bool,
+    pub quiet: bool,
     pub tuning: Tuning,
     pub certificate: Option<&'a str>,
     pub rows: &'a str,
@@ -56,9 +75,10 @@ pub struct TableWords<'a> {
     pub rows: &'a str,
 }
 
-/// `check`: the files.
+/// `check`: whether there are many certificates, and the files.
 #[derive(Clone, Copy, PartialEq, Eq)]
 pub struct CheckWords<'a> {
+    pub each: bool,
     pub rows: &'a str,
     pub certificate: &'a str,
 }
@@ -104,37 +124,78 @@ pub struct NoteWords {
     pub quiet: bool,
 }
 
-/// `demod`: a link, the tuning, the notes, whether progress is shown, and the files.
+/// The files of a reception's records, those that are given: certificates, soft values, decided bits and BBFRAMEs.
+#[derive(Clone, Copy, PartialEq, Eq)]
+pub struct RecordWords<'a> {
+    pub certificates: Option<&'a str>,
+    pub values: Option<&'a str>,
+    pub codewords: Option<&'a str>,
+    pub bbframes: Option<&'a str>,
+}
+
+/// `demod`: a link, the tuning, the notes, whether progress is shown, the records, and the files.
 #[derive(Clone, Copy, PartialEq, Eq)]
 pub struct DemodWords<'a> {
     pub link: LinkWords,
     pub tuning: Tuning,
     pub notes: NoteWords,
     pub progress: Progress,
+    pub records: RecordWords<'a>,
     pub rows: &'a str,
     pub symbols: &'a str,
     pub packets: &'a str,
 }
 
-/// `run`: a link, the number of frames between dummy frames (0 for none), the tuning, a channel, the notes,
-/// whether progress is shown, and the files.
+/// `run`: a link, the number of frames between dummy frames (0 for none), the tuning, a channel, a range of seeds if
+/// there is to be a run for each, the notes, whether progress is shown, the records, and the files. The channel has the
+/// first seed of the range.
 #[derive(Clone, Copy, PartialEq, Eq)]
 pub struct RunWords<'a> {
     pub link: LinkWords,
     pub dummy: u16,
     pub tuning: Tuning,
     pub channel: ChannelWords,
+    pub seeds: Option<SeedWords>,
     pub notes: NoteWords,
     pub progress: Progress,
+    pub records: RecordWords<'a>,
     pub rows: &'a str,
     pub packets: &'a str,
     pub to: &'a str,
 }
 
-/// `modes`: a symbol rate, if the bits of a transport stream per second are to be listed.
+/// `scan`: the recording.
+#[derive(Clone, Copy, PartialEq, Eq)]
+pub struct ScanWords<'a> {
+    pub symbols: &'a str,
+}
+
+/// `join`: the numbers of a mode, and the files.
+#[derive(Clone, Copy, PartialEq, Eq)]
+pub struct JoinWords<'a> {
+    pub modcod: u8,
+    pub short: bool,
+    pub bbframes: &'a str,
+    pub packets: &'a str,
+}
+
+/// `audit`: a link, the divisor of soft values, and the files.
+#[derive(Clone, Copy, PartialEq, Eq)]
+pub struct AuditWords<'a> {
+    pub link: LinkWords,
+    pub divisor: Divisor,
+    pub rows: &'a str,
+    pub symbols: &'a str,
+    pub report: &'a str,
+    pub certificates: &'a str,
+}
+
+/// `modes`: a symbol rate, if the bits of a transport stream per second are to be listed; and MODCOD and whether frames
+/// are short, if one mode is to be listed.
 #[derive(Clone, Copy, PartialEq, Eq)]
 pub struct ModesWords {
     pub rate: Option<SymbolRate>,
+    pub mode: Option<(u8, bool)>,
 }
 
 /// The request: `Own` without a command, else the command with its options.
@@ -150,4 +211,7 @@ pub enum Request<'a> {
     Noise(NoiseWords<'a>),
     Demod(DemodWords<'a>),
     Run(RunWords<'a>),
+    Scan(ScanWords<'a>),
+    Join(JoinWords<'a>),
+    Audit(AuditWords<'a>),
 }

@@ -3,7 +3,6 @@ use clap::builder::ValueParser;
 use s2_link::{MAX_PASSES, MAX_ROLL_OFF, MAX_ROUNDS};
 use s2_minsum::{LEAST_FACTOR, MAX_FACTOR};
 use s2_mode::{MAX_BITS, MAX_GROUP, MAX_MODCOD};
-use s2_names::MAX_RATE;
 use s2_plframe::{HEADER_THRESHOLD, MAX_LOCK};
 use s2_rows::MAX_ADDRESSES;
 use s2_scramble::MAX_NUMBER;
@@ -50,11 +49,12 @@ Each line:
   ts S P                with --rate: bits a second of the transport stream, rounded down
 
 Exits:
-  0  all modes are listed
+  0  all modes are listed, or the one of --modcod
   1  a usage fault, or a fault that standard error tells
 
 Example:
-  s2 modes --rate 27500000";
+  s2 modes --rate 27.5M
+  s2 modes --modcod qpsk3/4 --short";
 
 /// The text below the options of `rows`.
 const ROWS_MORE: &str = "\
@@ -85,7 +85,7 @@ Example:
 
 /// The text below the options of `judge`.
 const JUDGE_MORE: &str = "\
-The report:
+The report, a line for each frame:
   sole cost C              the decided bits cost C, every other codeword costs more
   most-likely cost C       the decided bits cost C, no codeword costs less
   parity cost C            all parity checks hold, no certificate was found: try --passes 96
@@ -94,14 +94,18 @@ The report:
 Exits:
   0  sole or most-likely: nothing is to be done
   1  a usage fault, or a fault that standard error tells
-  2  parity or broken
+  2  parity or broken; with --each one of the frames is
+
+Notes, on standard error:
+  these look like hard decisions: use --hard    all values are 0 or 1, which speak for the word of zeros
 
 Example:
-  s2 judge --group 4 --groups 2 --q 3 --cert certificate rows soft";
+  s2 judge --group 4 --groups 2 --q 3 --cert certificate rows soft
+  s2 judge --modcod qpsk1/2 --each --cert certificates rows values";
 
 /// The text below the options of `check`.
 const CHECK_MORE: &str = "\
-The report:
+The report, a line for each certificate:
   sole cost C           accepted: the word costs C, every other codeword costs more
   yes cost C            accepted: the word costs C, no codeword costs less
   no shape              the certificate is of other rows: give those that it was made by
@@ -111,10 +115,11 @@ The report:
 Exits:
   0  sole or yes: the certificate is accepted
   1  a usage fault, or a fault that standard error tells
-  2  no: it is not accepted
+  2  no: it is not accepted; with --each one of them is not
 
 Example:
-  s2 check rows certificate";
+  s2 check rows certificate
+  s2 check --each rows certificates";
 
 /// The text below the options of `mod`.
 const MOD_MORE: &str = "\
@@ -144,7 +149,7 @@ Example:
 
 /// The report of a receiver, and its exits.
 macro_rules! report {
-    ($example:literal) => {
+    ($accepted:literal, $example:literal) => {
         concat!(
             "\
 The report, a line for each frame as it comes, and one for the end:
@@ -173,6 +178,12 @@ Notes, on standard error:
   no frame of MODE in N symbols                        another mode, byte order, form of samples or rotation
   N packets torn                                       begun, and lost with a frame that is missing or not delivered
 
+Files:
+  --certificates, --values, --codewords and --bbframes write records of the frames. Each takes `-` too.
+  A frame's records are written before its line. A file keeps its contents until the rows are accepted",
+            $accepted,
+            ".
+
 Example:
 ",
             $example
@@ -181,12 +192,79 @@ Example:
 }
 
 /// The text below the options of `demod`.
-const DEMOD_MORE: &str = report!("  s2 demod --modcod qpsk1/2 --pilots rows noisy received.ts");
+const DEMOD_MORE: &str = report!(
+    "",
+    "  s2 demod --modcod qpsk1/2 --pilots rows noisy received.ts"
+);
 
 /// The text below the options of `run`.
 const RUN_MORE: &str = report!(
+    ", and the packets",
     "  s2 run --modcod qpsk1/2 --pilots --seed 1 --level 100 rows packets.ts received.ts"
 );
+
+/// The text below the options of `scan`.
+const SCAN_MORE: &str = "\
+The report, a line for each mode, the likeliest first:
+  MODE LENGTH PILOTS         the mode, as qpsk3/4; normal or short; pilots or no-pilots
+  seen N first S             headers that were found, and the symbol of the first, from 0 on
+  every D                    the usual distance from one to the next
+  turn K conjugate yes|no    the symbols were multiplied by the K-th power of i, and then conjugated, or not
+  bytes big|little           the byte order
+  amplitude A                of the headers' symbols; `mod` sends 990
+
+The last line:
+  tools/convert .. | ./s2 demod ..    receives the first mode of the list that `demod` takes; rows is the mode's row file
+  s2 demod receives none of these     16APSK, 32APSK or dummy frames alone
+  nothing found                       no header came twice at its frame's distance: try a longer recording
+
+Exits:
+  0  some header came twice at its frame's distance
+  1  a usage fault, or a fault that standard error tells
+  2  nothing found
+
+Example:
+  s2 scan recording";
+
+/// The text below the options of `join`.
+const JOIN_MORE: &str = "\
+The report, at the end:
+  cut at BYTE bytes COUNT                     the file ends within a frame, of which COUNT bytes are there
+  end frames F delivered D packets P bad B    of F frames D have a good header, P packets were written, B had a wrong CRC-8
+  Bytes count from 0. A frame of zeros stands for frames that were not received: no packet is joined across it.
+
+Exits:
+  0  every frame has a good header, and no packet is bad
+  1  a usage fault, or a fault that standard error tells: the packets of the frames before it stand in PACKETS
+  2  a header is refused, a packet is bad, or the last frame is cut
+
+Example:
+  s2 join --modcod qpsk1/2 bbframes packets.ts";
+
+/// The text below the options of `audit`.
+const AUDIT_MORE: &str = "\
+The report, a line for each frame that REPORT calls sole or most-likely, and one for the end:
+  frame I at SYMBOL sole cost C           proved: the decided bits cost C, every other codeword costs more
+  frame I at SYMBOL most-likely cost C    proved: the decided bits cost C, no codeword costs less
+  frame I at SYMBOL REASON                not proved: the last line
+  certificates left over                  after the last frame
+  audit frames F sole A most-likely B     REPORT has F frames, and all that it calls sole (A) or most-likely (B) are proved
+
+Reasons:
+  no certificate    CERTIFICATES ends before this frame's
+  no symbols        SYMBOLS ends before the end of this frame
+  other values      the certificate is of other soft values than this frame's: of another recording, or of another --divisor
+  not accepted      the certificate proves nothing under these rows
+  not sole          the certificate proves that the bits are most likely, and no more
+
+Exits:
+  0  all are proved, and no certificate is left over
+  1  a usage fault, or a fault that standard error tells
+  2  a frame is not proved, or certificates are left over
+
+Example:
+  s2 demod --modcod qpsk1/2 --tuned --certificates certificates rows noisy received.ts > report
+  s2 audit --modcod qpsk1/2 --divisor 8192 rows noisy report certificates";
 
 /// The form of an option on the command line.
 #[derive(Clone, Copy)]
@@ -212,8 +290,13 @@ pub(crate) enum Form {
         value: &'static str,
         allowed: ValueParser<'static>,
     },
-    /// `--name VALUE`, a number with a sign and a decimal point or without, which may be left out.
-    NamedDecimal {
+    /// The same. If the value is not a number, the reader interprets it, or reports which values are accepted.
+    NamedNumberOrText {
+        value: &'static str,
+        allowed: ValueParser<'static>,
+    },
+    /// `--name VALUE`, which the reader interprets, and which may be left out. It may begin with a minus.
+    NamedText {
         value: &'static str,
     },
     /// `--name FILE`.
@@ -242,6 +325,9 @@ pub(crate) enum Name {
     Noise,
     Demod,
     Run,
+    Scan,
+    Join,
+    Audit,
 }
 
 /// A command, and its name. Its options and its help are apart, so that no proof has the texts of all.
@@ -285,6 +371,31 @@ const Q: Argument = Argument {
     help: "Checks by which a group's next bit moves on, 1 to 64799",
 };
 
+/// The numbers of a shape, for a command that takes a mode in their place.
+const GROUP_OR_MODE: Argument = Argument {
+    form: Form::NamedNumber {
+        value: "G",
+        allowed: ValueParser::Signed(1, MAX_GROUP as i64),
+    },
+    ..GROUP
+};
+
+const GROUPS_OR_MODE: Argument = Argument {
+    form: Form::NamedNumber {
+        value: "N",
+        allowed: ValueParser::Signed(1, MAX_BITS as i64 - 1),
+    },
+    ..GROUPS
+};
+
+const Q_OR_MODE: Argument = Argument {
+    form: Form::NamedNumber {
+        value: "Q",
+        allowed: ValueParser::Signed(1, MAX_BITS as i64 - 1),
+    },
+    ..Q
+};
+
 const WEIGHT: Argument = Argument {
     name: "weight",
     form: Form::Number {
@@ -303,6 +414,15 @@ const MODCOD: Argument = Argument {
         default: None,
     },
     help: "MODCOD, 1 to 17, or the mode's name, in small letters or in capitals, as qpsk3/4 or 8PSK2/3: `s2 modes` lists them",
+};
+
+/// The same option, for a command that can do without it.
+const MODCOD_OR_NONE: Argument = Argument {
+    form: Form::NamedNumberOrText {
+        value: "M",
+        allowed: ValueParser::Signed(1, MAX_MODCOD as i64),
+    },
+    ..MODCOD
 };
 
 const SHORT: Argument = Argument {
@@ -377,6 +497,12 @@ const DIVISOR: Argument = Argument {
     help: "What soft values are divided by: 8192 at low code rates, more for stronger symbols",
 };
 
+/// The same option, for a report that was made with it.
+const DIVISOR_OF_REPORT: Argument = Argument {
+    help: "What soft values were divided by: that of the reception, with --tuned 8192",
+    ..DIVISOR
+};
+
 const FACTOR: Argument = Argument {
     name: "factor",
     form: Form::Number {
@@ -419,6 +545,21 @@ const SEED: Argument = Argument {
     help: "Seed of the generator, any number of 64 bits",
 };
 
+/// The same option, for a command that takes a range of seeds in its place.
+const SEED_OR_SEEDS: Argument = Argument {
+    form: Form::NamedNumber {
+        value: "S",
+        allowed: ANY,
+    },
+    ..SEED
+};
+
+const SEEDS: Argument = Argument {
+    name: "seeds",
+    form: Form::NamedText { value: "A..B" },
+    help: "A run for each seed from A to B, both included, and a line of sums at the end",
+};
+
 const LEVEL: Argument = Argument {
     name: "level",
     form: Form::NamedNumber {
@@ -430,17 +571,14 @@ const LEVEL: Argument = Argument {
 
 const ESN0: Argument = Argument {
     name: "esn0",
-    form: Form::NamedDecimal { value: "DB" },
+    form: Form::NamedText { value: "DB" },
     help: "Es/N0 in dB, -10 to 40 with two decimals at most: Gaussian noise, for symbols of the amplitude that `mod` sends",
 };
 
 const RATE: Argument = Argument {
     name: "rate",
-    form: Form::NamedNumber {
-        value: "R",
-        allowed: ValueParser::Signed(1, MAX_RATE as i64),
-    },
-    help: "Symbols a second, 1 to 1000000000: adds the bits a second of the transport stream",
+    form: Form::NamedText { value: "R" },
+    help: "Symbols a second, 1 to 1000000000, also as 27.5M, 27.5e6 or 27500k: adds the bits a second of the transport stream",
 };
 
 const STRICT: Argument = Argument {
@@ -467,10 +605,52 @@ const PROGRESS: Argument = Argument {
     help: "Progress on standard error, also where that is no terminal: a line that is rewritten once a second",
 };
 
+const EACH_VALUES: Argument = Argument {
+    name: "each",
+    form: Form::Flag,
+    help: "Values of any number of frames, one after the other: a line of the report for each",
+};
+
+const HARD: Argument = Argument {
+    name: "hard",
+    form: Form::Flag,
+    help: "Decided bits, 0 and 1, in the place of soft values: 0 is the value 1, and 1 is -1",
+};
+
+const EACH_CERTIFICATE: Argument = Argument {
+    name: "each",
+    form: Form::Flag,
+    help: "Certificates of any number of frames, one after the other: a line of the report for each",
+};
+
 const CERTIFICATE: Argument = Argument {
     name: "cert",
     form: Form::NamedFile,
     help: "File for the certificate of a word that is sole or most likely: none is made without it",
+};
+
+const CERTIFICATES: Argument = Argument {
+    name: "certificates",
+    form: Form::NamedFile,
+    help: "File for the certificates of all frames that are sole or most likely, as `check --each` reads them",
+};
+
+const VALUES: Argument = Argument {
+    name: "values",
+    form: Form::NamedFile,
+    help: "File for the soft values of each frame, a line each, as `judge --each` reads them",
+};
+
+const CODEWORDS: Argument = Argument {
+    name: "codewords",
+    form: Form::NamedFile,
+    help: "File for the decided bits of each frame, eight to a byte, the first one highest",
+};
+
+const BBFRAMES: Argument = Argument {
+    name: "bbframes",
+    form: Form::NamedFile,
+    help: "File for the BBFRAMEs, as `join` reads them: zeros for a frame that is lost, and before one that follows a gap",
 };
 
 /// An argument that is the name of a file.
@@ -489,7 +669,7 @@ const ROWS: Argument = file!("ROWS", "Row file");
 const PACKETS: Argument = file!("PACKETS", "Transport stream, packets of 188 bytes");
 
 /// All commands.
-static COMMANDS: [Entry; 9] = [
+static COMMANDS: [Entry; 12] = [
     Entry {
         command: Name::Modes,
         name: "modes",
@@ -535,6 +715,21 @@ static COMMANDS: [Entry; 9] = [
         name: "run",
         about: "Sends packets, adds noise, and receives them",
     },
+    Entry {
+        command: Name::Scan,
+        name: "scan",
+        about: "Tells which modes a recording has, and how to receive it",
+    },
+    Entry {
+        command: Name::Join,
+        name: "join",
+        about: "Joins the packets of BBFRAMEs",
+    },
+    Entry {
+        command: Name::Audit,
+        name: "audit",
+        about: "Checks a report by the certificates of its frames, without decoding",
+    },
 ];
 
 /// All commands.
@@ -543,7 +738,7 @@ pub(crate) fn commands() -> &'static [Entry] {
 }
 
 /// The arguments of `modes`, in order.
-static MODES_ARGUMENTS: [Argument; 2] = [RATE, QUIET];
+static MODES_ARGUMENTS: [Argument; 4] = [RATE, MODCOD_OR_NONE, SHORT, QUIET];
 
 /// The arguments of `rows`, in order.
 static ROWS_ARGUMENTS: [Argument; 6] = [GROUP, GROUPS, Q, WEIGHT, SEED, QUIET];
@@ -552,10 +747,14 @@ static ROWS_ARGUMENTS: [Argument; 6] = [GROUP, GROUPS, Q, WEIGHT, SEED, QUIET];
 static TABLE_ARGUMENTS: [Argument; 4] = [MODCOD, SHORT, QUIET, ROWS];
 
 /// The arguments of `judge`, in order.
-static JUDGE_ARGUMENTS: [Argument; 10] = [
-    GROUP,
-    GROUPS,
-    Q,
+static JUDGE_ARGUMENTS: [Argument; 14] = [
+    GROUP_OR_MODE,
+    GROUPS_OR_MODE,
+    Q_OR_MODE,
+    MODCOD_OR_NONE,
+    SHORT,
+    EACH_VALUES,
+    HARD,
     CERTIFICATE,
     PASSES,
     UNCERTIFIED,
@@ -566,7 +765,12 @@ static JUDGE_ARGUMENTS: [Argument; 10] = [
 ];
 
 /// The arguments of `check`, in order.
-static CHECK_ARGUMENTS: [Argument; 3] = [QUIET, ROWS, file!("CERT", "Certificate file")];
+static CHECK_ARGUMENTS: [Argument; 4] = [
+    EACH_CERTIFICATE,
+    QUIET,
+    ROWS,
+    file!("CERT", "Certificate file"),
+];
 
 /// The arguments of `mod`, in order.
 static MOD_ARGUMENTS: [Argument; 11] = [
@@ -598,7 +802,7 @@ static NOISE_ARGUMENTS: [Argument; 7] = [
 ];
 
 /// The arguments of `demod`, in order.
-static DEMOD_ARGUMENTS: [Argument; 18] = [
+static DEMOD_ARGUMENTS: [Argument; 22] = [
     MODCOD,
     SHORT,
     PILOTS,
@@ -614,6 +818,10 @@ static DEMOD_ARGUMENTS: [Argument; 18] = [
     STRICT,
     QUIET_AND_STILL,
     PROGRESS,
+    CERTIFICATES,
+    VALUES,
+    CODEWORDS,
+    BBFRAMES,
     ROWS,
     file!(
         "SYMBOLS",
@@ -623,7 +831,7 @@ static DEMOD_ARGUMENTS: [Argument; 18] = [
 ];
 
 /// The arguments of `run`, in order.
-static RUN_ARGUMENTS: [Argument; 22] = [
+static RUN_ARGUMENTS: [Argument; 27] = [
     MODCOD,
     SHORT,
     PILOTS,
@@ -637,15 +845,59 @@ static RUN_ARGUMENTS: [Argument; 22] = [
     FACTOR,
     LOCK,
     TUNED,
-    SEED,
+    SEED_OR_SEEDS,
+    SEEDS,
     LEVEL,
     ESN0,
     STRICT,
     QUIET_AND_STILL,
     PROGRESS,
+    CERTIFICATES,
+    VALUES,
+    CODEWORDS,
+    BBFRAMES,
     ROWS,
     PACKETS,
     file!("OUT", "File for the packets that are received"),
+];
+
+/// The arguments of `scan`, in order.
+static SCAN_ARGUMENTS: [Argument; 1] = [file!(
+    "SYMBOLS",
+    "Recording, four bytes a symbol: I and Q, signed, in either byte order"
+)];
+
+/// The arguments of `join`, in order.
+static JOIN_ARGUMENTS: [Argument; 5] = [
+    MODCOD,
+    SHORT,
+    QUIET,
+    file!(
+        "BBFRAMES",
+        "File of BBFRAMEs, Kbch / 8 bytes each with the header, not scrambled"
+    ),
+    file!("PACKETS", "File for the packets"),
+];
+
+/// The arguments of `audit`, in order.
+static AUDIT_ARGUMENTS: [Argument; 11] = [
+    MODCOD,
+    SHORT,
+    PILOTS,
+    NUMBER,
+    ROLL_OFF,
+    DIVISOR_OF_REPORT,
+    QUIET,
+    ROWS,
+    file!(
+        "SYMBOLS",
+        "File of symbols, four bytes each: I and Q, signed, high byte first"
+    ),
+    file!("REPORT", "Report of `demod`"),
+    file!(
+        "CERTIFICATES",
+        "Certificates that `demod --certificates` wrote"
+    ),
 ];
 
 /// The arguments of a command.
@@ -660,13 +912,80 @@ pub(crate) fn arguments_of(command: Name) -> &'static [Argument] {
         Name::Noise => &NOISE_ARGUMENTS,
         Name::Demod => &DEMOD_ARGUMENTS,
         Name::Run => &RUN_ARGUMENTS,
+        Name::Scan => &SCAN_ARGUMENTS,
+        Name::Join => &JOIN_ARGUMENTS,
+        Name::Audit => &AUDIT_ARGUMENTS,
     }
 }
 
-/// The choice of options of a command: exactly one of them is required, if there are any.
-pub(crate) fn choice_of(command: Name) -> &'static [&'static str] {
+/// A choice of options, of which exactly one is required, and its name.
+#[derive(Clone, Copy)]
+pub(crate) struct Choice {
+    pub name: &'static str,
+    pub options: &'static [&'static str],
+}
+
+/// A code, by its shape or by a mode.
+const CODE: Choice = Choice {
+    name: "code",
+    options: &["group", "modcod"],
+};
+
+/// How strong noise is.
+const STRENGTH: Choice = Choice {
+    name: "strength",
+    options: &["level", "esn0"],
+};
+
+/// One run, or one for each seed of a range.
+const RUNS: Choice = Choice {
+    name: "runs",
+    options: &["seed", "seeds"],
+};
+
+/// The choices of a command.
+pub(crate) fn choices_of(command: Name) -> &'static [Choice] {
     match command {
-        Name::Noise | Name::Run => &["level", "esn0"],
+        Name::Judge => &[CODE],
+        Name::Noise => &[STRENGTH],
+        Name::Run => &[RUNS, STRENGTH],
+        _ => &[],
+    }
+}
+
+/// What must stand beside options, and what must not.
+#[derive(Clone, Copy)]
+pub(crate) struct Rule {
+    pub name: &'static str,
+    /// If one of these is given,
+    pub given: &'static [&'static str],
+    /// so are all of these,
+    pub needed: &'static [&'static str],
+    /// and none of these.
+    pub excluded: &'static [&'static str],
+}
+
+/// A shape has three numbers, and stands in the place of a mode.
+const WHOLE_SHAPE: Rule = Rule {
+    name: "shape",
+    given: &["group", "groups", "q"],
+    needed: &["group", "groups", "q"],
+    excluded: &["modcod", "short"],
+};
+
+/// The length is that of a mode's frames.
+const LENGTH_OF_MODE: Rule = Rule {
+    name: "length",
+    given: &["short"],
+    needed: &["modcod"],
+    excluded: &[],
+};
+
+/// The rules for a command's options.
+pub(crate) fn rules_of(command: Name) -> &'static [Rule] {
+    match command {
+        Name::Modes => &[LENGTH_OF_MODE],
+        Name::Judge => &[WHOLE_SHAPE, LENGTH_OF_MODE],
         _ => &[],
     }
 }
@@ -683,5 +1002,8 @@ pub(crate) fn more_of(command: Name) -> &'static str {
         Name::Noise => NOISE_MORE,
         Name::Demod => DEMOD_MORE,
         Name::Run => RUN_MORE,
+        Name::Scan => SCAN_MORE,
+        Name::Join => JOIN_MORE,
+        Name::Audit => AUDIT_MORE,
     }
 }
