@@ -1,0 +1,6 @@
+//! Records of frames.
+#![tactic(auto)]
+
+mod block;
+mod values;
+mod words;
