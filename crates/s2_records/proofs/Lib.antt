@@ -1,2 +1,5 @@
 pub mod Blocks
 pub mod Lines
+pub mod Streams
+pub mod Sizes
+pub mod ValueLines

@@ -32,7 +32,7 @@ values_record decision = values_line decision.soft
 abbrev pub codeword_bytes : Decision → List ℕ
 codeword_bytes decision = bytes_of_bits decision.bits
 
--- in the place of a BBFRAME that is not known: zeros, as many bytes as the BBFRAMEs of the mode have
+-- for a BBFRAME that is not known: Kbch / 8 zeros, the size of each BBFRAME of the mode
 abbrev pub no_bbframe : Mode → List ℕ
 no_bbframe m = replicate (kbch_of m / 8) 0
 

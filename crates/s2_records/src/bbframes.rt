@@ -44,11 +44,7 @@ fn write_message<W: CountedWrite>(
 }
 
 /// Writes zeros in the place of skipped symbols, if there were any.
-fn write_gap<W: CountedWrite>(
-    out: &mut W,
-    zeros: &[u8],
-    after_gap: bool,
-) -> Result<(), WriteFault>
+fn write_gap<W: CountedWrite>(out: &mut W, zeros: &[u8], after_gap: bool) -> Result<(), WriteFault>
     requires { CanCount (W.count out.old) }
     ensures bytes { OnOk result (Appends (W.contents out.old) (W.contents out.new) (if after_gap then zeros.now else [])) }
     ensures part { OnErr result (AppendsPart (if after_gap then zeros.now else []) (W.contents out.old) (W.contents out.new)) }
@@ -86,9 +82,9 @@ fn write_frame<W: CountedWrite>(
     }
 }
 
-/// A sink of BBFRAMEs. It writes the message of each frame that was delivered, descrambled: header, data field and
-/// padding, Kbch / 8 bytes. It writes as many zeros in the place of a frame that was not delivered, and in the place of
-/// skipped symbols before a frame. In contracts, it is its mode and its writer.
+/// A sink of BBFRAMEs. It writes the message of each delivered frame, descrambled: header, data field and padding, in
+/// Kbch / 8 bytes. Instead of a frame that was not delivered it writes Kbch / 8 zeros. It also does so before a frame
+/// that comes after skipped symbols. In contracts, it is its mode and its writer.
 pub struct Bbframes<W> {
     mode: Mode,
     to: W,

@@ -13,8 +13,8 @@ pub fn bbframes<W: CountedWrite>()
     ensures { BbframesLaw W.contents }
 {}
 
-/// What is written in the place of any frame, or of skipped symbols, has the size of a BBFRAME of the mode: Kbch / 8
-/// bytes. So a file of them has whole BBFRAMEs.
+/// The record of each frame, and the zeros for skipped symbols, have the size of a BBFRAME of the mode: Kbch / 8 bytes.
+/// So a file of them has whole BBFRAMEs.
 pub fn whole()
     ensures { WholeLaw }
 {}

@@ -1,15 +1,22 @@
 //! The soft values of frames.
-ghost use Rattle.std.specs.Prelude.{◌≡◌, ◌++◌, ℕ, List, OnOk, OnErr};
+ghost use Rattle.std.specs.Prelude.{◌≡◌, ◌++◌, ℕ, List, IfOk, OnOk, OnErr};
 ghost use Rattle.std.specs.Fmt.{signed_decimal};
 ghost use Rattle.std.specs.Io.KnownBytes.{Appends};
 ghost use Rattle.s2_mode.specs.Counts.{CanCount, CountsFault};
 ghost use Rattle.s2_mode.specs.Pieces.{AppendsPart};
 ghost use Rattle.s2_certfile.specs.Pages.{PutsThrough};
+ghost use Rattle.s2_records.specs.Records.{Gains, GainsPart, values_record};
 ghost use Rattle.s2_records.specs.Values.{after_value, values_line};
 
 use crate::block::{flush, put};
 use itoa::Buffer;
-use s2_mode::{CountedWrite, WriteFault};
+use s2_mode::{CountedWrite, Mode, WriteFault};
+use s2_receive::{Frame, Sink};
+use std::alloc::{AllocError, Global};
+use std::marker::Model;
+
+/// The most bytes of a soft value and what follows it: a minus, three digits and a separator.
+const VALUE_BYTES: usize = 5;
 
 /// What follows a value, before these others.
 fn after_value(others: &[i16]) -> &'static [u8]
@@ -64,4 +71,56 @@ fn write_values<W: CountedWrite>(
     block.clear();
     put_values(out, block, values)?;
     flush(out, block)
+}
+
+/// A sink of soft values. It writes the soft values of each frame on a line, as a value file has them. In contracts, it
+/// is its writer.
+pub struct Values<W> {
+    to: W,
+    block: Vec<u8>,
+}
+
+impl<W: Drop> Drop for Values<W> {
+    fn drop(self) {
+        let Values { to: _, block: _ } = self;
+    }
+}
+
+impl<W> Model for Values<W> {
+    ghost Value = { W };
+
+    ghost view = { λ v. v.to };
+}
+
+impl<W: CountedWrite> Values<W> {
+    /// It writes to this writer, the line of a frame of this mode with one write. `AllocError` only if an allocation
+    /// was refused.
+    pub fn new(alloc: Global, mode: Mode, to: W) -> Result<Values<W>, AllocError>
+    where
+        W: Drop,
+        ensures { IfOk result (λ v. v ≡ to) }
+    {
+        let block = Vec::with_capacity(alloc, VALUE_BYTES * mode.n())?;
+        Ok(Values { to, block })
+    }
+
+    /// Its writer.
+    pub fn into_inner(self) -> W
+        ensures { result ≡ self }
+    {
+        let Values { to, block: _ } = self;
+        to
+    }
+}
+
+impl<W: CountedWrite> Sink for Values<W> {
+    ghost takes = { Gains W.contents values_record };
+
+    ghost fails = { GainsPart W.contents values_record };
+
+    ghost count = { W.count };
+
+    fn take(&mut self, _after_gap: bool, frame: &Frame<'_>) -> Result<(), WriteFault> {
+        write_values(&mut self.to, &mut self.block, frame.soft)
+    }
 }
