@@ -3,3 +3,4 @@ pub mod Lines
 pub mod Streams
 pub mod Sizes
 pub mod ValueLines
+pub mod Written

@@ -28,10 +28,10 @@ length-message m bits is long =
 pub whole_lem : WholeLaw
 whole_lem m decision is =
     let frame : length (message_bytes m decision) ≡ kbch_of m / 8 = elim (cases_Bool (has_bbframe m decision)) [
-      | inl yes ↦ (
-          let long : length decision.message ≡ kbch_of m = eqb-true _ _ (and_parts _ _ yes).1 in
-          ap length (cond-true _ _ _ yes) ∙ length-message m decision.message is long
+      | inl has ↦ (
+          let long : length decision.message ≡ kbch_of m = eqb-true _ _ (and_parts _ _ has).1 in
+          ap length (cond-true _ _ _ has) ∙ length-message m decision.message is long
           )
-      | inr no ↦ ap length (cond-false _ _ _ no) ∙ length-no_bbframe m
+      | inr lost ↦ ap length (cond-false _ _ _ lost) ∙ length-no_bbframe m
     ] in
     (frame, length-no_bbframe m)

@@ -165,7 +165,10 @@ fn writes_decided_bits(rt: HostRuntime) -> Result<(), Fail> {
     sink.take(true, &frame(&[], &word, &[], false))?;
     sink.take(false, &frame(&[], &word, &[], true))?;
     let paper = sink.into_inner().into_inner();
-    assert_eq!(rt; paper.written(), [0x80, 0x80, 0x10, 0x80, 0x80, 0x10]);
+    assert_eq!(rt;
+        paper.written(),
+        [0x80, 0x80, 0x10, 0x80, 0x80, 0x10].as_slice()
+    );
     assert_eq!(rt; paper.writes, 2);
     Ok(())
 }
@@ -179,12 +182,14 @@ fn writes_bbframes_and_zeros(rt: HostRuntime) -> Result<(), Fail> {
     sink.take(true, &frame(&[], &message, message.truths(), false))?;
     sink.take(false, &frame(&[], &message, &[true; 8], true))?;
     let paper = sink.into_inner().into_inner();
-    let (first, zeros) = paper.written().split_at(BBFRAME);
+    let front = &paper.bytes[..8];
+    let zeros = &paper.bytes[BBFRAME..4 * BBFRAME];
     assert_eq!(rt;
-        first[..8],
-        [0x03, 0xf6, 0x08, 0x34, 0x30, 0xb8, 0xa3, 0x93]
+        front,
+        [0x03, 0xf6, 0x08, 0x34, 0x30, 0xb8, 0xa3, 0x93].as_slice()
     );
-    assert_eq!(rt; zeros, [0; 3 * BBFRAME]);
+    assert_eq!(rt; zeros, [0; 3 * BBFRAME].as_slice());
+    assert_eq!(rt; paper.len, 4 * BBFRAME);
     assert_eq!(rt; paper.writes, 4);
     Ok(())
 }
@@ -225,7 +230,7 @@ fn writes_certificates(rt: HostRuntime) -> Result<(), Fail> {
     sink.take(false, &certified)?;
     sink.take(true, &frame(&[], &word, &[], true))?;
     let paper = sink.into_inner().into_inner();
-    assert_eq!(rt; paper.written(), certificate_bytes());
+    assert_eq!(rt; paper.written(), certificate_bytes().as_slice());
     Ok(())
 }
 
@@ -245,7 +250,7 @@ fn keeps_what_was_written_before_a_fault(rt: HostRuntime) -> Result<(), Fail> {
     let taken = frames.take(true, &frame(&[], &message, message.truths(), true));
     assert_eq!(rt; taken, Err(WriteFault));
     let paper = frames.into_inner().into_inner();
-    assert_eq!(rt; paper.written(), [0; BBFRAME]);
+    assert_eq!(rt; paper.written(), [0; BBFRAME].as_slice());
     Ok(())
 }
 
@@ -263,7 +268,13 @@ fn asks_again_where_memory_is_refused(rt: HostRuntime) -> Result<(), Fail> {
         lines.into_inner().into_inner().written(),
         b"1\n".as_slice()
     );
-    assert_eq!(rt; words.into_inner().into_inner().written(), [0; BBFRAME]);
-    assert_eq!(rt; frames.into_inner().into_inner().written(), [0; BBFRAME]);
+    assert_eq!(rt;
+        words.into_inner().into_inner().written(),
+        [0; BBFRAME].as_slice()
+    );
+    assert_eq!(rt;
+        frames.into_inner().into_inner().written(),
+        [0; BBFRAME].as_slice()
+    );
     Ok(())
 }
