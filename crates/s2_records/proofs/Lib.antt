@@ -4,3 +4,4 @@ pub mod Streams
 pub mod Sizes
 pub mod ValueLines
 pub mod Written
+pub mod ReadBack

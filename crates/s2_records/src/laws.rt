@@ -1,5 +1,5 @@
 //! Laws of the definitions: each a call that does nothing, whose clause is the law.
-ghost use Rattle.s2_records.specs.Laws.{BbframesLaw, RecordsLaw, ValuesLaw, WholeLaw};
+ghost use Rattle.s2_records.specs.Laws.{BbframesLaw, ReadBackLaw, RecordsLaw, ValuesLaw, WholeLaw};
 
 use s2_mode::CountedWrite;
 
@@ -22,4 +22,10 @@ pub fn whole()
 /// The line of a frame's soft values is read as these values.
 pub fn values()
     ensures { ValuesLaw }
+{}
+
+/// The BBFRAME of a delivered frame begins with the delivered header, and its data field follows. That of another frame
+/// has a refused header. So a file of them is joined as the receiver did.
+pub fn read_back()
+    ensures { ReadBackLaw }
 {}
