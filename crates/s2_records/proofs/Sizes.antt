@@ -1,5 +1,5 @@
 -- The sizes of BBFRAMEs.
-use Rattle.std.proofs.Common.{◌≡◌, ℕ, ◌+◌, ◌*◌, ◌/◌, ◌==◌, ◌&&◌, Bool, true, false, List, length, replicate, inl, inr, sym, ap, ◌∙◌, arith}
+use Rattle.std.proofs.Common.{◌≡◌, ◌+◌, ◌*◌, ◌/◌, Bool, List, length, inl, inr, ap, ◌∙◌, arith}
 use Rattle.std.proofs.lemmas.Bool.{cases_Bool, cond-true, cond-false, eqb-true, and_parts}
 use Rattle.std.proofs.lemmas.List.{length-replicate}
 use Rattle.std.proofs.lemmas.List.FromFn.{length-map-range_with_len}
@@ -9,7 +9,6 @@ use Rattle.s2_bits.specs.Bits.{byte_at, bit_at, xor}
 use Rattle.s2_certfile.specs.Field.{bytes_of_bits}
 use Rattle.s2_certfile.proofs.EntryLemmas.{length-listed}
 use Rattle.s2_scramble.specs.Baseband.{scrambled, scrambling_bit}
-use Rattle.s2_receive.specs.Receiving.{Decision}
 use Rattle.s2_records.specs.Laws.{WholeLaw}
 use Rattle.s2_records.specs.Records.{has_bbframe, message_bytes, no_bbframe}
 

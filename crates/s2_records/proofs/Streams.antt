@@ -1,12 +1,9 @@
 -- What is written of frames, one after another.
-use Rattle.std.proofs.Common.{◌≡◌, ℕ, Bool, List, [], ◌∷◌, Option, refl, sym, ap, ◌∙◌, subst}
+use Rattle.std.proofs.Common.{ℕ, List, [], ◌∷◌, Option, sym, ap, ◌∙◌, subst}
 use Rattle.std.specs.Io.KnownBytes.{Appends}
 use Rattle.std.proofs.KnownBytes.{Appends-nil, Appends-trans}
-use Rattle.s2_mode.specs.Mode.{Mode}
-use Rattle.s2_receive.specs.Receiving.{Decision}
-use Rattle.s2_receive.specs.Sinks.{TakesFrames}
 use Rattle.s2_records.specs.Laws.{RecordsLaw, BbframesLaw, records_of, bbframes_of}
-use Rattle.s2_records.specs.Records.{Framing, Gains, GainsBbframe, bbframe_bytes}
+use Rattle.s2_records.specs.Records.{bbframe_bytes}
 
 module _ {W : Type 0} (contents : W → Option (List ℕ)) where
   pub records_lem : RecordsLaw contents

@@ -1,6 +1,5 @@
 -- What a receiver's sinks write of each frame besides its packets (own).
 use Rattle.std.specs.Prelude.{◌≡◌, ℕ, ◌/◌, ◌==◌, ◌&&◌, if◌then◌else◌, Bool, List, [], ◌++◌, length, replicate, Option, Some, None}
-use Rattle.std.specs.List.{flat_map}
 use Rattle.std.specs.Option.{is_some}
 use Rattle.std.specs.Io.KnownBytes.{Appends}
 use Rattle.s2_mode.specs.Mode.{Mode, kbch_of}
