@@ -15,6 +15,7 @@ pub mod laws;
 mod listing;
 mod names;
 mod rate;
+mod rate_text;
 mod texts;
 mod writing;
 
