@@ -1,5 +1,4 @@
-use Rattle.std.proofs.Common.{◌≡◌, ℕ, ◌*◌, ◌-◌, ◌^◌, ◌≤◌, ◌<◌, ◌∙◌, sym, ap, Some, arith}
-use Rattle.s2_names.specs.Rates.{max_rate}
+use Rattle.std.proofs.Common.{◌≡◌, ◌*◌, ◌-◌, ◌∙◌, sym, ap, Some, arith}
 use Rattle.s2_names.specs.RateTexts.{number_after}
 use Rattle.s2_names.proofs.DigitTexts.{number_grows}
 use Rattle.s2_names.proofs.RateTextLemmas.{Cut, cut_only, cut_scaled, over_limit, in_limit, at_most_scaled}

@@ -1,6 +1,6 @@
-use Rattle.std.proofs.Common.{◌≡◌, ◌≢◌, ◌≤◌, ◌∙◌, ℕ, List, sym, subst, arith}
+use Rattle.std.proofs.Common.{◌∙◌, ℕ, List, sym, subst, arith}
 use Rattle.std.specs.Char.{is_ascii_digit}
-use Rattle.std.specs.List.{prefix_len, AllPass}
+use Rattle.std.specs.List.{AllPass}
 use Rattle.std.proofs.lemmas.List.Sums.{prefix_len-le-length}
 use Rattle.s2_names.proofs.DigitTexts.{taken_digits, split_is}
 use Rattle.s2_names.proofs.rate_text.split_digits.Goals as goal

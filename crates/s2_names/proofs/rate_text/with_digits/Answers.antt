@@ -1,4 +1,4 @@
-use Rattle.std.proofs.Common.{◌≡◌, sym, arith}
+use Rattle.std.proofs.Common.{sym, arith}
 use Rattle.std.proofs.lemmas.Bool.{cond-false}
 use Rattle.s2_names.proofs.DigitTexts.{too_large}
 use Rattle.s2_names.proofs.rate_text.with_digits.Goals as goal

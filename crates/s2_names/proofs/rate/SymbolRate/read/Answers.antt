@@ -1,6 +1,6 @@
-use Rattle.std.proofs.Common.{◌≡◌, ℕ, List, Some, ◌∙◌, sym, subst, ap, rules}
+use Rattle.std.proofs.Common.{ℕ, List, ◌∙◌, sym, subst, ap, rules}
 use Rattle.s2_names.specs.Rates.{IsRate}
-use Rattle.s2_names.specs.RateTexts.{IsRateText, HasFraction, power_of}
+use Rattle.s2_names.specs.RateTexts.{HasFraction, power_of}
 use Rattle.s2_names.proofs.RateTextLemmas.{rest_other, same_power, scaled_of, same_some}
 use Rattle.s2_names.proofs.rate.SymbolRate.read.Goals as goal
 
