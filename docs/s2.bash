@@ -3,26 +3,27 @@ _s2() {
   local now=${COMP_WORDS[COMP_CWORD]} before=${COMP_WORDS[COMP_CWORD-1]} words=""
   COMPREPLY=()
   if ((COMP_CWORD == 1)); then
-    COMPREPLY=($(compgen -W "modes rows table judge check mod noise demod run scan join help --help --version" -- "$now"))
+    COMPREPLY=($(compgen -W "modes rows table judge check mod noise demod run scan join audit help --help --version" -- "$now"))
     return
   fi
   case "$before" in
     --divisor) COMPREPLY=($(compgen -W "4096 8192 16384 32768 65536" -- "$now")); return ;;
-    --rate|--group|--groups|--q|--weight|--seed|--modcod|--passes|--factor|--number|--ro|--dummy|--level|--esn0|--rounds|--lock) return ;;
+    --rate|--modcod|--group|--groups|--q|--weight|--seed|--passes|--factor|--number|--ro|--dummy|--level|--esn0|--rounds|--lock|--seeds) return ;;
   esac
   case "${COMP_WORDS[1]}" in
-    modes) words="--rate --quiet --help" ;;
+    modes) words="--rate --modcod --short --quiet --help" ;;
     rows) words="--group --groups --q --weight --seed --quiet --help" ;;
     table) words="--modcod --short --quiet --help" ;;
-    judge) words="--group --groups --q --cert --passes --uncertified --factor --quiet --help" ;;
-    check) words="--quiet --help" ;;
+    judge) words="--group --groups --q --modcod --short --each --hard --cert --passes --uncertified --factor --quiet --help" ;;
+    check) words="--each --quiet --help" ;;
     mod) words="--modcod --short --pilots --number --ro --dummy --quiet --progress --help" ;;
     noise) words="--seed --level --esn0 --quiet --progress --help" ;;
-    demod) words="--modcod --short --pilots --number --ro --rounds --passes --uncertified --divisor --factor --lock --tuned --strict --quiet --progress --help" ;;
-    run) words="--modcod --short --pilots --number --ro --dummy --rounds --passes --uncertified --divisor --factor --lock --tuned --seed --level --esn0 --strict --quiet --progress --help" ;;
+    demod) words="--modcod --short --pilots --number --ro --rounds --passes --uncertified --divisor --factor --lock --tuned --strict --quiet --progress --certificates --values --codewords --bbframes --help" ;;
+    run) words="--modcod --short --pilots --number --ro --dummy --rounds --passes --uncertified --divisor --factor --lock --tuned --seed --seeds --level --esn0 --strict --quiet --progress --certificates --values --codewords --bbframes --help" ;;
     scan) words="--help" ;;
     join) words="--modcod --short --quiet --help" ;;
-    help) words="modes rows table judge check mod noise demod run scan join" ;;
+    audit) words="--modcod --short --pilots --number --ro --divisor --quiet --help" ;;
+    help) words="modes rows table judge check mod noise demod run scan join audit" ;;
   esac
   if [[ $now == -* || ${COMP_WORDS[1]} == help ]]; then
     COMPREPLY=($(compgen -W "$words" -- "$now"))

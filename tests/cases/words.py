@@ -126,7 +126,7 @@ RECORDS = {
 }
 # What is no range of seeds, and why.
 NO_RANGE = "it is two numbers of 64 bits, as 1..100"
-RANGES = {text: NO_RANGE for text in ("1", "1.2", "1..", "..2", "..", "1...2", "1..2..3", "-1..2", "1..-2", "+1..2", "1,2", "a..b", f"0..{2**64}")}
+RANGES = {text: NO_RANGE for text in ("1", "1.2", "1..", "..2", "..", "1...2", "1..2..3", "1..-2", "+1..2", "1,2", "a..b", f"0..{2**64}")}
 RANGES |= {"2..1": "2 is greater than 1", f"{2**64 - 1}..0": f"{2**64 - 1} is greater than 0"}
 NOT_BOTH = "error: the argument '--uncertified' cannot be used with '--passes <P>'"
 # Words that no command has, and the first line on standard error.
@@ -138,9 +138,9 @@ MISUSES = [
     ("judge --groups 2 --q 3 toy stored", LACKS),
     ("judge --short toy stored", LACKS),
     (f"judge {TOY} --modcod 1 toy stored", "error: the argument '--group <G>' cannot be used with '--modcod <M>'"),
-    (f"judge {TOY} --short toy stored", "?"),
-    ("judge --modcod 1 --q 3 toy stored", "?"),
-    ("judge --modcod 1 --groups 2 toy stored", "?"),
+    (f"judge {TOY} --short toy stored", "error: the argument '--group <G>' cannot be used with '--short'"),
+    ("judge --modcod 1 --q 3 toy stored", "error: the argument '--modcod <M>' cannot be used with '--q <Q>'"),
+    ("judge --modcod 1 --groups 2 toy stored", "error: the argument '--modcod <M>' cannot be used with '--groups <N>'"),
     ("judge --modcod 18 toy stored", beyond(18, "modcod <M>", 1, 17)),
     (f"judge {TOY} --each=2 toy stored", "error: unexpected value '2' for '--each' found; no more were expected"),
     ("check --hard toy certificate", "error: unexpected argument '--hard' found"),

@@ -53,6 +53,10 @@ pub code_line : (rate : Option ℕ) (modcod : ℕ) (short : Bool) → IsMode (mo
 unfolding lines_of
 code_line rate modcod short is = rw (mode_has (mode_of modcod short false) is) (sym (append-nil (line_of rate modcod short)))
 
+-- the line of a mode's code
+pub alone_is : (rate : Option ℕ) (m : Mode) → IsMode m → lines_of rate m.short (alone m.short m.modcod) ≡ line_of rate m.modcod m.short
+alone_is rate m is = sym (code_line rate m.modcod m.short (record { some = is.some; most = is.most; held = is.held }))
+
 no_code : (short : Bool) (modcod : ℕ) → 1 ≤ modcod → modcod ≤ max_modcod → (IsMode (mode_of modcod short false) → ⊥) → has_code short modcod ≡ false
 no_code short modcod some most none = elim (cases_Bool (has_code short modcod)) [ inl has ↦ absurd (none (has_mode short modcod some most has)) | inr not ↦ not ]
 

@@ -1,3 +1,5 @@
 pub mod JoinedTexts
 pub mod NameTexts
 pub mod Codes
+pub mod DigitTexts
+pub mod RateTextLemmas

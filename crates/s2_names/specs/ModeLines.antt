@@ -61,10 +61,15 @@ lines_of rate short codes = flat_map (λ modcod. line_of rate modcod short) code
 unfoldable pub modes_text : Option ℕ → List ℕ
 modes_text rate = lines_of rate false (modcods_of false) ++ lines_of rate true (modcods_of true)
 
+-- what is listed: the lines of all codes, or the line of one mode's code
+abbrev pub listed_text : Option ℕ → Option Mode → List ℕ
+listed_text rate None = modes_text rate
+listed_text rate (Some m) = line_of rate m.modcod m.short
+
 -- the request was accepted, with this symbol rate or none
 abbrev pub IsAsked : Option ℕ → Result (Option ℕ) Fault → Type 0
 IsAsked rate said = said ≡ Ok rate
 
--- `modes` prints this
-abbrev pub IsListed : Option ℕ → Exit → List ℕ → Type 0
-IsListed rate exit text = (exit ≡ exits.Fine) × (text ≡ modes_text rate)
+-- `modes` prints this, of a mode or of all
+abbrev pub IsListed : Option Mode → Option ℕ → Exit → List ℕ → Type 0
+IsListed mode rate exit text = (exit ≡ exits.Fine) × (text ≡ listed_text rate mode)

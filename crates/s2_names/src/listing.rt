@@ -5,7 +5,7 @@ ghost use Rattle.s2_mode.specs.Limits.{max_modcod};
 ghost use Rattle.s2_names.specs.Names.{name_of};
 ghost use Rattle.s2_names.specs.Rates as rates;
 ghost use Rattle.s2_names.specs.Ideal.{ideal_text};
-ghost use Rattle.s2_names.specs.ModeLines.{code_text, frames_text, rates_of, line_text, has_code, modcods_of, lines_of};
+ghost use Rattle.s2_names.specs.ModeLines.{code_text, frames_text, rates_of, line_text, line_of, has_code, modcods_of, lines_of};
 ghost use Rattle.s2_names.specs.ModeLines as lines;
 
 use crate::names::{Case, constellation};
@@ -173,5 +173,19 @@ pub fn modes_text(alloc: Global, rate: &Option<SymbolRate>) -> Result<Vec<u8>, A
     let mut text = Vec::new(alloc);
     push_lines(&mut text, false, rate)?;
     push_lines(&mut text, true, rate)?;
+    Ok(text)
+}
+
+/// The line of a mode's code, as [`modes_text`] has it.
+#[tactic(auto, using(crate::proofs::Codes::alone_is))]
+pub fn mode_text(
+    alloc: Global,
+    mode: &Mode,
+    rate: &Option<SymbolRate>,
+) -> Result<Vec<u8>, AllocError>
+    ensures { IfOk result (λ text. text.items ≡ line_of rate.now mode.now.modcod mode.now.short) }
+{
+    let mut text = Vec::new(alloc);
+    push_line(&mut text, mode.modcod(), mode.is_short(), rate)?;
     Ok(text)
 }

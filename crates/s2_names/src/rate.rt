@@ -1,7 +1,9 @@
 //! Symbol rates.
-ghost use Rattle.std.specs.Prelude.{◌≡◌, ◌↔◌, IsSome, IfSome};
+ghost use Rattle.std.specs.Prelude.{◌≡◌, ◌↔◌, ℕ, IsSome, IfSome};
 ghost use Rattle.s2_names.specs.Rates.{IsRate};
+ghost use Rattle.s2_names.specs.RateTexts.{IsRateText};
 
+use crate::rate_text::{power_of, scaled, split_digits, split_fraction};
 use std::marker::Model;
 
 /// The highest symbol rate, in symbols per second.
@@ -37,6 +39,18 @@ impl SymbolRate {
         } else {
             None
         }
+    }
+
+    /// The rate that a text writes: digits, at most one point between two of them, and then nothing, `k` or `K` for a
+    /// thousand, `M` for a million, or `e` or `E` and one digit. The value is a whole number in the range.
+    pub fn read(text: &str) -> Option<SymbolRate>
+        ensures found { IsSome result ↔ ((rate : ℕ) × IsRateText text.now rate) }
+        ensures value { IfSome result (IsRateText text.now) }
+    {
+        let (whole, rest) = split_digits(text.as_bytes())?;
+        let (fraction, ending) = split_fraction(rest)?;
+        let power = power_of(ending)?;
+        SymbolRate::new(scaled(whole, fraction, power)?)
     }
 
     /// The number.

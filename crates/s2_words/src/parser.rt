@@ -82,6 +82,22 @@ fn arg_of<'a>(alloc: Global, argument: Argument, values: Values) -> Result<Arg<'
     Ok(arg)
 }
 
+/// An argument of this name with the rules for it.
+fn by_rules<'a>(
+    mut arg: Arg<'a>,
+    name: &str,
+    rules: &'static [Rule],
+) -> Result<Arg<'a>, AllocError> {
+    for rule in rules {
+        if rule.given.contains(&name) {
+            arg = arg
+                .requires_all(rule.needed)?
+                .conflicts_with_all(rule.excluded)?;
+        }
+    }
+    Ok(arg)
+}
+
 pub(crate) fn command_of<'a>(
     alloc: Global,
     entry: Entry,
@@ -91,29 +107,13 @@ pub(crate) fn command_of<'a>(
         .about(entry.about)
         .after_help(more_of(entry.command));
     for argument in arguments_of(entry.command) {
-        command = command.arg(arg_of(alloc, *argument, values)?)?;
-    }
-    for rule in rules_of(entry.command) {
-        command = with_rule(alloc, command, *rule)?;
+        let arg = arg_of(alloc, *argument, values)?;
+        command = command.arg(by_rules(arg, argument.name, rules_of(entry.command))?)?;
     }
     for choice in choices_of(entry.command) {
         command = with_choice(alloc, command, *choice)?;
     }
     Ok(command)
-}
-
-/// A command with one more rule.
-fn with_rule<'a>(
-    alloc: Global,
-    command: Command<'a>,
-    rule: Rule,
-) -> Result<Command<'a>, AllocError> {
-    let group = ArgGroup::new(alloc, rule.name)
-        .args(rule.given)?
-        .multiple(true)
-        .requires_all(rule.needed)?
-        .conflicts_with_all(rule.excluded)?;
-    command.group(group)
 }
 
 /// A command with one more choice.

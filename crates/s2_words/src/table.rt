@@ -956,7 +956,6 @@ pub(crate) fn choices_of(command: Name) -> &'static [Choice] {
 /// What must stand beside options, and what must not.
 #[derive(Clone, Copy)]
 pub(crate) struct Rule {
-    pub name: &'static str,
     /// If one of these is given,
     pub given: &'static [&'static str],
     /// so are all of these,
@@ -967,7 +966,6 @@ pub(crate) struct Rule {
 
 /// A shape has three numbers, and stands in the place of a mode.
 const WHOLE_SHAPE: Rule = Rule {
-    name: "shape",
     given: &["group", "groups", "q"],
     needed: &["group", "groups", "q"],
     excluded: &["modcod", "short"],
@@ -975,7 +973,6 @@ const WHOLE_SHAPE: Rule = Rule {
 
 /// The length is that of a mode's frames.
 const LENGTH_OF_MODE: Rule = Rule {
-    name: "length",
     given: &["short"],
     needed: &["modcod"],
     excluded: &[],
