@@ -91,7 +91,7 @@ def few_effects():
     yield Effect("--rate", "modes {}", {"": ended(listing.listed()), "--rate 27500000": ended(listing.listed(27500000))})
     yield Effect("--quiet", "modes {}", dict.fromkeys(("", "--quiet"), ended(listing.listed())))
     yield Effect("--quiet", "check toy certificate {}", dict.fromkeys(("", "--quiet"), ended("sole cost -45\n")))
-    other = ended("other\n", NO)
+    other = ended("other: line 1\n", NO)
     yield Effect("--modcod", "table {} --short made", each("--modcod", (1, "qpsk1/4", 2), (other, other, refused(*OTHER_SHORT))))
     yield Effect("--short", "table --modcod 1 {} made", {"--short": other, "": refused(TOO_FEW, WANTED_NORMAL)})
     yield Effect("--quiet", f"table {LINK} {{}} toy", {"": refused(TOO_FEW, WANTED), "--quiet": refused(TOO_FEW)})
