@@ -109,7 +109,7 @@ def few_effects():
     two = {"reads": {"two": 2 * STORED_CERTIFICATE}}
     yield Effect("--each", "check toy two {}", {"": refused("certificate: extra"), "--each": ended(2 * "sole cost -45\n")}, two)
     yield Effect("--quiet", "check toy certificate {}", dict.fromkeys(("", "--quiet"), ended("sole cost -45\n")))
-    other = ended("other\n", NO)
+    other = ended("other: line 1\n", NO)
     yield Effect("--modcod", "table {} --short made", each("--modcod", (1, "qpsk1/4", 2), (other, other, refused(*OTHER_SHORT))))
     yield Effect("--short", "table --modcod 1 {} made", {"--short": other, "": refused(TOO_FEW, WANTED_NORMAL)})
     yield Effect("--quiet", f"table {LINK} {{}} toy", {"": refused(TOO_FEW, WANTED), "--quiet": refused(TOO_FEW)})

@@ -1,5 +1,6 @@
 """The SHA-256 of the standard's rows of each code, computed from row files as docs/formats.md describes, and not copied from the code.
 The rows themselves are not part of the repository, so the test looks for the digests in the program and its sources."""
+import hashlib
 import os
 import re
 
@@ -26,6 +27,38 @@ SUMS = {
     ("short", "5/6"): "041b9ab63057ebfc67de98c28017fd6737e92f0d22bcb427d9788adf8d36f5e7",
     ("short", "8/9"): "17262a5599d900c39506adf4c6557c6fcfa581aa0d1d37b472139d61fe1caedb",
 }
+
+# How many rows the table of each code has, and the first digits of the SHA-256 of their digests' digits, computed from row files too.
+ROWS = [
+    (45, "e04c4812994034e7"),
+    (60, "c459052da84d0d9a"),
+    (72, "a5f9bfb1238b98d5"),
+    (90, "de1471011565fc8c"),
+    (108, "d99b20fee46efb5c"),
+    (120, "6947f15cbe0583d7"),
+    (135, "39c9037800578d32"),
+    (144, "d1702832a06f32c0"),
+    (150, "a09ab55439a4dda7"),
+    (160, "f490305b186ecda2"),
+    (162, "9af4d9a8afcc3c5e"),
+    (9, "3865786bcabe95d2"),
+    (15, "cad9351d3165013c"),
+    (18, "79f0a54aed420719"),
+    (20, "395dee7b9a4ab216"),
+    (27, "321a356807289b60"),
+    (30, "b0f1717f9452bd50"),
+    (33, "3f887e79489b641b"),
+    (35, "0faf8325d5929e91"),
+    (37, "ce1faad04d068673"),
+    (40, "014f6e93c984c36e"),
+]
+
+
+def told_rows(path):
+    """The same of the digests of rows in a source."""
+    with open(path, encoding="utf-8") as file:
+        tables = [re.findall("0x([0-9a-f]{8})", table) for table in re.findall(r"&\[\s*(0x[0-9a-fx,\s]*)\]", file.read())]
+    return [(len(table), hashlib.sha256("".join(table).encode()).hexdigest()[:16]) for table in tables]
 
 
 def told(path):

@@ -5,7 +5,7 @@ from cases.drawn import made_rows
 from cases.words import WANTED_NORMAL
 
 LACKS = "error: the following required arguments were not provided:"
-OTHER = "other\n"
+OTHER = "other: line 1\n"
 RUN = "run --seed 1 --level 0"
 
 

@@ -338,7 +338,7 @@ def taken(word, name):
 # How each of these commands ends.
 ENDED = {
     "rows": {"out": "0\n"},
-    "table": {"code": NO, "out": "other\n"},
+    "table": {"code": NO, "out": "other: line 1\n"},
     "judge": {"out": "sole cost -45\n"},
     "check": {"out": "sole cost -45\n"},
     "mod": {"out": "packets 2 frames 2\n", "writes": {"out": size(65_520)}},

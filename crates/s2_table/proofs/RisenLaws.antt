@@ -47,7 +47,7 @@ one_list (x ∷ xs) (y ∷ ys) up up' same =
     (λ f. omega (arith, same f, sum_by-cons f x xs, sum_by-cons f y ys, ap f first)) in
     ap (λ z. z ∷ xs) first ∙ ap (λ zs. y ∷ zs) rest
 
-one_row : (row a b : List ℕ) → IsRisen row a → IsRisen row b → a ≡ b
+pub one_row : (row a b : List ℕ) → IsRisen row a → IsRisen row b → a ≡ b
 one_row row a b is is' =
     one_list a b is.rising is'.rising (λ f. sum_by-IsPermutation f row a is.same ∙ sym (sum_by-IsPermutation f row b is'.same))
 

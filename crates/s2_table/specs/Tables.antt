@@ -1,5 +1,5 @@
 -- What `table` prints of rows, and the note of rows that are others than the standard's (own).
-use Rattle.std.specs.Prelude.{◌≡◌, ℕ, ◌++◌, Bool, true, false, List, Option, IfSome, Result, Ok, Err, codes}
+use Rattle.std.specs.Prelude.{◌≡◌, ℕ, ◌++◌, Bool, true, false, List, Option, Some, None, IfSome, Result, Ok, Err, codes, decimal}
 use Rattle.std.specs.Io.KnownBytes.{Appends}
 use Rattle.s2_mode.specs.Mode.{Mode}
 use Rattle.s2_mode.specs.Shape.{Shape}
@@ -10,27 +10,31 @@ use Rattle.s2_console.specs.declared.exit.Exit.TheVariants as exits
 use Rattle.s2_console.specs.declared.fault.Fault.{Fault}
 use Rattle.s2_evidence.specs.Inputs.{rows_in}
 use Rattle.s2_table.specs.Rising.{HasSum}
+use Rattle.s2_table.specs.RowSums.{standard_row_sums, FirstOther}
 use Rattle.s2_table.specs.Sums.{standard_sum}
 
 -- the result is what a row file says, if its bytes are known
 abbrev pub AreRowsIn : Shape → Option (List ℕ) → Result Rows Fault → Type 0
 AreRowsIn shape known said = IfSome known (λ text. rows_in shape text ≡ said)
 
--- `standard` or `other`, with LF
-abbrev pub answer_line : Bool → List ℕ
-answer_line true = codes "standard\n"
-answer_line false = codes "other\n"
+-- `standard` or `other`, and after it the line of the first other row, with LF
+abbrev pub answer_line : Bool → Option ℕ → List ℕ
+answer_line true first = codes "standard\n"
+answer_line false None = codes "other\n"
+answer_line false (Some line) = (codes "other: line " ++ decimal line) ++ codes "\n"
 
 -- exit 0 for the standard's rows, else 2
 abbrev pub answer_exit : Bool → Exit
 answer_exit true = exits.Fine
 answer_exit false = exits.No
 
--- whether rows are the standard's for the code of a mode, and the exit of that
+-- whether rows are the standard's for the code of a mode, else the first other row, and the exit of that
 pub record SaysStandard (mode : Mode) (rows : Rows) (exit : Exit) (text : List ℕ) : Type 0 where
   pub answer : Bool
   pub has : HasSum rows (standard_sum mode) answer
-  pub line : text ≡ answer_line answer
+  pub first : Option ℕ
+  pub finds : FirstOther rows (standard_row_sums mode) first
+  pub line : text ≡ answer_line answer first
   pub ends : exit ≡ answer_exit answer
 
 -- the line of the note

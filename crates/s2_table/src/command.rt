@@ -1,5 +1,5 @@
 //! `table`: whether rows are the standard's.
-ghost use Rattle.std.specs.Prelude.{◌≡◌, ◌≢◌, ◌+◌, Result, Err, IsOk};
+ghost use Rattle.std.specs.Prelude.{◌≡◌, ◌≢◌, ◌+◌, false, Result, Err, IsOk};
 ghost use Rattle.s2_mode.specs.Counts.{CanCount};
 ghost use Rattle.s2_mode.specs.Mode.{shape_in};
 ghost use Rattle.s2_console.specs.Exits.{CommandAnswers, CommandRuns, CommandCounts};
@@ -7,6 +7,7 @@ ghost use Rattle.s2_console.specs.Screens.{CanNote};
 ghost use Rattle.s2_table.specs.Wanted.{TableExits};
 ghost use Rattle.s2_table.specs.Tables.{AreRowsIn, SaysStandard, answer_line, answer_exit};
 
+use crate::first::first_other_row;
 use crate::standard::is_standard;
 use crate::wanted::conclude_noted;
 use s2_console::{Console, Exit, Fault, Line, Printed};
@@ -22,23 +23,42 @@ fn exit_of_answer(answer: bool) -> Exit
     if answer { Exit::Fine } else { Exit::No }
 }
 
-/// `standard` or `other`, with LF.
-fn line_of_answer(answer: bool) -> Line
-    ensures { result ≡ answer_line answer }
+/// `other`, and the line of the first other row.
+fn line_of_other(first: Option<u64>) -> Line
+    ensures { result ≡ answer_line false first }
 {
     let mut line = Line::new();
-    line.push(if answer { "standard\n" } else { "other\n" });
+    match first {
+        Some(first) => {
+            line.push_number("other: line ", first);
+            line.push("\n");
+        }
+        None => line.push("other\n"),
+    }
     line
 }
 
-/// Whether rows are the standard's for the code of a mode.
+/// `standard` or `other`, and after it the line of the first other row, with LF.
+fn line_of_answer(answer: bool, first: Option<u64>) -> Line
+    ensures { result ≡ answer_line answer first }
+{
+    if answer {
+        let mut line = Line::new();
+        line.push("standard\n");
+        line
+    } else {
+        line_of_other(first)
+    }
+}
+
+/// Whether rows are the standard's for the code of a mode, and else the first that is not.
 fn answered(mode: &Mode, matrix: &Matrix) -> Printed
     ensures { SaysStandard mode.now matrix.now result.exit result.text }
 {
     let answer = is_standard(mode, matrix);
     Printed {
         exit: exit_of_answer(answer),
-        text: line_of_answer(answer),
+        text: line_of_answer(answer, first_other_row(mode, matrix)),
     }
 }
 
@@ -75,6 +95,7 @@ fn print_table<R: CountedRead, O: CountedWrite>(
 }
 
 /// `table`: whether the rows of a file are the standard's for the code of a mode, whatever the order within each row.
+/// If not, the first line that differs is printed, if the digest of a single row shows it.
 /// If the rows are refused, a note says which ones the mode wants, unless notes are left out.
 pub fn table_command<R: CountedRead, O: CountedWrite, E: CountedWrite>(
     alloc: Global,

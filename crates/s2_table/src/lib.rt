@@ -2,7 +2,7 @@
 //! the SHA-256 of each code's rows, and recognizes them by it.
 //!
 //! The text of a row file is hashed, with the addresses of each row in rising order. [`table_command`] prints whether
-//! rows have the digest of a mode's code. [`read_noted`] reads rows for a command, and writes a note to its errors if
+//! rows have the digest of a mode's code, and if not, the first line that differs, by the digests of single rows. [`read_noted`] reads rows for a command, and writes a note to its errors if
 //! they are not the standard's. If rows are refused, [`conclude_noted`] notes which ones the mode wants.
 //!
 //! ```text
@@ -11,9 +11,11 @@
 #![tactic(auto)]
 
 mod command;
+mod first;
 pub mod laws;
 mod note;
 mod rising;
+mod row_sums;
 mod standard;
 mod sums;
 mod wanted;

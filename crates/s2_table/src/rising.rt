@@ -24,7 +24,7 @@ fn copy_row(row: &[u32]) -> Row
 }
 
 /// The addresses of a row, rising.
-fn risen(row: &[u32]) -> Row
+pub(crate) fn risen(row: &[u32]) -> Row
     requires { length row.now ≤ max_addresses }
     ensures { IsRisen row.now result.items }
 {
@@ -41,7 +41,7 @@ fn after_address(others: &[u32]) -> &'static [u8]
 }
 
 /// Appends the line of a row to the hashed text.
-fn hash_row(hasher: &mut Sha256, row: &[u32])
+pub(crate) fn hash_row(hasher: &mut Sha256, row: &[u32])
     ensures { (text : List ℕ) → Holds256 hasher.old text → Holds256 hasher.new (text ++ row_text row.now) }
 {
     for (at, address) in row.iter().enumerate() {

@@ -1,4 +1,5 @@
 //! Digests of small rows are those that `sha256sum` prints for their text with rising addresses.
+use crate::first::{first_other, first_other_row};
 use crate::standard::{has_sum, is_standard};
 use s2_matrix::Matrix;
 use s2_mode::{Mode, Shape};
@@ -32,10 +33,25 @@ fn hashes_rising_addresses(rt: HostRuntime) -> Result<(), Fail> {
 }
 
 #[test]
+fn finds_the_first_other_row(rt: HostRuntime) -> Result<(), Fail> {
+    // Of "0 4 8\n" and "0 1 2\n".
+    let sums = [0xe0b617de, 0x073cc8cc];
+    let toy = matrix_of(rt.alloc(), b"8 0 4\n2 1 0\n")?;
+    assert_eq!(rt; first_other(&toy, &sums), None);
+    assert_eq!(rt; first_other(&toy, &[0xe0b617de, 0x073cc8cd]), Some(2));
+    assert_eq!(rt; first_other(&toy, &[0xe0b617df, 0x073cc8cd]), Some(1));
+    assert_eq!(rt; first_other(&toy, &[0xe0b617de]), Some(2));
+    let other = matrix_of(rt.alloc(), b"0 4 8\n1 2 11\n")?;
+    assert_eq!(rt; first_other(&other, &sums), Some(2));
+    Ok(())
+}
+
+#[test]
 fn made_rows_are_not_the_standards(rt: HostRuntime) -> Result<(), Fail> {
     let mode = Mode::of(17, false, false).ok_or("no mode")?;
     let rows = make_rows(rt.alloc(), mode.shape(), 4, 1)?;
     let matrix = Matrix::build(rt.alloc(), &rows)?;
     assert!(rt; !is_standard(&mode, &matrix));
+    assert_eq!(rt; first_other_row(&mode, &matrix), Some(1));
     Ok(())
 }

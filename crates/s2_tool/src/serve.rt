@@ -118,7 +118,7 @@ fn run_request<'a, R: Disk + Clock + AllocGlobal, O: CountedWrite, E: CountedWri
 {
     match request {
         Request::Own => Ok(self_command(rt.alloc(), &mut Counting::new(rt.input()), console)),
-        Request::Modes(words) => Ok(modes_command(rt.alloc(), &words.rate, console)),
+        Request::Modes(words) => Ok(modes_command(rt.alloc(), &words.rate, &None, console)),
         Request::Rows(words) => serve_rows(rt, words, console),
         Request::Table(words) => serve_table(rt, words, console),
         Request::Judge(words) => serve_judge(rt, words, console),
