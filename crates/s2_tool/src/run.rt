@@ -61,12 +61,9 @@ fn loop_packets<S: CountedRead, W: Output, O: CountedWrite>(
     if let Err(refusal) = transmitter.run(from, &mut symbols) {
         return Err(kept_fault(fault_of(refusal)));
     }
+    let symbols = symbols.into_inner();
     let mut noisy = Counting::new(Vec::new(alloc));
-    match add_noise(
-        channel,
-        &mut InMemory::new(&symbols.into_inner()),
-        &mut noisy,
-    ) {
+    match add_noise(channel, &mut InMemory::new(&symbols), &mut noisy) {
         Ok(_) => receive_begun(receiver, &mut InMemory::new(&noisy.into_inner()), to, out),
         Err(fault) => Err(kept_fault(fault)),
     }
