@@ -3,7 +3,7 @@ _s2() {
   local now=${COMP_WORDS[COMP_CWORD]} before=${COMP_WORDS[COMP_CWORD-1]} words=""
   COMPREPLY=()
   if ((COMP_CWORD == 1)); then
-    COMPREPLY=($(compgen -W "modes rows table judge check mod noise demod run help --help --version" -- "$now"))
+    COMPREPLY=($(compgen -W "modes rows table judge check mod noise demod run scan join help --help --version" -- "$now"))
     return
   fi
   case "$before" in
@@ -20,7 +20,9 @@ _s2() {
     noise) words="--seed --level --esn0 --quiet --progress --help" ;;
     demod) words="--modcod --short --pilots --number --ro --rounds --passes --uncertified --divisor --factor --lock --tuned --strict --quiet --progress --help" ;;
     run) words="--modcod --short --pilots --number --ro --dummy --rounds --passes --uncertified --divisor --factor --lock --tuned --seed --level --esn0 --strict --quiet --progress --help" ;;
-    help) words="modes rows table judge check mod noise demod run" ;;
+    scan) words="--help" ;;
+    join) words="--modcod --short --quiet --help" ;;
+    help) words="modes rows table judge check mod noise demod run scan join" ;;
   esac
   if [[ $now == -* || ${COMP_WORDS[1]} == help ]]; then
     COMPREPLY=($(compgen -W "$words" -- "$now"))

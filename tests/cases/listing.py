@@ -49,11 +49,12 @@ SWITCH = "error: '--pilots' takes no value: frames have pilot blocks where it st
 MORE = "\nFor more information, try '--help'.\n"
 USAGES = {
     "table": "s2 table [OPTIONS] --modcod <M> <ROWS>",
+    "join": "s2 join [OPTIONS] --modcod <M> <BBFRAMES> <PACKETS>",
     "mod": "s2 mod [OPTIONS] --modcod <M> <ROWS> <PACKETS> <SYMBOLS>",
     "demod": "s2 demod [OPTIONS] --modcod <M> <ROWS> <SYMBOLS> <PACKETS>",
     "run": "s2 run [OPTIONS] --modcod <M> --seed <S> <--level <L>|--esn0 <DB>> <ROWS> <PACKETS> <OUT>",
 }
-REST = {"table": "made", "mod": "made packets out", "demod": "made packets out", "run": "--seed 1 --level 1 made packets out"}
+REST = {"table": "made", "join": "packets out", "mod": "made packets out", "demod": "made packets out", "run": "--seed 1 --level 1 made packets out"}
 
 
 def no_mode(name, text):
@@ -123,9 +124,11 @@ CASES = [
     Case("judge --help", out=option("broken cost C check J", "this is no codeword")),
     Case("run --help", out=option("2  ", "a frame is lost, cut, parity or broken")),
 ]
+# Their files, where the first is not there.
+NONE_READ = {name: rest.replace("made", "none") for name, rest in REST.items()} | {"join": "none out"}
 # Commands by a name, and by its number.
 ALIKE = [
-    tuple(fault(f"{name} --modcod {mode} {REST[name].replace('made', 'none')}", "cannot open none") for mode in modes)
+    tuple(fault(f"{name} --modcod {mode} {NONE_READ[name]}", "cannot open none") for mode in modes)
     for name in USAGES
     for modes in [(1, "qpsk1/4"), (7, "QPSK3/4"), (11, "QPSK9/10"), (12, "8psk3/5"), (17, "8PSK9/10")]
 ]

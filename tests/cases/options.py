@@ -104,6 +104,16 @@ def few_effects():
     yield Effect("--esn0", "noise --seed 1 {} in out", dict(zip(values, made)), {"reads": {"in": SAMPLES}})
 
 
+def join_effects():
+    """A frame of zeros, as long as the BBFRAMEs of the one mode: its header is refused."""
+    end = "end frames {} delivered 0 packets 0 bad 0\n"
+    lost, cut = ended(end.format(1), NO, out=b""), ended(f"cut at 0 bytes 384\n{end.format(0)}", NO, out=b"")
+    zeros = {"reads": {"in": bytes(listing.kbch(1, True, 3240) // 8)}}
+    yield Effect("--modcod", "join {} --short in out", each("--modcod", (1, "QPSK1/4", 2), (lost, lost, cut)), zeros)
+    yield Effect("--short", "join --modcod 1 {} in out", {"--short": lost, "": cut}, zeros)
+    yield Effect("--quiet", f"join {LINK} {{}} in out", dict.fromkeys(("", "--quiet"), lost), zeros)
+
+
 def mod_effects(two, dummy):
     by_words = {words: ended("packets 2 frames 1\n", out=digest(number)) for words, _, _, number in WORDS if words != "--short"}
     usual, reads = by_words[""], {"reads": {"in": PACKETS, "rows": made_rows(360, 90, 90, 3, 1)}}
@@ -208,7 +218,7 @@ def run_effects(report, others):
 
 
 def effects(two, pilots, dummy, report, others):
-    found = [*rows_effects(), *judge_effects(), *few_effects(), *mod_effects(two, dummy), *tuning_effects(two, report)]
+    found = [*rows_effects(), *judge_effects(), *few_effects(), *join_effects(), *mod_effects(two, dummy), *tuning_effects(two, report)]
     return found + [*link_effects(two), *demod_effects(two, pilots), *run_effects(report, others)]
 
 
@@ -244,7 +254,7 @@ def unshown(name, text, found):
 
 
 # Options without a visible effect: these commands write no notes, and a receiver accepts any roll-off.
-SAME = {("modes", "--quiet"), ("rows", "--quiet"), ("judge", "--quiet"), ("check", "--quiet"), ("demod", "--ro")}
+SAME = {("modes", "--quiet"), ("rows", "--quiet"), ("judge", "--quiet"), ("check", "--quiet"), ("join", "--quiet"), ("demod", "--ro")}
 
 
 def has_difference(effect):

@@ -16,6 +16,8 @@ Commands:
   noise  Adds noise that a seed determines to symbols
   demod  Receives the packets of symbols
   run    Sends packets, adds noise, and receives them
+  scan   Tells which modes a recording has, and how to receive it
+  join   Joins the packets of BBFRAMEs
   help   Print this message or the help of the given subcommand(s)
 
 Options:
@@ -57,8 +59,40 @@ Exits:
 Example:
   s2 check rows certificate
 """
+SCAN_HELP = """Tells which modes a recording has, and how to receive it
+
+Usage: s2 scan <SYMBOLS>
+
+Arguments:
+  <SYMBOLS>  Recording, four bytes a symbol: I and Q, signed, in either byte order
+
+Options:
+  -h, --help  Print help
+
+The report, a line for each mode, the likeliest first:
+  MODE LENGTH PILOTS         the mode, as qpsk3/4; normal or short; pilots or no-pilots
+  seen N first S             headers that were found, and the symbol of the first, from 0 on
+  every D                    the usual distance from one to the next
+  turn K conjugate yes|no    the symbols were multiplied by the K-th power of i, and then conjugated, or not
+  bytes big|little           the byte order
+  amplitude A                of the headers' symbols; `mod` sends 990
+
+The last line:
+  tools/convert .. | ./s2 demod ..    receives the first mode of the list that `demod` takes; rows is the mode's row file
+  s2 demod receives none of these     16APSK, 32APSK or dummy frames alone
+  nothing found                       no header came twice at its frame's distance: try a longer recording
+
+Exits:
+  0  some header came twice at its frame's distance
+  1  a usage fault, or a fault that standard error tells
+  2  nothing found
+
+Example:
+  s2 scan recording
+"""
 LACKS = "error: the following required arguments were not provided:"
 MORE = "\nFor more information, try '--help'.\n"
+NO_BBFRAMES = f"{LACKS}\n  --modcod <M>\n  <BBFRAMES>\n  <PACKETS>\n\nUsage: s2 join --modcod <M> <BBFRAMES> <PACKETS>\n{MORE}"
 NO_CERT = f"{LACKS}\n  <CERT>\n\nUsage: s2 check <ROWS> <CERT>\n{MORE}"
 RUN = "run --modcod 1 --seed 1 --level 1"
 WANTED_NORMAL = "QPSK 1/4, normal wants 45 rows of addresses below 48600"
@@ -146,6 +180,15 @@ MISUSES = [
     (f"{RUN} --lock 41 made packets out", beyond(41, "lock <H>", 12, 40)),
     (f"{RUN} --uncertified --passes 0 made packets out", NOT_BOTH),
     (f"{RUN} --tuned=1 made packets out", "error: unexpected value '1' for '--tuned' found; no more were expected"),
+    ("scan", LACKS),
+    ("scan one other", "error: unexpected argument 'other' found"),
+    ("scan --quiet one", "error: unexpected argument '--quiet' found"),
+    ("scan --modcod 1 one", "error: unexpected argument '--modcod' found"),
+    ("join frames out", LACKS),
+    ("join --modcod 1 frames", LACKS),
+    ("join --modcod 0 frames out", beyond(0, "modcod <M>", 1, 17)),
+    ("join --modcod 18 frames out", beyond(18, "modcod <M>", 1, 17)),
+    ("join --modcod 1 --pilots frames out", "error: unexpected argument '--pilots' found"),
     (f"rows {PAIR} --weight 0 --seed 1", beyond(0, "weight <W>", 1, 24)),
     (f"rows {PAIR} --weight 25 --seed 1", beyond(25, "weight <W>", 1, 24)),
     (f"rows {PAIR} --weight 1 --seed -1", "error: unexpected argument '-1' found"),
@@ -164,6 +207,7 @@ ABOUTS = {
     "noise": "Adds noise that a seed determines to symbols",
     "demod": "Receives the packets of symbols",
     "run": "Sends packets, adds noise, and receives them",
+    "join": "Joins the packets of BBFRAMEs",
 }
 RECEIVING = ("demod --modcod 1", RUN)
 ENDS = {
@@ -176,6 +220,8 @@ ENDS = {
     "noise": "all symbols are written, and nothing is printed",
     "demod": "every frame is delivered, and sole or most-likely",
     "run": "every frame is delivered, and sole or most-likely",
+    "scan": "some header came twice at its frame's distance",
+    "join": "every frame has a good header, and no packet is bad",
 }
 # What a word says, and the value where it is left out.
 WORDS = [
@@ -196,6 +242,9 @@ WORDS = [
     *((name, "--uncertified", "which is `parity` then; not with --passes") for name in ("judge", "demod", "run")),
     *((name, "--tuned", "words that stand beside it win") for name in ("demod", "run")),
     ("modes", "--rate <R>", "Symbols a second, 1 to 1000000000: adds the bits a second of the transport stream"),
+    ("join", "--modcod <M>", "as qpsk3/4 or 8PSK2/3: `s2 modes` lists them"),
+    ("join", "--short", "Frames of 16200 bits, and not of 64800"),
+    ("join", "cut at BYTE bytes COUNT", "the file ends within a frame, of which COUNT bytes are there"),
     ("mod", "packets P frames F", "P packets were taken, and F frames written, dummy frames not counted"),
 ]
 # The commands that show how far they are, those that may be strict, those that decide, and a line of each command with what it
@@ -211,7 +260,11 @@ LINES = {
     "noise": "noise --seed 1 --level 0 packets out",
     "demod": f"demod {LINK} made empty out",
     "run": f"run {LINK} --seed 1 --level 0 made packets out",
+    "scan": "scan packets",
+    "join": f"join {LINK} empty out",
 }
+# The commands that take --quiet.
+QUIET = [name for name in LINES if name != "scan"]
 
 
 def refused(word, name):
@@ -234,6 +287,7 @@ ENDED = {
     "noise": {"writes": {"out": 2 * PACKET}},
     "demod": {"out": "end frames 0 delivered 0 packets 0 bad 0\n", "reads": {"empty": b""}, "writes": {"out": b""}},
     "run": {"out": TWO, "writes": {"out": 2 * PACKET}},
+    "join": {"out": "end frames 0 delivered 0 packets 0 bad 0\n", "reads": {"empty": b""}, "writes": {"out": b""}},
 }
 
 
@@ -266,6 +320,9 @@ MISSING = [
     (f"{RUN} made packets none/out", "none/out"),
     ("mod --modcod 11 --pilots none none none", "none"),
     ("demod --modcod 1 /dev/null none none", "none"),
+    ("scan none", "none"),
+    ("join --modcod 1 none old", "none"),
+    ("join --modcod 1 packets none/out", "none/out"),
 ]
 # Commands whose words are refused before a file is opened.
 REFUSED = [
@@ -277,6 +334,7 @@ REFUSED = [
     ("demod --modcod 11 --short made packets old", "no such mode"),
     ("demod --modcod 17 --short none none old", "no such mode"),
     ("run --modcod 11 --short --seed 1 --level 1 none none old", "no such mode"),
+    ("join --modcod 11 --short none old", "no such mode"),
 ]
 # Commands that read a file without an end, and what they leave.
 ENDLESS = [
@@ -304,12 +362,13 @@ CASES = [
     Case("--version", out="s2 0.1\n"),
     Case("--help", out=HELP),
     Case("check --help", out=CHECK_HELP),
+    Case("scan --help", out=SCAN_HELP),
     *(Case(f"{name} --help", out=first_line(about)) for name, about in ABOUTS.items()),
     *(Case(f"{name} --help", out=option("0  ", end)) for name, end in ENDS.items()),
     *(Case(f"{name} --help", out=option(word, says)) for name, word, says in WORDS),
     *(
         Case(f"{name} --help", out=option("--quiet", f"No notes on standard error{', and no progress but by --progress' * (name in SHOWING)}"))
-        for name in LINES
+        for name in QUIET
     ),
     *(Case(f"{name} --help", out=option("--progress", "a line that is rewritten once a second")) for name in SHOWING),
     *(Case(f"{name} --help", out=option("--strict", "or no frame was found in 90 symbols or more")) for name in STRICT),
@@ -323,6 +382,7 @@ CASES = [
     *(refused("--rate", name) for name in LINES if name != "modes"),
     Case("--help", FAULT, to="/dev/full"),
     Case("check toy", FAULT, errors=NO_CERT),
+    Case("join", FAULT, errors=NO_BBFRAMES),
     *(Case(words, FAULT, errors=f"{line}\n{MORE}") for words, line in MISUSES if " is not in " in line),
     *(Case(words, FAULT, errors=first_line(line)) for words, line in MISUSES),
     *(no_divisor(command, *pair) for command in RECEIVING for pair in NO_DIVISORS),

@@ -22,6 +22,7 @@ mod table;
 
 pub use reading::read_words;
 pub use request::{
-    ChannelWords, CheckWords, DemodWords, JudgeWords, LinkWords, ModWords, ModesWords, NoiseWords,
-    NoteWords, Progress, Request, RowsWords, RunWords, ShapeWords, TableWords,
+    ChannelWords, CheckWords, DemodWords, JoinWords, JudgeWords, LinkWords, ModWords, ModesWords,
+    NoiseWords, NoteWords, Progress, Request, RowsWords, RunWords, ScanWords, ShapeWords,
+    TableWords,
 };

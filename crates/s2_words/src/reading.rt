@@ -4,8 +4,9 @@ use crate::options::{Number, TuningWords, judging_by, progress_by, read_modcod, 
 use crate::parser::program;
 use crate::refusal::{misused, not_understood, values_in};
 use crate::request::{
-    ChannelWords, CheckWords, DemodWords, JudgeWords, LinkWords, ModWords, ModesWords, NoiseWords,
-    NoteWords, Progress, Request, RowsWords, RunWords, ShapeWords, TableWords,
+    ChannelWords, CheckWords, DemodWords, JoinWords, JudgeWords, LinkWords, ModWords, ModesWords,
+    NoiseWords, NoteWords, Progress, Request, RowsWords, RunWords, ScanWords, ShapeWords,
+    TableWords,
 };
 use clap::parser::ValueSource;
 use clap::{ArgMatches, Error};
@@ -177,6 +178,21 @@ fn run_of<'a>(m: &ArgMatches<'a>) -> Option<Request<'a>> {
     }))
 }
 
+fn scan_of<'a>(m: &ArgMatches<'a>) -> Option<Request<'a>> {
+    Some(Request::Scan(ScanWords {
+        symbols: m.get_str("SYMBOLS")?,
+    }))
+}
+
+fn join_of<'a>(m: &ArgMatches<'a>) -> Option<Request<'a>> {
+    Some(Request::Join(JoinWords {
+        modcod: read_modcod(m.get_str("modcod")?)?,
+        short: m.get_flag("short"),
+        bbframes: m.get_str("BBFRAMES")?,
+        packets: m.get_str("PACKETS")?,
+    }))
+}
+
 fn request_of<'a>(name: &str, m: &ArgMatches<'a>) -> Option<Request<'a>> {
     match name {
         "modes" => modes_of(m),
@@ -188,6 +204,8 @@ fn request_of<'a>(name: &str, m: &ArgMatches<'a>) -> Option<Request<'a>> {
         "noise" => noise_of(m),
         "demod" => demod_of(m),
         "run" => run_of(m),
+        "scan" => scan_of(m),
+        "join" => join_of(m),
         _ => None,
     }
 }

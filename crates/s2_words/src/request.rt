@@ -131,6 +131,21 @@ pub struct RunWords<'a> {
     pub to: &'a str,
 }
 
+/// `scan`: the recording.
+#[derive(Clone, Copy, PartialEq, Eq)]
+pub struct ScanWords<'a> {
+    pub symbols: &'a str,
+}
+
+/// `join`: the numbers of a mode, and the files.
+#[derive(Clone, Copy, PartialEq, Eq)]
+pub struct JoinWords<'a> {
+    pub modcod: u8,
+    pub short: bool,
+    pub bbframes: &'a str,
+    pub packets: &'a str,
+}
+
 /// `modes`: a symbol rate, if the bits of a transport stream per second are to be listed.
 #[derive(Clone, Copy, PartialEq, Eq)]
 pub struct ModesWords {
@@ -150,4 +165,6 @@ pub enum Request<'a> {
     Noise(NoiseWords<'a>),
     Demod(DemodWords<'a>),
     Run(RunWords<'a>),
+    Scan(ScanWords<'a>),
+    Join(JoinWords<'a>),
 }

@@ -188,6 +188,44 @@ const RUN_MORE: &str = report!(
     "  s2 run --modcod qpsk1/2 --pilots --seed 1 --level 100 rows packets.ts received.ts"
 );
 
+/// The text below the options of `scan`.
+const SCAN_MORE: &str = "\
+The report, a line for each mode, the likeliest first:
+  MODE LENGTH PILOTS         the mode, as qpsk3/4; normal or short; pilots or no-pilots
+  seen N first S             headers that were found, and the symbol of the first, from 0 on
+  every D                    the usual distance from one to the next
+  turn K conjugate yes|no    the symbols were multiplied by the K-th power of i, and then conjugated, or not
+  bytes big|little           the byte order
+  amplitude A                of the headers' symbols; `mod` sends 990
+
+The last line:
+  tools/convert .. | ./s2 demod ..    receives the first mode of the list that `demod` takes; rows is the mode's row file
+  s2 demod receives none of these     16APSK, 32APSK or dummy frames alone
+  nothing found                       no header came twice at its frame's distance: try a longer recording
+
+Exits:
+  0  some header came twice at its frame's distance
+  1  a usage fault, or a fault that standard error tells
+  2  nothing found
+
+Example:
+  s2 scan recording";
+
+/// The text below the options of `join`.
+const JOIN_MORE: &str = "\
+The report, at the end:
+  cut at BYTE bytes COUNT                     the file ends within a frame, of which COUNT bytes are there
+  end frames F delivered D packets P bad B    of F frames D have a good header, P packets were written, B had a wrong CRC-8
+  Bytes count from 0. A frame of zeros stands for frames that were not received: no packet is joined across it.
+
+Exits:
+  0  every frame has a good header, and no packet is bad
+  1  a usage fault, or a fault that standard error tells: the packets of the frames before it stand in PACKETS
+  2  a header is refused, a packet is bad, or the last frame is cut
+
+Example:
+  s2 join --modcod qpsk1/2 bbframes packets.ts";
+
 /// The form of an option on the command line.
 #[derive(Clone, Copy)]
 pub(crate) enum Form {
@@ -242,6 +280,8 @@ pub(crate) enum Name {
     Noise,
     Demod,
     Run,
+    Scan,
+    Join,
 }
 
 /// A command, and its name. Its options and its help are apart, so that no proof has the texts of all.
@@ -489,7 +529,7 @@ const ROWS: Argument = file!("ROWS", "Row file");
 const PACKETS: Argument = file!("PACKETS", "Transport stream, packets of 188 bytes");
 
 /// All commands.
-static COMMANDS: [Entry; 9] = [
+static COMMANDS: [Entry; 11] = [
     Entry {
         command: Name::Modes,
         name: "modes",
@@ -534,6 +574,16 @@ static COMMANDS: [Entry; 9] = [
         command: Name::Run,
         name: "run",
         about: "Sends packets, adds noise, and receives them",
+    },
+    Entry {
+        command: Name::Scan,
+        name: "scan",
+        about: "Tells which modes a recording has, and how to receive it",
+    },
+    Entry {
+        command: Name::Join,
+        name: "join",
+        about: "Joins the packets of BBFRAMEs",
     },
 ];
 
@@ -648,6 +698,24 @@ static RUN_ARGUMENTS: [Argument; 22] = [
     file!("OUT", "File for the packets that are received"),
 ];
 
+/// The arguments of `scan`, in order.
+static SCAN_ARGUMENTS: [Argument; 1] = [file!(
+    "SYMBOLS",
+    "Recording, four bytes a symbol: I and Q, signed, in either byte order"
+)];
+
+/// The arguments of `join`, in order.
+static JOIN_ARGUMENTS: [Argument; 5] = [
+    MODCOD,
+    SHORT,
+    QUIET,
+    file!(
+        "BBFRAMES",
+        "File of BBFRAMEs, Kbch / 8 bytes each with the header, not scrambled"
+    ),
+    file!("PACKETS", "File for the packets"),
+];
+
 /// The arguments of a command.
 pub(crate) fn arguments_of(command: Name) -> &'static [Argument] {
     match command {
@@ -660,6 +728,8 @@ pub(crate) fn arguments_of(command: Name) -> &'static [Argument] {
         Name::Noise => &NOISE_ARGUMENTS,
         Name::Demod => &DEMOD_ARGUMENTS,
         Name::Run => &RUN_ARGUMENTS,
+        Name::Scan => &SCAN_ARGUMENTS,
+        Name::Join => &JOIN_ARGUMENTS,
     }
 }
 
@@ -683,5 +753,7 @@ pub(crate) fn more_of(command: Name) -> &'static str {
         Name::Noise => NOISE_MORE,
         Name::Demod => DEMOD_MORE,
         Name::Run => RUN_MORE,
+        Name::Scan => SCAN_MORE,
+        Name::Join => JOIN_MORE,
     }
 }
