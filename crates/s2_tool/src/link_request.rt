@@ -1,5 +1,5 @@
 //! The commands on a link: what each needs of its words, and how it runs on its files. This is plain code.
-ghost use Rattle.std.specs.Prelude.{◌≡◌, OnErr};
+ghost use Rattle.std.specs.Prelude.{OnErr};
 ghost use Rattle.s2_mode.specs.Counts.{CanCount};
 ghost use Rattle.s2_console.specs.Screens.{CanNote};
 
@@ -90,7 +90,7 @@ pub(crate) fn with_link<'a, R: Disk + Clock + AllocGlobal, O: CountedWrite, E: C
 ) -> Result<Exit, Fault<'a>>
     requires console { CanNote console.old }
     requires notes { CanCount (E.count notes.old) }
-    ensures { OnErr result (console.new.errors_failed ≡ console.old.errors_failed) }
+    ensures { OnErr result (CanCount console.new.errors_failed) }
 {
     let setup = setup_of(request.link())?;
     let pace = request.pace(&setup.mode);

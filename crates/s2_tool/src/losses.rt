@@ -37,6 +37,7 @@ fn exit_by(strict: bool, received: Received) -> Exit
 }
 
 /// Appends words, a number, and a noun, which is plural unless the number is 1.
+#[tactic(auto, unfolding(crate::specs::Losses::counted))]
 fn push_counted(line: &mut Line, words: &str, number: u64, noun: &str)
     requires { length line.old + (length words.now + 40) + (length noun.now + 1) ≤ line_room }
     ensures bytes { line.new ≡ line.old ++ (words.now ++ counted number noun.now) }

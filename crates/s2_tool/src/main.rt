@@ -13,7 +13,7 @@ mod run;
 mod serve;
 
 use crate::opening::{errors_of, screen_beside};
-use crate::serve::{conclude, explain, request_of, run_request, words_given, written_by};
+use crate::serve::{explain, request_of, run_request, words_given, written_by};
 use s2_progress::Terminal;
 use std::process::ExitCode;
 
@@ -24,8 +24,7 @@ fn main(rt: HostRuntime) -> ExitCode {
         Ok(request) => {
             let mut screen = screen_beside(&terminal, written_by(&request));
             let mut notes = errors_of(&terminal);
-            let ended = run_request(&rt, &terminal, &request, &mut screen, &mut notes);
-            conclude(ended, &mut screen)
+            run_request(&rt, &terminal, &request, &mut screen, &mut notes)
         }
         Err(error) => explain(&rt, &terminal, &error),
     };

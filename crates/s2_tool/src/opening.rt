@@ -11,7 +11,7 @@ use s2_evidence::JudgeFiles;
 use s2_files::{Destination, Disk, Opener, Reader, Role, StandardStreams, Target, is_standard};
 use s2_mode::Counting;
 use s2_progress::{Clearing, Meter, Pace, Show, Terminal, Watched};
-use s2_words::{JudgeWords, Progress};
+use s2_words::{JoinWords, JudgeWords, Progress};
 use std::rt::Files;
 use std::time::Clock;
 
@@ -183,4 +183,20 @@ pub(crate) fn open_noise<'a, 'm, 't, 'r, R: Disk + Clock + AllocGlobal>(
         Watched::new(from, show),
         Destination::new(Watched::new(to, show)),
     ))
+}
+
+/// Opens the files of `join`: BBFRAMEs with a buffer, and packets. The packets of a frame are written at once, so they
+/// have none.
+pub(crate) fn open_join<'a, R: Disk + AllocGlobal>(
+    rt: &R,
+    words: &JoinWords<'a>,
+) -> Result<(Input<R>, Destination<Written<R>>), Fault<'a>>
+    ensures from { IfOk result (λ files. files.0.failed ≡ 0) }
+    ensures unbegun { IfOk result (λ files. files.1.begun ≡ false) }
+    ensures to { IfOk result (λ files. files.1.to.failed ≡ 0) }
+{
+    let mut opener = Opener::new(rt);
+    let bbframes = opener.read_buffered(words.bbframes)?;
+    let packets = opener.write(words.packets)?;
+    Ok((bbframes, Destination::new(packets)))
 }

@@ -1,23 +1,28 @@
 //! Serves the request of the command line. This is plain code: the contract of each command is at the command.
-ghost use Rattle.std.specs.Prelude.{◌≡◌, OnErr};
+ghost use Rattle.std.specs.Prelude.{OnErr};
 ghost use Rattle.s2_mode.specs.Counts.{CanCount};
 ghost use Rattle.s2_console.specs.Screens.{CanNote};
 
 use crate::link_request::{LinkRequest, with_link};
 use crate::noise::noise_command;
-use crate::opening::{open_input, open_inputs, open_judge, open_noise, screen_beside, show_on};
+use crate::opening::{
+    open_input, open_inputs, open_join, open_judge, open_noise, screen_beside, show_on,
+};
 use crate::rows::rows_command;
 use clap::Error;
 use clap::error::ErrorKind;
 use s2_console::{Console, Exit, Fault};
 use s2_evidence::{check_command, judge_command, self_command};
 use s2_files::Disk;
+use s2_join::join_command;
 use s2_mode::{CountedWrite, Counting, FaultText, Mode, Shape};
 use s2_names::modes_command;
 use s2_progress::{Pace, Terminal};
+use s2_scan::scan_command;
 use s2_table::table_command;
 use s2_words::{
-    CheckWords, JudgeWords, NoiseWords, Request, RowsWords, ShapeWords, TableWords, read_words,
+    CheckWords, JoinWords, JudgeWords, NoiseWords, Request, RowsWords, ScanWords, ShapeWords,
+    TableWords, read_words,
 };
 use std::alloc::{AllocError, Global};
 use std::env;
@@ -70,16 +75,17 @@ pub(crate) fn written_by<'a>(request: &Request<'a>) -> Option<&'a str> {
         Request::Mod(words) => Some(words.symbols),
         Request::Demod(words) => Some(words.packets),
         Request::Run(words) => Some(words.to),
+        Request::Join(words) => Some(words.packets),
         _ => None,
     }
 }
 
-/// The exit of a request. A fault that came before its command is reported.
-pub(crate) fn conclude<O: CountedWrite, E: CountedWrite>(
+/// The exit of a command. A fault that came before it is reported.
+fn conclude<O: CountedWrite, E: CountedWrite>(
     ended: Result<Exit, Fault<'_>>,
     console: &mut Console<O, E>,
 ) -> Exit
-    requires { OnErr ended.entry (CanCount console.old.errors_failed) }
+    requires { OnErr ended (CanCount console.old.errors_failed) }
 {
     match ended {
         Ok(exit) => exit,
@@ -87,29 +93,39 @@ pub(crate) fn conclude<O: CountedWrite, E: CountedWrite>(
     }
 }
 
-/// Runs the command of a request on its files, unless they cannot be opened. `notes` takes the notes before a report.
-pub(crate) fn run_request<'a, R: Disk + Clock + AllocGlobal, O: CountedWrite, E: CountedWrite>(
+/// Runs the command of a request on its files. A fault before that is reported. `notes` takes the notes before a report.
+pub(crate) fn run_request<R: Disk + Clock + AllocGlobal, O: CountedWrite, E: CountedWrite>(
     rt: &R,
     terminal: &Terminal<'_, R>,
-    request: &Request<'a>,
+    request: &Request<'_>,
     console: &mut Console<O, E>,
     notes: &mut E,
-) -> Result<Exit, Fault<'a>>
+) -> Exit
     requires console { CanNote console.old }
     requires notes { CanCount (E.count notes.old) }
-    ensures { OnErr result (console.new.errors_failed ≡ console.old.errors_failed) }
 {
     match request {
-        Request::Own => Ok(self_command(rt.alloc(), &mut Counting::new(rt.input()), console)),
-        Request::Modes(words) => Ok(modes_command(rt.alloc(), &words.rate, console)),
-        Request::Rows(words) => serve_rows(rt, words, console),
-        Request::Table(words) => serve_table(rt, words, console),
-        Request::Judge(words) => serve_judge(rt, words, console),
-        Request::Check(words) => serve_check(rt, words, console),
-        Request::Mod(words) => with_link(rt, terminal, LinkRequest::Mod(words), console, notes),
-        Request::Noise(words) => serve_noise(rt, terminal, words, console),
-        Request::Demod(words) => with_link(rt, terminal, LinkRequest::Demod(words), console, notes),
-        Request::Run(words) => with_link(rt, terminal, LinkRequest::Run(words), console, notes),
+        Request::Own => self_command(rt.alloc(), &mut Counting::new(rt.input()), console),
+        Request::Modes(words) => modes_command(rt.alloc(), &words.rate, console),
+        Request::Rows(words) => conclude(serve_rows(rt, words, console), console),
+        Request::Table(words) => conclude(serve_table(rt, words, console), console),
+        Request::Judge(words) => conclude(serve_judge(rt, words, console), console),
+        Request::Check(words) => conclude(serve_check(rt, words, console), console),
+        Request::Noise(words) => conclude(serve_noise(rt, terminal, words, console), console),
+        Request::Scan(words) => conclude(serve_scan(rt, words, console), console),
+        Request::Join(words) => conclude(serve_join(rt, words, console), console),
+        Request::Mod(words) => {
+            let request = LinkRequest::Mod(words);
+            conclude(with_link(rt, terminal, request, console, notes), console)
+        }
+        Request::Demod(words) => {
+            let request = LinkRequest::Demod(words);
+            conclude(with_link(rt, terminal, request, console, notes), console)
+        }
+        Request::Run(words) => {
+            let request = LinkRequest::Run(words);
+            conclude(with_link(rt, terminal, request, console, notes), console)
+        }
     }
 }
 
@@ -131,7 +147,7 @@ fn serve_rows<R: Disk + AllocGlobal, O: CountedWrite, E: CountedWrite>(
     console: &mut Console<O, E>,
 ) -> Result<Exit, Fault<'static>>
     requires { CanNote console.old }
-    ensures { OnErr result (console.new.errors_failed ≡ console.old.errors_failed) }
+    ensures { OnErr result (CanCount console.new.errors_failed) }
 {
     let shape = shape_of(words.shape)?;
     let weight = usize::from(words.weight);
@@ -145,7 +161,7 @@ fn serve_table<'a, R: Disk + AllocGlobal, O: CountedWrite, E: CountedWrite>(
     console: &mut Console<O, E>,
 ) -> Result<Exit, Fault<'a>>
     requires { CanNote console.old }
-    ensures { OnErr result (console.new.errors_failed ≡ console.old.errors_failed) }
+    ensures { OnErr result (CanCount console.new.errors_failed) }
 {
     let mode = mode_of(words.modcod, words.short, false)?;
     let mut rows = open_input(rt, words.rows)?;
@@ -159,7 +175,7 @@ fn serve_judge<'a, R: Disk + AllocGlobal, O: CountedWrite, E: CountedWrite>(
     console: &mut Console<O, E>,
 ) -> Result<Exit, Fault<'a>>
     requires { CanNote console.old }
-    ensures { OnErr result (console.new.errors_failed ≡ console.old.errors_failed) }
+    ensures { OnErr result (CanCount console.new.errors_failed) }
 {
     let shape = shape_of(words.shape)?;
     let mut files = open_judge(rt, words)?;
@@ -173,7 +189,7 @@ fn serve_check<'a, R: Disk + AllocGlobal, O: CountedWrite, E: CountedWrite>(
     console: &mut Console<O, E>,
 ) -> Result<Exit, Fault<'a>>
     requires { CanNote console.old }
-    ensures { OnErr result (console.new.errors_failed ≡ console.old.errors_failed) }
+    ensures { OnErr result (CanCount console.new.errors_failed) }
 {
     let (mut rows, mut certificate) = open_inputs(rt, words.rows, words.certificate)?;
     Ok(check_command(rt.alloc(), &mut rows, &mut certificate, console))
@@ -188,7 +204,7 @@ fn serve_noise<'a, R: Disk + Clock + AllocGlobal, O: CountedWrite, E: CountedWri
     console: &mut Console<O, E>,
 ) -> Result<Exit, Fault<'a>>
     requires { CanNote console.old }
-    ensures { OnErr result (console.new.errors_failed ≡ console.old.errors_failed) }
+    ensures { OnErr result (CanCount console.new.errors_failed) }
 {
     let show = show_on(terminal, Pace::AddingNoise, words.progress);
     let (mut from, mut to) = open_noise(rt, &show, words.from, words.to)?;
@@ -198,4 +214,31 @@ fn serve_noise<'a, R: Disk + Clock + AllocGlobal, O: CountedWrite, E: CountedWri
         Err(_) if exit == Exit::Fine => Err(Fault::Write),
         _ => Ok(exit),
     }
+}
+
+/// `scan`.
+fn serve_scan<'a, R: Disk + AllocGlobal, O: CountedWrite, E: CountedWrite>(
+    rt: &R,
+    words: &ScanWords<'a>,
+    console: &mut Console<O, E>,
+) -> Result<Exit, Fault<'a>>
+    requires { CanNote console.old }
+    ensures { OnErr result (CanCount console.new.errors_failed) }
+{
+    let mut symbols = open_input(rt, words.symbols)?;
+    Ok(scan_command(rt.alloc(), &mut symbols, console))
+}
+
+/// `join`.
+fn serve_join<'a, R: Disk + AllocGlobal, O: CountedWrite, E: CountedWrite>(
+    rt: &R,
+    words: &JoinWords<'a>,
+    console: &mut Console<O, E>,
+) -> Result<Exit, Fault<'a>>
+    requires { CanNote console.old }
+    ensures { OnErr result (CanCount console.new.errors_failed) }
+{
+    let mode = mode_of(words.modcod, words.short, false)?;
+    let (mut bbframes, mut packets) = open_join(rt, words)?;
+    Ok(join_command(rt.alloc(), mode, &mut bbframes, &mut packets, console))
 }
