@@ -33,13 +33,20 @@ module _ {T : Type 0} (Does : LinkCommand T) (Noted : Result Rows Fault → Type
         causes = causes;
       }
 
+  -- there are rows, and no memory for the rest
+  pub without_memory : (rows : Rows) (link : Link) (old : Streams) → IfSome files.rows (λ text. rows_in (shape_in setup.mode) text ≡ Ok rows) → Noted (Ok rows)
+      → link ≡ link_of setup rows → left.rows_failed ≡ files.rows_failed → left.begun ≡ false → OnLink Does Noted setup files left old old (Err faults.NoMemory)
+  without_memory rows link old read noted linked whole unbegun =
+      on_rows rows link old old (Err faults.NoMemory) read noted linked whole (inr (unbegun, refl, refl))
+      (record { no_read = λ e. refl; write_reported = λ e. absurd cc; no_write = λ e. (refl, refl) })
+
 -- the rules of a new receiver of a link
 new_rules : (link : Link) (tuning : Tuning) (r : Receiver) → IsNew link tuning r → rules_for r ≡ link_rules link tuning max_symbols
 new_rules link tuning r new = rw (new.link_is, new.tuning_is, new.limit) refl
 
 -- a new transmitter on a link, which was told to send dummy frames
 told_transmitter : (link : Link) (dummy : ℕ) (made told : Transmitter) → made ≡ new_transmitter link → told ≡ record made { dummy_every = dummy } → told ≡ transmitter_on link dummy
-told_transmitter link dummy made told new set = set ∙ ap (λ t. record t { dummy_every = dummy }) new
+told_transmitter link dummy made told new set = set ∙ ap {A = Transmitter} (λ t. record t { dummy_every = dummy }) new
 
 -- a new receiver of a link receives
 pub receives_on : (link : Link) (tuning : Tuning) (r : Receiver) → IsNew link tuning r → (begun : Bool) (old new : Streams) (ended : Result Received Fault)
