@@ -1,5 +1,5 @@
 -- A command on a link, or on none: a setup, and its row file that is read by this shape.
-use Rattle.s2_tool.proofs.Names.{◌≡◌, ◌≢◌, ◌+◌, ◌∙◌, Bool, false, ℕ, Option, Result, Ok, Err, IfSome, ap, refl, subst, inl, inr, shape_in, max_symbols, Streams, Rows, Link, link_of, Setup, Tuning, Receiver, IsNew, rules_for, link_rules, Received, Transmitter, new_transmitter, RunWords, Exit, Fault, Follows, rows_in, Files, Begins, Causes, LinkCommand, DoesOn, OnLink, ReceivesToEnd, Demodulates, SendsBy, transmitter_on, Modulates, LoopsBy, Loops}
+use Rattle.s2_tool.proofs.Names.{◌≡◌, ◌≢◌, ◌+◌, ◌∙◌, Bool, false, ℕ, Result, Ok, Err, IfSome, ap, refl, subst, inl, inr, shape_in, max_symbols, Streams, Rows, Link, link_of, Setup, Tuning, Receiver, IsNew, rules_for, link_rules, Received, Transmitter, new_transmitter, RunWords, Exit, Fault, Follows, rows_in, Files, Begins, Causes, LinkCommand, DoesOn, OnLink, ReceivesToEnd, Demodulates, SendsBy, transmitter_on, Modulates, LoopsBy, Loops}
 use Rattle.s2_tool.proofs.Names.faults
 
 module _ {T : Type 0} (Does : LinkCommand T) (Noted : Result Rows Fault → Type 0) (setup : Setup) (files left : Files) where

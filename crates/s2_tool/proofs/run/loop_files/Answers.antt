@@ -1,4 +1,4 @@
-use Rattle.s2_tool.proofs.Names.{rules, sym, ap, refl, Err, err_from_is_err_and, setup_of, Loops}
+use Rattle.s2_tool.proofs.Names.{rules, sym, err_from_is_err_and, setup_of, Loops}
 use Rattle.s2_tool.proofs.LinkLemmas.{without_rows, on_rows, without_memory, loops_on}
 use Rattle.s2_tool.proofs.run.loop_files.Goals as goal
 
