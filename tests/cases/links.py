@@ -97,7 +97,7 @@ def demod(two, single):
         received(wrong_headers(two, 12), 0, TWO, 2 * PACKET),
         received(single, 0, SINGLE, PACKET, "--modcod 1 normal4"),
         # the second packet began in the first frame
-        *(received(two[:size], *cut(1, count), PACKET, errors=noted("1 packets torn") if count else "") for size, count in cut_two),
+        *(received(two[:size], *cut(1, count), PACKET, errors=noted("1 packet torn") if count else "") for size, count in cut_two),
         *(
             received(single[: 4 * count], *cut(0, count if count >= 90 else 0), b"", "--modcod 1 normal4")
             for count in (0, 89, 90, 32_489)
@@ -117,18 +117,18 @@ def demod(two, single):
 def losing(two):
     """The cases of what is lost of the symbols of the two packets: notes of it, the exits of strict commands, and quiet ones."""
     one, other, gap = two[:32_760], two[32_760:], bytes(400)
-    first, torn = ONE + "frame 2 at 8290 sole fixed 0\nend frames 2 delivered 2 packets 1 bad 0\n", "1 packets torn"
-    nothing = "100 symbols passed over in 1 places, the first at 0", "no frame of QPSK 1/4, short in 100 symbols"
+    first, torn = ONE + "frame 2 at 8290 sole fixed 0\nend frames 2 delivered 2 packets 1 bad 0\n", "1 packet torn"
+    nothing = "100 symbols passed over in 1 place, the first at 0", "no frame of QPSK 1/4, short in 100 symbols: try s2 scan"
     cases = [
         # before the frames, between them, behind them, and before a cut one
-        (gap + two, 0, TWO.replace("at 0 ", "at 100 ").replace("8190", "8290"), 2 * PACKET, ["100 symbols passed over in 1 places, the first at 0"]),
-        (one + gap + other, 0, first, PACKET, ["100 symbols passed over in 1 places, the first at 8190", torn]),
-        (two + gap, 0, TWO, 2 * PACKET, ["100 symbols passed over in 1 places, the first at 16380"]),
+        (gap + two, 0, TWO.replace("at 0 ", "at 100 ").replace("8190", "8290"), 2 * PACKET, ["100 symbols passed over in 1 place, the first at 0"]),
+        (one + gap + other, 0, first, PACKET, ["100 symbols passed over in 1 place, the first at 8190", torn]),
+        (two + gap, 0, TWO, 2 * PACKET, ["100 symbols passed over in 1 place, the first at 16380"]),
         (two + gap[:356], 0, TWO, 2 * PACKET, []),
         (gap[:8] + two + gap, 0, TWO.replace("at 0 ", "at 2 ").replace("8190", "8192"), 2 * PACKET, ["102 symbols passed over in 2 places, the first at 0"]),
         (
             one + gap[:4] + other[:400], NO, ONE + "cut at 8191 symbols 100\nend frames 1 delivered 1 packets 1 bad 0\n", PACKET,
-            ["1 symbols passed over in 1 places, the first at 8190", torn],
+            ["1 symbol passed over in 1 place, the first at 8190", torn],
         ),
         # a header that names another place
         (one + one, 0, TWO, 2 * PACKET, [torn]),
@@ -264,10 +264,10 @@ def among(two, dummies):
             0,
             ONE + line.format(2, 11_521) + end.format(1),
             PACKET,
-            errors=noted("1 symbols passed over in 1 places, the first at 8190", "1 packets torn"),
+            errors=noted("1 symbol passed over in 1 place, the first at 8190", "1 packet torn"),
         ),
         *(
-            received(symbols, 0, NONE, b"", errors=noted(f"no frame of QPSK 1/4, short in {len(symbols) // 4} symbols"))
+            received(symbols, 0, NONE, b"", errors=noted(f"no frame of QPSK 1/4, short in {len(symbols) // 4} symbols: try s2 scan"))
             for symbols in (dummy, 100 * dummy, dummy[:400], b"".join(dummies))
         ),
         run(f"{LINK} --dummy 1 --seed 1 --level 0 made", 0, later, 2 * PACKET),
@@ -300,7 +300,7 @@ def heard(words, symbols, code, end, packets, errors=""):
 def worded(two):
     """Symbols with pilots and another scrambling number, received with other words too."""
     words, end = f"{LINK} --pilots", "end frames 2 delivered {0} packets {0} bad 0\n"
-    no_sync = "16740 symbols passed over in 1 places, the first at 0", "no frame of QPSK 1/4, short in 16740 symbols"
+    no_sync = "16740 symbols passed over in 1 place, the first at 0", "no frame of QPSK 1/4, short in 16740 symbols: try s2 scan"
     return [
         heard(f"{words} --number 7", two, 0, end.format(2), 2 * PACKET),
         heard(words, two, NO, end.format(0), b""),

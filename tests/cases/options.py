@@ -174,7 +174,7 @@ WELL = received(TWO)
 UNCERTIFIED = received(PARITY, NO)
 CERTIFIED = received(Rule("two frames, each certified", lambda got: re.fullmatch(rb"(frame .* (sole|most-likely) fixed 0\n){2}end .*\n", got)))
 # If the second of two frames is not found.
-PASSED = ["8190 symbols passed over in 1 places, the first at 8190"]
+PASSED = ["8190 symbols passed over in 1 place, the first at 8190"]
 UNFOUND = received("frame 1 at 0 sole fixed 0\nend frames 1 delivered 1 packets 1 bad 0\n", FINE, PACKET, PASSED)
 
 
@@ -220,7 +220,7 @@ def record_effects(two):
 
 def demod_effects(two, pilots):
     words, end = f"{LINK} --pilots", "end frames 2 delivered {0} packets {0} bad 0\n"
-    no_sync = received(NONE, FINE, b"", ["16740 symbols passed over in 1 places, the first at 0", "no frame of QPSK 1/4, short in 16740 symbols"])
+    no_sync = received(NONE, FINE, b"", ["16740 symbols passed over in 1 place, the first at 0", "no frame of QPSK 1/4, short in 16740 symbols: try s2 scan"])
     heard, lost = received(TWO.replace("8190", "8370")), received(Rule("lost frames", lambda got: got.decode().endswith(end.format(0))), NO, b"")
     yield Effect("--pilots", f"demod {LINK} --number 7 {{}} made in out", {"": no_sync, "--pilots": heard}, {"reads": {"in": pilots}})
     yield Effect("--number", f"demod {words} {{}} made in out", by_default("--number", 0, 7, lost, heard), {"reads": {"in": pilots}})
@@ -229,7 +229,7 @@ def demod_effects(two, pilots):
     for wrong in (13, 20, 30, 40):
         by_lock = {f"--lock {lock}": WELL if wrong <= lock else UNFOUND for lock in sorted({12, wrong - 1, wrong, 30, 40})}
         yield Effect("--lock", f"demod {LINK} {{}} made in out", {"": UNFOUND} | by_lock, {"reads": {"in": wrong_headers(two, wrong)}})
-    gap = ["100 symbols passed over in 1 places, the first at 16380"]
+    gap = ["100 symbols passed over in 1 place, the first at 16380"]
     ends = {"": received(TWO, notes=gap), "--strict": received(TWO, NO, notes=gap)}
     yield Effect("--strict", f"demod {LINK} {{}} made in out", ends, {"reads": {"in": two + bytes(400)}})
 
@@ -253,7 +253,7 @@ def run_effects(report, others):
     yield Effect("--pilots", f"run {LINK} --seed 1 --level 0 {{}} made packets out", {"": WELL, "--pilots": received(TWO.replace("8190", "8370"))})
     apart = received(TWO.replace("8190", "11520"))
     yield Effect("--dummy", f"run {LINK} --seed 1 --level 0 {{}} made packets out", by_default("--dummy", 0, 1, WELL, apart))
-    no_sync = ["16380 symbols passed over in 1 places, the first at 0", "no frame of QPSK 1/4, short in 16380 symbols"]
+    no_sync = ["16380 symbols passed over in 1 place, the first at 0", "no frame of QPSK 1/4, short in 16380 symbols: try s2 scan"]
     ends = {"": received(NONE, FINE, b"", no_sync), "--strict": received(NONE, NO, b"", no_sync)}
     yield Effect("--strict", f"run {LINK} --seed 1 --level 65535 {{}} made packets out", ends)
     # 13 to 30 bits of the second header are wrong

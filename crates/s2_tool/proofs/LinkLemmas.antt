@@ -1,5 +1,5 @@
 -- A command on a link, or on none: a setup, and its row file that is read by this shape.
-use Rattle.s2_tool.proofs.Names.{◌≡◌, ◌≢◌, ◌+◌, Bool, false, ℕ, Option, Result, Ok, Err, IfSome, ap, refl, inl, inr, shape_in, Streams, Rows, Link, link_of, Setup, Fault, Follows, rows_in, Files, Causes, LinkCommand, DoesOn, OnLink}
+use Rattle.s2_tool.proofs.Names.{◌≡◌, ◌≢◌, ◌+◌, ◌∙◌, Bool, false, ℕ, Result, Ok, Err, IfSome, ap, refl, subst, inl, inr, shape_in, max_symbols, Streams, Rows, Link, link_of, Setup, Tuning, Receiver, IsNew, rules_for, link_rules, Received, Transmitter, new_transmitter, RunWords, Exit, Fault, Follows, rows_in, Files, Begins, Causes, LinkCommand, DoesOn, OnLink, ReceivesToEnd, Demodulates, SendsBy, transmitter_on, Modulates, LoopsBy, Loops}
 use Rattle.s2_tool.proofs.Names.faults
 
 module _ {T : Type 0} (Does : LinkCommand T) (Noted : Result Rows Fault → Type 0) (setup : Setup) (files left : Files) where
@@ -32,3 +32,35 @@ module _ {T : Type 0} (Does : LinkCommand T) (Noted : Result Rows Fault → Type
         does = rw linked at does;
         causes = causes;
       }
+
+  -- there are rows, and no memory for the rest
+  pub without_memory : (rows : Rows) (link : Link) (old : Streams) → IfSome files.rows (λ text. rows_in (shape_in setup.mode) text ≡ Ok rows) → Noted (Ok rows)
+      → link ≡ link_of setup rows → left.rows_failed ≡ files.rows_failed → left.begun ≡ false → OnLink Does Noted setup files left old old (Err faults.NoMemory)
+  without_memory rows link old read noted linked whole unbegun =
+      on_rows rows link old old (Err faults.NoMemory) read noted linked whole (inr (unbegun, refl, refl))
+      (record { no_read = λ e. refl; write_reported = λ e. absurd cc; no_write = λ e. (refl, refl) })
+
+-- the rules of a new receiver of a link
+new_rules : (link : Link) (tuning : Tuning) (r : Receiver) → IsNew link tuning r → rules_for r ≡ link_rules link tuning max_symbols
+new_rules link tuning r new = rw (new.link_is, new.tuning_is, new.limit) refl
+
+-- a new transmitter on a link, which was told to send dummy frames
+told_transmitter : (link : Link) (dummy : ℕ) (made told : Transmitter) → made ≡ new_transmitter link → told ≡ record made { dummy_every = dummy } → told ≡ transmitter_on link dummy
+told_transmitter link dummy made told new set = set ∙ ap {A = Transmitter} (λ t. record t { dummy_every = dummy }) new
+
+-- a new receiver of a link receives
+pub receives_on : (link : Link) (tuning : Tuning) (r : Receiver) → IsNew link tuning r → (begun : Bool) (old new : Streams) (ended : Result Received Fault)
+    → Begins (ReceivesToEnd (rules_for r)) begun old new ended → DoesOn (Demodulates tuning) (Ok link) begun old new ended
+receives_on link tuning r made begun old new ended h = inl (subst (λ rules. Begins (ReceivesToEnd rules) begun old new ended) (new_rules link tuning r made) h)
+
+-- a new transmitter on a link sends
+pub sends_on : (link : Link) (dummy : ℕ) (made told : Transmitter) → made ≡ new_transmitter link → told ≡ record made { dummy_every = dummy } → (begun : Bool) (old new : Streams) (ended : Result Exit Fault)
+    → Begins (SendsBy told) begun old new ended → DoesOn (Modulates dummy) (Ok link) begun old new ended
+sends_on link dummy made told is set begun old new ended h = inl (subst (λ t. Begins (SendsBy t) begun old new ended) (told_transmitter link dummy made told is set) h)
+
+-- a new transmitter on a link sends, and a new receiver of it receives
+pub loops_on : (link : Link) (words : RunWords) (made told : Transmitter) (r : Receiver) → made ≡ new_transmitter link → told ≡ record made { dummy_every = words.dummy } → IsNew link words.tuning r
+    → (begun : Bool) (old new : Streams) (ended : Result Received Fault) → LoopsBy told (rules_for r) words.channel begun old new ended → DoesOn (Loops words) (Ok link) begun old new ended
+loops_on link words made told r is set new_is begun old new ended h =
+    let by_rules = subst (λ rules. LoopsBy told rules words.channel begun old new ended) (new_rules link words.tuning r new_is) h in
+    inl (subst (λ t. LoopsBy t (link_rules link words.tuning max_symbols) words.channel begun old new ended) (told_transmitter link words.dummy made told is set) by_rules)

@@ -19,9 +19,14 @@ pub use Rattle.s2_link.specs.declared.setup.Setup.{Setup}
 pub use Rattle.s2_words.specs.declared.request.NoteWords.{NoteWords}
 pub use Rattle.s2_receive.specs.declared.report.Received.{Received}
 pub use Rattle.s2_evidence.specs.Inputs.{rows_in}
-pub use Rattle.s2_tool.specs.Links.{Causes, LinkCommand, DoesOn, OnLink, link_on}
-pub use Rattle.s2_tool.specs.Looping.{Loops}
+pub use Rattle.s2_mode.specs.Limits.{max_symbols}
+pub use Rattle.s2_link.specs.Tuning.{Tuning}
+pub use Rattle.s2_modem.specs.Reception.{Receiver, IsNew, link_rules, rules_for}
+pub use Rattle.s2_send.specs.Transmitter.{Transmitter, new_transmitter}
+pub use Rattle.s2_words.specs.declared.request.RunWords.{RunWords}
+pub use Rattle.s2_tool.specs.Links.{Begins, Causes, LinkCommand, DoesOn, OnLink, link_on}
+pub use Rattle.s2_tool.specs.Looping.{Loops, LoopsBy}
 pub use Rattle.s2_tool.specs.Losses.{Finishes, exit_by, notes_of}
-pub use Rattle.s2_tool.specs.Receptions.{Demodulates}
-pub use Rattle.s2_tool.specs.Sending.{Modulates}
+pub use Rattle.s2_tool.specs.Receptions.{Demodulates, ReceivesToEnd}
+pub use Rattle.s2_tool.specs.Sending.{Modulates, SendsBy, transmitter_on}
 pub use Rattle.s2_console.specs.declared.fault.Fault.TheVariants as faults

@@ -28,14 +28,18 @@ is_clean t = nat_eq t.skipped 0 && nat_eq t.bad 0 && nat_eq t.incomplete 0
 abbrev pub exit_by : Bool → Received → Exit
 exit_by strict r = if r.all_certified && (not strict || (is_clean r.totals && not (no_sync r))) then exits.Fine else exits.No
 
+-- a number and a noun, which is plural unless the number is 1
+unfoldable pub counted : ℕ → List ℕ → List ℕ
+counted n noun = decimal n ++ (noun ++ (if nat_eq n 1 then [] else codes "s"))
+
 -- N symbols passed over in M places, the first at S
 unfoldable pub skipped_note : Totals → List ℕ
 skipped_note t =
-    (codes "s2: note: " ++ decimal t.skipped) ++ (codes " symbols passed over in " ++ decimal t.places) ++ (codes " places, the first at " ++ decimal t.first) ++ codes "\n"
+    (codes "s2: note: " ++ counted t.skipped (codes " symbol")) ++ (codes " passed over in " ++ counted t.places (codes " place")) ++ (codes ", the first at " ++ decimal t.first) ++ codes "\n"
 
--- the end of the note that no frame was found: whether the mode has pilot blocks, and the number of symbols
+-- the end of the note that no frame was found: whether the mode has pilot blocks, the number of symbols, and advice
 unfoldable pub no_sync_end : Bool → ℕ → List ℕ
-no_sync_end pilots symbols = ((if pilots then codes ", pilots in " else codes " in ") ++ decimal symbols) ++ codes " symbols\n"
+no_sync_end pilots symbols = ((if pilots then codes ", pilots in " else codes " in ") ++ decimal symbols) ++ codes " symbols: try s2 scan\n"
 
 -- no frame of a mode in N symbols
 abbrev pub no_sync_note : Mode → ℕ → List ℕ
@@ -43,7 +47,7 @@ no_sync_note m symbols = codes "s2: note: no frame of " ++ (mode_words m ++ no_s
 
 -- N packets torn
 unfoldable pub incomplete_note : Totals → List ℕ
-incomplete_note t = (codes "s2: note: " ++ decimal t.incomplete) ++ codes " packets torn\n"
+incomplete_note t = (codes "s2: note: " ++ counted t.incomplete (codes " packet")) ++ codes " torn\n"
 
 -- a note if this is so
 abbrev pub note_if : Bool → List ℕ → List ℕ

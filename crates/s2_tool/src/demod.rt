@@ -7,7 +7,7 @@ ghost use Rattle.s2_receive.specs.Receiving.{begun};
 ghost use Rattle.s2_modem.specs.Reception.{rules_for};
 ghost use Rattle.s2_console.specs.Files.{CanStart, reporting};
 ghost use Rattle.s2_console.specs.Screens.{CanNote};
-ghost use Rattle.s2_tool.specs.Links.{Begins, Causes, DoesOn, OnLink, noted_by};
+ghost use Rattle.s2_tool.specs.Links.{Begins, Causes, OnLink, noted_by};
 ghost use Rattle.s2_tool.specs.Receptions.{ReceivesToEnd, Demodulates, DemodExits};
 
 use crate::link_files::LinkFiles;
@@ -22,31 +22,8 @@ use s2_table::read_noted;
 use s2_words::DemodWords;
 use std::alloc::Global;
 
-/// Receives to the end of the symbols. Packets and lines of the report are written frame by frame.
-fn receive_frames<S: CountedRead, P: CountedWrite, O: CountedWrite>(
-    receiver: &mut Receiver<'_>,
-    symbols: &mut S,
-    packets: &mut P,
-    out: &mut O,
-) -> Result<Received, Fault<'static>>
-    requires symbols { CanCount (S.count symbols.old) }
-    requires packets { CanCount (P.count packets.old) }
-    requires out { CanCount (O.count out.old) }
-    requires begun { receiver.old.state ≡ begun }
-    ensures receives { let ends = streams_by S.remaining S.count P.contents P.count O.contents O.count in
-        ReceivesToEnd (rules_for receiver.old)
-        (ends symbols.old packets.old out.old) (ends symbols.new packets.new out.new) result }
-    ensures causes { let ends = streams_by S.remaining S.count P.contents P.count O.contents O.count in
-        Causes (ends symbols.old packets.old out.old) (ends symbols.new packets.new out.new) result }
-{
-    match receiver.run(symbols, packets, out) {
-        Ok(received) => Ok(received),
-        Err(StreamFault::Read) => Err(Fault::Read),
-        Err(StreamFault::Write) => Err(Fault::Write),
-    }
-}
-
-/// Truncates the packets' file, and receives.
+/// Truncates the packets' file, and receives to the end of the symbols. Packets and lines of the report are written frame
+/// by frame.
 pub(crate) fn receive_begun<S: CountedRead, W: Output, O: CountedWrite>(
     receiver: &mut Receiver<'_>,
     symbols: &mut S,
@@ -64,38 +41,17 @@ pub(crate) fn receive_begun<S: CountedRead, W: Output, O: CountedWrite>(
     ensures causes { let ends = streams_by S.remaining S.count W.contents W.count O.contents O.count in
         Causes (ends symbols.old packets.old.to out.old) (ends symbols.new packets.new.to out.new) result }
 {
-    match packets.truncate() {
-        Ok(()) => receive_frames(receiver, symbols, packets.writer(), out),
-        Err(_) => Err(Fault::Write),
+    if packets.truncate().is_err() {
+        return Err(Fault::Write);
+    }
+    match receiver.run(symbols, packets.writer(), out) {
+        Ok(received) => Ok(received),
+        Err(StreamFault::Read) => Err(Fault::Read),
+        Err(StreamFault::Write) => Err(Fault::Write),
     }
 }
 
-/// Receives on a link.
-fn receive_link<S: CountedRead, W: Output, O: CountedWrite>(
-    alloc: Global,
-    link: &Link<'_>,
-    tuning: Tuning,
-    symbols: &mut S,
-    packets: &mut Destination<W>,
-    out: &mut O,
-) -> Result<Received, Fault<'static>>
-    requires symbols { CanCount (S.count symbols.old) }
-    requires packets { CanCount (W.count packets.old.to) }
-    requires unbegun { packets.old.begun ≡ false }
-    requires out { CanCount (O.count out.old) }
-    ensures does { let ends = streams_by S.remaining S.count W.contents W.count O.contents O.count in
-        DoesOn (Demodulates tuning) (Ok link.now) packets.new.begun
-        (ends symbols.old packets.old.to out.old) (ends symbols.new packets.new.to out.new) result }
-    ensures causes { let ends = streams_by S.remaining S.count W.contents W.count O.contents O.count in
-        Causes (ends symbols.old packets.old.to out.old) (ends symbols.new packets.new.to out.new) result }
-{
-    match Receiver::on_link(alloc, link, tuning) {
-        Ok(mut receiver) => receive_begun(&mut receiver, symbols, packets, out),
-        Err(_) => Err(Fault::NoMemory),
-    }
-}
-
-/// Reads rows, and receives.
+/// Reads rows, and receives on their link.
 fn receive_files<R: CountedRead, W: Output, O: CountedWrite, E: CountedWrite>(
     alloc: Global,
     setup: LinkSetup,
@@ -113,14 +69,15 @@ fn receive_files<R: CountedRead, W: Output, O: CountedWrite, E: CountedWrite>(
     let quiet = words.notes.quiet;
     let matrix = read_noted(alloc, &setup.mode, &mut files.rows, quiet, notes)?;
     let link = Link::of(setup, &matrix);
-    receive_link(
-        alloc,
-        &link,
-        words.tuning,
-        &mut files.from,
-        &mut files.to,
-        &mut console.output,
-    )
+    match Receiver::on_link(alloc, &link, words.tuning) {
+        Ok(mut receiver) => receive_begun(
+            &mut receiver,
+            &mut files.from,
+            &mut files.to,
+            &mut console.output,
+        ),
+        Err(_) => Err(Fault::NoMemory),
+    }
 }
 
 /// `demod`: receives the frames of a link to the end of the symbols, writes their packets, and prints a line

@@ -1,8 +1,9 @@
 //! Losses of a received stream: notes after the report, and the exit of a strict command.
-ghost use Rattle.std.specs.Prelude.{◌≡◌, ◌≢◌, ◌+◌, [], IsOk, OnOk, not, nat_eq};
+ghost use Rattle.std.specs.Prelude.{◌≡◌, ◌≢◌, ◌+◌, ◌≤◌, ◌++◌, [], length, IsOk, OnOk, not, nat_eq};
 ghost use Rattle.std.specs.Io.KnownBytes.{Appends};
 ghost use Rattle.s2_mode.specs.Counts.{CanCount, CountsFault};
-ghost use Rattle.s2_tool.specs.Losses.{no_sync, is_clean, exit_by, skipped_note, no_sync_end, no_sync_note, incomplete_note, note_if, notes_of, Finishes};
+ghost use Rattle.s2_console.specs.Lines.{line_room};
+ghost use Rattle.s2_tool.specs.Losses.{counted, no_sync, is_clean, exit_by, skipped_note, no_sync_end, no_sync_note, incomplete_note, note_if, notes_of, Finishes};
 
 use s2_console::{Console, Exit, Fault, Line};
 use s2_mode::{CountedWrite, HEADER_SYMBOLS, Mode, WriteFault, write_full};
@@ -35,15 +36,29 @@ fn exit_by(strict: bool, received: Received) -> Exit
     }
 }
 
+/// Appends words, a number, and a noun, which is plural unless the number is 1.
+#[tactic(auto, unfolding(crate::specs::Losses::counted))]
+fn push_counted(line: &mut Line, words: &str, number: u64, noun: &str)
+    requires { length line.old + (length words.now + 40) + (length noun.now + 1) ≤ line_room }
+    ensures bytes { line.new ≡ line.old ++ (words.now ++ counted number noun.now) }
+    ensures room { length line.new ≤ length line.old + (length words.now + 40) + (length noun.now + 1) }
+{
+    line.push_number(words, number);
+    line.push(noun);
+    if number != 1 {
+        line.push("s");
+    }
+}
+
 /// The note of symbols that were skipped.
 #[tactic(auto, unfolding(crate::specs::Losses::skipped_note))]
 fn skipped_note(totals: Totals) -> Line
     ensures { result ≡ skipped_note totals }
 {
     let mut line = Line::new();
-    line.push_number("s2: note: ", totals.skipped);
-    line.push_number(" symbols passed over in ", totals.places);
-    line.push_number(" places, the first at ", totals.first);
+    push_counted(&mut line, "s2: note: ", totals.skipped, " symbol");
+    push_counted(&mut line, " passed over in ", totals.places, " place");
+    line.push_number(", the first at ", totals.first);
     line.push("\n");
     line
 }
@@ -54,8 +69,8 @@ fn incomplete_note(totals: Totals) -> Line
     ensures { result ≡ incomplete_note totals }
 {
     let mut line = Line::new();
-    line.push_number("s2: note: ", totals.incomplete);
-    line.push(" packets torn\n");
+    push_counted(&mut line, "s2: note: ", totals.incomplete, " packet");
+    line.push(" torn\n");
     line
 }
 
@@ -66,7 +81,7 @@ fn no_sync_end(pilots: bool, symbols: u64) -> Line
 {
     let mut line = Line::new();
     line.push_number(if pilots { ", pilots in " } else { " in " }, symbols);
-    line.push(" symbols\n");
+    line.push(" symbols: try s2 scan\n");
     line
 }
 

@@ -3,6 +3,7 @@
 
 mod demod;
 mod link_files;
+mod link_request;
 mod losses;
 mod modulate;
 mod noise;
@@ -11,11 +12,21 @@ mod rows;
 mod run;
 mod serve;
 
+use crate::opening::{errors_of, screen_beside};
+use crate::serve::{explain, request_of, run_request, words_given, written_by};
 use s2_progress::Terminal;
-use serve::serve;
 use std::process::ExitCode;
 
 fn main(rt: HostRuntime) -> ExitCode {
     let terminal = Terminal::new(&rt);
-    serve(&rt, &terminal).code()
+    let words = words_given(&rt);
+    let exit = match request_of(rt.alloc(), &words) {
+        Ok(request) => {
+            let mut screen = screen_beside(&terminal, written_by(&request));
+            let mut notes = errors_of(&terminal);
+            run_request(&rt, &terminal, &request, &mut screen, &mut notes)
+        }
+        Err(error) => explain(&rt, &terminal, &error),
+    };
+    exit.code()
 }

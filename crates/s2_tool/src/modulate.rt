@@ -5,7 +5,7 @@ ghost use Rattle.s2_mode.specs.Streams.{streams_by};
 ghost use Rattle.s2_link.specs.Link.{setup_of};
 ghost use Rattle.s2_console.specs.Files.{CanStart, reporting};
 ghost use Rattle.s2_console.specs.Screens.{CanNote};
-ghost use Rattle.s2_tool.specs.Links.{Begins, Causes, DoesOn, OnLink, noted_by};
+ghost use Rattle.s2_tool.specs.Links.{Begins, Causes, OnLink, noted_by};
 ghost use Rattle.s2_tool.specs.Sending.{sent_line, refusal_fault, SendsBy, Modulates, ModExits};
 
 use crate::link_files::LinkFiles;
@@ -42,28 +42,7 @@ pub(crate) fn fault_of(refusal: SendFault) -> Fault<'static>
     }
 }
 
-/// Sends packets, and prints the counts.
-fn send_packets<S: CountedRead, W: CountedWrite, O: CountedWrite>(
-    transmitter: &mut Transmitter<'_>,
-    packets: &mut S,
-    symbols: &mut W,
-    out: &mut O,
-) -> Result<Exit, Fault<'static>>
-    requires packets { CanCount (S.count packets.old) }
-    requires symbols { CanCount (W.count symbols.old) }
-    requires out { CanCount (O.count out.old) }
-    ensures sends { let ends = streams_by S.remaining S.count W.contents W.count O.contents O.count in
-        SendsBy transmitter.old (ends packets.old symbols.old out.old) (ends packets.new symbols.new out.new) result }
-    ensures causes { let ends = streams_by S.remaining S.count W.contents W.count O.contents O.count in
-        Causes (ends packets.old symbols.old out.old) (ends packets.new symbols.new out.new) result }
-{
-    match transmitter.run(packets, symbols) {
-        Ok(counts) => print(out, Exit::Fine, sent_line(counts).as_bytes()),
-        Err(refusal) => Err(fault_of(refusal)),
-    }
-}
-
-/// Truncates the symbols' file, and sends packets.
+/// Truncates the symbols' file, sends packets, and prints the counts.
 fn send_begun<S: CountedRead, W: Output, O: CountedWrite>(
     transmitter: &mut Transmitter<'_>,
     packets: &mut S,
@@ -80,41 +59,16 @@ fn send_begun<S: CountedRead, W: Output, O: CountedWrite>(
     ensures causes { let ends = streams_by S.remaining S.count W.contents W.count O.contents O.count in
         Causes (ends packets.old symbols.old.to out.old) (ends packets.new symbols.new.to out.new) result }
 {
-    match symbols.truncate() {
-        Ok(()) => send_packets(transmitter, packets, symbols.writer(), out),
-        Err(_) => Err(Fault::Write),
+    if symbols.truncate().is_err() {
+        return Err(Fault::Write);
+    }
+    match transmitter.run(packets, symbols.writer()) {
+        Ok(counts) => print(out, Exit::Fine, sent_line(counts).as_bytes()),
+        Err(refusal) => Err(fault_of(refusal)),
     }
 }
 
-/// Sends packets on a link, with a dummy frame after every n-th frame.
-fn send_link<S: CountedRead, W: Output, O: CountedWrite>(
-    alloc: Global,
-    link: &Link<'_>,
-    dummy: u16,
-    packets: &mut S,
-    symbols: &mut Destination<W>,
-    out: &mut O,
-) -> Result<Exit, Fault<'static>>
-    requires packets { CanCount (S.count packets.old) }
-    requires symbols { CanCount (W.count symbols.old.to) }
-    requires unbegun { symbols.old.begun ≡ false }
-    requires out { CanCount (O.count out.old) }
-    ensures does { let ends = streams_by S.remaining S.count W.contents W.count O.contents O.count in
-        DoesOn (Modulates dummy) (Ok link.now) symbols.new.begun
-        (ends packets.old symbols.old.to out.old) (ends packets.new symbols.new.to out.new) result }
-    ensures causes { let ends = streams_by S.remaining S.count W.contents W.count O.contents O.count in
-        Causes (ends packets.old symbols.old.to out.old) (ends packets.new symbols.new.to out.new) result }
-{
-    match Transmitter::on_link(alloc, link) {
-        Ok(mut transmitter) => {
-            transmitter.dummy_every(dummy);
-            send_begun(&mut transmitter, packets, symbols, out)
-        }
-        Err(_) => Err(Fault::NoMemory),
-    }
-}
-
-/// Reads rows, and sends packets.
+/// Reads rows, and sends packets on their link, with dummy frames if the options say so.
 fn send_files<R: CountedRead, W: Output, O: CountedWrite, E: CountedWrite>(
     alloc: Global,
     setup: LinkSetup,
@@ -131,14 +85,18 @@ fn send_files<R: CountedRead, W: Output, O: CountedWrite, E: CountedWrite>(
 {
     let matrix = read_noted(alloc, &setup.mode, &mut files.rows, words.quiet, notes)?;
     let link = Link::of(setup, &matrix);
-    send_link(
-        alloc,
-        &link,
-        words.dummy,
-        &mut files.from,
-        &mut files.to,
-        &mut console.output,
-    )
+    match Transmitter::on_link(alloc, &link) {
+        Ok(mut transmitter) => {
+            transmitter.dummy_every(words.dummy);
+            send_begun(
+                &mut transmitter,
+                &mut files.from,
+                &mut files.to,
+                &mut console.output,
+            )
+        }
+        Err(_) => Err(Fault::NoMemory),
+    }
 }
 
 /// `mod`: sends the packets of a stream on the link of a setup and a row file, with a dummy frame after every

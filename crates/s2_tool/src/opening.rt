@@ -1,4 +1,4 @@
-//! Opens files in the order of the command line, and the command's output.
+//! Opens files in the order of the command line, and the command's output. Shows its progress.
 ghost use Rattle.std.specs.Prelude.{◌≡◌, ◌≤◌, false, IfOk, IfSome, OnOk, [], length};
 ghost use Rattle.s2_console.specs.Files.{CanStart};
 ghost use Rattle.s2_console.specs.Screens.{CanNote};
@@ -10,8 +10,8 @@ use s2_console::{Console, Fault};
 use s2_evidence::JudgeFiles;
 use s2_files::{Destination, Disk, Opener, Reader, Role, StandardStreams, Target, is_standard};
 use s2_mode::Counting;
-use s2_progress::{Clearing, Meter, Show, Terminal, Watched};
-use s2_words::JudgeWords;
+use s2_progress::{Clearing, Meter, Pace, Show, Terminal, Watched};
+use s2_words::{JoinWords, JudgeWords, Progress};
 use std::rt::Files;
 use std::time::Clock;
 
@@ -59,6 +59,20 @@ pub(crate) fn screen_beside<'t, 'r, R: Disk>(
     };
     let output = Clearing::new(Counting::new(report), terminal);
     Console::new(output, errors_of(terminal))
+}
+
+/// Shows how far a command is, if that is wanted.
+pub(crate) fn show_on<'t, 'r, R: Disk + Clock>(
+    terminal: &'t Terminal<'r, R>,
+    pace: Pace,
+    progress: Progress,
+) -> Show<'t, 'r, R> {
+    let wanted = match progress {
+        Progress::Shown => true,
+        Progress::OnTerminal => terminal.is_there(),
+        Progress::Hidden => false,
+    };
+    Show::new(terminal, pace, wanted)
 }
 
 /// Opens a file that is read alone.
@@ -169,4 +183,20 @@ pub(crate) fn open_noise<'a, 'm, 't, 'r, R: Disk + Clock + AllocGlobal>(
         Watched::new(from, show),
         Destination::new(Watched::new(to, show)),
     ))
+}
+
+/// Opens the files of `join`: BBFRAMEs with a buffer, and packets. The packets of a frame are written at once, so they
+/// have none.
+pub(crate) fn open_join<'a, R: Disk + AllocGlobal>(
+    rt: &R,
+    words: &JoinWords<'a>,
+) -> Result<(Input<R>, Destination<Written<R>>), Fault<'a>>
+    ensures from { IfOk result (λ files. files.0.failed ≡ 0) }
+    ensures unbegun { IfOk result (λ files. files.1.begun ≡ false) }
+    ensures to { IfOk result (λ files. files.1.to.failed ≡ 0) }
+{
+    let mut opener = Opener::new(rt);
+    let bbframes = opener.read_buffered(words.bbframes)?;
+    let packets = opener.write(words.packets)?;
+    Ok((bbframes, Destination::new(packets)))
 }

@@ -7,8 +7,8 @@ ghost use Rattle.s2_receive.specs.Receiving.{begun};
 ghost use Rattle.s2_modem.specs.Reception.{rules_for};
 ghost use Rattle.s2_console.specs.Files.{CanStart, reporting};
 ghost use Rattle.s2_console.specs.Screens.{CanNote};
-ghost use Rattle.s2_tool.specs.Links.{Causes, DoesOn, OnLink, noted_by};
-ghost use Rattle.s2_tool.specs.Looping.{kept_fault, ReceivesWithNoise, LoopsBy, Loops, RunExits};
+ghost use Rattle.s2_tool.specs.Links.{Causes, OnLink, noted_by};
+ghost use Rattle.s2_tool.specs.Looping.{kept_fault, LoopsBy, Loops, RunExits};
 
 use crate::demod::receive_begun;
 use crate::link_files::LinkFiles;
@@ -36,38 +36,7 @@ fn kept_fault(fault: Fault<'static>) -> Fault<'static>
     }
 }
 
-/// Adds noise to symbols, and receives the result.
-fn receive_noisy<W: Output, O: CountedWrite>(
-    alloc: Global,
-    receiver: &mut Receiver<'_>,
-    channel: ChannelWords,
-    symbols: &[u8],
-    packets: &mut Destination<W>,
-    out: &mut O,
-) -> Result<Received, Fault<'static>>
-    requires packets { CanCount (W.count packets.old.to) }
-    requires unbegun { packets.old.begun ≡ false }
-    requires out { CanCount (O.count out.old) }
-    requires begun { receiver.old.state ≡ begun }
-    ensures receives { let ends = streams_by (λ b. Some b) (λ b. 0) W.contents W.count O.contents O.count in
-        ReceivesWithNoise (rules_for receiver.old) channel symbols.now packets.new.begun
-        (ends symbols.now packets.old.to out.old) (ends symbols.now packets.new.to out.new) result }
-    ensures causes { let ends = streams_by (λ b. Some b) (λ b. 0) W.contents W.count O.contents O.count in
-        Causes (ends symbols.now packets.old.to out.old) (ends symbols.now packets.new.to out.new) result }
-{
-    let mut noisy = Counting::new(Vec::new(alloc));
-    match add_noise(channel, &mut InMemory::new(symbols), &mut noisy) {
-        Ok(_) => receive_begun(
-            receiver,
-            &mut InMemory::new(&noisy.into_inner()),
-            packets,
-            out,
-        ),
-        Err(fault) => Err(kept_fault(fault)),
-    }
-}
-
-/// Sends packets into memory, and receives their symbols.
+/// Sends packets into memory, adds noise to their symbols, and receives the result.
 fn loop_packets<S: CountedRead, W: Output, O: CountedWrite>(
     alloc: Global,
     transmitter: &mut Transmitter<'_>,
@@ -89,50 +58,18 @@ fn loop_packets<S: CountedRead, W: Output, O: CountedWrite>(
         Causes (ends from.old to.old.to out.old) (ends from.new to.new.to out.new) result }
 {
     let mut symbols = Counting::new(Vec::new(alloc));
-    match transmitter.run(from, &mut symbols) {
-        Ok(_) => receive_noisy(alloc, receiver, channel, &symbols.into_inner(), to, out),
-        Err(refusal) => Err(kept_fault(fault_of(refusal))),
+    if let Err(refusal) = transmitter.run(from, &mut symbols) {
+        return Err(kept_fault(fault_of(refusal)));
+    }
+    let symbols = symbols.into_inner();
+    let mut noisy = Counting::new(Vec::new(alloc));
+    match add_noise(channel, &mut InMemory::new(&symbols), &mut noisy) {
+        Ok(_) => receive_begun(receiver, &mut InMemory::new(&noisy.into_inner()), to, out),
+        Err(fault) => Err(kept_fault(fault)),
     }
 }
 
-/// Sends packets on a link according to the options, and receives the result.
-fn loop_link<S: CountedRead, W: Output, O: CountedWrite>(
-    alloc: Global,
-    link: &Link<'_>,
-    words: &RunWords<'_>,
-    from: &mut S,
-    to: &mut Destination<W>,
-    out: &mut O,
-) -> Result<Received, Fault<'static>>
-    requires from { CanCount (S.count from.old) }
-    requires to { CanCount (W.count to.old.to) }
-    requires unbegun { to.old.begun ≡ false }
-    requires out { CanCount (O.count out.old) }
-    ensures does { let ends = streams_by S.remaining S.count W.contents W.count O.contents O.count in
-        DoesOn (Loops words.now) (Ok link.now) to.new.begun
-        (ends from.old to.old.to out.old) (ends from.new to.new.to out.new) result }
-    ensures causes { let ends = streams_by S.remaining S.count W.contents W.count O.contents O.count in
-        Causes (ends from.old to.old.to out.old) (ends from.new to.new.to out.new) result }
-{
-    let Ok(mut transmitter) = Transmitter::on_link(alloc, link) else {
-        return Err(Fault::NoMemory);
-    };
-    transmitter.dummy_every(words.dummy);
-    match Receiver::on_link(alloc, link, words.tuning) {
-        Ok(mut receiver) => loop_packets(
-            alloc,
-            &mut transmitter,
-            &mut receiver,
-            words.channel,
-            from,
-            to,
-            out,
-        ),
-        Err(_) => Err(Fault::NoMemory),
-    }
-}
-
-/// Reads rows, sends packets, and receives the result.
+/// Reads rows, sends packets on their link according to the options, and receives the result.
 fn loop_files<R: CountedRead, W: Output, O: CountedWrite, E: CountedWrite>(
     alloc: Global,
     setup: LinkSetup,
@@ -150,14 +87,22 @@ fn loop_files<R: CountedRead, W: Output, O: CountedWrite, E: CountedWrite>(
     let quiet = words.notes.quiet;
     let matrix = read_noted(alloc, &setup.mode, &mut files.rows, quiet, notes)?;
     let link = Link::of(setup, &matrix);
-    loop_link(
-        alloc,
-        &link,
-        words,
-        &mut files.from,
-        &mut files.to,
-        &mut console.output,
-    )
+    let Ok(mut transmitter) = Transmitter::on_link(alloc, &link) else {
+        return Err(Fault::NoMemory);
+    };
+    transmitter.dummy_every(words.dummy);
+    match Receiver::on_link(alloc, &link, words.tuning) {
+        Ok(mut receiver) => loop_packets(
+            alloc,
+            &mut transmitter,
+            &mut receiver,
+            words.channel,
+            &mut files.from,
+            &mut files.to,
+            &mut console.output,
+        ),
+        Err(_) => Err(Fault::NoMemory),
+    }
 }
 
 /// `run`: sends the packets of a stream on the link of a setup and a row file, with dummy frames if the options say so.

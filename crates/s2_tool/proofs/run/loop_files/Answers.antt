@@ -1,5 +1,5 @@
-use Rattle.s2_tool.proofs.Names.{rules, sym, ap, refl, Err, err_from_is_err_and, setup_of, Loops}
-use Rattle.s2_tool.proofs.LinkLemmas.{without_rows, on_rows}
+use Rattle.s2_tool.proofs.Names.{rules, sym, err_from_is_err_and, setup_of, Loops}
+use Rattle.s2_tool.proofs.LinkLemmas.{without_rows, on_rows, without_memory, loops_on}
 use Rattle.s2_tool.proofs.run.loop_files.Goals as goal
 
 pub returns-in_err-matrix-clause-run : goal.returns-in_err-matrix-clause-run
@@ -8,7 +8,13 @@ returns-in_err-matrix-clause-run g c =
     let f = c.in_err-matrix.field-0.0 in
     rw (sym c.files.view_is, p.1, p.2) (without_rows (Loops c.args.words.now) _ (setup_of c.args.setup) _ _ f _ c.in_err-matrix.ensures.rows c.in_err-matrix.ensures.noted (search rules) (search rules) (search rules) (search rules))
 
+pub returns-in-Ok-on_link-clause-run : goal.returns-in-Ok-on_link-clause-run
+returns-in-Ok-on_link-clause-run g c =
+    rw (sym c.files.view_is, sym c.console.view_is) (on_rows (Loops c.args.words.now) _ (setup_of c.args.setup) _ _ c.in_ok-matrix.matrix c.of-link.result _ _ c.loop_packets.result c.in_ok-matrix.ensures.rows
+    c.in_ok-matrix.ensures.noted c.of-link.ensures (c.in_ok-matrix.ensures.no_other (λ e. cc))
+    (loops_on c.of-link.result c.args.words.now c.in-Ok.transmitter c.dummy_every.new.self c.in-Ok-on_link.receiver c.in-Ok.ensures.is c.dummy_every.ensures c.in-Ok-on_link.ensures _ _ _ _ c.loop_packets.ensures.loops) c.loop_packets.ensures.causes)
+
 pub returns-clause-run : goal.returns-clause-run
 returns-clause-run g c =
-    rw (sym c.files.view_is, sym c.console.view_is) (on_rows (Loops c.args.words.now) _ (setup_of c.args.setup) _ _ c.in_ok-matrix.matrix c.of-link.result _ _ c.loop_link.result c.in_ok-matrix.ensures.rows
-    c.in_ok-matrix.ensures.noted c.of-link.ensures (c.in_ok-matrix.ensures.no_other (λ e. cc)) c.loop_link.ensures.does c.loop_link.ensures.causes)
+    rw (sym c.files.view_is, sym c.console.view_is) (without_memory (Loops c.args.words.now) _ (setup_of c.args.setup) _ _ c.in_ok-matrix.matrix c.of-link.result _ c.in_ok-matrix.ensures.rows
+    c.in_ok-matrix.ensures.noted c.of-link.ensures (c.in_ok-matrix.ensures.no_other (λ e. cc)) (search rules))

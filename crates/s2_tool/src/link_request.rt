@@ -1,0 +1,108 @@
+//! The commands on a link: what each needs of its words, and how it runs on its files. This is plain code.
+ghost use Rattle.std.specs.Prelude.{OnErr};
+ghost use Rattle.s2_mode.specs.Counts.{CanCount};
+ghost use Rattle.s2_console.specs.Screens.{CanNote};
+
+use crate::demod::demod_command;
+use crate::modulate::mod_command;
+use crate::opening::{open_link, show_on};
+use crate::run::run_command;
+use crate::serve::mode_of;
+use s2_console::{Console, Exit, Fault};
+use s2_files::Disk;
+use s2_link::LinkSetup;
+use s2_mode::{CountedWrite, Mode};
+use s2_progress::{Pace, Show, Terminal};
+use s2_words::{DemodWords, LinkWords, ModWords, Progress, RunWords};
+use std::time::Clock;
+
+/// A request that works on a link, by its words.
+#[derive(Clone, Copy)]
+pub(crate) enum LinkRequest<'w, 'a> {
+    Mod(&'w ModWords<'a>),
+    Demod(&'w DemodWords<'a>),
+    Run(&'w RunWords<'a>),
+}
+
+impl<'w, 'a> LinkRequest<'w, 'a> {
+    /// The options of its link.
+    fn link(self) -> LinkWords {
+        match self {
+            LinkRequest::Mod(words) => words.link,
+            LinkRequest::Demod(words) => words.link,
+            LinkRequest::Run(words) => words.link,
+        }
+    }
+
+    /// The names of its row file, its input and its output, in the order in which they are opened.
+    fn names(self) -> [&'a str; 3] {
+        match self {
+            LinkRequest::Mod(words) => [words.rows, words.packets, words.symbols],
+            LinkRequest::Demod(words) => [words.rows, words.symbols, words.packets],
+            LinkRequest::Run(words) => [words.rows, words.packets, words.to],
+        }
+    }
+
+    /// Whether its input has a buffer. `demod` reads many bytes at a time, so its symbols have none.
+    fn is_buffered(self) -> bool {
+        match self {
+            LinkRequest::Mod(_) | LinkRequest::Run(_) => true,
+            LinkRequest::Demod(_) => false,
+        }
+    }
+
+    /// Which of its bytes the progress line counts.
+    fn pace(self, mode: &Mode) -> Pace {
+        let frame = mode.symbols() as u64;
+        match self {
+            LinkRequest::Mod(_) => Pace::Sending { frame },
+            LinkRequest::Demod(_) => Pace::Receiving { frame },
+            LinkRequest::Run(_) => Pace::Looping,
+        }
+    }
+
+    /// Whether the progress line is shown.
+    fn progress(self) -> Progress {
+        match self {
+            LinkRequest::Mod(words) => words.progress,
+            LinkRequest::Demod(words) => words.progress,
+            LinkRequest::Run(words) => words.progress,
+        }
+    }
+}
+
+/// The setup of a link's options.
+fn setup_of(words: LinkWords) -> Result<LinkSetup, Fault<'static>> {
+    Ok(LinkSetup {
+        mode: mode_of(words.modcod, words.short, words.pilots)?,
+        number: words.number,
+        roll_off: words.roll_off,
+    })
+}
+
+/// Opens the files of a request on a link, and runs its command on them. `notes` takes the notes before a report.
+pub(crate) fn with_link<'a, R: Disk + Clock + AllocGlobal, O: CountedWrite, E: CountedWrite>(
+    rt: &R,
+    terminal: &Terminal<'_, R>,
+    request: LinkRequest<'_, 'a>,
+    console: &mut Console<O, E>,
+    notes: &mut E,
+) -> Result<Exit, Fault<'a>>
+    requires console { CanNote console.old }
+    requires notes { CanCount (E.count notes.old) }
+    ensures { OnErr result (CanCount console.new.errors_failed) }
+{
+    let setup = setup_of(request.link())?;
+    let pace = request.pace(&setup.mode);
+    let show = show_on(terminal, pace, request.progress());
+    let unseen = Show::new(terminal, pace, false);
+    let mut files = open_link(rt, &show, &unseen, request.names(), request.is_buffered())?;
+    let alloc = rt.alloc();
+    let exit = match request {
+        LinkRequest::Mod(words) => mod_command(alloc, setup, words, &mut files, console, notes),
+        LinkRequest::Demod(words) => demod_command(alloc, setup, words, &mut files, console, notes),
+        LinkRequest::Run(words) => run_command(alloc, setup, words, &mut files, console, notes),
+    };
+    show.finish();
+    Ok(exit)
+}
