@@ -17,14 +17,18 @@
 #![tactic(auto)]
 
 mod check;
+mod check_each;
 mod decision;
 mod files;
 mod judge;
 mod lines;
+mod next;
 mod own;
 mod reading;
+mod sizes;
 
 pub use check::check_command;
+pub use check_each::check_each_command;
 pub use files::JudgeFiles;
 pub use judge::judge_command;
 pub use own::{TOY_ROWS, self_command};
