@@ -192,9 +192,11 @@ pub grows : (before mid after : Option (List ℕ)) (rows : Rows) (file : File) (
     → (more : List File) × (length more ≡ count + 1) × AnsweredSoFar before after rows (file ∷ more) all old newer
 grows before mid after rows file others exit old new newer next all count so number h is =
     let (same, wrote) = h.wrote in
-    let now = one_more before mid after rows (file ∷ others) exit old new newer h.file h.exit h.line so h.read h.said wrote in
-    (others ++ h.file ∷ [], length-append others (h.file ∷ []) ∙ ap (λ n. n + 1) number,
-    subst (λ (e : Exit). AnsweredSoFar before after rows (file ∷ (others ++ h.file ∷ [])) e old newer) (ap (worse exit) (sym same) ∙ sym is) now)
+    let now = one_more before mid after rows (file ∷ others) exit old new newer h.file h.exit h.line so h.read h.said wrote in (
+      others ++ h.file ∷ [],
+      length-append others (h.file ∷ []) ∙ ap (λ n. n + 1) number,
+      subst (λ (e : Exit). AnsweredSoFar before after rows (file ∷ (others ++ h.file ∷ [])) e old newer) (ap (worse exit) (sym same) ∙ sym is) now,
+    )
 
 -- there are more than can be counted
 pub stops_full : (known before mid : Option (List ℕ)) (rows : Rows) (file : File) (others : List File) (exit : Exit) (old new : Option (List ℕ))
@@ -210,8 +212,8 @@ stops_full known before mid rows file others exit old new so are full =
 rows_by : (bytes text : List ℕ) (shape : Shape) → taken bytes ≡ Ok text → rows_in shape bytes ≡ rows_said shape (row_files.rows_of_text text shape)
 rows_by bytes text shape h =
     elim (cases_Bool (nat_le (length bytes) max_bytes)) [
-      inl fits ↦ (let h' = rw fits at h in let same : bytes ≡ text = cc in rw fits (ap (λ t. rows_said shape (row_files.rows_of_text t shape)) same))
-    | inr over ↦ (let h' = rw over at h in cc)
+      | inl fits ↦ (let h' = rw fits at h in let same : bytes ≡ text = cc in rw fits (ap (λ t. rows_said shape (row_files.rows_of_text t shape)) same))
+      | inr over ↦ (let h' = rw over at h in cc)
     ]
 
 pub rows_as_said : (known : Option (List ℕ)) (text : List ℕ) (shape : Shape) (said : Result Rows Fault) → IfSome known (λ xs. taken xs ≡ Ok text) → rows_said shape (row_files.rows_of_text text shape) ≡ said

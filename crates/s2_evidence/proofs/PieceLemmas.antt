@@ -98,8 +98,8 @@ module _ (IsFine : CertFault → Type 0) (magic : IsFine faults.Magic) (shape_fi
   version_then : {A : Type 0} (byte : ℕ) (rest : List ℕ) (f : Version × List ℕ → Result A CertFault) → Whole IsFine (f (version_for byte, rest)) → Whole IsFine (version_at (byte ∷ rest) >>= f)
   version_then byte rest f h =
       elim (cases_Bool (byte == 1)) [
-        inl same ↦ (let h' = rw same at h in rw same h')
-      | inr other ↦ (let h' = rw other at h in elim (cases_Bool (byte == 2)) [ inl two ↦ rw (other, two) h' | inr neither ↦ rw (other, neither) magic ])
+        | inl same ↦ (let h' = rw same at h in rw same h')
+        | inr other ↦ (let h' = rw other at h in elim (cases_Bool (byte == 2)) [ inl two ↦ rw (other, two) h' | inr neither ↦ rw (other, neither) magic ])
       ]
 
   front_then : {A : Type 0} (b0 b1 b2 b3 b4 : ℕ) (rest : List ℕ) (f : Version × List ℕ → Result A CertFault) → Whole IsFine (f (version_for b4, rest)) → Whole IsFine (front_at (b0 ∷ b1 ∷ b2 ∷ b3 ∷ b4 ∷ rest) >>= f)
@@ -119,8 +119,8 @@ module _ (IsFine : CertFault → Type 0) (magic : IsFine faults.Magic) (shape_fi
       → (is_shape h.shape ≡ true → is_ranged h ≡ true → Whole IsFine (f (h, rest))) → Whole IsFine (ranged h rest >>= f)
   ranged_then h rest f k =
       elim (cases_Bool (is_shape h.shape)) [
-        inl shape ↦ elim (cases_Bool (is_ranged h)) [ inl ranged ↦ rw (shape, ranged) (k shape ranged) | inr none ↦ rw (shape, none) range ]
-      | inr none ↦ rw none shape_fine
+        | inl shape ↦ elim (cases_Bool (is_ranged h)) [ inl ranged ↦ rw (shape, ranged) (k shape ranged) | inr none ↦ rw (shape, none) range ]
+        | inr none ↦ rw none shape_fine
       ]
 
   header_then : {A : Type 0} (v : Version) (g0 g1 i0 i1 q0 q1 s0 s1 : ℕ) (tail : List ℕ) (f : FileHeader × List ℕ → Result A CertFault)
@@ -178,8 +178,8 @@ module _ (IsFine : CertFault → Type 0) (magic : IsFine faults.Magic) (shape_fi
       let s = shape_of (two b5 b6) (two b7 b8) (two b9 b10) in
       let n = code_bits s in
       elim (cases_Bool (b4 == 1)) [
-        inl one ↦ listed_whole b0 b1 b2 b3 b4 b5 b6 b7 b8 b9 b10 b11 b12 b13 b14 b15 b16 more one (λ shaped few. listed_size all (length more) n ((n + 7) / 8) (four b13 b14 b15 b16) d size (listed (eq_one b4 one) shaped few))
-      | inr other ↦ moved_whole b0 b1 b2 b3 b4 b5 b6 b7 b8 b9 b10 b11 b12 b13 b14 b15 b16 more other (λ shaped. moved_size all (length more) n ((n + 7) / 8) (check_count s) d size (moved (not_one b4 other) shaped))
+        | inl one ↦ listed_whole b0 b1 b2 b3 b4 b5 b6 b7 b8 b9 b10 b11 b12 b13 b14 b15 b16 more one (λ shaped few. listed_size all (length more) n ((n + 7) / 8) (four b13 b14 b15 b16) d size (listed (eq_one b4 one) shaped few))
+        | inr other ↦ moved_whole b0 b1 b2 b3 b4 b5 b6 b7 b8 b9 b10 b11 b12 b13 b14 b15 b16 more other (λ shaped. moved_size all (length more) n ((n + 7) / 8) (check_count s) d size (moved (not_one b4 other) shaped))
       ]
 
   of_itself : (bytes : List ℕ) → 17 ≤ length bytes → Fits d (take 17 bytes) bytes → Whole IsFine (file_of_bytes bytes)
@@ -221,8 +221,8 @@ version_any : {A : Type 0} (bytes : List ℕ) (f : Version × List ℕ → Resul
 version_any [] f k = tt
 version_any (byte ∷ rest) f k =
     elim (cases_Bool (byte == 1)) [
-      inl same ↦ rw same (k versions.Listed rest (omega arith))
-    | inr other ↦ elim (cases_Bool (byte == 2)) [ inl two ↦ rw (other, two) (k versions.Moved rest (omega arith)) | inr neither ↦ rw (other, neither) tt ]
+      | inl same ↦ rw same (k versions.Listed rest (omega arith))
+      | inr other ↦ elim (cases_Bool (byte == 2)) [ inl two ↦ rw (other, two) (k versions.Moved rest (omega arith)) | inr neither ↦ rw (other, neither) tt ]
     ]
 
 front_any : {A : Type 0} (bytes : List ℕ) (f : Version × List ℕ → Result A CertFault) → ((v : Version) (rest : List ℕ) → length bytes ≡ 5 + length rest → Whole IsShort (f (v, rest))) → Whole IsShort (front_at bytes >>= f)
@@ -237,8 +237,8 @@ front_any bytes f k =
 number_any : {A : Type 0} (w : Width) (bytes : List ℕ) (f : ℕ × List ℕ → Result A CertFault) → ((n : ℕ) (rest : List ℕ) → byte_len w + length rest ≡ length bytes → Whole IsShort (f (n, rest))) → Whole IsShort (number_at w bytes >>= f)
 number_any w bytes f k =
     elim (cases_Bool (ltb (length bytes) (byte_len w))) [
-      inl few ↦ rw few tt
-    | inr enough ↦ rw enough (k _ (drop (byte_len w) bytes) (omega (arith, length-drop (byte_len w) bytes, ltb-false (length bytes) (byte_len w) enough)))
+      | inl few ↦ rw few tt
+      | inr enough ↦ rw enough (k _ (drop (byte_len w) bytes) (omega (arith, length-drop (byte_len w) bytes, ltb-false (length bytes) (byte_len w) enough)))
     ]
 
 count_any : {A : Type 0} (v : Version) (s : Shape) (bytes : List ℕ) (f : ℕ × List ℕ → Result A CertFault) → ((n : ℕ) (rest : List ℕ) → length rest ≤ length bytes → Whole IsShort (f (n, rest))) → Whole IsShort (count_at v s bytes >>= f)
@@ -248,8 +248,8 @@ count_any versions.Moved s bytes f k = k (check_count s) bytes (omega arith)
 ranged_any : {A : Type 0} (h : FileHeader) (rest : List ℕ) (f : FileHeader × List ℕ → Result A CertFault) → (is_shape h.shape ≡ true → Whole IsShort (f (h, rest))) → Whole IsShort (ranged h rest >>= f)
 ranged_any h rest f k =
     elim (cases_Bool (is_shape h.shape)) [
-      inl shape ↦ elim (cases_Bool (is_ranged h)) [ inl range ↦ rw (shape, range) (k shape) | inr none ↦ rw (shape, none) tt ]
-    | inr none ↦ rw none tt
+      | inl shape ↦ elim (cases_Bool (is_ranged h)) [ inl range ↦ rw (shape, range) (k shape) | inr none ↦ rw (shape, none) tt ]
+      | inr none ↦ rw none tt
     ]
 
 header_any : {A : Type 0} (v : Version) (bytes : List ℕ) (f : FileHeader × List ℕ → Result A CertFault)

@@ -45,7 +45,7 @@ abbrev pub AreRowsRefused : Option (List ℕ) → Option (List ℕ) → Option (
 AreRowsRefused known before after fault = IfSome known (λ xs. (taken xs ≡ Err fault)
     ⊎ ((file : File) × TakesPiece before after (Ok (Some file)) × (rows_in file.shape xs ≡ Err fault)))
 
--- why no more lines are printed, if no writer failed: of the certificates, of the rows, or of both there are too many
+-- why no more lines are printed if no writer failed: a fault of the next certificate, refused rows, or too many certificates
 abbrev pub Stops : Option (List ℕ) → Option (List ℕ) → Option (List ℕ) → List File → Fault → Type 0
 Stops known before after files fault = TakesPiece before after (Err fault)
     ⊎ (((files ≡ []) × AreRowsRefused known before after fault) ⊎ ((length files ≡ max_each) × (fault ≡ faults.TooLong)))

@@ -13,20 +13,23 @@ pub returns-then-head-ne1-clause-piece : goal.returns-then-head-ne1-clause-piece
 returns-then-head-ne1-clause-piece c = λ bytes missing front long size.
     let same : c.in-Some.shape ≡ shape_at c.args.head.now =
     c.in-Some.ensures.value ∙ numbers_same c.number16.result c.number16-2.result c.number16-3.result _ _ _ c.number16.ensures c.number16-2.ensures c.number16-3.ensures in
-    headed bytes c.args.head.now missing front long
-    (λ other shaped. size ∙ ap₂ (λ n k. 13 + (2 * n + (n + 7) / 8) + 6 * k) (c.n-n.ensures.is ∙ ap code_bits same) (c.checks.ensures.is ∙ ap check_count same),
-    λ one. absurd (c.if-head-ne1.true one))
+    headed bytes c.args.head.now missing front long (
+      λ other shaped. size ∙ ap₂ (λ n k. 13 + (2 * n + (n + 7) / 8) + 6 * k) (c.n-n.ensures.is ∙ ap code_bits same) (c.checks.ensures.is ∙ ap check_count same),
+      λ one. absurd (c.if-head-ne1.true one),
+    )
 
 pub returns-then-count-gt-MAX_SHARES-clause-piece : goal.returns-then-count-gt-MAX_SHARES-clause-piece
 returns-then-count-gt-MAX_SHARES-clause-piece c = λ bytes missing front long size.
-    headed bytes c.args.head.now missing front long
-    (λ other. absurd (other c.if-head-ne1.false),
-    λ one shaped few. absurd (over_count c.number32-count.result (count_in c.args.head.now) c.number32-count.ensures c.if-count-gt-MAX_SHARES.true few))
+    headed bytes c.args.head.now missing front long (
+      λ other. absurd (other c.if-head-ne1.false),
+      λ one shaped few. absurd (over_count c.number32-count.result (count_in c.args.head.now) c.number32-count.ensures c.if-count-gt-MAX_SHARES.true few),
+    )
 
 pub returns-clause-piece : goal.returns-clause-piece
 returns-clause-piece c = λ bytes missing front long size.
     let same : c.in-Some.shape ≡ shape_at c.args.head.now =
     c.in-Some.ensures.value ∙ numbers_same c.number16.result c.number16-2.result c.number16-3.result _ _ _ c.number16.ensures c.number16-2.ensures c.number16-3.ensures in
-    headed bytes c.args.head.now missing front long
-    (λ other. absurd (other c.if-head-ne1.false),
-    λ one shaped few. size ∙ ap₂ (λ n k. 17 + (2 * n + (n + 7) / 8) + 4 * k) (c.n-n.ensures.is ∙ ap code_bits same) c.number32-count.ensures)
+    headed bytes c.args.head.now missing front long (
+      λ other. absurd (other c.if-head-ne1.false),
+      λ one shaped few. size ∙ ap₂ (λ n k. 17 + (2 * n + (n + 7) / 8) + 4 * k) (c.n-n.ensures.is ∙ ap code_bits same) c.number32-count.ensures,
+    )
